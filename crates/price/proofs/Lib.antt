@@ -1,0 +1,3 @@
+pub mod PriceLaws
+pub mod ReplyLaws
+pub mod SamplesHold

@@ -1,0 +1,102 @@
+// Prices: base cost, price of a node, present congestion factor, historical congestion.
+// Document 01, "Prices". Every public function takes every input that its types allow.
+ghost use mathlib.Core.Path.{_≡_};
+ghost use Prim.Native.Nat.{_≤_};
+ghost use Rattle.price.specs.Bounds.{kindMost, factorMost, othersMost, capacityMost, historyMost};
+ghost use Rattle.price.specs.Prices.{baseCost, priceOf, nextFactor, nextHistory};
+ghost use Rattle.price.specs.Replies.{InBounds, toldOf, priceReply};
+
+// What a call of the price answers: the price, or refusal 13 with the place from 0 of the first number beyond its bounds.
+pub enum PriceAnswer {
+    Price(u64),
+    Refused(u32),
+}
+
+// The base cost of a node of this kind.
+fn base_cost(kind: u32) -> u64
+    requires { ⌜ kind ≤ kindMost ⌝ }
+    ensures { λ r. ⌜ r ≡ baseCost kind ⌝ }
+{
+    match kind {
+        0 | 1 | 2 => 20,
+        3 => 19,
+        4..=15 => 20 * ((kind - 3) as u64),
+        _ => 0,
+    }
+}
+
+// max(0, others + 1 - capacity)
+fn overuse(others: u32, capacity: u32) -> u64
+    requires { ⌜ others ≤ othersMost ⌝ }
+    ensures { λ r. ⌜ r ≡ Rattle.price.specs.Prices.overuse others capacity ⌝ }
+{
+    if capacity <= others {
+        (others + 1 - capacity) as u64
+    } else {
+        0
+    }
+}
+
+// history × base × (100 + factor × overuse), where every number keeps its bounds, so that no product wraps.
+fn product(kind: u32, factor: u32, others: u32, capacity: u32, history: u32) -> u64
+    requires { ⌜ InBounds kind factor others capacity history ⌝ }
+    ensures { λ r. ⌜ r ≡ priceOf kind factor others capacity history ⌝ }
+{
+    let base = base_cost(kind);
+    let over = overuse(others, capacity);
+    let present = 100 + factor as u64 * over;
+    history as u64 * base * present
+}
+
+// The price of a node of this kind and capacity at these numbers. 13 names the first of the five that is beyond its bounds.
+pub fn price(kind: u32, factor: u32, others: u32, capacity: u32, history: u32) -> PriceAnswer
+    ensures { λ r. ⌜ toldOf r ≡ priceReply kind factor others capacity history ⌝ }
+{
+    if 15 < kind {
+        return PriceAnswer::Refused(0);
+    }
+    if 65535 < factor {
+        return PriceAnswer::Refused(1);
+    }
+    if 511 < others {
+        return PriceAnswer::Refused(2);
+    }
+    if capacity < 1 {
+        return PriceAnswer::Refused(3);
+    }
+    if 255 < capacity {
+        return PriceAnswer::Refused(3);
+    }
+    if history < 1 {
+        return PriceAnswer::Refused(4);
+    }
+    if 50590 < history {
+        return PriceAnswer::Refused(4);
+    }
+    PriceAnswer::Price(product(kind, factor, others, capacity, history))
+}
+
+// The present congestion factor of the iteration after `iteration`, whose own factor is `factor`.
+pub fn next_factor(iteration: u32, factor: u32) -> u32
+    ensures { λ r. ⌜ r ≡ nextFactor iteration factor ⌝ }
+{
+    if iteration == 0 {
+        return 0;
+    }
+    if iteration == 1 {
+        return 50;
+    }
+    let grown = 3 * factor as u64 / 2;
+    if grown < 65535 { grown as u32 } else { 65535 }
+}
+
+// The historical congestion of a node after an iteration that leaves it with this many users.
+pub fn next_history(history: u32, users: u32, capacity: u32) -> u64
+    ensures { λ r. ⌜ r ≡ nextHistory history users capacity ⌝ }
+{
+    if capacity < users {
+        history as u64 + (users - capacity) as u64
+    } else {
+        history as u64
+    }
+}
