@@ -1,3 +1,4 @@
 pub mod PriceLaws
 pub mod ReplyLaws
 pub mod SamplesHold
+pub mod ListLaws

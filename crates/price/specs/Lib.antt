@@ -1,4 +1,5 @@
 pub mod Test
+pub mod Lists
 pub mod Bounds
 pub mod Prices
 pub mod Replies

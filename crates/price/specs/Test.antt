@@ -11,3 +11,8 @@ choose false a b = b
 abbrev pub both : Bool → Bool → Bool
 both true b = b
 both false b = false
+
+-- one of the tests holds, or both
+abbrev pub either : Bool → Bool → Bool
+either true b = true
+either false b = b

@@ -1,0 +1,39 @@
+-- Document 01, "One turn": the distances of all nodes from a tree, over any price of a node.
+-- Assumes nothing.
+use mathlib.Core.Bool.{Bool}
+use mathlib.Core.List.{List}
+use Prim.Native.Nat.{ℕ, zero, suc, _+_, _-_, _^_}
+use lib.Dec.{eqb}
+use lib.ListN.{getD}
+use Rattle.price.specs.Test.{choose}
+use Rattle.price.specs.Lists.{upTo, least}
+use Rattle.search.specs.Block.{Block, nodes, hasEdge}
+
+-- "2^64 − 1 where there is no path"
+abbrev pub far : ℕ
+far = 2 ^ 64 - 1
+
+-- "tree mark (1 in the tree, else 0)"
+unfoldable pub inTree : List ℕ → ℕ → Bool
+inTree marks v = eqb (getD marks v 0) 1
+
+-- "Distance is 0 on tree nodes", and nothing else is reached yet
+unfoldable pub treeDistances : Block → List ℕ → List ℕ
+treeDistances b marks = upTo (λ v. choose (inTree marks v) 0 far) (nodes b)
+
+-- the least of v's distance so far and of the ways to v over each edge
+unfoldable pub nearer : Block → (ℕ → ℕ) → List ℕ → ℕ → ℕ
+nearer b price ds v =
+    least (getD ds v far) (upTo (λ u. choose (hasEdge b u v) (getD ds u far + price v) far) (nodes b))
+
+-- every node looks once over the edges that lead to it
+unfoldable pub round : Block → (ℕ → ℕ) → List ℕ → List ℕ
+round b price ds = upTo (nearer b price ds) (nodes b)
+
+unfoldable pub rounds : Block → (ℕ → ℕ) → List ℕ → ℕ → List ℕ
+rounds b price ds zero = ds
+rounds b price ds (suc k) = round b price (rounds b price ds k)
+
+-- "Distance is 0 on tree nodes, elsewhere the least path cost from the tree." After as many rounds as there are nodes nothing changes any more.
+unfoldable pub distances : Block → (ℕ → ℕ) → List ℕ → List ℕ
+distances b price marks = rounds b price (treeDistances b marks) (nodes b)
