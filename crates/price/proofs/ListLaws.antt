@@ -4,6 +4,7 @@
 --     has-at, has-place, has-append             membership
 --     length-upTo, getD-upTo, upTo-more         a list made by places
 --     firstBelow-le, -holds, -below, -unique    the lowest number that passes a test
+--     count-most, count-le, count-less          how many numbers pass a test
 --     least-le, least-top, least-is             the least entry
 --     placeOf-lt, placeOf-at, placeOf-first     the place of an entry
 --     total-append, total-most                  a sum
@@ -21,7 +22,7 @@ use lib.ListN.{length, getD, length-append, List·getD-append}
 use lib.Seq.{getD-at}
 use borrow.Author.Tests.{lt-ltb, le-ltb, eq-eqb, ne-eqb, eqb-true, ltb-true, ltb-false, leb-true, leb-false}
 use Rattle.price.specs.Test.{choose, both, either}
-use Rattle.price.specs.Lists.{every, neighbours, has, upTo, firstBelow, least, placeOf, total}
+use Rattle.price.specs.Lists.{every, neighbours, has, upTo, firstBelow, countBelow, least, placeOf, total}
 
 -- ---- tests
 
@@ -219,6 +220,47 @@ module _ (t : ℕ → Bool) where
       (λ h. h)
       (λ h. absurd (true≢false (sym (firstBelow-holds n h) ∙ none (firstBelow t n) h)))
       (le-or-lt n (firstBelow t n)))
+
+-- ---- how many numbers pass
+
+module _ (t : ℕ → Bool) where
+  pub count-most : (n : ℕ) → countBelow t n ≤ n
+  unfolding countBelow
+  count-most zero = zero-le
+  count-most (suc n) =
+      let r = count-most n in
+      ⊎-elim (λ (q : t n ≡ true). rw q (omega arith)) (λ (q : t n ≡ false). rw q (omega arith)) (either-way (t n))
+
+  module _ (s : ℕ → Bool) where
+    -- where no more pass, no more are counted
+    pub count-le : (n : ℕ) → ((x : ℕ) → x < n → s x ≡ true → t x ≡ true) → countBelow s n ≤ countBelow t n
+    unfolding countBelow
+    count-le zero more = zero-le
+    count-le (suc n) more =
+        let r = count-le n (λ x l. more x (omega arith)) in
+        ⊎-elim
+        (λ (q : s n ≡ true). rw (q, more n (omega arith) q) (omega arith))
+        (λ (q : s n ≡ false).
+        ⊎-elim (λ (p : t n ≡ true). rw (q, p) (omega arith)) (λ (p : t n ≡ false). rw (q, p) (omega arith)) (either-way (t n)))
+        (either-way (s n))
+
+    -- where one passes no more, fewer are counted
+    pub count-less : (n u : ℕ) → ((x : ℕ) → x < n → s x ≡ true → t x ≡ true) → u < n → t u ≡ true → s u ≡ false → countBelow s n < countBelow t n
+    unfolding countBelow
+    count-less zero u more l tu su = absurd (not-suc-le-zero l)
+    count-less (suc n) u more l tu su =
+        ⊎-elim
+        (λ (e : u ≡ n).
+        let r = count-le n (λ x h. more x (omega arith)) in
+        rw (rw e at su, rw e at tu) (omega arith))
+        (λ (h : u < n).
+        let r = count-less n u (λ x k. more x (omega arith)) h tu su in
+        ⊎-elim
+        (λ (q : s n ≡ true). rw (q, more n (omega arith) q) (omega arith))
+        (λ (q : s n ≡ false).
+        ⊎-elim (λ (p : t n ≡ true). rw (q, p) (omega arith)) (λ (p : t n ≡ false). rw (q, p) (omega arith)) (either-way (t n)))
+        (either-way (s n)))
+        (eq-or-lt-of-le (le-of-suc-le-suc l))
 
 -- ---- the least entry
 

@@ -1,6 +1,6 @@
 -- Lists of numbers: the few functions on them that the definitions of every crate use.
 -- Assumes nothing.
-use mathlib.Core.Bool.{Bool, true, false}
+use mathlib.Core.Bool.{Bool, true, false, not}
 use mathlib.Core.List.{List, [], _∷_, _++_}
 use Prim.Native.Nat.{ℕ, zero, suc, _+_, min}
 use lib.Dec.{eqb, ltb}
@@ -22,6 +22,11 @@ unfoldable pub has : ℕ → List ℕ → Bool
 has x [] = false
 has x (y ∷ ys) = either (eqb x y) (has x ys)
 
+-- no entry stands twice
+unfoldable pub distinct : List ℕ → Bool
+distinct [] = true
+distinct (x ∷ xs) = both (not (has x xs)) (distinct xs)
+
 -- f 0, f 1, .., f (n − 1)
 unfoldable pub upTo {ℓ} : {A : Type ℓ} → (ℕ → A) → ℕ → List A
 upTo f zero = []
@@ -31,7 +36,14 @@ upTo f (suc n) = upTo f n ++ (f n ∷ [])
 unfoldable pub firstBelow : (ℕ → Bool) → ℕ → ℕ
 firstBelow test zero = zero
 firstBelow test (suc n) =
-    choose (ltb (firstBelow test n) n) (firstBelow test n) (choose (test n) n (suc n))
+    let lower = firstBelow test n in
+    let here = choose (test n) n (suc n) in
+    choose (ltb lower n) lower here
+
+-- how many numbers below n pass the test
+unfoldable pub countBelow : (ℕ → Bool) → ℕ → ℕ
+countBelow test zero = zero
+countBelow test (suc n) = countBelow test n + choose (test n) 1 0
 
 -- the least of the entries and `top`
 unfoldable pub least : ℕ → List ℕ → ℕ

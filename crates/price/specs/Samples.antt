@@ -2,6 +2,7 @@
 -- into one, and one theorem holds every stated answer against the defined one.
 -- Assumes nothing.
 use mathlib.Core.List.{List, [], _∷_}
+use mathlib.Core.Path.{_≡_}
 use Prim.Native.Nat.{ℕ}
 use Rattle.price.specs.Prices.{factorAt, baseCost, priceOf}
 
@@ -9,6 +10,11 @@ use Rattle.price.specs.Prices.{factorAt, baseCost, priceOf}
 pub record Sample : Type 0 where
   pub stated : List ℕ
   pub defined : List ℕ
+
+-- every stated answer is the defined one
+abbrev pub Hold : List Sample → Type 0
+Hold [] = Unit {0}
+Hold (s ∷ ss) = (s .defined ≡ s .stated) × Hold ss
 
 -- a wire of length 1, whose base cost is 20
 wire : ℕ

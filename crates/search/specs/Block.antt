@@ -1,7 +1,7 @@
 -- Tables 1 to 4: the block as a directed graph, the routing resource graph. Nodes are numbered from 0.
 -- Assumes nothing.
 use mathlib.Core.Bool.{Bool}
-use mathlib.Core.List.{List}
+use mathlib.Core.List.{List, []}
 use Prim.Native.Nat.{ℕ, _+_}
 use lib.ListN.{length, getD}
 use lib.Seq.{slice}
@@ -16,6 +16,15 @@ pub record Block : Type 0 where
   pub firstEdges : List ℕ
   -- 4. edge target
   pub edgeTargets : List ℕ
+
+-- the block of four tables
+abbrev pub blockOf : List ℕ → List ℕ → List ℕ → List ℕ → Block
+blockOf kinds capacities firstEdges edgeTargets =
+    record { kinds = kinds; capacities = capacities; firstEdges = firstEdges; edgeTargets = edgeTargets }
+
+-- the graph alone, where no capacity is asked for
+abbrev pub graphOf : List ℕ → List ℕ → List ℕ → Block
+graphOf kinds firstEdges edgeTargets = blockOf kinds [] firstEdges edgeTargets
 
 -- the node count is table 1's length
 abbrev pub nodes : Block → ℕ

@@ -37,3 +37,7 @@ rounds b price ds (suc k) = round b price (rounds b price ds k)
 -- "Distance is 0 on tree nodes, elsewhere the least path cost from the tree." After as many rounds as there are nodes nothing changes any more.
 unfoldable pub distances : Block → (ℕ → ℕ) → List ℕ → List ℕ
 distances b price marks = rounds b price (treeDistances b marks) (nodes b)
+
+-- the distance of one node
+abbrev pub distance : Block → (ℕ → ℕ) → List ℕ → ℕ → ℕ
+distance b price marks v = getD (distances b price marks) v far

@@ -4,3 +4,6 @@ pub mod Paths
 pub mod Distance
 pub mod Turn
 pub mod Replies
+pub mod Layout
+pub mod Frontier
+pub mod Ready

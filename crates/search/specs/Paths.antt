@@ -1,10 +1,10 @@
 -- Paths and their costs, over any price of a node.
 -- Assumes nothing.
-use mathlib.Core.Bool.{true}
+use mathlib.Core.Bool.{Bool, true, false}
 use mathlib.Core.List.{List, [], _∷_}
 use mathlib.Core.Path.{_≡_}
-use Prim.Native.Nat.{ℕ}
-use Rattle.price.specs.Lists.{total}
+use Prim.Native.Nat.{ℕ, _≤_}
+use Rattle.price.specs.Lists.{has, total}
 use Rattle.search.specs.Block.{Block, hasEdge}
 
 -- "In a path each node has an edge to the next." `Walk b u path v`: a path from u to v. It may pass a node twice.
@@ -16,3 +16,14 @@ pub data Walk (b : Block) : ℕ → List ℕ → ℕ → Type 0 where
 unfoldable pub pathCost : (ℕ → ℕ) → List ℕ → ℕ
 pathCost price [] = 0
 pathCost price (u ∷ path) = total price path
+
+-- A path along edges from a node of the tree to a listed sink that the tree lacks, at its cost; and every path in the graph from any node of the tree
+-- to any such sink costs at least as much.
+pub record CheapestPath (b : Block) (price : ℕ → ℕ) (tree : ℕ → Bool) (sinks : List ℕ) (sink cost : ℕ) (path : List ℕ) : Type 0 where
+  pub start : ℕ
+  pub starts-in-tree : tree start ≡ true
+  pub follows : Walk b start path sink
+  pub sink-listed : has sink sinks ≡ true
+  pub sink-open : tree sink ≡ false
+  pub costs : cost ≡ pathCost price path
+  pub cheapest : (t s : ℕ) (other : List ℕ) → tree t ≡ true → has s sinks ≡ true → tree s ≡ false → Walk b t other s → cost ≤ pathCost price other

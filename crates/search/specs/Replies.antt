@@ -14,6 +14,8 @@ use Rattle.search.specs.Distance.{distances}
 use Rattle.search.specs.Turn.{Congestion, priceAt, Turn, joins, stuck, turn}
 use Rattle.search.specs.declared.SearchAnswer.{SearchAnswer}
 use Rattle.search.specs.declared.SearchAnswer.the-variants as s
+use Rattle.search.specs.declared.numbers.Check.{Check}
+use Rattle.search.specs.declared.numbers.Check.the-variants as k
 use Rattle.search.specs.declared.PathAnswer.{PathAnswer}
 use Rattle.search.specs.declared.PathAnswer.the-variants as p
 
@@ -45,6 +47,13 @@ refusalOf table n c marks workLength =
     (choose (ltb workLength (workNeeded n)) (6 ∷ workNeeded n ∷ [])
     (choose (ltb (badNode n c marks) n) (13 ∷ badNode n c marks ∷ [])
     (choose (ltb factorMost (c .factor)) (13 ∷ n ∷ []) [])))
+
+-- the same for what the tests before a search find
+abbrev pub checkNumbers : Check → List ℕ
+checkNumbers k.Fine = []
+checkNumbers (k.BadTable table) = 5 ∷ table ∷ []
+checkNumbers (k.ShortWork needed) = 6 ∷ needed ∷ []
+checkNumbers (k.BadNumber place) = 13 ∷ place ∷ []
 
 -- ---- the search called alone
 
@@ -83,12 +92,12 @@ abbrev pub sinksMost : ℕ
 sinksMost = 4096
 
 -- a list of sinks is short enough and each is a node
-unfoldable pub sinksSound : Block → List ℕ → Bool
-sinksSound b sinks = both (leb (length sinks) sinksMost) (every (λ s. ltb s (nodes b)) sinks)
+unfoldable pub sinksSound : ℕ → List ℕ → Bool
+sinksSound n sinks = both (leb (length sinks) sinksMost) (every (λ s. ltb s n) sinks)
 
 -- the lowest of tables 1 to 4 that breaks its rule, else 7 for a bad list of sinks, 0 where all is sound
 unfoldable pub faultyWithSinks : Block → List ℕ → ℕ
-faultyWithSinks b sinks = choose (leb 1 (faultyTable b)) (faultyTable b) (choose (sinksSound b sinks) 0 7)
+faultyWithSinks b sinks = choose (leb 1 (faultyTable b)) (faultyTable b) (choose (sinksSound (nodes b) sinks) 0 7)
 
 -- the refusal's numbers; place, cost and path length of the joined sink, none where there is none; and the work slice afterwards
 pub record PathReply : Type 0 where

@@ -3,7 +3,7 @@
 use mathlib.Core.Bool.{Bool, true, not}
 use mathlib.Core.List.{List}
 use mathlib.Core.Path.{_≡_}
-use Prim.Native.Nat.{ℕ, _+_}
+use Prim.Native.Nat.{ℕ, _+_, _≤_}
 use lib.Dec.{leb, ltb, eqb}
 use lib.ListN.{length, getD}
 use Rattle.price.specs.Test.{choose, both}
@@ -31,13 +31,14 @@ firstEdgesSound n edges firstEdges =
     both (eqb (length firstEdges) (n + 1))
     (both (eqb (getD firstEdges 0 0) 0) (both (neighbours leb firstEdges) (eqb (getD firstEdges n 0) edges)))
 
--- "each a node, strictly rising within a node's row, never the node itself"
-unfoldable pub rowSound : Block → ℕ → Bool
-rowSound b u = both (every (λ v. both (ltb v (nodes b)) (not (eqb v u))) (row b u)) (neighbours ltb (row b u))
+-- "each a node, strictly rising within a node's row, never the node itself": the row of node u
+unfoldable pub rowSound : ℕ → ℕ → List ℕ → Bool
+rowSound n u targets = both (every (λ v. both (ltb v n) (not (eqb v u))) targets) (neighbours ltb targets)
 
 -- "4. edge target, 16 bits, at most 32,768"
 unfoldable pub edgeTargetsSound : Block → Bool
-edgeTargetsSound b = both (leb (length (b .edgeTargets)) edgesMost) (every (rowSound b) (upTo (λ u. u) (nodes b)))
+edgeTargetsSound b =
+    both (leb (length (b .edgeTargets)) edgesMost) (every (λ u. rowSound (nodes b) u (row b u)) (upTo (λ u. u) (nodes b)))
 
 -- "lowest table that breaks its rule", 0 where none does
 unfoldable pub faultyTable : Block → ℕ
@@ -54,5 +55,12 @@ faultyTable b =
 pub record Sound (b : Block) : Type 0 where
   pub kinds-sound : kindsSound (b .kinds) ≡ true
   pub capacities-sound : capacitiesSound (nodes b) (b .capacities) ≡ true
+  pub firstEdges-sound : firstEdgesSound (nodes b) (length (b .edgeTargets)) (b .firstEdges) ≡ true
+  pub edgeTargets-sound : edgeTargetsSound b ≡ true
+
+-- the graph keeps its rules: there are nodes, few enough, and tables 3 and 4 are sound
+pub record Graph (b : Block) : Type 0 where
+  pub some : 1 ≤ nodes b
+  pub few : nodes b ≤ nodesMost
   pub firstEdges-sound : firstEdgesSound (nodes b) (length (b .edgeTargets)) (b .firstEdges) ≡ true
   pub edgeTargets-sound : edgeTargetsSound b ≡ true

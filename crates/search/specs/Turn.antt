@@ -18,6 +18,9 @@ pub record Congestion : Type 0 where
   pub histories : List ℕ
   pub others : List ℕ
 
+abbrev pub congestionOf : ℕ → List ℕ → List ℕ → Congestion
+congestionOf factor histories others = record { factor = factor; histories = histories; others = others }
+
 -- the price of a node for the net whose turn it is
 unfoldable pub priceAt : Block → Congestion → ℕ → ℕ
 priceAt b c v =

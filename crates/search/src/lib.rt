@@ -1,4 +1,8 @@
 // The search: tests of tables 1 to 4, distances from a tree, and the cheapest path of one turn.
+ghost use mathlib.Core.Path.{_≡_};
+ghost use Rattle.search.specs.Block.{blockOf};
+ghost use Rattle.search.specs.Turn.{congestionOf};
+ghost use Rattle.search.specs.Replies.{searched, searchReply, faultyWithSinks, pathTaken, pathReply};
 
 // What a call of the search answers: the distances stand in the work slice, or one of 01's refusals.
 pub enum SearchAnswer {
@@ -22,4 +26,121 @@ pub enum PathAnswer {
     BadTable(u32),
     ShortWork(u64),
     BadNumber(u32),
+}
+
+mod distances;
+mod numbers;
+mod path;
+mod queue;
+mod run;
+mod tables;
+
+use numbers::Check;
+
+// The tests of tables 1 to 4, then the work slice, then the numbers that price a turn; where none fails the distances of all nodes
+// from the marked ones stand at the beginning of the work slice.
+pub fn search(
+    kind: &[u8],
+    capacity: &[u8],
+    first_edge: &[u32],
+    edge_target: &[u16],
+    factor: u32,
+    work: &mut [u64],
+    history: &[u32],
+    others: &[u16],
+    in_tree: &[u8],
+) -> SearchAnswer
+    ensures { λ r. ⌜ searched r (now (work .exit)) ≡ searchReply (blockOf (now (kind .entry)) (now (capacity .entry)) (now («first_edge» .entry)) (now («edge_target» .entry))) (congestionOf factor (now (history .entry)) (now (others .entry))) (now («in_tree» .entry)) (now (work .entry)) ⌝ }
+{
+    let table = tables::faulty_table(kind, capacity, first_edge, edge_target);
+    match numbers::first_refusal(
+        table,
+        kind.len(),
+        factor,
+        work.len(),
+        history,
+        others,
+        in_tree,
+    ) {
+        Check::BadTable(t) => SearchAnswer::BadTable(t),
+        Check::ShortWork(needed) => SearchAnswer::ShortWork(needed),
+        Check::BadNumber(place) => SearchAnswer::BadNumber(place),
+        Check::Fine => {
+            run::distances_from_tree(
+                kind,
+                capacity,
+                first_edge,
+                edge_target,
+                factor,
+                work,
+                history,
+                others,
+                in_tree,
+            );
+            SearchAnswer::Done
+        }
+    }
+}
+
+// The lowest of tables 1 to 4 that breaks its rule, else 7 for a bad list of sinks, 0 where all is sound.
+fn faulty_with_sinks(
+    kind: &[u8],
+    capacity: &[u8],
+    first_edge: &[u32],
+    edge_target: &[u16],
+    sinks: &[u16],
+) -> u32
+    ensures { λ r. ⌜ r ≡ faultyWithSinks (blockOf (now (kind .entry)) (now (capacity .entry)) (now («first_edge» .entry)) (now («edge_target» .entry))) (now (sinks .entry)) ⌝ }
+{
+    let table = tables::faulty_table(kind, capacity, first_edge, edge_target);
+    if 1 <= table {
+        return table;
+    }
+    if tables::sinks_sound(kind.len(), sinks) {
+        return 0;
+    }
+    7
+}
+
+// One turn: the cheapest path from the marked nodes to the nearest unmarked sink, after the tests of the search and of the sinks.
+pub fn cheapest_path(
+    kind: &[u8],
+    capacity: &[u8],
+    first_edge: &[u32],
+    edge_target: &[u16],
+    factor: u32,
+    work: &mut [u64],
+    history: &[u32],
+    others: &[u16],
+    in_tree: &[u8],
+    sinks: &[u16],
+) -> PathAnswer
+    ensures { λ r. ⌜ pathTaken r (now (work .exit)) ≡ pathReply (blockOf (now (kind .entry)) (now (capacity .entry)) (now («first_edge» .entry)) (now («edge_target» .entry))) (congestionOf factor (now (history .entry)) (now (others .entry))) (now («in_tree» .entry)) (now (sinks .entry)) (now (work .entry)) ⌝ }
+{
+    let table = faulty_with_sinks(kind, capacity, first_edge, edge_target, sinks);
+    match numbers::first_refusal(
+        table,
+        kind.len(),
+        factor,
+        work.len(),
+        history,
+        others,
+        in_tree,
+    ) {
+        Check::BadTable(t) => PathAnswer::BadTable(t),
+        Check::ShortWork(needed) => PathAnswer::ShortWork(needed),
+        Check::BadNumber(place) => PathAnswer::BadNumber(place),
+        Check::Fine => run::join(
+            kind,
+            capacity,
+            first_edge,
+            edge_target,
+            factor,
+            work,
+            history,
+            others,
+            in_tree,
+            sinks,
+        ),
+    }
 }

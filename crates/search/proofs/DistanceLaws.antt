@@ -1,0 +1,244 @@
+-- Laws of the distance: it is 0 on tree nodes, no way to a node is shorter, and where it is not `far` some path costs exactly that.
+-- The first part says what holds after k rounds. A walk costs at least as much as some walk with no node twice, which has no more nodes than there are rounds.
+-- Assumes nothing.
+use mathlib.Core.Bool.{true, false}
+use mathlib.Core.List.{List, [], _∷_, _++_}
+use mathlib.Core.Logic.{⊎-elim}
+use mathlib.Core.Path.{_≡_, sym, _∙_}
+use Prim.Native.Nat.{ℕ, zero, suc, _+_, _*_, _^_, _≤_, _<_, zero-le}
+use native.Mathlib.Nat.{le-refl, le-trans, le-antisymm, le-of-eq, le-dest, lt-irrefl, add-zero, suc-add, add-suc, zero-add}
+use native.Mathlib.Omega.{arith}
+use lib.ListN.{length, getD, List·getD-eq-default}
+use Rattle.price.specs.Bounds.{priceMost}
+use Rattle.price.specs.Test.{choose}
+use Rattle.price.specs.Lists.{upTo, least}
+use Rattle.price.proofs.ListLaws.{either-way, true≢false, le-or-lt, length-upTo, getD-upTo, least-top, least-le, least-is}
+use Rattle.price.proofs.PriceLaws.{path-most}
+use Rattle.search.specs.Block.{Block, nodes, hasEdge}
+use Rattle.search.specs.Tables.{Graph}
+use Rattle.search.specs.Paths.{Walk, stay, step, pathCost}
+use Rattle.search.specs.Distance.{far, inTree, treeDistances, nearer, round, rounds, distances, distance}
+use Rattle.search.specs.Frontier.{Fair}
+use Rattle.search.proofs.BlockLaws.{edge-from, edge-to}
+use Rattle.search.proofs.WalkLaws.{stay-cost, step-cost, snoc, snoc-cost, last-step, LastStep, shorten}
+
+-- a node's distance after k rounds
+abbrev after : Block → (ℕ → ℕ) → List ℕ → ℕ → ℕ → ℕ
+after b price marks k v = getD (rounds b price (treeDistances b marks) k) v far
+
+-- the way to v over each node
+abbrev ways : Block → (ℕ → ℕ) → List ℕ → ℕ → List ℕ
+ways b price ds v = upTo (λ u. choose (hasEdge b u v) (getD ds u far + price v) far) (nodes b)
+
+-- a path from the tree to v at cost d
+abbrev Path-at : Block → (ℕ → ℕ) → List ℕ → ℕ → ℕ → Type 0
+Path-at b price marks v d =
+    (t : ℕ) × (path : List ℕ) × (t < nodes b) × (inTree marks t ≡ true) × Walk b t path v × (pathCost price path ≡ d)
+
+module _ (b : Block) (price : ℕ → ℕ) (marks : List ℕ) where
+  -- what holds after k rounds
+  length-rounds : (k : ℕ) → length (rounds b price (treeDistances b marks) k) ≡ nodes b
+  unfolding rounds round treeDistances
+  length-rounds zero = length-upTo (λ v. choose (inTree marks v) 0 far) (nodes b)
+  length-rounds (suc k) = length-upTo (nearer b price (rounds b price (treeDistances b marks) k)) (nodes b)
+
+  -- the entries before the first round, and after one more
+  after-none : (v : ℕ) → v < nodes b → after b price marks 0 v ≡ choose (inTree marks v) 0 far
+  unfolding rounds treeDistances
+  after-none v h = getD-upTo (λ v. choose (inTree marks v) 0 far) (nodes b) v far h
+
+  after-one : (k v : ℕ) → v < nodes b → after b price marks (suc k) v ≡ least (after b price marks k v) (ways b price (rounds b price (treeDistances b marks) k) v)
+  unfolding rounds round nearer
+  after-one k v h = getD-upTo (nearer b price (rounds b price (treeDistances b marks) k)) (nodes b) v far h
+
+  -- a round makes no distance larger
+  after-keeps : (k v : ℕ) → v < nodes b → after b price marks (suc k) v ≤ after b price marks k v
+  after-keeps k v h = rw (after-one k v h) (least-top (after b price marks k v) (ways b price (rounds b price (treeDistances b marks) k) v))
+
+  -- a round goes over each edge
+  after-step : (k u v : ℕ) → u < nodes b → v < nodes b → hasEdge b u v ≡ true → after b price marks (suc k) v ≤ after b price marks k u + price v
+  after-step k u v hu hv e =
+      let ds = rounds b price (treeDistances b marks) k in
+      let way : getD (ways b price ds v) u 0 ≡ choose (hasEdge b u v) (getD ds u far + price v) far =
+      getD-upTo (λ x. choose (hasEdge b x v) (getD ds x far + price v) far) (nodes b) u 0 hu in
+      let long : length (ways b price ds v) ≡ nodes b = length-upTo (λ x. choose (hasEdge b x v) (getD ds x far + price v) far) (nodes b) in
+      rw (after-one k v hv)
+      (le-trans (least-le (getD ds v far) (ways b price ds v) u (rw long hu)) (le-of-eq (way ∙ rw e)))
+
+  -- beyond the nodes it is `far`
+  after-out : (k v : ℕ) → nodes b ≤ v → after b price marks k v ≡ far
+  after-out k v h = List·getD-eq-default (rounds b price (treeDistances b marks) k) far (rw (length-rounds k) h)
+
+  -- it is at most `far`
+  after-top-node : (k v : ℕ) → v < nodes b → after b price marks k v ≤ far
+  after-top-node zero v h =
+      rw (after-none v h)
+      (⊎-elim
+      (λ (t : inTree marks v ≡ true). rw t zero-le)
+      (λ (t : inTree marks v ≡ false). rw t (le-refl far))
+      (either-way (inTree marks v)))
+  after-top-node (suc k) v h = le-trans (after-keeps k v h) (after-top-node k v h)
+
+  after-top : (k v : ℕ) → after b price marks k v ≤ far
+  after-top k v =
+      ⊎-elim (λ (h : nodes b ≤ v). le-of-eq (after-out k v h)) (λ (h : v < nodes b). after-top-node k v h) (le-or-lt (nodes b) v)
+
+  -- tree nodes keep 0
+  after-tree : (k v : ℕ) → v < nodes b → inTree marks v ≡ true → after b price marks k v ≡ 0
+  after-tree zero v h t = after-none v h ∙ rw t
+  after-tree (suc k) v h t =
+      let kept : after b price marks (suc k) v ≤ after b price marks k v = after-keeps k v h in
+      let none : after b price marks k v ≡ 0 = after-tree k v h t in
+      le-antisymm (rw none at kept) zero-le
+
+  -- where it is not `far` a path costs exactly that
+  after-path : (k v : ℕ) → v < nodes b → after b price marks k v < far → Path-at b price marks v (after b price marks k v)
+  after-path zero v h l =
+      ⊎-elim
+      (λ (t : inTree marks v ≡ true). (v, v ∷ [], h, t, stay v, stay-cost price v ∙ sym (after-tree 0 v h t)))
+      (λ (t : inTree marks v ≡ false).
+      let none : after b price marks 0 v ≡ far = after-none v h ∙ rw t in
+      absurd (lt-irrefl far (rw none at l)))
+      (either-way (inTree marks v))
+  after-path (suc k) v h l =
+      let ds = rounds b price (treeDistances b marks) k in
+      ⊎-elim
+      (λ (q : least (getD ds v far) (ways b price ds v) ≡ getD ds v far).
+      let same : after b price marks (suc k) v ≡ after b price marks k v = after-one k v h ∙ q in
+      rw same (after-path k v h (rw same at l)))
+      (λ (q : (u : ℕ) × (u < length (ways b price ds v)) × (getD (ways b price ds v) u 0 ≡ least (getD ds v far) (ways b price ds v))).
+      let u : ℕ = q .0 in
+      let long : length (ways b price ds v) ≡ nodes b = length-upTo (λ x. choose (hasEdge b x v) (getD ds x far + price v) far) (nodes b) in
+      let hu : u < nodes b = rw long at (q .1) in
+      let way : choose (hasEdge b u v) (after b price marks k u + price v) far ≡ after b price marks (suc k) v =
+      sym (getD-upTo (λ x. choose (hasEdge b x v) (getD ds x far + price v) far) (nodes b) u 0 hu) ∙ q .2 ∙ sym (after-one k v h) in
+      ⊎-elim
+      (λ (e : hasEdge b u v ≡ true).
+      let sum : after b price marks k u + price v ≡ after b price marks (suc k) v = rw e at way in
+      let near : after b price marks k u < far = omega arith in
+      let r = after-path k u hu near in (
+        r .0,
+        r .1 ++ (v ∷ []),
+        r .2,
+        r .3,
+        snoc (r .4) e,
+        snoc-cost price v (r .4) ∙ rw (r .5) sum,
+      ))
+      (λ (e : hasEdge b u v ≡ false).
+      let none : far ≡ after b price marks (suc k) v = rw e at way in
+      absurd (lt-irrefl far (rw (← none) at l)))
+      (either-way (hasEdge b u v)))
+      (least-is (getD ds v far) (ways b price ds v))
+
+  -- rounds as many as a walk has nodes go along it
+  after-walk :
+      Graph b → (j : ℕ) {u v : ℕ} {path : List ℕ} → u < nodes b → Walk b u path v
+      → after b price marks (length path + j) v ≤ after b price marks j u + pathCost price path
+  after-walk g j h (stay u) =
+      rw (suc-add, zero-add, stay-cost price u, add-zero) (after-keeps j u h)
+  after-walk g j {v = v} h (step {u = u} {w = x} {path = path} e w) =
+      let hx : x < nodes b = edge-to b g u x e in
+      let here : after b price marks (suc j) x ≤ after b price marks j u + price x = after-step j u x h hx e in
+      let on : after b price marks (length path + suc j) v ≤ after b price marks (suc j) x + pathCost price path = after-walk g (suc j) hx w in
+      let whole : pathCost price (u ∷ path) ≡ price x + pathCost price path = step-cost price u w in
+      rw (suc-add, ← add-suc) (omega arith)
+
+  pub length-distances : length (distances b price marks) ≡ nodes b
+  unfolding distances
+  length-distances = length-rounds (nodes b)
+
+  pub distance-top : (v : ℕ) → distance b price marks v ≤ far
+  unfolding distances
+  distance-top v = after-top (nodes b) v
+
+  pub distance-tree : (v : ℕ) → v < nodes b → inTree marks v ≡ true → distance b price marks v ≡ 0
+  unfolding distances
+  distance-tree v h t = after-tree (nodes b) v h t
+
+  module _ (g : Graph b) (fair : Fair b price) where
+    -- no walk from the tree costs less that has at most as many nodes as there are rounds
+    short-walk : (t v : ℕ) (path : List ℕ) → t < nodes b → inTree marks t ≡ true → Walk b t path v → length path ≤ nodes b → distance b price marks v ≤ pathCost price path
+    unfolding distances
+    short-walk t v path h m w few =
+        let r = le-dest few in
+        let along : after b price marks (length path + r .0) v ≤ after b price marks (r .0) t + pathCost price path = after-walk g (r .0) h w in
+        let whole : length path + r .0 ≡ nodes b = r .1 in
+        let start : after b price marks (r .0) t ≡ 0 = after-tree (r .0) t h m in
+        rw (whole, start, zero-add) at along
+
+    -- (a) no path from the tree costs less, also one that passes a node twice
+    pub no-path-cheaper : (t v : ℕ) (path : List ℕ) → t < nodes b → inTree marks t ≡ true → Walk b t path v → distance b price marks v ≤ pathCost price path
+    no-path-cheaper t v path h m w =
+        let s = shorten g price fair h w in
+        le-trans (short-walk t v (s .path′) h m (s .walk) (s .few)) (s .less)
+
+    -- (b) where it is not `far` a path costs exactly that
+    pub some-path : (v : ℕ) → v < nodes b → distance b price marks v < far → (t : ℕ) × (path : List ℕ) × (t < nodes b) × (inTree marks t ≡ true) × Walk b t path v × (pathCost price path ≡ distance b price marks v)
+    unfolding distances
+    some-path v h l = after-path (nodes b) v h l
+
+    -- (c) these two determine it
+    pub distance-is :
+        (d v : ℕ) → v < nodes b → d ≤ far
+        → ((t : ℕ) (path : List ℕ) → t < nodes b → inTree marks t ≡ true → Walk b t path v → d ≤ pathCost price path)
+        → (d < far → (t : ℕ) × (path : List ℕ) × (t < nodes b) × (inTree marks t ≡ true) × Walk b t path v × (pathCost price path ≡ d))
+        → d ≡ distance b price marks v
+    distance-is d v h top a some =
+        le-antisymm
+        (⊎-elim
+        (λ (q : far ≤ distance b price marks v). le-trans top q)
+        (λ (q : distance b price marks v < far).
+        let r = some-path v h q in
+        le-trans (a (r .0) (r .1) (r .2) (r .3) (r .4)) (le-of-eq (r .5)))
+        (le-or-lt far (distance b price marks v)))
+        (⊎-elim
+        (λ (q : far ≤ d). le-trans (distance-top v) q)
+        (λ (q : d < far).
+        let r = some q in
+        le-trans (no-path-cheaper (r .0) v (r .1) (r .2) (r .3) (r .4)) (le-of-eq (r .5)))
+        (le-or-lt far d))
+
+    -- it is at most the largest price for each node
+    pub distance-most : (v : ℕ) → v < nodes b → distance b price marks v < far → distance b price marks v ≤ nodes b * priceMost
+    distance-most v h l =
+        let r = some-path v h l in
+        let s = shorten g price fair (r .2) (r .4) in
+        le-trans (short-walk (r .0) v (s .path′) (r .2) (r .3) (s .walk) (s .few)) (s .most)
+
+    -- a node to which any path leads from the tree has a distance
+    pub path-near : (t v : ℕ) (path : List ℕ) → t < nodes b → inTree marks t ≡ true → Walk b t path v → distance b price marks v < far
+    path-near t v path h m w =
+        let s = shorten g price fair h w in
+        let most : distance b price marks v ≤ nodes b * priceMost = le-trans (short-walk t v (s .path′) h m (s .walk) (s .few)) (s .most) in
+        let fits : nodes b * priceMost < 2 ^ 61 = path-most (nodes b) (g .few) in
+        omega arith
+
+    -- no edge leads to a shorter way
+    pub distance-step : (u v : ℕ) → hasEdge b u v ≡ true → distance b price marks v ≤ distance b price marks u + price v
+    distance-step u v e =
+        ⊎-elim
+        (λ (q : far ≤ distance b price marks u). omega (arith, distance-top v))
+        (λ (q : distance b price marks u < far).
+        let r = some-path u (edge-from b g u v e) q in
+        let less : distance b price marks v ≤ pathCost price (r .1 ++ (v ∷ [])) = no-path-cheaper (r .0) v (r .1 ++ (v ∷ [])) (r .2) (r .3) (snoc (r .4) e) in
+        omega (arith, snoc-cost price v (r .4), r .5))
+        (le-or-lt far (distance b price marks u))
+
+    -- a node outside the tree that has a path has its distance over some edge
+    pub distance-over : (v : ℕ) → v < nodes b → inTree marks v ≡ false → distance b price marks v < far → (u : ℕ) × (hasEdge b u v ≡ true) × (distance b price marks v ≡ distance b price marks u + price v)
+    distance-over v h o l =
+        let r = some-path v h l in
+        let t : ℕ = r .0 in
+        let path : List ℕ = r .1 in
+        ⊎-elim
+        (λ (q : (t ≡ v) × (pathCost price path ≡ 0)).
+        let e : t ≡ v = q .0 in
+        let m : inTree marks t ≡ true = r .3 in
+        absurd (true≢false (sym (rw e at m) ∙ o)))
+        (λ (s : LastStep b price t path v).
+        let less : distance b price marks (s .before) ≤ pathCost price (s .front) = no-path-cheaper t (s .before) (s .front) (r .2) (r .3) (s .walk) in
+        let most : distance b price marks v ≤ distance b price marks (s .before) + price v = distance-step (s .before) v (s .edge) in
+        let cost : pathCost price path ≡ pathCost price (s .front) + price v = s .cost in
+        let is : pathCost price path ≡ distance b price marks v = r .5 in
+        (s .before, s .edge, omega arith))
+        (last-step price (r .4))

@@ -1,0 +1,226 @@
+-- Laws of the queue, a tournament tree: what a store leaves of it, how the loops put it right, and that entry 1 is the least.
+--     heap-whole                          an entry that was left out is right too
+--     heap-leaf, heap-node, heap-way      a store at a leaf leaves only the entry above it, also beside stores outside the queue
+--     heap-here, heap-up                  a store that puts an inner entry right
+--     entry-child, heap-least             an inner entry is one of its children; entry 1 is at most every leaf
+--     Carrying, Building, Descending      the invariants of `carry_up`, `build` and `nearest`, with their steps and ends
+-- Assumes nothing.
+use mathlib.Core.Bool.{true, false}
+use mathlib.Core.List.{List}
+use mathlib.Core.Logic.{_⊎_, ⊎-elim, inl, inr}
+use mathlib.Core.Path.{_≡_, sym, _∙_, subst}
+use Prim.Native.Nat.{ℕ, zero, suc, _+_, _-_, _*_, _/_, _≤_, _<_, min, suc-le-suc}
+use native.Mathlib.Nat.{not-suc-le-zero, lt-irrefl, le-refl, le-trans, min-le-left, min-le-right, min-eq-left, min-eq-right, eq-or-lt-of-le}
+use native.Mathlib.Omega.{arith}
+use lib.Dec.{eqb}
+use lib.ListN.{length, getD, set, length-set}
+use borrow.Author.Tests.{eqb-true, eqb-false}
+use Rattle.price.proofs.ListLaws.{either-way, le-or-lt}
+use Rattle.search.specs.Layout.{entryAt, leafAt, HeapAt, HeapBut, Heap, SameBut}
+use Rattle.search.proofs.StoreLaws.{store-here, store-other, same-none, same-store}
+
+-- of two numbers, whether they are the same
+same-or-not : (a c : ℕ) → (a ≡ c) ⊎ (a ≡ c → ⊥)
+same-or-not a c = ⊎-elim (λ (t : eqb a c ≡ true). inl (eqb-true a c t)) (λ (t : eqb a c ≡ false). inr (eqb-false a c t)) (either-way (eqb a c))
+
+-- ---- inner entries that are the least of their children
+
+-- the entry that was left out is also the least of its children
+pub heap-whole : (n : ℕ) (w : List ℕ) (j : ℕ) → HeapBut n w j → HeapAt n w j → Heap n w
+heap-whole n w j b e i l h =
+    ⊎-elim (λ (s : i ≡ j). rw s e) (λ (d : i ≡ j → ⊥). b i l h d) (same-or-not i j)
+
+-- an entry that stands with its children as before
+heap-kept : (n : ℕ) (w w′ : List ℕ) (i : ℕ) → entryAt n w′ i ≡ entryAt n w i → entryAt n w′ (2 * i) ≡ entryAt n w (2 * i) → entryAt n w′ (2 * i + 1) ≡ entryAt n w (2 * i + 1) → HeapAt n w i → HeapAt n w′ i
+heap-kept n w w′ i here left right e = cc
+
+-- ---- a store at an entry
+
+module _ (n : ℕ) (w : List ℕ) (i x : ℕ) where
+  entry-other : (k : ℕ) → (k ≡ i → ⊥) → entryAt n (set w (n + i) x) k ≡ entryAt n w k
+  entry-other k d = store-other w (n + i) x (n + k) (λ e. d (omega arith))
+
+  -- only the equations of the entry itself and of the entry above it can change
+  heap-far : (j : ℕ) → (j ≡ i → ⊥) → (j ≡ i / 2 → ⊥) → HeapAt n w j → HeapAt n (set w (n + i) x) j
+  heap-far j d u =
+      heap-kept n w (set w (n + i) x) j
+      (entry-other j d)
+      (entry-other (2 * j) (λ e. u (omega arith)))
+      (entry-other (2 * j + 1) (λ e. u (omega arith)))
+
+  -- a store at a leaf
+  pub heap-leaf : n ≤ i → Heap n w → HeapBut n (set w (n + i) x) (i / 2)
+  heap-leaf leaf b j l h u = heap-far j (λ e. omega arith) u (b j l h)
+
+  -- a store at an inner entry that makes it the least of its children
+  module _ (pos : 1 ≤ i) (inner : i < n) (long : 3 * n ≤ length w) (least : x ≡ min (entryAt n w (2 * i)) (entryAt n w (2 * i + 1))) where
+    pub heap-here : HeapAt n (set w (n + i) x) i
+    heap-here =
+        let here : entryAt n (set w (n + i) x) i ≡ x = store-here w (n + i) x (omega arith) in
+        let left : entryAt n (set w (n + i) x) (2 * i) ≡ entryAt n w (2 * i) = entry-other (2 * i) (λ e. omega arith) in
+        let right : entryAt n (set w (n + i) x) (2 * i + 1) ≡ entryAt n w (2 * i + 1) = entry-other (2 * i + 1) (λ e. omega arith) in
+        cc
+
+    pub heap-up : HeapBut n w i → HeapBut n (set w (n + i) x) (i / 2)
+    heap-up b j l h u =
+        ⊎-elim
+        (λ (s : j ≡ i). rw s heap-here)
+        (λ (d : j ≡ i → ⊥). heap-far j d u (b j l h d))
+        (same-or-not j i)
+
+-- a store at a node's leaf
+pub heap-node : (n : ℕ) (w : List ℕ) (v x : ℕ) → Heap n w → HeapBut n (set w (2 * n + v) x) ((n + v) / 2)
+heap-node n w v x b =
+    let e : n + (n + v) ≡ 2 * n + v = omega arith in
+    subst (λ (k : ℕ). HeapBut n (set w k x) ((n + v) / 2)) e (heap-leaf n w (n + v) x (omega arith) b)
+
+-- a store at a place that no entry of the queue has
+heap-aside : (n : ℕ) (w : List ℕ) (p x j : ℕ) → (p ≤ n) ⊎ (3 * n ≤ p) → HeapBut n w j → HeapBut n (set w p x) j
+heap-aside n w p x j out b i l h d =
+    let other : (k : ℕ) → 1 ≤ k → k < 2 * n → entryAt n (set w p x) k ≡ entryAt n w k =
+    λ k a z. store-other w p x (n + k) (λ e. ⊎-elim (λ q. omega arith) (λ q. omega arith) out) in
+    heap-kept n w (set w p x) i
+    (other i l (omega arith))
+    (other (2 * i) (omega arith) (omega arith))
+    (other (2 * i + 1) (omega arith) (omega arith))
+    (b i l h d)
+
+-- the three stores of a shorter way to v
+pub heap-way : (n : ℕ) (w : List ℕ) (u v d : ℕ) → v < n → Heap n w → HeapBut n (set (set (set w v d) (2 * n + v) d) (4 * n + v) u) ((n + v) / 2)
+heap-way n w u v d h b =
+    heap-aside n (set (set w v d) (2 * n + v) d) (4 * n + v) u ((n + v) / 2) (inr (omega arith))
+    (heap-node n (set w v d) v d (λ i l m. heap-aside n w v d 0 (inl (omega arith)) (λ i l m q. b i l m) i l m (λ e. omega arith)))
+
+-- ---- the least entry
+
+-- an inner entry is one of its children
+pub entry-child : (n : ℕ) (w : List ℕ) (i : ℕ) → HeapAt n w i → (entryAt n w (2 * i) ≡ entryAt n w i) ⊎ (entryAt n w (2 * i + 1) ≡ entryAt n w i)
+entry-child n w i e =
+    ⊎-elim
+    (λ h. inl (sym (e ∙ min-eq-left h)))
+    (λ h. inr (sym (e ∙ min-eq-right (omega arith))))
+    (le-or-lt (entryAt n w (2 * i)) (entryAt n w (2 * i + 1)))
+
+-- an entry is at least the one above it
+entry-above : (n : ℕ) (w : List ℕ) → Heap n w → (i : ℕ) → 2 ≤ i → i < 2 * n → entryAt n w (i / 2) ≤ entryAt n w i
+entry-above n w b i l h =
+    let up : HeapAt n w (i / 2) = b (i / 2) (omega arith) (omega arith) in
+    ⊎-elim
+    (λ (p : i ≤ 2 * (i / 2)).
+    let e : 2 * (i / 2) ≡ i = omega arith in
+    rw up (subst (λ (k : ℕ). min (entryAt n w (2 * (i / 2))) (entryAt n w (2 * (i / 2) + 1)) ≤ entryAt n w k) e (min-le-left _ _)))
+    (λ (p : 2 * (i / 2) < i).
+    let e : 2 * (i / 2) + 1 ≡ i = omega arith in
+    rw up (subst (λ (k : ℕ). min (entryAt n w (2 * (i / 2))) (entryAt n w (2 * (i / 2) + 1)) ≤ entryAt n w k) e (min-le-right _ _)))
+    (le-or-lt i (2 * (i / 2)))
+
+-- entry 1 is at most every entry
+entry-least : (n : ℕ) (w : List ℕ) → Heap n w → (fuel i : ℕ) → i ≤ fuel → 1 ≤ i → i < 2 * n → entryAt n w 1 ≤ entryAt n w i
+entry-least n w b zero i f l h = absurd (not-suc-le-zero (le-trans l f))
+entry-least n w b (suc fuel) i f l h =
+    ⊎-elim
+    (λ (e : 1 ≡ i). subst (λ (k : ℕ). entryAt n w 1 ≤ entryAt n w k) e (le-refl _))
+    (λ (g : 1 < i). le-trans (entry-least n w b fuel (i / 2) (omega arith) (omega arith) (omega arith)) (entry-above n w b i g h))
+    (eq-or-lt-of-le l)
+
+pub heap-least : (n : ℕ) (w : List ℕ) → Heap n w → (v : ℕ) → v < n → entryAt n w 1 ≤ leafAt n w v
+heap-least n w b v h =
+    let e : n + (n + v) ≡ 2 * n + v = omega arith in
+    subst (λ (k : ℕ). entryAt n w 1 ≤ getD w k 0) e (entry-least n w b (n + v) (n + v) (le-refl _) (omega arith) (omega arith))
+
+-- ---- carrying a change up
+
+-- every inner entry but perhaps entry i is right, and nothing but inner entries has changed
+pub record Carrying (n : ℕ) (old w : List ℕ) (i : ℕ) : Type 0 where
+  pub inner : i < n
+  pub room : 3 * n ≤ length w
+  pub but : HeapBut n w i
+  pub same : SameBut (n + 1) (2 * n) old w
+
+module _ (n : ℕ) (old w : List ℕ) (i : ℕ) where
+  -- entry i is right too
+  pub carried : (x : ℕ) → x ≡ min (entryAt n w (2 * i)) (entryAt n w (2 * i + 1)) → entryAt n w i ≡ x → Carrying n old w i → Carrying n old w 0
+  carried x least e k =
+      record {
+        inner = omega (arith, k .inner);
+        room = k .room;
+        but = λ j l h d. heap-whole n w i (k .but) (e ∙ least) j l h;
+        same = k .same;
+      }
+
+  -- entry i is put right, and the one above it may be wrong
+  pub carried-up : (x : ℕ) → 0 < i → x ≡ min (entryAt n w (2 * i)) (entryAt n w (2 * i + 1)) → Carrying n old w i → Carrying n old (set w (n + i) x) (i / 2)
+  carried-up x pos least k =
+      record {
+        inner = omega (arith, k .inner);
+        room = omega (arith, k .room, length-set w (n + i) x);
+        but = heap-up n w i x pos (k .inner) (k .room) least (k .but);
+        same = same-store (n + 1) (2 * n) old w (n + i) x (omega arith) (omega (arith, k .inner)) (k .same);
+      }
+
+  -- no inner entry is left
+  pub carried-all : i ≤ 0 → Carrying n old w i → Heap n w
+  carried-all l k j p h = k .but j p h (λ e. omega arith)
+
+-- ---- putting every inner entry right, from the last to the first
+
+-- every inner entry from i on is right, and nothing but inner entries has changed
+pub record Building (n : ℕ) (old w : List ℕ) (i : ℕ) : Type 0 where
+  pub within : i ≤ n
+  pub room : 3 * n ≤ length w
+  pub right : (j : ℕ) → i ≤ j → j < n → HeapAt n w j
+  pub same : SameBut (n + 1) (2 * n) old w
+
+pub built-none : (n : ℕ) (w : List ℕ) → 3 * n ≤ length w → Building n w w n
+built-none n w l =
+    record {
+      within = le-refl n;
+      room = l;
+      right = λ j p h. absurd (lt-irrefl n (le-trans (suc-le-suc p) h));
+      same = same-none (n + 1) (2 * n) w;
+    }
+
+module _ (n : ℕ) (old w : List ℕ) (i : ℕ) where
+  pub built-more : (x : ℕ) → 1 < i → x ≡ min (entryAt n w (2 * (i - 1))) (entryAt n w (2 * (i - 1) + 1)) → Building n old w i → Building n old (set w (n + (i - 1)) x) (i - 1)
+  built-more x pos least b =
+      let inner : i - 1 < n = omega (arith, b .within) in
+      record {
+        within = omega arith;
+        room = omega (arith, b .room, length-set w (n + (i - 1)) x);
+        right = λ j l h.
+            ⊎-elim
+            (λ (e : i - 1 ≡ j). subst (HeapAt n (set w (n + (i - 1)) x)) e (heap-here n w (i - 1) x (omega arith) inner (b .room) least))
+            (λ (g : i - 1 < j). heap-far n w (i - 1) x j (λ e. omega arith) (λ e. omega arith) (b .right j (omega arith) h))
+            (eq-or-lt-of-le l);
+        same = same-store (n + 1) (2 * n) old w (n + (i - 1)) x (omega arith) (omega arith) (b .same);
+      }
+
+  pub built : i ≤ 1 → Building n old w i → Heap n w
+  built l b j p h = b .right j (omega arith) h
+
+-- ---- going down to the least leaf
+
+-- entry i is the least of all
+pub record Descending (n : ℕ) (w : List ℕ) (i : ℕ) : Type 0 where
+  pub pos : 1 ≤ i
+  pub below : i < 2 * n
+  pub least : entryAt n w i ≡ entryAt n w 1
+
+module _ (n : ℕ) (w : List ℕ) (i : ℕ) where
+  pub down-left : i < n → entryAt n w (2 * i) ≡ entryAt n w i → Descending n w i → Descending n w (2 * i)
+  down-left h e d =
+      record { pos = omega (arith, d .pos); below = omega arith; least = e ∙ d .least }
+
+  pub down-right : Heap n w → i < n → (entryAt n w (2 * i) ≡ entryAt n w i → ⊥) → Descending n w i → Descending n w (2 * i + 1)
+  down-right b h ne d =
+      record {
+        pos = omega arith;
+        below = omega arith;
+        least = ⊎-elim (λ e. absurd (ne e)) (λ e. e ∙ d .least) (entry-child n w i (b i (d .pos) h));
+      }
+
+  -- at a leaf
+  pub down-leaf : n ≤ i → Descending n w i → leafAt n w (i - n) ≡ entryAt n w 1
+  down-leaf h d =
+      let e : 2 * n + (i - n) ≡ n + i = omega arith in
+      rw e (d .least)

@@ -1,0 +1,139 @@
+-- What the tests before a search have shown: prices to work with, marks that are there, a sound graph.
+-- Assumes nothing.
+use mathlib.Core.Bool.{Bool, true, false, not}
+use mathlib.Core.List.{List, [], _∷_}
+use mathlib.Core.Logic.{⊎-elim}
+use mathlib.Core.Path.{_≡_, refl}
+use Prim.Native.Nat.{ℕ, _*_, _≤_, _<_}
+use native.Mathlib.Omega.{arith}
+use lib.Dec.{leb, ltb}
+use lib.ListN.{length, getD}
+use borrow.Author.Tests.{leb-true, leb-false, ltb-true, ltb-false, not-false}
+use Rattle.price.specs.Test.{choose, both}
+use Rattle.price.specs.Bounds.{factorMost, othersMost, historyMost}
+use Rattle.price.proofs.ListLaws.{both-left, both-right, le-or-lt, firstBelow-below}
+use Rattle.price.proofs.PriceLaws.{price-pos, price-most}
+use Rattle.search.specs.Block.{blockOf, graphOf, row}
+use Rattle.search.specs.Tables.{Sound, Graph, edgeTargetsSound}
+use Rattle.search.specs.Turn.{Congestion, priceAt}
+use Rattle.search.specs.Replies.{workNeeded, nodeSound, badNode, refusalOf}
+use Rattle.search.specs.Frontier.{PriceReady, Fair}
+use Rattle.search.specs.Ready.{Ready}
+use Rattle.search.proofs.BlockLaws.{kinds-some, kinds-few, kind-most, capacities-long, capacity-least, capacity-most}
+
+-- where nothing is refused, every test has passed
+pub record Passed (table n : ℕ) (c : Congestion) (marks : List ℕ) (entries : ℕ) : Type 0 where
+  pub table-sound : table ≡ 0
+  pub work-long : 8 * n ≤ entries
+  pub nodes-sound : (v : ℕ) → v < n → nodeSound c marks v ≡ true
+  pub factor-most : c .factor ≤ factorMost
+
+-- where a refusal is not due, its test has failed, and the rest is not due either
+not-due : (t : Bool) (k : ℕ) (ks rest : List ℕ) → choose t (k ∷ ks) rest ≡ [] → t ≡ false
+not-due true k ks rest e = absurd (let z : _≡_ {A = ℕ} 0 1 = cc in omega arith)
+not-due false k ks rest e = refl
+
+rest-not-due : (t : Bool) (k : ℕ) (ks rest : List ℕ) → choose t (k ∷ ks) rest ≡ [] → rest ≡ []
+rest-not-due true k ks rest e = absurd (let z : _≡_ {A = ℕ} 0 1 = cc in omega arith)
+rest-not-due false k ks rest e = e
+
+-- no node below the lowest bad one is bad
+sound-below : (n : ℕ) (c : Congestion) (marks : List ℕ) → n ≤ badNode n c marks → (v : ℕ) → v < n → nodeSound c marks v ≡ true
+unfolding badNode
+sound-below n c marks l v h =
+    not-false (nodeSound c marks v) (firstBelow-below (λ v. not (nodeSound c marks v)) n v (omega arith))
+
+pub refusal-none : (table n : ℕ) (c : Congestion) (marks : List ℕ) (entries : ℕ) → refusalOf table n c marks entries ≡ [] → Passed table n c marks entries
+unfolding refusalOf
+refusal-none table n c marks entries e =
+    let e₂ = rest-not-due (leb 1 table) _ _ _ e in
+    let e₃ = rest-not-due (ltb entries (workNeeded n)) _ _ _ e₂ in
+    let e₄ = rest-not-due (ltb (badNode n c marks) n) _ _ _ e₃ in
+    let sound : table < 1 = leb-false 1 table (not-due (leb 1 table) _ _ _ e) in
+    record {
+      table-sound = omega arith;
+      work-long = ltb-false entries (workNeeded n) (not-due (ltb entries (workNeeded n)) _ _ _ e₂);
+      nodes-sound = sound-below n c marks (ltb-false (badNode n c marks) n (not-due (ltb (badNode n c marks) n) _ _ _ e₃));
+      factor-most = ltb-false factorMost (c .factor) (not-due (ltb factorMost (c .factor)) _ _ _ e₄);
+    }
+
+-- what a sound node has
+record NodeSound (c : Congestion) (marks : List ℕ) (v : ℕ) : Type 0 where
+  has-history : v < length (c .histories)
+  history-least : 1 ≤ getD (c .histories) v 0
+  history-most : getD (c .histories) v 0 ≤ historyMost
+  has-others : v < length (c .others)
+  others-most : getD (c .others) v 0 ≤ othersMost
+  has-mark : v < length marks
+  mark-bit : getD marks v 0 ≤ 1
+
+node-has : (c : Congestion) (marks : List ℕ) (v : ℕ) → nodeSound c marks v ≡ true → NodeSound c marks v
+unfolding nodeSound
+node-has c marks v s =
+    let history = both-left (both (ltb v (length (c .histories))) (both (leb 1 (getD (c .histories) v 0)) (leb (getD (c .histories) v 0) historyMost))) _ s in
+    let others-mark = both-right (both (ltb v (length (c .histories))) (both (leb 1 (getD (c .histories) v 0)) (leb (getD (c .histories) v 0) historyMost))) _ s in
+    let others = both-left (both (ltb v (length (c .others))) (leb (getD (c .others) v 0) othersMost)) _ others-mark in
+    let mark = both-right (both (ltb v (length (c .others))) (leb (getD (c .others) v 0) othersMost)) _ others-mark in
+    let history-bounds = both-right (ltb v (length (c .histories))) _ history in
+    record {
+      has-history = ltb-true _ _ (both-left _ _ history);
+      history-least = leb-true _ _ (both-left _ _ history-bounds);
+      history-most = leb-true _ _ (both-right (leb 1 (getD (c .histories) v 0)) _ history-bounds);
+      has-others = ltb-true _ _ (both-left _ _ others);
+      others-most = leb-true _ _ (both-right (ltb v (length (c .others))) _ others);
+      has-mark = ltb-true _ _ (both-left _ _ mark);
+      mark-bit = leb-true _ _ (both-right (ltb v (length marks)) _ mark);
+    }
+
+module _ (ks cs fs ts : List ℕ) (c : Congestion) (marks : List ℕ) where
+  pub sound-graph : Sound (blockOf ks cs fs ts) → Graph (graphOf ks fs ts)
+  unfolding edgeTargetsSound row
+  sound-graph s =
+      record {
+        some = kinds-some ks (s .kinds-sound);
+        few = kinds-few ks (s .kinds-sound);
+        firstEdges-sound = s .firstEdges-sound;
+        edgeTargets-sound = s .edgeTargets-sound;
+      }
+
+  module _ (r : Ready ks cs c marks) where
+    ready-node : (v : ℕ) → v < length ks → NodeSound c marks v
+    ready-node v h = node-has c marks v (r .nodes-sound v h)
+
+    pub ready-price : (v : ℕ) → v < length ks → PriceReady ks cs (c .histories) (c .others) (c .factor) v
+    ready-price v h =
+        let node = ready-node v h in
+        let long : length cs ≡ length ks = capacities-long (length ks) cs (r .capacities-sound) in
+        record {
+          has-kind = h;
+          has-capacity = omega arith;
+          has-history = node .has-history;
+          has-others = node .has-others;
+          bounds = record {
+            kind-most = kind-most ks (r .kinds-sound) v h;
+            factor-most = r .factor-most;
+            others-most = node .others-most;
+            capacity-least = capacity-least (length ks) cs (r .capacities-sound) v h;
+            capacity-most = capacity-most (length ks) cs (r .capacities-sound) v h;
+            history-least = node .history-least;
+            history-most = node .history-most;
+          };
+        }
+
+    pub ready-fair : Fair (graphOf ks fs ts) (priceAt (blockOf ks cs fs ts) c)
+    unfolding priceAt
+    ready-fair =
+        record {
+          pos = λ v h. price-pos _ _ _ _ _ (ready-node v h .history-least);
+          most = λ v h. price-most (ready-price v h .bounds);
+        }
+
+    pub ready-marks : length ks ≤ length marks
+    ready-marks =
+        ⊎-elim
+        (λ (l : length ks ≤ length marks). l)
+        (λ (l : length marks < length ks). absurd (let m = ready-node (length marks) l .has-mark in omega arith))
+        (le-or-lt (length ks) (length marks))
+
+    pub ready-bit : (v : ℕ) → v < length ks → getD marks v 0 ≤ 1
+    ready-bit v h = ready-node v h .mark-bit

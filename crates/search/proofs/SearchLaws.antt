@@ -1,0 +1,234 @@
+-- A whole search: prepared, ready to run, run to its end, and its reply.
+--     prepared                                  the work slice before the queue is built
+--     waiting-from, stands-from                 a search that stands ready: nothing is settled, and every node waits
+--     built-stands, search-leaves               the search that has no goals: it stands ready, and what it leaves
+--     with-sinks-table, -none, -bad             the lowest faulty table, sinks counted
+--     few-nodes, fine-passed, passed-ready      what the tests before a search have shown
+--     search-ready                              that a search may run
+--     search-table, -work, -number, -done       the search's reply
+-- Assumes nothing.
+use mathlib.Core.Bool.{Bool, true, false}
+use mathlib.Core.List.{List, [], _∷_, _++_}
+use mathlib.Core.Logic.{⊎-elim}
+use mathlib.Core.Path.{_≡_, refl, sym, _∙_, ap}
+use Prim.Native.Nat.{ℕ, zero, suc, _+_, _-_, _*_, _≤_, _<_}
+use native.Mathlib.Nat.{not-suc-le-zero, le-of-suc-le-suc}
+use native.Mathlib.Omega.{arith}
+use lib.ListN.{length, getD, take, drop, replicate, length-drop}
+use lib.Seq.{length-take-le, getD-take, getD-drop, ext-getD}
+use borrow.Author.Tests.{le-leb, lt-leb}
+use Rattle.price.specs.Test.{choose}
+use Rattle.price.specs.Bounds.{nodesMost}
+use Rattle.search.specs.Block.{blockOf, graphOf}
+use Rattle.search.specs.Tables.{faultyTable, Sound}
+use Rattle.search.specs.Distance.{far, inTree, distances, distance}
+use Rattle.search.specs.Turn.{Congestion, congestionOf, priceAt}
+use Rattle.search.specs.Replies.{cleared, sinksSound, faultyWithSinks, refusalOf, checkNumbers, searchReply, searched}
+use Rattle.search.specs.declared.SearchAnswer.the-variants as answer
+use Rattle.search.specs.declared.numbers.Check.{Check}
+use Rattle.search.specs.declared.numbers.Check.the-variants as check
+use Rattle.search.specs.Layout.{distAt, entryAt, leafAt, priceIn, goalAt, Heap, SameBut, Started, Priced}
+use Rattle.search.specs.Frontier.{Waiting, Stands, Ran}
+use Rattle.search.specs.Ready.{Ready, Prepared}
+use Rattle.search.proofs.BlockLaws.{sound-of, kinds-few}
+use Rattle.search.proofs.DistanceLaws.{length-distances, distance-top}
+use Rattle.search.proofs.GraphLaws.{distances-same}
+use Rattle.search.proofs.FillLaws.{cleared-length, cleared-low, cleared-zero, cleared-high}
+use Rattle.search.proofs.FrontierSteps.{start-waiting}
+use Rattle.search.proofs.Exactness.{exact}
+use Rattle.search.proofs.ReadyLaws.{Passed, refusal-none, sound-graph, ready-fair}
+
+-- ---- the work slice before the queue is built: prices, then first distances, then no goals
+
+module _ (ks cs : List ℕ) (factor : ℕ) (hs os marks w₀ w₁ w₂ w₃ : List ℕ) (long : 8 * length ks ≤ length w₀)
+    (p : Priced (length ks) (priceAt (blockOf ks cs [] []) (congestionOf factor hs os)) w₀ w₁) (s : Started (length ks) marks w₁ w₂)
+    (e : w₃ ≡ take (5 * length ks) w₂ ++ (replicate (6 * length ks - 5 * length ks) 0 ++ drop (6 * length ks) w₂)) where
+  started-long : 6 * length ks ≤ length w₂
+  started-long = omega (arith, s .long, p .same .long)
+
+  in-order : 5 * length ks ≤ 6 * length ks
+  in-order = omega arith
+
+  -- a place before the goals is as the first distances left it
+  before-goals : (j : ℕ) → j < 5 * length ks → getD w₃ j 0 ≡ getD w₂ j 0
+  before-goals = cleared-low w₂ _ _ e in-order started-long
+
+  pub prepared : Prepared (length ks) (priceAt (blockOf ks cs [] []) (congestionOf factor hs os)) marks w₀ w₃
+  prepared =
+      record {
+        long = cleared-length w₂ _ _ e in-order started-long ∙ s .long ∙ p .same .long;
+        prices = λ v h. before-goals (3 * length ks + v) (omega arith) ∙ s .high (3 * length ks + v) (omega arith) ∙ p .prices v h;
+        dist = λ v h. before-goals v (omega arith) ∙ s .dist v h;
+        leaf = λ v h. before-goals (2 * length ks + v) (omega arith) ∙ s .leaf v h;
+        no-goals = λ v h. cleared-zero w₂ _ _ e in-order started-long (5 * length ks + v) (omega arith) (omega arith);
+        high = λ j l. cleared-high w₂ _ _ e in-order started-long j l ∙ s .high j (omega arith) ∙ p .same .high j (omega arith);
+      }
+
+-- ---- a search that stands ready: nothing is settled, and every node waits
+
+module _ (ks cs fs ts : List ℕ) (c : Congestion) (marks w : List ℕ)
+    (sound : Sound (blockOf ks cs fs ts)) (ready : Ready ks cs c marks)
+    (long : 8 * length ks ≤ length w) (heap : Heap (length ks) w)
+    (prices : (v : ℕ) → v < length ks → priceIn (length ks) w v ≡ priceAt (blockOf ks cs [] []) c v)
+    (dist : (v : ℕ) → v < length ks → distAt w v ≡ choose (inTree marks v) 0 far)
+    (leaf : (v : ℕ) → v < length ks → leafAt (length ks) w v ≡ choose (inTree marks v) 0 far) where
+  pub waiting-from : Waiting (graphOf ks fs ts) (priceAt (blockOf ks cs fs ts) c) marks w
+  unfolding priceAt
+  waiting-from = start-waiting (graphOf ks fs ts) (priceAt (blockOf ks cs fs ts) c) marks w long heap prices dist leaf
+
+  pub stands-from : Stands (graphOf ks fs ts) w
+  stands-from =
+      record {
+        sound = sound-graph ks cs fs ts c marks sound;
+        price = priceAt (blockOf ks cs fs ts) c;
+        marks = marks;
+        fair = ready-fair ks cs fs ts c marks ready;
+        waiting = waiting-from;
+        goals-open = λ v h goal. leaf v h ∙ sym (dist v h);
+      }
+
+-- ---- the search that has no goals
+
+-- within a list it does not matter what is read past its end
+within : (l : List ℕ) (i d d′ : ℕ) → i < length l → getD l i d ≡ getD l i d′
+within [] i d d′ h = absurd (not-suc-le-zero h)
+within (x ∷ xs) zero d d′ h = refl
+within (x ∷ xs) (suc i) d d′ h = within xs i d d′ (le-of-suc-le-suc h)
+
+module _ (ks cs fs ts : List ℕ) (c : Congestion) (marks w₀ w₁ w₂ : List ℕ)
+    (sound : Sound (blockOf ks cs fs ts)) (ready : Ready ks cs c marks) (long : 8 * length ks ≤ length w₀)
+    (prep : Prepared (length ks) (priceAt (blockOf ks cs [] []) c) marks w₀ w₁)
+    (heap : Heap (length ks) w₂) (same : SameBut (length ks + 1) (2 * length ks) w₁ w₂) where
+  built-long : 8 * length ks ≤ length w₂
+  built-long = omega (arith, same .long, prep .long)
+
+  built-prices : (v : ℕ) → v < length ks → priceIn (length ks) w₂ v ≡ priceAt (blockOf ks cs [] []) c v
+  built-prices v h = same .high (3 * length ks + v) (omega arith) ∙ prep .prices v h
+
+  built-dist : (v : ℕ) → v < length ks → distAt w₂ v ≡ choose (inTree marks v) 0 far
+  built-dist v h = same .low v (omega arith) ∙ prep .dist v h
+
+  built-leaf : (v : ℕ) → v < length ks → leafAt (length ks) w₂ v ≡ choose (inTree marks v) 0 far
+  built-leaf v h = same .high (2 * length ks + v) (omega arith) ∙ prep .leaf v h
+
+  pub built-stands : Stands (graphOf ks fs ts) w₂
+  built-stands = stands-from ks cs fs ts c marks w₂ sound ready built-long heap built-prices built-dist built-leaf
+
+  module _ (w₃ w₄ : List ℕ) (ran : Ran (graphOf ks fs ts) w₂ w₃)
+      (end : w₄ ≡ take (length ks) w₃ ++ (replicate (8 * length ks - length ks) 0 ++ drop (8 * length ks) w₃)) where
+    still-long : length w₃ ≡ length w₀
+    still-long = ran .long ∙ same .long ∙ prep .long
+
+    no-goal : (v : ℕ) → v < length ks → goalAt (length ks) w₃ v ≡ 0
+    no-goal v h =
+        ran .high (5 * length ks + v) (omega arith) ∙ same .high (5 * length ks + v) (omega arith) ∙ prep .no-goals v h
+
+    -- so nothing waits any more
+    all-settled : entryAt (length ks) w₃ 1 ≡ far
+    all-settled =
+        ⊎-elim (λ e. e) (λ g. absurd (let none = no-goal (g .0) (g .1) in let goal = g .2 in omega arith)) (ran .stopped)
+
+    final : (v : ℕ) → v < length ks → distAt w₃ v ≡ distance (graphOf ks fs ts) (priceAt (blockOf ks cs fs ts) c) marks v
+    final v h =
+        exact (graphOf ks fs ts) (priceAt (blockOf ks cs fs ts) c) marks w₃ (sound-graph ks cs fs ts c marks sound) (ready-fair ks cs fs ts c marks ready)
+        (ran .waiting (priceAt (blockOf ks cs fs ts) c) marks (ready-fair ks cs fs ts c marks ready)
+        (waiting-from ks cs fs ts c marks w₂ sound ready built-long heap built-prices built-dist built-leaf))
+        v h
+        (let top = distance-top (graphOf ks fs ts) (priceAt (blockOf ks cs fs ts) c) marks v in omega (arith, all-settled))
+
+    first-part : take (length ks) w₃ ≡ distances (blockOf ks cs fs ts) (priceAt (blockOf ks cs fs ts) c) marks
+    first-part =
+        let count : length (take (length ks) w₃) ≡ length ks = length-take-le (length ks) w₃ (omega (arith, still-long)) in
+        let all : length (distances (graphOf ks fs ts) (priceAt (blockOf ks cs fs ts) c) marks) ≡ length ks =
+        length-distances (graphOf ks fs ts) (priceAt (blockOf ks cs fs ts) c) marks in
+        ext-getD 0 (take (length ks) w₃) (distances (graphOf ks fs ts) (priceAt (blockOf ks cs fs ts) c) marks) (count ∙ sym all)
+        (λ i l.
+        let h : i < length ks = omega arith in
+        getD-take (length ks) w₃ i 0 h ∙ final i h ∙ within (distances (graphOf ks fs ts) (priceAt (blockOf ks cs fs ts) c) marks) i far 0 (omega arith))
+        ∙ distances-same ks cs fs ts (priceAt (blockOf ks cs fs ts) c) marks
+
+    -- past 8 × nodes nothing was written
+    last-part : drop (8 * length ks) w₃ ≡ drop (8 * length ks) w₀
+    last-part =
+        ext-getD 0 (drop (8 * length ks) w₃) (drop (8 * length ks) w₀) (simp length-drop (rw still-long))
+        (λ i l.
+        getD-drop (8 * length ks) w₃ i 0
+        ∙ ran .high (8 * length ks + i) (omega arith)
+        ∙ same .high (8 * length ks + i) (omega arith)
+        ∙ prep .high (8 * length ks + i) (omega arith)
+        ∙ sym (getD-drop (8 * length ks) w₀ i 0))
+
+    pub search-leaves : w₄ ≡ cleared (length ks) (distances (blockOf ks cs fs ts) (priceAt (blockOf ks cs fs ts) c) marks) w₀
+    unfolding cleared
+    search-leaves =
+        rw (length-distances (blockOf ks cs fs ts) (priceAt (blockOf ks cs fs ts) c) marks, ← first-part, ← last-part) end
+
+-- ---- the lowest faulty table, sinks counted
+
+module _ (ks cs fs ts sinks : List ℕ) {table : ℕ} (lowest : table ≡ faultyTable (blockOf ks cs fs ts)) where
+  pub with-sinks-table : 1 ≤ table → table ≡ faultyWithSinks (blockOf ks cs fs ts) sinks
+  unfolding faultyWithSinks
+  with-sinks-table h = rw (← lowest, le-leb 1 table h)
+
+  module _ (none : table < 1) {sound : Bool} (answer : sound ≡ sinksSound (length ks) sinks) where
+    pub with-sinks-none : sound ≡ true → 0 ≡ faultyWithSinks (blockOf ks cs fs ts) sinks
+    unfolding faultyWithSinks
+    with-sinks-none t = rw (← lowest, lt-leb 1 table none, ← answer, t)
+
+    pub with-sinks-bad : sound ≡ false → 7 ≡ faultyWithSinks (blockOf ks cs fs ts) sinks
+    unfolding faultyWithSinks
+    with-sinks-bad t = rw (← lowest, lt-leb 1 table none, ← answer, t)
+
+-- ---- what the tests before a search have shown
+
+pub few-nodes : (ks cs fs ts : List ℕ) {table : ℕ} → table ≡ faultyTable (blockOf ks cs fs ts) → table ≡ 0 → length ks ≤ nodesMost
+few-nodes ks cs fs ts lowest none = kinds-few ks (sound-of (blockOf ks cs fs ts) (sym lowest ∙ none) .kinds-sound)
+
+-- where they find nothing, every test has passed
+pub fine-passed : {table n : ℕ} {c : Congestion} {marks : List ℕ} {entries : ℕ} {r : Check} → r ≡ check.Fine → checkNumbers r ≡ refusalOf table n c marks entries → Passed table n c marks entries
+fine-passed {table} {n} {c} {marks} {entries} fine found =
+    refusal-none table n c marks entries (sym found ∙ ap checkNumbers fine)
+
+pub passed-ready : (ks cs fs ts : List ℕ) (c : Congestion) (marks : List ℕ) {table entries : ℕ} → Sound (blockOf ks cs fs ts) → Passed table (length ks) c marks entries → Ready ks cs c marks
+passed-ready ks cs fs ts c marks s p =
+    record {
+      kinds-sound = s .kinds-sound;
+      capacities-sound = s .capacities-sound;
+      nodes-sound = p .nodes-sound;
+      factor-most = p .factor-most;
+    }
+
+-- so a sound block and numbers within their bounds
+pub search-ready :
+    (ks cs fs ts : List ℕ) (factor : ℕ) (hs os marks : List ℕ) {table entries : ℕ} {r : Check} → table ≡ faultyTable (blockOf ks cs fs ts) → r ≡ check.Fine
+    → checkNumbers r ≡ refusalOf table (length ks) (congestionOf factor hs os) marks entries
+    → Ready ks cs (congestionOf factor hs os) marks × (Sound (blockOf ks cs fs ts) × (8 * length ks ≤ entries))
+search-ready ks cs fs ts factor hs os marks lowest fine found =
+    let p = fine-passed fine found in
+    let sound = sound-of (blockOf ks cs fs ts) (sym lowest ∙ p .table-sound) in
+    (passed-ready ks cs fs ts (congestionOf factor hs os) marks sound p, (sound, p .work-long))
+
+-- ---- the search's reply
+
+module _ (ks cs fs ts : List ℕ) (factor : ℕ) (hs os marks w : List ℕ)
+    {table : ℕ} (lowest : table ≡ faultyTable (blockOf ks cs fs ts))
+    {r : Check} (found : checkNumbers r ≡ refusalOf table (length ks) (congestionOf factor hs os) marks (length w)) where
+  -- a refusal leaves the work slice as it was
+  pub search-table : {t : ℕ} → r ≡ check.BadTable t → searched (answer.BadTable t) w ≡ searchReply (blockOf ks cs fs ts) (congestionOf factor hs os) marks w
+  unfolding searchReply
+  search-table e = rw (← lowest, ← found, e)
+
+  pub search-work : {needed : ℕ} → r ≡ check.ShortWork needed → searched (answer.ShortWork needed) w ≡ searchReply (blockOf ks cs fs ts) (congestionOf factor hs os) marks w
+  unfolding searchReply
+  search-work e = rw (← lowest, ← found, e)
+
+  pub search-number : {place : ℕ} → r ≡ check.BadNumber place → searched (answer.BadNumber place) w ≡ searchReply (blockOf ks cs fs ts) (congestionOf factor hs os) marks w
+  unfolding searchReply
+  search-number e = rw (← lowest, ← found, e)
+
+  pub search-done :
+      {w′ : List ℕ} → r ≡ check.Fine
+      → w′ ≡ cleared (length ks) (distances (blockOf ks cs fs ts) (priceAt (blockOf ks cs fs ts) (congestionOf factor hs os)) marks) w
+      → searched answer.Done w′ ≡ searchReply (blockOf ks cs fs ts) (congestionOf factor hs os) marks w
+  unfolding searchReply
+  search-done e end = rw (← lowest, ← found, e, end)

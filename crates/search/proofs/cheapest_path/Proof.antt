@@ -1,0 +1,61 @@
+-- `search::cheapest_path` meets its contract: a refusal of the tests is the reply's, and where there is none the turn is.
+-- Assumes nothing.
+use mathlib.Core.Path.{ap}
+use borrow.Author.Needs.{needs}
+use Rattle.search.specs.Replies.{checkNumbers}
+use Rattle.search.proofs.JoinLaws.{path-few, path-refused, path-ready, path-taken}
+use Rattle.search.proofs.cheapest_path.Statement.{statement}
+use Rattle.search.proofs.cheapest_path.Tie as tie
+
+faulty-with-sinks-requires : tie.Need-faulty-with-sinks-requires
+faulty-with-sinks-requires c κs = search needs
+
+first-refusal-requires : tie.Need-first-refusal-requires
+first-refusal-requires c κs = path-few _ _ _ _ _ (c .faulty-with-sinks .ensures)
+
+enum-known-t : tie.Need-enum-known-t
+enum-known-t c = search needs
+
+enum-known-needed : tie.Need-enum-known-needed
+enum-known-needed c = search needs
+
+enum-known-place : tie.Need-enum-known-place
+enum-known-place c = search needs
+
+enum-told : tie.Need-enum-told
+enum-told c = search needs
+
+join-requires : tie.Need-join-requires
+join-requires c κs = path-ready _ _ _ _ _ (c .before .before .before .before .faulty-with-sinks .ensures) _ _ (c .before .before .before .before .before .before .before .before .before .before .before .before .before .before .args .work .now) (c .before .before .before .first-refusal .ensures) (ap checkNumbers (c .before .enum-told .given .1))
+
+returns : tie.Need-returns
+returns c = path-refused _ _ _ _ _ (c .before .before .before .before .faulty-with-sinks .ensures) _ _ _ (c .before .before .before .first-refusal .ensures) (ap checkNumbers (c .before .t .given .1))
+
+returns-2 : tie.Need-returns-2
+returns-2 c = path-refused _ _ _ _ _ (c .before .before .before .before .faulty-with-sinks .ensures) _ _ _ (c .before .before .before .first-refusal .ensures) (ap checkNumbers (c .before .needed .given .1))
+
+returns-3 : tie.Need-returns-3
+returns-3 c = path-refused _ _ _ _ _ (c .before .before .before .before .faulty-with-sinks .ensures) _ _ _ (c .before .before .before .first-refusal .ensures) (ap checkNumbers (c .before .place .given .1))
+
+same-length : tie.Need-same-length
+same-length c = search needs
+
+returns-4 : tie.Need-returns-4
+returns-4 c = path-taken _ _ _ _ _ (c .before .before .before .before .before .before .before .faulty-with-sinks .ensures) _ _ _ (c .before .before .before .before .before .before .first-refusal .ensures) (ap checkNumbers (c .before .before .before .before .enum-told .given .1)) (c .before .before .join .ensures)
+
+pub cheapest-path-spec : {M : Type 1} → statement M
+cheapest-path-spec =
+    tie.close
+    (tie.spec
+    faulty-with-sinks-requires
+    first-refusal-requires
+    enum-known-t
+    enum-known-needed
+    enum-known-place
+    enum-told
+    join-requires
+    returns
+    returns-2
+    returns-3
+    same-length
+    returns-4)

@@ -1,0 +1,29 @@
+-- `search::faulty_with_sinks` meets its contract: each return by the law of the lowest faulty table, from what the two tests answered.
+-- Assumes nothing.
+use borrow.Author.Needs.{needs}
+use Rattle.search.proofs.SearchLaws.{with-sinks-table, with-sinks-none, with-sinks-bad}
+use Rattle.search.proofs.faulty_with_sinks.Statement.{statement}
+use Rattle.search.proofs.faulty_with_sinks.Tie as tie
+
+faulty-table-requires : tie.Need-faulty-table-requires
+faulty-table-requires c κs = search needs
+
+returns : tie.Need-returns
+returns c = with-sinks-table _ _ _ _ _ (c .before .faulty-table .ensures) (c .if1 .taken)
+
+sinks-sound-requires : tie.Need-sinks-sound-requires
+sinks-sound-requires c κs = search needs
+
+returns-2 : tie.Need-returns-2
+returns-2 c =
+    let tested = c .before in
+    with-sinks-none _ _ _ _ _ (tested .before .before .faulty-table .ensures) (tested .before .if1 .left) (tested .sinks-sound .ensures) (c .if2 .taken)
+
+returns-3 : tie.Need-returns-3
+returns-3 c =
+    let tested = c .before in
+    with-sinks-bad _ _ _ _ _ (tested .before .before .faulty-table .ensures) (tested .before .if1 .left) (tested .sinks-sound .ensures) (c .if2 .left)
+
+pub faulty-with-sinks-spec : {M : Type 1} → statement M
+faulty-with-sinks-spec =
+    tie.close (tie.spec faulty-table-requires returns sinks-sound-requires returns-2 returns-3)

@@ -1,0 +1,86 @@
+-- `search::queue::nearest` meets its contract. The loop's invariant: entry i is the least of all.
+-- The measure is how far i is from the end of the queue. Assumes nothing.
+use mathlib.Core.Path.{refl}
+use Prim.Native.Nat.{_*_, _-_}
+use borrow.Author.Needs.{needs}
+use native.Mathlib.Omega.{arith}
+use Rattle.search.proofs.QueueLaws.{Descending, down-left, down-right, down-leaf}
+use Rattle.search.proofs.queue.nearest.Statement.{statement}
+use Rattle.search.proofs.queue.nearest.Tie as tie
+
+abbrev Inv-loop : tie.InvT-loop
+Inv-loop work n i₀ i = Descending n work i
+
+abbrev μ-loop : tie.MeasureT-loop
+μ-loop work n i₀ i = 2 * n - i
+
+loop-holds : tie.Need-loop-holds Inv-loop μ-loop
+loop-holds c = record { pos = omega arith; below = omega arith; least = refl }
+
+mul-if1 : tie.Need-mul-if1 Inv-loop μ-loop
+mul-if1 c = search needs
+
+add-if1 : tie.Need-add-if1 Inv-loop μ-loop
+add-if1 c = search needs
+
+mul-if1-2 : tie.Need-mul-if1-2 Inv-loop μ-loop
+mul-if1-2 c = search needs
+
+shared-slice-read-if1 : tie.Need-shared-slice-read-if1 Inv-loop μ-loop
+shared-slice-read-if1 c = search needs
+
+add-if1-2 : tie.Need-add-if1-2 Inv-loop μ-loop
+add-if1-2 c = search needs
+
+mul-if1-3 : tie.Need-mul-if1-3 Inv-loop μ-loop
+mul-if1-3 c = search needs
+
+shared-slice-read-if1-2 : tie.Need-shared-slice-read-if1-2 Inv-loop μ-loop
+shared-slice-read-if1-2 c = search needs
+
+mul-i : tie.Need-mul-i Inv-loop μ-loop
+mul-i c = search needs
+
+loop-less : tie.Need-loop-less Inv-loop μ-loop
+loop-less c = search needs
+
+loop-again : tie.Need-loop-again Inv-loop μ-loop
+loop-again c = down-left _ _ _ (c .before .before .before .loop-test .taken) (c .if1 .taken) (c .before .before .before .before .loop .inv)
+
+mul-i-2 : tie.Need-mul-i-2 Inv-loop μ-loop
+mul-i-2 c = search needs
+
+add-i : tie.Need-add-i Inv-loop μ-loop
+add-i c = search needs
+
+loop-less-2 : tie.Need-loop-less-2 Inv-loop μ-loop
+loop-less-2 c = search needs
+
+loop-again-2 : tie.Need-loop-again-2 Inv-loop μ-loop
+loop-again-2 c = down-right _ _ _ (c .before .before .before .before .before .pre .2) (c .before .before .before .loop-test .taken) (c .if1 .left) (c .before .before .before .before .loop .inv)
+
+returns : tie.Need-returns Inv-loop μ-loop
+returns c = (search needs, down-leaf _ _ _ (c .loop-test .left) (c .before .loop .inv))
+
+pub nearest-spec : {M : Type 1} → statement M
+nearest-spec =
+    tie.close
+    (tie.spec
+    Inv-loop
+    μ-loop
+    loop-holds
+    mul-if1
+    add-if1
+    mul-if1-2
+    shared-slice-read-if1
+    add-if1-2
+    mul-if1-3
+    shared-slice-read-if1-2
+    mul-i
+    loop-less
+    loop-again
+    mul-i-2
+    add-i
+    loop-less-2
+    loop-again-2
+    returns)

@@ -1,0 +1,49 @@
+-- `search::run::distances_from_tree` meets its contract: without goals the search runs until nothing waits, and so every distance is final.
+-- Assumes nothing.
+use borrow.Author.Needs.{needs}
+use Rattle.search.proofs.SearchLaws.{built-stands, search-leaves}
+use Rattle.search.proofs.run.distances_from_tree.Statement.{statement}
+use Rattle.search.proofs.run.distances_from_tree.Tie as tie
+
+prepare-requires : tie.Need-prepare-requires
+prepare-requires c κs = search needs
+
+build-requires : tie.Need-build-requires
+build-requires c κs = search needs
+
+settle-all-requires : tie.Need-settle-all-requires
+settle-all-requires c κs =
+    let built = c .before .before .before in
+    let ready = built .before .before .before .before in
+    let start = ready .before .before .before .before .before .before .before .before .before .before in
+    built-stands _ _ _ _ _ _ _ _ _ (start .pre .1 .0) (start .pre .0) (start .pre .1 .1) (ready .prepare .ensures) (built .build .ensures .0) (built .build .ensures .1)
+
+mul-clear : tie.Need-mul-clear
+mul-clear c = search needs
+
+clear-requires : tie.Need-clear-requires
+clear-requires c κs = search needs
+
+same-length : tie.Need-same-length
+same-length c = search needs
+
+returns : tie.Need-returns
+returns c =
+    let ended = c .before .before in
+    let ran = ended .before .before .before .before in
+    let built = ran .before .before .before .before in
+    let ready = built .before .before .before .before in
+    let start = ready .before .before .before .before .before .before .before .before .before .before in
+    search-leaves _ _ _ _ _ _ _ _ _ (start .pre .1 .0) (start .pre .0) (start .pre .1 .1) (ready .prepare .ensures) (built .build .ensures .0) (built .build .ensures .1) _ _ (ran .settle-all .ensures) (ended .clear .ensures)
+
+pub distances-from-tree-spec : {M : Type 1} → statement M
+distances-from-tree-spec =
+    tie.close
+    (tie.spec
+    prepare-requires
+    build-requires
+    settle-all-requires
+    mul-clear
+    clear-requires
+    same-length
+    returns)

@@ -1,0 +1,52 @@
+-- `search::run::prepare` meets its contract: prices are filled in, then the first distances, and then the goals are cleared.
+-- Assumes nothing.
+use mathlib.Core.List.{[]}
+use native.Mathlib.Omega.{arith}
+use borrow.Author.Needs.{needs}
+use Rattle.search.proofs.ReadyLaws.{ready-price, ready-marks}
+use Rattle.search.proofs.SearchLaws.{prepared}
+use Rattle.search.proofs.run.prepare.Statement.{statement}
+use Rattle.search.proofs.run.prepare.Tie as tie
+
+fill-prices-requires : tie.Need-fill-prices-requires
+fill-prices-requires c κs =
+    let start = c .before .before .before .before .before .before .before in
+    (ready-price _ _ [] [] _ _ (start .pre .0), start .pre .1)
+
+fill-distances-requires : tie.Need-fill-distances-requires
+fill-distances-requires c κs =
+    let filled = c .before .before .before in
+    let start = filled .before .before .before .before .before .before .before .before in
+    (ready-marks _ _ [] [] _ _ (start .pre .0), omega (arith, start .pre .1, filled .fill-prices .ensures .same .long))
+
+mul-clear : tie.Need-mul-clear
+mul-clear c = search needs
+
+mul-clear-2 : tie.Need-mul-clear-2
+mul-clear-2 c = search needs
+
+clear-requires : tie.Need-clear-requires
+clear-requires c κs = search needs
+
+same-length : tie.Need-same-length
+same-length c = search needs
+
+returns : tie.Need-returns
+returns c =
+    let ended = c .before .before in
+    let measured = ended .before .before .before .before in
+    let filled = measured .before .before .before .before in
+    let start = filled .before .before .before .before .before .before .before .before in
+    prepared _ _ _ _ _ _ _ _ _ _ (start .pre .1) (filled .fill-prices .ensures) (measured .fill-distances .ensures) (ended .clear .ensures)
+
+pub prepare-spec : {M : Type 1} → statement M
+prepare-spec =
+    tie.close
+    (tie.spec
+    fill-prices-requires
+    fill-distances-requires
+    mul-clear
+    mul-clear-2
+    clear-requires
+    same-length
+    returns)

@@ -1,0 +1,117 @@
+-- How a running search keeps its work slice. Only the contracts of private functions cite this file: no caller has to believe it.
+-- Of n nodes: distances from 0, the queue's entries from n, prices from 3 n, predecessors from 4 n, goal marks from 5 n.
+-- The queue is a tournament tree: entry i is the least of entries 2 i and 2 i + 1, and node v's leaf is entry n + v.
+-- Assumes nothing.
+use mathlib.Core.Bool.{false}
+use mathlib.Core.List.{List, [], _∷_}
+use mathlib.Core.Path.{_≡_}
+use Prim.Native.Nat.{ℕ, zero, suc, _+_, _*_, _≤_, _<_, min}
+use lib.Dec.{eqb}
+use lib.ListN.{length, getD, set}
+use Rattle.price.specs.Test.{choose, both}
+use Rattle.price.specs.Lists.{has}
+use Rattle.search.specs.Distance.{far, inTree}
+
+abbrev pub distAt : List ℕ → ℕ → ℕ
+distAt w v = getD w v 0
+
+abbrev pub entryAt : ℕ → List ℕ → ℕ → ℕ
+entryAt n w i = getD w (n + i) 0
+
+abbrev pub leafAt : ℕ → List ℕ → ℕ → ℕ
+leafAt n w v = getD w (2 * n + v) 0
+
+abbrev pub priceIn : ℕ → List ℕ → ℕ → ℕ
+priceIn n w v = getD w (3 * n + v) 0
+
+abbrev pub predAt : ℕ → List ℕ → ℕ → ℕ
+predAt n w v = getD w (4 * n + v) 0
+
+abbrev pub goalAt : ℕ → List ℕ → ℕ → ℕ
+goalAt n w v = getD w (5 * n + v) 0
+
+-- entry i is the least of its two children
+abbrev pub HeapAt : ℕ → List ℕ → ℕ → Type 0
+HeapAt n w i = entryAt n w i ≡ min (entryAt n w (2 * i)) (entryAt n w (2 * i + 1))
+
+-- every inner entry but perhaps entry j is the least of its two children; j = 0 is no inner entry
+abbrev pub HeapBut : ℕ → List ℕ → ℕ → Type 0
+HeapBut n w j = (i : ℕ) → 1 ≤ i → i < n → (i ≡ j → ⊥) → HeapAt n w i
+
+abbrev pub Heap : ℕ → List ℕ → Type 0
+Heap n w = (i : ℕ) → 1 ≤ i → i < n → HeapAt n w i
+
+-- a list is as before but for places from lo to below hi
+pub record SameBut (lo hi : ℕ) (old new : List ℕ) : Type 0 where
+  pub long : length new ≡ length old
+  pub low : (j : ℕ) → j < lo → getD new j 0 ≡ getD old j 0
+  pub high : (j : ℕ) → hi ≤ j → getD new j 0 ≡ getD old j 0
+
+-- w′ is w with a shorter way to v: over u, at distance d
+pub record Shortened (n u v d : ℕ) (w w′ : List ℕ) : Type 0 where
+  pub long : length w′ ≡ length w
+  pub heap : Heap n w′
+  pub dist-here : distAt w′ v ≡ d
+  pub leaf-here : leafAt n w′ v ≡ d
+  pub pred-here : predAt n w′ v ≡ u
+  pub dist-other : (x : ℕ) → x < n → (x ≡ v → ⊥) → distAt w′ x ≡ distAt w x
+  pub leaf-other : (x : ℕ) → x < n → (x ≡ v → ⊥) → leafAt n w′ x ≡ leafAt n w x
+  pub pred-other : (x : ℕ) → x < n → (x ≡ v → ⊥) → predAt n w′ x ≡ predAt n w x
+  pub price-same : (x : ℕ) → x < n → priceIn n w′ x ≡ priceIn n w x
+  pub high : (j : ℕ) → 5 * n ≤ j → getD w′ j 0 ≡ getD w j 0
+
+-- what looking at the edge from u to v does: v gets a shorter way, or as short a way over a lower node, or nothing changes
+pub data Relaxed (n u v : ℕ) (w w′ : List ℕ) : Type 0 where
+  shorter : distAt w u + priceIn n w v < distAt w v → Shortened n u v (distAt w u + priceIn n w v) w w′ → Relaxed n u v w w′
+  lower : distAt w u + priceIn n w v ≡ distAt w v → u < predAt n w v → w′ ≡ set w (4 * n + v) u → Relaxed n u v w w′
+  kept : distAt w v ≤ distAt w u + priceIn n w v → (distAt w u + priceIn n w v ≡ distAt w v → predAt n w v ≤ u) → w′ ≡ w → Relaxed n u v w w′
+
+-- w′ is w with node u out of the queue
+pub record TakenOut (n u : ℕ) (w w′ : List ℕ) : Type 0 where
+  pub long : length w′ ≡ length w
+  pub heap : Heap n w′
+  pub leaf-here : leafAt n w′ u ≡ far
+  pub leaf-other : (x : ℕ) → x < n → (x ≡ u → ⊥) → leafAt n w′ x ≡ leafAt n w x
+  pub dist-same : (x : ℕ) → x < n → distAt w′ x ≡ distAt w x
+  pub high : (j : ℕ) → 3 * n ≤ j → getD w′ j 0 ≡ getD w j 0
+
+-- the queue and the distances before anything is settled
+pub record Started (n : ℕ) (marks w w′ : List ℕ) : Type 0 where
+  pub long : length w′ ≡ length w
+  pub dist : (v : ℕ) → v < n → distAt w′ v ≡ choose (inTree marks v) 0 far
+  pub leaf : (v : ℕ) → v < n → leafAt n w′ v ≡ choose (inTree marks v) 0 far
+  pub high : (j : ℕ) → 3 * n ≤ j → getD w′ j 0 ≡ getD w j 0
+
+-- every node's price stands in its place
+pub record Priced (n : ℕ) (price : ℕ → ℕ) (w w′ : List ℕ) : Type 0 where
+  pub same : SameBut (3 * n) (4 * n) w w′
+  pub prices : (v : ℕ) → v < n → priceIn n w′ v ≡ price v
+
+-- the sinks that no tree node is are marked as goals
+pub record Marked (n : ℕ) (marks sinks w w′ : List ℕ) : Type 0 where
+  pub same : SameBut (5 * n) (6 * n) w w′
+  pub goals : (v : ℕ) → v < n → goalAt n w′ v ≡ choose (both (has v sinks) (eqb (getD marks v 0) 0)) 1 (goalAt n w v)
+
+-- the first place of the list at which a goal of distance d stands
+pub record FirstAt (n d : ℕ) (sinks w : List ℕ) (place : ℕ) : Type 0 where
+  pub within : place ≤ length sinks
+  pub earlier : (j : ℕ) → j < place → goalAt n w (getD sinks j 0) ≡ 1 → distAt w (getD sinks j 0) ≡ d → ⊥
+  pub goal : place < length sinks → goalAt n w (getD sinks place 0) ≡ 1
+  pub dist : place < length sinks → distAt w (getD sinks place 0) ≡ d
+
+-- from v back along predecessors to a marked node, in front of the part of the path that is there
+unfoldable pub trail : ℕ → List ℕ → List ℕ → ℕ → ℕ → List ℕ → List ℕ
+trail n marks w zero v path = v ∷ path
+trail n marks w (suc k) v path = choose (inTree marks v) (v ∷ path) (trail n marks w k (predAt n w v) (v ∷ path))
+
+-- from a node that is at most `level` far, predecessors lead to nearer nodes
+pub record Leads (n level : ℕ) (marks w : List ℕ) : Type 0 where
+  pub long : 8 * n ≤ length w
+  pub marks-long : n ≤ length marks
+  pub marks-bit : (v : ℕ) → v < n → getD marks v 0 ≤ 1
+  pub pred-node : (v : ℕ) → v < n → distAt w v ≤ level → inTree marks v ≡ false → predAt n w v < n
+  pub pred-nearer : (v : ℕ) → v < n → distAt w v ≤ level → inTree marks v ≡ false → distAt w (predAt n w v) < distAt w v
+
+-- the path from the tree to the sink, as the predecessors have it
+abbrev pub pathIn : ℕ → List ℕ → List ℕ → ℕ → List ℕ
+pathIn n marks w sink = trail n marks w (distAt w sink) sink []

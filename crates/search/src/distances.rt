@@ -1,0 +1,158 @@
+// Distances from the tree, by settling the nearest open node again and again (Dijkstra).
+ghost use mathlib.Core.List.{[], _++_};
+ghost use mathlib.Core.Path.{_≡_};
+ghost use Prim.Native.Nat.{ℕ, _+_, _-_, _*_, _^_, _≤_, _<_};
+ghost use lib.ListN.{length, getD, take, drop, replicate};
+ghost use Rattle.price.specs.Replies.{InBounds};
+ghost use Rattle.search.specs.Block.{blockOf, graphOf, rowStart};
+ghost use Rattle.search.specs.Turn.{congestionOf, priceAt};
+ghost use Rattle.search.specs.Layout.{distAt, priceIn, Heap, Shortened, Relaxed, TakenOut, Started, Priced};
+ghost use Rattle.search.specs.Frontier.{PriceReady, RowReady, RowDone, Stands, Ran};
+use crate::queue;
+use price::PriceAnswer;
+
+// No path.
+const FAR: u64 = 18446744073709551615;
+
+// The price of node v.
+fn node_price(
+    kind: &[u8],
+    capacity: &[u8],
+    history: &[u32],
+    others: &[u16],
+    factor: u32,
+    v: usize,
+) -> u64
+    requires { ⌜ PriceReady (now kind) (now capacity) (now history) (now others) factor v ⌝ }
+    ensures { λ r. ⌜ r ≡ priceAt (blockOf (now (kind .entry)) (now (capacity .entry)) [] []) (congestionOf factor (now (history .entry)) (now (others .entry))) v ⌝ }
+{
+    let k = kind[v] as u32;
+    let c = capacity[v] as u32;
+    let h = history[v];
+    let o = others[v] as u32;
+    let PriceAnswer::Price(p) = price::price(k, factor, o, c, h) else {
+        return 0;
+    };
+    p
+}
+
+// Every node's price, from 3n on.
+pub fn fill_prices(
+    kind: &[u8],
+    capacity: &[u8],
+    history: &[u32],
+    others: &[u16],
+    factor: u32,
+    work: &mut [u64],
+)
+    requires { ⌜ ((v : ℕ) → v < length (now kind) → PriceReady (now kind) (now capacity) (now history) (now others) factor v) ⌝ }
+    requires { ⌜ 8 * length (now kind) ≤ length (now work) ⌝ }
+    ensures { λ _. ⌜ Priced (length (now (kind .entry))) (priceAt (blockOf (now (kind .entry)) (now (capacity .entry)) [] []) (congestionOf factor (now (history .entry)) (now (others .entry)))) (now (work .entry)) (now (work .exit)) ⌝ }
+{
+    let n = kind.len();
+    let mut v = 0;
+    while v < n {
+        let p = node_price(kind, capacity, history, others, factor, v);
+        work[3 * n + v] = p;
+        v += 1;
+    }
+}
+
+// Tree nodes at distance 0, the others with no path yet; each waits in the queue.
+pub fn fill_distances(in_tree: &[u8], work: &mut [u64], n: usize)
+    requires { ⌜ (n ≤ length (now «in_tree»)) × (8 * n ≤ length (now work)) ⌝ }
+    ensures { λ _. ⌜ Started n (now («in_tree» .entry)) (now (work .entry)) (now (work .exit)) ⌝ }
+{
+    let mut v = 0;
+    while v < n {
+        let d = if in_tree[v] == 1 { 0 } else { FAR };
+        work[v] = d;
+        work[2 * n + v] = d;
+        v += 1;
+    }
+}
+
+// Entries from `from` to below `to` hold 0.
+pub fn clear(work: &mut [u64], from: usize, to: usize)
+    requires { ⌜ (from ≤ to) × (to ≤ length (now work)) ⌝ }
+    ensures { λ _. ⌜ now (work .exit) ≡ take from (now (work .entry)) ++ (replicate (to - from) 0 ++ drop to (now (work .entry))) ⌝ }
+{
+    let mut k = from;
+    while k < to {
+        work[k] = 0;
+        k += 1;
+    }
+}
+
+// Node v has a shorter way, over u.
+fn shorten(work: &mut [u64], n: usize, u: usize, v: usize, d: u64)
+    requires { ⌜ (u < n) × (v < n) × (8 * n ≤ length (now work)) × Heap n (now work) ⌝ }
+    ensures { λ _. ⌜ Shortened n u v d (now (work .entry)) (now (work .exit)) ⌝ }
+{
+    work[v] = d;
+    work[2 * n + v] = d;
+    work[4 * n + v] = u as u64;
+    queue::carry_up(work, n, (n + v) / 2);
+}
+
+// Looks at the edge from u to v.
+fn relax(work: &mut [u64], n: usize, u: usize, v: usize)
+    requires { ⌜ (u < n) × (v < n) × (8 * n ≤ length (now work)) × Heap n (now work) ⌝ }
+    requires { ⌜ distAt (now work) u + priceIn n (now work) v < 2 ^ 64 ⌝ }
+    ensures { λ _. ⌜ Relaxed n u v (now (work .entry)) (now (work .exit)) ⌝ }
+{
+    let d = work[u] + work[3 * n + v];
+    let old = work[v];
+    if d < old {
+        shorten(work, n, u, v, d);
+    } else {
+        if d == old {
+            if (u as u64) < work[4 * n + v] {
+                work[4 * n + v] = u as u64;
+            }
+        }
+    }
+}
+
+// Looks at every edge of u.
+fn relax_row(kind: &[u8], first_edge: &[u32], edge_target: &[u16], work: &mut [u64], u: usize)
+    requires { ⌜ RowReady (graphOf (now kind) (now «first_edge») (now «edge_target»)) (now work) u ⌝ }
+    ensures { λ _. ⌜ RowDone (graphOf (now (kind .entry)) (now («first_edge» .entry)) (now («edge_target» .entry))) u (rowStart (graphOf (now (kind .entry)) (now («first_edge» .entry)) (now («edge_target» .entry))) (u + 1)) (now (work .entry)) (now (work .exit)) ⌝ }
+{
+    let n = kind.len();
+    let to = first_edge[u + 1] as usize;
+    let mut e = first_edge[u] as usize;
+    while e < to {
+        let v = edge_target[e] as usize;
+        relax(work, n, u, v);
+        e += 1;
+    }
+}
+
+// Takes node u out of the queue.
+fn settle(work: &mut [u64], n: usize, u: usize)
+    requires { ⌜ (u < n) × (8 * n ≤ length (now work)) × Heap n (now work) ⌝ }
+    ensures { λ _. ⌜ TakenOut n u (now (work .entry)) (now (work .exit)) ⌝ }
+{
+    work[2 * n + u] = FAR;
+    queue::carry_up(work, n, (n + u) / 2);
+}
+
+// Settles the nearest open node again and again, until nothing waits or the nearest is a goal.
+pub fn settle_all(kind: &[u8], first_edge: &[u32], edge_target: &[u16], work: &mut [u64])
+    requires { ⌜ Stands (graphOf (now kind) (now «first_edge») (now «edge_target»)) (now work) ⌝ }
+    ensures { λ _. ⌜ Ran (graphOf (now (kind .entry)) (now («first_edge» .entry)) (now («edge_target» .entry))) (now (work .entry)) (now (work .exit)) ⌝ }
+{
+    let n = kind.len();
+    loop {
+        if work[n + 1] == FAR {
+            return;
+        }
+        let u = queue::nearest(work, n);
+        if work[5 * n + u] == 1 {
+            return;
+        }
+        settle(work, n, u);
+        relax_row(kind, first_edge, edge_target, work, u);
+    }
+}

@@ -1,0 +1,81 @@
+// Tests of the lists that price a turn: row 13, and the refusals that search and cheapest path share.
+ghost use mathlib.Core.Path.{_≡_};
+ghost use Prim.Native.Nat.{_≤_};
+ghost use Rattle.search.specs.Turn.{congestionOf};
+ghost use Rattle.search.specs.Replies.{nodeSound, badNode, refusalOf, checkNumbers};
+
+// What the tests before a search find.
+pub enum Check {
+    Fine,
+    BadTable(u32),
+    ShortWork(u64),
+    BadNumber(u32),
+}
+
+// The history, others and tree mark of node v are there and within their bounds.
+fn node_sound(history: &[u32], others: &[u16], in_tree: &[u8], v: usize) -> bool
+    ensures { λ r. ⌜ r ≡ nodeSound (congestionOf 0 (now (history .entry)) (now (others .entry))) (now («in_tree» .entry)) v ⌝ }
+{
+    if history.len() <= v {
+        return false;
+    }
+    if history[v] < 1 {
+        return false;
+    }
+    if 50590 < history[v] {
+        return false;
+    }
+    if others.len() <= v {
+        return false;
+    }
+    if 511 < others[v] {
+        return false;
+    }
+    if in_tree.len() <= v {
+        return false;
+    }
+    in_tree[v] <= 1
+}
+
+// The lowest node that is not sound, n where each is.
+fn bad_node(n: usize, history: &[u32], others: &[u16], in_tree: &[u8]) -> usize
+    ensures { λ r. ⌜ r ≡ badNode n (congestionOf 0 (now (history .entry)) (now (others .entry))) (now («in_tree» .entry)) ⌝ }
+{
+    let mut v = 0;
+    while v < n {
+        if !node_sound(history, others, in_tree, v) {
+            return v;
+        }
+        v += 1;
+    }
+    v
+}
+
+// The first refusal that is due, for the lowest faulty table or 0.
+pub fn first_refusal(
+    table: u32,
+    n: usize,
+    factor: u32,
+    entries: usize,
+    history: &[u32],
+    others: &[u16],
+    in_tree: &[u8],
+) -> Check
+    requires { ⌜ (table ≡ 0 → n ≤ 4096) ⌝ }
+    ensures { λ r. ⌜ checkNumbers r ≡ refusalOf table n (congestionOf factor (now (history .entry)) (now (others .entry))) (now («in_tree» .entry)) entries ⌝ }
+{
+    if 1 <= table {
+        return Check::BadTable(table);
+    }
+    if entries < 8 * n {
+        return Check::ShortWork((8 * n) as u64);
+    }
+    let bad = bad_node(n, history, others, in_tree);
+    if bad < n {
+        return Check::BadNumber(bad as u32);
+    }
+    if 65535 < factor {
+        return Check::BadNumber(n as u32);
+    }
+    Check::Fine
+}

@@ -1,0 +1,62 @@
+// The queue: a tournament tree over the distances, in the work slice from entry n on. Entry i is the least of entries 2i and 2i + 1,
+// a node's leaf is entry n + node, and entry 1 is the least of all.
+ghost use mathlib.Core.Path.{_≡_};
+ghost use Prim.Native.Nat.{_+_, _*_, _/_, _≤_, _<_, min};
+ghost use lib.ListN.{length};
+ghost use Rattle.search.specs.Layout.{entryAt, leafAt, Heap, HeapBut, SameBut};
+
+// The least of the two children of entry i.
+fn lesser_child(work: &[u64], n: usize, i: usize) -> u64
+    requires { ⌜ (i < n) × (3 * n ≤ length (now work)) ⌝ }
+    ensures { λ r. ⌜ r ≡ min (entryAt n (now (work .entry)) (2 * i)) (entryAt n (now (work .entry)) (2 * i + 1)) ⌝ }
+{
+    let left = work[n + 2 * i];
+    let right = work[n + (2 * i + 1)];
+    if left < right { left } else { right }
+}
+
+// Carries a change below entry i up, as far as it reaches.
+pub fn carry_up(work: &mut [u64], n: usize, from: usize)
+    requires { ⌜ (from < n) × (3 * n ≤ length (now work)) × HeapBut n (now work) from ⌝ }
+    ensures { λ _. ⌜ Heap n (now (work .exit)) × SameBut (n + 1) (2 * n) (now (work .entry)) (now (work .exit)) ⌝ }
+{
+    let mut i = from;
+    while 0 < i {
+        let least = lesser_child(work, n, i);
+        if work[n + i] == least {
+            i = 0;
+        } else {
+            work[n + i] = least;
+            i = i / 2;
+        }
+    }
+}
+
+// Makes every inner entry the least of its two children.
+pub fn build(work: &mut [u64], n: usize)
+    requires { ⌜ 3 * n ≤ length (now work) ⌝ }
+    ensures { λ _. ⌜ Heap n (now (work .exit)) × SameBut (n + 1) (2 * n) (now (work .entry)) (now (work .exit)) ⌝ }
+{
+    let mut i = n;
+    while 1 < i {
+        i -= 1;
+        let least = lesser_child(work, n, i);
+        work[n + i] = least;
+    }
+}
+
+// A node whose leaf is the least entry.
+pub fn nearest(work: &[u64], n: usize) -> usize
+    requires { ⌜ (1 ≤ n) × (3 * n ≤ length (now work)) × Heap n (now work) ⌝ }
+    ensures { λ r. ⌜ (r < n) × (leafAt n (now (work .entry)) r ≡ entryAt n (now (work .entry)) 1) ⌝ }
+{
+    let mut i = 1;
+    while i < n {
+        if work[n + 2 * i] == work[n + i] {
+            i = 2 * i;
+        } else {
+            i = 2 * i + 1;
+        }
+    }
+    i - n
+}

@@ -1,0 +1,158 @@
+// Tests of tables 1 to 4 and of a list of sinks.
+ghost use mathlib.Core.Path.{_≡_};
+ghost use mathlib.Core.Bool.{true};
+ghost use Prim.Native.Nat.{_≤_};
+ghost use lib.Dec.{leb};
+ghost use lib.ListN.{length};
+ghost use lib.Seq.{slice};
+ghost use Rattle.price.specs.Lists.{neighbours};
+ghost use Rattle.search.specs.Block.{blockOf, graphOf};
+ghost use Rattle.search.specs.Tables.{kindsSound, capacitiesSound, firstEdgesSound, edgeTargetsSound, rowSound, faultyTable};
+ghost use Rattle.search.specs.Replies.{sinksSound};
+
+fn kinds_sound(kind: &[u8]) -> bool
+    ensures { λ r. ⌜ r ≡ kindsSound (now (kind .entry)) ⌝ }
+{
+    if kind.len() < 1 {
+        return false;
+    }
+    if 4096 < kind.len() {
+        return false;
+    }
+    let mut v = 0;
+    while v < kind.len() {
+        if 15 < kind[v] {
+            return false;
+        }
+        v += 1;
+    }
+    true
+}
+
+fn capacities_sound(n: usize, capacity: &[u8]) -> bool
+    ensures { λ r. ⌜ r ≡ capacitiesSound n (now (capacity .entry)) ⌝ }
+{
+    if capacity.len() != n {
+        return false;
+    }
+    let mut v = 0;
+    while v < capacity.len() {
+        if capacity[v] < 1 {
+            return false;
+        }
+        v += 1;
+    }
+    true
+}
+
+// Table 3 never falls.
+fn never_falls(first_edge: &[u32]) -> bool
+    ensures { λ r. ⌜ r ≡ neighbours leb (now («first_edge» .entry)) ⌝ }
+{
+    let mut v = 1;
+    while v < first_edge.len() {
+        if first_edge[v] < first_edge[v - 1] {
+            return false;
+        }
+        v += 1;
+    }
+    true
+}
+
+fn first_edges_sound(n: usize, edges: usize, first_edge: &[u32]) -> bool
+    requires { ⌜ n ≤ 4096 ⌝ }
+    ensures { λ r. ⌜ r ≡ firstEdgesSound n edges (now («first_edge» .entry)) ⌝ }
+{
+    if first_edge.len() != n + 1 {
+        return false;
+    }
+    if first_edge[0] != 0 {
+        return false;
+    }
+    if !never_falls(first_edge) {
+        return false;
+    }
+    first_edge[n] as usize == edges
+}
+
+// The row of node u, which stands in table 4 from `from` to below `to`: each a node but u itself, strictly rising.
+fn row_sound(n: usize, edge_target: &[u16], from: usize, to: usize, u: usize) -> bool
+    requires { ⌜ to ≤ length (now «edge_target») ⌝ }
+    ensures { λ r. ⌜ r ≡ rowSound n u (slice from to (now («edge_target» .entry))) ⌝ }
+{
+    let mut e = from;
+    while e < to {
+        let v = edge_target[e] as usize;
+        if n <= v {
+            return false;
+        }
+        if v == u {
+            return false;
+        }
+        if from < e {
+            if edge_target[e] <= edge_target[e - 1] {
+                return false;
+            }
+        }
+        e += 1;
+    }
+    true
+}
+
+// Table 4, once table 3 keeps its rule.
+fn edge_targets_sound(kind: &[u8], first_edge: &[u32], edge_target: &[u16]) -> bool
+    requires { ⌜ firstEdgesSound (length (now kind)) (length (now «edge_target»)) (now «first_edge») ≡ true ⌝ }
+    ensures { λ r. ⌜ r ≡ edgeTargetsSound (graphOf (now (kind .entry)) (now («first_edge» .entry)) (now («edge_target» .entry))) ⌝ }
+{
+    let n = kind.len();
+    if 32768 < edge_target.len() {
+        return false;
+    }
+    let mut u = 0;
+    while u < n {
+        let from = first_edge[u] as usize;
+        let to = first_edge[u + 1] as usize;
+        if !row_sound(n, edge_target, from, to, u) {
+            return false;
+        }
+        u += 1;
+    }
+    true
+}
+
+// The lowest of tables 1 to 4 that breaks its rule, 0 where none does.
+pub fn faulty_table(kind: &[u8], capacity: &[u8], first_edge: &[u32], edge_target: &[u16]) -> u32
+    ensures { λ r. ⌜ r ≡ faultyTable (blockOf (now (kind .entry)) (now (capacity .entry)) (now («first_edge» .entry)) (now («edge_target» .entry))) ⌝ }
+{
+    let n = kind.len();
+    if !kinds_sound(kind) {
+        return 1;
+    }
+    if !capacities_sound(n, capacity) {
+        return 2;
+    }
+    if !first_edges_sound(n, edge_target.len(), first_edge) {
+        return 3;
+    }
+    if !edge_targets_sound(kind, first_edge, edge_target) {
+        return 4;
+    }
+    0
+}
+
+// A list of sinks is short enough, and each is a node.
+pub fn sinks_sound(n: usize, sinks: &[u16]) -> bool
+    ensures { λ r. ⌜ r ≡ sinksSound n (now (sinks .entry)) ⌝ }
+{
+    if 4096 < sinks.len() {
+        return false;
+    }
+    let mut i = 0;
+    while i < sinks.len() {
+        if n <= sinks[i] as usize {
+            return false;
+        }
+        i += 1;
+    }
+    true
+}
