@@ -16,3 +16,4 @@ pub mod GraphLaws
 pub mod ReadyLaws
 pub mod SearchLaws
 pub mod JoinLaws
+pub mod PathReplyLaws

@@ -26,17 +26,17 @@ pub fn first_at(sinks: &[u16], work: &[u64], n: usize, d: u64) -> usize
     requires { ⌜ 8 * n ≤ length (now work) ⌝ }
     ensures { λ r. ⌜ FirstAt n d (now (sinks .entry)) (now (work .entry)) r ⌝ }
 {
-    let mut i = 0;
-    while i < sinks.len() {
-        let s = sinks[i] as usize;
+    let mut place = 0;
+    while place < sinks.len() {
+        let s = sinks[place] as usize;
         if work[5 * n + s] == 1 {
             if work[s] == d {
-                return i;
+                return place;
             }
         }
-        i += 1;
+        place += 1;
     }
-    i
+    place
 }
 
 // How many nodes the path from the tree to the sink has.

@@ -12,14 +12,14 @@ use Rattle.search.proofs.path.first_at.Statement.{statement}
 use Rattle.search.proofs.path.first_at.Tie as tie
 
 abbrev Inv-loop : tie.InvT-loop
-Inv-loop sinks work n d i₀ i = (i ≤ length sinks) × ((j : ℕ) → j < i → goalAt n work (getD sinks j 0) ≡ 1 → distAt work (getD sinks j 0) ≡ d → ⊥)
+Inv-loop sinks work n d place₀ place = (place ≤ length sinks) × ((j : ℕ) → j < place → goalAt n work (getD sinks j 0) ≡ 1 → distAt work (getD sinks j 0) ≡ d → ⊥)
 
 abbrev μ-loop : tie.MeasureT-loop
-μ-loop sinks work n d i₀ i = length sinks - i
+μ-loop sinks work n d place₀ place = length sinks - place
 
 -- every sink is a node
-sink-node : (c : tie.In-loop Inv-loop μ-loop) → getD (now (c .before .before .args .sinks)) (c .before .loop .i) 0 < c .before .before .args .n
-sink-node c = c .before .before .pre .0 (c .before .loop .i) (c .loop-test .taken)
+sink-node : (c : tie.In-loop Inv-loop μ-loop) → getD (now (c .before .before .args .sinks)) (c .before .loop .place) 0 < c .before .before .args .n
+sink-node c = c .before .before .pre .0 (c .before .loop .place) (c .loop-test .taken)
 
 loop-holds : tie.Need-loop-holds Inv-loop μ-loop
 loop-holds c = (omega arith, below-none _)
@@ -31,7 +31,7 @@ shared-slice-read-s : tie.Need-shared-slice-read-s Inv-loop μ-loop
 shared-slice-read-s c = omega arith
 
 cast-s : tie.Need-cast-s Inv-loop μ-loop
-cast-s c = omega (arith, c .shared-slice-known .given (c .before .before .loop .i))
+cast-s c = omega (arith, c .shared-slice-known .given (c .before .before .loop .place))
 
 mul-if1 : tie.Need-mul-if1 Inv-loop μ-loop
 mul-if1 c = omega arith
@@ -61,8 +61,8 @@ returns c =
       dist = λ _. c .if2 .taken;
     }
 
-add-i : tie.Need-add-i Inv-loop μ-loop
-add-i c = omega arith
+add-place : tie.Need-add-place Inv-loop μ-loop
+add-place c = omega arith
 
 loop-less : tie.Need-loop-less Inv-loop μ-loop
 loop-less c = omega arith
@@ -98,7 +98,7 @@ first-at-spec =
     mul-if2
     shared-slice-read-if2
     returns
-    add-i
+    add-place
     loop-less
     loop-again
     returns-2)

@@ -1,0 +1,171 @@
+-- How many iterations a run makes, which records it has, and its reply at each of its ends.
+-- Assumes nothing.
+use mathlib.Core.Bool.{true, false}
+use mathlib.Core.List.{List, [], _∷_, _++_, map, append-nil, append-assoc}
+use mathlib.Core.Logic.{⊎-elim}
+use mathlib.Core.Path.{_≡_, refl, sym, _∙_, ap}
+use Prim.Native.Nat.{ℕ, zero, suc, _+_, _*_, _-_, _≤_, _<_}
+use native.Mathlib.Nat.{le-of-suc-le-suc, eq-or-lt-of-le, le-refl}
+use native.Mathlib.Numerals.{add-one}
+use native.Mathlib.Omega.{arith}
+use lib.Dec.{ltb}
+use lib.ListN.{length, getD, drop, replicate, length-append, length-drop}
+use borrow.Author.Tests.{lt-ltb, le-ltb}
+use Rattle.price.specs.Lists.{firstBelow}
+use Rattle.price.proofs.ListLaws.{either-way, le-or-lt, true≢false, firstBelow-holds, firstBelow-is, firstBelow-all}
+use Rattle.search.specs.Replies.{cleared}
+use Rattle.search.proofs.JoinLaws.{drop-same}
+use Rattle.negotiation.specs.Job.{Job, nodes, nets}
+use Rattle.negotiation.specs.Records.{Record, words, encode}
+use Rattle.negotiation.specs.Machine.{State, netRecords, afterNets, stateAfter, iterate, overCount, firstState, iterationAfter, recordsAfter, settlesAt}
+use Rattle.negotiation.specs.Outcome.{negotiated, ranReply, logWith, routed, outcomeNumbers, iterationsMade, allRecords, loggedRecords, cutIteration, endNumbers}
+use Rattle.negotiation.specs.Steps.{SameFrom}
+use Rattle.negotiation.specs.declared.Routed.{Routed}
+use Rattle.negotiation.proofs.RecordLaws.{fitting-all, fitting-cut}
+
+-- ---- how many iterations
+
+module _ (j : Job) (m : ℕ) (below : m < j .limit) (unsettled : (k : ℕ) → k < m → settlesAt j (firstState j) k ≡ false) where
+  -- the first iteration that settles is the last
+  pub made-settled : settlesAt j (firstState j) m ≡ true → iterationsMade j (firstState j) (j .limit) ≡ m + 1
+  unfolding iterationsMade
+  made-settled s =
+      rw (firstBelow-is (settlesAt j (firstState j)) (j .limit) m below s unsettled, lt-ltb m (j .limit) below)
+
+  pub unsettled-more : settlesAt j (firstState j) m ≡ false → (k : ℕ) → k < m + 1 → settlesAt j (firstState j) k ≡ false
+  unsettled-more s k h =
+      ⊎-elim
+      (λ (e : k ≡ m). rw e s)
+      (λ (l : k < m). unsettled k l)
+      (eq-or-lt-of-le (omega (arith, h)))
+
+  -- where none settles the limit ends the run
+  pub made-limit : settlesAt j (firstState j) m ≡ false → m + 1 ≡ j .limit → iterationsMade j (firstState j) (j .limit) ≡ m + 1
+  unfolding iterationsMade
+  made-limit s last =
+      let none : firstBelow (settlesAt j (firstState j)) (j .limit) ≡ j .limit =
+      firstBelow-all (settlesAt j (firstState j)) (j .limit) (λ k h. unsettled-more s k (omega (arith, h))) in
+      rw (none, le-ltb (j .limit) (j .limit) (le-refl (j .limit))) (sym last)
+
+  -- the iteration after m that do not settle is made
+  pub made-least : suc m ≤ iterationsMade j (firstState j) (j .limit)
+  unfolding iterationsMade
+  made-least =
+      let least : m ≤ firstBelow (settlesAt j (firstState j)) (j .limit) =
+      ⊎-elim
+      (λ (l : m ≤ firstBelow (settlesAt j (firstState j)) (j .limit)). l)
+      (λ (l : firstBelow (settlesAt j (firstState j)) (j .limit) < m).
+      absurd
+      (true≢false
+      (sym (firstBelow-holds (settlesAt j (firstState j)) (j .limit) (omega arith))
+      ∙ unsettled (firstBelow (settlesAt j (firstState j)) (j .limit)) l)))
+      (le-or-lt m (firstBelow (settlesAt j (firstState j)) (j .limit))) in
+      ⊎-elim
+      (λ (t : ltb (firstBelow (settlesAt j (firstState j)) (j .limit)) (j .limit) ≡ true). rw t (omega arith))
+      (λ (t : ltb (firstBelow (settlesAt j (firstState j)) (j .limit)) (j .limit) ≡ false). rw t below)
+      (either-way (ltb (firstBelow (settlesAt j (firstState j)) (j .limit)) (j .limit)))
+
+-- ---- its records
+
+module _ (j : Job) (s : State) where
+  -- later iterations add records
+  records-more : (n m : ℕ) → m ≤ n → (later : List Record) × (recordsAfter j s n ≡ recordsAfter j s m ++ later)
+  unfolding recordsAfter
+  records-more zero m h = let e : m ≡ 0 = omega arith in ([], rw e)
+  records-more (suc n) m h =
+      ⊎-elim
+      (λ (e : m ≡ suc n). ([], rw e (sym (append-nil (recordsAfter j s (suc n))))))
+      (λ (l : m < suc n).
+      let more = records-more n m (le-of-suc-le-suc l) in (
+        more .0 ++ iterationAfter j s n .records,
+        ap (λ (l : List Record). l ++ iterationAfter j s n .records) (more .1)
+            ∙ append-assoc (recordsAfter j s m) (more .0) (iterationAfter j s n .records),
+      ))
+      (eq-or-lt-of-le h)
+
+  -- so do later nets
+  nets-more : (n i : ℕ) → i ≤ n → (later : List Record) × (afterNets j s n .records ≡ afterNets j s i .records ++ later)
+  unfolding afterNets
+  nets-more zero i h = let e : i ≡ 0 = omega arith in ([], rw e)
+  nets-more (suc n) i h =
+      ⊎-elim
+      (λ (e : i ≡ suc n). ([], rw e (sym (append-nil (afterNets j s (suc n) .records)))))
+      (λ (l : i < suc n).
+      let more = nets-more n i (le-of-suc-le-suc l) in
+      let rs = netRecords j (afterNets j s n .state) n in (
+        more .0 ++ rs,
+        ap (λ (l : List Record). l ++ rs) (more .1) ∙ append-assoc (afterNets j s i .records) (more .0) rs,
+      ))
+      (eq-or-lt-of-le h)
+
+-- a record of net i has its place among all
+pub all-split : (j : Job) (m i : ℕ) → m < j .limit → ((k : ℕ) → k < m → settlesAt j (firstState j) k ≡ false) → i < nets j
+    → (made : List Record) (r : Record) (rest : List Record) → netRecords j (afterNets j (stateAfter j (firstState j) m) i .state) i ≡ made ++ (r ∷ rest)
+    → (later : List Record)
+    × (allRecords j ≡ ((recordsAfter j (firstState j) m ++ afterNets j (stateAfter j (firstState j) m) i .records) ++ made) ++ (r ∷ later))
+unfolding allRecords recordsAfter afterNets iterate
+all-split j m i below unsettled net made r rest is =
+    let s = stateAfter j (firstState j) m in
+    let after = records-more j (firstState j) (iterationsMade j (firstState j) (j .limit)) (suc m) (made-least j m below unsettled) in
+    let others = nets-more j s (nets j) (suc i) net in (
+      rest ++ (others .0 ++ after .0),
+      after .1
+          ∙ rw (others .1, is) (simp append-assoc),
+    )
+
+-- ---- its reply
+
+cut-place : (rs : List Record) (r : Record) (later : List Record) → getD (map (λ (q : Record). q .iteration) (rs ++ (r ∷ later))) (length rs) 0 ≡ r .iteration
+cut-place [] r later = refl
+cut-place (q ∷ rs) r later = cut-place rs r later
+
+-- a record that does not fit ends the run
+pub full-reply : (j : Job) (work log : List ℕ) (rs : List Record) (r : Record) (later : List Record) → allRecords j ≡ rs ++ (r ∷ later)
+    → length (encode rs) ≤ length log → length log < length (encode rs) + length (words r)
+    → negotiated j work log ≡ ranReply j (8 ∷ r .iteration ∷ length rs ∷ []) (r .iteration) rs work log
+unfolding negotiated loggedRecords cutIteration
+full-reply j work log rs r later e fits over =
+    let long = length-append rs (r ∷ later) in
+    rw (e, fitting-cut (length log) rs later r fits over, lt-ltb (length rs) (length (rs ++ (r ∷ later))) (omega arith), cut-place rs r later)
+
+-- where all fit, the last iteration ends it
+pub whole-reply : (j : Job) (work log : List ℕ) (rs : List Record) → allRecords j ≡ rs → length (encode rs) ≤ length log
+    → negotiated j work log ≡ ranReply j (endNumbers j) (iterationsMade j (firstState j) (j .limit)) rs work log
+unfolding negotiated loggedRecords
+whole-reply j work log rs e fits =
+    rw (e, fitting-all (length log) rs fits, le-ltb (length rs) (length rs) (le-refl (length rs)))
+
+module _ (j : Job) (m : ℕ) (made : iterationsMade j (firstState j) (j .limit) ≡ m + 1) where
+  pub end-settled : settlesAt j (firstState j) m ≡ true → endNumbers j ≡ []
+  unfolding endNumbers
+  end-settled s = let e : m + 1 - 1 ≡ m = omega arith in rw (made, e, s)
+
+  pub end-limit : settlesAt j (firstState j) m ≡ false → endNumbers j ≡ 9 ∷ j .limit ∷ overCount j (iterationAfter j (firstState j) m .state .trees) ∷ []
+  unfolding endNumbers
+  end-limit s = let e : m + 1 - 1 ≡ m = omega arith in rw (made, e, s)
+
+  -- all records are those of the iterations up to m
+  pub all-made : allRecords j ≡ recordsAfter j (firstState j) (suc m)
+  unfolding allRecords
+  all-made = rw (made, add-one)
+
+-- the log keeps its length
+pub log-long : (rs : List Record) (log₀ : List ℕ) → length (encode rs) ≤ length log₀ → length (logWith rs log₀) ≡ length log₀
+unfolding logWith
+log-long rs log₀ h =
+    omega (arith, length-append (encode rs) (drop (length (encode rs)) log₀), length-drop (length (encode rs)) log₀)
+
+-- the work slice with 0 up to 8 × nodes
+cleared-same : (n : ℕ) (work₀ work : List ℕ) → SameFrom (8 * n) work₀ work → replicate (8 * n) 0 ++ drop (8 * n) work ≡ cleared n [] work₀
+unfolding cleared
+cleared-same n work₀ work same =
+    let none : 8 * n - 0 ≡ 8 * n = omega arith in
+    rw (none, drop-same (8 * n) work₀ work (same .long) (same .high))
+
+-- an answer is a run's reply where its numbers, the work slice and the log are
+pub reply-same : (j : Job) (r : Routed) (iteration : ℕ) (numbers : List ℕ) (rs : List Record) (work₀ work log₀ log : List ℕ)
+    → outcomeNumbers (r .outcome) (r .iteration) (r .turns) ≡ numbers → r .iteration ≡ iteration → r .turns ≡ length rs → r .words ≡ length (encode rs)
+    → SameFrom (8 * nodes j) work₀ work → log ≡ logWith rs log₀
+    → routed r (replicate (8 * nodes j) 0 ++ drop (8 * nodes j) work) log ≡ ranReply j numbers iteration rs work₀ log₀
+reply-same j r iteration numbers rs work₀ work log₀ log a b c d same e =
+    rw (a, b, c, d, e, cleared-same (nodes j) work₀ work same)

@@ -1,0 +1,180 @@
+-- Laws of sound jobs: what each rule of tables 5 to 8 says of a net.
+-- Assumes nothing.
+use mathlib.Core.Bool.{Bool, true, false}
+use mathlib.Core.List.{List}
+use mathlib.Core.Logic.{⊎-elim}
+use mathlib.Core.Path.{_≡_, refl}
+use Prim.Native.Nat.{ℕ, zero, suc, _+_, _-_, _≤_, _<_}
+use native.Mathlib.Nat.{le-trans}
+use native.Mathlib.Numerals.{add-one}
+use native.Mathlib.Omega.{arith}
+use lib.Dec.{leb, ltb, eqb}
+use lib.ListN.{length, getD}
+use lib.Seq.{length-slice}
+use borrow.Author.Tests.{leb-true, leb-false, ltb-true, eqb-true, not-true}
+use Rattle.price.specs.Test.{choose, both}
+use Rattle.price.specs.Bounds.{limitMost}
+use Rattle.price.specs.Lists.{every, neighbours, has, distinct, upTo}
+use Rattle.price.proofs.ListLaws.{either-way, both-left, both-right, every-at, neighbours-at, length-upTo, getD-upTo}
+use Rattle.search.specs.Tables.{faultyTable}
+use Rattle.search.specs.Replies.{sinksMost}
+use Rattle.search.specs.Replies as search
+use Rattle.search.proofs.BlockLaws.{sound-of, faulty-of}
+use Rattle.search.proofs.TableLaws.{sinks-all}
+use Rattle.negotiation.specs.Job.{Job, nodes, nets, source, sinksBetween, netSinks}
+use Rattle.negotiation.specs.Tables.{sourcesSound, firstSinksSound, netSound, sinksSound, limitSound, faultyNets, faultyJob, SoundJob, netsMost}
+
+-- ---- the lowest faulty table
+
+-- where a choice is 0 and its second value is not, the test holds, and the first value is 0
+chosen : (t : Bool) (a k : ℕ) → choose t a (suc k) ≡ 0 → (t ≡ true) × (a ≡ 0)
+chosen true a k e = (refl, e)
+chosen false a k e = absurd (let z : suc k ≡ 0 = e in omega arith)
+
+-- a table that is chosen where it is at least 1 is 0 only where it is 0 itself, and then the other is chosen
+first-none : (a b : ℕ) → choose (leb 1 a) a b ≡ 0 → (a ≡ 0) × (b ≡ 0)
+first-none a b e =
+    ⊎-elim
+    (λ (q : leb 1 a ≡ true).
+    let some : 1 ≤ a = leb-true 1 a q in
+    let none : a ≡ 0 = rw q at e in
+    absurd (omega arith))
+    (λ (q : leb 1 a ≡ false).
+    let none : a < 1 = leb-false 1 a q in
+    (omega arith, rw q at e))
+    (either-way (leb 1 a))
+
+pub sound-job : (j : Job) → faultyJob j ≡ 0 → SoundJob j
+unfolding faultyJob faultyNets
+sound-job j e =
+    let both-none = first-none (faultyTable (j .block)) _ e in
+    let five = chosen (sourcesSound (nodes j) (j .sources)) _ 4 (both-none .1) in
+    let six = chosen (firstSinksSound (nets j) (length (j .sinks)) (j .firstSinks)) _ 5 (five .1) in
+    let seven = chosen (sinksSound (nodes j) (j .sources) (j .firstSinks) (j .sinks)) _ 6 (six .1) in
+    record {
+      block-sound = sound-of (j .block) (both-none .0);
+      sources-sound = five .0;
+      firstSinks-sound = six .0;
+      sinks-sound = seven .0;
+      limit-sound = chosen (limitSound (j .limit)) _ 7 (seven .1) .0;
+    }
+
+pub faulty-none : (j : Job) → SoundJob j → faultyJob j ≡ 0
+unfolding faultyJob faultyNets
+faulty-none j s =
+    rw (faulty-of (j .block) (s .block-sound), s .sources-sound, s .firstSinks-sound, s .sinks-sound, s .limit-sound)
+
+-- ---- the rules of tables 5, 6 and 7
+
+pub sources-some : (n : ℕ) (ss : List ℕ) → sourcesSound n ss ≡ true → 1 ≤ length ss
+unfolding sourcesSound
+sources-some n ss s = leb-true _ _ (both-left _ _ (both-left _ _ s))
+
+pub sources-few : (n : ℕ) (ss : List ℕ) → sourcesSound n ss ≡ true → length ss ≤ netsMost
+unfolding sourcesSound
+sources-few n ss s = leb-true _ _ (both-right (leb 1 (length ss)) _ (both-left _ _ s))
+
+pub source-below : (n : ℕ) (ss : List ℕ) → sourcesSound n ss ≡ true → (i : ℕ) → i < length ss → getD ss i 0 < n
+unfolding sourcesSound
+source-below n ss s i h =
+    ltb-true _ _ (every-at (λ v. ltb v n) ss (both-right (both (leb 1 (length ss)) (leb (length ss) netsMost)) _ s) i h)
+
+pub firsts-long : (n m : ℕ) (fs : List ℕ) → firstSinksSound n m fs ≡ true → length fs ≡ n + 1
+unfolding firstSinksSound
+firsts-long n m fs s = eqb-true _ _ (both-left _ _ s)
+
+pub firsts-end : (n m : ℕ) (fs : List ℕ) → firstSinksSound n m fs ≡ true → getD fs n 0 ≡ m
+unfolding firstSinksSound
+firsts-end n m fs s =
+    eqb-true _ _ (both-right (neighbours ltb fs) _ (both-right (eqb (getD fs 0 0) 0) _ (both-right (eqb (length fs) (n + 1)) _ s)))
+
+pub firsts-order : (n m : ℕ) (fs : List ℕ) → firstSinksSound n m fs ≡ true → (i : ℕ) → i < n → getD fs i 0 < getD fs (i + 1) 0
+unfolding firstSinksSound
+firsts-order n m fs s i h =
+    let l : length fs ≡ n + 1 = firsts-long n m fs s in
+    rw add-one (ltb-true _ _ (neighbours-at ltb fs (both-left _ _ (both-right (eqb (getD fs 0 0) 0) _ (both-right (eqb (length fs) (n + 1)) _ s))) i (omega arith)))
+
+-- no entry is above the last
+firsts-below : (n m : ℕ) (fs : List ℕ) → firstSinksSound n m fs ≡ true → (d i : ℕ) → i + d ≡ n → getD fs i 0 ≤ m
+firsts-below n m fs s zero i e =
+    let h : i ≡ n = omega arith in
+    rw h (let f : getD fs n 0 ≡ m = firsts-end n m fs s in omega arith)
+firsts-below n m fs s (suc d) i e =
+    let here = firsts-order n m fs s i (omega arith) in
+    le-trans (omega arith) (firsts-below n m fs s d (i + 1) (omega arith))
+
+pub firsts-most : (n m : ℕ) (fs : List ℕ) → firstSinksSound n m fs ≡ true → (i : ℕ) → i ≤ n → getD fs i 0 ≤ m
+firsts-most n m fs s i h = firsts-below n m fs s (n - i) i (omega arith)
+
+-- the rule of table 7 for one net
+net-rule :
+    (n : ℕ) (ss fs ts : List ℕ) → sinksSound n ss fs ts ≡ true → (i : ℕ) → i < length ss
+    → netSound n (getD ss i 0) (sinksBetween fs ts i) ≡ true
+unfolding sinksSound
+net-rule n ss fs ts s i h =
+    let rule = every-at (λ i. netSound n (getD ss i 0) (sinksBetween fs ts i)) (upTo (λ i. i) (length ss)) (both-right (leb (length ts) sinksMost) _ s) i (rw length-upTo h) in
+    rw (getD-upTo (λ i. i) (length ss) i 0 h) at rule
+
+-- ---- a sound job
+
+module _ (j : Job) (s : SoundJob j) where
+  pub nets-some : 1 ≤ nets j
+  nets-some = sources-some _ _ (s .sources-sound)
+
+  pub nets-few : nets j ≤ netsMost
+  nets-few = sources-few _ _ (s .sources-sound)
+
+  pub limit-some : 1 ≤ j .limit
+  unfolding limitSound
+  limit-some = leb-true _ _ (both-left _ _ (s .limit-sound))
+
+  pub limit-few : j .limit ≤ limitMost
+  unfolding limitSound
+  limit-few = leb-true _ _ (both-right (leb 1 (j .limit)) _ (s .limit-sound))
+
+  pub source-node : (i : ℕ) → i < nets j → source j i < nodes j
+  source-node i h = source-below _ _ (s .sources-sound) i h
+
+  pub firstSinks-long : length (j .firstSinks) ≡ nets j + 1
+  firstSinks-long = firsts-long _ _ _ (s .firstSinks-sound)
+
+  pub sinks-order : (i : ℕ) → i < nets j → getD (j .firstSinks) i 0 < getD (j .firstSinks) (i + 1) 0
+  sinks-order i h = firsts-order _ _ _ (s .firstSinks-sound) i h
+
+  pub sinks-end : (i : ℕ) → i ≤ nets j → getD (j .firstSinks) i 0 ≤ length (j .sinks)
+  sinks-end i h = firsts-most _ _ _ (s .firstSinks-sound) i h
+
+  pub sinks-few : length (j .sinks) ≤ sinksMost
+  unfolding sinksSound
+  sinks-few = leb-true _ _ (both-left _ _ (s .sinks-sound))
+
+  -- a net's sinks
+  module _ (i : ℕ) (h : i < nets j) where
+    sinks-rule : netSound (nodes j) (source j i) (netSinks j i) ≡ true
+    unfolding netSinks
+    sinks-rule = net-rule _ _ _ _ (s .sinks-sound) i h
+
+    pub sink-node : (k : ℕ) → k < length (netSinks j i) → getD (netSinks j i) k 0 < nodes j
+    unfolding netSound
+    sink-node k l = ltb-true _ _ (every-at (λ v. ltb v (nodes j)) (netSinks j i) (both-left _ _ sinks-rule) k l)
+
+    pub sinks-distinct : distinct (netSinks j i) ≡ true
+    unfolding netSound
+    sinks-distinct = both-left _ _ (both-right (every (λ v. ltb v (nodes j)) (netSinks j i)) _ sinks-rule)
+
+    pub source-no-sink : has (source j i) (netSinks j i) ≡ false
+    unfolding netSound
+    source-no-sink =
+        not-true _ (both-right (distinct (netSinks j i)) _ (both-right (every (λ v. ltb v (nodes j)) (netSinks j i)) _ sinks-rule))
+
+    -- a net has no more sinks than table 7 has entries
+    sinks-within : length (netSinks j i) ≤ length (j .sinks)
+    unfolding netSinks
+    sinks-within =
+        let end = sinks-end (i + 1) (omega arith) in
+        rw (length-slice (getD (j .firstSinks) i 0) (getD (j .firstSinks) (i + 1) 0) (j .sinks) end) (omega arith)
+
+    -- as the search asks it of a list of sinks
+    pub sinks-searched : search.sinksSound (nodes j) (netSinks j i) ≡ true
+    sinks-searched =
+        sinks-all _ _ (length (netSinks j i)) (le-trans sinks-within sinks-few) (omega arith) (λ k l. sink-node k l)

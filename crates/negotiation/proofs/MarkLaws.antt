@@ -1,0 +1,302 @@
+-- Marks and users of nodes that are passed one after the other: what one node does, and two lists after each other do what their join does.
+--     has-append                                membership in a join
+--     below-left, below-right, below-at         nodes of a part
+--     slice-more, slice-parts                   the part of a list that was passed
+--     set-none, -one, -append                   marks that are set
+--     cleared-none, -one, -append               marks that are cleared
+--     dropped-none, -one, -kept, -append        users that go
+--     added-none, -one, -kept, -append          users that come
+--     can-drop-rest, -left, can-add-rest        what was asked for all holds for the rest
+--     Between, between-none, -more, -all        the loops that go from node to node
+--     node-below, node-can-drop, passed-more    the node that such a loop reaches
+-- Assumes nothing.
+use mathlib.Core.Bool.{Bool, true, false}
+use mathlib.Core.List.{List, [], _∷_, _++_}
+use mathlib.Core.Logic.{⊎-elim}
+use mathlib.Core.Path.{_≡_, refl, sym, _∙_, subst}
+use Prim.Native.Nat.{ℕ, _+_, _-_, _≤_, _<_}
+use native.Mathlib.Numerals.{add-one}
+use native.Mathlib.Omega.{arith}
+use lib.Dec.{eqb}
+use lib.ListN.{length, getD, set, take, drop, length-append, length-set, take-append-drop, List·getD-append}
+use lib.Seq.{length-take-le, take-suc, drop-append-le, take-take, getD-append-add, getD-set-same, getD-set-other, getD-take, getD-drop, slice, slice-cons, length-slice}
+use borrow.Author.Tests.{eq-eqb, ne-eqb, eqb-true, eqb-false}
+use Rattle.price.specs.Test.{choose, both, either}
+use Rattle.price.specs.Lists.{has}
+use Rattle.price.proofs.ListLaws.{either-way, has-append-left, has-append-right}
+use Rattle.negotiation.specs.Steps.{AllBelow, MarksSet, MarksCleared, Dropped, Added, CanDrop, CanAddMarked}
+
+-- ---- membership
+
+pub has-append : (v : ℕ) (xs ys : List ℕ) → has v (xs ++ ys) ≡ either (has v xs) (has v ys)
+unfolding has
+has-append v [] ys = refl
+has-append v (x ∷ xs) ys =
+    ⊎-elim
+    (λ (q : eqb v x ≡ true). rw q)
+    (λ (q : eqb v x ≡ false). rw q (has-append v xs ys))
+    (either-way (eqb v x))
+
+-- ---- nodes of a part
+
+pub below-left : {n : ℕ} (xs ys : List ℕ) → AllBelow n (xs ++ ys) → AllBelow n xs
+below-left {n} xs ys all i l =
+    subst (λ (m : ℕ). m < n) (List·getD-append xs ys 0 i l) (all i (rw length-append (omega arith)))
+
+pub below-right : {n : ℕ} (xs ys : List ℕ) → AllBelow n (xs ++ ys) → AllBelow n ys
+below-right {n} xs ys all i l =
+    subst (λ (m : ℕ). m < n) (getD-append-add xs ys i 0) (all (length xs + i) (rw length-append (omega arith)))
+
+module _ (from to k : ℕ) (log : List ℕ) (l : from ≤ k) (h : to ≤ length log) where
+  pub below-at : {n : ℕ} → AllBelow n (slice from to log) → k < to → getD log k 0 < n
+  below-at {n} all b =
+      let inside : k - from < length (slice from to log) = rw (length-slice from to log h) (omega arith) in
+      let place : from + (k - from) ≡ k = omega arith in
+      let e : getD (slice from to log) (k - from) 0 ≡ getD log k 0 = getD-drop from (take to log) (k - from) 0 ∙ rw place (getD-take to log k 0 b) in
+      subst (λ (m : ℕ). m < n) e (all (k - from) inside)
+
+  -- one node more is passed
+  pub slice-more : k < to → slice from (k + 1) log ≡ slice from k log ++ (getD log k 0 ∷ [])
+  slice-more b =
+      let long : length (take k log) ≡ k = length-take-le k log (omega arith) in
+      rw (add-one, take-suc log k 0 (omega arith)) (drop-append-le from (take k log) (getD log k 0 ∷ []) (omega arith))
+
+  -- and the part that is left
+  pub slice-parts : k ≤ to → slice from to log ≡ slice from k log ++ slice k to log
+  slice-parts b =
+      let short : take k (take to log) ≡ take k log = take-take k to log b in
+      let long : length (take k log) ≡ k = length-take-le k log (omega arith) in
+      subst (λ (xs : List ℕ). drop from xs ≡ slice from k log ++ slice k to log) (take-append-drop k (take to log))
+      (rw short (drop-append-le from (take k log) (drop k (take to log)) (omega arith)))
+
+-- ---- marks that are set or cleared
+
+choose-again : (s t : Bool) (a m : ℕ) → choose t a (choose s a m) ≡ choose (either s t) a m
+choose-again true true a m = refl
+choose-again true false a m = refl
+choose-again false t a m = refl
+
+pub set-none : (n : ℕ) (marks : List ℕ) → MarksSet n [] marks marks
+unfolding has
+set-none n marks = record { long = refl; at = λ v b. refl }
+
+pub set-one : (n y : ℕ) (marks : List ℕ) → y < length marks → MarksSet n (y ∷ []) marks (set marks y 1)
+unfolding has
+set-one n y marks l = record {
+  long = length-set marks y 1;
+  at = λ v b.
+      ⊎-elim
+      (λ (q : eqb v y ≡ true). let e : v ≡ y = eqb-true v y q in rw (q, e) (getD-set-same marks y 1 0 l))
+      (λ (q : eqb v y ≡ false). rw q (getD-set-other marks y v 1 0 (eqb-false v y q)))
+      (either-way (eqb v y));
+}
+
+pub set-append : {n : ℕ} {xs ys marks now later : List ℕ} → MarksSet n xs marks now → MarksSet n ys now later → MarksSet n (xs ++ ys) marks later
+set-append {n} {xs} {ys} {marks} s t = record {
+  long = t .long ∙ s .long;
+  at = λ v b. t .at v b ∙ rw (s .at v b, has-append v xs ys) (choose-again (has v xs) (has v ys) 1 (getD marks v 0));
+}
+
+pub cleared-none : (n : ℕ) (marks : List ℕ) → MarksCleared n [] marks marks
+unfolding has
+cleared-none n marks = record { long = refl; at = λ v b. refl }
+
+pub cleared-one : (n y : ℕ) (marks : List ℕ) → y < length marks → MarksCleared n (y ∷ []) marks (set marks y 0)
+unfolding has
+cleared-one n y marks l = record {
+  long = length-set marks y 0;
+  at = λ v b.
+      ⊎-elim
+      (λ (q : eqb v y ≡ true). let e : v ≡ y = eqb-true v y q in rw (q, e) (getD-set-same marks y 0 0 l))
+      (λ (q : eqb v y ≡ false). rw q (getD-set-other marks y v 0 0 (eqb-false v y q)))
+      (either-way (eqb v y));
+}
+
+pub cleared-append : {n : ℕ} {xs ys marks now later : List ℕ} → MarksCleared n xs marks now → MarksCleared n ys now later → MarksCleared n (xs ++ ys) marks later
+cleared-append {n} {xs} {ys} {marks} s t = record {
+  long = t .long ∙ s .long;
+  at = λ v b. t .at v b ∙ rw (s .at v b, has-append v xs ys) (choose-again (has v xs) (has v ys) 0 (getD marks v 0));
+}
+
+-- ---- users that go
+
+sub-none : (u : ℕ) → u ≡ u - 0
+sub-none u = omega arith
+
+pub dropped-none : (n : ℕ) (users marks : List ℕ) → Dropped n [] users marks users marks
+unfolding has
+dropped-none n users marks = record { users-long = refl; marks-set = set-none n marks; users-at = λ v b. sub-none (getD users v 0) }
+
+module _ (n y : ℕ) (users marks : List ℕ) (l : y < length marks) where
+  -- a node that was not marked
+  pub dropped-one : y < length users → getD marks y 0 ≡ 0 → Dropped n (y ∷ []) users marks (set users y (getD users y 0 - 1)) (set marks y 1)
+  unfolding has
+  dropped-one h z = record {
+    users-long = length-set users y (getD users y 0 - 1);
+    marks-set = set-one n y marks l;
+    users-at = λ v b.
+        ⊎-elim
+        (λ (q : eqb v y ≡ true).
+        let e : v ≡ y = eqb-true v y q in
+        let m : eqb (getD marks y 0) 0 ≡ true = eq-eqb (getD marks y 0) 0 z in
+        rw (q, e, m) (getD-set-same users y (getD users y 0 - 1) 0 h))
+        (λ (q : eqb v y ≡ false).
+        rw q (getD-set-other users y v (getD users y 0 - 1) 0 (eqb-false v y q) ∙ sub-none (getD users v 0)))
+        (either-way (eqb v y));
+  }
+
+  -- a node that was marked
+  pub dropped-kept : (getD marks y 0 ≡ 0 → ⊥) → Dropped n (y ∷ []) users marks users (set marks y 1)
+  unfolding has
+  dropped-kept z = record {
+    users-long = refl;
+    marks-set = set-one n y marks l;
+    users-at = λ v b.
+        ⊎-elim
+        (λ (q : eqb v y ≡ true).
+        let e : v ≡ y = eqb-true v y q in
+        let m : eqb (getD marks y 0) 0 ≡ false = ne-eqb (getD marks y 0) 0 z in
+        rw (q, e, m) (sub-none (getD users y 0)))
+        (λ (q : eqb v y ≡ false). rw q (sub-none (getD users v 0)))
+        (either-way (eqb v y));
+  }
+
+drop-again : (s t : Bool) (m u : ℕ) → u - choose (both s (eqb m 0)) 1 0 - choose (both t (eqb (choose s 1 m) 0)) 1 0 ≡ u - choose (both (either s t) (eqb m 0)) 1 0
+drop-again true true m u = sym (sub-none _)
+drop-again true false m u = sym (sub-none _)
+drop-again false t m u = rw (← sub-none u)
+
+-- what a node loses in a second list it has not lost in the first: there it got its mark
+pub dropped-append : {n : ℕ} {xs ys users marks usersNow marksNow usersLater marksLater : List ℕ} → Dropped n xs users marks usersNow marksNow → Dropped n ys usersNow marksNow usersLater marksLater → Dropped n (xs ++ ys) users marks usersLater marksLater
+dropped-append {n} {xs} {ys} {users} {marks} s t = record {
+  users-long = t .users-long ∙ s .users-long;
+  marks-set = set-append (s .marks-set) (t .marks-set);
+  users-at = λ v b.
+      t .users-at v b
+      ∙ rw (s .users-at v b, s .marks-set .at v b, has-append v xs ys)
+      (drop-again (has v xs) (has v ys) (getD marks v 0) (getD users v 0));
+}
+
+-- ---- users that come
+
+add-none : (u : ℕ) → u ≡ u + 0
+add-none u = omega arith
+
+pub added-none : (n : ℕ) (users marks : List ℕ) → Added n [] users marks users marks
+unfolding has
+added-none n users marks = record { users-long = refl; marks-cleared = cleared-none n marks; users-at = λ v b. add-none (getD users v 0) }
+
+module _ (n y : ℕ) (users marks : List ℕ) (l : y < length marks) where
+  -- a node that was marked
+  pub added-one : y < length users → getD marks y 0 ≡ 1 → Added n (y ∷ []) users marks (set users y (getD users y 0 + 1)) (set marks y 0)
+  unfolding has
+  added-one h z = record {
+    users-long = length-set users y (getD users y 0 + 1);
+    marks-cleared = cleared-one n y marks l;
+    users-at = λ v b.
+        ⊎-elim
+        (λ (q : eqb v y ≡ true).
+        let e : v ≡ y = eqb-true v y q in
+        let m : eqb (getD marks y 0) 1 ≡ true = eq-eqb (getD marks y 0) 1 z in
+        rw (q, e, m) (getD-set-same users y (getD users y 0 + 1) 0 h))
+        (λ (q : eqb v y ≡ false).
+        rw q (getD-set-other users y v (getD users y 0 + 1) 0 (eqb-false v y q) ∙ add-none (getD users v 0)))
+        (either-way (eqb v y));
+  }
+
+  -- a node that was not marked
+  pub added-kept : (getD marks y 0 ≡ 1 → ⊥) → Added n (y ∷ []) users marks users (set marks y 0)
+  unfolding has
+  added-kept z = record {
+    users-long = refl;
+    marks-cleared = cleared-one n y marks l;
+    users-at = λ v b.
+        ⊎-elim
+        (λ (q : eqb v y ≡ true).
+        let e : v ≡ y = eqb-true v y q in
+        let m : eqb (getD marks y 0) 1 ≡ false = ne-eqb (getD marks y 0) 1 z in
+        rw (q, e, m) (add-none (getD users y 0)))
+        (λ (q : eqb v y ≡ false). rw q (add-none (getD users v 0)))
+        (either-way (eqb v y));
+  }
+
+add-again : (s t : Bool) (m u : ℕ) → u + choose (both s (eqb m 1)) 1 0 + choose (both t (eqb (choose s 0 m) 1)) 1 0 ≡ u + choose (both (either s t) (eqb m 1)) 1 0
+add-again true true m u = sym (add-none _)
+add-again true false m u = sym (add-none _)
+add-again false t m u = rw (← add-none u)
+
+-- what a node gains in a second list it has not gained in the first: there it lost its mark
+pub added-append : {n : ℕ} {xs ys users marks usersNow marksNow usersLater marksLater : List ℕ} → Added n xs users marks usersNow marksNow → Added n ys usersNow marksNow usersLater marksLater → Added n (xs ++ ys) users marks usersLater marksLater
+added-append {n} {xs} {ys} {users} {marks} s t = record {
+  users-long = t .users-long ∙ s .users-long;
+  marks-cleared = cleared-append (s .marks-cleared) (t .marks-cleared);
+  users-at = λ v b.
+      t .users-at v b
+      ∙ rw (s .users-at v b, s .marks-cleared .at v b, has-append v xs ys)
+      (add-again (has v xs) (has v ys) (getD marks v 0) (getD users v 0));
+}
+
+-- ---- what was asked for all holds for the rest
+
+-- a node that is not marked now was not passed
+pub can-drop-rest : {n : ℕ} {xs users marks usersNow marksNow : List ℕ} (ys : List ℕ) → CanDrop n (xs ++ ys) users marks → Dropped n xs users marks usersNow marksNow → CanDrop n ys usersNow marksNow
+can-drop-rest {n} {xs} {users} {marks} {usersNow} {marksNow} ys can s v b among z =
+    ⊎-elim
+    (λ (q : has v xs ≡ true).
+    let one : getD marksNow v 0 ≡ 1 = rw q at (s .marks-set .at v b) in
+    absurd (omega arith))
+    (λ (q : has v xs ≡ false).
+    let same : getD marksNow v 0 ≡ getD marks v 0 = rw q at (s .marks-set .at v b) in
+    let kept : getD usersNow v 0 ≡ getD users v 0 - 0 = rw q at (s .users-at v b) in
+    omega (arith, can v b (has-append-right v xs ys among) (sym same ∙ z)))
+    (either-way (has v xs))
+
+pub can-drop-left : {n : ℕ} (users marks xs ys : List ℕ) → CanDrop n (xs ++ ys) users marks → CanDrop n xs users marks
+can-drop-left users marks xs ys can v b among z = can v b (has-append-left v xs ys among) z
+
+-- a node that is marked now was not passed
+pub can-add-rest : {n : ℕ} {xs users marks usersNow marksNow : List ℕ} → CanAddMarked n users marks → Added n xs users marks usersNow marksNow → CanAddMarked n usersNow marksNow
+can-add-rest {n} {xs} {users} {marks} {usersNow} {marksNow} can s v b o =
+    ⊎-elim
+    (λ (q : has v xs ≡ true).
+    let gone : getD marksNow v 0 ≡ 0 = rw q at (s .marks-cleared .at v b) in
+    absurd (omega arith))
+    (λ (q : has v xs ≡ false).
+    let same : getD marksNow v 0 ≡ getD marks v 0 = rw q at (s .marks-cleared .at v b) in
+    let kept : getD usersNow v 0 ≡ getD users v 0 + 0 = rw q at (s .users-at v b) in
+    omega (arith, can v b (sym same ∙ o)))
+    (either-way (has v xs))
+
+-- ---- the loops over the nodes from `from` to below `to`, of which those below k are passed
+
+-- where the loop is
+pub record Between (from to k : ℕ) (log : List ℕ) : Type 0 where
+  pub least : from ≤ k
+  pub most : k ≤ to
+  pub short : to ≤ length log
+
+pub between-none : (from to : ℕ) (log : List ℕ) → from ≤ to → to ≤ length log → Between from to from log
+between-none from to log l h = record { least = omega arith; most = l; short = h }
+
+pub between-more : {from to k : ℕ} {log : List ℕ} → k < to → Between from to k log → Between from to (k + 1) log
+between-more b w = record { least = omega (arith, w .least); most = omega arith; short = w .short }
+
+pub node-below : {from to k n : ℕ} {log : List ℕ} → k < to → AllBelow n (slice from to log) → Between from to k log → getD log k 0 < n
+node-below {from} {to} {k} {n} {log} b all w = below-at from to k log (w .least) (w .short) all b
+
+-- at the end all are passed
+pub between-all : {from to k : ℕ} {log : List ℕ} → to ≤ k → Between from to k log → k ≡ to
+between-all l w = omega (arith, w .most)
+
+-- one node more is passed
+pub passed-more : {from to k : ℕ} {log : List ℕ} → k < to → Between from to k log → slice from (k + 1) log ≡ slice from k log ++ (getD log k 0 ∷ [])
+passed-more {from} {to} {k} {log} b w = slice-more from to k log (w .least) (w .short) b
+
+-- a node that is not marked when it is reached has a user
+pub node-can-drop : {from to k n : ℕ} {log users marks usersNow marksNow : List ℕ} → k < to → CanDrop n (slice from to log) users marks → AllBelow n (slice from to log) → Between from to k log → Dropped n (slice from k log) users marks usersNow marksNow → getD marksNow (getD log k 0) 0 ≡ 0 → 1 ≤ getD usersNow (getD log k 0) 0
+unfolding has
+node-can-drop {from} {to} {k} {n} {log} {users} {marks} {usersNow} {marksNow} b can all w s z =
+    let parts : slice from to log ≡ slice from k log ++ slice k to log = slice-parts from to k log (w .least) (w .short) (w .most) in
+    let rest : CanDrop n (slice k to log) usersNow marksNow = can-drop-rest (slice k to log) (rw parts at can) s in
+    let here : eqb (getD log k 0) (getD log k 0) ≡ true = eq-eqb (getD log k 0) (getD log k 0) refl in
+    rest (getD log k 0) (node-below b all w) (rw (slice-cons k to log 0 b (w .short), here)) z

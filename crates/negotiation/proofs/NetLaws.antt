@@ -1,0 +1,323 @@
+-- One net in an iteration: its turns are cheapest paths from its tree, they join every sink, and they reach no node twice.
+-- Assumes nothing.
+use mathlib.Core.Bool.{true, false, not}
+use mathlib.Core.List.{List, [], _∷_, _++_, append-nil}
+use mathlib.Core.Logic.{⊎-elim}
+use mathlib.Core.Path.{_≡_, refl, sym, _∙_, ap, subst}
+use Prim.Native.Nat.{ℕ, zero, suc, _+_, _*_, _≤_, _<_}
+use native.Mathlib.Nat.{le-trans, le-of-eq}
+use native.Mathlib.Omega.{arith}
+use lib.Dec.{eqb}
+use lib.ListN.{length, getD, drop, length-append, length-replicate, getD-replicate}
+use lib.Seq.{append-snoc, length-slice}
+use borrow.Author.Tests.{eq-eqb, ltb-true}
+use Rattle.price.specs.Bounds.{factorMost, historyMost, historyGain, othersMost, limitMost}
+use Rattle.price.specs.Test.{both}
+use Rattle.price.specs.Lists.{every, has, distinct, upTo}
+use Rattle.price.specs.Prices.{nextHistory}
+use Rattle.price.specs.Replies.{InBounds}
+use Rattle.price.proofs.ListLaws.{true≢false, count-most, count-less, length-upTo, getD-upTo, has-at, has-place}
+use Rattle.price.proofs.PriceLaws as price
+use Rattle.price.proofs.PriceLaws.{price-pos, price-most, next-factor-most, history-grows, history-reach}
+use Rattle.search.specs.Paths.{Walk, CheapestPath}
+use Rattle.search.specs.Frontier.{Fair}
+use Rattle.search.specs.Turn.{Congestion, priceAt}
+use Rattle.search.proofs.BlockLaws.{graph-of, kind-most, capacity-least, capacity-most}
+use Rattle.search.proofs.DistanceLaws.{some-path}
+use Rattle.search.proofs.DistinctLaws.{has-first, lacks, distinct-cons, distinct-rest}
+use Rattle.negotiation.specs.Job.{Job, nodes, nets, source, netSinks}
+use Rattle.negotiation.specs.Tables.{SoundJob, netsMost}
+use Rattle.negotiation.specs.Records.{Record, pathNodes}
+use Rattle.negotiation.specs.Machine.{State, treeAt, othersOf, usersOf, marksOf, congestionFor, netRecords, treeFrom, afterNets, iterate, moveOn, firstState, stateAfter}
+use Rattle.negotiation.specs.Outcome.{hasPath}
+use Rattle.negotiation.proofs.JobLaws.{nets-few, source-node, sinks-order, sinks-end, sink-node, source-no-sink}
+use Rattle.negotiation.proofs.RecordLaws.{pathNodes-append}
+use Rattle.negotiation.proofs.MemberLaws.{no-entry, has-append-split, none-has, lacks-left, lacks-right, distinct-append, missing-most}
+use Rattle.negotiation.proofs.TreeLaws.{TreeNodes, mark-is, TreeTurn, Turns, none, stop, more, turns-are, turns-join, turns-source, only-entry}
+
+-- factor and histories keep the bounds of row 13
+pub record StateReady (j : Job) (s : State) : Type 0 where
+  pub long : length (s .histories) ≡ nodes j
+  pub history-least : (v : ℕ) → v < nodes j → 1 ≤ getD (s .histories) v 0
+  pub history-most : (v : ℕ) → v < nodes j → getD (s .histories) v 0 ≤ historyMost
+  pub factor-most : s .factor ≤ factorMost
+
+-- the same after m whole iterations, with what the histories have grown by at most
+record Grown (j : Job) (s : State) (m : ℕ) : Type 0 where
+  long : length (s .histories) ≡ nodes j
+  least : (v : ℕ) → v < nodes j → 1 ≤ getD (s .histories) v 0
+  most : (v : ℕ) → v < nodes j → getD (s .histories) v 0 ≤ 1 + m * historyGain
+  factor-most : s .factor ≤ factorMost
+
+-- nets change neither factor nor histories
+after-factor : (j : Job) (s : State) (i : ℕ) → afterNets j s i .state .factor ≡ s .factor
+unfolding afterNets
+after-factor j s zero = refl
+after-factor j s (suc i) = after-factor j s i
+
+after-histories : (j : Job) (s : State) (i : ℕ) → afterNets j s i .state .histories ≡ s .histories
+unfolding afterNets
+after-histories j s zero = refl
+after-histories j s (suc i) = after-histories j s i
+
+grown-after : (j : Job) (s : State) (m i : ℕ) → Grown j s m → Grown j (afterNets j s i .state) m
+grown-after j s m i g =
+    record {
+      long = rw (after-histories j s i) (g .long);
+      least = rw (after-histories j s i) (g .least);
+      most = rw (after-histories j s i) (g .most);
+      factor-most = rw (after-factor j s i) (g .factor-most);
+    }
+
+grown-first : (j : Job) → Grown j (firstState j) 0
+unfolding firstState
+grown-first j =
+    record {
+      long = length-replicate (nodes j) 1;
+      least = λ v h. le-of-eq (sym (getD-replicate (nodes j) v 1 0 h));
+      most = λ v h. le-of-eq (getD-replicate (nodes j) v 1 0 h);
+      factor-most = next-factor-most 0 0;
+    }
+
+-- a node has at most as many users as there are nets
+users-few : (j : Job) → SoundJob j → (trees : List (List ℕ)) (v : ℕ) → usersOf j trees v ≤ othersMost + 1
+unfolding usersOf
+users-few j sound trees v =
+    le-trans (count-most (λ k. has v (treeAt trees k)) (nets j)) (nets-few j sound)
+
+-- what histories move on to
+abbrev movedHistory : Job → State → ℕ → ℕ
+movedHistory j s v = nextHistory (getD (s .histories) v 0) (usersOf j (s .trees) v) (getD (j .block .capacities) v 0)
+
+grown-on : (j : Job) → SoundJob j → (s : State) (m : ℕ) → Grown j s m → Grown j (moveOn j s) (suc m)
+unfolding moveOn
+grown-on j sound s m g =
+    record {
+      long = length-upTo (movedHistory j s) (nodes j);
+      least = λ v h. rw (getD-upTo (movedHistory j s) (nodes j) v 0 h) (price.history-least _ _ _ (g .least v h));
+      most =
+          λ v h.
+          rw (getD-upTo (movedHistory j s) (nodes j) v 0 h)
+          (let most : movedHistory j s v ≤ 1 + (m + 1) * historyGain =
+          history-grows m _ _ _ (g .most v h) (users-few j sound (s .trees) v) (capacity-least (nodes j) (j .block .capacities) (sound .block-sound .capacities-sound) v h) in
+          omega arith);
+      factor-most = next-factor-most _ _;
+    }
+
+grown : (j : Job) → SoundJob j → (m : ℕ) → Grown j (stateAfter j (firstState j) m) m
+unfolding stateAfter iterate
+grown j sound zero = grown-first j
+grown j sound (suc m) =
+    grown-on j sound _ m (grown-after j (stateAfter j (firstState j) m) m (nets j) (grown j sound m))
+
+-- every state in which a net is routed keeps them
+pub state-ready : (j : Job) → SoundJob j → (m i : ℕ) → m < limitMost → StateReady j (afterNets j (stateAfter j (firstState j) m) i .state)
+state-ready j sound m i h =
+    let g = grown-after j (stateAfter j (firstState j) m) m i (grown j sound m) in
+    record {
+      long = g .long;
+      history-least = g .least;
+      history-most = λ v l. history-reach m _ (g .most v l) h;
+      factor-most = g .factor-most;
+    }
+
+-- fewer other nets have a node than there are nets
+pub others-few : (j : Job) (trees : List (List ℕ)) (i v : ℕ) → i < nets j → othersOf j trees i v < nets j
+unfolding othersOf
+others-few j trees i v h =
+    le-trans
+    (count-less (λ k. true) (λ k. both (not (eqb k i)) (has v (treeAt trees k))) (nets j) i (λ x l e. refl) h refl (rw (eq-eqb i i refl)))
+    (count-most (λ k. true) (nets j))
+
+-- so the search can work with the prices of a turn
+module _ (j : Job) (sound : SoundJob j) (s : State) (ready : StateReady j s) (i : ℕ) (hi : i < nets j) where
+  turn-bounds : (v : ℕ) → v < nodes j → InBounds (getD (j .block .kinds) v 0) (s .factor) (othersOf j (s .trees) i v) (getD (j .block .capacities) v 0) (getD (s .histories) v 0)
+  turn-bounds v h =
+      let few : othersOf j (s .trees) i v < nets j = others-few j (s .trees) i v hi in
+      let most : nets j ≤ netsMost = nets-few j sound in
+      record {
+        kind-most = kind-most (j .block .kinds) (sound .block-sound .kinds-sound) v h;
+        factor-most = ready .factor-most;
+        others-most = omega arith;
+        capacity-least = capacity-least (nodes j) (j .block .capacities) (sound .block-sound .capacities-sound) v h;
+        capacity-most = capacity-most (nodes j) (j .block .capacities) (sound .block-sound .capacities-sound) v h;
+        history-least = ready .history-least v h;
+        history-most = ready .history-most v h;
+      }
+
+  others-at : (v : ℕ) → v < nodes j → getD (upTo (othersOf j (s .trees) i) (nodes j)) v 0 ≡ othersOf j (s .trees) i v
+  others-at v h = getD-upTo (othersOf j (s .trees) i) (nodes j) v 0 h
+
+  pub turn-fair : Fair (j .block) (priceAt (j .block) (congestionFor j s i))
+  unfolding priceAt congestionFor
+  turn-fair =
+      record {
+        pos = λ v h. price-pos _ _ _ _ _ (ready .history-least v h);
+        most = λ v h. rw (others-at v h) (price-most (turn-bounds v h));
+      }
+
+-- the nodes in which a record's path steps end
+abbrev pub stepEnds : Record → List ℕ
+stepEnds r = drop 1 (r .path)
+
+-- all of them, record after record
+unfoldable pub branchEnds : List Record → List ℕ
+branchEnds [] = []
+branchEnds (r ∷ rs) = stepEnds r ++ branchEnds rs
+
+-- a turn of net i in state s after its earlier ones of the same iteration
+pub record NetTurn (j : Job) (s : State) (i : ℕ) (earlier : List Record) (r : Record) : Type 0 where
+  pub iteration-is : r .iteration ≡ s .iteration
+  pub net-is : r .net ≡ i
+  pub cheapest : CheapestPath (j .block) (priceAt (j .block) (congestionFor j s i)) (λ v. has v (treeFrom j i earlier)) (netSinks j i) (r .sink) (r .cost) (r .path)
+  -- its path begins in the tree, and the rest is new to it
+  pub begins : has (getD (r .path) 0 0) (treeFrom j i earlier) ≡ true
+  pub new-nodes : every (λ v. not (has v (treeFrom j i earlier))) (stepEnds r) ≡ true
+  pub path-distinct : distinct (r .path) ≡ true
+  pub path-some : 1 ≤ length (r .path)
+  pub path-short : length (r .path) ≤ nodes j
+  pub path-nodes : (k : ℕ) → k < length (r .path) → getD (r .path) k 0 < nodes j
+
+-- the tree of the source alone
+source-alone : (j : Job) → SoundJob j → (i : ℕ) → i < nets j → TreeNodes j (source j i ∷ [])
+source-alone j sound i hi v h = rw (only-entry v (source j i) h) (source-node j sound i hi)
+
+-- the first state keeps its bounds
+first-ready : (j : Job) → SoundJob j → StateReady j (firstState j)
+unfolding afterNets stateAfter
+first-ready j sound = state-ready j sound 0 0 (omega arith)
+
+-- a sink that the test before iteration 1 finds has a path from the source
+path-from : (j : Job) → SoundJob j → (i : ℕ) → i < nets j → (x : ℕ) → has x (netSinks j i) ≡ true → hasPath j i x ≡ true → (path : List ℕ) × Walk (j .block) (source j i) path x
+unfolding hasPath
+path-from j sound i hi x h found =
+    let at = has-place x (netSinks j i) h in
+    let node : x < nodes j = rw (at .2) at (sink-node j sound i hi (at .0) (at .1)) in
+    let p =
+    some-path (j .block) (priceAt (j .block) (congestionFor j (firstState j) i)) (marksOf j (source j i ∷ [])) (graph-of (j .block) (sound .block-sound))
+    (turn-fair j sound (firstState j) (first-ready j sound) i hi) x node (ltb-true _ _ found) in
+    let first : p .0 ≡ source j i =
+    only-entry (p .0) (source j i) (sym (mark-is j (source j i ∷ []) (source-alone j sound i hi) (p .0)) ∙ p .3) in
+    (p .1, subst (λ (u : ℕ). Walk (j .block) u (p .1) x) first (p .4))
+
+-- a net has a sink
+sinks-some : (j : Job) → SoundJob j → (i : ℕ) → i < nets j → 1 ≤ length (netSinks j i)
+unfolding netSinks
+sinks-some j sound i hi =
+    let order : getD (j .firstSinks) i 0 < getD (j .firstSinks) (i + 1) 0 = sinks-order j sound i hi in
+    let within : getD (j .firstSinks) (i + 1) 0 ≤ length (j .sinks) = sinks-end j sound (i + 1) (omega arith) in
+    rw (length-slice (getD (j .firstSinks) i 0) (getD (j .firstSinks) (i + 1) 0) (j .sinks) within) (omega arith)
+
+-- a record of the turns from a tree, by what stands before it
+
+no-split : (earlier later : List Record) (r : Record) → [] ≡ earlier ++ (r ∷ later) → ⊥
+no-split earlier later r e =
+    let long : 0 ≡ length (earlier ++ (r ∷ later)) = ap length e in
+    omega (arith, length-append earlier (r ∷ later))
+
+turn-here : (j : Job) (s : State) (i : ℕ) (tree : List ℕ) (before : List Record) (r : Record) → tree ≡ treeFrom j i before → r .iteration ≡ s .iteration → r .net ≡ i → TreeTurn j (congestionFor j s i) i tree (r .sink) (r .cost) (r .path) → NetTurn j s i before r
+turn-here j s i tree before r e at of joined =
+    let here : TreeTurn j (congestionFor j s i) i (treeFrom j i before) (r .sink) (r .cost) (r .path) = rw e at joined in
+    record {
+      iteration-is = at;
+      net-is = of;
+      cheapest = here .cheapest;
+      begins = here .begins;
+      new-nodes = here .new-nodes;
+      path-distinct = here .path-distinct;
+      path-some = here .path-some;
+      path-short = here .path-short;
+      path-nodes = here .path-nodes;
+    }
+
+-- the tree with one record more
+pub tree-more : (j : Job) (i : ℕ) (before : List Record) (r : Record) → treeFrom j i before ++ r .path ≡ treeFrom j i (before ++ (r ∷ []))
+unfolding pathNodes
+tree-more j i before r =
+    ap (λ (l : List ℕ). source j i ∷ l) (rw (pathNodes-append before (r ∷ []), append-nil (r .path)))
+
+turns-turn :
+    (j : Job) (s : State) (i : ℕ) {k : ℕ} {tree : List ℕ} {rs : List Record} → Turns j (s .iteration) (congestionFor j s i) i k tree rs
+    → (before earlier later : List Record) (r : Record) → tree ≡ treeFrom j i before → rs ≡ earlier ++ (r ∷ later) → NetTurn j s i (before ++ earlier) r
+turns-turn j s i none before earlier later r e split = absurd (no-split earlier later r split)
+turns-turn j s i (stop is) before earlier later r e split = absurd (no-split earlier later r split)
+turns-turn j s i {tree = tree} (more {r = first} at of joined rest) before [] later r e split =
+    let same : first ≡ r = cc in
+    rw (append-nil before)
+    (subst (NetTurn j s i before) same (turn-here j s i tree before first e at of joined))
+turns-turn j s i {tree = tree} (more {r = first} {rs = rs} at of joined rest) before (x ∷ xs) later r e split =
+    let same : first ≡ x = cc in
+    let on : rs ≡ xs ++ (r ∷ later) = cc in
+    let grown : tree ++ first .path ≡ treeFrom j i (before ++ (first ∷ [])) = rw e (tree-more j i before first) in
+    rw (← same, ← append-snoc before first xs)
+    (turns-turn j s i rest (before ++ (first ∷ [])) xs later r grown on)
+
+-- the ends of the turns' steps are new to the tree, and distinct
+turns-new :
+    (j : Job) {t : ℕ} {c : Congestion} {i k : ℕ} {tree : List ℕ} {rs : List Record} → Turns j t c i k tree rs
+    → (v : ℕ) → has v (branchEnds rs) ≡ true → has v tree ≡ false
+unfolding branchEnds
+turns-new j none v h = absurd (no-entry v h)
+turns-new j (stop is) v h = absurd (no-entry v h)
+turns-new j {tree = tree} (more {r = r} {rs = rs} at of joined rest) v h =
+    ⊎-elim
+    (λ (q : has v (stepEnds r) ≡ true). none-has tree (stepEnds r) (joined .new-nodes) v q)
+    (λ (q : has v (branchEnds rs) ≡ true). lacks-left v tree (r .path) (turns-new j rest v q))
+    (has-append-split v (stepEnds r) (branchEnds rs) h)
+
+ends-distinct : (path : List ℕ) → distinct path ≡ true → distinct (drop 1 path) ≡ true
+ends-distinct [] d = d
+ends-distinct (x ∷ xs) d = distinct-rest x xs d
+
+ends-within : (v : ℕ) (path : List ℕ) → has v path ≡ false → has v (drop 1 path) ≡ false
+ends-within v [] h = h
+ends-within v (x ∷ xs) h = lacks-right v (x ∷ []) xs h
+
+turns-distinct :
+    (j : Job) {t : ℕ} {c : Congestion} {i k : ℕ} {tree : List ℕ} {rs : List Record} → Turns j t c i k tree rs
+    → distinct (branchEnds rs) ≡ true
+unfolding branchEnds distinct
+turns-distinct j none = refl
+turns-distinct j (stop is) = refl
+turns-distinct j {tree = tree} (more {r = r} {rs = rs} at of joined rest) =
+    distinct-append (stepEnds r) (branchEnds rs) (ends-distinct (r .path) (joined .path-distinct)) (turns-distinct j rest)
+    (λ v h. ends-within v (r .path) (lacks-right v tree (r .path) (turns-new j rest v h)))
+
+module _ (j : Job) (sound : SoundJob j) (s : State) (ready : StateReady j s) (i : ℕ) (hi : i < nets j) where
+  net-turns : Turns j (s .iteration) (congestionFor j s i) i (length (netSinks j i)) (source j i ∷ []) (netRecords j s i)
+  unfolding netRecords
+  net-turns =
+      turns-are j (congestionFor j s i) i (graph-of (j .block) (sound .block-sound)) (turn-fair j sound s ready i hi) (sink-node j sound i hi)
+      (s .iteration) (length (netSinks j i)) (source j i ∷ []) (source-alone j sound i hi)
+
+  pub net-turn : (earlier later : List Record) (r : Record) → netRecords j s i ≡ earlier ++ (r ∷ later) → NetTurn j s i earlier r
+  unfolding pathNodes
+  net-turn earlier later r e = turns-turn j s i net-turns [] earlier later r refl e
+
+  -- the source and the ends of all steps are distinct
+  pub net-distinct : distinct (source j i ∷ branchEnds (netRecords j s i)) ≡ true
+  net-distinct =
+      distinct-cons (source j i) (branchEnds (netRecords j s i))
+      (lacks (source j i) (branchEnds (netRecords j s i))
+      (λ h. true≢false (sym (has-first (source j i) []) ∙ turns-new j net-turns (source j i) h)))
+      (turns-distinct j net-turns)
+
+  module _ (all : (x : ℕ) → has x (netSinks j i) ≡ true → hasPath j i x ≡ true) where
+    -- every sink has a path from the source
+    source-path : (x : ℕ) → has x (netSinks j i) ≡ true → (path : List ℕ) × Walk (j .block) (source j i) path x
+    source-path x h = path-from j sound i hi x h (all x h)
+
+    -- every sink is joined
+    pub net-joins : (x : ℕ) → has x (netSinks j i) ≡ true → has x (treeFrom j i (netRecords j s i)) ≡ true
+    net-joins x h =
+        turns-join j (congestionFor j s i) i (graph-of (j .block) (sound .block-sound)) (turn-fair j sound s ready i hi) (sink-node j sound i hi)
+        net-turns (source-alone j sound i hi) (missing-most (source j i ∷ []) (netSinks j i)) (source j i) (has-first (source j i) []) source-path x h
+
+    -- there is a record, and the source is on its path
+    pub net-source : has (source j i) (pathNodes (netRecords j s i)) ≡ true
+    net-source =
+        let x : ℕ = getD (netSinks j i) 0 0 in
+        let h : has x (netSinks j i) ≡ true = has-at (netSinks j i) 0 (sinks-some j sound i hi) in
+        turns-source j (congestionFor j s i) i (source j i) net-turns refl x
+        (λ e. true≢false (sym h ∙ ap (λ (v : ℕ). has v (netSinks j i)) e ∙ source-no-sink j sound i hi))
+        (net-joins x h)

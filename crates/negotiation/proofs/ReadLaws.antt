@@ -1,0 +1,487 @@
+-- What is read off the log is the machine's state: trees by their members, histories and factor.
+-- Assumes nothing.
+use mathlib.Core.Bool.{true, false, not}
+use mathlib.Core.List.{List, [], _∷_, _++_, append-nil}
+use mathlib.Core.Logic.{⊎-elim}
+use mathlib.Core.Path.{_≡_, refl, sym, _∙_, ap}
+use Prim.Native.Nat.{ℕ, zero, suc, _+_, _≤_, _<_, max}
+use native.Mathlib.Nat.{not-suc-le-zero, le-of-suc-le-suc, le-refl, eq-or-lt-of-le, max-zero}
+use native.Mathlib.Numerals.{add-one}
+use native.Mathlib.Omega.{arith}
+use lib.Dec.{eqb}
+use lib.ListN.{length, getD, length-set, length-replicate, getD-replicate}
+use lib.Seq.{getD-set-same, getD-set-other}
+use borrow.Author.Tests.{eqb-true, eqb-false}
+use Rattle.price.specs.Test.{both}
+use Rattle.price.specs.Bounds.{limitMost}
+use Rattle.price.specs.Lists.{has}
+use Rattle.price.specs.Prices.{factorAt, nextHistory}
+use Rattle.price.proofs.ListLaws.{either-way, le-or-lt, getD-upTo}
+use Rattle.price.proofs.PriceLaws.{factor-steps}
+use Rattle.negotiation.specs.Job.{Job, nodes, nets, source, netSinks}
+use Rattle.negotiation.specs.Tables.{SoundJob}
+use Rattle.negotiation.specs.Records.{Record, pathNodes}
+use Rattle.negotiation.specs.Machine.{State, treeAt, treeFrom, othersOf, usersOf, netRecords, afterNets, iterate, moveOn, firstState, stateAfter, iterationAfter, recordsAfter}
+use Rattle.negotiation.specs.Outcome.{hasPath}
+use Rattle.negotiation.specs.Demand.{nodesIn, latest, treeRead, othersRead, upToIteration, usersRead, historyRead, endsIn}
+use Rattle.negotiation.proofs.NetLaws.{branchEnds, state-ready, net-turn, net-source}
+use Rattle.negotiation.proofs.FilterLaws.{count-same, All, all-append, all-left, all-map, all-splits, Of, nodes-append, ends-append, upTo-append, latest-append, nodes-of, ends-of, latest-le, latest-of, Elsewhere, nodes-none, ends-none, latest-none, upTo-all, upTo-none}
+
+-- ---- states
+
+-- routing nets changes trees alone
+module _ (j : Job) (s : State) where
+  pub nets-iteration : (i : ℕ) → afterNets j s i .state .iteration ≡ s .iteration
+  unfolding afterNets
+  nets-iteration zero = refl
+  nets-iteration (suc i) = nets-iteration i
+
+  pub nets-factor : (i : ℕ) → afterNets j s i .state .factor ≡ s .factor
+  unfolding afterNets
+  nets-factor zero = refl
+  nets-factor (suc i) = nets-factor i
+
+  pub nets-histories : (i : ℕ) → afterNets j s i .state .histories ≡ s .histories
+  unfolding afterNets
+  nets-histories zero = refl
+  nets-histories (suc i) = nets-histories i
+
+module _ (j : Job) where
+  pub state-iteration : (m : ℕ) → stateAfter j (firstState j) m .iteration ≡ m + 1
+  unfolding stateAfter firstState moveOn iterate
+  state-iteration zero = refl
+  state-iteration (suc m) =
+      rw (nets-iteration j (stateAfter j (firstState j) m) (nets j), state-iteration m) (omega arith)
+
+  pub state-factor : (m : ℕ) → stateAfter j (firstState j) m .factor ≡ factorAt (m + 1)
+  unfolding stateAfter firstState moveOn iterate factorAt
+  state-factor zero = refl
+  state-factor (suc m) =
+      let two : m + 1 + 1 ≡ suc m + 1 = omega arith in
+      rw (
+        nets-iteration j (stateAfter j (firstState j) m) (nets j),
+        nets-factor j (stateAfter j (firstState j) m) (nets j),
+        state-iteration m,
+        state-factor m,
+      )
+      (sym (factor-steps (m + 1)) ∙ ap factorAt two)
+
+-- ---- one iteration
+
+-- the records of net k in the iteration from state s
+abbrev recordsOf : Job → State → ℕ → List Record
+recordsOf j s k = netRecords j (afterNets j s k .state) k
+
+-- each net's records name it and the iteration, and its source is on a path
+record Goes (j : Job) (s : State) : Type 0 where
+  own : (k : ℕ) → k < nets j → All (Of k (s .iteration)) (recordsOf j s k)
+  source-on : (k : ℕ) → k < nets j → has (source j k) (pathNodes (recordsOf j s k)) ≡ true
+
+-- a record of a net below i in iteration t
+record Below (i t : ℕ) (r : Record) : Type 0 where
+  net-below : r .net < i
+  iteration-is : r .iteration ≡ t
+
+module _ (j : Job) (s : State) (goes : Goes j s) where
+  nets-below : (i : ℕ) → i ≤ nets j → All (Below i (s .iteration)) (afterNets j s i .records)
+  unfolding afterNets
+  nets-below zero h = tt
+  nets-below (suc i) h =
+      all-append (Below (suc i) (s .iteration)) (afterNets j s i .records) (recordsOf j s i)
+      (all-map (Below i (s .iteration)) (Below (suc i) (s .iteration))
+      (λ r b. record { net-below = omega (arith, b .net-below); iteration-is = b .iteration-is })
+      (afterNets j s i .records) (nets-below i (omega arith)))
+      (all-map (Of i (s .iteration)) (Below (suc i) (s .iteration))
+      (λ r o. record { net-below = omega (arith, o .net-is); iteration-is = o .iteration-is })
+      (recordsOf j s i) (goes .own i h))
+
+  -- a net not yet routed has no records
+  nets-elsewhere : (i k u : ℕ) → i ≤ nets j → i ≤ k → All (Elsewhere k u) (afterNets j s i .records)
+  nets-elsewhere i k u h l =
+      all-map (Below i (s .iteration)) (Elsewhere k u) (λ r b e f. omega (arith, b .net-below)) (afterNets j s i .records)
+      (nets-below i h)
+
+  nets-nodes-none : (i k u : ℕ) → i ≤ nets j → i ≤ k → nodesIn k u (afterNets j s i .records) ≡ []
+  nets-nodes-none i k u h l = nodes-none k u (afterNets j s i .records) (nets-elsewhere i k u h l)
+
+  nets-ends-none : (i k u : ℕ) → i ≤ nets j → i ≤ k → endsIn k u (afterNets j s i .records) ≡ []
+  nets-ends-none i k u h l = ends-none k u (afterNets j s i .records) (nets-elsewhere i k u h l)
+
+  nets-latest-none : (i k : ℕ) → i ≤ nets j → i ≤ k → latest k (afterNets j s i .records) ≡ 0
+  nets-latest-none i k h l =
+      latest-none k (afterNets j s i .records)
+      (all-map (Below i (s .iteration)) (λ r. r .net ≡ k → ⊥) (λ r b e. omega (arith, b .net-below)) (afterNets j s i .records)
+      (nets-below i h))
+
+  -- another net's records
+  own-elsewhere : (i k u : ℕ) → i < nets j → (k ≡ i → ⊥) → All (Elsewhere k u) (recordsOf j s i)
+  own-elsewhere i k u h ne =
+      all-map (Of i (s .iteration)) (Elsewhere k u) (λ r o e f. ne (sym e ∙ o .net-is)) (recordsOf j s i) (goes .own i h)
+
+  own-latest-none : (i k : ℕ) → i < nets j → (k ≡ i → ⊥) → latest k (recordsOf j s i) ≡ 0
+  own-latest-none i k h ne =
+      latest-none k (recordsOf j s i)
+      (all-map (Of i (s .iteration)) (λ r. r .net ≡ k → ⊥) (λ r o e. ne (sym e ∙ o .net-is)) (recordsOf j s i) (goes .own i h))
+
+  own-latest : (k : ℕ) → k < nets j → latest k (recordsOf j s k) ≡ s .iteration
+  own-latest k h = latest-of k (s .iteration) (source j k) (recordsOf j s k) (goes .own k h) (goes .source-on k h)
+
+  -- a routed net has its own
+  nets-nodes : (i k : ℕ) → i ≤ nets j → k < i → nodesIn k (s .iteration) (afterNets j s i .records) ≡ pathNodes (recordsOf j s k)
+  unfolding afterNets
+  nets-nodes zero k h l = absurd (not-suc-le-zero l)
+  nets-nodes (suc i) k h l =
+      nodes-append k (s .iteration) (afterNets j s i .records) (recordsOf j s i)
+      ∙ ⊎-elim
+      (λ (e : k ≡ i).
+      rw (e, nets-nodes-none i i (s .iteration) (omega arith) (le-refl i)) (nodes-of i (s .iteration) (recordsOf j s i) (goes .own i h)))
+      (λ (g : k < i).
+      rw (
+        nodes-none k (s .iteration) (recordsOf j s i) (own-elsewhere i k (s .iteration) h (λ e. omega arith)),
+        nets-nodes i k (omega arith) g,
+      )
+      (append-nil (pathNodes (recordsOf j s k))))
+      (eq-or-lt-of-le (le-of-suc-le-suc l))
+
+  nets-ends : (i k : ℕ) → i ≤ nets j → k < i → endsIn k (s .iteration) (afterNets j s i .records) ≡ branchEnds (recordsOf j s k)
+  unfolding afterNets
+  nets-ends zero k h l = absurd (not-suc-le-zero l)
+  nets-ends (suc i) k h l =
+      ends-append k (s .iteration) (afterNets j s i .records) (recordsOf j s i)
+      ∙ ⊎-elim
+      (λ (e : k ≡ i).
+      rw (e, nets-ends-none i i (s .iteration) (omega arith) (le-refl i)) (ends-of i (s .iteration) (recordsOf j s i) (goes .own i h)))
+      (λ (g : k < i).
+      rw (
+        ends-none k (s .iteration) (recordsOf j s i) (own-elsewhere i k (s .iteration) h (λ e. omega arith)),
+        nets-ends i k (omega arith) g,
+      )
+      (append-nil (branchEnds (recordsOf j s k))))
+      (eq-or-lt-of-le (le-of-suc-le-suc l))
+
+  nets-latest : (i k : ℕ) → i ≤ nets j → k < i → latest k (afterNets j s i .records) ≡ s .iteration
+  unfolding afterNets
+  nets-latest zero k h l = absurd (not-suc-le-zero l)
+  nets-latest (suc i) k h l =
+      latest-append k (afterNets j s i .records) (recordsOf j s i)
+      ∙ ⊎-elim
+      (λ (e : k ≡ i). rw (e, nets-latest-none i i (omega arith) (le-refl i), own-latest i h) (omega arith))
+      (λ (g : k < i).
+      rw (own-latest-none i k h (λ e. omega arith), nets-latest i k (omega arith) g) (max-zero (s .iteration)))
+      (eq-or-lt-of-le (le-of-suc-le-suc l))
+
+-- the trees of an iteration
+module _ (j : Job) (s : State) where
+  trees-long : (i : ℕ) → length (afterNets j s i .state .trees) ≡ length (s .trees)
+  unfolding afterNets
+  trees-long zero = refl
+  trees-long (suc i) = length-set (afterNets j s i .state .trees) i (treeFrom j i (recordsOf j s i)) ∙ trees-long i
+
+  pub trees-old : (i k : ℕ) → i ≤ k → treeAt (afterNets j s i .state .trees) k ≡ treeAt (s .trees) k
+  unfolding afterNets
+  trees-old zero k l = refl
+  trees-old (suc i) k l =
+      getD-set-other (afterNets j s i .state .trees) i k (treeFrom j i (recordsOf j s i)) [] (λ e. omega arith)
+      ∙ trees-old i k (omega arith)
+
+  trees-new : (i k : ℕ) → i ≤ length (s .trees) → k < i → treeAt (afterNets j s i .state .trees) k ≡ treeFrom j k (recordsOf j s k)
+  unfolding afterNets
+  trees-new zero k h l = absurd (not-suc-le-zero l)
+  trees-new (suc i) k h l =
+      ⊎-elim
+      (λ (e : k ≡ i).
+      rw e
+      (getD-set-same (afterNets j s i .state .trees) i (treeFrom j i (recordsOf j s i)) [] (rw (trees-long i) h)))
+      (λ (g : k < i).
+      getD-set-other (afterNets j s i .state .trees) i k (treeFrom j i (recordsOf j s i)) [] (λ e. omega arith)
+      ∙ trees-new i k (omega arith) g)
+      (eq-or-lt-of-le (le-of-suc-le-suc l))
+
+-- an entry that a list has already makes no difference before it
+has-again : (v x : ℕ) (xs : List ℕ) → has x xs ≡ true → has v (x ∷ xs) ≡ has v xs
+unfolding has
+has-again v x xs h =
+    ⊎-elim
+    (λ (q : eqb v x ≡ true). rw q (sym (rw (eqb-true v x q) h)))
+    (λ (q : eqb v x ≡ false). rw q)
+    (either-way (eqb v x))
+
+-- a routed net's tree has the nodes of its records
+tree-nodes : (j : Job) (s : State) → Goes j s → length (s .trees) ≡ nets j → (i k v : ℕ) → i ≤ nets j → k < i → has v (treeAt (afterNets j s i .state .trees) k) ≡ has v (pathNodes (recordsOf j s k))
+tree-nodes j s goes long i k v h l =
+    ap (has v) (trees-new j s i k (rw long h) l)
+    ∙ has-again v (source j k) (pathNodes (recordsOf j s k)) (goes .source-on k (omega arith))
+
+-- ---- iterations
+
+abbrev start : Job → ℕ → State
+start j m = stateAfter j (firstState j) m
+
+abbrev done : Job → ℕ → List Record
+done j m = recordsAfter j (firstState j) m
+
+starts-long : (j : Job) (m : ℕ) → length (start j m .trees) ≡ nets j
+unfolding stateAfter firstState moveOn iterate
+starts-long j zero = length-replicate (nets j) []
+starts-long j (suc m) = trees-long j (start j m) (nets j) ∙ starts-long j m
+
+-- a history moves on with the users after the iteration
+start-history : (j : Job) (m v : ℕ) → v < nodes j → getD (start j (suc m) .histories) v 0 ≡ nextHistory (getD (start j m .histories) v 0) (usersOf j (start j (suc m) .trees) v) (getD (j .block .capacities) v 0)
+unfolding stateAfter moveOn iterate
+start-history j m v h =
+    getD-upTo
+    (λ u.
+    nextHistory (getD (afterNets j (start j m) (nets j) .state .histories) u 0) (usersOf j (afterNets j (start j m) (nets j) .state .trees) u)
+    (getD (j .block .capacities) u 0))
+    (nodes j) v 0 h
+    ∙ rw (nets-histories j (start j m) (nets j))
+
+-- the records before the rest of net i's in the iteration after m whole ones
+abbrev pub recordsBefore : Job → ℕ → ℕ → List Record → List Record
+recordsBefore j m i e =
+    recordsAfter j (firstState j) m ++ (afterNets j (stateAfter j (firstState j) m) i .records ++ e)
+
+module _ (j : Job) (go : (m : ℕ) → m < limitMost → Goes j (start j m)) where
+  -- the records of the iteration after m whole ones
+  here-all : (m i : ℕ) → m < limitMost → i ≤ nets j → All (λ r. r .iteration ≡ m + 1) (afterNets j (start j m) i .records)
+  here-all m i h l =
+      all-map (Below i (start j m .iteration)) (λ r. r .iteration ≡ m + 1) (λ r b. b .iteration-is ∙ state-iteration j m)
+      (afterNets j (start j m) i .records) (nets-below j (start j m) (go m h) i l)
+
+  done-all : (m : ℕ) → m ≤ limitMost → All (λ r. r .iteration ≤ m) (done j m)
+  unfolding recordsAfter iterate
+  done-all zero h = tt
+  done-all (suc m) h =
+      all-append (λ r. r .iteration ≤ suc m) (done j m) (afterNets j (start j m) (nets j) .records)
+      (all-map (λ r. r .iteration ≤ m) (λ r. r .iteration ≤ suc m) (λ r l. omega (arith, l)) (done j m) (done-all m (omega arith)))
+      (all-map (λ r. r .iteration ≡ m + 1) (λ r. r .iteration ≤ suc m) (λ r e. omega (arith, e))
+      (afterNets j (start j m) (nets j) .records) (here-all m (nets j) h (le-refl (nets j))))
+
+  -- whole iterations hold nothing of a later one
+  done-elsewhere : (m k u : ℕ) → m ≤ limitMost → m < u → All (Elsewhere k u) (done j m)
+  done-elsewhere m k u h l =
+      all-map (λ r. r .iteration ≤ m) (Elsewhere k u) (λ r b e f. omega (arith, b, f)) (done j m) (done-all m h)
+
+  -- every net has records in the last of whole iterations
+  done-latest : (m k : ℕ) → m ≤ limitMost → k < nets j → latest k (done j m) ≡ m
+  unfolding recordsAfter iterate latest
+  done-latest zero k h l = refl
+  done-latest (suc m) k h l =
+      let before = latest-le k m (done j m) (done-all m (omega arith)) in
+      let here = nets-latest j (start j m) (go m h) (nets j) k (le-refl (nets j)) l in
+      let t = state-iteration j m in
+      latest-append k (done j m) (afterNets j (start j m) (nets j) .records) ∙ omega arith
+
+  done-nodes : (m k : ℕ) → m < limitMost → k < nets j → nodesIn k (m + 1) (done j (suc m)) ≡ pathNodes (recordsOf j (start j m) k)
+  unfolding recordsAfter iterate
+  done-nodes m k h l =
+      nodes-append k (m + 1) (done j m) (afterNets j (start j m) (nets j) .records)
+      ∙ rw (nodes-none k (m + 1) (done j m) (done-elsewhere m k (m + 1) (omega arith) (omega arith)), ← state-iteration j m)
+      (nets-nodes j (start j m) (go m h) (nets j) k (le-refl (nets j)) l)
+
+  done-ends : (m k : ℕ) → m < limitMost → k < nets j → endsIn k (m + 1) (done j (suc m)) ≡ branchEnds (recordsOf j (start j m) k)
+  unfolding recordsAfter iterate
+  done-ends m k h l =
+      ends-append k (m + 1) (done j m) (afterNets j (start j m) (nets j) .records)
+      ∙ rw (ends-none k (m + 1) (done j m) (done-elsewhere m k (m + 1) (omega arith) (omega arith)), ← state-iteration j m)
+      (nets-ends j (start j m) (go m h) (nets j) k (le-refl (nets j)) l)
+
+  -- the trees at an iteration's start are those of the last one's records
+  done-tree : (m k v : ℕ) → m ≤ limitMost → k < nets j → has v (nodesIn k m (done j m)) ≡ has v (treeAt (start j m .trees) k)
+  unfolding recordsAfter stateAfter firstState moveOn iterate nodesIn
+  done-tree zero k v h l = sym (ap (has v) (getD-replicate (nets j) k [] [] l))
+  done-tree (suc m) k v h l =
+      ap (has v) (rw add-one at (done-nodes m k h l))
+      ∙ sym (tree-nodes j (start j m) (go m h) (starts-long j m) (nets j) k v (le-refl (nets j)) l)
+
+  done-read : (m k v : ℕ) → m ≤ limitMost → k < nets j → has v (treeRead k (done j m)) ≡ has v (treeAt (start j m .trees) k)
+  unfolding treeRead
+  done-read m k v h l = rw (done-latest m k h l) (done-tree m k v h l)
+
+  done-users : (m v : ℕ) → m ≤ limitMost → usersRead j (done j m) v ≡ usersOf j (start j m .trees) v
+  unfolding usersRead usersOf
+  done-users m v h =
+      count-same (λ k. has v (treeRead k (done j m))) (λ k. has v (treeAt (start j m .trees) k)) (nets j)
+      (λ k l. done-read m k v h l)
+
+  -- the records of earlier iterations are whole ones
+  done-upTo : (t m : ℕ) → t ≤ m → m ≤ limitMost → upToIteration t (done j m) ≡ done j t
+  unfolding recordsAfter iterate upToIteration
+  done-upTo t zero l h = let e : t ≡ 0 = omega arith in rw e
+  done-upTo t (suc m) l h =
+      ⊎-elim
+      (λ (e : t ≡ suc m). rw e (upTo-all (suc m) (done j (suc m)) (done-all (suc m) h)))
+      (λ (g : t < suc m).
+      upTo-append t (done j m) (afterNets j (start j m) (nets j) .records)
+      ∙ rw (
+        done-upTo t m (le-of-suc-le-suc g) (omega arith),
+        upTo-none t (afterNets j (start j m) (nets j) .records)
+            (all-map (λ r. r .iteration ≡ m + 1) (λ r. t < r .iteration) (λ r e. omega (arith, e))
+            (afterNets j (start j m) (nets j) .records) (here-all m (nets j) h (le-refl (nets j)))),
+      )
+      (append-nil (done j t)))
+      (eq-or-lt-of-le l)
+
+  -- a log whose whole iterations are the machine's gives its histories
+  module _ (rs : List Record) (m : ℕ) (hm : m < limitMost) (whole : (t : ℕ) → t ≤ m → upToIteration t rs ≡ done j t) (v : ℕ) (hv : v < nodes j) where
+    histories : (a : ℕ) → a ≤ m → historyRead j rs a v ≡ getD (start j a .histories) v 0
+    unfolding historyRead stateAfter firstState
+    histories zero h = sym (getD-replicate (nodes j) v 1 0 hv)
+    histories (suc a) h =
+        rw (histories a (omega arith), whole (suc a) h, done-users (suc a) v (omega arith)) (sym (start-history j a v hv))
+
+  -- before the rest of net i's records, of which e is the beginning
+  module _ (m : ℕ) (hm : m < limitMost) (i : ℕ) (hi : i < nets j) (e : List Record) (own : All (Of i (m + 1)) e) where
+    before-nodes : (k t : ℕ) → nodesIn k t (recordsBefore j m i e) ≡ nodesIn k t (done j m) ++ (nodesIn k t (afterNets j (start j m) i .records) ++ nodesIn k t e)
+    before-nodes k t =
+        nodes-append k t (done j m) (afterNets j (start j m) i .records ++ e)
+        ∙ ap (λ (l : List ℕ). nodesIn k t (done j m) ++ l) (nodes-append k t (afterNets j (start j m) i .records) e)
+
+    before-latest : (k : ℕ) → latest k (recordsBefore j m i e) ≡ max (latest k (done j m)) (max (latest k (afterNets j (start j m) i .records)) (latest k e))
+    before-latest k =
+        latest-append k (done j m) (afterNets j (start j m) i .records ++ e)
+        ∙ ap (λ (n : ℕ). max (latest k (done j m)) n) (latest-append k (afterNets j (start j m) i .records) e)
+
+    before-own : nodesIn i (m + 1) (recordsBefore j m i e) ≡ pathNodes e
+    before-own =
+        before-nodes i (m + 1)
+        ∙ rw (
+          nodes-none i (m + 1) (done j m) (done-elsewhere m i (m + 1) (omega arith) (omega arith)),
+          nets-nodes-none j (start j m) (go m hm) i i (m + 1) (omega arith) (le-refl i),
+        )
+        (nodes-of i (m + 1) e own)
+
+    -- e is of net i alone
+    module _ (k : ℕ) (ne : k ≡ i → ⊥) where
+      other-nodes : (t : ℕ) → nodesIn k t e ≡ []
+      other-nodes t =
+          nodes-none k t e (all-map (Of i (m + 1)) (Elsewhere k t) (λ r o p q. ne (sym p ∙ o .net-is)) e own)
+
+      other-latest : latest k e ≡ 0
+      other-latest = latest-none k e (all-map (Of i (m + 1)) (λ r. r .net ≡ k → ⊥) (λ r o p. ne (sym p ∙ o .net-is)) e own)
+
+    -- a lower net has its tree of this iteration
+    lower-latest : (k : ℕ) → k < i → latest k (recordsBefore j m i e) ≡ m + 1
+    lower-latest k l =
+        let before = latest-le k m (done j m) (done-all m (omega arith)) in
+        let here = nets-latest j (start j m) (go m hm) i k (omega arith) l in
+        let t = state-iteration j m in
+        let rest = other-latest k (λ q. omega arith) in
+        before-latest k ∙ omega arith
+
+    lower-nodes : (k : ℕ) → k < i → nodesIn k (m + 1) (recordsBefore j m i e) ≡ pathNodes (recordsOf j (start j m) k)
+    lower-nodes k l =
+        before-nodes k (m + 1)
+        ∙ rw (
+          nodes-none k (m + 1) (done j m) (done-elsewhere m k (m + 1) (omega arith) (omega arith)),
+          other-nodes k (λ q. omega arith) (m + 1),
+          append-nil (nodesIn k (m + 1) (afterNets j (start j m) i .records)),
+          ← state-iteration j m,
+        )
+        (nets-nodes j (start j m) (go m hm) i k (omega arith) l)
+
+    lower-read : (k v : ℕ) → k < i → has v (treeRead k (recordsBefore j m i e)) ≡ has v (treeAt (afterNets j (start j m) i .state .trees) k)
+    unfolding treeRead
+    lower-read k v l =
+        rw (lower-latest k l, lower-nodes k l)
+        (sym (tree-nodes j (start j m) (go m hm) (starts-long j m) i k v (omega arith) l))
+
+    -- a higher net has its tree of the iteration before
+    higher-latest : (k : ℕ) → i < k → k < nets j → latest k (recordsBefore j m i e) ≡ m
+    higher-latest k l h =
+        let before = done-latest m k (omega arith) h in
+        let here = nets-latest-none j (start j m) (go m hm) i k (omega arith) (omega arith) in
+        let rest = other-latest k (λ q. omega arith) in
+        before-latest k ∙ omega arith
+
+    higher-nodes : (k : ℕ) → i < k → nodesIn k m (recordsBefore j m i e) ≡ nodesIn k m (done j m)
+    higher-nodes k l =
+        before-nodes k m
+        ∙ rw
+        (nets-nodes-none j (start j m) (go m hm) i k m (omega arith) (omega arith), other-nodes k (λ q. omega arith) m)
+        (append-nil (nodesIn k m (done j m)))
+
+    higher-read : (k v : ℕ) → i < k → k < nets j → has v (treeRead k (recordsBefore j m i e)) ≡ has v (treeAt (afterNets j (start j m) i .state .trees) k)
+    unfolding treeRead
+    higher-read k v l h =
+        rw (higher-latest k l h, higher-nodes k l, trees-old j (start j m) i k (omega arith))
+        (done-tree m k v (omega arith) h)
+
+    other-read : (v k : ℕ) → k < nets j → both (not (eqb k i)) (has v (treeRead k (recordsBefore j m i e))) ≡ both (not (eqb k i)) (has v (treeAt (afterNets j (start j m) i .state .trees) k))
+    other-read v k h =
+        ⊎-elim
+        (λ (q : eqb k i ≡ true). rw q)
+        (λ (q : eqb k i ≡ false).
+        rw q
+        (⊎-elim
+        (λ (l : k ≤ i).
+        ⊎-elim
+        (λ (p : k ≡ i). absurd (eqb-false k i q p))
+        (λ (g : k < i). lower-read k v g)
+        (eq-or-lt-of-le l))
+        (λ (g : i < k). higher-read k v g h)
+        (le-or-lt k i)))
+        (either-way (eqb k i))
+
+    before-others : (v : ℕ) → othersRead j i (recordsBefore j m i e) v ≡ othersOf j (afterNets j (start j m) i .state .trees) i v
+    unfolding othersRead othersOf
+    before-others v =
+        count-same (λ k. both (not (eqb k i)) (has v (treeRead k (recordsBefore j m i e))))
+        (λ k. both (not (eqb k i)) (has v (treeAt (afterNets j (start j m) i .state .trees) k)))
+        (nets j)
+        (other-read v)
+
+    before-upTo : (t : ℕ) → t ≤ m → upToIteration t (recordsBefore j m i e) ≡ done j t
+    before-upTo t l =
+        upTo-append t (done j m) (afterNets j (start j m) i .records ++ e)
+        ∙ rw (
+          done-upTo t m l (omega arith),
+          upTo-none t (afterNets j (start j m) i .records ++ e)
+              (all-append (λ r. t < r .iteration) (afterNets j (start j m) i .records) e
+              (all-map (λ r. r .iteration ≡ m + 1) (λ r. t < r .iteration) (λ r q. omega (arith, q)) (afterNets j (start j m) i .records)
+              (here-all m i hm (omega arith)))
+              (all-map (Of i (m + 1)) (λ r. t < r .iteration) (λ r o. omega (arith, o .iteration-is)) e own)),
+        )
+        (append-nil (done j t))
+
+-- ---- what is read is the machine's state
+
+module _ (j : Job) (sound : SoundJob j) (all : (i x : ℕ) → i < nets j → has x (netSinks j i) ≡ true → hasPath j i x ≡ true) where
+  goes : (m : ℕ) → m < limitMost → Goes j (start j m)
+  goes m h =
+      record {
+        own = λ k l.
+            all-splits (Of k (start j m .iteration)) (recordsOf j (start j m) k)
+            (λ earlier later r e.
+            let turn = net-turn j sound (afterNets j (start j m) k .state) (state-ready j sound m k h) k l earlier later r e in
+            record { net-is = turn .net-is; iteration-is = turn .iteration-is ∙ nets-iteration j (start j m) k });
+        source-on = λ k l.
+            net-source j sound (afterNets j (start j m) k .state) (state-ready j sound m k h) k l (λ x p. all k x l p);
+      }
+
+  module _ (m : ℕ) (hm : m < limitMost) (i : ℕ) (hi : i < nets j) (e rest : List Record)
+      (is : netRecords j (afterNets j (stateAfter j (firstState j) m) i .state) i ≡ e ++ rest) where
+    own-all : All (Of i (m + 1)) e
+    own-all =
+        all-left (Of i (m + 1)) e rest (rw (is, state-iteration j m) at (goes m hm .own i hi))
+
+    pub others-read : (v : ℕ) → othersRead j i (recordsBefore j m i e) v ≡ othersOf j (afterNets j (stateAfter j (firstState j) m) i .state .trees) i v
+    others-read v = before-others j goes m hm i hi e own-all v
+
+    pub own-read : nodesIn i (m + 1) (recordsBefore j m i e) ≡ pathNodes e
+    own-read = before-own j goes m hm i hi e own-all
+
+    pub history-read : (v : ℕ) → v < nodes j → historyRead j (recordsBefore j m i e) m v ≡ getD (stateAfter j (firstState j) m .histories) v 0
+    history-read v h = histories j goes (recordsBefore j m i e) m hm (before-upTo j goes m hm i hi e own-all) v h m (le-refl m)
+
+  -- after whole iterations
+  module _ (m : ℕ) (hm : m < limitMost) (k : ℕ) (hk : k < nets j) where
+    pub latest-read : latest k (recordsAfter j (firstState j) (suc m)) ≡ m + 1
+    latest-read = rw add-one (done-latest j goes (suc m) k hm hk)
+
+    pub tree-read : (v : ℕ) → has v (treeRead k (recordsAfter j (firstState j) (suc m))) ≡ has v (treeAt (iterationAfter j (firstState j) m .state .trees) k)
+    unfolding stateAfter moveOn
+    tree-read v = done-read j goes (suc m) k v hm hk
+
+    pub ends-read : endsIn k (m + 1) (recordsAfter j (firstState j) (suc m)) ≡ branchEnds (netRecords j (afterNets j (stateAfter j (firstState j) m) k .state) k)
+    ends-read = done-ends j goes m k hm hk

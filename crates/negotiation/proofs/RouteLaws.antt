@@ -1,0 +1,138 @@
+-- The router's answer, refusal by refusal, and demand 3 of it.
+-- Assumes nothing.
+use mathlib.Core.List.{List, [], _∷_, _++_}
+use mathlib.Core.Logic.{⊎-elim}
+use mathlib.Core.Path.{_≡_, sym, _∙_, ap, subst}
+use Prim.Native.Nat.{ℕ, _*_, _≤_, _<_}
+use native.Mathlib.Nat.{sub-zero}
+use native.Mathlib.Omega.{arith}
+use lib.ListN.{length, drop, replicate}
+use borrow.Author.Tests.{le-leb, lt-leb, lt-ltb, le-ltb}
+use Rattle.price.proofs.ListLaws.{le-or-lt}
+use Rattle.search.specs.Replies.{workNeeded, cleared}
+use Rattle.search.proofs.JoinLaws.{drop-same}
+use Rattle.negotiation.specs.Job.{Job, nodes, nets}
+use Rattle.negotiation.specs.Tables.{SoundJob, faultyJob}
+use Rattle.negotiation.specs.Outcome.{RouteReply, unreachableNet, unreachablePlace, negotiated, refusedAnswer, refusedReply, routed, routeReply}
+use Rattle.negotiation.specs.Demand.{Demand3}
+use Rattle.negotiation.specs.Steps.{SameFrom, missing, reachNumbers}
+use Rattle.negotiation.specs.declared.Routed.{Routed}
+use Rattle.negotiation.specs.declared.Outcome.the-variants.{BadTable, ShortWork, Unreachable}
+use Rattle.negotiation.specs.declared.reach.Reach.{Reach}
+use Rattle.negotiation.specs.declared.reach.Reach.the-variants.{All, Missing}
+use Rattle.negotiation.proofs.JobLaws.{sound-job}
+use Rattle.negotiation.proofs.DemandHolds.{demand-3}
+
+module _ (j : Job) (work log : List ℕ) where
+  pub route-table : 1 ≤ faultyJob j → routeReply j work log ≡ refusedReply (5 ∷ faultyJob j ∷ []) work log
+  unfolding routeReply
+  route-table h = rw (le-leb 1 (faultyJob j) h)
+
+  module _ (sound : faultyJob j < 1) where
+    pub route-work : length work < workNeeded (nodes j) → routeReply j work log ≡ refusedReply (6 ∷ workNeeded (nodes j) ∷ []) work log
+    unfolding routeReply
+    route-work h = rw (lt-leb 1 (faultyJob j) sound, lt-ltb (length work) (workNeeded (nodes j)) h)
+
+    module _ (enough : workNeeded (nodes j) ≤ length work) where
+      pub route-unreachable :
+          unreachableNet j < nets j
+          → routeReply j work log ≡ refusedReply (7 ∷ unreachableNet j ∷ unreachablePlace j ∷ []) (cleared (nodes j) [] work) log
+      unfolding routeReply
+      route-unreachable h =
+          rw
+          (lt-leb 1 (faultyJob j) sound, le-ltb (length work) (workNeeded (nodes j)) enough, lt-ltb (unreachableNet j) (nets j) h)
+
+      pub route-run : nets j ≤ unreachableNet j → routeReply j work log ≡ negotiated j work log
+      unfolding routeReply
+      route-run h =
+          rw
+          (lt-leb 1 (faultyJob j) sound, le-ltb (length work) (workNeeded (nodes j)) enough, le-ltb (unreachableNet j) (nets j) h)
+
+  -- demand 3 of an answer that is the reply
+  pub route-demand : (r : RouteReply) → r ≡ routeReply j work log → SoundJob j → workNeeded (nodes j) ≤ length work → Demand3 j r
+  route-demand r e sound enough = subst (Demand3 j) (sym e) (demand-3 j sound work log enough)
+
+  -- what the contract says of an answer
+  abbrev pub Answered : RouteReply → Type 0
+  Answered r = (r ≡ routeReply j work log) × (SoundJob j → workNeeded (nodes j) ≤ length work → Demand3 j r)
+
+  answered : (r : RouteReply) → r ≡ routeReply j work log → Answered r
+  answered r e = (e, λ sound enough. route-demand r e sound enough)
+
+  pub table-refused : (table : ℕ) (r : Routed) → table ≡ faultyJob j → 1 ≤ table → r ≡ refusedAnswer (BadTable table) → Answered (routed r work log)
+  table-refused table r e h q =
+      answered (routed r work log)
+      (ap (λ (x : Routed). routed x work log) q
+      ∙ subst (λ (k : ℕ). refusedReply (5 ∷ k ∷ []) work log ≡ routeReply j work log) (sym e)
+      (sym (route-table (subst (λ (k : ℕ). 1 ≤ k) e h))))
+
+  module _ (table : ℕ) (is : table ≡ faultyJob j) (none : table < 1) where
+    fine : faultyJob j < 1
+    fine = subst (λ (k : ℕ). k < 1) is none
+
+    pub tables-sound : SoundJob j
+    tables-sound = sound-job j (let f = fine in omega arith)
+
+    pub work-refused : (r : Routed) → length work < workNeeded (nodes j) → r ≡ refusedAnswer (ShortWork (workNeeded (nodes j))) → Answered (routed r work log)
+    work-refused r h q =
+        answered (routed r work log) (ap (λ (x : Routed). routed x work log) q ∙ sym (route-work fine h))
+
+    module _ (enough : workNeeded (nodes j) ≤ length work) (w : List ℕ) (kept : SameFrom (workNeeded (nodes j)) work w) (found : Reach) (tested : reachNumbers found ≡ missing j) where
+      past : drop (workNeeded (nodes j)) w ≡ drop (workNeeded (nodes j)) work
+      past = drop-same (workNeeded (nodes j)) work w (kept .long) (kept .high)
+
+      -- what is cleared is the same
+      clean : replicate (workNeeded (nodes j)) 0 ++ drop (workNeeded (nodes j)) w ≡ cleared (nodes j) [] work
+      unfolding cleared
+      clean = rw past (ap (λ (k : ℕ). replicate k 0 ++ drop (workNeeded (nodes j)) work) (sym (sub-zero (workNeeded (nodes j)))))
+
+      -- some sink is missing, or none
+      is-missing : (net place : ℕ) → found ≡ Missing net place → (unreachableNet j < nets j) × (net ≡ unreachableNet j) × (place ≡ unreachablePlace j)
+      is-missing net place f =
+          let e : (net ∷ place ∷ []) ≡ missing j = subst (λ (x : Reach). reachNumbers x ≡ missing j) f tested in
+          ⊎-elim
+          (λ (l : nets j ≤ unreachableNet j).
+          let q : missing j ≡ [] = rw (le-ltb (unreachableNet j) (nets j) l) in
+          let z : _≡_ {A = ℕ} 0 1 = cc in
+          absurd (omega arith))
+          (λ (l : unreachableNet j < nets j).
+          let q : missing j ≡ unreachableNet j ∷ unreachablePlace j ∷ [] = rw (lt-ltb (unreachableNet j) (nets j) l) in
+          (l, (cc), (cc)))
+          (le-or-lt (nets j) (unreachableNet j))
+
+      is-none : found ≡ All → nets j ≤ unreachableNet j
+      is-none f =
+          let e : [] ≡ missing j = subst (λ (x : Reach). reachNumbers x ≡ missing j) f tested in
+          ⊎-elim
+          (λ (l : nets j ≤ unreachableNet j). l)
+          (λ (l : unreachableNet j < nets j).
+          let q : missing j ≡ unreachableNet j ∷ unreachablePlace j ∷ [] = rw (lt-ltb (unreachableNet j) (nets j) l) in
+          let z : _≡_ {A = ℕ} 0 1 = cc in
+          absurd (omega arith))
+          (le-or-lt (nets j) (unreachableNet j))
+
+      cleared-same : cleared (nodes j) [] w ≡ cleared (nodes j) [] work
+      unfolding cleared
+      cleared-same = rw past
+
+      run-same : negotiated j w log ≡ negotiated j work log
+      unfolding negotiated
+      run-same = rw cleared-same
+
+      pub unreachable-refused :
+          (net place : ℕ) (r : Routed) (w′ : List ℕ) → found ≡ Missing net place → r ≡ refusedAnswer (Unreachable net place)
+          → w′ ≡ replicate (workNeeded (nodes j)) 0 ++ drop (workNeeded (nodes j)) w
+          → Answered (routed r w′ log)
+      unreachable-refused net place r w′ f q e =
+          let m = is-missing net place f in
+          answered (routed r w′ log)
+          (ap (λ (x : Routed). routed x w′ log) q
+          ∙ subst (λ (x : List ℕ). refusedReply (7 ∷ net ∷ place ∷ []) x log ≡ routeReply j work log) (sym (e ∙ clean))
+          (subst (λ (a : ℕ). refusedReply (7 ∷ a ∷ place ∷ []) (cleared (nodes j) [] work) log ≡ routeReply j work log) (sym (m .1))
+          (subst (λ (p : ℕ). refusedReply (7 ∷ unreachableNet j ∷ p ∷ []) (cleared (nodes j) [] work) log ≡ routeReply j work log) (sym (m .2))
+          (sym (route-unreachable fine enough (m .0))))))
+
+      pub run-answered :
+          (r : Routed) (w′ log′ : List ℕ) → found ≡ All → routed r w′ log′ ≡ negotiated j w log → Answered (routed r w′ log′)
+      run-answered r w′ log′ f e =
+          answered (routed r w′ log′) (e ∙ run-same ∙ sym (route-run fine enough (is-none f)))

@@ -1,0 +1,57 @@
+-- The starred jobs given as tables: what 01 states is what the definitions give.
+-- Assumes nothing.
+use mathlib.Core.Path.{_≡_, refl}
+use Rattle.price.specs.Lists.{every, neighbours, has, distinct, upTo, firstBelow, countBelow, least, placeOf, total}
+use Rattle.price.specs.Prices.{baseCost, overuse, priceOf, nextFactor, nextHistory}
+use Rattle.price.specs.Samples.{Hold}
+use Rattle.search.specs.Block.{row, hasEdge}
+use Rattle.search.specs.Tables.{kindsSound, capacitiesSound, firstEdgesSound, rowSound, edgeTargetsSound, faultyTable}
+use Rattle.search.specs.Paths.{pathCost}
+use Rattle.search.specs.Distance.{inTree, treeDistances, nearer, round, rounds, distances}
+use Rattle.search.specs.Turn.{priceAt, openDistance, before, back, pathTo, openDistances, joinAt, turn}
+use Rattle.search.specs.Replies.{cleared}
+use Rattle.negotiation.specs.Job.{netSinks}
+use Rattle.negotiation.specs.Tables.{sourcesSound, firstSinksSound, netSound, sinksSound, limitSound, faultyNets, faultyJob}
+use Rattle.negotiation.specs.Records.{words, encode, fitting, pathNodes}
+use Rattle.negotiation.specs.Machine.{othersOf, usersOf, marksOf, congestionFor, turnOf, turnsOf, netRecords, afterNets, iterate, overfull, overCount, moveOn, firstState, stateAfter, recordsAfter, settlesAt}
+use Rattle.negotiation.specs.Outcome.{hasPath, unreachableNet, unreachablePlace, iterationsMade, allRecords, loggedRecords, cutIteration, logWith, endNumbers, negotiated, routeReply}
+use Rattle.negotiation.specs.Samples.{answer, jobB, settled, limited, filled, nearestFirst, cutOff, lowestFirst, samples}
+
+-- all that a closed job computes with
+computing : Unit {0}
+unfolding routeReply negotiated endNumbers logWith cutIteration loggedRecords allRecords iterationsMade unreachablePlace unreachableNet hasPath
+    settlesAt recordsAfter stateAfter firstState moveOn overCount overfull iterate afterNets netRecords turnsOf turnOf congestionFor marksOf usersOf othersOf
+    pathNodes fitting encode words faultyJob faultyNets limitSound sinksSound netSound firstSinksSound sourcesSound netSinks cleared
+    turn joinAt openDistances pathTo back before openDistance priceAt distances rounds round nearer treeDistances inTree pathCost
+    faultyTable edgeTargetsSound rowSound firstEdgesSound capacitiesSound kindsSound hasEdge row nextHistory nextFactor priceOf overuse baseCost
+    total placeOf least countBelow firstBelow upTo distinct has neighbours every
+computing = tt
+
+settled-holds : answer (jobB 2) 40 ≡ settled .stated
+unfolding computing
+settled-holds = refl
+
+limited-holds : limited .defined ≡ limited .stated
+unfolding computing
+limited-holds = refl
+
+filled-holds : answer (jobB 2) 35 ≡ filled .stated
+unfolding computing
+filled-holds = refl
+
+nearest-first-holds : nearestFirst .defined ≡ nearestFirst .stated
+unfolding computing
+nearest-first-holds = refl
+
+cut-off-holds : cutOff .defined ≡ cutOff .stated
+unfolding computing
+cut-off-holds = refl
+
+lowest-first-holds : lowestFirst .defined ≡ lowestFirst .stated
+unfolding computing
+lowest-first-holds = refl
+
+pub samples-hold : Hold samples
+unfolding samples
+samples-hold =
+    (settled-holds, (limited-holds, (filled-holds, (nearest-first-holds, (cut-off-holds, (lowest-first-holds, tt))))))

@@ -1,0 +1,222 @@
+-- Lists, log, counts and trees across one turn of a net, and across the count of its new tree.
+-- Assumes nothing.
+use mathlib.Core.Bool.{Bool, true, false, not}
+use mathlib.Core.List.{List, [], _∷_, _++_, append-assoc, append-nil}
+use mathlib.Core.Logic.{⊎-elim}
+use mathlib.Core.Path.{_≡_, refl, sym, _∙_}
+use Prim.Native.Nat.{ℕ, zero, suc, _+_, _-_, _≤_, _<_}
+use native.Mathlib.Nat.{not-suc-le-zero, le-of-suc-le-suc, eq-or-lt-of-le}
+use native.Mathlib.Numerals.{add-one}
+use native.Mathlib.Omega.{arith}
+use lib.Dec.{eqb}
+use lib.ListN.{length, getD, take, drop, set, length-append, length-drop, List·getD-append}
+use lib.Seq.{slice, length-take-le, getD-take, ext-getD, take-append-seam, drop-append-seam, drop-append-add, drop-drop, getD-append-add, getD-set-same, getD-set-other}
+use borrow.Author.Tests.{eq-eqb, ne-eqb, eqb-false, lt-ltb, le-leb}
+use Rattle.price.specs.Bounds.{historyMost, othersMost}
+use Rattle.price.specs.Test.{choose, both}
+use Rattle.price.specs.Lists.{has, countBelow}
+use Rattle.price.proofs.ListLaws.{either-way, le-or-lt, both-true, has-append-left, has-append-right, getD-upTo}
+use Rattle.search.specs.Turn.{Congestion, joins, stuck}
+use Rattle.search.specs.Replies.{nodeSound}
+use Rattle.negotiation.specs.Job.{Job, nodes, nets, netSinks}
+use Rattle.negotiation.specs.Records.{Record, recordOf, words, encode, pathNodes}
+use Rattle.negotiation.specs.Machine.{State, treeAt, usersOf, othersOf, marksOf, turnOf, turnsOf, netRecords, treeFrom, afterNets}
+use Rattle.negotiation.specs.Outcome.{logWith}
+use Rattle.negotiation.specs.Steps.{AllBelow, tariffAfter}
+use Rattle.negotiation.specs.declared.turns.Tariff.{Tariff}
+use Rattle.negotiation.proofs.RecordLaws.{words-length, encode-append}
+use Rattle.negotiation.proofs.MemberLaws.{lacks-append}
+use Rattle.negotiation.proofs.FilterLaws.{All, count-same}
+use Rattle.negotiation.proofs.KeepLaws.{Tallied}
+
+-- ---- the first n entries
+
+pub front-is : (n : ℕ) (xs ys : List ℕ) → n ≤ length xs → length ys ≡ n → ((v : ℕ) → v < n → getD xs v 0 ≡ getD ys v 0) → take n xs ≡ ys
+front-is n xs ys long short same =
+    let l : length (take n xs) ≡ n = length-take-le n xs long in
+    ext-getD 0 (take n xs) ys (l ∙ sym short)
+    (λ v h. let b : v < n = rw l at h in getD-take n xs v 0 b ∙ same v b)
+
+pub front-at : (n : ℕ) (xs rest : List ℕ) → length xs ≡ n → (v : ℕ) → v < n → getD (xs ++ rest) v 0 ≡ getD xs v 0
+front-at n xs rest long v h = List·getD-append xs rest 0 v (rw long h)
+
+pub front-long : (n : ℕ) (xs rest : List ℕ) → length xs ≡ n → n ≤ length (xs ++ rest)
+front-long n xs rest long = omega (arith, length-append xs rest)
+
+-- ---- what the search asks of a node
+
+pub node-sound :
+    (c : Congestion) (marks : List ℕ) (v : ℕ) → v < length (c .histories) → 1 ≤ getD (c .histories) v 0 → getD (c .histories) v 0 ≤ historyMost
+    → v < length (c .others) → getD (c .others) v 0 ≤ othersMost → v < length marks → getD marks v 0 ≤ 1 → nodeSound c marks v ≡ true
+unfolding nodeSound
+node-sound c marks v a least most b few d one =
+    both-true (both-true (lt-ltb _ _ a) (both-true (le-leb _ _ least) (le-leb _ _ most)))
+    (both-true (both-true (lt-ltb _ _ b) (le-leb _ _ few)) (both-true (lt-ltb _ _ d) (le-leb _ _ one)))
+
+-- ---- marks of a tree
+
+pub mark-at : (j : Job) (tree : List ℕ) (v : ℕ) → v < nodes j → getD (marksOf j tree) v 0 ≡ choose (has v tree) 1 0
+unfolding marksOf
+mark-at j tree v h = getD-upTo {A = ℕ} (λ u. choose (has u tree) 1 0) (nodes j) v 0 h
+
+pub one-most : (t : Bool) → choose t 1 0 ≤ 1
+one-most true = omega arith
+one-most false = omega arith
+
+-- a path that joins the tree is marked beside it
+pub mark-more : (v : ℕ) (tree path : List ℕ) → _≡_ {A = ℕ} (choose (has v path) 1 (choose (has v tree) 1 0)) (choose (has v (tree ++ path)) 1 0)
+mark-more v tree path =
+    ⊎-elim
+    (λ (p : has v path ≡ true). rw (p, has-append-right v tree path p))
+    (λ (p : has v path ≡ false).
+    ⊎-elim
+    (λ (q : has v tree ≡ true). rw (p, q, has-append-left v tree path q))
+    (λ (q : has v tree ≡ false). rw (p, q, lacks-append v tree path q p))
+    (either-way (has v tree)))
+    (either-way (has v path))
+
+-- ---- the machine's turns
+
+pub turns-stuck : (j : Job) (t : ℕ) (c : Congestion) (i k : ℕ) (tree : List ℕ) → turnOf j c i tree ≡ stuck → turnsOf j t c i k tree ≡ []
+unfolding turnsOf
+turns-stuck j t c i zero tree e = refl
+turns-stuck j t c i (suc k) tree e = rw e
+
+pub turns-more :
+    (j : Job) (t : ℕ) (c : Congestion) (i k : ℕ) (tree : List ℕ) (place cost : ℕ) (path : List ℕ) → turnOf j c i tree ≡ joins place cost path
+    → turnsOf j t c i (suc k) tree ≡ recordOf t i (getD (netSinks j i) place 0) cost path ∷ turnsOf j t c i k (tree ++ path)
+unfolding turnsOf
+turns-more j t c i k tree place cost path e = rw e
+
+pub turns-none : (j : Job) (t : ℕ) (c : Congestion) (i : ℕ) (tree : List ℕ) → turnsOf j t c i 0 tree ≡ []
+unfolding turnsOf
+turns-none j t c i tree = refl
+
+-- ---- the log
+
+-- the log keeps its length where the records fit it
+pub log-length : (rs : List Record) (log : List ℕ) → length (encode rs) ≤ length log → length (logWith rs log) ≡ length log
+unfolding logWith
+log-length rs log h =
+    let all = length-append (encode rs) (drop (length (encode rs)) log) in
+    let rest = length-drop (length (encode rs)) log in
+    omega arith
+
+encode-one : (r : Record) → encode (r ∷ []) ≡ words r
+unfolding encode
+encode-one r = append-nil (words r)
+
+encode-more : (rs : List Record) (r : Record) → encode (rs ++ (r ∷ [])) ≡ encode rs ++ words r
+encode-more rs r = rw (encode-append rs (r ∷ []), encode-one r)
+
+-- one record more is written behind the others
+log-more :
+    (rs : List Record) (r : Record) (log : List ℕ) (n : ℕ) → length (words r) ≡ n
+    → take (length (encode rs)) (logWith rs log) ++ (words r ++ drop (length (encode rs) + n) (logWith rs log)) ≡ logWith (rs ++ (r ∷ [])) log
+unfolding logWith
+log-more rs r log n e =
+    rw (
+      take-append-seam (encode rs) (drop (length (encode rs)) log),
+      drop-append-add (encode rs) (drop (length (encode rs)) log) n,
+      drop-drop n (length (encode rs)) log,
+      encode-more rs r,
+      length-append (encode rs) (words r),
+      e,
+    )
+    (sym (append-assoc (encode rs) (words r) (drop (length (encode rs) + n) log)))
+
+pub tallied-more :
+    (rs : List Record) (log₀ : List ℕ) (t : Tariff) (log : List ℕ) (r : Record) (log′ : List ℕ) → Tallied rs log₀ t log → t .words + (6 + length (r .path)) ≤ length log
+    → log′ ≡ take (t .words) log ++ (words r ++ drop (t .words + (6 + length (r .path))) log)
+    → Tallied (rs ++ (r ∷ [])) log₀ (tariffAfter t (6 + length (r .path))) log′
+tallied-more rs log₀ t log r log′ a room is =
+    let long : length (encode (rs ++ (r ∷ []))) ≡ length (encode rs) + (6 + length (r .path)) =
+    rw (encode-more rs r, length-append (encode rs) (words r), words-length r) in
+    let same : length log ≡ length log₀ = rw (a .log-is) (log-length rs log₀ (a .fits)) in
+    let one : length (rs ++ (r ∷ [])) ≡ length rs + 1 = length-append rs (r ∷ []) in
+    let words-are = a .words-is in
+    let turns-are = a .turns-is in
+    record {
+      turns-is = omega arith;
+      words-is = omega arith;
+      log-is = is ∙ rw (a .words-is, a .log-is) (log-more rs r log₀ (6 + length (r .path)) (words-length r));
+      fits = omega arith;
+    }
+
+-- the words after the first records are those of the others
+pub tallied-slice :
+    (rs ss : List Record) (log₀ : List ℕ) (t : Tariff) (log : List ℕ) (first : ℕ) → Tallied (rs ++ ss) log₀ t log → first ≡ length (encode rs)
+    → slice first (t .words) log ≡ encode ss
+unfolding logWith
+tallied-slice rs ss log₀ t log first a e =
+    rw (
+      a .words-is,
+      a .log-is,
+      take-append-seam (encode (rs ++ ss)) (drop (length (encode (rs ++ ss))) log₀),
+      encode-append rs ss,
+      e,
+    )
+    (drop-append-seam (encode rs) (encode ss))
+
+-- ---- nodes of paths
+
+below-append : (n : ℕ) (xs ys : List ℕ) → AllBelow n xs → AllBelow n ys → AllBelow n (xs ++ ys)
+below-append n xs ys p q k l =
+    let all = length-append xs ys in
+    ⊎-elim
+    (λ (h : length xs ≤ k).
+    let d : ℕ = k - length xs in
+    let at : k ≡ length xs + d = omega arith in
+    rw (at, getD-append-add xs ys d 0) (q d (omega arith)))
+    (λ (h : k < length xs). rw (List·getD-append xs ys 0 k h) (p k h))
+    (le-or-lt (length xs) k)
+
+pub paths-below : (n : ℕ) (rs : List Record) → All (λ r. AllBelow n (r .path)) rs → AllBelow n (pathNodes rs)
+unfolding pathNodes
+paths-below n [] h k l = absurd (not-suc-le-zero l)
+paths-below n (r ∷ rs) h k l = below-append n (r .path) (pathNodes rs) (h .0) (paths-below n rs (h .1)) k l
+
+-- ---- users
+
+-- all that pass, but for one, and that one
+count-with : (t : ℕ → Bool) (n i : ℕ) → i < n → countBelow t n ≡ countBelow (λ k. both (not (eqb k i)) (t k)) n + choose (t i) 1 0
+unfolding countBelow
+count-with t zero i h = absurd (not-suc-le-zero h)
+count-with t (suc n) i h =
+    ⊎-elim
+    (λ (e : i ≡ n).
+    let same : countBelow t n ≡ countBelow (λ k. both (not (eqb k n)) (t k)) n =
+    count-same t (λ k. both (not (eqb k n)) (t k)) n (λ k l. rw (ne-eqb k n (λ q. omega arith))) in
+    rw (e, eq-eqb n n refl) (omega arith))
+    (λ (l : i < n).
+    let rest = count-with t n i l in
+    rw (ne-eqb n i (λ q. omega arith)) (omega arith))
+    (eq-or-lt-of-le (le-of-suc-le-suc h))
+
+-- a net's new tree is counted beside the others'
+pub users-with :
+    (j : Job) (trees : List (List ℕ)) (i : ℕ) (tree : List ℕ) (v : ℕ) → i < nets j → i < length trees
+    → usersOf j (set trees i tree) v ≡ othersOf j trees i v + choose (has v tree) 1 0
+unfolding usersOf othersOf
+users-with j trees i tree v h l =
+    count-with (λ k. has v (treeAt (set trees i tree) k)) (nets j) i h
+    ∙ rw (
+      getD-set-same trees i tree [] l,
+      count-same (λ k. both (not (eqb k i)) (has v (treeAt (set trees i tree) k))) (λ k. both (not (eqb k i)) (has v (treeAt trees k))) (nets j)
+          (λ k b. ⊎-elim
+          (λ (q : eqb k i ≡ true). rw q)
+          (λ (q : eqb k i ≡ false). rw (q, getD-set-other trees i k tree [] (eqb-false k i q)))
+          (either-way (eqb k i))),
+    )
+
+-- ---- a net is routed
+
+pub routed-records : (j : Job) (s : State) (i : ℕ) → afterNets j s (i + 1) .records ≡ afterNets j s i .records ++ netRecords j (afterNets j s i .state) i
+unfolding afterNets
+routed-records j s i = rw add-one
+
+pub routed-trees :
+    (j : Job) (s : State) (i : ℕ)
+    → afterNets j s (i + 1) .state .trees ≡ set (afterNets j s i .state .trees) i (treeFrom j i (netRecords j (afterNets j s i .state) i))
+unfolding afterNets
+routed-trees j s i = rw add-one

@@ -1,0 +1,161 @@
+-- `negotiation::congestion::grow_histories` meets its contract: after the turns up to v the histories below v have grown, the others stand.
+-- Assumes nothing.
+use mathlib.Core.List.{List, _++_, append-nil}
+use mathlib.Core.Path.{_≡_, refl, sym, _∙_}
+use Prim.Native.Nat.{ℕ, suc, _+_, _-_, _^_, _≤_, _<_}
+use native.Mathlib.Numerals.{add-one}
+use native.Mathlib.Omega.{arith}
+use lib.ListN.{length, getD, set, drop, length-set}
+use lib.Seq.{drop-cons, drop-length, append-snoc, getD-at, set-at}
+use Rattle.price.specs.Lists.{upTo}
+use Rattle.price.specs.Prices.{nextHistory}
+use Rattle.price.proofs.ListLaws.{length-upTo, upTo-more}
+use Rattle.negotiation.proofs.congestion.grow_histories.Statement.{statement}
+use Rattle.negotiation.proofs.congestion.grow_histories.Tie as tie
+
+-- a list whose first v entries are replaced by f's
+module _ (f : ℕ → ℕ) (hs : List ℕ) where
+  grown-none : hs ≡ upTo f 0 ++ drop 0 hs
+  unfolding upTo
+  grown-none = refl
+
+  -- the next one still stands
+  grown-at : (v : ℕ) → v < length hs → getD (upTo f v ++ drop v hs) v 0 ≡ getD hs v 0
+  grown-at v h =
+      rw (drop-cons hs v 0 h) (getD-at (upTo f v) (getD hs v 0) (drop (suc v) hs) 0 v (length-upTo f v))
+
+  grown-more : (v : ℕ) → v < length hs → set (upTo f v ++ drop v hs) v (f v) ≡ upTo f (v + 1) ++ drop (v + 1) hs
+  grown-more v h =
+      rw (upTo-more f v, drop-cons hs v 0 h, add-one)
+      (set-at (upTo f v) (getD hs v 0) (drop (suc v) hs) (f v) v (length-upTo f v) ∙ sym (append-snoc (upTo f v) (f v) (drop (suc v) hs)))
+
+  grown-all : (v : ℕ) → length hs ≤ v → v ≤ length hs → upTo f v ++ drop v hs ≡ upTo f (length hs)
+  grown-all v l h =
+      let e : v ≡ length hs = omega arith in
+      rw (e, drop-length) (append-nil (upTo f (length hs)))
+
+-- what a node's history becomes
+abbrev next : List ℕ → List ℕ → List ℕ → ℕ → ℕ
+next cs us hs v = nextHistory (getD hs v 0) (getD us v 0) (getD cs v 0)
+
+-- the history that is read is the first one
+grown-read : (cs us hs now : List ℕ) (v r : ℕ) → v < length hs → now ≡ upTo (next cs us hs) v ++ drop v hs → r ≡ nextHistory (getD now v 0) (getD us v 0) (getD cs v 0) → r ≡ next cs us hs v
+grown-read cs us hs now v r h e n = n ∙ rw (e, grown-at (next cs us hs) hs v h)
+
+-- a history below 2 ^ 31 does not outgrow 32 bits
+history-fits : (h u c : ℕ) → h < 2 ^ 31 → u < 2 ^ 16 → nextHistory h u c < 2 ^ 32
+unfolding nextHistory
+history-fits h u c hh hu = omega arith
+
+abbrev Inv-loop : tie.InvT-loop
+Inv-loop capacity users history₀ v₀ history v =
+    (v ≤ length history₀) × (length history ≡ length history₀)
+    × (history ≡ upTo (next capacity users history₀) v ++ drop v history₀)
+
+abbrev μ-loop : tie.MeasureT-loop
+μ-loop capacity users history₀ v₀ history v = length history₀ - v
+
+-- what a node's history becomes, by the lists at the entry
+abbrev becomes : tie.Start Inv-loop μ-loop → ℕ → ℕ
+becomes s = next (s .args .capacity .now) (s .args .users .now) (s .args .history .now)
+
+-- the entry, from a turn
+abbrev entry : tie.In-loop Inv-loop μ-loop → tie.Start Inv-loop μ-loop
+entry t = t .before .before .before .before .before
+
+loop-holds : tie.Need-loop-holds Inv-loop μ-loop
+loop-holds c = (omega arith, refl, grown-none (becomes (c .before .before .before)) _)
+
+mul-next-history : tie.Need-mul-next-history Inv-loop μ-loop
+mul-next-history c = omega arith
+
+slice-read-next-history : tie.Need-slice-read-next-history Inv-loop μ-loop
+slice-read-next-history c = omega arith
+
+mul-next-history-2 : tie.Need-mul-next-history-2 Inv-loop μ-loop
+mul-next-history-2 c = omega arith
+
+shared-slice-read-next-history : tie.Need-shared-slice-read-next-history Inv-loop μ-loop
+shared-slice-read-next-history c = omega arith
+
+cast-next-history : tie.Need-cast-next-history Inv-loop μ-loop
+cast-next-history c = omega (arith, c .shared-slice-known3 .given (c .before .before .before .loop .v))
+
+shared-slice-read-next-history-2 : tie.Need-shared-slice-read-next-history-2 Inv-loop μ-loop
+shared-slice-read-next-history-2 c = omega arith
+
+cast-next-history-2 : tie.Need-cast-next-history-2 Inv-loop μ-loop
+cast-next-history-2 c = omega (arith, c .shared-slice-known4 .given (c .before .before .before .before .loop .v))
+
+next-history-requires : tie.Need-next-history-requires Inv-loop μ-loop
+next-history-requires c κs = tt
+
+-- the history that is read is the first one, and what the call answers is what it becomes
+grows : (c : tie.After-next-history Inv-loop μ-loop) → c .next-history .result ≡ becomes (entry (c .before .before .before .before)) (c .before .before .before .before .before .loop .v)
+grows c =
+    let turn = c .before .before .before .before in
+    let args = entry turn .args in
+    grown-read (args .capacity .now) (args .users .now) (args .history .now) _ (turn .before .loop .v) _ (omega arith) (turn .before .loop .inv .2) (c .next-history .ensures)
+
+cast-history : tie.Need-cast-history Inv-loop μ-loop
+cast-history c =
+    let turn = c .before .before .before .before in
+    rw (grows c)
+    (record {
+      fits =
+          history-fits _ _ _ (entry turn .pre .1 (turn .before .loop .v) (omega arith))
+          (c .before .before .shared-slice-known3 .given (turn .before .loop .v) .fits);
+    })
+
+mul-history : tie.Need-mul-history Inv-loop μ-loop
+mul-history c = omega arith
+
+slice-write-history : tie.Need-slice-write-history Inv-loop μ-loop
+slice-write-history c = omega arith
+
+add-v : tie.Need-add-v Inv-loop μ-loop
+add-v c = omega arith
+
+loop-less : tie.Need-loop-less Inv-loop μ-loop
+loop-less c = omega arith
+
+loop-again : tie.Need-loop-again Inv-loop μ-loop
+loop-again c =
+    let turn = c .before .before .before .before in (
+      omega arith,
+      simp length-set (turn .before .loop .inv .1),
+      rw (turn .before .loop .inv .2, grows c) (grown-more (becomes (entry turn)) (entry turn .args .history .now) (turn .before .loop .v) (omega arith)),
+    )
+
+same-length : tie.Need-same-length Inv-loop μ-loop
+same-length c = c .before .loop .inv .1
+
+returns : tie.Need-returns Inv-loop μ-loop
+returns c =
+    let start = c .before .before .before .before .before in
+    c .before .loop .inv .2
+    ∙ grown-all (becomes start) (start .args .history .now) (c .before .loop .v) (omega arith) (omega arith)
+
+pub grow-histories-spec : {M : Type 1} → statement M
+grow-histories-spec =
+    tie.close
+    (tie.spec
+    Inv-loop
+    μ-loop
+    loop-holds
+    mul-next-history
+    slice-read-next-history
+    mul-next-history-2
+    shared-slice-read-next-history
+    cast-next-history
+    shared-slice-read-next-history-2
+    cast-next-history-2
+    next-history-requires
+    cast-history
+    mul-history
+    slice-write-history
+    add-v
+    loop-less
+    loop-again
+    same-length
+    returns)

@@ -1,0 +1,50 @@
+-- `tables::faulty_nets` meets its contract: each return by the law of the lowest faulty table, from what the three tests answered.
+-- Assumes nothing.
+use mathlib.Core.Path.{sym}
+use borrow.Author.Needs.{needs}
+use Rattle.search.proofs.TableLaws.{refused, passed}
+use Rattle.negotiation.proofs.JobLaws.{sources-few}
+use Rattle.negotiation.proofs.NetTableLaws.{faulty-5, faulty-6, faulty-7, faulty-low, faulty-high, faulty-no-net}
+use Rattle.negotiation.proofs.tables.faulty_nets.Statement.{statement}
+use Rattle.negotiation.proofs.tables.faulty_nets.Tie as tie
+
+sources-sound-requires : tie.Need-sources-sound-requires
+sources-sound-requires c κs = search needs
+
+returns : tie.Need-returns
+returns c = sym (faulty-5 _ _ _ _ _ (refused (c .before .sources-sound .ensures) (c .if1 .taken)))
+
+first-sinks-sound-requires : tie.Need-first-sinks-sound-requires
+first-sinks-sound-requires c κs = sources-few _ _ (passed (c .before .sources-sound .ensures) (c .if1 .left))
+
+returns-2 : tie.Need-returns-2
+returns-2 c = sym (faulty-6 _ _ _ _ _ (passed (c .before .before .before .sources-sound .ensures) (c .before .before .if1 .left)) (refused (c .before .first-sinks-sound .ensures) (c .if2 .taken)))
+
+sinks-sound-requires : tie.Need-sinks-sound-requires
+sinks-sound-requires c κs = (search needs, ((passed (c .before .before .before .sources-sound .ensures) (c .before .before .if1 .left)), (passed (c .before .first-sinks-sound .ensures) (c .if2 .left))))
+
+returns-3 : tie.Need-returns-3
+returns-3 c = sym (faulty-7 _ _ _ _ _ (passed (c .before .before .before .before .before .sources-sound .ensures) (c .before .before .before .before .if1 .left)) (passed (c .before .before .before .first-sinks-sound .ensures) (c .before .before .if2 .left)) (refused (c .before .sinks-sound .ensures) (c .if3 .taken)))
+
+returns-4 : tie.Need-returns-4
+returns-4 c = sym (faulty-low _ _ _ _ _ (passed (c .before .before .before .before .before .before .sources-sound .ensures) (c .before .before .before .before .before .if1 .left)) (passed (c .before .before .before .before .first-sinks-sound .ensures) (c .before .before .before .if2 .left)) (passed (c .before .before .sinks-sound .ensures) (c .before .if3 .left)) (search needs))
+
+returns-5 : tie.Need-returns-5
+returns-5 c = sym (faulty-high _ _ _ _ _ (passed (c .before .before .before .before .before .before .before .sources-sound .ensures) (c .before .before .before .before .before .before .if1 .left)) (passed (c .before .before .before .before .before .first-sinks-sound .ensures) (c .before .before .before .before .if2 .left)) (passed (c .before .before .before .sinks-sound .ensures) (c .before .before .if3 .left)) (search needs) (search needs))
+
+returns-6 : tie.Need-returns-6
+returns-6 c = sym (faulty-no-net _ _ _ _ _ (passed (c .before .before .before .before .before .before .before .sources-sound .ensures) (c .before .before .before .before .before .before .if1 .left)) (passed (c .before .before .before .before .before .first-sinks-sound .ensures) (c .before .before .before .before .if2 .left)) (passed (c .before .before .before .sinks-sound .ensures) (c .before .before .if3 .left)) (search needs) (search needs))
+
+pub faulty-nets-spec : {M : Type 1} → statement M
+faulty-nets-spec =
+    tie.close
+    (tie.spec
+    sources-sound-requires
+    returns
+    first-sinks-sound-requires
+    returns-2
+    sinks-sound-requires
+    returns-3
+    returns-4
+    returns-5
+    returns-6)

@@ -1,0 +1,110 @@
+-- `negotiation::trees::add_path` meets its contract: after the turns up to k, the marks of the nodes at places below k are cleared, and those that were set have one user more.
+-- Assumes nothing.
+use mathlib.Core.Logic.{⊎-elim}
+use Prim.Native.Nat.{_-_, _<_}
+use native.Mathlib.Omega.{arith}
+use lib.ListN.{length, getD}
+use lib.Seq.{slice, slice-empty}
+use denote.Ref.{now}
+use Rattle.negotiation.specs.Steps.{Added}
+use Rattle.negotiation.proofs.MarkLaws.{Between, between-none, between-more, between-all, node-below, can-add-rest, passed-more, added-none, added-one, added-kept, added-append}
+use Rattle.negotiation.proofs.trees.add_path.Statement.{statement}
+use Rattle.negotiation.proofs.trees.add_path.Tie as tie
+
+abbrev Inv-loop : tie.InvT-loop
+Inv-loop log from to users₀ in-tree₀ k₀ users in-tree k = Between from to k log × Added (length in-tree₀) (slice from k log) users₀ in-tree₀ users in-tree
+
+abbrev μ-loop : tie.MeasureT-loop
+μ-loop log from to users₀ in-tree₀ k₀ users in-tree k = to - k
+
+node : (c : tie.In-loop Inv-loop μ-loop) → getD (now (c .before .before .args .log)) (c .before .loop .k) 0 < length (c .before .loop .in-tree)
+node c =
+    let inv = c .before .loop .inv in
+    rw (inv .1 .marks-cleared .long) (node-below (c .loop-test .taken) (c .before .before .pre .1 .0) (inv .0))
+
+node-user : (c : tie.In-loop Inv-loop μ-loop) → getD (now (c .before .before .args .log)) (c .before .loop .k) 0 < length (c .before .loop .users)
+node-user c = let inv = c .before .loop .inv in omega (arith, node c, inv .1 .users-long, inv .1 .marks-cleared .long)
+
+loop-holds : tie.Need-loop-holds Inv-loop μ-loop
+loop-holds c = (between-none _ _ _ (c .pre .0 .0) (c .pre .0 .1), rw slice-empty (added-none _ _ _))
+
+mul-v : tie.Need-mul-v Inv-loop μ-loop
+mul-v c = omega arith
+
+shared-slice-read-v : tie.Need-shared-slice-read-v Inv-loop μ-loop
+shared-slice-read-v c = omega arith
+
+cast-v : tie.Need-cast-v Inv-loop μ-loop
+cast-v c = omega (arith, c .shared-slice-known .given (c .before .before .loop .k))
+
+slice-read-if1 : tie.Need-slice-read-if1 Inv-loop μ-loop
+slice-read-if1 c = omega (arith, node (c .before .before))
+
+mul-users : tie.Need-mul-users Inv-loop μ-loop
+mul-users c = omega (arith, node (c .before .before .before))
+
+slice-read-users : tie.Need-slice-read-users Inv-loop μ-loop
+slice-read-users c = omega (arith, node-user (c .before .before .before .before))
+
+add-users : tie.Need-add-users Inv-loop μ-loop
+add-users c =
+    let inside = c .before .before .before .before in
+    let inv = inside .before .loop .inv in
+    let start = inside .before .before in
+    omega (arith, can-add-rest (start .pre .1 .1) (inv .1) _ (node-below (inside .loop-test .taken) (start .pre .1 .0) (inv .0)) (c .before .if1 .taken))
+
+slice-write-users : tie.Need-slice-write-users Inv-loop μ-loop
+slice-write-users c = omega (arith, node-user (c .before .before .before .before))
+
+slice-write-in-tree : tie.Need-slice-write-in-tree Inv-loop μ-loop
+slice-write-in-tree c = omega (arith, node (c .before .before .before))
+
+add-k : tie.Need-add-k Inv-loop μ-loop
+add-k c = omega arith
+
+loop-less : tie.Need-loop-less Inv-loop μ-loop
+loop-less c = omega arith
+
+loop-again : tie.Need-loop-again Inv-loop μ-loop
+loop-again c =
+    let inside = c .before .before .before in
+    let inv = inside .before .loop .inv in (
+      between-more (inside .loop-test .taken) (inv .0),
+      rw (passed-more (inside .loop-test .taken) (inv .0))
+          (⊎-elim
+          (λ w. rw (w .2) (added-append (inv .1) (added-one _ _ _ _ (node inside) (node-user inside) (w .0 .taken))))
+          (λ w. rw (w .1) (added-append (inv .1) (added-kept _ _ _ _ (node inside) (w .0 .left))))
+          (c .if1 .came)),
+    )
+
+same-length : tie.Need-same-length Inv-loop μ-loop
+same-length c = c .before .loop .inv .1 .users-long
+
+same-length-2 : tie.Need-same-length-2 Inv-loop μ-loop
+same-length-2 c = c .before .loop .inv .1 .marks-cleared .long
+
+returns : tie.Need-returns Inv-loop μ-loop
+returns c = let inv = c .before .loop .inv in rw (between-all (c .loop-test .left) (inv .0)) at (inv .1)
+
+pub add-path-spec : {M : Type 1} → statement M
+add-path-spec =
+    tie.close
+    (tie.spec
+    Inv-loop
+    μ-loop
+    loop-holds
+    mul-v
+    shared-slice-read-v
+    cast-v
+    slice-read-if1
+    mul-users
+    slice-read-users
+    add-users
+    slice-write-users
+    slice-write-in-tree
+    add-k
+    loop-less
+    loop-again
+    same-length
+    same-length-2
+    returns)

@@ -1,0 +1,97 @@
+-- `negotiation::trees::add_records` meets its contract: after the turns up to a record, the marks of the nodes of the records before it are cleared,
+-- and those that were set have one user more.
+-- Assumes nothing.
+use mathlib.Core.Path.{sym, _∙_}
+use Prim.Native.Nat.{_+_, _-_, _≤_}
+use native.Mathlib.Omega.{arith}
+use lib.ListN.{getD}
+use denote.Ref.{now}
+use Rattle.negotiation.proofs.MarkLaws.{can-add-rest}
+use Rattle.negotiation.proofs.RegionLaws.{Adding, adding-none, adding-more, adding-all, record-fits, record-nodes}
+use Rattle.negotiation.proofs.trees.add_records.Statement.{statement}
+use Rattle.negotiation.proofs.trees.add_records.Tie as tie
+
+abbrev Inv-loop : tie.InvT-loop
+Inv-loop log from until users₀ in-tree₀ at₀ users in-tree at = Adding from until log users₀ in-tree₀ users in-tree at
+
+abbrev μ-loop : tie.MeasureT-loop
+μ-loop log from until users₀ in-tree₀ at₀ users in-tree at = until - at
+
+-- the record ends within the part
+fits : (c : tie.In-loop Inv-loop μ-loop) → c .before .loop .at + 6 + getD (now (c .before .before .before .before .before .args .log)) (c .before .loop .at + 5) 0 ≤ c .before .before .before .before .before .args .until
+fits c = let inv = c .before .loop .inv in record-fits (inv .rest) (c .loop-test .taken) (inv .walk)
+
+loop-holds : tie.Need-loop-holds Inv-loop μ-loop
+loop-holds c = let pre = c .before .before .before .pre in adding-none _ _ _ _ _ (pre .0 .0) (pre .0 .1) (pre .1 .0)
+
+add-end : tie.Need-add-end Inv-loop μ-loop
+add-end c = omega (arith, fits c)
+
+add-end-2 : tie.Need-add-end-2 Inv-loop μ-loop
+add-end-2 c = omega (arith, fits c)
+
+mul-end : tie.Need-mul-end Inv-loop μ-loop
+mul-end c = omega (arith, fits c)
+
+shared-slice-read-end : tie.Need-shared-slice-read-end Inv-loop μ-loop
+shared-slice-read-end c = omega (arith, fits (c .before))
+
+cast-end : tie.Need-cast-end Inv-loop μ-loop
+cast-end c = omega (arith, fits (c .before))
+
+add-end-3 : tie.Need-add-end-3 Inv-loop μ-loop
+add-end-3 c = omega (arith, fits (c .before))
+
+add-add-path : tie.Need-add-add-path Inv-loop μ-loop
+add-add-path c = omega (arith, fits (c .before))
+
+add-path-requires : tie.Need-add-path-requires Inv-loop μ-loop
+add-path-requires c κs =
+    let inside = c .before .before .before in
+    let inv = inside .before .loop .inv in
+    let pre = inside .before .before .before .before .before .pre in (
+      (omega arith, omega (arith, fits inside), inv .added .users-long ∙ pre .0 .2 ∙ sym (inv .added .marks-cleared .long)),
+      (
+        rw (inv .added .marks-cleared .long) (record-nodes (inv .rest) (inside .loop-test .taken) (inv .walk)),
+        rw (inv .added .marks-cleared .long) (can-add-rest (pre .1 .1) (inv .added)),
+      ),
+    )
+
+loop-less : tie.Need-loop-less Inv-loop μ-loop
+loop-less c = omega (arith, fits (c .before .before .before .before .before .before .before .before))
+
+loop-again : tie.Need-loop-again Inv-loop μ-loop
+loop-again c =
+    let called = c .before .before .before .before in
+    let inside = called .before .before .before .before in
+    adding-more (inside .before .loop .inv) (inside .loop-test .taken) (called .add-path .ensures)
+
+same-length : tie.Need-same-length Inv-loop μ-loop
+same-length c = c .before .loop .inv .added .users-long
+
+same-length-2 : tie.Need-same-length-2 Inv-loop μ-loop
+same-length-2 c = c .before .loop .inv .added .marks-cleared .long
+
+returns : tie.Need-returns Inv-loop μ-loop
+returns c = adding-all (c .before .loop .inv) (c .loop-test .left)
+
+pub add-records-spec : {M : Type 1} → statement M
+add-records-spec =
+    tie.close
+    (tie.spec
+    Inv-loop
+    μ-loop
+    loop-holds
+    add-end
+    add-end-2
+    mul-end
+    shared-slice-read-end
+    cast-end
+    add-end-3
+    add-add-path
+    add-path-requires
+    loop-less
+    loop-again
+    same-length
+    same-length-2
+    returns)

@@ -1,0 +1,72 @@
+-- `negotiation::trees::unmark_path` meets its contract: after the turns up to k, the marks of the nodes at places below k are cleared.
+-- Assumes nothing.
+use Prim.Native.Nat.{_-_, _<_}
+use native.Mathlib.Omega.{arith}
+use lib.ListN.{length, getD}
+use lib.Seq.{slice, slice-empty}
+use denote.Ref.{now}
+use Rattle.negotiation.specs.Steps.{MarksCleared}
+use Rattle.negotiation.proofs.MarkLaws.{Between, between-none, between-more, between-all, node-below, passed-more, cleared-none, cleared-one, cleared-append}
+use Rattle.negotiation.proofs.trees.unmark_path.Statement.{statement}
+use Rattle.negotiation.proofs.trees.unmark_path.Tie as tie
+
+abbrev Inv-loop : tie.InvT-loop
+Inv-loop log from to in-tree₀ k₀ in-tree k = Between from to k log × MarksCleared (length in-tree₀) (slice from k log) in-tree₀ in-tree
+
+abbrev μ-loop : tie.MeasureT-loop
+μ-loop log from to in-tree₀ k₀ in-tree k = to - k
+
+node : (c : tie.In-loop Inv-loop μ-loop) → getD (now (c .before .before .args .log)) (c .before .loop .k) 0 < length (c .before .loop .in-tree)
+node c =
+    let inv = c .before .loop .inv in
+    rw (inv .1 .long) (node-below (c .loop-test .taken) (c .before .before .pre .1) (inv .0))
+
+loop-holds : tie.Need-loop-holds Inv-loop μ-loop
+loop-holds c = (between-none _ _ _ (c .pre .0 .0) (c .pre .0 .1), rw slice-empty (cleared-none _ _))
+
+mul-v : tie.Need-mul-v Inv-loop μ-loop
+mul-v c = omega arith
+
+shared-slice-read-v : tie.Need-shared-slice-read-v Inv-loop μ-loop
+shared-slice-read-v c = omega arith
+
+cast-v : tie.Need-cast-v Inv-loop μ-loop
+cast-v c = omega (arith, c .shared-slice-known .given (c .before .before .loop .k))
+
+slice-write-in-tree : tie.Need-slice-write-in-tree Inv-loop μ-loop
+slice-write-in-tree c = omega (arith, node (c .before))
+
+add-k : tie.Need-add-k Inv-loop μ-loop
+add-k c = omega arith
+
+loop-less : tie.Need-loop-less Inv-loop μ-loop
+loop-less c = omega arith
+
+loop-again : tie.Need-loop-again Inv-loop μ-loop
+loop-again c =
+    let inside = c .before in
+    let inv = inside .before .loop .inv in
+    (between-more (inside .loop-test .taken) (inv .0), rw (passed-more (inside .loop-test .taken) (inv .0)) (cleared-append (inv .1) (cleared-one _ _ _ (node inside))))
+
+same-length : tie.Need-same-length Inv-loop μ-loop
+same-length c = c .before .loop .inv .1 .long
+
+returns : tie.Need-returns Inv-loop μ-loop
+returns c = let inv = c .before .loop .inv in rw (between-all (c .loop-test .left) (inv .0)) at (inv .1)
+
+pub unmark-path-spec : {M : Type 1} → statement M
+unmark-path-spec =
+    tie.close
+    (tie.spec
+    Inv-loop
+    μ-loop
+    loop-holds
+    mul-v
+    shared-slice-read-v
+    cast-v
+    slice-write-in-tree
+    add-k
+    loop-less
+    loop-again
+    same-length
+    returns)

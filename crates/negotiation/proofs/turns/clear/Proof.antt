@@ -1,0 +1,62 @@
+-- `negotiation::turns::clear` meets its contract. The loop's invariant: entries below k hold 0, the others are as they were.
+-- Assumes nothing.
+use mathlib.Core.List.{_++_}
+use mathlib.Core.Path.{_≡_, refl, _∙_}
+use Prim.Native.Nat.{_-_, _≤_}
+use native.Mathlib.Omega.{arith}
+use lib.ListN.{length, drop, replicate, length-set}
+use borrow.Author.Needs.{needs}
+use borrow.Author.Fill.{fill-more}
+use Rattle.negotiation.proofs.turns.clear.Statement.{statement}
+use Rattle.negotiation.proofs.turns.clear.Tie as tie
+
+abbrev Inv-loop : tie.InvT-loop
+Inv-loop work₀ to k₀ work k =
+    (k ≤ to) × (to ≤ length work₀) × (length work ≡ length work₀) × (work ≡ replicate k 0 ++ drop k work₀)
+
+abbrev μ-loop : tie.MeasureT-loop
+μ-loop work₀ to k₀ work k = to - k
+
+loop-holds : tie.Need-loop-holds Inv-loop μ-loop
+loop-holds c = (omega arith, c .pre, refl, refl)
+
+mul-work : tie.Need-mul-work Inv-loop μ-loop
+mul-work c = search needs
+
+slice-write-work : tie.Need-slice-write-work Inv-loop μ-loop
+slice-write-work c = omega arith
+
+add-k : tie.Need-add-k Inv-loop μ-loop
+add-k c = omega arith
+
+loop-less : tie.Need-loop-less Inv-loop μ-loop
+loop-less c = omega arith
+
+loop-again : tie.Need-loop-again Inv-loop μ-loop
+loop-again c =
+    let work = c .before .before .args .work .now in
+    let k = c .before .loop .k in
+    (omega arith, c .before .loop .inv .1, length-set (c .before .loop .work) k 0 ∙ c .before .loop .inv .2, rw (c .before .loop .inv .3) (fill-more k 0 work (omega arith)))
+
+same-length : tie.Need-same-length Inv-loop μ-loop
+same-length c = c .before .loop .inv .2
+
+returns : tie.Need-returns Inv-loop μ-loop
+returns c =
+    let e : c .before .loop .k ≡ c .before .before .args .to = omega arith in
+    rw (← e) (c .before .loop .inv .3)
+
+pub clear-spec : {M : Type 1} → statement M
+clear-spec =
+    tie.close
+    (tie.spec
+    Inv-loop
+    μ-loop
+    loop-holds
+    mul-work
+    slice-write-work
+    add-k
+    loop-less
+    loop-again
+    same-length
+    returns)

@@ -1,0 +1,117 @@
+-- `negotiation::turns::one_turn` meets its contract: nothing is refused, so the search's answer is the turn, and where its record fits it is logged and marked.
+-- Assumes nothing.
+use mathlib.Core.List.{[], _∷_}
+use native.Mathlib.Omega.{arith}
+use types.Run.{miss}
+use borrow.Author.Needs.{needs}
+use Rattle.negotiation.proofs.OneTurnLaws.{turn-joined, turn-other, turn-full, turn-logs}
+use Rattle.negotiation.proofs.turns.one_turn.Statement.{statement}
+use Rattle.negotiation.proofs.turns.one_turn.Tie as tie
+
+cheapest-path-requires : tie.Need-cheapest-path-requires
+cheapest-path-requires c κs = search needs
+
+enum-known-answer : tie.Need-enum-known-answer
+enum-known-answer c = search needs
+
+same-length : tie.Need-same-length
+same-length c = search needs
+
+same-length-2 : tie.Need-same-length-2
+same-length-2 c = search needs
+
+returns : tie.Need-returns
+returns c = turn-other (c .before .before .before .before .before .before .before .before .before .before .before .before .before .before .before .before .pre) (c .before .before .before .cheapest-path .result) (λ place cost count e. miss (1 ∷ 2 ∷ 3 ∷ 4 ∷ []) 0 tt (rw e at (c .match .keys2))) (c .before .before .before .cheapest-path .ensures)
+
+cast-count : tie.Need-cast-count
+cast-count c = search needs
+
+sub-if1 : tie.Need-sub-if1
+sub-if1 c = search needs
+
+add-if1 : tie.Need-add-if1
+add-if1 c = search needs
+
+same-length-3 : tie.Need-same-length-3
+same-length-3 c = search needs
+
+same-length-4 : tie.Need-same-length-4
+same-length-4 c = search needs
+
+returns-2 : tie.Need-returns-2
+returns-2 c =
+    let j = turn-joined (c .before .before .before .before .before .before .before .before .before .before .before .before .before .before .before .before .before .before .before .pre) (c .before .before .answer .given .1) (c .before .before .before .before .before .before .cheapest-path .ensures) in
+    (turn-full j (c .if1 .taken) (c .before .before .before .before .before .before .before .before .before .before .before .before .before .before .before .before .before .before .before .pre .within), j .rest)
+
+cast-p : tie.Need-cast-p
+cast-p c = search needs
+
+mul-write-record : tie.Need-mul-write-record
+mul-write-record c = search needs
+
+shared-slice-read-write-record : tie.Need-shared-slice-read-write-record
+shared-slice-read-write-record c = (turn-joined (c .before .before .before .before .before .before .before .before .before .before .before .before .before .before .before .before .before .before .before .before .before .pre) (c .before .before .before .before .answer .given .1) (c .before .before .before .before .before .before .before .before .cheapest-path .ensures)) .within
+
+cast-write-record : tie.Need-cast-write-record
+cast-write-record c = omega (arith, c .shared-slice-known8 .given (c .before .before .before .before .answer .given .0 .0))
+
+write-record-requires : tie.Need-write-record-requires
+write-record-requires c κs =
+    let j = turn-joined (c .before .before .before .before .before .before .before .before .before .before .before .before .before .before .before .before .before .before .before .before .before .before .pre) (c .before .before .before .before .before .answer .given .1) (c .before .before .before .before .before .before .before .before .before .cheapest-path .ensures) in
+    ((j .long, omega (arith, c .before .before .before .if1 .left, c .before .before .before .before .before .before .before .before .before .before .before .before .before .before .before .before .before .before .before .before .before .before .pre .within), omega (arith, j .few)), j .small)
+
+mark-path-requires : tie.Need-mark-path-requires
+mark-path-requires c κs =
+    let j = turn-joined (c .before .before .before .before .before .before .before .before .before .before .before .before .before .before .before .before .before .before .before .before .before .before .before .before .before .before .before .pre) (c .before .before .before .before .before .before .before .before .before .before .answer .given .1) (c .before .before .before .before .before .before .before .before .before .before .before .before .before .before .cheapest-path .ensures) in
+    (j .long, j .nodes-below)
+
+add-turn-logged : tie.Need-add-turn-logged
+add-turn-logged c = search needs
+
+turn-logged-requires : tie.Need-turn-logged-requires
+turn-logged-requires c κs =
+    (omega (arith, c .before .before .before .before .before .before .before .before .before .before .before .if1 .left, c .before .before .before .before .before .before .before .before .before .before .before .before .before .before .before .before .before .before .before .before .before .before .before .before .before .before .before .before .before .before .pre .within, c .before .before .before .before .before .before .before .before .before .before .before .before .before .before .before .before .before .before .before .before .before .before .before .before .before .before .before .before .before .before .good .1 .1 .1 .1 .1 .1 .1 .1 .0 .1), c .before .before .before .before .before .before .before .before .before .before .before .before .before .before .before .before .before .before .before .before .before .before .before .before .before .before .before .before .before .before .pre .few-turns)
+
+same-length-5 : tie.Need-same-length-5
+same-length-5 c = search needs
+
+same-length-6 : tie.Need-same-length-6
+same-length-6 c = search needs
+
+same-length-7 : tie.Need-same-length-7
+same-length-7 c = search needs
+
+returns-3 : tie.Need-returns-3
+returns-3 c =
+    let j = turn-joined (c .before .before .before .before .before .before .before .before .before .before .before .before .before .before .before .before .before .before .before .before .before .before .before .before .before .before .before .before .before .before .before .pre) (c .before .before .before .before .before .before .before .before .before .before .before .before .before .before .answer .given .1) (c .before .before .before .before .before .before .before .before .before .before .before .before .before .before .before .before .before .before .cheapest-path .ensures) in (
+      turn-logs j (c .before .before .before .before .before .before .before .before .before .before .before .before .before .before .before .before .before .before .before .before .before .before .before .before .before .before .before .before .before .before .before .pre .marks-long) (omega (arith, c .before .before .before .before .before .before .before .before .before .before .before .before .if1 .left, c .before .before .before .before .before .before .before .before .before .before .before .before .before .before .before .before .before .before .before .before .before .before .before .before .before .before .before .before .before .before .before .pre .within)) (c .before .before .before .before .before .before .before .before .write-record .ensures) (c .before .before .before .mark-path .ensures) (c .turn-logged .ensures),
+      j .rest,
+    )
+
+pub one-turn-spec : {M : Type 1} → statement M
+one-turn-spec =
+    tie.close
+    (tie.spec
+    cheapest-path-requires
+    enum-known-answer
+    same-length
+    same-length-2
+    returns
+    cast-count
+    sub-if1
+    add-if1
+    same-length-3
+    same-length-4
+    returns-2
+    cast-p
+    mul-write-record
+    shared-slice-read-write-record
+    cast-write-record
+    write-record-requires
+    mark-path-requires
+    add-turn-logged
+    turn-logged-requires
+    same-length-5
+    same-length-6
+    same-length-7
+    returns-3)

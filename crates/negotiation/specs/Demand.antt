@@ -1,0 +1,98 @@
+-- Demand 3, whole, about a job, its log and its answer. Nothing here mentions the machine: trees and prices are read off the log as document 01's
+-- section "Trees and prices read off the log" says.
+-- Assumes nothing.
+use mathlib.Core.Bool.{Bool, true, not}
+use mathlib.Core.List.{List, [], _∷_, _++_}
+use mathlib.Core.Path.{_≡_}
+use Prim.Native.Nat.{ℕ, zero, suc, _-_, _≤_, _<_, max}
+use lib.Dec.{eqb, leb}
+use lib.ListN.{length, getD, take, drop}
+use Rattle.price.specs.Test.{choose, both}
+use Rattle.price.specs.Lists.{has, distinct, countBelow}
+use Rattle.price.specs.Prices.{priceOf, factorAt, nextHistory}
+use Rattle.search.specs.Paths.{Walk, CheapestPath}
+use Rattle.search.specs.Replies.{workNeeded}
+use Rattle.negotiation.specs.Job.{Job, nodes, nets, source, netSinks}
+use Rattle.negotiation.specs.Records.{Record, encode, decode}
+use Rattle.negotiation.specs.Outcome.{RouteReply}
+
+-- ---- trees
+
+-- the nodes of net i's records of iteration t
+unfoldable pub nodesIn : ℕ → ℕ → List Record → List ℕ
+nodesIn i t [] = []
+nodesIn i t (r ∷ rs) = choose (both (eqb (r .net) i) (eqb (r .iteration) t)) (r .path ++ nodesIn i t rs) (nodesIn i t rs)
+
+-- "the latest iteration in which it has an earlier record", 0 without one
+unfoldable pub latest : ℕ → List Record → ℕ
+latest i [] = 0
+latest i (r ∷ rs) = choose (eqb (r .net) i) (max (r .iteration) (latest i rs)) (latest i rs)
+
+-- "Before a turn of net i in iteration t, the tree of i is its source with the nodes of its earlier records of iteration t."
+unfoldable pub ownTree : Job → ℕ → ℕ → List Record → List ℕ
+ownTree j i t earlier = source j i ∷ nodesIn i t earlier
+
+-- "Any other net's tree is the nodes of its records in the latest iteration in which it has an earlier record; without one it is empty."
+-- "After an iteration's last record, and after the whole log (the final trees), every net's tree is read in this second way."
+unfoldable pub treeRead : ℕ → List Record → List ℕ
+treeRead i rs = nodesIn i (latest i rs) rs
+
+-- ---- prices
+
+-- "The trees before a turn give others."
+unfoldable pub othersRead : Job → ℕ → List Record → ℕ → ℕ
+othersRead j i earlier v = countBelow (λ k. both (not (eqb k i)) (has v (treeRead k earlier))) (nets j)
+
+-- the records of iterations 1 to t
+unfoldable pub upToIteration : ℕ → List Record → List Record
+upToIteration t [] = []
+upToIteration t (r ∷ rs) = choose (leb (r .iteration) t) (r ∷ upToIteration t rs) (upToIteration t rs)
+
+-- "A node's load is the number of nets whose final tree has it.": the same after any records
+unfoldable pub usersRead : Job → List Record → ℕ → ℕ
+usersRead j rs v = countBelow (λ k. has v (treeRead k rs)) (nets j)
+
+-- "The trees after each earlier iteration give users, and so the histories, as under Prices": the history after so many iterations
+unfoldable pub historyRead : Job → List Record → ℕ → ℕ → ℕ
+historyRead j rs zero v = 1
+historyRead j rs (suc m) v =
+    nextHistory (historyRead j rs m v) (usersRead j (upToIteration (suc m) rs) v) (getD (j .block .capacities) v 0)
+
+-- the price of a node for net i in iteration t, "t gives the factor"
+unfoldable pub priceRead : Job → ℕ → ℕ → List Record → ℕ → ℕ
+priceRead j i t earlier v =
+    priceOf (getD (j .block .kinds) v 0) (factorAt t) (othersRead j i earlier v) (getD (j .block .capacities) v 0)
+    (historyRead j earlier (t - 1) v)
+
+-- ---- the demand
+
+-- a logged turn: its path follows edges from a node of that net's tree before the turn to one of its sinks not yet joined, at the logged cost, and every
+-- other path from any node of that tree to any of the net's sinks not yet joined costs at least as much
+abbrev pub TurnHolds : Job → List Record → Record → Type 0
+TurnHolds j earlier r =
+    CheapestPath (j .block) (priceRead j (r .net) (r .iteration) earlier) (λ v. has v (ownTree j (r .net) (r .iteration) earlier))
+    (netSinks j (r .net)) (r .sink) (r .cost) (r .path)
+
+-- the nodes in which branches of net i end, of its records of iteration t: "The branches of a final tree are the path steps of the records that it is read from."
+unfoldable pub endsIn : ℕ → ℕ → List Record → List ℕ
+endsIn i t [] = []
+endsIn i t (r ∷ rs) = choose (both (eqb (r .net) i) (eqb (r .iteration) t)) (drop 1 (r .path) ++ endsIn i t rs) (endsIn i t rs)
+
+-- the final trees "miss no sink, reach no node of one net twice and load no node beyond its capacity"
+pub record FinalTrees (j : Job) (rs : List Record) : Type 0 where
+  pub no-sink-missed : (i s : ℕ) → i < nets j → has s (netSinks j i) ≡ true → has s (treeRead i rs) ≡ true
+  -- "A node is reached twice when two of them end in it, or when it is the source and one ends in it."
+  pub none-twice : (i : ℕ) → i < nets j → distinct (source j i ∷ endsIn i (latest i rs) rs) ≡ true
+  pub within-capacity : (v : ℕ) → v < nodes j → usersRead j rs v ≤ getD (j .block .capacities) v 0
+
+-- every sink has a path from its source
+abbrev pub AllReachable : Job → Type 0
+AllReachable j = (i s : ℕ) → i < nets j → has s (netSinks j i) ≡ true → (path : List ℕ) × Walk (j .block) (source j i) path s
+
+-- demand 3 of a job and the reply of a call: the records in the words used, which hold nothing else
+pub record Demand3 (j : Job) (r : RouteReply) : Type 0 where
+  pub nothing-else : encode (decode (take (r .used) (r .log))) ≡ take (r .used) (r .log)
+  pub every-turn : (earlier later : List Record) (t : Record) → decode (take (r .used) (r .log)) ≡ earlier ++ (t ∷ later) → TurnHolds j earlier t
+  pub final-trees : r .refusal ≡ [] → FinalTrees j (decode (take (r .used) (r .log)))
+  pub not-unreachable : AllReachable j → (net place : ℕ) → r .refusal ≡ 7 ∷ net ∷ place ∷ [] → ⊥
+  pub turns-counted : r .turns ≡ length (decode (take (r .used) (r .log)))

@@ -1,0 +1,129 @@
+-- Document 01, "The negotiation, as a machine" and "Numbers for a stopped call": how a call of the router ends, and what it leaves.
+-- Assumes nothing.
+use mathlib.Core.Bool.{Bool, not}
+use mathlib.Core.List.{List, [], _∷_, _++_, map}
+use Prim.Native.Nat.{ℕ, _+_, _-_}
+use lib.Dec.{leb, ltb, eqb}
+use lib.ListN.{length, getD, drop}
+use Rattle.price.specs.Test.{choose}
+use Rattle.price.specs.Lists.{every, firstBelow}
+use Rattle.search.specs.Distance.{far, distance}
+use Rattle.search.specs.Turn.{priceAt}
+use Rattle.search.specs.Replies.{workNeeded, cleared}
+use Rattle.negotiation.specs.Job.{Job, nodes, nets, source, netSinks}
+use Rattle.negotiation.specs.Tables.{faultyJob}
+use Rattle.negotiation.specs.Records.{Record, encode, fitting}
+use Rattle.negotiation.specs.Machine.{State, marksOf, congestionFor, firstState, recordsAfter, iterationAfter, settlesAt, overCount}
+use Rattle.negotiation.specs.declared.Routed.{Routed}
+use Rattle.negotiation.specs.declared.Outcome.{Outcome}
+use Rattle.negotiation.specs.declared.Outcome.the-variants as o
+
+-- "Before iteration 1, any sink without a path from its source stops the job": a path is there where the distance is not 2^64 − 1
+unfoldable pub hasPath : Job → ℕ → ℕ → Bool
+hasPath j i s =
+    ltb (distance (j .block) (priceAt (j .block) (congestionFor j (firstState j) i)) (marksOf j (source j i ∷ [])) s) far
+
+-- "first net, first sink place in it (from 0), without a path"; the net count where every sink has one
+unfoldable pub unreachableNet : Job → ℕ
+unreachableNet j = firstBelow (λ i. not (every (hasPath j i) (netSinks j i))) (nets j)
+
+unfoldable pub unreachablePlace : Job → ℕ
+unreachablePlace j =
+    firstBelow (λ p. not (hasPath j (unreachableNet j) (getD (netSinks j (unreachableNet j)) p 0))) (length (netSinks j (unreachableNet j)))
+
+-- how many iterations a run from a state makes under a limit of so many: up to the first that settles
+unfoldable pub iterationsMade : Job → State → ℕ → ℕ
+iterationsMade j s most =
+    choose (ltb (firstBelow (settlesAt j s) most) most) (firstBelow (settlesAt j s) most + 1) most
+
+-- all turns of the run, in a log of any length
+unfoldable pub allRecords : Job → List Record
+allRecords j = recordsAfter j (firstState j) (iterationsMade j (firstState j) (j .limit))
+
+-- the turns that are logged in so many words
+unfoldable pub loggedRecords : Job → ℕ → List Record
+loggedRecords j room = fitting room (allRecords j)
+
+-- the iteration of the first turn whose record does not fit
+unfoldable pub cutIteration : Job → ℕ → ℕ
+cutIteration j room = getD (map (λ (r : Record). r .iteration) (allRecords j)) (length (loggedRecords j room)) 0
+
+-- what a call answers and leaves: the refusal's numbers, none where the job is accepted; iteration, turns and words used; work slice and log
+pub record RouteReply : Type 0 where
+  pub refusal : List ℕ
+  pub iteration : ℕ
+  pub turns : ℕ
+  pub used : ℕ
+  pub work : List ℕ
+  pub log : List ℕ
+
+-- 01's numbers for each case of the outcome, beside iteration and turns
+abbrev pub outcomeNumbers : Outcome → ℕ → ℕ → List ℕ
+outcomeNumbers o.Accepted iteration turns = []
+outcomeNumbers (o.Unreachable net place) iteration turns = 7 ∷ net ∷ place ∷ []
+outcomeNumbers o.LogFull iteration turns = 8 ∷ iteration ∷ turns ∷ []
+outcomeNumbers (o.Limit over) iteration turns = 9 ∷ iteration ∷ over ∷ []
+outcomeNumbers (o.BadTable table) iteration turns = 5 ∷ table ∷ []
+outcomeNumbers (o.ShortWork needed) iteration turns = 6 ∷ needed ∷ []
+
+-- the answer with work slice and log at the call's end, as one value
+abbrev pub routed : Routed → List ℕ → List ℕ → RouteReply
+routed r work log =
+    record {
+      refusal = outcomeNumbers (r .outcome) (r .iteration) (r .turns);
+      iteration = r .iteration;
+      turns = r .turns;
+      used = r .words;
+      work = work;
+      log = log;
+    }
+
+-- the answer of a call that is refused before any turn
+abbrev pub refusedAnswer : Outcome → Routed
+refusedAnswer outcome = record { outcome = outcome; iteration = 0; turns = 0; words = 0 }
+
+-- "After any refusal but 8 and 9 all three are 0, and memory not named is untouched."
+abbrev pub refusedReply : List ℕ → List ℕ → List ℕ → RouteReply
+refusedReply numbers work log =
+    record { refusal = numbers; iteration = 0; turns = 0; used = 0; work = work; log = log }
+
+-- the log with these records at its beginning; the words past them stay
+unfoldable pub logWith : List Record → List ℕ → List ℕ
+logWith rs log = encode rs ++ drop (length (encode rs)) log
+
+-- the reply of a run that logged these records and ended in this iteration
+abbrev pub ranReply : Job → List ℕ → ℕ → List Record → List ℕ → List ℕ → RouteReply
+ranReply j numbers iteration rs work log =
+    record {
+      refusal = numbers;
+      iteration = iteration;
+      turns = length rs;
+      used = length (encode rs);
+      work = cleared (nodes j) [] work;
+      log = logWith rs log;
+    }
+
+-- the run's end where every record fits: "nothing over capacity, accepted; else limit reached, refusal 9"
+unfoldable pub endNumbers : Job → List ℕ
+endNumbers j =
+    choose (settlesAt j (firstState j) (iterationsMade j (firstState j) (j .limit) - 1))
+    []
+    (9 ∷ j .limit
+    ∷ overCount j (iterationAfter j (firstState j) (iterationsMade j (firstState j) (j .limit) - 1) .state .trees)
+    ∷ [])
+
+-- the reply of the negotiation itself
+unfoldable pub negotiated : Job → List ℕ → List ℕ → RouteReply
+negotiated j work log =
+    choose (ltb (length (loggedRecords j (length log))) (length (allRecords j)))
+    (ranReply j (8 ∷ cutIteration j (length log) ∷ length (loggedRecords j (length log)) ∷ []) (cutIteration j (length log)) (loggedRecords j (length log)) work log)
+    (ranReply j (endNumbers j) (iterationsMade j (firstState j) (j .limit)) (allRecords j) work log)
+
+-- "The router tests 5, 6, 7, then 8 and 9 as they arise"
+unfoldable pub routeReply : Job → List ℕ → List ℕ → RouteReply
+routeReply j work log =
+    choose (leb 1 (faultyJob j)) (refusedReply (5 ∷ faultyJob j ∷ []) work log)
+    (choose (ltb (length work) (workNeeded (nodes j))) (refusedReply (6 ∷ workNeeded (nodes j) ∷ []) work log)
+    (choose (ltb (unreachableNet j) (nets j))
+    (refusedReply (7 ∷ unreachableNet j ∷ unreachablePlace j ∷ []) (cleared (nodes j) [] work) log)
+    (negotiated j work log)))

@@ -1,0 +1,96 @@
+-- Document 01, "Sample jobs": the starred jobs, given as tables.
+-- Assumes nothing.
+use mathlib.Core.List.{List, [], _∷_, _++_}
+use Prim.Native.Nat.{ℕ}
+use lib.ListN.{length, take, replicate}
+use Rattle.price.specs.Samples.{Sample}
+use Rattle.search.specs.Block.{blockOf}
+use Rattle.negotiation.specs.Job.{Job}
+use Rattle.negotiation.specs.Outcome.{RouteReply, routeReply}
+
+-- job B, under a limit
+abbrev pub jobB : ℕ → Job
+jobB limit =
+    record {
+      block =
+          blockOf (0 ∷ 0 ∷ 4 ∷ 5 ∷ 1 ∷ 1 ∷ [])
+          (1 ∷ 1 ∷ 1 ∷ 1 ∷ 1 ∷ 1 ∷ [])
+          (0 ∷ 2 ∷ 3 ∷ 5 ∷ 6 ∷ 6 ∷ 6 ∷ [])
+          (2 ∷ 3 ∷ 2 ∷ 4 ∷ 5 ∷ 4 ∷ []);
+      sources = 0 ∷ 1 ∷ [];
+      firstSinks = 0 ∷ 1 ∷ 2 ∷ [];
+      sinks = 4 ∷ 5 ∷ [];
+      limit = limit;
+    }
+
+-- job C: one net from 0, edges 0-1, 1-2, 1-3, sinks listed 3, 2
+abbrev pub jobC : Job
+jobC =
+    record {
+      block = blockOf (0 ∷ 4 ∷ 1 ∷ 1 ∷ []) (1 ∷ 1 ∷ 1 ∷ 1 ∷ []) (0 ∷ 1 ∷ 3 ∷ 3 ∷ 3 ∷ []) (1 ∷ 2 ∷ 3 ∷ []);
+      sources = 0 ∷ [];
+      firstSinks = 0 ∷ 2 ∷ [];
+      sinks = 3 ∷ 2 ∷ [];
+      limit = 1;
+    }
+
+-- job C without 1-3
+abbrev pub jobCut : Job
+jobCut =
+    record {
+      block = blockOf (0 ∷ 4 ∷ 1 ∷ 1 ∷ []) (1 ∷ 1 ∷ 1 ∷ 1 ∷ []) (0 ∷ 1 ∷ 2 ∷ 2 ∷ 2 ∷ []) (1 ∷ 2 ∷ []);
+      sources = 0 ∷ [];
+      firstSinks = 0 ∷ 2 ∷ [];
+      sinks = 3 ∷ 2 ∷ [];
+      limit = 1;
+    }
+
+-- edges 0-1, 0-2, 1-3, 2-3, source 0, sink 3
+abbrev pub jobDiamond : Job
+jobDiamond =
+    record {
+      block = blockOf (0 ∷ 4 ∷ 4 ∷ 1 ∷ []) (1 ∷ 1 ∷ 1 ∷ 1 ∷ []) (0 ∷ 2 ∷ 3 ∷ 4 ∷ 4 ∷ []) (1 ∷ 2 ∷ 3 ∷ 3 ∷ []);
+      sources = 0 ∷ [];
+      firstSinks = 0 ∷ 1 ∷ [];
+      sinks = 3 ∷ [];
+      limit = 1;
+    }
+
+-- what a call with enough work memory and so long a log answers and logs: the refusal's numbers; iteration, turns, words used; the words used
+abbrev pub answerOf : RouteReply → List ℕ
+answerOf r = r .refusal ++ (r .iteration ∷ r .turns ∷ r .used ∷ take (r .used) (r .log))
+
+abbrev pub answer : Job → ℕ → List ℕ
+answer j room = answerOf (routeReply j (replicate 48 7) (replicate room 7))
+
+-- "Accepted, iteration 2, 4 turns, 36 words."
+abbrev pub settled : Sample
+settled = record { stated = 2 ∷ 4 ∷ 36 ∷ 1 ∷ 0 ∷ 4 ∷ 4000 ∷ 0 ∷ 3 ∷ 0 ∷ 2 ∷ 4 ∷ 1 ∷ 1 ∷ 5 ∷ 4000 ∷ 0 ∷ 3 ∷ 1 ∷ 2 ∷ 5 ∷ 2 ∷ 0 ∷ 4 ∷ 6000 ∷ 0 ∷ 3 ∷ 0 ∷ 3 ∷ 4 ∷ 2 ∷ 1 ∷ 5 ∷ 6000 ∷ 0 ∷ 3 ∷ 1 ∷ 2 ∷ 5 ∷ []; defined = answer (jobB 2) 40 }
+
+-- "B with limit 1: 9,1,1; 18 words."
+abbrev pub limited : Sample
+limited = record { stated = 9 ∷ 1 ∷ 1 ∷ 1 ∷ 2 ∷ 18 ∷ 1 ∷ 0 ∷ 4 ∷ 4000 ∷ 0 ∷ 3 ∷ 0 ∷ 2 ∷ 4 ∷ 1 ∷ 1 ∷ 5 ∷ 4000 ∷ 0 ∷ 3 ∷ 1 ∷ 2 ∷ 5 ∷ []; defined = answer (jobB 1) 40 }
+
+-- "B with a 35-word log: 8,2,3; 27 words."
+abbrev pub filled : Sample
+filled = record { stated = 8 ∷ 2 ∷ 3 ∷ 2 ∷ 3 ∷ 27 ∷ 1 ∷ 0 ∷ 4 ∷ 4000 ∷ 0 ∷ 3 ∷ 0 ∷ 2 ∷ 4 ∷ 1 ∷ 1 ∷ 5 ∷ 4000 ∷ 0 ∷ 3 ∷ 1 ∷ 2 ∷ 5 ∷ 2 ∷ 0 ∷ 4 ∷ 6000 ∷ 0 ∷ 3 ∷ 0 ∷ 3 ∷ 4 ∷ []; defined = answer (jobB 2) 35 }
+
+-- "paths 0,1,3 (4000), 1,2 (2000)"
+abbrev pub nearestFirst : Sample
+nearestFirst =
+    record {
+      stated = 1 ∷ 2 ∷ 17 ∷ 1 ∷ 0 ∷ 3 ∷ 4000 ∷ 0 ∷ 3 ∷ 0 ∷ 1 ∷ 3 ∷ 1 ∷ 0 ∷ 2 ∷ 2000 ∷ 0 ∷ 2 ∷ 1 ∷ 2 ∷ [];
+      defined = answer jobC 40;
+    }
+
+-- "Without 1-3: 7,0,0."
+abbrev pub cutOff : Sample
+cutOff = record { stated = 7 ∷ 0 ∷ 0 ∷ 0 ∷ 0 ∷ 0 ∷ []; defined = answer jobCut 40 }
+
+-- "path 0,1,3"
+abbrev pub lowestFirst : Sample
+lowestFirst =
+    record { stated = 1 ∷ 1 ∷ 9 ∷ 1 ∷ 0 ∷ 3 ∷ 4000 ∷ 0 ∷ 3 ∷ 0 ∷ 1 ∷ 3 ∷ []; defined = answer jobDiamond 40 }
+
+unfoldable pub samples : List Sample
+samples = settled ∷ limited ∷ filled ∷ nearestFirst ∷ cutOff ∷ lowestFirst ∷ []

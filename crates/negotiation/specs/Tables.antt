@@ -1,0 +1,64 @@
+-- Document 01, "Tables and bounds": the rules of tables 5 to 8, and the lowest table of all eight that breaks its rule. A table's length is part of its rule.
+-- Assumes nothing.
+use mathlib.Core.Bool.{Bool, true, not}
+use mathlib.Core.List.{List}
+use mathlib.Core.Path.{_≡_}
+use Prim.Native.Nat.{ℕ, _+_}
+use lib.Dec.{leb, ltb, eqb}
+use lib.ListN.{length, getD}
+use Rattle.price.specs.Test.{choose, both}
+use Rattle.price.specs.Bounds.{limitMost}
+use Rattle.price.specs.Lists.{every, neighbours, has, distinct, upTo}
+use Rattle.search.specs.Tables.{faultyTable, Sound}
+use Rattle.search.specs.Replies.{sinksMost}
+use Rattle.negotiation.specs.Job.{Job, nodes, nets, sinksBetween}
+
+-- "1 to 512 nets"
+abbrev pub netsMost : ℕ
+netsMost = 512
+
+-- "5. source node, 16 bits a net, 1 to 512 nets: each a node."
+unfoldable pub sourcesSound : ℕ → List ℕ → Bool
+sourcesSound n sources = both (both (leb 1 (length sources)) (leb (length sources) netsMost)) (every (λ s. ltb s n) sources)
+
+-- "6. first sink place, 32 bits, nets + 1 entries: begins with 0, strictly rises, ends with table 7's length."
+unfoldable pub firstSinksSound : ℕ → ℕ → List ℕ → Bool
+firstSinksSound count places firstSinks =
+    both (eqb (length firstSinks) (count + 1))
+    (both (eqb (getD firstSinks 0 0) 0) (both (neighbours ltb firstSinks) (eqb (getD firstSinks count 0) places)))
+
+-- "each a node, within a net none twice, none its source": the sinks of a net with this source
+unfoldable pub netSound : ℕ → ℕ → List ℕ → Bool
+netSound n from sinks = both (every (λ s. ltb s n) sinks) (both (distinct sinks) (not (has from sinks)))
+
+-- "7. sink node, 16 bits, at most 4,096"
+unfoldable pub sinksSound : ℕ → List ℕ → List ℕ → List ℕ → Bool
+sinksSound n sources firstSinks sinks =
+    both (leb (length sinks) sinksMost)
+    (every (λ i. netSound n (getD sources i 0) (sinksBetween firstSinks sinks i)) (upTo (λ i. i) (length sources)))
+
+-- "The limit of iterations is 1 to 100."
+unfoldable pub limitSound : ℕ → Bool
+limitSound limit = both (leb 1 limit) (leb limit limitMost)
+
+-- the lowest of tables 5 to 8 that breaks its rule, 0 where none does
+unfoldable pub faultyNets : ℕ → List ℕ → List ℕ → List ℕ → ℕ → ℕ
+faultyNets n sources firstSinks sinks limit =
+    choose (sourcesSound n sources)
+    (choose (firstSinksSound (length sources) (length sinks) firstSinks)
+    (choose (sinksSound n sources firstSinks sinks) (choose (limitSound limit) 0 8) 7)
+    6)
+    5
+
+-- "lowest table that breaks its rule", 0 where none does
+unfoldable pub faultyJob : Job → ℕ
+faultyJob j =
+    choose (leb 1 (faultyTable (j .block))) (faultyTable (j .block)) (faultyNets (nodes j) (j .sources) (j .firstSinks) (j .sinks) (j .limit))
+
+-- "Tables are sound when each numbered one has its length and keeps its rule."
+pub record SoundJob (j : Job) : Type 0 where
+  pub block-sound : Sound (j .block)
+  pub sources-sound : sourcesSound (nodes j) (j .sources) ≡ true
+  pub firstSinks-sound : firstSinksSound (nets j) (length (j .sinks)) (j .firstSinks) ≡ true
+  pub sinks-sound : sinksSound (nodes j) (j .sources) (j .firstSinks) (j .sinks) ≡ true
+  pub limit-sound : limitSound (j .limit) ≡ true

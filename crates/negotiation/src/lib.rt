@@ -1,0 +1,120 @@
+// The negotiation: routes a job given as tables, and logs every turn.
+ghost use mathlib.Core.Path.{_≡_};
+ghost use Prim.Native.Nat.{_≤_};
+ghost use lib.ListN.{length};
+ghost use Rattle.search.specs.Replies.{workNeeded};
+ghost use Rattle.negotiation.specs.Job.{jobOf};
+ghost use Rattle.negotiation.specs.Tables.{SoundJob};
+ghost use Rattle.negotiation.specs.Outcome.{refusedAnswer, routed, routeReply};
+ghost use Rattle.negotiation.specs.Demand.{Demand3};
+
+// How a run ends.
+pub enum Outcome {
+    // Nothing is over capacity.
+    Accepted,
+    // 7: the first net and the place of its first sink without a path from its source.
+    Unreachable { net: u32, place: u32 },
+    // 8: the next record does not fit.
+    LogFull,
+    // 9: the limit is reached, with so many nodes over capacity.
+    Limit(u32),
+    // 5: this table breaks its rule.
+    BadTable(u32),
+    // 6: the work slice is shorter than this many entries.
+    ShortWork(u64),
+}
+
+// The answer: how the run ended, beside iteration, turns made and words used.
+pub struct Routed {
+    pub outcome: Outcome,
+    pub iteration: u32,
+    pub turns: u64,
+    pub words: u64,
+}
+
+mod congestion;
+mod reach;
+mod records;
+mod tables;
+mod trees;
+mod turns;
+
+use reach::Reach;
+
+// The answer of a call that is refused before any turn.
+fn refused(outcome: Outcome) -> Routed
+    ensures { λ r. ⌜ r ≡ refusedAnswer outcome ⌝ }
+{
+    Routed {
+        outcome: outcome,
+        iteration: 0,
+        turns: 0,
+        words: 0,
+    }
+}
+
+// Routes a job given as tables: refusals 5, 6 and 7, then the negotiation, whose turns stand in the log.
+pub fn route(
+    kind: &[u8],
+    capacity: &[u8],
+    first_edge: &[u32],
+    edge_target: &[u16],
+    source: &[u16],
+    first_sink: &[u32],
+    sink: &[u16],
+    limit: u32,
+    work: &mut [u64],
+    log: &mut [u32],
+) -> Routed
+    ensures answers { λ r. ⌜ routed r (now (work .exit)) (now (log .exit)) ≡ routeReply (jobOf (now (kind .entry)) (now (capacity .entry)) (now («first_edge» .entry)) (now («edge_target» .entry)) (now (source .entry)) (now («first_sink» .entry)) (now (sink .entry)) limit) (now (work .entry)) (now (log .entry)) ⌝ }
+    ensures demand { λ r. ⌜ (SoundJob (jobOf (now (kind .entry)) (now (capacity .entry)) (now («first_edge» .entry)) (now («edge_target» .entry)) (now (source .entry)) (now («first_sink» .entry)) (now (sink .entry)) limit) → workNeeded (length (now (kind .entry))) ≤ length (now (work .entry)) → Demand3 (jobOf (now (kind .entry)) (now (capacity .entry)) (now («first_edge» .entry)) (now («edge_target» .entry)) (now (source .entry)) (now («first_sink» .entry)) (now (sink .entry)) limit) (routed r (now (work .exit)) (now (log .exit)))) ⌝ }
+{
+    let table = tables::faulty_job(
+        kind,
+        capacity,
+        first_edge,
+        edge_target,
+        source,
+        first_sink,
+        sink,
+        limit,
+    );
+    if 1 <= table {
+        return refused(Outcome::BadTable(table));
+    }
+    let needed = 8 * kind.len();
+    if work.len() < needed {
+        return refused(Outcome::ShortWork(needed as u64));
+    }
+    match reach::unreachable(
+        kind,
+        capacity,
+        first_edge,
+        edge_target,
+        source,
+        first_sink,
+        sink,
+        work,
+        limit,
+    ) {
+        Reach::Missing { net, place } => {
+            turns::clear(work, needed);
+            refused(Outcome::Unreachable {
+                net: net,
+                place: place,
+            })
+        }
+        Reach::All => turns::negotiate(
+            kind,
+            capacity,
+            first_edge,
+            edge_target,
+            source,
+            first_sink,
+            sink,
+            limit,
+            work,
+            log,
+        ),
+    }
+}

@@ -1,0 +1,44 @@
+// Writing a turn's record to the log.
+ghost use mathlib.Core.List.{_++_};
+ghost use mathlib.Core.Path.{_≡_};
+ghost use Prim.Native.Nat.{_+_, _^_, _≤_, _<_};
+ghost use lib.ListN.{length, take, drop};
+ghost use Rattle.negotiation.specs.Records.{recordOf, words};
+ghost use Rattle.negotiation.specs.Steps.{AllBelow};
+
+// Copies the path at the beginning of the work slice to the log.
+fn copy_path(work: &[u64], count: usize, log: &mut [u32], at: usize)
+    requires { ⌜ (count ≤ length (now work)) × (at + count ≤ length (now log)) ⌝ }
+    requires { ⌜ AllBelow (2 ^ 32) (take count (now work)) ⌝ }
+    ensures { λ _. ⌜ now (log .exit) ≡ take at (now (log .entry)) ++ (take count (now (work .entry)) ++ drop (at + count) (now (log .entry))) ⌝ }
+{
+    let mut k = 0;
+    while k < count {
+        log[at + k] = work[k] as u32;
+        k += 1;
+    }
+}
+
+// Writes the record of a turn whose path stands at the beginning of the work slice.
+pub fn write_record(
+    log: &mut [u32],
+    at: usize,
+    iteration: u32,
+    net: u32,
+    sink: u32,
+    cost: u64,
+    work: &[u64],
+    count: usize,
+)
+    requires { ⌜ (count ≤ length (now work)) × (at + (6 + count) ≤ length (now log)) × (count < 2 ^ 32) ⌝ }
+    requires { ⌜ AllBelow (2 ^ 32) (take count (now work)) ⌝ }
+    ensures { λ _. ⌜ now (log .exit) ≡ take at (now (log .entry)) ++ (words (recordOf iteration net sink cost (take count (now (work .entry)))) ++ drop (at + (6 + count)) (now (log .entry))) ⌝ }
+{
+    log[at] = iteration;
+    log[at + 1] = net;
+    log[at + 2] = sink;
+    log[at + 3] = (cost % 4294967296) as u32;
+    log[at + 4] = (cost / 4294967296) as u32;
+    log[at + 5] = count as u32;
+    copy_path(work, count, log, at + 6);
+}

@@ -1,0 +1,281 @@
+// The negotiation itself: sinks within nets within iterations.
+ghost use mathlib.Core.List.{_∷_, _++_};
+ghost use mathlib.Core.Path.{_≡_};
+ghost use Prim.Native.Nat.{_+_, _*_, _^_, _≤_, _<_};
+ghost use lib.ListN.{length, drop, replicate};
+ghost use lib.Seq.{slice};
+ghost use Rattle.price.specs.Prices.{nextFactor};
+ghost use Rattle.search.specs.Block.{blockOf};
+ghost use Rattle.search.specs.Turn.{congestionOf, priceAt, turn};
+ghost use Rattle.negotiation.specs.Job.{jobOf};
+ghost use Rattle.negotiation.specs.Tables.{SoundJob};
+ghost use Rattle.negotiation.specs.Outcome.{negotiated, routed};
+ghost use Rattle.negotiation.specs.Records.{decode, pathNodes};
+ghost use Rattle.negotiation.specs.Steps.{SameFrom, leading, oldTree, oldNext, RipReady, RippedUp, CountReady, Counted, tariffAfter, TurnDone, CanTurn};
+use crate::Outcome;
+use crate::Routed;
+use crate::congestion;
+use crate::records;
+use crate::trees;
+use search::PathAnswer;
+
+// What 01 calls the tariff: iteration, factor, turns made and words written.
+pub struct Tariff {
+    pub iteration: u32,
+    pub factor: u32,
+    pub turns: u64,
+    pub words: usize,
+}
+
+// What an attempt at a turn does.
+pub enum TurnMade {
+    // No sink is left to be joined.
+    Nothing,
+    // The turn's record does not fit the log.
+    Full,
+    // The turn is logged, and this is the tariff after it.
+    Logged(Tariff),
+}
+
+// The tariff after a turn of so many words is logged.
+fn turn_logged(t: Tariff, count: usize) -> Tariff
+    requires { ⌜ (t .words + count < 2 ^ 63) × (t .turns ≤ t .words) ⌝ }
+    ensures { λ r. ⌜ r ≡ tariffAfter t count ⌝ }
+{
+    Tariff {
+        iteration: t.iteration,
+        factor: t.factor,
+        turns: t.turns + 1,
+        words: t.words + count,
+    }
+}
+
+// The tariff at the next iteration's start.
+fn next_iteration(t: Tariff) -> Tariff
+    requires { ⌜ t .iteration < 100 ⌝ }
+    ensures { λ r. ⌜ (r .iteration ≡ t .iteration + 1) × (r .factor ≡ nextFactor (t .iteration) (t .factor)) × (r .turns ≡ t .turns) × (r .words ≡ t .words) ⌝ }
+{
+    Tariff {
+        iteration: t.iteration + 1,
+        factor: price::next_factor(t.iteration, t.factor),
+        turns: t.turns,
+        words: t.words,
+    }
+}
+
+// The answer at the end of a run.
+fn answer(outcome: Outcome, t: Tariff) -> Routed
+    ensures { λ r. ⌜ (r .outcome ≡ outcome) × (r .iteration ≡ t .iteration) × (r .turns ≡ t .turns) × (r .words ≡ t .words) ⌝ }
+{
+    Routed {
+        outcome: outcome,
+        iteration: t.iteration,
+        turns: t.turns,
+        words: t.words as u64,
+    }
+}
+
+// Entries of the work slice below `to` hold 0.
+pub fn clear(work: &mut [u64], to: usize)
+    requires { ⌜ to ≤ length (now work) ⌝ }
+    ensures { λ _. ⌜ now (work .exit) ≡ replicate to 0 ++ drop to (now (work .entry)) ⌝ }
+{
+    let mut k = 0;
+    while k < to {
+        work[k] = 0;
+        k += 1;
+    }
+}
+
+// The net's old tree is dropped: its nodes lose a user each. The answer is where the next net's old records begin.
+fn rip_up(
+    log: &[u32],
+    at: usize,
+    until: usize,
+    iteration: u32,
+    net: u32,
+    from: usize,
+    users: &mut [u16],
+    in_tree: &mut [u8],
+) -> usize
+    requires { ⌜ RipReady (length (now «in_tree»)) iteration net from at until (now log) (now users) (now «in_tree») ⌝ }
+    ensures { λ r. ⌜ r ≡ oldNext iteration at (leading net (decode (slice at until (now (log .entry))))) ⌝ }
+    ensures { λ _. ⌜ RippedUp (length (now («in_tree» .entry))) (oldTree iteration from (leading net (decode (slice at until (now (log .entry)))))) (now (users .entry)) (now («in_tree» .entry)) (now (users .exit)) (now («in_tree» .exit)) ⌝ }
+{
+    if iteration <= 1 {
+        return at;
+    }
+    in_tree[from] = 1;
+    users[from] -= 1;
+    let next = trees::drop_records(log, at, until, net, users, in_tree);
+    trees::unmark_records(log, at, next, in_tree);
+    in_tree[from] = 0;
+    next
+}
+
+// The net's new tree counts: its nodes gain a user each, and lose their mark.
+fn count_tree(
+    log: &[u32],
+    at: usize,
+    until: usize,
+    from: usize,
+    users: &mut [u16],
+    in_tree: &mut [u8],
+)
+    requires { ⌜ CountReady (length (now «in_tree»)) from at until (now log) (now users) (now «in_tree») ⌝ }
+    ensures { λ _. ⌜ Counted (length (now («in_tree» .entry))) (from ∷ pathNodes (decode (slice at until (now (log .entry))))) (now (users .entry)) (now («in_tree» .entry)) (now (users .exit)) (now («in_tree» .exit)) ⌝ }
+{
+    trees::add_records(log, at, until, users, in_tree);
+    if in_tree[from] == 1 {
+        in_tree[from] = 0;
+        users[from] += 1;
+    }
+}
+
+// One turn of a net: its record is written where it fits, and its path joins the tree.
+fn one_turn(
+    kind: &[u8],
+    capacity: &[u8],
+    first_edge: &[u32],
+    edge_target: &[u16],
+    sinks: &[u16],
+    net: u32,
+    tariff: Tariff,
+    work: &mut [u64],
+    log: &mut [u32],
+    history: &[u32],
+    users: &[u16],
+    in_tree: &mut [u8],
+) -> TurnMade
+    requires { ⌜ CanTurn (blockOf (now kind) (now capacity) (now «first_edge») (now «edge_target»)) tariff net (now sinks) (now history) (now users) (now «in_tree») (now work) (now log) ⌝ }
+    ensures { λ r. ⌜ TurnDone (length (now (kind .entry))) r (turn (blockOf (now (kind .entry)) (now (capacity .entry)) (now («first_edge» .entry)) (now («edge_target» .entry))) (priceAt (blockOf (now (kind .entry)) (now (capacity .entry)) (now («first_edge» .entry)) (now («edge_target» .entry))) (congestionOf (tariff .factor) (now (history .entry)) (now (users .entry)))) (now («in_tree» .entry)) (now (sinks .entry))) tariff net (now (sinks .entry)) (now (log .entry)) (now («in_tree» .entry)) (now (log .exit)) (now («in_tree» .exit)) ⌝ }
+    ensures { λ _. ⌜ SameFrom (8 * length (now (kind .entry))) (now (work .entry)) (now (work .exit)) ⌝ }
+{
+    let factor = tariff.factor;
+    let answer = search::cheapest_path(
+        kind,
+        capacity,
+        first_edge,
+        edge_target,
+        factor,
+        work,
+        history,
+        users,
+        in_tree,
+        sinks,
+    );
+    let PathAnswer::Joins {
+        place,
+        cost,
+        length,
+    } = answer
+    else {
+        return TurnMade::Nothing;
+    };
+    let count = length as usize;
+    let at = tariff.words;
+    if log.len() - at < 6 + count {
+        return TurnMade::Full;
+    }
+    let p = place as usize;
+    let iteration = tariff.iteration;
+    records::write_record(log, at, iteration, net, sinks[p] as u32, cost, work, count);
+    trees::mark_path(work, count, in_tree);
+    TurnMade::Logged(turn_logged(tariff, 6 + count))
+}
+
+// The negotiation: in each iteration every net in order drops its old tree and makes turns until its sinks are joined. Routing stops inside a net at
+// the first turn whose record does not fit.
+pub fn negotiate(
+    kind: &[u8],
+    capacity: &[u8],
+    first_edge: &[u32],
+    edge_target: &[u16],
+    source: &[u16],
+    first_sink: &[u32],
+    sink: &[u16],
+    limit: u32,
+    work: &mut [u64],
+    log: &mut [u32],
+) -> Routed
+    requires { ⌜ SoundJob (jobOf (now kind) (now capacity) (now «first_edge») (now «edge_target») (now source) (now «first_sink») (now sink) limit) ⌝ }
+    requires { ⌜ 8 * length (now kind) ≤ length (now work) ⌝ }
+    ensures { λ r. ⌜ routed r (now (work .exit)) (now (log .exit)) ≡ negotiated (jobOf (now (kind .entry)) (now (capacity .entry)) (now («first_edge» .entry)) (now («edge_target» .entry)) (now (source .entry)) (now («first_sink» .entry)) (now (sink .entry)) limit) (now (work .entry)) (now (log .entry)) ⌝ }
+{
+    let n = kind.len();
+    let mut history = [1u32; 4096];
+    let mut users = [0u16; 4096];
+    let mut in_tree = [0u8; 4096];
+    let mut tariff = Tariff {
+        iteration: 1,
+        factor: 0,
+        turns: 0,
+        words: 0,
+    };
+    let mut old = 0;
+    'iterations: loop {
+        let start = tariff.words;
+        let mut net = 0;
+        while net < source.len() {
+            let s = source[net] as usize;
+            let from = first_sink[net] as usize;
+            let to = first_sink[net + 1] as usize;
+            let iteration = tariff.iteration;
+            old = rip_up(
+                log,
+                old,
+                start,
+                iteration,
+                net as u32,
+                s,
+                &mut users[..n],
+                &mut in_tree[..n],
+            );
+            let first = tariff.words;
+            in_tree[s] = 1;
+            let mut left = to - from;
+            while 0 < left {
+                match one_turn(
+                    kind,
+                    capacity,
+                    first_edge,
+                    edge_target,
+                    &sink[from..to],
+                    net as u32,
+                    tariff,
+                    work,
+                    log,
+                    &history[..n],
+                    &users[..n],
+                    &mut in_tree[..n],
+                ) {
+                    TurnMade::Nothing => {}
+                    TurnMade::Full => {
+                        break 'iterations;
+                    }
+                    TurnMade::Logged(t) => {
+                        tariff = t;
+                    }
+                }
+                left -= 1;
+            }
+            let until = tariff.words;
+            count_tree(log, first, until, s, &mut users[..n], &mut in_tree[..n]);
+            net += 1;
+        }
+        let over = congestion::over_count(capacity, &users[..n]);
+        if over == 0 {
+            clear(work, 8 * n);
+            return answer(Outcome::Accepted, tariff);
+        }
+        if tariff.iteration == limit {
+            clear(work, 8 * n);
+            return answer(Outcome::Limit(over), tariff);
+        }
+        congestion::grow_histories(capacity, &users[..n], &mut history[..n]);
+        tariff = next_iteration(tariff);
+        old = start;
+    }
+    clear(work, 8 * n);
+    answer(Outcome::LogFull, tariff)
+}

@@ -1,0 +1,67 @@
+-- What the cheapest path answers where nothing is refused: the turn, by its cases. For the crate above.
+-- Assumes nothing.
+use mathlib.Core.Bool.{true, false}
+use mathlib.Core.List.{List, [], _∷_}
+use mathlib.Core.Path.{_≡_, refl, sym, _∙_, ap, subst}
+use Prim.Native.Nat.{ℕ, _*_, _≤_, _<_}
+use native.Mathlib.Omega.{arith}
+use lib.ListN.{length}
+use borrow.Author.Tests.{le-ltb, lt-leb}
+use Rattle.price.specs.Bounds.{factorMost}
+use Rattle.price.proofs.ListLaws.{firstBelow-all}
+use Rattle.search.specs.Block.{Block, nodes}
+use Rattle.search.specs.Tables.{Sound, faultyTable}
+use Rattle.search.specs.Turn.{Congestion, priceAt, Turn, joins, stuck, turn}
+use Rattle.search.specs.Replies.{nodeSound, badNode, refusalOf, sinksSound, faultyWithSinks, PathReply, cleared, turnReply, pathReply, pathTaken}
+use Rattle.search.specs.declared.PathAnswer.{PathAnswer}
+use Rattle.search.specs.declared.PathAnswer.the-variants.{Joins, Stuck, BadTable, ShortWork, BadNumber}
+use Rattle.search.proofs.BlockLaws.{faulty-of}
+
+module _ (b : Block) (c : Congestion) (marks sinks work : List ℕ) where
+  pub path-turn :
+      Sound b → sinksSound (nodes b) sinks ≡ true → 8 * nodes b ≤ length work → ((v : ℕ) → v < nodes b → nodeSound c marks v ≡ true) → c .factor ≤ factorMost
+      → pathReply b c marks sinks work ≡ turnReply (nodes b) work (turn b (priceAt b c) marks sinks)
+  unfolding pathReply refusalOf faultyWithSinks badNode
+  path-turn s t l n f =
+      let bad : badNode (nodes b) c marks ≡ nodes b = firstBelow-all _ (nodes b) (λ v h. rw (n v h)) in
+      rw (
+        faulty-of b s,
+        t,
+        le-ltb (length work) (8 * nodes b) l,
+        bad,
+        le-ltb (nodes b) (nodes b) (omega arith),
+        le-ltb factorMost (c .factor) f,
+      )
+
+  module _ (n : ℕ) (w′ : List ℕ) (t : Turn) where
+    pub joined-turn : (place cost count : ℕ) → pathTaken (Joins place cost count) w′ ≡ turnReply n work t → (path : List ℕ) × (t ≡ joins place cost path) × (count ≡ length path) × (w′ ≡ cleared n path work)
+    joined-turn place cost count e = go t e
+      where
+        go : (t : Turn) → pathTaken (Joins place cost count) w′ ≡ turnReply n work t → (path : List ℕ) × (t ≡ joins place cost path) × (count ≡ length path) × (w′ ≡ cleared n path work)
+        go (joins p k path) e =
+            let numbers : (place ∷ cost ∷ count ∷ []) ≡ (p ∷ k ∷ length path ∷ []) = ap (λ (r : PathReply). r .joined) e in
+            let a : place ≡ p = cc in
+            let b : cost ≡ k = cc in
+            let c : count ≡ length path = cc in
+            (path, (cc), c, ap (λ (r : PathReply). r .work) e)
+        go stuck e =
+            let numbers : (place ∷ cost ∷ count ∷ []) ≡ [] = ap (λ (r : PathReply). r .joined) e in
+            let z : _≡_ {A = ℕ} 0 1 = cc in
+            absurd (omega arith)
+
+    pub stuck-turn : pathTaken Stuck w′ ≡ turnReply n work t → (t ≡ stuck) × (w′ ≡ cleared n [] work)
+    stuck-turn e = go t e
+      where
+        go : (t : Turn) → pathTaken Stuck w′ ≡ turnReply n work t → (t ≡ stuck) × (w′ ≡ cleared n [] work)
+        go (joins p k path) e =
+            let numbers : [] ≡ (p ∷ k ∷ length path ∷ []) = ap (λ (r : PathReply). r .joined) e in
+            let z : _≡_ {A = ℕ} 0 1 = cc in
+            absurd (omega arith)
+        go stuck e = (refl, ap (λ (r : PathReply). r .work) e)
+
+    -- a refusal is no turn
+    pub no-refusal : (r : PathAnswer) (k : ℕ) (ks : List ℕ) → (pathTaken r w′) .refusal ≡ k ∷ ks → pathTaken r w′ ≡ turnReply n work t → ⊥
+    no-refusal r k ks p e =
+        let q : [] ≡ k ∷ ks = sym (ap (λ (x : PathReply). x .refusal) e) ∙ p in
+        let z : _≡_ {A = ℕ} 0 1 = cc in
+        omega arith
