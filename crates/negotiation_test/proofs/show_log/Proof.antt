@@ -1,0 +1,52 @@
+-- `negotiation_test::show_log` prints every entry. The invariant: k is within the slice. The measure is what is left of it.
+-- Assumes nothing.
+use Prim.Native.Nat.{_≤_, _-_}
+use borrow.Author.Needs.{needs}
+use lib.ListN.{length}
+use Rattle.negotiation_test.proofs.show_log.Statement.{statement}
+use Rattle.negotiation_test.proofs.show_log.Tie as tie
+
+abbrev Inv-loop : tie.InvT-loop
+Inv-loop log k₀ k = k ≤ length log
+
+abbrev μ-loop : tie.MeasureT-loop
+μ-loop log k₀ k = length log - k
+
+loop-holds : tie.Need-loop-holds Inv-loop μ-loop
+loop-holds c = search needs
+
+mul-word : tie.Need-mul-word Inv-loop μ-loop
+mul-word c = search needs
+
+shared-slice-read-word : tie.Need-shared-slice-read-word Inv-loop μ-loop
+shared-slice-read-word c = search needs
+
+word-requires : tie.Need-word-requires Inv-loop μ-loop
+word-requires c κs = search needs
+
+add-k : tie.Need-add-k Inv-loop μ-loop
+add-k c = search needs
+
+loop-less : tie.Need-loop-less Inv-loop μ-loop
+loop-less c = search needs
+
+loop-again : tie.Need-loop-again Inv-loop μ-loop
+loop-again c = search needs
+
+returns : tie.Need-returns Inv-loop μ-loop
+returns c = search needs
+
+pub show-log-spec : {M : Type 1} → statement M
+show-log-spec =
+    tie.close
+    (tie.spec
+    Inv-loop
+    μ-loop
+    loop-holds
+    mul-word
+    shared-slice-read-word
+    word-requires
+    add-k
+    loop-less
+    loop-again
+    returns)
