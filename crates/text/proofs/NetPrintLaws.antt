@@ -1,0 +1,301 @@
+-- The reader takes the printed form of sound tables 5 to 7, and gives these tables.
+-- Assumes nothing.
+use mathlib.Core.Bool.{true, false}
+use mathlib.Core.List.{List, [], _∷_, _++_, append-assoc}
+use mathlib.Core.Logic.{_⊎_, ⊎-elim, inl, inr}
+use mathlib.Core.Path.{_≡_, refl, sym, _∙_, ap, subst}
+use Prim.Native.Nat.{ℕ, zero, suc, _+_, _-_, _^_, _≤_, _<_}
+use native.Mathlib.Nat.{eq-or-lt-of-le}
+use native.Mathlib.Numerals.{add-one}
+use native.Mathlib.Omega.{arith}
+use lib.Dec.{leb, ltb, eqb}
+use lib.ListN.{length, getD, take, length-append}
+use lib.Seq.{slice, slice-empty, slice-cons, length-slice, take-suc, take-all, length-take-le, getD-take}
+use borrow.Author.Tests.{le-leb, lt-ltb, leb-true, ltb-true, eqb-true, eq-eqb}
+use Rattle.price.specs.Bounds.{nodesMost}
+use Rattle.price.specs.Lists.{every, has, upTo}
+use Rattle.price.proofs.ListLaws.{either-way, both-true, both-left, both-right, every-at, length-upTo, getD-upTo}
+use Rattle.search.specs.Replies.{sinksMost}
+use Rattle.negotiation.specs.Job.{sinksBetween}
+use Rattle.negotiation.specs.Tables.{netsMost, sourcesSound, firstSinksSound, netSound, sinksSound}
+use Rattle.negotiation.proofs.JobLaws.{sources-some, sources-few, source-below, firsts-long, firsts-end, firsts-order, firsts-most}
+use Rattle.negotiation.proofs.MarkLaws.{below-at, slice-parts}
+use Rattle.text.specs.Lines.{taken, line, printLine}
+use Rattle.text.specs.JobText.{values, lastOf, pinWithin, sourceLine, sinkOrdered, sinkLine, part, NetLists, netLists, sinksNow, sourceDue, sinkDue, complete, netEnd, withSource, withSink, nextSource, nextSink, netLine, netLines}
+use Rattle.text.specs.Printed.{joined, eachLine}
+use Rattle.text.proofs.NetTextLaws.{netAt, ends, net-new}
+use Rattle.text.proofs.NetReadLaws.{now-is}
+use Rattle.text.proofs.PrintLaws.{line-printed}
+
+-- ---- one line
+
+-- a printed line of two fields is taken
+two-taken : (letter i v : ℕ) (rest : List ℕ) → i ≤ netsMost → v < nodesMost → line letter 2 (printLine letter (i ∷ v ∷ []) ++ rest) ≡ taken (i ∷ v ∷ []) rest
+unfolding every
+two-taken letter i v rest h l =
+    line-printed letter (i ∷ v ∷ []) rest
+    (both-true (lt-ltb i (10 ^ 6) (omega arith)) (both-true (lt-ltb v (10 ^ 6) (omega arith)) refl))
+
+module _ (n nets : ℕ) (l : NetLists) (nodes-few : n ≤ nodesMost) (nets-few : nets ≤ netsMost) where
+  source-read :
+      (i s : ℕ) (rest : List ℕ) → length (l .sources) ≡ i → i < nets → s < n → sourceDue nets l ≡ true
+      → netLine n nets l (printLine 83 (i ∷ s ∷ []) ++ rest) ≡ values (withSource l (i ∷ s ∷ [])) rest
+  unfolding netLine nextSource sourceLine pinWithin printLine
+  source-read i s rest count fits node due =
+      rw (due, two-taken 83 i s rest (omega arith) (omega arith), lt-ltb i nets fits, lt-ltb s n node, count, eq-eqb i i refl)
+
+  sink-read :
+      (i t : ℕ) (rest : List ℕ) → length (l .sources) ≡ i + 1 → i < nets → t < n → has t (lastOf (l .sources) ∷ sinksNow l) ≡ false → length (l .sinks) < sinksMost
+      → netLine n nets l (printLine 84 (i ∷ t ∷ []) ++ rest) ≡ values (withSink l (i ∷ t ∷ [])) rest
+  unfolding netLine nextSink sinkLine sinkOrdered pinWithin printLine sinkDue
+  sink-read i t rest count fits node new room =
+      let due : leb 1 (length (l .sources)) ≡ true = le-leb 1 (length (l .sources)) (omega arith) in
+      let last : i ≡ length (l .sources) - 1 = omega arith in
+      rw (due, two-taken 84 i t rest (omega arith) (omega arith), lt-ltb i nets fits, lt-ltb t n node, eq-eqb i (length (l .sources) - 1) last, new, lt-ltb (length (l .sinks)) sinksMost room)
+
+-- a line that is taken is the first of the lines
+line-first :
+    (n nets k : ℕ) (l next : NetLists) (at letter : ℕ) (vs rest : List ℕ) → netLine n nets l (printLine letter vs ++ rest) ≡ values next rest
+    → netLines (suc k) n nets l at (printLine letter vs ++ rest) ≡ netLines k n nets next (at + 1) rest
+unfolding netLines printLine
+line-first n nets k l next at letter vs rest e = rw e
+
+line-longer : (letter : ℕ) (vs rest : List ℕ) → length rest < length (printLine letter vs ++ rest)
+unfolding printLine
+line-longer letter vs rest = rw length-append (omega arith)
+
+-- ---- the tables that are read
+
+-- the reader takes the printed form from line `at` on, and gives these tables
+pub record TablesPrinted (k n at : ℕ) (ss fs ts : List ℕ) : Type 0 where
+  pub after : ℕ
+  pub reads :
+      netLines k n (length ss) (netLists [] [] []) at (joined (netAt ss fs ts) 0 (length ss))
+      ≡ part (netLists ss (take (length ss) fs) ts) after []
+  pub firsts : ends (take (length ss) fs) ts ≡ fs
+
+-- ---- the lists and the text after m sources and p sinks
+
+abbrev listsAt : List ℕ → List ℕ → List ℕ → ℕ → ℕ → NetLists
+listsAt ss fs ts m p = netLists (take m ss) (take m fs) (take p ts)
+
+abbrev textAt : List ℕ → List ℕ → List ℕ → ℕ → ℕ → List ℕ
+textAt ss fs ts m p = eachLine 84 (m - 1) (slice p (getD fs m 0) ts) ++ joined (netAt ss fs ts) m (length ss - m)
+
+-- where the reader may stand: in the last of m nets, or before the first
+record Stand (ss fs : List ℕ) (m p : ℕ) : Type 0 where
+  few : m ≤ length ss
+  least : (i : ℕ) → i + 1 ≡ m → getD fs i 0 ≤ p
+  most : p ≤ getD fs m 0
+
+-- a line is left, and the reader takes it
+record Next (n : ℕ) (ss fs ts : List ℕ) (m p : ℕ) : Type 0 where
+  m2 : ℕ
+  p2 : ℕ
+  letter : ℕ
+  vs : List ℕ
+  stand : Stand ss fs m2 p2
+  text : textAt ss fs ts m p ≡ printLine letter vs ++ textAt ss fs ts m2 p2
+  reads : netLine n (length ss) (listsAt ss fs ts m p) (printLine letter vs ++ textAt ss fs ts m2 p2) ≡ values (listsAt ss fs ts m2 p2) (textAt ss fs ts m2 p2)
+
+-- or none is
+record Last (ss fs ts : List ℕ) (m p : ℕ) : Type 0 where
+  text : textAt ss fs ts m p ≡ []
+  whole : complete (length ss) (listsAt ss fs ts m p) ≡ true
+  lists : listsAt ss fs ts m p ≡ netLists ss (take (length ss) fs) ts
+
+module _
+    (n : ℕ) (ss fs ts : List ℕ) (nodes-few : n ≤ nodesMost)
+    (sources-sound : sourcesSound n ss ≡ true) (firsts-sound : firstSinksSound (length ss) (length ts) fs ≡ true) (sinks-sound : sinksSound n ss fs ts ≡ true) where
+  nets-few : length ss ≤ netsMost
+  nets-few = sources-few n ss sources-sound
+
+  long : length fs ≡ length ss + 1
+  long = firsts-long (length ss) (length ts) fs firsts-sound
+
+  order : (i : ℕ) → i < length ss → getD fs i 0 < getD fs (i + 1) 0
+  order = firsts-order (length ss) (length ts) fs firsts-sound
+
+  inside : (i : ℕ) → i ≤ length ss → getD fs i 0 ≤ length ts
+  inside = firsts-most (length ss) (length ts) fs firsts-sound
+
+  begin : getD fs 0 0 ≡ 0
+  unfolding firstSinksSound
+  begin = eqb-true (getD fs 0 0) 0 (both-left _ _ (both-right (eqb (length fs) (length ss + 1)) _ firsts-sound))
+
+  sinks-few : length ts ≤ sinksMost
+  unfolding sinksSound
+  sinks-few = leb-true (length ts) sinksMost (both-left _ _ sinks-sound)
+
+  -- the rule of table 7 for one net
+  rule : (i : ℕ) → i < length ss → netSound n (getD ss i 0) (sinksBetween fs ts i) ≡ true
+  unfolding sinksSound
+  rule i h =
+      let here = every-at (λ i. netSound n (getD ss i 0) (sinksBetween fs ts i)) (upTo (λ i. i) (length ss)) (both-right (leb (length ts) sinksMost) _ sinks-sound) i (rw length-upTo h) in
+      rw (getD-upTo (λ i. i) (length ss) i 0 h) at here
+
+  -- in the last net i
+  module _ (m i p : ℕ) (last : i + 1 ≡ m) (few : m ≤ length ss) where
+    now-at : sinksNow (listsAt ss fs ts m p) ≡ slice (getD fs i 0) p ts
+    now-at =
+        let l : length fs ≡ length ss + 1 = long in
+        now-is (listsAt ss fs ts m p) i (length-take-le m fs (omega arith) ∙ sym last)
+        ∙ rw (getD-take m fs i 0 (omega arith))
+
+    source-at : lastOf (take m ss) ≡ getD ss i 0
+    source-at =
+        let place : m - 1 ≡ i = omega arith in
+        rw (length-take-le m ss few, place) (getD-take m ss i 0 (omega arith))
+
+    now-some : getD fs i 0 < p → p ≤ length ts → leb 1 (length (sinksNow (listsAt ss fs ts m p))) ≡ true
+    now-some h l = rw (now-at, length-slice (getD fs i 0) p ts l) (le-leb 1 (p - getD fs i 0) (omega arith))
+
+    -- a sink of it is left
+    sink-next : getD fs i 0 ≤ p → p < getD fs m 0 → Next n ss fs ts m p
+    unfolding eachLine netSound
+    sink-next least below =
+        let within : getD fs m 0 ≤ length ts = inside m few in
+        let most : length ts ≤ sinksMost = sinks-few in
+        let place : m - 1 ≡ i = omega arith in
+        let net : netSound n (getD ss i 0) (slice (getD fs i 0) (getD fs m 0) ts) ≡ true = rw last at (rule i (omega arith)) in
+        let parts : slice (getD fs i 0) (getD fs m 0) ts ≡ slice (getD fs i 0) p ts ++ (getD ts p 0 ∷ slice (suc p) (getD fs m 0) ts) =
+        slice-parts (getD fs i 0) (getD fs m 0) p ts least within (omega arith)
+        ∙ ap (λ (r : List ℕ). slice (getD fs i 0) p ts ++ r) (slice-cons p (getD fs m 0) ts 0 below within) in
+        let node : getD ts p 0 < n =
+        below-at (getD fs i 0) (getD fs m 0) p ts least within
+        (λ k h. ltb-true _ _ (every-at (λ v. ltb v n) (slice (getD fs i 0) (getD fs m 0) ts) (both-left _ _ net) k h)) below in
+        let passed : length (take p ts) ≡ p = length-take-le p ts (omega arith) in
+        record {
+          m2 = m;
+          p2 = suc p;
+          letter = 84;
+          vs = i ∷ getD ts p 0 ∷ [];
+          stand = record { few = few; least = λ k h. let same : k ≡ i = omega arith in rw same (omega arith); most = omega arith };
+          text =
+              rw (slice-cons p (getD fs m 0) ts 0 below within, place)
+              (append-assoc (printLine 84 (i ∷ getD ts p 0 ∷ [])) (eachLine 84 i (slice (suc p) (getD fs m 0) ts)) (joined (netAt ss fs ts) m (length ss - m)));
+          reads =
+              sink-read n (length ss) (listsAt ss fs ts m p) nodes-few nets-few i (getD ts p 0) (textAt ss fs ts m (suc p))
+              (length-take-le m ss few ∙ sym last) (omega arith) node
+              (rw (source-at, now-at) (net-new n (getD ss i 0) (slice (getD fs i 0) p ts) (getD ts p 0) (slice (suc p) (getD fs m 0) ts) (rw parts at net)))
+              (omega arith)
+              ∙ rw (take-suc ts p 0 (omega arith));
+        }
+
+  source-due : (m : ℕ) → m < length ss → sourceDue (length ss) (listsAt ss fs ts m (getD fs m 0)) ≡ true
+  unfolding sourceDue
+  source-due zero h = both-true (lt-ltb 0 (length ss) h) refl
+  source-due (suc i) h =
+      let passed : length (take (suc i) ss) ≡ suc i = length-take-le (suc i) ss (omega arith) in
+      let less : getD fs i 0 < getD fs (suc i) 0 = rw add-one at (order i (omega arith)) in
+      both-true (lt-ltb (length (take (suc i) ss)) (length ss) (omega arith))
+      (⊎-elim
+      (λ (q : eqb (length (take (suc i) ss)) 0 ≡ true). rw q)
+      (λ (q : eqb (length (take (suc i) ss)) 0 ≡ false).
+      rw q (now-some (suc i) i (getD fs (suc i) 0) (add-one i) (omega arith) less (inside (suc i) (omega arith))))
+      (either-way (eqb (length (take (suc i) ss)) 0)))
+
+  -- all its sinks are read, and a net is left
+  source-next : (m : ℕ) → m < length ss → Next n ss fs ts m (getD fs m 0)
+  unfolding eachLine joined
+  source-next m h =
+      let l : length fs ≡ length ss + 1 = long in
+      let within : getD fs m 0 ≤ length ts = inside m (omega arith) in
+      let less : getD fs m 0 < getD fs (m + 1) 0 = order m h in
+      let one : length ss - m ≡ suc (length ss - (m + 1)) = omega arith in
+      let back : m + 1 - 1 ≡ m = omega arith in
+      record {
+        m2 = m + 1;
+        p2 = getD fs m 0;
+        letter = 83;
+        vs = m ∷ getD ss m 0 ∷ [];
+        stand = record { few = omega arith; least = λ k e. let same : k ≡ m = omega arith in rw same (omega arith); most = omega arith };
+        text =
+            rw (slice-empty (getD fs m 0) ts, one, back)
+            (append-assoc (printLine 83 (m ∷ getD ss m 0 ∷ [])) (eachLine 84 m (sinksBetween fs ts m)) (joined (netAt ss fs ts) (suc m) (length ss - (m + 1)))
+            ∙ ap (λ (k : ℕ). printLine 83 (m ∷ getD ss m 0 ∷ []) ++ (eachLine 84 m (sinksBetween fs ts m) ++ joined (netAt ss fs ts) k (length ss - (m + 1)))) (sym (add-one m)));
+        reads =
+            source-read n (length ss) (listsAt ss fs ts m (getD fs m 0)) nodes-few nets-few m (getD ss m 0) (textAt ss fs ts (m + 1) (getD fs m 0))
+            (length-take-le m ss (omega arith)) h (source-below n ss sources-sound m h) (source-due m h)
+            ∙ rw (length-take-le (getD fs m 0) ts within, add-one, take-suc ss m 0 h, take-suc fs m 0 (omega arith));
+      }
+
+  -- all nets are read
+  net-last : Last ss fs ts (length ss) (getD fs (length ss) 0)
+  unfolding complete eachLine joined
+  net-last =
+      let end : getD fs (length ss) 0 ≡ length ts = firsts-end (length ss) (length ts) fs firsts-sound in
+      let some : 1 ≤ length ss = sources-some n ss sources-sound in
+      let last : length ss - 1 + 1 ≡ length ss = omega arith in
+      let none : length ss - length ss ≡ 0 = omega arith in
+      let less : getD fs (length ss - 1) 0 < getD fs (length ss) 0 = rw last at (order (length ss - 1) (omega arith)) in
+      record {
+        text = rw (slice-empty (getD fs (length ss) 0) ts, none);
+        whole =
+            both-true (eq-eqb (length (take (length ss) ss)) (length ss) (length-take-le (length ss) ss (omega arith)))
+            (now-some (length ss) (length ss - 1) (getD fs (length ss) 0) last (omega arith) less (omega arith));
+        lists = rw (end, take-all (length ss) ss (omega arith), take-all (length ts) ts (omega arith));
+      }
+
+  -- one of the three
+  line-left : (m p : ℕ) → Stand ss fs m p → Next n ss fs ts m p ⊎ Last ss fs ts m p
+  line-left m p st =
+      ⊎-elim
+      (λ (e : p ≡ getD fs m 0).
+      ⊎-elim
+      (λ (f : m ≡ length ss). inr (rw (e, f) net-last))
+      (λ (b : m < length ss). inl (rw e (source-next m b)))
+      (eq-or-lt-of-le (st .few)))
+      (λ (b : p < getD fs m 0).
+      ⊎-elim
+      (λ (z : 0 ≡ m). let first : getD fs m 0 ≡ 0 = subst (λ (k : ℕ). getD fs k 0 ≡ 0) z begin in absurd (omega arith))
+      (λ (some : 0 < m).
+      let last : m - 1 + 1 ≡ m = omega arith in
+      inl (sink-next m (m - 1) p last (st .few) (st .least (m - 1) last) b))
+      (eq-or-lt-of-le (let z : 0 ≤ m = omega arith in z)))
+      (eq-or-lt-of-le (st .most))
+
+  last-end : (k m p at : ℕ) → Last ss fs ts m p → netLines k n (length ss) (listsAt ss fs ts m p) at (textAt ss fs ts m p) ≡ part (netLists ss (take (length ss) fs) ts) at []
+  unfolding netLines netEnd
+  last-end zero m p at r = rw (r .text, r .whole, r .lists)
+  last-end (suc k) m p at r = rw (r .text, r .whole, r .lists)
+
+  -- no text has more lines than bytes
+  read-on : (k m p at : ℕ) → Stand ss fs m p → length (textAt ss fs ts m p) ≤ k → (at2 : ℕ) × (netLines k n (length ss) (listsAt ss fs ts m p) at (textAt ss fs ts m p) ≡ part (netLists ss (take (length ss) fs) ts) at2 [])
+  read-on zero m p at st short =
+      ⊎-elim
+      (λ (r : Next n ss fs ts m p).
+      let longer = line-longer (r .letter) (r .vs) (textAt ss fs ts (r .m2) (r .p2)) in
+      let here : length (textAt ss fs ts m p) ≡ length (printLine (r .letter) (r .vs) ++ textAt ss fs ts (r .m2) (r .p2)) = ap length (r .text) in
+      absurd (omega arith))
+      (λ (r : Last ss fs ts m p). (at, last-end zero m p at r))
+      (line-left m p st)
+  read-on (suc k) m p at st short =
+      ⊎-elim
+      (λ (r : Next n ss fs ts m p).
+      let longer = line-longer (r .letter) (r .vs) (textAt ss fs ts (r .m2) (r .p2)) in
+      let here : length (textAt ss fs ts m p) ≡ length (printLine (r .letter) (r .vs) ++ textAt ss fs ts (r .m2) (r .p2)) = ap length (r .text) in
+      let later = read-on k (r .m2) (r .p2) (at + 1) (r .stand) (omega arith) in (
+        later .0,
+        ap (netLines (suc k) n (length ss) (listsAt ss fs ts m p) at) (r .text)
+            ∙ line-first n (length ss) k (listsAt ss fs ts m p) (listsAt ss fs ts (r .m2) (r .p2)) at (r .letter) (r .vs) (textAt ss fs ts (r .m2) (r .p2)) (r .reads)
+            ∙ later .1,
+      ))
+      (λ (r : Last ss fs ts m p). (at, last-end (suc k) m p at r))
+      (line-left m p st)
+
+  pub nets-printed : (k at : ℕ) → length (joined (netAt ss fs ts) 0 (length ss)) ≤ k → TablesPrinted k n at ss fs ts
+  unfolding eachLine
+  nets-printed k at short =
+      let l : length fs ≡ length ss + 1 = long in
+      let all : length ss - 0 ≡ length ss = omega arith in
+      let text : textAt ss fs ts 0 0 ≡ joined (netAt ss fs ts) 0 (length ss) = rw (begin, all) in
+      let stand : Stand ss fs 0 0 = record { few = omega arith; least = λ i e. absurd (omega arith); most = omega arith } in
+      let r = read-on k 0 0 at stand (rw text short) in
+      record {
+        after = r .0;
+        reads = rw text at (r .1);
+        firsts =
+            rw (← firsts-end (length ss) (length ts) fs firsts-sound)
+            (sym (take-suc fs (length ss) 0 (omega arith)) ∙ take-all (suc (length ss)) fs (omega arith));
+      }

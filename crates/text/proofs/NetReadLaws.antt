@@ -1,0 +1,258 @@
+-- What the reader takes for the nets' lines is the printed form of the tables that it gives, and these tables are sound.
+-- Assumes nothing.
+use mathlib.Core.Bool.{Bool, true, false, not}
+use mathlib.Core.List.{List, [], _∷_, _++_, append-nil, append-assoc}
+use mathlib.Core.Logic.{_⊎_, ⊎-elim, inl, inr}
+use mathlib.Core.Path.{_≡_, refl, sym, _∙_, ap, subst}
+use Prim.Native.Nat.{ℕ, zero, suc, _+_, _-_, _≤_, _<_}
+use native.Mathlib.Omega.{arith}
+use lib.Dec.{leb, ltb, eqb}
+use lib.ListN.{length, getD, drop, length-drop}
+use borrow.Author.Tests.{leb-true, ltb-true, eqb-true, not-true}
+use Rattle.price.specs.Test.{both}
+use Rattle.price.specs.Lists.{has}
+use Rattle.price.proofs.ListLaws.{either-way, both-left, both-right}
+use Rattle.search.specs.Replies.{sinksMost}
+use Rattle.negotiation.specs.Tables.{netsMost, sourcesSound, firstSinksSound, sinksSound}
+use Rattle.negotiation.proofs.NetTableLaws.{sources-all, nets-all}
+use Rattle.text.specs.Lines.{Fields, taken, malformed, line, printLine}
+use Rattle.text.specs.JobText.{Reading, values, refused, judged, lastOf, pinWithin, sourceLine, sinkOrdered, sinkLine, Part, part, stopped, onward, NetLists, netLists, sinksNow, sourceDue, sinkDue, complete, netEnd, withSource, withSink, nextSource, nextSink, taking, netLine, netLines}
+use Rattle.text.specs.Printed.{joined}
+use Rattle.text.proofs.NetTextLaws.{netAt, ends, Good, written, good-none, with-source, source-text, with-sink, sink-text, good-firsts}
+use Rattle.text.proofs.PrintLaws.{printed-line}
+
+-- ---- a line that is taken
+
+-- what a line that passes both tests gives
+record Judged (within ordered : List ℕ → Bool) (f : Fields) (vs rest : List ℕ) : Type 0 where
+  is : f ≡ taken vs rest
+  fits : within vs ≡ true
+  order : ordered vs ≡ true
+
+judged-values : (within ordered : List ℕ → Bool) (f : Fields) (vs rest : List ℕ) → judged within ordered f ≡ values vs rest → Judged within ordered f vs rest
+judged-values w o malformed vs rest e = absurd (let z : _≡_ {A = ℕ} 0 1 = cc in omega arith)
+judged-values w o (taken us r) vs rest e =
+    ⊎-elim
+    (λ (p : w us ≡ true).
+    ⊎-elim
+    (λ (q : o us ≡ true).
+    let e2 : values us r ≡ values vs rest = rw (p, q) at e in
+    let same : us ≡ vs = cc in
+    let left : r ≡ rest = cc in
+    record { is = rw (same, left); fits = rw same at p; order = rw same at q })
+    (λ (q : o us ≡ false).
+    let e2 : refused 3 ≡ values vs rest = rw (p, q) at e in
+    absurd (let z : _≡_ {A = ℕ} 0 1 = cc in omega arith))
+    (either-way (o us)))
+    (λ (p : w us ≡ false).
+    let e2 : refused 2 ≡ values vs rest = rw p at e in
+    absurd (let z : _≡_ {A = ℕ} 0 1 = cc in omega arith))
+    (either-way (w us))
+
+-- two fields
+two : (vs : List ℕ) → length vs ≡ 2 → vs ≡ getD vs 0 0 ∷ getD vs 1 0 ∷ []
+two [] e = absurd (omega arith)
+two (x ∷ []) e = absurd (omega arith)
+two (x ∷ y ∷ []) e = refl
+two (x ∷ y ∷ z ∷ zs) e = absurd (omega arith)
+
+-- a line of two fields, the first of which is known
+two-text : (letter i : ℕ) (bs vs rest : List ℕ) → line letter 2 bs ≡ taken vs rest → eqb (getD vs 0 0) i ≡ true → bs ≡ printLine letter (i ∷ getD vs 1 0 ∷ []) ++ rest
+two-text letter i bs vs rest e q =
+    let r = printed-line letter 2 bs vs rest e in
+    let whole : vs ≡ i ∷ getD vs 1 0 ∷ [] = two vs (r .0) ∙ ap (λ (v : ℕ). v ∷ getD vs 1 0 ∷ []) (eqb-true (getD vs 0 0) i q) in
+    r .1 ∙ ap (λ (us : List ℕ). printLine letter us ++ rest) whole
+
+-- a reading that gives lists, and what they were made of
+record Took {A B : Type 0} (f : A → B) (r : Reading A) (l : B) (rest : List ℕ) : Type 0 where
+  given : A
+  is : r ≡ values given rest
+  made : l ≡ f given
+
+taking-values : {A B : Type 0} (f : A → B) (r : Reading A) (l : B) (rest : List ℕ) → taking f r ≡ values l rest → Took f r l rest
+taking-values f (values x rs) l rest e = let left : rs ≡ rest = cc in record { given = x; is = rw left; made = cc }
+taking-values f (refused k) l rest e = absurd (let z : _≡_ {A = ℕ} 0 1 = cc in omega arith)
+
+-- a line that is followed by others
+record Onward {A B : Type 0} (r : Reading A) (next : A → List ℕ → Part B) (p : Part B) : Type 0 where
+  given : A
+  rest : List ℕ
+  is : r ≡ values given rest
+  later : next given rest ≡ p
+
+onward-part : {A B : Type 0} (r : Reading A) (at : ℕ) (next : A → List ℕ → Part B) (l : B) (at2 : ℕ) (rest : List ℕ) → onward r at next ≡ part l at2 rest → Onward r next (part l at2 rest)
+onward-part (values x rs) at next l at2 rest e = record { given = x; rest = rs; is = refl; later = e }
+onward-part (refused k) at next l at2 rest e = absurd (let z : _≡_ {A = ℕ} 0 1 = cc in omega arith)
+
+module _ (n nets : ℕ) (l : NetLists) where
+  -- what an S line says
+  record Sourced (bs : List ℕ) (next : NetLists) (rest : List ℕ) : Type 0 where
+    s : ℕ
+    due : sourceDue nets l ≡ true
+    node : s < n
+    is : next ≡ netLists (l .sources ++ (s ∷ [])) (ends (l .firstSinks) (l .sinks)) (l .sinks)
+    text : bs ≡ printLine 83 (length (l .sources) ∷ s ∷ []) ++ rest
+
+  -- what a T line says
+  record Sunk (bs : List ℕ) (next : NetLists) (rest : List ℕ) : Type 0 where
+    t : ℕ
+    due : sinkDue l ≡ true
+    node : ltb t n ≡ true
+    new : has t (lastOf (l .sources) ∷ sinksNow l) ≡ false
+    room : length (l .sinks) < sinksMost
+    is : next ≡ netLists (l .sources) (l .firstSinks) (l .sinks ++ (t ∷ []))
+    text : bs ≡ printLine 84 ((length (l .sources) - 1) ∷ t ∷ []) ++ rest
+
+  -- by either letter
+  sourced : (bs : List ℕ) (next : NetLists) (rest : List ℕ) → sourceDue nets l ≡ true → taking (withSource l) (nextSource n nets l bs) ≡ values next rest → Sourced bs next rest
+  unfolding nextSource sourceLine pinWithin
+  sourced bs next rest due e =
+      let k = taking-values (withSource l) (nextSource n nets l bs) next rest e in
+      let j = judged-values (pinWithin n nets) (λ vs. eqb (getD vs 0 0) (length (l .sources))) (line 83 2 bs) (k .given) rest (k .is) in
+      record {
+        s = getD (k .given) 1 0;
+        due = due;
+        node = ltb-true (getD (k .given) 1 0) n (both-right (ltb (getD (k .given) 0 0) nets) _ (j .fits));
+        is = k .made;
+        text = two-text 83 (length (l .sources)) bs (k .given) rest (j .is) (j .order);
+      }
+
+  sunk : (bs : List ℕ) (next : NetLists) (rest : List ℕ) → sinkDue l ≡ true → taking (withSink l) (nextSink n nets l bs) ≡ values next rest → Sunk bs next rest
+  unfolding nextSink sinkLine sinkOrdered pinWithin
+  sunk bs next rest due e =
+      let k = taking-values (withSink l) (nextSink n nets l bs) next rest e in
+      let j = judged-values (pinWithin n nets) (sinkOrdered (length (l .sources) - 1) (lastOf (l .sources) ∷ sinksNow l) (length (l .sinks))) (line 84 2 bs) (k .given) rest (k .is) in
+      let others = both-right (eqb (getD (k .given) 0 0) (length (l .sources) - 1)) _ (j .order) in
+      record {
+        t = getD (k .given) 1 0;
+        due = due;
+        node = both-right (ltb (getD (k .given) 0 0) nets) _ (j .fits);
+        new = not-true (has (getD (k .given) 1 0) (lastOf (l .sources) ∷ sinksNow l)) (both-left _ _ others);
+        room = ltb-true (length (l .sinks)) sinksMost (both-right (not (has (getD (k .given) 1 0) (lastOf (l .sources) ∷ sinksNow l))) _ others);
+        is = k .made;
+        text = two-text 84 (length (l .sources) - 1) bs (k .given) rest (j .is) (both-left _ _ (j .order));
+      }
+
+  net-line : (bs : List ℕ) (next : NetLists) (rest : List ℕ) → netLine n nets l bs ≡ values next rest → Sourced bs next rest ⊎ Sunk bs next rest
+  unfolding netLine
+  net-line [] next rest e = absurd (let z : _≡_ {A = ℕ} 0 1 = cc in omega arith)
+  net-line (b ∷ bs) next rest e =
+      ⊎-elim
+      (λ (p : both (eqb b 83) (sourceDue nets l) ≡ true). inl (sourced (b ∷ bs) next rest (both-right (eqb b 83) _ p) (rw p at e)))
+      (λ (p : both (eqb b 83) (sourceDue nets l) ≡ false).
+      ⊎-elim
+      (λ (q : both (eqb b 84) (sinkDue l) ≡ true). inr (sunk (b ∷ bs) next rest (both-right (eqb b 84) _ q) (rw (p, q) at e)))
+      (λ (q : both (eqb b 84) (sinkDue l) ≡ false).
+      let e2 : refused 1 ≡ values next rest = rw (p, q) at e in
+      absurd (let z : _≡_ {A = ℕ} 0 1 = cc in omega arith))
+      (either-way (both (eqb b 84) (sinkDue l))))
+      (either-way (both (eqb b 83) (sourceDue nets l)))
+
+-- ---- all lines
+
+-- the sinks so far of the last net i
+pub now-is : (l : NetLists) (i : ℕ) → length (l .firstSinks) ≡ i + 1 → sinksNow l ≡ drop (getD (l .firstSinks) i 0) (l .sinks)
+unfolding sinksNow
+now-is l i e = let last : length (l .firstSinks) - 1 ≡ i = omega arith in rw last
+
+now-some : (l : NetLists) (i : ℕ) → length (l .firstSinks) ≡ i + 1 → leb 1 (length (sinksNow l)) ≡ true → getD (l .firstSinks) i 0 < length (l .sinks)
+now-some l i e h =
+    let some : 1 ≤ length (drop (getD (l .firstSinks) i 0) (l .sinks)) = rw (now-is l i e) at (leb-true 1 (length (sinksNow l)) h) in
+    let less : 1 ≤ length (l .sinks) - getD (l .firstSinks) i 0 = rw length-drop at some in
+    omega arith
+
+-- the lists that the reader gives where the text `before` is read and the bytes `bs` follow
+record Ended (n nets : ℕ) (before bs : List ℕ) (l : NetLists) (rest : List ℕ) : Type 0 where
+  end : rest ≡ []
+  good : Good n nets nets (l .sources) (l .firstSinks) (l .sinks)
+  last : (i : ℕ) → i + 1 ≡ nets → getD (l .firstSinks) i 0 < length (l .sinks)
+  text : written nets (l .sources) (l .firstSinks) (l .sinks) ≡ before ++ bs
+
+-- at the end of the text
+ended : (n nets m : ℕ) (l l2 : NetLists) (at at2 : ℕ) (rest : List ℕ) → Good n nets m (l .sources) (l .firstSinks) (l .sinks) → netEnd nets l at ≡ part l2 at2 rest → Ended n nets (written m (l .sources) (l .firstSinks) (l .sinks)) [] l2 rest
+unfolding netEnd complete
+ended n nets m l l2 at at2 rest g e =
+    ⊎-elim
+    (λ (p : complete nets l ≡ true).
+    let e2 : part l at [] ≡ part l2 at2 rest = rw p at e in
+    let same : l ≡ l2 = cc in
+    let none : [] ≡ rest = cc in
+    let all : m ≡ nets = sym (g .count) ∙ eqb-true (length (l .sources)) nets (both-left _ _ p) in
+    rw (← same, ← none, all)
+    record {
+      end = refl;
+      good = rw all at g;
+      last = λ i h. now-some l i (g .long ∙ all ∙ sym h) (both-right (eqb (length (l .sources)) nets) _ p);
+      text = sym (append-nil _);
+    })
+    (λ (p : complete nets l ≡ false).
+    let e2 : stopped 1 at ≡ part l2 at2 rest = rw p at e in
+    absurd (let z : _≡_ {A = ℕ} 0 1 = cc in omega arith))
+    (either-way (complete nets l))
+
+-- one line before them
+more-text : {n nets : ℕ} {before now rest bs left : List ℕ} {l : NetLists} (this : List ℕ) → now ≡ before ++ this → bs ≡ this ++ rest → Ended n nets now rest l left → Ended n nets before bs l left
+more-text {before = before} {rest = rest} this p q r =
+    record { end = r .end; good = r .good; last = r .last; text = r .text ∙ rw (p, q) (append-assoc before this rest) }
+
+-- where an S line is due, the last net has a sink
+source-ready : (nets m : ℕ) (l : NetLists) → length (l .sources) ≡ m → length (l .firstSinks) ≡ m → sourceDue nets l ≡ true → (i : ℕ) → i + 1 ≡ m → getD (l .firstSinks) i 0 < length (l .sinks)
+unfolding sourceDue
+source-ready nets m l count long due i e =
+    let second = both-right (ltb (length (l .sources)) nets) _ due in
+    ⊎-elim
+    (λ (q : eqb (length (l .sources)) 0 ≡ true). let none : length (l .sources) ≡ 0 = eqb-true (length (l .sources)) 0 q in absurd (omega arith))
+    (λ (q : eqb (length (l .sources)) 0 ≡ false). now-some l i (long ∙ sym e) (rw q at second))
+    (either-way (eqb (length (l .sources)) 0))
+
+nets-on : (n nets k m : ℕ) (l l2 : NetLists) (at at2 : ℕ) (bs rest : List ℕ) → Good n nets m (l .sources) (l .firstSinks) (l .sinks) → netLines k n nets l at bs ≡ part l2 at2 rest → Ended n nets (written m (l .sources) (l .firstSinks) (l .sinks)) bs l2 rest
+unfolding netLines sourceDue sinkDue
+nets-on n nets zero m l l2 at at2 [] rest g e = ended n nets m l l2 at at2 rest g e
+nets-on n nets zero m l l2 at at2 (b ∷ bs) rest g e = absurd (let z : _≡_ {A = ℕ} 0 1 = cc in omega arith)
+nets-on n nets (suc k) m l l2 at at2 [] rest g e = ended n nets m l l2 at at2 rest g e
+nets-on n nets (suc k) m l l2 at at2 (b ∷ bs) rest g e =
+    let o = onward-part (netLine n nets l (b ∷ bs)) at (λ next left. netLines k n nets next (at + 1) left) l2 at2 rest e in
+    let count : length (l .sources) ≡ m = g .count in
+    ⊎-elim
+    (λ (p : Sourced n nets l (b ∷ bs) (o .given) (o .rest)).
+    let fits : length (l .sources) < nets = ltb-true (length (l .sources)) nets (both-left _ _ (p .due)) in
+    more-text (printLine 83 (m ∷ p .s ∷ [])) (source-text g (p .s)) (subst (λ (j : ℕ). b ∷ bs ≡ printLine 83 (j ∷ p .s ∷ []) ++ o .rest) count (p .text))
+    (nets-on n nets k (m + 1) (netLists (l .sources ++ (p .s ∷ [])) (ends (l .firstSinks) (l .sinks)) (l .sinks)) l2 (at + 1) at2 (o .rest) rest
+    (with-source g (p .s) (p .node) (omega arith) (source-ready nets m l count (g .long) (p .due)))
+    (rw (p .is) at (o .later))))
+    (λ (p : Sunk n nets l (b ∷ bs) (o .given) (o .rest)).
+    let some : 1 ≤ length (l .sources) = leb-true 1 (length (l .sources)) (p .due) in
+    let last : length (l .sources) - 1 + 1 ≡ m = omega arith in
+    more-text (printLine 84 ((length (l .sources) - 1) ∷ p .t ∷ [])) (sink-text g (length (l .sources) - 1) (p .t) last) (p .text)
+    (nets-on n nets k m (netLists (l .sources) (l .firstSinks) (l .sinks ++ (p .t ∷ []))) l2 (at + 1) at2 (o .rest) rest
+    (with-sink g (length (l .sources) - 1) (p .t) last (p .node) (rw (now-is l (length (l .sources) - 1) (g .long ∙ sym last)) at (p .new)) (p .room))
+    (rw (p .is) at (o .later))))
+    (net-line n nets l (b ∷ bs) (o .given) (o .rest) (o .is))
+
+-- ---- the tables
+
+-- what the reader gives for the nets' lines, and which bytes they were
+pub record TablesRead (n nets : ℕ) (l : NetLists) (bs rest : List ℕ) : Type 0 where
+  pub end : rest ≡ []
+  pub count : length (l .sources) ≡ nets
+  pub sources-sound : sourcesSound n (l .sources) ≡ true
+  pub firstSinks-sound : firstSinksSound nets (length (l .sinks)) (ends (l .firstSinks) (l .sinks)) ≡ true
+  pub sinks-sound : sinksSound n (l .sources) (ends (l .firstSinks) (l .sinks)) (l .sinks) ≡ true
+  pub text : bs ≡ joined (netAt (l .sources) (ends (l .firstSinks) (l .sinks)) (l .sinks)) 0 nets
+
+pub nets-read :
+    (k n nets : ℕ) (l : NetLists) (at at2 : ℕ) (bs rest : List ℕ) → 1 ≤ nets → nets ≤ netsMost
+    → netLines k n nets (netLists [] [] []) at bs ≡ part l at2 rest → TablesRead n nets l bs rest
+unfolding joined
+nets-read k n nets l at at2 bs rest some few e =
+    let r = nets-on n nets k 0 (netLists [] [] []) l at at2 bs rest (good-none n nets) e in
+    let g : Good n nets nets (l .sources) (l .firstSinks) (l .sinks) = r .good in
+    let count : length (l .sources) ≡ nets = g .count in
+    record {
+      end = r .end;
+      count = count;
+      sources-sound = sources-all n (l .sources) nets (omega arith) (omega arith) (omega arith) (g .node);
+      firstSinks-sound = good-firsts n nets (l .sources) (l .firstSinks) (l .sinks) g (r .last);
+      sinks-sound = nets-all n (l .sources) (ends (l .firstSinks) (l .sinks)) (l .sinks) nets (g .few) (omega arith) (g .sound);
+      text = sym (r .text);
+    }

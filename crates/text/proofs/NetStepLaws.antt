@@ -1,0 +1,348 @@
+-- The steps of the nets' reading: what one line does to the lists and the marks, and the lines one after the other.
+--     due-none, -first, -next, -below           whether another net is due
+--     due-is                                    the same of the lists that the cursor marks out
+--     source-step, source-undue                 an S line
+--     sink-step, no-net, other-letter           a T line, and any other
+--     Going, going-first, -more, -later, -stops      the loop over the lines
+--     going-short, -empty, -done                its end
+-- Assumes nothing.
+use mathlib.Core.Bool.{Bool, true, false}
+use mathlib.Core.List.{List, [], _∷_, _++_}
+use mathlib.Core.Logic.{⊎-elim}
+use mathlib.Core.Path.{_≡_, refl, sym, _∙_, ap, subst}
+use Prim.Native.Nat.{ℕ, zero, suc, _+_, _-_, _≤_, _<_}
+use native.Mathlib.Nat.{not-suc-le-zero}
+use native.Mathlib.Numerals.{add-one}
+use native.Mathlib.Omega.{arith}
+use lib.Dec.{leb, ltb, eqb}
+use lib.ListN.{length, getD, take, drop, set, replicate, length-append, length-drop, length-set, length-replicate, getD-replicate, drop-of-length-le}
+use lib.Seq.{length-take-le, drop-cons, drop-append-le, take-suc-set, take-set-le, getD-set-same, getD-set-other, getD-at}
+use borrow.Author.Tests.{lt-ltb, le-ltb, le-leb, lt-leb, eq-eqb, ne-eqb, eqb-true, eqb-false, ltb-true}
+use Rattle.price.specs.Test.{both, either}
+use Rattle.price.specs.Lists.{has}
+use Rattle.price.proofs.ListLaws.{either-way, le-or-lt, both-left, both-false-right, has-append-right}
+use Rattle.negotiation.proofs.MarkLaws.{has-append}
+use Rattle.search.specs.Replies.{sinksMost}
+use Rattle.text.specs.JobText.{values, refused, Part, part, stopped, NetLists, netLists, lastOf, sinksNow, sourceDue, sinkDue, complete, netEnd, withSource, withSink, taking, sourceLine, sinkLine, nextSource, nextSink, netLine, netLines}
+use Rattle.text.specs.Steps.{Marked, netsAt, NetKept, SourceAdded, SinkAdded, netLineAt, KeptAfter}
+use Rattle.text.specs.declared.nets.NetCursor.{NetCursor}
+use Rattle.text.specs.declared.nets.NetStep.{NetStep}
+use Rattle.text.specs.declared.nets.NetStep.the-variants as ns
+use Rattle.text.proofs.NetLineLaws.{sink-few}
+
+-- ---- another net is due
+
+module _ (k nets first sinks : ℕ) where
+  pub due-none : nets ≤ k → false ≡ both (ltb k nets) (either (eqb k 0) (ltb first sinks))
+  due-none h = rw (le-ltb k nets h)
+
+  pub due-first : k < nets → k ≡ 0 → true ≡ both (ltb k nets) (either (eqb k 0) (ltb first sinks))
+  due-first h e = rw (lt-ltb k nets h, eq-eqb k 0 e)
+
+  pub due-next : k < nets → (k ≡ 0 → ⊥) → ltb first sinks ≡ both (ltb k nets) (either (eqb k 0) (ltb first sinks))
+  due-next h e = rw (lt-ltb k nets h, ne-eqb k 0 e)
+
+  pub due-below : {t : Bool} → t ≡ both (ltb k nets) (either (eqb k 0) (ltb first sinks)) → t ≡ true → k < nets
+  due-below e b = ltb-true k nets (both-left (ltb k nets) (either (eqb k 0) (ltb first sinks)) (sym e ∙ b))
+
+-- ---- lists
+
+last-more : (xs : List ℕ) (x : ℕ) → lastOf (xs ++ (x ∷ [])) ≡ x
+last-more xs x = getD-at xs x [] 0 (length (xs ++ (x ∷ [])) - 1) (rw length-append (omega arith))
+
+take-more : (xs : List ℕ) (i x : ℕ) → i < length xs → take (i + 1) (set xs i x) ≡ take i xs ++ (x ∷ [])
+take-more xs i x l = rw add-one (take-suc-set xs i x l)
+
+some-left : (a b : ℕ) → leb 1 (b - a) ≡ ltb a b
+some-left a b =
+    ⊎-elim
+    (λ (l : b ≤ a). rw (le-ltb a b l) (lt-leb 1 (b - a) (omega arith)))
+    (λ (l : a < b). rw (lt-ltb a b l) (le-leb 1 (b - a) (omega arith)))
+    (le-or-lt b a)
+
+-- ---- marks
+
+either-none : (t : Bool) → either t false ≡ t
+either-none true = refl
+either-none false = refl
+
+-- a mark no higher than the others' bound
+set-most : (top node mark v : ℕ) (seen : List ℕ) → node < length seen → mark ≤ top → getD seen v 0 ≤ top → getD (set seen node mark) v 0 ≤ top
+set-most top node mark v seen l m h =
+    ⊎-elim
+    (λ (q : eqb v node ≡ true). let e : v ≡ node = eqb-true v node q in rw (e, getD-set-same seen node mark 0 l) m)
+    (λ (q : eqb v node ≡ false). rw (getD-set-other seen node v mark 0 (eqb-false v node q)) h)
+    (either-way (eqb v node))
+
+-- a new stamp marks one node alone
+source-marks : (n k node : ℕ) (seen : List ℕ) → node < length seen → ((v : ℕ) → v < n → getD seen v 0 ≤ k) → Marked n (k + 1) (set seen node (k + 1)) (node ∷ [])
+unfolding has
+source-marks n k node seen l s v b =
+    ⊎-elim
+    (λ (q : eqb v node ≡ true).
+    let e : v ≡ node = eqb-true v node q in
+    rw (q, e, getD-set-same seen node (k + 1) 0 l) (eq-eqb (k + 1) (k + 1) refl))
+    (λ (q : eqb v node ≡ false).
+    rw (q, getD-set-other seen node v (k + 1) 0 (eqb-false v node q)) (ne-eqb (getD seen v 0) (k + 1) (λ e. omega (arith, s v b))))
+    (either-way (eqb v node))
+
+-- the same stamp marks one node more
+sink-marks : (n k node : ℕ) (seen pins : List ℕ) → node < length seen → Marked n k seen pins → Marked n k (set seen node k) (pins ++ (node ∷ []))
+unfolding has
+sink-marks n k node seen pins l m v b =
+    ⊎-elim
+    (λ (q : eqb v node ≡ true).
+    let e : v ≡ node = eqb-true v node q in
+    let in-it : has v (pins ++ (node ∷ [])) ≡ true = has-append-right v pins (node ∷ []) (rw q) in
+    rw (in-it, e, getD-set-same seen node k 0 l) (eq-eqb k k refl))
+    (λ (q : eqb v node ≡ false).
+    let same : has v (pins ++ (node ∷ [])) ≡ has v pins = has-append v pins (node ∷ []) ∙ rw q (either-none (has v pins)) in
+    rw (getD-set-other seen node v k 0 (eqb-false v node q), same) (m v b))
+    (either-way (eqb v node))
+
+-- ---- a line of the nets by its letter
+
+module _ (n nets : ℕ) (l : NetLists) {b : ℕ} {rest bs : List ℕ} (h : bs ≡ b ∷ rest) where
+  line-source : b ≡ 83 → sourceDue nets l ≡ true → netLine n nets l bs ≡ taking (withSource l) (nextSource n nets l bs)
+  unfolding netLine
+  line-source e d = rw (h, eq-eqb b 83 e, d)
+
+  line-undue : b ≡ 83 → sourceDue nets l ≡ false → netLine n nets l bs ≡ refused 1
+  unfolding netLine
+  line-undue e d = rw (h, eq-eqb b 83 e, d, ne-eqb b 84 (λ q. omega arith))
+
+  line-sink : (b ≡ 83 → ⊥) → b ≡ 84 → sinkDue l ≡ true → netLine n nets l bs ≡ taking (withSink l) (nextSink n nets l bs)
+  unfolding netLine
+  line-sink f e d = rw (h, ne-eqb b 83 f, eq-eqb b 84 e, d)
+
+  line-unknown : (b ≡ 83 → ⊥) → (b ≡ 84 → ⊥) → netLine n nets l bs ≡ refused 1
+  unfolding netLine
+  line-unknown f e = rw (h, ne-eqb b 83 f, ne-eqb b 84 e)
+
+  line-early : (b ≡ 83 → ⊥) → sinkDue l ≡ false → netLine n nets l bs ≡ refused 1
+  unfolding netLine
+  line-early f d = rw (h, ne-eqb b 83 f, both-false-right (eqb b 84) (sinkDue l) d)
+
+-- ---- the steps
+
+module _ {n nets : ℕ} {text : List ℕ} {c : NetCursor} {sources firstSinks sinks seen : List ℕ} (k : NetKept n nets text c sources firstSinks sinks seen) where
+  sources-now : length (take (c .nets) sources) ≡ c .nets
+  sources-now = length-take-le (c .nets) sources (omega arith)
+
+  all-sinks-now : length (take (c .sinks) sinks) ≡ c .sinks
+  all-sinks-now = length-take-le (c .sinks) sinks (omega arith)
+
+  sinks-now : length (sinksNow (netsAt c sources firstSinks sinks)) ≡ c .sinks - c .first
+  unfolding sinksNow
+  sinks-now = rw (← k .first-is) (length-drop (c .first) (take (c .sinks) sinks) ∙ ap (λ (m : ℕ). m - c .first) all-sinks-now)
+
+  pub due-is : sourceDue nets (netsAt c sources firstSinks sinks) ≡ both (ltb (c .nets) nets) (either (eqb (c .nets) 0) (ltb (c .first) (c .sinks)))
+  unfolding sourceDue
+  due-is = rw (sources-now, sinks-now, some-left (c .first) (c .sinks))
+
+  module _ (inside : c .at < length text) where
+    here : drop (c .at) text ≡ getD text (c .at) 0 ∷ drop (suc (c .at)) text
+    here = drop-cons text (c .at) 0 inside
+
+    -- an S line
+    source-line-is : getD text (c .at) 0 ≡ 83 → sourceDue nets (netsAt c sources firstSinks sinks) ≡ true → netLine n nets (netsAt c sources firstSinks sinks) (drop (c .at) text) ≡ taking (withSource (netsAt c sources firstSinks sinks)) (sourceLine n nets (c .nets) (drop (c .at) text))
+    unfolding nextSource
+    source-line-is e d =
+        line-source n nets (netsAt c sources firstSinks sinks) here e d
+        ∙ ap (λ (i : ℕ). taking (withSource (netsAt c sources firstSinks sinks)) (sourceLine n nets i (drop (c .at) text))) sources-now
+
+    pub source-step : (step : NetStep) (sources' firstSinks' seen' : List ℕ) → getD text (c .at) 0 ≡ 83 → sourceDue nets (netsAt c sources firstSinks sinks) ≡ true → c .nets < nets → SourceAdded n nets text c step sources firstSinks seen sources' firstSinks' seen' (sourceLine n nets (c .nets) (drop (c .at) text)) → (netLineAt text step sources' firstSinks' sinks ≡ netLine n nets (netsAt c sources firstSinks sinks) (drop (c .at) text)) × KeptAfter n nets text c step sources' firstSinks' sinks seen'
+    unfolding sinksNow
+    source-step (ns.Stopped number) sources' firstSinks' seen' e d b a = (sym (source-line-is e d ∙ ap (taking (withSource (netsAt c sources firstSinks sinks))) a), tt)
+    source-step (ns.On next) sources' firstSinks' seen' e d b a =
+        let node : ℕ = a .0 in
+        let in-seen : node < length seen = omega (arith, k .room .seen-long, a .2) in
+        let s : take (next .nets) sources' ≡ take (c .nets) sources ++ (node ∷ []) = rw (a .5, a .8) (take-more sources (c .nets) node (omega arith)) in
+        let f : take (next .nets) firstSinks' ≡ take (c .nets) firstSinks ++ (c .sinks ∷ []) = rw (a .5, a .9) (take-more firstSinks (c .nets) (c .sinks) (omega arith)) in
+        let none : drop (c .sinks) (take (c .sinks) sinks) ≡ [] = drop-of-length-le (take (c .sinks) sinks) {i = c .sinks} (omega (arith, all-sinks-now)) in
+        let lists : netsAt next sources' firstSinks' sinks ≡ withSource (netsAt c sources firstSinks sinks) (c .nets ∷ node ∷ []) = rw (s, f, a .6, all-sinks-now) in (
+          ap (λ (l : NetLists). values l (drop (next .at) text)) lists ∙ sym (source-line-is e d ∙ ap (taking (withSource (netsAt c sources firstSinks sinks))) (a .1)),
+          (
+            omega (arith, a .3),
+            a .4,
+            record {
+              room = record {
+                nodes-most = k .room .nodes-most;
+                nets-most = k .room .nets-most;
+                sources-long = rw (a .8, length-set) (k .room .sources-long);
+                firsts-long = rw (a .9, length-set) (k .room .firsts-long);
+                sinks-long = k .room .sinks-long;
+                seen-long = rw (a .10, length-set) (k .room .seen-long);
+              };
+              at-most = a .3 .1;
+              line-most = omega (arith, a .3, a .4);
+              nets-read = omega (arith, a .5);
+              sinks-read = omega (arith, a .6);
+              first-is = rw f (a .7 ∙ sym (last-more (take (c .nets) firstSinks) (c .sinks)));
+              first-most = omega (arith, a .6, a .7);
+              stamps = λ v h. rw (a .5, a .10) (set-most (c .nets + 1) node (c .nets + 1) v seen in-seen (omega arith) (omega (arith, k .stamps v h)));
+              marked = λ h. rw (f, s, a .5, a .6, a .10, last-more (take (c .nets) firstSinks) (c .sinks), last-more (take (c .nets) sources) node, none) (source-marks n (c .nets) node seen in-seen (k .stamps));
+            },
+          ),
+        )
+
+    pub source-undue : getD text (c .at) 0 ≡ 83 → sourceDue nets (netsAt c sources firstSinks sinks) ≡ false → refused 1 ≡ netLine n nets (netsAt c sources firstSinks sinks) (drop (c .at) text)
+    source-undue e d = sym (line-undue n nets (netsAt c sources firstSinks sinks) here e d)
+
+    pub other-letter : (getD text (c .at) 0 ≡ 83 → ⊥) → (getD text (c .at) 0 ≡ 84 → ⊥) → refused 1 ≡ netLine n nets (netsAt c sources firstSinks sinks) (drop (c .at) text)
+    other-letter f e = sym (line-unknown n nets (netsAt c sources firstSinks sinks) here f e)
+
+    pub no-net : (getD text (c .at) 0 ≡ 83 → ⊥) → c .nets < 1 → refused 1 ≡ netLine n nets (netsAt c sources firstSinks sinks) (drop (c .at) text)
+    unfolding sinkDue
+    no-net f h = sym (line-early n nets (netsAt c sources firstSinks sinks) here f (lt-leb 1 (length (take (c .nets) sources)) (omega (arith, sources-now))))
+
+    -- the sinks of the last net after a T line
+    one-sink-more : (node : ℕ) → sinksNow (withSink (netsAt c sources firstSinks sinks) ((c .nets - 1) ∷ node ∷ [])) ≡ sinksNow (netsAt c sources firstSinks sinks) ++ (node ∷ [])
+    unfolding sinksNow
+    one-sink-more node = rw (← k .first-is) (drop-append-le (c .first) (take (c .sinks) sinks) (node ∷ []) (omega (arith, all-sinks-now)))
+
+    -- a T line
+    sink-line-is : (getD text (c .at) 0 ≡ 83 → ⊥) → getD text (c .at) 0 ≡ 84 → 1 ≤ c .nets → netLine n nets (netsAt c sources firstSinks sinks) (drop (c .at) text) ≡ taking (withSink (netsAt c sources firstSinks sinks)) (sinkLine n nets (c .nets - 1) (lastOf (take (c .nets) sources) ∷ sinksNow (netsAt c sources firstSinks sinks)) (c .sinks) (drop (c .at) text))
+    unfolding nextSink sinkDue
+    sink-line-is f e h =
+        line-sink n nets (netsAt c sources firstSinks sinks) here f e (le-leb 1 (length (take (c .nets) sources)) (omega (arith, sources-now)))
+        ∙ rw (sources-now, all-sinks-now)
+
+    pub sink-step : (step : NetStep) (sinks' seen' : List ℕ) → (getD text (c .at) 0 ≡ 83 → ⊥) → getD text (c .at) 0 ≡ 84 → 1 ≤ c .nets → ((pins : List ℕ) → Marked n (c .nets) seen pins → SinkAdded n nets text c step sinks seen sinks' seen' (sinkLine n nets (c .nets - 1) pins (c .sinks) (drop (c .at) text))) → (netLineAt text step sources firstSinks sinks' ≡ netLine n nets (netsAt c sources firstSinks sinks) (drop (c .at) text)) × KeptAfter n nets text c step sources firstSinks sinks' seen'
+    sink-step (ns.Stopped number) sinks' seen' f e h added =
+        let a = added (lastOf (take (c .nets) sources) ∷ sinksNow (netsAt c sources firstSinks sinks)) (k .marked h) in
+        (sym (sink-line-is f e h ∙ ap (taking (withSink (netsAt c sources firstSinks sinks))) a), tt)
+    sink-step (ns.On next) sinks' seen' f e h added =
+        let pins : List ℕ = lastOf (take (c .nets) sources) ∷ sinksNow (netsAt c sources firstSinks sinks) in
+        let a = added pins (k .marked h) in
+        let node : ℕ = a .0 in
+        let few : c .sinks < sinksMost = sink-few n nets (c .nets - 1) pins (c .sinks) (drop (c .at) text) (a .1) in
+        let in-seen : node < length seen = omega (arith, k .room .seen-long, a .2) in
+        let t : take (next .sinks) sinks' ≡ take (c .sinks) sinks ++ (node ∷ []) = rw (a .6, a .8) (take-more sinks (c .sinks) node (omega arith)) in
+        let lists : netsAt next sources firstSinks sinks' ≡ withSink (netsAt c sources firstSinks sinks) ((c .nets - 1) ∷ node ∷ []) = rw (t, a .5) in
+        let now : sinksNow (netsAt next sources firstSinks sinks') ≡ sinksNow (netsAt c sources firstSinks sinks) ++ (node ∷ []) = rw lists (one-sink-more node) in (
+          ap (λ (l : NetLists). values l (drop (next .at) text)) lists ∙ sym (sink-line-is f e h ∙ ap (taking (withSink (netsAt c sources firstSinks sinks))) (a .1)),
+          (
+            omega (arith, a .3),
+            a .4,
+            record {
+              room = record {
+                nodes-most = k .room .nodes-most;
+                nets-most = k .room .nets-most;
+                sources-long = k .room .sources-long;
+                firsts-long = k .room .firsts-long;
+                sinks-long = rw (a .8, length-set) (k .room .sinks-long);
+                seen-long = rw (a .9, length-set) (k .room .seen-long);
+              };
+              at-most = a .3 .1;
+              line-most = omega (arith, a .3, a .4);
+              nets-read = omega (arith, a .5);
+              sinks-read = omega (arith, a .6);
+              first-is = rw (a .5, a .7) (k .first-is);
+              first-most = omega (arith, a .6, a .7);
+              stamps = λ v g. rw (a .5, a .9) (set-most (c .nets) node (c .nets) v seen in-seen (omega arith) (k .stamps v g));
+              marked = λ g. rw (now, a .5, a .9) (sink-marks n (c .nets) node seen pins in-seen (k .marked h));
+            },
+          ),
+        )
+
+-- ---- the lines one after the other
+
+module _ (m n nets at : ℕ) (l : NetLists) {b : ℕ} {rest bs : List ℕ} (h : bs ≡ b ∷ rest) where
+  lines-more : {next : NetLists} {more : List ℕ} → netLine n nets l bs ≡ values next more → netLines (suc m) n nets l at bs ≡ netLines m n nets next (at + 1) more
+  unfolding netLines
+  lines-more {next} {more} e = let e' : netLine n nets l (b ∷ rest) ≡ values next more = rw h at e in rw (h, e')
+
+  lines-stop : {number : ℕ} → netLine n nets l bs ≡ refused number → netLines (suc m) n nets l at bs ≡ stopped number at
+  unfolding netLines
+  lines-stop {number} e = let e' : netLine n nets l (b ∷ rest) ≡ refused number = rw h at e in rw (h, e')
+
+lines-end : (m n nets at : ℕ) (l : NetLists) → netLines m n nets l at [] ≡ netEnd nets l at
+unfolding netLines
+lines-end zero n nets at l = refl
+lines-end (suc m) n nets at l = refl
+
+-- the lines that are left give with the lists so far what all of them give
+pub record Going (n nets : ℕ) (text : List ℕ) (whole : Part NetLists) (c : NetCursor) (sources firstSinks sinks seen : List ℕ) : Type 0 where
+  pub left : ℕ
+  pub enough : length (drop (c .at) text) ≤ left
+  pub same : netLines left n nets (netsAt c sources firstSinks sinks) (c .line) (drop (c .at) text) ≡ whole
+  pub kept : NetKept n nets text c sources firstSinks sinks seen
+
+pub going-first : (n nets : ℕ) (text : List ℕ) (from line : ℕ) (sources firstSinks sinks : List ℕ) → (from ≤ length text) × (line ≤ from + 1) × (n ≤ 4096) × (nets ≤ 512) → (nets ≤ length sources) × (nets + 1 ≤ length firstSinks) × (sinksMost ≤ length sinks) → Going n nets text (netLines (length (drop from text)) n nets (netLists [] [] []) line (drop from text)) (record { at = from; line = line; nets = 0; sinks = 0; first = 0 }) sources firstSinks sinks (replicate 4096 0)
+going-first n nets text from line sources firstSinks sinks b r = record {
+  left = length (drop from text);
+  enough = omega arith;
+  same = refl;
+  kept = record {
+    room = record {
+      nodes-most = b .2;
+      nets-most = b .3;
+      sources-long = r .0;
+      firsts-long = r .1;
+      sinks-long = r .2;
+      seen-long = rw (length-replicate {A = ℕ} 4096 0) (b .2);
+    };
+    at-most = b .0;
+    line-most = b .1;
+    nets-read = omega arith;
+    sinks-read = omega arith;
+    first-is = refl;
+    first-most = omega arith;
+    stamps = λ v h. rw (getD-replicate {A = ℕ} 4096 v 0 0 (omega (arith, b .2))) (omega arith);
+    marked = λ h. absurd (not-suc-le-zero h);
+  };
+}
+
+module _ {n nets : ℕ} {text : List ℕ} {whole : Part NetLists} {c : NetCursor} {sources firstSinks sinks seen : List ℕ} (g : Going n nets text whole c sources firstSinks sinks seen) where
+  module _ (inside : c .at < length text) where
+    left-more : g .left ≡ suc (g .left - 1)
+    left-more = omega (arith, length-drop (c .at) text, g .enough)
+
+    pub going-more : (step : NetStep) {next : NetCursor} (sources' firstSinks' sinks' seen' : List ℕ) → step ≡ ns.On next → netLineAt text step sources' firstSinks' sinks' ≡ netLine n nets (netsAt c sources firstSinks sinks) (drop (c .at) text) → KeptAfter n nets text c step sources' firstSinks' sinks' seen' → Going n nets text whole next sources' firstSinks' sinks' seen'
+    going-more step {next} sources' firstSinks' sinks' seen' q e a =
+        let e' : values (netsAt next sources' firstSinks' sinks') (drop (next .at) text) ≡ netLine n nets (netsAt c sources firstSinks sinks) (drop (c .at) text) = rw q at e in
+        let a' : KeptAfter n nets text c (ns.On next) sources' firstSinks' sinks' seen' = rw q at a in
+        record {
+          left = g .left - 1;
+          enough = omega (arith, length-drop (c .at) text, length-drop (next .at) text, g .enough, a' .0);
+          same = rw (a' .1) (sym (lines-more (g .left - 1) n nets (c .line) (netsAt c sources firstSinks sinks) (drop-cons text (c .at) 0 inside) (sym e')) ∙ rw (← left-more) (g .same));
+          kept = a' .2;
+        }
+
+    pub going-later : (step : NetStep) {next : NetCursor} (sources' firstSinks' sinks' seen' : List ℕ) → step ≡ ns.On next → KeptAfter n nets text c step sources' firstSinks' sinks' seen' → length text - next .at < length text - c .at
+    going-later step {next} sources' firstSinks' sinks' seen' q a =
+        let a' : KeptAfter n nets text c (ns.On next) sources' firstSinks' sinks' seen' = rw q at a in
+        omega (arith, a' .0)
+
+    pub going-stops : (step : NetStep) {number : ℕ} (sources' firstSinks' sinks' : List ℕ) → step ≡ ns.Stopped number → netLineAt text step sources' firstSinks' sinks' ≡ netLine n nets (netsAt c sources firstSinks sinks) (drop (c .at) text) → stopped number (c .line) ≡ whole
+    going-stops step {number} sources' firstSinks' sinks' q e =
+        let e' : refused number ≡ netLine n nets (netsAt c sources firstSinks sinks) (drop (c .at) text) = rw q at e in
+        sym (lines-stop (g .left - 1) n nets (c .line) (netsAt c sources firstSinks sinks) (drop-cons text (c .at) 0 inside) (sym e')) ∙ rw (← left-more) (g .same)
+
+  -- the text is used up
+  module _ (over : length text ≤ c .at) where
+    going-end : netEnd nets (netsAt c sources firstSinks sinks) (c .line) ≡ whole
+    going-end =
+        let none : drop (c .at) text ≡ [] = drop-of-length-le text over in
+        sym (lines-end (g .left) n nets (c .line) (netsAt c sources firstSinks sinks)) ∙ rw none at (g .same)
+
+    pub going-short : (c .nets ≡ nets → ⊥) → stopped 1 (c .line) ≡ whole
+    unfolding netEnd complete
+    going-short h =
+        subst (λ (r : Part NetLists). r ≡ whole) (rw (sources-now (g .kept), ne-eqb (c .nets) nets h)) going-end
+
+    pub going-empty : c .sinks ≤ c .first → stopped 1 (c .line) ≡ whole
+    unfolding netEnd complete
+    going-empty h =
+        subst (λ (r : Part NetLists). r ≡ whole)
+        (rw (sinks-now (g .kept), some-left (c .first) (c .sinks), le-ltb (c .first) (c .sinks) h, both-false-right (eqb (length (take (c .nets) sources)) nets) false refl)) going-end
+
+    pub going-done : c .nets ≡ nets → c .first < c .sinks → part (netLists (take nets sources) (take nets (set firstSinks nets (c .sinks))) (take (c .sinks) sinks)) (c .line) [] ≡ whole
+    unfolding netEnd complete
+    going-done e h =
+        let front : take nets (set firstSinks nets (c .sinks)) ≡ take nets firstSinks = take-set-le nets firstSinks nets (c .sinks) (omega arith) in
+        rw front
+        (ap (λ (m : ℕ). part (netLists (take m sources) (take m firstSinks) (take (c .sinks) sinks)) (c .line) []) (sym e)
+        ∙ subst (λ (r : Part NetLists). r ≡ whole)
+        (rw (sources-now (g .kept), sinks-now (g .kept), some-left (c .first) (c .sinks), eq-eqb (c .nets) nets e, lt-ltb (c .first) (c .sinks) h)) going-end)

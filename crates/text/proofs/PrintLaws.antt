@@ -1,0 +1,278 @@
+-- Reading a field or a line, and printing it, undo each other.
+--     field-printed, printed-field        a field
+--     line-printed, printed-line          a line
+--     line-judged, judged-line            a line whose values are tested
+--     onward-part                         what comes after a line
+-- Assumes nothing.
+use mathlib.Core.Bool.{Bool, true, false}
+use mathlib.Core.List.{List, [], _∷_, _++_, append-assoc}
+use mathlib.Core.Logic.{⊎-elim}
+use mathlib.Core.Path.{_≡_, refl, sym, _∙_, ap, subst}
+use Prim.Native.Nat.{ℕ, zero, suc, _+_, _*_, _-_, _/_, _%_, _^_, _≤_, _<_}
+use native.Mathlib.Nat.{pow-le-pow-right, pow-succ', le-trans}
+use native.Mathlib.Omega.{arith}
+use lib.Dec.{leb, ltb, eqb}
+use lib.ListN.{length}
+use borrow.Author.Tests.{le-leb, leb-true, ltb-true, eq-eqb, ne-eqb, eqb-true, eqb-false}
+use Rattle.price.specs.Lists.{every}
+use Rattle.price.proofs.ListLaws.{either-way, both-true, both-left, both-right, le-or-lt}
+use Rattle.text.specs.Decimal.{zeroByte, isDigit, decimal}
+use Rattle.text.specs.Lines.{Field, number, fault, digitsAfter, field, lf, comma, Fields, taken, malformed, withValue, afterField, fields, line, printFields, printLine}
+use Rattle.text.specs.JobText.{Reading, values, refused, judged, Part, part, onward}
+use Rattle.text.proofs.DecimalLaws.{decimal-small, decimal-next}
+
+-- ---- digits
+
+-- a byte that is a digit
+record Digit (b : ℕ) : Type 0 where
+  low : 48 ≤ b
+  high : b ≤ 57
+
+digit-true : (b : ℕ) → isDigit b ≡ true → Digit b
+unfolding isDigit
+digit-true b e =
+    record {
+      low = leb-true 48 b (both-left (leb zeroByte b) (leb b 57) e);
+      high = leb-true b 57 (both-right (leb zeroByte b) (leb b 57) e);
+    }
+
+true-digit : (b : ℕ) → 48 ≤ b → b ≤ 57 → isDigit b ≡ true
+unfolding isDigit
+true-digit b h l = both-true (le-leb 48 b h) (le-leb b 57 l)
+
+-- at most six digits
+six : (j v : ℕ) → v < 10 ^ j → j ≤ 6 → v < 10 ^ 6
+six j v l h = le-trans l (pow-le-pow-right {n = 10} (omega arith) h)
+
+-- one digit more
+decimal-more : (v d : ℕ) → 1 ≤ v → v < 10 ^ 6 → d < 10 → decimal (v * 10 + d) ≡ decimal v ++ ((48 + d) ∷ [])
+decimal-more v d h l e =
+    let front : (v * 10 + d) / 10 ≡ v = omega arith in
+    let last : (v * 10 + d) % 10 ≡ d = omega arith in
+    decimal-next (v * 10 + d) (omega arith) (omega arith) ∙ rw (front, last)
+
+-- ---- a field from its bytes
+
+number-both : (v w : ℕ) (bs rest : List ℕ) → v < 10 ^ 6 → number v bs ≡ number w rest → (w < 10 ^ 6) × (decimal v ++ bs ≡ decimal w ++ rest)
+number-both v w bs rest l e =
+    let same : v ≡ w = cc in
+    let follow : bs ≡ rest = cc in
+    (omega arith, rw (same, follow))
+
+-- what further digits add
+digits-read : (k j v : ℕ) (bs : List ℕ) (w : ℕ) (rest : List ℕ) → 1 ≤ v → v < 10 ^ j → j + k ≤ 6 → digitsAfter k v bs ≡ number w rest → (w < 10 ^ 6) × (decimal v ++ bs ≡ decimal w ++ rest)
+unfolding digitsAfter
+digits-read zero j v bs w rest some l few e = number-both v w bs rest (six j v l (omega arith)) e
+digits-read (suc k) j v [] w rest some l few e = number-both v w [] rest (six j v l (omega arith)) e
+digits-read (suc k) j v (b ∷ bs) w rest some l few e =
+    ⊎-elim
+    (λ (q : isDigit b ≡ true).
+    let d : Digit b = digit-true b q in
+    let next : v * 10 + (b - 48) < 10 ^ suc j = rw pow-succ' (omega arith) in
+    let r = digits-read k (suc j) (v * 10 + (b - 48)) bs w rest (omega arith) next (omega arith) (rw q at e) in
+    let byte : 48 + (b - 48) ≡ b = omega arith in
+    let more : decimal (v * 10 + (b - 48)) ≡ decimal v ++ (b ∷ []) =
+    decimal-more v (b - 48) some (six j v l (omega arith)) (omega arith) ∙ rw byte in
+    (r .0, sym (append-assoc (decimal v) (b ∷ []) bs) ∙ ap (λ (ds : List ℕ). ds ++ bs) (sym more) ∙ r .1))
+    (λ (q : isDigit b ≡ false). number-both v w (b ∷ bs) rest (six j v l (omega arith)) (rw q at e))
+    (either-way (isDigit b))
+
+pub printed-field : (bs : List ℕ) (v : ℕ) (rest : List ℕ) → field bs ≡ number v rest → (v < 10 ^ 6) × (bs ≡ decimal v ++ rest)
+unfolding field
+printed-field [] v rest e = let z : _≡_ {A = ℕ} 0 1 = cc in absurd (omega arith)
+printed-field (b ∷ bs) v rest e =
+    ⊎-elim
+    (λ (q : eqb b zeroByte ≡ true).
+    let zeroed : number 0 bs ≡ number v rest = rw q at e in
+    let r = number-both 0 v bs rest (omega arith) zeroed in
+    let byte : b ≡ 48 = eqb-true b 48 q in
+    (r .0, rw byte (ap (λ (ds : List ℕ). ds ++ bs) (sym (decimal-small 0 (omega arith))) ∙ r .1)))
+    (λ (q : eqb b zeroByte ≡ false).
+    ⊎-elim
+    (λ (p : isDigit b ≡ true).
+    let d : Digit b = digit-true b p in
+    let other : b ≡ 48 → ⊥ = eqb-false b 48 q in
+    let r = digits-read 5 1 (b - 48) bs v rest (omega arith) (omega arith) (omega arith) (rw (q, p) at e) in
+    let byte : 48 + (b - 48) ≡ b = omega arith in
+    let first : decimal (b - 48) ≡ b ∷ [] = decimal-small (b - 48) (omega arith) ∙ rw byte in
+    (r .0, ap (λ (ds : List ℕ). ds ++ bs) (sym first) ∙ r .1))
+    (λ (p : isDigit b ≡ false).
+    let none : fault ≡ number v rest = rw (q, p) at e in
+    let z : _≡_ {A = ℕ} 0 1 = cc in absurd (omega arith))
+    (either-way (isDigit b)))
+    (either-way (eqb b zeroByte))
+
+-- ---- a field's bytes
+
+-- a digit is read
+digit-next : (m v b : ℕ) (rest : List ℕ) → 1 ≤ m → isDigit b ≡ true → digitsAfter m v (b ∷ rest) ≡ digitsAfter (m - 1) (v * 10 + (b - 48)) rest
+unfolding digitsAfter
+digit-next zero v b rest h q = absurd (omega arith)
+digit-next (suc m) v b rest h q = let less : suc m - 1 ≡ m = omega arith in rw (q, less)
+
+-- the digits of a number are read, with room for those that it has not
+digits-printed : (j v : ℕ) → 1 ≤ v → v < 10 ^ j → j ≤ 6 → (m : ℕ) × (6 ≤ m + j) × ((rest : List ℕ) → field (decimal v ++ rest) ≡ digitsAfter m v rest)
+unfolding field
+digits-printed zero v some l few = absurd (omega arith)
+digits-printed (suc j) v some l few =
+    ⊎-elim
+    (λ (h : 10 ≤ v).
+    let front : v / 10 < 10 ^ j = (let p : v < 10 * 10 ^ j = rw pow-succ' at l in omega arith) in
+    let r = digits-printed j (v / 10) (omega arith) front (omega arith) in
+    let whole : v / 10 * 10 + (48 + v % 10 - 48) ≡ v = omega arith in (
+      r .0 - 1,
+      omega arith,
+      λ rest.
+          ap (λ (ds : List ℕ). field (ds ++ rest)) (decimal-next v h (omega (arith, six (suc j) v l few)))
+          ∙ ap field (append-assoc (decimal (v / 10)) ((48 + v % 10) ∷ []) rest)
+          ∙ r .2 ((48 + v % 10) ∷ rest)
+          ∙ digit-next (r .0) (v / 10) (48 + v % 10) rest (omega arith) (true-digit (48 + v % 10) (omega arith) (omega arith))
+          ∙ rw whole,
+    ))
+    (λ (h : v < 10).
+    let byte : 48 + v - 48 ≡ v = omega arith in (
+      5,
+      omega arith,
+      λ rest.
+          rw (decimal-small v h, ne-eqb (48 + v) 48 (λ e. omega arith), true-digit (48 + v) (omega arith) (omega arith), byte),
+    ))
+    (le-or-lt 10 v)
+
+-- another byte ends it
+digits-end : (m v b : ℕ) (rest : List ℕ) → isDigit b ≡ false → digitsAfter m v (b ∷ rest) ≡ number v (b ∷ rest)
+unfolding digitsAfter
+digits-end zero v b rest q = refl
+digits-end (suc m) v b rest q = rw q
+
+pub field-printed : (v : ℕ) (b : ℕ) (rest : List ℕ) → v < 10 ^ 6 → isDigit b ≡ false → field (decimal v ++ (b ∷ rest)) ≡ number v (b ∷ rest)
+unfolding field
+field-printed v b rest l q =
+    ⊎-elim
+    (λ (h : 1 ≤ v).
+    let r = digits-printed 6 v h l (omega arith) in
+    r .2 (b ∷ rest) ∙ digits-end (r .0) v b rest q)
+    (λ (h : v < 1).
+    let none : v ≡ 0 = omega arith in
+    rw (none, decimal-small 0 (omega arith)))
+    (le-or-lt 1 v)
+
+-- ---- a line
+
+-- a value below its bound, in front of what a line prints next
+field-then : (v : ℕ) (vs rest : List ℕ) → v < 10 ^ 6 → field (decimal v ++ (printFields vs ++ rest)) ≡ number v (printFields vs ++ rest)
+unfolding printFields isDigit
+field-then v [] rest l = field-printed v lf rest l refl
+field-then v (w ∷ ws) rest l = field-printed v comma ((decimal w ++ printFields ws) ++ rest) l refl
+
+fields-printed : (vs rest : List ℕ) → every (λ v. ltb v (10 ^ 6)) vs ≡ true → fields (length vs) (printFields vs ++ rest) ≡ taken vs rest
+unfolding fields printFields every
+fields-printed [] rest e = refl
+fields-printed (v ∷ vs) rest e =
+    let small : v < 10 ^ 6 = ltb-true v (10 ^ 6) (both-left (ltb v (10 ^ 6)) (every (λ v. ltb v (10 ^ 6)) vs) e) in
+    let others = fields-printed vs rest (both-right (ltb v (10 ^ 6)) (every (λ v. ltb v (10 ^ 6)) vs) e) in
+    rw (append-assoc, field-then v vs rest small, others)
+
+pub line-printed : (letter : ℕ) (vs rest : List ℕ) → every (λ v. ltb v (10 ^ 6)) vs ≡ true → line letter (length vs) (printLine letter vs ++ rest) ≡ taken vs rest
+unfolding line printLine
+line-printed letter vs rest e = rw (eq-eqb letter letter refl) (fields-printed vs rest e)
+
+with-taken : (v : ℕ) (f : Fields) (vs rest : List ℕ) → withValue v f ≡ taken vs rest → (ws : List ℕ) × (f ≡ taken ws rest) × (vs ≡ v ∷ ws)
+with-taken v (taken ws mid) vs rest e = (ws, (cc), (cc))
+with-taken v malformed vs rest e = let z : _≡_ {A = ℕ} 0 1 = cc in absurd (omega arith)
+
+-- what a line's field gave, and what came after it
+after-taken : (f : Field) (others : List ℕ → Fields) (vs rest : List ℕ) → afterField f others ≡ taken vs rest → (v : ℕ) × (mid ws : List ℕ) × (f ≡ number v mid) × (others mid ≡ taken ws rest) × (vs ≡ v ∷ ws)
+after-taken (number v mid) others vs rest e =
+    let r = with-taken v (others mid) vs rest e in
+    (v, mid, r .0, refl, r .1, r .2)
+after-taken fault others vs rest e = let z : _≡_ {A = ℕ} 0 1 = cc in absurd (omega arith)
+
+-- a comma and a field, with those that follow
+first-field : (b v : ℕ) (bs mid ws vs rest : List ℕ) → b ≡ comma → bs ≡ decimal v ++ mid → mid ≡ printFields ws ++ rest → vs ≡ v ∷ ws → b ∷ bs ≡ printFields vs ++ rest
+unfolding printFields
+first-field b v bs mid ws vs rest byte here others all = rw (all, byte, here, others, append-assoc)
+
+printed-fields : (k : ℕ) (bs vs rest : List ℕ) → fields k bs ≡ taken vs rest → (length vs ≡ k) × (bs ≡ printFields vs ++ rest)
+unfolding fields printFields
+printed-fields zero [] vs rest e = let z : _≡_ {A = ℕ} 0 1 = cc in absurd (omega arith)
+printed-fields zero (b ∷ bs) vs rest e =
+    ⊎-elim
+    (λ (q : eqb b lf ≡ true).
+    let end : taken [] bs ≡ taken vs rest = rw q at e in
+    let none : [] ≡ vs = cc in
+    let follow : bs ≡ rest = cc in
+    let byte : b ≡ 10 = eqb-true b lf q in
+    (rw (← none), rw (← none, byte, follow)))
+    (λ (q : eqb b lf ≡ false).
+    let bad : malformed ≡ taken vs rest = rw q at e in
+    let z : _≡_ {A = ℕ} 0 1 = cc in absurd (omega arith))
+    (either-way (eqb b lf))
+printed-fields (suc k) [] vs rest e = let z : _≡_ {A = ℕ} 0 1 = cc in absurd (omega arith)
+printed-fields (suc k) (b ∷ bs) vs rest e =
+    ⊎-elim
+    (λ (q : eqb b comma ≡ true).
+    let r = after-taken (field bs) (λ rest. fields k rest) vs rest (rw q at e) in
+    let here = printed-field bs (r .0) (r .1) (r .3) in
+    let others = printed-fields k (r .1) (r .2) rest (r .4) in
+    (rw (r .5, others .0), first-field b (r .0) bs (r .1) (r .2) vs rest (eqb-true b comma q) (here .1) (others .1) (r .5)))
+    (λ (q : eqb b comma ≡ false).
+    let bad : malformed ≡ taken vs rest = rw q at e in
+    let z : _≡_ {A = ℕ} 0 1 = cc in absurd (omega arith))
+    (either-way (eqb b comma))
+
+pub printed-line : (letter k : ℕ) (bs vs rest : List ℕ) → line letter k bs ≡ taken vs rest → (length vs ≡ k) × (bs ≡ printLine letter vs ++ rest)
+unfolding line printLine
+printed-line letter k [] vs rest e = let z : _≡_ {A = ℕ} 0 1 = cc in absurd (omega arith)
+printed-line letter k (b ∷ bs) vs rest e =
+    ⊎-elim
+    (λ (q : eqb b letter ≡ true).
+    let r = printed-fields k bs vs rest (rw q at e) in
+    let byte : b ≡ letter = eqb-true b letter q in
+    (r .0, rw (byte, r .1)))
+    (λ (q : eqb b letter ≡ false).
+    let bad : malformed ≡ taken vs rest = rw q at e in
+    let z : _≡_ {A = ℕ} 0 1 = cc in absurd (omega arith))
+    (either-way (eqb b letter))
+
+-- ---- a line whose values are tested
+
+-- what a line tells that is read: its length, its bytes and its tests
+pub record LineRead (letter k : ℕ) (within ordered : List ℕ → Bool) (bs vs rest : List ℕ) : Type 0 where
+  pub long : length vs ≡ k
+  pub text : bs ≡ printLine letter vs ++ rest
+  pub bounds : within vs ≡ true
+  pub order : ordered vs ≡ true
+
+module _ (within ordered : List ℕ → Bool) where
+  tests-pass : (f : Fields) (vs rest : List ℕ) → judged within ordered f ≡ values vs rest → (f ≡ taken vs rest) × (within vs ≡ true) × (ordered vs ≡ true)
+  tests-pass malformed vs rest e = let z : _≡_ {A = ℕ} 0 1 = cc in absurd (omega arith)
+  tests-pass (taken ws mid) vs rest e =
+      ⊎-elim
+      (λ (p : within ws ≡ true).
+      ⊎-elim
+      (λ (q : ordered ws ≡ true).
+      let given : values ws mid ≡ values vs rest = rw (p, q) at e in
+      let same : ws ≡ vs = cc in
+      ((cc), subst (λ (us : List ℕ). within us ≡ true) same p, subst (λ (us : List ℕ). ordered us ≡ true) same q))
+      (λ (q : ordered ws ≡ false).
+      let bad : refused 3 ≡ values vs rest = rw (p, q) at e in
+      let z : _≡_ {A = ℕ} 0 1 = cc in absurd (omega arith))
+      (either-way (ordered ws)))
+      (λ (p : within ws ≡ false).
+      let bad : refused 2 ≡ values vs rest = rw p at e in
+      let z : _≡_ {A = ℕ} 0 1 = cc in absurd (omega arith))
+      (either-way (within ws))
+
+  pub judged-line : (letter k : ℕ) (bs vs rest : List ℕ) → judged within ordered (line letter k bs) ≡ values vs rest → LineRead letter k within ordered bs vs rest
+  judged-line letter k bs vs rest e =
+      let r = tests-pass (line letter k bs) vs rest e in
+      let t = printed-line letter k bs vs rest (r .0) in
+      record { long = t .0; text = t .1; bounds = r .1; order = r .2 }
+
+  pub line-judged : (letter : ℕ) (vs rest : List ℕ) → every (λ v. ltb v (10 ^ 6)) vs ≡ true → within vs ≡ true → ordered vs ≡ true → judged within ordered (line letter (length vs) (printLine letter vs ++ rest)) ≡ values vs rest
+  line-judged letter vs rest small p q = rw (line-printed letter vs rest small, p, q)
+
+-- a part that begins with a line: what the line gave, and what came after it
+pub onward-part : {A B : Type 0} (r : Reading A) (l : ℕ) (next : A → List ℕ → Part B) (x : B) (at : ℕ) (rest : List ℕ) → onward r l next ≡ part x at rest → (given : A) × (mid : List ℕ) × (r ≡ values given mid) × (next given mid ≡ part x at rest)
+onward-part (values given mid) l next x at rest e = (given, mid, refl, e)
+onward-part (refused k) l next x at rest e = let z : _≡_ {A = ℕ} 0 1 = cc in absurd (omega arith)

@@ -1,0 +1,129 @@
+-- The lines of a job text in their order: what each stage gives is what the whole text gives.
+-- Assumes nothing.
+use mathlib.Core.List.{List, [], _∷_, _++_}
+use mathlib.Core.Path.{_≡_, refl, sym, _∙_, ap}
+use Prim.Native.Nat.{ℕ, _+_, _≤_}
+use native.Mathlib.Numerals.{add-one}
+use native.Mathlib.Omega.{arith}
+use lib.ListN.{length, getD, take, drop}
+use lib.Seq.{take-suc, length-take-le}
+use Rattle.search.specs.Replies.{sinksMost}
+use Rattle.negotiation.specs.Job.{Job, jobOf}
+use Rattle.text.specs.JobText.{Part, part, stopped, andThen, Counts, headLine, headPart, NodeLists, nodeLists, nodeLines, EdgeLists, edgeLists, edgeLines, NetLists, netLists, netLines, firstPlaces, jobRead, readText}
+use Rattle.text.specs.ReadReplies.{Tables}
+use Rattle.text.specs.Steps.{edgeTables, edgesAt, nodesAt, LinesPlace, netsReadAt, NetsEnd, headAt, HeadPlace}
+use Rattle.text.specs.ReadSteps.{WireTables, wireTables, withNets, netsAfter, bodyAfterNodes, edgesNetsAt, withWires, wiresAfter, bodyAfterHead, bodyAt, jobTaken, CountsWithin}
+use Rattle.text.proofs.HeadTextLaws.{head-read}
+use Rattle.text.specs.declared.head.Head.{Head}
+use Rattle.text.specs.declared.head.Head.the-variants as hd
+use Rattle.text.specs.declared.head.Lines.{Lines}
+use Rattle.text.specs.declared.head.Lines.the-variants as ls
+use Rattle.text.specs.declared.nets.NetsRead.{NetsRead}
+use Rattle.text.specs.declared.nets.NetsRead.the-variants as nr
+
+-- the nets as they stand in the tables, with the entry after the last net's
+with-nets : (n edges nets : ℕ) (r : NetsRead) (firstEdges edgeTargets sources firstSinks sinks : List ℕ) → NetsEnd nets r firstSinks → nets + 1 ≤ length firstSinks → sinksMost ≤ length sinks → edgesNetsAt n edges nets r firstEdges edgeTargets sources firstSinks sinks ≡ withNets (take (n + 1) firstEdges) (take edges edgeTargets) (netsReadAt nets r sources firstSinks sinks)
+with-nets n edges nets (nr.Read count line) firstEdges edgeTargets sources firstSinks sinks end long room =
+    let one : take (nets + 1) firstSinks ≡ take nets firstSinks ++ (count ∷ []) =
+    rw (add-one, take-suc firstSinks nets 0 (omega arith), end .1) refl in
+    rw (one, length-take-le count sinks (omega (arith, end .0)))
+with-nets n edges nets (nr.Stopped k line) firstEdges edgeTargets sources firstSinks sinks end long room = refl
+
+-- edges, then nets
+pub edges-nets : (n edges nets line at next : ℕ) (text bs : List ℕ) (x : Lines) (r : NetsRead) (firstEdges edgeTargets sources firstSinks sinks : List ℕ) → x ≡ ls.Read at next → edgesAt text x (take (n + 1) firstEdges) (take edges edgeTargets) ≡ edgeTables n (edgeLines n edges (edgeLists [] []) line bs) → netsReadAt nets r sources firstSinks sinks ≡ netLines (length (drop at text)) n nets (netLists [] [] []) next (drop at text) → NetsEnd nets r firstSinks → nets + 1 ≤ length firstSinks → sinksMost ≤ length sinks → edgesNetsAt n edges nets r firstEdges edgeTargets sources firstSinks sinks ≡ bodyAfterNodes n edges nets line bs
+unfolding bodyAfterNodes
+edges-nets n edges nets line at next text bs x r firstEdges edgeTargets sources firstSinks sinks is read nets-are end long room =
+    with-nets n edges nets r firstEdges edgeTargets sources firstSinks sinks end long room
+    ∙ ap (withNets (take (n + 1) firstEdges) (take edges edgeTargets)) nets-are
+    ∙ ap (netsAfter n nets) (ap (λ (y : Lines). edgesAt text y (take (n + 1) firstEdges) (take edges edgeTargets)) (sym is) ∙ read)
+
+-- a faulty E line
+pub edges-stop : (n edges nets line k at : ℕ) (text bs : List ℕ) (x : Lines) (firstEdges edgeTargets : List ℕ) → x ≡ ls.Stopped k at → edgesAt text x firstEdges edgeTargets ≡ edgeTables n (edgeLines n edges (edgeLists [] []) line bs) → stopped k at ≡ bodyAfterNodes n edges nets line bs
+unfolding bodyAfterNodes
+edges-stop n edges nets line k at text bs x firstEdges edgeTargets is read =
+    ap (netsAfter n nets) (ap (λ (y : Lines). edgesAt text y firstEdges edgeTargets) (sym is) ∙ read)
+
+with-wires : (n edges nets : ℕ) (r : NetsRead) (kinds capacities firstEdges edgeTargets sources firstSinks sinks : List ℕ) → bodyAt n edges nets r kinds capacities firstEdges edgeTargets sources firstSinks sinks ≡ withWires (take n kinds) (take n capacities) (edgesNetsAt n edges nets r firstEdges edgeTargets sources firstSinks sinks)
+with-wires n edges nets (nr.Read count line) kinds capacities firstEdges edgeTargets sources firstSinks sinks = refl
+with-wires n edges nets (nr.Stopped k line) kinds capacities firstEdges edgeTargets sources firstSinks sinks = refl
+
+-- nodes, then edges and nets
+pub nodes-wires : (n edges nets at next : ℕ) (text bs : List ℕ) (x : Lines) (r : NetsRead) (kinds capacities firstEdges edgeTargets sources firstSinks sinks : List ℕ) → x ≡ ls.Read at next → nodesAt text x (take n kinds) (take n capacities) ≡ nodeLines n n (nodeLists [] []) 2 bs → edgesNetsAt n edges nets r firstEdges edgeTargets sources firstSinks sinks ≡ bodyAfterNodes n edges nets next (drop at text) → bodyAt n edges nets r kinds capacities firstEdges edgeTargets sources firstSinks sinks ≡ bodyAfterHead n edges nets bs
+unfolding bodyAfterHead
+nodes-wires n edges nets at next text bs x r kinds capacities firstEdges edgeTargets sources firstSinks sinks is read wires =
+    with-wires n edges nets r kinds capacities firstEdges edgeTargets sources firstSinks sinks
+    ∙ ap (withWires (take n kinds) (take n capacities)) wires
+    ∙ ap (wiresAfter n edges nets) (ap (λ (y : Lines). nodesAt text y (take n kinds) (take n capacities)) (sym is) ∙ read)
+
+-- a faulty N line
+pub nodes-stop : (n edges nets k at : ℕ) (text bs : List ℕ) (x : Lines) (kinds capacities : List ℕ) → x ≡ ls.Stopped k at → nodesAt text x kinds capacities ≡ nodeLines n n (nodeLists [] []) 2 bs → stopped k at ≡ bodyAfterHead n edges nets bs
+unfolding bodyAfterHead
+nodes-stop n edges nets k at text bs x kinds capacities is read =
+    ap (wiresAfter n edges nets) (ap (λ (y : Lines). nodesAt text y kinds capacities) (sym is) ∙ read)
+
+-- the job of the tables that were read
+abbrev jobAfter : ℕ → Part Tables → Part Job
+jobAfter limit (part t at rest) =
+    part (jobOf (t .kinds) (t .capacities) (t .firstEdges) (t .edgeTargets) (t .sources) (t .firstSinks) (t .sinks) limit) at rest
+jobAfter limit (stopped k at) = stopped k at
+
+-- one stage after the other is the whole text, once the first line is read
+module _ (c : Counts) where
+  last-stage : (ns : NodeLists) (es : EdgeLists) (x : Part NetLists) → jobAfter (c .limit) (withWires (ns .kinds) (ns .capacities) (withNets (firstPlaces (c .nodes) (es .froms)) (es .targets) x)) ≡ andThen x (λ ts at rest. part (jobRead c ns es ts) at rest)
+  unfolding jobRead
+  last-stage ns es (part ts at rest) = refl
+  last-stage ns es (stopped k at) = refl
+
+  edge-stage : (ns : NodeLists) (x : Part EdgeLists) → jobAfter (c .limit) (withWires (ns .kinds) (ns .capacities) (netsAfter (c .nodes) (c .nets) (edgeTables (c .nodes) x))) ≡ andThen x (λ es at rest. andThen (netLines (length rest) (c .nodes) (c .nets) (netLists [] [] []) at rest) (λ ts at2 rest2. part (jobRead c ns es ts) at2 rest2))
+  edge-stage ns (part es at rest) = last-stage ns es (netLines (length rest) (c .nodes) (c .nets) (netLists [] [] []) at rest)
+  edge-stage ns (stopped k at) = refl
+
+  node-stage : (x : Part NodeLists) → jobAfter (c .limit) (wiresAfter (c .nodes) (c .edges) (c .nets) x) ≡ andThen x (λ ns at rest. andThen (edgeLines (c .nodes) (c .edges) (edgeLists [] []) at rest) (λ es at2 rest2. andThen (netLines (length rest2) (c .nodes) (c .nets) (netLists [] [] []) at2 rest2) (λ ts at3 rest3. part (jobRead c ns es ts) at3 rest3)))
+  unfolding bodyAfterNodes
+  node-stage (part ns at rest) = edge-stage ns (edgeLines (c .nodes) (c .edges) (edgeLists [] []) at rest)
+  node-stage (stopped k at) = refl
+
+-- the counts of the first line are within their bounds
+pub head-counts : (n edges nets limit next : ℕ) (text : List ℕ) (x : Head) → x ≡ hd.Counts n edges nets limit next → headAt text x ≡ headLine text → CountsWithin n edges nets
+unfolding headPart
+head-counts n edges nets limit next text x is read =
+    let counts : Counts = record { nodes = n; edges = edges; nets = nets; limit = limit } in
+    let given : headPart text ≡ part counts 2 (drop next text) = rw (← read, is) in
+    let bounds = head-read text counts 2 (drop next text) given .0 in
+    record { nodes-most = bounds .few-nodes; edges-most = bounds .few-edges; nets-most = bounds .few-nets }
+
+-- the counts of the first line, then the lines after it
+module _ (n edges nets limit next : ℕ) (text : List ℕ) (x : Head) (kinds capacities firstEdges edgeTargets sources firstSinks sinks : List ℕ) (is : x ≡ hd.Counts n edges nets limit next) (read : headAt text x ≡ headLine text) where
+  text-body : (r : NetsRead) → bodyAt n edges nets r kinds capacities firstEdges edgeTargets sources firstSinks sinks ≡ bodyAfterHead n edges nets (drop next text) → jobAfter limit (bodyAt n edges nets r kinds capacities firstEdges edgeTargets sources firstSinks sinks) ≡ readText text
+  unfolding readText headPart bodyAfterHead
+  text-body r body =
+      ap (jobAfter limit) body
+      ∙ node-stage (record { nodes = n; edges = edges; nets = nets; limit = limit }) (nodeLines n n (nodeLists [] []) 2 (drop next text))
+      ∙ rw (← read, is)
+
+  pub text-read : (r : NetsRead) (count line : ℕ) → r ≡ nr.Read count line → bodyAt n edges nets r kinds capacities firstEdges edgeTargets sources firstSinks sinks ≡ bodyAfterHead n edges nets (drop next text) → part (jobTaken n edges nets count limit kinds capacities firstEdges edgeTargets sources firstSinks sinks) line [] ≡ readText text
+  text-read r count line e body =
+      ap (λ (y : NetsRead). jobAfter limit (bodyAt n edges nets y kinds capacities firstEdges edgeTargets sources firstSinks sinks)) (sym e)
+      ∙ text-body r body
+
+  pub body-stop : (r : NetsRead) (k line : ℕ) → r ≡ nr.Stopped k line → bodyAt n edges nets r kinds capacities firstEdges edgeTargets sources firstSinks sinks ≡ bodyAfterHead n edges nets (drop next text) → stopped k line ≡ readText text
+  body-stop r k line e body =
+      ap (λ (y : NetsRead). jobAfter limit (bodyAt n edges nets y kinds capacities firstEdges edgeTargets sources firstSinks sinks)) (sym e)
+      ∙ text-body r body
+
+-- a text has at most so many sinks
+pub read-sinks : (nets count line : ℕ) (r : NetsRead) (firstSinks : List ℕ) → r ≡ nr.Read count line → NetsEnd nets r firstSinks → count ≤ sinksMost
+read-sinks nets count line r firstSinks e end = (rw e at end) .0
+
+-- a faulty first line
+pub text-stop : (k : ℕ) (text : List ℕ) (x : Head) → x ≡ hd.Refused k → headAt text x ≡ headLine text → stopped k 1 ≡ readText text
+unfolding readText headPart
+text-stop k text x is read = rw (← read, is)
+
+-- where a part of the text ends
+pub read-place : (text : List ℕ) (x : Lines) (at line : ℕ) → x ≡ ls.Read at line → LinesPlace text x → (at ≤ length text) × (line ≤ at + 1)
+read-place text x at line is place = rw is at place
+
+-- where the first line ends
+pub head-place : (text : List ℕ) (x : Head) (n edges nets limit next : ℕ) → x ≡ hd.Counts n edges nets limit next → HeadPlace text x → (1 ≤ next) × (next ≤ length text)
+head-place text x n edges nets limit next is place = rw is at place

@@ -1,0 +1,189 @@
+-- A text is taken for a job exactly where the job is sound and the text is its printed form; so no two sound jobs have the same printed form.
+-- Assumes nothing.
+use mathlib.Core.Bool.{true}
+use mathlib.Core.List.{List, [], _∷_, _++_}
+use mathlib.Core.Path.{_≡_, refl, sym, _∙_, ap}
+use Prim.Native.Nat.{ℕ, _+_, _≤_, _<_}
+use native.Mathlib.Omega.{arith}
+use lib.Dec.{leb}
+use lib.ListN.{length}
+use borrow.Author.Tests.{le-leb, leb-true}
+use Rattle.price.specs.Bounds.{limitMost}
+use Rattle.price.specs.Lists.{upTo}
+use Rattle.price.proofs.ListLaws.{both-true, both-left, both-right, every-at, length-upTo, getD-upTo}
+use Rattle.search.specs.Block.{blockOf, row}
+use Rattle.search.specs.Tables.{edgesMost, kindsSound, capacitiesSound, firstEdgesSound, rowSound, edgeTargetsSound}
+use Rattle.search.proofs.BlockLaws.{kinds-some, kinds-few}
+use Rattle.search.proofs.TableLaws.{edges-all}
+use Rattle.negotiation.specs.Job.{Job, jobOf, nodes, nets, netSinks}
+use Rattle.negotiation.specs.Tables.{sourcesSound, firstSinksSound, sinksSound, limitSound, SoundJob}
+use Rattle.negotiation.proofs.JobLaws.{nets-some, nets-few, limit-some, limit-few}
+use Rattle.text.specs.Lines.{printLine}
+use Rattle.text.specs.JobText.{Part, part, stopped, andThen, Counts, headPart, NodeLists, nodeLists, nodeLines, EdgeLists, edgeLists, edgeLines, NetLists, netLists, netLines, firstPlaces, jobRead, readText}
+use Rattle.text.specs.Printed.{joined, nodeText, rowText, netText, printJob, Accepts, Exactly}
+use Rattle.text.proofs.HeadTextLaws.{HeadBounds, head-read, head-printed}
+use Rattle.text.proofs.NodeTextLaws.{nodePrinted, NodesRead, nodes-read, read-kinds-sound, read-capacities-sound, nodes-printed}
+use Rattle.text.proofs.EdgeTextLaws.{rowOf, edgesText, EdgesRead, edges-read, EdgesPrinted, edges-printed}
+use Rattle.text.proofs.NetTextLaws.{netAt, ends}
+use Rattle.text.proofs.NetReadLaws.{TablesRead, nets-read}
+use Rattle.text.proofs.NetPrintLaws.{TablesPrinted, nets-printed}
+
+-- ---- a text that is taken
+
+-- two parts one after the other: what the first gave, and what came after it
+then-part : {A B : Type 0} (p : Part A) (next : A → ℕ → List ℕ → Part B) (x : B) (at : ℕ) (rest : List ℕ) → andThen p next ≡ part x at rest → (given : A) × (l : ℕ) × (mid : List ℕ) × (p ≡ part given l mid) × (next given l mid ≡ part x at rest)
+then-part (part given l mid) next x at rest e = (given, l, mid, refl, e)
+then-part (stopped k l) next x at rest e = let z : _≡_ {A = ℕ} 0 1 = cc in absurd (omega arith)
+
+-- tables whose lengths the head line gives
+module _
+    (n m k limit : ℕ) (kinds capacities first targets sources firsts sinks : List ℕ)
+    (nodes-are : length kinds ≡ n) (edges-are : length targets ≡ m) (nets-are : length sources ≡ k) where
+  made-text :
+      printJob (jobOf kinds capacities first targets sources firsts sinks limit)
+      ≡ printLine 70 (n ∷ m ∷ k ∷ limit ∷ [])
+      ++ (joined (nodePrinted kinds capacities) 0 n ++ (edgesText n first targets ++ joined (netAt sources firsts sinks) 0 k))
+  unfolding printJob nodeText rowText row netText netSinks
+  made-text = rw (nodes-are, edges-are, nets-are)
+
+  made-edges : m ≤ edgesMost → ((u : ℕ) → u < n → rowSound n u (rowOf first targets u) ≡ true) → edgeTargetsSound (blockOf kinds capacities first targets) ≡ true
+  unfolding row
+  made-edges few rows =
+      edges-all (blockOf kinds capacities first targets) (omega arith) (length kinds) (omega arith)
+      (λ u h. rw nodes-are (rows u (omega arith)))
+
+  made-sound :
+      HeadBounds (record { nodes = n; edges = m; nets = k; limit = limit }) → kindsSound kinds ≡ true → capacitiesSound n capacities ≡ true → firstEdgesSound n m first ≡ true
+      → ((u : ℕ) → u < n → rowSound n u (rowOf first targets u) ≡ true)
+      → sourcesSound n sources ≡ true → firstSinksSound k (length sinks) firsts ≡ true → sinksSound n sources firsts sinks ≡ true
+      → SoundJob (jobOf kinds capacities first targets sources firsts sinks limit)
+  unfolding limitSound
+  made-sound head ks cs fs rows ss is ts =
+      record {
+        block-sound = record {
+          kinds-sound = ks;
+          capacities-sound = rw nodes-are cs;
+          firstEdges-sound = rw (nodes-are, edges-are) fs;
+          edgeTargets-sound = made-edges (head .few-edges) rows;
+        };
+        sources-sound = rw nodes-are ss;
+        firstSinks-sound = rw nets-are is;
+        sinks-sound = rw nodes-are ts;
+        limit-sound = both-true (le-leb 1 limit (head .some-turns)) (le-leb limit limitMost (head .few-turns));
+      }
+
+-- what the four parts of a text tell together
+parts-told :
+    (c : Counts) (ns : NodeLists) (es : EdgeLists) (ts : NetLists) (at1 at2 at3 : ℕ) (bs rest1 rest2 rest3 rest4 : List ℕ)
+    → HeadBounds c → bs ≡ printLine 70 (c .nodes ∷ c .edges ∷ c .nets ∷ c .limit ∷ []) ++ rest1
+    → NodesRead (c .nodes) (c .nodes) (nodeLists [] []) ns at1 at2 rest1 rest2
+    → EdgesRead (c .nodes) (c .edges) es at2 at3 rest2 rest3
+    → TablesRead (c .nodes) (c .nets) ts rest3 rest4
+    → SoundJob (jobRead c ns es ts) × (bs ≡ printJob (jobRead c ns es ts))
+unfolding jobRead
+parts-told c ns es ts at1 at2 at3 bs rest1 rest2 rest3 rest4 head whole nr er tr =
+    let first : List ℕ = firstPlaces (c .nodes) (es .froms) in
+    let firsts : List ℕ = ends (ts .firstSinks) (ts .sinks) in (
+      made-sound (c .nodes) (c .edges) (c .nets) (c .limit) (ns .kinds) (ns .capacities) first (es .targets) (ts .sources) firsts (ts .sinks)
+          (nr .kinds-long) (er .targets-long) (tr .count) head
+          (read-kinds-sound (c .nodes) (c .nodes) (nodeLists [] []) ns at1 at2 rest1 rest2 nr (head .some-nodes) (head .few-nodes))
+          (read-capacities-sound (c .nodes) (c .nodes) (nodeLists [] []) ns at1 at2 rest1 rest2 nr)
+          (er .firsts-sound) (er .rows-sound) (tr .sources-sound) (tr .firstSinks-sound) (tr .sinks-sound),
+      whole ∙ rw (nr .text, er .text-is, tr .text)
+          (sym (made-text (c .nodes) (c .edges) (c .nets) (c .limit) (ns .kinds) (ns .capacities) first (es .targets) (ts .sources) firsts (ts .sinks)
+          (nr .kinds-long) (er .targets-long) (tr .count))),
+    )
+
+pub accepted-printed : (bs : List ℕ) (j : Job) (at : ℕ) (rest : List ℕ) → readText bs ≡ part j at rest → SoundJob j × (bs ≡ printJob j) × (rest ≡ [])
+unfolding readText
+accepted-printed bs j at rest e =
+    let a = then-part (headPart bs) _ j at rest e in
+    let c : Counts = a .0 in
+    let at1 : ℕ = a .1 in
+    let rest1 : List ℕ = a .2 in
+    let p = then-part (nodeLines (c .nodes) (c .nodes) (nodeLists [] []) at1 rest1) _ j at rest (a .4) in
+    let ns : NodeLists = p .0 in
+    let at2 : ℕ = p .1 in
+    let rest2 : List ℕ = p .2 in
+    let q = then-part (edgeLines (c .nodes) (c .edges) (edgeLists [] []) at2 rest2) _ j at rest (p .4) in
+    let es : EdgeLists = q .0 in
+    let at3 : ℕ = q .1 in
+    let rest3 : List ℕ = q .2 in
+    let r = then-part (netLines (length rest3) (c .nodes) (c .nets) (netLists [] [] []) at3 rest3) _ j at rest (q .4) in
+    let ts : NetLists = r .0 in
+    let rest4 : List ℕ = r .2 in
+    let made : part (jobRead c ns es ts) (r .1) rest4 ≡ part j at rest = r .4 in
+    let same : jobRead c ns es ts ≡ j = cc in
+    let left : rest4 ≡ rest = cc in
+    let head = head-read bs c at1 rest1 (a .3) in
+    let tables : TablesRead (c .nodes) (c .nets) ts rest3 rest4 =
+    nets-read (length rest3) (c .nodes) (c .nets) ts at3 (r .1) rest3 rest4 (head .0 .some-nets) (head .0 .few-nets) (r .3) in
+    let told = parts-told c ns es ts at1 at2 at3 bs rest1 rest2 rest3 rest4 (head .0) (head .1)
+    (nodes-read (c .nodes) ns at1 at2 rest1 rest2 (p .3)) (edges-read (c .nodes) (c .edges) es at2 at3 rest2 rest3 (q .3)) tables in
+    (rw same at (told .0), rw same at (told .1), rw left at (tables .end))
+
+-- ---- a sound job's printed form
+
+module _ (j : Job) (s : SoundJob j) where
+  abbrev counts : Counts
+  counts = record { nodes = nodes j; edges = length (j .block .edgeTargets); nets = nets j; limit = j .limit }
+
+  edges-few : length (j .block .edgeTargets) ≤ edgesMost
+  unfolding edgeTargetsSound
+  edges-few = leb-true _ _ (both-left _ _ (s .block-sound .edgeTargets-sound))
+
+  rows-sound : (u : ℕ) → u < nodes j → rowSound (nodes j) u (rowOf (j .block .firstEdges) (j .block .edgeTargets) u) ≡ true
+  unfolding edgeTargetsSound row
+  rows-sound u h =
+      let here =
+      every-at (λ u. rowSound (nodes j) u (row (j .block) u)) (upTo (λ u. u) (nodes j))
+      (both-right (leb (length (j .block .edgeTargets)) edgesMost) _ (s .block-sound .edgeTargets-sound)) u (rw length-upTo h) in
+      rw (getD-upTo (λ u. u) (nodes j) u 0 h) at here
+
+  counts-within : HeadBounds counts
+  counts-within =
+      record {
+        some-nodes = kinds-some (j .block .kinds) (s .block-sound .kinds-sound);
+        few-nodes = kinds-few (j .block .kinds) (s .block-sound .kinds-sound);
+        few-edges = edges-few;
+        some-nets = nets-some j s;
+        few-nets = nets-few j s;
+        some-turns = limit-some j s;
+        few-turns = limit-few j s;
+      }
+
+  pub printed-accepted : Accepts (printJob j) j
+  unfolding readText jobRead printJob nodeText rowText row netText netSinks
+  printed-accepted =
+      let n : ℕ = nodes j in
+      let kinds : List ℕ = j .block .kinds in
+      let capacities : List ℕ = j .block .capacities in
+      let first : List ℕ = j .block .firstEdges in
+      let targets : List ℕ = j .block .edgeTargets in
+      let third : List ℕ = joined (netAt (j .sources) (j .firstSinks) (j .sinks)) 0 (nets j) in
+      let second : List ℕ = edgesText n first targets ++ third in
+      let head = head-printed counts (joined (nodePrinted kinds capacities) 0 n ++ second) counts-within in
+      let node = nodes-printed n kinds capacities refl (s .block-sound .kinds-sound) (s .block-sound .capacities-sound) 2 second in
+      let edge : EdgesPrinted n first targets (2 + n) third =
+      edges-printed n first targets (2 + n) third (counts-within .few-nodes) (s .block-sound .firstEdges-sound) rows-sound in
+      let net : TablesPrinted (length third) n (2 + n + length targets) (j .sources) (j .firstSinks) (j .sinks) =
+      nets-printed n (j .sources) (j .firstSinks) (j .sinks) (counts-within .few-nodes) (s .sources-sound) (s .firstSinks-sound) (s .sinks-sound)
+      (length third) (2 + n + length targets) (omega arith) in
+      (net .after, rw (head, node, edge .read, net .reads, edge .places, net .firsts))
+
+-- ---- the theorem
+
+pub reader-exact : (bs : List ℕ) (j : Job) → Exactly bs j
+reader-exact bs j =
+    record {
+      only-printed = λ a. let r = accepted-printed bs j (a .0) [] (a .1) in (r .0, r .1);
+      all-printed = λ s e. let a = printed-accepted j s in (a .0, ap readText e ∙ a .1);
+    }
+
+-- two sound jobs with the same printed form are the same job
+pub printed-once : (j k : Job) → SoundJob j → SoundJob k → printJob j ≡ printJob k → j ≡ k
+printed-once j k s t e =
+    let a = printed-accepted j s in
+    let d = printed-accepted k t in
+    let same : part j (a .0) [] ≡ part k (d .0) [] = sym (a .1) ∙ ap readText e ∙ d .1 in
+    cc

@@ -1,0 +1,62 @@
+-- `text::copy::copy_halves` meets its contract: after the turns up to k, k entries are copied.
+-- Assumes nothing.
+use mathlib.Core.Path.{refl, _∙_}
+use Prim.Native.Nat.{_-_, _≤_}
+use native.Mathlib.Omega.{arith}
+use lib.ListN.{length}
+use Rattle.text.proofs.CopyLaws.{Copied, copied-none, copied-next, copied-all}
+use Rattle.text.proofs.copy.copy_halves.Statement.{statement}
+use Rattle.text.proofs.copy.copy_halves.Tie as tie
+
+abbrev Inv-loop : tie.InvT-loop
+Inv-loop from count to₀ k₀ to k = (k ≤ count) × Copied from to₀ to k
+
+abbrev μ-loop : tie.MeasureT-loop
+μ-loop from count to₀ k₀ to k = count - k
+
+loop-holds : tie.Need-loop-holds Inv-loop μ-loop
+loop-holds c = (omega arith, copied-none _ _)
+
+mul-to : tie.Need-mul-to Inv-loop μ-loop
+mul-to c = omega arith
+
+shared-slice-read-to : tie.Need-shared-slice-read-to Inv-loop μ-loop
+shared-slice-read-to c = omega arith
+
+mul-to-2 : tie.Need-mul-to-2 Inv-loop μ-loop
+mul-to-2 c = omega arith
+
+slice-write-to : tie.Need-slice-write-to Inv-loop μ-loop
+slice-write-to c = omega arith
+
+add-k : tie.Need-add-k Inv-loop μ-loop
+add-k c = omega arith
+
+loop-less : tie.Need-loop-less Inv-loop μ-loop
+loop-less c = omega arith
+
+loop-again : tie.Need-loop-again Inv-loop μ-loop
+loop-again c = (omega arith, copied-next _ _ _ _ (c .before .before .loop .inv .1) (omega arith) (omega arith))
+
+same-length : tie.Need-same-length Inv-loop μ-loop
+same-length c = c .before .loop .inv .1 .same-length
+
+returns : tie.Need-returns Inv-loop μ-loop
+returns c = copied-all _ _ _ (c .before .loop .k) (c .before .before .args .count) (c .before .loop .inv .1) (omega arith)
+
+pub copy-halves-spec : {M : Type 1} → statement M
+copy-halves-spec =
+    tie.close
+    (tie.spec
+    Inv-loop
+    μ-loop
+    loop-holds
+    mul-to
+    shared-slice-read-to
+    mul-to-2
+    slice-write-to
+    add-k
+    loop-less
+    loop-again
+    same-length
+    returns)

@@ -1,0 +1,64 @@
+-- `fields::number` meets its contract: each return by the law of the first byte.
+-- Assumes nothing.
+use mathlib.Core.Bool.{true}
+use mathlib.Core.Path.{_≡_, sym}
+use native.Mathlib.Omega.{arith}
+use lib.ListN.{getD}
+use borrow.Author.Needs.{needs}
+use Rattle.search.proofs.TableLaws.{refused, passed}
+use Rattle.text.specs.Decimal.{isDigit}
+use Rattle.text.proofs.FieldLaws.{field-past, field-zero, field-other, field-digits, field-onward, digit-least, digit-most}
+use Rattle.text.proofs.fields.number.Statement.{statement}
+use Rattle.text.proofs.fields.number.Tie as tie
+
+digit : (c : tie.Else3) → isDigit (getD (c .before .before .before .before .before .before .args .text .now) (c .before .before .before .before .before .before .args .at) 0) ≡ true
+digit c = passed (c .before .is-digit .ensures) (c .if3 .left)
+
+returns : tie.Need-returns
+returns c = (sym (field-past (c .before .before .args .at) (c .before .before .args .text .now) (search needs)), tt)
+
+shared-slice-read-b : tie.Need-shared-slice-read-b
+shared-slice-read-b c = search needs
+
+add-t8 : tie.Need-add-t8
+add-t8 c = search needs
+
+returns-2 : tie.Need-returns-2
+returns-2 c = (sym (field-zero (c .before .before .before .before .args .at) (c .before .before .before .before .args .text .now) (search needs) (search needs)), (search needs, search needs))
+
+is-digit-requires : tie.Need-is-digit-requires
+is-digit-requires c κs = search needs
+
+returns-3 : tie.Need-returns-3
+returns-3 c = (sym (field-other (c .before .before .before .before .before .before .args .at) (c .before .before .before .before .before .before .args .text .now) (search needs) (search needs) (refused (c .before .is-digit .ensures) (c .if3 .taken))), tt)
+
+add-further-digits : tie.Need-add-further-digits
+add-further-digits c = search needs
+
+sub-further-digits : tie.Need-sub-further-digits
+sub-further-digits c = digit-least _ (digit c)
+
+cast-further-digits : tie.Need-cast-further-digits
+cast-further-digits c = omega (arith, digit-most _ (digit c))
+
+further-digits-requires : tie.Need-further-digits-requires
+further-digits-requires c κs = (search needs, omega (arith, digit-most _ (digit c)))
+
+returns-4 : tie.Need-returns-4
+returns-4 c = field-onward (c .before .before .before .before .before .before .before .args .at) (c .before .before .before .before .before .before .before .args .text .now) (c .further-digits .result) (c .further-digits .ensures) (field-digits (c .before .before .before .before .before .before .before .args .at) (c .before .before .before .before .before .before .before .args .text .now) (search needs) (search needs) (digit (c .before)))
+
+pub number-spec : {M : Type 1} → statement M
+number-spec =
+    tie.close
+    (tie.spec
+    returns
+    shared-slice-read-b
+    add-t8
+    returns-2
+    is-digit-requires
+    returns-3
+    add-further-digits
+    sub-further-digits
+    cast-further-digits
+    further-digits-requires
+    returns-4)

@@ -1,0 +1,102 @@
+-- `text::nets::add_sink` meets its contract: the line that is read stands in the table, and its node bears the stamp.
+-- Assumes nothing.
+use mathlib.Core.Path.{refl}
+use Prim.Native.Nat.{_-_, _<_}
+use native.Mathlib.Omega.{arith}
+use borrow.Author.Needs.{needs}
+use Rattle.search.specs.Replies.{sinksMost}
+use Rattle.text.proofs.NetLineLaws.{bearing, bearing-marked, sink-few, pin-reading, pin-refused, pin-place}
+use Rattle.text.proofs.nets.add_sink.Statement.{statement}
+use Rattle.text.proofs.nets.add_sink.Tie as tie
+
+sub-sink-line : tie.Need-sub-sink-line
+sub-sink-line c = search needs
+
+cast-sink-line : tie.Need-cast-sink-line
+cast-sink-line c = search needs
+
+sink-line-requires : tie.Need-sink-line-requires
+sink-line-requires c κs = search needs
+
+enum-known-node : tie.Need-enum-known-node
+enum-known-node c = search needs
+
+-- a sink that is read was not one too many
+few : (c : tie.After-known-told) → c .before .before .before .before .before .before .before .before .args .c .sinks < sinksMost
+few c =
+    let a = c .before .before .before .before .before .before .before .before .args in
+    let pins = bearing (a .nodes) (a .c .nets) (a .seen .now) in
+    sink-few (a .nodes) (a .nets) (a .c .nets - 1) pins (a .c .sinks) _
+    (pin-reading (a .c .nets - 1) (a .text .now) (c .before .before .before .sink-line .ensures .0 pins (bearing-marked (a .c .nets) (a .seen .now) (a .nodes))) (c .before .node .given .1))
+
+mul-sink : tie.Need-mul-sink
+mul-sink c = omega (arith, few c)
+
+slice-write-sink : tie.Need-slice-write-sink
+slice-write-sink c = omega (arith, few c)
+
+cast-seen : tie.Need-cast-seen
+cast-seen c = search needs
+
+cast-seen-2 : tie.Need-cast-seen-2
+cast-seen-2 c = search needs
+
+mul-seen : tie.Need-mul-seen
+mul-seen c = search needs
+
+slice-write-seen : tie.Need-slice-write-seen
+slice-write-seen c =
+    let a = c .before .before .before .before .before .before .before .before .args in
+    omega (arith, (pin-place (a .nodes) (a .c .at) (a .text .now) (c .before .node .given .1) (c .before .before .before .sink-line .ensures .1)) .1)
+
+add-t19 : tie.Need-add-t19
+add-t19 c = search needs
+
+add-t22 : tie.Need-add-t22
+add-t22 c = omega (arith, few (c .before))
+
+enum-known-number : tie.Need-enum-known-number
+enum-known-number c = search needs
+
+same-length : tie.Need-same-length
+same-length c = search needs
+
+same-length-2 : tie.Need-same-length-2
+same-length-2 c = search needs
+
+returns : tie.Need-returns
+returns c =
+    let a = c .before .before .before .before .before .before .before .before .before .args in
+    let place = pin-place (a .nodes) (a .c .at) (a .text .now) (c .before .before .node .given .1) (c .before .before .before .before .sink-line .ensures .1) in
+    λ pins m. (_, pin-reading (a .c .nets - 1) (a .text .now) (c .before .before .before .before .sink-line .ensures .0 pins m) (c .before .before .node .given .1), place .1, place .0, refl, refl, refl, refl, refl, refl)
+
+same-length-3 : tie.Need-same-length-3
+same-length-3 c = search needs
+
+returns-2 : tie.Need-returns-2
+returns-2 c =
+    let a = c .before .before .before .before .before .before .before .before .args in
+    λ pins m. pin-refused (a .c .nets - 1) (a .text .now) (c .before .before .before .sink-line .ensures .0 pins m) (c .before .number .given .1)
+
+pub add-sink-spec : {M : Type 1} → statement M
+add-sink-spec =
+    tie.close
+    (tie.spec
+    sub-sink-line
+    cast-sink-line
+    sink-line-requires
+    enum-known-node
+    mul-sink
+    slice-write-sink
+    cast-seen
+    cast-seen-2
+    mul-seen
+    slice-write-seen
+    add-t19
+    add-t22
+    enum-known-number
+    same-length
+    same-length-2
+    returns
+    same-length-3
+    returns-2)

@@ -1,0 +1,144 @@
+-- `text::nets::read_nets` meets its contract: the lines that are left give with the lists so far what all of them give.
+-- Assumes nothing.
+use mathlib.Core.List.{[]}
+use mathlib.Core.Path.{_≡_, refl, _∙_}
+use Prim.Native.Nat.{_-_}
+use native.Mathlib.Omega.{arith}
+use lib.ListN.{length, drop}
+use lib.Seq.{getD-set-same}
+use borrow.Author.Needs.{needs}
+use Rattle.text.specs.JobText.{netLists, netLines}
+use Rattle.text.proofs.NetStepLaws.{Going, going-first, going-later, going-more, going-stops, going-short, going-empty, going-done}
+use Rattle.text.proofs.nets.read_nets.Statement.{statement}
+use Rattle.text.proofs.nets.read_nets.Tie as tie
+
+abbrev Inv-loop : tie.InvT-loop
+Inv-loop text from first-line nodes nets source₀ first-sink₀ sink₀ seen₀ c₀ source first-sink sink seen c =
+    Going nodes nets text (netLines (length (drop from text)) nodes nets (netLists [] [] []) first-line (drop from text)) c source first-sink sink seen × (length source ≡ length source₀) × (length first-sink ≡ length first-sink₀) × (length sink ≡ length sink₀) × (length seen ≡ 4096)
+
+abbrev μ-loop : tie.MeasureT-loop
+μ-loop text from first-line nodes nets source₀ first-sink₀ sink₀ seen₀ c₀ source first-sink sink seen c =
+    length text - c .at
+
+loop-holds : tie.Need-loop-holds Inv-loop μ-loop
+loop-holds c =
+    let s = c .before .before .before .before in
+    let a = s .args in
+    (going-first (a .nodes) (a .nets) (a .text .now) (a .from) (a .first-line) (a .source .now) (a .first-sink .now) (a .sink .now) (s .pre .0) (s .pre .1), refl, refl, refl, refl)
+
+slice-aggregate-net-line : tie.Need-slice-aggregate-net-line Inv-loop μ-loop
+slice-aggregate-net-line c = search needs
+
+net-line-requires : tie.Need-net-line-requires Inv-loop μ-loop
+net-line-requires c κs = search needs
+
+enum-known-next : tie.Need-enum-known-next Inv-loop μ-loop
+enum-known-next c = search needs
+
+loop-less : tie.Need-loop-less Inv-loop μ-loop
+loop-less c =
+    let call = c .before .before .before .before .before .before .before .before .before .before .net-line in
+    going-later (c .before .before .before .before .before .before .before .before .before .before .before .before .before .before .before .before .before .loop .inv .0) (c .before .before .before .before .before .before .before .before .before .before .before .before .before .before .before .if1 .taken) (call .result) _ _ _ _ (c .before .next .given .1) (call .ensures .1)
+
+loop-again : tie.Need-loop-again Inv-loop μ-loop
+loop-again c =
+    let call = c .before .before .before .before .before .before .before .before .before .before .net-line in
+    let inv = c .before .before .before .before .before .before .before .before .before .before .before .before .before .before .before .before .before .loop .inv in
+    (going-more (inv .0) (c .before .before .before .before .before .before .before .before .before .before .before .before .before .before .before .if1 .taken) (call .result) _ _ _ _ (c .before .next .given .1) (call .ensures .0) (call .ensures .1), call .kept .1 .1 .1 .1 .0 ∙ inv .1, call .kept .1 .1 .1 .1 .1 .0 ∙ inv .2, call .kept .1 .1 .1 .1 .1 .1 .0 ∙ inv .3, call .kept .1 .1 .1 .1 .1 .1 .1 .0 ∙ inv .4)
+
+enum-known-number : tie.Need-enum-known-number Inv-loop μ-loop
+enum-known-number c = search needs
+
+same-length : tie.Need-same-length Inv-loop μ-loop
+same-length c = search needs
+
+same-length-2 : tie.Need-same-length-2 Inv-loop μ-loop
+same-length-2 c = search needs
+
+same-length-3 : tie.Need-same-length-3 Inv-loop μ-loop
+same-length-3 c = search needs
+
+returns : tie.Need-returns Inv-loop μ-loop
+returns c =
+    let call = c .before .before .before .before .before .before .before .before .before .before .net-line in
+    (going-stops (c .before .before .before .before .before .before .before .before .before .before .before .before .before .before .before .before .before .loop .inv .0) (c .before .before .before .before .before .before .before .before .before .before .before .before .before .before .before .if1 .taken) (call .result) _ _ _ (c .before .number .given .1) (call .ensures .0), tt)
+
+same-length-4 : tie.Need-same-length-4 Inv-loop μ-loop
+same-length-4 c = search needs
+
+same-length-5 : tie.Need-same-length-5 Inv-loop μ-loop
+same-length-5 c = search needs
+
+same-length-6 : tie.Need-same-length-6 Inv-loop μ-loop
+same-length-6 c = search needs
+
+returns-2 : tie.Need-returns-2 Inv-loop μ-loop
+returns-2 c = (going-short (c .before .before .before .before .loop .inv .0) (c .before .before .if1 .left) (c .if2 .taken), tt)
+
+same-length-7 : tie.Need-same-length-7 Inv-loop μ-loop
+same-length-7 c = search needs
+
+same-length-8 : tie.Need-same-length-8 Inv-loop μ-loop
+same-length-8 c = search needs
+
+same-length-9 : tie.Need-same-length-9 Inv-loop μ-loop
+same-length-9 c = search needs
+
+returns-3 : tie.Need-returns-3 Inv-loop μ-loop
+returns-3 c = (going-empty (c .before .before .before .before .before .before .loop .inv .0) (c .before .before .before .before .if1 .left) (c .if3 .taken), tt)
+
+cast-first-sink : tie.Need-cast-first-sink Inv-loop μ-loop
+cast-first-sink c = search needs
+
+mul-first-sink : tie.Need-mul-first-sink Inv-loop μ-loop
+mul-first-sink c = search needs
+
+slice-write-first-sink : tie.Need-slice-write-first-sink Inv-loop μ-loop
+slice-write-first-sink c = search needs
+
+same-length-10 : tie.Need-same-length-10 Inv-loop μ-loop
+same-length-10 c = search needs
+
+same-length-11 : tie.Need-same-length-11 Inv-loop μ-loop
+same-length-11 c = search needs
+
+same-length-12 : tie.Need-same-length-12 Inv-loop μ-loop
+same-length-12 c = search needs
+
+returns-4 : tie.Need-returns-4 Inv-loop μ-loop
+returns-4 c =
+    let inv = c .before .before .before .before .before .before .before .loop .inv in
+    (going-done (inv .0) (c .before .before .before .before .before .if1 .left) (c .before .before .before .if2 .left) (c .before .if3 .left), (inv .0 .kept .sinks-read, getD-set-same (c .before .before .before .before .before .before .before .loop .first-sink) (c .before .before .before .before .before .before .before .before .before .before .before .before .args .nets) (c .before .before .before .before .before .before .before .loop .c .sinks) 0 (omega (arith, inv .0 .kept .room .firsts-long))))
+
+pub read-nets-spec : {M : Type 1} → statement M
+read-nets-spec =
+    tie.close
+    (tie.spec
+    Inv-loop
+    μ-loop
+    loop-holds
+    slice-aggregate-net-line
+    net-line-requires
+    enum-known-next
+    loop-less
+    loop-again
+    enum-known-number
+    same-length
+    same-length-2
+    same-length-3
+    returns
+    same-length-4
+    same-length-5
+    same-length-6
+    returns-2
+    same-length-7
+    same-length-8
+    same-length-9
+    returns-3
+    cast-first-sink
+    mul-first-sink
+    slice-write-first-sink
+    same-length-10
+    same-length-11
+    same-length-12
+    returns-4)

@@ -1,0 +1,134 @@
+-- `text::read_job` meets its contract: all lines are read into tables of its own, and the job is laid over those that were lent.
+-- Assumes nothing.
+use native.Mathlib.Omega.{arith}
+use borrow.Author.Needs.{needs}
+use Rattle.text.proofs.ReadJobLaws.{job-read, job-stopped, job-counts}
+use Rattle.text.proofs.read_job.Statement.{statement}
+use Rattle.text.proofs.read_job.Tie as tie
+
+slice-aggregate-read-lines : tie.Need-slice-aggregate-read-lines
+slice-aggregate-read-lines c = search needs
+
+slice-aggregate-read-lines-2 : tie.Need-slice-aggregate-read-lines-2
+slice-aggregate-read-lines-2 c = search needs
+
+slice-aggregate-read-lines-3 : tie.Need-slice-aggregate-read-lines-3
+slice-aggregate-read-lines-3 c = search needs
+
+slice-aggregate-read-lines-4 : tie.Need-slice-aggregate-read-lines-4
+slice-aggregate-read-lines-4 c = search needs
+
+slice-aggregate-read-lines-5 : tie.Need-slice-aggregate-read-lines-5
+slice-aggregate-read-lines-5 c = search needs
+
+slice-aggregate-read-lines-6 : tie.Need-slice-aggregate-read-lines-6
+slice-aggregate-read-lines-6 c = search needs
+
+slice-aggregate-read-lines-7 : tie.Need-slice-aggregate-read-lines-7
+slice-aggregate-read-lines-7 c = search needs
+
+read-lines-requires : tie.Need-read-lines-requires
+read-lines-requires c κs = search needs
+
+enum-known-nodes : tie.Need-enum-known-nodes
+enum-known-nodes c = search needs
+
+slice-aggregate-lay-job : tie.Need-slice-aggregate-lay-job
+slice-aggregate-lay-job c = search needs
+
+slice-aggregate-lay-job-2 : tie.Need-slice-aggregate-lay-job-2
+slice-aggregate-lay-job-2 c = search needs
+
+slice-aggregate-lay-job-3 : tie.Need-slice-aggregate-lay-job-3
+slice-aggregate-lay-job-3 c = search needs
+
+slice-aggregate-lay-job-4 : tie.Need-slice-aggregate-lay-job-4
+slice-aggregate-lay-job-4 c = search needs
+
+slice-aggregate-lay-job-5 : tie.Need-slice-aggregate-lay-job-5
+slice-aggregate-lay-job-5 c = search needs
+
+slice-aggregate-lay-job-6 : tie.Need-slice-aggregate-lay-job-6
+slice-aggregate-lay-job-6 c = search needs
+
+slice-aggregate-lay-job-7 : tie.Need-slice-aggregate-lay-job-7
+slice-aggregate-lay-job-7 c = search needs
+
+lay-job-requires : tie.Need-lay-job-requires
+lay-job-requires c κs = let lines = c .before .before .before .before .before .before .before .before .before .before .before .before .before .before .before .before .before .before .before .before .before .before .before .before .read-lines in
+    let k = lines .kept .1 in
+    let counts = job-counts (lines .result) _ _ _ _ _ _ (c .before .before .before .before .before .before .before .before .before .before .before .before .before .before .before .nodes .given .1) (lines .ensures .1) in (
+      record {
+        kinds-long = omega (arith, k .0);
+        capacities-long = omega (arith, k .1 .0);
+        edge-room = record { firsts-long = omega (arith, k .1 .1 .0); targets-long = omega (arith, k .1 .1 .1 .0) };
+        net-room = record { sources-long = omega (arith, k .1 .1 .1 .1 .0); firsts-long = omega (arith, k .1 .1 .1 .1 .1 .0); sinks-long = omega (arith, k .1 .1 .1 .1 .1 .1 .0) };
+      },
+      (counts .0, counts .1),
+    )
+
+enum-known-number : tie.Need-enum-known-number
+enum-known-number c = search needs
+
+same-length : tie.Need-same-length
+same-length c = search needs
+
+same-length-2 : tie.Need-same-length-2
+same-length-2 c = search needs
+
+same-length-3 : tie.Need-same-length-3
+same-length-3 c = search needs
+
+same-length-4 : tie.Need-same-length-4
+same-length-4 c = search needs
+
+same-length-5 : tie.Need-same-length-5
+same-length-5 c = search needs
+
+same-length-6 : tie.Need-same-length-6
+same-length-6 c = search needs
+
+same-length-7 : tie.Need-same-length-7
+same-length-7 c = search needs
+
+returns : tie.Need-returns
+returns c = let lines = c .before .before .before .before .before .before .before .before .before .before .before .before .before .before .before .before .before .before .before .before .before .before .before .before .before .before .before .before .before .before .before .before .before .before .before .before .before .before .before .read-lines in
+    let l = lines .last .1 in
+    job-read _ (lines .result) _ _ _ _ _ _ (l .0) (l .1 .0) (l .1 .1 .0) (l .1 .1 .1 .0) (l .1 .1 .1 .1 .0) (l .1 .1 .1 .1 .1 .0) (l .1 .1 .1 .1 .1 .1 .0) _ _ (c .before .before .before .before .before .before .before .before .before .before .before .before .before .before .before .before .before .before .before .before .before .before .before .before .before .before .before .before .before .before .nodes .given .1) (lines .ensures .0) (c .before .before .before .before .before .before .before .before .before .before .before .before .before .before .lay-job .ensures)
+
+returns-2 : tie.Need-returns-2
+returns-2 c = let lines = c .before .before .before .before .before .before .before .before .before .before .read-lines in
+    let l = lines .last .1 in
+    job-stopped _ (lines .result) _ _ (l .0) (l .1 .0) (l .1 .1 .0) (l .1 .1 .1 .0) (l .1 .1 .1 .1 .0) (l .1 .1 .1 .1 .1 .0) (l .1 .1 .1 .1 .1 .1 .0) _ (c .before .number .given .1) (lines .ensures .0)
+
+pub read-job-spec : {M : Type 1} → statement M
+read-job-spec =
+    tie.close
+    (tie.spec
+    slice-aggregate-read-lines
+    slice-aggregate-read-lines-2
+    slice-aggregate-read-lines-3
+    slice-aggregate-read-lines-4
+    slice-aggregate-read-lines-5
+    slice-aggregate-read-lines-6
+    slice-aggregate-read-lines-7
+    read-lines-requires
+    enum-known-nodes
+    slice-aggregate-lay-job
+    slice-aggregate-lay-job-2
+    slice-aggregate-lay-job-3
+    slice-aggregate-lay-job-4
+    slice-aggregate-lay-job-5
+    slice-aggregate-lay-job-6
+    slice-aggregate-lay-job-7
+    lay-job-requires
+    enum-known-number
+    same-length
+    same-length-2
+    same-length-3
+    same-length-4
+    same-length-5
+    same-length-6
+    same-length-7
+    returns
+    returns-2)

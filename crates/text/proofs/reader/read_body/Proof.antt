@@ -1,0 +1,78 @@
+-- `text::reader::read_body` meets its contract: edges and nets are read from where the nodes end.
+-- Assumes nothing.
+use borrow.Author.Needs.{needs}
+use Rattle.text.proofs.ReaderLaws.{nodes-wires, nodes-stop, read-place}
+use Rattle.text.proofs.reader.read_body.Statement.{statement}
+use Rattle.text.proofs.reader.read_body.Tie as tie
+
+read-nodes-requires : tie.Need-read-nodes-requires
+read-nodes-requires c κs = search needs
+
+enum-known-at : tie.Need-enum-known-at
+enum-known-at c = search needs
+
+read-edges-nets-requires : tie.Need-read-edges-nets-requires
+read-edges-nets-requires c κs = let nodes = c .before .before .before .before .before .before .before .before .before .before .before .before .read-nodes in
+    let start = c .before .before .before .before .before .before .before .before .before .before .before .before .before .before .before .before .before .before .before .before .before .before .before in
+    let place = read-place (start .args .text .now) (nodes .result) _ _ (c .before .before .before .before .before .before .at .given .1) (nodes .ensures .1) in
+    ((start .pre .1 .0, place .0, place .1), (start .pre .0 .edge-room, start .pre .0 .net-room))
+
+enum-known-number : tie.Need-enum-known-number
+enum-known-number c = search needs
+
+same-length : tie.Need-same-length
+same-length c = search needs
+
+same-length-2 : tie.Need-same-length-2
+same-length-2 c = search needs
+
+same-length-3 : tie.Need-same-length-3
+same-length-3 c = search needs
+
+same-length-4 : tie.Need-same-length-4
+same-length-4 c = search needs
+
+same-length-5 : tie.Need-same-length-5
+same-length-5 c = search needs
+
+same-length-6 : tie.Need-same-length-6
+same-length-6 c = search needs
+
+same-length-7 : tie.Need-same-length-7
+same-length-7 c = search needs
+
+returns : tie.Need-returns
+returns c = let nodes = c .before .before .before .before .before .before .before .before .before .before .before .before .before .before .before .before .before .before .before .before .before .before .before .read-nodes in
+    let wires = c .before .before .before .before .before .before .before .before .before .before .read-edges-nets in (
+      nodes-wires _ _ _ _ _ _ _ (nodes .result) (wires .result) (nodes .last .1 .1 .1 .1 .0) (nodes .last .1 .1 .1 .1 .1 .0) (wires .last .1 .1 .1 .1 .1 .1 .0) (wires .last .1 .1 .1 .1 .1 .1 .1 .0) (wires .last .1 .1 .1 .1 .1 .1 .1 .1 .0) (wires .last .1 .1 .1 .1 .1 .1 .1 .1 .1 .0) (wires .last .1 .1 .1 .1 .1 .1 .1 .1 .1 .1 .0) (c .before .before .before .before .before .before .before .before .before .before .before .before .before .before .before .before .before .at .given .1) (nodes .ensures .0) (wires .ensures .0),
+      wires .ensures .1,
+    )
+
+same-length-8 : tie.Need-same-length-8
+same-length-8 c = search needs
+
+same-length-9 : tie.Need-same-length-9
+same-length-9 c = search needs
+
+returns-2 : tie.Need-returns-2
+returns-2 c = (nodes-stop _ _ _ _ _ _ _ _ _ _ (c .before .number .given .1) (c .before .before .before .before .before .before .before .read-nodes .ensures .0), tt)
+
+pub read-body-spec : {M : Type 1} → statement M
+read-body-spec =
+    tie.close
+    (tie.spec
+    read-nodes-requires
+    enum-known-at
+    read-edges-nets-requires
+    enum-known-number
+    same-length
+    same-length-2
+    same-length-3
+    same-length-4
+    same-length-5
+    same-length-6
+    same-length-7
+    returns
+    same-length-8
+    same-length-9
+    returns-2)

@@ -1,0 +1,23 @@
+-- Document 01, "Text fields are in base ten": a number's digits as bytes.
+-- Assumes nothing.
+use mathlib.Core.Bool.{Bool}
+use mathlib.Core.List.{List, [], _∷_, _++_}
+use Prim.Native.Nat.{ℕ, zero, suc, _+_, _/_, _%_}
+use lib.Dec.{leb, ltb}
+use Rattle.price.specs.Test.{choose, both}
+
+-- the byte of the digit 0; those of 1 to 9 follow it
+abbrev pub zeroByte : ℕ
+zeroByte = 48
+
+unfoldable pub isDigit : ℕ → Bool
+isDigit b = both (leb zeroByte b) (leb b 57)
+
+-- the digits of a number that has at most so many
+unfoldable pub digits : ℕ → ℕ → List ℕ
+digits zero n = []
+digits (suc k) n = choose (ltb n 10) ((zeroByte + n) ∷ []) (digits k (n / 10) ++ ((zeroByte + n % 10) ∷ []))
+
+-- a number below 2^64 has at most 20 digits
+unfoldable pub decimal : ℕ → List ℕ
+decimal n = digits 20 n

@@ -1,0 +1,220 @@
+-- Document 01, "Job text" and rows 1 to 3 of "Numbers for a stopped call": what a text gives, line by line, or the first faulty line.
+-- Assumes nothing.
+use mathlib.Core.Bool.{Bool, true, not}
+use mathlib.Core.List.{List, [], _∷_, _++_}
+use Prim.Native.Nat.{ℕ, zero, suc, _+_, _-_}
+use lib.Dec.{leb, ltb, eqb}
+use lib.ListN.{length, getD, drop}
+use Rattle.price.specs.Test.{choose, both, either}
+use Rattle.price.specs.Bounds.{nodesMost, kindMost, capacityMost, limitMost}
+use Rattle.price.specs.Lists.{has, upTo, total}
+use Rattle.search.specs.Tables.{edgesMost}
+use Rattle.search.specs.Replies.{sinksMost}
+use Rattle.negotiation.specs.Tables.{netsMost}
+use Rattle.negotiation.specs.Job.{Job, jobOf}
+use Rattle.text.specs.Lines.{Fields, taken, malformed, line}
+
+-- ---- a line
+
+-- what a line gives with the bytes that follow it, or the number of its refusal
+pub data Reading (A : Type 0) : Type 0 where
+  values : (given : A) (rest : List ℕ) → Reading A
+  refused : (number : ℕ) → Reading A
+
+-- "in it 1 before 2 before 3": 1 for the shape, 2 for a value beyond its bounds, 3 for wrong order or number
+abbrev pub judged : (List ℕ → Bool) → (List ℕ → Bool) → Fields → Reading (List ℕ)
+judged within ordered malformed = refused 1
+judged within ordered (taken vs rest) = choose (within vs) (choose (ordered vs) (values vs rest) (refused 3)) (refused 2)
+
+abbrev pub between : ℕ → ℕ → ℕ → Bool
+between low high x = both (leb low x) (leb x high)
+
+abbrev pub lastOf : List ℕ → ℕ
+lastOf xs = getD xs (length xs - 1) 0
+
+-- "`F,nodes,edges,nets,limit`"
+unfoldable pub headWithin : List ℕ → Bool
+headWithin vs =
+    both (between 1 nodesMost (getD vs 0 0))
+    (both (leb (getD vs 1 0) edgesMost) (both (between 1 netsMost (getD vs 2 0)) (between 1 limitMost (getD vs 3 0))))
+
+unfoldable pub headLine : List ℕ → Reading (List ℕ)
+headLine bs = judged headWithin (λ vs. true) (line 70 4 bs)
+
+-- "`N,node,kind,capacity` in order": of n nodes, node v is due
+unfoldable pub nodeWithin : ℕ → List ℕ → Bool
+nodeWithin n vs = both (ltb (getD vs 0 0) n) (both (leb (getD vs 1 0) kindMost) (between 1 capacityMost (getD vs 2 0)))
+
+unfoldable pub nodeLine : ℕ → ℕ → List ℕ → Reading (List ℕ)
+nodeLine n v bs = judged (nodeWithin n) (λ vs. eqb (getD vs 0 0) v) (line 78 3 bs)
+
+-- "`E,from,to` rising by from, then to": after so many edges, the last of which is from `lastFrom` to `lastTo`
+unfoldable pub rises : ℕ → ℕ → ℕ → ℕ → ℕ → Bool
+rises count lastFrom lastTo from to =
+    either (eqb count 0) (either (ltb lastFrom from) (both (eqb lastFrom from) (ltb lastTo to)))
+
+unfoldable pub edgeWithin : ℕ → List ℕ → Bool
+edgeWithin n vs = both (ltb (getD vs 0 0) n) (ltb (getD vs 1 0) n)
+
+unfoldable pub edgeOrdered : ℕ → ℕ → ℕ → List ℕ → Bool
+edgeOrdered count lastFrom lastTo vs =
+    both (not (eqb (getD vs 0 0) (getD vs 1 0))) (rises count lastFrom lastTo (getD vs 0 0) (getD vs 1 0))
+
+unfoldable pub edgeLine : ℕ → ℕ → ℕ → ℕ → List ℕ → Reading (List ℕ)
+edgeLine n count lastFrom lastTo bs = judged (edgeWithin n) (edgeOrdered count lastFrom lastTo) (line 69 2 bs)
+
+-- "`S,net,node`" and "`T,net,node`": "node and net numbers not below their count are 2"
+unfoldable pub pinWithin : ℕ → ℕ → List ℕ → Bool
+pinWithin n nets vs = both (ltb (getD vs 0 0) nets) (ltb (getD vs 1 0) n)
+
+-- the source of net i
+unfoldable pub sourceLine : ℕ → ℕ → ℕ → List ℕ → Reading (List ℕ)
+sourceLine n nets i bs = judged (pinWithin n nets) (λ vs. eqb (getD vs 0 0) i) (line 83 2 bs)
+
+-- a sink of net i, whose source and sinks so far are `pins`, after so many sinks of all nets: "repeated sink, sink = source; a 4,097th sink"
+unfoldable pub sinkOrdered : ℕ → List ℕ → ℕ → List ℕ → Bool
+sinkOrdered i pins count vs = both (eqb (getD vs 0 0) i) (both (not (has (getD vs 1 0) pins)) (ltb count sinksMost))
+
+unfoldable pub sinkLine : ℕ → ℕ → ℕ → List ℕ → ℕ → List ℕ → Reading (List ℕ)
+sinkLine n nets i pins count bs = judged (pinWithin n nets) (sinkOrdered i pins count) (line 84 2 bs)
+
+-- ---- lines one after the other
+
+-- what a part of the text gives, with the number of the next line and the bytes that follow; or the refusal's number and its line
+pub data Part (A : Type 0) : Type 0 where
+  part : (lists : A) (line : ℕ) (rest : List ℕ) → Part A
+  stopped : (number line : ℕ) → Part A
+
+-- "The first faulty line wins": go on after a line, or stop at it
+abbrev pub onward : {A B : Type 0} → Reading A → ℕ → (A → List ℕ → Part B) → Part B
+onward (values given rest) l next = next given rest
+onward (refused k) l next = stopped k l
+
+-- go on after a part
+abbrev pub andThen : {A B : Type 0} → Part A → (A → ℕ → List ℕ → Part B) → Part B
+andThen (part lists l rest) next = next lists l rest
+andThen (stopped k l) next = stopped k l
+
+pub record Counts : Type 0 where
+  pub nodes : ℕ
+  pub edges : ℕ
+  pub nets : ℕ
+  pub limit : ℕ
+
+unfoldable pub headPart : List ℕ → Part Counts
+headPart bs =
+    onward (headLine bs) 1
+    (λ vs rest. part (record { nodes = getD vs 0 0; edges = getD vs 1 0; nets = getD vs 2 0; limit = getD vs 3 0 }) 2 rest)
+
+-- the nodes read so far
+pub record NodeLists : Type 0 where
+  pub kinds : List ℕ
+  pub capacities : List ℕ
+
+abbrev pub nodeLists : List ℕ → List ℕ → NodeLists
+nodeLists kinds capacities = record { kinds = kinds; capacities = capacities }
+
+unfoldable pub nodeLines : ℕ → ℕ → NodeLists → ℕ → List ℕ → Part NodeLists
+nodeLines n zero l at bs = part l at bs
+nodeLines n (suc k) l at bs =
+    onward (nodeLine n (length (l .kinds)) bs) at
+    (λ vs rest. nodeLines n k (nodeLists (l .kinds ++ (getD vs 1 0 ∷ [])) (l .capacities ++ (getD vs 2 0 ∷ []))) (at + 1) rest)
+
+-- the edges read so far
+pub record EdgeLists : Type 0 where
+  pub froms : List ℕ
+  pub targets : List ℕ
+
+abbrev pub edgeLists : List ℕ → List ℕ → EdgeLists
+edgeLists froms targets = record { froms = froms; targets = targets }
+
+unfoldable pub edgeLines : ℕ → ℕ → EdgeLists → ℕ → List ℕ → Part EdgeLists
+edgeLines n zero l at bs = part l at bs
+edgeLines n (suc k) l at bs =
+    onward (edgeLine n (length (l .targets)) (lastOf (l .froms)) (lastOf (l .targets)) bs) at
+    (λ vs rest. edgeLines n k (edgeLists (l .froms ++ (getD vs 0 0 ∷ [])) (l .targets ++ (getD vs 1 0 ∷ []))) (at + 1) rest)
+
+-- the nets read so far: sources, of each net the number of sinks before its own, and all sinks
+pub record NetLists : Type 0 where
+  pub sources : List ℕ
+  pub firstSinks : List ℕ
+  pub sinks : List ℕ
+
+abbrev pub netLists : List ℕ → List ℕ → List ℕ → NetLists
+netLists sources firstSinks sinks = record { sources = sources; firstSinks = firstSinks; sinks = sinks }
+
+-- the sinks so far of the last net
+unfoldable pub sinksNow : NetLists → List ℕ
+sinksNow l = drop (lastOf (l .firstSinks)) (l .sinks)
+
+-- an S line may come first, or after a net that has a sink, "an S line after the last net is 1"
+unfoldable pub sourceDue : ℕ → NetLists → Bool
+sourceDue nets l =
+    both (ltb (length (l .sources)) nets) (either (eqb (length (l .sources)) 0) (leb 1 (length (sinksNow l))))
+
+-- a T line may come once there is a net
+unfoldable pub sinkDue : NetLists → Bool
+sinkDue l = leb 1 (length (l .sources))
+
+-- "per net in order `S,net,node`, then one or more `T,net,node`; end of text"
+unfoldable pub complete : ℕ → NetLists → Bool
+complete nets l = both (eqb (length (l .sources)) nets) (leb 1 (length (sinksNow l)))
+
+unfoldable pub netEnd : ℕ → NetLists → ℕ → Part NetLists
+netEnd nets l at = choose (complete nets l) (part l at []) (stopped 1 at)
+
+abbrev pub withSource : NetLists → List ℕ → NetLists
+withSource l vs =
+    netLists (l .sources ++ (getD vs 1 0 ∷ [])) (l .firstSinks ++ (length (l .sinks) ∷ [])) (l .sinks)
+
+abbrev pub withSink : NetLists → List ℕ → NetLists
+withSink l vs = netLists (l .sources) (l .firstSinks) (l .sinks ++ (getD vs 1 0 ∷ []))
+
+-- the S line that is due
+unfoldable pub nextSource : ℕ → ℕ → NetLists → List ℕ → Reading (List ℕ)
+nextSource n nets l bs = sourceLine n nets (length (l .sources)) bs
+
+-- a T line of the last net
+unfoldable pub nextSink : ℕ → ℕ → NetLists → List ℕ → Reading (List ℕ)
+nextSink n nets l bs =
+    sinkLine n nets (length (l .sources) - 1) (lastOf (l .sources) ∷ sinksNow l) (length (l .sinks)) bs
+
+-- the lists with what a line gives
+abbrev pub taking : {A B : Type 0} → (A → B) → Reading A → Reading B
+taking f (values given rest) = values (f given) rest
+taking f (refused k) = refused k
+
+-- one line of the nets: "A letter that can't come there .. is 1"
+unfoldable pub netLine : ℕ → ℕ → NetLists → List ℕ → Reading NetLists
+netLine n nets l [] = refused 1
+netLine n nets l (b ∷ bs) =
+    choose (both (eqb b 83) (sourceDue nets l)) (taking (withSource l) (nextSource n nets l (b ∷ bs)))
+    (choose (both (eqb b 84) (sinkDue l)) (taking (withSink l) (nextSink n nets l (b ∷ bs))) (refused 1))
+
+-- the lines of the nets, at most so many: no text has more lines than bytes
+unfoldable pub netLines : ℕ → ℕ → ℕ → NetLists → ℕ → List ℕ → Part NetLists
+netLines zero n nets l at [] = netEnd nets l at
+netLines zero n nets l at (b ∷ bs) = stopped 1 at
+netLines (suc k) n nets l at [] = netEnd nets l at
+netLines (suc k) n nets l at (b ∷ bs) =
+    onward (netLine n nets l (b ∷ bs)) at (λ next rest. netLines k n nets next (at + 1) rest)
+
+-- ---- the whole text
+
+-- "first edge place": how many of the edges come before node u's row, for each u up to the node count
+unfoldable pub firstPlaces : ℕ → List ℕ → List ℕ
+firstPlaces n froms = upTo (λ u. total (λ from. choose (ltb from u) 1 0) froms) (n + 1)
+
+-- "Tables get these lines' values"
+unfoldable pub jobRead : Counts → NodeLists → EdgeLists → NetLists → Job
+jobRead c ns es ts =
+    jobOf (ns .kinds) (ns .capacities) (firstPlaces (c .nodes) (es .froms)) (es .targets)
+    (ts .sources) (ts .firstSinks ++ (length (ts .sinks) ∷ [])) (ts .sinks) (c .limit)
+
+unfoldable pub readText : List ℕ → Part Job
+readText bs =
+    andThen (headPart bs) (λ c at rest.
+    andThen (nodeLines (c .nodes) (c .nodes) (nodeLists [] []) at rest) (λ ns at2 rest2.
+    andThen (edgeLines (c .nodes) (c .edges) (edgeLists [] []) at2 rest2) (λ es at3 rest3.
+    andThen (netLines (length rest3) (c .nodes) (c .nets) (netLists [] [] []) at3 rest3) (λ ts at4 rest4.
+    part (jobRead c ns es ts) at4 rest4))))

@@ -1,0 +1,48 @@
+-- Document 01, "Job text": a job's printed form, line by line in 01's order.
+-- Assumes nothing.
+use mathlib.Core.List.{List, [], _∷_, _++_}
+use mathlib.Core.Path.{_≡_}
+use Prim.Native.Nat.{ℕ, zero, suc}
+use lib.ListN.{length, getD}
+use Rattle.search.specs.Block.{row}
+use Rattle.negotiation.specs.Job.{Job, nodes, nets, source, netSinks}
+use Rattle.negotiation.specs.Tables.{SoundJob}
+use Rattle.text.specs.Lines.{printLine}
+use Rattle.text.specs.JobText.{Part, part, readText}
+
+-- the texts of m, m + 1, .., one after the other, so many of them
+unfoldable pub joined : (ℕ → List ℕ) → ℕ → ℕ → List ℕ
+joined f m zero = []
+joined f m (suc k) = f m ++ joined f (suc m) k
+
+-- a line for each entry, with the same first field
+unfoldable pub eachLine : ℕ → ℕ → List ℕ → List ℕ
+eachLine letter first [] = []
+eachLine letter first (x ∷ xs) = printLine letter (first ∷ x ∷ []) ++ eachLine letter first xs
+
+-- "`N,node,kind,capacity` in order"
+unfoldable pub nodeText : Job → ℕ → List ℕ
+nodeText j v = printLine 78 (v ∷ getD (j .block .kinds) v 0 ∷ getD (j .block .capacities) v 0 ∷ [])
+
+-- "`E,from,to` rising by from, then to"
+unfoldable pub rowText : Job → ℕ → List ℕ
+rowText j u = eachLine 69 u (row (j .block) u)
+
+-- "per net in order `S,net,node`, then one or more `T,net,node`"
+unfoldable pub netText : Job → ℕ → List ℕ
+netText j i = printLine 83 (i ∷ source j i ∷ []) ++ eachLine 84 i (netSinks j i)
+
+-- "`F,nodes,edges,nets,limit`", then nodes, edges and nets; "end of text"
+unfoldable pub printJob : Job → List ℕ
+printJob j =
+    printLine 70 (nodes j ∷ length (j .block .edgeTargets) ∷ nets j ∷ j .limit ∷ [])
+    ++ (joined (nodeText j) 0 (nodes j) ++ (joined (rowText j) 0 (nodes j) ++ joined (netText j) 0 (nets j)))
+
+-- the reader takes the text for this job
+abbrev pub Accepts : List ℕ → Job → Type 0
+Accepts bs j = (at : ℕ) × (readText bs ≡ part j at [])
+
+-- the reader takes a text for a job exactly where the job is sound and the text is its printed form
+pub record Exactly (bs : List ℕ) (j : Job) : Type 0 where
+  pub only-printed : Accepts bs j → SoundJob j × (bs ≡ printJob j)
+  pub all-printed : SoundJob j → bs ≡ printJob j → Accepts bs j

@@ -1,0 +1,127 @@
+-- What the contracts of the reader's private functions say about whole tables.
+-- Assumes nothing.
+use mathlib.Core.List.{List, [], _∷_, _++_}
+use mathlib.Core.Path.{_≡_}
+use Prim.Native.Nat.{ℕ, _+_, _≤_}
+use lib.Dec.{ltb}
+use lib.ListN.{length, take, drop}
+use Rattle.price.specs.Test.{choose}
+use Rattle.price.specs.Bounds.{nodesMost}
+use Rattle.search.specs.Tables.{edgesMost}
+use Rattle.search.specs.Replies.{sinksMost}
+use Rattle.negotiation.specs.Tables.{netsMost}
+use Rattle.negotiation.specs.Job.{Job, jobOf}
+use Rattle.text.specs.JobText.{Part, part, stopped, NodeLists, nodeLists, nodeLines, edgeLists, edgeLines, NetLists, netLists, netLines}
+use Rattle.text.specs.ReadReplies.{Tables, tablesOf}
+use Rattle.text.specs.Steps.{EdgeTables, edgeTables}
+use Rattle.text.specs.declared.nets.NetsRead.{NetsRead}
+use Rattle.text.specs.declared.nets.NetsRead.the-variants as nr
+use Rattle.text.specs.declared.reader.JobLines.{JobLines}
+use Rattle.text.specs.declared.reader.JobLines.the-variants as jl
+
+-- tables with room for any job
+pub record EdgeRoom (firstEdges edgeTargets : List ℕ) : Type 0 where
+  pub firsts-long : nodesMost + 1 ≤ length firstEdges
+  pub targets-long : edgesMost ≤ length edgeTargets
+
+pub record NetTablesRoom (sources firstSinks sinks : List ℕ) : Type 0 where
+  pub sources-long : netsMost ≤ length sources
+  pub firsts-long : netsMost + 1 ≤ length firstSinks
+  pub sinks-long : sinksMost ≤ length sinks
+
+pub record RoomForAll (kinds capacities firstEdges edgeTargets sources firstSinks sinks : List ℕ) : Type 0 where
+  pub kinds-long : nodesMost ≤ length kinds
+  pub capacities-long : nodesMost ≤ length capacities
+  pub edge-room : EdgeRoom firstEdges edgeTargets
+  pub net-room : NetTablesRoom sources firstSinks sinks
+
+pub record CountsWithin (n edges nets : ℕ) : Type 0 where
+  pub nodes-most : n ≤ nodesMost
+  pub edges-most : edges ≤ edgesMost
+  pub nets-most : nets ≤ netsMost
+
+-- tables 3 to 7
+pub record WireTables : Type 0 where
+  pub firstEdges : List ℕ
+  pub edgeTargets : List ℕ
+  pub sources : List ℕ
+  pub firstSinks : List ℕ
+  pub sinks : List ℕ
+
+abbrev pub wireTables : List ℕ → List ℕ → List ℕ → List ℕ → List ℕ → WireTables
+wireTables firstEdges edgeTargets sources firstSinks sinks =
+    record { firstEdges = firstEdges; edgeTargets = edgeTargets; sources = sources; firstSinks = firstSinks; sinks = sinks }
+
+-- nets after the edges; the last entry of table 6 is the sink count
+abbrev pub withNets : List ℕ → List ℕ → Part NetLists → Part WireTables
+withNets firstEdges edgeTargets (part ts at rest) =
+    part (wireTables firstEdges edgeTargets (ts .sources) (ts .firstSinks ++ (length (ts .sinks) ∷ [])) (ts .sinks)) at rest
+withNets firstEdges edgeTargets (stopped k at) = stopped k at
+
+abbrev pub netsAfter : ℕ → ℕ → Part EdgeTables → Part WireTables
+netsAfter n nets (part es at rest) =
+    withNets (es .firstEdges) (es .edgeTargets) (netLines (length rest) n nets (netLists [] [] []) at rest)
+netsAfter n nets (stopped k at) = stopped k at
+
+-- edges and nets, from a line on
+unfoldable pub bodyAfterNodes : ℕ → ℕ → ℕ → ℕ → List ℕ → Part WireTables
+bodyAfterNodes n edges nets at bs = netsAfter n nets (edgeTables n (edgeLines n edges (edgeLists [] []) at bs))
+
+abbrev pub edgesNetsAt : ℕ → ℕ → ℕ → NetsRead → List ℕ → List ℕ → List ℕ → List ℕ → List ℕ → Part WireTables
+edgesNetsAt n edges nets (nr.Read count line) firstEdges edgeTargets sources firstSinks sinks =
+    part (wireTables (take (n + 1) firstEdges) (take edges edgeTargets) (take nets sources) (take (nets + 1) firstSinks) (take count sinks)) line []
+edgesNetsAt n edges nets (nr.Stopped k line) firstEdges edgeTargets sources firstSinks sinks = stopped k line
+
+-- edges and nets after the nodes
+abbrev pub withWires : List ℕ → List ℕ → Part WireTables → Part Tables
+withWires kinds capacities (part w at rest) =
+    part (tablesOf kinds capacities (w .firstEdges) (w .edgeTargets) (w .sources) (w .firstSinks) (w .sinks)) at rest
+withWires kinds capacities (stopped k at) = stopped k at
+
+abbrev pub wiresAfter : ℕ → ℕ → ℕ → Part NodeLists → Part Tables
+wiresAfter n edges nets (part ns at rest) = withWires (ns .kinds) (ns .capacities) (bodyAfterNodes n edges nets at rest)
+wiresAfter n edges nets (stopped k at) = stopped k at
+
+-- the lines after the first
+unfoldable pub bodyAfterHead : ℕ → ℕ → ℕ → List ℕ → Part Tables
+bodyAfterHead n edges nets bs = wiresAfter n edges nets (nodeLines n n (nodeLists [] []) 2 bs)
+
+abbrev pub bodyAt : ℕ → ℕ → ℕ → NetsRead → List ℕ → List ℕ → List ℕ → List ℕ → List ℕ → List ℕ → List ℕ → Part Tables
+bodyAt n edges nets (nr.Read count line) kinds capacities firstEdges edgeTargets sources firstSinks sinks =
+    part (tablesOf (take n kinds) (take n capacities) (take (n + 1) firstEdges) (take edges edgeTargets) (take nets sources) (take (nets + 1) firstSinks) (take count sinks)) line []
+bodyAt n edges nets (nr.Stopped k line) kinds capacities firstEdges edgeTargets sources firstSinks sinks = stopped k line
+
+-- the job that stands in tables that have room for any
+abbrev pub jobTaken : ℕ → ℕ → ℕ → ℕ → ℕ → List ℕ → List ℕ → List ℕ → List ℕ → List ℕ → List ℕ → List ℕ → Job
+jobTaken n edges nets count limit kinds capacities firstEdges edgeTargets sources firstSinks sinks =
+    jobOf (take n kinds) (take n capacities) (take (n + 1) firstEdges) (take edges edgeTargets) (take nets sources) (take (nets + 1) firstSinks) (take count sinks) limit
+
+-- the whole text
+abbrev pub jobAt : JobLines → List ℕ → List ℕ → List ℕ → List ℕ → List ℕ → List ℕ → List ℕ → Part Job
+jobAt (jl.Counts n edges nets count limit line) kinds capacities firstEdges edgeTargets sources firstSinks sinks =
+    part (jobTaken n edges nets count limit kinds capacities firstEdges edgeTargets sources firstSinks sinks) line []
+jobAt (jl.Stopped k line) kinds capacities firstEdges edgeTargets sources firstSinks sinks = stopped k line
+
+abbrev pub JobPlace : JobLines → Type 0
+JobPlace (jl.Counts n edges nets count limit line) = CountsWithin n edges nets × (count ≤ sinksMost)
+JobPlace (jl.Stopped k line) = Unit {0}
+
+-- both lists have so many entries
+pub record Fits (count : ℕ) (from to : List ℕ) : Type 0 where
+  pub there : count ≤ length from
+  pub room : count ≤ length to
+
+-- the first entries of a list are copied over those of another
+abbrev pub Over : ℕ → List ℕ → List ℕ → List ℕ → Type 0
+Over count from before after = after ≡ take count from ++ drop count before
+
+-- row 4, by the tables' lengths
+unfoldable pub shortest : ℕ → ℕ → ℕ → ℕ → ℕ → ℕ → ℕ → ℕ → ℕ → ℕ → ℕ → ℕ
+shortest n edges nets count kinds capacities firstEdges edgeTargets sources firstSinks sinks =
+    choose (ltb kinds n) 1
+    (choose (ltb capacities n) 2
+    (choose (ltb firstEdges (n + 1)) 3
+    (choose (ltb edgeTargets edges) 4
+    (choose (ltb sources nets) 5
+    (choose (ltb firstSinks (nets + 1)) 6
+    (choose (ltb sinks count) 7 0))))))

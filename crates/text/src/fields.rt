@@ -1,0 +1,211 @@
+// Fields of a line: each reading gives a number with the next place, or a fault.
+ghost use mathlib.Core.Path.{_≡_};
+ghost use Prim.Native.Nat.{_≤_, _<_};
+ghost use lib.ListN.{length, drop};
+ghost use Rattle.text.specs.Decimal.{isDigit};
+ghost use Rattle.text.specs.Lines.{digitsAfter, field, fields};
+ghost use Rattle.text.specs.Steps.{begins, commaField, fieldAt, FieldPlace, twoAt, TwoPlace, threeAt, ThreePlace, fourAt, FourPlace};
+
+pub enum Field {
+    Number { value: u32, next: usize },
+    Fault,
+}
+
+// Two fields and the LF after them.
+pub enum Two {
+    Fields {
+        first: u32,
+        second: u32,
+        next: usize,
+    },
+    Fault,
+}
+
+pub enum Three {
+    Fields {
+        first: u32,
+        second: u32,
+        third: u32,
+        next: usize,
+    },
+    Fault,
+}
+
+pub enum Four {
+    Fields {
+        first: u32,
+        second: u32,
+        third: u32,
+        fourth: u32,
+        next: usize,
+    },
+    Fault,
+}
+
+// This byte stands at this place.
+pub fn stands(text: &[u8], at: usize, byte: u8) -> bool
+    ensures { λ r. ⌜ r ≡ begins byte (drop at (now (text .entry))) ⌝ }
+{
+    if text.len() <= at {
+        return false;
+    }
+    text[at] == byte
+}
+
+fn is_digit(b: u8) -> bool
+    ensures { λ r. ⌜ r ≡ isDigit b ⌝ }
+{
+    if b < 48 {
+        return false;
+    }
+    b <= 57
+}
+
+// A number that begins with this digit goes on over at most five more.
+fn further_digits(text: &[u8], at: usize, first: u32) -> Field
+    requires { ⌜ (at ≤ length (now text)) × (first < 10) ⌝ }
+    ensures { λ r. ⌜ fieldAt (now (text .entry)) r ≡ digitsAfter 5 first (drop at (now (text .entry))) ⌝ }
+    ensures { λ r. ⌜ FieldPlace at (now (text .entry)) r ⌝ }
+{
+    let mut value = first;
+    let mut next = at;
+    let mut left = 5;
+    while 0 < left {
+        if text.len() <= next {
+            return Field::Number {
+                value: value,
+                next: next,
+            };
+        }
+        let b = text[next];
+        if !is_digit(b) {
+            return Field::Number {
+                value: value,
+                next: next,
+            };
+        }
+        value = value * 10 + (b - 48) as u32;
+        next += 1;
+        left -= 1;
+    }
+    Field::Number {
+        value: value,
+        next: next,
+    }
+}
+
+// A number of 1 to 6 digits without a leading zero.
+fn number(text: &[u8], at: usize) -> Field
+    ensures { λ r. ⌜ fieldAt (now (text .entry)) r ≡ field (drop at (now (text .entry))) ⌝ }
+    ensures { λ r. ⌜ FieldPlace at (now (text .entry)) r ⌝ }
+{
+    if text.len() <= at {
+        return Field::Fault;
+    }
+    let b = text[at];
+    if b == 48 {
+        return Field::Number {
+            value: 0,
+            next: at + 1,
+        };
+    }
+    if !is_digit(b) {
+        return Field::Fault;
+    }
+    further_digits(text, at + 1, (b - 48) as u32)
+}
+
+// A field after a comma.
+pub fn comma_field(text: &[u8], at: usize) -> Field
+    ensures { λ r. ⌜ fieldAt (now (text .entry)) r ≡ commaField (drop at (now (text .entry))) ⌝ }
+    ensures { λ r. ⌜ FieldPlace at (now (text .entry)) r ⌝ }
+{
+    if !stands(text, at, b',') {
+        return Field::Fault;
+    }
+    number(text, at + 1)
+}
+
+pub fn two_fields(text: &[u8], at: usize) -> Two
+    ensures { λ r. ⌜ twoAt (now (text .entry)) r ≡ fields 2 (drop at (now (text .entry))) ⌝ }
+    ensures { λ r. ⌜ TwoPlace at (now (text .entry)) r ⌝ }
+{
+    let Field::Number {
+        value: first,
+        next: one,
+    } = comma_field(text, at)
+    else {
+        return Two::Fault;
+    };
+    let Field::Number {
+        value: second,
+        next: two,
+    } = comma_field(text, one)
+    else {
+        return Two::Fault;
+    };
+    if !stands(text, two, 10) {
+        return Two::Fault;
+    }
+    Two::Fields {
+        first: first,
+        second: second,
+        next: two + 1,
+    }
+}
+
+pub fn three_fields(text: &[u8], at: usize) -> Three
+    ensures { λ r. ⌜ threeAt (now (text .entry)) r ≡ fields 3 (drop at (now (text .entry))) ⌝ }
+    ensures { λ r. ⌜ ThreePlace at (now (text .entry)) r ⌝ }
+{
+    let Field::Number {
+        value: first,
+        next: one,
+    } = comma_field(text, at)
+    else {
+        return Three::Fault;
+    };
+    let Two::Fields {
+        first: second,
+        second: third,
+        next: end,
+    } = two_fields(text, one)
+    else {
+        return Three::Fault;
+    };
+    Three::Fields {
+        first: first,
+        second: second,
+        third: third,
+        next: end,
+    }
+}
+
+pub fn four_fields(text: &[u8], at: usize) -> Four
+    ensures { λ r. ⌜ fourAt (now (text .entry)) r ≡ fields 4 (drop at (now (text .entry))) ⌝ }
+    ensures { λ r. ⌜ FourPlace at (now (text .entry)) r ⌝ }
+{
+    let Field::Number {
+        value: first,
+        next: one,
+    } = comma_field(text, at)
+    else {
+        return Four::Fault;
+    };
+    let Three::Fields {
+        first: second,
+        second: third,
+        third: fourth,
+        next: end,
+    } = three_fields(text, one)
+    else {
+        return Four::Fault;
+    };
+    Four::Fields {
+        first: first,
+        second: second,
+        third: third,
+        fourth: fourth,
+        next: end,
+    }
+}

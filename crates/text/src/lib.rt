@@ -1,0 +1,213 @@
+// The job text: what the customer's placer writes, read into the router's tables.
+ghost use mathlib.Core.Path.{_≡_};
+ghost use Rattle.text.specs.ReadReplies.{tablesOf, laidReply, readReply, readTold};
+ghost use Prim.Native.Nat.{_≤_};
+ghost use Rattle.text.specs.ReadSteps.{RoomForAll, CountsWithin, jobTaken, shortest};
+
+// What the reader answers.
+pub enum ReadAnswer {
+    // The counts of the job, which the tables now hold, and its limit.
+    Job {
+        nodes: usize,
+        edges: usize,
+        nets: usize,
+        sinks: usize,
+        limit: u32,
+    },
+    // 1, 2 or 3: this line is faulty.
+    BadLine {
+        number: u32,
+        line: usize,
+    },
+    // 4: this table is too short for the job.
+    ShortTable(u32),
+}
+
+mod copy;
+mod edges;
+mod fields;
+mod head;
+mod nets;
+mod nodes;
+mod reader;
+
+use reader::JobLines;
+
+// The lowest table that is shorter than the job needs, 0 where each is long enough.
+fn short_table(
+    nodes: usize,
+    edges: usize,
+    nets: usize,
+    sinks: usize,
+    kind: usize,
+    capacity: usize,
+    first_edge: usize,
+    edge_target: usize,
+    source: usize,
+    first_sink: usize,
+    sink: usize,
+) -> u32
+    requires { ⌜ (nodes ≤ 4096) × (nets ≤ 512) ⌝ }
+    ensures { λ r. ⌜ r ≡ shortest nodes edges nets sinks kind capacity «first_edge» «edge_target» source «first_sink» sink ⌝ }
+{
+    if kind < nodes {
+        return 1;
+    }
+    if capacity < nodes {
+        return 2;
+    }
+    if first_edge < nodes + 1 {
+        return 3;
+    }
+    if edge_target < edges {
+        return 4;
+    }
+    if source < nets {
+        return 5;
+    }
+    if first_sink < nets + 1 {
+        return 6;
+    }
+    if sink < sinks {
+        return 7;
+    }
+    0
+}
+
+// Lays the job that was read over the tables that were lent, or names the lowest that is too short for it.
+fn lay_job(
+    nodes: usize,
+    edges: usize,
+    nets: usize,
+    count: usize,
+    limit: u32,
+    kinds: &[u8],
+    capacities: &[u8],
+    first_edges: &[u32],
+    edge_targets: &[u16],
+    sources: &[u16],
+    first_sinks: &[u32],
+    sinks: &[u16],
+    kind: &mut [u8],
+    capacity: &mut [u8],
+    first_edge: &mut [u32],
+    edge_target: &mut [u16],
+    source: &mut [u16],
+    first_sink: &mut [u32],
+    sink: &mut [u16],
+) -> ReadAnswer
+    requires { ⌜ RoomForAll (now kinds) (now capacities) (now «first_edges») (now «edge_targets») (now sources) (now «first_sinks») (now sinks) ⌝ }
+    requires { ⌜ CountsWithin nodes edges nets × (count ≤ 4096) ⌝ }
+    ensures { λ r. ⌜ readTold r (tablesOf (now (kind .exit)) (now (capacity .exit)) (now («first_edge» .exit)) (now («edge_target» .exit)) (now (source .exit)) (now («first_sink» .exit)) (now (sink .exit))) ≡ laidReply (jobTaken nodes edges nets count limit (now (kinds .entry)) (now (capacities .entry)) (now («first_edges» .entry)) (now («edge_targets» .entry)) (now (sources .entry)) (now («first_sinks» .entry)) (now (sinks .entry))) (tablesOf (now (kind .entry)) (now (capacity .entry)) (now («first_edge» .entry)) (now («edge_target» .entry)) (now (source .entry)) (now («first_sink» .entry)) (now (sink .entry))) ⌝ }
+{
+    let table = short_table(
+        nodes,
+        edges,
+        nets,
+        count,
+        kind.len(),
+        capacity.len(),
+        first_edge.len(),
+        edge_target.len(),
+        source.len(),
+        first_sink.len(),
+        sink.len(),
+    );
+    if 1 <= table {
+        return ReadAnswer::ShortTable(table);
+    }
+    copy::copy_block(
+        nodes,
+        edges,
+        kinds,
+        capacities,
+        first_edges,
+        edge_targets,
+        kind,
+        capacity,
+        first_edge,
+        edge_target,
+    );
+    copy::copy_nets(
+        nets,
+        count,
+        sources,
+        first_sinks,
+        sinks,
+        source,
+        first_sink,
+        sink,
+    );
+    ReadAnswer::Job {
+        nodes: nodes,
+        edges: edges,
+        nets: nets,
+        sinks: count,
+        limit: limit,
+    }
+}
+
+// Reads a job text into the seven tables, each of which may be longer than the job needs.
+pub fn read_job(
+    text: &[u8],
+    kind: &mut [u8],
+    capacity: &mut [u8],
+    first_edge: &mut [u32],
+    edge_target: &mut [u16],
+    source: &mut [u16],
+    first_sink: &mut [u32],
+    sink: &mut [u16],
+) -> ReadAnswer
+    ensures answers { λ r. ⌜ readTold r (tablesOf (now (kind .exit)) (now (capacity .exit)) (now («first_edge» .exit)) (now («edge_target» .exit)) (now (source .exit)) (now («first_sink» .exit)) (now (sink .exit))) ≡ readReply (now (text .entry)) (tablesOf (now (kind .entry)) (now (capacity .entry)) (now («first_edge» .entry)) (now («edge_target» .entry)) (now (source .entry)) (now («first_sink» .entry)) (now (sink .entry))) ⌝ }
+{
+    let mut kinds = [0u8; 4096];
+    let mut capacities = [0u8; 4096];
+    let mut first_edges = [0u32; 4097];
+    let mut edge_targets = [0u16; 32768];
+    let mut sources = [0u16; 512];
+    let mut first_sinks = [0u32; 513];
+    let mut sinks_read = [0u16; 4096];
+    match reader::read_lines(
+        text,
+        &mut kinds,
+        &mut capacities,
+        &mut first_edges,
+        &mut edge_targets,
+        &mut sources,
+        &mut first_sinks,
+        &mut sinks_read,
+    ) {
+        JobLines::Counts {
+            nodes,
+            edges,
+            nets,
+            sinks,
+            limit,
+            line: _,
+        } => lay_job(
+            nodes,
+            edges,
+            nets,
+            sinks,
+            limit,
+            &kinds,
+            &capacities,
+            &first_edges,
+            &edge_targets,
+            &sources,
+            &first_sinks,
+            &sinks_read,
+            kind,
+            capacity,
+            first_edge,
+            edge_target,
+            source,
+            first_sink,
+            sink,
+        ),
+        JobLines::Stopped { number, line } => ReadAnswer::BadLine {
+            number: number,
+            line: line,
+        },
+    }
+}

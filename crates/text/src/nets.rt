@@ -1,0 +1,281 @@
+// The S and T lines.
+ghost use mathlib.Core.List.{List, []};
+ghost use mathlib.Core.Path.{_≡_};
+ghost use Prim.Native.Nat.{ℕ, _+_, _-_, _≤_, _<_};
+ghost use lib.Dec.{ltb, eqb};
+ghost use lib.ListN.{length, drop};
+ghost use Rattle.price.specs.Test.{both, either};
+ghost use Rattle.text.specs.JobText.{sourceLine, sinkLine, netLists, netLine, netLines};
+ghost use Rattle.text.specs.Steps.{pinAt, PinPlace, Marked, netsAt, NetKept, SourceAdded, SinkAdded, netLineAt, KeptAfter, netsReadAt, NetsEnd};
+use crate::fields;
+use crate::fields::Two;
+
+pub enum PinLine {
+    Pin { node: u16, next: usize },
+    Refused(u32),
+}
+
+// How far the nets are read: the next place and its line, nets and sinks so far, and the sinks before the last net's own.
+pub struct NetCursor {
+    pub at: usize,
+    pub line: usize,
+    pub nets: usize,
+    pub sinks: usize,
+    pub first: usize,
+}
+
+pub enum NetStep {
+    On(NetCursor),
+    Stopped(u32),
+}
+
+// The sinks of all nets and the number of the line after them, or the refusal's number and its line.
+pub enum NetsRead {
+    Read { sinks: usize, line: usize },
+    Stopped { number: u32, line: usize },
+}
+
+// The S line of net i.
+fn source_line(text: &[u8], at: usize, nodes: usize, nets: usize, i: usize) -> PinLine
+    requires { ⌜ nodes ≤ 4096 ⌝ }
+    ensures { λ r. ⌜ pinAt i (now (text .entry)) r ≡ sourceLine nodes nets i (drop at (now (text .entry))) ⌝ }
+    ensures { λ r. ⌜ PinPlace nodes at (now (text .entry)) r ⌝ }
+{
+    if !fields::stands(text, at, b'S') {
+        return PinLine::Refused(1);
+    }
+    let Two::Fields {
+        first,
+        second,
+        next,
+    } = fields::two_fields(text, at + 1)
+    else {
+        return PinLine::Refused(1);
+    };
+    if nets <= first as usize {
+        return PinLine::Refused(2);
+    }
+    if nodes <= second as usize {
+        return PinLine::Refused(2);
+    }
+    if first as usize != i {
+        return PinLine::Refused(3);
+    }
+    PinLine::Pin {
+        node: second as u16,
+        next: next,
+    }
+}
+
+// A T line of net i after so many sinks. The net's pins so far bear its stamp.
+fn sink_line(
+    text: &[u8],
+    at: usize,
+    nodes: usize,
+    nets: usize,
+    i: usize,
+    count: usize,
+    seen: &[u16],
+    stamp: u16,
+) -> PinLine
+    requires { ⌜ (nodes ≤ 4096) × (nodes ≤ length (now seen)) ⌝ }
+    ensures { λ r. ⌜ ((pins : List ℕ) → Marked nodes stamp (now (seen .entry)) pins → pinAt i (now (text .entry)) r ≡ sinkLine nodes nets i pins count (drop at (now (text .entry)))) ⌝ }
+    ensures { λ r. ⌜ PinPlace nodes at (now (text .entry)) r ⌝ }
+{
+    if !fields::stands(text, at, b'T') {
+        return PinLine::Refused(1);
+    }
+    let Two::Fields {
+        first,
+        second,
+        next,
+    } = fields::two_fields(text, at + 1)
+    else {
+        return PinLine::Refused(1);
+    };
+    if nets <= first as usize {
+        return PinLine::Refused(2);
+    }
+    if nodes <= second as usize {
+        return PinLine::Refused(2);
+    }
+    if first as usize != i {
+        return PinLine::Refused(3);
+    }
+    if seen[second as usize] == stamp {
+        return PinLine::Refused(3);
+    }
+    if 4096 <= count {
+        return PinLine::Refused(3);
+    }
+    PinLine::Pin {
+        node: second as u16,
+        next: next,
+    }
+}
+
+// Reads an S line into tables 5 and 6, and stamps the source.
+fn add_source(
+    text: &[u8],
+    c: NetCursor,
+    nodes: usize,
+    nets: usize,
+    source: &mut [u16],
+    first_sink: &mut [u32],
+    seen: &mut [u16],
+) -> NetStep
+    requires { ⌜ (c .at ≤ length (now text)) × (c .line ≤ c .at + 1) × (nodes ≤ 4096) × (nets ≤ 512) × (c .sinks ≤ 4096) ⌝ }
+    requires { ⌜ (c .nets < nets) × (nets ≤ length (now source)) × (nets ≤ length (now «first_sink»)) × (nodes ≤ length (now seen)) ⌝ }
+    ensures { λ r. ⌜ SourceAdded nodes nets (now (text .entry)) c r (now (source .entry)) (now («first_sink» .entry)) (now (seen .entry)) (now (source .exit)) (now («first_sink» .exit)) (now (seen .exit)) (sourceLine nodes nets (c .nets) (drop (c .at) (now (text .entry)))) ⌝ }
+{
+    let at = c.at;
+    let net = c.nets;
+    let sinks = c.sinks;
+    match source_line(text, at, nodes, nets, net) {
+        PinLine::Pin { node, next } => {
+            source[net] = node;
+            first_sink[net] = sinks as u32;
+            seen[node as usize] = (net + 1) as u16;
+            NetStep::On(NetCursor {
+                at: next,
+                line: c.line + 1,
+                nets: net + 1,
+                sinks: sinks,
+                first: sinks,
+            })
+        }
+        PinLine::Refused(number) => NetStep::Stopped(number),
+    }
+}
+
+// Reads a T line into table 7, and stamps the sink.
+fn add_sink(
+    text: &[u8],
+    c: NetCursor,
+    nodes: usize,
+    nets: usize,
+    sink: &mut [u16],
+    seen: &mut [u16],
+) -> NetStep
+    requires { ⌜ (c .at ≤ length (now text)) × (c .line ≤ c .at + 1) × (nodes ≤ 4096) × (nets ≤ 512) ⌝ }
+    requires { ⌜ (1 ≤ c .nets) × (c .nets ≤ nets) × (4096 ≤ length (now sink)) × (nodes ≤ length (now seen)) ⌝ }
+    ensures { λ r. ⌜ ((pins : List ℕ) → Marked nodes (c .nets) (now (seen .entry)) pins → SinkAdded nodes nets (now (text .entry)) c r (now (sink .entry)) (now (seen .entry)) (now (sink .exit)) (now (seen .exit)) (sinkLine nodes nets (c .nets - 1) pins (c .sinks) (drop (c .at) (now (text .entry))))) ⌝ }
+{
+    let at = c.at;
+    let net = c.nets;
+    let sinks = c.sinks;
+    match sink_line(text, at, nodes, nets, net - 1, sinks, seen, net as u16) {
+        PinLine::Pin { node, next } => {
+            sink[sinks] = node;
+            seen[node as usize] = net as u16;
+            NetStep::On(NetCursor {
+                at: next,
+                line: c.line + 1,
+                nets: net,
+                sinks: sinks + 1,
+                first: c.first,
+            })
+        }
+        PinLine::Refused(number) => NetStep::Stopped(number),
+    }
+}
+
+// One line of the nets.
+fn net_line(
+    text: &[u8],
+    c: NetCursor,
+    nodes: usize,
+    nets: usize,
+    source: &mut [u16],
+    first_sink: &mut [u32],
+    sink: &mut [u16],
+    seen: &mut [u16],
+) -> NetStep
+    requires { ⌜ NetKept nodes nets (now text) c (now source) (now «first_sink») (now sink) (now seen) × (c .at < length (now text)) ⌝ }
+    ensures { λ r. ⌜ netLineAt (now (text .entry)) r (now (source .exit)) (now («first_sink» .exit)) (now (sink .exit)) ≡ netLine nodes nets (netsAt c (now (source .entry)) (now («first_sink» .entry)) (now (sink .entry))) (drop (c .at) (now (text .entry))) ⌝ }
+    ensures { λ r. ⌜ KeptAfter nodes nets (now (text .entry)) c r (now (source .exit)) (now («first_sink» .exit)) (now (sink .exit)) (now (seen .exit)) ⌝ }
+{
+    let at = c.at;
+    let b = text[at];
+    if b == b'S' {
+        if source_due(c, nets) {
+            return add_source(text, c, nodes, nets, source, first_sink, seen);
+        }
+        return NetStep::Stopped(1);
+    }
+    if b == b'T' {
+        if 1 <= c.nets {
+            return add_sink(text, c, nodes, nets, sink, seen);
+        }
+    }
+    NetStep::Stopped(1)
+}
+
+// Another net is due: the first, or one after a net that has a sink.
+fn source_due(c: NetCursor, nets: usize) -> bool
+    ensures { λ r. ⌜ r ≡ both (ltb (c .nets) nets) (either (eqb (c .nets) 0) (ltb (c .first) (c .sinks))) ⌝ }
+{
+    if nets <= c.nets {
+        return false;
+    }
+    if c.nets == 0 {
+        return true;
+    }
+    c.first < c.sinks
+}
+
+// Reads all nets to the end of the text into tables 5, 6 and 7.
+pub fn read_nets(
+    text: &[u8],
+    from: usize,
+    first_line: usize,
+    nodes: usize,
+    nets: usize,
+    source: &mut [u16],
+    first_sink: &mut [u32],
+    sink: &mut [u16],
+) -> NetsRead
+    requires { ⌜ (from ≤ length (now text)) × («first_line» ≤ from + 1) × (nodes ≤ 4096) × (nets ≤ 512) ⌝ }
+    requires { ⌜ (nets ≤ length (now source)) × (nets + 1 ≤ length (now «first_sink»)) × (4096 ≤ length (now sink)) ⌝ }
+    ensures { λ r. ⌜ netsReadAt nets r (now (source .exit)) (now («first_sink» .exit)) (now (sink .exit)) ≡ netLines (length (drop from (now (text .entry)))) nodes nets (netLists [] [] []) «first_line» (drop from (now (text .entry))) ⌝ }
+    ensures { λ r. ⌜ NetsEnd nets r (now («first_sink» .exit)) ⌝ }
+{
+    let mut seen = [0u16; 4096];
+    let mut c = NetCursor {
+        at: from,
+        line: first_line,
+        nets: 0,
+        sinks: 0,
+        first: 0,
+    };
+    while c.at < text.len() {
+        match net_line(text, c, nodes, nets, source, first_sink, sink, &mut seen) {
+            NetStep::On(next) => {
+                c = next;
+            }
+            NetStep::Stopped(number) => {
+                return NetsRead::Stopped {
+                    number: number,
+                    line: c.line,
+                };
+            }
+        }
+    }
+    if c.nets != nets {
+        return NetsRead::Stopped {
+            number: 1,
+            line: c.line,
+        };
+    }
+    if c.sinks <= c.first {
+        return NetsRead::Stopped {
+            number: 1,
+            line: c.line,
+        };
+    }
+    first_sink[nets] = c.sinks as u32;
+    NetsRead::Read {
+        sinks: c.sinks,
+        line: c.line,
+    }
+}
