@@ -7,6 +7,7 @@ pub mod CopyLaws
 pub mod ReaderLaws
 pub mod ReadJobLaws
 pub mod DecimalLaws
+pub mod PlacedLaws
 pub mod PrintLaws
 pub mod HeadTextLaws
 pub mod NodeTextLaws
@@ -15,4 +16,8 @@ pub mod EdgeTextLaws
 pub mod NetTextLaws
 pub mod NetReadLaws
 pub mod NetPrintLaws
+pub mod LogLaws
+pub mod BranchLaws
+pub mod BranchHolds
+pub mod LogHolds
 pub mod TextHolds

@@ -4,4 +4,6 @@ pub mod JobText
 pub mod Printed
 pub mod Steps
 pub mod ReadReplies
+pub mod Routes
 pub mod ReadSteps
+pub mod WriteSteps

@@ -1,8 +1,9 @@
-// The job text: what the customer's placer writes, read into the router's tables.
+// The job text before the router and the routes text after it.
 ghost use mathlib.Core.Path.{_≡_};
 ghost use Rattle.text.specs.ReadReplies.{tablesOf, laidReply, readReply, readTold};
 ghost use Prim.Native.Nat.{_≤_};
 ghost use Rattle.text.specs.ReadSteps.{RoomForAll, CountsWithin, jobTaken, shortest};
+ghost use Rattle.text.specs.Routes.{writeReply, writeTold};
 
 // What the reader answers.
 pub enum ReadAnswer {
@@ -23,16 +24,29 @@ pub enum ReadAnswer {
     ShortTable(u32),
 }
 
+// What the writer answers.
+pub enum WriteAnswer {
+    // So many bytes are written.
+    Written(usize),
+    // 10: the record that begins at this word is unsound.
+    Unsound(usize),
+    // 11: the buffer is shorter than the routes text, which takes so many bytes.
+    ShortBuffer(u64),
+}
+
+mod branches;
 mod copy;
+mod decimal;
 mod edges;
 mod fields;
 mod head;
+mod log_check;
 mod nets;
 mod nodes;
 mod reader;
 
+use log_check::LogCheck;
 use reader::JobLines;
-
 // The lowest table that is shorter than the job needs, 0 where each is long enough.
 fn short_table(
     nodes: usize,
@@ -209,5 +223,23 @@ pub fn read_job(
             number: number,
             line: line,
         },
+    }
+}
+
+// Writes the routes text of a log: its last record's iteration with the turn count, and that iteration's branches.
+pub fn write_routes(log: &[u32], buffer: &mut [u8]) -> WriteAnswer
+    ensures answers { λ r. ⌜ writeTold r (now (buffer .exit)) ≡ writeReply (now (log .entry)) (now (buffer .entry)) ⌝ }
+{
+    match log_check::check_log(log) {
+        LogCheck::Sound { iteration, turns } => {
+            let head = decimal::two_length(iteration as u64, turns as u64);
+            let needed = branches::held_sum(head as u64, branches::branches_length(log, iteration));
+            if (buffer.len() as u64) < needed {
+                return WriteAnswer::ShortBuffer(needed);
+            }
+            let at = decimal::put_two(buffer, 0, b'R', iteration as u64, turns as u64);
+            WriteAnswer::Written(branches::put_branches(log, iteration, buffer, at))
+        }
+        LogCheck::Unsound(word) => WriteAnswer::Unsound(word),
     }
 }

@@ -1,0 +1,480 @@
+-- Sound logs: what the tests of a path and of a record find, and going from record to record to the log's end.
+-- Assumes nothing.
+use mathlib.Core.Bool.{Bool, true, false}
+use mathlib.Core.List.{List, [], _∷_, map}
+use mathlib.Core.Logic.{⊎-elim}
+use mathlib.Core.Path.{_≡_, refl, sym, _∙_, ap}
+use Prim.Native.Nat.{ℕ, zero, suc, _+_, _*_, _-_, _^_, _≤_, _<_}
+use native.Mathlib.Nat.{add-zero, zero-add, eq-or-lt-of-le}
+use native.Mathlib.Omega.{arith}
+use lib.Dec.{leb, ltb, eqb}
+use lib.ListN.{length, getD, take, drop, length-drop, drop-of-length-le}
+use lib.Seq.{getD-take, getD-drop, drop-drop, length-take-le}
+use borrow.Author.Tests.{le-leb, lt-leb, lt-ltb, le-ltb, eq-eqb, ne-eqb, leb-true, eqb-true}
+use Rattle.price.specs.Test.{both}
+use Rattle.price.specs.Bounds.{nodesMost, limitMost}
+use Rattle.price.specs.Lists.{every}
+use Rattle.price.proofs.ListLaws.{either-way, both-left, both-right, le-or-lt, every-all, every-none}
+use Rattle.negotiation.specs.Tables.{netsMost}
+use Rattle.negotiation.specs.Records.{Record, recordOf, decodeUpTo, decode}
+use Rattle.text.specs.JobText.{between}
+use Rattle.text.specs.Routes.{pathIn, pathSound, recordSound, soundUpTo, soundWords, logSound, lastIteration}
+use Rattle.text.specs.WriteSteps.{sound, unsound, logChecked}
+
+-- ---- the tests of a path
+
+abbrev nodeSound : ℕ → Bool
+nodeSound v = ltb v nodesMost
+
+-- the words of a log up to a place are nodes
+pub record Below (log : List ℕ) (from to k : ℕ) : Type 0 where
+  pub above : from ≤ k
+  pub within : k ≤ to
+  pub below : (i : ℕ) → from ≤ i → i < k → getD log i 0 < 4096
+
+pub below-none : (log : List ℕ) (from to : ℕ) → from ≤ to → Below log from to from
+below-none log from to h = record { above = omega arith; within = h; below = λ i l m. absurd (omega arith) }
+
+module _ {log : List ℕ} {from to k : ℕ} (p : Below log from to k) where
+  pub below-more : k < to → getD log k 0 < 4096 → Below log from to (k + 1)
+  below-more l h =
+      record {
+        above = omega (arith, p .above);
+        within = omega arith;
+        below = λ i f (m : i < k + 1). ⊎-elim (λ (e : i ≡ k). rw e h) (λ g. p .below i f g) (eq-or-lt-of-le (omega arith));
+      }
+
+  part-at : (i : ℕ) → i < to - from → getD (take (to - from) (drop from log)) i 0 ≡ getD log (from + i) 0
+  part-at i l = getD-take (to - from) (drop from log) i 0 l ∙ getD-drop from log i 0
+
+  module _ (m : to ≤ length log) where
+    part-long : length (take (to - from) (drop from log)) ≡ to - from
+    part-long = length-take-le (to - from) (drop from log) (rw (length-drop from log) (omega arith))
+
+    pub nodes-faulty : k < to → 4096 ≤ getD log k 0 → every nodeSound (take (to - from) (drop from log)) ≡ false
+    nodes-faulty l h =
+        let above = p .above in
+        let place : from + (k - from) ≡ k = omega arith in
+        every-none nodeSound (take (to - from) (drop from log)) (k - from) (rw part-long (omega arith))
+        (rw (part-at (k - from) (omega arith), place) (le-ltb (getD log k 0) 4096 h))
+
+    pub nodes-all : to ≤ k → every nodeSound (take (to - from) (drop from log)) ≡ true
+    nodes-all l =
+        every-all nodeSound (take (to - from) (drop from log))
+        (λ i (b : i < length (take (to - from) (drop from log))).
+        let c : i < to - from = rw part-long at b in
+        rw (part-at i c) (lt-ltb (getD log (from + i) 0) 4096 (p .below (from + i) (omega arith) (omega arith))))
+
+module _ (log : List ℕ) (at n sink : ℕ) where
+  pub path-few : n < 2 → pathSound n sink (drop at log) ≡ false
+  unfolding pathSound
+  path-few h = rw (lt-leb 2 n h)
+
+  pub path-many : 2 ≤ n → 4096 < n → pathSound n sink (drop at log) ≡ false
+  unfolding pathSound
+  path-many l h = rw (le-leb 2 n l, lt-leb n 4096 h)
+
+  pub path-cut : 2 ≤ n → n ≤ 4096 → length log - at < 6 + n → pathSound n sink (drop at log) ≡ false
+  unfolding pathSound
+  path-cut l m h = rw (le-leb 2 n l, le-leb n 4096 m, length-drop at log, lt-leb (6 + n) (length log - at) h)
+
+  -- of a whole path the nodes and the sink decide
+  path-whole :
+      2 ≤ n → n ≤ 4096 → 6 + n ≤ length log - at →
+      pathSound n sink (drop at log) ≡ both (every nodeSound (take (at + 6 + n - (at + 6)) (drop (at + 6) log))) (eqb (getD log (at + 6 + n - 1) 0) sink)
+  unfolding pathSound
+  path-whole l m h =
+      let long : at + 6 + n - (at + 6) ≡ n = omega arith in
+      let last : at + (5 + n) ≡ at + 6 + n - 1 = omega arith in
+      rw (
+        le-leb 2 n l,
+        le-leb n 4096 m,
+        length-drop at log,
+        le-leb (6 + n) (length log - at) h,
+        drop-drop 6 at log,
+        getD-drop at log (5 + n) 0,
+        long,
+        last,
+      )
+
+  pub path-nodes :
+      2 ≤ n → n ≤ 4096 → 6 + n ≤ length log - at →
+      every nodeSound (take (at + 6 + n - (at + 6)) (drop (at + 6) log)) ≡ false → pathSound n sink (drop at log) ≡ false
+  path-nodes l m h e = path-whole l m h ∙ rw e
+
+  pub path-last :
+      2 ≤ n → n ≤ 4096 → 6 + n ≤ length log - at →
+      every nodeSound (take (at + 6 + n - (at + 6)) (drop (at + 6) log)) ≡ true →
+      pathSound n sink (drop at log) ≡ eqb (getD log (at + 6 + n - 1) 0) sink
+  path-last l m h e = path-whole l m h ∙ rw e
+
+-- ---- the tests of a record
+
+module _ (last : ℕ) (log : List ℕ) (at : ℕ) where
+  -- the first record of the words from a place on, read there
+  record-reads :
+      recordSound last (drop at log)
+      ≡ both (leb 6 (length log - at))
+      (both (both (between 1 limitMost (getD log at 0)) (leb last (getD log at 0)))
+      (both (ltb (getD log (at + 1) 0) netsMost) (pathSound (getD log (at + 5) 0) (getD log (at + 2) 0) (drop at log))))
+  unfolding recordSound
+  record-reads =
+      rw (
+        length-drop at log,
+        getD-drop at log 0 0,
+        getD-drop at log 1 0,
+        getD-drop at log 2 0,
+        getD-drop at log 5 0,
+        add-zero at,
+      )
+
+  pub record-cut : length log - at < 6 → recordSound last (drop at log) ≡ false
+  record-cut h = record-reads ∙ rw (lt-leb 6 (length log - at) h)
+
+  module _ (whole : 6 ≤ length log - at) where
+    pub record-none : getD log at 0 < 1 → recordSound last (drop at log) ≡ false
+    record-none h = record-reads ∙ rw (le-leb 6 (length log - at) whole, lt-leb 1 (getD log at 0) h)
+
+    pub record-late : 1 ≤ getD log at 0 → 100 < getD log at 0 → recordSound last (drop at log) ≡ false
+    record-late l h =
+        record-reads ∙ rw (le-leb 6 (length log - at) whole, le-leb 1 (getD log at 0) l, lt-leb (getD log at 0) 100 h)
+
+    pub record-falls : 1 ≤ getD log at 0 → getD log at 0 ≤ 100 → getD log at 0 < last → recordSound last (drop at log) ≡ false
+    record-falls l m h =
+        record-reads
+        ∙ rw (
+          le-leb 6 (length log - at) whole,
+          le-leb 1 (getD log at 0) l,
+          le-leb (getD log at 0) 100 m,
+          lt-leb last (getD log at 0) h,
+        )
+
+    module _ (some : 1 ≤ getD log at 0) (most : getD log at 0 ≤ 100) (rises : last ≤ getD log at 0) where
+      record-net : recordSound last (drop at log) ≡ both (ltb (getD log (at + 1) 0) netsMost) (pathSound (getD log (at + 5) 0) (getD log (at + 2) 0) (drop at log))
+      record-net =
+          record-reads
+          ∙ rw (
+            le-leb 6 (length log - at) whole,
+            le-leb 1 (getD log at 0) some,
+            le-leb (getD log at 0) 100 most,
+            le-leb last (getD log at 0) rises,
+          )
+
+      pub record-high : 512 ≤ getD log (at + 1) 0 → recordSound last (drop at log) ≡ false
+      record-high h = record-net ∙ rw (le-ltb (getD log (at + 1) 0) 512 h)
+
+      pub record-path : getD log (at + 1) 0 < 512 → recordSound last (drop at log) ≡ pathSound (getD log (at + 5) 0) (getD log (at + 2) 0) (drop at log)
+      record-path h = record-net ∙ rw (lt-ltb (getD log (at + 1) 0) 512 h)
+
+-- ---- what a sound record has
+
+-- the words of the first record
+abbrev pub recordLength : List ℕ → ℕ
+recordLength ws = 6 + getD ws 5 0
+
+path-most : (n sink : ℕ) (ws : List ℕ) → pathSound n sink ws ≡ true → n ≤ 4096
+unfolding pathSound
+path-most n sink ws e =
+    leb-true n 4096
+    (both-right (leb 2 n) (leb n 4096)
+    (both-left (between 2 nodesMost n) (leb (6 + n) (length ws))
+    (both-left (both (between 2 nodesMost n) (leb (6 + n) (length ws)))
+    (both (every nodeSound (pathIn n ws)) (eqb (getD ws (5 + n) 0) sink)) e)))
+
+path-fits : (n sink : ℕ) (ws : List ℕ) → pathSound n sink ws ≡ true → 6 + n ≤ length ws
+unfolding pathSound
+path-fits n sink ws e =
+    leb-true (6 + n) (length ws)
+    (both-right (between 2 nodesMost n) (leb (6 + n) (length ws))
+    (both-left (both (between 2 nodesMost n) (leb (6 + n) (length ws)))
+    (both (every nodeSound (pathIn n ws)) (eqb (getD ws (5 + n) 0) sink)) e))
+
+module _ (last : ℕ) (ws : List ℕ) (e : recordSound last ws ≡ true) where
+  sound-path : pathSound (getD ws 5 0) (getD ws 2 0) ws ≡ true
+  unfolding recordSound
+  sound-path =
+      both-right (ltb (getD ws 1 0) netsMost) (pathSound (getD ws 5 0) (getD ws 2 0) ws)
+      (both-right (both (between 1 limitMost (getD ws 0 0)) (leb last (getD ws 0 0)))
+      (both (ltb (getD ws 1 0) netsMost) (pathSound (getD ws 5 0) (getD ws 2 0) ws))
+      (both-right (leb 6 (length ws))
+      (both (both (between 1 limitMost (getD ws 0 0)) (leb last (getD ws 0 0)))
+      (both (ltb (getD ws 1 0) netsMost) (pathSound (getD ws 5 0) (getD ws 2 0) ws))) e))
+
+  sound-most : getD ws 5 0 ≤ 4096
+  sound-most = path-most (getD ws 5 0) (getD ws 2 0) ws sound-path
+
+  sound-fits : recordLength ws ≤ length ws
+  sound-fits = path-fits (getD ws 5 0) (getD ws 2 0) ws sound-path
+
+-- ---- sound words, record by record
+
+unsound-short : (last : ℕ) (ws : List ℕ) → length ws < 6 → recordSound last ws ≡ false
+unfolding recordSound
+unsound-short last ws h = rw (lt-leb 6 (length ws) h)
+
+-- more steps than words change nothing
+sound-enough : (k m last : ℕ) (ws : List ℕ) → length ws ≤ k → length ws ≤ m → soundUpTo k last ws ≡ soundUpTo m last ws
+unfolding soundUpTo
+sound-enough zero zero last ws h g = refl
+sound-enough zero (suc m) last ws h g = rw (unsound-short last ws (omega arith))
+sound-enough (suc k) zero last ws h g = rw (unsound-short last ws (omega arith))
+sound-enough (suc k) (suc m) last ws h g =
+    ⊎-elim
+    (λ (t : recordSound last ws ≡ true).
+    let short = length-drop (recordLength ws) ws in
+    rw t
+    (ap (λ (x : ℕ). recordLength ws + x)
+    (sound-enough k m (getD ws 0 0) (drop (recordLength ws) ws) (omega arith) (omega arith))))
+    (λ (t : recordSound last ws ≡ false). rw t)
+    (either-way (recordSound last ws))
+
+-- the words of sound records from here on
+abbrev pub soundAfter : ℕ → List ℕ → ℕ
+soundAfter last ws = soundUpTo (length ws) last ws
+
+module _ (last : ℕ) (ws : List ℕ) where
+  one-more : soundAfter last ws ≡ soundUpTo (suc (length ws)) last ws
+  one-more = sound-enough (length ws) (suc (length ws)) last ws (omega arith) (omega arith)
+
+  pub sound-next : recordSound last ws ≡ true → soundAfter last ws ≡ recordLength ws + soundAfter (getD ws 0 0) (drop (recordLength ws) ws)
+  unfolding soundUpTo
+  sound-next t =
+      let short = length-drop (recordLength ws) ws in
+      one-more
+      ∙ rw t
+      (ap (λ (x : ℕ). recordLength ws + x)
+      (sound-enough (length ws) (length (drop (recordLength ws) ws)) (getD ws 0 0) (drop (recordLength ws) ws) (omega arith) (omega arith)))
+
+  pub sound-stop : recordSound last ws ≡ false → soundAfter last ws ≡ 0
+  unfolding soundUpTo
+  sound-stop t = one-more ∙ rw t
+
+-- ---- records, one by one
+
+-- the first record of some words
+abbrev pub firstRecord : List ℕ → Record
+firstRecord ws =
+    recordOf (getD ws 0 0) (getD ws 1 0) (getD ws 2 0) (getD ws 3 0 + getD ws 4 0 * 2 ^ 32) (pathIn (getD ws 5 0) ws)
+
+decode-short : (k : ℕ) (ws : List ℕ) → length ws < 6 → decodeUpTo k ws ≡ []
+unfolding decodeUpTo
+decode-short zero ws h = refl
+decode-short (suc k) [] h = refl
+decode-short (suc k) (a ∷ []) h = refl
+decode-short (suc k) (a ∷ b ∷ []) h = refl
+decode-short (suc k) (a ∷ b ∷ c ∷ []) h = refl
+decode-short (suc k) (a ∷ b ∷ c ∷ d ∷ []) h = refl
+decode-short (suc k) (a ∷ b ∷ c ∷ d ∷ e ∷ []) h = refl
+decode-short (suc k) (a ∷ b ∷ c ∷ d ∷ e ∷ n ∷ rest) h = absurd (omega arith)
+
+decode-long : (k : ℕ) (ws : List ℕ) → 6 ≤ length ws → decodeUpTo (suc k) ws ≡ firstRecord ws ∷ decodeUpTo k (drop (recordLength ws) ws)
+unfolding decodeUpTo
+decode-long k [] h = absurd (omega arith)
+decode-long k (a ∷ []) h = absurd (omega arith)
+decode-long k (a ∷ b ∷ []) h = absurd (omega arith)
+decode-long k (a ∷ b ∷ c ∷ []) h = absurd (omega arith)
+decode-long k (a ∷ b ∷ c ∷ d ∷ []) h = absurd (omega arith)
+decode-long k (a ∷ b ∷ c ∷ d ∷ e ∷ []) h = absurd (omega arith)
+decode-long k (a ∷ b ∷ c ∷ d ∷ e ∷ n ∷ rest) h =
+    let ws = a ∷ b ∷ c ∷ d ∷ e ∷ n ∷ rest in
+    ap (λ (l : List ℕ). firstRecord ws ∷ decodeUpTo k l) (drop-drop n 6 ws)
+
+-- more steps than words change nothing here either
+decode-enough : (k m : ℕ) (ws : List ℕ) → length ws ≤ k → length ws ≤ m → decodeUpTo k ws ≡ decodeUpTo m ws
+decode-enough zero m ws h g = decode-short zero ws (omega arith) ∙ sym (decode-short m ws (omega arith))
+decode-enough (suc k) zero ws h g = decode-short (suc k) ws (omega arith) ∙ sym (decode-short zero ws (omega arith))
+decode-enough (suc k) (suc m) ws h g =
+    ⊎-elim
+    (λ (l : 6 ≤ length ws).
+    let short = length-drop (recordLength ws) ws in
+    rw (decode-long k ws l, decode-long m ws l)
+    (ap (λ (rs : List Record). firstRecord ws ∷ rs) (decode-enough k m (drop (recordLength ws) ws) (omega arith) (omega arith))))
+    (λ (l : length ws < 6). decode-short (suc k) ws l ∙ sym (decode-short (suc m) ws l))
+    (le-or-lt 6 (length ws))
+
+pub decode-none : decode [] ≡ []
+unfolding decode decodeUpTo
+decode-none = refl
+
+pub decode-next : (ws : List ℕ) → 6 ≤ length ws → decode ws ≡ firstRecord ws ∷ decode (drop (recordLength ws) ws)
+unfolding decode
+decode-next ws h =
+    let short = length-drop (recordLength ws) ws in
+    decode-enough (length ws) (suc (length ws)) ws (omega arith) (omega arith)
+    ∙ decode-long (length ws) ws h
+    ∙ ap (λ (rs : List Record). firstRecord ws ∷ rs)
+    (decode-enough (length ws) (length (drop (recordLength ws) ws)) (drop (recordLength ws) ws) (omega arith) (omega arith))
+
+-- ---- the record at a place
+
+-- where the next record begins
+abbrev pub nextAt : List ℕ → ℕ → ℕ
+nextAt log at = at + 6 + getD log (at + 5) 0
+
+abbrev pub recordAt : List ℕ → ℕ → Record
+recordAt log at =
+    recordOf (getD log at 0) (getD log (at + 1) 0) (getD log (at + 2) 0) (getD log (at + 3) 0 + getD log (at + 4) 0 * 2 ^ 32)
+    (take (getD log (at + 5) 0) (drop (at + 6) log))
+
+module _ (log : List ℕ) (at : ℕ) where
+  first-at : getD (drop at log) 0 0 ≡ getD log at 0
+  first-at = getD-drop at log 0 0 ∙ ap (λ (i : ℕ). getD log i 0) (add-zero at)
+
+  after-at : drop (recordLength (drop at log)) (drop at log) ≡ drop (nextAt log at) log
+  after-at =
+      let place : at + recordLength (drop at log) ≡ nextAt log at = rw (getD-drop at log 5 0) (omega arith) in
+      drop-drop (recordLength (drop at log)) at log ∙ ap (λ (i : ℕ). drop i log) place
+
+  pub decode-at : 6 ≤ length (drop at log) → decode (drop at log) ≡ recordAt log at ∷ decode (drop (nextAt log at) log)
+  decode-at h =
+      decode-next (drop at log) h
+      ∙ rw (
+        after-at,
+        first-at,
+        getD-drop at log 1 0,
+        getD-drop at log 2 0,
+        getD-drop at log 3 0,
+        getD-drop at log 4 0,
+        getD-drop at log 5 0,
+        drop-drop 6 at log,
+      )
+
+  module _ (last : ℕ) (t : recordSound last (drop at log) ≡ true) where
+    pub sound-at : soundAfter last (drop at log) ≡ 6 + getD log (at + 5) 0 + soundAfter (getD log at 0) (drop (nextAt log at) log)
+    sound-at = sound-next last (drop at log) t ∙ rw (after-at, first-at, getD-drop at log 5 0)
+
+    pub most-at : getD log (at + 5) 0 ≤ 4096
+    most-at = rw (getD-drop at log 5 0) at (sound-most last (drop at log) t)
+
+    pub long-at : 6 + getD log (at + 5) 0 ≤ length (drop at log)
+    long-at = rw (getD-drop at log 5 0) at (sound-fits last (drop at log) t)
+
+    pub fits-at : at ≤ length log → nextAt log at ≤ length log
+    fits-at l =
+        let long = long-at in
+        let short = length-drop at log in
+        omega arith
+
+-- the iteration of the last record, or this one where there is none
+pub lastOr : ℕ → List Record → ℕ
+lastOr t [] = t
+lastOr t (r ∷ rs) = lastOr (r .iteration) rs
+
+last-of : (t : ℕ) (r : Record) (rs : List Record) → getD (map (λ (q : Record). q .iteration) (r ∷ rs)) (length rs) 0 ≡ lastOr t (r ∷ rs)
+unfolding lastOr
+last-of t r [] = refl
+last-of t r (q ∷ rs) = last-of (r .iteration) q rs
+
+last-is : (rs : List Record) → lastIteration rs ≡ lastOr 0 rs
+unfolding lastIteration lastOr
+last-is [] = refl
+last-is (r ∷ rs) =
+    let one : suc (length rs) - 1 ≡ length rs = omega arith in
+    rw one (last-of 0 r rs)
+
+-- ---- from record to record
+
+-- the records before a place are sound: so many, the last of this iteration
+pub record Checking (log : List ℕ) (at iteration turns : ℕ) : Type 0 where
+  pub within : at ≤ length log
+  pub sound-so-far : soundWords log ≡ at + soundAfter iteration (drop at log)
+  pub counted : turns + length (decode (drop at log)) ≡ length (decode log)
+  pub last-met : lastOr iteration (decode (drop at log)) ≡ lastOr 0 (decode log)
+  pub few : turns ≤ at
+  pub begun : turns ≡ 0 → at ≡ 0
+
+pub checking-none : (log : List ℕ) → Checking log 0 0 0
+unfolding soundWords
+checking-none log =
+    record {
+      within = omega arith;
+      sound-so-far = sym (zero-add (soundAfter 0 log));
+      counted = zero-add (length (decode log));
+      last-met = refl;
+      few = omega arith;
+      begun = λ e. refl;
+    }
+
+module _ {log : List ℕ} {at iteration turns : ℕ} (p : Checking log at iteration turns) where
+  pub checking-fits : recordSound iteration (drop at log) ≡ true → nextAt log at ≤ length log
+  checking-fits t = fits-at log at iteration t (p .within)
+
+  pub checking-next : recordSound iteration (drop at log) ≡ true → Checking log (nextAt log at) (getD log at 0) (turns + 1)
+  unfolding lastOr
+  checking-next t =
+      let long = long-at log at iteration t in
+      let one : decode (drop at log) ≡ recordAt log at ∷ decode (drop (nextAt log at) log) = decode-at log at (omega arith) in
+      record {
+        within = checking-fits t;
+        sound-so-far = omega (arith, sound-at log at iteration t, p .sound-so-far);
+        counted = omega (arith, rw one at (p .counted));
+        last-met = rw one at (p .last-met);
+        few = omega arith;
+        begun = λ e. absurd (omega arith);
+      }
+
+  pub checked-unsound : at < length log → recordSound iteration (drop at log) ≡ false → unsound at ≡ logChecked log
+  unfolding logChecked logSound
+  checked-unsound l t =
+      let stop : soundWords log ≡ at = p .sound-so-far ∙ rw (sound-stop iteration (drop at log) t) (add-zero at) in
+      rw (stop, le-leb 1 (length log) (omega arith), ne-eqb at (length log) (λ e. omega arith))
+
+  module _ (l : length log ≤ at) where
+    none-left : drop at log ≡ []
+    none-left = drop-of-length-le log l
+
+    all-sound : soundWords log ≡ at
+    unfolding soundUpTo
+    all-sound = p .sound-so-far ∙ rw none-left (add-zero at)
+
+    pub checked-none : turns ≡ 0 → unsound 0 ≡ logChecked log
+    unfolding logChecked logSound
+    checked-none e =
+        let start = p .begun e in
+        rw (all-sound, start, lt-leb 1 (length log) (omega arith))
+
+    pub checked-sound : (turns ≡ 0 → ⊥) → sound iteration turns ≡ logChecked log
+    unfolding logChecked logSound lastOr
+    checked-sound e =
+        let some : 1 ≤ turns = omega arith in
+        let all : turns ≡ length (decode log) = omega (arith, rw (none-left, decode-none) at (p .counted)) in
+        let last : iteration ≡ lastIteration (decode log) = rw (none-left, decode-none) at (p .last-met) ∙ sym (last-is (decode log)) in
+        rw (all-sound, le-leb 1 (length log) (omega arith), eq-eqb at (length log) (omega arith), ← all, ← last)
+
+-- ---- what the test of a log says
+
+pub record Found (log : List ℕ) (iteration turns : ℕ) : Type 0 where
+  pub is-sound : logSound log ≡ true
+  pub iteration-is : iteration ≡ lastIteration (decode log)
+  pub turns-are : turns ≡ length (decode log)
+
+module _ (log : List ℕ) where
+  pub found : {iteration turns : ℕ} → sound iteration turns ≡ logChecked log → Found log iteration turns
+  unfolding logChecked
+  found {iteration} {turns} e =
+      ⊎-elim
+      (λ (t : logSound log ≡ true).
+      let same : sound iteration turns ≡ sound (lastIteration (decode log)) (length (decode log)) = rw t at e in
+      record { is-sound = t; iteration-is = cc; turns-are = cc })
+      (λ (t : logSound log ≡ false).
+      let same : sound iteration turns ≡ unsound (soundWords log) = rw t at e in
+      let z : _≡_ {A = ℕ} 0 1 = cc in
+      absurd (omega arith))
+      (either-way (logSound log))
+
+  pub found-all : logSound log ≡ true → soundWords log ≡ length log
+  unfolding logSound
+  found-all t = eqb-true (soundWords log) (length log) (both-right (leb 1 (length log)) (eqb (soundWords log) (length log)) t)
+
+  pub found-none : {word : ℕ} → unsound word ≡ logChecked log → (logSound log ≡ false) × (word ≡ soundWords log)
+  unfolding logChecked
+  found-none {word} e =
+      ⊎-elim
+      (λ (t : logSound log ≡ true).
+      let same : unsound word ≡ sound (lastIteration (decode log)) (length (decode log)) = rw t at e in
+      let z : _≡_ {A = ℕ} 0 1 = cc in
+      absurd (omega arith))
+      (λ (t : logSound log ≡ false).
+      let same : unsound word ≡ unsound (soundWords log) = rw t at e in
+      (t, cc))
+      (either-way (logSound log))

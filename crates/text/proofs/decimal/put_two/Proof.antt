@@ -1,0 +1,52 @@
+-- `decimal::put_two` meets its contract: the letter, the fields and LF, one behind the other.
+-- Assumes nothing.
+use borrow.Author.Needs.{needs}
+use Rattle.text.proofs.DecimalLaws.{two-size}
+use Rattle.text.proofs.PlacedLaws.{put-letter-then, put-field-then, put-last}
+use Rattle.text.proofs.decimal.put_two.Statement.{statement}
+use Rattle.text.proofs.decimal.put_two.Tie as tie
+
+put-byte-requires : tie.Need-put-byte-requires
+put-byte-requires c κs =
+    let a = c .before .before .args in
+    let l = two-size (a .letter) (a .first) (a .second) in
+    search needs
+
+put-field-requires : tie.Need-put-field-requires
+put-field-requires c κs =
+    let a = c .before .before .before .before .before .before .args in
+    let l = two-size (a .letter) (a .first) (a .second) in
+    search needs
+
+put-field-requires-2 : tie.Need-put-field-requires-2
+put-field-requires-2 c κs =
+    let a = c .before .before .before .before .before .before .before .before .before .before .args in
+    let l = two-size (a .letter) (a .first) (a .second) in
+    search needs
+
+put-byte-requires-2 : tie.Need-put-byte-requires-2
+put-byte-requires-2 c κs =
+    let a = c .before .before .before .before .before .before .before .before .before .before .before .before .before .before .args in
+    let l = two-size (a .letter) (a .first) (a .second) in
+    search needs
+
+same-length : tie.Need-same-length
+same-length c = search needs
+
+returns : tie.Need-returns
+returns c =
+    put-letter-then _ (c .before .before .before .before .before .before .before .before .before .before .before .before .before .before .put-byte .ensures) (search needs)
+    (λ room. put-field-then _ _ (c .before .before .before .before .before .before .before .before .before .before .put-field .ensures) room
+    (λ room. put-field-then _ _ (c .before .before .before .before .before .before .put-field2 .ensures) room
+    (λ room. put-last (c .before .before .put-byte2 .ensures))))
+
+pub put-two-spec : {M : Type 1} → statement M
+put-two-spec =
+    tie.close
+    (tie.spec
+    put-byte-requires
+    put-field-requires
+    put-field-requires-2
+    put-byte-requires-2
+    same-length
+    returns)

@@ -1,0 +1,53 @@
+-- `text::log_check::nodes_sound` meets its contract. The loop's invariant: the words passed are node numbers.
+-- Assumes nothing.
+use mathlib.Core.Path.{sym}
+use Prim.Native.Nat.{_-_}
+use borrow.Author.Needs.{needs}
+use Rattle.text.proofs.LogLaws.{Below, below-none, below-more, nodes-faulty, nodes-all}
+use Rattle.text.proofs.log_check.nodes_sound.Statement.{statement}
+use Rattle.text.proofs.log_check.nodes_sound.Tie as tie
+
+abbrev Inv-loop : tie.InvT-loop
+Inv-loop log from to k₀ k = Below log from to k
+
+abbrev μ-loop : tie.MeasureT-loop
+μ-loop log from to k₀ k = to - k
+
+loop-holds : tie.Need-loop-holds Inv-loop μ-loop
+loop-holds c = below-none _ _ _ (search needs)
+
+mul-if1 : tie.Need-mul-if1 Inv-loop μ-loop
+mul-if1 c = search needs
+
+shared-slice-read-if1 : tie.Need-shared-slice-read-if1 Inv-loop μ-loop
+shared-slice-read-if1 c = search needs
+
+returns : tie.Need-returns Inv-loop μ-loop
+returns c = sym (nodes-faulty (c .before .before .before .loop .inv) (search needs) (search needs) (search needs))
+
+add-k : tie.Need-add-k Inv-loop μ-loop
+add-k c = search needs
+
+loop-less : tie.Need-loop-less Inv-loop μ-loop
+loop-less c = search needs
+
+loop-again : tie.Need-loop-again Inv-loop μ-loop
+loop-again c = below-more (c .before .before .before .loop .inv) (search needs) (search needs)
+
+returns-2 : tie.Need-returns-2 Inv-loop μ-loop
+returns-2 c = sym (nodes-all (c .before .loop .inv) (search needs) (search needs))
+
+pub nodes-sound-spec : {M : Type 1} → statement M
+nodes-sound-spec =
+    tie.close
+    (tie.spec
+    Inv-loop
+    μ-loop
+    loop-holds
+    mul-if1
+    shared-slice-read-if1
+    returns
+    add-k
+    loop-less
+    loop-again
+    returns-2)

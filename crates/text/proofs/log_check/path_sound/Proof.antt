@@ -1,0 +1,77 @@
+-- `text::log_check::path_sound` meets its contract: each test decides as the definition does.
+-- Assumes nothing.
+use mathlib.Core.Path.{sym, _∙_}
+use borrow.Author.Needs.{needs}
+use borrow.Author.Tests.{not-true, not-false}
+use Rattle.text.proofs.LogLaws.{path-few, path-many, path-cut, path-nodes, path-last}
+use Rattle.text.proofs.log_check.path_sound.Statement.{statement}
+use Rattle.text.proofs.log_check.path_sound.Tie as tie
+
+returns : tie.Need-returns
+returns c =
+    let a = c .before .before .args in
+    sym (path-few (a .log .now) (a .at) _ _ (search needs))
+
+returns-2 : tie.Need-returns-2
+returns-2 c =
+    let a = c .before .before .before .args in
+    sym (path-many (a .log .now) (a .at) _ _ (search needs) (search needs))
+
+sub-if3 : tie.Need-sub-if3
+sub-if3 c = search needs
+
+add-if3 : tie.Need-add-if3
+add-if3 c = search needs
+
+returns-3 : tie.Need-returns-3
+returns-3 c =
+    let a = c .before .before .before .before .args in
+    sym (path-cut (a .log .now) (a .at) _ _ (search needs) (search needs) (search needs))
+
+add-from : tie.Need-add-from
+add-from c = search needs
+
+add-to : tie.Need-add-to
+add-to c = search needs
+
+nodes-sound-requires : tie.Need-nodes-sound-requires
+nodes-sound-requires c κs = search needs
+
+returns-4 : tie.Need-returns-4
+returns-4 c =
+    let a = c .before .before .before .before .before .before .args in
+    sym (path-nodes (a .log .now) (a .at) _ _ (search needs) (search needs) (search needs)
+    (sym (c .before .nodes-sound .ensures) ∙ not-true _ (c .if4 .taken)))
+
+sub-result : tie.Need-sub-result
+sub-result c = search needs
+
+mul-result : tie.Need-mul-result
+mul-result c = search needs
+
+shared-slice-read-result : tie.Need-shared-slice-read-result
+shared-slice-read-result c = search needs
+
+returns-5 : tie.Need-returns-5
+returns-5 c =
+    let a = c .before .before .before .before .before .before .before .args in
+    sym (path-last (a .log .now) (a .at) _ _ (search needs) (search needs) (search needs)
+    (sym (c .before .before .nodes-sound .ensures) ∙ not-false _ (c .before .if4 .left)))
+
+pub path-sound-spec : {M : Type 1} → statement M
+path-sound-spec =
+    tie.close
+    (tie.spec
+    returns
+    returns-2
+    sub-if3
+    add-if3
+    returns-3
+    add-from
+    add-to
+    nodes-sound-requires
+    returns-4
+    sub-result
+    mul-result
+    shared-slice-read-result
+    returns-5)

@@ -1,0 +1,101 @@
+-- `text::log_check::record_sound` meets its contract: each test decides as the definition does.
+-- Assumes nothing.
+use mathlib.Core.Path.{sym, _∙_}
+use borrow.Author.Needs.{needs}
+use Rattle.text.proofs.LogLaws.{record-cut, record-none, record-late, record-falls, record-high, record-path}
+use Rattle.text.proofs.log_check.record_sound.Statement.{statement}
+use Rattle.text.proofs.log_check.record_sound.Tie as tie
+
+sub-if1 : tie.Need-sub-if1
+sub-if1 c = search needs
+
+returns : tie.Need-returns
+returns c =
+    let a = c .before .before .args in
+    sym (record-cut (a .last) (a .log .now) (a .at) (search needs))
+
+mul-iteration : tie.Need-mul-iteration
+mul-iteration c = search needs
+
+shared-slice-read-iteration : tie.Need-shared-slice-read-iteration
+shared-slice-read-iteration c = search needs
+
+returns-2 : tie.Need-returns-2
+returns-2 c =
+    let a = c .before .before .before .before .args in
+    sym (record-none (a .last) (a .log .now) (a .at) (search needs) (search needs))
+
+returns-3 : tie.Need-returns-3
+returns-3 c =
+    let a = c .before .before .before .before .before .args in
+    sym (record-late (a .last) (a .log .now) (a .at) (search needs) (search needs) (search needs))
+
+returns-4 : tie.Need-returns-4
+returns-4 c =
+    let a = c .before .before .before .before .before .before .args in
+    sym (record-falls (a .last) (a .log .now) (a .at) (search needs) (search needs) (search needs) (search needs))
+
+add-if5 : tie.Need-add-if5
+add-if5 c = search needs
+
+mul-if5 : tie.Need-mul-if5
+mul-if5 c = search needs
+
+shared-slice-read-if5 : tie.Need-shared-slice-read-if5
+shared-slice-read-if5 c = search needs
+
+returns-5 : tie.Need-returns-5
+returns-5 c =
+    let a = c .before .before .before .before .before .before .before .before .args in
+    sym (record-high (a .last) (a .log .now) (a .at) (search needs) (search needs) (search needs) (search needs) (search needs))
+
+add-path-sound : tie.Need-add-path-sound
+add-path-sound c = search needs
+
+mul-path-sound : tie.Need-mul-path-sound
+mul-path-sound c = search needs
+
+shared-slice-read-path-sound : tie.Need-shared-slice-read-path-sound
+shared-slice-read-path-sound c = search needs
+
+add-path-sound-2 : tie.Need-add-path-sound-2
+add-path-sound-2 c = search needs
+
+mul-path-sound-2 : tie.Need-mul-path-sound-2
+mul-path-sound-2 c = search needs
+
+shared-slice-read-path-sound-2 : tie.Need-shared-slice-read-path-sound-2
+shared-slice-read-path-sound-2 c = search needs
+
+path-sound-requires : tie.Need-path-sound-requires
+path-sound-requires c κs = search needs
+
+returns-6 : tie.Need-returns-6
+returns-6 c =
+    let a = c .before .before .before .before .before .before .before .before .before .before .before .args in
+    c .path-sound .ensures
+    ∙ sym (record-path (a .last) (a .log .now) (a .at) (search needs) (search needs) (search needs) (search needs) (search needs))
+
+pub record-sound-spec : {M : Type 1} → statement M
+record-sound-spec =
+    tie.close
+    (tie.spec
+    sub-if1
+    returns
+    mul-iteration
+    shared-slice-read-iteration
+    returns-2
+    returns-3
+    returns-4
+    add-if5
+    mul-if5
+    shared-slice-read-if5
+    returns-5
+    add-path-sound
+    mul-path-sound
+    shared-slice-read-path-sound
+    add-path-sound-2
+    mul-path-sound-2
+    shared-slice-read-path-sound-2
+    path-sound-requires
+    returns-6)

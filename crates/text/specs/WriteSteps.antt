@@ -1,0 +1,32 @@
+-- What the contracts of the writer's private functions say.
+-- Assumes nothing.
+use mathlib.Core.List.{List, [], _∷_, _++_}
+use mathlib.Core.Path.{_≡_}
+use Prim.Native.Nat.{ℕ, _+_, _≤_}
+use lib.ListN.{length, take, drop}
+use Rattle.price.specs.Test.{choose}
+use Rattle.negotiation.specs.Records.{decode}
+use Rattle.text.specs.Routes.{logSound, soundWords, lastIteration}
+use Rattle.text.specs.declared.log_check.LogCheck.{LogCheck}
+use Rattle.text.specs.declared.log_check.LogCheck.the-variants as k
+
+-- the buffer with these bytes from a place on
+unfoldable pub placed : ℕ → List ℕ → List ℕ → List ℕ
+placed at bytes buffer = take at buffer ++ (bytes ++ drop (at + length bytes) buffer)
+
+-- the bytes stand in the buffer from a place to the next
+pub record Put (at : ℕ) (bytes before after : List ℕ) (next : ℕ) : Type 0 where
+  pub written : after ≡ placed at bytes before
+  pub next-is : next ≡ at + length bytes
+
+-- what a test of a log finds: the last iteration and the turns of a sound one, or the first word of the first unsound record
+pub data Checked : Type 0 where
+  sound : (iteration turns : ℕ) → Checked
+  unsound : (word : ℕ) → Checked
+
+unfoldable pub logChecked : List ℕ → Checked
+logChecked ws = choose (logSound ws) (sound (lastIteration (decode ws)) (length (decode ws))) (unsound (soundWords ws))
+
+abbrev pub checkedAt : LogCheck → Checked
+checkedAt (k.Sound iteration turns) = sound iteration turns
+checkedAt (k.Unsound word) = unsound word

@@ -1,0 +1,101 @@
+// Whether a log is sound.
+ghost use mathlib.Core.Path.{_≡_};
+ghost use Prim.Native.Nat.{ℕ, _-_, _≤_};
+ghost use lib.Dec.{ltb};
+ghost use lib.ListN.{length, take, drop};
+ghost use Rattle.price.specs.Bounds.{nodesMost};
+ghost use Rattle.price.specs.Lists.{every};
+ghost use Rattle.text.specs.Routes.{pathSound, recordSound};
+ghost use Rattle.text.specs.WriteSteps.{logChecked, checkedAt};
+
+pub enum LogCheck {
+    // The last record's iteration, and how many records there are.
+    Sound { iteration: u32, turns: usize },
+    // The first word of the first unsound record.
+    Unsound(usize),
+}
+
+// Every word of a part is a node number.
+fn nodes_sound(log: &[u32], from: usize, to: usize) -> bool
+    requires { ⌜ (from ≤ to) × (to ≤ length (now log)) ⌝ }
+    ensures { λ r. ⌜ r ≡ every (λ (v : ℕ). ltb v nodesMost) (take (to - from) (drop from (now (log .entry)))) ⌝ }
+{
+    let mut k = from;
+    while k < to {
+        if 4096 <= log[k] {
+            return false;
+        }
+        k += 1;
+    }
+    true
+}
+
+// The path of the record at this place, of so many words, is whole and sound.
+fn path_sound(log: &[u32], at: usize, n: u32, sink: u32) -> bool
+    requires { ⌜ at ≤ length (now log) ⌝ }
+    ensures { λ r. ⌜ r ≡ pathSound n sink (drop at (now (log .entry))) ⌝ }
+{
+    if n < 2 {
+        return false;
+    }
+    if 4096 < n {
+        return false;
+    }
+    if log.len() - at < 6 + n as usize {
+        return false;
+    }
+    let from = at + 6;
+    let to = from + n as usize;
+    if !nodes_sound(log, from, to) {
+        return false;
+    }
+    log[to - 1] == sink
+}
+
+// The record at this place is whole and sound, after one of this iteration.
+fn record_sound(log: &[u32], at: usize, last: u32) -> bool
+    requires { ⌜ at ≤ length (now log) ⌝ }
+    ensures { λ r. ⌜ r ≡ recordSound last (drop at (now (log .entry))) ⌝ }
+{
+    if log.len() - at < 6 {
+        return false;
+    }
+    let iteration = log[at];
+    if iteration < 1 {
+        return false;
+    }
+    if 100 < iteration {
+        return false;
+    }
+    if iteration < last {
+        return false;
+    }
+    if 512 <= log[at + 1] {
+        return false;
+    }
+    path_sound(log, at, log[at + 5], log[at + 2])
+}
+
+// Goes from record to record.
+pub fn check_log(log: &[u32]) -> LogCheck
+    ensures { λ r. ⌜ checkedAt r ≡ logChecked (now (log .entry)) ⌝ }
+{
+    let mut at = 0;
+    let mut iteration = 0;
+    let mut turns = 0;
+    while at < log.len() {
+        if !record_sound(log, at, iteration) {
+            return LogCheck::Unsound(at);
+        }
+        iteration = log[at];
+        at = at + 6 + log[at + 5] as usize;
+        turns += 1;
+    }
+    if turns == 0 {
+        return LogCheck::Unsound(0);
+    }
+    LogCheck::Sound {
+        iteration: iteration,
+        turns: turns,
+    }
+}
