@@ -21,3 +21,6 @@ pub mod BranchLaws
 pub mod BranchHolds
 pub mod LogHolds
 pub mod TextHolds
+pub mod RefusalLineLaws
+pub mod RunLaws
+pub mod ResponseLaws

@@ -7,3 +7,4 @@ pub mod ReadReplies
 pub mod Routes
 pub mod ReadSteps
 pub mod WriteSteps
+pub mod RunReplies

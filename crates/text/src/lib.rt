@@ -1,4 +1,4 @@
-// The job text before the router and the routes text after it.
+// The job text before the router and the routes text after it, and the whole way between them.
 ghost use mathlib.Core.Path.{_≡_};
 ghost use Rattle.text.specs.ReadReplies.{tablesOf, laidReply, readReply, readTold};
 ghost use Prim.Native.Nat.{_≤_};
@@ -34,6 +34,23 @@ pub enum WriteAnswer {
     ShortBuffer(u64),
 }
 
+// What a run from job text to routes text answers.
+pub enum RunAnswer {
+    // So many bytes of the routes text are written.
+    Written(usize),
+    // A refusal with one number beside its own.
+    One {
+        number: u32,
+        value: u64,
+    },
+    // A refusal with two.
+    Two {
+        number: u32,
+        first: u64,
+        second: u64,
+    },
+}
+
 mod branches;
 mod copy;
 mod decimal;
@@ -44,9 +61,13 @@ mod log_check;
 mod nets;
 mod nodes;
 mod reader;
+mod runs;
 
 use log_check::LogCheck;
 use reader::JobLines;
+pub use runs::respond;
+pub use runs::run;
+
 // The lowest table that is shorter than the job needs, 0 where each is long enough.
 fn short_table(
     nodes: usize,

@@ -1,0 +1,211 @@
+// The whole way from a job text to its routes text, and what the program prints.
+ghost use mathlib.Core.List.{[], _∷_};
+ghost use mathlib.Core.Path.{_≡_};
+ghost use Prim.Native.Nat.{_≤_};
+ghost use lib.ListN.{length, take};
+ghost use Rattle.negotiation.specs.Job.{jobOf};
+ghost use Rattle.text.specs.ReadReplies.{Tables, tablesOf};
+ghost use Rattle.text.specs.Routes.{writeReply};
+ghost use Rattle.text.specs.RunReplies.{lentOf, routeRun, runReply, runTold, writtenTold, refusalLine, lineTold, responseOf, response};
+use crate::ReadAnswer;
+use crate::RunAnswer;
+use crate::WriteAnswer;
+use crate::decimal;
+use negotiation::Outcome;
+
+// Writes the routes from the words used.
+fn write_used(log: &[u32], words: usize, routes: &mut [u8]) -> RunAnswer
+    requires { ⌜ words ≤ length (now log) ⌝ }
+    ensures { λ r. ⌜ writtenTold r (now (routes .exit)) ≡ writeReply (take words (now (log .entry))) (now (routes .entry)) ⌝ }
+{
+    match crate::write_routes(&log[..words], routes) {
+        WriteAnswer::Written(bytes) => RunAnswer::Written(bytes),
+        WriteAnswer::Unsound(word) => RunAnswer::One {
+            number: 10,
+            value: word as u64,
+        },
+        WriteAnswer::ShortBuffer(needed) => RunAnswer::One {
+            number: 11,
+            value: needed,
+        },
+    }
+}
+
+// Routes a job given as tables, and writes its routes where it is accepted.
+fn route_job(
+    kind: &[u8],
+    capacity: &[u8],
+    first_edge: &[u32],
+    edge_target: &[u16],
+    source: &[u16],
+    first_sink: &[u32],
+    sink: &[u16],
+    limit: u32,
+    work: &mut [u64],
+    log: &mut [u32],
+    routes: &mut [u8],
+) -> RunAnswer
+    ensures { λ r. ⌜ ((t : Tables) → runTold r (lentOf t (now (work .exit)) (now (log .exit)) (now (routes .exit))) ≡ routeRun (jobOf (now (kind .entry)) (now (capacity .entry)) (now («first_edge» .entry)) (now («edge_target» .entry)) (now (source .entry)) (now («first_sink» .entry)) (now (sink .entry)) limit) t (now (work .entry)) (now (log .entry)) (now (routes .entry))) ⌝ }
+{
+    let r = negotiation::route(
+        kind,
+        capacity,
+        first_edge,
+        edge_target,
+        source,
+        first_sink,
+        sink,
+        limit,
+        work,
+        log,
+    );
+    let words = r.words as usize;
+    let outcome = r.outcome;
+    match outcome {
+        Outcome::Accepted => write_used(log, words, routes),
+        Outcome::Unreachable { net, place } => RunAnswer::Two {
+            number: 7,
+            first: net as u64,
+            second: place as u64,
+        },
+        Outcome::LogFull => RunAnswer::Two {
+            number: 8,
+            first: r.iteration as u64,
+            second: r.turns,
+        },
+        Outcome::Limit(over) => RunAnswer::Two {
+            number: 9,
+            first: r.iteration as u64,
+            second: over as u64,
+        },
+        Outcome::BadTable(table) => RunAnswer::One {
+            number: 5,
+            value: table as u64,
+        },
+        Outcome::ShortWork(needed) => RunAnswer::One {
+            number: 6,
+            value: needed,
+        },
+    }
+}
+
+// Reads a job text, routes the job and writes its routes text. The tables, the work slice and the log are lent for it.
+pub fn run(
+    text: &[u8],
+    kind: &mut [u8],
+    capacity: &mut [u8],
+    first_edge: &mut [u32],
+    edge_target: &mut [u16],
+    source: &mut [u16],
+    first_sink: &mut [u32],
+    sink: &mut [u16],
+    work: &mut [u64],
+    log: &mut [u32],
+    routes: &mut [u8],
+) -> RunAnswer
+    ensures answers { λ r. ⌜ runTold r (lentOf (tablesOf (now (kind .exit)) (now (capacity .exit)) (now («first_edge» .exit)) (now («edge_target» .exit)) (now (source .exit)) (now («first_sink» .exit)) (now (sink .exit))) (now (work .exit)) (now (log .exit)) (now (routes .exit))) ≡ runReply (now (text .entry)) (lentOf (tablesOf (now (kind .entry)) (now (capacity .entry)) (now («first_edge» .entry)) (now («edge_target» .entry)) (now (source .entry)) (now («first_sink» .entry)) (now (sink .entry))) (now (work .entry)) (now (log .entry)) (now (routes .entry))) ⌝ }
+{
+    match crate::read_job(
+        text,
+        kind,
+        capacity,
+        first_edge,
+        edge_target,
+        source,
+        first_sink,
+        sink,
+    ) {
+        ReadAnswer::Job {
+            nodes,
+            edges,
+            nets,
+            sinks,
+            limit,
+        } => {
+            let places = nodes + 1;
+            let firsts = nets + 1;
+            route_job(
+                &kind[..nodes],
+                &capacity[..nodes],
+                &first_edge[..places],
+                &edge_target[..edges],
+                &source[..nets],
+                &first_sink[..firsts],
+                &sink[..sinks],
+                limit,
+                work,
+                log,
+                routes,
+            )
+        }
+        ReadAnswer::BadLine { number, line } => RunAnswer::One {
+            number: number,
+            value: line as u64,
+        },
+        ReadAnswer::ShortTable(table) => RunAnswer::One {
+            number: 4,
+            value: table as u64,
+        },
+    }
+}
+
+// Writes the line of a refusal with one number beside its own, where the buffer has room for it: the bytes written.
+fn put_one(number: u32, value: u64, routes: &mut [u8]) -> usize
+    ensures { λ r. ⌜ lineTold r (now (routes .exit)) ≡ refusalLine (number ∷ value ∷ []) (now (routes .entry)) ⌝ }
+{
+    if routes.len() < decimal::two_length(number as u64, value) {
+        return 0;
+    }
+    decimal::put_two(routes, 0, b'X', number as u64, value)
+}
+
+fn put_pair(number: u32, first: u64, second: u64, routes: &mut [u8]) -> usize
+    ensures { λ r. ⌜ lineTold r (now (routes .exit)) ≡ refusalLine (number ∷ first ∷ second ∷ []) (now (routes .entry)) ⌝ }
+{
+    if routes.len() < decimal::three_length(number as u64, first, second) {
+        return 0;
+    }
+    decimal::put_three(routes, 0, b'X', number as u64, first, second)
+}
+
+// What the program prints for its input: the routes text, or the line of the refusal. It stands at the beginning of the routes buffer.
+pub fn respond(
+    input: &[u8],
+    kind: &mut [u8],
+    capacity: &mut [u8],
+    first_edge: &mut [u32],
+    edge_target: &mut [u16],
+    source: &mut [u16],
+    first_sink: &mut [u32],
+    sink: &mut [u16],
+    work: &mut [u64],
+    log: &mut [u32],
+    routes: &mut [u8],
+) -> usize
+    ensures answers { λ r. ⌜ responseOf r (lentOf (tablesOf (now (kind .exit)) (now (capacity .exit)) (now («first_edge» .exit)) (now («edge_target» .exit)) (now (source .exit)) (now («first_sink» .exit)) (now (sink .exit))) (now (work .exit)) (now (log .exit)) (now (routes .exit))) ≡ response (now (input .entry)) (lentOf (tablesOf (now (kind .entry)) (now (capacity .entry)) (now («first_edge» .entry)) (now («edge_target» .entry)) (now (source .entry)) (now («first_sink» .entry)) (now (sink .entry))) (now (work .entry)) (now (log .entry)) (now (routes .entry))) ⌝ }
+{
+    if 65536 < input.len() {
+        return put_one(12, 65536, routes);
+    }
+    match run(
+        input,
+        kind,
+        capacity,
+        first_edge,
+        edge_target,
+        source,
+        first_sink,
+        sink,
+        work,
+        log,
+        routes,
+    ) {
+        RunAnswer::Written(bytes) => bytes,
+        RunAnswer::One { number, value } => put_one(number, value, routes),
+        RunAnswer::Two {
+            number,
+            first,
+            second,
+        } => put_pair(number, first, second, routes),
+    }
+}
