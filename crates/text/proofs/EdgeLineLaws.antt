@@ -1,4 +1,4 @@
--- What an E line gives by its numbers, a table that is filled up to a row, and what holds between two E lines.
+-- The E lines: what one gives by its numbers, a table that is filled up to a row, and what holds between two of them.
 --     rises-first, -later, -lower, -same, -least    the order of edges
 --     edge-other, -shape, -beyond, -wrong, -taken   an E line
 --     filled, fill-none, fill-more                  a part of a table that holds one value
@@ -14,20 +14,20 @@ use native.Mathlib.Numerals.{add-one}
 use native.Mathlib.Omega.{arith}
 use lib.Dec.{eqb, ltb}
 use lib.ListN.{length, getD, take, drop, set, replicate, length-append, length-take, length-drop, length-set, length-replicate, replicate-append-replicate, take-append-drop}
-use lib.Seq.{length-take-le, take-suc-set, drop-cons, set-at, take-at, getD-append-seam}
+use lib.Seq.{length-take-le, take-suc-set, drop-cons, set-at, take-at}
 use borrow.Author.Tests.{lt-ltb, le-ltb, eq-eqb, ne-eqb, ltb-true, eqb-true}
 use Rattle.price.specs.Test.{choose}
 use Rattle.price.specs.Lists.{upTo, total}
 use Rattle.price.proofs.ListLaws.{either-way, both-left, both-right, total-append}
 use Rattle.text.specs.Lines.{taken, fields, line}
 use Rattle.text.specs.JobText.{values, refused, lastOf, rises, edgeWithin, edgeOrdered, edgeLine, part, stopped, edgeLists, edgeLines, firstPlaces}
-use Rattle.text.specs.Steps.{begins, After, twoAt, TwoPlace, edgeAt, EdgePlace, edgeTables}
+use Rattle.text.specs.Steps.{begins, After, twoAt, edgeAt, EdgePlace, edgeTables}
 use Rattle.text.specs.declared.fields.Two.{Two}
 use Rattle.text.specs.declared.fields.Two.the-variants as w
 use Rattle.text.specs.declared.edges.EdgeLine.{EdgeLine}
 use Rattle.text.specs.declared.edges.EdgeLine.the-variants as el
-use Rattle.text.proofs.FieldLaws.{line-other}
-use Rattle.text.proofs.NodeLineLaws.{line-is, judged-beyond, judged-wrong, judged-taken, judged-ordered}
+use Rattle.text.proofs.JudgedLaws.{line-other, two-malformed, two-line, judged-beyond, judged-wrong, judged-taken, judged-values}
+use Rattle.text.proofs.LastLaws.{last-more}
 
 -- ---- the order of edges
 
@@ -94,11 +94,11 @@ edge-other n count lastFrom lastTo at text b = rw (line-other 69 2 (drop at text
 module _ (n count lastFrom lastTo at : ℕ) (text : List ℕ) {r : Two} (letter : begins 69 (drop at text) ≡ true) (read : twoAt text r ≡ fields 2 (drop (at + 1) text)) where
   pub edge-shape : r ≡ w.Fault → refused 1 ≡ edgeLine n count lastFrom lastTo (drop at text)
   unfolding edgeLine
-  edge-shape e = rw (line-is 69 2 at text letter (sym (ap (twoAt text) e) ∙ read))
+  edge-shape e = rw (two-malformed 69 at text letter read e)
 
   module _ {a b next : ℕ} (e : r ≡ w.Fields a b next) where
     shape : line 69 2 (drop at text) ≡ taken (a ∷ b ∷ []) (drop next text)
-    shape = line-is 69 2 at text letter (sym (ap (twoAt text) e) ∙ read)
+    shape = two-line 69 at text letter read e
 
     pub edge-beyond : edgeWithin n (a ∷ b ∷ []) ≡ false → refused 2 ≡ edgeLine n count lastFrom lastTo (drop at text)
     unfolding edgeLine
@@ -112,15 +112,12 @@ module _ (n count lastFrom lastTo at : ℕ) (text : List ℕ) {r : Two} (letter 
     unfolding edgeLine
     edge-taken i o = sym (judged-taken (edgeWithin n) (edgeOrdered count lastFrom lastTo) shape i o)
 
--- the place after the line
-pub two-place : (at : ℕ) (text : List ℕ) {r : Two} {a b next : ℕ} → r ≡ w.Fields a b next → TwoPlace at text r → After at text next
-two-place at text e p = subst (λ (x : Two). TwoPlace at text x) e p
-
 -- an edge that is read rises
 edge-rising : (n count lastFrom lastTo : ℕ) (bs : List ℕ) {a b : ℕ} {rest : List ℕ} → values (a ∷ b ∷ []) rest ≡ edgeLine n count lastFrom lastTo bs → rises count lastFrom lastTo a b ≡ true
 unfolding edgeLine edgeOrdered
-edge-rising n count lastFrom lastTo bs {a} {b} e =
-    both-right (not (eqb a b)) (rises count lastFrom lastTo a b) (judged-ordered (edgeWithin n) (edgeOrdered count lastFrom lastTo) (line 69 2 bs) (sym e))
+edge-rising n count lastFrom lastTo bs {a} {b} {rest} e =
+    let told = judged-values (edgeWithin n) (edgeOrdered count lastFrom lastTo) (line 69 2 bs) (a ∷ b ∷ []) rest (sym e) in
+    both-right (not (eqb a b)) (rises count lastFrom lastTo a b) (told .order)
 
 -- ---- a part of a table that holds one value
 
@@ -199,11 +196,6 @@ edge-step n k count lastFrom lastTo line froms targets bs long f t e = rw (f, t,
 edge-stop : (n k count lastFrom lastTo line : ℕ) (froms targets bs : List ℕ) {m : ℕ} → length targets ≡ count → lastOf froms ≡ lastFrom → lastOf targets ≡ lastTo → refused m ≡ edgeLine n count lastFrom lastTo bs → edgeLines n (suc k) (edgeLists froms targets) line bs ≡ stopped m line
 unfolding edgeLines
 edge-stop n k count lastFrom lastTo line froms targets bs long f t e = rw (f, t, long, ← e)
-
-last-more : (xs : List ℕ) (x : ℕ) → lastOf (xs ++ (x ∷ [])) ≡ x
-last-more xs x =
-    let e : length xs + 1 - 1 ≡ length xs = omega arith in
-    rw (length-append xs (x ∷ []), e) (getD-append-seam xs x [] 0)
 
 -- k edges are in the tables, the last from this row to this target, and the next line is at this place
 pub record EdgesRead (text : List ℕ) (from first nodes edges : ℕ) (firsts₀ targets₀ firsts targets : List ℕ) (at line row target k : ℕ) : Type 0 where

@@ -1,4 +1,4 @@
--- Laws of the definitions of fields and lines, at places of the text.
+-- The fields of a line at places of the text: what each function of `fields` meets, byte by byte.
 --     begins-               the byte at a place
 --     digit-                a byte that is a digit or none
 --     Digits, digits-       the loop over the further digits of a number
@@ -7,7 +7,6 @@
 --     Comma, Taken          a field that was read, and the fields of a line with its LF
 --     fields-, taken-here   the fields of a line, one by one
 --     -read, -fault         what the answers of the functions of `fields` say
---     line-, head-          a line, and the first line
 -- Assumes nothing.
 use mathlib.Core.Bool.{Bool, true, false}
 use mathlib.Core.List.{List, [], _∷_}
@@ -29,8 +28,7 @@ use borrow.Author.Tests.{le-leb, lt-leb, le-ltb, eq-eqb, ne-eqb, leb-true, ltb-t
 use Rattle.price.specs.Test.{choose}
 use Rattle.price.proofs.ListLaws.{both-left, both-right, le-or-lt, true≢false}
 use Rattle.text.specs.Decimal.{isDigit}
-use Rattle.text.specs.Lines.{Field, number, fault, digitsAfter, field, Fields, taken, malformed, afterField, fields, line}
-use Rattle.text.specs.JobText.{values, refused, headWithin, headLine}
+use Rattle.text.specs.Lines.{Field, number, fault, digitsAfter, field, Fields, taken, malformed, afterField, fields}
 use Rattle.text.specs.Steps.{begins, commaField, After, fieldAt, FieldPlace, twoAt, TwoPlace, threeAt, ThreePlace, fourAt, FourPlace}
 use Rattle.text.specs.declared.fields.Field as fieldType
 use Rattle.text.specs.declared.fields.Field.the-variants as f
@@ -107,12 +105,12 @@ unfolding digitsAfter
 after-none zero value = refl
 after-none (suc k) value = refl
 
-after-other : (left value b : ℕ) (bs : List ℕ) → isDigit b ≡ false → digitsAfter left value (b ∷ bs) ≡ number value (b ∷ bs)
+pub after-other : (left value b : ℕ) (bs : List ℕ) → isDigit b ≡ false → digitsAfter left value (b ∷ bs) ≡ number value (b ∷ bs)
 unfolding digitsAfter
 after-other zero value b bs e = refl
 after-other (suc k) value b bs e = rw e
 
-after-digit : (left value b : ℕ) (bs : List ℕ) → 0 < left → isDigit b ≡ true → digitsAfter left value (b ∷ bs) ≡ digitsAfter (left - 1) (value * 10 + (b - 48)) bs
+pub after-digit : (left value b : ℕ) (bs : List ℕ) → 0 < left → isDigit b ≡ true → digitsAfter left value (b ∷ bs) ≡ digitsAfter (left - 1) (value * 10 + (b - 48)) bs
 unfolding digitsAfter
 after-digit zero value b bs more e = absurd (omega arith)
 after-digit (suc k) value b bs more e = rw (e, sub-one)
@@ -299,68 +297,3 @@ four-read {at = at} {text = text} e p =
 
 pub four-fault : {r : fourType.Four} (text bs : List ℕ) → r ≡ q.Fault → fourAt text r ≡ fields 4 bs → fields 4 bs ≡ malformed
 four-fault text bs e is = sym is ∙ ap (fourAt text) e
-
--- ---- a line
-
-pub line-begins : (letter k : ℕ) (bs : List ℕ) → begins letter bs ≡ true → line letter k bs ≡ fields k (drop 1 bs)
-unfolding begins line
-line-begins letter k [] e = absurd (true≢false (sym e))
-line-begins letter k (b ∷ bs) e = rw e
-
-pub line-other : (letter k : ℕ) (bs : List ℕ) → begins letter bs ≡ false → line letter k bs ≡ malformed
-unfolding begins line
-line-other letter k [] e = refl
-line-other letter k (b ∷ bs) e = rw e
-
--- ---- the first line
-
-module _ (n e t l : ℕ) where
-  pub head-nodes-low : n < 1 → headWithin (n ∷ e ∷ t ∷ l ∷ []) ≡ false
-  unfolding headWithin
-  head-nodes-low a = rw (lt-leb 1 n a)
-
-  module _ (n-some : 1 ≤ n) where
-    pub head-nodes-high : 4096 < n → headWithin (n ∷ e ∷ t ∷ l ∷ []) ≡ false
-    unfolding headWithin
-    head-nodes-high a = rw (le-leb 1 n n-some, lt-leb n 4096 a)
-
-    module _ (n-most : n ≤ 4096) where
-      pub head-edges-high : 32768 < e → headWithin (n ∷ e ∷ t ∷ l ∷ []) ≡ false
-      unfolding headWithin
-      head-edges-high a = rw (le-leb 1 n n-some, le-leb n 4096 n-most, lt-leb e 32768 a)
-
-      module _ (e-most : e ≤ 32768) where
-        pub head-nets-low : t < 1 → headWithin (n ∷ e ∷ t ∷ l ∷ []) ≡ false
-        unfolding headWithin
-        head-nets-low a = rw (le-leb 1 n n-some, le-leb n 4096 n-most, le-leb e 32768 e-most, lt-leb 1 t a)
-
-        module _ (t-some : 1 ≤ t) where
-          pub head-nets-high : 512 < t → headWithin (n ∷ e ∷ t ∷ l ∷ []) ≡ false
-          unfolding headWithin
-          head-nets-high a = rw (le-leb 1 n n-some, le-leb n 4096 n-most, le-leb e 32768 e-most, le-leb 1 t t-some, lt-leb t 512 a)
-
-          module _ (t-most : t ≤ 512) where
-            pub head-limit-low : l < 1 → headWithin (n ∷ e ∷ t ∷ l ∷ []) ≡ false
-            unfolding headWithin
-            head-limit-low a = rw (le-leb 1 n n-some, le-leb n 4096 n-most, le-leb e 32768 e-most, le-leb 1 t t-some, le-leb t 512 t-most, lt-leb 1 l a)
-
-            pub head-limit : 1 ≤ l → headWithin (n ∷ e ∷ t ∷ l ∷ []) ≡ leb l 100
-            unfolding headWithin
-            head-limit a = rw (le-leb 1 n n-some, le-leb n 4096 n-most, le-leb e 32768 e-most, le-leb 1 t t-some, le-leb t 512 t-most, le-leb 1 l a)
-
-pub head-other : (bs : List ℕ) → begins 70 bs ≡ false → headLine bs ≡ refused 1
-unfolding headLine
-head-other bs b = rw (line-other 70 4 bs b)
-
-module _ (bs : List ℕ) (b : begins 70 bs ≡ true) where
-  pub head-malformed : fields 4 (drop 1 bs) ≡ malformed → headLine bs ≡ refused 1
-  unfolding headLine
-  head-malformed e = rw (line-begins 70 4 bs b ∙ e)
-
-  pub head-beyond : {vs : List ℕ} {next : ℕ} → Taken 4 1 bs vs next → headWithin vs ≡ false → headLine bs ≡ refused 2
-  unfolding headLine
-  head-beyond t e = rw (line-begins 70 4 bs b ∙ t .is, e)
-
-  pub head-read : {vs : List ℕ} {next : ℕ} → Taken 4 1 bs vs next → headWithin vs ≡ true → headLine bs ≡ values vs (drop next bs)
-  unfolding headLine
-  head-read t e = rw (line-begins 70 4 bs b ∙ t .is, e)

@@ -71,7 +71,7 @@ four (a ∷ b ∷ c ∷ []) e = absurd (omega arith)
 four (a ∷ b ∷ c ∷ d ∷ []) e = refl
 four (a ∷ b ∷ c ∷ d ∷ x ∷ xs) e = absurd (omega arith)
 
-pub head-read : (bs : List ℕ) (c : Counts) (at : ℕ) (rest : List ℕ) → headPart bs ≡ part c at rest → HeadBounds c × (bs ≡ printLine 70 (c .nodes ∷ c .edges ∷ c .nets ∷ c .limit ∷ []) ++ rest) × (at ≡ 2)
+pub head-read : (bs : List ℕ) (c : Counts) (at : ℕ) (rest : List ℕ) → headPart bs ≡ part c at rest → HeadBounds c × (bs ≡ printLine 70 (c .nodes ∷ c .edges ∷ c .nets ∷ c .limit ∷ []) ++ rest)
 unfolding headPart headLine
 head-read bs c at rest e =
     let r = onward-part (headLine bs) 1 (λ vs rest. part (countsOf vs) 2 rest) c at rest e in
@@ -80,12 +80,10 @@ head-read bs c at rest e =
     let told : LineRead 70 4 headWithin (λ vs. true) bs vs mid = judged-line headWithin (λ vs. true) 70 4 bs vs mid (r .2) in
     let made : part (countsOf vs) 2 mid ≡ part c at rest = r .3 in
     let same : countsOf vs ≡ c = cc in
-    let follow : mid ≡ rest = cc in
-    let second : at ≡ 2 = cc in (
+    let follow : mid ≡ rest = cc in (
       subst HeadBounds same (bounds-hold vs (told .bounds)),
       told .text ∙ ap (λ (us : List ℕ). printLine 70 us ++ mid) (four vs (told .long))
           ∙ ap (λ (d : Counts). headText d ++ mid) same ∙ ap (λ (us : List ℕ). headText c ++ us) follow,
-      second,
     )
 
 module _ (c : Counts) (rest : List ℕ) (h : HeadBounds c) where

@@ -1,8 +1,12 @@
+pub mod LastLaws
 pub mod FieldLaws
+pub mod JudgedLaws
+pub mod HeadLineLaws
 pub mod NodeLineLaws
 pub mod EdgeLineLaws
 pub mod NetLineLaws
 pub mod NetStepLaws
+pub mod NetLoopLaws
 pub mod CopyLaws
 pub mod ReaderLaws
 pub mod ReadJobLaws
@@ -12,11 +16,14 @@ pub mod PrintLaws
 pub mod HeadTextLaws
 pub mod NodeTextLaws
 pub mod FirstPlaceLaws
+pub mod EdgeRisingLaws
 pub mod EdgeTextLaws
 pub mod NetTextLaws
 pub mod NetReadLaws
 pub mod NetPrintLaws
+pub mod RecordTestLaws
 pub mod LogLaws
+pub mod StepTextLaws
 pub mod BranchLaws
 pub mod BranchHolds
 pub mod LogHolds
@@ -24,3 +31,4 @@ pub mod TextHolds
 pub mod RefusalLineLaws
 pub mod RunLaws
 pub mod ResponseLaws
+pub mod SamplesHold

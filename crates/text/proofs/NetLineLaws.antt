@@ -1,5 +1,5 @@
 -- The S and T lines: what a line gives, by the tests that its reading passes or fails, and what a line that is read tells.
---     letter-inside, two-place                  places of the text
+--     letter-inside                             where the letter stands the text goes on
 --     source-other, -fault                      an S line of wrong shape
 --     source-net, -node, -order, -pin           an S line by its values
 --     sink-other, -fault                        a T line of wrong shape
@@ -12,38 +12,25 @@ use mathlib.Core.Bool.{Bool, true, false, not}
 use mathlib.Core.List.{List, [], _∷_}
 use mathlib.Core.Logic.{⊎-elim}
 use mathlib.Core.Path.{_≡_, refl, sym, _∙_, ap}
-use Prim.Native.Nat.{ℕ, zero, suc, _+_, _≤_, _<_, zero-le, suc-le-suc}
+use Prim.Native.Nat.{ℕ, zero, suc, _+_, _≤_, _<_}
 use native.Mathlib.Nat.{not-suc-le-zero, eq-or-lt-of-le, le-of-suc-le-suc}
 use native.Mathlib.Omega.{arith}
 use lib.Dec.{eqb, ltb}
 use lib.ListN.{length, getD, drop}
-use lib.Seq.{drop-drop}
 use borrow.Author.Tests.{lt-ltb, le-ltb, eq-eqb, ne-eqb, ltb-true, not-true, not-false}
 use Rattle.price.specs.Test.{choose, both}
 use Rattle.price.specs.Lists.{has}
-use Rattle.price.proofs.ListLaws.{either-way, true≢false, both-right, both-true, both-false-right}
+use Rattle.price.proofs.ListLaws.{either-way, both-right, both-true, both-false-right}
 use Rattle.search.specs.Replies.{sinksMost}
-use Rattle.text.specs.Lines.{Fields, taken, malformed, fields, line}
-use Rattle.text.specs.JobText.{Reading, values, refused, judged, pinWithin, sourceLine, sinkOrdered, sinkLine}
-use Rattle.text.specs.Steps.{begins, After, twoAt, TwoPlace, pinAt, PinPlace, Marked}
+use Rattle.text.specs.Lines.{taken, fields, line}
+use Rattle.text.specs.JobText.{Reading, values, refused, pinWithin, sourceLine, sinkOrdered, sinkLine}
+use Rattle.text.specs.Steps.{begins, After, twoAt, pinAt, PinPlace, Marked}
 use Rattle.text.specs.declared.fields.Two as twoType
 use Rattle.text.specs.declared.fields.Two.the-variants as w
 use Rattle.text.specs.declared.nets.PinLine.{PinLine}
 use Rattle.text.specs.declared.nets.PinLine.the-variants as pl
-use Rattle.text.proofs.FieldLaws.{line-begins, line-other}
-
--- ---- places
-
--- where a byte stands the text goes on
-pub letter-inside : (letter at : ℕ) (text : List ℕ) {t : Bool} → t ≡ begins letter (drop at text) → not t ≡ false → at < length text
-unfolding begins
-letter-inside letter zero [] {t} s b = absurd (true≢false (sym (not-false t b) ∙ s))
-letter-inside letter zero (x ∷ xs) s b = suc-le-suc zero-le
-letter-inside letter (suc at) [] {t} s b = absurd (true≢false (sym (not-false t b) ∙ s))
-letter-inside letter (suc at) (x ∷ xs) s b = suc-le-suc (letter-inside letter at xs s b)
-
-pub two-place : (at : ℕ) (text : List ℕ) {r : twoType.Two} {f s next : ℕ} → r ≡ w.Fields f s next → TwoPlace at text r → After at text next
-two-place at text q p = rw q at p
+use Rattle.text.proofs.FieldLaws.{begins-within}
+use Rattle.text.proofs.JudgedLaws.{line-other, two-malformed, two-line, judged-beyond, judged-wrong, judged-taken, judged-values}
 
 -- ---- the tests of a pin
 
@@ -60,21 +47,13 @@ module _ (n nets f s : ℕ) where
   unfolding pinWithin
   within-both h k = both-true (lt-ltb f nets h) (lt-ltb s n k)
 
--- what a line with two fields gives
-module _ (within ordered : List ℕ → Bool) (text : List ℕ) {f s next : ℕ} {r : twoType.Two} (q : r ≡ w.Fields f s next) where
-  two-beyond : within (f ∷ s ∷ []) ≡ false → refused 2 ≡ judged within ordered (twoAt text r)
-  two-beyond e = rw (q, e)
+-- the letter stands
+letter-stands : (letter at : ℕ) (text : List ℕ) {t : Bool} → t ≡ begins letter (drop at text) → not t ≡ false → begins letter (drop at text) ≡ true
+letter-stands letter at text {t} s b = sym s ∙ not-false t b
 
-  two-wrong : within (f ∷ s ∷ []) ≡ true → ordered (f ∷ s ∷ []) ≡ false → refused 3 ≡ judged within ordered (twoAt text r)
-  two-wrong e o = rw (q, e, o)
-
-  two-given : within (f ∷ s ∷ []) ≡ true → ordered (f ∷ s ∷ []) ≡ true → values (f ∷ s ∷ []) (drop next text) ≡ judged within ordered (twoAt text r)
-  two-given e o = rw (q, e, o)
-
--- the fields of a line whose letter stands
-letter-fields : (letter at : ℕ) (text : List ℕ) {t : Bool} (r : twoType.Two) → t ≡ begins letter (drop at text) → not t ≡ false → twoAt text r ≡ fields 2 (drop (at + 1) text) → line letter 2 (drop at text) ≡ twoAt text r
-letter-fields letter at text {t} r s b e =
-    line-begins letter 2 (drop at text) (sym s ∙ not-false t b) ∙ ap (fields 2) (drop-drop 1 at text) ∙ sym e
+-- where it stands the text goes on
+pub letter-inside : (letter at : ℕ) (text : List ℕ) {t : Bool} → t ≡ begins letter (drop at text) → not t ≡ false → at < length text
+letter-inside letter at text s b = begins-within letter at text (letter-stands letter at text s b)
 
 -- ---- the S line
 
@@ -86,34 +65,30 @@ module _ (n nets i at : ℕ) (text : List ℕ) {t : Bool} (stands : t ≡ begins
   module _ (r : twoType.Two) (b : not t ≡ false) (e : twoAt text r ≡ fields 2 (drop (at + 1) text)) where
     pub source-fault : r ≡ w.Fault → refused 1 ≡ sourceLine n nets i (drop at text)
     unfolding sourceLine
-    source-fault q = rw (letter-fields 83 at text r stands b e, q)
+    source-fault q = rw (two-malformed 83 at text (letter-stands 83 at text stands b) e q)
 
     module _ {f s next : ℕ} (q : r ≡ w.Fields f s next) where
+      source-fields : line 83 2 (drop at text) ≡ taken (f ∷ s ∷ []) (drop next text)
+      source-fields = two-line 83 at text (letter-stands 83 at text stands b) e q
+
       pub source-net : nets ≤ f → refused 2 ≡ sourceLine n nets i (drop at text)
       unfolding sourceLine
-      source-net h =
-          rw (letter-fields 83 at text r stands b e)
-          (two-beyond (pinWithin n nets) (λ vs. eqb (getD vs 0 0) i) text q (beyond-nets n nets f s h))
+      source-net h = sym (judged-beyond (pinWithin n nets) (λ vs. eqb (getD vs 0 0) i) source-fields (beyond-nets n nets f s h))
 
       pub source-node : n ≤ s → refused 2 ≡ sourceLine n nets i (drop at text)
       unfolding sourceLine
-      source-node h =
-          rw (letter-fields 83 at text r stands b e)
-          (two-beyond (pinWithin n nets) (λ vs. eqb (getD vs 0 0) i) text q (beyond-nodes n nets f s h))
+      source-node h = sym (judged-beyond (pinWithin n nets) (λ vs. eqb (getD vs 0 0) i) source-fields (beyond-nodes n nets f s h))
 
       module _ (in-nets : f < nets) (in-nodes : s < n) where
         pub source-order : (f ≡ i → ⊥) → refused 3 ≡ sourceLine n nets i (drop at text)
         unfolding sourceLine
-        source-order h =
-            rw (letter-fields 83 at text r stands b e)
-            (two-wrong (pinWithin n nets) (λ vs. eqb (getD vs 0 0) i) text q (within-both n nets f s in-nets in-nodes) (ne-eqb f i h))
+        source-order h = sym (judged-wrong (pinWithin n nets) (λ vs. eqb (getD vs 0 0) i) source-fields (within-both n nets f s in-nets in-nodes) (ne-eqb f i h))
 
         pub source-pin : f ≡ i → values (i ∷ s ∷ []) (drop next text) ≡ sourceLine n nets i (drop at text)
         unfolding sourceLine
         source-pin h =
-            rw (letter-fields 83 at text r stands b e)
-            (ap (λ (x : ℕ). values (x ∷ s ∷ []) (drop next text)) (sym h)
-            ∙ two-given (pinWithin n nets) (λ vs. eqb (getD vs 0 0) i) text q (within-both n nets f s in-nets in-nodes) (eq-eqb f i h))
+            ap (λ (x : ℕ). values (x ∷ s ∷ []) (drop next text)) (sym h)
+            ∙ sym (judged-taken (pinWithin n nets) (λ vs. eqb (getD vs 0 0) i) source-fields (within-both n nets f s in-nets in-nodes) (eq-eqb f i h))
 
 -- ---- the T line
 
@@ -144,27 +119,24 @@ module _ (n nets i at count : ℕ) (text : List ℕ) {t : Bool} (stands : t ≡ 
   module _ (r : twoType.Two) (b : not t ≡ false) (e : twoAt text r ≡ fields 2 (drop (at + 1) text)) where
     pub sink-fault : (pins : List ℕ) → r ≡ w.Fault → refused 1 ≡ sinkLine n nets i pins count (drop at text)
     unfolding sinkLine
-    sink-fault pins q = rw (letter-fields 84 at text r stands b e, q)
+    sink-fault pins q = rw (two-malformed 84 at text (letter-stands 84 at text stands b) e q)
 
     module _ {f s next : ℕ} (q : r ≡ w.Fields f s next) where
+      sink-fields : line 84 2 (drop at text) ≡ taken (f ∷ s ∷ []) (drop next text)
+      sink-fields = two-line 84 at text (letter-stands 84 at text stands b) e q
+
       pub sink-net : (pins : List ℕ) → nets ≤ f → refused 2 ≡ sinkLine n nets i pins count (drop at text)
       unfolding sinkLine
-      sink-net pins h =
-          rw (letter-fields 84 at text r stands b e)
-          (two-beyond (pinWithin n nets) (sinkOrdered i pins count) text q (beyond-nets n nets f s h))
+      sink-net pins h = sym (judged-beyond (pinWithin n nets) (sinkOrdered i pins count) sink-fields (beyond-nets n nets f s h))
 
       pub sink-node : (pins : List ℕ) → n ≤ s → refused 2 ≡ sinkLine n nets i pins count (drop at text)
       unfolding sinkLine
-      sink-node pins h =
-          rw (letter-fields 84 at text r stands b e)
-          (two-beyond (pinWithin n nets) (sinkOrdered i pins count) text q (beyond-nodes n nets f s h))
+      sink-node pins h = sym (judged-beyond (pinWithin n nets) (sinkOrdered i pins count) sink-fields (beyond-nodes n nets f s h))
 
       module _ (in-nets : f < nets) (in-nodes : s < n) where
         sink-wrong : (pins : List ℕ) → sinkOrdered i pins count (f ∷ s ∷ []) ≡ false → refused 3 ≡ sinkLine n nets i pins count (drop at text)
         unfolding sinkLine
-        sink-wrong pins o =
-            rw (letter-fields 84 at text r stands b e)
-            (two-wrong (pinWithin n nets) (sinkOrdered i pins count) text q (within-both n nets f s in-nets in-nodes) o)
+        sink-wrong pins o = sym (judged-wrong (pinWithin n nets) (sinkOrdered i pins count) sink-fields (within-both n nets f s in-nets in-nodes) o)
 
         pub sink-order : (pins : List ℕ) → (f ≡ i → ⊥) → refused 3 ≡ sinkLine n nets i pins count (drop at text)
         sink-order pins h = sink-wrong pins (other-net i pins count f s h)
@@ -179,9 +151,8 @@ module _ (n nets i at count : ℕ) (text : List ℕ) {t : Bool} (stands : t ≡ 
         pub sink-pin : (stamp : ℕ) (seen pins : List ℕ) → Marked n stamp seen pins → f ≡ i → (getD seen s 0 ≡ stamp → ⊥) → count < sinksMost → values (i ∷ s ∷ []) (drop next text) ≡ sinkLine n nets i pins count (drop at text)
         unfolding sinkLine
         sink-pin stamp seen pins m h g l =
-            rw (letter-fields 84 at text r stands b e)
-            (ap (λ (x : ℕ). values (x ∷ s ∷ []) (drop next text)) (sym h)
-            ∙ two-given (pinWithin n nets) (sinkOrdered i pins count) text q (within-both n nets f s in-nets in-nodes)
+            ap (λ (x : ℕ). values (x ∷ s ∷ []) (drop next text)) (sym h)
+            ∙ sym (judged-taken (pinWithin n nets) (sinkOrdered i pins count) sink-fields (within-both n nets f s in-nets in-nodes)
             (in-order i pins count f s h (sym (m s in-nodes) ∙ ne-eqb (getD seen s 0) stamp g) l))
 
 -- ---- what a line that is read tells
@@ -219,29 +190,13 @@ module _ (stamp : ℕ) (seen : List ℕ) where
       (either-way (eqb (getD seen n 0) stamp)))
       (eq-or-lt-of-le (le-of-suc-le-suc l))
 
-refused-values : {A : Type 0} {k : ℕ} {a : A} {rest : List ℕ} → refused k ≡ values a rest → ⊥
-refused-values e = let z : _≡_ {A = ℕ} 0 1 = cc in omega arith
-
--- a line that is read kept its order
-judged-ordered : (within ordered : List ℕ → Bool) (l : Fields) {vs rest : List ℕ} → judged within ordered l ≡ values vs rest → ordered vs ≡ true
-judged-ordered within ordered malformed e = absurd (refused-values e)
-judged-ordered within ordered (taken us more) {vs} {rest} e =
-    ⊎-elim
-    (λ (p : within us ≡ true).
-    ⊎-elim
-    (λ (q : ordered us ≡ true). let same : values us more ≡ values vs rest = rw (p, q) at e in let us-is : us ≡ vs = cc in rw us-is at q)
-    (λ (q : ordered us ≡ false). absurd (refused-values (rw (p, q) at e)))
-    (either-way (ordered us)))
-    (λ (p : within us ≡ false). absurd (refused-values (rw p at e)))
-    (either-way (within us))
-
 pub sink-few : (n nets i : ℕ) (pins : List ℕ) (count : ℕ) (bs : List ℕ) {vs rest : List ℕ} → sinkLine n nets i pins count bs ≡ values vs rest → count < sinksMost
 unfolding sinkLine sinkOrdered
-sink-few n nets i pins count bs {vs} e =
-    let o = judged-ordered (pinWithin n nets) (sinkOrdered i pins count) (line 84 2 bs) e in
+sink-few n nets i pins count bs {vs} {rest} e =
+    let told = judged-values (pinWithin n nets) (sinkOrdered i pins count) (line 84 2 bs) vs rest e in
     ltb-true count sinksMost
     (both-right (not (has (getD vs 1 0) pins)) (ltb count sinksMost)
-    (both-right (eqb (getD vs 0 0) i) (both (not (has (getD vs 1 0) pins)) (ltb count sinksMost)) o))
+    (both-right (eqb (getD vs 0 0) i) (both (not (has (getD vs 1 0) pins)) (ltb count sinksMost)) (told .order)))
 
 module _ (i : ℕ) (text : List ℕ) {p : PinLine} {r : Reading (List ℕ)} (e : pinAt i text p ≡ r) where
   pub pin-reading : {node next : ℕ} → p ≡ pl.Pin node next → r ≡ values (i ∷ node ∷ []) (drop next text)

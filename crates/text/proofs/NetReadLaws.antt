@@ -15,53 +15,19 @@ use Rattle.price.proofs.ListLaws.{either-way, both-left, both-right}
 use Rattle.search.specs.Replies.{sinksMost}
 use Rattle.negotiation.specs.Tables.{netsMost, sourcesSound, firstSinksSound, sinksSound}
 use Rattle.negotiation.proofs.NetTableLaws.{sources-all, nets-all}
-use Rattle.text.specs.Lines.{Fields, taken, malformed, line, printLine}
-use Rattle.text.specs.JobText.{Reading, values, refused, judged, lastOf, pinWithin, sourceLine, sinkOrdered, sinkLine, Part, part, stopped, onward, NetLists, netLists, sinksNow, sourceDue, sinkDue, complete, netEnd, withSource, withSink, nextSource, nextSink, taking, netLine, netLines}
+use Rattle.text.specs.Lines.{printLine}
+use Rattle.text.specs.JobText.{Reading, values, refused, lastOf, pinWithin, sourceLine, sinkOrdered, sinkLine, part, stopped, NetLists, netLists, sinksNow, sourceDue, sinkDue, complete, netEnd, withSource, withSink, nextSource, nextSink, taking, netLine, netLines}
 use Rattle.text.specs.Printed.{joined}
 use Rattle.text.proofs.NetTextLaws.{netAt, ends, Good, written, good-none, with-source, source-text, with-sink, sink-text, good-firsts}
-use Rattle.text.proofs.PrintLaws.{printed-line}
+use Rattle.text.proofs.PrintLaws.{LineRead, judged-line, two-of, onward-part}
 
 -- ---- a line that is taken
 
--- what a line that passes both tests gives
-record Judged (within ordered : List ℕ → Bool) (f : Fields) (vs rest : List ℕ) : Type 0 where
-  is : f ≡ taken vs rest
-  fits : within vs ≡ true
-  order : ordered vs ≡ true
-
-judged-values : (within ordered : List ℕ → Bool) (f : Fields) (vs rest : List ℕ) → judged within ordered f ≡ values vs rest → Judged within ordered f vs rest
-judged-values w o malformed vs rest e = absurd (let z : _≡_ {A = ℕ} 0 1 = cc in omega arith)
-judged-values w o (taken us r) vs rest e =
-    ⊎-elim
-    (λ (p : w us ≡ true).
-    ⊎-elim
-    (λ (q : o us ≡ true).
-    let e2 : values us r ≡ values vs rest = rw (p, q) at e in
-    let same : us ≡ vs = cc in
-    let left : r ≡ rest = cc in
-    record { is = rw (same, left); fits = rw same at p; order = rw same at q })
-    (λ (q : o us ≡ false).
-    let e2 : refused 3 ≡ values vs rest = rw (p, q) at e in
-    absurd (let z : _≡_ {A = ℕ} 0 1 = cc in omega arith))
-    (either-way (o us)))
-    (λ (p : w us ≡ false).
-    let e2 : refused 2 ≡ values vs rest = rw p at e in
-    absurd (let z : _≡_ {A = ℕ} 0 1 = cc in omega arith))
-    (either-way (w us))
-
--- two fields
-two : (vs : List ℕ) → length vs ≡ 2 → vs ≡ getD vs 0 0 ∷ getD vs 1 0 ∷ []
-two [] e = absurd (omega arith)
-two (x ∷ []) e = absurd (omega arith)
-two (x ∷ y ∷ []) e = refl
-two (x ∷ y ∷ z ∷ zs) e = absurd (omega arith)
-
 -- a line of two fields, the first of which is known
-two-text : (letter i : ℕ) (bs vs rest : List ℕ) → line letter 2 bs ≡ taken vs rest → eqb (getD vs 0 0) i ≡ true → bs ≡ printLine letter (i ∷ getD vs 1 0 ∷ []) ++ rest
-two-text letter i bs vs rest e q =
-    let r = printed-line letter 2 bs vs rest e in
-    let whole : vs ≡ i ∷ getD vs 1 0 ∷ [] = two vs (r .0) ∙ ap (λ (v : ℕ). v ∷ getD vs 1 0 ∷ []) (eqb-true (getD vs 0 0) i q) in
-    r .1 ∙ ap (λ (us : List ℕ). printLine letter us ++ rest) whole
+two-text : (letter i : ℕ) {within ordered : List ℕ → Bool} (bs vs rest : List ℕ) → LineRead letter 2 within ordered bs vs rest → eqb (getD vs 0 0) i ≡ true → bs ≡ printLine letter (i ∷ getD vs 1 0 ∷ []) ++ rest
+two-text letter i bs vs rest r q =
+    let whole : vs ≡ i ∷ getD vs 1 0 ∷ [] = two-of vs (r .long) ∙ ap (λ (v : ℕ). v ∷ getD vs 1 0 ∷ []) (eqb-true (getD vs 0 0) i q) in
+    r .text ∙ ap (λ (us : List ℕ). printLine letter us ++ rest) whole
 
 -- a reading that gives lists, and what they were made of
 record Took {A B : Type 0} (f : A → B) (r : Reading A) (l : B) (rest : List ℕ) : Type 0 where
@@ -72,17 +38,6 @@ record Took {A B : Type 0} (f : A → B) (r : Reading A) (l : B) (rest : List �
 taking-values : {A B : Type 0} (f : A → B) (r : Reading A) (l : B) (rest : List ℕ) → taking f r ≡ values l rest → Took f r l rest
 taking-values f (values x rs) l rest e = let left : rs ≡ rest = cc in record { given = x; is = rw left; made = cc }
 taking-values f (refused k) l rest e = absurd (let z : _≡_ {A = ℕ} 0 1 = cc in omega arith)
-
--- a line that is followed by others
-record Onward {A B : Type 0} (r : Reading A) (next : A → List ℕ → Part B) (p : Part B) : Type 0 where
-  given : A
-  rest : List ℕ
-  is : r ≡ values given rest
-  later : next given rest ≡ p
-
-onward-part : {A B : Type 0} (r : Reading A) (at : ℕ) (next : A → List ℕ → Part B) (l : B) (at2 : ℕ) (rest : List ℕ) → onward r at next ≡ part l at2 rest → Onward r next (part l at2 rest)
-onward-part (values x rs) at next l at2 rest e = record { given = x; rest = rs; is = refl; later = e }
-onward-part (refused k) at next l at2 rest e = absurd (let z : _≡_ {A = ℕ} 0 1 = cc in omega arith)
 
 module _ (n nets : ℕ) (l : NetLists) where
   -- what an S line says
@@ -108,29 +63,29 @@ module _ (n nets : ℕ) (l : NetLists) where
   unfolding nextSource sourceLine pinWithin
   sourced bs next rest due e =
       let k = taking-values (withSource l) (nextSource n nets l bs) next rest e in
-      let j = judged-values (pinWithin n nets) (λ vs. eqb (getD vs 0 0) (length (l .sources))) (line 83 2 bs) (k .given) rest (k .is) in
+      let j = judged-line (pinWithin n nets) (λ vs. eqb (getD vs 0 0) (length (l .sources))) 83 2 bs (k .given) rest (k .is) in
       record {
         s = getD (k .given) 1 0;
         due = due;
-        node = ltb-true (getD (k .given) 1 0) n (both-right (ltb (getD (k .given) 0 0) nets) _ (j .fits));
+        node = ltb-true (getD (k .given) 1 0) n (both-right (ltb (getD (k .given) 0 0) nets) _ (j .bounds));
         is = k .made;
-        text = two-text 83 (length (l .sources)) bs (k .given) rest (j .is) (j .order);
+        text = two-text 83 (length (l .sources)) bs (k .given) rest j (j .order);
       }
 
   sunk : (bs : List ℕ) (next : NetLists) (rest : List ℕ) → sinkDue l ≡ true → taking (withSink l) (nextSink n nets l bs) ≡ values next rest → Sunk bs next rest
   unfolding nextSink sinkLine sinkOrdered pinWithin
   sunk bs next rest due e =
       let k = taking-values (withSink l) (nextSink n nets l bs) next rest e in
-      let j = judged-values (pinWithin n nets) (sinkOrdered (length (l .sources) - 1) (lastOf (l .sources) ∷ sinksNow l) (length (l .sinks))) (line 84 2 bs) (k .given) rest (k .is) in
+      let j = judged-line (pinWithin n nets) (sinkOrdered (length (l .sources) - 1) (lastOf (l .sources) ∷ sinksNow l) (length (l .sinks))) 84 2 bs (k .given) rest (k .is) in
       let others = both-right (eqb (getD (k .given) 0 0) (length (l .sources) - 1)) _ (j .order) in
       record {
         t = getD (k .given) 1 0;
         due = due;
-        node = both-right (ltb (getD (k .given) 0 0) nets) _ (j .fits);
+        node = both-right (ltb (getD (k .given) 0 0) nets) _ (j .bounds);
         new = not-true (has (getD (k .given) 1 0) (lastOf (l .sources) ∷ sinksNow l)) (both-left _ _ others);
         room = ltb-true (length (l .sinks)) sinksMost (both-right (not (has (getD (k .given) 1 0) (lastOf (l .sources) ∷ sinksNow l))) _ others);
         is = k .made;
-        text = two-text 84 (length (l .sources) - 1) bs (k .given) rest (j .is) (both-left _ _ (j .order));
+        text = two-text 84 (length (l .sources) - 1) bs (k .given) rest j (both-left _ _ (j .order));
       }
 
   net-line : (bs : List ℕ) (next : NetLists) (rest : List ℕ) → netLine n nets l bs ≡ values next rest → Sourced bs next rest ⊎ Sunk bs next rest
@@ -214,20 +169,20 @@ nets-on n nets (suc k) m l l2 at at2 (b ∷ bs) rest g e =
     let o = onward-part (netLine n nets l (b ∷ bs)) at (λ next left. netLines k n nets next (at + 1) left) l2 at2 rest e in
     let count : length (l .sources) ≡ m = g .count in
     ⊎-elim
-    (λ (p : Sourced n nets l (b ∷ bs) (o .given) (o .rest)).
+    (λ (p : Sourced n nets l (b ∷ bs) (o .0) (o .1)).
     let fits : length (l .sources) < nets = ltb-true (length (l .sources)) nets (both-left _ _ (p .due)) in
-    more-text (printLine 83 (m ∷ p .s ∷ [])) (source-text g (p .s)) (subst (λ (j : ℕ). b ∷ bs ≡ printLine 83 (j ∷ p .s ∷ []) ++ o .rest) count (p .text))
-    (nets-on n nets k (m + 1) (netLists (l .sources ++ (p .s ∷ [])) (ends (l .firstSinks) (l .sinks)) (l .sinks)) l2 (at + 1) at2 (o .rest) rest
+    more-text (printLine 83 (m ∷ p .s ∷ [])) (source-text g (p .s)) (subst (λ (j : ℕ). b ∷ bs ≡ printLine 83 (j ∷ p .s ∷ []) ++ o .1) count (p .text))
+    (nets-on n nets k (m + 1) (netLists (l .sources ++ (p .s ∷ [])) (ends (l .firstSinks) (l .sinks)) (l .sinks)) l2 (at + 1) at2 (o .1) rest
     (with-source g (p .s) (p .node) (omega arith) (source-ready nets m l count (g .long) (p .due)))
-    (rw (p .is) at (o .later))))
-    (λ (p : Sunk n nets l (b ∷ bs) (o .given) (o .rest)).
+    (rw (p .is) at (o .3))))
+    (λ (p : Sunk n nets l (b ∷ bs) (o .0) (o .1)).
     let some : 1 ≤ length (l .sources) = leb-true 1 (length (l .sources)) (p .due) in
     let last : length (l .sources) - 1 + 1 ≡ m = omega arith in
     more-text (printLine 84 ((length (l .sources) - 1) ∷ p .t ∷ [])) (sink-text g (length (l .sources) - 1) (p .t) last) (p .text)
-    (nets-on n nets k m (netLists (l .sources) (l .firstSinks) (l .sinks ++ (p .t ∷ []))) l2 (at + 1) at2 (o .rest) rest
+    (nets-on n nets k m (netLists (l .sources) (l .firstSinks) (l .sinks ++ (p .t ∷ []))) l2 (at + 1) at2 (o .1) rest
     (with-sink g (length (l .sources) - 1) (p .t) last (p .node) (rw (now-is l (length (l .sources) - 1) (g .long ∙ sym last)) at (p .new)) (p .room))
-    (rw (p .is) at (o .later))))
-    (net-line n nets l (b ∷ bs) (o .given) (o .rest) (o .is))
+    (rw (p .is) at (o .3))))
+    (net-line n nets l (b ∷ bs) (o .0) (o .1) (o .2))
 
 -- ---- the tables
 

@@ -1,34 +1,32 @@
--- The steps of the nets' reading: what one line does to the lists and the marks, and the lines one after the other.
+-- One line of the nets: what it does to the lists and the marks.
 --     due-none, -first, -next, -below           whether another net is due
 --     due-is                                    the same of the lists that the cursor marks out
 --     source-step, source-undue                 an S line
 --     sink-step, no-net, other-letter           a T line, and any other
---     Going, going-first, -more, -later, -stops      the loop over the lines
---     going-short, -empty, -done                its end
 -- Assumes nothing.
 use mathlib.Core.Bool.{Bool, true, false}
 use mathlib.Core.List.{List, [], _∷_, _++_}
 use mathlib.Core.Logic.{⊎-elim}
-use mathlib.Core.Path.{_≡_, refl, sym, _∙_, ap, subst}
-use Prim.Native.Nat.{ℕ, zero, suc, _+_, _-_, _≤_, _<_}
-use native.Mathlib.Nat.{not-suc-le-zero}
+use mathlib.Core.Path.{_≡_, refl, sym, _∙_, ap}
+use Prim.Native.Nat.{ℕ, suc, _+_, _-_, _≤_, _<_}
 use native.Mathlib.Numerals.{add-one}
 use native.Mathlib.Omega.{arith}
 use lib.Dec.{leb, ltb, eqb}
-use lib.ListN.{length, getD, take, drop, set, replicate, length-append, length-drop, length-set, length-replicate, getD-replicate, drop-of-length-le}
-use lib.Seq.{length-take-le, drop-cons, drop-append-le, take-suc-set, take-set-le, getD-set-same, getD-set-other, getD-at}
+use lib.ListN.{length, getD, take, drop, set, length-drop, length-set, drop-of-length-le}
+use lib.Seq.{length-take-le, drop-cons, drop-append-le, take-suc-set, getD-set-same, getD-set-other}
 use borrow.Author.Tests.{lt-ltb, le-ltb, le-leb, lt-leb, eq-eqb, ne-eqb, eqb-true, eqb-false, ltb-true}
 use Rattle.price.specs.Test.{both, either}
 use Rattle.price.specs.Lists.{has}
 use Rattle.price.proofs.ListLaws.{either-way, le-or-lt, both-left, both-false-right, has-append-right}
 use Rattle.negotiation.proofs.MarkLaws.{has-append}
 use Rattle.search.specs.Replies.{sinksMost}
-use Rattle.text.specs.JobText.{values, refused, Part, part, stopped, NetLists, netLists, lastOf, sinksNow, sourceDue, sinkDue, complete, netEnd, withSource, withSink, taking, sourceLine, sinkLine, nextSource, nextSink, netLine, netLines}
+use Rattle.text.specs.JobText.{values, refused, NetLists, lastOf, sinksNow, sourceDue, sinkDue, withSource, withSink, taking, sourceLine, sinkLine, nextSource, nextSink, netLine}
 use Rattle.text.specs.Steps.{Marked, netsAt, NetKept, SourceAdded, SinkAdded, netLineAt, KeptAfter}
 use Rattle.text.specs.declared.nets.NetCursor.{NetCursor}
 use Rattle.text.specs.declared.nets.NetStep.{NetStep}
 use Rattle.text.specs.declared.nets.NetStep.the-variants as ns
 use Rattle.text.proofs.NetLineLaws.{sink-few}
+use Rattle.text.proofs.LastLaws.{last-more}
 
 -- ---- another net is due
 
@@ -47,13 +45,10 @@ module _ (k nets first sinks : ℕ) where
 
 -- ---- lists
 
-last-more : (xs : List ℕ) (x : ℕ) → lastOf (xs ++ (x ∷ [])) ≡ x
-last-more xs x = getD-at xs x [] 0 (length (xs ++ (x ∷ [])) - 1) (rw length-append (omega arith))
-
 take-more : (xs : List ℕ) (i x : ℕ) → i < length xs → take (i + 1) (set xs i x) ≡ take i xs ++ (x ∷ [])
 take-more xs i x l = rw add-one (take-suc-set xs i x l)
 
-some-left : (a b : ℕ) → leb 1 (b - a) ≡ ltb a b
+pub some-left : (a b : ℕ) → leb 1 (b - a) ≡ ltb a b
 some-left a b =
     ⊎-elim
     (λ (l : b ≤ a). rw (le-ltb a b l) (lt-leb 1 (b - a) (omega arith)))
@@ -126,13 +121,13 @@ module _ (n nets : ℕ) (l : NetLists) {b : ℕ} {rest bs : List ℕ} (h : bs �
 -- ---- the steps
 
 module _ {n nets : ℕ} {text : List ℕ} {c : NetCursor} {sources firstSinks sinks seen : List ℕ} (k : NetKept n nets text c sources firstSinks sinks seen) where
-  sources-now : length (take (c .nets) sources) ≡ c .nets
+  pub sources-now : length (take (c .nets) sources) ≡ c .nets
   sources-now = length-take-le (c .nets) sources (omega arith)
 
   all-sinks-now : length (take (c .sinks) sinks) ≡ c .sinks
   all-sinks-now = length-take-le (c .sinks) sinks (omega arith)
 
-  sinks-now : length (sinksNow (netsAt c sources firstSinks sinks)) ≡ c .sinks - c .first
+  pub sinks-now : length (sinksNow (netsAt c sources firstSinks sinks)) ≡ c .sinks - c .first
   unfolding sinksNow
   sinks-now = rw (← k .first-is) (length-drop (c .first) (take (c .sinks) sinks) ∙ ap (λ (m : ℕ). m - c .first) all-sinks-now)
 
@@ -245,104 +240,3 @@ module _ {n nets : ℕ} {text : List ℕ} {c : NetCursor} {sources firstSinks si
             },
           ),
         )
-
--- ---- the lines one after the other
-
-module _ (m n nets at : ℕ) (l : NetLists) {b : ℕ} {rest bs : List ℕ} (h : bs ≡ b ∷ rest) where
-  lines-more : {next : NetLists} {more : List ℕ} → netLine n nets l bs ≡ values next more → netLines (suc m) n nets l at bs ≡ netLines m n nets next (at + 1) more
-  unfolding netLines
-  lines-more {next} {more} e = let e' : netLine n nets l (b ∷ rest) ≡ values next more = rw h at e in rw (h, e')
-
-  lines-stop : {number : ℕ} → netLine n nets l bs ≡ refused number → netLines (suc m) n nets l at bs ≡ stopped number at
-  unfolding netLines
-  lines-stop {number} e = let e' : netLine n nets l (b ∷ rest) ≡ refused number = rw h at e in rw (h, e')
-
-lines-end : (m n nets at : ℕ) (l : NetLists) → netLines m n nets l at [] ≡ netEnd nets l at
-unfolding netLines
-lines-end zero n nets at l = refl
-lines-end (suc m) n nets at l = refl
-
--- the lines that are left give with the lists so far what all of them give
-pub record Going (n nets : ℕ) (text : List ℕ) (whole : Part NetLists) (c : NetCursor) (sources firstSinks sinks seen : List ℕ) : Type 0 where
-  pub left : ℕ
-  pub enough : length (drop (c .at) text) ≤ left
-  pub same : netLines left n nets (netsAt c sources firstSinks sinks) (c .line) (drop (c .at) text) ≡ whole
-  pub kept : NetKept n nets text c sources firstSinks sinks seen
-
-pub going-first : (n nets : ℕ) (text : List ℕ) (from line : ℕ) (sources firstSinks sinks : List ℕ) → (from ≤ length text) × (line ≤ from + 1) × (n ≤ 4096) × (nets ≤ 512) → (nets ≤ length sources) × (nets + 1 ≤ length firstSinks) × (sinksMost ≤ length sinks) → Going n nets text (netLines (length (drop from text)) n nets (netLists [] [] []) line (drop from text)) (record { at = from; line = line; nets = 0; sinks = 0; first = 0 }) sources firstSinks sinks (replicate 4096 0)
-going-first n nets text from line sources firstSinks sinks b r = record {
-  left = length (drop from text);
-  enough = omega arith;
-  same = refl;
-  kept = record {
-    room = record {
-      nodes-most = b .2;
-      nets-most = b .3;
-      sources-long = r .0;
-      firsts-long = r .1;
-      sinks-long = r .2;
-      seen-long = rw (length-replicate {A = ℕ} 4096 0) (b .2);
-    };
-    at-most = b .0;
-    line-most = b .1;
-    nets-read = omega arith;
-    sinks-read = omega arith;
-    first-is = refl;
-    first-most = omega arith;
-    stamps = λ v h. rw (getD-replicate {A = ℕ} 4096 v 0 0 (omega (arith, b .2))) (omega arith);
-    marked = λ h. absurd (not-suc-le-zero h);
-  };
-}
-
-module _ {n nets : ℕ} {text : List ℕ} {whole : Part NetLists} {c : NetCursor} {sources firstSinks sinks seen : List ℕ} (g : Going n nets text whole c sources firstSinks sinks seen) where
-  module _ (inside : c .at < length text) where
-    left-more : g .left ≡ suc (g .left - 1)
-    left-more = omega (arith, length-drop (c .at) text, g .enough)
-
-    pub going-more : (step : NetStep) {next : NetCursor} (sources' firstSinks' sinks' seen' : List ℕ) → step ≡ ns.On next → netLineAt text step sources' firstSinks' sinks' ≡ netLine n nets (netsAt c sources firstSinks sinks) (drop (c .at) text) → KeptAfter n nets text c step sources' firstSinks' sinks' seen' → Going n nets text whole next sources' firstSinks' sinks' seen'
-    going-more step {next} sources' firstSinks' sinks' seen' q e a =
-        let e' : values (netsAt next sources' firstSinks' sinks') (drop (next .at) text) ≡ netLine n nets (netsAt c sources firstSinks sinks) (drop (c .at) text) = rw q at e in
-        let a' : KeptAfter n nets text c (ns.On next) sources' firstSinks' sinks' seen' = rw q at a in
-        record {
-          left = g .left - 1;
-          enough = omega (arith, length-drop (c .at) text, length-drop (next .at) text, g .enough, a' .0);
-          same = rw (a' .1) (sym (lines-more (g .left - 1) n nets (c .line) (netsAt c sources firstSinks sinks) (drop-cons text (c .at) 0 inside) (sym e')) ∙ rw (← left-more) (g .same));
-          kept = a' .2;
-        }
-
-    pub going-later : (step : NetStep) {next : NetCursor} (sources' firstSinks' sinks' seen' : List ℕ) → step ≡ ns.On next → KeptAfter n nets text c step sources' firstSinks' sinks' seen' → length text - next .at < length text - c .at
-    going-later step {next} sources' firstSinks' sinks' seen' q a =
-        let a' : KeptAfter n nets text c (ns.On next) sources' firstSinks' sinks' seen' = rw q at a in
-        omega (arith, a' .0)
-
-    pub going-stops : (step : NetStep) {number : ℕ} (sources' firstSinks' sinks' : List ℕ) → step ≡ ns.Stopped number → netLineAt text step sources' firstSinks' sinks' ≡ netLine n nets (netsAt c sources firstSinks sinks) (drop (c .at) text) → stopped number (c .line) ≡ whole
-    going-stops step {number} sources' firstSinks' sinks' q e =
-        let e' : refused number ≡ netLine n nets (netsAt c sources firstSinks sinks) (drop (c .at) text) = rw q at e in
-        sym (lines-stop (g .left - 1) n nets (c .line) (netsAt c sources firstSinks sinks) (drop-cons text (c .at) 0 inside) (sym e')) ∙ rw (← left-more) (g .same)
-
-  -- the text is used up
-  module _ (over : length text ≤ c .at) where
-    going-end : netEnd nets (netsAt c sources firstSinks sinks) (c .line) ≡ whole
-    going-end =
-        let none : drop (c .at) text ≡ [] = drop-of-length-le text over in
-        sym (lines-end (g .left) n nets (c .line) (netsAt c sources firstSinks sinks)) ∙ rw none at (g .same)
-
-    pub going-short : (c .nets ≡ nets → ⊥) → stopped 1 (c .line) ≡ whole
-    unfolding netEnd complete
-    going-short h =
-        subst (λ (r : Part NetLists). r ≡ whole) (rw (sources-now (g .kept), ne-eqb (c .nets) nets h)) going-end
-
-    pub going-empty : c .sinks ≤ c .first → stopped 1 (c .line) ≡ whole
-    unfolding netEnd complete
-    going-empty h =
-        subst (λ (r : Part NetLists). r ≡ whole)
-        (rw (sinks-now (g .kept), some-left (c .first) (c .sinks), le-ltb (c .first) (c .sinks) h, both-false-right (eqb (length (take (c .nets) sources)) nets) false refl)) going-end
-
-    pub going-done : c .nets ≡ nets → c .first < c .sinks → part (netLists (take nets sources) (take nets (set firstSinks nets (c .sinks))) (take (c .sinks) sinks)) (c .line) [] ≡ whole
-    unfolding netEnd complete
-    going-done e h =
-        let front : take nets (set firstSinks nets (c .sinks)) ≡ take nets firstSinks = take-set-le nets firstSinks nets (c .sinks) (omega arith) in
-        rw front
-        (ap (λ (m : ℕ). part (netLists (take m sources) (take m firstSinks) (take (c .sinks) sinks)) (c .line) []) (sym e)
-        ∙ subst (λ (r : Part NetLists). r ≡ whole)
-        (rw (sources-now (g .kept), sinks-now (g .kept), some-left (c .first) (c .sinks), eq-eqb (c .nets) nets e, lt-ltb (c .first) (c .sinks) h)) going-end)

@@ -3,7 +3,7 @@
 --     net-more, net-new, between-  the sinks of a net
 --     Good, with-, -text           the nets read so far, with one source or one sink more
 -- Assumes nothing.
-use mathlib.Core.Bool.{Bool, true, false, not}
+use mathlib.Core.Bool.{true, false, not}
 use mathlib.Core.List.{List, [], _∷_, _++_, append-nil, append-assoc}
 use mathlib.Core.Logic.{⊎-elim}
 use mathlib.Core.Path.{_≡_, refl, sym, _∙_, ap, subst}
@@ -26,6 +26,7 @@ use Rattle.negotiation.proofs.NetTableLaws.{firsts-last}
 use Rattle.negotiation.proofs.MemberLaws.{lacks-append, distinct-append}
 use Rattle.text.specs.Lines.{printLine}
 use Rattle.text.specs.Printed.{joined, eachLine}
+use Rattle.text.proofs.LastLaws.{every-more}
 
 -- ---- texts
 
@@ -61,12 +62,6 @@ eachLine-last letter i (x ∷ xs) t =
 
 -- ---- the sinks of a net
 
-every-last : (test : ℕ → Bool) (xs : List ℕ) (x : ℕ) → every test xs ≡ true → test x ≡ true → every test (xs ++ (x ∷ [])) ≡ true
-unfolding every
-every-last test [] x e h = both-true h refl
-every-last test (y ∷ ys) x e h =
-    both-true (both-left (test y) (every test ys) e) (every-last test ys x (both-right (test y) (every test ys) e) h)
-
 -- one sink, other than the source and the sinks so far
 net-more :
     (n s : ℕ) (xs : List ℕ) (t : ℕ) → netSound n s xs ≡ true → ltb t n ≡ true → has t (s ∷ xs) ≡ false
@@ -74,7 +69,7 @@ net-more :
 unfolding netSound distinct has
 net-more n s xs t sound node new =
     let rest = both-right (every (λ v. ltb v n) xs) _ sound in
-    both-true (every-last (λ v. ltb v n) xs t (both-left (every (λ v. ltb v n) xs) _ sound) node)
+    both-true (every-more (λ v. ltb v n) xs t (both-left (every (λ v. ltb v n) xs) _ sound) node)
     (both-true
     (distinct-append xs (t ∷ []) (both-left (distinct xs) _ rest) refl
     (λ v h.

@@ -1,67 +1,25 @@
--- A line's three judgements, what an N line gives by its numbers, and what holds between two N lines.
---     line-is                     a line at a place of the text
---     judged-beyond, -wrong, -taken, -ordered   1, 2 or 3, or the values
+-- The N lines: what one gives by its numbers, and what holds between two of them.
 --     node-other, -shape, -beyond, -wrong, -taken   an N line
 --     NodesRead                                 between two N lines
 -- Assumes nothing.
-use mathlib.Core.Bool.{Bool, true, false}
+use mathlib.Core.Bool.{true, false}
 use mathlib.Core.List.{List, [], _∷_, _++_}
-use mathlib.Core.Logic.{⊎-elim}
 use mathlib.Core.Path.{_≡_, refl, sym, _∙_, ap, subst}
-use Prim.Native.Nat.{ℕ, zero, suc, _+_, _-_, _≤_, _<_}
+use Prim.Native.Nat.{ℕ, suc, _+_, _-_, _≤_, _<_}
 use native.Mathlib.Numerals.{add-one}
 use native.Mathlib.Omega.{arith}
 use lib.Dec.{eqb}
 use lib.ListN.{length, getD, take, drop, set, length-set}
-use lib.Seq.{length-take-le, take-suc-set, drop-drop}
+use lib.Seq.{length-take-le, take-suc-set}
 use borrow.Author.Tests.{lt-ltb, le-ltb, le-leb, lt-leb, eq-eqb, ne-eqb}
-use Rattle.price.proofs.ListLaws.{either-way}
-use Rattle.text.specs.Lines.{Fields, taken, malformed, fields, line}
-use Rattle.text.specs.JobText.{values, refused, judged, nodeWithin, nodeLine, part, stopped, nodeLists, nodeLines}
+use Rattle.text.specs.Lines.{taken, fields, line}
+use Rattle.text.specs.JobText.{values, refused, nodeWithin, nodeLine, part, stopped, nodeLists, nodeLines}
 use Rattle.text.specs.Steps.{begins, After, threeAt, ThreePlace, nodeAt, NodePlace}
 use Rattle.text.specs.declared.fields.Three.{Three}
 use Rattle.text.specs.declared.fields.Three.the-variants as h
 use Rattle.text.specs.declared.nodes.NodeLine.{NodeLine}
 use Rattle.text.specs.declared.nodes.NodeLine.the-variants as nl
-use Rattle.text.proofs.FieldLaws.{line-begins, line-other}
-
--- ---- a line at a place of the text
-
--- the line that the fields after its letter make
-pub line-is : (letter k at : ℕ) (text : List ℕ) {f : Fields} → begins letter (drop at text) ≡ true → f ≡ fields k (drop (at + 1) text) → line letter k (drop at text) ≡ f
-line-is letter k at text b e =
-    line-begins letter k (drop at text) b ∙ ap (λ (bs : List ℕ). fields k bs) (drop-drop 1 at text) ∙ sym e
-
--- ---- 1, 2 or 3, or the values
-
-module _ (within ordered : List ℕ → Bool) {f : Fields} {vs rest : List ℕ} (e : f ≡ taken vs rest) where
-  pub judged-beyond : within vs ≡ false → judged within ordered f ≡ refused 2
-  judged-beyond w = rw (e, w)
-
-  pub judged-wrong : within vs ≡ true → ordered vs ≡ false → judged within ordered f ≡ refused 3
-  judged-wrong w o = rw (e, w, o)
-
-  pub judged-taken : within vs ≡ true → ordered vs ≡ true → judged within ordered f ≡ values vs rest
-  judged-taken w o = rw (e, w, o)
-
--- values that are given are in order
-pub judged-ordered : (within ordered : List ℕ → Bool) (f : Fields) {vs rest : List ℕ} → judged within ordered f ≡ values vs rest → ordered vs ≡ true
-judged-ordered within ordered malformed e = cc
-judged-ordered within ordered (taken ws r) {vs} {rest} e =
-    ⊎-elim
-    (λ (w : within ws ≡ true).
-    ⊎-elim
-    (λ (o : ordered ws ≡ true).
-    let d : values ws r ≡ values vs rest = rw (w, o) at e in
-    cc)
-    (λ (o : ordered ws ≡ false).
-    let d : refused 3 ≡ values vs rest = rw (w, o) at e in
-    cc)
-    (either-way (ordered ws)))
-    (λ (w : within ws ≡ false).
-    let d : refused 2 ≡ values vs rest = rw w at e in
-    cc)
-    (either-way (within ws))
+use Rattle.text.proofs.JudgedLaws.{line-other, line-is, judged-beyond, judged-wrong, judged-taken}
 
 -- ---- an N line
 

@@ -15,9 +15,11 @@ use Rattle.price.specs.Bounds.{nodesMost, kindMost, capacityMost}
 use Rattle.price.specs.Lists.{every}
 use Rattle.price.proofs.ListLaws.{both-true, both-left, both-right, every-at}
 use Rattle.search.specs.Tables.{kindsSound, capacitiesSound}
+use Rattle.search.proofs.BlockLaws.{kinds-few, capacities-long}
 use Rattle.text.specs.Lines.{printLine}
 use Rattle.text.specs.JobText.{values, nodeWithin, nodeLine, part, NodeLists, nodeLists, nodeLines}
 use Rattle.text.specs.Printed.{joined}
+use Rattle.text.proofs.LastLaws.{every-more}
 use Rattle.text.proofs.PrintLaws.{LineRead, judged-line, line-judged, onward-part}
 
 -- the line of node v: what `nodeText` unfolds to
@@ -33,7 +35,7 @@ capacityWithin c = both (leb 1 c) (leb c capacityMost)
 -- ---- from reading
 
 -- what k node lines tell that are read after the lists `before`, and make them `after`
-pub record NodesRead (n k : ℕ) (before after : NodeLists) (at at′ : ℕ) (bs rest : List ℕ) : Type 0 where
+pub record NodesTold (n k : ℕ) (before after : NodeLists) (bs rest : List ℕ) : Type 0 where
   pub kinds-long : length (after .kinds) ≡ n
   pub capacities-long : length (after .capacities) ≡ n
   pub kinds-within : every (λ k. leb k kindMost) (after .kinds) ≡ true
@@ -41,13 +43,6 @@ pub record NodesRead (n k : ℕ) (before after : NodeLists) (at at′ : ℕ) (bs
   pub kinds-kept : (i : ℕ) → i < length (before .kinds) → getD (after .kinds) i 0 ≡ getD (before .kinds) i 0
   pub capacities-kept : (i : ℕ) → i < length (before .capacities) → getD (after .capacities) i 0 ≡ getD (before .capacities) i 0
   pub text : bs ≡ joined (nodePrinted (after .kinds) (after .capacities)) (length (before .kinds)) k ++ rest
-  pub next : at′ ≡ at + k
-
-every-more : (t : ℕ → Bool) (xs : List ℕ) (x : ℕ) → every t xs ≡ true → t x ≡ true → every t (xs ++ (x ∷ [])) ≡ true
-unfolding every
-every-more t [] x e p = both-true p refl
-every-more t (y ∷ ys) x e p =
-    both-true (both-left (t y) (every t ys) e) (every-more t ys x (both-right (t y) (every t ys) e) p)
 
 three : (vs : List ℕ) → length vs ≡ 3 → vs ≡ getD vs 0 0 ∷ getD vs 1 0 ∷ getD vs 2 0 ∷ []
 three [] e = absurd (omega arith)
@@ -87,12 +82,12 @@ kept-last : (xs zs : List ℕ) (y m : ℕ) → length xs ≡ m → ((i : ℕ) �
 kept-last xs zs y m long kept = kept m (omega (arith, length-append xs (y ∷ []))) ∙ getD-at xs y [] 0 m long
 
 nodes-step :
-    (n k : ℕ) (l l′ : NodeLists) (at at′ : ℕ) (bs vs mid rest : List ℕ)
+    (n k : ℕ) (l l′ : NodeLists) (bs vs mid rest : List ℕ)
     → length (l .capacities) ≡ length (l .kinds)
     → LineRead 78 3 (nodeWithin n) (λ vs. eqb (getD vs 0 0) (length (l .kinds))) bs vs mid
-    → NodesRead n k (withNode l vs) l′ (at + 1) at′ mid rest
-    → NodesRead n (suc k) l l′ at at′ bs rest
-nodes-step n k l l′ at at′ bs vs mid rest even told r =
+    → NodesTold n k (withNode l vs) l′ mid rest
+    → NodesTold n (suc k) l l′ bs rest
+nodes-step n k l l′ bs vs mid rest even told r =
     let m : ℕ = length (l .kinds) in
     let x : ℕ = getD vs 1 0 in
     let y : ℕ = getD vs 2 0 in
@@ -111,21 +106,19 @@ nodes-step n k l l′ at at′ bs vs mid rest even told r =
       text =
           joined-more (nodePrinted (l′ .kinds) (l′ .capacities)) m (length (l .kinds ++ (x ∷ []))) k bs (printLine 78 vs) mid rest (told .text) here
           (length-append (l .kinds) (x ∷ []) ∙ add-one m) (r .text);
-      next = r .next ∙ omega arith;
     }
 
-pub nodes-from :
+nodes-from :
     (n k : ℕ) (l l′ : NodeLists) (at at′ : ℕ) (bs rest : List ℕ)
     → nodeLines n k l at bs ≡ part l′ at′ rest
     → length (l .capacities) ≡ length (l .kinds) → length (l .kinds) + k ≡ n
     → every (λ k. leb k kindMost) (l .kinds) ≡ true → every (λ c. both (leb 1 c) (leb c capacityMost)) (l .capacities) ≡ true
-    → NodesRead n k l l′ at at′ bs rest
+    → NodesTold n k l l′ bs rest
 unfolding nodeLines nodeLine joined
 nodes-from n zero l l′ at at′ bs rest e even all ks cs =
     let same : l ≡ l′ = cc in
-    let stays : at ≡ at′ = cc in
     let follow : bs ≡ rest = cc in
-    subst (λ (f : NodeLists). NodesRead n zero l f at at′ bs rest) same
+    subst (λ (f : NodeLists). NodesTold n zero l f bs rest) same
     (record {
       kinds-long = omega arith;
       capacities-long = omega arith;
@@ -134,7 +127,6 @@ nodes-from n zero l l′ at at′ bs rest e even all ks cs =
       kinds-kept = λ i h. refl;
       capacities-kept = λ i h. refl;
       text = follow;
-      next = omega arith;
     })
 nodes-from n (suc k) l l′ at at′ bs rest e even all ks cs =
     let m : ℕ = length (l .kinds) in
@@ -145,16 +137,16 @@ nodes-from n (suc k) l l′ at at′ bs rest e even all ks cs =
     judged-line (nodeWithin n) (λ vs. eqb (getD vs 0 0) m) 78 3 bs vs mid (r .2) in
     let long : length (l .kinds ++ (getD vs 1 0 ∷ [])) ≡ length (l .kinds) + 1 = length-append (l .kinds) (getD vs 1 0 ∷ []) in
     let long′ : length (l .capacities ++ (getD vs 2 0 ∷ [])) ≡ length (l .capacities) + 1 = length-append (l .capacities) (getD vs 2 0 ∷ []) in
-    nodes-step n k l l′ at at′ bs vs mid rest even told
+    nodes-step n k l l′ bs vs mid rest even told
     (nodes-from n k (withNode l vs) l′ (at + 1) at′ mid rest (r .3) (omega arith) (omega arith)
     (every-more kindWithin (l .kinds) (getD vs 1 0) ks (kind-passes n vs (told .bounds)))
     (every-more capacityWithin (l .capacities) (getD vs 2 0) cs (capacity-passes n vs (told .bounds))))
 
-pub nodes-read : (n : ℕ) (l′ : NodeLists) (at at′ : ℕ) (bs rest : List ℕ) → nodeLines n n (nodeLists [] []) at bs ≡ part l′ at′ rest → NodesRead n n (nodeLists [] []) l′ at at′ bs rest
+pub nodes-read : (n : ℕ) (l′ : NodeLists) (at at′ : ℕ) (bs rest : List ℕ) → nodeLines n n (nodeLists [] []) at bs ≡ part l′ at′ rest → NodesTold n n (nodeLists [] []) l′ bs rest
 unfolding every
 nodes-read n l′ at at′ bs rest e = nodes-from n n (nodeLists [] []) l′ at at′ bs rest e refl (omega arith) refl refl
 
-module _ (n k : ℕ) (l l′ : NodeLists) (at at′ : ℕ) (bs rest : List ℕ) (r : NodesRead n k l l′ at at′ bs rest) where
+module _ (n k : ℕ) (l l′ : NodeLists) (bs rest : List ℕ) (r : NodesTold n k l l′ bs rest) where
   pub read-kinds-sound : 1 ≤ n → n ≤ nodesMost → kindsSound (l′ .kinds) ≡ true
   unfolding kindsSound
   read-kinds-sound some few =
@@ -170,17 +162,10 @@ module _ (n k : ℕ) (l l′ : NodeLists) (at at′ : ℕ) (bs rest : List ℕ) 
 
 module _ (n : ℕ) (kinds capacities : List ℕ) (kinds-long : length kinds ≡ n) (ks : kindsSound kinds ≡ true) (cs : capacitiesSound n capacities ≡ true) where
   few : n ≤ nodesMost
-  unfolding kindsSound
-  few =
-      let h : length kinds ≤ nodesMost =
-      leb-true (length kinds) nodesMost
-      (both-right (leb 1 (length kinds)) (leb (length kinds) nodesMost)
-      (both-left (both (leb 1 (length kinds)) (leb (length kinds) nodesMost)) (every kindWithin kinds) ks)) in
-      omega arith
+  few = omega (arith, kinds-few kinds ks)
 
-  capacities-long : length capacities ≡ n
-  unfolding capacitiesSound
-  capacities-long = eqb-true (length capacities) n (both-left (eqb (length capacities) n) (every capacityWithin capacities) cs)
+  capacities-are : length capacities ≡ n
+  capacities-are = capacities-long n capacities cs
 
   kind-at : (v : ℕ) → v < n → kindWithin (getD kinds v 0) ≡ true
   unfolding kindsSound
@@ -192,7 +177,7 @@ module _ (n : ℕ) (kinds capacities : List ℕ) (kinds-long : length kinds ≡ 
   unfolding capacitiesSound
   capacity-at v h =
       every-at capacityWithin capacities
-      (both-right (eqb (length capacities) n) (every capacityWithin capacities) cs) v (omega (arith, capacities-long))
+      (both-right (eqb (length capacities) n) (every capacityWithin capacities) cs) v (omega (arith, capacities-are))
 
   -- the line of node v is read
   line-of : (v : ℕ) (rest : List ℕ) → v < n → nodeLine n v (nodePrinted kinds capacities v ++ rest) ≡ values (v ∷ getD kinds v 0 ∷ getD capacities v 0 ∷ []) rest
@@ -216,12 +201,12 @@ module _ (n : ℕ) (kinds capacities : List ℕ) (kinds-long : length kinds ≡ 
   unfolding nodeLines joined
   printed-from zero m at rest e =
       let stays : at + zero ≡ at = omega arith in
-      rw (take-all m kinds (omega arith), take-all m capacities (omega (arith, capacities-long)), stays)
+      rw (take-all m kinds (omega arith), take-all m capacities (omega (arith, capacities-are)), stays)
   printed-from (suc k) m at rest e =
       let long : length (take m kinds) ≡ m = length-take-le m kinds (omega arith) in
       let here = line-of m (joined (nodePrinted kinds capacities) (suc m) k ++ rest) (omega arith) in
       let step : at + suc k ≡ at + 1 + k = omega arith in
-      rw (append-assoc, long, here, ← take-suc kinds m 0 (omega arith), ← take-suc capacities m 0 (omega (arith, capacities-long)), step)
+      rw (append-assoc, long, here, ← take-suc kinds m 0 (omega arith), ← take-suc capacities m 0 (omega (arith, capacities-are)), step)
       (printed-from k (suc m) (at + 1) rest (omega arith))
 
   pub nodes-printed :

@@ -120,10 +120,14 @@ put-then {at} {p} {q} {xs} {ys} {b₀} {b₁} {b₂} f g fits =
       next-is = g .next-is ∙ rw (f .next-is, length-append xs ys, add-assoc);
     }
 
+-- the buffer keeps its length
+pub put-length : {at p : ℕ} {xs b₀ b₁ : List ℕ} → Put at xs b₀ b₁ p → at + length xs ≤ length b₀ → length b₁ ≡ length b₀
+put-length {at} {p} {xs} {b₀} f fits = ap length (f .written) ∙ placed-length at xs b₀ fits
+
 -- the room that is left behind
 pub put-room : {at p : ℕ} {xs b₀ b₁ : List ℕ} → Put at xs b₀ b₁ p → (k : ℕ) → at + (length xs + k) ≤ length b₀ → p + k ≤ length b₁
 put-room {at} {p} {xs} {b₀} {b₁} f k fits =
-    rw (f .next-is, f .written, placed-length at xs b₀ (omega arith)) (omega arith)
+    rw (f .next-is, put-length f (omega arith)) (omega arith)
 
 -- a field before the rest of its line
 pub put-field-then :

@@ -2,40 +2,31 @@
 --     field-printed, printed-field        a field
 --     line-printed, printed-line          a line
 --     line-judged, judged-line            a line whose values are tested
---     onward-part                         what comes after a line
+--     two-of                              the values of a line with two fields
+--     onward-part, then-part              what comes after a line, and after a part
 -- Assumes nothing.
 use mathlib.Core.Bool.{Bool, true, false}
 use mathlib.Core.List.{List, [], _∷_, _++_, append-assoc}
 use mathlib.Core.Logic.{⊎-elim}
-use mathlib.Core.Path.{_≡_, refl, sym, _∙_, ap, subst}
+use mathlib.Core.Path.{_≡_, refl, sym, _∙_, ap}
 use Prim.Native.Nat.{ℕ, zero, suc, _+_, _*_, _-_, _/_, _%_, _^_, _≤_, _<_}
 use native.Mathlib.Nat.{pow-le-pow-right, pow-succ', le-trans}
 use native.Mathlib.Omega.{arith}
-use lib.Dec.{leb, ltb, eqb}
-use lib.ListN.{length}
-use borrow.Author.Tests.{le-leb, leb-true, ltb-true, eq-eqb, ne-eqb, eqb-true, eqb-false}
+use lib.Dec.{ltb, eqb}
+use lib.ListN.{length, getD}
+use borrow.Author.Tests.{le-leb, ltb-true, eq-eqb, ne-eqb, eqb-true, eqb-false}
 use Rattle.price.specs.Lists.{every}
 use Rattle.price.proofs.ListLaws.{either-way, both-true, both-left, both-right, le-or-lt}
 use Rattle.text.specs.Decimal.{zeroByte, isDigit, decimal}
 use Rattle.text.specs.Lines.{Field, number, fault, digitsAfter, field, lf, comma, Fields, taken, malformed, withValue, afterField, fields, line, printFields, printLine}
-use Rattle.text.specs.JobText.{Reading, values, refused, judged, Part, part, onward}
+use Rattle.text.specs.JobText.{Reading, values, refused, judged, Part, part, stopped, onward, andThen}
 use Rattle.text.proofs.DecimalLaws.{decimal-small, decimal-next}
+use Rattle.text.proofs.FieldLaws.{digit-least, digit-most, after-other, after-digit}
+use Rattle.text.proofs.JudgedLaws.{judged-values}
 
 -- ---- digits
 
 -- a byte that is a digit
-record Digit (b : ℕ) : Type 0 where
-  low : 48 ≤ b
-  high : b ≤ 57
-
-digit-true : (b : ℕ) → isDigit b ≡ true → Digit b
-unfolding isDigit
-digit-true b e =
-    record {
-      low = leb-true 48 b (both-left (leb zeroByte b) (leb b 57) e);
-      high = leb-true b 57 (both-right (leb zeroByte b) (leb b 57) e);
-    }
-
 true-digit : (b : ℕ) → 48 ≤ b → b ≤ 57 → isDigit b ≡ true
 unfolding isDigit
 true-digit b h l = both-true (le-leb 48 b h) (le-leb b 57 l)
@@ -67,7 +58,8 @@ digits-read (suc k) j v [] w rest some l few e = number-both v w [] rest (six j 
 digits-read (suc k) j v (b ∷ bs) w rest some l few e =
     ⊎-elim
     (λ (q : isDigit b ≡ true).
-    let d : Digit b = digit-true b q in
+    let low : 48 ≤ b = digit-least b q in
+    let high : b ≤ 57 = digit-most b q in
     let next : v * 10 + (b - 48) < 10 ^ suc j = rw pow-succ' (omega arith) in
     let r = digits-read k (suc j) (v * 10 + (b - 48)) bs w rest (omega arith) next (omega arith) (rw q at e) in
     let byte : 48 + (b - 48) ≡ b = omega arith in
@@ -90,7 +82,8 @@ printed-field (b ∷ bs) v rest e =
     (λ (q : eqb b zeroByte ≡ false).
     ⊎-elim
     (λ (p : isDigit b ≡ true).
-    let d : Digit b = digit-true b p in
+    let low : 48 ≤ b = digit-least b p in
+    let high : b ≤ 57 = digit-most b p in
     let other : b ≡ 48 → ⊥ = eqb-false b 48 q in
     let r = digits-read 5 1 (b - 48) bs v rest (omega arith) (omega arith) (omega arith) (rw (q, p) at e) in
     let byte : 48 + (b - 48) ≡ b = omega arith in
@@ -103,12 +96,6 @@ printed-field (b ∷ bs) v rest e =
     (either-way (eqb b zeroByte))
 
 -- ---- a field's bytes
-
--- a digit is read
-digit-next : (m v b : ℕ) (rest : List ℕ) → 1 ≤ m → isDigit b ≡ true → digitsAfter m v (b ∷ rest) ≡ digitsAfter (m - 1) (v * 10 + (b - 48)) rest
-unfolding digitsAfter
-digit-next zero v b rest h q = absurd (omega arith)
-digit-next (suc m) v b rest h q = let less : suc m - 1 ≡ m = omega arith in rw (q, less)
 
 -- the digits of a number are read, with room for those that it has not
 digits-printed : (j v : ℕ) → 1 ≤ v → v < 10 ^ j → j ≤ 6 → (m : ℕ) × (6 ≤ m + j) × ((rest : List ℕ) → field (decimal v ++ rest) ≡ digitsAfter m v rest)
@@ -126,7 +113,7 @@ digits-printed (suc j) v some l few =
           ap (λ (ds : List ℕ). field (ds ++ rest)) (decimal-next v h (omega (arith, six (suc j) v l few)))
           ∙ ap field (append-assoc (decimal (v / 10)) ((48 + v % 10) ∷ []) rest)
           ∙ r .2 ((48 + v % 10) ∷ rest)
-          ∙ digit-next (r .0) (v / 10) (48 + v % 10) rest (omega arith) (true-digit (48 + v % 10) (omega arith) (omega arith))
+          ∙ after-digit (r .0) (v / 10) (48 + v % 10) rest (omega arith) (true-digit (48 + v % 10) (omega arith) (omega arith))
           ∙ rw whole,
     ))
     (λ (h : v < 10).
@@ -138,19 +125,13 @@ digits-printed (suc j) v some l few =
     ))
     (le-or-lt 10 v)
 
--- another byte ends it
-digits-end : (m v b : ℕ) (rest : List ℕ) → isDigit b ≡ false → digitsAfter m v (b ∷ rest) ≡ number v (b ∷ rest)
-unfolding digitsAfter
-digits-end zero v b rest q = refl
-digits-end (suc m) v b rest q = rw q
-
 pub field-printed : (v : ℕ) (b : ℕ) (rest : List ℕ) → v < 10 ^ 6 → isDigit b ≡ false → field (decimal v ++ (b ∷ rest)) ≡ number v (b ∷ rest)
 unfolding field
 field-printed v b rest l q =
     ⊎-elim
     (λ (h : 1 ≤ v).
     let r = digits-printed 6 v h l (omega arith) in
-    r .2 (b ∷ rest) ∙ digits-end (r .0) v b rest q)
+    r .2 (b ∷ rest) ∙ after-other (r .0) v b rest q)
     (λ (h : v < 1).
     let none : v ≡ 0 = omega arith in
     rw (none, decimal-small 0 (omega arith)))
@@ -244,35 +225,30 @@ pub record LineRead (letter k : ℕ) (within ordered : List ℕ → Bool) (bs vs
   pub order : ordered vs ≡ true
 
 module _ (within ordered : List ℕ → Bool) where
-  tests-pass : (f : Fields) (vs rest : List ℕ) → judged within ordered f ≡ values vs rest → (f ≡ taken vs rest) × (within vs ≡ true) × (ordered vs ≡ true)
-  tests-pass malformed vs rest e = let z : _≡_ {A = ℕ} 0 1 = cc in absurd (omega arith)
-  tests-pass (taken ws mid) vs rest e =
-      ⊎-elim
-      (λ (p : within ws ≡ true).
-      ⊎-elim
-      (λ (q : ordered ws ≡ true).
-      let given : values ws mid ≡ values vs rest = rw (p, q) at e in
-      let same : ws ≡ vs = cc in
-      ((cc), subst (λ (us : List ℕ). within us ≡ true) same p, subst (λ (us : List ℕ). ordered us ≡ true) same q))
-      (λ (q : ordered ws ≡ false).
-      let bad : refused 3 ≡ values vs rest = rw (p, q) at e in
-      let z : _≡_ {A = ℕ} 0 1 = cc in absurd (omega arith))
-      (either-way (ordered ws)))
-      (λ (p : within ws ≡ false).
-      let bad : refused 2 ≡ values vs rest = rw p at e in
-      let z : _≡_ {A = ℕ} 0 1 = cc in absurd (omega arith))
-      (either-way (within ws))
-
   pub judged-line : (letter k : ℕ) (bs vs rest : List ℕ) → judged within ordered (line letter k bs) ≡ values vs rest → LineRead letter k within ordered bs vs rest
   judged-line letter k bs vs rest e =
-      let r = tests-pass (line letter k bs) vs rest e in
-      let t = printed-line letter k bs vs rest (r .0) in
-      record { long = t .0; text = t .1; bounds = r .1; order = r .2 }
+      let r = judged-values within ordered (line letter k bs) vs rest e in
+      let t = printed-line letter k bs vs rest (r .is) in
+      record { long = t .0; text = t .1; bounds = r .bounds; order = r .order }
 
   pub line-judged : (letter : ℕ) (vs rest : List ℕ) → every (λ v. ltb v (10 ^ 6)) vs ≡ true → within vs ≡ true → ordered vs ≡ true → judged within ordered (line letter (length vs) (printLine letter vs ++ rest)) ≡ values vs rest
   line-judged letter vs rest small p q = rw (line-printed letter vs rest small, p, q)
+
+-- two values
+pub two-of : (vs : List ℕ) → length vs ≡ 2 → vs ≡ getD vs 0 0 ∷ getD vs 1 0 ∷ []
+two-of [] e = absurd (omega arith)
+two-of (x ∷ []) e = absurd (omega arith)
+two-of (x ∷ y ∷ []) e = refl
+two-of (x ∷ y ∷ z ∷ zs) e = absurd (omega arith)
+
+-- ---- what comes after
 
 -- a part that begins with a line: what the line gave, and what came after it
 pub onward-part : {A B : Type 0} (r : Reading A) (l : ℕ) (next : A → List ℕ → Part B) (x : B) (at : ℕ) (rest : List ℕ) → onward r l next ≡ part x at rest → (given : A) × (mid : List ℕ) × (r ≡ values given mid) × (next given mid ≡ part x at rest)
 onward-part (values given mid) l next x at rest e = (given, mid, refl, e)
 onward-part (refused k) l next x at rest e = let z : _≡_ {A = ℕ} 0 1 = cc in absurd (omega arith)
+
+-- two parts one after the other: what the first gave, and what came after it
+pub then-part : {A B : Type 0} (p : Part A) (next : A → ℕ → List ℕ → Part B) (x : B) (at : ℕ) (rest : List ℕ) → andThen p next ≡ part x at rest → (given : A) × (l : ℕ) × (mid : List ℕ) × (p ≡ part given l mid) × (next given l mid ≡ part x at rest)
+then-part (part given l mid) next x at rest e = (given, l, mid, refl, e)
+then-part (stopped k l) next x at rest e = let z : _≡_ {A = ℕ} 0 1 = cc in absurd (omega arith)

@@ -5,14 +5,14 @@ use mathlib.Core.Path.{_≡_, refl, sym, _∙_, ap}
 use Prim.Native.Nat.{ℕ, _+_, _≤_}
 use native.Mathlib.Numerals.{add-one}
 use native.Mathlib.Omega.{arith}
-use lib.ListN.{length, getD, take, drop}
+use lib.ListN.{length, take, drop}
 use lib.Seq.{take-suc, length-take-le}
 use Rattle.search.specs.Replies.{sinksMost}
 use Rattle.negotiation.specs.Job.{Job, jobOf}
 use Rattle.text.specs.JobText.{Part, part, stopped, andThen, Counts, headLine, headPart, NodeLists, nodeLists, nodeLines, EdgeLists, edgeLists, edgeLines, NetLists, netLists, netLines, firstPlaces, jobRead, readText}
 use Rattle.text.specs.ReadReplies.{Tables}
 use Rattle.text.specs.Steps.{edgeTables, edgesAt, nodesAt, LinesPlace, netsReadAt, NetsEnd, headAt, HeadPlace}
-use Rattle.text.specs.ReadSteps.{WireTables, wireTables, withNets, netsAfter, bodyAfterNodes, edgesNetsAt, withWires, wiresAfter, bodyAfterHead, bodyAt, jobTaken, CountsWithin}
+use Rattle.text.specs.ReadSteps.{withNets, netsAfter, bodyAfterNodes, edgesNetsAt, withWires, wiresAfter, bodyAfterHead, bodyAt, jobTaken, CountsWithin}
 use Rattle.text.proofs.HeadTextLaws.{head-read}
 use Rattle.text.specs.declared.head.Head.{Head}
 use Rattle.text.specs.declared.head.Head.the-variants as hd

@@ -1,35 +1,35 @@
--- From a job text to its routes text: the words used fit the log, the tables read have the lengths that the counts say, and each answer is the reply.
+-- From a job text to its routes text: the words used fit the log, the counts mark out the job in the tables, and each answer is the reply.
 -- Assumes nothing.
 use mathlib.Core.Bool.{true, false}
 use mathlib.Core.List.{List, [], _∷_}
 use mathlib.Core.Logic.{⊎-elim}
 use mathlib.Core.Path.{_≡_, refl, sym, _∙_, ap, subst}
-use Prim.Native.Nat.{ℕ, zero, suc, _+_, _≤_, _<_, zero-le}
+use Prim.Native.Nat.{ℕ, _+_, _≤_, _<_, zero-le}
 use native.Mathlib.Omega.{arith}
-use lib.Dec.{leb, ltb, eqb}
+use lib.Dec.{leb, ltb}
 use lib.ListN.{length, getD, take, drop, length-append}
 use lib.Seq.{take-at}
-use borrow.Author.Tests.{lt-ltb, le-ltb, eqb-true}
-use Rattle.price.specs.Test.{both, choose}
+use borrow.Author.Tests.{lt-ltb, le-ltb}
 use Rattle.price.specs.Bounds.{nodesMost}
-use Rattle.price.specs.Lists.{total}
-use Rattle.price.proofs.ListLaws.{either-way, both-left, length-upTo}
+use Rattle.price.proofs.ListLaws.{either-way}
 use Rattle.search.specs.Replies.{workNeeded}
-use Rattle.negotiation.specs.Tables.{netsMost, faultyJob}
+use Rattle.search.proofs.BlockLaws.{kinds-few, capacities-long}
+use Rattle.search.proofs.BlockLaws as block
+use Rattle.negotiation.specs.Tables.{netsMost, faultyJob, SoundJob}
 use Rattle.negotiation.specs.Job.{Job, jobOf, nodes, nets}
 use Rattle.negotiation.specs.Records.{Record, encode}
 use Rattle.negotiation.specs.Outcome.{RouteReply, outcomeNumbers, routed, logWith, loggedRecords, allRecords, unreachableNet, negotiated, routeReply}
 use Rattle.negotiation.specs.declared.Routed.{Routed}
 use Rattle.negotiation.specs.declared.Outcome.{Outcome}
 use Rattle.negotiation.specs.declared.Outcome.the-variants.{Accepted}
-use Rattle.text.specs.JobText.{Reading, values, refused, Part, part, stopped, andThen, Counts, headPart, NodeLists, nodeLists, nodeLines, EdgeLists, edgeLists, edgeLines, NetLists, netLists, sourceDue, sinkDue, complete, netEnd, withSource, withSink, nextSource, nextSink, taking, netLine, netLines, firstPlaces, jobRead, readText}
+use Rattle.negotiation.proofs.JobLaws.{nets-few}
+use Rattle.negotiation.proofs.JobLaws as job
+use Rattle.text.specs.JobText.{Part, part, stopped, readText}
 use Rattle.text.specs.ReadReplies.{Tables, shortTable, laid, tablesWith, ReadReply, notRead, jobNumbers, laidReply, replyOf, readReply}
 use Rattle.text.specs.Routes.{WriteReply, writeReply}
 use Rattle.text.specs.RunReplies.{Lent, lentOf, RunReply, runReplyOf, afterWrite, afterRoute, routeRun, runOf, runReply, writtenTold, runTold, inputMost, responseOf, LineReply, lineTold, refusalLine, lineResponse, answered, response}
 use Rattle.text.specs.declared.RunAnswer.{RunAnswer}
-use Rattle.text.proofs.PrintLaws.{onward-part}
-use Rattle.text.proofs.HeadTextLaws.{HeadBounds, head-read}
-use Rattle.text.proofs.NodeTextLaws.{NodesRead, nodes-read}
+use Rattle.text.proofs.TextHolds.{accepted-printed}
 
 -- ---- the router's reply
 
@@ -89,132 +89,6 @@ module _ (j : Job) (work log : List ℕ) (r : Routed) (work′ log′ : List ℕ
       (λ (l : List ℕ). runReplyOf (k ∷ ks) 0 (lentOf t work′ log′ routes) ≡ afterRoute l t (routed r work′ log′) routes)
       (sym (ap (λ (x : Outcome). outcomeNumbers x (r .iteration) (r .turns)) out ∙ numbers))
       refl)
-
--- ---- the lengths of what is read
-
-andThen-part :
-    {A B : Type 0} (p : Part A) (next : A → ℕ → List ℕ → Part B) (x : B) (at : ℕ) (rest : List ℕ)
-    → andThen p next ≡ part x at rest
-    → (lists : A) × (l : ℕ) × (mid : List ℕ) × (p ≡ part lists l mid) × (next lists l mid ≡ part x at rest)
-andThen-part (part lists l mid) next x at rest e = (lists, l, mid, refl, e)
-andThen-part (stopped k l) next x at rest e = let z : _≡_ {A = ℕ} 0 1 = cc in absurd (omega arith)
-
--- a first sink place for each net
-abbrev Even : NetLists → Type 0
-Even l = length (l .firstSinks) ≡ length (l .sources)
-
-taking-values : (f : List ℕ → NetLists) (r : Reading (List ℕ)) (next : NetLists) (mid : List ℕ) → taking f r ≡ values next mid → (vs : List ℕ) × (f vs ≡ next)
-taking-values f (values vs rest) next mid e = (vs, (cc))
-taking-values f (refused k) next mid e = let z : _≡_ {A = ℕ} 0 1 = cc in absurd (omega arith)
-
-source-even : (l : NetLists) (vs : List ℕ) → Even l → Even (withSource l vs)
-source-even l vs h =
-    omega (arith, length-append (l .firstSinks) (length (l .sinks) ∷ []), length-append (l .sources) (getD vs 1 0 ∷ []))
-
-line-even : (n nets : ℕ) (l next : NetLists) (b : ℕ) (bs mid : List ℕ) → netLine n nets l (b ∷ bs) ≡ values next mid → Even l → Even next
-unfolding netLine
-line-even n nets l next b bs mid e h =
-    ⊎-elim
-    (λ (t : both (eqb b 83) (sourceDue nets l) ≡ true).
-    let got = taking-values (withSource l) (nextSource n nets l (b ∷ bs)) next mid (rw t at e) in
-    subst Even (got .1) (source-even l (got .0) h))
-    (λ (t : both (eqb b 83) (sourceDue nets l) ≡ false).
-    ⊎-elim
-    (λ (u : both (eqb b 84) (sinkDue l) ≡ true).
-    let got = taking-values (withSink l) (nextSink n nets l (b ∷ bs)) next mid (rw (t, u) at e) in
-    subst Even (got .1) h)
-    (λ (u : both (eqb b 84) (sinkDue l) ≡ false).
-    let no : refused 1 ≡ values next mid = rw (t, u) at e in
-    let z : _≡_ {A = ℕ} 0 1 = cc in
-    absurd (omega arith))
-    (either-way (both (eqb b 84) (sinkDue l))))
-    (either-way (both (eqb b 83) (sourceDue nets l)))
-
--- what holds of the lists at the text's end
-abbrev Ended : ℕ → NetLists → Type 0
-Ended nets l = (length (l .firstSinks) ≡ length (l .sources)) × (length (l .sources) ≡ nets)
-
-end-even : (nets : ℕ) (l l′ : NetLists) (at at′ : ℕ) (rest : List ℕ) → netEnd nets l at ≡ part l′ at′ rest → Even l → Ended nets l′
-unfolding netEnd complete
-end-even nets l l′ at at′ rest e h =
-    ⊎-elim
-    (λ (t : complete nets l ≡ true).
-    let found : part l at [] ≡ part l′ at′ rest = rw t at e in
-    let same : l ≡ l′ = cc in
-    subst (Ended nets) same (h, eqb-true (length (l .sources)) nets (both-left (eqb (length (l .sources)) nets) _ t)))
-    (λ (t : complete nets l ≡ false).
-    let none : stopped 1 at ≡ part l′ at′ rest = rw t at e in
-    let z : _≡_ {A = ℕ} 0 1 = cc in
-    absurd (omega arith))
-    (either-way (complete nets l))
-
-nets-even : (k n nets : ℕ) (l l′ : NetLists) (at at′ : ℕ) (bs rest : List ℕ) → netLines k n nets l at bs ≡ part l′ at′ rest → Even l → Ended nets l′
-unfolding netLines
-nets-even zero n nets l l′ at at′ [] rest e h = end-even nets l l′ at at′ rest e h
-nets-even zero n nets l l′ at at′ (b ∷ bs) rest e h = let z : _≡_ {A = ℕ} 0 1 = cc in absurd (omega arith)
-nets-even (suc k) n nets l l′ at at′ [] rest e h = end-even nets l l′ at at′ rest e h
-nets-even (suc k) n nets l l′ at at′ (b ∷ bs) rest e h =
-    let r = onward-part (netLine n nets l (b ∷ bs)) at (λ next rest. netLines k n nets next (at + 1) rest) l′ at′ rest e in
-    nets-even k n nets (r .0) l′ (at + 1) at′ (r .1) rest (r .3) (line-even n nets l (r .0) b bs (r .1) (r .2) h)
-
--- the job's counts are within their bounds, and tables 3 and 6 have one entry more than tables 1 and 5
-pub record ReadLengths (j : Job) : Type 0 where
-  pub few-nodes : nodes j ≤ nodesMost
-  pub few-nets : nets j ≤ netsMost
-  pub capacities-long : length (j .block .capacities) ≡ nodes j
-  pub first-edges-long : length (j .block .firstEdges) ≡ nodes j + 1
-  pub first-sinks-long : length (j .firstSinks) ≡ nets j + 1
-
-job-lengths :
-    (c : Counts) (ns : NodeLists) (es : EdgeLists) (ts : NetLists) (j : Job) (l at : ℕ) (mid rest : List ℕ)
-    → part (jobRead c ns es ts) l mid ≡ part j at rest
-    → HeadBounds c → length (ns .kinds) ≡ c .nodes → length (ns .capacities) ≡ c .nodes → Ended (c .nets) ts → ReadLengths j
-unfolding jobRead firstPlaces
-job-lengths c ns es ts j l at mid rest e bounds kinds capacities ended =
-    let is : jobRead c ns es ts ≡ j = cc in
-    let few = bounds .few-nodes in
-    let few′ = bounds .few-nets in
-    let ends = ended .0 in
-    let all = ended .1 in
-    let long = length-upTo (λ u. total (λ from. choose (ltb from u) 1 0) (es .froms)) (c .nodes + 1) in
-    let long′ = length-append (ts .firstSinks) (length (ts .sinks) ∷ []) in
-    subst ReadLengths is
-    (record {
-      few-nodes = omega arith;
-      few-nets = omega arith;
-      capacities-long = omega arith;
-      first-edges-long = omega arith;
-      first-sinks-long = omega arith;
-    })
-
--- the rest of the text, part by part
-abbrev withEdges : Counts → NodeLists → EdgeLists → ℕ → List ℕ → Part Job
-withEdges c ns es at rest =
-    andThen (netLines (length rest) (c .nodes) (c .nets) (netLists [] [] []) at rest) (λ ts at2 rest2. part (jobRead c ns es ts) at2 rest2)
-
-abbrev withNodes : Counts → NodeLists → ℕ → List ℕ → Part Job
-withNodes c ns at rest = andThen (edgeLines (c .nodes) (c .edges) (edgeLists [] []) at rest) (withEdges c ns)
-
-abbrev withCounts : Counts → ℕ → List ℕ → Part Job
-withCounts c at rest = andThen (nodeLines (c .nodes) (c .nodes) (nodeLists [] []) at rest) (withNodes c)
-
-pub read-lengths : (bs : List ℕ) (j : Job) (at : ℕ) (rest : List ℕ) → readText bs ≡ part j at rest → ReadLengths j
-unfolding readText
-read-lengths bs j at rest e =
-    let p = andThen-part (headPart bs) withCounts j at rest e in
-    let c : Counts = p .0 in
-    let q = andThen-part (nodeLines (c .nodes) (c .nodes) (nodeLists [] []) (p .1) (p .2)) (withNodes c) j at rest (p .4) in
-    let ns : NodeLists = q .0 in
-    let r = andThen-part (edgeLines (c .nodes) (c .edges) (edgeLists [] []) (q .1) (q .2)) (withEdges c ns) j at rest (q .4) in
-    let es : EdgeLists = r .0 in
-    let s =
-    andThen-part (netLines (length (r .2)) (c .nodes) (c .nets) (netLists [] [] []) (r .1) (r .2)) (λ ts at2 rest2. part (jobRead c ns es ts) at2 rest2)
-    j at rest (r .4) in
-    let ts : NetLists = s .0 in
-    let nodesRead : NodesRead (c .nodes) (c .nodes) (nodeLists [] []) ns (p .1) (q .1) (p .2) (q .2) =
-    nodes-read (c .nodes) ns (p .1) (q .1) (p .2) (q .2) (q .3) in
-    job-lengths c ns es ts j (s .1) at (s .2) rest (s .4) (head-read bs c (p .1) (p .2) (p .3) .0) (nodesRead .kinds-long) (nodesRead .capacities-long)
-    (nets-even (length (r .2)) (c .nodes) (c .nets) (netLists [] [] []) ts (r .1) (s .1) (r .2) (s .2) (s .3) refl)
 
 -- ---- the run
 
@@ -305,27 +179,31 @@ job-taken :
     → Taken text (nodes j) (length (j .block .edgeTargets)) (nets j) (length (j .sinks)) (j .limit) t (tablesWith j t)
 unfolding tablesWith runReply
 job-taken text t j at rest is long =
-    let l : ReadLengths j = read-lengths text j at rest is in
+    let s : SoundJob j = accepted-printed text j at rest is .0 in
+    let capacities-are : length (j .block .capacities) ≡ nodes j = capacities-long (nodes j) (j .block .capacities) (s .block-sound .capacities-sound) in
+    let first-edges-are : length (j .block .firstEdges) ≡ nodes j + 1 =
+    block.firsts-long (nodes j) (length (j .block .edgeTargets)) (j .block .firstEdges) (s .block-sound .firstEdges-sound) in
+    let first-sinks-are : length (j .firstSinks) ≡ nets j + 1 = job.firsts-long (nets j) (length (j .sinks)) (j .firstSinks) (s .firstSinks-sound) in
     record {
-      few-nodes = l .few-nodes;
-      few-nets = l .few-nets;
+      few-nodes = kinds-few (j .block .kinds) (s .block-sound .kinds-sound);
+      few-nets = nets-few j s;
       kinds-fit = laid-fits (j .block .kinds) (t .kinds) (nodes j) refl;
-      capacities-fit = laid-fits (j .block .capacities) (t .capacities) (nodes j) (l .capacities-long);
-      first-edges-fit = laid-fits (j .block .firstEdges) (t .firstEdges) (nodes j + 1) (l .first-edges-long);
+      capacities-fit = laid-fits (j .block .capacities) (t .capacities) (nodes j) capacities-are;
+      first-edges-fit = laid-fits (j .block .firstEdges) (t .firstEdges) (nodes j + 1) first-edges-are;
       edge-targets-fit = laid-fits (j .block .edgeTargets) (t .edgeTargets) (length (j .block .edgeTargets)) refl;
       sources-fit = laid-fits (j .sources) (t .sources) (nets j) refl;
-      first-sinks-fit = laid-fits (j .firstSinks) (t .firstSinks) (nets j + 1) (l .first-sinks-long);
+      first-sinks-fit = laid-fits (j .firstSinks) (t .firstSinks) (nets j + 1) first-sinks-are;
       sinks-fit = laid-fits (j .sinks) (t .sinks) (length (j .sinks)) refl;
       runs = λ work log routes.
           rw (
             is,
             long,
             laid-part (j .block .kinds) (t .kinds) (nodes j) refl,
-            laid-part (j .block .capacities) (t .capacities) (nodes j) (l .capacities-long),
-            laid-part (j .block .firstEdges) (t .firstEdges) (nodes j + 1) (l .first-edges-long),
+            laid-part (j .block .capacities) (t .capacities) (nodes j) capacities-are,
+            laid-part (j .block .firstEdges) (t .firstEdges) (nodes j + 1) first-edges-are,
             laid-part (j .block .edgeTargets) (t .edgeTargets) (length (j .block .edgeTargets)) refl,
             laid-part (j .sources) (t .sources) (nets j) refl,
-            laid-part (j .firstSinks) (t .firstSinks) (nets j + 1) (l .first-sinks-long),
+            laid-part (j .firstSinks) (t .firstSinks) (nets j + 1) first-sinks-are,
             laid-part (j .sinks) (t .sinks) (length (j .sinks)) refl,
           );
     }

@@ -19,21 +19,18 @@ use Rattle.negotiation.specs.Job.{Job, jobOf, nodes, nets, netSinks}
 use Rattle.negotiation.specs.Tables.{sourcesSound, firstSinksSound, sinksSound, limitSound, SoundJob}
 use Rattle.negotiation.proofs.JobLaws.{nets-some, nets-few, limit-some, limit-few}
 use Rattle.text.specs.Lines.{printLine}
-use Rattle.text.specs.JobText.{Part, part, stopped, andThen, Counts, headPart, NodeLists, nodeLists, nodeLines, EdgeLists, edgeLists, edgeLines, NetLists, netLists, netLines, firstPlaces, jobRead, readText}
+use Rattle.text.specs.JobText.{part, Counts, headPart, NodeLists, nodeLists, nodeLines, EdgeLists, edgeLists, edgeLines, NetLists, netLists, netLines, firstPlaces, jobRead, readText}
 use Rattle.text.specs.Printed.{joined, nodeText, rowText, netText, printJob, Accepts, Exactly}
+use Rattle.text.proofs.PrintLaws.{then-part}
 use Rattle.text.proofs.HeadTextLaws.{HeadBounds, head-read, head-printed}
-use Rattle.text.proofs.NodeTextLaws.{nodePrinted, NodesRead, nodes-read, read-kinds-sound, read-capacities-sound, nodes-printed}
-use Rattle.text.proofs.EdgeTextLaws.{rowOf, edgesText, EdgesRead, edges-read, EdgesPrinted, edges-printed}
+use Rattle.text.proofs.NodeTextLaws.{nodePrinted, NodesTold, nodes-read, read-kinds-sound, read-capacities-sound, nodes-printed}
+use Rattle.text.proofs.EdgeRisingLaws.{rowOf}
+use Rattle.text.proofs.EdgeTextLaws.{edgesText, EdgesTold, edges-read, EdgesPrinted, edges-printed}
 use Rattle.text.proofs.NetTextLaws.{netAt, ends}
 use Rattle.text.proofs.NetReadLaws.{TablesRead, nets-read}
 use Rattle.text.proofs.NetPrintLaws.{TablesPrinted, nets-printed}
 
 -- ---- a text that is taken
-
--- two parts one after the other: what the first gave, and what came after it
-then-part : {A B : Type 0} (p : Part A) (next : A → ℕ → List ℕ → Part B) (x : B) (at : ℕ) (rest : List ℕ) → andThen p next ≡ part x at rest → (given : A) × (l : ℕ) × (mid : List ℕ) × (p ≡ part given l mid) × (next given l mid ≡ part x at rest)
-then-part (part given l mid) next x at rest e = (given, l, mid, refl, e)
-then-part (stopped k l) next x at rest e = let z : _≡_ {A = ℕ} 0 1 = cc in absurd (omega arith)
 
 -- tables whose lengths the head line gives
 module _
@@ -74,20 +71,20 @@ module _
 
 -- what the four parts of a text tell together
 parts-told :
-    (c : Counts) (ns : NodeLists) (es : EdgeLists) (ts : NetLists) (at1 at2 at3 : ℕ) (bs rest1 rest2 rest3 rest4 : List ℕ)
+    (c : Counts) (ns : NodeLists) (es : EdgeLists) (ts : NetLists) (bs rest1 rest2 rest3 rest4 : List ℕ)
     → HeadBounds c → bs ≡ printLine 70 (c .nodes ∷ c .edges ∷ c .nets ∷ c .limit ∷ []) ++ rest1
-    → NodesRead (c .nodes) (c .nodes) (nodeLists [] []) ns at1 at2 rest1 rest2
-    → EdgesRead (c .nodes) (c .edges) es at2 at3 rest2 rest3
+    → NodesTold (c .nodes) (c .nodes) (nodeLists [] []) ns rest1 rest2
+    → EdgesTold (c .nodes) (c .edges) es rest2 rest3
     → TablesRead (c .nodes) (c .nets) ts rest3 rest4
     → SoundJob (jobRead c ns es ts) × (bs ≡ printJob (jobRead c ns es ts))
 unfolding jobRead
-parts-told c ns es ts at1 at2 at3 bs rest1 rest2 rest3 rest4 head whole nr er tr =
+parts-told c ns es ts bs rest1 rest2 rest3 rest4 head whole nr er tr =
     let first : List ℕ = firstPlaces (c .nodes) (es .froms) in
     let firsts : List ℕ = ends (ts .firstSinks) (ts .sinks) in (
       made-sound (c .nodes) (c .edges) (c .nets) (c .limit) (ns .kinds) (ns .capacities) first (es .targets) (ts .sources) firsts (ts .sinks)
           (nr .kinds-long) (er .targets-long) (tr .count) head
-          (read-kinds-sound (c .nodes) (c .nodes) (nodeLists [] []) ns at1 at2 rest1 rest2 nr (head .some-nodes) (head .few-nodes))
-          (read-capacities-sound (c .nodes) (c .nodes) (nodeLists [] []) ns at1 at2 rest1 rest2 nr)
+          (read-kinds-sound (c .nodes) (c .nodes) (nodeLists [] []) ns rest1 rest2 nr (head .some-nodes) (head .few-nodes))
+          (read-capacities-sound (c .nodes) (c .nodes) (nodeLists [] []) ns rest1 rest2 nr)
           (er .firsts-sound) (er .rows-sound) (tr .sources-sound) (tr .firstSinks-sound) (tr .sinks-sound),
       whole ∙ rw (nr .text, er .text-is, tr .text)
           (sym (made-text (c .nodes) (c .edges) (c .nets) (c .limit) (ns .kinds) (ns .capacities) first (es .targets) (ts .sources) firsts (ts .sinks)
@@ -118,7 +115,7 @@ accepted-printed bs j at rest e =
     let head = head-read bs c at1 rest1 (a .3) in
     let tables : TablesRead (c .nodes) (c .nets) ts rest3 rest4 =
     nets-read (length rest3) (c .nodes) (c .nets) ts at3 (r .1) rest3 rest4 (head .0 .some-nets) (head .0 .few-nets) (r .3) in
-    let told = parts-told c ns es ts at1 at2 at3 bs rest1 rest2 rest3 rest4 (head .0) (head .1)
+    let told = parts-told c ns es ts bs rest1 rest2 rest3 rest4 (head .0) (head .1)
     (nodes-read (c .nodes) ns at1 at2 rest1 rest2 (p .3)) (edges-read (c .nodes) (c .edges) es at2 at3 rest2 rest3 (q .3)) tables in
     (rw same at (told .0), rw same at (told .1), rw left at (tables .end))
 

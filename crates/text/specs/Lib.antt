@@ -8,3 +8,4 @@ pub mod Routes
 pub mod ReadSteps
 pub mod WriteSteps
 pub mod RunReplies
+pub mod Samples

@@ -8,7 +8,7 @@ use Rattle.search.specs.Block.{row}
 use Rattle.negotiation.specs.Job.{Job, nodes, nets, source, netSinks}
 use Rattle.negotiation.specs.Tables.{SoundJob}
 use Rattle.text.specs.Lines.{printLine}
-use Rattle.text.specs.JobText.{Part, part, readText}
+use Rattle.text.specs.JobText.{part, readText}
 
 -- the texts of m, m + 1, .., one after the other, so many of them
 unfoldable pub joined : (ℕ → List ℕ) → ℕ → ℕ → List ℕ

@@ -1,6 +1,6 @@
 -- Document 01: the whole way from a job text to its routes text over lent buffers, and what the program prints.
 -- Assumes nothing.
-use mathlib.Core.List.{List, [], _∷_, _++_}
+use mathlib.Core.List.{List, [], _∷_}
 use Prim.Native.Nat.{ℕ}
 use lib.Dec.{leb, ltb}
 use lib.ListN.{length, take}

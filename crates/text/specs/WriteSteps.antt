@@ -1,8 +1,8 @@
 -- What the contracts of the writer's private functions say.
 -- Assumes nothing.
-use mathlib.Core.List.{List, [], _∷_, _++_}
+use mathlib.Core.List.{List, _++_}
 use mathlib.Core.Path.{_≡_}
-use Prim.Native.Nat.{ℕ, _+_, _≤_}
+use Prim.Native.Nat.{ℕ, _+_}
 use lib.ListN.{length, take, drop}
 use Rattle.price.specs.Test.{choose}
 use Rattle.negotiation.specs.Records.{decode}

@@ -3,7 +3,7 @@
 use Prim.Native.Nat.{_-_}
 use native.Mathlib.Omega.{arith}
 use borrow.Author.Needs.{needs}
-use Rattle.text.proofs.BranchLaws.{PuttingSteps, putting-none, putting-length, putting-all, putting-room, putting-more}
+use Rattle.text.proofs.StepTextLaws.{PuttingSteps, putting-none, putting-length, putting-all, putting-room, putting-more}
 use Rattle.text.proofs.branches.put_steps.Statement.{statement}
 use Rattle.text.proofs.branches.put_steps.Tie as tie
 

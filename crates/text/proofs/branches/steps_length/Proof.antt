@@ -3,7 +3,7 @@
 use Prim.Native.Nat.{_-_}
 use native.Mathlib.Omega.{arith}
 use borrow.Author.Needs.{needs}
-use Rattle.text.proofs.BranchLaws.{Stepping, stepping-none, stepping-more, stepping-all}
+use Rattle.text.proofs.StepTextLaws.{Stepping, stepping-none, stepping-more, stepping-all}
 use Rattle.text.proofs.branches.steps_length.Statement.{statement}
 use Rattle.text.proofs.branches.steps_length.Tie as tie
 

@@ -1,9 +1,7 @@
 -- `text::copy::copy_bytes` meets its contract: after the turns up to k, k entries are copied.
 -- Assumes nothing.
-use mathlib.Core.Path.{refl, _∙_}
 use Prim.Native.Nat.{_-_, _≤_}
 use native.Mathlib.Omega.{arith}
-use lib.ListN.{length}
 use Rattle.text.proofs.CopyLaws.{Copied, copied-none, copied-next, copied-all}
 use Rattle.text.proofs.copy.copy_bytes.Statement.{statement}
 use Rattle.text.proofs.copy.copy_bytes.Tie as tie

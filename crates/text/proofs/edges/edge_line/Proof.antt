@@ -11,7 +11,8 @@ use borrow.Author.Needs.{needs}
 use borrow.Author.Tests.{not-true, not-false}
 use Rattle.text.specs.Steps.{begins}
 use Rattle.text.proofs.FieldLaws.{begins-within}
-use Rattle.text.proofs.EdgeLineLaws.{edge-beyond-from, edge-beyond-to, edge-within, edge-loop, edge-order, edge-other, edge-shape, edge-beyond, edge-wrong, edge-taken, two-place}
+use Rattle.text.proofs.JudgedLaws.{two-place}
+use Rattle.text.proofs.EdgeLineLaws.{edge-beyond-from, edge-beyond-to, edge-within, edge-loop, edge-order, edge-other, edge-shape, edge-beyond, edge-wrong, edge-taken}
 use Rattle.text.proofs.edges.edge_line.Statement.{statement}
 use Rattle.text.proofs.edges.edge_line.Tie as tie
 

@@ -6,7 +6,8 @@ use mathlib.Core.Path.{_≡_, sym}
 use borrow.Author.Needs.{needs}
 use Rattle.search.proofs.TableLaws.{refused, passed}
 use Rattle.text.specs.Steps.{begins}
-use Rattle.text.proofs.FieldLaws.{Taken, four-read, four-fault, taken-here, head-other, head-malformed, head-beyond, head-read}
+use Rattle.text.proofs.FieldLaws.{Taken, four-read, four-fault, taken-here}
+use Rattle.text.proofs.HeadLineLaws.{head-other, head-malformed, head-beyond, head-read}
 use Rattle.text.proofs.head.head_line.Statement.{statement}
 use Rattle.text.proofs.head.head_line.Tie as tie
 

@@ -3,7 +3,7 @@
 use mathlib.Core.Path.{sym}
 use Prim.Native.Nat.{_-_}
 use borrow.Author.Needs.{needs}
-use Rattle.text.proofs.LogLaws.{Below, below-none, below-more, nodes-faulty, nodes-all}
+use Rattle.text.proofs.RecordTestLaws.{Below, below-none, below-more, nodes-faulty, nodes-all}
 use Rattle.text.proofs.log_check.nodes_sound.Statement.{statement}
 use Rattle.text.proofs.log_check.nodes_sound.Tie as tie
 

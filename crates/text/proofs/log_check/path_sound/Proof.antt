@@ -3,7 +3,7 @@
 use mathlib.Core.Path.{sym, _∙_}
 use borrow.Author.Needs.{needs}
 use borrow.Author.Tests.{not-true, not-false}
-use Rattle.text.proofs.LogLaws.{path-few, path-many, path-cut, path-nodes, path-last}
+use Rattle.text.proofs.RecordTestLaws.{path-few, path-many, path-cut, path-nodes, path-last}
 use Rattle.text.proofs.log_check.path_sound.Statement.{statement}
 use Rattle.text.proofs.log_check.path_sound.Tie as tie
 

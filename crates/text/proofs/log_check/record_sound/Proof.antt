@@ -2,7 +2,7 @@
 -- Assumes nothing.
 use mathlib.Core.Path.{sym, _∙_}
 use borrow.Author.Needs.{needs}
-use Rattle.text.proofs.LogLaws.{record-cut, record-none, record-late, record-falls, record-high, record-path}
+use Rattle.text.proofs.RecordTestLaws.{record-cut, record-none, record-late, record-falls, record-high, record-path}
 use Rattle.text.proofs.log_check.record_sound.Statement.{statement}
 use Rattle.text.proofs.log_check.record_sound.Tie as tie
 

@@ -3,7 +3,8 @@
 use Prim.Native.Nat.{_+_}
 use native.Mathlib.Omega.{arith}
 use borrow.Author.Needs.{needs}
-use Rattle.text.proofs.NetLineLaws.{letter-inside, two-place, sink-other, sink-fault, sink-net, sink-node, sink-order, sink-seen, sink-many, sink-pin}
+use Rattle.text.proofs.JudgedLaws.{two-place}
+use Rattle.text.proofs.NetLineLaws.{letter-inside, sink-other, sink-fault, sink-net, sink-node, sink-order, sink-seen, sink-many, sink-pin}
 use Rattle.text.proofs.nets.sink_line.Statement.{statement}
 use Rattle.text.proofs.nets.sink_line.Tie as tie
 

@@ -3,7 +3,8 @@
 use Prim.Native.Nat.{_+_}
 use native.Mathlib.Omega.{arith}
 use borrow.Author.Needs.{needs}
-use Rattle.text.proofs.NetLineLaws.{letter-inside, two-place, source-other, source-fault, source-net, source-node, source-order, source-pin}
+use Rattle.text.proofs.JudgedLaws.{two-place}
+use Rattle.text.proofs.NetLineLaws.{letter-inside, source-other, source-fault, source-net, source-node, source-order, source-pin}
 use Rattle.text.proofs.nets.source_line.Statement.{statement}
 use Rattle.text.proofs.nets.source_line.Tie as tie
 

@@ -1,0 +1,87 @@
+-- A line at a place of the text, and its three judgements: 1, 2 or 3, or the values.
+--     line-begins, line-other, line-is       a line by the byte that it begins with
+--     two-line, two-malformed, two-place     a line with two fields, as its answer tells it
+--     judged-beyond, -wrong, -taken          fields that are tested
+--     judged-values                          values that are given passed both tests
+-- Assumes nothing.
+use mathlib.Core.Bool.{Bool, true, false}
+use mathlib.Core.List.{List, [], _∷_}
+use mathlib.Core.Logic.{⊎-elim}
+use mathlib.Core.Path.{_≡_, refl, sym, _∙_, ap, subst}
+use Prim.Native.Nat.{ℕ, _+_}
+use native.Mathlib.Omega.{arith}
+use lib.ListN.{drop}
+use lib.Seq.{drop-drop}
+use Rattle.price.proofs.ListLaws.{either-way, true≢false}
+use Rattle.text.specs.Lines.{Fields, taken, malformed, fields, line}
+use Rattle.text.specs.JobText.{values, refused, judged}
+use Rattle.text.specs.Steps.{begins, After, twoAt, TwoPlace}
+use Rattle.text.specs.declared.fields.Two.{Two}
+use Rattle.text.specs.declared.fields.Two.the-variants as w
+
+-- ---- a line at a place of the text
+
+pub line-begins : (letter k : ℕ) (bs : List ℕ) → begins letter bs ≡ true → line letter k bs ≡ fields k (drop 1 bs)
+unfolding begins line
+line-begins letter k [] e = absurd (true≢false (sym e))
+line-begins letter k (b ∷ bs) e = rw e
+
+pub line-other : (letter k : ℕ) (bs : List ℕ) → begins letter bs ≡ false → line letter k bs ≡ malformed
+unfolding begins line
+line-other letter k [] e = refl
+line-other letter k (b ∷ bs) e = rw e
+
+-- the line that the fields after its letter make
+pub line-is : (letter k at : ℕ) (text : List ℕ) {f : Fields} → begins letter (drop at text) ≡ true → f ≡ fields k (drop (at + 1) text) → line letter k (drop at text) ≡ f
+line-is letter k at text b e =
+    line-begins letter k (drop at text) b ∙ ap (λ (bs : List ℕ). fields k bs) (drop-drop 1 at text) ∙ sym e
+
+-- ---- a line with two fields
+
+module _ (letter at : ℕ) (text : List ℕ) {r : Two} (b : begins letter (drop at text) ≡ true) (read : twoAt text r ≡ fields 2 (drop (at + 1) text)) where
+  pub two-malformed : r ≡ w.Fault → line letter 2 (drop at text) ≡ malformed
+  two-malformed e = line-is letter 2 at text b (sym (ap (twoAt text) e) ∙ read)
+
+  pub two-line : {f s next : ℕ} → r ≡ w.Fields f s next → line letter 2 (drop at text) ≡ taken (f ∷ s ∷ []) (drop next text)
+  two-line e = line-is letter 2 at text b (sym (ap (twoAt text) e) ∙ read)
+
+-- the place after it
+pub two-place : (at : ℕ) (text : List ℕ) {r : Two} {f s next : ℕ} → r ≡ w.Fields f s next → TwoPlace at text r → After at text next
+two-place at text e p = subst (λ (x : Two). TwoPlace at text x) e p
+
+-- ---- 1, 2 or 3, or the values
+
+module _ (within ordered : List ℕ → Bool) {f : Fields} {vs rest : List ℕ} (e : f ≡ taken vs rest) where
+  pub judged-beyond : within vs ≡ false → judged within ordered f ≡ refused 2
+  judged-beyond w = rw (e, w)
+
+  pub judged-wrong : within vs ≡ true → ordered vs ≡ false → judged within ordered f ≡ refused 3
+  judged-wrong w o = rw (e, w, o)
+
+  pub judged-taken : within vs ≡ true → ordered vs ≡ true → judged within ordered f ≡ values vs rest
+  judged-taken w o = rw (e, w, o)
+
+-- what values that are given tell
+pub record Judged (within ordered : List ℕ → Bool) (f : Fields) (vs rest : List ℕ) : Type 0 where
+  pub is : f ≡ taken vs rest
+  pub bounds : within vs ≡ true
+  pub order : ordered vs ≡ true
+
+pub judged-values : (within ordered : List ℕ → Bool) (f : Fields) (vs rest : List ℕ) → judged within ordered f ≡ values vs rest → Judged within ordered f vs rest
+judged-values within ordered malformed vs rest e = let z : _≡_ {A = ℕ} 0 1 = cc in absurd (omega arith)
+judged-values within ordered (taken us mid) vs rest e =
+    ⊎-elim
+    (λ (p : within us ≡ true).
+    ⊎-elim
+    (λ (q : ordered us ≡ true).
+    let given : values us mid ≡ values vs rest = rw (p, q) at e in
+    let same : us ≡ vs = cc in
+    record { is = cc; bounds = ap within (sym same) ∙ p; order = ap ordered (sym same) ∙ q })
+    (λ (q : ordered us ≡ false).
+    let bad : refused 3 ≡ values vs rest = rw (p, q) at e in
+    let z : _≡_ {A = ℕ} 0 1 = cc in absurd (omega arith))
+    (either-way (ordered us)))
+    (λ (p : within us ≡ false).
+    let bad : refused 2 ≡ values vs rest = rw p at e in
+    let z : _≡_ {A = ℕ} 0 1 = cc in absurd (omega arith))
+    (either-way (within us))

@@ -1,0 +1,205 @@
+-- The tests of a path and of a record at a place of the log, and what a record that passes them has.
+-- Assumes nothing.
+use mathlib.Core.Bool.{Bool, true, false}
+use mathlib.Core.List.{List}
+use mathlib.Core.Logic.{⊎-elim}
+use mathlib.Core.Path.{_≡_, _∙_}
+use Prim.Native.Nat.{ℕ, _+_, _-_, _≤_, _<_}
+use native.Mathlib.Nat.{add-zero, eq-or-lt-of-le}
+use native.Mathlib.Omega.{arith}
+use lib.Dec.{leb, ltb, eqb}
+use lib.ListN.{length, getD, take, drop, length-drop}
+use lib.Seq.{getD-take, getD-drop, drop-drop, length-take-le}
+use borrow.Author.Tests.{le-leb, lt-leb, lt-ltb, le-ltb, leb-true}
+use Rattle.price.specs.Test.{both}
+use Rattle.price.specs.Bounds.{nodesMost, limitMost}
+use Rattle.price.specs.Lists.{every}
+use Rattle.price.proofs.ListLaws.{both-left, both-right, every-all, every-none}
+use Rattle.negotiation.specs.Tables.{netsMost}
+use Rattle.text.specs.JobText.{between}
+use Rattle.text.specs.Routes.{pathIn, pathSound, recordSound}
+
+-- ---- the tests of a path
+
+abbrev pub nodeSound : ℕ → Bool
+nodeSound v = ltb v nodesMost
+
+-- the words of a log up to a place are nodes
+pub record Below (log : List ℕ) (from to k : ℕ) : Type 0 where
+  pub above : from ≤ k
+  pub within : k ≤ to
+  pub below : (i : ℕ) → from ≤ i → i < k → getD log i 0 < 4096
+
+pub below-none : (log : List ℕ) (from to : ℕ) → from ≤ to → Below log from to from
+below-none log from to h = record { above = omega arith; within = h; below = λ i l m. absurd (omega arith) }
+
+module _ {log : List ℕ} {from to k : ℕ} (p : Below log from to k) where
+  pub below-more : k < to → getD log k 0 < 4096 → Below log from to (k + 1)
+  below-more l h =
+      record {
+        above = omega (arith, p .above);
+        within = omega arith;
+        below = λ i f (m : i < k + 1). ⊎-elim (λ (e : i ≡ k). rw e h) (λ g. p .below i f g) (eq-or-lt-of-le (omega arith));
+      }
+
+  part-at : (i : ℕ) → i < to - from → getD (take (to - from) (drop from log)) i 0 ≡ getD log (from + i) 0
+  part-at i l = getD-take (to - from) (drop from log) i 0 l ∙ getD-drop from log i 0
+
+  module _ (m : to ≤ length log) where
+    part-long : length (take (to - from) (drop from log)) ≡ to - from
+    part-long = length-take-le (to - from) (drop from log) (rw (length-drop from log) (omega arith))
+
+    pub nodes-faulty : k < to → 4096 ≤ getD log k 0 → every nodeSound (take (to - from) (drop from log)) ≡ false
+    nodes-faulty l h =
+        let above = p .above in
+        let place : from + (k - from) ≡ k = omega arith in
+        every-none nodeSound (take (to - from) (drop from log)) (k - from) (rw part-long (omega arith))
+        (rw (part-at (k - from) (omega arith), place) (le-ltb (getD log k 0) 4096 h))
+
+    pub nodes-all : to ≤ k → every nodeSound (take (to - from) (drop from log)) ≡ true
+    nodes-all l =
+        every-all nodeSound (take (to - from) (drop from log))
+        (λ i (b : i < length (take (to - from) (drop from log))).
+        let c : i < to - from = rw part-long at b in
+        rw (part-at i c) (lt-ltb (getD log (from + i) 0) 4096 (p .below (from + i) (omega arith) (omega arith))))
+
+module _ (log : List ℕ) (at n sink : ℕ) where
+  pub path-few : n < 2 → pathSound n sink (drop at log) ≡ false
+  unfolding pathSound
+  path-few h = rw (lt-leb 2 n h)
+
+  pub path-many : 2 ≤ n → 4096 < n → pathSound n sink (drop at log) ≡ false
+  unfolding pathSound
+  path-many l h = rw (le-leb 2 n l, lt-leb n 4096 h)
+
+  pub path-cut : 2 ≤ n → n ≤ 4096 → length log - at < 6 + n → pathSound n sink (drop at log) ≡ false
+  unfolding pathSound
+  path-cut l m h = rw (le-leb 2 n l, le-leb n 4096 m, length-drop at log, lt-leb (6 + n) (length log - at) h)
+
+  -- of a whole path the nodes and the sink decide
+  path-whole :
+      2 ≤ n → n ≤ 4096 → 6 + n ≤ length log - at →
+      pathSound n sink (drop at log) ≡ both (every nodeSound (take (at + 6 + n - (at + 6)) (drop (at + 6) log))) (eqb (getD log (at + 6 + n - 1) 0) sink)
+  unfolding pathSound
+  path-whole l m h =
+      let long : at + 6 + n - (at + 6) ≡ n = omega arith in
+      let last : at + (5 + n) ≡ at + 6 + n - 1 = omega arith in
+      rw (
+        le-leb 2 n l,
+        le-leb n 4096 m,
+        length-drop at log,
+        le-leb (6 + n) (length log - at) h,
+        drop-drop 6 at log,
+        getD-drop at log (5 + n) 0,
+        long,
+        last,
+      )
+
+  pub path-nodes :
+      2 ≤ n → n ≤ 4096 → 6 + n ≤ length log - at →
+      every nodeSound (take (at + 6 + n - (at + 6)) (drop (at + 6) log)) ≡ false → pathSound n sink (drop at log) ≡ false
+  path-nodes l m h e = path-whole l m h ∙ rw e
+
+  pub path-last :
+      2 ≤ n → n ≤ 4096 → 6 + n ≤ length log - at →
+      every nodeSound (take (at + 6 + n - (at + 6)) (drop (at + 6) log)) ≡ true →
+      pathSound n sink (drop at log) ≡ eqb (getD log (at + 6 + n - 1) 0) sink
+  path-last l m h e = path-whole l m h ∙ rw e
+
+-- ---- the tests of a record
+
+module _ (last : ℕ) (log : List ℕ) (at : ℕ) where
+  -- the first record of the words from a place on, read there
+  record-reads :
+      recordSound last (drop at log)
+      ≡ both (leb 6 (length log - at))
+      (both (both (between 1 limitMost (getD log at 0)) (leb last (getD log at 0)))
+      (both (ltb (getD log (at + 1) 0) netsMost) (pathSound (getD log (at + 5) 0) (getD log (at + 2) 0) (drop at log))))
+  unfolding recordSound
+  record-reads =
+      rw (
+        length-drop at log,
+        getD-drop at log 0 0,
+        getD-drop at log 1 0,
+        getD-drop at log 2 0,
+        getD-drop at log 5 0,
+        add-zero at,
+      )
+
+  pub record-cut : length log - at < 6 → recordSound last (drop at log) ≡ false
+  record-cut h = record-reads ∙ rw (lt-leb 6 (length log - at) h)
+
+  module _ (whole : 6 ≤ length log - at) where
+    pub record-none : getD log at 0 < 1 → recordSound last (drop at log) ≡ false
+    record-none h = record-reads ∙ rw (le-leb 6 (length log - at) whole, lt-leb 1 (getD log at 0) h)
+
+    pub record-late : 1 ≤ getD log at 0 → 100 < getD log at 0 → recordSound last (drop at log) ≡ false
+    record-late l h =
+        record-reads ∙ rw (le-leb 6 (length log - at) whole, le-leb 1 (getD log at 0) l, lt-leb (getD log at 0) 100 h)
+
+    pub record-falls : 1 ≤ getD log at 0 → getD log at 0 ≤ 100 → getD log at 0 < last → recordSound last (drop at log) ≡ false
+    record-falls l m h =
+        record-reads
+        ∙ rw (
+          le-leb 6 (length log - at) whole,
+          le-leb 1 (getD log at 0) l,
+          le-leb (getD log at 0) 100 m,
+          lt-leb last (getD log at 0) h,
+        )
+
+    module _ (some : 1 ≤ getD log at 0) (most : getD log at 0 ≤ 100) (rises : last ≤ getD log at 0) where
+      record-net : recordSound last (drop at log) ≡ both (ltb (getD log (at + 1) 0) netsMost) (pathSound (getD log (at + 5) 0) (getD log (at + 2) 0) (drop at log))
+      record-net =
+          record-reads
+          ∙ rw (
+            le-leb 6 (length log - at) whole,
+            le-leb 1 (getD log at 0) some,
+            le-leb (getD log at 0) 100 most,
+            le-leb last (getD log at 0) rises,
+          )
+
+      pub record-high : 512 ≤ getD log (at + 1) 0 → recordSound last (drop at log) ≡ false
+      record-high h = record-net ∙ rw (le-ltb (getD log (at + 1) 0) 512 h)
+
+      pub record-path : getD log (at + 1) 0 < 512 → recordSound last (drop at log) ≡ pathSound (getD log (at + 5) 0) (getD log (at + 2) 0) (drop at log)
+      record-path h = record-net ∙ rw (lt-ltb (getD log (at + 1) 0) 512 h)
+
+-- ---- what a sound record has
+
+-- the words of the first record
+abbrev pub recordLength : List ℕ → ℕ
+recordLength ws = 6 + getD ws 5 0
+
+path-most : (n sink : ℕ) (ws : List ℕ) → pathSound n sink ws ≡ true → n ≤ 4096
+unfolding pathSound
+path-most n sink ws e =
+    leb-true n 4096
+    (both-right (leb 2 n) (leb n 4096)
+    (both-left (between 2 nodesMost n) (leb (6 + n) (length ws))
+    (both-left (both (between 2 nodesMost n) (leb (6 + n) (length ws)))
+    (both (every nodeSound (pathIn n ws)) (eqb (getD ws (5 + n) 0) sink)) e)))
+
+path-fits : (n sink : ℕ) (ws : List ℕ) → pathSound n sink ws ≡ true → 6 + n ≤ length ws
+unfolding pathSound
+path-fits n sink ws e =
+    leb-true (6 + n) (length ws)
+    (both-right (between 2 nodesMost n) (leb (6 + n) (length ws))
+    (both-left (both (between 2 nodesMost n) (leb (6 + n) (length ws)))
+    (both (every nodeSound (pathIn n ws)) (eqb (getD ws (5 + n) 0) sink)) e))
+
+module _ (last : ℕ) (ws : List ℕ) (e : recordSound last ws ≡ true) where
+  sound-path : pathSound (getD ws 5 0) (getD ws 2 0) ws ≡ true
+  unfolding recordSound
+  sound-path =
+      both-right (ltb (getD ws 1 0) netsMost) (pathSound (getD ws 5 0) (getD ws 2 0) ws)
+      (both-right (both (between 1 limitMost (getD ws 0 0)) (leb last (getD ws 0 0)))
+      (both (ltb (getD ws 1 0) netsMost) (pathSound (getD ws 5 0) (getD ws 2 0) ws))
+      (both-right (leb 6 (length ws))
+      (both (both (between 1 limitMost (getD ws 0 0)) (leb last (getD ws 0 0)))
+      (both (ltb (getD ws 1 0) netsMost) (pathSound (getD ws 5 0) (getD ws 2 0) ws))) e))
+
+  pub sound-most : getD ws 5 0 ≤ 4096
+  sound-most = path-most (getD ws 5 0) (getD ws 2 0) ws sound-path
+
+  pub sound-fits : recordLength ws ≤ length ws
+  sound-fits = path-fits (getD ws 5 0) (getD ws 2 0) ws sound-path
