@@ -67,7 +67,7 @@ ran-demand j numbers iteration rs work log each final reachable =
     demand-of j (ranReply j numbers iteration rs work log) rs (take-append-seam (encode rs) (drop (length (encode rs)) log)) refl each final reachable
 
 -- a run makes an iteration at least, and no more than the limit
-made-most : (j : Job) (s : State) (most : ℕ) → iterationsMade j s most ≤ most
+pub made-most : (j : Job) (s : State) (most : ℕ) → iterationsMade j s most ≤ most
 unfolding iterationsMade
 made-most j s most =
     ⊎-elim

@@ -5,38 +5,36 @@ use mathlib.Core.List.{List, [], _∷_, _++_}
 use mathlib.Core.Logic.{_⊎_, ⊎-elim, inl, inr}
 use mathlib.Core.Path.{_≡_, refl, sym, _∙_, ap}
 use Prim.Native.Nat.{ℕ, zero, suc, _+_, _-_, _≤_, _<_}
-use native.Mathlib.Nat.{not-suc-le-zero, le-of-suc-le-suc, eq-or-lt-of-le, le-trans}
+use native.Mathlib.Nat.{not-suc-le-zero, le-of-suc-le-suc, eq-or-lt-of-le}
 use native.Mathlib.Omega.{arith}
-use lib.Dec.{eqb, ltb}
-use lib.ListN.{length, getD, length-set, length-replicate}
-use lib.Seq.{getD-set-same, getD-set-other}
+use lib.Dec.{ltb}
+use lib.ListN.{getD}
 use borrow.Author.Tests.{ltb-false, lt-ltb, eqb-true, eq-eqb, not-true, not-false}
-use Rattle.price.specs.Test.{choose, both}
+use Rattle.price.specs.Test.{choose}
 use Rattle.price.specs.Bounds.{limitMost}
 use Rattle.price.specs.Lists.{every, has, upTo, firstBelow, countBelow, total}
 use Rattle.price.specs.Prices.{priceOf}
-use Rattle.price.proofs.ListLaws.{either-way, true≢false, every-at, every-all, has-at, has-place, getD-upTo, firstBelow-below, firstBelow-holds, count-most, count-less}
-use Rattle.price.proofs.PriceLaws.{price-pos, price-most}
+use Rattle.price.proofs.ListLaws.{either-way, true≢false, every-at, every-all, has-at, has-place, getD-upTo, firstBelow-below, firstBelow-holds, count-same}
 use Rattle.search.specs.Block.{Block}
 use Rattle.search.specs.Block as block
 use Rattle.search.specs.Tables.{Graph}
 use Rattle.search.specs.Paths.{Walk, stay, step, pathCost, CheapestPath}
 use Rattle.search.specs.Distance.{inTree}
 use Rattle.search.specs.Turn.{priceAt}
-use Rattle.search.specs.Frontier.{Fair}
-use Rattle.search.proofs.BlockLaws.{graph-of, edge-to, kind-most, capacity-least, capacity-most}
+use Rattle.search.proofs.BlockLaws.{graph-of, edge-to}
 use Rattle.search.proofs.DistinctLaws.{has-first}
 use Rattle.search.proofs.WalkLaws.{step-cost}
 use Rattle.search.proofs.DistanceLaws.{path-near}
 use Rattle.negotiation.specs.Job.{Job, nodes, nets, source, netSinks}
 use Rattle.negotiation.specs.Tables.{SoundJob}
 use Rattle.negotiation.specs.Records.{Record}
-use Rattle.negotiation.specs.Machine.{State, treeAt, othersOf, usersOf, marksOf, congestionFor, netRecords, treeFrom, afterNets, iterate, overfull, overCount, moveOn, firstState, stateAfter, iterationAfter, recordsAfter, settlesAt}
+use Rattle.negotiation.specs.Machine.{State, othersOf, usersOf, marksOf, congestionFor, netRecords, treeFrom, afterNets, iterate, overfull, overCount, firstState, stateAfter, iterationAfter, recordsAfter, settlesAt}
 use Rattle.negotiation.specs.Outcome.{hasPath, unreachableNet}
 use Rattle.negotiation.specs.Demand.{ownTree, othersRead, usersRead, historyRead, priceRead, TurnHolds, FinalTrees, AllReachable}
-use Rattle.negotiation.proofs.JobLaws.{nets-few, source-node}
-use Rattle.negotiation.proofs.NetLaws.{StateReady, state-ready, NetTurn, net-turn, net-distinct, net-joins}
-use Rattle.negotiation.proofs.ReadLaws.{nets-iteration, nets-factor, nets-histories, state-iteration, state-factor, recordsBefore, others-read, own-read, history-read, latest-read, tree-read, ends-read}
+use Rattle.negotiation.proofs.StateLaws.{nets-iteration, nets-factor, nets-histories, state-iteration, state-factor, final-tree}
+use Rattle.negotiation.proofs.JobLaws.{source-node}
+use Rattle.negotiation.proofs.NetLaws.{state-ready, first-ready, turn-fair, NetTurn, net-turn, net-distinct, net-joins}
+use Rattle.negotiation.proofs.ReadLaws.{recordsBefore, others-read, own-read, history-read, latest-read, tree-read, ends-read}
 
 -- ---- lists and counts
 
@@ -65,13 +63,6 @@ count-none t (suc n) e x l =
     let z : countBelow t n + 0 ≡ 0 = rw q at e in
     ⊎-elim (λ (h : x ≡ n). rw h q) (λ h. count-none t n (omega arith) x h) (eq-or-lt-of-le (le-of-suc-le-suc l)))
     (either-way (t n))
-
--- where the same numbers pass, as many are counted
-count-same : (s t : ℕ → Bool) (n : ℕ) → ((x : ℕ) → x < n → s x ≡ t x) → countBelow s n ≡ countBelow t n
-unfolding countBelow
-count-same s t zero same = refl
-count-same s t (suc n) same =
-    rw (count-same s t n (λ x l. same x (omega arith)), same n (omega arith))
 
 -- ---- costs by two prices
 
@@ -146,37 +137,6 @@ run-split j (suc m) earlier later t e =
     record { whole = m; below = omega arith; net = n .net; net-below = n .below; own = n .own; rest = n .rest; is = n .is; before = r .2 ∙ ap (λ (l : List Record). recordsAfter j (firstState j) m ++ l) (n .before) })
     (split-append (recordsAfter j (firstState j) m) (iterationAfter j (firstState j) m .records) earlier later t e)
 
--- ---- prices that a search can work with
-
--- a net is no other of itself
-others-few : (j : Job) (trees : List (List ℕ)) (i v : ℕ) → i < nets j → othersOf j trees i v < nets j
-unfolding othersOf
-others-few j trees i v h =
-    let fewer : countBelow (λ k. both (not (eqb k i)) (has v (treeAt trees k))) (nets j) < countBelow (λ k. true) (nets j) =
-    count-less (λ k. true) (λ k. both (not (eqb k i)) (has v (treeAt trees k))) (nets j) i (λ x l e. refl) h refl (rw (eq-eqb i i refl)) in
-    le-trans fewer (count-most (λ k. true) (nets j))
-
-pub fair-prices : (j : Job) → SoundJob j → (s : State) → StateReady j s → (i : ℕ) → i < nets j → Fair (j .block) (priceAt (j .block) (congestionFor j s i))
-unfolding priceAt congestionFor
-fair-prices j sound s ready i h =
-    record {
-      pos = λ v n. price-pos _ _ _ _ _ (ready .history-least v n);
-      most = λ v n.
-          let few = nets-few j sound in
-          let others : getD (upTo (othersOf j (s .trees) i) (nodes j)) v 0 ≡ othersOf j (s .trees) i v = getD-upTo (othersOf j (s .trees) i) (nodes j) v 0 n in
-          let most = others-few j (s .trees) i v h in
-          price-most
-          (record {
-            kind-most = kind-most (j .block .kinds) (sound .block-sound .kinds-sound) v n;
-            factor-most = ready .factor-most;
-            others-most = omega arith;
-            capacity-least = capacity-least (nodes j) (j .block .capacities) (sound .block-sound .capacities-sound) v n;
-            capacity-most = capacity-most (nodes j) (j .block .capacities) (sound .block-sound .capacities-sound) v n;
-            history-least = ready .history-least v n;
-            history-most = ready .history-most v n;
-          });
-    }
-
 -- ---- sinks and their paths
 
 -- a mark of a tree's node
@@ -185,10 +145,6 @@ unfolding inTree marksOf
 mark-in j tree v h e =
     rw (getD-upTo {A = ℕ} (λ x. choose (has x tree) 1 0) (nodes j) v 0 h, e) (eq-eqb 1 1 refl)
 
-first-ready : (j : Job) → SoundJob j → StateReady j (firstState j)
-unfolding afterNets stateAfter
-first-ready j sound = state-ready j sound 0 0 (omega arith)
-
 -- a sink to which a path leads from its source has a path
 pub walk-path : (j : Job) → SoundJob j → (i x : ℕ) (path : List ℕ) → i < nets j → Walk (j .block) (source j i) path x → hasPath j i x ≡ true
 unfolding hasPath
@@ -196,7 +152,7 @@ walk-path j sound i x path h w =
     let at = source-node j sound i h in
     lt-ltb _ _
     (path-near (j .block) (priceAt (j .block) (congestionFor j (firstState j) i)) (marksOf j (source j i ∷ [])) (graph-of (j .block) (sound .block-sound))
-    (fair-prices j sound (firstState j) (first-ready j sound) i h) (source j i) x path at (mark-in j (source j i ∷ []) (source j i) at (has-first (source j i) [])) w)
+    (turn-fair j sound (firstState j) (first-ready j sound) i h) (source j i) x path at (mark-in j (source j i ∷ []) (source j i) at (has-first (source j i) [])) w)
 
 -- where the first net with an unreachable sink is none, every sink has a path
 pub all-reached : (j : Job) → nets j ≤ unreachableNet j → (i x : ℕ) → i < nets j → has x (netSinks j i) ≡ true → hasPath j i x ≡ true
@@ -271,40 +227,6 @@ module _ (j : Job) (sound : SoundJob j) (all : (i x : ℕ) → i < nets j → ha
       (cheapest-same (j .block) (graph-of (j .block) (sound .block-sound)) _ _ (price-same m hm i (r .net-below) (r .own) (t ∷ r .rest) (r .is)) (turn .cheapest)))
 
 -- ---- the final trees
-
--- routing nets keeps the number of trees
-pub nets-trees : (j : Job) (s : State) (i : ℕ) → length (afterNets j s i .state .trees) ≡ length (s .trees)
-unfolding afterNets
-nets-trees j s zero = refl
-nets-trees j s (suc i) = length-set (afterNets j s i .state .trees) i _ ∙ nets-trees j s i
-
-pub state-trees : (j : Job) (m : ℕ) → length (stateAfter j (firstState j) m .trees) ≡ nets j
-unfolding stateAfter moveOn iterate firstState
-state-trees j zero = length-replicate (nets j) []
-state-trees j (suc m) = nets-trees j (stateAfter j (firstState j) m) (nets j) ∙ state-trees j m
-
--- a routed net's tree stays while later nets are routed
-tree-after :
-    (j : Job) (s : State) (n i : ℕ) → i < n → i < length (s .trees)
-    → treeAt (afterNets j s n .state .trees) i ≡ treeFrom j i (netRecords j (afterNets j s i .state) i)
-unfolding afterNets
-tree-after j s zero i l h = absurd (not-suc-le-zero l)
-tree-after j s (suc n) i l h =
-    ⊎-elim
-    (λ (e : i ≡ n).
-    let long = nets-trees j s n in
-    rw e (getD-set-same (afterNets j s n .state .trees) n _ [] (omega arith)))
-    (λ (k : i < n).
-    getD-set-other (afterNets j s n .state .trees) n i _ [] (λ e. omega arith) ∙ tree-after j s n i k h)
-    (eq-or-lt-of-le (le-of-suc-le-suc l))
-
-pub final-tree :
-    (j : Job) (m i : ℕ) → i < nets j
-    → treeAt (iterationAfter j (firstState j) m .state .trees) i ≡ treeFrom j i (netRecords j (afterNets j (stateAfter j (firstState j) m) i .state) i)
-unfolding iterate
-final-tree j m i h =
-    let long = state-trees j m in
-    tree-after j (stateAfter j (firstState j) m) (nets j) i h (omega arith)
 
 -- where an iteration settles, no node has more users than its capacity
 settled-within :

@@ -9,12 +9,11 @@ use native.Mathlib.Nat.{le-of-suc-le-suc, eq-or-lt-of-le, le-refl}
 use native.Mathlib.Numerals.{add-one}
 use native.Mathlib.Omega.{arith}
 use lib.Dec.{ltb}
-use lib.ListN.{length, getD, drop, replicate, length-append, length-drop}
+use lib.ListN.{length, getD, drop, replicate, length-append}
 use borrow.Author.Tests.{lt-ltb, le-ltb}
 use Rattle.price.specs.Lists.{firstBelow}
-use Rattle.price.proofs.ListLaws.{either-way, le-or-lt, true≢false, firstBelow-holds, firstBelow-is, firstBelow-all}
+use Rattle.price.proofs.ListLaws.{either-way, le-or-lt, true≢false, firstBelow-holds, firstBelow-is, firstBelow-all, drop-same}
 use Rattle.search.specs.Replies.{cleared}
-use Rattle.search.proofs.JoinLaws.{drop-same}
 use Rattle.negotiation.specs.Job.{Job, nodes, nets}
 use Rattle.negotiation.specs.Records.{Record, words, encode}
 use Rattle.negotiation.specs.Machine.{State, netRecords, afterNets, stateAfter, iterate, overCount, firstState, iterationAfter, recordsAfter, settlesAt}
@@ -148,12 +147,6 @@ module _ (j : Job) (m : ℕ) (made : iterationsMade j (firstState j) (j .limit) 
   pub all-made : allRecords j ≡ recordsAfter j (firstState j) (suc m)
   unfolding allRecords
   all-made = rw (made, add-one)
-
--- the log keeps its length
-pub log-long : (rs : List Record) (log₀ : List ℕ) → length (encode rs) ≤ length log₀ → length (logWith rs log₀) ≡ length log₀
-unfolding logWith
-log-long rs log₀ h =
-    omega (arith, length-append (encode rs) (drop (length (encode rs)) log₀), length-drop (length (encode rs)) log₀)
 
 -- the work slice with 0 up to 8 × nodes
 cleared-same : (n : ℕ) (work₀ work : List ℕ) → SameFrom (8 * n) work₀ work → replicate (8 * n) 0 ++ drop (8 * n) work ≡ cleared n [] work₀

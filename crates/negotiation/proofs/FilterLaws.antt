@@ -3,24 +3,19 @@
 use mathlib.Core.Bool.{Bool, true, false}
 use mathlib.Core.List.{List, [], _∷_, _++_, append-assoc}
 use mathlib.Core.Logic.{⊎-elim}
-use mathlib.Core.Path.{_≡_, refl, sym, _∙_, ap}
+use mathlib.Core.Path.{_≡_, refl, sym, ap}
 use Prim.Native.Nat.{ℕ, _≤_, _<_, max, zero-le}
-use native.Mathlib.Nat.{le-antisymm, max-le}
+use native.Mathlib.Nat.{max-le}
 use native.Mathlib.Omega.{arith}
 use lib.Dec.{eqb, leb}
 use lib.ListN.{drop}
 use borrow.Author.Tests.{eq-eqb, ne-eqb, eqb-true, le-leb, lt-leb}
 use Rattle.price.specs.Test.{choose, both}
-use Rattle.price.specs.Lists.{has, countBelow}
-use Rattle.price.proofs.ListLaws.{either-way, true≢false, both-false-right, count-le}
+use Rattle.price.specs.Lists.{has}
+use Rattle.price.proofs.ListLaws.{either-way, true≢false, both-false-right}
 use Rattle.negotiation.specs.Records.{Record, pathNodes}
 use Rattle.negotiation.specs.Demand.{nodesIn, latest, upToIteration, endsIn}
 use Rattle.negotiation.proofs.NetLaws.{branchEnds}
-
--- tests that agree below n count the same
-pub count-same : (s t : ℕ → Bool) (n : ℕ) → ((x : ℕ) → x < n → s x ≡ t x) → countBelow s n ≡ countBelow t n
-count-same s t n same =
-    le-antisymm (count-le t s n (λ x l p. sym (same x l) ∙ p)) (count-le s t n (λ x l p. same x l ∙ p))
 
 -- ---- every record
 

@@ -158,10 +158,6 @@ module _ (j : Job) (s : SoundJob j) where
     unfolding netSound
     sink-node k l = ltb-true _ _ (every-at (λ v. ltb v (nodes j)) (netSinks j i) (both-left _ _ sinks-rule) k l)
 
-    pub sinks-distinct : distinct (netSinks j i) ≡ true
-    unfolding netSound
-    sinks-distinct = both-left _ _ (both-right (every (λ v. ltb v (nodes j)) (netSinks j i)) _ sinks-rule)
-
     pub source-no-sink : has (source j i) (netSinks j i) ≡ false
     unfolding netSound
     source-no-sink =

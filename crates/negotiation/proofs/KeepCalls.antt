@@ -8,6 +8,7 @@ use lib.ListN.{length, getD, take, drop, set, replicate}
 use lib.Seq.{slice, length-take-le, length-slice}
 use Rattle.price.specs.Lists.{upTo}
 use Rattle.price.specs.Prices.{nextFactor, nextHistory}
+use Rattle.price.proofs.ListLaws.{part-slice}
 use Rattle.search.specs.Turn.{Turn, turn, congestionOf, priceAt}
 use Rattle.negotiation.specs.Job.{Job, nodes, nets, source, netSinks}
 use Rattle.negotiation.specs.Tables.{SoundJob}
@@ -20,8 +21,7 @@ use Rattle.negotiation.specs.declared.turns.TurnMade.{TurnMade}
 use Rattle.negotiation.specs.declared.turns.TurnMade.the-variants.{Nothing, Full, Logged}
 use Rattle.negotiation.specs.declared.Routed.{Routed}
 use Rattle.negotiation.specs.declared.Outcome.the-variants.{LogFull}
-use Rattle.negotiation.proofs.JobLaws.{sinks-order, sinks-end}
-use Rattle.negotiation.proofs.NetTableLaws.{part-slice}
+use Rattle.negotiation.proofs.JobLaws.{sinks-end}
 use Rattle.negotiation.proofs.KeepLaws.{AtNet, AtTurn, stateFor}
 use Rattle.negotiation.proofs.KeepStart.{keep-ready, keep-ripped}
 use Rattle.negotiation.proofs.KeepTurn.{keep-can, keep-turn, keep-skipped, keep-logged, keep-countable, keep-counted}
@@ -74,8 +74,7 @@ module _ (j : Job) (sound : SoundJob j) (W L : List ℕ) (enough : 8 * nodes j �
 module _ (j : Job) (sound : SoundJob j) (i : ℕ) (hi : i < nets j) where
   pub sinks-part : take (getD (j .firstSinks) (i + 1) 0 - getD (j .firstSinks) i 0) (drop (getD (j .firstSinks) i 0) (j .sinks)) ≡ netSinks j i
   unfolding netSinks
-  sinks-part =
-      part-slice _ _ (j .sinks) (let o = sinks-order j sound i hi in omega arith) (sinks-end j sound (i + 1) (omega arith))
+  sinks-part = part-slice (getD (j .firstSinks) i 0) (getD (j .firstSinks) (i + 1) 0) (j .sinks)
 
   pub sinks-count : getD (j .firstSinks) (i + 1) 0 - getD (j .firstSinks) i 0 ≡ length (netSinks j i)
   unfolding netSinks

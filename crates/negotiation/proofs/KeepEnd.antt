@@ -15,7 +15,7 @@ use borrow.Author.Tests.{eq-eqb, ne-eqb}
 use Rattle.price.specs.Lists.{upTo, countBelow}
 use Rattle.price.specs.Prices.{nextFactor, nextHistory}
 use Rattle.price.specs.Bounds.{limitMost}
-use Rattle.price.proofs.ListLaws.{length-upTo, getD-upTo}
+use Rattle.price.proofs.ListLaws.{length-upTo, getD-upTo, count-same}
 use Rattle.search.specs.Turn.{joins}
 use Rattle.negotiation.specs.Job.{Job, nodes, nets, netSinks}
 use Rattle.negotiation.specs.Tables.{SoundJob}
@@ -26,13 +26,13 @@ use Rattle.negotiation.specs.Steps.{SameFrom, Overflows}
 use Rattle.negotiation.specs.declared.turns.Tariff.{Tariff}
 use Rattle.negotiation.specs.declared.Routed.{Routed}
 use Rattle.negotiation.specs.declared.Outcome.the-variants.{Accepted, LogFull, Limit}
+use Rattle.negotiation.proofs.StateLaws.{nets-iteration, nets-factor, nets-histories, state-iteration}
 use Rattle.negotiation.proofs.KeepLaws.{Under, AtNet, AtTurn, stateFor, newBefore, oldBefore}
 use Rattle.negotiation.proofs.JobLaws.{limit-few}
 use Rattle.negotiation.proofs.RecordLaws.{words-length}
 use Rattle.negotiation.proofs.NetLaws.{state-ready}
-use Rattle.negotiation.proofs.FilterLaws.{count-same}
-use Rattle.negotiation.proofs.ReadLaws.{nets-iteration, nets-factor, nets-histories, state-iteration}
-use Rattle.negotiation.proofs.EndLaws.{made-settled, unsettled-more, made-limit, all-split, full-reply, whole-reply, end-settled, end-limit, all-made, log-long, reply-same}
+use Rattle.negotiation.proofs.TurnStepLaws.{log-length}
+use Rattle.negotiation.proofs.EndLaws.{made-settled, unsettled-more, made-limit, all-split, full-reply, whole-reply, end-settled, end-limit, all-made, reply-same}
 
 -- the answer's numbers beside its outcome
 pub record Answers (r : Routed) (t : Tariff) : Type 0 where
@@ -66,7 +66,7 @@ module _ (j : Job) (sound : SoundJob j) (work₀ log₀ : List ℕ) (enough : 8 
         (turn-first (o .place) (o .cost) (o .path) (o .is-turn)) in
         let iteration-is : r .iteration ≡ m + 1 = a .iteration-is ∙ at .under .iteration-is in
         let turns-is : r .turns ≡ length rs = a .turns-is ∙ at .tallied .turns-is in
-        let long : length log ≡ length log₀ = ap length (at .tallied .log-is) ∙ log-long rs log₀ (at .tallied .fits) in
+        let long : length log ≡ length log₀ = ap length (at .tallied .log-is) ∙ log-length rs log₀ (at .tallied .fits) in
         let over : length log₀ < length (encode rs) + length (words next) =
         omega (arith, o .no-room, words-length next, at .tallied .words-is) in
         reply-same j r (m + 1) (8 ∷ (m + 1) ∷ length rs ∷ []) rs work₀ work′ log₀ log′ (rw (is, iteration-is, turns-is)) iteration-is turns-is

@@ -1,20 +1,15 @@
 -- What the router's lists and tariff hold at the head of each of its three loops, and how each step keeps it.
 -- Assumes nothing.
-use mathlib.Core.Bool.{true, false}
-use mathlib.Core.List.{List, [], _∷_, _++_}
+use mathlib.Core.Bool.{false}
+use mathlib.Core.List.{List, [], _++_}
 use mathlib.Core.Path.{_≡_}
-use Prim.Native.Nat.{ℕ, zero, suc, _+_, _*_, _-_, _≤_, _<_}
-use lib.ListN.{length, getD, take, drop}
-use lib.Seq.{slice}
-use Rattle.price.specs.Bounds.{limitMost}
-use Rattle.search.specs.Replies.{cleared}
-use Rattle.search.specs.Turn.{Turn, joins, stuck, turn, congestionOf, priceAt}
-use Rattle.negotiation.specs.Job.{Job, nodes, nets, source, netSinks}
-use Rattle.negotiation.specs.Tables.{SoundJob}
-use Rattle.negotiation.specs.Records.{Record, recordOf, words, encode, decode, pathNodes}
-use Rattle.negotiation.specs.Machine.{State, Progress, treeAt, usersOf, othersOf, marksOf, congestionFor, turnOf, turnsOf, netRecords, treeFrom, afterNets, overCount, firstState, stateAfter, iterationAfter, recordsAfter, settlesAt}
-use Rattle.negotiation.specs.Outcome.{RouteReply, negotiated, ranReply, logWith}
-use Rattle.negotiation.specs.Steps.{SameFrom, Whole, leading, oldTree, oldNext, NoMarks, RipReady, RippedUp, CountReady, Counted, CanTurn, Skipped, Overflows, Logs}
+use Prim.Native.Nat.{ℕ, zero, suc, _+_, _*_, _≤_, _<_}
+use lib.ListN.{length, getD}
+use Rattle.negotiation.specs.Job.{Job, nodes, nets}
+use Rattle.negotiation.specs.Records.{Record, encode}
+use Rattle.negotiation.specs.Machine.{State, usersOf, othersOf, marksOf, congestionFor, turnsOf, netRecords, treeFrom, afterNets, firstState, stateAfter, recordsAfter, settlesAt}
+use Rattle.negotiation.specs.Outcome.{logWith}
+use Rattle.negotiation.specs.Steps.{SameFrom, NoMarks}
 use Rattle.negotiation.specs.declared.turns.Tariff.{Tariff}
 
 -- the records before net i's old ones, where m whole iterations are logged

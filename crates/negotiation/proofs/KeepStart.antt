@@ -23,9 +23,9 @@ use Rattle.negotiation.specs.Machine.{treeAt, usersOf, marksOf, congesti
 use Rattle.negotiation.specs.Outcome.{logWith}
 use Rattle.negotiation.specs.Steps.{leading, oldTree, oldNext, RipReady, RippedUp}
 use Rattle.negotiation.specs.declared.turns.Tariff.{Tariff}
+use Rattle.negotiation.proofs.StateLaws.{nets-iteration, state-iteration}
 use Rattle.negotiation.proofs.JobLaws.{limit-some, limit-few, source-node}
 use Rattle.negotiation.proofs.RecordLaws.{encode-append}
-use Rattle.negotiation.proofs.ReadLaws.{nets-iteration, state-iteration}
 use Rattle.negotiation.proofs.OldLaws.{OldWords, old-words, old-before, old-next, old-tree, users-some, users-but, users-none}
 use Rattle.negotiation.proofs.KeepLaws.{AtNet, AtTurn, stateFor, newBefore, oldBefore}
 

@@ -10,7 +10,7 @@ use lib.Seq.{slice, length-take-le, getD-take, append-snoc}
 use Rattle.price.specs.Bounds.{limitMost}
 use Rattle.price.specs.Test.{choose}
 use Rattle.price.specs.Lists.{has, upTo}
-use Rattle.price.proofs.ListLaws.{length-upTo, getD-upTo}
+use Rattle.price.proofs.ListLaws.{length-upTo, getD-upTo, one-most}
 use Rattle.search.specs.Turn.{joins, stuck, turn, congestionOf, priceAt}
 use Rattle.negotiation.specs.Job.{Job, nodes, nets, source, netSinks}
 use Rattle.negotiation.specs.Tables.{SoundJob, netsMost}
@@ -18,14 +18,13 @@ use Rattle.negotiation.specs.Records.{Record, recordOf, encode, decode, 
 use Rattle.negotiation.specs.Machine.{State, othersOf, marksOf, congestionFor, turnOf, turnsOf, netRecords, treeFrom, firstState, stateAfter, recordsAfter, afterNets}
 use Rattle.negotiation.specs.Steps.{AllBelow, SameFrom, CountReady, Counted, CanTurn, Skipped, Logs}
 use Rattle.negotiation.specs.declared.turns.Tariff.{Tariff}
+use Rattle.negotiation.proofs.StateLaws.{nets-factor, nets-histories, nets-trees, state-trees}
 use Rattle.negotiation.proofs.JobLaws.{nets-few, limit-few, source-node, sinks-searched}
 use Rattle.negotiation.proofs.RecordLaws.{records-few, decode-encode, encode-append}
 use Rattle.negotiation.proofs.NetLaws.{StateReady, state-ready, others-few, tree-more, net-turn}
 use Rattle.negotiation.proofs.FilterLaws.{all-splits}
-use Rattle.negotiation.proofs.ReadLaws.{nets-factor, nets-histories}
-use Rattle.negotiation.proofs.DemandLaws.{nets-trees, state-trees}
 use Rattle.negotiation.proofs.KeepLaws.{Under, AtNet, AtTurn, stateFor, newBefore}
-use Rattle.negotiation.proofs.TurnStepLaws.{front-is, front-at, front-long, node-sound, mark-at, one-most, mark-more, turns-stuck, turns-more, turns-none, log-length, tallied-more, tallied-slice, paths-below, users-with, routed-records, routed-trees}
+use Rattle.negotiation.proofs.TurnStepLaws.{front-is, front-at, front-long, node-sound, mark-at, mark-more, turns-stuck, turns-more, turns-none, log-length, tallied-more, tallied-slice, paths-below, users-with, routed-records, routed-trees}
 
 -- a turn by the same numbers
 same-turn :

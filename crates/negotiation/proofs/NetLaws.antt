@@ -30,6 +30,7 @@ use Rattle.negotiation.specs.Tables.{SoundJob, netsMost}
 use Rattle.negotiation.specs.Records.{Record, pathNodes}
 use Rattle.negotiation.specs.Machine.{State, treeAt, othersOf, usersOf, marksOf, congestionFor, netRecords, treeFrom, afterNets, iterate, moveOn, firstState, stateAfter}
 use Rattle.negotiation.specs.Outcome.{hasPath}
+use Rattle.negotiation.proofs.StateLaws.{nets-factor, nets-histories}
 use Rattle.negotiation.proofs.JobLaws.{nets-few, source-node, sinks-order, sinks-end, sink-node, source-no-sink}
 use Rattle.negotiation.proofs.RecordLaws.{pathNodes-append}
 use Rattle.negotiation.proofs.MemberLaws.{no-entry, has-append-split, none-has, lacks-left, lacks-right, distinct-append, missing-most}
@@ -49,24 +50,13 @@ record Grown (j : Job) (s : State) (m : ℕ) : Type 0 where
   most : (v : ℕ) → v < nodes j → getD (s .histories) v 0 ≤ 1 + m * historyGain
   factor-most : s .factor ≤ factorMost
 
--- nets change neither factor nor histories
-after-factor : (j : Job) (s : State) (i : ℕ) → afterNets j s i .state .factor ≡ s .factor
-unfolding afterNets
-after-factor j s zero = refl
-after-factor j s (suc i) = after-factor j s i
-
-after-histories : (j : Job) (s : State) (i : ℕ) → afterNets j s i .state .histories ≡ s .histories
-unfolding afterNets
-after-histories j s zero = refl
-after-histories j s (suc i) = after-histories j s i
-
 grown-after : (j : Job) (s : State) (m i : ℕ) → Grown j s m → Grown j (afterNets j s i .state) m
 grown-after j s m i g =
     record {
-      long = rw (after-histories j s i) (g .long);
-      least = rw (after-histories j s i) (g .least);
-      most = rw (after-histories j s i) (g .most);
-      factor-most = rw (after-factor j s i) (g .factor-most);
+      long = rw (nets-histories j s i) (g .long);
+      least = rw (nets-histories j s i) (g .least);
+      most = rw (nets-histories j s i) (g .most);
+      factor-most = rw (nets-factor j s i) (g .factor-most);
     }
 
 grown-first : (j : Job) → Grown j (firstState j) 0
@@ -183,7 +173,7 @@ source-alone : (j : Job) → SoundJob j → (i : ℕ) → i < nets j → TreeNod
 source-alone j sound i hi v h = rw (only-entry v (source j i) h) (source-node j sound i hi)
 
 -- the first state keeps its bounds
-first-ready : (j : Job) → SoundJob j → StateReady j (firstState j)
+pub first-ready : (j : Job) → SoundJob j → StateReady j (firstState j)
 unfolding afterNets stateAfter
 first-ready j sound = state-ready j sound 0 0 (omega arith)
 

@@ -15,18 +15,17 @@ use borrow.Author.Tests.{eq-eqb, ne-eqb, lt-leb}
 use Rattle.price.specs.Bounds.{limitMost}
 use Rattle.price.specs.Test.{choose, both}
 use Rattle.price.specs.Lists.{has, countBelow}
-use Rattle.price.proofs.ListLaws.{true≢false, le-or-lt, count-less}
+use Rattle.price.proofs.ListLaws.{true≢false, le-or-lt, count-less, count-same}
 use Rattle.negotiation.specs.Job.{Job, nodes, nets, source}
 use Rattle.negotiation.specs.Tables.{SoundJob}
 use Rattle.negotiation.specs.Records.{Record, encode, decode, pathNodes}
 use Rattle.negotiation.specs.Machine.{State, treeAt, usersOf, othersOf, netRecords, afterNets, iterate, moveOn, firstState, stateAfter, recordsAfter}
 use Rattle.negotiation.specs.Outcome.{logWith}
 use Rattle.negotiation.specs.Steps.{AllBelow, Whole, leading, oldTree, oldNext}
+use Rattle.negotiation.proofs.StateLaws.{trees-old, final-tree}
 use Rattle.negotiation.proofs.RecordLaws.{decode-encode, encode-append}
-use Rattle.negotiation.proofs.FilterLaws.{count-same, All, all-append, all-map, all-splits}
+use Rattle.negotiation.proofs.FilterLaws.{All, all-append, all-map, all-splits}
 use Rattle.negotiation.proofs.NetLaws.{state-ready, net-turn}
-use Rattle.negotiation.proofs.ReadLaws.{trees-old}
-use Rattle.negotiation.proofs.DemandLaws.{final-tree}
 use Rattle.negotiation.proofs.KeepLaws.{oldBefore, stateFor}
 
 -- ---- counts

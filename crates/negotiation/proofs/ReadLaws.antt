@@ -1,216 +1,31 @@
 -- What is read off the log is the machine's state: trees by their members, histories and factor.
 -- Assumes nothing.
 use mathlib.Core.Bool.{true, false, not}
-use mathlib.Core.List.{List, [], _∷_, _++_, append-nil}
+use mathlib.Core.List.{List, [], _++_, append-nil}
 use mathlib.Core.Logic.{⊎-elim}
 use mathlib.Core.Path.{_≡_, refl, sym, _∙_, ap}
 use Prim.Native.Nat.{ℕ, zero, suc, _+_, _≤_, _<_, max}
-use native.Mathlib.Nat.{not-suc-le-zero, le-of-suc-le-suc, le-refl, eq-or-lt-of-le, max-zero}
+use native.Mathlib.Nat.{le-of-suc-le-suc, le-refl, eq-or-lt-of-le}
 use native.Mathlib.Numerals.{add-one}
 use native.Mathlib.Omega.{arith}
 use lib.Dec.{eqb}
-use lib.ListN.{length, getD, length-set, length-replicate, getD-replicate}
-use lib.Seq.{getD-set-same, getD-set-other}
-use borrow.Author.Tests.{eqb-true, eqb-false}
+use lib.ListN.{getD, getD-replicate}
+use borrow.Author.Tests.{eqb-false}
 use Rattle.price.specs.Test.{both}
 use Rattle.price.specs.Bounds.{limitMost}
 use Rattle.price.specs.Lists.{has}
-use Rattle.price.specs.Prices.{factorAt, nextHistory}
-use Rattle.price.proofs.ListLaws.{either-way, le-or-lt, getD-upTo}
-use Rattle.price.proofs.PriceLaws.{factor-steps}
-use Rattle.negotiation.specs.Job.{Job, nodes, nets, source, netSinks}
+use Rattle.price.specs.Prices.{nextHistory}
+use Rattle.price.proofs.ListLaws.{either-way, le-or-lt, getD-upTo, count-same}
+use Rattle.negotiation.specs.Job.{Job, nodes, nets, netSinks}
 use Rattle.negotiation.specs.Tables.{SoundJob}
 use Rattle.negotiation.specs.Records.{Record, pathNodes}
-use Rattle.negotiation.specs.Machine.{State, treeAt, treeFrom, othersOf, usersOf, netRecords, afterNets, iterate, moveOn, firstState, stateAfter, iterationAfter, recordsAfter}
+use Rattle.negotiation.specs.Machine.{State, treeAt, othersOf, usersOf, netRecords, afterNets, iterate, moveOn, firstState, stateAfter, iterationAfter, recordsAfter}
 use Rattle.negotiation.specs.Outcome.{hasPath}
 use Rattle.negotiation.specs.Demand.{nodesIn, latest, treeRead, othersRead, upToIteration, usersRead, historyRead, endsIn}
+use Rattle.negotiation.proofs.StateLaws.{nets-iteration, nets-histories, state-iteration, trees-old, state-trees}
 use Rattle.negotiation.proofs.NetLaws.{branchEnds, state-ready, net-turn, net-source}
-use Rattle.negotiation.proofs.FilterLaws.{count-same, All, all-append, all-left, all-map, all-splits, Of, nodes-append, ends-append, upTo-append, latest-append, nodes-of, ends-of, latest-le, latest-of, Elsewhere, nodes-none, ends-none, latest-none, upTo-all, upTo-none}
-
--- ---- states
-
--- routing nets changes trees alone
-module _ (j : Job) (s : State) where
-  pub nets-iteration : (i : ℕ) → afterNets j s i .state .iteration ≡ s .iteration
-  unfolding afterNets
-  nets-iteration zero = refl
-  nets-iteration (suc i) = nets-iteration i
-
-  pub nets-factor : (i : ℕ) → afterNets j s i .state .factor ≡ s .factor
-  unfolding afterNets
-  nets-factor zero = refl
-  nets-factor (suc i) = nets-factor i
-
-  pub nets-histories : (i : ℕ) → afterNets j s i .state .histories ≡ s .histories
-  unfolding afterNets
-  nets-histories zero = refl
-  nets-histories (suc i) = nets-histories i
-
-module _ (j : Job) where
-  pub state-iteration : (m : ℕ) → stateAfter j (firstState j) m .iteration ≡ m + 1
-  unfolding stateAfter firstState moveOn iterate
-  state-iteration zero = refl
-  state-iteration (suc m) =
-      rw (nets-iteration j (stateAfter j (firstState j) m) (nets j), state-iteration m) (omega arith)
-
-  pub state-factor : (m : ℕ) → stateAfter j (firstState j) m .factor ≡ factorAt (m + 1)
-  unfolding stateAfter firstState moveOn iterate factorAt
-  state-factor zero = refl
-  state-factor (suc m) =
-      let two : m + 1 + 1 ≡ suc m + 1 = omega arith in
-      rw (
-        nets-iteration j (stateAfter j (firstState j) m) (nets j),
-        nets-factor j (stateAfter j (firstState j) m) (nets j),
-        state-iteration m,
-        state-factor m,
-      )
-      (sym (factor-steps (m + 1)) ∙ ap factorAt two)
-
--- ---- one iteration
-
--- the records of net k in the iteration from state s
-abbrev recordsOf : Job → State → ℕ → List Record
-recordsOf j s k = netRecords j (afterNets j s k .state) k
-
--- each net's records name it and the iteration, and its source is on a path
-record Goes (j : Job) (s : State) : Type 0 where
-  own : (k : ℕ) → k < nets j → All (Of k (s .iteration)) (recordsOf j s k)
-  source-on : (k : ℕ) → k < nets j → has (source j k) (pathNodes (recordsOf j s k)) ≡ true
-
--- a record of a net below i in iteration t
-record Below (i t : ℕ) (r : Record) : Type 0 where
-  net-below : r .net < i
-  iteration-is : r .iteration ≡ t
-
-module _ (j : Job) (s : State) (goes : Goes j s) where
-  nets-below : (i : ℕ) → i ≤ nets j → All (Below i (s .iteration)) (afterNets j s i .records)
-  unfolding afterNets
-  nets-below zero h = tt
-  nets-below (suc i) h =
-      all-append (Below (suc i) (s .iteration)) (afterNets j s i .records) (recordsOf j s i)
-      (all-map (Below i (s .iteration)) (Below (suc i) (s .iteration))
-      (λ r b. record { net-below = omega (arith, b .net-below); iteration-is = b .iteration-is })
-      (afterNets j s i .records) (nets-below i (omega arith)))
-      (all-map (Of i (s .iteration)) (Below (suc i) (s .iteration))
-      (λ r o. record { net-below = omega (arith, o .net-is); iteration-is = o .iteration-is })
-      (recordsOf j s i) (goes .own i h))
-
-  -- a net not yet routed has no records
-  nets-elsewhere : (i k u : ℕ) → i ≤ nets j → i ≤ k → All (Elsewhere k u) (afterNets j s i .records)
-  nets-elsewhere i k u h l =
-      all-map (Below i (s .iteration)) (Elsewhere k u) (λ r b e f. omega (arith, b .net-below)) (afterNets j s i .records)
-      (nets-below i h)
-
-  nets-nodes-none : (i k u : ℕ) → i ≤ nets j → i ≤ k → nodesIn k u (afterNets j s i .records) ≡ []
-  nets-nodes-none i k u h l = nodes-none k u (afterNets j s i .records) (nets-elsewhere i k u h l)
-
-  nets-ends-none : (i k u : ℕ) → i ≤ nets j → i ≤ k → endsIn k u (afterNets j s i .records) ≡ []
-  nets-ends-none i k u h l = ends-none k u (afterNets j s i .records) (nets-elsewhere i k u h l)
-
-  nets-latest-none : (i k : ℕ) → i ≤ nets j → i ≤ k → latest k (afterNets j s i .records) ≡ 0
-  nets-latest-none i k h l =
-      latest-none k (afterNets j s i .records)
-      (all-map (Below i (s .iteration)) (λ r. r .net ≡ k → ⊥) (λ r b e. omega (arith, b .net-below)) (afterNets j s i .records)
-      (nets-below i h))
-
-  -- another net's records
-  own-elsewhere : (i k u : ℕ) → i < nets j → (k ≡ i → ⊥) → All (Elsewhere k u) (recordsOf j s i)
-  own-elsewhere i k u h ne =
-      all-map (Of i (s .iteration)) (Elsewhere k u) (λ r o e f. ne (sym e ∙ o .net-is)) (recordsOf j s i) (goes .own i h)
-
-  own-latest-none : (i k : ℕ) → i < nets j → (k ≡ i → ⊥) → latest k (recordsOf j s i) ≡ 0
-  own-latest-none i k h ne =
-      latest-none k (recordsOf j s i)
-      (all-map (Of i (s .iteration)) (λ r. r .net ≡ k → ⊥) (λ r o e. ne (sym e ∙ o .net-is)) (recordsOf j s i) (goes .own i h))
-
-  own-latest : (k : ℕ) → k < nets j → latest k (recordsOf j s k) ≡ s .iteration
-  own-latest k h = latest-of k (s .iteration) (source j k) (recordsOf j s k) (goes .own k h) (goes .source-on k h)
-
-  -- a routed net has its own
-  nets-nodes : (i k : ℕ) → i ≤ nets j → k < i → nodesIn k (s .iteration) (afterNets j s i .records) ≡ pathNodes (recordsOf j s k)
-  unfolding afterNets
-  nets-nodes zero k h l = absurd (not-suc-le-zero l)
-  nets-nodes (suc i) k h l =
-      nodes-append k (s .iteration) (afterNets j s i .records) (recordsOf j s i)
-      ∙ ⊎-elim
-      (λ (e : k ≡ i).
-      rw (e, nets-nodes-none i i (s .iteration) (omega arith) (le-refl i)) (nodes-of i (s .iteration) (recordsOf j s i) (goes .own i h)))
-      (λ (g : k < i).
-      rw (
-        nodes-none k (s .iteration) (recordsOf j s i) (own-elsewhere i k (s .iteration) h (λ e. omega arith)),
-        nets-nodes i k (omega arith) g,
-      )
-      (append-nil (pathNodes (recordsOf j s k))))
-      (eq-or-lt-of-le (le-of-suc-le-suc l))
-
-  nets-ends : (i k : ℕ) → i ≤ nets j → k < i → endsIn k (s .iteration) (afterNets j s i .records) ≡ branchEnds (recordsOf j s k)
-  unfolding afterNets
-  nets-ends zero k h l = absurd (not-suc-le-zero l)
-  nets-ends (suc i) k h l =
-      ends-append k (s .iteration) (afterNets j s i .records) (recordsOf j s i)
-      ∙ ⊎-elim
-      (λ (e : k ≡ i).
-      rw (e, nets-ends-none i i (s .iteration) (omega arith) (le-refl i)) (ends-of i (s .iteration) (recordsOf j s i) (goes .own i h)))
-      (λ (g : k < i).
-      rw (
-        ends-none k (s .iteration) (recordsOf j s i) (own-elsewhere i k (s .iteration) h (λ e. omega arith)),
-        nets-ends i k (omega arith) g,
-      )
-      (append-nil (branchEnds (recordsOf j s k))))
-      (eq-or-lt-of-le (le-of-suc-le-suc l))
-
-  nets-latest : (i k : ℕ) → i ≤ nets j → k < i → latest k (afterNets j s i .records) ≡ s .iteration
-  unfolding afterNets
-  nets-latest zero k h l = absurd (not-suc-le-zero l)
-  nets-latest (suc i) k h l =
-      latest-append k (afterNets j s i .records) (recordsOf j s i)
-      ∙ ⊎-elim
-      (λ (e : k ≡ i). rw (e, nets-latest-none i i (omega arith) (le-refl i), own-latest i h) (omega arith))
-      (λ (g : k < i).
-      rw (own-latest-none i k h (λ e. omega arith), nets-latest i k (omega arith) g) (max-zero (s .iteration)))
-      (eq-or-lt-of-le (le-of-suc-le-suc l))
-
--- the trees of an iteration
-module _ (j : Job) (s : State) where
-  trees-long : (i : ℕ) → length (afterNets j s i .state .trees) ≡ length (s .trees)
-  unfolding afterNets
-  trees-long zero = refl
-  trees-long (suc i) = length-set (afterNets j s i .state .trees) i (treeFrom j i (recordsOf j s i)) ∙ trees-long i
-
-  pub trees-old : (i k : ℕ) → i ≤ k → treeAt (afterNets j s i .state .trees) k ≡ treeAt (s .trees) k
-  unfolding afterNets
-  trees-old zero k l = refl
-  trees-old (suc i) k l =
-      getD-set-other (afterNets j s i .state .trees) i k (treeFrom j i (recordsOf j s i)) [] (λ e. omega arith)
-      ∙ trees-old i k (omega arith)
-
-  trees-new : (i k : ℕ) → i ≤ length (s .trees) → k < i → treeAt (afterNets j s i .state .trees) k ≡ treeFrom j k (recordsOf j s k)
-  unfolding afterNets
-  trees-new zero k h l = absurd (not-suc-le-zero l)
-  trees-new (suc i) k h l =
-      ⊎-elim
-      (λ (e : k ≡ i).
-      rw e
-      (getD-set-same (afterNets j s i .state .trees) i (treeFrom j i (recordsOf j s i)) [] (rw (trees-long i) h)))
-      (λ (g : k < i).
-      getD-set-other (afterNets j s i .state .trees) i k (treeFrom j i (recordsOf j s i)) [] (λ e. omega arith)
-      ∙ trees-new i k (omega arith) g)
-      (eq-or-lt-of-le (le-of-suc-le-suc l))
-
--- an entry that a list has already makes no difference before it
-has-again : (v x : ℕ) (xs : List ℕ) → has x xs ≡ true → has v (x ∷ xs) ≡ has v xs
-unfolding has
-has-again v x xs h =
-    ⊎-elim
-    (λ (q : eqb v x ≡ true). rw q (sym (rw (eqb-true v x q) h)))
-    (λ (q : eqb v x ≡ false). rw q)
-    (either-way (eqb v x))
-
--- a routed net's tree has the nodes of its records
-tree-nodes : (j : Job) (s : State) → Goes j s → length (s .trees) ≡ nets j → (i k v : ℕ) → i ≤ nets j → k < i → has v (treeAt (afterNets j s i .state .trees) k) ≡ has v (pathNodes (recordsOf j s k))
-tree-nodes j s goes long i k v h l =
-    ap (has v) (trees-new j s i k (rw long h) l)
-    ∙ has-again v (source j k) (pathNodes (recordsOf j s k)) (goes .source-on k (omega arith))
+use Rattle.negotiation.proofs.FilterLaws.{All, all-append, all-left, all-map, all-splits, Of, nodes-append, ends-append, upTo-append, latest-append, nodes-of, latest-le, Elsewhere, nodes-none, ends-none, latest-none, upTo-all, upTo-none}
+use Rattle.negotiation.proofs.IterationLaws.{recordsOf, Goes, Below, nets-below, nets-nodes-none, nets-latest-none, nets-nodes, nets-ends, nets-latest, tree-nodes}
 
 -- ---- iterations
 
@@ -219,11 +34,6 @@ start j m = stateAfter j (firstState j) m
 
 abbrev done : Job → ℕ → List Record
 done j m = recordsAfter j (firstState j) m
-
-starts-long : (j : Job) (m : ℕ) → length (start j m .trees) ≡ nets j
-unfolding stateAfter firstState moveOn iterate
-starts-long j zero = length-replicate (nets j) []
-starts-long j (suc m) = trees-long j (start j m) (nets j) ∙ starts-long j m
 
 -- a history moves on with the users after the iteration
 start-history : (j : Job) (m v : ℕ) → v < nodes j → getD (start j (suc m) .histories) v 0 ≡ nextHistory (getD (start j m .histories) v 0) (usersOf j (start j (suc m) .trees) v) (getD (j .block .capacities) v 0)
@@ -292,7 +102,7 @@ module _ (j : Job) (go : (m : ℕ) → m < limitMost → Goes j (start j m)) whe
   done-tree zero k v h l = sym (ap (has v) (getD-replicate (nets j) k [] [] l))
   done-tree (suc m) k v h l =
       ap (has v) (rw add-one at (done-nodes m k h l))
-      ∙ sym (tree-nodes j (start j m) (go m h) (starts-long j m) (nets j) k v (le-refl (nets j)) l)
+      ∙ sym (tree-nodes j (start j m) (go m h) (state-trees j m) (nets j) k v (le-refl (nets j)) l)
 
   done-read : (m k v : ℕ) → m ≤ limitMost → k < nets j → has v (treeRead k (done j m)) ≡ has v (treeAt (start j m .trees) k)
   unfolding treeRead
@@ -384,7 +194,7 @@ module _ (j : Job) (go : (m : ℕ) → m < limitMost → Goes j (start j m)) whe
     unfolding treeRead
     lower-read k v l =
         rw (lower-latest k l, lower-nodes k l)
-        (sym (tree-nodes j (start j m) (go m hm) (starts-long j m) i k v (omega arith) l))
+        (sym (tree-nodes j (start j m) (go m hm) (state-trees j m) i k v (omega arith) l))
 
     -- a higher net has its tree of the iteration before
     higher-latest : (k : ℕ) → i < k → k < nets j → latest k (recordsBefore j m i e) ≡ m

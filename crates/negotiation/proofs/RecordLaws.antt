@@ -3,16 +3,16 @@
 use mathlib.Core.Bool.{true, false}
 use mathlib.Core.List.{List, [], _∷_, _++_, append-assoc}
 use mathlib.Core.Logic.{⊎-elim}
-use mathlib.Core.Path.{_≡_, refl, sym, _∙_, ap}
-use Prim.Native.Nat.{ℕ, zero, suc, _+_, _*_, _-_, _/_, _%_, _^_, _≤_, _<_, zero-le, suc-le-suc}
-use native.Mathlib.Nat.{not-suc-le-zero, le-of-suc-le-suc, le-refl}
+use mathlib.Core.Path.{_≡_, refl, sym, ap}
+use Prim.Native.Nat.{ℕ, zero, suc, _+_, _*_, _-_, _/_, _%_, _^_, _≤_, _<_, zero-le}
+use native.Mathlib.Nat.{not-suc-le-zero, le-of-suc-le-suc}
 use native.Mathlib.Omega.{arith}
 use lib.Dec.{leb}
-use lib.ListN.{length, take, drop, length-append}
+use lib.ListN.{length, length-append}
 use lib.Seq.{take-append-seam, drop-append-seam}
-use borrow.Author.Tests.{le-leb, lt-leb, leb-true}
+use borrow.Author.Tests.{le-leb, lt-leb}
 use Rattle.price.proofs.ListLaws.{either-way}
-use Rattle.negotiation.specs.Records.{Record, recordOf, words, encode, decodeUpTo, decode, fitting, pathNodes}
+use Rattle.negotiation.specs.Records.{Record, words, encode, decodeUpTo, decode, fitting, pathNodes}
 
 -- the cost is read back from its two words
 cost-back : (c : ℕ) → c % 2 ^ 32 + c / 2 ^ 32 * 2 ^ 32 ≡ c
@@ -83,20 +83,7 @@ fitting-cut room (q ∷ rs) ss r h l =
     let long = encode-length q rs in
     rw (le-leb (length (words q)) room (omega arith), fitting-cut (room - length (words q)) rs ss r (omega arith) (omega arith))
 
--- what is logged fits, and is a beginning
-pub fitting-fits : (room : ℕ) (rs : List Record) → length (encode (fitting room rs)) ≤ room
-unfolding fitting
-fitting-fits room [] = omega (arith, encode-none)
-fitting-fits room (r ∷ rs) =
-    ⊎-elim
-    (λ (t : leb (length (words r)) room ≡ true).
-    let rest = fitting-fits (room - length (words r)) rs in
-    let long = encode-length r (fitting (room - length (words r)) rs) in
-    let fits = leb-true (length (words r)) room t in
-    rw t (omega arith))
-    (λ (t : leb (length (words r)) room ≡ false). rw t (omega (arith, encode-none)))
-    (either-way (leb (length (words r)) room))
-
+-- what is logged is a beginning
 pub fitting-begins : (room : ℕ) (rs : List Record) → (later : List Record) × (rs ≡ fitting room rs ++ later)
 unfolding fitting
 fitting-begins room [] = ([], refl)

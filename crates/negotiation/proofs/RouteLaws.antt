@@ -3,14 +3,13 @@
 use mathlib.Core.List.{List, [], _∷_, _++_}
 use mathlib.Core.Logic.{⊎-elim}
 use mathlib.Core.Path.{_≡_, sym, _∙_, ap, subst}
-use Prim.Native.Nat.{ℕ, _*_, _≤_, _<_}
+use Prim.Native.Nat.{ℕ, _≤_, _<_}
 use native.Mathlib.Nat.{sub-zero}
 use native.Mathlib.Omega.{arith}
 use lib.ListN.{length, drop, replicate}
 use borrow.Author.Tests.{le-leb, lt-leb, lt-ltb, le-ltb}
-use Rattle.price.proofs.ListLaws.{le-or-lt}
+use Rattle.price.proofs.ListLaws.{le-or-lt, drop-same}
 use Rattle.search.specs.Replies.{workNeeded, cleared}
-use Rattle.search.proofs.JoinLaws.{drop-same}
 use Rattle.negotiation.specs.Job.{Job, nodes, nets}
 use Rattle.negotiation.specs.Tables.{SoundJob, faultyJob}
 use Rattle.negotiation.specs.Outcome.{RouteReply, unreachableNet, unreachablePlace, negotiated, refusedAnswer, refusedReply, routed, routeReply}

@@ -15,7 +15,7 @@ use borrow.Author.Tests.{eq-eqb, ne-eqb, eqb-false, lt-ltb, le-leb}
 use Rattle.price.specs.Bounds.{historyMost, othersMost}
 use Rattle.price.specs.Test.{choose, both}
 use Rattle.price.specs.Lists.{has, countBelow}
-use Rattle.price.proofs.ListLaws.{either-way, le-or-lt, both-true, has-append-left, has-append-right, getD-upTo}
+use Rattle.price.proofs.ListLaws.{either-way, le-or-lt, both-true, has-append-left, has-append-right, getD-upTo, count-same}
 use Rattle.search.specs.Turn.{Congestion, joins, stuck}
 use Rattle.search.specs.Replies.{nodeSound}
 use Rattle.negotiation.specs.Job.{Job, nodes, nets, netSinks}
@@ -26,7 +26,7 @@ use Rattle.negotiation.specs.Steps.{AllBelow, tariffAfter}
 use Rattle.negotiation.specs.declared.turns.Tariff.{Tariff}
 use Rattle.negotiation.proofs.RecordLaws.{words-length, encode-append}
 use Rattle.negotiation.proofs.MemberLaws.{lacks-append}
-use Rattle.negotiation.proofs.FilterLaws.{All, count-same}
+use Rattle.negotiation.proofs.FilterLaws.{All}
 use Rattle.negotiation.proofs.KeepLaws.{Tallied}
 
 -- ---- the first n entries
@@ -58,10 +58,6 @@ node-sound c marks v a least most b few d one =
 pub mark-at : (j : Job) (tree : List ℕ) (v : ℕ) → v < nodes j → getD (marksOf j tree) v 0 ≡ choose (has v tree) 1 0
 unfolding marksOf
 mark-at j tree v h = getD-upTo {A = ℕ} (λ u. choose (has u tree) 1 0) (nodes j) v 0 h
-
-pub one-most : (t : Bool) → choose t 1 0 ≤ 1
-one-most true = omega arith
-one-most false = omega arith
 
 -- a path that joins the tree is marked beside it
 pub mark-more : (v : ℕ) (tree path : List ℕ) → _≡_ {A = ℕ} (choose (has v path) 1 (choose (has v tree) 1 0)) (choose (has v (tree ++ path)) 1 0)

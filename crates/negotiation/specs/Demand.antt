@@ -1,7 +1,7 @@
 -- Demand 3, whole, about a job, its log and its answer. Nothing here mentions the machine: trees and prices are read off the log as document 01's
 -- section "Trees and prices read off the log" says.
 -- Assumes nothing.
-use mathlib.Core.Bool.{Bool, true, not}
+use mathlib.Core.Bool.{true, not}
 use mathlib.Core.List.{List, [], _∷_, _++_}
 use mathlib.Core.Path.{_≡_}
 use Prim.Native.Nat.{ℕ, zero, suc, _-_, _≤_, _<_, max}
@@ -11,7 +11,6 @@ use Rattle.price.specs.Test.{choose, both}
 use Rattle.price.specs.Lists.{has, distinct, countBelow}
 use Rattle.price.specs.Prices.{priceOf, factorAt, nextHistory}
 use Rattle.search.specs.Paths.{Walk, CheapestPath}
-use Rattle.search.specs.Replies.{workNeeded}
 use Rattle.negotiation.specs.Job.{Job, nodes, nets, source, netSinks}
 use Rattle.negotiation.specs.Records.{Record, encode, decode}
 use Rattle.negotiation.specs.Outcome.{RouteReply}

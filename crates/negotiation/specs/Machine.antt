@@ -6,7 +6,7 @@ use Prim.Native.Nat.{ℕ, zero, suc, _+_}
 use lib.Dec.{eqb, ltb}
 use lib.ListN.{length, getD, set, replicate}
 use Rattle.price.specs.Test.{choose, both}
-use Rattle.price.specs.Lists.{has, upTo, firstBelow, countBelow}
+use Rattle.price.specs.Lists.{has, upTo, countBelow}
 use Rattle.price.specs.Prices.{nextFactor, nextHistory}
 use Rattle.search.specs.Turn.{Congestion, congestionOf, priceAt, Turn, joins, stuck, turn}
 use Rattle.negotiation.specs.Job.{Job, nodes, nets, source, netSinks}

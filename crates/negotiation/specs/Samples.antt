@@ -2,7 +2,7 @@
 -- Assumes nothing.
 use mathlib.Core.List.{List, [], _∷_, _++_}
 use Prim.Native.Nat.{ℕ}
-use lib.ListN.{length, take, replicate}
+use lib.ListN.{take, replicate}
 use Rattle.price.specs.Samples.{Sample}
 use Rattle.search.specs.Block.{blockOf}
 use Rattle.negotiation.specs.Job.{Job}

@@ -1,26 +1,27 @@
 -- Laws of the functions of `specs/Lists.antt`: each from its entries, and its entries from it.
 --     every-all, every-none, every-at           a test of every entry
 --     neighbours-all, neighbours-none, -at      a test of each two neighbours
---     has-at, has-place, has-append             membership
+--     has-at, has-place, has-append-left, -right  membership
 --     length-upTo, getD-upTo, upTo-more         a list made by places
---     firstBelow-le, -holds, -below, -unique    the lowest number that passes a test
---     count-most, count-le, count-less          how many numbers pass a test
+--     firstBelow-le, -holds, -below, -is, -all  the lowest number that passes a test
+--     count-most, count-le, -less, -same        how many numbers pass a test
 --     least-le, least-top, least-is             the least entry
---     placeOf-lt, placeOf-at, placeOf-first     the place of an entry
+--     placeOf-is, placeOf-at, placeOf-lt        the place of an entry
 --     total-append, total-most                  a sum
+--     part-slice, drop-same                     a part of a list
 -- Assumes nothing.
 use mathlib.Core.Bool.{Bool, true, false}
 use mathlib.Core.List.{List, [], _∷_, _++_}
 use mathlib.Core.Logic.{_⊎_, ⊎-elim, inl, inr}
 use mathlib.Core.Path.{_≡_, refl, sym, _∙_, ap, subst}
-use Prim.Native.Nat.{ℕ, zero, suc, _+_, _*_, _≤_, _<_, min, zero-le, suc-le-suc}
-use native.Mathlib.Nat.{add-zero, zero-add, add-suc, add-assoc, not-suc-le-zero, le-of-suc-le-suc, le-trans, le-refl, min-le-left, min-le-right, min-eq-left, min-eq-right, le-antisymm, lt-irrefl, eq-or-lt-of-le, suc-ne-zero, suc-inj, add-le-add, suc-mul}
+use Prim.Native.Nat.{ℕ, zero, suc, _+_, _-_, _*_, _≤_, _<_, min, zero-le, suc-le-suc}
+use native.Mathlib.Nat.{zero-add, add-assoc, not-suc-le-zero, le-of-suc-le-suc, le-trans, le-refl, min-le-left, min-le-right, min-eq-left, min-eq-right, le-antisymm, lt-irrefl, eq-or-lt-of-le, suc-mul}
 use native.Mathlib.Numerals.{add-one}
 use native.Mathlib.Omega.{arith}
 use lib.Dec.{eqb, ltb, leb}
-use lib.ListN.{length, getD, length-append, List·getD-append}
-use lib.Seq.{getD-at}
-use borrow.Author.Tests.{lt-ltb, le-ltb, eq-eqb, ne-eqb, eqb-true, ltb-true, ltb-false, leb-true, leb-false}
+use lib.ListN.{length, getD, take, drop, length-append, length-drop, List·getD-append}
+use lib.Seq.{getD-at, getD-drop, slice, take-nil, ext-getD}
+use borrow.Author.Tests.{eq-eqb, ne-eqb, eqb-true, ltb-true, ltb-false, leb-true, leb-false}
 use Rattle.price.specs.Test.{choose, both, either}
 use Rattle.price.specs.Lists.{every, neighbours, has, upTo, firstBelow, countBelow, least, placeOf, total}
 
@@ -51,6 +52,19 @@ both-false-left a b e = rw e
 pub both-false-right : (a b : Bool) → b ≡ false → both a b ≡ false
 both-false-right true b e = e
 both-false-right false b e = refl
+
+pub either-true : (a : Bool) → either a true ≡ true
+either-true true = refl
+either-true false = refl
+
+pub either-false : (a : Bool) → either a false ≡ a
+either-false true = refl
+either-false false = refl
+
+-- a test as a number
+pub one-most : (t : Bool) → choose t 1 0 ≤ 1
+one-most true = omega arith
+one-most false = omega arith
 
 -- of two numbers one is at most the other, or above it
 pub le-or-lt : (m n : ℕ) → (m ≤ n) ⊎ (n < m)
@@ -262,6 +276,11 @@ module _ (t : ℕ → Bool) where
         (either-way (s n)))
         (eq-or-lt-of-le (le-of-suc-le-suc l))
 
+-- where the same pass, as many are counted
+pub count-same : (s t : ℕ → Bool) (n : ℕ) → ((x : ℕ) → x < n → s x ≡ t x) → countBelow s n ≡ countBelow t n
+count-same s t n same =
+    le-antisymm (count-le t s n (λ x l p. sym (same x l) ∙ p)) (count-le s t n (λ x l p. same x l ∙ p))
+
 -- ---- the least entry
 
 pub least-top : (top : ℕ) (xs : List ℕ) → least top xs ≤ top
@@ -297,12 +316,6 @@ least-above top k xs ht h =
 
 -- ---- the place of an entry
 
-pub placeOf-le : (x : ℕ) (xs : List ℕ) → placeOf x xs ≤ length xs
-unfolding placeOf
-placeOf-le x [] = zero-le
-placeOf-le x (y ∷ ys) =
-    ⊎-elim (λ q. rw q zero-le) (λ q. rw q (suc-le-suc (placeOf-le x ys))) (either-way (eqb x y))
-
 -- the first place at which x stands
 pub placeOf-is : (x : ℕ) (xs : List ℕ) (i : ℕ) → i < length xs → getD xs i 0 ≡ x → ((j : ℕ) → j < i → getD xs j 0 ≡ x → ⊥) → placeOf x xs ≡ i
 unfolding placeOf
@@ -319,17 +332,6 @@ placeOf-at x (y ∷ ys) l =
     ⊎-elim
     (λ q. rw q (sym (eqb-true x y q)))
     (λ q. rw q (placeOf-at x ys (le-of-suc-le-suc (rw q at l))))
-    (either-way (eqb x y))
-
--- no earlier entry is x
-pub placeOf-first : (x : ℕ) (xs : List ℕ) (j : ℕ) → j < placeOf x xs → getD xs j 0 ≡ x → ⊥
-unfolding placeOf
-placeOf-first x [] j l e = not-suc-le-zero l
-placeOf-first x (y ∷ ys) zero l e = not-suc-le-zero (rw (eq-eqb x y (sym e)) at l)
-placeOf-first x (y ∷ ys) (suc j) l e =
-    ⊎-elim
-    (λ q. not-suc-le-zero (rw q at l))
-    (λ q. placeOf-first x ys j (le-of-suc-le-suc (rw q at l)) e)
     (either-way (eqb x y))
 
 -- where x stands anywhere, its place is within the list
@@ -357,3 +359,19 @@ total-most f most (x ∷ xs) h =
     let here = h 0 (suc-le-suc zero-le) in
     let rest = total-most f most xs (λ i l. h (suc i) (suc-le-suc l)) in
     rw suc-mul (omega arith)
+
+-- ---- a part of a list
+
+-- so many entries from a place on
+pub part-slice : (from to : ℕ) (xs : List ℕ) → take (to - from) (drop from xs) ≡ slice from to xs
+part-slice zero to xs = let e : to - 0 ≡ to = omega arith in rw e
+part-slice (suc from) to [] = rw (take-nil (to - suc from), take-nil to)
+part-slice (suc from) zero (x ∷ xs) = let e : 0 - suc from ≡ 0 = omega arith in rw e
+part-slice (suc from) (suc to) (x ∷ xs) =
+    let e : suc to - suc from ≡ to - from = omega arith in
+    rw e (part-slice from to xs)
+
+-- lists that agree from a place on
+pub drop-same : (k : ℕ) (w w′ : List ℕ) → length w′ ≡ length w → ((j : ℕ) → k ≤ j → getD w′ j 0 ≡ getD w j 0) → drop k w′ ≡ drop k w
+drop-same k w w′ long high =
+    ext-getD 0 (drop k w′) (drop k w) (simp length-drop (omega arith)) (λ i l. getD-drop k w′ i 0 ∙ high (k + i) (omega arith) ∙ sym (getD-drop k w i 0))

@@ -11,7 +11,7 @@ use native.Mathlib.Nat.{mul-le-mul, mul-pos, min-le-right}
 use native.Mathlib.Numerals.{add-one}
 use native.Mathlib.Omega.{arith}
 use borrow.Author.Tests.{lt-ltb, le-ltb, eq-eqb, ne-eqb}
-use Rattle.price.specs.Bounds.{kindMost, factorMost, othersMost, capacityMost, nodesMost, limitMost, historyGain, historyMost, baseMost, priceMost}
+use Rattle.price.specs.Bounds.{kindMost, factorMost, othersMost, nodesMost, limitMost, historyGain, historyMost, baseMost, priceMost}
 use Rattle.price.specs.Prices.{baseCost, overuse, priceOf, nextFactor, factorAt, nextHistory}
 use Rattle.price.specs.Replies.{InBounds}
 

@@ -1,11 +1,10 @@
 -- Distances and turns go by tables 1, 3 and 4 alone: the graph without capacities has the same.
 -- Assumes nothing.
 use mathlib.Core.List.{List, _∷_}
-use mathlib.Core.Path.{_≡_, refl, _∙_, ap}
+use mathlib.Core.Path.{_≡_, refl, ap}
 use Prim.Native.Nat.{ℕ, zero, suc}
 use Rattle.price.specs.Test.{choose}
 use Rattle.search.specs.Block.{blockOf, graphOf, row, hasEdge}
-use Rattle.search.specs.Tables.{Sound, Graph, edgeTargetsSound}
 use Rattle.search.specs.Distance.{inTree, treeDistances, nearer, round, rounds, distances}
 use Rattle.search.specs.Turn.{before, back, pathTo, openDistances, joinAt, turn}
 

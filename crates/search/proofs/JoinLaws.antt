@@ -9,13 +9,12 @@ use Prim.Native.Nat.{ℕ, _+_, _-_, _*_, _≤_, _<_}
 use native.Mathlib.Nat.{le-antisymm}
 use native.Mathlib.Omega.{arith}
 use lib.Dec.{leb, ltb, eqb}
-use lib.ListN.{length, getD, take, drop, replicate, length-drop}
-use lib.Seq.{getD-drop, ext-getD}
+use lib.ListN.{length, getD, take, drop, replicate}
 use borrow.Author.Tests.{leb-true, leb-false, ltb-true, eq-eqb, ne-eqb, eqb-true, eqb-false}
 use Rattle.price.specs.Test.{choose, both}
 use Rattle.price.specs.Bounds.{nodesMost}
 use Rattle.price.specs.Lists.{has}
-use Rattle.price.proofs.ListLaws.{either-way, both-left, both-right, le-or-lt, every-at, has-at, has-place}
+use Rattle.price.proofs.ListLaws.{either-way, both-left, both-right, le-or-lt, every-at, has-at, has-place, drop-same}
 use Rattle.search.specs.Block.{Block, blockOf, graphOf, nodes}
 use Rattle.search.specs.Tables.{faultyTable, Sound, Graph}
 use Rattle.search.specs.Distance.{far, inTree, distance}
@@ -33,11 +32,6 @@ use Rattle.search.proofs.Exactness.{exact, exact-near, pred-exact}
 use Rattle.search.proofs.GraphLaws.{turn-same}
 use Rattle.search.proofs.ReadyLaws.{Passed, refusal-none, sound-graph, ready-fair, ready-marks, ready-bit}
 use Rattle.search.proofs.SearchLaws.{waiting-from, stands-from}
-
--- lists that agree from a place on
-pub drop-same : (k : ℕ) (w w′ : List ℕ) → length w′ ≡ length w → ((j : ℕ) → k ≤ j → getD w′ j 0 ≡ getD w j 0) → drop k w′ ≡ drop k w
-drop-same k w w′ long high =
-    ext-getD 0 (drop k w′) (drop k w) (simp length-drop (omega arith)) (λ i l. getD-drop k w′ i 0 ∙ high (k + i) (omega arith) ∙ sym (getD-drop k w i 0))
 
 -- ---- the path is read off
 

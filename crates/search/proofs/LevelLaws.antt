@@ -1,10 +1,10 @@
 -- The queue's least entry as the level of the search: no leaf lies below it, and a number that no leaf lies below is at most it.
 -- Assumes nothing.
 use mathlib.Core.List.{List}
-use mathlib.Core.Path.{_≡_, sym, subst}
+use mathlib.Core.Path.{subst}
 use mathlib.Core.Logic.{⊎-elim}
-use Prim.Native.Nat.{ℕ, zero, suc, _+_, _-_, _*_, _≤_, _<_, min}
-use native.Mathlib.Nat.{le-min, add-assoc}
+use Prim.Native.Nat.{ℕ, zero, suc, _+_, _-_, _*_, _≤_, _<_}
+use native.Mathlib.Nat.{le-min}
 use native.Mathlib.Omega.{arith}
 use lib.ListN.{getD}
 use Rattle.price.proofs.ListLaws.{le-or-lt}

@@ -7,10 +7,12 @@ pub mod PathLaws
 pub mod TurnLaws
 pub mod StoreLaws
 pub mod FillLaws
+pub mod FollowLaws
 pub mod QueueLaws
 pub mod LevelLaws
 pub mod Exactness
 pub mod FrontierSteps
+pub mod RelaxSteps
 pub mod RunLaws
 pub mod GraphLaws
 pub mod ReadyLaws

@@ -1,20 +1,20 @@
 -- What the cheapest path answers where nothing is refused: the turn, by its cases. For the crate above.
 -- Assumes nothing.
-use mathlib.Core.Bool.{true, false}
+use mathlib.Core.Bool.{true}
 use mathlib.Core.List.{List, [], _∷_}
-use mathlib.Core.Path.{_≡_, refl, sym, _∙_, ap, subst}
+use mathlib.Core.Path.{_≡_, refl, sym, _∙_, ap}
 use Prim.Native.Nat.{ℕ, _*_, _≤_, _<_}
 use native.Mathlib.Omega.{arith}
 use lib.ListN.{length}
-use borrow.Author.Tests.{le-ltb, lt-leb}
+use borrow.Author.Tests.{le-ltb}
 use Rattle.price.specs.Bounds.{factorMost}
 use Rattle.price.proofs.ListLaws.{firstBelow-all}
 use Rattle.search.specs.Block.{Block, nodes}
-use Rattle.search.specs.Tables.{Sound, faultyTable}
+use Rattle.search.specs.Tables.{Sound}
 use Rattle.search.specs.Turn.{Congestion, priceAt, Turn, joins, stuck, turn}
 use Rattle.search.specs.Replies.{nodeSound, badNode, refusalOf, sinksSound, faultyWithSinks, PathReply, cleared, turnReply, pathReply, pathTaken}
 use Rattle.search.specs.declared.PathAnswer.{PathAnswer}
-use Rattle.search.specs.declared.PathAnswer.the-variants.{Joins, Stuck, BadTable, ShortWork, BadNumber}
+use Rattle.search.specs.declared.PathAnswer.the-variants.{Joins, Stuck}
 use Rattle.search.proofs.BlockLaws.{faulty-of}
 
 module _ (b : Block) (c : Congestion) (marks sinks work : List ℕ) where

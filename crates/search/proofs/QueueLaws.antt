@@ -20,7 +20,7 @@ use Rattle.search.specs.Layout.{entryAt, leafAt, HeapAt, HeapBut, Heap, 
 use Rattle.search.proofs.StoreLaws.{store-here, store-other, same-none, same-store}
 
 -- of two numbers, whether they are the same
-same-or-not : (a c : ℕ) → (a ≡ c) ⊎ (a ≡ c → ⊥)
+pub same-or-not : (a c : ℕ) → (a ≡ c) ⊎ (a ≡ c → ⊥)
 same-or-not a c = ⊎-elim (λ (t : eqb a c ≡ true). inl (eqb-true a c t)) (λ (t : eqb a c ≡ false). inr (eqb-false a c t)) (either-way (eqb a c))
 
 -- ---- inner entries that are the least of their children

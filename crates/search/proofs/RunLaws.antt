@@ -1,8 +1,8 @@
 -- The search as a whole: a row looked at edge by edge, and a run of settlings.
 -- Assumes nothing.
-use mathlib.Core.Bool.{Bool, true, false, not}
+use mathlib.Core.Bool.{true, false}
 use mathlib.Core.List.{List}
-use mathlib.Core.Logic.{⊎-elim, inl, inr}
+use mathlib.Core.Logic.{⊎-elim}
 use mathlib.Core.Path.{_≡_, refl, sym, _∙_, ap, ap₂, subst}
 use Prim.Native.Nat.{ℕ, _+_, _*_, _^_, _≤_, _<_, min}
 use native.Mathlib.Nat.{le-antisymm}
@@ -10,21 +10,20 @@ use native.Mathlib.Omega.{arith}
 use lib.Dec.{eqb, ltb}
 use lib.ListN.{length, getD, set, length-set}
 use lib.Seq.{getD-set-other}
-use borrow.Author.Tests.{eq-eqb, lt-ltb, eqb-true, ltb-true, not-true, not-false}
+use borrow.Author.Tests.{eq-eqb, lt-ltb, eqb-true, ltb-true, not-false}
 use Rattle.price.specs.Test.{both}
-use Rattle.price.specs.Bounds.{nodesMost, priceMost}
 use Rattle.price.specs.Lists.{countBelow}
 use Rattle.price.proofs.PriceLaws.{path-most}
-use Rattle.price.proofs.ListLaws.{both-left, both-right, both-true, count-less, either-way, true≢false}
-use Rattle.search.specs.Block.{Block, nodes, rowStart, hasEdge}
-use Rattle.search.specs.Tables.{Graph}
+use Rattle.price.proofs.ListLaws.{both-left, both-right, count-less, either-way, true≢false}
+use Rattle.search.specs.Block.{Block, nodes, rowStart}
 use Rattle.search.specs.Distance.{far, distance}
 use Rattle.search.specs.Layout.{distAt, entryAt, leafAt, priceIn, goalAt, Heap, Shortened, TakenOut, Relaxed, shorter, lower, kept}
-use Rattle.search.specs.Frontier.{Open, Settled, Frontier, Waiting, GoalsOpen, Stopped, Fair, Stands, Ran, RowReady, Looked, RowDone, unsettled}
+use Rattle.search.specs.Frontier.{Open, Settled, Waiting, GoalsOpen, Stopped, Fair, Stands, Ran, RowReady, Looked, RowDone, unsettled}
 use Rattle.search.proofs.BlockLaws.{target-node, target-other, edge-at}
 use Rattle.search.proofs.DistanceLaws.{distance-most}
 use Rattle.search.proofs.Exactness.{exact-near}
-use Rattle.search.proofs.FrontierSteps.{relax-frontier, now-settled, still-settled, others-settled, settle-frontier, row-waiting}
+use Rattle.search.proofs.FrontierSteps.{now-settled, still-settled, others-settled, settle-frontier, row-waiting}
+use Rattle.search.proofs.RelaxSteps.{relax-frontier}
 
 -- ---- a row
 

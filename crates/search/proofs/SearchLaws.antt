@@ -14,11 +14,12 @@ use mathlib.Core.Path.{_≡_, refl, sym, _∙_, ap}
 use Prim.Native.Nat.{ℕ, zero, suc, _+_, _-_, _*_, _≤_, _<_}
 use native.Mathlib.Nat.{not-suc-le-zero, le-of-suc-le-suc}
 use native.Mathlib.Omega.{arith}
-use lib.ListN.{length, getD, take, drop, replicate, length-drop}
-use lib.Seq.{length-take-le, getD-take, getD-drop, ext-getD}
+use lib.ListN.{length, getD, take, drop, replicate}
+use lib.Seq.{length-take-le, getD-take, ext-getD}
 use borrow.Author.Tests.{le-leb, lt-leb}
 use Rattle.price.specs.Test.{choose}
 use Rattle.price.specs.Bounds.{nodesMost}
+use Rattle.price.proofs.ListLaws.{drop-same}
 use Rattle.search.specs.Block.{blockOf, graphOf}
 use Rattle.search.specs.Tables.{faultyTable, Sound}
 use Rattle.search.specs.Distance.{far, inTree, distances, distance}
@@ -150,13 +151,8 @@ module _ (ks cs fs ts : List ℕ) (c : Congestion) (marks w₀ w₁ w₂ : List 
     -- past 8 × nodes nothing was written
     last-part : drop (8 * length ks) w₃ ≡ drop (8 * length ks) w₀
     last-part =
-        ext-getD 0 (drop (8 * length ks) w₃) (drop (8 * length ks) w₀) (simp length-drop (rw still-long))
-        (λ i l.
-        getD-drop (8 * length ks) w₃ i 0
-        ∙ ran .high (8 * length ks + i) (omega arith)
-        ∙ same .high (8 * length ks + i) (omega arith)
-        ∙ prep .high (8 * length ks + i) (omega arith)
-        ∙ sym (getD-drop (8 * length ks) w₀ i 0))
+        drop-same (8 * length ks) w₀ w₃ still-long
+        (λ k l. ran .high k (omega arith) ∙ same .high k (omega arith) ∙ prep .high k (omega arith))
 
     pub search-leaves : w₄ ≡ cleared (length ks) (distances (blockOf ks cs fs ts) (priceAt (blockOf ks cs fs ts) c) marks) w₀
     unfolding cleared

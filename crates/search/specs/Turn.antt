@@ -1,6 +1,5 @@
 -- Document 01, "One turn": which sink is joined, by which path, at which cost.
 -- Assumes nothing.
-use mathlib.Core.Bool.{Bool}
 use mathlib.Core.List.{List, [], _∷_, map}
 use Prim.Native.Nat.{ℕ, zero, suc, _+_}
 use lib.Dec.{eqb}

@@ -10,23 +10,25 @@ use native.Mathlib.Omega.{arith}
 use lib.Dec.{eqb, ltb}
 use lib.ListN.{length, getD, take, drop, length-append, length-map}
 use lib.Seq.{take-append-seam, getD-append-add}
-use borrow.Author.Tests.{ne-eqb, ltb-true}
+use borrow.Author.Tests.{ne-eqb}
 use Rattle.price.specs.Bounds.{limitMost}
-use Rattle.price.specs.Lists.{has, firstBelow}
+use Rattle.price.specs.Lists.{has}
 use Rattle.price.proofs.ListLaws.{either-way, true≢false, le-or-lt}
 use Rattle.search.specs.Block.{Block}
 use Rattle.search.specs.Paths.{Walk, stay, step}
 use Rattle.negotiation.specs.Job.{Job, nodes, nets, netSinks}
 use Rattle.negotiation.specs.Tables.{SoundJob}
 use Rattle.negotiation.specs.Records.{Record, encode, decode}
-use Rattle.negotiation.specs.Machine.{State, netRecords, treeFrom, afterNets, iterate, firstState, stateAfter, iterationAfter, recordsAfter, settlesAt}
+use Rattle.negotiation.specs.Machine.{State, netRecords, treeFrom, afterNets, iterate, firstState, stateAfter, iterationAfter, recordsAfter}
 use Rattle.negotiation.specs.Outcome.{RouteReply, hasPath, unreachableNet, unreachablePlace, iterationsMade, allRecords, loggedRecords, cutIteration, logWith, negotiated, routeReply}
 use Rattle.negotiation.specs.Demand.{latest}
 use Rattle.negotiation.proofs.JobLaws.{faulty-none, nets-some, limit-some, limit-few}
 use Rattle.negotiation.proofs.RecordLaws.{decode-encode}
 use Rattle.negotiation.proofs.NetLaws.{NetTurn, net-turn, state-ready}
 use Rattle.negotiation.proofs.FilterLaws.{All, all-append, all-map, all-splits, latest-le}
-use Rattle.negotiation.proofs.ReadLaws.{nets-iteration, state-iteration, latest-read}
+use Rattle.negotiation.proofs.StateLaws.{nets-iteration, state-iteration}
+use Rattle.negotiation.proofs.ReadLaws.{latest-read}
+use Rattle.negotiation.proofs.DemandHolds.{made-most}
 use Rattle.negotiation.proofs.DemandLaws.{all-reached}
 use Rattle.negotiation.proofs.EndLaws.{made-least, all-made}
 use Rattle.negotiation.proofs.RouteLaws.{route-unreachable, route-run}
@@ -188,15 +190,6 @@ run-turned j sound (suc m) h =
     (iterationAfter j (firstState j) m .records) (iteration-turned j sound m h))
 
 -- ---- the log of an accepted job
-
--- the run makes no more iterations than the limit
-made-most : (j : Job) (s : State) (most : ℕ) → iterationsMade j s most ≤ most
-unfolding iterationsMade
-made-most j s most =
-    ⊎-elim
-    (λ (q : ltb (firstBelow (settlesAt j s) most) most ≡ true). let h = ltb-true (firstBelow (settlesAt j s) most) most q in rw q (omega arith))
-    (λ (q : ltb (firstBelow (settlesAt j s) most) most ≡ false). rw q (omega arith))
-    (either-way (ltb (firstBelow (settlesAt j s) most) most))
 
 -- the words used hold the records of the iterations up to the one after `whole`
 pub record Accepted (j : Job) (r : RouteReply) : Type 0 where

@@ -11,7 +11,8 @@ use Rattle.search.proofs.BlockLaws.{kinds-few}
 use Rattle.negotiation.specs.Job.{Job, jobOf, nodes, source}
 use Rattle.negotiation.specs.Tables.{SoundJob}
 use Rattle.negotiation.proofs.JobLaws.{nets-few, source-node, firstSinks-long, sinks-order, sinks-end, sinks-few}
-use Rattle.negotiation.proofs.ReachLaws.{Tested, same-from-refl, same-from-trans, tested-all, net-asked, tested-found, tested-more}
+use Rattle.negotiation.proofs.ReachLaws.{same-from-refl, same-from-trans}
+use Rattle.negotiation.proofs.TestedLaws.{Tested, tested-all, net-asked, tested-found, tested-more}
 use Rattle.negotiation.proofs.reach.unreachable.Statement.{statement}
 use Rattle.negotiation.proofs.reach.unreachable.Tie as tie
 

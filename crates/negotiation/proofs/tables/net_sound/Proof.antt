@@ -6,7 +6,7 @@ use lib.ListN.{length-set}
 use borrow.Author.Needs.{needs}
 use Rattle.price.proofs.ListLaws.{true≢false}
 use Rattle.search.proofs.TableLaws.{refused, passed}
-use Rattle.negotiation.proofs.NetTableLaws.{free-source, free-below, unmarked-again}
+use Rattle.negotiation.proofs.SinkMarkLaws.{free-source, free-below, unmarked-again}
 use Rattle.negotiation.proofs.tables.net_sound.Statement.{statement}
 use Rattle.negotiation.proofs.tables.net_sound.Tie as tie
 

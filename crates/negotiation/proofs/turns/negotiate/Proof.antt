@@ -20,7 +20,7 @@ use Rattle.negotiation.specs.declared.turns.Tariff.{Tariff}
 use Rattle.negotiation.proofs.JobLaws.{nets-few, limit-few, source-node, firstSinks-long, sinks-order, sinks-end, sinks-few}
 use Rattle.negotiation.proofs.KeepLaws.{Tallied, AtNet, AtTurn}
 use Rattle.negotiation.proofs.TurnStepLaws.{log-length}
-use Rattle.negotiation.proofs.KeepEnd.{Answers, keep-over, keep-below, keep-growable, keep-accepted, keep-limit}
+use Rattle.negotiation.proofs.KeepEnd.{keep-over, keep-below, keep-growable, keep-accepted, keep-limit}
 use Rattle.negotiation.proofs.KeepStart.{keep-start}
 use Rattle.negotiation.proofs.KeepCalls.{part-long, call-rip-up, after-rip-up, call-count-tree, after-count-tree, sinks-part, sinks-count, call-turn, after-nothing, after-logged, after-full, after-growth}
 use Rattle.negotiation.proofs.turns.negotiate.Statement.{statement}

@@ -2,7 +2,7 @@
 -- Assumes nothing.
 use native.Mathlib.Omega.{arith}
 use Rattle.search.specs.Layout.{distAt}
-use Rattle.search.proofs.FillLaws.{Following, follow-none, follow-nearer, follow-on, follow-few, follow-end}
+use Rattle.search.proofs.FollowLaws.{Following, follow-none, follow-nearer, follow-on, follow-few, follow-end}
 use Rattle.search.proofs.path.path_length.Statement.{statement}
 use Rattle.search.proofs.path.path_length.Tie as tie
 
