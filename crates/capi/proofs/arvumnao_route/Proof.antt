@@ -1,0 +1,41 @@
+-- `capi::arvumnao_route` meets its contract: a short `out` is left, else the router's answer is told.
+-- Assumes nothing.
+use borrow.Author.Needs.{needs}
+use Rattle.capi.proofs.CallLaws.{route-short, route-told}
+use Rattle.capi.proofs.arvumnao_route.Statement.{statement}
+use Rattle.capi.proofs.arvumnao_route.Tie as tie
+
+returns : tie.Need-returns
+returns c = route-short _ _ _ _ (c .if1 .taken)
+
+route-requires : tie.Need-route-requires
+route-requires c κs = search needs
+
+tell-routed-requires : tie.Need-tell-routed-requires
+tell-routed-requires c κs = search needs
+
+same-length : tie.Need-same-length
+same-length c = search needs
+
+same-length-2 : tie.Need-same-length-2
+same-length-2 c = search needs
+
+same-length-3 : tie.Need-same-length-3
+same-length-3 c = search needs
+
+returns-2 : tie.Need-returns-2
+returns-2 c =
+    let asked = c .before .before .before .before .before .before .before .before in
+    route-told _ _ _ _ _ _ _ (asked .route .result) (asked .before .before .before .if1 .left) (asked .route .ensures .0) (c .before .before .tell-routed .ensures)
+
+pub arvumnao-route-spec : {M : Type 1} → statement M
+arvumnao-route-spec =
+    tie.close
+    (tie.spec
+    returns
+    route-requires
+    tell-routed-requires
+    same-length
+    same-length-2
+    same-length-3
+    returns-2)

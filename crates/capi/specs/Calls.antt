@@ -1,0 +1,99 @@
+-- What each call for C leaves in `out` and in every other slice that it is lent, and what it returns.
+-- Assumes nothing.
+use mathlib.Core.List.{List, [], _∷_, _++_}
+use Prim.Native.Nat.{ℕ}
+use lib.Dec.{ltb}
+use lib.ListN.{length, take, drop, replicate}
+use Rattle.price.specs.Test.{choose}
+use Rattle.price.specs.Replies as p
+use Rattle.search.specs.Block.{Block}
+use Rattle.search.specs.Turn.{Congestion}
+use Rattle.search.specs.Replies.{SearchReply, searchReply}
+use Rattle.negotiation.specs.Job.{Job}
+use Rattle.negotiation.specs.Outcome.{RouteReply, routeReply}
+use Rattle.text.specs.ReadReplies.{Tables, ReadReply, readReply}
+use Rattle.text.specs.Routes.{WriteReply, writeReply}
+
+-- so many entries: those of the list, then 0
+abbrev pub padded : ℕ → List ℕ → List ℕ
+padded k xs = take k (xs ++ replicate k 0)
+
+-- at 0 the refusal's number or 0, at 1 and 2 its further numbers or 0, from 3 on the call's own numbers, 0 up to 8; entries past 8 stay
+abbrev pub told : List ℕ → List ℕ → List ℕ → List ℕ
+told refusal numbers out = padded 3 refusal ++ (padded 5 numbers ++ drop 8 out)
+
+-- what a call returns, with `out` afterwards
+pub record Call : Type 0 where
+  pub returned : ℕ
+  pub out : List ℕ
+
+abbrev pub callOf : ℕ → List ℕ → Call
+callOf returned out = record { returned = returned; out = out }
+
+-- a call whose `out` has fewer than 8 entries does nothing and returns 0
+abbrev pub unless : List ℕ → Call → Call
+unless out c = choose (ltb (length out) 8) (callOf 0 out) c
+
+-- price: 3 price
+unfoldable pub priceCall : ℕ → ℕ → ℕ → ℕ → ℕ → List ℕ → Call
+priceCall kind factor others capacity history out =
+    unless out
+    (callOf 1 (told (p.priceReply kind factor others capacity history .refusal) (p.priceReply kind factor others capacity history .price ∷ []) out))
+
+-- search, with the work slice afterwards
+pub record SearchCall : Type 0 where
+  pub call : Call
+  pub work : List ℕ
+
+abbrev pub searchDone : Call → List ℕ → SearchCall
+searchDone call work = record { call = call; work = work }
+
+unfoldable pub searchCall : Block → Congestion → List ℕ → List ℕ → List ℕ → SearchCall
+searchCall b c marks work out =
+    choose (ltb (length out) 8) (searchDone (callOf 0 out) work)
+    (searchDone (callOf 1 (told (searchReply b c marks work .refusal) [] out)) (searchReply b c marks work .work))
+
+-- route: 3 iteration, 4 turns, 5 words
+pub record RouteCall : Type 0 where
+  pub call : Call
+  pub work : List ℕ
+  pub log : List ℕ
+
+abbrev pub routeDone : Call → List ℕ → List ℕ → RouteCall
+routeDone call work log = record { call = call; work = work; log = log }
+
+abbrev pub routeTold : RouteReply → List ℕ → RouteCall
+routeTold r out = routeDone (callOf 1 (told (r .refusal) (r .iteration ∷ r .turns ∷ r .used ∷ []) out)) (r .work) (r .log)
+
+unfoldable pub routeCall : Job → List ℕ → List ℕ → List ℕ → RouteCall
+routeCall j work log out =
+    choose (ltb (length out) 8) (routeDone (callOf 0 out) work log) (routeTold (routeReply j work log) out)
+
+-- read: 3 nodes, 4 edges, 5 nets, 6 sinks, 7 limit
+pub record ReadCall : Type 0 where
+  pub call : Call
+  pub tables : Tables
+
+abbrev pub readDone : Call → Tables → ReadCall
+readDone call tables = record { call = call; tables = tables }
+
+abbrev pub tablesTold : ReadReply → List ℕ → ReadCall
+tablesTold r out = readDone (callOf 1 (told (r .refusal) (r .numbers) out)) (r .tables)
+
+unfoldable pub readCall : List ℕ → Tables → List ℕ → ReadCall
+readCall text t out = choose (ltb (length out) 8) (readDone (callOf 0 out) t) (tablesTold (readReply text t) out)
+
+-- write: 3 bytes
+pub record WriteCall : Type 0 where
+  pub call : Call
+  pub buffer : List ℕ
+
+abbrev pub writeDone : Call → List ℕ → WriteCall
+writeDone call buffer = record { call = call; buffer = buffer }
+
+abbrev pub bufferTold : WriteReply → List ℕ → WriteCall
+bufferTold r out = writeDone (callOf 1 (told (r .refusal) (r .bytes ∷ []) out)) (r .buffer)
+
+unfoldable pub writeCall : List ℕ → List ℕ → List ℕ → WriteCall
+writeCall log buffer out =
+    choose (ltb (length out) 8) (writeDone (callOf 0 out) buffer) (bufferTold (writeReply log buffer) out)

@@ -1,0 +1,193 @@
+//! Times the routers on the same jobs, checks that they agree, prints a table.
+//!
+//! cargo run --release -p bench [-- largest-size]
+
+mod clock;
+mod draw;
+mod jobs;
+mod routers;
+
+use jobs::{Job, Shape, SHAPES, SIZES};
+use routers::{Result, Router, HAS_PROVED};
+use std::time::Duration;
+
+/// Words lent for the log.
+const LOG: usize = 1 << 22;
+/// Runs of a router on a job: LEAST unless they take LONG, then up to MOST while they take less than SHORT in all.
+const LEAST: usize = 3;
+const MOST: usize = 200;
+const SHORT: Duration = Duration::from_millis(200);
+const LONG: Duration = Duration::from_secs(5);
+/// The plain router is left out where it is expected to take longer.
+const PLAIN_LIMIT: f64 = 1.0;
+
+/// (nodes + edges) x log2 nodes: a search with a heap takes about that many steps.
+fn size(job: &Job) -> f64 {
+    let nodes = job.kind.len() as f64;
+    (nodes + job.edge_target.len() as f64) * nodes.log2()
+}
+
+/// One job's times.
+struct Row {
+    shape: Shape,
+    job: Job,
+    result: Result,
+    best: Vec<(Router, Duration)>,
+}
+
+impl Row {
+    fn seconds(&self, router: Router) -> Option<f64> {
+        self.best.iter().find(|b| b.0 == router).map(|b| b.1.as_secs_f64())
+    }
+
+    fn ratio(&self, over: Router, under: Router) -> Option<f64> {
+        Some(self.seconds(over)? / self.seconds(under)?)
+    }
+
+    fn turns(&self) -> f64 {
+        self.result.numbers[1] as f64
+    }
+
+    /// Picoseconds per turn and (nodes + edges) x log2 nodes.
+    fn unit(&self, router: Router) -> Option<f64> {
+        Some(self.seconds(router)? * 1e12 / self.turns() / size(&self.job))
+    }
+
+    fn outcome(&self) -> String {
+        match self.result.refusal.first() {
+            None => "accepted".to_string(),
+            Some(number) => format!("refusal {number}"),
+        }
+    }
+}
+
+/// Lent memory, the same for every run.
+struct Lent {
+    work: Vec<u64>,
+    log: Vec<u32>,
+}
+
+/// One run: the time of the call alone, and the check.
+fn run_once(router: Router, job: &Job, lent: &mut Lent, wanted: &Result, wanted_log: &[u32]) -> Duration {
+    let run = router.run();
+    lent.log[..wanted_log.len()].fill(u32::MAX);
+    let start = clock::cpu_time();
+    let result = run(job, &mut lent.work[..8 * job.kind.len()], &mut lent.log);
+    let time = clock::cpu_time() - start;
+    assert_eq!(&result, wanted, "{router:?} gives another outcome");
+    assert!(&lent.log[..wanted_log.len()] == wanted_log, "{router:?} gives another log");
+    time
+}
+
+/// Runs the routers in turn, over and over, and keeps each one's best time.
+fn measure(routers: &[Router], job: &Job, lent: &mut Lent, wanted: &Result, log: &[u32]) -> Vec<(Router, Duration)> {
+    let mut best: Vec<(Router, Duration)> = routers.iter().map(|&r| (r, Duration::MAX)).collect();
+    let mut spent = vec![Duration::ZERO; routers.len()];
+    for round in 0..MOST {
+        for (slot, spent) in best.iter_mut().zip(&mut spent) {
+            if *spent < SHORT || (round < LEAST && *spent < LONG) {
+                let time = run_once(slot.0, job, lent, wanted, log);
+                slot.1 = slot.1.min(time);
+                *spent += time;
+            }
+        }
+    }
+    best
+}
+
+/// What the plain router may take here, from the row before.
+fn plain_guess(before: Option<&Row>, job: &Job, turns: f64) -> f64 {
+    match before {
+        None => 0.0,
+        Some(row) => row.unit(Router::Plain).map_or(f64::INFINITY, |unit| unit / 1e12 * turns * size(job)),
+    }
+}
+
+fn make_row(shape: Shape, nodes: usize, before: Option<&Row>, lent: &mut Lent) -> Row {
+    let job = jobs::make(shape, nodes);
+    let result = Router::Tuned.run()(&job, &mut [], &mut lent.log);
+    let log = lent.log[..result.numbers[2] as usize].to_vec();
+    let mut routers = routers::all();
+    if plain_guess(before, &job, result.numbers[1] as f64) > PLAIN_LIMIT {
+        routers.retain(|&r| r != Router::Plain);
+    }
+    let best = measure(&routers, &job, lent, &result, &log);
+    Row { shape, job, result, best }
+}
+
+fn cell(value: Option<f64>, width: usize, places: usize) -> String {
+    match value {
+        None => format!("{:>width$}", "-"),
+        Some(v) => format!("{v:>width$.places$}"),
+    }
+}
+
+fn print_head() {
+    println!("The job | milliseconds of processor time, best of {LEAST} to {MOST} runs | ratios |");
+    println!("picoseconds per turn and (nodes + edges) x log2 nodes.");
+    println!("anew: tuned, but each turn searches anew. Every run's outcome and log are checked against tuned's first.");
+    print!("{:<10}{:>6}{:>7}{:>5}{:>6}", "shape", "nodes", "edges", "nets", "sinks");
+    print!("{:>5}{:>7}  {:<10}|", "iter", "turns", "outcome");
+    print!("{:>10}{:>9}{:>9}{:>10}  |", "proved", "tuned", "anew", "plain");
+    print!("{:>8}{:>8}{:>8}{:>8}  |", "prov/tun", "prov/an", "pl/prov", "pl/tun");
+    println!("{:>8}{:>8}{:>8}{:>8}", "proved", "tuned", "anew", "plain");
+}
+
+fn print_row(row: &Row) {
+    use Router::*;
+    let job = &row.job;
+    print!("{:<10}{:>6}{:>7}", format!("{:?}", row.shape).to_lowercase(), job.kind.len(), job.edge_target.len());
+    print!("{:>5}{:>6}{:>5}{:>7}", job.source.len(), job.sink.len(), row.result.numbers[0], row.result.numbers[1]);
+    print!("  {:<10}|", row.outcome());
+    for (router, width) in [(Proved, 10), (Tuned, 9), (Anew, 9), (Plain, 10)] {
+        print!("{}", cell(row.seconds(router).map(|s| s * 1e3), width, 3));
+    }
+    print!("  |");
+    for (over, under) in [(Proved, Tuned), (Proved, Anew), (Plain, Proved), (Plain, Tuned)] {
+        print!("{}", cell(row.ratio(over, under), 8, 1));
+    }
+    print!("  |");
+    for router in [Proved, Tuned, Anew, Plain] {
+        print!("{}", cell(row.unit(router), 8, 0));
+    }
+    println!();
+}
+
+/// Least, geometric mean and most of a ratio over all rows that have it.
+fn print_ratio(name: &str, ratios: &[f64]) {
+    if ratios.is_empty() {
+        return;
+    }
+    let least = ratios.iter().copied().fold(f64::INFINITY, f64::min);
+    let most = ratios.iter().copied().fold(0.0, f64::max);
+    let mean = (ratios.iter().map(|r| r.ln()).sum::<f64>() / ratios.len() as f64).exp();
+    println!("{name}: {least:.1} to {most:.1}, geometric mean {mean:.1}, {} jobs", ratios.len());
+}
+
+fn print_ratios(rows: &[Row]) {
+    use Router::*;
+    let pairs = [("proved/tuned", Proved, Tuned), ("proved/anew", Proved, Anew), ("plain/proved", Plain, Proved), ("plain/tuned", Plain, Tuned)];
+    for (name, over, under) in pairs {
+        let ratios: Vec<f64> = rows.iter().filter_map(|row| row.ratio(over, under)).collect();
+        print_ratio(name, &ratios);
+    }
+}
+
+fn main() {
+    let largest = std::env::args().nth(1).and_then(|a| a.parse().ok()).unwrap_or(4096);
+    let mut lent = Lent { work: vec![0; 8 * 4096], log: vec![0; LOG] };
+    if !HAS_PROVED {
+        println!("Built without the proved router.");
+    }
+    print_head();
+    let mut rows: Vec<Row> = Vec::new();
+    for shape in SHAPES {
+        for nodes in SIZES.into_iter().filter(|&n| n <= largest) {
+            let before = rows.last().filter(|row| row.shape == shape);
+            let row = make_row(shape, nodes, before, &mut lent);
+            print_row(&row);
+            rows.push(row);
+        }
+    }
+    print_ratios(&rows);
+}

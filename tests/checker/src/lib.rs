@@ -1,0 +1,46 @@
+//! A checker of demand 3: one statement about a job's whole log and its
+//! answer. It routes nothing; which of several cheapest paths was taken, and
+//! the order of the nets, are left to the comparison with a plain router.
+
+mod answer;
+mod fault;
+mod job;
+pub mod paths;
+pub mod prices;
+pub mod records;
+pub mod trees;
+mod turns;
+
+pub use fault::Fault;
+pub use job::Job;
+
+/// Checks the answer to a job with sound tables and enough work memory.
+/// `log` is the whole lent log, `words` the words used, `refusal` 01's
+/// numbers, empty when accepted.
+pub fn check(
+    job: &Job,
+    log: &[u32],
+    refusal: &[u64],
+    iteration: u64,
+    turns: u64,
+    words: u64,
+) -> Result<(), Fault> {
+    let records = records::read(log, words)?;
+    let logged = records.len() as u64;
+    if turns != logged {
+        return Err(Fault::TurnCount {
+            reported: turns,
+            logged,
+        });
+    }
+    let trees = turns::walk(job, &records)?;
+    let room = log.len() as u64 - words;
+    let answer = answer::Answer {
+        refusal,
+        iteration,
+        turns,
+        words,
+        room,
+    };
+    answer::check(job, &records, &trees, &answer)
+}

@@ -1,0 +1,68 @@
+//! Prices worked out from the job and the log's earlier turns.
+
+use crate::job::Job;
+use crate::trees::Trees;
+
+const TOP_FACTOR: u64 = 65_535;
+
+/// Base cost by kind.
+pub fn base(kind: u8) -> u64 {
+    match kind {
+        0..=2 => 20,
+        3 => 19,
+        wire => 20 * (u64::from(wire) - 3),
+    }
+}
+
+/// The factor of an iteration, from 1.
+pub fn factor(iteration: u32) -> u64 {
+    match iteration {
+        0 | 1 => 0,
+        _ => (2..iteration).fold(50, |last, _| (last * 3 / 2).min(TOP_FACTOR)),
+    }
+}
+
+/// History × base × (100 + factor × what this net would pass the capacity by).
+pub fn price(kind: u8, factor: u64, others: u32, capacity: u8, history: u64) -> u64 {
+    let over = (u64::from(others) + 1).saturating_sub(u64::from(capacity));
+    history * base(kind) * (100 + factor * over)
+}
+
+/// What the earlier iterations leave to an iteration.
+pub struct Prices {
+    pub iteration: u32,
+    factor: u64,
+    history: Vec<u64>,
+}
+
+impl Prices {
+    /// Those of iteration 1.
+    pub fn new(job: &Job) -> Prices {
+        Prices {
+            iteration: 1,
+            factor: factor(1),
+            history: vec![1; job.nodes()],
+        }
+    }
+
+    /// Moves on to the next iteration, given the trees after this one.
+    pub fn step(&mut self, job: &Job, trees: &Trees) {
+        self.iteration += 1;
+        self.factor = factor(self.iteration);
+        for (node, history) in self.history.iter_mut().enumerate() {
+            *history += u64::from(trees.over(job, node));
+        }
+    }
+
+    /// The node's price to the net while the trees are these.
+    pub fn of(&self, job: &Job, trees: &Trees, net: usize, node: usize) -> u64 {
+        let others = trees.others(net, node);
+        price(
+            job.kind[node],
+            self.factor,
+            others,
+            job.capacity[node],
+            self.history[node],
+        )
+    }
+}

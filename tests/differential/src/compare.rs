@@ -1,0 +1,377 @@
+//! Runs one call on both sides, on equal copies of all lent slices, and compares what comes back.
+
+use crate::jobs::{Graph, Job};
+
+/// A call's refusal and own numbers, of either side.
+#[derive(Clone, Debug, PartialEq, Eq)]
+pub struct Answer {
+    pub refusal: Vec<u64>,
+    pub numbers: Vec<u64>,
+}
+
+/// Tables 1 to 7 as lent to the reader.
+#[derive(Clone, Debug, PartialEq, Eq)]
+pub struct Tables {
+    pub kind: Vec<u8>,
+    pub capacity: Vec<u8>,
+    pub first_edge: Vec<u32>,
+    pub edge_target: Vec<u16>,
+    pub source: Vec<u16>,
+    pub first_sink: Vec<u32>,
+    pub sink: Vec<u16>,
+}
+
+/// One call with all that is lent to it.
+#[derive(Clone, Debug, PartialEq, Eq)]
+pub enum Case {
+    Price { kind: u32, factor: u32, others: u32, capacity: u32, history: u32 },
+    Search { graph: Graph, factor: u32, work: Vec<u64>, history: Vec<u32>, others: Vec<u16>, in_tree: Vec<u8> },
+    Route { job: Job, work: Vec<u64>, log: Vec<u32> },
+    Read { text: Vec<u8>, tables: Tables },
+    Write { log: Vec<u32>, buffer: Vec<u8> },
+}
+
+/// How many own numbers a call has.
+pub fn own(case: &Case) -> usize {
+    match case {
+        Case::Price { .. } | Case::Write { .. } => 1,
+        Case::Search { .. } => 0,
+        Case::Route { .. } => 3,
+        Case::Read { .. } => 5,
+    }
+}
+
+/// Entries past the end of every slice that a call may write to, to see that it doesn't.
+const GUARD: usize = 2;
+
+/// The slice lent, without its guard.
+fn lend<T>(slice: &mut [T]) -> &mut [T] {
+    let length = slice.len() - GUARD;
+    &mut slice[..length]
+}
+
+/// Puts a guard behind a slice.
+fn widen<T: Copy>(slice: &mut Vec<T>, entry: T) {
+    slice.extend([entry; GUARD]);
+}
+
+/// Takes the guard away again, which must be as it was.
+fn narrow<T: Copy + PartialEq>(slice: &mut Vec<T>, entry: T) {
+    let guard = slice.split_off(slice.len() - GUARD);
+    assert!(guard.iter().all(|one| *one == entry), "a call wrote past the end of a slice");
+}
+
+/// Does the same to every slice of a case that a call may write to.
+macro_rules! guards {
+    ($name:ident, $one:ident) => {
+        fn $name(case: &mut Case) {
+            match case {
+                Case::Price { .. } => {}
+                Case::Search { work, .. } => $one(work, 77),
+                Case::Route { work, log, .. } => {
+                    $one(work, 77);
+                    $one(log, 77);
+                }
+                Case::Read { tables, .. } => {
+                    $one(&mut tables.kind, 77);
+                    $one(&mut tables.capacity, 77);
+                    $one(&mut tables.first_edge, 77);
+                    $one(&mut tables.edge_target, 77);
+                    $one(&mut tables.source, 77);
+                    $one(&mut tables.first_sink, 77);
+                    $one(&mut tables.sink, 77);
+                }
+                Case::Write { buffer, .. } => $one(buffer, 77),
+            }
+        }
+    };
+}
+
+guards!(widen_all, widen);
+guards!(narrow_all, narrow);
+
+/// The calls of one side. Each gets the case's own slices.
+macro_rules! side {
+    ($name:ident, $side:ident) => {
+        fn $name(case: &mut Case) -> Answer {
+            widen_all(case);
+            let answer = match case {
+                Case::Price { kind, factor, others, capacity, history } => {
+                    $side::price(*kind, *factor, *others, *capacity, *history)
+                }
+                Case::Search { graph, factor, work, history, others, in_tree } => $side::search(
+                    &graph.kind, &graph.capacity, &graph.first_edge, &graph.edge_target,
+                    *factor, lend(work), history, others, in_tree,
+                ),
+                Case::Route { job, work, log } => $side::route(
+                    &job.graph.kind, &job.graph.capacity, &job.graph.first_edge, &job.graph.edge_target,
+                    &job.source, &job.first_sink, &job.sink, job.limit, lend(work), lend(log),
+                ),
+                Case::Read { text, tables } => $side::read(
+                    text, lend(&mut tables.kind), lend(&mut tables.capacity), lend(&mut tables.first_edge),
+                    lend(&mut tables.edge_target), lend(&mut tables.source), lend(&mut tables.first_sink), lend(&mut tables.sink),
+                ),
+                Case::Write { log, buffer } => $side::write(log, lend(buffer)),
+            };
+            narrow_all(case);
+            Answer { refusal: answer.refusal, numbers: answer.numbers }
+        }
+    };
+}
+
+side!(run_plain, plain);
+
+#[cfg(feature = "library")]
+side!(run_library, arvumnao);
+
+#[cfg(not(feature = "library"))]
+fn run_library(case: &mut Case) -> Answer {
+    let before = case.clone();
+    let answer = run_plain(case);
+    inject::inject(&before, case, answer)
+}
+
+/// What a call leaves behind: its answer and every lent slice.
+#[derive(Clone, Debug, PartialEq, Eq)]
+pub struct After {
+    pub answer: Answer,
+    pub case: Case,
+}
+
+/// The plain side's end of a call.
+pub fn plain(case: &Case) -> After {
+    let mut copy = case.clone();
+    let answer = run_plain(&mut copy);
+    After { answer, case: copy }
+}
+
+/// The library side's end of a call.
+fn library(case: &Case) -> After {
+    let mut copy = case.clone();
+    let answer = run_library(&mut copy);
+    After { answer, case: copy }
+}
+
+/// Both sides' common end of a call, or what is wrong with it.
+pub fn compare(case: &Case) -> Result<After, String> {
+    let one = plain(case);
+    let other = library(case);
+    if one.answer != other.answer {
+        return Err(format!("answers differ\n  plain:   {:?}\n  library: {:?}", one.answer, other.answer));
+    }
+    if one.case != other.case {
+        return Err(unequal_slices(&one, &other));
+    }
+    memory(case, &other)?;
+    check(&other)?;
+    Ok(other)
+}
+
+/// Says that slices differ, with the first places.
+fn unequal_slices(one: &After, other: &After) -> String {
+    let mut text = format!("slices differ, both answer {:?}", one.answer);
+    let pairs = slices(&one.case).into_iter().zip(slices(&other.case));
+    for ((name, plain), (_, library)) in pairs {
+        if let Some(place) = (0..plain.len()).find(|place| plain[*place] != library[*place]) {
+            text += &format!("\n  {name}[{place}]: plain {}, library {}", plain[place], library[place]);
+        }
+    }
+    text
+}
+
+/// Every lent slice with its name.
+fn slices(case: &Case) -> Vec<(&'static str, Vec<u64>)> {
+    match case {
+        Case::Price { .. } => Vec::new(),
+        Case::Search { graph, work, history, others, in_tree, .. } => {
+            let mut list = graph_slices(graph);
+            list.extend([("work", work.clone()), ("history", wide(history)), ("others", wide(others)), ("in_tree", wide(in_tree))]);
+            list
+        }
+        Case::Route { job, work, log } => {
+            let mut list = graph_slices(&job.graph);
+            list.extend([("source", wide(&job.source)), ("first_sink", wide(&job.first_sink)), ("sink", wide(&job.sink))]);
+            list.extend([("work", work.clone()), ("log", wide(log))]);
+            list
+        }
+        Case::Read { text, tables } => vec![
+            ("text", wide(text)),
+            ("kind", wide(&tables.kind)),
+            ("capacity", wide(&tables.capacity)),
+            ("first_edge", wide(&tables.first_edge)),
+            ("edge_target", wide(&tables.edge_target)),
+            ("source", wide(&tables.source)),
+            ("first_sink", wide(&tables.first_sink)),
+            ("sink", wide(&tables.sink)),
+        ],
+        Case::Write { log, buffer } => vec![("log", wide(log)), ("buffer", wide(buffer))],
+    }
+}
+
+fn graph_slices(graph: &Graph) -> Vec<(&'static str, Vec<u64>)> {
+    vec![
+        ("kind", wide(&graph.kind)),
+        ("capacity", wide(&graph.capacity)),
+        ("first_edge", wide(&graph.first_edge)),
+        ("edge_target", wide(&graph.edge_target)),
+    ]
+}
+
+fn wide<T: Copy + Into<u64>>(slice: &[T]) -> Vec<u64> {
+    slice.iter().map(|entry| (*entry).into()).collect()
+}
+
+/// What 01's table says about memory, whatever both sides agree on.
+fn memory(before: &Case, after: &After) -> Result<(), String> {
+    let refusal = after.answer.refusal.first().copied().unwrap_or(0);
+    let kept = match (before, &after.case) {
+        (Case::Route { job, work, log }, Case::Route { job: job_after, work: work_after, log: log_after })
+            if matches!(refusal, 0 | 7 | 8 | 9) =>
+        {
+            let words = after.answer.numbers[2] as usize;
+            job == job_after && cleared(work, work_after, 0, 8 * job.graph.kind.len()) && log[words..] == log_after[words..]
+        }
+        (Case::Search { graph, work, .. }, Case::Search { work: work_after, .. }) if refusal == 0 => {
+            let nodes = graph.kind.len();
+            cleared(work, work_after, nodes, 8 * nodes)
+        }
+        (Case::Read { text, .. }, Case::Read { text: text_after, .. }) if refusal == 0 => text == text_after,
+        (Case::Write { log, .. }, Case::Write { log: log_after, .. }) if refusal == 0 => log == log_after,
+        (_, case) => before == case,
+    };
+    if kept {
+        Ok(())
+    } else {
+        Err(format!("memory after {:?} is not as 01 says", after.answer))
+    }
+}
+
+/// Entries `from` to `end` are 0, those past `end` as they were.
+fn cleared(before: &[u64], after: &[u64], from: usize, end: usize) -> bool {
+    after[from..end].iter().all(|entry| *entry == 0) && before[end..] == after[end..]
+}
+
+/// The checker's word on the log of a sound job with enough work memory.
+fn check(after: &After) -> Result<(), String> {
+    let Case::Route { job, log, .. } = &after.case else { return Ok(()) };
+    let Answer { refusal, numbers } = &after.answer;
+    if matches!(refusal.first(), Some(5 | 6)) {
+        return Ok(());
+    }
+    let job = checker::Job {
+        kind: &job.graph.kind,
+        capacity: &job.graph.capacity,
+        first_edge: &job.graph.first_edge,
+        edge_target: &job.graph.edge_target,
+        source: &job.source,
+        first_sink: &job.first_sink,
+        sink: &job.sink,
+        limit: job.limit,
+    };
+    checker::check(&job, log, refusal, numbers[0], numbers[1], numbers[2])
+        .map_err(|fault| format!("the checker faults the log ({:?}): {fault}", after.answer))
+}
+
+/// Lends an `out` of some length to the raw call and tests what it holds afterwards.
+#[cfg(feature = "library")]
+pub fn compare_out(case: &Case, length: usize) -> Result<(), String> {
+    let mut expected = case.clone();
+    let mut expected_out: Vec<u64> = (0..length as u64).map(|place| 0xa5a5_0000_0000_0000 + place).collect();
+    let mut copy = case.clone();
+    let mut out = expected_out.clone();
+    if length >= arvumnao::OUT {
+        let answer = run_plain(&mut expected);
+        expected_out[..arvumnao::OUT].fill(0);
+        expected_out[..answer.refusal.len()].copy_from_slice(&answer.refusal);
+        expected_out[3..3 + own(case)].copy_from_slice(&answer.numbers);
+    }
+    let returned = raw(&mut copy, &mut out);
+    if returned != u32::from(length >= arvumnao::OUT) || out != expected_out || copy != expected {
+        return Err(format!(
+            "with an out of {length}: returned {returned}, out {out:?}, expected {expected_out:?}, slices {}",
+            if copy == expected { "equal" } else { "differ" },
+        ));
+    }
+    Ok(())
+}
+
+/// Without the library there is no `out`.
+#[cfg(not(feature = "library"))]
+pub fn compare_out(case: &Case, _length: usize) -> Result<(), String> {
+    let _ = own(case);
+    Ok(())
+}
+
+/// The raw call of a case.
+#[cfg(feature = "library")]
+fn raw(case: &mut Case, out: &mut [u64]) -> u32 {
+    widen_all(case);
+    let returned = match case {
+        Case::Price { kind, factor, others, capacity, history } => {
+            arvumnao::raw_price(*kind, *factor, *others, *capacity, *history, out)
+        }
+        Case::Search { graph, factor, work, history, others, in_tree } => arvumnao::raw_search(
+            &graph.kind, &graph.capacity, &graph.first_edge, &graph.edge_target,
+            *factor, lend(work), history, others, in_tree, out,
+        ),
+        Case::Route { job, work, log } => arvumnao::raw_route(
+            &job.graph.kind, &job.graph.capacity, &job.graph.first_edge, &job.graph.edge_target,
+            &job.source, &job.first_sink, &job.sink, job.limit, lend(work), lend(log), out,
+        ),
+        Case::Read { text, tables } => arvumnao::raw_read(
+            text, lend(&mut tables.kind), lend(&mut tables.capacity), lend(&mut tables.first_edge),
+            lend(&mut tables.edge_target), lend(&mut tables.source), lend(&mut tables.first_sink), lend(&mut tables.sink), out,
+        ),
+        Case::Write { log, buffer } => arvumnao::raw_write(log, lend(buffer), out),
+    };
+    narrow_all(case);
+    returned
+}
+
+/// Wrong answers put in on purpose, to test the shrinker.
+#[cfg(not(feature = "library"))]
+pub mod inject {
+    use super::{Answer, Case};
+    use std::sync::atomic::{AtomicU32, Ordering};
+
+    /// Which fault the second side has; 0 is none.
+    pub static FAULT: AtomicU32 = AtomicU32::new(0);
+
+    /// The second side's answer with the fault chosen.
+    pub fn inject(before: &Case, after: &mut Case, mut answer: Answer) -> Answer {
+        match (FAULT.load(Ordering::Relaxed), before, after) {
+            // the last word of a log that comes to iteration 3 is off by one
+            (1, Case::Route { .. }, Case::Route { log, .. }) if answer.numbers[0] >= 3 => {
+                log[answer.numbers[2] as usize - 1] ^= 1;
+            }
+            // a bad target goes unseen
+            (2, Case::Route { job, .. }, _) if answer.refusal == [5, 4] && job.graph.kind.len() > 1 => {
+                answer.refusal = vec![5, 5];
+            }
+            // a CR is taken for a wrong value
+            (3, Case::Read { text, .. }, _) if text.contains(&b'\r') && answer.refusal.first() == Some(&1) => {
+                answer.refusal[0] = 2;
+            }
+            // the last table too short is written to
+            (4, Case::Read { .. }, Case::Read { tables, .. }) if answer.refusal == [4, 7] => {
+                if let Some(entry) = tables.sink.first_mut() {
+                    *entry = 9;
+                }
+            }
+            // two nets in a log are one byte too many
+            (5, Case::Write { log, .. }, _) if answer.refusal.is_empty() && log.len() > 20 => {
+                answer.numbers[0] += 1;
+            }
+            // a bad mark past the third node goes unseen
+            (6, Case::Search { .. }, _) if answer.refusal.first() == Some(&13) && answer.refusal[1] > 3 => {
+                answer.refusal.clear();
+            }
+            // one price is off
+            (7, Case::Price { factor, .. }, _) if answer.refusal.is_empty() && *factor == 65_535 => {
+                answer.numbers[0] += 1;
+            }
+            _ => {}
+        }
+        answer
+    }
+}

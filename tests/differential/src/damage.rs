@@ -1,0 +1,264 @@
+//! Tables that break a rule.
+
+use crate::jobs::{Graph, Job};
+use crate::rng::Rng;
+
+/// Damages a job in one way, at times in two or three.
+pub fn damage(rng: &mut Rng, job: &mut Job) {
+    let times = rng.pick(&[1, 1, 1, 1, 2, 3]);
+    for _ in 0..times {
+        match rng.below(8) {
+            0..=3 => one_of_graph(rng, &mut job.graph),
+            4 => sources(rng, job),
+            5 => first_sinks(rng, job),
+            6 => sinks(rng, job),
+            _ => job.limit = rng.pick(&[0, 101, 102, 256, 257, 65_536, 65_537, u32::MAX]),
+        }
+    }
+}
+
+/// Damages tables 1 to 4 only.
+pub fn damage_graph(rng: &mut Rng, graph: &mut Graph) {
+    one_of_graph(rng, graph);
+    if rng.once_in(4) {
+        one_of_graph(rng, graph);
+    }
+}
+
+fn one_of_graph(rng: &mut Rng, graph: &mut Graph) {
+    match rng.below(4) {
+        0 => kinds(rng, graph),
+        1 => capacities(rng, graph),
+        2 => first_edges(rng, graph),
+        _ => targets(rng, graph),
+    }
+}
+
+/// One entry too many or too few, or none at all.
+fn length<T: Copy>(rng: &mut Rng, table: &mut Vec<T>, more: T) {
+    match rng.below(5) {
+        0 | 1 => table.push(more),
+        2 | 3 => drop(table.pop()),
+        _ => table.clear(),
+    }
+}
+
+/// Puts a value at a random place.
+fn put<T>(rng: &mut Rng, table: &mut [T], value: T) {
+    if !table.is_empty() {
+        let place = rng.below(table.len());
+        table[place] = value;
+    }
+}
+
+fn kinds(rng: &mut Rng, graph: &mut Graph) {
+    if rng.once_in(400) {
+        too_many_nodes(rng, graph);
+    } else if rng.percent(40) {
+        length(rng, &mut graph.kind, 4);
+    } else {
+        let code = rng.pick(&[16, 17, 100, 128, 255]);
+        put(rng, &mut graph.kind, code);
+    }
+}
+
+/// 4,097 nodes, or more than 65,536.
+fn too_many_nodes(rng: &mut Rng, graph: &mut Graph) {
+    let nodes = rng.pick(&[4_097, 4_098, 65_537]);
+    let last = graph.edge_target.len() as u32;
+    graph.kind.resize(nodes, 4);
+    graph.capacity.resize(nodes, 1);
+    graph.first_edge.resize(nodes + 1, last);
+}
+
+fn capacities(rng: &mut Rng, graph: &mut Graph) {
+    if rng.percent(50) {
+        length(rng, &mut graph.capacity, 1);
+    } else {
+        put(rng, &mut graph.capacity, 0);
+    }
+}
+
+/// A first place list: wrong length, start, order or end.
+fn firsts(rng: &mut Rng, first: &mut Vec<u32>) {
+    let last = first.last().copied().unwrap_or(0);
+    match rng.below(7) {
+        0 => length(rng, first, last),
+        1 => *first = [0, 1, last].repeat(rng.within(0, 2)),
+        2 if !first.is_empty() => first[0] = rng.pick(&[1, last, u32::MAX]),
+        3 if first.len() > 2 => fall(rng, first),
+        4 if !first.is_empty() => *first.last_mut().unwrap() = rng.pick(&[last.wrapping_sub(1), last + 1, 0, u32::MAX]),
+        5 if first.len() > 1 => {
+            let place = rng.within(1, first.len() - 1);
+            first[place] = first[place - 1];
+        }
+        _ => {
+            let value = rng.pick(&[0, 1, last.wrapping_add(1), 32_768, 65_536, 0x8000_0000, u32::MAX]);
+            put(rng, first, value);
+        }
+    }
+}
+
+/// Swaps neighbours, or puts one entry below the one before it.
+fn fall(rng: &mut Rng, first: &mut [u32]) {
+    let place = rng.within(1, first.len() - 1);
+    if rng.percent(50) {
+        first.swap(place - 1, place);
+    } else {
+        first[place] = first[place - 1].wrapping_sub(1);
+    }
+}
+
+fn first_edges(rng: &mut Rng, graph: &mut Graph) {
+    firsts(rng, &mut graph.first_edge);
+}
+
+fn targets(rng: &mut Rng, graph: &mut Graph) {
+    let nodes = graph.kind.len() as u16;
+    match rng.below(8) {
+        0 | 1 => {
+            let value = rng.pick(&[nodes, nodes, nodes.wrapping_add(1), 4_096, u16::MAX]);
+            put(rng, &mut graph.edge_target, value);
+        }
+        2 => equal_neighbours(rng, &mut graph.edge_target),
+        3 => swap_neighbours(rng, &mut graph.edge_target),
+        4 | 5 => to_itself(rng, graph),
+        6 => length(rng, &mut graph.edge_target, 0),
+        _ if rng.once_in(20) => too_many_edges(rng, graph),
+        _ => {
+            let value = rng.below(nodes as usize + 1) as u16;
+            put(rng, &mut graph.edge_target, value);
+        }
+    }
+}
+
+fn equal_neighbours(rng: &mut Rng, table: &mut [u16]) {
+    if table.len() > 1 {
+        let place = rng.within(1, table.len() - 1);
+        table[place] = table[place - 1];
+    }
+}
+
+fn swap_neighbours(rng: &mut Rng, table: &mut [u16]) {
+    if table.len() > 1 {
+        let place = rng.within(1, table.len() - 1);
+        table.swap(place - 1, place);
+    }
+}
+
+/// An edge to its own node; in order, where there is one alone in its row.
+fn to_itself(rng: &mut Rng, graph: &mut Graph) {
+    if graph.kind.is_empty() || graph.first_edge.len() <= graph.kind.len() {
+        return;
+    }
+    let node = rng.below(graph.kind.len());
+    let (from, end) = (graph.first_edge[node] as usize, graph.first_edge[node + 1] as usize);
+    if from >= end || end > graph.edge_target.len() {
+        return;
+    }
+    let place = (from..end).find(|place| graph.edge_target[*place] as usize > node).unwrap_or(end - 1);
+    graph.edge_target[place] = node as u16;
+}
+
+/// More than 32,768 edges, with which table 3 agrees or not.
+fn too_many_edges(rng: &mut Rng, graph: &mut Graph) {
+    if rng.percent(50) {
+        let job = crate::jobs::full(182, rng.pick(&[32_769, 32_770, 32_942]));
+        *graph = job.graph;
+        return;
+    }
+    let edges = rng.pick(&[32_768, 32_769, 65_536]);
+    graph.edge_target.resize(edges, 0);
+    if rng.percent(80) {
+        if let Some(last) = graph.first_edge.last_mut() {
+            *last = edges as u32;
+        }
+    }
+}
+
+fn sources(rng: &mut Rng, job: &mut Job) {
+    let nodes = job.graph.kind.len() as u16;
+    match rng.below(6) {
+        0 => length(rng, &mut job.source, 0),
+        1 => no_nets(rng, job),
+        2 if rng.once_in(10) => too_many_nets(rng, job),
+        _ => {
+            let value = rng.pick(&[nodes, nodes, nodes.wrapping_add(1), 4_096, u16::MAX]);
+            put(rng, &mut job.source, value);
+        }
+    }
+}
+
+/// No nets, the other tables fitting or not.
+fn no_nets(rng: &mut Rng, job: &mut Job) {
+    job.source.clear();
+    if rng.percent(70) {
+        job.first_sink = vec![0];
+        job.sink.clear();
+    }
+}
+
+/// 513 nets or more, with as many sinks as are missing.
+fn too_many_nets(rng: &mut Rng, job: &mut Job) {
+    let nets = rng.pick(&[513, 514, 65_536]);
+    let mut nodes = (0, 1);
+    if rng.percent(50) {
+        nodes = (1, 0);
+    }
+    while job.source.len() < nets {
+        job.source.push(nodes.0);
+        job.sink.push(nodes.1);
+        job.first_sink.push(job.sink.len() as u32);
+    }
+}
+
+fn first_sinks(rng: &mut Rng, job: &mut Job) {
+    firsts(rng, &mut job.first_sink);
+}
+
+fn sinks(rng: &mut Rng, job: &mut Job) {
+    let nodes = job.graph.kind.len() as u16;
+    match rng.below(8) {
+        0 | 1 => {
+            let value = rng.pick(&[nodes, nodes, nodes.wrapping_add(1), 4_096, u16::MAX]);
+            put(rng, &mut job.sink, value);
+        }
+        2 | 3 => repeat_sink(rng, job),
+        4 | 5 => source_as_sink(rng, job),
+        6 if rng.once_in(20) => too_many_sinks(rng, job),
+        _ => length(rng, &mut job.sink, 1),
+    }
+}
+
+/// A net's places in the sink table, if they are there.
+fn sink_row(rng: &mut Rng, job: &Job) -> Option<(usize, usize, usize)> {
+    let nets = job.source.len().min(job.first_sink.len().saturating_sub(1));
+    if nets == 0 {
+        return None;
+    }
+    let net = rng.below(nets);
+    let (from, end) = (job.first_sink[net] as usize, job.first_sink[net + 1] as usize);
+    (from < end && end <= job.sink.len()).then_some((net, from, end))
+}
+
+/// One more sink in a net, equal to one of its own.
+fn repeat_sink(rng: &mut Rng, job: &mut Job) {
+    let Some((net, from, end)) = sink_row(rng, job) else { return };
+    let copied = job.sink[rng.within(from, end - 1)];
+    job.sink.insert(rng.within(from, end), copied);
+    for first in &mut job.first_sink[net + 1..] {
+        *first = first.wrapping_add(1);
+    }
+}
+
+fn source_as_sink(rng: &mut Rng, job: &mut Job) {
+    let Some((net, from, end)) = sink_row(rng, job) else { return };
+    job.sink[rng.within(from, end - 1)] = job.source[net];
+}
+
+/// 4,097 sinks, in all else sound.
+fn too_many_sinks(rng: &mut Rng, job: &mut Job) {
+    let limit = job.limit;
+    *job = crate::jobs::many_sinks(rng, 4_097);
+    job.limit = limit;
+}

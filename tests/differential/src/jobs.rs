@@ -1,0 +1,551 @@
+//! Sound jobs from a seed.
+
+use crate::rng::Rng;
+
+/// Tables 1 to 4.
+#[derive(Clone, Debug, PartialEq, Eq)]
+pub struct Graph {
+    pub kind: Vec<u8>,
+    pub capacity: Vec<u8>,
+    pub first_edge: Vec<u32>,
+    pub edge_target: Vec<u16>,
+}
+
+/// Tables 1 to 7 and the limit.
+#[derive(Clone, Debug, PartialEq, Eq)]
+pub struct Job {
+    pub graph: Graph,
+    pub source: Vec<u16>,
+    pub first_sink: Vec<u32>,
+    pub sink: Vec<u16>,
+    pub limit: u32,
+}
+
+/// A job as lists of lists, from which the tables are made.
+#[derive(Clone, Debug)]
+pub struct Plan {
+    pub kind: Vec<u8>,
+    pub capacity: Vec<u8>,
+    pub rows: Vec<Vec<u16>>,
+    pub nets: Vec<(u16, Vec<u16>)>,
+    pub limit: u32,
+}
+
+impl Plan {
+    /// A graph of wires of length 1, capacities 1, without edges and nets.
+    fn empty(nodes: usize) -> Plan {
+        Plan {
+            kind: vec![4; nodes],
+            capacity: vec![1; nodes],
+            rows: vec![Vec::new(); nodes],
+            nets: Vec::new(),
+            limit: 1,
+        }
+    }
+
+    pub fn nodes(&self) -> usize {
+        self.kind.len()
+    }
+
+    /// Adds an edge, unless it is one from a node to itself.
+    fn join(&mut self, from: usize, to: usize) {
+        if from != to {
+            self.rows[from].push(to as u16);
+        }
+    }
+
+    /// Adds edges both ways.
+    fn both(&mut self, one: usize, other: usize) {
+        self.join(one, other);
+        self.join(other, one);
+    }
+
+    /// Brings each row in rising order, nothing twice.
+    fn tidy(&mut self) {
+        for row in &mut self.rows {
+            row.sort_unstable();
+            row.dedup();
+        }
+    }
+
+    /// The tables.
+    pub fn job(&self) -> Job {
+        let (first_edge, edge_target) = places(self.rows.iter());
+        let (first_sink, sink) = places(self.nets.iter().map(|net| &net.1));
+        Job {
+            graph: Graph {
+                kind: self.kind.clone(),
+                capacity: self.capacity.clone(),
+                first_edge,
+                edge_target,
+            },
+            source: self.nets.iter().map(|net| net.0).collect(),
+            first_sink,
+            sink,
+            limit: self.limit,
+        }
+    }
+}
+
+/// First places and entries of a list of rows.
+fn places<'a>(rows: impl Iterator<Item = &'a Vec<u16>>) -> (Vec<u32>, Vec<u16>) {
+    let mut first = vec![0];
+    let mut all = Vec::new();
+    for row in rows {
+        all.extend_from_slice(row);
+        first.push(all.len() as u32);
+    }
+    (first, all)
+}
+
+/// A sound job.
+pub fn job(rng: &mut Rng) -> Job {
+    plan(rng).job()
+}
+
+/// A sound job of few nodes.
+pub fn small(rng: &mut Rng) -> Job {
+    small_plan(rng).job()
+}
+
+/// A sound job's lists.
+pub fn plan(rng: &mut Rng) -> Plan {
+    match rng.below(1000) {
+        0..=2 => large(rng),
+        3 => crowd(rng),
+        4..=69 => {
+            let nodes = rng.within(15, 60);
+            any(rng, nodes, 4)
+        }
+        70..=119 => heavy(rng),
+        _ => small_plan(rng),
+    }
+}
+
+/// A job of few nodes, often a congested one.
+fn small_plan(rng: &mut Rng) -> Plan {
+    if rng.percent(45) {
+        congested(rng)
+    } else {
+        let nodes = rng.within(2, 14);
+        any(rng, nodes, 6)
+    }
+}
+
+/// A random graph with nets anywhere.
+fn any(rng: &mut Rng, nodes: usize, nets: usize) -> Plan {
+    let mut plan = edges(rng, nodes);
+    kinds(rng, &mut plan);
+    capacities(rng, &mut plan);
+    let most = match rng.below(12) {
+        0 => 4 * nets,
+        1..=3 => nets,
+        _ => nets.min(nodes / 3).max(1),
+    };
+    let count = rng.within(1, most);
+    add_nets(rng, &mut plan, count);
+    plan.limit = limit(rng, nodes);
+    plan
+}
+
+/// Several hundred nodes, few nets and iterations.
+fn large(rng: &mut Rng) -> Plan {
+    let nodes = rng.within(100, 400);
+    let mut plan = if rng.percent(70) { grid(rng, nodes) } else { sparse(rng, nodes) };
+    kinds(rng, &mut plan);
+    capacities(rng, &mut plan);
+    let count = rng.within(1, 3);
+    add_nets(rng, &mut plan, count);
+    for net in &mut plan.nets {
+        net.1.truncate(3);
+    }
+    plan.limit = rng.within(1, 3) as u32;
+    plan
+}
+
+/// Few nodes, hundreds of nets.
+fn crowd(rng: &mut Rng) -> Plan {
+    let nodes = rng.within(3, 10);
+    let mut plan = edges(rng, nodes);
+    kinds(rng, &mut plan);
+    for capacity in &mut plan.capacity {
+        *capacity = rng.pick(&[1, 100, 254, 255]);
+    }
+    let count = rng.pick(&[100, 254, 255, 256, 257, 300]);
+    add_nets(rng, &mut plan, count);
+    for net in &mut plan.nets {
+        net.1.truncate(2);
+    }
+    plan.limit = rng.within(1, 2) as u32;
+    plan
+}
+
+/// Sources, a few wires, sinks: more nets than wires, or just as many.
+fn congested(rng: &mut Rng) -> Plan {
+    let nets = rng.within(2, 6);
+    let wires = wire_count(rng, nets);
+    wired(rng, nets, wires)
+}
+
+/// So many nets over so many wires.
+fn wired(rng: &mut Rng, nets: usize, wires: usize) -> Plan {
+    let mut plan = Plan::empty(2 * nets + wires);
+    let reach = rng.pick(&[20, 40, 60, 80, 100]);
+    let mut own: Vec<usize> = (0..wires).collect();
+    rng.shuffle(&mut own);
+    for net in 0..nets {
+        plan.kind[net] = 0;
+        plan.kind[nets + wires + net] = 1;
+        link(rng, &mut plan, nets, net, own[net % wires], reach);
+    }
+    between_wires(rng, &mut plan, nets, wires);
+    wire_kinds(rng, &mut plan, nets, wires);
+    let sinks = rng.pick(&[1, 1, 1, 2, 3]).min(nets);
+    next_sinks(&mut plan, nets, wires, sinks);
+    plan.tidy();
+    if sinks > 1 {
+        keep_reached(rng, &mut plan);
+    }
+    if rng.percent(30) {
+        renumber(rng, &mut plan);
+    }
+    if rng.percent(20) {
+        capacities(rng, &mut plan);
+    } else {
+        widen_sinks(&mut plan, sinks);
+    }
+    plan.limit = rng.within(2, 20) as u32;
+    plan
+}
+
+/// A few edges from wire to wire.
+fn between_wires(rng: &mut Rng, plan: &mut Plan, nets: usize, wires: usize) {
+    for one in 0..wires {
+        for other in 0..wires {
+            if rng.percent(20) {
+                plan.join(nets + one, nets + other);
+            }
+        }
+    }
+}
+
+/// Gives each net its own sink and those of the nets after it, so many in all.
+fn next_sinks(plan: &mut Plan, nets: usize, wires: usize, sinks: usize) {
+    for net in 0..nets {
+        let list = (0..sinks).map(|step| (nets + wires + (net + step) % nets) as u16).collect();
+        plan.nets.push((net as u16, list));
+    }
+}
+
+/// Gives sinks the capacity for so many nets.
+fn widen_sinks(plan: &mut Plan, nets: usize) {
+    for net in &plan.nets {
+        for sink in &net.1 {
+            plan.capacity[*sink as usize] = nets as u8;
+        }
+    }
+}
+
+/// How many wires: mostly about enough, at times far too few.
+fn wire_count(rng: &mut Rng, nets: usize) -> usize {
+    if rng.percent(20) {
+        rng.within(1, nets)
+    } else {
+        rng.within(nets - 1, nets + 2)
+    }
+}
+
+/// Joins a net's source and sink to some of the wires, in any case to its own one.
+fn link(rng: &mut Rng, plan: &mut Plan, nets: usize, net: usize, own: usize, reach: usize) {
+    let wires = plan.nodes() - 2 * nets;
+    for wire in 0..wires {
+        if wire == own || rng.percent(reach) {
+            plan.join(net, nets + wire);
+        }
+        if wire == own || rng.percent(reach) {
+            plan.join(nets + wire, nets + wires + net);
+        }
+    }
+}
+
+/// Lengths of wires, equal or nearly so.
+fn wire_kinds(rng: &mut Rng, plan: &mut Plan, nets: usize, wires: usize) {
+    let most = rng.pick(&[4, 4, 5, 6, 15]);
+    for wire in nets..nets + wires {
+        plan.kind[wire] = rng.within(4, most) as u8;
+    }
+}
+
+/// Unroutable jobs of long wires and many iterations: costs beyond 32 bits.
+fn heavy(rng: &mut Rng) -> Plan {
+    let nets = rng.within(3, 6);
+    let wires = rng.within(1, 3);
+    let mut plan = wired(rng, nets, wires);
+    plan.limit = rng.within(19, 32) as u32;
+    if rng.once_in(8) {
+        plan.limit = rng.within(33, 100) as u32;
+    }
+    for kind in &mut plan.kind {
+        if *kind >= 4 && rng.percent(80) {
+            *kind = 15;
+        }
+    }
+    plan
+}
+
+/// Gives the nodes other numbers.
+fn renumber(rng: &mut Rng, plan: &mut Plan) {
+    let mut number: Vec<u16> = (0..plan.nodes() as u16).collect();
+    rng.shuffle(&mut number);
+    let old = plan.clone();
+    for node in 0..old.nodes() {
+        let new = number[node] as usize;
+        plan.kind[new] = old.kind[node];
+        plan.capacity[new] = old.capacity[node];
+        plan.rows[new] = old.rows[node].iter().map(|to| number[*to as usize]).collect();
+    }
+    for net in &mut plan.nets {
+        net.0 = number[net.0 as usize];
+        for sink in &mut net.1 {
+            *sink = number[*sink as usize];
+        }
+    }
+    plan.tidy();
+}
+
+/// A graph of some form.
+fn edges(rng: &mut Rng, nodes: usize) -> Plan {
+    match rng.below(6) {
+        0 => sparse(rng, nodes),
+        1 => dense(rng, nodes),
+        2 | 3 => grid(rng, nodes),
+        4 => layers(rng, nodes),
+        _ => ring(rng, nodes),
+    }
+}
+
+/// One to three edges a node.
+fn sparse(rng: &mut Rng, nodes: usize) -> Plan {
+    let mut plan = Plan::empty(nodes);
+    for node in 0..nodes {
+        for _ in 0..rng.within(1, 3) {
+            let to = rng.below(nodes);
+            plan.join(node, to);
+        }
+    }
+    plan.tidy();
+    plan
+}
+
+/// Many of all edges, or every one.
+fn dense(rng: &mut Rng, nodes: usize) -> Plan {
+    let mut plan = Plan::empty(nodes);
+    let chance = rng.pick(&[40, 60, 80, 100]);
+    for from in 0..nodes {
+        for to in 0..nodes {
+            if rng.percent(chance) {
+                plan.join(from, to);
+            }
+        }
+    }
+    plan.tidy();
+    plan
+}
+
+/// Neighbours in rows of equal width, some edges left out.
+fn grid(rng: &mut Rng, nodes: usize) -> Plan {
+    let mut plan = Plan::empty(nodes);
+    let root = (1..).find(|side| side * side >= nodes).unwrap();
+    let width = rng.within(1, root + 1);
+    let kept = rng.pick(&[70, 90, 100]);
+    for node in 0..nodes {
+        if (node + 1) % width != 0 && node + 1 < nodes && rng.percent(kept) {
+            plan.both(node, node + 1);
+        }
+        if node + width < nodes && rng.percent(kept) {
+            plan.both(node, node + width);
+        }
+    }
+    plan.tidy();
+    plan
+}
+
+/// Each layer has edges to the next one.
+fn layers(rng: &mut Rng, nodes: usize) -> Plan {
+    let mut plan = Plan::empty(nodes);
+    let width = rng.within(1, 4);
+    for from in 0..nodes {
+        let next = (from / width + 1) * width;
+        for to in next..(next + width).min(nodes) {
+            if rng.percent(75) {
+                plan.join(from, to);
+            }
+        }
+    }
+    plan.tidy();
+    plan
+}
+
+/// A ring with a few further edges.
+fn ring(rng: &mut Rng, nodes: usize) -> Plan {
+    let mut plan = Plan::empty(nodes);
+    let one_way = rng.percent(50);
+    for node in 0..nodes {
+        plan.join(node, (node + 1) % nodes);
+        if !one_way {
+            plan.join((node + 1) % nodes, node);
+        }
+    }
+    for _ in 0..rng.below(nodes / 2 + 1) {
+        let (from, to) = (rng.below(nodes), rng.below(nodes));
+        plan.join(from, to);
+    }
+    plan.tidy();
+    plan
+}
+
+/// Kinds, mostly such that many costs are equal.
+fn kinds(rng: &mut Rng, plan: &mut Plan) {
+    let choices: &[u8] = match rng.below(6) {
+        0 => &[4],
+        1 => &[0, 1, 2, 4],
+        2 => &[3, 4],
+        3 => &[4, 5],
+        4 => &[4, 4, 4, 5, 6, 7],
+        _ => &[0, 1, 2, 3, 4, 5, 6, 7, 8, 9, 10, 11, 12, 13, 14, 15],
+    };
+    for kind in &mut plan.kind {
+        *kind = rng.pick(choices);
+    }
+}
+
+/// Capacities, mostly 1.
+fn capacities(rng: &mut Rng, plan: &mut Plan) {
+    let choices: &[u8] = match rng.below(8) {
+        0..=3 => &[1],
+        4 | 5 => &[1, 1, 1, 2],
+        6 => &[1, 2, 3],
+        _ => &[1, 2, 3, 4, 5, 7, 100, 255],
+    };
+    for capacity in &mut plan.capacity {
+        *capacity = rng.pick(choices);
+    }
+}
+
+/// Adds nets; their sinks are mostly ones that have a path.
+fn add_nets(rng: &mut Rng, plan: &mut Plan, count: usize) {
+    let anywhere = rng.percent(12);
+    let apart = rng.percent(80);
+    let most = if rng.percent(20) { plan.nodes() } else { 3 };
+    let mut taken = vec![false; plan.nodes()];
+    for _ in 0..count {
+        let source = start(rng, plan, &taken, apart);
+        taken[source] = true;
+        let mut sinks = if anywhere { Vec::new() } else { reached(plan, source) };
+        if apart && sinks.iter().any(|node| !taken[*node as usize]) {
+            sinks.retain(|node| !taken[*node as usize]);
+        }
+        if sinks.is_empty() {
+            sinks = (0..plan.nodes() as u16).filter(|node| *node as usize != source).collect();
+        }
+        rng.shuffle(&mut sinks);
+        sinks.truncate(rng.within(1, most));
+        for sink in &sinks {
+            taken[*sink as usize] = true;
+        }
+        plan.nets.push((source as u16, sinks));
+    }
+}
+
+/// A source, if possible one with edges and no part in other nets.
+fn start(rng: &mut Rng, plan: &Plan, taken: &[bool], apart: bool) -> usize {
+    let mut node = rng.below(plan.nodes());
+    for _ in 0..8 {
+        if !plan.rows[node].is_empty() && !(apart && taken[node]) {
+            break;
+        }
+        node = rng.below(plan.nodes());
+    }
+    node
+}
+
+/// Leaves out sinks without a path, mostly.
+fn keep_reached(rng: &mut Rng, plan: &mut Plan) {
+    if rng.once_in(10) {
+        return;
+    }
+    for net in 0..plan.nets.len() {
+        let reached = reached(plan, plan.nets[net].0 as usize);
+        plan.nets[net].1.retain(|sink| reached.contains(sink));
+    }
+    plan.nets.retain(|net| !net.1.is_empty());
+}
+
+/// The nodes that a node has a path to, itself left out.
+fn reached(plan: &Plan, from: usize) -> Vec<u16> {
+    let mut seen = vec![false; plan.nodes()];
+    seen[from] = true;
+    let mut list = vec![from as u16];
+    let mut place = 0;
+    while place < list.len() {
+        for to in &plan.rows[list[place] as usize] {
+            if !seen[*to as usize] {
+                seen[*to as usize] = true;
+                list.push(*to);
+            }
+        }
+        place += 1;
+    }
+    list.remove(0);
+    list
+}
+
+/// A limit, small for many nodes.
+fn limit(rng: &mut Rng, nodes: usize) -> u32 {
+    let most = if nodes > 14 { 5 } else { 20 };
+    rng.within(1, most) as u32
+}
+
+/// All edges of `nodes` nodes in order, at most `edges` of them; one net between the ends.
+pub fn full(nodes: usize, edges: usize) -> Job {
+    let mut plan = Plan::empty(nodes);
+    let mut left = edges;
+    for from in 0..nodes {
+        for to in 0..nodes {
+            if from != to && left > 0 {
+                plan.join(from, to);
+                left -= 1;
+            }
+        }
+    }
+    plan.nets.push((0, vec![1]));
+    plan.job()
+}
+
+/// 512 nets over ten nodes with so many sinks in all (512 to 4,608).
+pub fn many_sinks(rng: &mut Rng, sinks: usize) -> Job {
+    let mut plan = Plan::empty(10);
+    for from in 0..10 {
+        for to in 0..10 {
+            plan.join(from, to);
+        }
+    }
+    plan.capacity.fill(255);
+    for net in 0..512 {
+        let count = sinks / 512 + usize::from(net < sinks % 512);
+        let source = rng.below(10);
+        let list = (1..=count).map(|step| ((source + step) % 10) as u16).collect();
+        plan.nets.push((source as u16, list));
+    }
+    plan.job()
+}
+
+/// A line of so many nodes, one net from its start to its end.
+pub fn line(nodes: usize) -> Job {
+    let mut plan = Plan::empty(nodes);
+    for node in 1..nodes {
+        plan.join(node - 1, node);
+    }
+    plan.nets.push((0, vec![nodes as u16 - 1]));
+    plan.job()
+}

@@ -1,0 +1,91 @@
+//! Sets the library beside the plain crate on many seeded jobs and texts.
+//!
+//! differential [JOBS] [TEXTS] [SEED]
+
+mod alone;
+mod compare;
+mod damage;
+mod jobs;
+mod rng;
+mod run;
+mod shrink;
+mod texts;
+
+use run::{Failure, Run};
+use std::process::ExitCode;
+use std::time::Instant;
+
+const JOBS: u64 = 20_000;
+const TEXTS: u64 = 20_000;
+const SEED: u64 = 1;
+
+/// The argument at a place, or what stands for it.
+fn argument(place: usize, missing: u64) -> u64 {
+    match std::env::args().nth(place) {
+        None => missing,
+        Some(text) => text.parse().unwrap_or_else(|_| {
+            eprintln!("differential [JOBS] [TEXTS] [SEED], each a number");
+            std::process::exit(2);
+        }),
+    }
+}
+
+/// Runs all jobs and texts, up to the first that fails.
+fn run_all(run: &mut Run, jobs: u64, texts: u64, seed: u64) -> Result<(), (String, Failure)> {
+    for index in 0..jobs {
+        let one = seed.wrapping_add(index);
+        run.job(one).map_err(|failure| (format!("differential 1 0 {one}"), failure))?;
+    }
+    for index in 0..texts {
+        let one = seed.wrapping_add(index);
+        run.text(one).map_err(|failure| (format!("differential 0 1 {one}"), failure))?;
+    }
+    Ok(())
+}
+
+/// Prints a failure with the smallest form found.
+fn report(again: &str, failure: &Failure) {
+    println!("\nDIFFERENCE, again with: {again}\n{}\n", failure.message);
+    let smallest = shrink::shrink(&failure.case, &|case| run::examine(case, failure.out).is_err());
+    println!("smallest form found:\n{}", shrink::literal(&smallest));
+    if let Err(message) = run::examine(&smallest, failure.out) {
+        println!("{message}");
+    }
+}
+
+#[cfg(feature = "library")]
+fn prepare() {}
+
+/// Without the library, DIFFERENTIAL_FAULT names a fault of the second side.
+#[cfg(not(feature = "library"))]
+fn prepare() {
+    println!("plain beside itself");
+    if let Ok(text) = std::env::var("DIFFERENTIAL_FAULT") {
+        let fault = text.parse().expect("DIFFERENTIAL_FAULT is a number");
+        compare::inject::FAULT.store(fault, std::sync::atomic::Ordering::Relaxed);
+    }
+}
+
+fn main() -> ExitCode {
+    let (jobs, texts, seed) = (argument(1, JOBS), argument(2, TEXTS), argument(3, SEED));
+    prepare();
+    let start = Instant::now();
+    println!("{jobs} jobs, {texts} texts, seed {seed}");
+    let mut run = Run::new();
+    let result = run_all(&mut run, jobs, texts, seed);
+    run.print();
+    if result.is_ok() && jobs >= JOBS && texts >= TEXTS {
+        run.print_missing();
+    }
+    println!("{:.1} s", start.elapsed().as_secs_f64());
+    match result {
+        Ok(()) => {
+            println!("ok");
+            ExitCode::SUCCESS
+        }
+        Err((again, failure)) => {
+            report(&again, &failure);
+            ExitCode::FAILURE
+        }
+    }
+}

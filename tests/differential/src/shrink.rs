@@ -1,0 +1,547 @@
+//! Makes a failing case smaller while it still fails, and prints it.
+
+use crate::compare::{Case, Tables};
+use crate::jobs::{Graph, Job};
+use std::time::{Duration, Instant};
+
+/// A way to a smaller case. Spans are a first place and a count.
+#[derive(Clone, Copy, Debug)]
+enum Step {
+    /// Drops nodes with their edges, nets and sinks.
+    Nodes(usize, usize),
+    /// Drops edges.
+    Edges(usize, usize),
+    /// Drops nets with their sinks.
+    Nets(usize, usize),
+    /// Drops sinks.
+    Sinks(usize, usize),
+    /// Drops entries of the slice with this number.
+    Cut(usize, usize, usize),
+    /// Lowers an entry of the slice with this number.
+    Lower(usize, usize, u64),
+    /// Lowers the single number with this number.
+    Number(usize, u64),
+    /// Fills the slice with this number with one value.
+    Fill(usize),
+    /// Drops a record of the writer's log.
+    Record(usize),
+    /// Drops the second node of a record of the writer's log.
+    PathNode(usize),
+}
+
+/// How long the shrinker may try.
+const TIME: Duration = Duration::from_secs(40);
+
+/// The smallest case found that still fails.
+pub fn shrink(case: &Case, fails: &dyn Fn(&Case) -> bool) -> Case {
+    let end = Instant::now() + TIME;
+    let mut best = case.clone();
+    loop {
+        let mut better = false;
+        for step in steps(&best) {
+            if Instant::now() > end {
+                return best;
+            }
+            if let Some(smaller) = apply(&best, step) {
+                if smaller != best && fails(&smaller) {
+                    best = smaller;
+                    better = true;
+                }
+            }
+        }
+        if !better {
+            return best;
+        }
+    }
+}
+
+/// All steps worth trying, coarse ones first.
+fn steps(case: &Case) -> Vec<Step> {
+    let mut list = Vec::new();
+    let (nodes, edges, nets, sinks) = sizes(case);
+    list.extend(spans(nets).into_iter().map(|(from, count)| Step::Nets(from, count)));
+    list.extend(spans(nodes).into_iter().map(|(from, count)| Step::Nodes(from, count)));
+    list.extend(spans(sinks).into_iter().map(|(from, count)| Step::Sinks(from, count)));
+    list.extend(spans(edges).into_iter().map(|(from, count)| Step::Edges(from, count)));
+    for (number, value) in numbers(case).into_iter().enumerate() {
+        list.extend(lower(value).into_iter().map(|value| Step::Number(number, value)));
+    }
+    list.extend((0..record_count(case)).rev().map(Step::Record));
+    list.extend((0..record_count(case)).map(Step::PathNode));
+    for number in 0..slice_count(case) {
+        let length = slice_length(case, number);
+        if only_written(case, number) {
+            list.push(Step::Fill(number));
+            list.extend(ends(length).into_iter().map(|(from, count)| Step::Cut(number, from, count)));
+            continue;
+        }
+        list.extend(spans(length).into_iter().map(|(from, count)| Step::Cut(number, from, count)));
+        for place in 0..length.min(400) {
+            let value = entry(case, number, place);
+            list.extend(lower(value).into_iter().map(|value| Step::Lower(number, place, value)));
+        }
+    }
+    list
+}
+
+/// Spans of a list, half of it first, single places last, the later ones before the earlier.
+fn spans(length: usize) -> Vec<(usize, usize)> {
+    let mut list = Vec::new();
+    let mut count = length;
+    while count > 0 {
+        let mut from = length - length % count;
+        while from > 0 {
+            from -= count;
+            list.push((from, count));
+        }
+        count /= 2;
+    }
+    list
+}
+
+/// Spans at the end of a list, the whole of it first.
+fn ends(length: usize) -> Vec<(usize, usize)> {
+    let mut list = Vec::new();
+    let mut count = length;
+    while count > 0 {
+        list.push((length - count, count));
+        count /= 2;
+    }
+    list
+}
+
+/// Whether a slice is one whose old content a call doesn't read.
+fn only_written(case: &Case, number: usize) -> bool {
+    match case {
+        Case::Price { .. } => false,
+        Case::Search { .. } => number == 4,
+        Case::Route { .. } => number >= 7,
+        Case::Read { .. } | Case::Write { .. } => number >= 1,
+    }
+}
+
+/// Whole records of the writer's log.
+fn record_count(case: &Case) -> usize {
+    match case {
+        Case::Write { log, .. } => crate::texts::records(log).len() - 1,
+        _ => 0,
+    }
+}
+
+/// The writer's case without a record, or with one of a shorter path.
+fn drop_from_log(case: &mut Case, step: Step) -> Option<()> {
+    let Case::Write { log, .. } = case else { return None };
+    let places = crate::texts::records(log);
+    match step {
+        Step::Record(record) => {
+            log.drain(*places.get(record)?..*places.get(record + 1)?);
+        }
+        Step::PathNode(record) => {
+            let (from, end) = (*places.get(record)?, *places.get(record + 1)?);
+            if end - from <= 7 {
+                return None;
+            }
+            log[from + 5] -= 1;
+            log.remove(from + 7);
+        }
+        _ => return None,
+    }
+    Some(())
+}
+
+/// Lower values to try.
+fn lower(value: u64) -> Vec<u64> {
+    let mut list = vec![0, 1, value / 2, value.saturating_sub(1)];
+    list.retain(|lower| *lower < value);
+    list.dedup();
+    list
+}
+
+/// Nodes, edges, nets and sinks of a case that has them.
+fn sizes(case: &Case) -> (usize, usize, usize, usize) {
+    match case {
+        Case::Search { graph, .. } => (graph.kind.len(), graph.edge_target.len(), 0, 0),
+        Case::Route { job, .. } => job_sizes(job),
+        Case::Read { text, .. } => read_back(text).map_or((0, 0, 0, 0), |job| job_sizes(&job)),
+        _ => (0, 0, 0, 0),
+    }
+}
+
+fn job_sizes(job: &Job) -> (usize, usize, usize, usize) {
+    (job.graph.kind.len(), job.graph.edge_target.len(), job.source.len(), job.sink.len())
+}
+
+/// The job that a text holds by the plain reader, if it holds one.
+fn read_back(text: &[u8]) -> Option<Job> {
+    let lines = text.iter().filter(|byte| **byte == b'\n').count() + 2;
+    let tables = crate::texts::tables([lines; 7]);
+    let after = crate::compare::plain(&Case::Read { text: text.to_vec(), tables });
+    let Case::Read { tables: mut filled, .. } = after.case else { return None };
+    if !after.answer.refusal.is_empty() {
+        return None;
+    }
+    let counts: Vec<usize> = after.answer.numbers.iter().map(|number| *number as usize).collect();
+    filled.kind.truncate(counts[0]);
+    filled.capacity.truncate(counts[0]);
+    filled.first_edge.truncate(counts[0] + 1);
+    filled.edge_target.truncate(counts[1]);
+    filled.source.truncate(counts[2]);
+    filled.first_sink.truncate(counts[2] + 1);
+    filled.sink.truncate(counts[3]);
+    let Tables { kind, capacity, first_edge, edge_target, source, first_sink, sink } = filled;
+    let graph = Graph { kind, capacity, first_edge, edge_target };
+    Some(Job { graph, source, first_sink, sink, limit: counts[4] as u32 })
+}
+
+/// The case after a step, if the step can be made.
+fn apply(case: &Case, step: Step) -> Option<Case> {
+    let mut smaller = case.clone();
+    match step {
+        Step::Cut(number, from, count) => cut_slice(&mut smaller, number, from, count)?,
+        Step::Lower(number, place, value) => set_entry(&mut smaller, number, place, value)?,
+        Step::Number(number, value) => set_number(&mut smaller, number, value)?,
+        Step::Fill(number) => fill_slice(&mut smaller, number),
+        Step::Record(_) | Step::PathNode(_) => drop_from_log(&mut smaller, step)?,
+        _ => return drop_parts(smaller, step),
+    }
+    Some(smaller)
+}
+
+/// The case without some nodes, edges, nets or sinks.
+fn drop_parts(mut case: Case, step: Step) -> Option<Case> {
+    match &mut case {
+        Case::Search { graph, work, history, others, in_tree, .. } => {
+            let Step::Nodes(from, count) = step else {
+                let Step::Edges(from, count) = step else { return None };
+                drop_edges(graph, from, count)?;
+                return Some(case);
+            };
+            drop_nodes(graph, from, count)?;
+            work.truncate(work.len().checked_sub(8 * count)?);
+            cut(history, from, count);
+            cut(others, from, count);
+            cut(in_tree, from, count);
+        }
+        Case::Route { job, work, .. } => {
+            drop_from_job(job, step)?;
+            if let Step::Nodes(_, count) = step {
+                work.truncate(work.len().checked_sub(8 * count)?);
+            }
+        }
+        Case::Read { text, .. } => {
+            let mut job = read_back(text)?;
+            drop_from_job(&mut job, step)?;
+            *text = crate::texts::text(&job);
+        }
+        _ => return None,
+    }
+    Some(case)
+}
+
+fn drop_from_job(job: &mut Job, step: Step) -> Option<()> {
+    match step {
+        Step::Nodes(from, count) => drop_job_nodes(job, from, count),
+        Step::Edges(from, count) => drop_edges(&mut job.graph, from, count),
+        Step::Nets(from, count) => (0..count).try_for_each(|_| drop_net(job, from)),
+        Step::Sinks(from, count) => (0..count).try_for_each(|_| drop_sink(job, from)),
+        _ => None,
+    }
+}
+
+/// Takes entries out, as far as they are there.
+fn cut<T>(list: &mut Vec<T>, from: usize, count: usize) {
+    let end = (from + count).min(list.len());
+    list.drain(from.min(end)..end);
+}
+
+/// Takes one entry out of a list of rows and moves the later first places.
+fn drop_place(first: &mut [u32], all: &mut Vec<u16>, place: usize) -> Option<()> {
+    if place >= all.len() {
+        return None;
+    }
+    all.remove(place);
+    for entry in first.iter_mut().filter(|entry| **entry as usize > place) {
+        *entry -= 1;
+    }
+    Some(())
+}
+
+fn drop_edges(graph: &mut Graph, from: usize, count: usize) -> Option<()> {
+    (0..count).try_for_each(|_| drop_place(&mut graph.first_edge, &mut graph.edge_target, from))
+}
+
+fn drop_sink(job: &mut Job, place: usize) -> Option<()> {
+    drop_place(&mut job.first_sink, &mut job.sink, place)
+}
+
+/// Drops a net with its sinks.
+fn drop_net(job: &mut Job, net: usize) -> Option<()> {
+    let (from, end) = (*job.first_sink.get(net)? as usize, *job.first_sink.get(net + 1)? as usize);
+    if net >= job.source.len() || from > end || end > job.sink.len() {
+        return None;
+    }
+    for _ in from..end {
+        drop_sink(job, from)?;
+    }
+    job.source.remove(net);
+    job.first_sink.remove(net + 1);
+    Some(())
+}
+
+/// Drops nodes with their rows and the edges to them, and numbers the later ones anew.
+fn drop_nodes(graph: &mut Graph, from: usize, count: usize) -> Option<()> {
+    for _ in 0..count {
+        drop_node(graph, from)?;
+    }
+    Some(())
+}
+
+fn drop_node(graph: &mut Graph, node: usize) -> Option<()> {
+    let (from, end) = (*graph.first_edge.get(node)? as usize, *graph.first_edge.get(node + 1)? as usize);
+    if node >= graph.kind.len() || node >= graph.capacity.len() || from > end || end > graph.edge_target.len() {
+        return None;
+    }
+    drop_edges(graph, from, end - from)?;
+    while let Some(place) = graph.edge_target.iter().position(|to| *to as usize == node) {
+        drop_edges(graph, place, 1)?;
+    }
+    number_anew(&mut graph.edge_target, node);
+    graph.kind.remove(node);
+    graph.capacity.remove(node);
+    graph.first_edge.remove(node + 1);
+    Some(())
+}
+
+/// Lowers the numbers above a dropped node's.
+fn number_anew(list: &mut [u16], node: usize) {
+    for entry in list.iter_mut().filter(|entry| **entry as usize > node) {
+        *entry -= 1;
+    }
+}
+
+/// Drops nodes of a job, with the nets that start there and the sinks there.
+fn drop_job_nodes(job: &mut Job, from: usize, count: usize) -> Option<()> {
+    for _ in 0..count {
+        while let Some(net) = job.source.iter().position(|source| *source as usize == from) {
+            drop_net(job, net)?;
+        }
+        while let Some(place) = job.sink.iter().position(|sink| *sink as usize == from) {
+            drop_sink(job, place)?;
+        }
+        drop_node(&mut job.graph, from)?;
+        number_anew(&mut job.source, from);
+        number_anew(&mut job.sink, from);
+    }
+    Some(())
+}
+
+/// Calls something with the slice of a case that has a number.
+macro_rules! with_slice {
+    ($case:expr, $number:expr, $slice:ident => $body:expr) => {
+        match ($case, $number) {
+            (Case::Search { graph: Graph { kind: $slice, .. }, .. }, 0) => $body,
+            (Case::Search { graph: Graph { capacity: $slice, .. }, .. }, 1) => $body,
+            (Case::Search { graph: Graph { first_edge: $slice, .. }, .. }, 2) => $body,
+            (Case::Search { graph: Graph { edge_target: $slice, .. }, .. }, 3) => $body,
+            (Case::Search { work: $slice, .. }, 4) => $body,
+            (Case::Search { history: $slice, .. }, 5) => $body,
+            (Case::Search { others: $slice, .. }, 6) => $body,
+            (Case::Search { in_tree: $slice, .. }, _) => $body,
+            (Case::Route { job: Job { graph: Graph { kind: $slice, .. }, .. }, .. }, 0) => $body,
+            (Case::Route { job: Job { graph: Graph { capacity: $slice, .. }, .. }, .. }, 1) => $body,
+            (Case::Route { job: Job { graph: Graph { first_edge: $slice, .. }, .. }, .. }, 2) => $body,
+            (Case::Route { job: Job { graph: Graph { edge_target: $slice, .. }, .. }, .. }, 3) => $body,
+            (Case::Route { job: Job { source: $slice, .. }, .. }, 4) => $body,
+            (Case::Route { job: Job { first_sink: $slice, .. }, .. }, 5) => $body,
+            (Case::Route { job: Job { sink: $slice, .. }, .. }, 6) => $body,
+            (Case::Route { work: $slice, .. }, 7) => $body,
+            (Case::Route { log: $slice, .. }, _) => $body,
+            (Case::Read { text: $slice, .. }, 0) => $body,
+            (Case::Read { tables: Tables { kind: $slice, .. }, .. }, 1) => $body,
+            (Case::Read { tables: Tables { capacity: $slice, .. }, .. }, 2) => $body,
+            (Case::Read { tables: Tables { first_edge: $slice, .. }, .. }, 3) => $body,
+            (Case::Read { tables: Tables { edge_target: $slice, .. }, .. }, 4) => $body,
+            (Case::Read { tables: Tables { source: $slice, .. }, .. }, 5) => $body,
+            (Case::Read { tables: Tables { first_sink: $slice, .. }, .. }, 6) => $body,
+            (Case::Read { tables: Tables { sink: $slice, .. }, .. }, _) => $body,
+            (Case::Write { log: $slice, .. }, 0) => $body,
+            (Case::Write { buffer: $slice, .. }, _) => $body,
+            (Case::Price { .. }, _) => unreachable!("the price is lent no slice"),
+        }
+    };
+}
+
+fn slice_count(case: &Case) -> usize {
+    match case {
+        Case::Price { .. } => 0,
+        Case::Search { .. } => 8,
+        Case::Route { .. } => 9,
+        Case::Read { .. } => 8,
+        Case::Write { .. } => 2,
+    }
+}
+
+fn slice_length(case: &Case, number: usize) -> usize {
+    with_slice!(case, number, slice => slice.len())
+}
+
+fn entry(case: &Case, number: usize, place: usize) -> u64 {
+    with_slice!(case, number, slice => slice[place].into())
+}
+
+fn cut_slice(case: &mut Case, number: usize, from: usize, count: usize) -> Option<()> {
+    with_slice!(case, number, slice => {
+        if from + count > slice.len() {
+            return None;
+        }
+        cut(slice, from, count);
+    });
+    Some(())
+}
+
+fn set_entry(case: &mut Case, number: usize, place: usize, value: u64) -> Option<()> {
+    with_slice!(case, number, slice => {
+        let entry = slice.get_mut(place)?;
+        if value >= (*entry).into() {
+            return None;
+        }
+        *entry = value.try_into().ok()?;
+    });
+    Some(())
+}
+
+fn fill_slice(case: &mut Case, number: usize) {
+    with_slice!(case, number, slice => slice.fill(7));
+}
+
+/// The single numbers of a case.
+fn numbers(case: &Case) -> Vec<u64> {
+    match case {
+        Case::Price { kind, factor, others, capacity, history } => {
+            [kind, factor, others, capacity, history].map(|number| u64::from(*number)).to_vec()
+        }
+        Case::Search { factor, .. } => vec![u64::from(*factor)],
+        Case::Route { job, .. } => vec![u64::from(job.limit)],
+        _ => Vec::new(),
+    }
+}
+
+fn set_number(case: &mut Case, number: usize, value: u64) -> Option<()> {
+    let place = match case {
+        Case::Price { kind, factor, others, capacity, history } => {
+            [kind, factor, others, capacity, history].into_iter().nth(number)?
+        }
+        Case::Search { factor, .. } => factor,
+        Case::Route { job, .. } => &mut job.limit,
+        _ => return None,
+    };
+    if value >= u64::from(*place) {
+        return None;
+    }
+    *place = value as u32;
+    Some(())
+}
+
+/// A case as Rust text.
+pub fn literal(case: &Case) -> String {
+    let names: &[(&str, &str)] = match case {
+        Case::Price { .. } => &[],
+        Case::Search { .. } => &[
+            ("kind", "u8"), ("capacity", "u8"), ("first_edge", "u32"), ("edge_target", "u16"),
+            ("mut work", "u64"), ("history", "u32"), ("others", "u16"), ("in_tree", "u8"),
+        ],
+        Case::Route { .. } => &[
+            ("kind", "u8"), ("capacity", "u8"), ("first_edge", "u32"), ("edge_target", "u16"),
+            ("source", "u16"), ("first_sink", "u32"), ("sink", "u16"), ("mut work", "u64"), ("mut log", "u32"),
+        ],
+        Case::Read { .. } => &[
+            ("text", "u8"), ("mut kind", "u8"), ("mut capacity", "u8"), ("mut first_edge", "u32"), ("mut edge_target", "u16"),
+            ("mut source", "u16"), ("mut first_sink", "u32"), ("mut sink", "u16"),
+        ],
+        Case::Write { .. } => &[("log", "u32"), ("mut buffer", "u8")],
+    };
+    let mut text = String::new();
+    for (number, (name, kind)) in names.iter().enumerate() {
+        let entries: Vec<u64> = with_slice!(case, number, slice => slice.iter().map(|entry| (*entry).into()).collect());
+        text += &format!("let {name}: [{kind}; {}] = {};\n", entries.len(), list(name, &entries));
+    }
+    text + call(case).as_str()
+}
+
+/// A slice as Rust text.
+fn list(name: &str, entries: &[u64]) -> String {
+    if name == "text" {
+        let bytes: Vec<u8> = entries.iter().map(|entry| *entry as u8).collect();
+        return format!("*b\"{}\"", bytes.escape_ascii());
+    }
+    match entries {
+        [first, rest @ ..] if rest.len() > 2 && rest.iter().all(|entry| entry == first) => {
+            format!("[{first}; {}]", entries.len())
+        }
+        _ => format!("{entries:?}"),
+    }
+}
+
+/// The call itself.
+fn call(case: &Case) -> String {
+    match case {
+        Case::Price { kind, factor, others, capacity, history } => {
+            format!("price({kind}, {factor}, {others}, {capacity}, {history})")
+        }
+        Case::Search { factor, .. } => format!(
+            "search(&kind, &capacity, &first_edge, &edge_target, {factor}, &mut work, &history, &others, &in_tree)"
+        ),
+        Case::Route { job, .. } => format!(
+            "route(&kind, &capacity, &first_edge, &edge_target, &source, &first_sink, &sink, {}, &mut work, &mut log)",
+            job.limit
+        ),
+        Case::Read { .. } => String::from(
+            "read(&text, &mut kind, &mut capacity, &mut first_edge, &mut edge_target, &mut source, &mut first_sink, &mut sink)",
+        ),
+        Case::Write { .. } => String::from("write(&log, &mut buffer)"),
+    }
+}
+
+#[cfg(all(test, not(feature = "library")))]
+mod tests {
+    use super::*;
+    use crate::compare::inject::FAULT;
+    use crate::run::{examine, Failure, Run};
+    use std::sync::atomic::Ordering;
+
+    /// The first failure of many seeds.
+    fn first_failure() -> Option<Failure> {
+        let mut run = Run::new();
+        (0..2_000).find_map(|seed| run.job(seed).and_then(|()| run.text(seed)).err())
+    }
+
+    /// The smallest form of the first failure under a fault put in.
+    fn smallest(fault: u32) -> Case {
+        FAULT.store(fault, Ordering::Relaxed);
+        let failure = first_failure().expect("the fault shows");
+        let smallest = shrink(&failure.case, &|case| examine(case, failure.out).is_err());
+        assert!(examine(&smallest, failure.out).is_err());
+        println!("fault {fault}:\n{}\n", literal(&smallest));
+        smallest
+    }
+
+    /// One test for all faults, since they are put in for all threads.
+    #[test]
+    fn faults_are_found_and_made_small() {
+        let Case::Route { job, log, .. } = smallest(1) else { panic!("fault 1") };
+        assert!(job.graph.kind.len() <= 4 && job.source.len() <= 2 && job.limit == 3 && log.len() <= 60);
+        let Case::Route { job, work, log } = smallest(2) else { panic!("fault 2") };
+        assert!(job.graph.kind.len() == 2 && job.source.is_empty() && work.is_empty() && log.is_empty());
+        let Case::Read { text, tables } = smallest(3) else { panic!("fault 3") };
+        assert!(text == b"\r" && tables.kind.is_empty());
+        let Case::Read { text, .. } = smallest(4) else { panic!("fault 4") };
+        assert!(text.len() < 80);
+        let Case::Write { log, .. } = smallest(5) else { panic!("fault 5") };
+        assert!(log.len() == 21 || log.len() == 22 || log.len() == 24);
+        let Case::Search { graph, .. } = smallest(6) else { panic!("fault 6") };
+        assert!(graph.kind.len() <= 5 && graph.edge_target.is_empty());
+        assert_eq!(smallest(7), Case::Price { kind: 0, factor: 65_535, others: 0, capacity: 1, history: 1 });
+        FAULT.store(0, Ordering::Relaxed);
+        assert!(first_failure().is_none());
+    }
+}

@@ -1,0 +1,332 @@
+//! Job texts, sound and changed, and logs for the writer.
+
+use crate::compare::Tables;
+use crate::jobs::Job;
+use crate::rng::Rng;
+
+/// A line's letter and numbers.
+#[derive(Clone)]
+struct Line {
+    letter: u8,
+    fields: Vec<u64>,
+}
+
+/// The lines of a job's text.
+fn lines(job: &Job) -> Vec<Line> {
+    let graph = &job.graph;
+    let (nodes, nets) = (graph.kind.len(), job.source.len());
+    let mut list = Vec::new();
+    let mut add = |letter, fields: &[usize]| {
+        list.push(Line { letter, fields: fields.iter().map(|field| *field as u64).collect() });
+    };
+    add(b'F', &[nodes, graph.edge_target.len(), nets, job.limit as usize]);
+    for node in 0..nodes {
+        add(b'N', &[node, graph.kind[node] as usize, graph.capacity[node] as usize]);
+    }
+    for node in 0..nodes {
+        for place in graph.first_edge[node]..graph.first_edge[node + 1] {
+            add(b'E', &[node, graph.edge_target[place as usize] as usize]);
+        }
+    }
+    for net in 0..nets {
+        add(b'S', &[net, job.source[net] as usize]);
+        for place in job.first_sink[net]..job.first_sink[net + 1] {
+            add(b'T', &[net, job.sink[place as usize] as usize]);
+        }
+    }
+    list
+}
+
+/// Prints lines, each ended by LF.
+fn print(list: &[Line]) -> Vec<u8> {
+    let mut text = Vec::new();
+    for line in list {
+        text.push(line.letter);
+        for field in &line.fields {
+            text.push(b',');
+            text.extend(field.to_string().bytes());
+        }
+        text.push(b'\n');
+    }
+    text
+}
+
+/// The text of a job with sound tables.
+pub fn text(job: &Job) -> Vec<u8> {
+    print(&lines(job))
+}
+
+/// A job's text with wrong content, wrong bytes or both.
+pub fn changed(rng: &mut Rng, job: &Job) -> Vec<u8> {
+    let mut list = lines(job);
+    let way = rng.below(100);
+    if way < 60 {
+        for _ in 0..rng.pick(&[1, 1, 1, 2, 3]) {
+            change_lines(rng, &mut list);
+        }
+    }
+    let mut text = print(&list);
+    if way >= 50 {
+        for _ in 0..rng.pick(&[1, 1, 1, 2, 4]) {
+            change_bytes(rng, &mut text);
+        }
+    }
+    text
+}
+
+/// Texts that hardly hold a job at all.
+pub fn odd(rng: &mut Rng) -> Vec<u8> {
+    let choices: [&[u8]; 12] = [
+        b"", b"\n", b"F", b"F\n", b"F,1,0,1,1\n", b"F,1,0,1,1", b"\r\n", b"F,4097,0,1,1\n", b"F,1,32769,1,1\n", b"F,1,0,513,1\n",
+        b"F,1,0,1,101\n", b"F,0,0,0,0\n",
+    ];
+    rng.pick(&choices).to_vec()
+}
+
+/// One wrong number, field, letter or line.
+fn change_lines(rng: &mut Rng, list: &mut Vec<Line>) {
+    if list.is_empty() {
+        return;
+    }
+    let place = some_line(rng, list);
+    match rng.below(16) {
+        0..=5 => change_field(rng, &mut list[place]),
+        6 => copy_field(rng, list, place),
+        7 => list[place].letter = rng.pick(b"FNESTRBXfn ,\n0"),
+        8 => drop(list[place].fields.pop()),
+        9 => {
+            let field = rng.below(9) as u64;
+            list[place].fields.push(field);
+        }
+        10 => drop(list.remove(place)),
+        11 => {
+            let copy = list[place].clone();
+            list.insert(place, copy);
+        }
+        12 => {
+            let copy = list[place].clone();
+            list.insert(rng.below(list.len() + 1), copy);
+        }
+        13 => {
+            let other = rng.below(list.len());
+            list.swap(place, other);
+        }
+        14 if place > 0 => list.swap(place - 1, place),
+        14 => change_field(rng, &mut list[place]),
+        _ => list.push(extra(rng)),
+    }
+}
+
+/// Some line, with each letter about as often.
+fn some_line(rng: &mut Rng, list: &[Line]) -> usize {
+    let letter = rng.pick(b"FNEST");
+    let same: Vec<usize> = (0..list.len()).filter(|place| list[*place].letter == letter).collect();
+    if same.is_empty() { rng.below(list.len()) } else { rng.pick(&same) }
+}
+
+/// A number near the one there, or near a bound.
+fn change_field(rng: &mut Rng, line: &mut Line) {
+    if line.fields.is_empty() {
+        return;
+    }
+    let place = rng.below(line.fields.len());
+    let old = line.fields[place];
+    line.fields[place] = match rng.below(3) {
+        0 => old + 1,
+        1 => old.saturating_sub(1),
+        _ => rng.pick(&[
+            0, 1, 2, 5, 15, 16, 100, 101, 255, 256, 511, 512, 513, 4_095, 4_096, 4_097, 32_767, 32_768, 32_769, 65_535,
+            65_536, 65_537, 99_999, 100_000, 999_999, 1_000_000, 4_294_967_296, 18_446_744_073_709_551_615,
+        ]),
+    };
+}
+
+/// A number of a line like it, or of its own line.
+fn copy_field(rng: &mut Rng, list: &mut [Line], place: usize) {
+    let from = rng.below(list.len());
+    if list[from].fields.is_empty() || list[place].fields.is_empty() {
+        return;
+    }
+    let value = list[from].fields[rng.below(list[from].fields.len())];
+    let field = rng.below(list[place].fields.len());
+    list[place].fields[field] = value;
+}
+
+/// A line after the end.
+fn extra(rng: &mut Rng) -> Line {
+    let letter = rng.pick(b"FNESTT");
+    let fields = (0..rng.within(1, 4)).map(|_| rng.below(8) as u64).collect();
+    Line { letter, fields }
+}
+
+/// One wrong byte, cut or swap.
+fn change_bytes(rng: &mut Rng, text: &mut Vec<u8>) {
+    if text.is_empty() {
+        text.push(b'F');
+        return;
+    }
+    let place = rng.below(text.len());
+    match rng.below(14) {
+        0..=2 => text[place] = byte(rng),
+        3 | 4 => text.insert(place, byte(rng)),
+        5 | 6 => drop(text.remove(place)),
+        7 => text.swap(place, place.saturating_sub(1)),
+        8 => text.truncate(place),
+        9 => drop(text.pop()),
+        10 => carriage_return(rng, text),
+        11 => leading(rng, text, b"0"),
+        12 => {
+            let digits: &[u8] = rng.pick(&[b"10000" as &[u8], b"000000", b"00000", b"1000000", b"99999999999999999999"]);
+            leading(rng, text, digits);
+        }
+        _ => {
+            let end: &[u8] = rng.pick(&[b"\n" as &[u8], b" ", b"\0", b"T", b"\r\n", b"#"]);
+            text.extend_from_slice(end);
+        }
+    }
+}
+
+/// A byte, mostly one that job texts have.
+fn byte(rng: &mut Rng) -> u8 {
+    if rng.percent(85) {
+        rng.pick(b"0123456789,,\n\n\rFNEST -+.\"")
+    } else {
+        rng.next() as u8
+    }
+}
+
+/// CR before or in place of an LF.
+fn carriage_return(rng: &mut Rng, text: &mut Vec<u8>) {
+    let ends: Vec<usize> = (0..text.len()).filter(|place| text[*place] == b'\n').collect();
+    if ends.is_empty() {
+        return;
+    }
+    let place = rng.pick(&ends);
+    if rng.percent(50) {
+        text.insert(place, b'\r');
+    } else {
+        text[place] = b'\r';
+    }
+}
+
+/// Digits before a number.
+fn leading(rng: &mut Rng, text: &mut Vec<u8>, digits: &[u8]) {
+    let commas: Vec<usize> = (0..text.len()).filter(|place| text[*place] == b',').collect();
+    if commas.is_empty() {
+        return;
+    }
+    let place = rng.pick(&commas) + 1;
+    text.splice(place..place, digits.iter().copied());
+}
+
+/// Tables with so many entries, none of them 0.
+pub fn tables(lengths: [usize; 7]) -> Tables {
+    let [kind, capacity, first_edge, edge_target, source, first_sink, sink] = lengths;
+    Tables {
+        kind: fill(kind, 0xa1),
+        capacity: fill(capacity, 0xa2),
+        first_edge: fill(first_edge, 0xa3a3_a3a3),
+        edge_target: fill(edge_target, 0xa4a4),
+        source: fill(source, 0xa5a5),
+        first_sink: fill(first_sink, 0xa6a6_a6a6),
+        sink: fill(sink, 0xa7a7),
+    }
+}
+
+fn fill<T: Clone>(length: usize, entry: T) -> Vec<T> {
+    vec![entry; length]
+}
+
+/// What a job needs of each table.
+pub fn needed(job: &Job) -> [usize; 7] {
+    let (nodes, nets) = (job.graph.kind.len(), job.source.len());
+    [nodes, nodes, nodes + 1, job.graph.edge_target.len(), nets, nets + 1, job.sink.len()]
+}
+
+/// Lengths that mostly are enough, at times in none or some of the tables.
+pub fn lengths(rng: &mut Rng, needed: [usize; 7]) -> [usize; 7] {
+    let way = rng.below(10);
+    needed.map(|length| match way {
+        0..=3 => length,
+        4 | 5 => length + rng.below(4),
+        6 | 7 if rng.once_in(4) => around(rng, length, 2),
+        8 => around(rng, length, 2),
+        9 if rng.once_in(3) => rng.below(length + 1),
+        _ => length + rng.below(2),
+    })
+}
+
+/// A length near another one.
+pub fn around(rng: &mut Rng, length: usize, reach: usize) -> usize {
+    (length + rng.below(2 * reach + 1)).saturating_sub(reach)
+}
+
+/// Where the whole records of a log begin, and the end of the last.
+pub fn records(log: &[u32]) -> Vec<usize> {
+    let mut places = vec![0];
+    let mut place = 0;
+    while place + 6 <= log.len() && log[place + 5] as usize <= log.len() - place - 6 {
+        place += 6 + log[place + 5] as usize;
+        places.push(place);
+    }
+    places
+}
+
+/// Changes a log: cut, one word damaged, records moved; or leaves it.
+pub fn change_log(rng: &mut Rng, log: &mut Vec<u32>) {
+    match rng.below(10) {
+        0..=2 => {}
+        3 => log.truncate(rng.below(log.len() + 1)),
+        4 => {
+            let length = rng.within(1, 8);
+            log.extend((0..length).map(|_| rng.below(3) as u32));
+        }
+        5 => move_record(rng, log),
+        _ => damage_log(rng, log),
+    }
+}
+
+/// One word of one record, with each place in a record about as often.
+fn damage_log(rng: &mut Rng, log: &mut [u32]) {
+    let places = records(log);
+    if places.len() < 2 {
+        return;
+    }
+    let record = rng.below(places.len() - 1);
+    let (from, end) = (places[record], places[record + 1]);
+    let place = if rng.percent(60) { from + rng.below(6) } else { rng.within(from, end - 1) };
+    log[place] = match rng.below(3) {
+        0 => log[place].wrapping_add(1),
+        1 => log[place].wrapping_sub(1),
+        _ => rng.pick(&[0, 1, 2, 99, 100, 101, 511, 512, 4_095, 4_096, 4_097, 65_536, 0x7fff_ffff, 0x8000_0000, u32::MAX]),
+    };
+}
+
+/// Puts a record elsewhere or a second time.
+fn move_record(rng: &mut Rng, log: &mut Vec<u32>) {
+    let places = records(log);
+    if places.len() < 2 {
+        return;
+    }
+    let record = rng.below(places.len() - 1);
+    let words: Vec<u32> = log[places[record]..places[record + 1]].to_vec();
+    let to = rng.pick(&places);
+    log.splice(to..to, words);
+}
+
+/// Records that no job needs to have, sound by the writer's rules but for a path of 4,097 now and then.
+pub fn free_log(rng: &mut Rng) -> Vec<u32> {
+    let mut log = Vec::new();
+    let mut iteration = rng.pick(&[1, 1, 2, 50, 99, 100]);
+    for _ in 0..rng.within(1, 6) {
+        let length = if rng.once_in(300) { rng.pick(&[4_095, 4_096, 4_097]) } else { rng.within(2, 5) };
+        let path: Vec<u32> = (0..length).map(|_| rng.pick(&[0, 9, 10, 99, 100, 999, 1_000, 4_095])).collect();
+        let net = rng.pick(&[0, 9, 10, 99, 100, 511]);
+        log.extend([iteration, net, path[length - 1], rng.next() as u32, rng.next() as u32, length as u32]);
+        log.extend(path);
+        if rng.percent(30) {
+            iteration = (iteration + rng.within(1, 9) as u32).min(100);
+        }
+    }
+    log
+}

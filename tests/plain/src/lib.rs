@@ -1,0 +1,33 @@
+//! A plain and slow router, written from 01-scope.md alone, to compare others with.
+
+mod price;
+mod reader;
+mod route;
+mod search;
+mod tables;
+mod writer;
+
+pub use price::{factor_in, price};
+pub use reader::read;
+pub use route::route;
+pub use search::search;
+pub use writer::write;
+
+/// What a call returns: the refusal's numbers (none if there is none) and the call's own numbers.
+#[derive(Clone, Debug, PartialEq, Eq)]
+pub struct Answer {
+    pub refusal: Vec<u64>,
+    pub numbers: Vec<u64>,
+}
+
+impl Answer {
+    /// No refusal, with the call's own numbers.
+    fn good(numbers: &[u64]) -> Answer {
+        Answer { refusal: Vec::new(), numbers: numbers.to_vec() }
+    }
+
+    /// A refusal; the call's own numbers (so many of them) are all 0.
+    fn refused(refusal: &[u64], count: usize) -> Answer {
+        Answer { refusal: refusal.to_vec(), numbers: vec![0; count] }
+    }
+}

@@ -1,0 +1,232 @@
+//! The job text into tables.
+
+use crate::price::MAX_KIND;
+use crate::tables::{MAX_EDGES, MAX_LIMIT, MAX_NETS, MAX_NODES, MAX_SINKS};
+use crate::Answer;
+
+/// A refusal: its number and the line.
+type Fault = [u64; 2];
+
+/// The text with how far it has come; `line` is the number of lines taken.
+struct Lines<'a> {
+    text: &'a [u8],
+    place: usize,
+    line: u64,
+}
+
+/// The values of a sound text.
+struct Job {
+    kind: Vec<u8>,
+    capacity: Vec<u8>,
+    first_edge: Vec<u32>,
+    edge_target: Vec<u16>,
+    source: Vec<u16>,
+    first_sink: Vec<u32>,
+    sink: Vec<u16>,
+    limit: u32,
+}
+
+/// The counts that the F line gives.
+struct Counts {
+    nodes: u32,
+    edges: u32,
+    nets: u32,
+    limit: u32,
+}
+
+impl<'a> Lines<'a> {
+    fn rest(&self) -> &'a [u8] {
+        &self.text[self.place..]
+    }
+
+    /// Takes the next line; fault 1 if it is missing, has no LF or another shape.
+    fn take(&mut self, letter: u8, fields: usize) -> Result<Vec<u32>, Fault> {
+        self.line += 1;
+        let rest = self.rest();
+        let Some(end) = rest.iter().position(|&b| b == b'\n') else {
+            return Err([1, self.line]);
+        };
+        self.place += end + 1;
+        line_fields(&rest[..end], letter, fields).ok_or([1, self.line])
+    }
+
+    /// Fault 2 in the line taken last unless all is within bounds.
+    fn bounds(&self, good: bool) -> Result<(), Fault> {
+        if good { Ok(()) } else { Err([2, self.line]) }
+    }
+
+    /// Fault 3 in the line taken last unless its order and numbers are right.
+    fn order(&self, good: bool) -> Result<(), Fault> {
+        if good { Ok(()) } else { Err([3, self.line]) }
+    }
+}
+
+/// The numbers of a line (without its LF), if it has the letter and so many fields.
+fn line_fields(line: &[u8], letter: u8, fields: usize) -> Option<Vec<u32>> {
+    let mut parts = line.split(|&b| b == b',');
+    if parts.next() != Some(&[letter][..]) {
+        return None;
+    }
+    let numbers: Option<Vec<u32>> = parts.map(number).collect();
+    numbers.filter(|n| n.len() == fields)
+}
+
+/// A field: 1 to 6 digits, no leading zero but 0 itself.
+fn number(field: &[u8]) -> Option<u32> {
+    if field.is_empty() || field.len() > 6 || (field.len() > 1 && field[0] == b'0') {
+        return None;
+    }
+    if !field.iter().all(|b| b.is_ascii_digit()) {
+        return None;
+    }
+    Some(field.iter().fold(0, |sum, b| sum * 10 + (b - b'0') as u32))
+}
+
+fn read_counts(lines: &mut Lines) -> Result<Counts, Fault> {
+    let f = lines.take(b'F', 4)?;
+    lines.bounds((1..=MAX_NODES as u32).contains(&f[0]))?;
+    lines.bounds(f[1] <= MAX_EDGES as u32)?;
+    lines.bounds((1..=MAX_NETS as u32).contains(&f[2]))?;
+    lines.bounds((1..=MAX_LIMIT).contains(&f[3]))?;
+    Ok(Counts { nodes: f[0], edges: f[1], nets: f[2], limit: f[3] })
+}
+
+fn read_nodes(lines: &mut Lines, counts: &Counts, job: &mut Job) -> Result<(), Fault> {
+    for node in 0..counts.nodes {
+        let f = lines.take(b'N', 3)?;
+        lines.bounds(f[0] < counts.nodes)?;
+        lines.bounds(f[1] <= MAX_KIND)?;
+        lines.bounds((1..=255).contains(&f[2]))?;
+        lines.order(f[0] == node)?;
+        job.kind.push(f[1] as u8);
+        job.capacity.push(f[2] as u8);
+    }
+    Ok(())
+}
+
+fn read_edges(lines: &mut Lines, counts: &Counts, job: &mut Job) -> Result<(), Fault> {
+    let mut edges: Vec<(u32, u32)> = Vec::new();
+    for _ in 0..counts.edges {
+        let f = lines.take(b'E', 2)?;
+        lines.bounds(f[0] < counts.nodes && f[1] < counts.nodes)?;
+        lines.order(f[0] != f[1])?;
+        lines.order(edges.last().is_none_or(|&last| last < (f[0], f[1])))?;
+        edges.push((f[0], f[1]));
+    }
+    // A node's first edge place is the number of edges from lower nodes.
+    for node in 0..=counts.nodes {
+        job.first_edge.push(edges.iter().filter(|e| e.0 < node).count() as u32);
+    }
+    job.edge_target = edges.iter().map(|e| e.1 as u16).collect();
+    Ok(())
+}
+
+fn read_nets(lines: &mut Lines, counts: &Counts, job: &mut Job) -> Result<(), Fault> {
+    for net in 0..counts.nets {
+        job.first_sink.push(job.sink.len() as u32);
+        let source = read_source(lines, counts, net)?;
+        job.source.push(source);
+        let mut sinks = Vec::new();
+        loop {
+            read_sink(lines, counts, net, source, job.sink.len(), &mut sinks)?;
+            if lines.rest().first() != Some(&b'T') {
+                break;
+            }
+        }
+        job.sink.extend(sinks);
+    }
+    job.first_sink.push(job.sink.len() as u32);
+    Ok(())
+}
+
+fn read_source(lines: &mut Lines, counts: &Counts, net: u32) -> Result<u16, Fault> {
+    let f = lines.take(b'S', 2)?;
+    lines.bounds(f[0] < counts.nets && f[1] < counts.nodes)?;
+    lines.order(f[0] == net)?;
+    Ok(f[1] as u16)
+}
+
+/// One T line; `earlier` is the number of sinks of earlier nets, `sinks` those of this one.
+fn read_sink(
+    lines: &mut Lines,
+    counts: &Counts,
+    net: u32,
+    source: u16,
+    earlier: usize,
+    sinks: &mut Vec<u16>,
+) -> Result<(), Fault> {
+    let f = lines.take(b'T', 2)?;
+    lines.bounds(f[0] < counts.nets && f[1] < counts.nodes)?;
+    let sink = f[1] as u16;
+    lines.order(f[0] == net)?;
+    lines.order(sink != source && !sinks.contains(&sink))?;
+    lines.order(earlier + sinks.len() < MAX_SINKS)?;
+    sinks.push(sink);
+    Ok(())
+}
+
+/// The whole text, up to its end.
+fn read_job(text: &[u8]) -> Result<Job, Fault> {
+    let mut lines = Lines { text, place: 0, line: 0 };
+    let counts = read_counts(&mut lines)?;
+    let mut job = Job {
+        kind: Vec::new(),
+        capacity: Vec::new(),
+        first_edge: Vec::new(),
+        edge_target: Vec::new(),
+        source: Vec::new(),
+        first_sink: Vec::new(),
+        sink: Vec::new(),
+        limit: counts.limit,
+    };
+    read_nodes(&mut lines, &counts, &mut job)?;
+    read_edges(&mut lines, &counts, &mut job)?;
+    read_nets(&mut lines, &counts, &mut job)?;
+    if !lines.rest().is_empty() {
+        return Err([1, lines.line + 1]);
+    }
+    Ok(job)
+}
+
+/// The reader: 1, 2 or 3 for the first faulty line, then 4 for the lowest table too short.
+pub fn read(
+    text: &[u8],
+    kind: &mut [u8],
+    capacity: &mut [u8],
+    first_edge: &mut [u32],
+    edge_target: &mut [u16],
+    source: &mut [u16],
+    first_sink: &mut [u32],
+    sink: &mut [u16],
+) -> Answer {
+    let job = match read_job(text) {
+        Ok(job) => job,
+        Err(fault) => return Answer::refused(&fault, 5),
+    };
+    let too_short = [
+        kind.len() < job.kind.len(),
+        capacity.len() < job.capacity.len(),
+        first_edge.len() < job.first_edge.len(),
+        edge_target.len() < job.edge_target.len(),
+        source.len() < job.source.len(),
+        first_sink.len() < job.first_sink.len(),
+        sink.len() < job.sink.len(),
+    ];
+    if let Some(place) = too_short.iter().position(|&short| short) {
+        return Answer::refused(&[4, place as u64 + 1], 5);
+    }
+    kind[..job.kind.len()].copy_from_slice(&job.kind);
+    capacity[..job.capacity.len()].copy_from_slice(&job.capacity);
+    first_edge[..job.first_edge.len()].copy_from_slice(&job.first_edge);
+    edge_target[..job.edge_target.len()].copy_from_slice(&job.edge_target);
+    source[..job.source.len()].copy_from_slice(&job.source);
+    first_sink[..job.first_sink.len()].copy_from_slice(&job.first_sink);
+    sink[..job.sink.len()].copy_from_slice(&job.sink);
+    Answer::good(&[
+        job.kind.len() as u64,
+        job.edge_target.len() as u64,
+        job.source.len() as u64,
+        job.sink.len() as u64,
+        job.limit as u64,
+    ])
+}

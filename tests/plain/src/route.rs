@@ -1,0 +1,216 @@
+//! The negotiation as a machine, with its log.
+
+use crate::price::next_factor;
+use crate::search::{distances, path, prices, NO_PATH};
+use crate::tables::{Graph, Nets, MAX_LIMIT};
+use crate::Answer;
+use std::collections::BTreeSet;
+
+/// The machine's state: a tree is a set of nodes, empty at first.
+struct State {
+    iteration: u32,
+    factor: u32,
+    histories: Vec<u32>,
+    trees: Vec<BTreeSet<usize>>,
+}
+
+/// The log with what has been written.
+struct Log<'a> {
+    space: &'a mut [u32],
+    words: usize,
+    turns: u64,
+}
+
+/// How the negotiation ends.
+enum End {
+    Accepted,
+    LogFull,
+    Limit { over: u64 },
+}
+
+/// The next record doesn't fit.
+struct Full;
+
+impl State {
+    fn new(nodes: usize, nets: usize) -> State {
+        State {
+            iteration: 1,
+            factor: 0,
+            histories: vec![1; nodes],
+            trees: vec![BTreeSet::new(); nets],
+        }
+    }
+
+    /// How many nets have each node in their tree, one net perhaps left out.
+    fn users(&self, left_out: Option<usize>) -> Vec<u32> {
+        let mut users = vec![0; self.histories.len()];
+        for (net, tree) in self.trees.iter().enumerate() {
+            if Some(net) != left_out {
+                for &v in tree {
+                    users[v] += 1;
+                }
+            }
+        }
+        users
+    }
+
+    /// By how much each node's users pass its capacity.
+    fn overuse(&self, graph: &Graph) -> Vec<u32> {
+        let users = self.users(None);
+        let over = |v: usize| users[v].saturating_sub(graph.capacity[v] as u32);
+        (0..graph.nodes()).map(over).collect()
+    }
+
+    /// Histories, factor and iteration move on.
+    fn move_on(&mut self, overuse: &[u32]) {
+        for (history, over) in self.histories.iter_mut().zip(overuse) {
+            *history += over;
+        }
+        self.factor = next_factor(self.iteration, self.factor);
+        self.iteration += 1;
+    }
+}
+
+impl Log<'_> {
+    /// Writes a whole record, or nothing if it doesn't fit.
+    fn add(&mut self, iteration: u32, net: usize, cost: u64, path: &[usize]) -> Result<(), Full> {
+        let sink = path[path.len() - 1] as u32;
+        let mut record = vec![iteration, net as u32, sink];
+        record.extend([cost as u32, (cost >> 32) as u32, path.len() as u32]);
+        record.extend(path.iter().map(|&v| v as u32));
+        if record.len() > self.space.len() - self.words {
+            return Err(Full);
+        }
+        self.space[self.words..self.words + record.len()].copy_from_slice(&record);
+        self.words += record.len();
+        self.turns += 1;
+        Ok(())
+    }
+}
+
+/// The nodes that can be reached from one.
+fn reached_from(graph: &Graph, from: usize) -> BTreeSet<usize> {
+    let mut reached = BTreeSet::from([from]);
+    let mut waiting = vec![from];
+    while let Some(u) = waiting.pop() {
+        for &target in graph.targets(u) {
+            if reached.insert(target as usize) {
+                waiting.push(target as usize);
+            }
+        }
+    }
+    reached
+}
+
+/// The first net and the first sink place in it without a path from the source.
+fn unreachable(graph: &Graph, nets: &Nets) -> Option<(usize, usize)> {
+    for net in 0..nets.count() {
+        let reached = reached_from(graph, nets.source[net] as usize);
+        let missing = nets.sinks(net).iter().position(|&s| !reached.contains(&(s as usize)));
+        if let Some(place) = missing {
+            return Some((net, place));
+        }
+    }
+    None
+}
+
+/// The unjoined sink of least distance, the first listed of equals.
+fn nearest(sinks: &[u16], distance: &[u64], tree: &BTreeSet<usize>) -> Option<usize> {
+    let unjoined = sinks.iter().map(|&s| s as usize).filter(|s| !tree.contains(s));
+    unjoined.filter(|&s| distance[s] != NO_PATH).min_by_key(|&s| distance[s])
+}
+
+/// One turn: joins the nearest sink; false if none was left.
+fn turn(
+    graph: &Graph,
+    nets: &Nets,
+    net: usize,
+    state: &mut State,
+    log: &mut Log,
+) -> Result<bool, Full> {
+    let others = state.users(Some(net));
+    let prices = prices(graph, state.factor, &state.histories, &others);
+    let tree = &mut state.trees[net];
+    let distance = distances(graph, &prices, tree);
+    let Some(sink) = nearest(nets.sinks(net), &distance, tree) else {
+        return Ok(false);
+    };
+    let path = path(graph, &prices, &distance, tree, sink);
+    log.add(state.iteration, net, distance[sink], &path)?;
+    tree.extend(path);
+    Ok(true)
+}
+
+/// One iteration: each net in order drops its tree and makes its turns.
+fn iterate(graph: &Graph, nets: &Nets, state: &mut State, log: &mut Log) -> Result<(), Full> {
+    for net in 0..nets.count() {
+        state.trees[net] = BTreeSet::from([nets.source[net] as usize]);
+        while turn(graph, nets, net, state, log)? {}
+    }
+    Ok(())
+}
+
+/// Iterations until one of the three ends.
+fn negotiate(graph: &Graph, nets: &Nets, limit: u32, state: &mut State, log: &mut Log) -> End {
+    loop {
+        if iterate(graph, nets, state, log).is_err() {
+            return End::LogFull;
+        }
+        let overuse = state.overuse(graph);
+        let over = overuse.iter().filter(|&&o| o > 0).count() as u64;
+        if over == 0 {
+            return End::Accepted;
+        }
+        if state.iteration >= limit {
+            return End::Limit { over };
+        }
+        state.move_on(&overuse);
+    }
+}
+
+/// The lowest of tables 1 to 8 that breaks its rule.
+fn broken(graph: &Graph, nets: &Nets, limit: u32) -> Option<u64> {
+    let bad_limit = !(1..=MAX_LIMIT).contains(&limit);
+    graph
+        .broken()
+        .or_else(|| nets.broken(graph.nodes()))
+        .or(if bad_limit { Some(8) } else { None })
+}
+
+/// The router: tests 5, 6, 7, then 8 and 9 as they arise.
+pub fn route(
+    kind: &[u8],
+    capacity: &[u8],
+    first_edge: &[u32],
+    edge_target: &[u16],
+    source: &[u16],
+    first_sink: &[u32],
+    sink: &[u16],
+    limit: u32,
+    work: &mut [u64],
+    log: &mut [u32],
+) -> Answer {
+    let graph = Graph { kind, capacity, first_edge, edge_target };
+    let nets = Nets { source, first_sink, sink };
+    let nodes = graph.nodes();
+    if let Some(table) = broken(&graph, &nets, limit) {
+        return Answer::refused(&[5, table], 3);
+    }
+    if work.len() < 8 * nodes {
+        return Answer::refused(&[6, 8 * nodes as u64], 3);
+    }
+    work[..8 * nodes].fill(0);
+    if let Some((net, place)) = unreachable(&graph, &nets) {
+        return Answer::refused(&[7, net as u64, place as u64], 3);
+    }
+    let mut state = State::new(nodes, nets.count());
+    let mut log = Log { space: log, words: 0, turns: 0 };
+    let end = negotiate(&graph, &nets, limit, &mut state, &mut log);
+    let iteration = state.iteration as u64;
+    let refusal = match end {
+        End::Accepted => vec![],
+        End::LogFull => vec![8, iteration, log.turns],
+        End::Limit { over } => vec![9, iteration, over],
+    };
+    Answer { refusal, numbers: vec![iteration, log.turns, log.words as u64] }
+}

@@ -1,0 +1,71 @@
+//! The log into routes text.
+
+use crate::tables::{MAX_LIMIT, MAX_NETS, MAX_NODES};
+use crate::Answer;
+
+/// What the writer needs of a record.
+struct Record<'a> {
+    iteration: u32,
+    net: u32,
+    path: &'a [u32],
+}
+
+/// The record at the front of these words, if it is whole and sound by itself.
+fn record(words: &[u32]) -> Option<Record<'_>> {
+    if words.len() < 6 {
+        return None;
+    }
+    let (iteration, net, sink, length) = (words[0], words[1], words[2], words[5] as usize);
+    if !(1..=MAX_LIMIT).contains(&iteration) || net as usize >= MAX_NETS {
+        return None;
+    }
+    if !(2..=MAX_NODES).contains(&length) || words.len() < 6 + length {
+        return None;
+    }
+    let path = &words[6..6 + length];
+    let sound = path.iter().all(|&v| (v as usize) < MAX_NODES) && path[length - 1] == sink;
+    sound.then_some(Record { iteration, net, path })
+}
+
+/// All records, or the first word of the first unsound one.
+fn records(log: &[u32]) -> Result<Vec<Record<'_>>, u64> {
+    let mut found: Vec<Record> = Vec::new();
+    let mut place = 0;
+    while place < log.len() || found.is_empty() {
+        let last = found.last().map_or(0, |r| r.iteration);
+        match record(&log[place..]) {
+            Some(next) if next.iteration >= last => {
+                place += 6 + next.path.len();
+                found.push(next);
+            }
+            _ => return Err(place as u64),
+        }
+    }
+    Ok(found)
+}
+
+/// The whole routes text of one or more records.
+fn routes_text(records: &[Record]) -> String {
+    let last = records.last().map_or(0, |r| r.iteration);
+    let mut text = format!("R,{},{}\n", last, records.len());
+    for record in records.iter().filter(|r| r.iteration == last) {
+        for step in record.path.windows(2) {
+            text += &format!("B,{},{},{}\n", record.net, step[0], step[1]);
+        }
+    }
+    text
+}
+
+/// The writer: tests 10, 11, then writes.
+pub fn write(log: &[u32], buffer: &mut [u8]) -> Answer {
+    let records = match records(log) {
+        Ok(records) => records,
+        Err(word) => return Answer::refused(&[10, word], 1),
+    };
+    let text = routes_text(&records);
+    if buffer.len() < text.len() {
+        return Answer::refused(&[11, text.len() as u64], 1);
+    }
+    buffer[..text.len()].copy_from_slice(text.as_bytes());
+    Answer::good(&[text.len() as u64])
+}

@@ -1,0 +1,230 @@
+//! Refusals beside the samples, and damaged inputs, which must not panic.
+
+mod common;
+use common::*;
+use plain::{price, search, write};
+
+const B: &str = "F,6,6,2,2 N,0,0,1 N,1,0,1 N,2,4,1 N,3,5,1 N,4,1,1 N,5,1,1 \
+    E,0,2 E,0,3 E,1,2 E,2,4 E,2,5 E,3,4 S,0,0 T,0,4 S,1,1 T,1,5";
+
+fn changed(from: &str, to: &str) -> Vec<u64> {
+    assert!(B.contains(from));
+    refusal(&text(&B.replace(from, to)))
+}
+
+#[test]
+fn texts_of_wrong_shape() {
+    assert_eq!(refusal(text(B).trim_end()), [1, 17]);
+    assert_eq!(refusal(&(text(B) + "\n")), [1, 18]);
+    assert_eq!(refusal(&(text(B) + "S,2,0\n")), [1, 18]);
+    assert_eq!(refusal(&(text(B) + "S,9999999,0\n")), [1, 18]);
+    assert_eq!(refusal(&(text(B) + "T")), [1, 18]);
+    assert_eq!(refusal(&text(B)[..text(B).len() - 6]), [1, 17]);
+    assert_eq!(changed("S,1,1 T,1,5", ""), [1, 16]);
+    assert_eq!(changed("T,0,4", ""), [1, 15]);
+    assert_eq!(changed("N,1,0,1", "N,1,00,1"), [1, 3]);
+    assert_eq!(changed("N,1,0,1", "N,1,0000001,1"), [1, 3]);
+    assert_eq!(changed("N,1,0,1", "N,1,0,1,"), [1, 3]);
+    assert_eq!(changed("N,1,0,1", "N,1,,1"), [1, 3]);
+    assert_eq!(changed("N,1,0,1", "NN,1,0,1"), [1, 3]);
+    assert_eq!(changed("N,1,0,1", "N,1,+0,1"), [1, 3]);
+    assert_eq!(changed("F,6,6,2,2", "F,6,7,2,2"), [1, 14]);
+    assert_eq!(changed("F,6,6,2,2", "F,6,5,2,2"), [1, 13]);
+    assert_eq!(changed("F,6,6,2,2", "F,6,6,3,2"), [1, 18]);
+    assert_eq!(changed("F,6,6,2,2", "F,6,6,1,2"), [1, 16]);
+}
+
+#[test]
+fn texts_beyond_bounds() {
+    for f in ["F,0,6,2,2", "F,4097,6,2,2", "F,6,32769,2,2", "F,6,6,0,2", "F,6,6,513,2", "F,6,6,2,0"] {
+        assert_eq!(changed("F,6,6,2,2", f), [2, 1]);
+    }
+    assert_eq!(changed("N,1,0,1", "N,6,0,1"), [2, 3]);
+    assert_eq!(changed("N,1,0,1", "N,0,0,256"), [2, 3]);
+    assert_eq!(changed("E,0,3", "E,0,6"), [2, 9]);
+    assert_eq!(changed("E,0,3", "E,6,6"), [2, 9]);
+    assert_eq!(changed("S,1,1", "S,2,1"), [2, 16]);
+    assert_eq!(changed("T,1,5", "T,2,5"), [2, 17]);
+    assert_eq!(changed("T,1,5", "T,0,6"), [2, 17]);
+}
+
+#[test]
+fn texts_of_wrong_order() {
+    assert_eq!(changed("N,1,0,1", "N,2,0,1"), [3, 3]);
+    assert_eq!(changed("E,0,3", "E,0,2"), [3, 9]);
+    assert_eq!(changed("E,0,3", "E,0,0"), [3, 9]);
+    assert_eq!(changed("E,2,4", "E,1,0"), [3, 11]);
+    assert_eq!(changed("S,1,1", "S,0,1"), [3, 16]);
+    assert_eq!(changed("T,1,5", "T,0,5"), [3, 17]);
+    assert_eq!(changed("T,1,5", "T,1,1"), [3, 17]);
+    assert_eq!(changed("T,1,5", "T,1,5 T,1,5"), [3, 18]);
+}
+
+#[test]
+fn the_4097th_sink() {
+    let mut job = String::from("F,4096,0,2,1\n");
+    for v in 0..4096 {
+        job += &format!("N,{v},0,1\n");
+    }
+    job += "S,0,0\n";
+    for v in 1..4096 {
+        job += &format!("T,0,{v}\n");
+    }
+    job += "S,1,0\nT,1,1\n";
+    let mut t = marked([4096, 4096, 4097, 0, 2, 3, 4096]);
+    assert_eq!(read_into(job.as_bytes(), &mut t).numbers, [4096, 0, 2, 4096, 1]);
+    assert_eq!(refusal(&(job.clone() + "T,1,4096\n")), [2, 8196]);
+    assert_eq!(refusal(&(job + "T,1,2\n")), [3, 8196]);
+}
+
+#[test]
+fn tables_too_short() {
+    let enough = [6, 6, 7, 6, 2, 3, 2];
+    assert!(read_into(text(B).as_bytes(), &mut marked(enough)).refusal.is_empty());
+    for table in 0..7 {
+        let mut sizes = enough;
+        sizes[table] -= 1;
+        sizes[6] = 1;
+        let mut t = marked(sizes);
+        assert_eq!(read_into(text(B).as_bytes(), &mut t).refusal, [4, table as u64 + 1]);
+        assert_eq!(t, marked(sizes));
+    }
+}
+
+/// Routes changed tables of job B; nothing may change.
+fn broken(change: fn(&mut Tables)) -> Vec<u64> {
+    let mut t = tables(&text(B));
+    change(&mut t);
+    let (mut work, mut log) = (vec![9; 48], vec![9; 40]);
+    let answer = route_with(&t, &mut work, &mut log);
+    assert_eq!((work, log), (vec![9; 48], vec![9; 40]));
+    assert_eq!(answer.numbers, [0; 3]);
+    answer.refusal
+}
+
+#[test]
+fn broken_tables() {
+    assert_eq!(broken(|t| t.kind.clear()), [5, 1]);
+    assert_eq!(broken(|t| t.kind[5] = 16), [5, 1]);
+    assert_eq!(broken(|t| t.kind.push(0)), [5, 2]);
+    assert_eq!(broken(|t| t.capacity[5] = 0), [5, 2]);
+    assert_eq!(broken(|t| t.first_edge[0] = 1), [5, 3]);
+    assert_eq!(broken(|t| t.first_edge[2] = 1), [5, 3]);
+    assert_eq!(broken(|t| t.first_edge.clear()), [5, 3]);
+    assert_eq!(broken(|t| t.edge_target.clear()), [5, 3]);
+    assert_eq!(broken(|t| t.edge_target.push(0)), [5, 3]);
+    assert_eq!(broken(|t| t.edge_target[1] = 2), [5, 4]);
+    assert_eq!(broken(|t| t.edge_target[1] = 6), [5, 4]);
+    assert_eq!(broken(|t| t.edge_target[0] = 0), [5, 4]);
+    assert_eq!(broken(|t| t.source[1] = 6), [5, 5]);
+    assert_eq!(broken(|t| t.source.clear()), [5, 5]);
+    assert_eq!(broken(|t| t.source.push(0)), [5, 6]);
+    assert_eq!(broken(|t| t.first_sink[1] = 0), [5, 6]);
+    assert_eq!(broken(|t| t.sink.push(0)), [5, 6]);
+    assert_eq!(broken(|t| t.sink[1] = 1), [5, 7]);
+    assert_eq!(broken(|t| t.sink[1] = 6), [5, 7]);
+    assert_eq!(broken(|t| t.limit = 0), [5, 8]);
+    assert_eq!(broken(|t| t.limit = 101), [5, 8]);
+    let mut work = vec![9; 47];
+    assert_eq!(route_with(&tables(&text(B)), &mut work, &mut []).refusal, [6, 48]);
+    assert_eq!(work, [9; 47]);
+}
+
+#[test]
+fn prices_beyond_bounds() {
+    assert_eq!(price(16, 65536, 512, 0, 0).refusal, [13, 0]);
+    assert_eq!(price(15, 65536, 512, 0, 0).refusal, [13, 1]);
+    assert_eq!(price(15, 65535, 512, 0, 0).refusal, [13, 2]);
+    assert_eq!(price(15, 65535, 511, 256, 0).refusal, [13, 3]);
+    assert_eq!(price(15, 65535, 511, 255, 50591).refusal, [13, 4]);
+    assert_eq!(price(15, 65535, 511, 255, 0).numbers, [0]);
+}
+
+#[test]
+fn search_alone() {
+    let t = tables(&text(B));
+    let call = |factor, work: &mut [u64], history: &[u32], others: &[u16], marks: &[u8]| {
+        search(&t.kind, &t.capacity, &t.first_edge, &t.edge_target, factor, work, history, others, marks)
+            .refusal
+    };
+    let mut work = vec![9; 50];
+    let none: [u64; 0] = [];
+    assert_eq!(call(50, &mut work[..47], &[], &[], &[]), [6, 48]);
+    assert_eq!(call(70000, &mut work, &[1; 6], &[0; 6], &[0; 5]), [13, 5]);
+    assert_eq!(call(70000, &mut work, &[1, 0, 1, 1], &[0; 6], &[0, 0, 2, 0, 0, 0]), [13, 1]);
+    assert_eq!(call(50, &mut work, &[1; 6], &[0, 0, 0, 512, 0, 0], &[0; 6]), [13, 3]);
+    assert_eq!(call(65536, &mut work, &[1; 6], &[0; 6], &[0; 6]), [13, 6]);
+    assert_eq!(work, [9; 50]);
+    let marks = [1, 0, 0, 0, 0, 0, 5];
+    assert_eq!(call(50, &mut work, &[2, 1, 1, 1, 1, 1, 0], &[0, 0, 1, 0, 0, 0, 600], &marks), none);
+    assert_eq!(work[..6], [0, u64::MAX, 3000, 4000, 5000, 5000]);
+    assert_eq!(work[6..], [[0; 42].as_slice(), &[9, 9]].concat());
+    assert_eq!(call(50, &mut work, &[1; 6], &[0; 6], &[0; 6]), none);
+    assert_eq!(work[..6], [u64::MAX; 6]);
+}
+
+#[test]
+fn unsound_logs() {
+    let good = [7, 511, 9, 1, 2, 2, 4095, 9];
+    let refused = |log: &[u32]| {
+        let mut buffer = [9; 99];
+        let refusal = write(log, &mut buffer).refusal;
+        assert_eq!(buffer, [9; 99]);
+        refusal
+    };
+    assert_eq!(written(&good), "R,7,1\nB,511,4095,9\n");
+    assert_eq!(refused(&[]), [10, 0]);
+    let bad = [(0, 0), (0, 101), (1, 512), (2, 8), (5, 1), (5, 3), (5, u32::MAX), (6, 4096), (7, 8)];
+    for (place, word) in bad {
+        let mut log = good;
+        log[place] = word;
+        assert_eq!(refused(&log), [10, 0]);
+    }
+    let mut two = [good, good].concat();
+    two[8] = 8;
+    assert_eq!(written(&two), "R,8,2\nB,511,4095,9\n");
+    two[8] = 6;
+    assert_eq!(refused(&two), [10, 8]);
+    for length in 9..16 {
+        assert_eq!(refused(&two[..length]), [10, 8]);
+    }
+}
+
+/// Damaged tables, texts and logs of pseudo-random content.
+#[test]
+fn nothing_panics() {
+    let mut state = 1u64;
+    let mut next = move |below: u64| {
+        state = state.wrapping_mul(6364136223846793005).wrapping_add(1442695040888963407);
+        (state >> 33) % below
+    };
+    let sound = tables(&text(B));
+    let bytes = text(B).into_bytes();
+    for _ in 0..20_000 {
+        let mut t = sound.clone();
+        let value = [0, 1, 2, 3, 5, 6, 255, 65535][next(8) as usize];
+        let place = next(9) as usize;
+        match next(8) {
+            0 => t.kind.resize(place, value as u8),
+            1 => t.capacity.resize(place, value as u8),
+            2 => t.first_edge[place % 7] = value,
+            3 => t.edge_target[place % 6] = value as u16,
+            4 => t.source[place % 2] = value as u16,
+            5 => t.first_sink[place % 3] = value,
+            6 => t.sink[place % 2] = value as u16,
+            _ => t.limit = value,
+        }
+        let mut log = vec![0; next(60) as usize];
+        route_with(&t, &mut vec![0; next(80) as usize], &mut log);
+        if let Some(word) = log.get_mut(place) {
+            *word = value;
+        }
+        write(&log, &mut vec![0; next(80) as usize]);
+        let mut damaged = bytes.clone();
+        for _ in 0..=next(3) {
+            damaged[next(bytes.len() as u64) as usize] = b"0123456789,\nFNEST\r\xff"[next(19) as usize];
+        }
+        damaged.truncate(bytes.len() - next(4) as usize);
+        read_into(&damaged, &mut marked([next(9) as usize; 7]));
+    }
+}

@@ -1,0 +1,207 @@
+//! The block router of 01, written for speed, for jobs whose tables are sound.
+//!
+//! What makes it fast:
+//! - Prices stand in a table. Only nodes whose users change get a new price.
+//! - A step's cost hangs on its target alone, so in one turn a node's first label is final.
+//! - A net's prices stay the same through its turns, so its search goes on from turn to turn:
+//!   the joined path gets label 0 and only what lies nearer to it is labelled again.
+//! - A search stops when no open sink can still get a label as low as the best one.
+//! - Pins that lead only to leaves which aren't sinks of the net are never searched from.
+//! - Iteration 1 is routed before anything is logged, so refusal 7 needs no search of its own.
+
+mod graph;
+mod prices;
+mod search;
+
+use graph::Graph;
+use prices::Prices;
+use search::{Heap, Key, Search, SHORT_KEY};
+
+/// What a call answers: refusal is empty after acceptance.
+#[derive(Clone, Debug, PartialEq, Eq)]
+pub struct Outcome {
+    pub refusal: Vec<u64>,
+    pub iteration: u64,
+    pub turns: u64,
+    pub words: u64,
+}
+
+/// Routes a job with sound tables. The search of a net goes on from turn to turn.
+#[allow(clippy::too_many_arguments)]
+pub fn route(
+    kind: &[u8],
+    capacity: &[u8],
+    first_edge: &[u32],
+    edge_target: &[u16],
+    source: &[u16],
+    first_sink: &[u32],
+    sink: &[u16],
+    limit: u32,
+    log: &mut [u32],
+) -> Outcome {
+    let nets = Nets { source, first_sink, sink };
+    let graph = Graph::new(first_edge, edge_target);
+    Router::<true>::new(kind, capacity, graph, nets).run(limit, log)
+}
+
+/// The same, but every turn searches anew from the whole tree. For comparison.
+#[allow(clippy::too_many_arguments)]
+pub fn route_anew(
+    kind: &[u8],
+    capacity: &[u8],
+    first_edge: &[u32],
+    edge_target: &[u16],
+    source: &[u16],
+    first_sink: &[u32],
+    sink: &[u16],
+    limit: u32,
+    log: &mut [u32],
+) -> Outcome {
+    let nets = Nets { source, first_sink, sink };
+    let graph = Graph::new(first_edge, edge_target);
+    Router::<false>::new(kind, capacity, graph, nets).run(limit, log)
+}
+
+/// Tables 5 to 7.
+struct Nets<'a> {
+    source: &'a [u16],
+    first_sink: &'a [u32],
+    sink: &'a [u16],
+}
+
+impl<'a> Nets<'a> {
+    fn sinks(&self, net: usize) -> &'a [u16] {
+        &self.sink[self.first_sink[net] as usize..self.first_sink[net + 1] as usize]
+    }
+}
+
+/// The state of a negotiation. CARRY: a net's search goes on from turn to turn.
+struct Router<'a, const CARRY: bool> {
+    nets: Nets<'a>,
+    prices: Prices<'a>,
+    search: Search<'a, CARRY>,
+    trees: Vec<Vec<u16>>,
+    /// Records that are made but not yet in the log.
+    made: Vec<u32>,
+}
+
+/// A net's sink without a path.
+struct NoPath {
+    net: usize,
+    place: usize,
+}
+
+impl<'a, const CARRY: bool> Router<'a, CARRY> {
+    fn new(kind: &[u8], capacity: &'a [u8], graph: Graph<'a>, nets: Nets<'a>) -> Self {
+        let trees = vec![Vec::new(); nets.source.len()];
+        Router {
+            prices: Prices::new(kind, capacity),
+            search: Search::new(kind.len(), graph),
+            trees,
+            nets,
+            made: Vec::new(),
+        }
+    }
+
+    fn run(mut self, limit: u32, words: &mut [u32]) -> Outcome {
+        let mut log = Log { words, used: 0, turns: 0 };
+        let mut iteration = 1;
+        loop {
+            self.prices.fill(&mut self.search.nodes);
+            let whole = if self.prices.worst_path(self.nets.source.len()) < SHORT_KEY {
+                self.iterate::<u64>(iteration, &mut log)
+            } else {
+                self.iterate::<u128>(iteration, &mut log)
+            };
+            match whole {
+                Err(none) => return unreachable(none),
+                Ok(false) => return log.answer(vec![8, iteration as u64, log.turns], iteration),
+                Ok(true) => {}
+            }
+            let over = self.prices.count_over();
+            if over == 0 {
+                return log.answer(Vec::new(), iteration);
+            }
+            if iteration == limit {
+                return log.answer(vec![9, iteration as u64, over], iteration);
+            }
+            self.prices.step();
+            iteration += 1;
+        }
+    }
+
+    /// Routes every net once. False when the log is full.
+    fn iterate<K: Key>(&mut self, iteration: u32, log: &mut Log) -> Result<bool, NoPath> {
+        let mut heap = Heap::<K>::new();
+        for net in 0..self.nets.source.len() {
+            self.route_net(iteration, net, &mut heap)?;
+            if iteration > 1 && !log.take(&mut self.made) {
+                return Ok(false);
+            }
+        }
+        // In iteration 1 the log waits until every sink is known to have a path.
+        Ok(iteration > 1 || log.take(&mut self.made))
+    }
+
+    fn route_net<K: Key>(&mut self, iteration: u32, net: usize, heap: &mut Heap<K>) -> Result<(), NoPath> {
+        let tree = &mut self.trees[net];
+        self.prices.leave(tree, &mut self.search.nodes);
+        let sinks = self.nets.sinks(net);
+        self.search.begin(self.nets.source[net], sinks, tree, heap);
+        while let Some(&first_open) = self.search.open.first() {
+            let Some(cost) = self.search.nearest(tree, heap) else {
+                let place = sinks.iter().position(|&s| s == first_open).unwrap_or(0);
+                return Err(NoPath { net, place });
+            };
+            let path = self.search.join(cost, tree, heap);
+            record(&mut self.made, iteration, net, cost, path);
+        }
+        self.search.end(sinks, heap);
+        self.prices.enter(tree, &mut self.search.nodes);
+        Ok(())
+    }
+}
+
+/// Adds a turn's record. The path comes from sink to tree.
+fn record(made: &mut Vec<u32>, iteration: u32, net: usize, cost: u64, path: &[u16]) {
+    let head = [iteration, net as u32, path[0] as u32, cost as u32, (cost >> 32) as u32, path.len() as u32];
+    made.extend_from_slice(&head);
+    made.extend(path.iter().rev().map(|&v| v as u32));
+}
+
+fn unreachable(none: NoPath) -> Outcome {
+    let refusal = vec![7, none.net as u64, none.place as u64];
+    Outcome { refusal, iteration: 0, turns: 0, words: 0 }
+}
+
+/// The lent log.
+struct Log<'a> {
+    words: &'a mut [u32],
+    used: usize,
+    turns: u64,
+}
+
+impl Log<'_> {
+    /// Moves records into the log, in order, until one doesn't fit. False if one is left.
+    fn take(&mut self, made: &mut Vec<u32>) -> bool {
+        let room = self.words.len() - self.used;
+        let mut end = 0;
+        while end < made.len() {
+            let next = end + 6 + made[end + 5] as usize;
+            if next > room {
+                break;
+            }
+            end = next;
+            self.turns += 1;
+        }
+        self.words[self.used..self.used + end].copy_from_slice(&made[..end]);
+        self.used += end;
+        let whole = end == made.len();
+        made.clear();
+        whole
+    }
+
+    fn answer(&self, refusal: Vec<u64>, iteration: u32) -> Outcome {
+        Outcome { refusal, iteration: iteration as u64, turns: self.turns, words: self.used as u64 }
+    }
+}

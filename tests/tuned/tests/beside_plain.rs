@@ -1,0 +1,308 @@
+//! The tuned router beside the plain one: same outcome, same log, on many small random jobs.
+
+use tuned::Outcome;
+
+const UNWRITTEN: u32 = 0xdead_beef;
+
+/// A small generator (splitmix64).
+struct Draw(u64);
+
+impl Draw {
+    fn below(&mut self, bound: usize) -> usize {
+        self.0 = self.0.wrapping_add(0x9e37_79b9_7f4a_7c15);
+        let mut z = self.0;
+        z = (z ^ (z >> 30)).wrapping_mul(0xbf58_476d_1ce4_e5b9);
+        z = (z ^ (z >> 27)).wrapping_mul(0x94d0_49bb_1331_11eb);
+        ((z ^ (z >> 31)) % bound as u64) as usize
+    }
+}
+
+struct Job {
+    kind: Vec<u8>,
+    capacity: Vec<u8>,
+    first_edge: Vec<u32>,
+    edge_target: Vec<u16>,
+    source: Vec<u16>,
+    first_sink: Vec<u32>,
+    sink: Vec<u16>,
+    limit: u32,
+}
+
+/// Some numbers below bound, none twice, in random order.
+fn some(draw: &mut Draw, bound: usize, count: usize, without: usize) -> Vec<u16> {
+    let mut left: Vec<u16> = (0..bound as u16).filter(|&v| v as usize != without).collect();
+    let mut taken = Vec::new();
+    for _ in 0..count.min(left.len()) {
+        taken.push(left.swap_remove(draw.below(left.len())));
+    }
+    taken
+}
+
+fn random_job(draw: &mut Draw, most_nodes: usize) -> Job {
+    let nodes = 2 + draw.below(most_nodes - 1);
+    let degree = 1 + draw.below(6);
+    // Few kinds make many ties.
+    let kinds = [1, 3, 6, 16][draw.below(4)];
+    let shift = draw.below(17 - kinds);
+    let room = [1, 2, 4, 255][draw.below(4)];
+    let mut job = Job {
+        kind: (0..nodes).map(|_| (shift + draw.below(kinds)) as u8).collect(),
+        capacity: (0..nodes).map(|_| 1 + draw.below(room) as u8).collect(),
+        first_edge: vec![0],
+        edge_target: Vec::new(),
+        source: Vec::new(),
+        first_sink: vec![0],
+        sink: Vec::new(),
+        limit: [1, 2, 5, 12, 30, 100][draw.below(6)],
+    };
+    // Now and then edges are too few for every sink to have a path.
+    let least = if draw.below(4) == 0 { 0 } else { degree };
+    for u in 0..nodes {
+        let count = least + draw.below(degree + 1);
+        let mut row = some(draw, nodes, count, u);
+        row.sort();
+        job.edge_target.extend(row);
+        job.first_edge.push(job.edge_target.len() as u32);
+    }
+    if draw.below(2) == 0 {
+        add_nets(draw, nodes, &mut job);
+    } else {
+        add_apart_nets(draw, nodes, &mut job);
+    }
+    job
+}
+
+/// Nets with pins anywhere: most of them never settle.
+fn add_nets(draw: &mut Draw, nodes: usize, job: &mut Job) {
+    let sinks = 1 + draw.below(6);
+    for _ in 0..1 + draw.below(8) {
+        let source = draw.below(nodes);
+        let count = 1 + draw.below(sinks);
+        job.source.push(source as u16);
+        job.sink.extend(some(draw, nodes, count, source));
+        job.first_sink.push(job.sink.len() as u32);
+    }
+}
+
+/// Nets without a pin in common: many settle after some iterations.
+fn add_apart_nets(draw: &mut Draw, nodes: usize, job: &mut Job) {
+    let mut pins = some(draw, nodes, nodes, nodes).into_iter();
+    for net in 0..1 + draw.below(nodes / 3 + 1) {
+        let (source, first) = match (pins.next(), pins.next()) {
+            (Some(source), Some(sink)) => (source, sink),
+            _ if net > 0 => break,
+            _ => (0, 1),
+        };
+        job.source.push(source);
+        job.sink.push(first);
+        job.sink.extend(pins.by_ref().take(draw.below(3)));
+        job.first_sink.push(job.sink.len() as u32);
+    }
+}
+
+/// Sources, two to four layers of wires, pins, sinks; numbered at random. Narrow, so that nets compete.
+fn layered_job(draw: &mut Draw) -> Job {
+    let nets = 2 + draw.below(5);
+    let wires = nets + draw.below(3);
+    let mut width = vec![nets];
+    width.extend(vec![wires; 2 + draw.below(3)]);
+    width.extend([2 * nets, 2 * nets]);
+    let nodes: usize = width.iter().sum();
+    let number = some(draw, nodes, nodes, nodes);
+    let mut job = Job {
+        kind: vec![1; nodes],
+        capacity: vec![1; nodes],
+        first_edge: vec![0],
+        edge_target: Vec::new(),
+        source: Vec::new(),
+        first_sink: vec![0],
+        sink: Vec::new(),
+        limit: [3, 10, 40, 100][draw.below(4)],
+    };
+    add_layers(draw, &width, &number, &mut job);
+    add_layered_nets(draw, &number[..nets], &number[nodes - 2 * nets..], &mut job);
+    // Reachable sinks only, or else nearly every job would be refused.
+    keep_reachable(&mut job);
+    job
+}
+
+/// Kinds and edges: each layer leads to the next one, the sinks nowhere.
+fn add_layers(draw: &mut Draw, width: &[usize], number: &[u16], job: &mut Job) {
+    let mut rows = vec![Vec::new(); number.len()];
+    let mut rest = number;
+    for (layer, pair) in width.windows(2).enumerate() {
+        let (own, after) = rest.split_at(pair[0]);
+        let pins = layer + 2 == width.len();
+        for &u in own {
+            job.kind[u as usize] = if pins { 3 } else { 4 + draw.below(2) as u8 };
+            rows[u as usize] = layer_row(draw, u, own, &after[..pair[1]], pins);
+        }
+        rest = after;
+    }
+    for mut row in rows {
+        row.sort();
+        job.edge_target.extend(row);
+        job.first_edge.push(job.edge_target.len() as u32);
+    }
+}
+
+/// A pin leads to one sink; the others to one to three nodes of the next layer and at times along their own.
+fn layer_row(draw: &mut Draw, u: u16, own: &[u16], next: &[u16], pins: bool) -> Vec<u16> {
+    let count = if pins { 1 } else { 1 + draw.below(3) };
+    let mut row: Vec<u16> = some(draw, next.len(), count, next.len()).iter().map(|&v| next[v as usize]).collect();
+    let beside = own[draw.below(own.len())];
+    if !pins && beside != u && draw.below(3) == 0 {
+        row.push(beside);
+    }
+    row
+}
+
+/// One or two sinks a net, no sink twice.
+fn add_layered_nets(draw: &mut Draw, sources: &[u16], sinks: &[u16], job: &mut Job) {
+    let order = some(draw, sinks.len(), sinks.len(), sinks.len());
+    let mut order = order.iter().map(|&s| sinks[s as usize]);
+    for &source in sources {
+        job.source.push(source);
+        job.sink.extend(order.by_ref().take(1 + draw.below(2)));
+        job.first_sink.push(job.sink.len() as u32);
+    }
+}
+
+fn row(job: &Job, u: usize) -> &[u16] {
+    &job.edge_target[job.first_edge[u] as usize..job.first_edge[u + 1] as usize]
+}
+
+fn reached(job: &Job, source: u16) -> Vec<bool> {
+    let mut seen = vec![false; job.kind.len()];
+    let mut left = vec![source];
+    while let Some(u) = left.pop() {
+        if !std::mem::replace(&mut seen[u as usize], true) {
+            left.extend(row(job, u as usize));
+        }
+    }
+    seen
+}
+
+/// Leaves out sinks without a path, then nets without sinks. If none is left, all stay.
+fn keep_reachable(job: &mut Job) {
+    let (mut source, mut first_sink, mut sink) = (Vec::new(), vec![0], Vec::new());
+    for (net, &s) in job.source.iter().enumerate() {
+        let seen = reached(job, s);
+        let listed = &job.sink[job.first_sink[net] as usize..job.first_sink[net + 1] as usize];
+        let before = sink.len();
+        sink.extend(listed.iter().filter(|&&v| seen[v as usize]));
+        if sink.len() > before {
+            source.push(s);
+            first_sink.push(sink.len() as u32);
+        }
+    }
+    if !source.is_empty() {
+        (job.source, job.first_sink, job.sink) = (source, first_sink, sink);
+    }
+}
+
+type Tuned = fn(&[u8], &[u8], &[u32], &[u16], &[u16], &[u32], &[u16], u32, &mut [u32]) -> Outcome;
+
+fn run_tuned(router: Tuned, job: &Job, words: usize) -> (Outcome, Vec<u32>) {
+    let mut log = vec![UNWRITTEN; words];
+    let outcome = router(
+        &job.kind, &job.capacity, &job.first_edge, &job.edge_target,
+        &job.source, &job.first_sink, &job.sink, job.limit, &mut log,
+    );
+    (outcome, log)
+}
+
+fn run_plain(job: &Job, words: usize) -> (Outcome, Vec<u32>) {
+    let mut log = vec![UNWRITTEN; words];
+    let mut work = vec![0; 8 * job.kind.len()];
+    let answer = plain::route(
+        &job.kind, &job.capacity, &job.first_edge, &job.edge_target,
+        &job.source, &job.first_sink, &job.sink, job.limit, &mut work, &mut log,
+    );
+    let (iteration, turns, words) = (answer.numbers[0], answer.numbers[1], answer.numbers[2]);
+    (Outcome { refusal: answer.refusal, iteration, turns, words }, log)
+}
+
+/// Sets both tuned routers beside the plain one. Gives the outcome.
+fn compare(job: &Job, words: usize, seed: u64) -> Outcome {
+    let (wanted, wanted_log) = run_plain(job, words);
+    for router in [tuned::route as Tuned, tuned::route_anew as Tuned] {
+        let (outcome, log) = run_tuned(router, job, words);
+        assert_eq!(outcome, wanted, "outcome, seed {seed}");
+        assert!(log == wanted_log, "log, seed {seed}");
+    }
+    wanted
+}
+
+#[test]
+fn many_random_jobs() {
+    // How often each outcome came: accepted, 7, 8, 9.
+    let mut seen = [0; 4];
+    let mut late = 0;
+    for seed in 0..4_000 {
+        let mut draw = Draw(seed);
+        let most_nodes = if seed % 20 == 0 { 120 } else { 24 };
+        let job = if seed % 3 == 0 { layered_job(&mut draw) } else { random_job(&mut draw, most_nodes) };
+        let outcome = compare(&job, 60_000, seed);
+        seen[outcome.refusal.first().map_or(0, |&r| r as usize - 6)] += 1;
+        late += (outcome.refusal.is_empty() && outcome.iteration > 2) as u32;
+        // Logs that are exactly long enough, one word short, or cut anywhere.
+        let used = outcome.words as usize;
+        if used > 0 {
+            compare(&job, used, seed);
+            compare(&job, used - 1, seed);
+            let cut = draw.below(used);
+            seen[2] += (compare(&job, cut, seed).refusal.first() == Some(&8)) as u32;
+        }
+    }
+    println!("accepted {}, 7: {}, 8: {}, 9: {}; accepted after iteration 2: {late}", seen[0], seen[1], seen[2], seen[3]);
+    assert!(seen.iter().all(|&count| count > 100) && late > 50);
+}
+
+#[test]
+fn job_b() {
+    let job = Job {
+        kind: vec![0, 0, 4, 5, 1, 1],
+        capacity: vec![1; 6],
+        first_edge: vec![0, 2, 3, 5, 6, 6, 6],
+        edge_target: vec![2, 3, 2, 4, 5, 4],
+        source: vec![0, 1],
+        first_sink: vec![0, 1, 2],
+        sink: vec![4, 5],
+        limit: 2,
+    };
+    let wanted = [
+        1, 0, 4, 4000, 0, 3, 0, 2, 4, 1, 1, 5, 4000, 0, 3, 1, 2, 5, 2, 0, 4, 6000, 0, 3, 0, 3, 4, 2, 1, 5, 6000, 0, 3, 1, 2, 5,
+    ];
+    let (outcome, log) = run_tuned(tuned::route, &job, 36);
+    assert_eq!(outcome, Outcome { refusal: vec![], iteration: 2, turns: 4, words: 36 });
+    assert_eq!(log, wanted);
+    let (outcome, _) = run_tuned(tuned::route, &job, 35);
+    assert_eq!(outcome, Outcome { refusal: vec![8, 2, 3], iteration: 2, turns: 3, words: 27 });
+}
+
+/// 512 nets share a chain until distances pass 2^52, where heap keys get longer.
+#[test]
+fn long_keys() {
+    let (chain, ends) = (80, 20);
+    let nodes = chain + ends;
+    let mut job = Job {
+        kind: (0..nodes).map(|v| if v < chain { 15 } else { 4 + (v % 3) as u8 }).collect(),
+        capacity: vec![1; nodes],
+        first_edge: vec![0],
+        edge_target: (1..chain as u16).collect(),
+        source: vec![0; 512],
+        first_sink: (0..=512).collect(),
+        sink: (0..512).map(|net| (chain + net % ends) as u16).collect(),
+        limit: 40,
+    };
+    // The last chain node leads to every end.
+    job.first_edge.extend(1..chain as u32);
+    job.edge_target.extend(chain as u16..nodes as u16);
+    job.first_edge.extend(vec![job.edge_target.len() as u32; ends + 1]);
+    let outcome = compare(&job, 2_000_000, 0);
+    assert_eq!(outcome.refusal[0], 9);
+    let (_, log) = run_tuned(tuned::route, &job, outcome.words as usize);
+    let record = 6 + chain + 1;
+    assert!(log.len() % record == 0 && log[log.len() - record + 4] >= 1 << 20);
+}
