@@ -16,7 +16,7 @@ use Rattle.negotiation.specs.Records.{decode, pathNodes}
 use Rattle.negotiation.specs.Machine.{turnOf, congestionFor, treeFrom, overCount, firstState, iterationAfter}
 use Rattle.negotiation.specs.Outcome.{negotiated, routed}
 use Rattle.negotiation.specs.Steps.{SameFrom, leading, oldTree, oldNext, RipReady, RippedUp, CountReady, Counted, CanTurn, Overflows, TurnDone}
-use Rattle.negotiation.specs.declared.turns.Tariff.{Tariff}
+use Rattle.negotiation.specs.declared.tariff.Tariff.{Tariff}
 use Rattle.negotiation.specs.declared.turns.TurnMade.{TurnMade}
 use Rattle.negotiation.specs.declared.turns.TurnMade.the-variants.{Nothing, Full, Logged}
 use Rattle.negotiation.specs.declared.Routed.{Routed}

@@ -23,7 +23,7 @@ use Rattle.negotiation.specs.Records.{Record, recordOf, words, encode}
 use Rattle.negotiation.specs.Machine.{usersOf, congestionFor, turnOf, turnsOf, netRecords, treeFrom, afterNets, overCount, firstState, stateAfter, iterationAfter, recordsAfter, settlesAt, iterate, moveOn, overfull}
 use Rattle.negotiation.specs.Outcome.{negotiated, routed, ranReply, outcomeNumbers, iterationsMade, endNumbers}
 use Rattle.negotiation.specs.Steps.{SameFrom, Overflows}
-use Rattle.negotiation.specs.declared.turns.Tariff.{Tariff}
+use Rattle.negotiation.specs.declared.tariff.Tariff.{Tariff}
 use Rattle.negotiation.specs.declared.Routed.{Routed}
 use Rattle.negotiation.specs.declared.Outcome.the-variants.{Accepted, LogFull, Limit}
 use Rattle.negotiation.proofs.StateLaws.{nets-iteration, nets-factor, nets-histories, state-iteration}

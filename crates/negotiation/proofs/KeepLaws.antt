@@ -10,7 +10,7 @@ use Rattle.negotiation.specs.Records.{Record, encode}
 use Rattle.negotiation.specs.Machine.{State, usersOf, othersOf, marksOf, congestionFor, turnsOf, netRecords, treeFrom, afterNets, firstState, stateAfter, recordsAfter, settlesAt}
 use Rattle.negotiation.specs.Outcome.{logWith}
 use Rattle.negotiation.specs.Steps.{SameFrom, NoMarks}
-use Rattle.negotiation.specs.declared.turns.Tariff.{Tariff}
+use Rattle.negotiation.specs.declared.tariff.Tariff.{Tariff}
 
 -- the records before net i's old ones, where m whole iterations are logged
 unfoldable pub oldBefore : Job → ℕ → ℕ → List Record

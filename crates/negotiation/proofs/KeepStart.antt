@@ -22,7 +22,7 @@ use Rattle.negotiation.specs.Records.{Record, encode, decode, pathNodes}
 use Rattle.negotiation.specs.Machine.{treeAt, usersOf, marksOf, congestionFor, turnsOf, netRecords, treeFrom, afterNets, firstState, stateAfter, recordsAfter}
 use Rattle.negotiation.specs.Outcome.{logWith}
 use Rattle.negotiation.specs.Steps.{leading, oldTree, oldNext, RipReady, RippedUp}
-use Rattle.negotiation.specs.declared.turns.Tariff.{Tariff}
+use Rattle.negotiation.specs.declared.tariff.Tariff.{Tariff}
 use Rattle.negotiation.proofs.StateLaws.{nets-iteration, state-iteration}
 use Rattle.negotiation.proofs.JobLaws.{limit-some, limit-few, source-node}
 use Rattle.negotiation.proofs.RecordLaws.{encode-append}

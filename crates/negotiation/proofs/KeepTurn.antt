@@ -17,7 +17,7 @@ use Rattle.negotiation.specs.Tables.{SoundJob, netsMost}
 use Rattle.negotiation.specs.Records.{Record, recordOf, encode, decode, pathNodes}
 use Rattle.negotiation.specs.Machine.{State, othersOf, marksOf, congestionFor, turnOf, turnsOf, netRecords, treeFrom, firstState, stateAfter, recordsAfter, afterNets}
 use Rattle.negotiation.specs.Steps.{AllBelow, SameFrom, CountReady, Counted, CanTurn, Skipped, Logs}
-use Rattle.negotiation.specs.declared.turns.Tariff.{Tariff}
+use Rattle.negotiation.specs.declared.tariff.Tariff.{Tariff}
 use Rattle.negotiation.proofs.StateLaws.{nets-factor, nets-histories, nets-trees, state-trees}
 use Rattle.negotiation.proofs.JobLaws.{nets-few, limit-few, source-node, sinks-searched}
 use Rattle.negotiation.proofs.RecordLaws.{records-few, decode-encode, encode-append}

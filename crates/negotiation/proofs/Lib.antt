@@ -1,3 +1,5 @@
+pub mod TariffLaws
+pub mod StepLaws
 pub mod JobLaws
 pub mod SinkMarkLaws
 pub mod NetTableLaws
@@ -11,11 +13,11 @@ pub mod NetLaws
 pub mod FilterLaws
 pub mod IterationLaws
 pub mod ReadLaws
-pub mod ReachLaws
-pub mod TestedLaws
 pub mod RipLaws
 pub mod OneTurnLaws
 pub mod DemandLaws
+pub mod FloodLaws
+pub mod TestedLaws
 pub mod DemandHolds
 pub mod SamplesHold
 pub mod KeepLaws

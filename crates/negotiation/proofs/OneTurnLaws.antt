@@ -21,8 +21,9 @@ use Rattle.search.proofs.ReadyLaws.{ready-fair}
 use Rattle.search.proofs.TurnLaws.{joins-within, joins-path, joins-near, path-short, path-nodes}
 use Rattle.search.proofs.PathReplyLaws.{path-turn, joined-turn, stuck-turn, no-refusal}
 use Rattle.negotiation.specs.Records.{recordOf, words}
-use Rattle.negotiation.specs.Steps.{AllBelow, MarksSet, SameFrom, CanTurn, Skipped, Overflows, Logs, tariffAfter}
-use Rattle.negotiation.specs.declared.turns.Tariff.{Tariff}
+use Rattle.negotiation.specs.Steps.{AllBelow, MarksSet, SameFrom, CanTurn, Skipped, Overflows, Logs}
+use Rattle.negotiation.specs.TariffSteps.{loggedTariff}
+use Rattle.negotiation.specs.declared.tariff.Tariff.{Tariff}
 
 -- ---- the work slice afterwards
 
@@ -138,7 +139,7 @@ pub turn-logs :
     {n : ℕ} {t : Turn} {tariff tariff′ : Tariff} {net : ℕ} {sinks marks marks′ work work′ log log′ : List ℕ} {place cost count : ℕ} → Joined n t sinks marks work work′ place cost count → length marks ≡ n → tariff .words + (6 + count) ≤ length log
     → log′ ≡ take (tariff .words) log ++ (words (recordOf (tariff .iteration) net (getD sinks place 0) cost (take count work′)) ++ drop (tariff .words + (6 + count)) log)
     → MarksSet (length marks) (take count work′) marks marks′
-    → tariff′ ≡ tariffAfter tariff (6 + count)
+    → tariff′ ≡ loggedTariff tariff (6 + count)
     → Logs n t tariff net sinks log marks tariff′ log′ marks′
 turn-logs {work′ = work′} {place = place} {cost = cost} {count = count} j long room l m r = record {
   place = place;

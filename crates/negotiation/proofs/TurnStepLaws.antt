@@ -22,8 +22,9 @@ use Rattle.negotiation.specs.Job.{Job, nodes, nets, netSinks}
 use Rattle.negotiation.specs.Records.{Record, recordOf, words, encode, pathNodes}
 use Rattle.negotiation.specs.Machine.{State, treeAt, usersOf, othersOf, marksOf, turnOf, turnsOf, netRecords, treeFrom, afterNets}
 use Rattle.negotiation.specs.Outcome.{logWith}
-use Rattle.negotiation.specs.Steps.{AllBelow, tariffAfter}
-use Rattle.negotiation.specs.declared.turns.Tariff.{Tariff}
+use Rattle.negotiation.specs.Steps.{AllBelow}
+use Rattle.negotiation.specs.TariffSteps.{loggedTariff}
+use Rattle.negotiation.specs.declared.tariff.Tariff.{Tariff}
 use Rattle.negotiation.proofs.RecordLaws.{words-length, encode-append}
 use Rattle.negotiation.proofs.MemberLaws.{lacks-append}
 use Rattle.negotiation.proofs.FilterLaws.{All}
@@ -124,7 +125,7 @@ log-more rs r log n e =
 pub tallied-more :
     (rs : List Record) (log₀ : List ℕ) (t : Tariff) (log : List ℕ) (r : Record) (log′ : List ℕ) → Tallied rs log₀ t log → t .words + (6 + length (r .path)) ≤ length log
     → log′ ≡ take (t .words) log ++ (words r ++ drop (t .words + (6 + length (r .path))) log)
-    → Tallied (rs ++ (r ∷ [])) log₀ (tariffAfter t (6 + length (r .path))) log′
+    → Tallied (rs ++ (r ∷ [])) log₀ (loggedTariff t (6 + length (r .path))) log′
 tallied-more rs log₀ t log r log′ a room is =
     let long : length (encode (rs ++ (r ∷ []))) ≡ length (encode rs) + (6 + length (r .path)) =
     rw (encode-more rs r, length-append (encode rs) (words r), words-length r) in

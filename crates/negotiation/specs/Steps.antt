@@ -13,12 +13,12 @@ use Rattle.price.specs.Bounds.{factorMost}
 use Rattle.search.specs.Block as block
 use Rattle.search.specs.Block.{Block}
 use Rattle.search.specs.Tables.{Sound}
-use Rattle.search.specs.Distance.{far, distance}
-use Rattle.search.specs.Turn.{Congestion, congestionOf, priceAt, Turn, joins, stuck}
+use Rattle.search.specs.Turn.{Congestion, congestionOf, Turn, joins, stuck}
 use Rattle.search.specs.Replies.{nodeSound, sinksSound}
 use Rattle.negotiation.specs.Job.{Job, nets}
 use Rattle.negotiation.specs.Outcome.{unreachableNet, unreachablePlace}
-use Rattle.negotiation.specs.declared.turns.Tariff.{Tariff}
+use Rattle.negotiation.specs.TariffSteps.{loggedTariff}
+use Rattle.negotiation.specs.declared.tariff.Tariff.{Tariff}
 use Rattle.negotiation.specs.declared.turns.TurnMade.{TurnMade}
 use Rattle.negotiation.specs.declared.turns.TurnMade.the-variants.{Nothing, Full, Logged}
 use Rattle.negotiation.specs.declared.reach.Reach.{Reach}
@@ -90,10 +90,6 @@ pub record TurnReady (b : Block) (c : Congestion) (marks work : List ℕ) : Type
   pub numbers : (v : ℕ) → v < block.nodes b → nodeSound c marks v ≡ true
   pub factor-most : c .factor ≤ factorMost
 
--- a sink has a path from the marked nodes
-abbrev pub reaches : Block → Congestion → List ℕ → ℕ → Bool
-reaches b c marks s = ltb (distance b (priceAt b c) marks s) far
-
 -- the answer of the test before iteration 1: net and place of the first sink without a path, none where every sink has one
 abbrev pub missing : Job → List ℕ
 missing j = choose (ltb (unreachableNet j) (nets j)) (unreachableNet j ∷ unreachablePlace j ∷ []) []
@@ -154,11 +150,6 @@ pub record Counted (n : ℕ) (tree users marks users′ marks′ : List ℕ) : T
 
 -- ---- one turn
 
--- the tariff after a turn of so many words
-abbrev pub tariffAfter : Tariff → ℕ → Tariff
-tariffAfter t count =
-    record { iteration = t .iteration; factor = t .factor; turns = t .turns + 1; words = t .words + count }
-
 -- no turn was made
 pub record Skipped (t : Turn) (log marks log′ marks′ : List ℕ) : Type 0 where
   pub is-stuck : t ≡ stuck
@@ -183,7 +174,7 @@ pub record Logs (n : ℕ) (t : Turn) (tariff : Tariff) (net : ℕ) (sinks log ma
   pub room : tariff .words + (6 + length path) ≤ length log
   pub log-is : log′ ≡ take (tariff .words) log ++ (words (recordOf (tariff .iteration) net (getD sinks place 0) cost path) ++ drop (tariff .words + (6 + length path)) log)
   pub marks-set : MarksSet n path marks marks′
-  pub tariff-is : tariff′ ≡ tariffAfter tariff (6 + length path)
+  pub tariff-is : tariff′ ≡ loggedTariff tariff (6 + length path)
 
 -- what a turn did, by cases
 abbrev pub TurnDone : (n : ℕ) (r : TurnMade) (t : Turn) (tariff : Tariff) (net : ℕ) (sinks log marks log′ marks′ : List ℕ) → Type 0

@@ -33,9 +33,11 @@ pub struct Routed {
 }
 
 mod congestion;
+mod flood;
 mod reach;
 mod records;
 mod tables;
+mod tariff;
 mod trees;
 mod turns;
 

@@ -11,21 +11,15 @@ ghost use Rattle.negotiation.specs.Job.{jobOf};
 ghost use Rattle.negotiation.specs.Tables.{SoundJob};
 ghost use Rattle.negotiation.specs.Outcome.{negotiated, routed};
 ghost use Rattle.negotiation.specs.Records.{decode, pathNodes};
-ghost use Rattle.negotiation.specs.Steps.{SameFrom, leading, oldTree, oldNext, RipReady, RippedUp, CountReady, Counted, tariffAfter, TurnDone, CanTurn};
+ghost use Rattle.negotiation.specs.Steps.{SameFrom, leading, oldTree, oldNext, RipReady, RippedUp, CountReady, Counted, TurnDone, CanTurn};
 use crate::Outcome;
 use crate::Routed;
 use crate::congestion;
 use crate::records;
+use crate::tariff;
+use crate::tariff::Tariff;
 use crate::trees;
 use search::PathAnswer;
-
-// What 01 calls the tariff: iteration, factor, turns made and words written.
-pub struct Tariff {
-    pub iteration: u32,
-    pub factor: u32,
-    pub turns: u64,
-    pub words: usize,
-}
 
 // What an attempt at a turn does.
 pub enum TurnMade {
@@ -37,30 +31,12 @@ pub enum TurnMade {
     Logged(Tariff),
 }
 
-// The tariff after a turn of so many words is logged.
-fn turn_logged(t: Tariff, count: usize) -> Tariff
-    requires { ⌜ (t .words + count < 2 ^ 63) × (t .turns ≤ t .words) ⌝ }
-    ensures { λ r. ⌜ r ≡ tariffAfter t count ⌝ }
-{
-    Tariff {
-        iteration: t.iteration,
-        factor: t.factor,
-        turns: t.turns + 1,
-        words: t.words + count,
-    }
-}
-
 // The tariff at the next iteration's start.
 fn next_iteration(t: Tariff) -> Tariff
     requires { ⌜ t .iteration < 100 ⌝ }
     ensures { λ r. ⌜ (r .iteration ≡ t .iteration + 1) × (r .factor ≡ nextFactor (t .iteration) (t .factor)) × (r .turns ≡ t .turns) × (r .words ≡ t .words) ⌝ }
 {
-    Tariff {
-        iteration: t.iteration + 1,
-        factor: price::next_factor(t.iteration, t.factor),
-        turns: t.turns,
-        words: t.words,
-    }
+    tariff::iteration_started(tariff::iteration_ended(t))
 }
 
 // The answer at the end of a run.
@@ -181,7 +157,7 @@ fn one_turn(
     let iteration = tariff.iteration;
     records::write_record(log, at, iteration, net, sinks[p] as u32, cost, work, count);
     trees::mark_path(work, count, in_tree);
-    TurnMade::Logged(turn_logged(tariff, 6 + count))
+    TurnMade::Logged(tariff::turn_logged(tariff, 6 + count))
 }
 
 // The negotiation: in each iteration every net in order drops its old tree and makes turns until its sinks are joined. Routing stops inside a net at

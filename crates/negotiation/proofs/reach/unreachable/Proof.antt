@@ -1,34 +1,27 @@
 -- `negotiation::reach::unreachable` meets its contract: no net that the loop has passed has a sink without a path.
 -- Assumes nothing.
-use mathlib.Core.List.{List}
-use mathlib.Core.Path.{_≡_, refl, sym, _∙_}
-use Prim.Native.Nat.{ℕ, _+_, _-_, _≤_, _<_}
+use mathlib.Core.Path.{sym}
+use Prim.Native.Nat.{ℕ, _+_, _-_, _≤_}
 use native.Mathlib.Omega.{arith}
-use lib.ListN.{length, getD, set, replicate, length-set, length-replicate}
+use lib.ListN.{length, getD, length-replicate}
 use lib.Seq.{length-take-le}
 use borrow.Author.Count.{below-none}
 use Rattle.search.proofs.BlockLaws.{kinds-few}
-use Rattle.negotiation.specs.Job.{Job, jobOf, nodes, source}
+use Rattle.negotiation.specs.Job.{Job, jobOf, nodes}
 use Rattle.negotiation.specs.Tables.{SoundJob}
-use Rattle.negotiation.proofs.JobLaws.{nets-few, source-node, firstSinks-long, sinks-order, sinks-end, sinks-few}
-use Rattle.negotiation.proofs.ReachLaws.{same-from-refl, same-from-trans}
-use Rattle.negotiation.proofs.TestedLaws.{Tested, tested-all, net-asked, tested-found, tested-more}
+use Rattle.negotiation.proofs.JobLaws.{nets-few, firstSinks-long, sinks-order, sinks-end, sinks-few}
+use Rattle.negotiation.proofs.FloodLaws.{same-from-refl}
+use Rattle.negotiation.proofs.TestedLaws.{Tested, tested-all, flood-asked, marks-fit, tested-same, sinks-asked, tested-found, tested-more}
 use Rattle.negotiation.proofs.reach.unreachable.Statement.{statement}
 use Rattle.negotiation.proofs.reach.unreachable.Tie as tie
 
 abbrev Inv-loop : tie.InvT-loop
-Inv-loop kind capacity first-edge edge-target source first-sink sink work₀ limit n history users in-tree₀ net₀ work in-tree net =
-    Tested (jobOf kind capacity first-edge edge-target source first-sink sink limit) 4096 work₀ work history users in-tree net
+Inv-loop kind capacity first-edge edge-target source first-sink sink work₀ limit n reached₀ net₀ work reached net =
+    Tested (jobOf kind capacity first-edge edge-target source first-sink sink limit) 4096 work₀ work reached net
 
 abbrev μ-loop : tie.MeasureT-loop
-μ-loop kind capacity first-edge edge-target source first-sink sink work₀ limit n history users in-tree₀ net₀ work in-tree net =
+μ-loop kind capacity first-edge edge-target source first-sink sink work₀ limit n reached₀ net₀ work reached net =
     length source - net
-
--- an array that is as at the beginning is as long
-marks-wide : (n m s a : ℕ) {marks : List ℕ} → n ≤ m → marks ≡ replicate m 0 → n ≤ length (set marks s a)
-marks-wide n m s a {marks} h e =
-    let wide = length-replicate {A = ℕ} m 0 in
-    rw (e, length-set (replicate m 0) s a) (omega arith)
 
 -- the job at the entry
 abbrev job : tie.Start Inv-loop μ-loop → Job
@@ -45,14 +38,17 @@ few s = kinds-few (s .args .kind .now) (sound s .block-sound .kinds-sound)
 abbrev entry : tie.In-loop Inv-loop μ-loop → tie.Start Inv-loop μ-loop
 entry t = t .before .before .before .before .before .before .before .before .before .before
 
+-- the turn, from where its net's graph is flooded, and from where its sinks are looked at
+abbrev turn : tie.After-flood Inv-loop μ-loop → tie.In-loop Inv-loop μ-loop
+turn f = f .before .before .before .before .before .before
+
+abbrev flooded : tie.After-missing-sink Inv-loop μ-loop → tie.After-flood Inv-loop μ-loop
+flooded m = m .before .before .before .before .before .before
+
 abbrev net : tie.In-loop Inv-loop μ-loop → ℕ
 net t = t .before .loop .net
 
--- a turn's net: its source is a node, and its sinks stand one after the other within table 7
-source-small : (t : tie.In-loop Inv-loop μ-loop) → source (job (entry t)) (net t) < 4096
-source-small t =
-    omega (arith, few (entry t), source-node (job (entry t)) (sound (entry t)) (net t) (t .loop-test .taken))
-
+-- a turn's sinks stand one after the other within table 7
 sinks-rise : (t : tie.In-loop Inv-loop μ-loop) → getD (entry t .args .first-sink .now) (net t) 0 ≤ getD (entry t .args .first-sink .now) (net t + 1) 0
 sinks-rise t = omega (arith, sinks-order (job (entry t)) (sound (entry t)) (net t) (t .loop-test .taken))
 
@@ -62,14 +58,16 @@ sinks-within t = sinks-end (job (entry t)) (sound (entry t)) (net t + 1) (omega 
 sinks-small : (t : tie.In-loop Inv-loop μ-loop) → getD (entry t .args .first-sink .now) (net t + 1) 0 ≤ 4096
 sinks-small t = omega (arith, sinks-within t, sinks-few (job (entry t)) (sound (entry t)))
 
+-- there is a mark for each node
+marks-enough : (t : tie.In-loop Inv-loop μ-loop) → length (entry t .args .kind .now) ≤ length (t .before .loop .reached)
+marks-enough t = omega (arith, few (entry t), t .before .loop .inv .marks-long)
+
 loop-holds : tie.Need-loop-holds Inv-loop μ-loop
 loop-holds c =
     record {
       within = omega arith;
       same = same-from-refl _ _;
-      history-is = refl;
-      users-is = refl;
-      marks-is = refl;
+      marks-long = length-replicate {A = ℕ} 4096 0;
       passed = below-none _;
     }
 
@@ -77,7 +75,7 @@ mul-from : tie.Need-mul-from Inv-loop μ-loop
 mul-from c = omega arith
 
 shared-slice-read-from : tie.Need-shared-slice-read-from Inv-loop μ-loop
-shared-slice-read-from c = omega (arith, firstSinks-long (job (c .before .before .before .before .before .before .before .before .before .before .before)) (sound (c .before .before .before .before .before .before .before .before .before .before .before)))
+shared-slice-read-from c = omega (arith, firstSinks-long (job (entry (c .before))) (sound (entry (c .before))))
 
 cast-from : tie.Need-cast-from Inv-loop μ-loop
 cast-from c = omega (arith, c .shared-slice-known8 .given (c .before .before .loop .net))
@@ -86,10 +84,10 @@ add-to : tie.Need-add-to Inv-loop μ-loop
 add-to c = omega arith
 
 mul-to : tie.Need-mul-to Inv-loop μ-loop
-mul-to c = omega (arith, nets-few (job (c .before .before .before .before .before .before .before .before .before .before .before)) (sound (c .before .before .before .before .before .before .before .before .before .before .before)))
+mul-to c = omega (arith, nets-few (job (entry (c .before))) (sound (entry (c .before))))
 
 shared-slice-read-to : tie.Need-shared-slice-read-to Inv-loop μ-loop
-shared-slice-read-to c = omega (arith, firstSinks-long (job (c .before .before .before .before .before .before .before .before .before .before .before .before)) (sound (c .before .before .before .before .before .before .before .before .before .before .before .before)))
+shared-slice-read-to c = omega (arith, firstSinks-long (job (entry (c .before .before))) (sound (entry (c .before .before))))
 
 cast-to : tie.Need-cast-to Inv-loop μ-loop
 cast-to c = omega (arith, c .shared-slice-known9 .given (c .before .before .before .loop .net + 1))
@@ -103,83 +101,87 @@ shared-slice-read-s c = omega arith
 cast-s : tie.Need-cast-s Inv-loop μ-loop
 cast-s c = omega (arith, c .shared-slice-known10 .given (c .before .before .before .before .loop .net))
 
-array-write-in-tree : tie.Need-array-write-in-tree Inv-loop μ-loop
-array-write-in-tree c = source-small (c .before .before .before)
+array-borrow-prefix-reached : tie.Need-array-borrow-prefix-reached Inv-loop μ-loop
+array-borrow-prefix-reached c = marks-enough (c .before .before .before)
 
-array-share-prefix-history : tie.Need-array-share-prefix-history Inv-loop μ-loop
-array-share-prefix-history c = few (c .before .before .before .before .before .before .before .before .before .before .before .before .before .before)
+slice-aggregate-flood : tie.Need-slice-aggregate-flood Inv-loop μ-loop
+slice-aggregate-flood c = sym (length-take-le _ _ (marks-enough (c .before .before .before .before)))
+
+flood-requires : tie.Need-flood-requires Inv-loop μ-loop
+flood-requires c κs =
+    let t = c .before .before .before .before .before in
+    flood-asked (job (entry t)) (sound (entry t)) (net t) (t .loop-test .taken) (few (entry t)) (entry t .pre .1) (t .before .loop .inv)
+
+array-share-prefix-reached : tie.Need-array-share-prefix-reached Inv-loop μ-loop
+array-share-prefix-reached c =
+    let f = c .before .before .before in
+    let t = turn f in
+    marks-fit (job (entry t)) (sound (entry t)) (net t) (t .loop-test .taken) (few (entry t)) (entry t .pre .1) (t .before .loop .inv) (f .flood .ensures)
 
 slice-aggregate-missing-sink : tie.Need-slice-aggregate-missing-sink Inv-loop μ-loop
-slice-aggregate-missing-sink c = sym (length-take-le _ _ (few (c .before .before .before .before .before .before .before .before .before .before .before .before .before .before .before)))
-
-array-share-prefix-users : tie.Need-array-share-prefix-users Inv-loop μ-loop
-array-share-prefix-users c = few (c .before .before .before .before .before .before .before .before .before .before .before .before .before .before .before)
-
-slice-aggregate-missing-sink-2 : tie.Need-slice-aggregate-missing-sink-2 Inv-loop μ-loop
-slice-aggregate-missing-sink-2 c = sym (length-take-le _ _ (few (c .before .before .before .before .before .before .before .before .before .before .before .before .before .before .before .before)))
-
-array-share-prefix-in-tree : tie.Need-array-share-prefix-in-tree Inv-loop μ-loop
-array-share-prefix-in-tree c = marks-wide _ _ _ 1 (few (c .before .before .before .before .before .before .before .before .before .before .before .before .before .before .before .before)) (c .before .before .before .before .before .before .before .loop .inv .marks-is)
-
-slice-aggregate-missing-sink-3 : tie.Need-slice-aggregate-missing-sink-3 Inv-loop μ-loop
-slice-aggregate-missing-sink-3 c = sym (length-take-le _ _ (marks-wide _ _ _ 1 (few (c .before .before .before .before .before .before .before .before .before .before .before .before .before .before .before .before .before)) (c .before .before .before .before .before .before .before .before .loop .inv .marks-is)))
+slice-aggregate-missing-sink c =
+    let f = c .before .before .before .before in
+    let t = turn f in
+    sym (length-take-le _ _ (marks-fit (job (entry t)) (sound (entry t)) (net t) (t .loop-test .taken) (few (entry t)) (entry t .pre .1) (t .before .loop .inv) (f .flood .ensures)))
 
 mul-missing-sink : tie.Need-mul-missing-sink Inv-loop μ-loop
-mul-missing-sink c = omega (arith, sinks-rise (c .before .before .before .before .before .before .before), sinks-small (c .before .before .before .before .before .before .before))
+mul-missing-sink c =
+    let t = turn (c .before .before .before .before) in
+    omega (arith, sinks-rise t, sinks-small t)
 
 sub-missing-sink : tie.Need-sub-missing-sink Inv-loop μ-loop
-sub-missing-sink c = sinks-rise (c .before .before .before .before .before .before .before)
+sub-missing-sink c = sinks-rise (turn (c .before .before .before .before))
 
 part-missing-sink-start : tie.Need-part-missing-sink-start Inv-loop μ-loop
-part-missing-sink-start c = sinks-rise (c .before .before .before .before .before .before .before)
+part-missing-sink-start c = sinks-rise (turn (c .before .before .before .before))
 
 part-missing-sink-end : tie.Need-part-missing-sink-end Inv-loop μ-loop
-part-missing-sink-end c = sinks-within (c .before .before .before .before .before .before .before)
+part-missing-sink-end c = sinks-within (turn (c .before .before .before .before))
 
 missing-sink-requires : tie.Need-missing-sink-requires Inv-loop μ-loop
 missing-sink-requires c κs =
-    let turn = c .before .before .before .before .before .before .before .before in
-    let start = entry turn in
-    net-asked (job start) (sound start) (net turn) (turn .loop-test .taken) (few start) (start .pre .1) (turn .before .loop .inv)
-
-array-write-in-tree-2 : tie.Need-array-write-in-tree-2 Inv-loop μ-loop
-array-write-in-tree-2 c = source-small (c .before .before .before .before .before .before .before .before .before .before .before)
+    let f = c .before .before .before .before .before in
+    let t = turn f in
+    sinks-asked (job (entry t)) (sound (entry t)) (net t) (t .loop-test .taken) (few (entry t)) (entry t .pre .1) (t .before .loop .inv) (f .flood .ensures)
 
 sub-if1 : tie.Need-sub-if1 Inv-loop μ-loop
-sub-if1 c = sinks-rise (c .before .before .before .before .before .before .before .before .before .before .before)
+sub-if1 c = sinks-rise (turn (flooded c))
 
-cast-t42 : tie.Need-cast-t42 Inv-loop μ-loop
-cast-t42 c =
-    let turn = c .before .before .before .before .before .before .before .before .before .before .before .before in
-    omega (arith, nets-few (job (entry turn)) (sound (entry turn)), turn .loop-test .taken)
+cast-t35 : tie.Need-cast-t35 Inv-loop μ-loop
+cast-t35 c =
+    let t = turn (flooded (c .before)) in
+    omega (arith, nets-few (job (entry t)) (sound (entry t)), t .loop-test .taken)
 
-cast-t43 : tie.Need-cast-t43 Inv-loop μ-loop
-cast-t43 c = omega (arith, sinks-small (c .before .before .before .before .before .before .before .before .before .before .before .before), c .if1 .taken)
+cast-t36 : tie.Need-cast-t36 Inv-loop μ-loop
+cast-t36 c = omega (arith, sinks-small (turn (flooded (c .before))), c .if1 .taken)
 
 same-length : tie.Need-same-length Inv-loop μ-loop
-same-length c = c .before .before .before .missing-sink .kept .1 .1 .1 .1 .0 ∙ c .before .before .before .before .before .before .before .before .before .before .before .before .before .loop .inv .same .long
+same-length c =
+    let f = flooded (c .before) in
+    let t = turn f in
+    tested-same (job (entry t)) (sound (entry t)) (net t) (t .loop-test .taken) (few (entry t)) (entry t .pre .1) (t .before .loop .inv) (f .flood .ensures) .long
 
 returns : tie.Need-returns Inv-loop μ-loop
 returns c =
-    let call = c .before .before .before .missing-sink in
-    let turn = c .before .before .before .before .before .before .before .before .before .before .before .before in
-    let start = entry turn in (
-      tested-found (job start) (sound start) (net turn) (turn .loop-test .taken) (few start) (start .pre .1) (turn .before .loop .inv) (call .result) (call .ensures .0) (c .if1 .taken),
-      same-from-trans (turn .before .loop .inv .same) (call .ensures .1),
+    let f = flooded (c .before) in
+    let t = turn f in
+    let call = c .before .missing-sink in (
+      tested-found (job (entry t)) (sound (entry t)) (net t) (t .loop-test .taken) (few (entry t)) (entry t .pre .1) (t .before .loop .inv) (f .flood .ensures) (call .result) (call .ensures) (c .if1 .taken),
+      tested-same (job (entry t)) (sound (entry t)) (net t) (t .loop-test .taken) (few (entry t)) (entry t .pre .1) (t .before .loop .inv) (f .flood .ensures),
     )
 
 add-net : tie.Need-add-net Inv-loop μ-loop
 add-net c = omega arith
 
 loop-less : tie.Need-loop-less Inv-loop μ-loop
-loop-less c = omega (arith, c .before .before .before .before .before .before .before .before .before .before .before .before .loop-test .taken)
+loop-less c = omega (arith, turn (flooded (c .before)) .loop-test .taken)
 
 loop-again : tie.Need-loop-again Inv-loop μ-loop
 loop-again c =
-    let call = c .before .before .before .missing-sink in
-    let turn = c .before .before .before .before .before .before .before .before .before .before .before .before in
-    let start = entry turn in
-    tested-more (job start) (sound start) (net turn) (turn .loop-test .taken) (few start) (start .pre .1) (turn .before .loop .inv) (call .result) (call .ensures .0) _ (call .ensures .1) (c .if1 .left)
+    let f = flooded (c .before) in
+    let t = turn f in
+    let call = c .before .missing-sink in
+    tested-more (job (entry t)) (sound (entry t)) (net t) (t .loop-test .taken) (few (entry t)) (entry t .pre .1) (t .before .loop .inv) (f .flood .ensures) (call .result) (call .ensures) (c .if1 .left)
 
 same-length-2 : tie.Need-same-length-2 Inv-loop μ-loop
 same-length-2 c = c .before .loop .inv .same .long
@@ -204,22 +206,19 @@ unreachable-spec =
     mul-s
     shared-slice-read-s
     cast-s
-    array-write-in-tree
-    array-share-prefix-history
+    array-borrow-prefix-reached
+    slice-aggregate-flood
+    flood-requires
+    array-share-prefix-reached
     slice-aggregate-missing-sink
-    array-share-prefix-users
-    slice-aggregate-missing-sink-2
-    array-share-prefix-in-tree
-    slice-aggregate-missing-sink-3
     mul-missing-sink
     sub-missing-sink
     part-missing-sink-start
     part-missing-sink-end
     missing-sink-requires
-    array-write-in-tree-2
     sub-if1
-    cast-t42
-    cast-t43
+    cast-t35
+    cast-t36
     same-length
     returns
     add-net

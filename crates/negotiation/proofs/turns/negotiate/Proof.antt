@@ -16,7 +16,7 @@ use Rattle.negotiation.specs.Job.{jobOf}
 use Rattle.negotiation.specs.Tables.{SoundJob}
 use Rattle.negotiation.specs.Records.{Record}
 use Rattle.negotiation.specs.Machine.{overCount, iterationAfter, firstState}
-use Rattle.negotiation.specs.declared.turns.Tariff.{Tariff}
+use Rattle.negotiation.specs.declared.tariff.Tariff.{Tariff}
 use Rattle.negotiation.proofs.JobLaws.{nets-few, limit-few, source-node, firstSinks-long, sinks-order, sinks-end, sinks-few}
 use Rattle.negotiation.proofs.KeepLaws.{Tallied, AtNet, AtTurn}
 use Rattle.negotiation.proofs.TurnStepLaws.{log-length}

@@ -1,0 +1,19 @@
+-- The tariff after each step that brings it up to date.
+-- Assumes nothing.
+use Prim.Native.Nat.{ℕ, _+_}
+use Rattle.price.specs.Prices.{nextFactor}
+use Rattle.negotiation.specs.declared.tariff.Tariff.{Tariff}
+
+-- after a turn of so many words is logged
+abbrev pub loggedTariff : Tariff → ℕ → Tariff
+loggedTariff t count =
+    record { iteration = t .iteration; factor = t .factor; turns = t .turns + 1; words = t .words + count }
+
+-- at an iteration's end, "factor move on"
+abbrev pub endedTariff : Tariff → Tariff
+endedTariff t =
+    record { iteration = t .iteration; factor = nextFactor (t .iteration) (t .factor); turns = t .turns; words = t .words }
+
+-- at the next iteration's start
+abbrev pub startedTariff : Tariff → Tariff
+startedTariff t = record { iteration = t .iteration + 1; factor = t .factor; turns = t .turns; words = t .words }

@@ -1,0 +1,65 @@
+// The tariff, lent by &mut to the steps that bring it up to date, and the same steps by value for the routing loops.
+ghost use mathlib.Core.Path.{_≡_};
+ghost use Prim.Native.Nat.{_+_, _<_, _^_};
+ghost use Rattle.negotiation.specs.TariffSteps.{loggedTariff, endedTariff, startedTariff};
+
+// What 01 calls the tariff: iteration, factor, turns made and words written.
+pub struct Tariff {
+    pub iteration: u32,
+    pub factor: u32,
+    pub turns: u64,
+    pub words: usize,
+}
+
+// A turn of so many words is logged.
+fn log_turn(t: &mut Tariff, count: usize)
+    requires { ⌜ (now t .turns + 1 < 2 ^ 64) × (now t .words + count < 2 ^ 64) ⌝ }
+    ensures { λ _. ⌜ now (t .exit) ≡ loggedTariff (now (t .entry)) count ⌝ }
+{
+    t.turns = t.turns + 1;
+    t.words = t.words + count;
+}
+
+// The iteration is over: the present congestion factor moves on.
+fn end_iteration(t: &mut Tariff)
+    ensures { λ _. ⌜ now (t .exit) ≡ endedTariff (now (t .entry)) ⌝ }
+{
+    t.factor = price::next_factor(t.iteration, t.factor);
+}
+
+// The next iteration starts.
+fn start_iteration(t: &mut Tariff)
+    requires { ⌜ now t .iteration + 1 < 2 ^ 32 ⌝ }
+    ensures { λ _. ⌜ now (t .exit) ≡ startedTariff (now (t .entry)) ⌝ }
+{
+    t.iteration = t.iteration + 1;
+}
+
+// The tariff after a turn of so many words is logged.
+pub fn turn_logged(t: Tariff, count: usize) -> Tariff
+    requires { ⌜ (t .turns + 1 < 2 ^ 64) × (t .words + count < 2 ^ 64) ⌝ }
+    ensures { λ r. ⌜ r ≡ loggedTariff t count ⌝ }
+{
+    let mut next = t;
+    log_turn(&mut next, count);
+    next
+}
+
+// The tariff after the iteration's end.
+pub fn iteration_ended(t: Tariff) -> Tariff
+    ensures { λ r. ⌜ r ≡ endedTariff t ⌝ }
+{
+    let mut next = t;
+    end_iteration(&mut next);
+    next
+}
+
+// The tariff at the next iteration's start.
+pub fn iteration_started(t: Tariff) -> Tariff
+    requires { ⌜ t .iteration + 1 < 2 ^ 32 ⌝ }
+    ensures { λ r. ⌜ r ≡ startedTariff t ⌝ }
+{
+    let mut next = t;
+    start_iteration(&mut next);
+    next
+}
