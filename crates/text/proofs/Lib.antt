@@ -1,5 +1,6 @@
 pub mod LastLaws
 pub mod FieldLaws
+pub mod SideLaws
 pub mod JudgedLaws
 pub mod HeadLineLaws
 pub mod NodeLineLaws

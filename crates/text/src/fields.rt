@@ -42,6 +42,12 @@ pub enum Four {
     Fault,
 }
 
+// The job text along with how far the reader has come.
+pub struct JobReader<'a> {
+    pub text: &'a [u8],
+    pub at: usize,
+}
+
 // This byte stands at this place.
 pub fn stands(text: &[u8], at: usize, byte: u8) -> bool
     ensures { λ r. ⌜ r ≡ begins byte (drop at (now (text .entry))) ⌝ }
@@ -115,8 +121,8 @@ fn number(text: &[u8], at: usize) -> Field
     further_digits(text, at + 1, (b - 48) as u32)
 }
 
-// A field after a comma.
-pub fn comma_field(text: &[u8], at: usize) -> Field
+// A field after a comma, at a place of the text.
+fn field_at(text: &[u8], at: usize) -> Field
     ensures { λ r. ⌜ fieldAt (now (text .entry)) r ≡ commaField (drop at (now (text .entry))) ⌝ }
     ensures { λ r. ⌜ FieldPlace at (now (text .entry)) r ⌝ }
 {
@@ -124,6 +130,39 @@ pub fn comma_field(text: &[u8], at: usize) -> Field
         return Field::Fault;
     }
     number(text, at + 1)
+}
+
+// A reader at the start of a text.
+fn start<'a>(text: &'a [u8]) -> JobReader<'a>
+    ensures { λ r. ⌜ (r .text ≡ text .entry) × (r .at ≡ 0) ⌝ }
+{
+    JobReader { text, at: 0 }
+}
+
+// The field after a comma where the reader is.
+fn read_field<'a>(r: JobReader<'a>) -> Field
+    ensures { λ f. ⌜ fieldAt (now (r .entry .text)) f ≡ commaField (drop (r .entry .at) (now (r .entry .text))) ⌝ }
+    ensures { λ f. ⌜ FieldPlace (r .entry .at) (now (r .entry .text)) f ⌝ }
+{
+    field_at(r.text, r.at)
+}
+
+// The same text at another place.
+fn moved<'a>(r: JobReader<'a>, next: usize) -> JobReader<'a>
+    ensures { λ q. ⌜ (q .text ≡ r .entry .text) × (q .at ≡ next) ⌝ }
+{
+    JobReader {
+        text: r.text,
+        at: next,
+    }
+}
+
+// A field after a comma.
+pub fn comma_field(text: &[u8], at: usize) -> Field
+    ensures { λ r. ⌜ fieldAt (now (text .entry)) r ≡ commaField (drop at (now (text .entry))) ⌝ }
+    ensures { λ r. ⌜ FieldPlace at (now (text .entry)) r ⌝ }
+{
+    read_field(moved(start(text), at))
 }
 
 pub fn two_fields(text: &[u8], at: usize) -> Two
