@@ -105,7 +105,7 @@ fn plain_guess(before: Option<&Row>, job: &Job, turns: f64) -> f64 {
 
 fn make_row(shape: Shape, nodes: usize, before: Option<&Row>, lent: &mut Lent) -> Row {
     let job = jobs::make(shape, nodes);
-    let result = Router::Tuned.run()(&job, &mut [], &mut lent.log);
+    let result = Router::Carried.run()(&job, &mut [], &mut lent.log);
     let log = lent.log[..result.numbers[2] as usize].to_vec();
     let mut routers = routers::all();
     if plain_guess(before, &job, result.numbers[1] as f64) > PLAIN_LIMIT {
@@ -125,12 +125,13 @@ fn cell(value: Option<f64>, width: usize, places: usize) -> String {
 fn print_head() {
     println!("The job | milliseconds of processor time, best of {LEAST} to {MOST} runs | ratios |");
     println!("picoseconds per turn and (nodes + edges) x log2 nodes.");
-    println!("anew: tuned, but each turn searches anew. Every run's outcome and log are checked against tuned's first.");
+    println!("heap: binary heap and early stop. pruned: besides, less is searched. carried: besides, a net's search goes on from turn to turn.");
+    println!("Every run's outcome and log are checked against carried's first.");
     print!("{:<10}{:>6}{:>7}{:>5}{:>6}", "shape", "nodes", "edges", "nets", "sinks");
     print!("{:>5}{:>7}  {:<10}|", "iter", "turns", "outcome");
-    print!("{:>10}{:>9}{:>9}{:>10}  |", "proved", "tuned", "anew", "plain");
-    print!("{:>8}{:>8}{:>8}{:>8}  |", "prov/tun", "prov/an", "pl/prov", "pl/tun");
-    println!("{:>8}{:>8}{:>8}{:>8}", "proved", "tuned", "anew", "plain");
+    print!("{:>10}{:>9}{:>9}{:>9}{:>10}  |", "proved", "heap", "pruned", "carried", "plain");
+    print!("{:>8}{:>8}{:>8}{:>8}  |", "pro/hea", "pro/pru", "pro/car", "pla/pro");
+    println!("{:>8}{:>8}{:>8}", "proved", "heap", "plain");
 }
 
 fn print_row(row: &Row) {
@@ -139,15 +140,15 @@ fn print_row(row: &Row) {
     print!("{:<10}{:>6}{:>7}", format!("{:?}", row.shape).to_lowercase(), job.kind.len(), job.edge_target.len());
     print!("{:>5}{:>6}{:>5}{:>7}", job.source.len(), job.sink.len(), row.result.numbers[0], row.result.numbers[1]);
     print!("  {:<10}|", row.outcome());
-    for (router, width) in [(Proved, 10), (Tuned, 9), (Anew, 9), (Plain, 10)] {
+    for (router, width) in [(Proved, 10), (Heap, 9), (Pruned, 9), (Carried, 9), (Plain, 10)] {
         print!("{}", cell(row.seconds(router).map(|s| s * 1e3), width, 3));
     }
     print!("  |");
-    for (over, under) in [(Proved, Tuned), (Proved, Anew), (Plain, Proved), (Plain, Tuned)] {
+    for (over, under) in [(Proved, Heap), (Proved, Pruned), (Proved, Carried), (Plain, Proved)] {
         print!("{}", cell(row.ratio(over, under), 8, 1));
     }
     print!("  |");
-    for router in [Proved, Tuned, Anew, Plain] {
+    for router in [Proved, Heap, Plain] {
         print!("{}", cell(row.unit(router), 8, 0));
     }
     println!();
@@ -166,7 +167,7 @@ fn print_ratio(name: &str, ratios: &[f64]) {
 
 fn print_ratios(rows: &[Row]) {
     use Router::*;
-    let pairs = [("proved/tuned", Proved, Tuned), ("proved/anew", Proved, Anew), ("plain/proved", Plain, Proved), ("plain/tuned", Plain, Tuned)];
+    let pairs = [("proved/heap", Proved, Heap), ("proved/pruned", Proved, Pruned), ("proved/carried", Proved, Carried), ("plain/proved", Plain, Proved)];
     for (name, over, under) in pairs {
         let ratios: Vec<f64> = rows.iter().filter_map(|row| row.ratio(over, under)).collect();
         print_ratio(name, &ratios);

@@ -1,6 +1,7 @@
 //! The routers under one form.
 
 use crate::jobs::Job;
+use tuned::Way;
 
 /// What a router must give alike: refusal, then iteration, turns, words.
 #[derive(Clone, PartialEq, Debug)]
@@ -14,8 +15,9 @@ pub type Run = fn(&Job, &mut [u64], &mut [u32]) -> Result;
 #[derive(Clone, Copy, PartialEq, Debug)]
 pub enum Router {
     Proved,
-    Tuned,
-    Anew,
+    Heap,
+    Pruned,
+    Carried,
     Plain,
 }
 
@@ -23,8 +25,9 @@ impl Router {
     pub fn run(self) -> Run {
         match self {
             Router::Proved => proved,
-            Router::Tuned => |job, _, log| tuned_answer(tuned::route, job, log),
-            Router::Anew => |job, _, log| tuned_answer(tuned::route_anew, job, log),
+            Router::Heap => |job, _, log| tuned_answer(Way::Heap, job, log),
+            Router::Pruned => |job, _, log| tuned_answer(Way::Pruned, job, log),
+            Router::Carried => |job, _, log| tuned_answer(Way::Carried, job, log),
             Router::Plain => plain,
         }
     }
@@ -34,7 +37,7 @@ pub const HAS_PROVED: bool = cfg!(all(feature = "proved", not(feature = "no-prov
 
 /// All that this build has, in the table's order.
 pub fn all() -> Vec<Router> {
-    let mut routers = vec![Router::Tuned, Router::Anew, Router::Plain];
+    let mut routers = vec![Router::Heap, Router::Pruned, Router::Carried, Router::Plain];
     if HAS_PROVED {
         routers.insert(0, Router::Proved);
     }
@@ -63,11 +66,9 @@ fn plain(job: &Job, work: &mut [u64], log: &mut [u32]) -> Result {
     Result { refusal: answer.refusal, numbers: answer.numbers }
 }
 
-type Tuned = fn(&[u8], &[u8], &[u32], &[u16], &[u16], &[u32], &[u16], u32, &mut [u32]) -> tuned::Outcome;
-
-fn tuned_answer(router: Tuned, job: &Job, log: &mut [u32]) -> Result {
-    let outcome = router(
-        &job.kind, &job.capacity, &job.first_edge, &job.edge_target,
+fn tuned_answer(way: Way, job: &Job, log: &mut [u32]) -> Result {
+    let outcome = tuned::route(
+        way, &job.kind, &job.capacity, &job.first_edge, &job.edge_target,
         &job.source, &job.first_sink, &job.sink, job.limit, log,
     );
     let numbers = vec![outcome.iteration, outcome.turns, outcome.words];

@@ -1,13 +1,14 @@
 //! The block router of 01, written for speed, for jobs whose tables are sound.
 //!
-//! What makes it fast:
-//! - Prices stand in a table. Only nodes whose users change get a new price.
-//! - A step's cost hangs on its target alone, so in one turn a node's first label is final.
-//! - A net's prices stay the same through its turns, so its search goes on from turn to turn:
-//!   the joined path gets label 0 and only what lies nearer to it is labelled again.
-//! - A search stops when no open sink can still get a label as low as the best one.
-//! - Pins that lead only to leaves which aren't sinks of the net are never searched from.
-//! - Iteration 1 is routed before anything is logged, so refusal 7 needs no search of its own.
+//! Three ways, each faster than the one before:
+//! - Heap: each turn searches anew with a binary heap and stops at the first open sink that it settles.
+//! - Pruned: besides, a turn stops when no open sink can still get a label as low as the best one, and pins
+//!   that lead only to leaves which aren't sinks of the net are never searched from.
+//! - Carried: besides, a net's search goes on from turn to turn: its prices stay the same, so the joined path
+//!   gets label 0 and only what lies nearer to it is labelled again.
+//!
+//! In all three prices stand in a table in which only nodes whose users change get a new one, and iteration 1 is
+//! routed before anything is logged, so that refusal 7 needs no search of its own.
 
 mod graph;
 mod prices;
@@ -26,27 +27,20 @@ pub struct Outcome {
     pub words: u64,
 }
 
-/// Routes a job with sound tables. The search of a net goes on from turn to turn.
-#[allow(clippy::too_many_arguments)]
-pub fn route(
-    kind: &[u8],
-    capacity: &[u8],
-    first_edge: &[u32],
-    edge_target: &[u16],
-    source: &[u16],
-    first_sink: &[u32],
-    sink: &[u16],
-    limit: u32,
-    log: &mut [u32],
-) -> Outcome {
-    let nets = Nets { source, first_sink, sink };
-    let graph = Graph::new(first_edge, edge_target);
-    Router::<true>::new(kind, capacity, graph, nets).run(limit, log)
+/// How a turn searches.
+#[derive(Clone, Copy, Debug, PartialEq, Eq)]
+pub enum Way {
+    Heap,
+    Pruned,
+    Carried,
 }
 
-/// The same, but every turn searches anew from the whole tree. For comparison.
+pub const WAYS: [Way; 3] = [Way::Heap, Way::Pruned, Way::Carried];
+
+/// Routes a job with sound tables.
 #[allow(clippy::too_many_arguments)]
-pub fn route_anew(
+pub fn route(
+    way: Way,
     kind: &[u8],
     capacity: &[u8],
     first_edge: &[u32],
@@ -59,7 +53,11 @@ pub fn route_anew(
 ) -> Outcome {
     let nets = Nets { source, first_sink, sink };
     let graph = Graph::new(first_edge, edge_target);
-    Router::<false>::new(kind, capacity, graph, nets).run(limit, log)
+    match way {
+        Way::Heap => Router::<false, false>::new(kind, capacity, graph, nets).run(limit, log),
+        Way::Pruned => Router::<true, false>::new(kind, capacity, graph, nets).run(limit, log),
+        Way::Carried => Router::<true, true>::new(kind, capacity, graph, nets).run(limit, log),
+    }
 }
 
 /// Tables 5 to 7.
@@ -75,11 +73,11 @@ impl<'a> Nets<'a> {
     }
 }
 
-/// The state of a negotiation. CARRY: a net's search goes on from turn to turn.
-struct Router<'a, const CARRY: bool> {
+/// The state of a negotiation. PRUNE and CARRY: see the ways.
+struct Router<'a, const PRUNE: bool, const CARRY: bool> {
     nets: Nets<'a>,
     prices: Prices<'a>,
-    search: Search<'a, CARRY>,
+    search: Search<'a, PRUNE, CARRY>,
     trees: Vec<Vec<u16>>,
     /// Records that are made but not yet in the log.
     made: Vec<u32>,
@@ -91,7 +89,7 @@ struct NoPath {
     place: usize,
 }
 
-impl<'a, const CARRY: bool> Router<'a, CARRY> {
+impl<'a, const PRUNE: bool, const CARRY: bool> Router<'a, PRUNE, CARRY> {
     fn new(kind: &[u8], capacity: &'a [u8], graph: Graph<'a>, nets: Nets<'a>) -> Self {
         let trees = vec![Vec::new(); nets.source.len()];
         Router {

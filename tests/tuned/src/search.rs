@@ -55,7 +55,7 @@ pub struct Node {
     pub price: u64,
 }
 
-pub struct Search<'a, const CARRY: bool> {
+pub struct Search<'a, const PRUNE: bool, const CARRY: bool> {
     graph: Graph<'a>,
     pub nodes: Vec<Node>,
     /// The net's open sinks as listed, and a mark on each.
@@ -68,10 +68,10 @@ pub struct Search<'a, const CARRY: bool> {
     path: Vec<u16>,
 }
 
-impl<'a, const CARRY: bool> Search<'a, CARRY> {
+impl<'a, const PRUNE: bool, const CARRY: bool> Search<'a, PRUNE, CARRY> {
     pub fn new(nodes: usize, graph: Graph<'a>) -> Self {
         Search {
-            dead: graph.pins().to_vec(),
+            dead: if PRUNE { graph.pins().to_vec() } else { vec![false; nodes] },
             graph,
             nodes: vec![Node { label: FAR, price: 0 }; nodes],
             open: Vec::new(),
@@ -94,6 +94,9 @@ impl<'a, const CARRY: bool> Search<'a, CARRY> {
 
     /// Marks the pins before those sinks that are leaves.
     fn set_pins(&mut self, sinks: &[u16], dead: bool) {
+        if !PRUNE {
+            return;
+        }
         for &s in sinks.iter().filter(|&&s| self.graph.is_leaf(s as usize)) {
             for &u in self.graph.before(s as usize) {
                 self.dead[u as usize] = dead && self.graph.pins()[u as usize];
@@ -129,7 +132,9 @@ impl<'a, const CARRY: bool> Search<'a, CARRY> {
             self.again(tree, heap);
         }
         // What lies beyond the best sink matters only if the search goes on after it.
-        let best = if CARRY && self.open.len() > 1 {
+        let best = if !PRUNE {
+            self.settle(heap)
+        } else if CARRY && self.open.len() > 1 {
             self.spread::<K, true>(heap)
         } else {
             self.spread::<K, false>(heap)
@@ -146,6 +151,26 @@ impl<'a, const CARRY: bool> Search<'a, CARRY> {
             self.touched.push(v);
             heap.push(Reverse(K::new(0, v as usize)));
         }
+    }
+
+    /// Settles nodes in order of distance up to the first open sink. A node's first label is final, so every node
+    /// that the path back can name has its label then.
+    fn settle<K: Key>(&mut self, heap: &mut Heap<K>) -> u64 {
+        while let Some(Reverse(key)) = heap.pop() {
+            let from = key.distance();
+            if self.is_open[key.node()] {
+                return from;
+            }
+            for &v in self.graph.after(key.node()) {
+                let node = &mut self.nodes[v as usize];
+                if node.label == FAR {
+                    node.label = from + node.price;
+                    self.touched.push(v);
+                    heap.push(Reverse(K::new(node.label, v as usize)));
+                }
+            }
+        }
+        FAR
     }
 
     /// Labels nodes in order of distance until no path to an open sink can cost as little as the best.

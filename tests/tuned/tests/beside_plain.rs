@@ -1,6 +1,6 @@
 //! The tuned router beside the plain one: same outcome, same log, on many small random jobs.
 
-use tuned::Outcome;
+use tuned::{Outcome, Way, WAYS};
 
 const UNWRITTEN: u32 = 0xdead_beef;
 
@@ -201,12 +201,10 @@ fn keep_reachable(job: &mut Job) {
     }
 }
 
-type Tuned = fn(&[u8], &[u8], &[u32], &[u16], &[u16], &[u32], &[u16], u32, &mut [u32]) -> Outcome;
-
-fn run_tuned(router: Tuned, job: &Job, words: usize) -> (Outcome, Vec<u32>) {
+fn run_tuned(way: Way, job: &Job, words: usize) -> (Outcome, Vec<u32>) {
     let mut log = vec![UNWRITTEN; words];
-    let outcome = router(
-        &job.kind, &job.capacity, &job.first_edge, &job.edge_target,
+    let outcome = tuned::route(
+        way, &job.kind, &job.capacity, &job.first_edge, &job.edge_target,
         &job.source, &job.first_sink, &job.sink, job.limit, &mut log,
     );
     (outcome, log)
@@ -223,13 +221,13 @@ fn run_plain(job: &Job, words: usize) -> (Outcome, Vec<u32>) {
     (Outcome { refusal: answer.refusal, iteration, turns, words }, log)
 }
 
-/// Sets both tuned routers beside the plain one. Gives the outcome.
+/// Sets the three tuned routers beside the plain one. Gives the outcome.
 fn compare(job: &Job, words: usize, seed: u64) -> Outcome {
     let (wanted, wanted_log) = run_plain(job, words);
-    for router in [tuned::route as Tuned, tuned::route_anew as Tuned] {
-        let (outcome, log) = run_tuned(router, job, words);
-        assert_eq!(outcome, wanted, "outcome, seed {seed}");
-        assert!(log == wanted_log, "log, seed {seed}");
+    for way in WAYS {
+        let (outcome, log) = run_tuned(way, job, words);
+        assert_eq!(outcome, wanted, "outcome, {way:?}, seed {seed}");
+        assert!(log == wanted_log, "log, {way:?}, seed {seed}");
     }
     wanted
 }
@@ -274,11 +272,13 @@ fn job_b() {
     let wanted = [
         1, 0, 4, 4000, 0, 3, 0, 2, 4, 1, 1, 5, 4000, 0, 3, 1, 2, 5, 2, 0, 4, 6000, 0, 3, 0, 3, 4, 2, 1, 5, 6000, 0, 3, 1, 2, 5,
     ];
-    let (outcome, log) = run_tuned(tuned::route, &job, 36);
-    assert_eq!(outcome, Outcome { refusal: vec![], iteration: 2, turns: 4, words: 36 });
-    assert_eq!(log, wanted);
-    let (outcome, _) = run_tuned(tuned::route, &job, 35);
-    assert_eq!(outcome, Outcome { refusal: vec![8, 2, 3], iteration: 2, turns: 3, words: 27 });
+    for way in WAYS {
+        let (outcome, log) = run_tuned(way, &job, 36);
+        assert_eq!(outcome, Outcome { refusal: vec![], iteration: 2, turns: 4, words: 36 });
+        assert_eq!(log, wanted);
+        let (outcome, _) = run_tuned(way, &job, 35);
+        assert_eq!(outcome, Outcome { refusal: vec![8, 2, 3], iteration: 2, turns: 3, words: 27 });
+    }
 }
 
 /// 512 nets share a chain until distances pass 2^52, where heap keys get longer.
@@ -302,7 +302,7 @@ fn long_keys() {
     job.first_edge.extend(vec![job.edge_target.len() as u32; ends + 1]);
     let outcome = compare(&job, 2_000_000, 0);
     assert_eq!(outcome.refusal[0], 9);
-    let (_, log) = run_tuned(tuned::route, &job, outcome.words as usize);
+    let (_, log) = run_tuned(Way::Heap, &job, outcome.words as usize);
     let record = 6 + chain + 1;
     assert!(log.len() % record == 0 && log[log.len() - record + 4] >= 1 << 20);
 }
