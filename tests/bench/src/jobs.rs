@@ -1,17 +1,6 @@
 //! The jobs to be timed.
 
-use crate::draw::Draw;
-
-pub struct Job {
-    pub kind: Vec<u8>,
-    pub capacity: Vec<u8>,
-    pub first_edge: Vec<u32>,
-    pub edge_target: Vec<u16>,
-    pub source: Vec<u16>,
-    pub first_sink: Vec<u32>,
-    pub sink: Vec<u16>,
-    pub limit: u32,
-}
+use job::{Job, Rng};
 
 #[derive(Clone, Copy, PartialEq, Debug)]
 pub enum Shape {
@@ -29,37 +18,13 @@ pub const SHAPES: [Shape; 4] = [Shape::Fabric, Shape::Congested, Shape::Sparse, 
 pub const SIZES: [usize; 5] = [64, 256, 1024, 2048, 4096];
 
 pub fn make(shape: Shape, nodes: usize) -> Job {
-    let mut draw = Draw(nodes as u64 * 10 + shape as u64);
+    let mut draw = Rng::new(nodes as u64 * 10 + shape as u64);
     match shape {
         Shape::Fabric => fabric(&mut draw, nodes, 6, 20),
         Shape::Congested => fabric(&mut draw, nodes, 2, 10),
         Shape::Sparse => random(&mut draw, nodes, (1, 2), (1, 3), 10),
         Shape::Dense => random(&mut draw, nodes, (7, 7), (8, 8), 5),
     }
-}
-
-/// Tables from lists of rows and nets.
-fn job(kind: Vec<u8>, capacity: Vec<u8>, rows: Vec<Vec<u16>>, nets: Vec<(u16, Vec<u16>)>, limit: u32) -> Job {
-    let mut job = Job {
-        kind,
-        capacity,
-        first_edge: vec![0],
-        edge_target: Vec::new(),
-        source: Vec::new(),
-        first_sink: vec![0],
-        sink: Vec::new(),
-        limit,
-    };
-    for row in rows {
-        job.edge_target.extend(row);
-        job.first_edge.push(job.edge_target.len() as u32);
-    }
-    for (source, sinks) in nets {
-        job.source.push(source);
-        job.sink.extend(sinks);
-        job.first_sink.push(job.sink.len() as u32);
-    }
-    job
 }
 
 // Cells of 16 nodes: two sources, output pins, input pins and sinks each, then eight wires.
@@ -144,7 +109,7 @@ fn wire_row(grid: &Grid, x: usize, y: usize, wire: usize) -> Vec<u16> {
     parts.map(|part| grid.node(ex, ey, part)).filter(|&v| v != own).collect()
 }
 
-fn fabric(draw: &mut Draw, nodes: usize, wire: u8, limit: u32) -> Job {
+fn fabric(draw: &mut Rng, nodes: usize, wire: u8, limit: u32) -> Job {
     let grid = Grid::of(nodes / CELL);
     let (mut rows, mut nets) = (Vec::new(), Vec::new());
     for y in 0..grid.height {
@@ -157,11 +122,11 @@ fn fabric(draw: &mut Draw, nodes: usize, wire: u8, limit: u32) -> Job {
     }
     let kind = (0..nodes).map(|v| cell_kind(v % CELL)).collect();
     let capacity = (0..nodes).map(|v| cell_capacity(v % CELL, wire)).collect();
-    job(kind, capacity, rows, nets, limit)
+    Job::new(kind, capacity, &rows, &nets, limit)
 }
 
 /// One to four sinks, mostly near the cell.
-fn cell_sinks(draw: &mut Draw, grid: &Grid, x: usize, y: usize) -> Vec<u16> {
+fn cell_sinks(draw: &mut Rng, grid: &Grid, x: usize, y: usize) -> Vec<u16> {
     let mut sinks = Vec::new();
     for _ in 0..draw.within(1, 4) {
         let reach = if draw.below(8) == 0 { 16 } else { 4 };
@@ -175,21 +140,21 @@ fn cell_sinks(draw: &mut Draw, grid: &Grid, x: usize, y: usize) -> Vec<u16> {
 }
 
 /// A place at most so far from the given one.
-fn near(draw: &mut Draw, place: usize, reach: usize, bound: usize) -> usize {
+fn near(draw: &mut Rng, place: usize, reach: usize, bound: usize) -> usize {
     draw.within(place.saturating_sub(reach), (place + reach).min(bound - 1))
 }
 
 /// A ring with further edges anywhere. The ring gives every sink a path.
-fn random(draw: &mut Draw, nodes: usize, more: (usize, usize), sinks: (usize, usize), limit: u32) -> Job {
-    let rows = (0..nodes).map(|u| random_row(draw, nodes, u, more)).collect();
-    let nets = (0..nodes / 8).map(|n| random_net(draw, nodes, n, sinks)).collect();
+fn random(draw: &mut Rng, nodes: usize, more: (usize, usize), sinks: (usize, usize), limit: u32) -> Job {
+    let rows: Vec<_> = (0..nodes).map(|u| random_row(draw, nodes, u, more)).collect();
+    let nets: Vec<_> = (0..nodes / 8).map(|n| random_net(draw, nodes, n, sinks)).collect();
     let kind = (0..nodes).map(|_| draw.within(0, 7) as u8).collect();
     let room = 2 * sinks.1;
     let capacity = (0..nodes).map(|_| draw.within(room, 2 * room) as u8).collect();
-    job(kind, capacity, rows, nets, limit)
+    Job::new(kind, capacity, &rows, &nets, limit)
 }
 
-fn random_row(draw: &mut Draw, nodes: usize, u: usize, more: (usize, usize)) -> Vec<u16> {
+fn random_row(draw: &mut Rng, nodes: usize, u: usize, more: (usize, usize)) -> Vec<u16> {
     let mut row = vec![((u + 1) % nodes) as u16];
     let count = 1 + draw.within(more.0, more.1);
     while row.len() < count {
@@ -199,7 +164,7 @@ fn random_row(draw: &mut Draw, nodes: usize, u: usize, more: (usize, usize)) -> 
     row
 }
 
-fn random_net(draw: &mut Draw, nodes: usize, net: usize, sinks: (usize, usize)) -> (u16, Vec<u16>) {
+fn random_net(draw: &mut Rng, nodes: usize, net: usize, sinks: (usize, usize)) -> (u16, Vec<u16>) {
     let source = net * 8 + draw.below(8);
     let count = draw.within(sinks.0, sinks.1);
     let mut list = Vec::new();

@@ -3,11 +3,11 @@
 //! cargo run --release -p bench [-- largest-size]
 
 mod clock;
-mod draw;
 mod jobs;
 mod routers;
 
-use jobs::{Job, Shape, SHAPES, SIZES};
+use job::Job;
+use jobs::{Shape, SHAPES, SIZES};
 use routers::{Result, Router, HAS_PROVED};
 use std::time::Duration;
 

@@ -1,6 +1,6 @@
 //! The routers under one form.
 
-use crate::jobs::Job;
+use job::Job;
 use tuned::Way;
 
 /// What a router must give alike: refusal, then iteration, turns, words.

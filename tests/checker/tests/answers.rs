@@ -24,7 +24,7 @@ fn refusals_of_01_pass() {
 #[test]
 fn shared_source_never_settles() {
     let nets: [(u16, &[u16]); 2] = [(0, &[1]), (0, &[2])];
-    let job = Tables::new(&[0, 1, 1], &[(0, 1), (0, 2)], &nets, 2);
+    let job = tables(&[0, 1, 1], &[(0, 1), (0, 2)], &nets, 2);
     let log: Vec<u32> = (1..=2)
         .flat_map(|t| [t, 0, 1, 2000, 0, 2, 0, 1, t, 1, 2, 2000, 0, 2, 0, 2])
         .collect();
@@ -122,7 +122,7 @@ fn seven_with_wrong_numbers() {
 
 #[test]
 fn seven_names_the_first() {
-    let lone = Tables::new(&[0, 1, 1], &[], &[(0, &[1, 2])], 1);
+    let lone = tables(&[0, 1, 1], &[], &[(0, &[1, 2])], 1);
     assert_eq!(check(&lone.job(), &[], &[7, 0, 0], 0, 0, 0), Ok(()));
     let later = check(&lone.job(), &[], &[7, 0, 1], 0, 0, 0);
     let fault = Fault::NotFirstUnreachable {

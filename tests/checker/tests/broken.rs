@@ -57,7 +57,7 @@ fn random_words_and_numbers() {
 #[test]
 fn long_path() {
     let edges = [(0, 1), (1, 2), (2, 1), (2, 3)];
-    let job = Tables::new(&[0, 15, 15, 1], &edges, &[(0, &[3])], 1);
+    let job = tables(&[0, 15, 15, 1], &edges, &[(0, &[3])], 1);
     let rounds = 50_000;
     let cost = rounds * 48_000 + 2000;
     let mut log = vec![1, 0, 3, cost, 0, 2 * rounds + 2, 0];

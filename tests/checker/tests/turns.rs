@@ -256,7 +256,7 @@ fn path_from_the_source_instead_of_the_tree() {
 fn farther_sink_first() {
     // From 0 sink 1 costs 2000, sink 3 behind wire 2 costs 4000.
     let edges = [(0, 1), (0, 2), (2, 3)];
-    let job = Tables::new(&[0, 1, 4, 1], &edges, &[(0, &[3, 1])], 1);
+    let job = tables(&[0, 1, 4, 1], &edges, &[(0, &[3, 1])], 1);
     let near = [1, 0, 1, 2000, 0, 2, 0, 1, 1, 0, 3, 4000, 0, 3, 0, 2, 3];
     let far = [1, 0, 3, 4000, 0, 3, 0, 2, 3, 1, 0, 1, 2000, 0, 2, 0, 1];
     assert_eq!(job.check(&near, &[], 1, 2), Ok(()));
@@ -271,7 +271,7 @@ fn farther_sink_first() {
 #[test]
 fn path_round_a_ring() {
     let edges = [(0, 1), (1, 2), (2, 0), (2, 3)];
-    let job = Tables::new(&[0, 4, 4, 1], &edges, &[(0, &[3])], 1);
+    let job = tables(&[0, 4, 4, 1], &edges, &[(0, &[3])], 1);
     let ring = [1, 0, 3, 12000, 0, 7, 0, 1, 2, 0, 1, 2, 3];
     let fault = Fault::CheaperPath {
         turn: 0,
@@ -284,7 +284,7 @@ fn path_round_a_ring() {
 #[test]
 fn equal_paths_both_pass() {
     let edges = [(0, 1), (0, 2), (1, 3), (2, 3)];
-    let job = Tables::new(&[0, 4, 4, 1], &edges, &[(0, &[3])], 1);
+    let job = tables(&[0, 4, 4, 1], &edges, &[(0, &[3])], 1);
     for wire in [1, 2] {
         let log = [1, 0, 3, 4000, 0, 3, 0, wire, 3];
         assert_eq!(job.check(&log, &[], 1, 1), Ok(()));

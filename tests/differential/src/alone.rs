@@ -2,9 +2,9 @@
 
 use crate::compare::Case;
 use crate::damage;
-use crate::jobs::{self, Graph};
-use crate::rng::Rng;
+use crate::jobs;
 use crate::texts::around;
+use job::{Job, Rng};
 
 const KINDS: [u32; 8] = [0, 1, 2, 3, 4, 5, 14, 15];
 const BAD_KINDS: [u32; 5] = [16, 17, 256, 260, u32::MAX];
@@ -36,9 +36,9 @@ pub fn price(rng: &mut Rng) -> Case {
 
 /// A call of the search; one in a few has something wrong with it.
 pub fn search(rng: &mut Rng) -> Case {
-    let mut graph = jobs::job(rng).graph;
+    let mut graph = jobs::job(rng);
     if rng.once_in(500) {
-        graph = jobs::full(182, 32_768).graph;
+        graph = jobs::full(182, 32_768);
     }
     let nodes = graph.kind.len();
     let lists = Lists::new(rng, nodes);
@@ -119,7 +119,7 @@ impl Lists {
         }
     }
 
-    fn case(self, graph: Graph, factor: u32, length: usize) -> Case {
+    fn case(self, graph: Job, factor: u32, length: usize) -> Case {
         let Lists { history, others, in_tree } = self;
         Case::Search { graph, factor, work: work(length), history, others, in_tree }
     }

@@ -1,6 +1,6 @@
 //! Runs one call on both sides, on equal copies of all lent slices, and compares what comes back.
 
-use crate::jobs::{Graph, Job};
+use job::Job;
 
 /// A call's refusal and own numbers, of either side.
 #[derive(Clone, Debug, PartialEq, Eq)]
@@ -9,25 +9,13 @@ pub struct Answer {
     pub numbers: Vec<u64>,
 }
 
-/// Tables 1 to 7 as lent to the reader.
-#[derive(Clone, Debug, PartialEq, Eq)]
-pub struct Tables {
-    pub kind: Vec<u8>,
-    pub capacity: Vec<u8>,
-    pub first_edge: Vec<u32>,
-    pub edge_target: Vec<u16>,
-    pub source: Vec<u16>,
-    pub first_sink: Vec<u32>,
-    pub sink: Vec<u16>,
-}
-
-/// One call with all that is lent to it.
+/// One call with all that is lent to it: the search has a job's graph, tables 1 to 4, the reader its seven tables.
 #[derive(Clone, Debug, PartialEq, Eq)]
 pub enum Case {
     Price { kind: u32, factor: u32, others: u32, capacity: u32, history: u32 },
-    Search { graph: Graph, factor: u32, work: Vec<u64>, history: Vec<u32>, others: Vec<u16>, in_tree: Vec<u8> },
+    Search { graph: Job, factor: u32, work: Vec<u64>, history: Vec<u32>, others: Vec<u16>, in_tree: Vec<u8> },
     Route { job: Job, work: Vec<u64>, log: Vec<u32> },
-    Read { text: Vec<u8>, tables: Tables },
+    Read { text: Vec<u8>, tables: Job },
     Write { log: Vec<u32>, buffer: Vec<u8> },
 }
 
@@ -104,7 +92,7 @@ macro_rules! side {
                     *factor, lend(work), history, others, in_tree,
                 ),
                 Case::Route { job, work, log } => $side::route(
-                    &job.graph.kind, &job.graph.capacity, &job.graph.first_edge, &job.graph.edge_target,
+                    &job.kind, &job.capacity, &job.first_edge, &job.edge_target,
                     &job.source, &job.first_sink, &job.sink, job.limit, lend(work), lend(log),
                 ),
                 Case::Read { text, tables } => $side::read(
@@ -189,32 +177,32 @@ fn slices(case: &Case) -> Vec<(&'static str, Vec<u64>)> {
             list
         }
         Case::Route { job, work, log } => {
-            let mut list = graph_slices(&job.graph);
-            list.extend([("source", wide(&job.source)), ("first_sink", wide(&job.first_sink)), ("sink", wide(&job.sink))]);
+            let mut list = job_slices(job);
             list.extend([("work", work.clone()), ("log", wide(log))]);
             list
         }
-        Case::Read { text, tables } => vec![
-            ("text", wide(text)),
-            ("kind", wide(&tables.kind)),
-            ("capacity", wide(&tables.capacity)),
-            ("first_edge", wide(&tables.first_edge)),
-            ("edge_target", wide(&tables.edge_target)),
-            ("source", wide(&tables.source)),
-            ("first_sink", wide(&tables.first_sink)),
-            ("sink", wide(&tables.sink)),
-        ],
+        Case::Read { text, tables } => {
+            let mut list = vec![("text", wide(text))];
+            list.extend(job_slices(tables));
+            list
+        }
         Case::Write { log, buffer } => vec![("log", wide(log)), ("buffer", wide(buffer))],
     }
 }
 
-fn graph_slices(graph: &Graph) -> Vec<(&'static str, Vec<u64>)> {
+fn graph_slices(graph: &Job) -> Vec<(&'static str, Vec<u64>)> {
     vec![
         ("kind", wide(&graph.kind)),
         ("capacity", wide(&graph.capacity)),
         ("first_edge", wide(&graph.first_edge)),
         ("edge_target", wide(&graph.edge_target)),
     ]
+}
+
+fn job_slices(job: &Job) -> Vec<(&'static str, Vec<u64>)> {
+    let mut list = graph_slices(job);
+    list.extend([("source", wide(&job.source)), ("first_sink", wide(&job.first_sink)), ("sink", wide(&job.sink))]);
+    list
 }
 
 fn wide<T: Copy + Into<u64>>(slice: &[T]) -> Vec<u64> {
@@ -229,7 +217,7 @@ fn memory(before: &Case, after: &After) -> Result<(), String> {
             if matches!(refusal, 0 | 7 | 8 | 9) =>
         {
             let words = after.answer.numbers[2] as usize;
-            job == job_after && cleared(work, work_after, 0, 8 * job.graph.kind.len()) && log[words..] == log_after[words..]
+            job == job_after && cleared(work, work_after, 0, 8 * job.kind.len()) && log[words..] == log_after[words..]
         }
         (Case::Search { graph, work, .. }, Case::Search { work: work_after, .. }) if refusal == 0 => {
             let nodes = graph.kind.len();
@@ -259,10 +247,10 @@ fn check(after: &After) -> Result<(), String> {
         return Ok(());
     }
     let job = checker::Job {
-        kind: &job.graph.kind,
-        capacity: &job.graph.capacity,
-        first_edge: &job.graph.first_edge,
-        edge_target: &job.graph.edge_target,
+        kind: &job.kind,
+        capacity: &job.capacity,
+        first_edge: &job.first_edge,
+        edge_target: &job.edge_target,
         source: &job.source,
         first_sink: &job.first_sink,
         sink: &job.sink,
@@ -315,7 +303,7 @@ fn raw(case: &mut Case, out: &mut [u64]) -> u32 {
             *factor, lend(work), history, others, in_tree, out,
         ),
         Case::Route { job, work, log } => arvumnao::raw_route(
-            &job.graph.kind, &job.graph.capacity, &job.graph.first_edge, &job.graph.edge_target,
+            &job.kind, &job.capacity, &job.first_edge, &job.edge_target,
             &job.source, &job.first_sink, &job.sink, job.limit, lend(work), lend(log), out,
         ),
         Case::Read { text, tables } => arvumnao::raw_read(
@@ -345,7 +333,7 @@ pub mod inject {
                 log[answer.numbers[2] as usize - 1] ^= 1;
             }
             // a bad target goes unseen
-            (2, Case::Route { job, .. }, _) if answer.refusal == [5, 4] && job.graph.kind.len() > 1 => {
+            (2, Case::Route { job, .. }, _) if answer.refusal == [5, 4] && job.kind.len() > 1 => {
                 answer.refusal = vec![5, 5];
             }
             // a CR is taken for a wrong value

@@ -1,16 +1,15 @@
 //! Tables that break a rule.
 
-use crate::jobs::{Graph, Job};
-use crate::rng::Rng;
+use job::{Job, Rng};
 
 /// Damages a job in one way, at times in two or three.
 pub fn damage(rng: &mut Rng, job: &mut Job) {
     let times = rng.pick(&[1, 1, 1, 1, 2, 3]);
     for _ in 0..times {
         match rng.below(8) {
-            0..=3 => one_of_graph(rng, &mut job.graph),
+            0..=3 => one_of_graph(rng, job),
             4 => sources(rng, job),
-            5 => first_sinks(rng, job),
+            5 => firsts(rng, &mut job.first_sink),
             6 => sinks(rng, job),
             _ => job.limit = rng.pick(&[0, 101, 102, 256, 257, 65_536, 65_537, u32::MAX]),
         }
@@ -18,19 +17,19 @@ pub fn damage(rng: &mut Rng, job: &mut Job) {
 }
 
 /// Damages tables 1 to 4 only.
-pub fn damage_graph(rng: &mut Rng, graph: &mut Graph) {
-    one_of_graph(rng, graph);
+pub fn damage_graph(rng: &mut Rng, job: &mut Job) {
+    one_of_graph(rng, job);
     if rng.once_in(4) {
-        one_of_graph(rng, graph);
+        one_of_graph(rng, job);
     }
 }
 
-fn one_of_graph(rng: &mut Rng, graph: &mut Graph) {
+fn one_of_graph(rng: &mut Rng, job: &mut Job) {
     match rng.below(4) {
-        0 => kinds(rng, graph),
-        1 => capacities(rng, graph),
-        2 => first_edges(rng, graph),
-        _ => targets(rng, graph),
+        0 => kinds(rng, job),
+        1 => capacities(rng, job),
+        2 => firsts(rng, &mut job.first_edge),
+        _ => targets(rng, job),
     }
 }
 
@@ -51,31 +50,37 @@ fn put<T>(rng: &mut Rng, table: &mut [T], value: T) {
     }
 }
 
-fn kinds(rng: &mut Rng, graph: &mut Graph) {
+/// Puts the number of a node that is not there.
+fn put_no_node(rng: &mut Rng, table: &mut [u16], nodes: u16) {
+    let value = rng.pick(&[nodes, nodes, nodes.wrapping_add(1), 4_096, u16::MAX]);
+    put(rng, table, value);
+}
+
+fn kinds(rng: &mut Rng, job: &mut Job) {
     if rng.once_in(400) {
-        too_many_nodes(rng, graph);
+        too_many_nodes(rng, job);
     } else if rng.percent(40) {
-        length(rng, &mut graph.kind, 4);
+        length(rng, &mut job.kind, 4);
     } else {
         let code = rng.pick(&[16, 17, 100, 128, 255]);
-        put(rng, &mut graph.kind, code);
+        put(rng, &mut job.kind, code);
     }
 }
 
 /// 4,097 nodes, or more than 65,536.
-fn too_many_nodes(rng: &mut Rng, graph: &mut Graph) {
+fn too_many_nodes(rng: &mut Rng, job: &mut Job) {
     let nodes = rng.pick(&[4_097, 4_098, 65_537]);
-    let last = graph.edge_target.len() as u32;
-    graph.kind.resize(nodes, 4);
-    graph.capacity.resize(nodes, 1);
-    graph.first_edge.resize(nodes + 1, last);
+    let last = job.edge_target.len() as u32;
+    job.kind.resize(nodes, 4);
+    job.capacity.resize(nodes, 1);
+    job.first_edge.resize(nodes + 1, last);
 }
 
-fn capacities(rng: &mut Rng, graph: &mut Graph) {
+fn capacities(rng: &mut Rng, job: &mut Job) {
     if rng.percent(50) {
-        length(rng, &mut graph.capacity, 1);
+        length(rng, &mut job.capacity, 1);
     } else {
-        put(rng, &mut graph.capacity, 0);
+        put(rng, &mut job.capacity, 0);
     }
 }
 
@@ -109,25 +114,18 @@ fn fall(rng: &mut Rng, first: &mut [u32]) {
     }
 }
 
-fn first_edges(rng: &mut Rng, graph: &mut Graph) {
-    firsts(rng, &mut graph.first_edge);
-}
-
-fn targets(rng: &mut Rng, graph: &mut Graph) {
-    let nodes = graph.kind.len() as u16;
+fn targets(rng: &mut Rng, job: &mut Job) {
+    let nodes = job.kind.len() as u16;
     match rng.below(8) {
-        0 | 1 => {
-            let value = rng.pick(&[nodes, nodes, nodes.wrapping_add(1), 4_096, u16::MAX]);
-            put(rng, &mut graph.edge_target, value);
-        }
-        2 => equal_neighbours(rng, &mut graph.edge_target),
-        3 => swap_neighbours(rng, &mut graph.edge_target),
-        4 | 5 => to_itself(rng, graph),
-        6 => length(rng, &mut graph.edge_target, 0),
-        _ if rng.once_in(20) => too_many_edges(rng, graph),
+        0 | 1 => put_no_node(rng, &mut job.edge_target, nodes),
+        2 => equal_neighbours(rng, &mut job.edge_target),
+        3 => swap_neighbours(rng, &mut job.edge_target),
+        4 | 5 => to_itself(rng, job),
+        6 => length(rng, &mut job.edge_target, 0),
+        _ if rng.once_in(20) => too_many_edges(rng, job),
         _ => {
             let value = rng.below(nodes as usize + 1) as u16;
-            put(rng, &mut graph.edge_target, value);
+            put(rng, &mut job.edge_target, value);
         }
     }
 }
@@ -147,45 +145,43 @@ fn swap_neighbours(rng: &mut Rng, table: &mut [u16]) {
 }
 
 /// An edge to its own node; in order, where there is one alone in its row.
-fn to_itself(rng: &mut Rng, graph: &mut Graph) {
-    if graph.kind.is_empty() || graph.first_edge.len() <= graph.kind.len() {
+fn to_itself(rng: &mut Rng, job: &mut Job) {
+    if job.kind.is_empty() || job.first_edge.len() <= job.kind.len() {
         return;
     }
-    let node = rng.below(graph.kind.len());
-    let (from, end) = (graph.first_edge[node] as usize, graph.first_edge[node + 1] as usize);
-    if from >= end || end > graph.edge_target.len() {
+    let node = rng.below(job.kind.len());
+    let (from, end) = (job.first_edge[node] as usize, job.first_edge[node + 1] as usize);
+    if from >= end || end > job.edge_target.len() {
         return;
     }
-    let place = (from..end).find(|place| graph.edge_target[*place] as usize > node).unwrap_or(end - 1);
-    graph.edge_target[place] = node as u16;
+    let place = (from..end).find(|place| job.edge_target[*place] as usize > node).unwrap_or(end - 1);
+    job.edge_target[place] = node as u16;
 }
 
 /// More than 32,768 edges, with which table 3 agrees or not.
-fn too_many_edges(rng: &mut Rng, graph: &mut Graph) {
+fn too_many_edges(rng: &mut Rng, job: &mut Job) {
     if rng.percent(50) {
-        let job = crate::jobs::full(182, rng.pick(&[32_769, 32_770, 32_942]));
-        *graph = job.graph;
+        let full = crate::jobs::full(182, rng.pick(&[32_769, 32_770, 32_942]));
+        let old = std::mem::replace(job, full);
+        (job.source, job.first_sink, job.sink, job.limit) = (old.source, old.first_sink, old.sink, old.limit);
         return;
     }
     let edges = rng.pick(&[32_768, 32_769, 65_536]);
-    graph.edge_target.resize(edges, 0);
+    job.edge_target.resize(edges, 0);
     if rng.percent(80) {
-        if let Some(last) = graph.first_edge.last_mut() {
+        if let Some(last) = job.first_edge.last_mut() {
             *last = edges as u32;
         }
     }
 }
 
 fn sources(rng: &mut Rng, job: &mut Job) {
-    let nodes = job.graph.kind.len() as u16;
+    let nodes = job.kind.len() as u16;
     match rng.below(6) {
         0 => length(rng, &mut job.source, 0),
         1 => no_nets(rng, job),
         2 if rng.once_in(10) => too_many_nets(rng, job),
-        _ => {
-            let value = rng.pick(&[nodes, nodes, nodes.wrapping_add(1), 4_096, u16::MAX]);
-            put(rng, &mut job.source, value);
-        }
+        _ => put_no_node(rng, &mut job.source, nodes),
     }
 }
 
@@ -206,23 +202,14 @@ fn too_many_nets(rng: &mut Rng, job: &mut Job) {
         nodes = (1, 0);
     }
     while job.source.len() < nets {
-        job.source.push(nodes.0);
-        job.sink.push(nodes.1);
-        job.first_sink.push(job.sink.len() as u32);
+        job.add_net(nodes.0, &[nodes.1]);
     }
 }
 
-fn first_sinks(rng: &mut Rng, job: &mut Job) {
-    firsts(rng, &mut job.first_sink);
-}
-
 fn sinks(rng: &mut Rng, job: &mut Job) {
-    let nodes = job.graph.kind.len() as u16;
+    let nodes = job.kind.len() as u16;
     match rng.below(8) {
-        0 | 1 => {
-            let value = rng.pick(&[nodes, nodes, nodes.wrapping_add(1), 4_096, u16::MAX]);
-            put(rng, &mut job.sink, value);
-        }
+        0 | 1 => put_no_node(rng, &mut job.sink, nodes),
         2 | 3 => repeat_sink(rng, job),
         4 | 5 => source_as_sink(rng, job),
         6 if rng.once_in(20) => too_many_sinks(rng, job),

@@ -1,25 +1,6 @@
 //! Sound jobs from a seed.
 
-use crate::rng::Rng;
-
-/// Tables 1 to 4.
-#[derive(Clone, Debug, PartialEq, Eq)]
-pub struct Graph {
-    pub kind: Vec<u8>,
-    pub capacity: Vec<u8>,
-    pub first_edge: Vec<u32>,
-    pub edge_target: Vec<u16>,
-}
-
-/// Tables 1 to 7 and the limit.
-#[derive(Clone, Debug, PartialEq, Eq)]
-pub struct Job {
-    pub graph: Graph,
-    pub source: Vec<u16>,
-    pub first_sink: Vec<u32>,
-    pub sink: Vec<u16>,
-    pub limit: u32,
-}
+use job::{Job, Rng};
 
 /// A job as lists of lists, from which the tables are made.
 #[derive(Clone, Debug)]
@@ -70,32 +51,8 @@ impl Plan {
 
     /// The tables.
     pub fn job(&self) -> Job {
-        let (first_edge, edge_target) = places(self.rows.iter());
-        let (first_sink, sink) = places(self.nets.iter().map(|net| &net.1));
-        Job {
-            graph: Graph {
-                kind: self.kind.clone(),
-                capacity: self.capacity.clone(),
-                first_edge,
-                edge_target,
-            },
-            source: self.nets.iter().map(|net| net.0).collect(),
-            first_sink,
-            sink,
-            limit: self.limit,
-        }
+        Job::new(self.kind.clone(), self.capacity.clone(), &self.rows, &self.nets, self.limit)
     }
-}
-
-/// First places and entries of a list of rows.
-fn places<'a>(rows: impl Iterator<Item = &'a Vec<u16>>) -> (Vec<u32>, Vec<u16>) {
-    let mut first = vec![0];
-    let mut all = Vec::new();
-    for row in rows {
-        all.extend_from_slice(row);
-        first.push(all.len() as u32);
-    }
-    (first, all)
 }
 
 /// A sound job.

@@ -6,7 +6,6 @@ mod alone;
 mod compare;
 mod damage;
 mod jobs;
-mod rng;
 mod run;
 mod shrink;
 mod texts;

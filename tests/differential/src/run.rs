@@ -3,9 +3,9 @@
 use crate::alone::{self, work};
 use crate::compare::{self, After, Case};
 use crate::damage;
-use crate::jobs::{self, Job};
-use crate::rng::Rng;
+use crate::jobs;
 use crate::texts;
+use job::{Job, Rng};
 use std::collections::BTreeMap;
 
 /// A case that fails, and how.
@@ -156,11 +156,11 @@ impl Run {
     /// The job with as much log as it can need, as far as that is not too much; the words used.
     fn whole(&mut self, job: &Job) -> Result<usize, Failure> {
         let turns = job.limit as usize * job.sink.len();
-        let length = (turns * (6 + job.graph.kind.len())).min(30_000) + self.rng.below(3);
+        let length = (turns * (6 + job.kind.len())).min(30_000) + self.rng.below(3);
         let length = if self.rng.once_in(50) { self.rng.below(200) } else { length };
         let extra = self.rng.below(10);
         let log = self.old_log(length);
-        let after = self.case(route(job, 8 * job.graph.kind.len() + extra, log))?;
+        let after = self.case(route(job, 8 * job.kind.len() + extra, log))?;
         self.count_whole(&after);
         Ok(after.answer.numbers[2] as usize)
     }
@@ -192,8 +192,8 @@ impl Run {
 
     /// The job with logs that end before it does: one in a few at every length.
     fn cut_logs(&mut self, job: &Job, words: usize) -> Result<(), Failure> {
-        let enough = 8 * job.graph.kind.len();
-        if words <= 300 && job.graph.kind.len() < 20 && self.rng.once_in(24) {
+        let enough = 8 * job.kind.len();
+        if words <= 300 && job.kind.len() < 20 && self.rng.once_in(24) {
             for length in 0..=words + 1 {
                 let log = self.old_log(length);
                 self.case(route(job, enough, log))?;
@@ -208,7 +208,7 @@ impl Run {
 
     /// The job with a work slice of about the length needed: one in a few at every such length.
     fn work_lengths(&mut self, job: &Job) -> Result<(), Failure> {
-        let enough = 8 * job.graph.kind.len();
+        let enough = 8 * job.kind.len();
         if enough <= 160 && self.rng.once_in(100) {
             for length in 0..enough + 10 {
                 let log = self.old_log(12);
@@ -226,7 +226,7 @@ impl Run {
     fn damaged(&mut self, job: &Job) -> Result<(), Failure> {
         let mut job = job.clone();
         damage::damage(&mut self.rng, &mut job);
-        let enough = 8 * job.graph.kind.len();
+        let enough = 8 * job.kind.len();
         let length = if self.rng.percent(70) { enough } else { self.rng.below(enough + 1) };
         let words = self.rng.below(60);
         let log = self.old_log(words);
@@ -252,7 +252,7 @@ impl Run {
     fn sinks_text(&mut self) -> Result<(), Failure> {
         let sinks = self.rng.within(4_096, 4_097);
         let job = jobs::many_sinks(&mut self.rng, sinks);
-        let tables = texts::tables([4_200; 7]);
+        let tables = Job::unread([4_200; 7]);
         let after = self.case(Case::Read { text: texts::text(&job), tables })?;
         match after.answer.refusal.first() {
             None if sinks == 4_096 => self.count(String::from("text of 4,096 sinks accepted")),
@@ -287,7 +287,7 @@ impl Run {
     }
 
     fn read(&mut self, text: Vec<u8>, needed: [usize; 7]) -> Result<After, Failure> {
-        let tables = texts::tables(texts::lengths(&mut self.rng, needed));
+        let tables = Job::unread(texts::lengths(&mut self.rng, needed));
         self.case(Case::Read { text, tables })
     }
 
@@ -297,7 +297,7 @@ impl Run {
             for more in 0..3 {
                 let mut lengths = needed;
                 lengths[table] = (lengths[table] + more).saturating_sub(1);
-                self.case(Case::Read { text: text.to_vec(), tables: texts::tables(lengths) })?;
+                self.case(Case::Read { text: text.to_vec(), tables: Job::unread(lengths) })?;
             }
         }
         Ok(())
@@ -334,7 +334,7 @@ fn route(job: &Job, length: usize, log: Vec<u32>) -> Case {
 fn real_log(job: &Job) -> Vec<u32> {
     let mut job = job.clone();
     job.limit = job.limit.min(4);
-    let after = compare::plain(&route(&job, 8 * job.graph.kind.len(), vec![0; 3_000]));
+    let after = compare::plain(&route(&job, 8 * job.kind.len(), vec![0; 3_000]));
     let words = after.answer.numbers[2] as usize;
     let Case::Route { mut log, .. } = after.case else { return Vec::new() };
     log.truncate(words);

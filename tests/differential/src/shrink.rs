@@ -1,7 +1,7 @@
 //! Makes a failing case smaller while it still fails, and prints it.
 
-use crate::compare::{Case, Tables};
-use crate::jobs::{Graph, Job};
+use crate::compare::Case;
+use job::Job;
 use std::time::{Duration, Instant};
 
 /// A way to a smaller case. Spans are a first place and a count.
@@ -168,29 +168,20 @@ fn sizes(case: &Case) -> (usize, usize, usize, usize) {
 }
 
 fn job_sizes(job: &Job) -> (usize, usize, usize, usize) {
-    (job.graph.kind.len(), job.graph.edge_target.len(), job.source.len(), job.sink.len())
+    (job.kind.len(), job.edge_target.len(), job.source.len(), job.sink.len())
 }
 
 /// The job that a text holds by the plain reader, if it holds one.
 fn read_back(text: &[u8]) -> Option<Job> {
     let lines = text.iter().filter(|byte| **byte == b'\n').count() + 2;
-    let tables = crate::texts::tables([lines; 7]);
+    let tables = Job::unread([lines; 7]);
     let after = crate::compare::plain(&Case::Read { text: text.to_vec(), tables });
     let Case::Read { tables: mut filled, .. } = after.case else { return None };
     if !after.answer.refusal.is_empty() {
         return None;
     }
-    let counts: Vec<usize> = after.answer.numbers.iter().map(|number| *number as usize).collect();
-    filled.kind.truncate(counts[0]);
-    filled.capacity.truncate(counts[0]);
-    filled.first_edge.truncate(counts[0] + 1);
-    filled.edge_target.truncate(counts[1]);
-    filled.source.truncate(counts[2]);
-    filled.first_sink.truncate(counts[2] + 1);
-    filled.sink.truncate(counts[3]);
-    let Tables { kind, capacity, first_edge, edge_target, source, first_sink, sink } = filled;
-    let graph = Graph { kind, capacity, first_edge, edge_target };
-    Some(Job { graph, source, first_sink, sink, limit: counts[4] as u32 })
+    filled.take_numbers(&after.answer.numbers);
+    Some(filled)
 }
 
 /// The case after a step, if the step can be made.
@@ -241,7 +232,7 @@ fn drop_parts(mut case: Case, step: Step) -> Option<Case> {
 fn drop_from_job(job: &mut Job, step: Step) -> Option<()> {
     match step {
         Step::Nodes(from, count) => drop_job_nodes(job, from, count),
-        Step::Edges(from, count) => drop_edges(&mut job.graph, from, count),
+        Step::Edges(from, count) => drop_edges(job, from, count),
         Step::Nets(from, count) => (0..count).try_for_each(|_| drop_net(job, from)),
         Step::Sinks(from, count) => (0..count).try_for_each(|_| drop_sink(job, from)),
         _ => None,
@@ -266,7 +257,7 @@ fn drop_place(first: &mut [u32], all: &mut Vec<u16>, place: usize) -> Option<()>
     Some(())
 }
 
-fn drop_edges(graph: &mut Graph, from: usize, count: usize) -> Option<()> {
+fn drop_edges(graph: &mut Job, from: usize, count: usize) -> Option<()> {
     (0..count).try_for_each(|_| drop_place(&mut graph.first_edge, &mut graph.edge_target, from))
 }
 
@@ -289,14 +280,14 @@ fn drop_net(job: &mut Job, net: usize) -> Option<()> {
 }
 
 /// Drops nodes with their rows and the edges to them, and numbers the later ones anew.
-fn drop_nodes(graph: &mut Graph, from: usize, count: usize) -> Option<()> {
+fn drop_nodes(graph: &mut Job, from: usize, count: usize) -> Option<()> {
     for _ in 0..count {
         drop_node(graph, from)?;
     }
     Some(())
 }
 
-fn drop_node(graph: &mut Graph, node: usize) -> Option<()> {
+fn drop_node(graph: &mut Job, node: usize) -> Option<()> {
     let (from, end) = (*graph.first_edge.get(node)? as usize, *graph.first_edge.get(node + 1)? as usize);
     if node >= graph.kind.len() || node >= graph.capacity.len() || from > end || end > graph.edge_target.len() {
         return None;
@@ -328,7 +319,7 @@ fn drop_job_nodes(job: &mut Job, from: usize, count: usize) -> Option<()> {
         while let Some(place) = job.sink.iter().position(|sink| *sink as usize == from) {
             drop_sink(job, place)?;
         }
-        drop_node(&mut job.graph, from)?;
+        drop_node(job, from)?;
         number_anew(&mut job.source, from);
         number_anew(&mut job.sink, from);
     }
@@ -339,31 +330,31 @@ fn drop_job_nodes(job: &mut Job, from: usize, count: usize) -> Option<()> {
 macro_rules! with_slice {
     ($case:expr, $number:expr, $slice:ident => $body:expr) => {
         match ($case, $number) {
-            (Case::Search { graph: Graph { kind: $slice, .. }, .. }, 0) => $body,
-            (Case::Search { graph: Graph { capacity: $slice, .. }, .. }, 1) => $body,
-            (Case::Search { graph: Graph { first_edge: $slice, .. }, .. }, 2) => $body,
-            (Case::Search { graph: Graph { edge_target: $slice, .. }, .. }, 3) => $body,
+            (Case::Search { graph: Job { kind: $slice, .. }, .. }, 0) => $body,
+            (Case::Search { graph: Job { capacity: $slice, .. }, .. }, 1) => $body,
+            (Case::Search { graph: Job { first_edge: $slice, .. }, .. }, 2) => $body,
+            (Case::Search { graph: Job { edge_target: $slice, .. }, .. }, 3) => $body,
             (Case::Search { work: $slice, .. }, 4) => $body,
             (Case::Search { history: $slice, .. }, 5) => $body,
             (Case::Search { others: $slice, .. }, 6) => $body,
             (Case::Search { in_tree: $slice, .. }, _) => $body,
-            (Case::Route { job: Job { graph: Graph { kind: $slice, .. }, .. }, .. }, 0) => $body,
-            (Case::Route { job: Job { graph: Graph { capacity: $slice, .. }, .. }, .. }, 1) => $body,
-            (Case::Route { job: Job { graph: Graph { first_edge: $slice, .. }, .. }, .. }, 2) => $body,
-            (Case::Route { job: Job { graph: Graph { edge_target: $slice, .. }, .. }, .. }, 3) => $body,
+            (Case::Route { job: Job { kind: $slice, .. }, .. }, 0) => $body,
+            (Case::Route { job: Job { capacity: $slice, .. }, .. }, 1) => $body,
+            (Case::Route { job: Job { first_edge: $slice, .. }, .. }, 2) => $body,
+            (Case::Route { job: Job { edge_target: $slice, .. }, .. }, 3) => $body,
             (Case::Route { job: Job { source: $slice, .. }, .. }, 4) => $body,
             (Case::Route { job: Job { first_sink: $slice, .. }, .. }, 5) => $body,
             (Case::Route { job: Job { sink: $slice, .. }, .. }, 6) => $body,
             (Case::Route { work: $slice, .. }, 7) => $body,
             (Case::Route { log: $slice, .. }, _) => $body,
             (Case::Read { text: $slice, .. }, 0) => $body,
-            (Case::Read { tables: Tables { kind: $slice, .. }, .. }, 1) => $body,
-            (Case::Read { tables: Tables { capacity: $slice, .. }, .. }, 2) => $body,
-            (Case::Read { tables: Tables { first_edge: $slice, .. }, .. }, 3) => $body,
-            (Case::Read { tables: Tables { edge_target: $slice, .. }, .. }, 4) => $body,
-            (Case::Read { tables: Tables { source: $slice, .. }, .. }, 5) => $body,
-            (Case::Read { tables: Tables { first_sink: $slice, .. }, .. }, 6) => $body,
-            (Case::Read { tables: Tables { sink: $slice, .. }, .. }, _) => $body,
+            (Case::Read { tables: Job { kind: $slice, .. }, .. }, 1) => $body,
+            (Case::Read { tables: Job { capacity: $slice, .. }, .. }, 2) => $body,
+            (Case::Read { tables: Job { first_edge: $slice, .. }, .. }, 3) => $body,
+            (Case::Read { tables: Job { edge_target: $slice, .. }, .. }, 4) => $body,
+            (Case::Read { tables: Job { source: $slice, .. }, .. }, 5) => $body,
+            (Case::Read { tables: Job { first_sink: $slice, .. }, .. }, 6) => $body,
+            (Case::Read { tables: Job { sink: $slice, .. }, .. }, _) => $body,
             (Case::Write { log: $slice, .. }, 0) => $body,
             (Case::Write { buffer: $slice, .. }, _) => $body,
             (Case::Price { .. }, _) => unreachable!("the price is lent no slice"),
@@ -529,9 +520,9 @@ mod tests {
     #[test]
     fn faults_are_found_and_made_small() {
         let Case::Route { job, log, .. } = smallest(1) else { panic!("fault 1") };
-        assert!(job.graph.kind.len() <= 4 && job.source.len() <= 2 && job.limit == 3 && log.len() <= 60);
+        assert!(job.kind.len() <= 4 && job.source.len() <= 2 && job.limit == 3 && log.len() <= 60);
         let Case::Route { job, work, log } = smallest(2) else { panic!("fault 2") };
-        assert!(job.graph.kind.len() == 2 && job.source.is_empty() && work.is_empty() && log.is_empty());
+        assert!(job.kind.len() == 2 && job.source.is_empty() && work.is_empty() && log.is_empty());
         let Case::Read { text, tables } = smallest(3) else { panic!("fault 3") };
         assert!(text == b"\r" && tables.kind.is_empty());
         let Case::Read { text, .. } = smallest(4) else { panic!("fault 4") };

@@ -1,8 +1,6 @@
 //! Job texts, sound and changed, and logs for the writer.
 
-use crate::compare::Tables;
-use crate::jobs::Job;
-use crate::rng::Rng;
+use job::{Job, Rng};
 
 /// A line's letter and numbers.
 #[derive(Clone)]
@@ -13,25 +11,24 @@ struct Line {
 
 /// The lines of a job's text.
 fn lines(job: &Job) -> Vec<Line> {
-    let graph = &job.graph;
-    let (nodes, nets) = (graph.kind.len(), job.source.len());
+    let (nodes, nets) = (job.kind.len(), job.source.len());
     let mut list = Vec::new();
     let mut add = |letter, fields: &[usize]| {
         list.push(Line { letter, fields: fields.iter().map(|field| *field as u64).collect() });
     };
-    add(b'F', &[nodes, graph.edge_target.len(), nets, job.limit as usize]);
+    add(b'F', &[nodes, job.edge_target.len(), nets, job.limit as usize]);
     for node in 0..nodes {
-        add(b'N', &[node, graph.kind[node] as usize, graph.capacity[node] as usize]);
+        add(b'N', &[node, job.kind[node] as usize, job.capacity[node] as usize]);
     }
     for node in 0..nodes {
-        for place in graph.first_edge[node]..graph.first_edge[node + 1] {
-            add(b'E', &[node, graph.edge_target[place as usize] as usize]);
+        for to in job.row(node) {
+            add(b'E', &[node, *to as usize]);
         }
     }
     for net in 0..nets {
         add(b'S', &[net, job.source[net] as usize]);
-        for place in job.first_sink[net]..job.first_sink[net + 1] {
-            add(b'T', &[net, job.sink[place as usize] as usize]);
+        for sink in job.sinks(net) {
+            add(b'T', &[net, *sink as usize]);
         }
     }
     list
@@ -219,28 +216,10 @@ fn leading(rng: &mut Rng, text: &mut Vec<u8>, digits: &[u8]) {
     text.splice(place..place, digits.iter().copied());
 }
 
-/// Tables with so many entries, none of them 0.
-pub fn tables(lengths: [usize; 7]) -> Tables {
-    let [kind, capacity, first_edge, edge_target, source, first_sink, sink] = lengths;
-    Tables {
-        kind: fill(kind, 0xa1),
-        capacity: fill(capacity, 0xa2),
-        first_edge: fill(first_edge, 0xa3a3_a3a3),
-        edge_target: fill(edge_target, 0xa4a4),
-        source: fill(source, 0xa5a5),
-        first_sink: fill(first_sink, 0xa6a6_a6a6),
-        sink: fill(sink, 0xa7a7),
-    }
-}
-
-fn fill<T: Clone>(length: usize, entry: T) -> Vec<T> {
-    vec![entry; length]
-}
-
 /// What a job needs of each table.
 pub fn needed(job: &Job) -> [usize; 7] {
-    let (nodes, nets) = (job.graph.kind.len(), job.source.len());
-    [nodes, nodes, nodes + 1, job.graph.edge_target.len(), nets, nets + 1, job.sink.len()]
+    let (nodes, nets) = (job.kind.len(), job.source.len());
+    [nodes, nodes, nodes + 1, job.edge_target.len(), nets, nets + 1, job.sink.len()]
 }
 
 /// Lengths that mostly are enough, at times in none or some of the tables.

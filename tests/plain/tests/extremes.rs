@@ -2,6 +2,7 @@
 
 mod common;
 use common::*;
+use job::Job;
 use plain::search;
 
 #[test]
@@ -33,7 +34,7 @@ fn the_largest_distance() {
 }
 
 /// A job with so many nodes, edges, nets and sinks (the last net has the most sinks); sound but for the counts.
-fn sized(nodes: usize, edges: usize, nets: usize, sinks: usize) -> Tables {
+fn sized(nodes: usize, edges: usize, nets: usize, sinks: usize) -> Job {
     let row = edges.div_ceil(nodes);
     let first_edge = (0..=nodes).map(|v| (v * row).min(edges) as u32).collect();
     let target = |e: usize| {
@@ -43,7 +44,7 @@ fn sized(nodes: usize, edges: usize, nets: usize, sinks: usize) -> Tables {
     let mut first_sink: Vec<u32> = (0..nets as u32).collect();
     first_sink.push(sinks as u32);
     let sink = |s: usize| (if s < nets { 1 } else { s - nets + 2 }) as u16;
-    Tables {
+    Job {
         kind: vec![0; nodes],
         capacity: vec![255; nodes],
         first_edge,
@@ -55,7 +56,7 @@ fn sized(nodes: usize, edges: usize, nets: usize, sinks: usize) -> Tables {
     }
 }
 
-fn refused(t: &Tables) -> Vec<u64> {
+fn refused(t: &Job) -> Vec<u64> {
     let mut work = vec![9; 8 * 4096 - 8];
     let answer = route_with(t, &mut work, &mut []);
     assert!(work.iter().all(|&w| w == 9));

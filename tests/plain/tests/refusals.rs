@@ -2,6 +2,7 @@
 
 mod common;
 use common::*;
+use job::Job;
 use plain::{price, search, write};
 
 const B: &str = "F,6,6,2,2 N,0,0,1 N,1,0,1 N,2,4,1 N,3,5,1 N,4,1,1 N,5,1,1 \
@@ -71,7 +72,7 @@ fn the_4097th_sink() {
         job += &format!("T,0,{v}\n");
     }
     job += "S,1,0\nT,1,1\n";
-    let mut t = marked([4096, 4096, 4097, 0, 2, 3, 4096]);
+    let mut t = Job::unread([4096, 4096, 4097, 0, 2, 3, 4096]);
     assert_eq!(read_into(job.as_bytes(), &mut t).numbers, [4096, 0, 2, 4096, 1]);
     assert_eq!(refusal(&(job.clone() + "T,1,4096\n")), [2, 8196]);
     assert_eq!(refusal(&(job + "T,1,2\n")), [3, 8196]);
@@ -80,19 +81,19 @@ fn the_4097th_sink() {
 #[test]
 fn tables_too_short() {
     let enough = [6, 6, 7, 6, 2, 3, 2];
-    assert!(read_into(text(B).as_bytes(), &mut marked(enough)).refusal.is_empty());
+    assert!(read_into(text(B).as_bytes(), &mut Job::unread(enough)).refusal.is_empty());
     for table in 0..7 {
         let mut sizes = enough;
         sizes[table] -= 1;
         sizes[6] = 1;
-        let mut t = marked(sizes);
+        let mut t = Job::unread(sizes);
         assert_eq!(read_into(text(B).as_bytes(), &mut t).refusal, [4, table as u64 + 1]);
-        assert_eq!(t, marked(sizes));
+        assert_eq!(t, Job::unread(sizes));
     }
 }
 
 /// Routes changed tables of job B; nothing may change.
-fn broken(change: fn(&mut Tables)) -> Vec<u64> {
+fn broken(change: fn(&mut Job)) -> Vec<u64> {
     let mut t = tables(&text(B));
     change(&mut t);
     let (mut work, mut log) = (vec![9; 48], vec![9; 40]);
@@ -225,6 +226,6 @@ fn nothing_panics() {
             damaged[next(bytes.len() as u64) as usize] = b"0123456789,\nFNEST\r\xff"[next(19) as usize];
         }
         damaged.truncate(bytes.len() - next(4) as usize);
-        read_into(&damaged, &mut marked([next(9) as usize; 7]));
+        read_into(&damaged, &mut Job::unread([next(9) as usize; 7]));
     }
 }

@@ -2,6 +2,7 @@
 
 mod common;
 use common::*;
+use job::Job;
 use plain::{factor_in, price, Answer};
 
 const B: &str = "F,6,6,2,2 N,0,0,1 N,1,0,1 N,2,4,1 N,3,5,1 N,4,1,1 N,5,1,1 \
@@ -18,16 +19,19 @@ fn answer(refusal: &[u64], numbers: &[u64]) -> Answer {
 
 #[test]
 fn job_b_is_read() {
-    let mut t = marked([7; 7]);
+    let mut t = Job::unread([7; 7]);
     let got = read_into(text(B).as_bytes(), &mut t);
     assert_eq!(got, answer(&[], &[6, 6, 2, 2, 2]));
-    assert_eq!(t.kind, [0, 0, 4, 5, 1, 1, 77]);
-    assert_eq!(t.capacity, [1, 1, 1, 1, 1, 1, 77]);
-    assert_eq!(t.first_edge, [0, 2, 3, 5, 6, 6, 6]);
-    assert_eq!(t.edge_target, [2, 3, 2, 4, 5, 4, 77]);
-    assert_eq!(t.source, [0, 1, 77, 77, 77, 77, 77]);
-    assert_eq!(t.first_sink, [0, 1, 2, 77, 77, 77, 77]);
-    assert_eq!(t.sink, [4, 5, 77, 77, 77, 77, 77]);
+    // Entries past those needed stay as they were.
+    let mut wanted = Job::unread([7; 7]);
+    wanted.kind[..6].copy_from_slice(&[0, 0, 4, 5, 1, 1]);
+    wanted.capacity[..6].fill(1);
+    wanted.first_edge.copy_from_slice(&[0, 2, 3, 5, 6, 6, 6]);
+    wanted.edge_target[..6].copy_from_slice(&[2, 3, 2, 4, 5, 4]);
+    wanted.source[..2].copy_from_slice(&[0, 1]);
+    wanted.first_sink[..3].copy_from_slice(&[0, 1, 2]);
+    wanted.sink[..2].copy_from_slice(&[4, 5]);
+    assert_eq!(t, wanted);
 }
 
 #[test]

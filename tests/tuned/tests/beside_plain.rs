@@ -1,35 +1,12 @@
 //! The tuned router beside the plain one: same outcome, same log, on many small random jobs.
 
+use job::{Job, Rng};
 use tuned::{Outcome, Way, WAYS};
 
 const UNWRITTEN: u32 = 0xdead_beef;
 
-/// A small generator (splitmix64).
-struct Draw(u64);
-
-impl Draw {
-    fn below(&mut self, bound: usize) -> usize {
-        self.0 = self.0.wrapping_add(0x9e37_79b9_7f4a_7c15);
-        let mut z = self.0;
-        z = (z ^ (z >> 30)).wrapping_mul(0xbf58_476d_1ce4_e5b9);
-        z = (z ^ (z >> 27)).wrapping_mul(0x94d0_49bb_1331_11eb);
-        ((z ^ (z >> 31)) % bound as u64) as usize
-    }
-}
-
-struct Job {
-    kind: Vec<u8>,
-    capacity: Vec<u8>,
-    first_edge: Vec<u32>,
-    edge_target: Vec<u16>,
-    source: Vec<u16>,
-    first_sink: Vec<u32>,
-    sink: Vec<u16>,
-    limit: u32,
-}
-
 /// Some numbers below bound, none twice, in random order.
-fn some(draw: &mut Draw, bound: usize, count: usize, without: usize) -> Vec<u16> {
+fn some(draw: &mut Rng, bound: usize, count: usize, without: usize) -> Vec<u16> {
     let mut left: Vec<u16> = (0..bound as u16).filter(|&v| v as usize != without).collect();
     let mut taken = Vec::new();
     for _ in 0..count.min(left.len()) {
@@ -38,31 +15,23 @@ fn some(draw: &mut Draw, bound: usize, count: usize, without: usize) -> Vec<u16>
     taken
 }
 
-fn random_job(draw: &mut Draw, most_nodes: usize) -> Job {
+fn random_job(draw: &mut Rng, most_nodes: usize) -> Job {
     let nodes = 2 + draw.below(most_nodes - 1);
     let degree = 1 + draw.below(6);
     // Few kinds make many ties.
     let kinds = [1, 3, 6, 16][draw.below(4)];
     let shift = draw.below(17 - kinds);
     let room = [1, 2, 4, 255][draw.below(4)];
-    let mut job = Job {
-        kind: (0..nodes).map(|_| (shift + draw.below(kinds)) as u8).collect(),
-        capacity: (0..nodes).map(|_| 1 + draw.below(room) as u8).collect(),
-        first_edge: vec![0],
-        edge_target: Vec::new(),
-        source: Vec::new(),
-        first_sink: vec![0],
-        sink: Vec::new(),
-        limit: [1, 2, 5, 12, 30, 100][draw.below(6)],
-    };
+    let kind = (0..nodes).map(|_| (shift + draw.below(kinds)) as u8).collect();
+    let capacity = (0..nodes).map(|_| 1 + draw.below(room) as u8).collect();
+    let mut job = Job::bare(kind, capacity, [1, 2, 5, 12, 30, 100][draw.below(6)]);
     // Now and then edges are too few for every sink to have a path.
     let least = if draw.below(4) == 0 { 0 } else { degree };
     for u in 0..nodes {
         let count = least + draw.below(degree + 1);
         let mut row = some(draw, nodes, count, u);
         row.sort();
-        job.edge_target.extend(row);
-        job.first_edge.push(job.edge_target.len() as u32);
+        job.add_row(&row);
     }
     if draw.below(2) == 0 {
         add_nets(draw, nodes, &mut job);
@@ -73,19 +42,17 @@ fn random_job(draw: &mut Draw, most_nodes: usize) -> Job {
 }
 
 /// Nets with pins anywhere: most of them never settle.
-fn add_nets(draw: &mut Draw, nodes: usize, job: &mut Job) {
+fn add_nets(draw: &mut Rng, nodes: usize, job: &mut Job) {
     let sinks = 1 + draw.below(6);
     for _ in 0..1 + draw.below(8) {
         let source = draw.below(nodes);
         let count = 1 + draw.below(sinks);
-        job.source.push(source as u16);
-        job.sink.extend(some(draw, nodes, count, source));
-        job.first_sink.push(job.sink.len() as u32);
+        job.add_net(source as u16, &some(draw, nodes, count, source));
     }
 }
 
 /// Nets without a pin in common: many settle after some iterations.
-fn add_apart_nets(draw: &mut Draw, nodes: usize, job: &mut Job) {
+fn add_apart_nets(draw: &mut Rng, nodes: usize, job: &mut Job) {
     let mut pins = some(draw, nodes, nodes, nodes).into_iter();
     for net in 0..1 + draw.below(nodes / 3 + 1) {
         let (source, first) = match (pins.next(), pins.next()) {
@@ -93,15 +60,14 @@ fn add_apart_nets(draw: &mut Draw, nodes: usize, job: &mut Job) {
             _ if net > 0 => break,
             _ => (0, 1),
         };
-        job.source.push(source);
-        job.sink.push(first);
-        job.sink.extend(pins.by_ref().take(draw.below(3)));
-        job.first_sink.push(job.sink.len() as u32);
+        let mut sinks = vec![first];
+        sinks.extend(pins.by_ref().take(draw.below(3)));
+        job.add_net(source, &sinks);
     }
 }
 
 /// Sources, two to four layers of wires, pins, sinks; numbered at random. Narrow, so that nets compete.
-fn layered_job(draw: &mut Draw) -> Job {
+fn layered_job(draw: &mut Rng) -> Job {
     let nets = 2 + draw.below(5);
     let wires = nets + draw.below(3);
     let mut width = vec![nets];
@@ -109,16 +75,7 @@ fn layered_job(draw: &mut Draw) -> Job {
     width.extend([2 * nets, 2 * nets]);
     let nodes: usize = width.iter().sum();
     let number = some(draw, nodes, nodes, nodes);
-    let mut job = Job {
-        kind: vec![1; nodes],
-        capacity: vec![1; nodes],
-        first_edge: vec![0],
-        edge_target: Vec::new(),
-        source: Vec::new(),
-        first_sink: vec![0],
-        sink: Vec::new(),
-        limit: [3, 10, 40, 100][draw.below(4)],
-    };
+    let mut job = Job::bare(vec![1; nodes], vec![1; nodes], [3, 10, 40, 100][draw.below(4)]);
     add_layers(draw, &width, &number, &mut job);
     add_layered_nets(draw, &number[..nets], &number[nodes - 2 * nets..], &mut job);
     // Reachable sinks only, or else nearly every job would be refused.
@@ -127,7 +84,7 @@ fn layered_job(draw: &mut Draw) -> Job {
 }
 
 /// Kinds and edges: each layer leads to the next one, the sinks nowhere.
-fn add_layers(draw: &mut Draw, width: &[usize], number: &[u16], job: &mut Job) {
+fn add_layers(draw: &mut Rng, width: &[usize], number: &[u16], job: &mut Job) {
     let mut rows = vec![Vec::new(); number.len()];
     let mut rest = number;
     for (layer, pair) in width.windows(2).enumerate() {
@@ -141,13 +98,12 @@ fn add_layers(draw: &mut Draw, width: &[usize], number: &[u16], job: &mut Job) {
     }
     for mut row in rows {
         row.sort();
-        job.edge_target.extend(row);
-        job.first_edge.push(job.edge_target.len() as u32);
+        job.add_row(&row);
     }
 }
 
 /// A pin leads to one sink; the others to one to three nodes of the next layer and at times along their own.
-fn layer_row(draw: &mut Draw, u: u16, own: &[u16], next: &[u16], pins: bool) -> Vec<u16> {
+fn layer_row(draw: &mut Rng, u: u16, own: &[u16], next: &[u16], pins: bool) -> Vec<u16> {
     let count = if pins { 1 } else { 1 + draw.below(3) };
     let mut row: Vec<u16> = some(draw, next.len(), count, next.len()).iter().map(|&v| next[v as usize]).collect();
     let beside = own[draw.below(own.len())];
@@ -158,18 +114,13 @@ fn layer_row(draw: &mut Draw, u: u16, own: &[u16], next: &[u16], pins: bool) -> 
 }
 
 /// One or two sinks a net, no sink twice.
-fn add_layered_nets(draw: &mut Draw, sources: &[u16], sinks: &[u16], job: &mut Job) {
+fn add_layered_nets(draw: &mut Rng, sources: &[u16], sinks: &[u16], job: &mut Job) {
     let order = some(draw, sinks.len(), sinks.len(), sinks.len());
     let mut order = order.iter().map(|&s| sinks[s as usize]);
     for &source in sources {
-        job.source.push(source);
-        job.sink.extend(order.by_ref().take(1 + draw.below(2)));
-        job.first_sink.push(job.sink.len() as u32);
+        let sinks: Vec<u16> = order.by_ref().take(1 + draw.below(2)).collect();
+        job.add_net(source, &sinks);
     }
-}
-
-fn row(job: &Job, u: usize) -> &[u16] {
-    &job.edge_target[job.first_edge[u] as usize..job.first_edge[u + 1] as usize]
 }
 
 fn reached(job: &Job, source: u16) -> Vec<bool> {
@@ -177,7 +128,7 @@ fn reached(job: &Job, source: u16) -> Vec<bool> {
     let mut left = vec![source];
     while let Some(u) = left.pop() {
         if !std::mem::replace(&mut seen[u as usize], true) {
-            left.extend(row(job, u as usize));
+            left.extend(job.row(u as usize));
         }
     }
     seen
@@ -188,9 +139,8 @@ fn keep_reachable(job: &mut Job) {
     let (mut source, mut first_sink, mut sink) = (Vec::new(), vec![0], Vec::new());
     for (net, &s) in job.source.iter().enumerate() {
         let seen = reached(job, s);
-        let listed = &job.sink[job.first_sink[net] as usize..job.first_sink[net + 1] as usize];
         let before = sink.len();
-        sink.extend(listed.iter().filter(|&&v| seen[v as usize]));
+        sink.extend(job.sinks(net).iter().filter(|&&v| seen[v as usize]));
         if sink.len() > before {
             source.push(s);
             first_sink.push(sink.len() as u32);
@@ -238,7 +188,7 @@ fn many_random_jobs() {
     let mut seen = [0; 4];
     let mut late = 0;
     for seed in 0..4_000 {
-        let mut draw = Draw(seed);
+        let mut draw = Rng::new(seed);
         let most_nodes = if seed % 20 == 0 { 120 } else { 24 };
         let job = if seed % 3 == 0 { layered_job(&mut draw) } else { random_job(&mut draw, most_nodes) };
         let outcome = compare(&job, 60_000, seed);
@@ -259,16 +209,8 @@ fn many_random_jobs() {
 
 #[test]
 fn job_b() {
-    let job = Job {
-        kind: vec![0, 0, 4, 5, 1, 1],
-        capacity: vec![1; 6],
-        first_edge: vec![0, 2, 3, 5, 6, 6, 6],
-        edge_target: vec![2, 3, 2, 4, 5, 4],
-        source: vec![0, 1],
-        first_sink: vec![0, 1, 2],
-        sink: vec![4, 5],
-        limit: 2,
-    };
+    let rows = [vec![2, 3], vec![2], vec![4, 5], vec![4], vec![], vec![]];
+    let job = Job::new(vec![0, 0, 4, 5, 1, 1], vec![1; 6], &rows, &[(0, [4]), (1, [5])], 2);
     let wanted = [
         1, 0, 4, 4000, 0, 3, 0, 2, 4, 1, 1, 5, 4000, 0, 3, 1, 2, 5, 2, 0, 4, 6000, 0, 3, 0, 3, 4, 2, 1, 5, 6000, 0, 3, 1, 2, 5,
     ];
@@ -286,20 +228,13 @@ fn job_b() {
 fn long_keys() {
     let (chain, ends) = (80, 20);
     let nodes = chain + ends;
-    let mut job = Job {
-        kind: (0..nodes).map(|v| if v < chain { 15 } else { 4 + (v % 3) as u8 }).collect(),
-        capacity: vec![1; nodes],
-        first_edge: vec![0],
-        edge_target: (1..chain as u16).collect(),
-        source: vec![0; 512],
-        first_sink: (0..=512).collect(),
-        sink: (0..512).map(|net| (chain + net % ends) as u16).collect(),
-        limit: 40,
-    };
+    let kind = (0..nodes).map(|v| if v < chain { 15 } else { 4 + (v % 3) as u8 }).collect();
+    let mut rows: Vec<Vec<u16>> = (1..chain as u16).map(|v| vec![v]).collect();
     // The last chain node leads to every end.
-    job.first_edge.extend(1..chain as u32);
-    job.edge_target.extend(chain as u16..nodes as u16);
-    job.first_edge.extend(vec![job.edge_target.len() as u32; ends + 1]);
+    rows.push((chain as u16..nodes as u16).collect());
+    rows.resize(nodes, Vec::new());
+    let nets: Vec<_> = (0..512).map(|net| (0, [(chain + net % ends) as u16])).collect();
+    let job = Job::new(kind, vec![1; nodes], &rows, &nets, 40);
     let outcome = compare(&job, 2_000_000, 0);
     assert_eq!(outcome.refusal[0], 9);
     let (_, log) = run_tuned(Way::Heap, &job, outcome.words as usize);

@@ -1,45 +1,30 @@
 //! Jobs of 01 and small changes of them.
 #![allow(dead_code)]
 
-use checker::{check, Fault, Job};
+use checker::{check, Fault};
+use job::Job;
 
-/// A job with its own tables.
-#[derive(Clone)]
-pub struct Tables {
-    pub kind: Vec<u8>,
-    pub capacity: Vec<u8>,
-    pub first_edge: Vec<u32>,
-    pub edge_target: Vec<u16>,
-    pub source: Vec<u16>,
-    pub first_sink: Vec<u32>,
-    pub sink: Vec<u16>,
-    pub limit: u32,
+/// Edges rising by from, then to; nets as source and sinks; capacities 1.
+pub fn tables(kind: &[u8], edges: &[(u16, u16)], nets: &[(u16, &[u16])], limit: u32) -> Job {
+    let row = |node| edges.iter().filter(|e| usize::from(e.0) == node).map(|e| e.1).collect();
+    let rows: Vec<_> = (0..kind.len()).map(row).collect();
+    Job::new(kind.to_vec(), vec![1; kind.len()], &rows, nets, limit)
 }
 
-impl Tables {
-    /// Edges rising by from, then to; nets as source and sinks; capacities 1.
-    pub fn new(kind: &[u8], edges: &[(u16, u16)], nets: &[(u16, &[u16])], limit: u32) -> Tables {
-        let before = |node: usize| edges.iter().filter(|e| usize::from(e.0) < node).count() as u32;
-        let mut first_sink = vec![0];
-        let mut sink = Vec::new();
-        for net in nets {
-            sink.extend(net.1);
-            first_sink.push(sink.len() as u32);
-        }
-        Tables {
-            kind: kind.to_vec(),
-            capacity: vec![1; kind.len()],
-            first_edge: (0..=kind.len()).map(before).collect(),
-            edge_target: edges.iter().map(|e| e.1).collect(),
-            source: nets.iter().map(|net| net.0).collect(),
-            first_sink,
-            sink,
-            limit,
-        }
-    }
+/// The checker on a job with its own tables.
+pub trait Checked {
+    /// The tables lent.
+    fn job(&self) -> checker::Job<'_>;
 
-    pub fn job(&self) -> Job<'_> {
-        Job {
+    /// Checks with every word of the log used.
+    fn check(&self, log: &[u32], refusal: &[u64], iteration: u64, turns: u64) -> Result<(), Fault> {
+        check(&self.job(), log, refusal, iteration, turns, log.len() as u64)
+    }
+}
+
+impl Checked for Job {
+    fn job(&self) -> checker::Job<'_> {
+        checker::Job {
             kind: &self.kind,
             capacity: &self.capacity,
             first_edge: &self.first_edge,
@@ -49,24 +34,6 @@ impl Tables {
             sink: &self.sink,
             limit: self.limit,
         }
-    }
-
-    /// Checks with every word of the log used.
-    pub fn check(
-        &self,
-        log: &[u32],
-        refusal: &[u64],
-        iteration: u64,
-        turns: u64,
-    ) -> Result<(), Fault> {
-        check(
-            &self.job(),
-            log,
-            refusal,
-            iteration,
-            turns,
-            log.len() as u64,
-        )
     }
 }
 
@@ -79,8 +46,8 @@ pub const B_LOG: [u32; 36] = [
     2, 1, 5, 6000, 0, 3, 1, 2, 5,
 ];
 
-pub fn b(limit: u32) -> Tables {
-    Tables::new(
+pub fn b(limit: u32) -> Job {
+    tables(
         &[0, 0, 4, 5, 1, 1],
         &B_EDGES,
         &[(0, &[4]), (1, &[5])],
@@ -93,19 +60,19 @@ pub const C_LOG: [u32; 17] = [
     1, 0, 2, 2000, 0, 2, 1, 2,
 ];
 
-pub fn c() -> Tables {
-    Tables::new(&[0, 4, 1, 1], &[(0, 1), (1, 2), (1, 3)], &[(0, &[3, 2])], 1)
+pub fn c() -> Job {
+    tables(&[0, 4, 1, 1], &[(0, 1), (1, 2), (1, 3)], &[(0, &[3, 2])], 1)
 }
 
 /// C without the edge 1-3.
-pub fn c_cut() -> Tables {
-    Tables::new(&[0, 4, 1, 1], &[(0, 1), (1, 2)], &[(0, &[3, 2])], 1)
+pub fn c_cut() -> Job {
+    tables(&[0, 4, 1, 1], &[(0, 1), (1, 2)], &[(0, &[3, 2])], 1)
 }
 
 /// Two nets that both need wire 2.
-pub fn narrow(limit: u32) -> Tables {
+pub fn narrow(limit: u32) -> Job {
     let edges = [(0, 2), (1, 2), (2, 3), (2, 4)];
-    Tables::new(&[0, 0, 4, 1, 1], &edges, &[(0, &[3]), (1, &[4])], limit)
+    tables(&[0, 0, 4, 1, 1], &edges, &[(0, &[3]), (1, &[4])], limit)
 }
 
 pub const NARROW_LOG: [u32; 54] = [

@@ -1,23 +1,18 @@
-//! A small seeded generator (splitmix64).
+//! A small seeded generator (splitmix64): the same seed gives the same draws everywhere.
 
 /// The state steps by a fixed odd number; each step is mixed into one draw.
 #[derive(Clone)]
-pub struct Rng {
-    state: u64,
-}
+pub struct Rng(u64);
 
 impl Rng {
-    /// The generator of a seed. Neighbouring seeds give unlike draws.
     pub fn new(seed: u64) -> Rng {
-        let mut rng = Rng { state: seed ^ 0x5851_f42d_4c95_7f2d };
-        rng.next();
-        rng
+        Rng(seed)
     }
 
     /// 64 bits.
     pub fn next(&mut self) -> u64 {
-        self.state = self.state.wrapping_add(0x9e37_79b9_7f4a_7c15);
-        let mut mixed = self.state;
+        self.0 = self.0.wrapping_add(0x9e37_79b9_7f4a_7c15);
+        let mut mixed = self.0;
         mixed = (mixed ^ (mixed >> 30)).wrapping_mul(0xbf58_476d_1ce4_e5b9);
         mixed = (mixed ^ (mixed >> 27)).wrapping_mul(0x94d0_49bb_1331_11eb);
         mixed ^ (mixed >> 31)
@@ -25,7 +20,7 @@ impl Rng {
 
     /// A number below `bound`, which is not 0.
     pub fn below(&mut self, bound: usize) -> usize {
-        ((self.next() as u128 * bound as u128) >> 64) as usize
+        (self.next() % bound as u64) as usize
     }
 
     /// A number from `low` to `high`, both included.
@@ -54,5 +49,17 @@ impl Rng {
             let other = self.below(last + 1);
             list.swap(last, other);
         }
+    }
+}
+
+#[cfg(test)]
+mod tests {
+    use super::*;
+
+    /// Other draws would be other jobs for the same seed.
+    #[test]
+    fn draws_stay() {
+        let mut rng = Rng::new(7);
+        assert_eq!([0; 6].map(|_| rng.below(1_000)), [487, 804, 346, 203, 674, 305]);
     }
 }

@@ -1,0 +1,127 @@
+//! What the test crates share: a job with its own tables, and the seeded generator.
+
+mod rng;
+
+pub use rng::Rng;
+
+/// Tables 1 to 7, as 01 numbers them, and the limit of iterations.
+#[derive(Clone, Debug, PartialEq, Eq)]
+pub struct Job {
+    pub kind: Vec<u8>,
+    pub capacity: Vec<u8>,
+    pub first_edge: Vec<u32>,
+    pub edge_target: Vec<u16>,
+    pub source: Vec<u16>,
+    pub first_sink: Vec<u32>,
+    pub sink: Vec<u16>,
+    pub limit: u32,
+}
+
+impl Job {
+    /// Nodes only: rows and nets are still to be added.
+    pub fn bare(kind: Vec<u8>, capacity: Vec<u8>, limit: u32) -> Job {
+        Job {
+            kind,
+            capacity,
+            first_edge: vec![0],
+            edge_target: Vec::new(),
+            source: Vec::new(),
+            first_sink: vec![0],
+            sink: Vec::new(),
+            limit,
+        }
+    }
+
+    /// From each node's row of targets and each net's source and sinks.
+    pub fn new(kind: Vec<u8>, capacity: Vec<u8>, rows: &[Vec<u16>], nets: &[(u16, impl AsRef<[u16]>)], limit: u32) -> Job {
+        let mut job = Job::bare(kind, capacity, limit);
+        for row in rows {
+            job.add_row(row);
+        }
+        for (source, sinks) in nets {
+            job.add_net(*source, sinks.as_ref());
+        }
+        job
+    }
+
+    /// Adds the next node's targets.
+    pub fn add_row(&mut self, targets: &[u16]) {
+        self.edge_target.extend(targets);
+        self.first_edge.push(self.edge_target.len() as u32);
+    }
+
+    /// Adds a net.
+    pub fn add_net(&mut self, source: u16, sinks: &[u16]) {
+        self.source.push(source);
+        self.sink.extend(sinks);
+        self.first_sink.push(self.sink.len() as u32);
+    }
+
+    /// A node's targets, if the tables are sound.
+    pub fn row(&self, node: usize) -> &[u16] {
+        &self.edge_target[self.first_edge[node] as usize..self.first_edge[node + 1] as usize]
+    }
+
+    /// A net's sinks, if the tables are sound.
+    pub fn sinks(&self, net: usize) -> &[u16] {
+        &self.sink[self.first_sink[net] as usize..self.first_sink[net + 1] as usize]
+    }
+
+    /// Tables of so many entries for the reader to fill, none of them 0.
+    pub fn unread(lengths: [usize; 7]) -> Job {
+        let [kind, capacity, first_edge, edge_target, source, first_sink, sink] = lengths;
+        Job {
+            kind: vec![0xa1; kind],
+            capacity: vec![0xa2; capacity],
+            first_edge: vec![0xa3a3_a3a3; first_edge],
+            edge_target: vec![0xa4a4; edge_target],
+            source: vec![0xa5a5; source],
+            first_sink: vec![0xa6a6_a6a6; first_sink],
+            sink: vec![0xa7a7; sink],
+            limit: 0,
+        }
+    }
+
+    /// Takes the reader's five numbers: cuts the tables to what it filled and sets the limit.
+    pub fn take_numbers(&mut self, numbers: &[u64]) {
+        let counts: Vec<usize> = numbers.iter().map(|number| *number as usize).collect();
+        self.kind.truncate(counts[0]);
+        self.capacity.truncate(counts[0]);
+        self.first_edge.truncate(counts[0] + 1);
+        self.edge_target.truncate(counts[1]);
+        self.source.truncate(counts[2]);
+        self.first_sink.truncate(counts[2] + 1);
+        self.sink.truncate(counts[3]);
+        self.limit = counts[4] as u32;
+    }
+}
+
+#[cfg(test)]
+mod tests {
+    use super::*;
+
+    #[test]
+    fn tables_from_lists() {
+        let job = Job::new(vec![0, 4, 1], vec![1, 2, 3], &[vec![1, 2], vec![], vec![0]], &[(0, [2, 1]), (1, [0, 2])], 9);
+        let tables = Job {
+            kind: vec![0, 4, 1],
+            capacity: vec![1, 2, 3],
+            first_edge: vec![0, 2, 2, 3],
+            edge_target: vec![1, 2, 0],
+            source: vec![0, 1],
+            first_sink: vec![0, 2, 4],
+            sink: vec![2, 1, 0, 2],
+            limit: 9,
+        };
+        assert_eq!(job, tables);
+        assert_eq!((job.row(0), job.row(1), job.row(2)), (&[1, 2][..], &[][..], &[0][..]));
+        assert_eq!((job.sinks(0), job.sinks(1)), (&[2, 1][..], &[0, 2][..]));
+    }
+
+    #[test]
+    fn numbers_cut_unread_tables() {
+        let mut job = Job::unread([9; 7]);
+        job.take_numbers(&[2, 3, 4, 6, 7]);
+        assert_eq!(job, Job { limit: 7, ..Job::unread([2, 2, 3, 3, 4, 5, 6]) });
+    }
+}
