@@ -1,4 +1,4 @@
--- Where the search stands: the distances up to the level, the queue's least entry, are final, and so are their predecessors.
+-- Where the search stands: a distance that is had over nodes nearer than the level, the queue's least entry, is final, and so is its predecessor.
 -- Assumes nothing.
 use mathlib.Core.Bool.{true, false}
 use mathlib.Core.List.{List}
@@ -47,8 +47,8 @@ module _ (b : Block) (price : ℕ → ℕ) (marks w : List ℕ) (g : Graph b) (f
   never-below zero v l h = absurd (omega arith)
   never-below (suc k) v l h = below-by v h (λ p nearer hp. never-below k p (omega arith) hp)
 
-  -- a distance up to the level is kept: by the node over which it is had, which is nearer and so settled
-  above-by : (v : ℕ) → v < nodes b → distance b price marks v ≤ entryAt (nodes b) w 1 → ((u : ℕ) → distance b price marks u < distance b price marks v → u < nodes b → distAt w u ≤ distance b price marks u) → distAt w v ≤ distance b price marks v
+  -- such a distance is kept: by the node over which it is had, which is nearer than the level and so settled
+  above-by : (v : ℕ) → v < nodes b → distance b price marks v < entryAt (nodes b) w 1 + price v → ((u : ℕ) → distance b price marks u < distance b price marks v → distance b price marks u < entryAt (nodes b) w 1 → u < nodes b → distAt w u ≤ distance b price marks u) → distAt w v ≤ distance b price marks v
   above-by v h le nearer =
       ⊎-elim
       (λ (t : inTree marks v ≡ true). omega (arith, f .tree v h t))
@@ -65,7 +65,7 @@ module _ (b : Block) (price : ℕ → ℕ) (marks w : List ℕ) (g : Graph b) (f
           let hu : u < nodes b = edge-from b g u v (o .1) in
           let pos = fair .pos v h in
           let sum : distance b price marks v ≡ distance b price marks u + price v = o .2 in
-          let low : distAt w u ≤ distance b price marks u = nearer u (omega arith) hu in
+          let low : distAt w u ≤ distance b price marks u = nearer u (omega arith) (omega arith) hu in
           ⊎-elim
           (λ (q : Open (nodes b) w u). absurd (let above = f .open-above u hu q in omega arith))
           (λ (q : Settled (nodes b) w u).
@@ -77,22 +77,26 @@ module _ (b : Block) (price : ℕ → ℕ) (marks w : List ℕ) (g : Graph b) (f
           omega arith)
           (f .sides u hu)
 
-  never-above : (k v : ℕ) → distance b price marks v < k → v < nodes b → distance b price marks v ≤ entryAt (nodes b) w 1 → distAt w v ≤ distance b price marks v
+  never-above : (k v : ℕ) → distance b price marks v < k → v < nodes b → distance b price marks v < entryAt (nodes b) w 1 + price v → distAt w v ≤ distance b price marks v
   never-above zero v l h le = absurd (omega arith)
   never-above (suc k) v l h le =
-      above-by v h le (λ u nearer hu. never-above k u (omega arith) hu (omega arith))
+      above-by v h le (λ u nearer below hu. never-above k u (omega arith) hu (omega arith))
 
-  -- a distance up to the level is final
-  pub exact : (v : ℕ) → v < nodes b → distance b price marks v ≤ entryAt (nodes b) w 1 → distAt w v ≡ distance b price marks v
+  -- a distance that is had over a node nearer than the level is final
+  pub exact : (v : ℕ) → v < nodes b → distance b price marks v < entryAt (nodes b) w 1 + price v → distAt w v ≡ distance b price marks v
   exact v h le =
       le-antisymm (never-above (suc (distance b price marks v)) v (omega arith) h le)
       (never-below (suc (distAt w v)) v (omega arith) h)
 
-  pub exact-near : (v : ℕ) → v < nodes b → distAt w v ≤ entryAt (nodes b) w 1 → distAt w v ≡ distance b price marks v
+  pub exact-near : (v : ℕ) → v < nodes b → distAt w v < entryAt (nodes b) w 1 + price v → distAt w v ≡ distance b price marks v
   exact-near v h le = exact v h (let low = never-below (suc (distAt w v)) v (omega arith) h in omega arith)
 
-  -- so is a predecessor: it is the lowest-numbered node over which the distance is had
-  module _ (v : ℕ) (h : v < nodes b) (out : inTree marks v ≡ false) (near : distance b price marks v < far) (le : distance b price marks v ≤ entryAt (nodes b) w 1) where
+  -- so is a distance up to the level, since prices are above 0
+  up-to-level : (v d : ℕ) → v < nodes b → d ≤ entryAt (nodes b) w 1 → d < entryAt (nodes b) w 1 + price v
+  up-to-level v d h le = omega (arith, fair .pos v h)
+
+  -- and a predecessor: it is the lowest-numbered node over which the distance is had
+  module _ (v : ℕ) (h : v < nodes b) (out : inTree marks v ≡ false) (near : distance b price marks v < far) (le : distance b price marks v < entryAt (nodes b) w 1 + price v) where
     here : distAt w v ≡ distance b price marks v
     here = exact v h le
 
@@ -103,14 +107,13 @@ module _ (b : Block) (price : ℕ → ℕ) (marks w : List ℕ) (g : Graph b) (f
     pred-final =
         let p = predAt (nodes b) w v in
         let sum : distAt w v ≡ distAt w p + price v = made .sum in
-        let at = exact-near p (made .pred-settled .node) (omega (arith, here)) in
+        let at = exact-near p (made .pred-settled .node) (up-to-level p (distAt w p) (made .pred-settled .node) (omega (arith, here))) in
         omega (arith, here)
 
     pred-lowest : (u : ℕ) → hasEdge b u v ≡ true → distance b price marks u + price v ≡ distance b price marks v → predAt (nodes b) w v ≤ u
     pred-lowest u e sum =
         let hu : u < nodes b = edge-from b g u v e in
-        let pos = fair .pos v h in
-        let at : distAt w u ≡ distance b price marks u = exact u hu (omega arith) in
+        let at : distAt w u ≡ distance b price marks u = exact u hu (up-to-level u (distance b price marks u) hu (omega arith)) in
         ⊎-elim
         (λ (q : Open (nodes b) w u). absurd (let above = f .open-above u hu q in omega arith))
         (λ (q : Settled (nodes b) w u).

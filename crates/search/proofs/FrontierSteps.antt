@@ -83,7 +83,7 @@ module _ (b : Block) (g : Graph b) (price : ℕ → ℕ) (marks w w′ : List �
       })
       (same-or-not v u)
 
-  pub others-settled : (v : ℕ) → Settled (nodes b) w′ v → (v ≡ u → ⊥) → Settled (nodes b) w v
+  others-settled : (v : ℕ) → Settled (nodes b) w′ v → (v ≡ u → ⊥) → Settled (nodes b) w v
   others-settled v s ne =
       record {
         node = s .node;

@@ -1,4 +1,4 @@
--- What a search that has stopped says of the turn: the queue's least entry is the distance of the nearest sink that is still to be joined, or none of them has a path.
+-- What a search that has stopped says of the turn: the least distance of a goal is that of the nearest sink that is still to be joined, or none of them has a path.
 -- And what the tests before the turn have shown, where they refuse nothing.
 -- Assumes nothing.
 use mathlib.Core.Bool.{true, false}
@@ -20,8 +20,8 @@ use Rattle.search.specs.Tables.{faultyTable, Sound, Graph}
 use Rattle.search.specs.Distance.{far, inTree, distance}
 use Rattle.search.specs.Turn.{Congestion, priceAt, joins, stuck, pathTo, turn}
 use Rattle.search.specs.Replies.{cleared, refusalOf, sinksMost, sinksSound, faultyWithSinks, PathReply, turnReply, pathReply, pathTaken}
-use Rattle.search.specs.Layout.{distAt, entryAt, leafAt, priceIn, goalAt, Heap, SameBut, Marked, FirstAt, Leads, pathIn}
-use Rattle.search.specs.Frontier.{Reached, Waiting, GoalsOpen, Stopped, Fair, Stands, Ran}
+use Rattle.search.specs.Layout.{distAt, entryAt, leafAt, priceIn, goalAt, Heap, SameBut, Marked, Cheapest, FirstAt, Leads, pathIn}
+use Rattle.search.specs.Frontier.{Reached, Waiting, BestGoal, LastStep, Stopped, Fair, Stands, Ran}
 use Rattle.search.specs.Ready.{Ready, Prepared, Found, Read}
 use Rattle.search.specs.declared.PathAnswer.{PathAnswer}
 use Rattle.search.specs.declared.PathAnswer.the-variants.{Joins, Stuck}
@@ -31,7 +31,7 @@ use Rattle.search.proofs.TurnLaws.{path-short, trail-is, turn-is, stuck
 use Rattle.search.proofs.Exactness.{exact, exact-near, pred-exact}
 use Rattle.search.proofs.GraphLaws.{turn-same}
 use Rattle.search.proofs.ReadyLaws.{Passed, refusal-none, sound-graph, ready-fair, ready-marks, ready-bit}
-use Rattle.search.proofs.SearchLaws.{waiting-from, stands-from}
+use Rattle.search.proofs.SearchLaws.{waiting-from, stands-from, best-from}
 
 -- ---- the path is read off
 
@@ -51,7 +51,7 @@ module _ {n : ℕ} {marks sinks w : List ℕ} {cost : ℕ} (f : Found n marks si
   found-leads = rw (first .dist found-within) (f .leads)
 
   pub found-short : length (pathIn n marks w (getD sinks place 0)) ≤ n
-  found-short = f .short (getD sinks place 0) found-node (first .dist found-within)
+  found-short = f .short (getD sinks place 0) found-node (first .goal found-within) (first .dist found-within)
 
   -- once the path is written and the rest cleared
   pub found-read :
@@ -67,10 +67,38 @@ module _ {n : ℕ} {marks sinks w : List ℕ} {cost : ℕ} (f : Found n marks si
         work = z ∙ rw (t, e, drop-same (8 * n) w w₁ (s .long) (λ j l. s .high j (omega arith)));
       }
 
+-- ---- goals
+
+-- each goal is a listed sink outside the tree
+module _ (n : ℕ) (marks sinks w : List ℕ) (goals : (v : ℕ) → v < n → goalAt n w v ≡ choose (both (has v sinks) (eqb (getD marks v 0) 0)) 1 0) where
+  goal-sink : (v : ℕ) → v < n → goalAt n w v ≡ 1 → (has v sinks ≡ true) × (getD marks v 0 ≡ 0)
+  goal-sink v h g =
+      ⊎-elim
+      (λ (q : both (has v sinks) (eqb (getD marks v 0) 0) ≡ true).
+      (both-left (has v sinks) _ q, eqb-true _ _ (both-right (has v sinks) _ q)))
+      (λ (q : both (has v sinks) (eqb (getD marks v 0) 0) ≡ false).
+      let none : goalAt n w v ≡ 0 = goals v h ∙ rw q in
+      absurd (omega arith))
+      (either-way (both (has v sinks) (eqb (getD marks v 0) 0)))
+
+  goal-out : (v : ℕ) → v < n → goalAt n w v ≡ 1 → inTree marks v ≡ false
+  unfolding inTree
+  goal-out v h g = ne-eqb (getD marks v 0) 1 (let clear = goal-sink v h g .1 in omega arith)
+
+  -- so what is at most the price of each goal of the list is at most the price of every goal
+  goal-step : {step : ℕ} → Cheapest n sinks w (length sinks) step → LastStep n step w
+  goal-step {step} c =
+      record {
+        most = c .most;
+        goals = λ v h g.
+            let at = has-place v sinks (goal-sink v h g .0) in
+            rw (at .2) at (c .least (at .0) (at .1) (rw (at .2) g));
+      }
+
 -- ---- the search has stopped
 
 -- the search from the tree has stopped; its goals are the listed sinks outside the tree, and past 8 n the work slice is as it was
-pub record Halted (b : Block) (price : ℕ → ℕ) (marks sinks w₀ w : List ℕ) : Type 0 where
+pub record Halted (b : Block) (price : ℕ → ℕ) (marks sinks w₀ w : List ℕ) (best : ℕ) : Type 0 where
   pub sound : Graph b
   pub fair : Fair b price
   pub marks-long : nodes b ≤ length marks
@@ -78,13 +106,13 @@ pub record Halted (b : Block) (price : ℕ → ℕ) (marks sinks w₀ w : List �
   pub sinks-few : length sinks ≤ sinksMost
   pub sinks-nodes : (i : ℕ) → i < length sinks → getD sinks i 0 < nodes b
   pub waiting : Waiting b price marks w
-  pub goals-open : GoalsOpen (nodes b) w
-  pub stopped : Stopped (nodes b) w
+  pub best-goal : BestGoal (nodes b) best w
+  pub stopped : Stopped (nodes b) w best
   pub goals : (v : ℕ) → v < nodes b → goalAt (nodes b) w v ≡ choose (both (has v sinks) (eqb (getD marks v 0) 0)) 1 0
   pub kept : drop (8 * nodes b) w ≡ drop (8 * nodes b) w₀
 
-module _ {b : Block} {price : ℕ → ℕ} {marks sinks w₀ w : List ℕ} (s : Halted b price marks sinks w₀ w) where
-  -- a listed sink outside the tree is a goal, and nothing else is
+module _ {b : Block} {price : ℕ → ℕ} {marks sinks w₀ w : List ℕ} {best : ℕ} (s : Halted b price marks sinks w₀ w best) where
+  -- a listed sink outside the tree is a goal
   sink-goal : (j : ℕ) → j < length sinks → inTree marks (getD sinks j 0) ≡ false → goalAt (nodes b) w (getD sinks j 0) ≡ 1
   unfolding inTree
   sink-goal j l out =
@@ -95,34 +123,30 @@ module _ {b : Block} {price : ℕ → ℕ} {marks sinks w₀ w : List ℕ} (s : 
       let clear : getD marks v 0 ≡ 0 = omega arith in
       s .goals v h ∙ rw (has-at sinks j l, eq-eqb (getD marks v 0) 0 clear)
 
-  goal-sink : (v : ℕ) → v < nodes b → goalAt (nodes b) w v ≡ 1 → (has v sinks ≡ true) × (inTree marks v ≡ false)
-  unfolding inTree
-  goal-sink v h g =
+  -- a goal that is at most `best` far is had over a node nearer than the level
+  goal-close : (v d : ℕ) → v < nodes b → goalAt (nodes b) w v ≡ 1 → d ≤ best → d < entryAt (nodes b) w 1 + price v
+  goal-close v d h g le =
       ⊎-elim
-      (λ (q : both (has v sinks) (eqb (getD marks v 0) 0) ≡ true).
-      let clear : getD marks v 0 ≡ 0 = eqb-true _ _ (both-right (has v sinks) _ q) in
-      (both-left (has v sinks) _ q, ne-eqb (getD marks v 0) 1 (omega arith)))
-      (λ (q : both (has v sinks) (eqb (getD marks v 0) 0) ≡ false).
-      let none : goalAt (nodes b) w v ≡ 0 = s .goals v h ∙ rw q in
-      absurd (omega arith))
-      (either-way (both (has v sinks) (eqb (getD marks v 0) 0)))
+      (λ (e : entryAt (nodes b) w 1 ≡ far). omega (arith, s .best-goal .most, s .fair .pos v h))
+      (λ (m : (best < far) × ((v : ℕ) → v < nodes b → goalAt (nodes b) w v ≡ 1 → best < entryAt (nodes b) w 1 + priceIn (nodes b) w v)).
+      omega (arith, m .1 v h g, s .waiting .prices v h))
+      (s .stopped)
 
-  -- no unjoined sink is nearer than the queue's least entry
-  goal-above : (j : ℕ) → j < length sinks → inTree marks (getD sinks j 0) ≡ false → entryAt (nodes b) w 1 ≤ distAt w (getD sinks j 0)
-  goal-above j l out =
-      let h = s .sinks-nodes j l in
-      s .waiting .open-above (getD sinks j 0) h (s .goals-open (getD sinks j 0) h (sink-goal j l out))
-
-  sink-above : (j : ℕ) → j < length sinks → inTree marks (getD sinks j 0) ≡ false → entryAt (nodes b) w 1 ≤ distance b price marks (getD sinks j 0)
+  -- so no unjoined sink is nearer than `best`
+  sink-above : (j : ℕ) → j < length sinks → inTree marks (getD sinks j 0) ≡ false → best ≤ distance b price marks (getD sinks j 0)
   sink-above j l out =
+      let v : ℕ = getD sinks j 0 in
+      let h : v < nodes b = s .sinks-nodes j l in
+      let g = sink-goal j l out in
       ⊎-elim
       (λ q. q)
-      (λ (q : distance b price marks (getD sinks j 0) < entryAt (nodes b) w 1).
-      absurd (omega (arith, goal-above j l out, exact b price marks w (s .sound) (s .fair) (s .waiting) (getD sinks j 0) (s .sinks-nodes j l) (omega arith))))
-      (le-or-lt (entryAt (nodes b) w 1) (distance b price marks (getD sinks j 0)))
+      (λ (q : distance b price marks v < best).
+      let final = exact b price marks w (s .sound) (s .fair) (s .waiting) v h (goal-close v (distance b price marks v) h g (omega arith)) in
+      absurd (omega (arith, s .best-goal .least v h g)))
+      (le-or-lt best (distance b price marks v))
 
-  -- nothing waits any more: no unjoined sink has a path
-  module _ (none : entryAt (nodes b) w 1 ≡ far) where
+  -- no goal has a distance: no unjoined sink has a path
+  module _ (none : best ≡ far) where
     turn-stuck : turn b price marks sinks ≡ stuck
     turn-stuck =
         stuck-is b price marks (s .sound) (s .fair) sinks (s .sinks-nodes)
@@ -132,47 +156,52 @@ module _ {b : Block} {price : ℕ → ℕ} {marks sinks w₀ w : List ℕ} (s : 
     unfolding cleared
     halted-stuck e = rw (turn-stuck, e, s .kept)
 
-  -- a goal is nearest
-  module _ (some : entryAt (nodes b) w 1 ≡ far → ⊥) where
-    -- a place of the list at which it stands
+  -- some goal has a distance
+  module _ (some : best ≡ far → ⊥) where
+    -- a place of the list at which the nearest stands
     record Goal : Type 0 where
       place : ℕ
       within : place < length sinks
       goal : goalAt (nodes b) w (getD sinks place 0) ≡ 1
-      dist : distAt w (getD sinks place 0) ≡ entryAt (nodes b) w 1
+      dist : distAt w (getD sinks place 0) ≡ best
 
     some-goal : Goal
     some-goal =
         ⊎-elim
         (λ e. absurd (some e))
         (λ g.
-        let at = has-place (g .0) sinks (goal-sink (g .0) (g .1) (g .2) .0) in
+        let at = has-place (g .0) sinks (goal-sink (nodes b) marks sinks w (s .goals) (g .0) (g .1) (g .2) .0) in
         record {
           place = at .0;
           within = at .1;
           goal = rw (at .2) (g .2);
-          dist = rw (at .2) (sym (s .goals-open (g .0) (g .1) (g .2)) ∙ g .3);
+          dist = rw (at .2) (g .3);
         })
-        (s .stopped)
+        (s .best-goal .some)
 
-    near : entryAt (nodes b) w 1 < far
-    near =
-        let g = some-goal in
-        let top = s .waiting .bounded (getD sinks (g .place) 0) (s .sinks-nodes (g .place) (g .within)) in
-        let other : entryAt (nodes b) w 1 ≢ far = some in
-        omega (arith, g .dist)
+    near : best < far
+    near = let other : best ≢ far = some in omega (arith, s .best-goal .most)
 
-    -- predecessors lead from a node that is so far to the tree, by the turn's path
-    path-in : (v : ℕ) → v < nodes b → distAt w v ≡ entryAt (nodes b) w 1 → pathIn (nodes b) marks w v ≡ pathTo b price marks v
-    path-in v h e =
-        let at : distAt w v ≡ distance b price marks v = exact-near b price marks w (s .sound) (s .fair) (s .waiting) v h (omega arith) in
-        let close = near in
-        trail-is b price marks (s .sound) (s .fair) v h (omega arith) w (distAt w v) (omega arith)
-        (λ x hx out le. pred-exact b price marks w (s .sound) (s .fair) (s .waiting) x hx out (omega arith) (omega arith))
+    -- a goal that is so far: its distance is final
+    module _ (v : ℕ) (h : v < nodes b) (goal : goalAt (nodes b) w v ≡ 1) (e : distAt w v ≡ best) where
+      goal-final : distAt w v ≡ distance b price marks v
+      goal-final =
+          exact-near b price marks w (s .sound) (s .fair) (s .waiting) v h (goal-close v (distAt w v) h goal (omega arith))
 
-    path-leads : Leads (nodes b) (entryAt (nodes b) w 1) marks w
+      -- and predecessors lead from it to the tree, by the turn's path
+      path-in : pathIn (nodes b) marks w v ≡ pathTo b price marks v
+      path-in =
+          let final = goal-final in
+          trail-is b price marks (s .sound) (s .fair) v h (omega (arith, near)) w (distAt w v) (entryAt (nodes b) w 1) (omega arith)
+          (goal-close v (distance b price marks v) h goal (omega arith))
+          (λ x hx out close le. pred-exact b price marks w (s .sound) (s .fair) (s .waiting) x hx out close le)
+
+      path-fits : length (pathIn (nodes b) marks w v) ≤ nodes b
+      path-fits = rw path-in (path-short b price marks (s .sound) (s .fair) v h (omega (arith, goal-final, near)))
+
+    path-leads : Leads (nodes b) best marks w
     path-leads =
-        let reached : (v : ℕ) → v < nodes b → distAt w v ≤ entryAt (nodes b) w 1 → inTree marks v ≡ false → Reached b price w v =
+        let reached : (v : ℕ) → v < nodes b → distAt w v ≤ best → inTree marks v ≡ false → Reached b price w v =
         λ v h le out. s .waiting .reached v h out (omega (arith, near)) in
         record {
           long = s .waiting .long;
@@ -182,7 +211,7 @@ module _ {b : Block} {price : ℕ → ℕ} {marks sinks w₀ w : List ℕ} (s : 
           pred-nearer = λ v h le out. omega (arith, reached v h le out .sum, s .fair .pos v h);
         }
 
-    pub halted-found : Found (nodes b) marks sinks w (entryAt (nodes b) w 1)
+    pub halted-found : Found (nodes b) marks sinks w best
     halted-found =
         let g = some-goal in
         record {
@@ -194,33 +223,36 @@ module _ {b : Block} {price : ℕ → ℕ} {marks sinks w₀ w : List ℕ} (s : 
           goal = g .goal;
           dist = g .dist;
           leads = path-leads;
-          short = λ v h e.
-              let at = exact-near b price marks w (s .sound) (s .fair) (s .waiting) v h (omega arith) in
-              rw (path-in v h e) (path-short b price marks (s .sound) (s .fair) v h (omega (arith, near)));
+          short = path-fits;
         }
 
     -- what is read off is the turn
-    module _ {r : PathAnswer} {w′ : List ℕ} (d : Read (nodes b) marks sinks w (entryAt (nodes b) w 1) r w′) where
+    module _ {r : PathAnswer} {w′ : List ℕ} (d : Read (nodes b) marks sinks w best r w′) where
       sink-node : getD sinks (d .place) 0 < nodes b
       sink-node = s .sinks-nodes (d .place) (d .within)
 
-      sink-dist : distAt w (getD sinks (d .place) 0) ≡ entryAt (nodes b) w 1
+      sink-first : goalAt (nodes b) w (getD sinks (d .place) 0) ≡ 1
+      sink-first = d .first .goal (d .within)
+
+      sink-dist : distAt w (getD sinks (d .place) 0) ≡ best
       sink-dist = d .first .dist (d .within)
 
-      turn-joins : turn b price marks sinks ≡ joins (d .place) (entryAt (nodes b) w 1) (pathTo b price marks (getD sinks (d .place) 0))
+      turn-joins : turn b price marks sinks ≡ joins (d .place) best (pathTo b price marks (getD sinks (d .place) 0))
       turn-joins =
-          turn-is b price marks (s .sound) (s .fair) sinks (s .sinks-nodes) (d .place) (entryAt (nodes b) w 1) (d .within) near
-          (goal-sink (getD sinks (d .place) 0) sink-node (d .first .goal (d .within)) .1)
-          (sym (exact-near b price marks w (s .sound) (s .fair) (s .waiting) (getD sinks (d .place) 0) sink-node (omega (arith, sink-dist))) ∙ sink-dist)
+          turn-is b price marks (s .sound) (s .fair) sinks (s .sinks-nodes) (d .place) best (d .within) near
+          (goal-out (nodes b) marks sinks w (s .goals) (getD sinks (d .place) 0) sink-node sink-first)
+          (sym (goal-final (getD sinks (d .place) 0) sink-node sink-first sink-dist) ∙ sink-dist)
           sink-above
           (λ j l out e.
           let within : j < length sinks = omega (arith, d .within) in
-          d .first .earlier j l (sink-goal j within out)
-          (exact b price marks w (s .sound) (s .fair) (s .waiting) (getD sinks j 0) (s .sinks-nodes j within) (omega arith) ∙ e))
+          let h = s .sinks-nodes j within in
+          let goal = sink-goal j within out in
+          d .first .earlier j l goal
+          (exact b price marks w (s .sound) (s .fair) (s .waiting) (getD sinks j 0) h (goal-close (getD sinks j 0) (distance b price marks (getD sinks j 0)) h goal (omega arith)) ∙ e))
 
       pub halted-joins : pathTaken r w′ ≡ turnReply (nodes b) w₀ (turn b price marks sinks)
       unfolding cleared
-      halted-joins = rw (d .answer, turn-joins, ← path-in (getD sinks (d .place) 0) sink-node sink-dist, d .work, s .kept)
+      halted-joins = rw (d .answer, turn-joins, ← path-in (getD sinks (d .place) 0) sink-node sink-first sink-dist, d .work, s .kept)
 
 -- ---- a list of sinks that keeps its rule
 
@@ -236,8 +268,8 @@ module _ (n : ℕ) (sinks : List ℕ) (s : sinksSound n sinks ≡ true) where
 -- ---- a turn, step by step: prepared, its goals marked, the queue built
 
 -- the search of a turn has stopped
-abbrev pub Joining : (ks cs fs ts : List ℕ) (c : Congestion) (marks sinks w₀ w : List ℕ) → Type 0
-Joining ks cs fs ts c marks sinks w₀ w = Halted (graphOf ks fs ts) (priceAt (blockOf ks cs fs ts) c) marks sinks w₀ w
+abbrev pub Joining : (ks cs fs ts : List ℕ) (c : Congestion) (marks sinks w₀ w : List ℕ) (best : ℕ) → Type 0
+Joining ks cs fs ts c marks sinks w₀ w best = Halted (graphOf ks fs ts) (priceAt (blockOf ks cs fs ts) c) marks sinks w₀ w best
 
 module _ (ks cs fs ts : List ℕ) (c : Congestion) {marks sinks w₀ w₁ w₂ w₃ : List ℕ}
     (ready : Ready ks cs c marks) (sound : Sound (blockOf ks cs fs ts)) (long : 8 * length ks ≤ length w₀)
@@ -269,8 +301,14 @@ module _ (ks cs fs ts : List ℕ) (c : Congestion) {marks sinks w₀ w₁ w₂ w
   pub join-stands : Stands (graphOf ks fs ts) w₃
   join-stands = stands-from ks cs fs ts c marks w₃ sound ready built-enough heap built-price built-dist built-leaf
 
-  pub join-halts : sinksSound (length ks) sinks ≡ true → {w₄ : List ℕ} → Ran (graphOf ks fs ts) w₃ w₄ → Joining ks cs fs ts c marks sinks w₀ w₄
-  join-halts rule {w₄} ran =
+  pub join-goals : {step : ℕ} → Cheapest (length ks) sinks w₃ (length sinks) step → BestGoal (length ks) far w₃ × LastStep (length ks) step w₃
+  join-goals cheapest = (
+    best-from ks cs fs ts c marks w₃ sound ready built-enough heap built-price built-dist built-leaf (goal-out (length ks) marks sinks w₃ built-goal),
+    goal-step (length ks) marks sinks w₃ built-goal cheapest,
+  )
+
+  pub join-halts : sinksSound (length ks) sinks ≡ true → {w₄ : List ℕ} {best : ℕ} → Ran (graphOf ks fs ts) w₃ w₄ best → Joining ks cs fs ts c marks sinks w₀ w₄ best
+  join-halts rule {w₄} {best} ran =
       record {
         sound = sound-graph ks cs fs ts c marks sound;
         fair = ready-fair ks cs fs ts c marks ready;
@@ -281,7 +319,7 @@ module _ (ks cs fs ts : List ℕ) (c : Congestion) {marks sinks w₀ w₁ w₂ w
         waiting =
             ran .waiting (priceAt (blockOf ks cs fs ts) c) marks (ready-fair ks cs fs ts c marks ready)
             (waiting-from ks cs fs ts c marks w₃ sound ready built-enough heap built-price built-dist built-leaf);
-        goals-open = ran .goals-open;
+        best-goal = ran .best-goal;
         stopped = ran .stopped;
         goals = λ v h. ran .high (5 * length ks + v) (omega arith) ∙ built-goal v h;
         kept =
@@ -290,11 +328,11 @@ module _ (ks cs fs ts : List ℕ) (c : Congestion) {marks sinks w₀ w₁ w₂ w
       }
 
 -- what the turn answers then
-module _ (ks cs fs ts : List ℕ) (c : Congestion) (marks sinks w₀ w : List ℕ) (s : Joining ks cs fs ts c marks sinks w₀ w) where
-  pub join-stuck : entryAt (length ks) w 1 ≡ far → {w′ : List ℕ} → w′ ≡ take 0 w ++ (replicate (8 * length ks - 0) 0 ++ drop (8 * length ks) w) → pathTaken Stuck w′ ≡ turnReply (length ks) w₀ (turn (blockOf ks cs fs ts) (priceAt (blockOf ks cs fs ts) c) marks sinks)
+module _ (ks cs fs ts : List ℕ) (c : Congestion) (marks sinks w₀ w : List ℕ) (best : ℕ) (s : Joining ks cs fs ts c marks sinks w₀ w best) where
+  pub join-stuck : best ≡ far → {w′ : List ℕ} → w′ ≡ take 0 w ++ (replicate (8 * length ks - 0) 0 ++ drop (8 * length ks) w) → pathTaken Stuck w′ ≡ turnReply (length ks) w₀ (turn (blockOf ks cs fs ts) (priceAt (blockOf ks cs fs ts) c) marks sinks)
   join-stuck none e = rw (← turn-same ks cs fs ts (priceAt (blockOf ks cs fs ts) c) marks sinks) (halted-stuck s none e)
 
-  pub join-joins : (entryAt (length ks) w 1 ≡ far → ⊥) → {r : PathAnswer} {w′ : List ℕ} → Read (length ks) marks sinks w (entryAt (length ks) w 1) r w′ → pathTaken r w′ ≡ turnReply (length ks) w₀ (turn (blockOf ks cs fs ts) (priceAt (blockOf ks cs fs ts) c) marks sinks)
+  pub join-joins : (best ≡ far → ⊥) → {r : PathAnswer} {w′ : List ℕ} → Read (length ks) marks sinks w best r w′ → pathTaken r w′ ≡ turnReply (length ks) w₀ (turn (blockOf ks cs fs ts) (priceAt (blockOf ks cs fs ts) c) marks sinks)
   join-joins some d = rw (← turn-same ks cs fs ts (priceAt (blockOf ks cs fs ts) c) marks sinks) (halted-joins s some d)
 
 -- ---- the tests before a turn

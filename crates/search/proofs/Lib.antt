@@ -11,6 +11,7 @@ pub mod FollowLaws
 pub mod QueueLaws
 pub mod LevelLaws
 pub mod Exactness
+pub mod BestLaws
 pub mod FrontierSteps
 pub mod RelaxSteps
 pub mod RunLaws

@@ -207,17 +207,20 @@ pub record Descending (n : ℕ) (w : List ℕ) (i : ℕ) : Type 0 where
   pub least : entryAt n w i ≡ entryAt n w 1
 
 module _ (n : ℕ) (w : List ℕ) (i : ℕ) where
-  pub down-left : i < n → entryAt n w (2 * i) ≡ entryAt n w i → Descending n w i → Descending n w (2 * i)
-  down-left h e d =
-      record { pos = omega (arith, d .pos); below = omega arith; least = e ∙ d .least }
+  -- to the right by 0 or 1: the left child where it is the least, else the right one
+  pub down-left : {right : ℕ} → i < n → entryAt n w (2 * i) ≡ entryAt n w i → right ≡ 0 → Descending n w i → Descending n w (2 * i + right)
+  down-left {right} h e z d =
+      let left : 2 * i + right ≡ 2 * i = omega arith in
+      rw left (record { pos = omega (arith, d .pos); below = omega arith; least = e ∙ d .least })
 
-  pub down-right : Heap n w → i < n → (entryAt n w (2 * i) ≡ entryAt n w i → ⊥) → Descending n w i → Descending n w (2 * i + 1)
-  down-right b h ne d =
-      record {
+  pub down-right : {right : ℕ} → Heap n w → i < n → (entryAt n w (2 * i) ≡ entryAt n w i → ⊥) → right ≡ 1 → Descending n w i → Descending n w (2 * i + right)
+  down-right b h ne o d =
+      rw o
+      (record {
         pos = omega arith;
         below = omega arith;
         least = ⊎-elim (λ e. absurd (ne e)) (λ e. e ∙ d .least) (entry-child n w i (b i (d .pos) h));
-      }
+      })
 
   -- at a leaf
   pub down-leaf : n ≤ i → Descending n w i → leafAt n w (i - n) ≡ entryAt n w 1

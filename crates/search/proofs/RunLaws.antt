@@ -2,7 +2,7 @@
 -- Assumes nothing.
 use mathlib.Core.Bool.{true, false}
 use mathlib.Core.List.{List}
-use mathlib.Core.Logic.{⊎-elim}
+use mathlib.Core.Logic.{⊎-elim, inr}
 use mathlib.Core.Path.{_≡_, refl, sym, _∙_, ap, ap₂, subst}
 use Prim.Native.Nat.{ℕ, _+_, _*_, _^_, _≤_, _<_, min}
 use native.Mathlib.Nat.{le-antisymm}
@@ -17,12 +17,13 @@ use Rattle.price.proofs.PriceLaws.{path-most}
 use Rattle.price.proofs.ListLaws.{both-left, both-right, count-less, either-way, true≢false}
 use Rattle.search.specs.Block.{Block, nodes, rowStart}
 use Rattle.search.specs.Distance.{far, distance}
-use Rattle.search.specs.Layout.{distAt, entryAt, leafAt, priceIn, goalAt, Heap, Shortened, TakenOut, Relaxed, shorter, lower, kept}
-use Rattle.search.specs.Frontier.{Open, Settled, Waiting, GoalsOpen, Stopped, Fair, Stands, Ran, RowReady, Looked, RowDone, unsettled}
+use Rattle.search.specs.Layout.{distAt, entryAt, leafAt, priceIn, Heap, Shortened, TakenOut, Relaxed, shorter, lower, kept}
+use Rattle.search.specs.Frontier.{Open, Settled, Waiting, BestGoal, LastStep, Stopped, Fair, Stands, Ran, RowReady, Looked, RowDone, unsettled}
 use Rattle.search.proofs.BlockLaws.{target-node, target-other, edge-at}
 use Rattle.search.proofs.DistanceLaws.{distance-most}
 use Rattle.search.proofs.Exactness.{exact-near}
-use Rattle.search.proofs.FrontierSteps.{now-settled, still-settled, others-settled, settle-frontier, row-waiting}
+use Rattle.search.proofs.BestLaws.{best-same}
+use Rattle.search.proofs.FrontierSteps.{now-settled, still-settled, settle-frontier, row-waiting}
 use Rattle.search.proofs.RelaxSteps.{relax-frontier}
 
 -- ---- a row
@@ -119,34 +120,44 @@ module _ (b : Block) (w₀ w : List ℕ) (u e : ℕ) (ready : RowReady b w₀ u)
       let n = ready .near in
       omega arith
 
--- the row's places passed so far
-pub record RowSoFar (b : Block) (u e : ℕ) (w₀ w : List ℕ) : Type 0 where
+-- the row's places passed so far; a goal's least distance was `least` and is `best`
+pub record RowSoFar (b : Block) (u e least best : ℕ) (w₀ w : List ℕ) : Type 0 where
   pub done : RowDone b u e w₀ w
   pub from : rowStart b u ≤ e
   pub to : e ≤ rowStart b (u + 1)
+  pub goals : BestGoal (nodes b) least w₀ → BestGoal (nodes b) best w
 
 -- past its last place the whole row has been looked at
-pub row-whole : (b : Block) (u e : ℕ) (w₀ w : List ℕ) → RowSoFar b u e w₀ w → rowStart b (u + 1) ≤ e → RowDone b u (rowStart b (u + 1)) w₀ w
-row-whole b u e w₀ w r l = subst (λ (k : ℕ). RowDone b u k w₀ w) (le-antisymm (r .to) l) (r .done)
+pub row-whole : (b : Block) (u e least best : ℕ) (w₀ w : List ℕ) → RowSoFar b u e least best w₀ w → rowStart b (u + 1) ≤ e → RowDone b u (rowStart b (u + 1)) w₀ w
+row-whole b u e least best w₀ w r l = subst (λ (k : ℕ). RowDone b u k w₀ w) (le-antisymm (r .to) l) (r .done)
 
 -- ---- a run of settlings
 
 -- what holds between two settlings, of the work slice at the start and now
-pub record Running (b : Block) (w₀ w : List ℕ) : Type 0 where
+pub record Running (b : Block) (step best : ℕ) (w₀ w : List ℕ) : Type 0 where
   pub stands : Stands b w
+  pub best-goal : BestGoal (nodes b) best w
+  pub last-step : LastStep (nodes b) step w
   pub waiting : (price : ℕ → ℕ) (marks : List ℕ) → Fair b price → Waiting b price marks w₀ → Waiting b price marks w
   pub long : length w ≡ length w₀
   pub high : (j : ℕ) → 5 * nodes b ≤ j → getD w j 0 ≡ getD w₀ j 0
 
-pub run-start : (b : Block) (w : List ℕ) → Stands b w → Running b w w
-run-start b w s =
-    record { stands = s; waiting = λ price marks fair f. f; long = refl; high = λ j h. refl }
+pub run-start : (b : Block) (step : ℕ) (w : List ℕ) → Stands b w → BestGoal (nodes b) far w → LastStep (nodes b) step w → Running b step far w w
+run-start b step w s g l =
+    record {
+      stands = s;
+      best-goal = g;
+      last-step = l;
+      waiting = λ price marks fair f. f;
+      long = refl;
+      high = λ j h. refl;
+    }
 
-pub run-stops : (b : Block) (w₀ w : List ℕ) → Running b w₀ w → Stopped (nodes b) w → Ran b w₀ w
-run-stops b w₀ w r s =
+pub run-stops : (b : Block) (step best : ℕ) (w₀ w : List ℕ) → Running b step best w₀ w → Stopped (nodes b) w best → Ran b w₀ w best
+run-stops b step best w₀ w r s =
     record {
       waiting = r .waiting;
-      goals-open = r .stands .goals-open;
+      best-goal = r .best-goal;
       stopped = s;
       long = r .long;
       high = r .high;
@@ -165,10 +176,32 @@ settled-of n w v h e =
       near = ltb-true (distAt w v) far (both-right (eqb (leafAt n w v) far) (ltb (distAt w v) far) t);
     }
 
-open-not-settled : (n : ℕ) (w : List ℕ) (v : ℕ) → Open n w v → Settled n w v → ⊥
-open-not-settled n w v o s = let l = s .left in let d = s .near in omega arith
+module _ (b : Block) (step best : ℕ) (w₀ w : List ℕ) (u : ℕ) (run : Running b step best w₀ w)
+    (node : u < nodes b) (nearest : leafAt (nodes b) w u ≡ entryAt (nodes b) w 1) (near : entryAt (nodes b) w 1 < far) where
+  -- the nearest open node has its distance at the level, and that is final
+  at-level : distAt w u ≡ entryAt (nodes b) w 1
+  at-level =
+      ⊎-elim (λ (o : Open (nodes b) w u). sym o ∙ nearest) (λ (t : Settled (nodes b) w u). absurd (let l = t .left in omega arith)) (run .stands .waiting .sides u node)
 
-module _ (b : Block) (w₀ w w₁ : List ℕ) (u : ℕ) (run : Running b w₀ w)
+  -- so the level is no more than a path can cost
+  level-most : entryAt (nodes b) w 1 < 2 ^ 61
+  level-most =
+      let s = run .stands in
+      let pos = s .fair .pos u node in
+      let d : distAt w u ≡ distance b (s .price) (s .marks) u =
+      exact-near b (s .price) (s .marks) w (s .sound) (s .fair) (s .waiting) u node (omega (arith, at-level)) in
+      let m = distance-most b (s .price) (s .marks) (s .sound) (s .fair) u node (omega (arith, at-level)) in
+      let p = path-most (nodes b) (s .sound .few) in
+      omega (arith, at-level)
+
+  -- and a last step more does not wrap
+  pub level-fits : entryAt (nodes b) w 1 + step < far
+  level-fits = omega (arith, level-most, run .last-step .most)
+
+  pub stops-early : best < entryAt (nodes b) w 1 + step → Stopped (nodes b) w best
+  stops-early l = inr (omega (arith, level-fits), λ v h g. omega (arith, run .last-step .goals v h g))
+
+module _ (b : Block) (step best : ℕ) (w₀ w w₁ : List ℕ) (u : ℕ) (run : Running b step best w₀ w)
     (node : u < nodes b) (nearest : leafAt (nodes b) w u ≡ entryAt (nodes b) w 1) (near : entryAt (nodes b) w 1 < far)
     (taken : TakenOut (nodes b) u w w₁) where
   -- the settled node is near enough that no sum over its row wraps
@@ -176,19 +209,16 @@ module _ (b : Block) (w₀ w w₁ : List ℕ) (u : ℕ) (run : Running b w₀ w)
   settle-ready =
       let s = run .stands in
       let f = s .waiting in
-      let o : Open (nodes b) w u =
-      ⊎-elim (λ x. x) (λ (t : Settled (nodes b) w u). absurd (let l = t .left in omega arith)) (f .sides u node) in
-      let d : distAt w u ≡ distance b (s .price) (s .marks) u =
-      exact-near b (s .price) (s .marks) w (s .sound) (s .fair) f u node (omega arith) in
-      let m = distance-most b (s .price) (s .marks) (s .sound) (s .fair) u node (omega arith) in
-      let p = path-most (nodes b) (s .sound .few) in
-      let e = taken .dist-same u node in
       record {
         sound = s .sound;
         node = node;
         long = let l = taken .long in let l′ = f .long in omega arith;
         heap = taken .heap;
-        near = omega arith;
+        near =
+            let e = taken .dist-same u node in
+            let a = at-level b step best w₀ w u run node nearest near in
+            let m = level-most b step best w₀ w u run node nearest near in
+            omega arith;
         prices = λ v h.
             let a = taken .high (3 * nodes b + v) (omega arith) in
             let c = f .prices v h in
@@ -196,7 +226,7 @@ module _ (b : Block) (w₀ w w₁ : List ℕ) (u : ℕ) (run : Running b w₀ w)
             omega arith;
       }
 
-  module _ (w₂ : List ℕ) (goal : goalAt (nodes b) w u ≡ 1 → ⊥) (row : RowDone b u (rowStart b (u + 1)) w₁ w₂) where
+  module _ (w₂ : List ℕ) (row : RowDone b u (rowStart b (u + 1)) w₁ w₂) where
     -- one price and tree: the frontier goes on
     next : (price : ℕ → ℕ) (marks : List ℕ) → Fair b price → Waiting b price marks w → Looked b price marks u (rowStart b (u + 1)) w₁ w₂
     next price marks fair f =
@@ -209,12 +239,6 @@ module _ (b : Block) (w₀ w w₁ : List ℕ) (u : ℕ) (run : Running b w₀ w)
         let g = run .stands .sound in
         let n = now-settled b g price marks w w₁ u node f nearest near taken .near in
         row-waiting b price marks w₂ (distAt w₁ u) u (g .some) (omega arith) (next price marks fair f .frontier)
-
-    settled-before : (v : ℕ) → Settled (nodes b) w₂ v → (v ≡ u → ⊥) → Settled (nodes b) w v
-    settled-before v s ne =
-        let st = run .stands in
-        others-settled b (st .sound) (st .price) (st .marks) w w₁ u node (st .waiting) nearest near taken v
-        (next (st .price) (st .marks) (st .fair) (st .waiting) .settled-only v s) ne
 
     settled-still : (v : ℕ) → Settled (nodes b) w v → Settled (nodes b) w₂ v
     settled-still v s =
@@ -231,18 +255,8 @@ module _ (b : Block) (w₀ w w₁ : List ℕ) (u : ℕ) (run : Running b w₀ w)
     high-same : (j : ℕ) → 5 * nodes b ≤ j → getD w₂ j 0 ≡ getD w j 0
     high-same j h = row .high j h ∙ taken .high j (omega arith)
 
-    goals-still : GoalsOpen (nodes b) w₂
-    goals-still v h m =
-        let st = run .stands in
-        let m′ : goalAt (nodes b) w v ≡ 1 = sym (high-same (5 * nodes b + v) (omega arith)) ∙ m in
-        let ne : v ≡ u → ⊥ = λ e. goal (subst (λ (x : ℕ). goalAt (nodes b) w x ≡ 1) e m′) in
-        ⊎-elim
-        (λ o. o)
-        (λ (s : Settled (nodes b) w₂ v). absurd (open-not-settled (nodes b) w v (st .goals-open v h m′) (settled-before v s ne)))
-        (next-waiting (st .price) (st .marks) (st .fair) (st .waiting) .sides v h)
-
-    pub run-more : Running b w₀ w₂
-    run-more =
+    pub run-more : (best′ : ℕ) → (BestGoal (nodes b) best w₁ → BestGoal (nodes b) best′ w₂) → Running b step best′ w₀ w₂
+    run-more best′ goals =
         let st = run .stands in
         record {
           stands =
@@ -252,7 +266,16 @@ module _ (b : Block) (w₀ w w₁ : List ℕ) (u : ℕ) (run : Running b w₀ w)
                 marks = st .marks;
                 fair = st .fair;
                 waiting = next-waiting (st .price) (st .marks) (st .fair) (st .waiting);
-                goals-open = goals-still;
+              };
+          best-goal = goals (best-same (taken .dist-same) (λ x h. taken .high (5 * nodes b + x) (omega arith)) (run .best-goal));
+          last-step =
+              record {
+                most = run .last-step .most;
+                goals = λ v h m.
+                    let a = row .prices-same v h in
+                    let c = taken .high (3 * nodes b + v) (omega arith) in
+                    let l = run .last-step .goals v h (sym (high-same (5 * nodes b + v) (omega arith)) ∙ m) in
+                    omega arith;
               };
           waiting = λ price marks fair f. next-waiting price marks fair (run .waiting price marks fair f);
           long = row .long ∙ taken .long ∙ run .long;

@@ -1,7 +1,8 @@
 -- A whole search: prepared, ready to run, run to its end, and its reply.
 --     prepared                                  the work slice before the queue is built
 --     waiting-from, stands-from                 a search that stands ready: nothing is settled, and every node waits
---     built-stands, search-leaves               the search that has no goals: it stands ready, and what it leaves
+--     best-from                                 then no goal has a distance
+--     built-stands, built-goals, search-leaves  the search that has no goals: it stands ready, and what it leaves
 --     with-sinks-table, -none, -bad             the lowest faulty table, sinks counted
 --     few-nodes, fine-passed, passed-ready      what the tests before a search have shown
 --     search-ready                              that a search may run
@@ -9,7 +10,7 @@
 -- Assumes nothing.
 use mathlib.Core.Bool.{Bool, true, false}
 use mathlib.Core.List.{List, [], _∷_, _++_}
-use mathlib.Core.Logic.{⊎-elim}
+use mathlib.Core.Logic.{⊎-elim, inl}
 use mathlib.Core.Path.{_≡_, refl, sym, _∙_, ap}
 use Prim.Native.Nat.{ℕ, zero, suc, _+_, _-_, _*_, _≤_, _<_}
 use native.Mathlib.Nat.{not-suc-le-zero, le-of-suc-le-suc}
@@ -29,7 +30,7 @@ use Rattle.search.specs.declared.SearchAnswer.the-variants as answer
 use Rattle.search.specs.declared.numbers.Check.{Check}
 use Rattle.search.specs.declared.numbers.Check.the-variants as check
 use Rattle.search.specs.Layout.{distAt, entryAt, leafAt, priceIn, goalAt, Heap, SameBut, Started, Priced}
-use Rattle.search.specs.Frontier.{Waiting, Stands, Ran}
+use Rattle.search.specs.Frontier.{Waiting, BestGoal, LastStep, Stands, Ran}
 use Rattle.search.specs.Ready.{Ready, Prepared}
 use Rattle.search.proofs.BlockLaws.{sound-of, kinds-few}
 use Rattle.search.proofs.DistanceLaws.{length-distances, distance-top}
@@ -85,7 +86,15 @@ module _ (ks cs fs ts : List ℕ) (c : Congestion) (marks w : List ℕ)
         marks = marks;
         fair = ready-fair ks cs fs ts c marks ready;
         waiting = waiting-from;
-        goals-open = λ v h goal. leaf v h ∙ sym (dist v h);
+      }
+
+  -- no goal has a distance, since none is in the tree
+  pub best-from : ((v : ℕ) → v < length ks → goalAt (length ks) w v ≡ 1 → inTree marks v ≡ false) → BestGoal (length ks) far w
+  best-from out =
+      record {
+        most = omega arith;
+        least = λ v h g. let e : distAt w v ≡ far = dist v h ∙ rw (out v h g) in omega arith;
+        some = inl refl;
       }
 
 -- ---- the search that has no goals
@@ -115,19 +124,33 @@ module _ (ks cs fs ts : List ℕ) (c : Congestion) (marks w₀ w₁ w₂ : List 
   pub built-stands : Stands (graphOf ks fs ts) w₂
   built-stands = stands-from ks cs fs ts c marks w₂ sound ready built-long heap built-prices built-dist built-leaf
 
-  module _ (w₃ w₄ : List ℕ) (ran : Ran (graphOf ks fs ts) w₂ w₃)
+  built-no-goal : (v : ℕ) → v < length ks → goalAt (length ks) w₂ v ≡ 0
+  built-no-goal v h = same .high (5 * length ks + v) (omega arith) ∙ prep .no-goals v h
+
+  pub built-goals : BestGoal (length ks) far w₂ × LastStep (length ks) 0 w₂
+  built-goals = (
+    best-from ks cs fs ts c marks w₂ sound ready built-long heap built-prices built-dist built-leaf (λ v h g. absurd (omega (arith, built-no-goal v h))),
+    record { most = omega arith; goals = λ v h g. omega arith },
+  )
+
+  module _ (w₃ w₄ : List ℕ) (best : ℕ) (ran : Ran (graphOf ks fs ts) w₂ w₃ best)
       (end : w₄ ≡ take (length ks) w₃ ++ (replicate (8 * length ks - length ks) 0 ++ drop (8 * length ks) w₃)) where
     still-long : length w₃ ≡ length w₀
     still-long = ran .long ∙ same .long ∙ prep .long
 
     no-goal : (v : ℕ) → v < length ks → goalAt (length ks) w₃ v ≡ 0
-    no-goal v h =
-        ran .high (5 * length ks + v) (omega arith) ∙ same .high (5 * length ks + v) (omega arith) ∙ prep .no-goals v h
+    no-goal v h = ran .high (5 * length ks + v) (omega arith) ∙ built-no-goal v h
 
-    -- so nothing waits any more
+    -- so no goal has a distance, and nothing waits any more
+    no-best : best < far → ⊥
+    no-best near =
+        ⊎-elim
+        (λ (e : best ≡ far). omega arith)
+        (λ (g : (v : ℕ) × (v < length ks) × (goalAt (length ks) w₃ v ≡ 1) × (distAt w₃ v ≡ best)). let none = no-goal (g .0) (g .1) in let goal = g .2 in omega arith)
+        (ran .best-goal .some)
+
     all-settled : entryAt (length ks) w₃ 1 ≡ far
-    all-settled =
-        ⊎-elim (λ e. e) (λ g. absurd (let none = no-goal (g .0) (g .1) in let goal = g .2 in omega arith)) (ran .stopped)
+    all-settled = ⊎-elim (λ e. e) (λ g. absurd (no-best (g .0))) (ran .stopped)
 
     final : (v : ℕ) → v < length ks → distAt w₃ v ≡ distance (graphOf ks fs ts) (priceAt (blockOf ks cs fs ts) c) marks v
     final v h =
@@ -135,7 +158,8 @@ module _ (ks cs fs ts : List ℕ) (c : Congestion) (marks w₀ w₁ w₂ : List 
         (ran .waiting (priceAt (blockOf ks cs fs ts) c) marks (ready-fair ks cs fs ts c marks ready)
         (waiting-from ks cs fs ts c marks w₂ sound ready built-long heap built-prices built-dist built-leaf))
         v h
-        (let top = distance-top (graphOf ks fs ts) (priceAt (blockOf ks cs fs ts) c) marks v in omega (arith, all-settled))
+        (let top = distance-top (graphOf ks fs ts) (priceAt (blockOf ks cs fs ts) c) marks v in
+        omega (arith, all-settled, ready-fair ks cs fs ts c marks ready .pos v h))
 
     first-part : take (length ks) w₃ ≡ distances (blockOf ks cs fs ts) (priceAt (blockOf ks cs fs ts) c) marks
     first-part =

@@ -1,6 +1,7 @@
--- How a pass over a table or list decides its rule: by the entry that breaks it, or by every entry passed.
+-- How a pass over a table or list decides its rule: by the entry that breaks it, by every entry passed, or by a flag that is kept to the end.
 --     refused, passed                   what a function's answer says of the test that it computes
---     kinds-, capacities-, falls-at, never-falls, firsts-, row-, edges-, faulty-    tables 1 to 4
+--     Kept, kept-, fails, stays, every- a flag that is kept over a whole list
+--     kinds-, capacity-, capacities-, falls-, firsts-, row-, left-, edges-, faulty-    tables 1 to 4
 --     sinks-                            a list of sinks
 --     history-, others-, mark-, bad-    row 13: a node's numbers, and the lowest node whose numbers are bad
 --     refusal-                          the first refusal
@@ -8,17 +9,17 @@
 use mathlib.Core.Bool.{Bool, true, false, not}
 use mathlib.Core.List.{List, [], _∷_}
 use mathlib.Core.Path.{_≡_, refl, sym, _∙_, ap}
-use Prim.Native.Nat.{ℕ, zero, suc, _+_, _*_, _-_, _≤_, _<_}
-use native.Mathlib.Numerals.{unary-clauses}
+use Prim.Native.Nat.{ℕ, suc, _+_, _*_, _-_, _≤_, _<_}
+use native.Mathlib.Numerals.{add-one}
 use native.Mathlib.Omega.{arith}
-use lib.Dec.{leb, ltb, eqb}
-use lib.ListN.{length, getD}
-use lib.Seq.{slice, length-slice}
-use borrow.Author.Tests.{le-leb, lt-leb, lt-ltb, le-ltb, eq-eqb, ne-eqb, not-true, not-false}
+use lib.Dec.{leb, ltb, eqb, leb·zero}
+use lib.ListN.{length, getD, take, drop, length-drop, drop-of-length-le}
+use lib.Seq.{slice, length-slice, length-take-le, drop-cons, slice-cons}
+use borrow.Author.Tests.{ltb-true, le-leb, lt-leb, lt-ltb, le-ltb, eq-eqb, ne-eqb, not-true, not-false}
 use Rattle.price.specs.Test.{both}
 use Rattle.price.specs.Bounds.{kindMost, capacityMost, nodesMost, historyMost, othersMost, factorMost}
 use Rattle.price.specs.Lists.{every, neighbours, upTo}
-use Rattle.price.proofs.ListLaws.{both-true, both-false-left, both-false-right, every-all, every-none, neighbours-all, neighbours-none, length-upTo, getD-upTo, firstBelow-is, firstBelow-all}
+use Rattle.price.proofs.ListLaws.{true≢false, both-true, both-left, both-false-left, both-false-right, every-all, every-none, neighbours-all, neighbours-none, length-upTo, getD-upTo, firstBelow-is, firstBelow-all}
 use Rattle.search.specs.Block.{Block, graphOf, nodes, row}
 use Rattle.search.specs.Tables.{kindsSound, capacitiesSound, firstEdgesSound, rowSound, edgeTargetsSound, edgesMost, faultyTable}
 use Rattle.search.specs.Replies.{sinksMost, sinksSound, nodeSound, badNode, refusalOf}
@@ -33,7 +34,48 @@ refused e n = sym e ∙ not-true _ n
 pub passed : {r t : Bool} → r ≡ t → not r ≡ false → t ≡ true
 passed e n = sym e ∙ not-false _ n
 
+-- ---- a flag that is kept over a whole list
+
+-- what it says of the entries passed, and the test of what is left, make the test of the whole
+pub record Kept (whole fine left : Bool) : Type 0 where
+  pub whole-is : whole ≡ both fine left
+
+pub kept-none : {whole : Bool} → Kept whole true whole
+kept-none = record { whole-is = refl }
+
+-- an entry that fails the test
+pub fails : {whole fine left rest next : Bool} (t : Bool) → Kept whole fine left → left ≡ both t rest → t ≡ false → next ≡ false → Kept whole next rest
+fails {fine = fine} t k e p q = record { whole-is = k .whole-is ∙ rw (e, p, q) (both-false-right fine false refl) }
+
+-- an entry that passes it
+pub stays : {whole fine left rest next : Bool} (t : Bool) → Kept whole fine left → left ≡ both t rest → t ≡ true → next ≡ fine → Kept whole next rest
+stays t k e p q = record { whole-is = k .whole-is ∙ rw (e, p, q) }
+
+both-alone : (a : Bool) → both a true ≡ a
+both-alone true = refl
+both-alone false = refl
+
+-- what is left fails as a whole, or passes
+pub kept-fails : {whole fine left : Bool} → Kept whole fine left → left ≡ false → false ≡ whole
+kept-fails {fine = fine} k e = sym (k .whole-is ∙ both-false-right fine _ e)
+
+pub kept-all : {whole fine left : Bool} → Kept whole fine left → left ≡ true → fine ≡ whole
+kept-all {fine = fine} k e = sym (k .whole-is ∙ rw e (both-alone fine))
+
+-- what is left of a test of every entry
+pub every-next : (t : ℕ → Bool) (xs : List ℕ) (v : ℕ) → v < length xs → every t (drop v xs) ≡ both (t (getD xs v 0)) (every t (drop (v + 1) xs))
+unfolding every
+every-next t xs v l = rw (drop-cons xs v 0 l, add-one)
+
+pub every-end : (t : ℕ → Bool) (xs : List ℕ) (v : ℕ) → length xs ≤ v → every t (drop v xs) ≡ true
+unfolding every
+every-end t xs v end = rw (drop-of-length-le xs end)
+
 -- ---- table 1
+
+-- the test of a kind
+abbrev pub kindSound : ℕ → Bool
+kindSound k = leb k kindMost
 
 pub kinds-none : (ks : List ℕ) → length ks < 1 → kindsSound ks ≡ false
 unfolding kindsSound
@@ -45,53 +87,46 @@ kinds-many ks h =
     let some : leb 1 (length ks) ≡ true = le-leb 1 (length ks) (omega arith) in
     rw (some, lt-leb (length ks) nodesMost h)
 
-pub kinds-bad : (ks : List ℕ) (v : ℕ) → v < length ks → kindMost < getD ks v 0 → kindsSound ks ≡ false
+-- all but the kinds themselves
+pub kinds-each : (ks : List ℕ) → 1 ≤ length ks → length ks ≤ nodesMost → kindsSound ks ≡ every kindSound ks
 unfolding kindsSound
-kinds-bad ks v h l =
-    both-false-right (both (leb 1 (length ks)) (leb (length ks) nodesMost)) (every (λ k. leb k kindMost) ks)
-    (every-none (λ k. leb k kindMost) ks v h (lt-leb (getD ks v 0) kindMost l))
-
-pub kinds-all : (ks : List ℕ) (v : ℕ) → 1 ≤ length ks → length ks ≤ nodesMost → length ks ≤ v → ((k : ℕ) → k < v → getD ks k 0 ≤ kindMost) → kindsSound ks ≡ true
-unfolding kindsSound
-kinds-all ks v some few end all =
-    both-true (both-true (le-leb 1 (length ks) some) (le-leb (length ks) nodesMost few))
-    (every-all (λ k. leb k kindMost) ks (λ i l. le-leb (getD ks i 0) kindMost (all i (omega arith))))
+kinds-each ks some few = rw (le-leb 1 (length ks) some, le-leb (length ks) nodesMost few)
 
 -- ---- table 2
 
--- a sound capacity
-pub record Capacity (c : ℕ) : Type 0 where
-  pub some : 1 ≤ c
-  pub byte : c ≤ capacityMost
+-- the test of a capacity
+abbrev pub capacitySound : ℕ → Bool
+capacitySound c = both (leb 1 c) (leb c capacityMost)
+
+pub capacity-low : (c : ℕ) → c < 1 → capacitySound c ≡ false
+capacity-low c h = rw (lt-leb 1 c h)
+
+pub capacity-byte : (c : ℕ) → 1 ≤ c → c ≤ capacityMost → capacitySound c ≡ true
+capacity-byte c some byte = both-true (le-leb 1 c some) (le-leb c capacityMost byte)
 
 pub capacities-length : (n : ℕ) (cs : List ℕ) → (length cs ≡ n → ⊥) → capacitiesSound n cs ≡ false
 unfolding capacitiesSound
 capacities-length n cs h = rw (ne-eqb (length cs) n h)
 
-pub capacities-bad : (n : ℕ) (cs : List ℕ) (v : ℕ) → v < length cs → getD cs v 0 < 1 → capacitiesSound n cs ≡ false
+-- all but the capacities themselves
+pub capacities-each : (n : ℕ) (cs : List ℕ) → length cs ≡ n → capacitiesSound n cs ≡ every capacitySound cs
 unfolding capacitiesSound
-capacities-bad n cs v h l =
-    both-false-right (eqb (length cs) n) (every (λ c. both (leb 1 c) (leb c capacityMost)) cs)
-    (every-none (λ c. both (leb 1 c) (leb c capacityMost)) cs v h (rw (lt-leb 1 (getD cs v 0) l)))
-
-pub capacities-all : (n : ℕ) (cs : List ℕ) (v : ℕ) → length cs ≡ n → length cs ≤ v → ((k : ℕ) → k < v → Capacity (getD cs k 0)) → capacitiesSound n cs ≡ true
-unfolding capacitiesSound
-capacities-all n cs v long end all =
-    both-true (eq-eqb (length cs) n long)
-    (every-all (λ c. both (leb 1 c) (leb c capacityMost)) cs
-    (λ i l.
-    let here : Capacity (getD cs i 0) = all i (omega arith) in
-    both-true (le-leb 1 (getD cs i 0) (here .some)) (le-leb (getD cs i 0) capacityMost (here .byte))))
+capacities-each n cs long = rw (eq-eqb (length cs) n long)
 
 -- ---- table 3
 
-pub falls-at : (fs : List ℕ) (v : ℕ) → 1 ≤ v → v < length fs → getD fs v 0 < getD fs (v - 1) 0 → neighbours leb fs ≡ false
-falls-at fs zero h l less = absurd (omega arith)
-falls-at fs (suc v) h l less = neighbours-none leb fs v l (lt-leb (getD fs v 0) (getD fs (suc v) 0) (simp unary-clauses at less))
+-- what is left where the entries before place v were compared, each with the one before it
+pub falls-next :
+    (fs : List ℕ) (v : ℕ) → 1 ≤ v → v < length fs
+    → neighbours leb (drop (v - 1) fs) ≡ both (leb (getD fs (v - 1) 0) (getD fs v 0)) (neighbours leb (drop (v + 1 - 1) fs))
+unfolding neighbours
+falls-next fs v later l =
+    let next : suc (v - 1) ≡ v = omega arith in
+    let same : v + 1 - 1 ≡ v = omega arith in
+    rw (same, drop-cons fs (v - 1) 0 (omega arith), next, drop-cons fs v 0 l)
 
-pub never-falls : (fs : List ℕ) (v : ℕ) → length fs ≤ v → ((k : ℕ) → k < v → 1 ≤ k → getD fs (k - 1) 0 ≤ getD fs k 0) → neighbours leb fs ≡ true
-never-falls fs v end all =
-    neighbours-all leb fs (λ i l. le-leb (getD fs i 0) (getD fs (suc i) 0) (simp unary-clauses at (all (suc i) (omega arith) (omega arith))))
+pub falls-end : (fs : List ℕ) (v : ℕ) → length fs ≤ v → neighbours leb (drop (v - 1) fs) ≡ true
+falls-end fs v end = neighbours-all leb (drop (v - 1) fs) (λ i l. absurd (omega (arith, length-drop (v - 1) fs)))
 
 module _ (n edges : ℕ) (fs : List ℕ) where
   pub firsts-length : (length fs ≡ n + 1 → ⊥) → firstEdgesSound n edges fs ≡ false
@@ -166,6 +201,62 @@ module _ (n u from to : ℕ) (ts : List ℕ) (within : to ≤ length ts) where
       let last : from + suc i - 1 ≡ from + i = omega arith in
       rw (slice-at from to ts i (omega arith), slice-at from to ts (suc i) (omega arith))
       (lt-ltb (getD ts (from + i) 0) (getD ts (from + suc i) 0) (rw last at (here .rises (omega arith))))))
+
+-- what is left of the row of node u, where `low` is the least target that may come next: rising, so only the last has to be below n
+unfoldable pub leftSound : ℕ → ℕ → ℕ → List ℕ → Bool
+leftSound n u low [] = leb low n
+leftSound n u low (v ∷ vs) = both (leb low v) (both (not (eqb v u)) (leftSound n u (suc v) vs))
+
+-- the tests of a row in another order: that a target is a node follows from those of the next, and is asked of the last alone
+both-order : (node other all less rise : Bool) → (less ≡ true → all ≡ true → node ≡ true) → both other (both less (both all rise)) ≡ both (both (both node other) all) (both less rise)
+both-order true true true less rise h = refl
+both-order true true false true rise h = refl
+both-order true true false false rise h = refl
+both-order true false all less rise h = refl
+both-order false true true true rise h = absurd (true≢false (sym (h refl refl)))
+both-order false true false true rise h = refl
+both-order false true all false rise h = refl
+both-order false false all less rise h = refl
+
+both-last : (node other : Bool) → both other node ≡ both (both (both node other) true) true
+both-last true true = refl
+both-last true false = refl
+both-last false true = refl
+both-last false false = refl
+
+module _ (n u : ℕ) where
+  -- a target below a node is one itself
+  node-below : (v w : ℕ) (ws : List ℕ) → ltb v w ≡ true → every (λ x. both (ltb x n) (not (eqb x u))) (w ∷ ws) ≡ true → ltb v n ≡ true
+  unfolding every
+  node-below v w ws l all =
+      let less = ltb-true v w l in
+      let node = ltb-true w n (both-left (ltb w n) (not (eqb w u)) (both-left _ (every (λ x. both (ltb x n) (not (eqb x u))) ws) all)) in
+      lt-ltb v n (omega arith)
+
+  left-row : (low v : ℕ) (vs : List ℕ) → leftSound n u low (v ∷ vs) ≡ both (leb low v) (rowSound n u (v ∷ vs))
+  unfolding rowSound every neighbours leftSound
+  left-row low v [] = ap (both (leb low v)) (both-last (ltb v n) (not (eqb v u)))
+  left-row low v (w ∷ ws) =
+      ap (λ t. both (leb low v) (both (not (eqb v u)) t)) (left-row (suc v) w ws)
+      ∙ ap (both (leb low v))
+      (both-order (ltb v n) (not (eqb v u)) (every (λ x. both (ltb x n) (not (eqb x u))) (w ∷ ws)) (ltb v w) (neighbours ltb (w ∷ ws)) (node-below v w ws))
+
+  -- a whole row
+  pub left-whole : (vs : List ℕ) → rowSound n u vs ≡ leftSound n u 0 vs
+  unfolding rowSound every neighbours leftSound
+  left-whole [] = sym (leb·zero n)
+  left-whole (v ∷ vs) = sym (left-row 0 v vs ∙ ap (λ t. both t (rowSound n u (v ∷ vs))) (leb·zero v))
+
+  module _ (low e to : ℕ) (ts : List ℕ) where
+    pub left-next :
+        e < to → to ≤ length ts
+        → leftSound n u low (slice e to ts) ≡ both (leb low (getD ts e 0)) (both (not (eqb (getD ts e 0) u)) (leftSound n u (getD ts e 0 + 1) (slice (e + 1) to ts)))
+    unfolding leftSound
+    left-next l within = rw (slice-cons e to ts 0 l within, add-one e, add-one (getD ts e 0))
+
+    pub left-end : to ≤ e → to ≤ length ts → leftSound n u low (slice e to ts) ≡ leb low n
+    unfolding leftSound
+    left-end end within = rw (drop-of-length-le (take to ts) {i = e} (omega (arith, length-take-le to ts within)))
 
 -- ---- table 4
 

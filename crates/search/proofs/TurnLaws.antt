@@ -199,26 +199,28 @@ module _ (b : Block) (price : ℕ → ℕ) (marks : List ℕ) (g : Graph b) (fai
         (omega arith)))
         (either-way (inTree marks v))
 
-    -- a trail along the nodes before builds the same: each step leads nearer, so that as many steps as the distance suffice
+    -- a trail along the nodes before builds the same: each step leads nearer, so that as many steps as the distance suffice.
+    -- The node before one that is had over a node nearer than `level` is nearer than `level`.
     trail-back :
-        (w : List ℕ)
-        → ((x : ℕ) → x < nodes b → inTree marks x ≡ false → distance b price marks x ≤ distance b price marks s → predAt (nodes b) w x ≡ before b price (distances b price marks) x)
-        → (k fuel v : ℕ) (path : List ℕ) → v < nodes b → distance b price marks v < far → distance b price marks v ≤ fuel → Onward b price marks v path s → length path + k ≡ nodes b
+        (w : List ℕ) (level : ℕ)
+        → ((x : ℕ) → x < nodes b → inTree marks x ≡ false → distance b price marks x < far → distance b price marks x < level + price x → predAt (nodes b) w x ≡ before b price (distances b price marks) x)
+        → (k fuel v : ℕ) (path : List ℕ) → v < nodes b → distance b price marks v < far → distance b price marks v < level + price v → distance b price marks v ≤ fuel → Onward b price marks v path s → length path + k ≡ nodes b
         → trail (nodes b) marks w fuel v path ≡ back b price marks (distances b price marks) k v path
     unfolding trail back
-    trail-back w same zero fuel v path node near enough r e = absurd (omega (arith, onward-short b price marks fair node r))
-    trail-back w same (suc k) zero v path node near enough r e =
+    trail-back w level same zero fuel v path node near close enough r e = absurd (omega (arith, onward-short b price marks fair node r))
+    trail-back w level same (suc k) zero v path node near close enough r e =
         ⊎-elim
         (λ (q : inTree marks v ≡ true). rw q)
         (λ (q : inTree marks v ≡ false). absurd (omega (arith, before-near v node q near)))
         (either-way (inTree marks v))
-    trail-back w same (suc k) (suc fuel) v path node near enough r e =
+    trail-back w level same (suc k) (suc fuel) v path node near close enough r e =
         ⊎-elim
         (λ (q : inTree marks v ≡ true). rw q)
         (λ (q : inTree marks v ≡ false).
-        rw (q, same v node q (omega (arith, onward-cost b price marks r)))
-        (trail-back w same k fuel (before b price (distances b price marks) v) (v ∷ path) (before-node v node q near)
+        rw (q, same v node q near close)
+        (trail-back w level same k fuel (before b price (distances b price marks) v) (v ∷ path) (before-node v node q near)
         (le-trans (before-near v node q near) (omega arith))
+        (omega (arith, before-sum v node q near))
         (omega (arith, before-near v node q near))
         (on node q (before-edge v node q near) (before-sum v node q near) r)
         (omega arith)))
@@ -256,12 +258,12 @@ module _ (b : Block) (price : ℕ → ℕ) (marks : List ℕ) (g : Graph b) (fai
 
     -- a trail along the nodes before is that path
     pub trail-is :
-        (w : List ℕ) (fuel : ℕ) → distance b price marks v ≤ fuel
-        → ((x : ℕ) → x < nodes b → inTree marks x ≡ false → distance b price marks x ≤ distance b price marks v → predAt (nodes b) w x ≡ before b price (distances b price marks) x)
+        (w : List ℕ) (fuel level : ℕ) → distance b price marks v ≤ fuel → distance b price marks v < level + price v
+        → ((x : ℕ) → x < nodes b → inTree marks x ≡ false → distance b price marks x < far → distance b price marks x < level + price x → predAt (nodes b) w x ≡ before b price (distances b price marks) x)
         → trail (nodes b) marks w fuel v [] ≡ pathTo b price marks v
     unfolding pathTo
-    trail-is w fuel enough same =
-        trail-back v w same (nodes b) fuel v [] node near enough (done v) (omega arith)
+    trail-is w fuel level enough close same =
+        trail-back v w level same (nodes b) fuel v [] node near close enough (done v) (omega arith)
 
   -- the turn of a list of sinks
   module _ (sinks : List ℕ) (all-nodes : (i : ℕ) → i < length sinks → getD sinks i 0 < nodes b) where

@@ -13,7 +13,7 @@ use Rattle.price.specs.Replies.{InBounds}
 use Rattle.search.specs.Block.{Block, nodes, rowStart, hasEdge}
 use Rattle.search.specs.Tables.{Graph}
 use Rattle.search.specs.Distance.{far, inTree}
-use Rattle.search.specs.Layout.{distAt, entryAt, leafAt, priceIn, predAt, goalAt, Heap}
+use Rattle.search.specs.Layout.{distAt, entryAt, leafAt, priceIn, predAt, goalAt, Heap, stepMost}
 
 -- an open node waits in the queue at its distance so far, `far` where it has none
 abbrev pub Open : ℕ → List ℕ → ℕ → Type 0
@@ -56,13 +56,20 @@ pub record Frontier (b : Block) (price : ℕ → ℕ) (marks w : List ℕ) (leve
 abbrev pub Waiting : (b : Block) (price : ℕ → ℕ) (marks w : List ℕ) → Type 0
 Waiting b price marks w = Frontier b price marks w (entryAt (nodes b) w 1) (nodes b) 0
 
--- no goal is settled
-abbrev pub GoalsOpen : ℕ → List ℕ → Type 0
-GoalsOpen n w = (v : ℕ) → v < n → goalAt n w v ≡ 1 → Open n w v
+-- `best` is the least distance that a goal has so far, `far` where none has one
+pub record BestGoal (n best : ℕ) (w : List ℕ) : Type 0 where
+  pub most : best ≤ far
+  pub least : (v : ℕ) → v < n → goalAt n w v ≡ 1 → best ≤ distAt w v
+  pub some : (best ≡ far) ⊎ ((v : ℕ) × (v < n) × (goalAt n w v ≡ 1) × (distAt w v ≡ best))
 
--- where the search stops: nothing waits any more, or a goal is nearest
-abbrev pub Stopped : ℕ → List ℕ → Type 0
-Stopped n w = (entryAt n w 1 ≡ far) ⊎ ((v : ℕ) × (v < n) × (goalAt n w v ≡ 1) × (leafAt n w v ≡ entryAt n w 1))
+-- the last step to a goal costs at least `step`
+pub record LastStep (n step : ℕ) (w : List ℕ) : Type 0 where
+  pub most : step ≤ stepMost
+  pub goals : (v : ℕ) → v < n → goalAt n w v ≡ 1 → step ≤ priceIn n w v
+
+-- where the search stops: nothing waits any more, or a goal is so near that none is reached as cheaply over a node that waits
+abbrev pub Stopped : ℕ → List ℕ → ℕ → Type 0
+Stopped n w best = (entryAt n w 1 ≡ far) ⊎ ((best < far) × ((v : ℕ) → v < n → goalAt n w v ≡ 1 → best < entryAt n w 1 + priceIn n w v))
 
 -- the numbers that price node v are there and keep the bounds of row 13
 pub record PriceReady (kinds capacities histories others : List ℕ) (factor v : ℕ) : Type 0 where
@@ -84,13 +91,12 @@ pub record Stands (b : Block) (w : List ℕ) : Type 0 where
   pub marks : List ℕ
   pub fair : Fair b price
   pub waiting : Waiting b price marks w
-  pub goals-open : GoalsOpen (nodes b) w
 
 -- what a whole run of settlings does
-pub record Ran (b : Block) (w w′ : List ℕ) : Type 0 where
+pub record Ran (b : Block) (w w′ : List ℕ) (best : ℕ) : Type 0 where
   pub waiting : (price : ℕ → ℕ) (marks : List ℕ) → Fair b price → Waiting b price marks w → Waiting b price marks w′
-  pub goals-open : GoalsOpen (nodes b) w′
-  pub stopped : Stopped (nodes b) w′
+  pub best-goal : BestGoal (nodes b) best w′
+  pub stopped : Stopped (nodes b) w′ best
   pub long : length w′ ≡ length w
   pub high : (j : ℕ) → 5 * nodes b ≤ j → getD w′ j 0 ≡ getD w j 0
 

@@ -31,7 +31,7 @@ pub record Prepared (n : ℕ) (price : ℕ → ℕ) (marks w w′ : List ℕ) : 
   pub no-goals : (v : ℕ) → v < n → goalAt n w′ v ≡ 0
   pub high : (j : ℕ) → 6 * n ≤ j → getD w′ j 0 ≡ getD w j 0
 
--- the search has stopped at a goal: some listed goal is `cost` far, each goal is a sink, and predecessors lead from goals that are so far to the tree by at most n nodes
+-- the search has stopped: some listed goal is `cost` far, and predecessors lead from goals that are so far to the tree by at most n nodes
 pub record Found (n : ℕ) (marks sinks w : List ℕ) (cost : ℕ) : Type 0 where
   pub few : n ≤ nodesMost
   pub sinks-few : length sinks ≤ sinksMost
@@ -41,7 +41,7 @@ pub record Found (n : ℕ) (marks sinks w : List ℕ) (cost : ℕ) : Type 0 wher
   pub goal : goalAt n w (getD sinks some-place 0) ≡ 1
   pub dist : distAt w (getD sinks some-place 0) ≡ cost
   pub leads : Leads n cost marks w
-  pub short : (s : ℕ) → s < n → distAt w s ≡ cost → length (pathIn n marks w s) ≤ n
+  pub short : (s : ℕ) → s < n → goalAt n w s ≡ 1 → distAt w s ≡ cost → length (pathIn n marks w s) ≤ n
 
 -- the first goal so far is named, its path stands at the beginning of the work slice, and the rest up to 8 n is 0
 pub record Read (n : ℕ) (marks sinks w : List ℕ) (cost : ℕ) (r : PathAnswer) (w′ : List ℕ) : Type 0 where

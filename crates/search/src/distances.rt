@@ -2,12 +2,12 @@
 ghost use mathlib.Core.List.{[], _++_};
 ghost use mathlib.Core.Path.{_≡_};
 ghost use Prim.Native.Nat.{ℕ, _+_, _-_, _*_, _^_, _≤_, _<_};
-ghost use lib.ListN.{length, getD, take, drop, replicate};
-ghost use Rattle.price.specs.Replies.{InBounds};
+ghost use lib.ListN.{length, take, drop, replicate};
 ghost use Rattle.search.specs.Block.{blockOf, graphOf, rowStart};
+ghost use Rattle.search.specs.Distance.{far};
 ghost use Rattle.search.specs.Turn.{congestionOf, priceAt};
 ghost use Rattle.search.specs.Layout.{distAt, priceIn, Heap, Shortened, Relaxed, TakenOut, Started, Priced};
-ghost use Rattle.search.specs.Frontier.{PriceReady, RowReady, RowDone, Stands, Ran};
+ghost use Rattle.search.specs.Frontier.{PriceReady, RowReady, RowDone, BestGoal, LastStep, Stands, Ran};
 use crate::queue;
 use price::PriceAnswer;
 
@@ -95,16 +95,21 @@ fn shorten(work: &mut [u64], n: usize, u: usize, v: usize, d: u64)
     queue::carry_up(work, n, (n + v) / 2);
 }
 
-// Looks at the edge from u to v.
-fn relax(work: &mut [u64], n: usize, u: usize, v: usize)
+// Looks at the edge from u to v. Answers the least distance of a goal so far; it was `best` before.
+fn relax(work: &mut [u64], n: usize, u: usize, v: usize, best: u64) -> u64
     requires { ⌜ (u < n) × (v < n) × (8 * n ≤ length (now work)) × Heap n (now work) ⌝ }
     requires { ⌜ distAt (now work) u + priceIn n (now work) v < 2 ^ 64 ⌝ }
-    ensures { λ _. ⌜ Relaxed n u v (now (work .entry)) (now (work .exit)) ⌝ }
+    ensures { λ r. ⌜ Relaxed n u v (now (work .entry)) (now (work .exit)) × (BestGoal n best (now (work .entry)) → BestGoal n r (now (work .exit))) ⌝ }
 {
     let d = work[u] + work[3 * n + v];
     let old = work[v];
     if d < old {
         shorten(work, n, u, v, d);
+        if work[5 * n + v] == 1 {
+            if d < best {
+                return d;
+            }
+        }
     } else {
         if d == old {
             if (u as u64) < work[4 * n + v] {
@@ -112,21 +117,31 @@ fn relax(work: &mut [u64], n: usize, u: usize, v: usize)
             }
         }
     }
+    best
 }
 
-// Looks at every edge of u.
-fn relax_row(kind: &[u8], first_edge: &[u32], edge_target: &[u16], work: &mut [u64], u: usize)
+// Looks at every edge of u. Answers the least distance of a goal so far; it was `least` before.
+fn relax_row(
+    kind: &[u8],
+    first_edge: &[u32],
+    edge_target: &[u16],
+    work: &mut [u64],
+    u: usize,
+    least: u64,
+) -> u64
     requires { ⌜ RowReady (graphOf (now kind) (now «first_edge») (now «edge_target»)) (now work) u ⌝ }
-    ensures { λ _. ⌜ RowDone (graphOf (now (kind .entry)) (now («first_edge» .entry)) (now («edge_target» .entry))) u (rowStart (graphOf (now (kind .entry)) (now («first_edge» .entry)) (now («edge_target» .entry))) (u + 1)) (now (work .entry)) (now (work .exit)) ⌝ }
+    ensures { λ r. ⌜ RowDone (graphOf (now (kind .entry)) (now («first_edge» .entry)) (now («edge_target» .entry))) u (rowStart (graphOf (now (kind .entry)) (now («first_edge» .entry)) (now («edge_target» .entry))) (u + 1)) (now (work .entry)) (now (work .exit)) × (BestGoal (length (now (kind .entry))) least (now (work .entry)) → BestGoal (length (now (kind .entry))) r (now (work .exit))) ⌝ }
 {
     let n = kind.len();
     let to = first_edge[u + 1] as usize;
     let mut e = first_edge[u] as usize;
+    let mut best = least;
     while e < to {
         let v = edge_target[e] as usize;
-        relax(work, n, u, v);
+        best = relax(work, n, u, v, best);
         e += 1;
     }
+    best
 }
 
 // Takes node u out of the queue.
@@ -138,21 +153,32 @@ fn settle(work: &mut [u64], n: usize, u: usize)
     queue::carry_up(work, n, (n + u) / 2);
 }
 
-// Settles the nearest open node again and again, until nothing waits or the nearest is a goal.
-pub fn settle_all(kind: &[u8], first_edge: &[u32], edge_target: &[u16], work: &mut [u64])
+// Settles the nearest open node again and again, until nothing waits or no open node leads to a goal as near as the nearest goal so far.
+// Answers the distance of that goal, FAR where none has a path. `last_step` is at most the price of every goal: over an open node
+// no goal is nearer than the nearest open node and `last_step` together.
+pub fn settle_all(
+    kind: &[u8],
+    first_edge: &[u32],
+    edge_target: &[u16],
+    work: &mut [u64],
+    last_step: u64,
+) -> u64
     requires { ⌜ Stands (graphOf (now kind) (now «first_edge») (now «edge_target»)) (now work) ⌝ }
-    ensures { λ _. ⌜ Ran (graphOf (now (kind .entry)) (now («first_edge» .entry)) (now («edge_target» .entry))) (now (work .entry)) (now (work .exit)) ⌝ }
+    requires { ⌜ BestGoal (length (now kind)) far (now work) × LastStep (length (now kind)) «last_step» (now work) ⌝ }
+    ensures { λ r. ⌜ Ran (graphOf (now (kind .entry)) (now («first_edge» .entry)) (now («edge_target» .entry))) (now (work .entry)) (now (work .exit)) r ⌝ }
 {
     let n = kind.len();
+    let mut best = FAR;
     loop {
-        if work[n + 1] == FAR {
-            return;
+        let d = work[n + 1];
+        if d == FAR {
+            return best;
         }
         let u = queue::nearest(work, n);
-        if work[5 * n + u] == 1 {
-            return;
+        if best < d + last_step {
+            return best;
         }
         settle(work, n, u);
-        relax_row(kind, first_edge, edge_target, work, u);
+        best = relax_row(kind, first_edge, edge_target, work, u, best);
     }
 }

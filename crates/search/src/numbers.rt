@@ -1,6 +1,12 @@
 // Tests of the lists that price a turn: row 13, and the refusals that search and cheapest path share.
+ghost use mathlib.Core.Bool.{not};
 ghost use mathlib.Core.Path.{_≡_};
 ghost use Prim.Native.Nat.{_≤_};
+ghost use lib.Dec.{leb, ltb};
+ghost use lib.ListN.{length, getD};
+ghost use Rattle.price.specs.Test.{both};
+ghost use Rattle.price.specs.Bounds.{othersMost, historyMost};
+ghost use Rattle.price.specs.Lists.{firstBelow};
 ghost use Rattle.search.specs.Turn.{congestionOf};
 ghost use Rattle.search.specs.Replies.{nodeSound, badNode, refusalOf, checkNumbers};
 
@@ -51,6 +57,69 @@ fn bad_node(n: usize, history: &[u32], others: &[u16], in_tree: &[u8]) -> usize
     v
 }
 
+// Each node's history is there and within its bounds. This loop and the next two go over one list each and never leave early: so they are
+// compiled to vector code.
+fn histories_sound(n: usize, history: &[u32]) -> bool
+    ensures { λ r. ⌜ r ≡ leb n (firstBelow (λ v. not (both (ltb v (length (now (history .entry)))) (both (leb 1 (getD (now (history .entry)) v 0)) (leb (getD (now (history .entry)) v 0) historyMost)))) n) ⌝ }
+{
+    if history.len() < n {
+        return false;
+    }
+    let mut fine = true;
+    let mut v = 0;
+    while v < n {
+        fine = if history[v] < 1 { false } else { fine };
+        fine = if 50590 < history[v] { false } else { fine };
+        v += 1;
+    }
+    fine
+}
+
+// Each node's others is there and within its bound.
+fn others_sound(n: usize, others: &[u16]) -> bool
+    ensures { λ r. ⌜ r ≡ leb n (firstBelow (λ v. not (both (ltb v (length (now (others .entry)))) (leb (getD (now (others .entry)) v 0) othersMost))) n) ⌝ }
+{
+    if others.len() < n {
+        return false;
+    }
+    let mut fine = true;
+    let mut v = 0;
+    while v < n {
+        fine = if 511 < others[v] { false } else { fine };
+        v += 1;
+    }
+    fine
+}
+
+// Each node's tree mark is there and 0 or 1.
+fn marks_sound(n: usize, in_tree: &[u8]) -> bool
+    ensures { λ r. ⌜ r ≡ leb n (firstBelow (λ v. not (both (ltb v (length (now («in_tree» .entry)))) (leb (getD (now («in_tree» .entry)) v 0) 1))) n) ⌝ }
+{
+    if in_tree.len() < n {
+        return false;
+    }
+    let mut fine = true;
+    let mut v = 0;
+    while v < n {
+        fine = if 1 < in_tree[v] { false } else { fine };
+        v += 1;
+    }
+    fine
+}
+
+// Each node's history, others and tree mark is there and within its bounds.
+fn lists_sound(n: usize, history: &[u32], others: &[u16], in_tree: &[u8]) -> bool
+    ensures { λ r. ⌜ r ≡ leb n (badNode n (congestionOf 0 (now (history .entry)) (now (others .entry))) (now («in_tree» .entry))) ⌝ }
+{
+    if !histories_sound(n, history) {
+        return false;
+    }
+    if !others_sound(n, others) {
+        return false;
+    }
+    marks_sound(n, in_tree)
+}
+
 // The first refusal that is due, for the lowest faulty table or 0.
 pub fn first_refusal(
     table: u32,
@@ -70,8 +139,8 @@ pub fn first_refusal(
     if entries < 8 * n {
         return Check::ShortWork((8 * n) as u64);
     }
-    let bad = bad_node(n, history, others, in_tree);
-    if bad < n {
+    if !lists_sound(n, history, others, in_tree) {
+        let bad = bad_node(n, history, others, in_tree);
         return Check::BadNumber(bad as u32);
     }
     if 65535 < factor {

@@ -2,7 +2,7 @@
 ghost use mathlib.Core.Path.{_≡_};
 ghost use Prim.Native.Nat.{ℕ, _*_, _≤_, _<_};
 ghost use lib.ListN.{length, getD, take};
-ghost use Rattle.search.specs.Layout.{distAt, SameBut, Marked, FirstAt, Leads, pathIn};
+ghost use Rattle.search.specs.Layout.{distAt, SameBut, Marked, Cheapest, FirstAt, Leads, pathIn};
 
 // Marks the sinks that are still to be joined as goals.
 pub fn mark_goals(sinks: &[u16], in_tree: &[u8], work: &mut [u64], n: usize)
@@ -18,6 +18,27 @@ pub fn mark_goals(sinks: &[u16], in_tree: &[u8], work: &mut [u64], n: usize)
         }
         i += 1;
     }
+}
+
+// At most the price of every goal. The first value is above every price.
+pub fn least_price(sinks: &[u16], work: &[u64], n: usize) -> u64
+    requires { ⌜ ((i : ℕ) → i < length (now sinks) → getD (now sinks) i 0 < n) ⌝ }
+    requires { ⌜ 8 * n ≤ length (now work) ⌝ }
+    ensures { λ r. ⌜ Cheapest n (now (sinks .entry)) (now (work .entry)) (length (now (sinks .entry))) r ⌝ }
+{
+    let mut least: u64 = 1000000000000000000;
+    let mut i = 0;
+    while i < sinks.len() {
+        let s = sinks[i] as usize;
+        if work[5 * n + s] == 1 {
+            let p = work[3 * n + s];
+            if p < least {
+                least = p;
+            }
+        }
+        i += 1;
+    }
+    least
 }
 
 // The first listed goal at this distance.

@@ -52,11 +52,8 @@ pub fn nearest(work: &[u64], n: usize) -> usize
 {
     let mut i = 1;
     while i < n {
-        if work[n + 2 * i] == work[n + i] {
-            i = 2 * i;
-        } else {
-            i = 2 * i + 1;
-        }
+        let right = if work[n + 2 * i] == work[n + i] { 0 } else { 1 };
+        i = 2 * i + right;
     }
     i - n
 }

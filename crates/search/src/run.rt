@@ -55,7 +55,7 @@ pub fn distances_from_tree(
     let n = kind.len();
     prepare(kind, capacity, history, others, factor, in_tree, work);
     queue::build(work, n);
-    distances::settle_all(kind, first_edge, edge_target, work);
+    distances::settle_all(kind, first_edge, edge_target, work, 0);
     distances::clear(work, n, 8 * n);
 }
 
@@ -99,8 +99,8 @@ pub fn join(
     prepare(kind, capacity, history, others, factor, in_tree, work);
     path::mark_goals(sinks, in_tree, work, n);
     queue::build(work, n);
-    distances::settle_all(kind, first_edge, edge_target, work);
-    let cost = work[n + 1];
+    let last_step = path::least_price(sinks, work, n);
+    let cost = distances::settle_all(kind, first_edge, edge_target, work, last_step);
     if cost == 18446744073709551615 {
         distances::clear(work, 0, 8 * n);
         return PathAnswer::Stuck;

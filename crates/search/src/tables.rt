@@ -1,4 +1,5 @@
 // Tests of tables 1 to 4 and of a list of sinks.
+// A loop over a table's entries goes to their end and keeps `fine`: without an early exit it becomes vector code.
 ghost use mathlib.Core.Path.{_≡_};
 ghost use mathlib.Core.Bool.{true};
 ghost use Prim.Native.Nat.{_≤_};
@@ -19,14 +20,13 @@ fn kinds_sound(kind: &[u8]) -> bool
     if 4096 < kind.len() {
         return false;
     }
+    let mut fine = true;
     let mut v = 0;
     while v < kind.len() {
-        if 15 < kind[v] {
-            return false;
-        }
+        fine = if 15 < kind[v] { false } else { fine };
         v += 1;
     }
-    true
+    fine
 }
 
 fn capacities_sound(n: usize, capacity: &[u8]) -> bool
@@ -35,28 +35,30 @@ fn capacities_sound(n: usize, capacity: &[u8]) -> bool
     if capacity.len() != n {
         return false;
     }
+    let mut fine = true;
     let mut v = 0;
     while v < capacity.len() {
-        if capacity[v] < 1 {
-            return false;
-        }
+        fine = if capacity[v] < 1 { false } else { fine };
         v += 1;
     }
-    true
+    fine
 }
 
 // Table 3 never falls.
 fn never_falls(first_edge: &[u32]) -> bool
     ensures { λ r. ⌜ r ≡ neighbours leb (now («first_edge» .entry)) ⌝ }
 {
+    let mut fine = true;
     let mut v = 1;
     while v < first_edge.len() {
-        if first_edge[v] < first_edge[v - 1] {
-            return false;
-        }
+        fine = if first_edge[v] < first_edge[v - 1] {
+            false
+        } else {
+            fine
+        };
         v += 1;
     }
-    true
+    fine
 }
 
 fn first_edges_sound(n: usize, edges: usize, first_edge: &[u32]) -> bool
@@ -80,23 +82,22 @@ fn row_sound(n: usize, edge_target: &[u16], from: usize, to: usize, u: usize) ->
     requires { ⌜ to ≤ length (now «edge_target») ⌝ }
     ensures { λ r. ⌜ r ≡ rowSound n u (slice from to (now («edge_target» .entry))) ⌝ }
 {
+    let mut fine = true;
+    // The least target that may come next.
+    let mut low = 0;
     let mut e = from;
     while e < to {
         let v = edge_target[e] as usize;
-        if n <= v {
-            return false;
-        }
-        if v == u {
-            return false;
-        }
-        if from < e {
-            if edge_target[e] <= edge_target[e - 1] {
-                return false;
-            }
-        }
+        fine = if v < low { false } else { fine };
+        fine = if v == u { false } else { fine };
+        low = v + 1;
         e += 1;
     }
-    true
+    // They rise, so only the last has to be below n.
+    if n < low {
+        return false;
+    }
+    fine
 }
 
 // Table 4, once table 3 keeps its rule.

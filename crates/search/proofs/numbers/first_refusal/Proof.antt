@@ -1,9 +1,11 @@
 -- `numbers::first_refusal` meets its contract: each return by the law of the first refusal that is due.
 -- Assumes nothing.
-use mathlib.Core.Path.{sym}
+use mathlib.Core.Path.{refl, sym}
 use native.Mathlib.Omega.{arith}
 use borrow.Author.Needs.{needs}
-use Rattle.search.proofs.TableLaws.{refusal-table, refusal-work, refusal-node, refusal-factor, refusal-none}
+use borrow.Author.Tests.{leb-true}
+use Rattle.search.proofs.TableLaws.{passed, refusal-table, refusal-work, refusal-node, refusal-factor, refusal-none}
+use Rattle.search.proofs.ReadyLaws.{leb-fell}
 use Rattle.search.proofs.numbers.first_refusal.Statement.{statement}
 use Rattle.search.proofs.numbers.first_refusal.Tie as tie
 
@@ -19,23 +21,28 @@ mul-t11 c = omega (arith, c .before .before .before .before .before .pre (omega 
 returns-2 : tie.Need-returns-2
 returns-2 c = sym (refusal-work _ _ _ _ _ _ _ (search needs) (search needs))
 
+lists-sound-requires : tie.Need-lists-sound-requires
+lists-sound-requires c κs = search needs
+
 bad-node-requires : tie.Need-bad-node-requires
 bad-node-requires c κs = search needs
 
-cast-t13 : tie.Need-cast-t13
-cast-t13 c = omega (arith, c .before .before .before .before .before .before .before .pre (omega arith))
+cast-t14 : tie.Need-cast-t14
+cast-t14 c =
+    omega (arith, leb-fell {m = c .before .before .before .before .before .before .before .before .args .n} (c .before .before .lists-sound .ensures) (c .before .if3 .taken) (c .bad-node .ensures), c .before .before .before .before .before .before .before .before .pre (omega arith))
 
 returns-3 : tie.Need-returns-3
-returns-3 c = sym (refusal-node _ _ _ _ _ _ _ (search needs) (search needs) (c .before .bad-node .result) (c .before .bad-node .ensures) (search needs))
+returns-3 c =
+    sym (refusal-node _ _ _ _ _ _ _ (search needs) (search needs) _ (c .bad-node .ensures) (leb-fell (c .before .before .lists-sound .ensures) (c .before .if3 .taken) (c .bad-node .ensures)))
 
-cast-t14 : tie.Need-cast-t14
-cast-t14 c = omega (arith, c .before .before .before .before .before .before .before .before .pre (omega arith))
+cast-t15 : tie.Need-cast-t15
+cast-t15 c = omega (arith, c .before .before .before .before .before .before .before .before .pre (omega arith))
 
 returns-4 : tie.Need-returns-4
-returns-4 c = sym (refusal-factor _ _ _ _ _ _ _ (search needs) (search needs) (c .before .before .bad-node .result) (c .before .before .bad-node .ensures) (search needs) (search needs))
+returns-4 c = sym (refusal-factor _ _ _ _ _ _ _ (search needs) (search needs) _ refl (leb-true _ _ (passed (c .before .before .lists-sound .ensures) (c .before .if3 .left))) (search needs))
 
 returns-5 : tie.Need-returns-5
-returns-5 c = sym (refusal-none _ _ _ _ _ _ _ (search needs) (search needs) (c .before .before .bad-node .result) (c .before .before .bad-node .ensures) (search needs) (search needs))
+returns-5 c = sym (refusal-none _ _ _ _ _ _ _ (search needs) (search needs) _ refl (leb-true _ _ (passed (c .before .before .lists-sound .ensures) (c .before .if3 .left))) (search needs))
 
 pub first-refusal-spec : {M : Type 1} → statement M
 first-refusal-spec =
@@ -45,9 +52,10 @@ first-refusal-spec =
     mul-if2
     mul-t11
     returns-2
+    lists-sound-requires
     bad-node-requires
-    cast-t13
-    returns-3
     cast-t14
+    returns-3
+    cast-t15
     returns-4
     returns-5)

@@ -1,5 +1,6 @@
 -- `search::queue::nearest` meets its contract. The loop's invariant: entry i is the least of all.
 -- The measure is how far i is from the end of the queue. Assumes nothing.
+use mathlib.Core.Logic.{⊎-elim}
 use mathlib.Core.Path.{refl}
 use Prim.Native.Nat.{_*_, _-_}
 use borrow.Author.Needs.{needs}
@@ -41,23 +42,18 @@ shared-slice-read-if1-2 c = search needs
 mul-i : tie.Need-mul-i Inv-loop μ-loop
 mul-i c = search needs
 
-loop-less : tie.Need-loop-less Inv-loop μ-loop
-loop-less c = search needs
-
 loop-again : tie.Need-loop-again Inv-loop μ-loop
-loop-again c = down-left _ _ _ (c .before .before .before .loop-test .taken) (c .if1 .taken) (c .before .before .before .before .loop .inv)
-
-mul-i-2 : tie.Need-mul-i-2 Inv-loop μ-loop
-mul-i-2 c = search needs
+loop-again c =
+    ⊎-elim
+    (λ w. down-left _ _ _ (c .before .before .before .before .loop-test .taken) (w .0 .taken) (w .1) (c .before .before .before .before .before .loop .inv))
+    (λ w. down-right _ _ _ (c .before .before .before .before .before .before .pre .2) (c .before .before .before .before .loop-test .taken) (w .0 .left) (w .1) (c .before .before .before .before .before .loop .inv))
+    (c .before .if1 .came)
 
 add-i : tie.Need-add-i Inv-loop μ-loop
-add-i c = search needs
+add-i c = omega (arith, loop-again c .below)
 
-loop-less-2 : tie.Need-loop-less-2 Inv-loop μ-loop
-loop-less-2 c = search needs
-
-loop-again-2 : tie.Need-loop-again-2 Inv-loop μ-loop
-loop-again-2 c = down-right _ _ _ (c .before .before .before .before .before .pre .2) (c .before .before .before .loop-test .taken) (c .if1 .left) (c .before .before .before .before .loop .inv)
+loop-less : tie.Need-loop-less Inv-loop μ-loop
+loop-less c = omega (arith, loop-again c .below, c .before .before .before .before .before .loop .inv .pos)
 
 returns : tie.Need-returns Inv-loop μ-loop
 returns c = (search needs, down-leaf _ _ _ (c .loop-test .left) (c .before .loop .inv))
@@ -77,10 +73,7 @@ nearest-spec =
     mul-if1-3
     shared-slice-read-if1-2
     mul-i
+    add-i
     loop-less
     loop-again
-    mul-i-2
-    add-i
-    loop-less-2
-    loop-again-2
     returns)

@@ -1,7 +1,9 @@
 -- `search::run::distances_from_tree` meets its contract: without goals the search runs until nothing waits, and so every distance is final.
 -- Assumes nothing.
 use borrow.Author.Needs.{needs}
-use Rattle.search.proofs.SearchLaws.{built-stands, search-leaves}
+use native.Mathlib.Omega.{arith}
+use Rattle.search.proofs.BlockLaws.{kinds-few}
+use Rattle.search.proofs.SearchLaws.{built-stands, built-goals, search-leaves}
 use Rattle.search.proofs.run.distances_from_tree.Statement.{statement}
 use Rattle.search.proofs.run.distances_from_tree.Tie as tie
 
@@ -16,10 +18,10 @@ settle-all-requires c κs =
     let built = c .before .before .before in
     let ready = built .before .before .before .before in
     let start = ready .before .before .before .before .before .before .before .before .before .before in
-    built-stands _ _ _ _ _ _ _ _ _ (start .pre .1 .0) (start .pre .0) (start .pre .1 .1) (ready .prepare .ensures) (built .build .ensures .0) (built .build .ensures .1)
+    (built-stands _ _ _ _ _ _ _ _ _ (start .pre .1 .0) (start .pre .0) (start .pre .1 .1) (ready .prepare .ensures) (built .build .ensures .0) (built .build .ensures .1), built-goals _ _ _ _ _ _ _ _ _ (start .pre .1 .0) (start .pre .0) (start .pre .1 .1) (ready .prepare .ensures) (built .build .ensures .0) (built .build .ensures .1))
 
 mul-clear : tie.Need-mul-clear
-mul-clear c = search needs
+mul-clear c = omega (arith, kinds-few _ (c .before .before .before .before .before .before .before .before .before .before .before .before .before .before .before .before .before .before .before .before .before .pre .0 .kinds-sound))
 
 clear-requires : tie.Need-clear-requires
 clear-requires c κs = search needs
@@ -34,7 +36,7 @@ returns c =
     let built = ran .before .before .before .before in
     let ready = built .before .before .before .before in
     let start = ready .before .before .before .before .before .before .before .before .before .before in
-    search-leaves _ _ _ _ _ _ _ _ _ (start .pre .1 .0) (start .pre .0) (start .pre .1 .1) (ready .prepare .ensures) (built .build .ensures .0) (built .build .ensures .1) _ _ (ran .settle-all .ensures) (ended .clear .ensures)
+    search-leaves _ _ _ _ _ _ _ _ _ (start .pre .1 .0) (start .pre .0) (start .pre .1 .1) (ready .prepare .ensures) (built .build .ensures .0) (built .build .ensures .1) _ _ _ (ran .settle-all .ensures) (ended .clear .ensures)
 
 pub distances-from-tree-spec : {M : Type 1} → statement M
 distances-from-tree-spec =

@@ -1,23 +1,23 @@
--- `search::run::join` meets its contract: once the search has stopped, the queue's least entry is the least distance of a sink that is still to be joined, or there is none.
+-- `search::run::join` meets its contract: once the search has stopped, what it answers is the least distance of a sink that is still to be joined, or there is none.
 -- Assumes nothing.
 use mathlib.Core.List.{[]}
 use borrow.Author.Needs.{needs}
 use native.Mathlib.Omega.{arith}
 use Rattle.search.specs.Turn.{congestionOf}
 use Rattle.search.proofs.ReadyLaws.{ready-marks}
-use Rattle.search.proofs.JoinLaws.{Joining, sinks-nodes, join-stands, join-halts, halted-found, join-stuck, join-joins}
+use Rattle.search.proofs.JoinLaws.{Joining, sinks-nodes, join-stands, join-goals, join-halts, halted-found, join-stuck, join-joins}
 use Rattle.search.proofs.run.join.Statement.{statement}
 use Rattle.search.proofs.run.join.Tie as tie
 
 -- the function's start, from where the search has stopped
 abbrev start : tie.After-settle-all → tie.Start
-start c = c .before .before .before .before .before .before .before .before .before .before .before .before .before .before .before .before .before .before .before .before .before .before .before
+start c = c .before .before .before .before .before .before .before .before .before .before .before .before .before .before .before .before .before .before .before .before .before .before .before .before .before
 
-stopped : (c : tie.After-settle-all) → Joining (start c .args .kind .now) (start c .args .capacity .now) (start c .args .first-edge .now) (start c .args .edge-target .now) (congestionOf (start c .args .factor) (start c .args .history .now) (start c .args .others .now)) (start c .args .in-tree .now) (start c .args .sinks .now) (start c .args .work .now) (c .settle-all .last .1 .1 .1 .0)
+stopped : (c : tie.After-settle-all) → Joining (start c .args .kind .now) (start c .args .capacity .now) (start c .args .first-edge .now) (start c .args .edge-target .now) (congestionOf (start c .args .factor) (start c .args .history .now) (start c .args .others .now)) (start c .args .in-tree .now) (start c .args .sinks .now) (start c .args .work .now) (c .settle-all .last .1 .1 .1 .0) (c .settle-all .result)
 stopped c =
     let pre = start c .pre in
-    let built = c .before .before .before .before .build .ensures in
-    join-halts _ _ _ _ _ (pre .0) (pre .1 .0) (pre .1 .1 .0) (c .before .before .before .before .before .before .before .before .before .before .before .before .prepare .ensures) (c .before .before .before .before .before .before .before .before .mark-goals .ensures) (built .0) (built .1) (pre .1 .1 .1) (c .settle-all .ensures)
+    let built = c .before .before .before .before .before .before .build .ensures in
+    join-halts _ _ _ _ _ (pre .0) (pre .1 .0) (pre .1 .1 .0) (c .before .before .before .before .before .before .before .before .before .before .before .before .before .before .prepare .ensures) (c .before .before .before .before .before .before .before .before .before .before .mark-goals .ensures) (built .0) (built .1) (pre .1 .1 .1) (c .settle-all .ensures)
 
 prepare-requires : tie.Need-prepare-requires
 prepare-requires c κs = search needs
@@ -31,45 +31,42 @@ mark-goals-requires c κs =
 build-requires : tie.Need-build-requires
 build-requires c κs = search needs
 
+least-price-requires : tie.Need-least-price-requires
+least-price-requires c κs =
+    let pre = c .before .before .before .before .before .before .before .before .before .before .before .before .before .before .before .before .before .before .before .before .before .before .pre in
+    let same = c .before .before .before .before .before .before .before .before .before .before .before .prepare .ensures .long in
+    let marked = c .before .before .before .before .before .before .before .mark-goals .ensures .same .long in
+    let built = c .before .before .before .build .ensures .1 .long in
+    (sinks-nodes _ _ (pre .1 .1 .1), omega arith)
+
 settle-all-requires : tie.Need-settle-all-requires
 settle-all-requires c κs =
-    let pre = c .before .before .before .before .before .before .before .before .before .before .before .before .before .before .before .before .before .before .before .before .before .before .pre in
-    let built = c .before .before .before .build .ensures in
-    join-stands _ _ _ _ _ (pre .0) (pre .1 .0) (pre .1 .1 .0) (c .before .before .before .before .before .before .before .before .before .before .before .prepare .ensures) (c .before .before .before .before .before .before .before .mark-goals .ensures) (built .0) (built .1)
-
-add-cost : tie.Need-add-cost
-add-cost c = search needs
-
-mul-cost : tie.Need-mul-cost
-mul-cost c =
-    let s = stopped (c .before .before) in
-    omega (arith, s .sound .some, s .waiting .long, s .sound .few)
-
-slice-read-cost : tie.Need-slice-read-cost
-slice-read-cost c =
-    let s = stopped (c .before .before .before) in
-    omega (arith, s .sound .some, s .waiting .long)
+    let pre = c .before .before .before .before .before .before .before .before .before .before .before .before .before .before .before .before .before .before .before .before .before .before .before .before .pre in
+    let prepared = c .before .before .before .before .before .before .before .before .before .before .before .before .before .prepare .ensures in
+    let marked = c .before .before .before .before .before .before .before .before .before .mark-goals .ensures in
+    let built = c .before .before .before .before .before .build .ensures in
+    (join-stands _ _ _ _ _ (pre .0) (pre .1 .0) (pre .1 .1 .0) prepared marked (built .0) (built .1), join-goals _ _ _ _ _ (pre .0) (pre .1 .0) (pre .1 .1 .0) prepared marked (built .0) (built .1) (c .before .least-price .ensures))
 
 mul-clear : tie.Need-mul-clear
-mul-clear c = omega (arith, stopped (c .before .before .before .before .before) .sound .few)
+mul-clear c = omega (arith, stopped (c .before .before .before .before) .sound .few)
 
 clear-requires : tie.Need-clear-requires
-clear-requires c κs = (omega arith, stopped (c .before .before .before .before .before) .waiting .long)
+clear-requires c κs = (omega arith, stopped (c .before .before .before .before) .waiting .long)
 
 same-length : tie.Need-same-length
 same-length c = search needs
 
 returns : tie.Need-returns
-returns c = join-stuck _ _ _ _ _ _ _ _ _ (stopped (c .before .before .before .before .before .before .before .before)) (c .before .before .before .before .if1 .taken) (c .before .before .clear .ensures)
+returns c = join-stuck _ _ _ _ _ _ _ _ _ _ (stopped (c .before .before .before .before .before .before .before)) (c .before .before .before .before .if1 .taken) (c .before .before .clear .ensures)
 
 read-path-requires : tie.Need-read-path-requires
-read-path-requires c κs = halted-found (stopped (c .before .before .before .before .before)) (c .before .if1 .left)
+read-path-requires c κs = halted-found (stopped (c .before .before .before .before)) (c .before .if1 .left)
 
 same-length-2 : tie.Need-same-length-2
 same-length-2 c = search needs
 
 returns-2 : tie.Need-returns-2
-returns-2 c = join-joins _ _ _ _ _ _ _ _ _ (stopped (c .before .before .before .before .before .before .before .before)) (c .before .before .before .before .if1 .left) (c .before .before .read-path .ensures)
+returns-2 c = join-joins _ _ _ _ _ _ _ _ _ _ (stopped (c .before .before .before .before .before .before .before)) (c .before .before .before .before .if1 .left) (c .before .before .read-path .ensures)
 
 pub join-spec : {M : Type 1} → statement M
 join-spec =
@@ -78,10 +75,8 @@ join-spec =
     prepare-requires
     mark-goals-requires
     build-requires
+    least-price-requires
     settle-all-requires
-    add-cost
-    mul-cost
-    slice-read-cost
     mul-clear
     clear-requires
     same-length

@@ -1,32 +1,30 @@
--- `tables::capacities_sound` meets its contract. The loop's invariant: every capacity passed is sound.
+-- `tables::capacities_sound` meets its contract. The loop's invariant: `fine` and the test of the capacities that are left make the test of them all.
 -- Assumes nothing.
-use mathlib.Core.Path.{sym}
-use Prim.Native.Nat.{ℕ, _-_, _<_}
+use mathlib.Core.Path.{sym, _∙_}
+use mathlib.Core.Logic.{⊎-elim}
+use Prim.Native.Nat.{_-_}
 use native.Mathlib.Omega.{arith}
-use lib.ListN.{length, getD}
+use lib.ListN.{length, drop}
 use borrow.Author.Needs.{needs}
-use borrow.Author.Count.{below-none, below-more}
-use Rattle.search.proofs.TableLaws.{Capacity, capacities-length, capacities-bad, capacities-all}
+use Rattle.price.specs.Lists.{every}
+use Rattle.search.proofs.TableLaws.{Kept, kept-none, kept-all, fails, stays, every-next, every-end, capacitySound, capacity-low, capacity-byte, capacities-length, capacities-each}
 use Rattle.search.proofs.tables.capacities_sound.Statement.{statement}
 use Rattle.search.proofs.tables.capacities_sound.Tie as tie
 
 abbrev Inv-loop : tie.InvT-loop
-Inv-loop n capacity v₀ v = (k : ℕ) → k < v → Capacity (getD capacity k 0)
+Inv-loop n capacity fine₀ v₀ fine v = Kept (every capacitySound capacity) fine (every capacitySound (drop v capacity))
 
 abbrev μ-loop : tie.MeasureT-loop
-μ-loop n capacity v₀ v = length capacity - v
+μ-loop n capacity fine₀ v₀ fine v = length capacity - v
 
 returns : tie.Need-returns Inv-loop μ-loop
 returns c = sym (capacities-length _ _ (search needs))
 
 loop-holds : tie.Need-loop-holds Inv-loop μ-loop
-loop-holds c = below-none _
+loop-holds c = kept-none
 
 shared-slice-read-if2 : tie.Need-shared-slice-read-if2 Inv-loop μ-loop
 shared-slice-read-if2 c = search needs
-
-returns-2 : tie.Need-returns-2 Inv-loop μ-loop
-returns-2 c = sym (capacities-bad _ _ (c .before .before .before .loop .v) (search needs) (search needs))
 
 add-v : tie.Need-add-v Inv-loop μ-loop
 add-v c = search needs
@@ -36,11 +34,17 @@ loop-less c = search needs
 
 loop-again : tie.Need-loop-again Inv-loop μ-loop
 loop-again c =
-    below-more _ _ (c .before .before .before .loop .inv)
-    (record { some = search needs; byte = omega (arith, c .before .shared-slice-known .given (c .before .before .before .loop .v)) })
+    let at = c .before .before .before .loop in
+    let next = every-next capacitySound (c .before .before .before .before .before .args .capacity .now) (at .v) (search needs) in
+    ⊎-elim
+    (λ w. fails _ (at .inv) next (capacity-low _ (w .0 .taken)) (w .1))
+    (λ w. stays _ (at .inv) next (capacity-byte _ (w .0 .left) (omega (arith, c .before .shared-slice-known .given (at .v)))) (w .1))
+    (c .if2 .came)
 
-returns-3 : tie.Need-returns-3 Inv-loop μ-loop
-returns-3 c = sym (capacities-all _ _ _ (search needs) (search needs) (c .before .loop .inv))
+returns-2 : tie.Need-returns-2 Inv-loop μ-loop
+returns-2 c =
+    kept-all (c .before .loop .inv) (every-end capacitySound _ (c .before .loop .v) (search needs))
+    ∙ sym (capacities-each _ _ (search needs))
 
 pub capacities-sound-spec : {M : Type 1} → statement M
 capacities-sound-spec =
@@ -51,8 +55,7 @@ capacities-sound-spec =
     returns
     loop-holds
     shared-slice-read-if2
-    returns-2
     add-v
     loop-less
     loop-again
-    returns-3)
+    returns-2)

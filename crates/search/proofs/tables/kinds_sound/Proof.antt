@@ -1,20 +1,22 @@
--- `tables::kinds_sound` meets its contract. The loop's invariant: every kind passed is at most 15.
+-- `tables::kinds_sound` meets its contract. The loop's invariant: `fine` and the test of the kinds that are left make the test of them all.
 -- Assumes nothing.
-use mathlib.Core.Path.{sym}
-use Prim.Native.Nat.{ℕ, _-_, _<_, _≤_}
-use lib.ListN.{length, getD}
+use mathlib.Core.Path.{sym, _∙_}
+use mathlib.Core.Logic.{⊎-elim}
+use Prim.Native.Nat.{_-_}
+use lib.ListN.{length, getD, drop}
 use borrow.Author.Needs.{needs}
-use borrow.Author.Count.{below-none, below-more}
+use borrow.Author.Tests.{le-leb, lt-leb}
 use Rattle.price.specs.Bounds.{kindMost}
-use Rattle.search.proofs.TableLaws.{kinds-none, kinds-many, kinds-bad, kinds-all}
+use Rattle.price.specs.Lists.{every}
+use Rattle.search.proofs.TableLaws.{Kept, kept-none, kept-all, fails, stays, every-next, every-end, kindSound, kinds-none, kinds-many, kinds-each}
 use Rattle.search.proofs.tables.kinds_sound.Statement.{statement}
 use Rattle.search.proofs.tables.kinds_sound.Tie as tie
 
 abbrev Inv-loop : tie.InvT-loop
-Inv-loop kind v₀ v = (k : ℕ) → k < v → getD kind k 0 ≤ kindMost
+Inv-loop kind fine₀ v₀ fine v = Kept (every kindSound kind) fine (every kindSound (drop v kind))
 
 abbrev μ-loop : tie.MeasureT-loop
-μ-loop kind v₀ v = length kind - v
+μ-loop kind fine₀ v₀ fine v = length kind - v
 
 returns : tie.Need-returns Inv-loop μ-loop
 returns c = sym (kinds-none _ (search needs))
@@ -23,13 +25,10 @@ returns-2 : tie.Need-returns-2 Inv-loop μ-loop
 returns-2 c = sym (kinds-many _ (search needs))
 
 loop-holds : tie.Need-loop-holds Inv-loop μ-loop
-loop-holds c = below-none _
+loop-holds c = kept-none
 
 shared-slice-read-if3 : tie.Need-shared-slice-read-if3 Inv-loop μ-loop
 shared-slice-read-if3 c = search needs
-
-returns-3 : tie.Need-returns-3 Inv-loop μ-loop
-returns-3 c = sym (kinds-bad _ (c .before .before .before .loop .v) (search needs) (search needs))
 
 add-v : tie.Need-add-v Inv-loop μ-loop
 add-v c = search needs
@@ -38,10 +37,20 @@ loop-less : tie.Need-loop-less Inv-loop μ-loop
 loop-less c = search needs
 
 loop-again : tie.Need-loop-again Inv-loop μ-loop
-loop-again c = below-more _ _ (c .before .before .before .loop .inv) (search needs)
+loop-again c =
+    let at = c .before .before .before .loop in
+    let kind = c .before .before .before .before .before .before .args .kind .now in
+    let k = getD kind (at .v) 0 in
+    let next = every-next kindSound kind (at .v) (search needs) in
+    ⊎-elim
+    (λ w. fails (kindSound k) (at .inv) next (lt-leb k kindMost (search needs)) (w .1))
+    (λ w. stays (kindSound k) (at .inv) next (le-leb k kindMost (search needs)) (w .1))
+    (c .if3 .came)
 
-returns-4 : tie.Need-returns-4 Inv-loop μ-loop
-returns-4 c = sym (kinds-all _ _ (search needs) (search needs) (search needs) (c .before .loop .inv))
+returns-3 : tie.Need-returns-3 Inv-loop μ-loop
+returns-3 c =
+    kept-all (c .before .loop .inv) (every-end kindSound _ (c .before .loop .v) (search needs))
+    ∙ sym (kinds-each _ (search needs) (search needs))
 
 pub kinds-sound-spec : {M : Type 1} → statement M
 kinds-sound-spec =
@@ -53,8 +62,7 @@ kinds-sound-spec =
     returns-2
     loop-holds
     shared-slice-read-if3
-    returns-3
     add-v
     loop-less
     loop-again
-    returns-4)
+    returns-3)

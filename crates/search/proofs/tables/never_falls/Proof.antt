@@ -1,23 +1,24 @@
--- `tables::never_falls` meets its contract. The loop's invariant: no entry passed is below the one before it.
+-- `tables::never_falls` meets its contract. The loop's invariant: `fine` and the test of what is left, from the entry before place v on, make the test of the whole table.
 -- Assumes nothing.
-use mathlib.Core.Path.{sym}
-use Prim.Native.Nat.{ℕ, _-_, _<_, _≤_}
-use native.Mathlib.Omega.{arith}
-use lib.ListN.{length, getD}
+use mathlib.Core.Logic.{⊎-elim}
+use Prim.Native.Nat.{_-_, _≤_}
+use lib.Dec.{leb}
+use lib.ListN.{length, drop}
 use borrow.Author.Needs.{needs}
-use borrow.Author.Count.{below-more}
-use Rattle.search.proofs.TableLaws.{falls-at, never-falls}
+use borrow.Author.Tests.{le-leb, lt-leb}
+use Rattle.price.specs.Lists.{neighbours}
+use Rattle.search.proofs.TableLaws.{Kept, kept-none, kept-all, fails, stays, falls-next, falls-end}
 use Rattle.search.proofs.tables.never_falls.Statement.{statement}
 use Rattle.search.proofs.tables.never_falls.Tie as tie
 
 abbrev Inv-loop : tie.InvT-loop
-Inv-loop first-edge v₀ v = (1 ≤ v) × ((k : ℕ) → k < v → 1 ≤ k → getD first-edge (k - 1) 0 ≤ getD first-edge k 0)
+Inv-loop first-edge fine₀ v₀ fine v = (1 ≤ v) × Kept (neighbours leb first-edge) fine (neighbours leb (drop (v - 1) first-edge))
 
 abbrev μ-loop : tie.MeasureT-loop
-μ-loop first-edge v₀ v = length first-edge - v
+μ-loop first-edge fine₀ v₀ fine v = length first-edge - v
 
 loop-holds : tie.Need-loop-holds Inv-loop μ-loop
-loop-holds c = (search needs, λ k l h. absurd (omega arith))
+loop-holds c = (search needs, kept-none)
 
 mul-if1 : tie.Need-mul-if1 Inv-loop μ-loop
 mul-if1 c = search needs
@@ -34,9 +35,6 @@ mul-if1-2 c = search needs
 shared-slice-read-if1-2 : tie.Need-shared-slice-read-if1-2 Inv-loop μ-loop
 shared-slice-read-if1-2 c = search needs
 
-returns : tie.Need-returns Inv-loop μ-loop
-returns c = sym (falls-at _ (c .before .before .before .before .loop .v) (search needs) (search needs) (search needs))
-
 add-v : tie.Need-add-v Inv-loop μ-loop
 add-v c = search needs
 
@@ -44,10 +42,18 @@ loop-less : tie.Need-loop-less Inv-loop μ-loop
 loop-less c = search needs
 
 loop-again : tie.Need-loop-again Inv-loop μ-loop
-loop-again c = (search needs, below-more _ _ (c .before .before .before .before .loop .inv .1) (λ h. search needs))
+loop-again c =
+    let at = c .before .before .before .before .loop in
+    let next = falls-next (c .before .before .before .before .before .args .first-edge .now) (at .v) (search needs) (search needs) in (
+      search needs,
+      ⊎-elim
+          (λ w. fails _ (at .inv .1) next (lt-leb _ _ (w .0 .taken)) (w .1))
+          (λ w. stays _ (at .inv .1) next (le-leb _ _ (w .0 .left)) (w .1))
+          (c .if1 .came),
+    )
 
-returns-2 : tie.Need-returns-2 Inv-loop μ-loop
-returns-2 c = sym (never-falls _ _ (search needs) (c .before .loop .inv .1))
+returns : tie.Need-returns Inv-loop μ-loop
+returns c = kept-all (c .before .loop .inv .1) (falls-end _ (c .before .loop .v) (search needs))
 
 pub never-falls-spec : {M : Type 1} → statement M
 never-falls-spec =
@@ -61,8 +67,7 @@ never-falls-spec =
     sub-if1
     mul-if1-2
     shared-slice-read-if1-2
-    returns
     add-v
     loop-less
     loop-again
-    returns-2)
+    returns)

@@ -1,23 +1,27 @@
--- `tables::row_sound` meets its contract. The loop's invariant: every entry of the row that was passed is a node but u, and above the one before it.
+-- `tables::row_sound` meets its contract. The loop's invariant: `fine` and the test of the targets that are left, from `low` on, make the test of the row.
 -- Assumes nothing.
-use mathlib.Core.Path.{sym}
+use mathlib.Core.Bool.{not}
+use mathlib.Core.Path.{refl, _∙_, ap}
 use mathlib.Core.Logic.{⊎-elim}
-use Prim.Native.Nat.{ℕ, _-_, _<_, _≤_}
+use Prim.Native.Nat.{_-_}
 use native.Mathlib.Omega.{arith}
+use lib.Seq.{slice}
 use borrow.Author.Needs.{needs}
-use borrow.Author.Count.{below-more}
-use Rattle.search.proofs.TableLaws.{Entry, row-no-node, row-itself, row-no-rise, row-all}
+use borrow.Author.Tests.{le-leb, lt-leb, eq-eqb, ne-eqb}
+use Rattle.search.specs.Tables.{rowSound}
+use Rattle.search.proofs.TableLaws.{Kept, kept-fails, kept-all, fails, stays, leftSound, left-whole, left-next, left-end}
 use Rattle.search.proofs.tables.row_sound.Statement.{statement}
 use Rattle.search.proofs.tables.row_sound.Tie as tie
 
 abbrev Inv-loop : tie.InvT-loop
-Inv-loop n edge-target from to u e₀ e = (from ≤ e) × ((k : ℕ) → k < e → from ≤ k → Entry n u from edge-target k)
+Inv-loop n edge-target from to u fine₀ low₀ e₀ fine low e =
+    Kept (rowSound n u (slice from to edge-target)) fine (leftSound n u low (slice e to edge-target))
 
 abbrev μ-loop : tie.MeasureT-loop
-μ-loop n edge-target from to u e₀ e = to - e
+μ-loop n edge-target from to u fine₀ low₀ e₀ fine low e = to - e
 
 loop-holds : tie.Need-loop-holds Inv-loop μ-loop
-loop-holds c = (search needs, λ k l h. absurd (omega arith))
+loop-holds c = record { whole-is = left-whole (c .args .n) (c .args .u) (slice (c .args .from) (c .args .to) (c .args .edge-target .now)) }
 
 mul-v : tie.Need-mul-v Inv-loop μ-loop
 mul-v c = search needs
@@ -28,38 +32,8 @@ shared-slice-read-v c = search needs
 cast-v : tie.Need-cast-v Inv-loop μ-loop
 cast-v c = omega (arith, c .shared-slice-known .given (c .before .before .loop .e))
 
-returns : tie.Need-returns Inv-loop μ-loop
-returns c =
-    let s = c .before .before .before .before in
-    sym (row-no-node _ _ (s .args .from) (s .args .to) (s .args .edge-target .now) (search needs)
-    (c .before .before .before .loop .e) (search needs) (search needs) (search needs))
-
-returns-2 : tie.Need-returns-2 Inv-loop μ-loop
-returns-2 c =
-    let s = c .before .before .before .before .before in
-    sym (row-itself _ _ (s .args .from) (s .args .to) (s .args .edge-target .now) (search needs)
-    (c .before .before .before .before .loop .e) (search needs) (search needs) (search needs))
-
-mul-if4 : tie.Need-mul-if4 Inv-loop μ-loop
-mul-if4 c = search needs
-
-shared-slice-read-if4 : tie.Need-shared-slice-read-if4 Inv-loop μ-loop
-shared-slice-read-if4 c = search needs
-
-sub-if4 : tie.Need-sub-if4 Inv-loop μ-loop
-sub-if4 c = search needs
-
-mul-if4-2 : tie.Need-mul-if4-2 Inv-loop μ-loop
-mul-if4-2 c = search needs
-
-shared-slice-read-if4-2 : tie.Need-shared-slice-read-if4-2 Inv-loop μ-loop
-shared-slice-read-if4-2 c = search needs
-
-returns-3 : tie.Need-returns-3 Inv-loop μ-loop
-returns-3 c =
-    let s = c .before .before .before .before .before .before .before .before .before in
-    sym (row-no-rise _ _ (s .args .from) (s .args .to) (s .args .edge-target .now) (search needs)
-    (c .before .before .before .before .before .before .before .before .loop .e) (search needs) (search needs) (search needs))
+add-low : tie.Need-add-low Inv-loop μ-loop
+add-low c = omega (arith, c .before .before .shared-slice-known .given (c .before .before .before .before .loop .e))
 
 add-e : tie.Need-add-e Inv-loop μ-loop
 add-e c = search needs
@@ -68,22 +42,32 @@ loop-less : tie.Need-loop-less Inv-loop μ-loop
 loop-less c = search needs
 
 loop-again : tie.Need-loop-again Inv-loop μ-loop
-loop-again c = (
-  search needs,
-  below-more _ _ (c .before .before .before .before .before .loop .inv .1)
-      (λ h.
-      record {
-        node = search needs;
-        other = c .before .if2 .left;
-        rises = λ g. ⊎-elim (λ w. w .3 .left) (λ w. absurd (omega arith)) (c .if3 .came);
-      }),
-)
+loop-again c =
+    let at = c .before .before .before .before .loop in
+    let a = c .before .before .before .before .before .args in
+    let next = left-next (a .n) (a .u) (at .low) (at .e) (a .to) (a .edge-target .now) (search needs) (search needs) in
+    let risen =
+    ⊎-elim
+    (λ w. fails _ (at .inv) next (lt-leb _ _ (w .0 .taken)) (w .1))
+    (λ w. stays _ (at .inv) next (le-leb _ _ (w .0 .left)) (w .1))
+    (c .before .if1 .came)
+    in
+    ⊎-elim
+    (λ w. fails _ risen refl (ap not (eq-eqb _ _ (w .0 .taken))) (w .1))
+    (λ w. stays _ risen refl (ap not (ne-eqb _ _ (w .0 .left))) (w .1))
+    (c .if2 .came)
 
-returns-4 : tie.Need-returns-4 Inv-loop μ-loop
-returns-4 c =
-    let s = c .before .before in
-    sym (row-all _ _ (s .args .from) (s .args .to) (s .args .edge-target .now) (search needs)
-    (c .before .loop .e) (search needs) (c .before .loop .inv .1))
+returns : tie.Need-returns Inv-loop μ-loop
+returns c =
+    let a = c .before .before .before .args in
+    let at = c .before .before .loop in
+    kept-fails (at .inv) (left-end _ _ _ (at .e) (a .to) (a .edge-target .now) (search needs) (search needs) ∙ lt-leb _ _ (c .if3 .taken))
+
+returns-2 : tie.Need-returns-2 Inv-loop μ-loop
+returns-2 c =
+    let a = c .before .before .before .args in
+    let at = c .before .before .loop in
+    kept-all (at .inv) (left-end _ _ _ (at .e) (a .to) (a .edge-target .now) (search needs) (search needs) ∙ le-leb _ _ (c .if3 .left))
 
 pub row-sound-spec : {M : Type 1} → statement M
 row-sound-spec =
@@ -95,15 +79,9 @@ row-sound-spec =
     mul-v
     shared-slice-read-v
     cast-v
-    returns
-    returns-2
-    mul-if4
-    shared-slice-read-if4
-    sub-if4
-    mul-if4-2
-    shared-slice-read-if4-2
-    returns-3
+    add-low
     add-e
     loop-less
     loop-again
-    returns-4)
+    returns
+    returns-2)

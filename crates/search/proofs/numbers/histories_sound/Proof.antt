@@ -1,0 +1,65 @@
+-- `numbers::histories_sound` meets its contract. The loop's invariant: while the flag stands every entry passed is within its bounds, and where it fell one is not.
+-- Assumes nothing.
+use Prim.Native.Nat.{_-_}
+use lib.Dec.{leb}
+use lib.ListN.{getD}
+use borrow.Author.Needs.{needs}
+use Rattle.price.specs.Test.{both}
+use Rattle.price.specs.Bounds.{historyMost}
+use Rattle.search.proofs.ReadyLaws.{history-bounded, Passing, passing-none, passing-all, short-fails, history-more}
+use Rattle.search.proofs.numbers.histories_sound.Statement.{statement}
+use Rattle.search.proofs.numbers.histories_sound.Tie as tie
+
+abbrev Inv-loop : tie.InvT-loop
+Inv-loop n history fine₀ v₀ fine v = Passing (history-bounded history) n v fine
+
+abbrev μ-loop : tie.MeasureT-loop
+μ-loop n history fine₀ v₀ fine v = n - v
+
+returns : tie.Need-returns Inv-loop μ-loop
+returns c = short-fails _ (c .before .args .history .now) (λ v. both (leb 1 (getD (c .before .args .history .now) v 0)) (leb (getD (c .before .args .history .now) v 0) historyMost)) (c .if1 .taken)
+
+loop-holds : tie.Need-loop-holds Inv-loop μ-loop
+loop-holds c = passing-none _ _
+
+mul-if2 : tie.Need-mul-if2 Inv-loop μ-loop
+mul-if2 c = search needs
+
+shared-slice-read-if2 : tie.Need-shared-slice-read-if2 Inv-loop μ-loop
+shared-slice-read-if2 c = search needs
+
+mul-if3 : tie.Need-mul-if3 Inv-loop μ-loop
+mul-if3 c = search needs
+
+shared-slice-read-if3 : tie.Need-shared-slice-read-if3 Inv-loop μ-loop
+shared-slice-read-if3 c = search needs
+
+add-v : tie.Need-add-v Inv-loop μ-loop
+add-v c = search needs
+
+loop-less : tie.Need-loop-less Inv-loop μ-loop
+loop-less c = search needs
+
+loop-again : tie.Need-loop-again Inv-loop μ-loop
+loop-again c =
+    history-more (c .before .before .before .before .before .before .before .args .history .now) (c .before .before .before .before .loop-test .taken) (c .before .before .before .before .before .before .if1 .left) (c .before .before .if2 .came) (λ w. w .taken) (λ w. w .left) (c .if3 .came) (λ w. w .taken) (λ w. w .left) (c .before .before .before .before .before .loop .inv)
+
+returns-2 : tie.Need-returns-2 Inv-loop μ-loop
+returns-2 c = passing-all _ _ (c .loop-test .left) (c .before .loop .inv)
+
+pub histories-sound-spec : {M : Type 1} → statement M
+histories-sound-spec =
+    tie.close
+    (tie.spec
+    Inv-loop
+    μ-loop
+    returns
+    loop-holds
+    mul-if2
+    shared-slice-read-if2
+    mul-if3
+    shared-slice-read-if3
+    add-v
+    loop-less
+    loop-again
+    returns-2)
