@@ -16,7 +16,7 @@ use lib.ListN.{length, getD, take, drop, length-append, length-drop, drop-of-len
 use borrow.Author.Tests.{lt-ltb, le-ltb, eq-eqb, ne-eqb}
 use Rattle.price.proofs.ListLaws.{either-way}
 use Rattle.negotiation.specs.Records.{decode}
-use Rattle.text.specs.Lines.{printLine}
+use Rattle.text.specs.Lines.{letterR, letterB, printLine}
 use Rattle.text.specs.Routes.{recordSound, soundWords, Branch, steps, branchesIn, branchText, held, routeBranches, routesText, notWritten, textReply, writeReply}
 use Rattle.text.specs.WriteSteps.{Put, unsound, logChecked}
 use Rattle.text.specs.ReadReplies.{laid}
@@ -30,7 +30,7 @@ text-append : (bs cs : List Branch) → branchText (bs ++ cs) ≡ branchText bs 
 unfolding branchText
 text-append [] cs = refl
 text-append (b ∷ bs) cs =
-    rw (text-append bs cs) (sym (append-assoc (printLine 66 (b .net ∷ b .from ∷ b .to ∷ [])) (branchText bs) (branchText cs)))
+    rw (text-append bs cs) (sym (append-assoc (printLine letterB (b .net ∷ b .from ∷ b .to ∷ [])) (branchText bs) (branchText cs)))
 
 -- ---- the records from a place on
 
@@ -167,7 +167,7 @@ module _ {iteration start next at : ℕ} {log before after : List ℕ} (room : s
 
 -- its first line, by what the log's test found
 abbrev pub headLine : ℕ → ℕ → List ℕ
-headLine iteration turns = printLine 82 (iteration ∷ turns ∷ [])
+headLine iteration turns = printLine letterR (iteration ∷ turns ∷ [])
 
 abbrev pub bodyText : ℕ → List ℕ → List ℕ
 bodyText iteration log = branchText (branchesIn iteration (decode log))
@@ -176,7 +176,7 @@ module _ (iteration turns : ℕ) (log : List ℕ) where
   pub needed-sum :
       {a b r : ℕ} → a ≡ length (printLine 0 (iteration ∷ turns ∷ [])) → b ≡ held (length (bodyText iteration log)) → r ≡ held (a + b) →
       r ≡ held (length (headLine iteration turns) + length (bodyText iteration log))
-  needed-sum d e f = omega (arith, letter-any 0 82 (iteration ∷ turns ∷ []))
+  needed-sum d e f = omega (arith, letter-any 0 letterR (iteration ∷ turns ∷ []))
 
 module _ {log : List ℕ} {iteration turns : ℕ} (f : Found log iteration turns) where
   text-is : routesText (decode log) ≡ headLine iteration turns ++ bodyText iteration log

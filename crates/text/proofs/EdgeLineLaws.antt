@@ -19,7 +19,7 @@ use borrow.Author.Tests.{lt-ltb, le-ltb, eq-eqb, ne-eqb, ltb-true, eqb-true}
 use Rattle.price.specs.Test.{choose}
 use Rattle.price.specs.Lists.{upTo, total}
 use Rattle.price.proofs.ListLaws.{either-way, both-left, both-right, total-append}
-use Rattle.text.specs.Lines.{taken, fields, line}
+use Rattle.text.specs.Lines.{letterE, taken, fields, line}
 use Rattle.text.specs.JobText.{values, refused, lastOf, rises, edgeWithin, edgeOrdered, edgeLine, part, stopped, edgeLists, edgeLines, firstPlaces}
 use Rattle.text.specs.Steps.{begins, After, twoAt, edgeAt, EdgePlace, edgeTables}
 use Rattle.text.specs.declared.fields.Two.{Two}
@@ -87,18 +87,18 @@ module _ (count lastFrom lastTo a b : ℕ) where
   unfolding edgeOrdered
   edge-order d q e = rw (ne-eqb a b d) (sym e ∙ q)
 
-pub edge-other : (n count lastFrom lastTo at : ℕ) (text : List ℕ) → begins 69 (drop at text) ≡ false → refused 1 ≡ edgeLine n count lastFrom lastTo (drop at text)
+pub edge-other : (n count lastFrom lastTo at : ℕ) (text : List ℕ) → begins letterE (drop at text) ≡ false → refused 1 ≡ edgeLine n count lastFrom lastTo (drop at text)
 unfolding edgeLine
-edge-other n count lastFrom lastTo at text b = rw (line-other 69 2 (drop at text) b)
+edge-other n count lastFrom lastTo at text b = rw (line-other letterE 2 (drop at text) b)
 
-module _ (n count lastFrom lastTo at : ℕ) (text : List ℕ) {r : Two} (letter : begins 69 (drop at text) ≡ true) (read : twoAt text r ≡ fields 2 (drop (at + 1) text)) where
+module _ (n count lastFrom lastTo at : ℕ) (text : List ℕ) {r : Two} (letter : begins letterE (drop at text) ≡ true) (read : twoAt text r ≡ fields 2 (drop (at + 1) text)) where
   pub edge-shape : r ≡ w.Fault → refused 1 ≡ edgeLine n count lastFrom lastTo (drop at text)
   unfolding edgeLine
-  edge-shape e = rw (two-malformed 69 at text letter read e)
+  edge-shape e = rw (two-malformed letterE at text letter read e)
 
   module _ {a b next : ℕ} (e : r ≡ w.Fields a b next) where
-    shape : line 69 2 (drop at text) ≡ taken (a ∷ b ∷ []) (drop next text)
-    shape = two-line 69 at text letter read e
+    shape : line letterE 2 (drop at text) ≡ taken (a ∷ b ∷ []) (drop next text)
+    shape = two-line letterE at text letter read e
 
     pub edge-beyond : edgeWithin n (a ∷ b ∷ []) ≡ false → refused 2 ≡ edgeLine n count lastFrom lastTo (drop at text)
     unfolding edgeLine
@@ -116,7 +116,7 @@ module _ (n count lastFrom lastTo at : ℕ) (text : List ℕ) {r : Two} (letter 
 edge-rising : (n count lastFrom lastTo : ℕ) (bs : List ℕ) {a b : ℕ} {rest : List ℕ} → values (a ∷ b ∷ []) rest ≡ edgeLine n count lastFrom lastTo bs → rises count lastFrom lastTo a b ≡ true
 unfolding edgeLine edgeOrdered
 edge-rising n count lastFrom lastTo bs {a} {b} {rest} e =
-    let told = judged-values (edgeWithin n) (edgeOrdered count lastFrom lastTo) (line 69 2 bs) (a ∷ b ∷ []) rest (sym e) in
+    let told = judged-values (edgeWithin n) (edgeOrdered count lastFrom lastTo) (line letterE 2 bs) (a ∷ b ∷ []) rest (sym e) in
     both-right (not (eqb a b)) (rises count lastFrom lastTo a b) (told .order)
 
 -- ---- a part of a table that holds one value

@@ -14,7 +14,7 @@ use borrow.Author.Tests.{lt-ltb}
 use Rattle.price.specs.Lists.{every}
 use Rattle.search.specs.Tables.{firstEdgesSound, rowSound}
 use Rattle.search.proofs.BlockLaws.{firsts-end, firsts-order, firsts-most}
-use Rattle.text.specs.Lines.{printLine}
+use Rattle.text.specs.Lines.{letterE, printLine}
 use Rattle.text.specs.JobText.{values, lastOf, rises, edgeWithin, edgeOrdered, edgeLine, part, EdgeLists, edgeLists, edgeLines, firstPlaces}
 use Rattle.text.specs.Printed.{joined, eachLine}
 use Rattle.text.proofs.PrintLaws.{LineRead, judged-line, line-judged, two-of, onward-part}
@@ -26,11 +26,11 @@ use Rattle.text.proofs.FirstPlaceLaws.{Keys, Filed, keysOf, firsts-zero
 unfoldable pub pairText : List ℕ → List ℕ → List ℕ
 pairText [] ts = []
 pairText (f ∷ fs) [] = []
-pairText (f ∷ fs) (t ∷ ts) = printLine 69 (f ∷ t ∷ []) ++ pairText fs ts
+pairText (f ∷ fs) (t ∷ ts) = printLine letterE (f ∷ t ∷ []) ++ pairText fs ts
 
 -- the E lines of n rows
 abbrev pub edgesText : ℕ → List ℕ → List ℕ → List ℕ
-edgesText n first targets = joined (λ u. eachLine 69 u (rowOf first targets u)) 0 n
+edgesText n first targets = joined (λ u. eachLine letterE u (rowOf first targets u)) 0 n
 
 -- what E lines that are read say: sound tables 3 and 4, whose print they are
 pub record EdgesTold (n k : ℕ) (l : EdgeLists) (bs rest : List ℕ) : Type 0 where
@@ -49,20 +49,20 @@ pub record EdgesPrinted (n : ℕ) (first targets : List ℕ) (at : ℕ) (rest : 
 pairs-row :
     (u d a b : ℕ) (fs ts : List ℕ) → a + d ≡ b → b ≤ length fs → length fs ≡ length ts
     → ((p : ℕ) → a ≤ p → p < b → getD fs p 0 ≡ u)
-    → pairText (drop a fs) (drop a ts) ≡ eachLine 69 u (slice a b ts) ++ pairText (drop b fs) (drop b ts)
+    → pairText (drop a fs) (drop a ts) ≡ eachLine letterE u (slice a b ts) ++ pairText (drop b fs) (drop b ts)
 unfolding eachLine pairText
 pairs-row u zero a b fs ts e h same key =
     let at : a ≡ b = omega arith in
     rw (at, slice-empty b ts)
 pairs-row u (suc d) a b fs ts e h same key =
     let here : getD fs a 0 ≡ u = key a (le-refl a) (omega arith) in
-    let rest : pairText (drop (suc a) fs) (drop (suc a) ts) ≡ eachLine 69 u (slice (suc a) b ts) ++ pairText (drop b fs) (drop b ts) =
+    let rest : pairText (drop (suc a) fs) (drop (suc a) ts) ≡ eachLine letterE u (slice (suc a) b ts) ++ pairText (drop b fs) (drop b ts) =
     pairs-row u d (suc a) b fs ts (omega arith) h same (λ p from to. key p (omega arith) to) in
     rw (drop-cons fs a 0 (omega arith), drop-cons ts a 0 (omega arith), slice-cons a b ts 0 (omega arith) (omega arith), here, append-assoc)
-    (ap (λ (l : List ℕ). printLine 69 (u ∷ getD ts a 0 ∷ []) ++ l) rest)
+    (ap (λ (l : List ℕ). printLine letterE (u ∷ getD ts a 0 ∷ []) ++ l) rest)
 
 module _ (n : ℕ) (first fs ts : List ℕ) (f : Filed n first fs) (same : length fs ≡ length ts) where
-  rows-pairs : (k m : ℕ) → m + k ≡ n → joined (λ u. eachLine 69 u (rowOf first ts u)) m k ≡ pairText (drop (getD first m 0) fs) (drop (getD first m 0) ts)
+  rows-pairs : (k m : ℕ) → m + k ≡ n → joined (λ u. eachLine letterE u (rowOf first ts u)) m k ≡ pairText (drop (getD first m 0) fs) (drop (getD first m 0) ts)
   unfolding joined pairText
   rows-pairs zero m e =
       let at : m ≡ n = omega arith in
@@ -72,7 +72,7 @@ module _ (n : ℕ) (first fs ts : List ℕ) (f : Filed n first fs) (same : lengt
   rows-pairs (suc k) m e =
       let h : m < n = omega arith in
       let rise : getD first m 0 ≤ getD first (m + 1) 0 = firsts-order n (length fs) first (f .sound) m h in
-      let rest : joined (λ u. eachLine 69 u (rowOf first ts u)) (m + 1) k ≡ pairText (drop (getD first (m + 1) 0) fs) (drop (getD first (m + 1) 0) ts) = rows-pairs k (m + 1) (omega arith) in
+      let rest : joined (λ u. eachLine letterE u (rowOf first ts u)) (m + 1) k ≡ pairText (drop (getD first (m + 1) 0) fs) (drop (getD first (m + 1) 0) ts) = rows-pairs k (m + 1) (omega arith) in
       rw (← add-one m, rest)
       (sym (pairs-row m (getD first (m + 1) 0 - getD first m 0) (getD first m 0) (getD first (m + 1) 0) fs ts (omega arith)
       (firsts-most n (length fs) first (f .sound) (m + 1) (omega arith)) same (λ p from to. f .key-is m p h from to)))
@@ -88,19 +88,19 @@ pairs-rows n froms targets k same = sym (filed-text n (firstPlaces n froms) from
 -- ---- one line
 
 -- an E line that is read: its values pass their tests, and its bytes
-line-read : (n c lf lt : ℕ) (bs vs rest : List ℕ) → edgeLine n c lf lt bs ≡ values vs rest → LineRead 69 2 (edgeWithin n) (edgeOrdered c lf lt) bs (getD vs 0 0 ∷ getD vs 1 0 ∷ []) rest
+line-read : (n c lf lt : ℕ) (bs vs rest : List ℕ) → edgeLine n c lf lt bs ≡ values vs rest → LineRead letterE 2 (edgeWithin n) (edgeOrdered c lf lt) bs (getD vs 0 0 ∷ getD vs 1 0 ∷ []) rest
 unfolding edgeLine
 line-read n c lf lt bs vs rest e =
-    let told = judged-line (edgeWithin n) (edgeOrdered c lf lt) 69 2 bs vs rest e in
-    subst (λ (us : List ℕ). LineRead 69 2 (edgeWithin n) (edgeOrdered c lf lt) bs us rest) (two-of vs (told .long)) told
+    let told = judged-line (edgeWithin n) (edgeOrdered c lf lt) letterE 2 bs vs rest e in
+    subst (λ (us : List ℕ). LineRead letterE 2 (edgeWithin n) (edgeOrdered c lf lt) bs us rest) (two-of vs (told .long)) told
 
-line-again : (n c lf lt f t : ℕ) (rest : List ℕ) → n ≤ 4096 → Edge n f t → rises c lf lt f t ≡ true → edgeLine n c lf lt (printLine 69 (f ∷ t ∷ []) ++ rest) ≡ values (f ∷ t ∷ []) rest
+line-again : (n c lf lt f t : ℕ) (rest : List ℕ) → n ≤ 4096 → Edge n f t → rises c lf lt f t ≡ true → edgeLine n c lf lt (printLine letterE (f ∷ t ∷ []) ++ rest) ≡ values (f ∷ t ∷ []) rest
 unfolding edgeLine every
 line-again n c lf lt f t rest few e r =
     let from : f < n = e .from-node in
     let to : t < n = e .to-node in
     let small : every (λ v. ltb v (10 ^ 6)) (f ∷ t ∷ []) ≡ true = rw (lt-ltb f (10 ^ 6) (omega arith), lt-ltb t (10 ^ 6) (omega arith)) in
-    line-judged (edgeWithin n) (edgeOrdered c lf lt) 69 (f ∷ t ∷ []) rest small (edge-within n f t e) (edge-ordered n c lf lt f t e r)
+    line-judged (edgeWithin n) (edgeOrdered c lf lt) letterE (f ∷ t ∷ []) rest small (edge-within n f t e) (edge-ordered n c lf lt f t e r)
 
 -- ---- line after line
 
@@ -117,7 +117,7 @@ record PairsRead (n k : ℕ) (l l' : EdgeLists) (bs rest : List ℕ) : Type 0 wh
 pairs-next :
     (n k : ℕ) (l l' : EdgeLists) (f t : ℕ) (bs more rest : List ℕ)
     → edgeWithin n (f ∷ t ∷ []) ≡ true → edgeOrdered (length (l .targets)) (lastOf (l .froms)) (lastOf (l .targets)) (f ∷ t ∷ []) ≡ true
-    → bs ≡ printLine 69 (f ∷ t ∷ []) ++ more
+    → bs ≡ printLine letterE (f ∷ t ∷ []) ++ more
     → PairsRead n k (edgeLists (l .froms ++ (f ∷ [])) (l .targets ++ (t ∷ []))) l' more rest
     → PairsRead n (suc k) l l' bs rest
 unfolding pairText
@@ -129,7 +129,7 @@ pairs-next n k l l' f t bs more rest within ordered text r =
       long = ap suc (r .long);
       rising = rising-more n (length (l .targets)) (lastOf (l .froms)) (lastOf (l .targets)) f t (r .froms-more) (r .targets-more) within ordered
           (rw (last-more (l .froms) f, last-more (l .targets) t, length-append (l .targets) (t ∷ []), add-one (length (l .targets))) at (r .rising));
-      text = text ∙ rw (r .text) (sym (append-assoc (printLine 69 (f ∷ t ∷ [])) (pairText (r .froms-more) (r .targets-more)) rest));
+      text = text ∙ rw (r .text) (sym (append-assoc (printLine letterE (f ∷ t ∷ [])) (pairText (r .froms-more) (r .targets-more)) rest));
     }
 
 pairs-read : (n k : ℕ) (l l' : EdgeLists) (at at' : ℕ) (bs rest : List ℕ) → edgeLines n k l at bs ≡ part l' at' rest → PairsRead n k l l' bs rest
@@ -160,7 +160,7 @@ pairs-again n few (f ∷ fs) (t ∷ ts) l at rest r =
     rw (last-more (l .froms) f, last-more (l .targets) t, length-append (l .targets) (t ∷ []), add-one (length (l .targets)))
     (rising-rest n (length (l .targets)) (lastOf (l .froms)) (lastOf (l .targets)) f t fs ts r) in
     let line : at + 1 + length ts ≡ at + suc (length ts) = omega arith in
-    rw (append-assoc (printLine 69 (f ∷ t ∷ [])) (pairText fs ts) rest, line-again n (length (l .targets)) (lastOf (l .froms)) (lastOf (l .targets)) f t (pairText fs ts ++ rest) few (r .edge 0 (suc-le-suc zero-le)) (r .begins (suc-le-suc zero-le)))
+    rw (append-assoc (printLine letterE (f ∷ t ∷ [])) (pairText fs ts) rest, line-again n (length (l .targets)) (lastOf (l .froms)) (lastOf (l .targets)) f t (pairText fs ts ++ rest) few (r .edge 0 (suc-le-suc zero-le)) (r .begins (suc-le-suc zero-le)))
     (pairs-again n few fs ts (edgeLists (l .froms ++ (f ∷ [])) (l .targets ++ (t ∷ []))) (at + 1) rest next
     ∙ rw (append-assoc (l .froms) (f ∷ []) fs, append-assoc (l .targets) (t ∷ []) ts, line))
 

@@ -2,7 +2,6 @@
 --     begins-               the byte at a place
 --     digit-                a byte that is a digit or none
 --     Digits, digits-       the loop over the further digits of a number
---     count-                its count of digits, which the code holds as a signed number
 --     field-, comma-        one field
 --     Comma, Taken          a field that was read, and the fields of a line with its LF
 --     fields-, taken-here   the fields of a line, one by one
@@ -17,18 +16,13 @@ use native.Mathlib.Nat.{pow-succ', pow-le-pow-right, mul-assoc, mul-le-mul-left,
 use native.Mathlib.Numerals.{add-one, sub-one}
 use native.Mathlib.Omega.{arith}
 use lib.Dec.{leb, eqb}
-use lib.IntN.{pos, _-ℤ_}
 use lib.ListN.{length, getD, drop, drop-of-length-le}
 use lib.Seq.{drop-cons, drop-drop}
-use lib.Signed.{ltZ}
-use mir.Facts.{toZ-pos}
-use mir.Syntax.{w32}
-use mir.Val.{SFits, toZ, ofZ}
-use borrow.Author.Tests.{le-leb, lt-leb, le-ltb, eq-eqb, ne-eqb, leb-true, ltb-true, ltb-false}
+use borrow.Author.Tests.{le-leb, lt-leb, eq-eqb, ne-eqb, leb-true}
 use Rattle.price.specs.Test.{choose}
 use Rattle.price.proofs.ListLaws.{both-left, both-right, le-or-lt, true≢false}
 use Rattle.text.specs.Decimal.{isDigit}
-use Rattle.text.specs.Lines.{Field, number, fault, digitsAfter, field, Fields, taken, malformed, afterField, fields}
+use Rattle.text.specs.Lines.{lf, comma, Field, number, fault, digitsAfter, field, Fields, taken, malformed, afterField, fields}
 use Rattle.text.specs.Steps.{begins, commaField, After, fieldAt, FieldPlace, twoAt, TwoPlace, threeAt, ThreePlace, fourAt, FourPlace}
 use Rattle.text.specs.declared.fields.Field as fieldType
 use Rattle.text.specs.declared.fields.Field.the-variants as f
@@ -84,12 +78,11 @@ pub record Digits (text : List ℕ) (at first value next left : ℕ) : Type 0 wh
   pub same : digitsAfter left value (drop next text) ≡ digitsAfter 5 first (drop at text)
   pub on : at ≤ next
   pub within : next ≤ length text
-  pub few : left ≤ 5
   pub small : (value + 1) * 10 ^ left ≤ 10 ^ 6
 
 pub digits-start : (text : List ℕ) (at first : ℕ) → at ≤ length text → first < 10 → Digits text at first first at 5
 digits-start text at first inside l =
-    record { same = refl; on = omega arith; within = inside; few = omega arith; small = omega arith }
+    record { same = refl; on = omega arith; within = inside; small = omega arith }
 
 -- one more digit leaves room for one less
 small-step : (value d left : ℕ) → d ≤ 9 → 0 < left → (value + 1) * 10 ^ left ≤ 10 ^ 6 → (value * 10 + d + 1) * 10 ^ (left - 1) ≤ 10 ^ 6
@@ -133,7 +126,6 @@ module _ {text : List ℕ} {at first value next left : ℕ} (so-far : Digits tex
         same = sym here ∙ so-far .same;
         on = omega arith;
         within = omega arith;
-        few = omega arith;
         small = small-step value (getD text next 0 - 48) left (omega arith) more (so-far .small);
       }
 
@@ -150,31 +142,9 @@ module _ {text : List ℕ} {at first value next left : ℕ} (so-far : Digits tex
   unfolding digitsAfter
   digits-full none = ended (rw none)
 
--- a small count, read as signed
-module _ (left : ℕ) (few : left ≤ 5) where
-  count-pos : toZ w32 left ≡ pos left
-  count-pos = toZ-pos w32 (omega arith)
-
-  pub count-some : ltZ (pos 0) (toZ w32 left) ≡ true → 0 < left
-  count-some e = ltb-true 0 left (rw count-pos at e)
-
-  pub count-none : ltZ (pos 0) (toZ w32 left) ≡ false → left ≡ 0
-  count-none e = let none : left ≤ 0 = ltb-false 0 left (rw count-pos at e) in omega arith
-
-  -- one less
-  module _ (some : 0 < left) where
-    count-down : toZ w32 left -ℤ pos 1 ≡ pos (left - 1)
-    count-down = rw (count-pos, le-ltb left 1 some)
-
-    pub count-fits : SFits w32 (toZ w32 left -ℤ pos 1)
-    count-fits = rw count-down (record { sfits = omega arith })
-
-    pub count-less : ofZ w32 (toZ w32 left -ℤ pos 1) ≡ left - 1
-    count-less = ap (ofZ w32) count-down
-
 -- ---- one field
 
-comma-field : (bs : List ℕ) → begins 44 bs ≡ true → commaField bs ≡ field (drop 1 bs)
+comma-field : (bs : List ℕ) → begins comma bs ≡ true → commaField bs ≡ field (drop 1 bs)
 unfolding begins commaField
 comma-field [] e = absurd (true≢false (sym e))
 comma-field (b ∷ bs) e = rw e
@@ -197,10 +167,10 @@ module _ (at : ℕ) (text : List ℕ) where
     unfolding field
     field-digits n e = rw (bytes-at at text inside, ne-eqb (getD text at 0) 48 n, e)
 
-  pub comma-begins : begins 44 (drop at text) ≡ true → commaField (drop at text) ≡ field (drop (at + 1) text)
+  pub comma-begins : begins comma (drop at text) ≡ true → commaField (drop at text) ≡ field (drop (at + 1) text)
   comma-begins e = comma-field (drop at text) e ∙ ap field (drop-drop 1 at text)
 
-pub comma-other : (bs : List ℕ) → begins 44 bs ≡ false → commaField bs ≡ fault
+pub comma-other : (bs : List ℕ) → begins comma bs ≡ false → commaField bs ≡ fault
 unfolding begins commaField
 comma-other [] e = refl
 comma-other (b ∷ bs) e = rw e
@@ -236,7 +206,7 @@ comma-or-fault false g next = refl
 fields-suc : (k : ℕ) (bs : List ℕ) → fields (suc k) bs ≡ afterField (commaField bs) (λ rest. fields k rest)
 unfolding fields commaField
 fields-suc k [] = refl
-fields-suc k (b ∷ bs) = comma-or-fault (eqb b 44) (field bs) (λ rest. fields k rest)
+fields-suc k (b ∷ bs) = comma-or-fault (eqb b comma) (field bs) (λ rest. fields k rest)
 
 pub fields-malformed : (k : ℕ) {at value next : ℕ} {text : List ℕ} → Comma at text value next → fields k (drop next text) ≡ malformed → fields (suc k) (drop at text) ≡ malformed
 fields-malformed k {at} {text = text} c e = fields-suc k (drop at text) ∙ rw (c .is, e)
@@ -245,19 +215,19 @@ pub fields-taken : {k at value one next : ℕ} {text vs : List ℕ} → Comma at
 fields-taken {k} {at} {text = text} c t =
     record { is = fields-suc k (drop at text) ∙ rw (c .is, t .is); on = omega arith; within = t .within }
 
-pub fields-no-end : (bs : List ℕ) → begins 10 bs ≡ false → fields 0 bs ≡ malformed
+pub fields-no-end : (bs : List ℕ) → begins lf bs ≡ false → fields 0 bs ≡ malformed
 unfolding begins fields
 fields-no-end [] e = refl
 fields-no-end (b ∷ bs) e = rw e
 
-fields-nil : (bs : List ℕ) → begins 10 bs ≡ true → fields 0 bs ≡ taken [] (drop 1 bs)
+fields-nil : (bs : List ℕ) → begins lf bs ≡ true → fields 0 bs ≡ taken [] (drop 1 bs)
 unfolding begins fields
 fields-nil [] e = absurd (true≢false (sym e))
 fields-nil (b ∷ bs) e = rw e
 
-pub fields-end : (at : ℕ) (text : List ℕ) → begins 10 (drop at text) ≡ true → Taken 0 at text [] (at + 1)
+pub fields-end : (at : ℕ) (text : List ℕ) → begins lf (drop at text) ≡ true → Taken 0 at text [] (at + 1)
 fields-end at text e =
-    let inside : at < length text = begins-within 10 at text e in
+    let inside : at < length text = begins-within lf at text e in
     record { is = fields-nil (drop at text) e ∙ ap (taken []) (drop-drop 1 at text); on = omega arith; within = omega arith }
 
 -- what fields that were taken say of the answer

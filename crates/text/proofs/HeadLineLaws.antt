@@ -9,7 +9,7 @@ use Prim.Native.Nat.{ℕ, _≤_, _<_}
 use lib.Dec.{leb}
 use lib.ListN.{drop}
 use borrow.Author.Tests.{le-leb, lt-leb}
-use Rattle.text.specs.Lines.{malformed, fields}
+use Rattle.text.specs.Lines.{letterF, malformed, fields}
 use Rattle.text.specs.JobText.{values, refused, headWithin, headLine}
 use Rattle.text.specs.Steps.{begins}
 use Rattle.text.proofs.FieldLaws.{Taken}
@@ -49,19 +49,19 @@ module _ (n e t l : ℕ) where
             unfolding headWithin
             head-limit a = rw (le-leb 1 n n-some, le-leb n 4096 n-most, le-leb e 32768 e-most, le-leb 1 t t-some, le-leb t 512 t-most, le-leb 1 l a)
 
-pub head-other : (bs : List ℕ) → begins 70 bs ≡ false → headLine bs ≡ refused 1
+pub head-other : (bs : List ℕ) → begins letterF bs ≡ false → headLine bs ≡ refused 1
 unfolding headLine
-head-other bs b = rw (line-other 70 4 bs b)
+head-other bs b = rw (line-other letterF 4 bs b)
 
-module _ (bs : List ℕ) (b : begins 70 bs ≡ true) where
+module _ (bs : List ℕ) (b : begins letterF bs ≡ true) where
   pub head-malformed : fields 4 (drop 1 bs) ≡ malformed → headLine bs ≡ refused 1
   unfolding headLine
-  head-malformed e = rw (line-begins 70 4 bs b ∙ e)
+  head-malformed e = rw (line-begins letterF 4 bs b ∙ e)
 
   pub head-beyond : {vs : List ℕ} {next : ℕ} → Taken 4 1 bs vs next → headWithin vs ≡ false → headLine bs ≡ refused 2
   unfolding headLine
-  head-beyond t e = rw (line-begins 70 4 bs b ∙ t .is, e)
+  head-beyond t e = rw (line-begins letterF 4 bs b ∙ t .is, e)
 
   pub head-read : {vs : List ℕ} {next : ℕ} → Taken 4 1 bs vs next → headWithin vs ≡ true → headLine bs ≡ values vs (drop next bs)
   unfolding headLine
-  head-read t e = rw (line-begins 70 4 bs b ∙ t .is, e)
+  head-read t e = rw (line-begins letterF 4 bs b ∙ t .is, e)

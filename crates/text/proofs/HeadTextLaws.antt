@@ -14,7 +14,7 @@ use Rattle.price.specs.Lists.{every}
 use Rattle.price.proofs.ListLaws.{both-true, both-left, both-right}
 use Rattle.search.specs.Tables.{edgesMost}
 use Rattle.negotiation.specs.Tables.{netsMost}
-use Rattle.text.specs.Lines.{printLine}
+use Rattle.text.specs.Lines.{letterF, printLine}
 use Rattle.text.specs.JobText.{between, headWithin, headLine, part, Counts, headPart}
 use Rattle.text.proofs.PrintLaws.{LineRead, judged-line, line-judged, onward-part}
 
@@ -29,7 +29,7 @@ pub record HeadBounds (c : Counts) : Type 0 where
   pub few-turns : c .limit ≤ limitMost
 
 abbrev headText : Counts → List ℕ
-headText c = printLine 70 (c .nodes ∷ c .edges ∷ c .nets ∷ c .limit ∷ [])
+headText c = printLine letterF (c .nodes ∷ c .edges ∷ c .nets ∷ c .limit ∷ [])
 
 abbrev countsOf : List ℕ → Counts
 countsOf vs = record { nodes = getD vs 0 0; edges = getD vs 1 0; nets = getD vs 2 0; limit = getD vs 3 0 }
@@ -71,18 +71,18 @@ four (a ∷ b ∷ c ∷ []) e = absurd (omega arith)
 four (a ∷ b ∷ c ∷ d ∷ []) e = refl
 four (a ∷ b ∷ c ∷ d ∷ x ∷ xs) e = absurd (omega arith)
 
-pub head-read : (bs : List ℕ) (c : Counts) (at : ℕ) (rest : List ℕ) → headPart bs ≡ part c at rest → HeadBounds c × (bs ≡ printLine 70 (c .nodes ∷ c .edges ∷ c .nets ∷ c .limit ∷ []) ++ rest)
+pub head-read : (bs : List ℕ) (c : Counts) (at : ℕ) (rest : List ℕ) → headPart bs ≡ part c at rest → HeadBounds c × (bs ≡ printLine letterF (c .nodes ∷ c .edges ∷ c .nets ∷ c .limit ∷ []) ++ rest)
 unfolding headPart headLine
 head-read bs c at rest e =
     let r = onward-part (headLine bs) 1 (λ vs rest. part (countsOf vs) 2 rest) c at rest e in
     let vs : List ℕ = r .0 in
     let mid : List ℕ = r .1 in
-    let told : LineRead 70 4 headWithin (λ vs. true) bs vs mid = judged-line headWithin (λ vs. true) 70 4 bs vs mid (r .2) in
+    let told : LineRead letterF 4 headWithin (λ vs. true) bs vs mid = judged-line headWithin (λ vs. true) letterF 4 bs vs mid (r .2) in
     let made : part (countsOf vs) 2 mid ≡ part c at rest = r .3 in
     let same : countsOf vs ≡ c = cc in
     let follow : mid ≡ rest = cc in (
       subst HeadBounds same (bounds-hold vs (told .bounds)),
-      told .text ∙ ap (λ (us : List ℕ). printLine 70 us ++ mid) (four vs (told .long))
+      told .text ∙ ap (λ (us : List ℕ). printLine letterF us ++ mid) (four vs (told .long))
           ∙ ap (λ (d : Counts). headText d ++ mid) same ∙ ap (λ (us : List ℕ). headText c ++ us) follow,
     )
 
@@ -102,7 +102,7 @@ module _ (c : Counts) (rest : List ℕ) (h : HeadBounds c) where
       (both-true (both-true (le-leb 1 (c .nets) (h .some-nets)) (le-leb (c .nets) netsMost (h .few-nets)))
       (both-true (le-leb 1 (c .limit) (h .some-turns)) (le-leb (c .limit) limitMost (h .few-turns)))))
 
-  pub head-printed : headPart (printLine 70 (c .nodes ∷ c .edges ∷ c .nets ∷ c .limit ∷ []) ++ rest) ≡ part c 2 rest
+  pub head-printed : headPart (printLine letterF (c .nodes ∷ c .edges ∷ c .nets ∷ c .limit ∷ []) ++ rest) ≡ part c 2 rest
   unfolding headPart headLine
   head-printed =
-      rw (line-judged headWithin (λ vs. true) 70 (c .nodes ∷ c .edges ∷ c .nets ∷ c .limit ∷ []) rest head-small head-within refl)
+      rw (line-judged headWithin (λ vs. true) letterF (c .nodes ∷ c .edges ∷ c .nets ∷ c .limit ∷ []) rest head-small head-within refl)

@@ -28,6 +28,7 @@ pub mod StepTextLaws
 pub mod BranchLaws
 pub mod BranchHolds
 pub mod LogHolds
+pub mod ListedHolds
 pub mod TextHolds
 pub mod RefusalLineLaws
 pub mod RunLaws

@@ -22,7 +22,7 @@ use Rattle.price.specs.Test.{choose, both}
 use Rattle.price.specs.Lists.{has}
 use Rattle.price.proofs.ListLaws.{either-way, both-right, both-true, both-false-right}
 use Rattle.search.specs.Replies.{sinksMost}
-use Rattle.text.specs.Lines.{taken, fields, line}
+use Rattle.text.specs.Lines.{letterS, letterT, taken, fields, line}
 use Rattle.text.specs.JobText.{Reading, values, refused, pinWithin, sourceLine, sinkOrdered, sinkLine}
 use Rattle.text.specs.Steps.{begins, After, twoAt, pinAt, PinPlace, Marked}
 use Rattle.text.specs.declared.fields.Two as twoType
@@ -57,19 +57,19 @@ letter-inside letter at text s b = begins-within letter at text (letter-stands l
 
 -- ---- the S line
 
-module _ (n nets i at : ℕ) (text : List ℕ) {t : Bool} (stands : t ≡ begins 83 (drop at text)) where
+module _ (n nets i at : ℕ) (text : List ℕ) {t : Bool} (stands : t ≡ begins letterS (drop at text)) where
   pub source-other : not t ≡ true → refused 1 ≡ sourceLine n nets i (drop at text)
   unfolding sourceLine
-  source-other b = rw (line-other 83 2 (drop at text) (sym stands ∙ not-true t b))
+  source-other b = rw (line-other letterS 2 (drop at text) (sym stands ∙ not-true t b))
 
   module _ (r : twoType.Two) (b : not t ≡ false) (e : twoAt text r ≡ fields 2 (drop (at + 1) text)) where
     pub source-fault : r ≡ w.Fault → refused 1 ≡ sourceLine n nets i (drop at text)
     unfolding sourceLine
-    source-fault q = rw (two-malformed 83 at text (letter-stands 83 at text stands b) e q)
+    source-fault q = rw (two-malformed letterS at text (letter-stands letterS at text stands b) e q)
 
     module _ {f s next : ℕ} (q : r ≡ w.Fields f s next) where
-      source-fields : line 83 2 (drop at text) ≡ taken (f ∷ s ∷ []) (drop next text)
-      source-fields = two-line 83 at text (letter-stands 83 at text stands b) e q
+      source-fields : line letterS 2 (drop at text) ≡ taken (f ∷ s ∷ []) (drop next text)
+      source-fields = two-line letterS at text (letter-stands letterS at text stands b) e q
 
       pub source-net : nets ≤ f → refused 2 ≡ sourceLine n nets i (drop at text)
       unfolding sourceLine
@@ -111,19 +111,19 @@ module _ (i : ℕ) (pins : List ℕ) (count f s : ℕ) where
   unfolding sinkOrdered
   in-order h g l = rw (eq-eqb f i h, g, lt-ltb count sinksMost l)
 
-module _ (n nets i at count : ℕ) (text : List ℕ) {t : Bool} (stands : t ≡ begins 84 (drop at text)) where
+module _ (n nets i at count : ℕ) (text : List ℕ) {t : Bool} (stands : t ≡ begins letterT (drop at text)) where
   pub sink-other : (pins : List ℕ) → not t ≡ true → refused 1 ≡ sinkLine n nets i pins count (drop at text)
   unfolding sinkLine
-  sink-other pins b = rw (line-other 84 2 (drop at text) (sym stands ∙ not-true t b))
+  sink-other pins b = rw (line-other letterT 2 (drop at text) (sym stands ∙ not-true t b))
 
   module _ (r : twoType.Two) (b : not t ≡ false) (e : twoAt text r ≡ fields 2 (drop (at + 1) text)) where
     pub sink-fault : (pins : List ℕ) → r ≡ w.Fault → refused 1 ≡ sinkLine n nets i pins count (drop at text)
     unfolding sinkLine
-    sink-fault pins q = rw (two-malformed 84 at text (letter-stands 84 at text stands b) e q)
+    sink-fault pins q = rw (two-malformed letterT at text (letter-stands letterT at text stands b) e q)
 
     module _ {f s next : ℕ} (q : r ≡ w.Fields f s next) where
-      sink-fields : line 84 2 (drop at text) ≡ taken (f ∷ s ∷ []) (drop next text)
-      sink-fields = two-line 84 at text (letter-stands 84 at text stands b) e q
+      sink-fields : line letterT 2 (drop at text) ≡ taken (f ∷ s ∷ []) (drop next text)
+      sink-fields = two-line letterT at text (letter-stands letterT at text stands b) e q
 
       pub sink-net : (pins : List ℕ) → nets ≤ f → refused 2 ≡ sinkLine n nets i pins count (drop at text)
       unfolding sinkLine
@@ -193,7 +193,7 @@ module _ (stamp : ℕ) (seen : List ℕ) where
 pub sink-few : (n nets i : ℕ) (pins : List ℕ) (count : ℕ) (bs : List ℕ) {vs rest : List ℕ} → sinkLine n nets i pins count bs ≡ values vs rest → count < sinksMost
 unfolding sinkLine sinkOrdered
 sink-few n nets i pins count bs {vs} {rest} e =
-    let told = judged-values (pinWithin n nets) (sinkOrdered i pins count) (line 84 2 bs) vs rest e in
+    let told = judged-values (pinWithin n nets) (sinkOrdered i pins count) (line letterT 2 bs) vs rest e in
     ltb-true count sinksMost
     (both-right (not (has (getD vs 1 0) pins)) (ltb count sinksMost)
     (both-right (eqb (getD vs 0 0) i) (both (not (has (getD vs 1 0) pins)) (ltb count sinksMost)) (told .order)))

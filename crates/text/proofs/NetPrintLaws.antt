@@ -20,7 +20,7 @@ use Rattle.negotiation.specs.Job.{sinksBetween}
 use Rattle.negotiation.specs.Tables.{netsMost, sourcesSound, firstSinksSound, netSound, sinksSound}
 use Rattle.negotiation.proofs.JobLaws.{sources-some, sources-few, source-below, firsts-long, firsts-end, firsts-order, firsts-most}
 use Rattle.negotiation.proofs.MarkLaws.{below-at, slice-parts}
-use Rattle.text.specs.Lines.{taken, line, printLine}
+use Rattle.text.specs.Lines.{letterS, letterT, taken, line, printLine}
 use Rattle.text.specs.JobText.{values, lastOf, pinWithin, sourceLine, sinkOrdered, sinkLine, part, NetLists, netLists, sinksNow, sourceDue, sinkDue, complete, netEnd, withSource, withSink, nextSource, nextSink, netLine, netLines}
 use Rattle.text.specs.Printed.{joined, eachLine}
 use Rattle.text.proofs.NetTextLaws.{netAt, ends, net-new}
@@ -39,19 +39,19 @@ two-taken letter i v rest h l =
 module _ (n nets : ℕ) (l : NetLists) (nodes-few : n ≤ nodesMost) (nets-few : nets ≤ netsMost) where
   source-read :
       (i s : ℕ) (rest : List ℕ) → length (l .sources) ≡ i → i < nets → s < n → sourceDue nets l ≡ true
-      → netLine n nets l (printLine 83 (i ∷ s ∷ []) ++ rest) ≡ values (withSource l (i ∷ s ∷ [])) rest
+      → netLine n nets l (printLine letterS (i ∷ s ∷ []) ++ rest) ≡ values (withSource l (i ∷ s ∷ [])) rest
   unfolding netLine nextSource sourceLine pinWithin printLine
   source-read i s rest count fits node due =
-      rw (due, two-taken 83 i s rest (omega arith) (omega arith), lt-ltb i nets fits, lt-ltb s n node, count, eq-eqb i i refl)
+      rw (due, two-taken letterS i s rest (omega arith) (omega arith), lt-ltb i nets fits, lt-ltb s n node, count, eq-eqb i i refl)
 
   sink-read :
       (i t : ℕ) (rest : List ℕ) → length (l .sources) ≡ i + 1 → i < nets → t < n → has t (lastOf (l .sources) ∷ sinksNow l) ≡ false → length (l .sinks) < sinksMost
-      → netLine n nets l (printLine 84 (i ∷ t ∷ []) ++ rest) ≡ values (withSink l (i ∷ t ∷ [])) rest
+      → netLine n nets l (printLine letterT (i ∷ t ∷ []) ++ rest) ≡ values (withSink l (i ∷ t ∷ [])) rest
   unfolding netLine nextSink sinkLine sinkOrdered pinWithin printLine sinkDue
   sink-read i t rest count fits node new room =
       let due : leb 1 (length (l .sources)) ≡ true = le-leb 1 (length (l .sources)) (omega arith) in
       let last : i ≡ length (l .sources) - 1 = omega arith in
-      rw (due, two-taken 84 i t rest (omega arith) (omega arith), lt-ltb i nets fits, lt-ltb t n node, eq-eqb i (length (l .sources) - 1) last, new, lt-ltb (length (l .sinks)) sinksMost room)
+      rw (due, two-taken letterT i t rest (omega arith) (omega arith), lt-ltb i nets fits, lt-ltb t n node, eq-eqb i (length (l .sources) - 1) last, new, lt-ltb (length (l .sinks)) sinksMost room)
 
 -- a line that is taken is the first of the lines
 line-first :
@@ -80,7 +80,7 @@ abbrev listsAt : List ℕ → List ℕ → List ℕ → ℕ → ℕ → NetLists
 listsAt ss fs ts m p = netLists (take m ss) (take m fs) (take p ts)
 
 abbrev textAt : List ℕ → List ℕ → List ℕ → ℕ → ℕ → List ℕ
-textAt ss fs ts m p = eachLine 84 (m - 1) (slice p (getD fs m 0) ts) ++ joined (netAt ss fs ts) m (length ss - m)
+textAt ss fs ts m p = eachLine letterT (m - 1) (slice p (getD fs m 0) ts) ++ joined (netAt ss fs ts) m (length ss - m)
 
 -- where the reader may stand: in the last of m nets, or before the first
 record Stand (ss fs : List ℕ) (m p : ℕ) : Type 0 where
@@ -168,12 +168,12 @@ module _
         record {
           m2 = m;
           p2 = suc p;
-          letter = 84;
+          letter = letterT;
           vs = i ∷ getD ts p 0 ∷ [];
           stand = record { few = few; least = λ k h. let same : k ≡ i = omega arith in rw same (omega arith); most = omega arith };
           text =
               rw (slice-cons p (getD fs m 0) ts 0 below within, place)
-              (append-assoc (printLine 84 (i ∷ getD ts p 0 ∷ [])) (eachLine 84 i (slice (suc p) (getD fs m 0) ts)) (joined (netAt ss fs ts) m (length ss - m)));
+              (append-assoc (printLine letterT (i ∷ getD ts p 0 ∷ [])) (eachLine letterT i (slice (suc p) (getD fs m 0) ts)) (joined (netAt ss fs ts) m (length ss - m)));
           reads =
               sink-read n (length ss) (listsAt ss fs ts m p) nodes-few nets-few i (getD ts p 0) (textAt ss fs ts m (suc p))
               (length-take-le m ss few ∙ sym last) (omega arith) node
@@ -207,13 +207,13 @@ module _
       record {
         m2 = m + 1;
         p2 = getD fs m 0;
-        letter = 83;
+        letter = letterS;
         vs = m ∷ getD ss m 0 ∷ [];
         stand = record { few = omega arith; least = λ k e. let same : k ≡ m = omega arith in rw same (omega arith); most = omega arith };
         text =
             rw (slice-empty (getD fs m 0) ts, one, back)
-            (append-assoc (printLine 83 (m ∷ getD ss m 0 ∷ [])) (eachLine 84 m (sinksBetween fs ts m)) (joined (netAt ss fs ts) (suc m) (length ss - (m + 1)))
-            ∙ ap (λ (k : ℕ). printLine 83 (m ∷ getD ss m 0 ∷ []) ++ (eachLine 84 m (sinksBetween fs ts m) ++ joined (netAt ss fs ts) k (length ss - (m + 1)))) (sym (add-one m)));
+            (append-assoc (printLine letterS (m ∷ getD ss m 0 ∷ [])) (eachLine letterT m (sinksBetween fs ts m)) (joined (netAt ss fs ts) (suc m) (length ss - (m + 1)))
+            ∙ ap (λ (k : ℕ). printLine letterS (m ∷ getD ss m 0 ∷ []) ++ (eachLine letterT m (sinksBetween fs ts m) ++ joined (netAt ss fs ts) k (length ss - (m + 1)))) (sym (add-one m)));
         reads =
             source-read n (length ss) (listsAt ss fs ts m (getD fs m 0)) nodes-few nets-few m (getD ss m 0) (textAt ss fs ts (m + 1) (getD fs m 0))
             (length-take-le m ss (omega arith)) h (source-below n ss sources-sound m h) (source-due m h)

@@ -15,7 +15,7 @@ use Rattle.price.proofs.ListLaws.{either-way, both-left, both-right}
 use Rattle.search.specs.Replies.{sinksMost}
 use Rattle.negotiation.specs.Tables.{netsMost, sourcesSound, firstSinksSound, sinksSound}
 use Rattle.negotiation.proofs.NetTableLaws.{sources-all, nets-all}
-use Rattle.text.specs.Lines.{printLine}
+use Rattle.text.specs.Lines.{letterS, letterT, printLine}
 use Rattle.text.specs.JobText.{Reading, values, refused, lastOf, pinWithin, sourceLine, sinkOrdered, sinkLine, part, stopped, NetLists, netLists, sinksNow, sourceDue, sinkDue, complete, netEnd, withSource, withSink, nextSource, nextSink, taking, netLine, netLines}
 use Rattle.text.specs.Printed.{joined}
 use Rattle.text.proofs.NetTextLaws.{netAt, ends, Good, written, good-none, with-source, source-text, with-sink, sink-text, good-firsts}
@@ -46,7 +46,7 @@ module _ (n nets : ℕ) (l : NetLists) where
     due : sourceDue nets l ≡ true
     node : s < n
     is : next ≡ netLists (l .sources ++ (s ∷ [])) (ends (l .firstSinks) (l .sinks)) (l .sinks)
-    text : bs ≡ printLine 83 (length (l .sources) ∷ s ∷ []) ++ rest
+    text : bs ≡ printLine letterS (length (l .sources) ∷ s ∷ []) ++ rest
 
   -- what a T line says
   record Sunk (bs : List ℕ) (next : NetLists) (rest : List ℕ) : Type 0 where
@@ -56,27 +56,27 @@ module _ (n nets : ℕ) (l : NetLists) where
     new : has t (lastOf (l .sources) ∷ sinksNow l) ≡ false
     room : length (l .sinks) < sinksMost
     is : next ≡ netLists (l .sources) (l .firstSinks) (l .sinks ++ (t ∷ []))
-    text : bs ≡ printLine 84 ((length (l .sources) - 1) ∷ t ∷ []) ++ rest
+    text : bs ≡ printLine letterT ((length (l .sources) - 1) ∷ t ∷ []) ++ rest
 
   -- by either letter
   sourced : (bs : List ℕ) (next : NetLists) (rest : List ℕ) → sourceDue nets l ≡ true → taking (withSource l) (nextSource n nets l bs) ≡ values next rest → Sourced bs next rest
   unfolding nextSource sourceLine pinWithin
   sourced bs next rest due e =
       let k = taking-values (withSource l) (nextSource n nets l bs) next rest e in
-      let j = judged-line (pinWithin n nets) (λ vs. eqb (getD vs 0 0) (length (l .sources))) 83 2 bs (k .given) rest (k .is) in
+      let j = judged-line (pinWithin n nets) (λ vs. eqb (getD vs 0 0) (length (l .sources))) letterS 2 bs (k .given) rest (k .is) in
       record {
         s = getD (k .given) 1 0;
         due = due;
         node = ltb-true (getD (k .given) 1 0) n (both-right (ltb (getD (k .given) 0 0) nets) _ (j .bounds));
         is = k .made;
-        text = two-text 83 (length (l .sources)) bs (k .given) rest j (j .order);
+        text = two-text letterS (length (l .sources)) bs (k .given) rest j (j .order);
       }
 
   sunk : (bs : List ℕ) (next : NetLists) (rest : List ℕ) → sinkDue l ≡ true → taking (withSink l) (nextSink n nets l bs) ≡ values next rest → Sunk bs next rest
   unfolding nextSink sinkLine sinkOrdered pinWithin
   sunk bs next rest due e =
       let k = taking-values (withSink l) (nextSink n nets l bs) next rest e in
-      let j = judged-line (pinWithin n nets) (sinkOrdered (length (l .sources) - 1) (lastOf (l .sources) ∷ sinksNow l) (length (l .sinks))) 84 2 bs (k .given) rest (k .is) in
+      let j = judged-line (pinWithin n nets) (sinkOrdered (length (l .sources) - 1) (lastOf (l .sources) ∷ sinksNow l) (length (l .sinks))) letterT 2 bs (k .given) rest (k .is) in
       let others = both-right (eqb (getD (k .given) 0 0) (length (l .sources) - 1)) _ (j .order) in
       record {
         t = getD (k .given) 1 0;
@@ -85,7 +85,7 @@ module _ (n nets : ℕ) (l : NetLists) where
         new = not-true (has (getD (k .given) 1 0) (lastOf (l .sources) ∷ sinksNow l)) (both-left _ _ others);
         room = ltb-true (length (l .sinks)) sinksMost (both-right (not (has (getD (k .given) 1 0) (lastOf (l .sources) ∷ sinksNow l))) _ others);
         is = k .made;
-        text = two-text 84 (length (l .sources) - 1) bs (k .given) rest j (both-left _ _ (j .order));
+        text = two-text letterT (length (l .sources) - 1) bs (k .given) rest j (both-left _ _ (j .order));
       }
 
   net-line : (bs : List ℕ) (next : NetLists) (rest : List ℕ) → netLine n nets l bs ≡ values next rest → Sourced bs next rest ⊎ Sunk bs next rest
@@ -93,15 +93,15 @@ module _ (n nets : ℕ) (l : NetLists) where
   net-line [] next rest e = absurd (let z : _≡_ {A = ℕ} 0 1 = cc in omega arith)
   net-line (b ∷ bs) next rest e =
       ⊎-elim
-      (λ (p : both (eqb b 83) (sourceDue nets l) ≡ true). inl (sourced (b ∷ bs) next rest (both-right (eqb b 83) _ p) (rw p at e)))
-      (λ (p : both (eqb b 83) (sourceDue nets l) ≡ false).
+      (λ (p : both (eqb b letterS) (sourceDue nets l) ≡ true). inl (sourced (b ∷ bs) next rest (both-right (eqb b letterS) _ p) (rw p at e)))
+      (λ (p : both (eqb b letterS) (sourceDue nets l) ≡ false).
       ⊎-elim
-      (λ (q : both (eqb b 84) (sinkDue l) ≡ true). inr (sunk (b ∷ bs) next rest (both-right (eqb b 84) _ q) (rw (p, q) at e)))
-      (λ (q : both (eqb b 84) (sinkDue l) ≡ false).
+      (λ (q : both (eqb b letterT) (sinkDue l) ≡ true). inr (sunk (b ∷ bs) next rest (both-right (eqb b letterT) _ q) (rw (p, q) at e)))
+      (λ (q : both (eqb b letterT) (sinkDue l) ≡ false).
       let e2 : refused 1 ≡ values next rest = rw (p, q) at e in
       absurd (let z : _≡_ {A = ℕ} 0 1 = cc in omega arith))
-      (either-way (both (eqb b 84) (sinkDue l))))
-      (either-way (both (eqb b 83) (sourceDue nets l)))
+      (either-way (both (eqb b letterT) (sinkDue l))))
+      (either-way (both (eqb b letterS) (sourceDue nets l)))
 
 -- ---- all lines
 
@@ -171,14 +171,14 @@ nets-on n nets (suc k) m l l2 at at2 (b ∷ bs) rest g e =
     ⊎-elim
     (λ (p : Sourced n nets l (b ∷ bs) (o .0) (o .1)).
     let fits : length (l .sources) < nets = ltb-true (length (l .sources)) nets (both-left _ _ (p .due)) in
-    more-text (printLine 83 (m ∷ p .s ∷ [])) (source-text g (p .s)) (subst (λ (j : ℕ). b ∷ bs ≡ printLine 83 (j ∷ p .s ∷ []) ++ o .1) count (p .text))
+    more-text (printLine letterS (m ∷ p .s ∷ [])) (source-text g (p .s)) (subst (λ (j : ℕ). b ∷ bs ≡ printLine letterS (j ∷ p .s ∷ []) ++ o .1) count (p .text))
     (nets-on n nets k (m + 1) (netLists (l .sources ++ (p .s ∷ [])) (ends (l .firstSinks) (l .sinks)) (l .sinks)) l2 (at + 1) at2 (o .1) rest
     (with-source g (p .s) (p .node) (omega arith) (source-ready nets m l count (g .long) (p .due)))
     (rw (p .is) at (o .3))))
     (λ (p : Sunk n nets l (b ∷ bs) (o .0) (o .1)).
     let some : 1 ≤ length (l .sources) = leb-true 1 (length (l .sources)) (p .due) in
     let last : length (l .sources) - 1 + 1 ≡ m = omega arith in
-    more-text (printLine 84 ((length (l .sources) - 1) ∷ p .t ∷ [])) (sink-text g (length (l .sources) - 1) (p .t) last) (p .text)
+    more-text (printLine letterT ((length (l .sources) - 1) ∷ p .t ∷ [])) (sink-text g (length (l .sources) - 1) (p .t) last) (p .text)
     (nets-on n nets k m (netLists (l .sources) (l .firstSinks) (l .sinks ++ (p .t ∷ []))) l2 (at + 1) at2 (o .1) rest
     (with-sink g (length (l .sources) - 1) (p .t) last (p .node) (rw (now-is l (length (l .sources) - 1) (g .long ∙ sym last)) at (p .new)) (p .room))
     (rw (p .is) at (o .3))))

@@ -17,9 +17,10 @@ use lib.Seq.{length-take-le, drop-cons, drop-append-le, take-suc-set, getD-set-s
 use borrow.Author.Tests.{lt-ltb, le-ltb, le-leb, lt-leb, eq-eqb, ne-eqb, eqb-true, eqb-false, ltb-true}
 use Rattle.price.specs.Test.{both, either}
 use Rattle.price.specs.Lists.{has}
-use Rattle.price.proofs.ListLaws.{either-way, le-or-lt, both-left, both-false-right, has-append-right}
+use Rattle.price.proofs.ListLaws.{either-false, either-way, le-or-lt, both-left, both-false-right, has-append-right}
 use Rattle.negotiation.proofs.MarkLaws.{has-append}
 use Rattle.search.specs.Replies.{sinksMost}
+use Rattle.text.specs.Lines.{letterS, letterT}
 use Rattle.text.specs.JobText.{values, refused, NetLists, lastOf, sinksNow, sourceDue, sinkDue, withSource, withSink, taking, sourceLine, sinkLine, nextSource, nextSink, netLine}
 use Rattle.text.specs.Steps.{Marked, netsAt, NetKept, SourceAdded, SinkAdded, netLineAt, KeptAfter}
 use Rattle.text.specs.declared.nets.NetCursor.{NetCursor}
@@ -57,10 +58,6 @@ some-left a b =
 
 -- ---- marks
 
-either-none : (t : Bool) → either t false ≡ t
-either-none true = refl
-either-none false = refl
-
 -- a mark no higher than the others' bound
 set-most : (top node mark v : ℕ) (seen : List ℕ) → node < length seen → mark ≤ top → getD seen v 0 ≤ top → getD (set seen node mark) v 0 ≤ top
 set-most top node mark v seen l m h =
@@ -91,32 +88,32 @@ sink-marks n k node seen pins l m v b =
     let in-it : has v (pins ++ (node ∷ [])) ≡ true = has-append-right v pins (node ∷ []) (rw q) in
     rw (in-it, e, getD-set-same seen node k 0 l) (eq-eqb k k refl))
     (λ (q : eqb v node ≡ false).
-    let same : has v (pins ++ (node ∷ [])) ≡ has v pins = has-append v pins (node ∷ []) ∙ rw q (either-none (has v pins)) in
+    let same : has v (pins ++ (node ∷ [])) ≡ has v pins = has-append v pins (node ∷ []) ∙ rw q (either-false (has v pins)) in
     rw (getD-set-other seen node v k 0 (eqb-false v node q), same) (m v b))
     (either-way (eqb v node))
 
 -- ---- a line of the nets by its letter
 
 module _ (n nets : ℕ) (l : NetLists) {b : ℕ} {rest bs : List ℕ} (h : bs ≡ b ∷ rest) where
-  line-source : b ≡ 83 → sourceDue nets l ≡ true → netLine n nets l bs ≡ taking (withSource l) (nextSource n nets l bs)
+  line-source : b ≡ letterS → sourceDue nets l ≡ true → netLine n nets l bs ≡ taking (withSource l) (nextSource n nets l bs)
   unfolding netLine
-  line-source e d = rw (h, eq-eqb b 83 e, d)
+  line-source e d = rw (h, eq-eqb b letterS e, d)
 
-  line-undue : b ≡ 83 → sourceDue nets l ≡ false → netLine n nets l bs ≡ refused 1
+  line-undue : b ≡ letterS → sourceDue nets l ≡ false → netLine n nets l bs ≡ refused 1
   unfolding netLine
-  line-undue e d = rw (h, eq-eqb b 83 e, d, ne-eqb b 84 (λ q. omega arith))
+  line-undue e d = rw (h, eq-eqb b letterS e, d, ne-eqb b letterT (λ q. omega arith))
 
-  line-sink : (b ≡ 83 → ⊥) → b ≡ 84 → sinkDue l ≡ true → netLine n nets l bs ≡ taking (withSink l) (nextSink n nets l bs)
+  line-sink : (b ≡ letterS → ⊥) → b ≡ letterT → sinkDue l ≡ true → netLine n nets l bs ≡ taking (withSink l) (nextSink n nets l bs)
   unfolding netLine
-  line-sink f e d = rw (h, ne-eqb b 83 f, eq-eqb b 84 e, d)
+  line-sink f e d = rw (h, ne-eqb b letterS f, eq-eqb b letterT e, d)
 
-  line-unknown : (b ≡ 83 → ⊥) → (b ≡ 84 → ⊥) → netLine n nets l bs ≡ refused 1
+  line-unknown : (b ≡ letterS → ⊥) → (b ≡ letterT → ⊥) → netLine n nets l bs ≡ refused 1
   unfolding netLine
-  line-unknown f e = rw (h, ne-eqb b 83 f, ne-eqb b 84 e)
+  line-unknown f e = rw (h, ne-eqb b letterS f, ne-eqb b letterT e)
 
-  line-early : (b ≡ 83 → ⊥) → sinkDue l ≡ false → netLine n nets l bs ≡ refused 1
+  line-early : (b ≡ letterS → ⊥) → sinkDue l ≡ false → netLine n nets l bs ≡ refused 1
   unfolding netLine
-  line-early f d = rw (h, ne-eqb b 83 f, both-false-right (eqb b 84) (sinkDue l) d)
+  line-early f d = rw (h, ne-eqb b letterS f, both-false-right (eqb b letterT) (sinkDue l) d)
 
 -- ---- the steps
 
@@ -140,13 +137,13 @@ module _ {n nets : ℕ} {text : List ℕ} {c : NetCursor} {sources firstSinks si
     here = drop-cons text (c .at) 0 inside
 
     -- an S line
-    source-line-is : getD text (c .at) 0 ≡ 83 → sourceDue nets (netsAt c sources firstSinks sinks) ≡ true → netLine n nets (netsAt c sources firstSinks sinks) (drop (c .at) text) ≡ taking (withSource (netsAt c sources firstSinks sinks)) (sourceLine n nets (c .nets) (drop (c .at) text))
+    source-line-is : getD text (c .at) 0 ≡ letterS → sourceDue nets (netsAt c sources firstSinks sinks) ≡ true → netLine n nets (netsAt c sources firstSinks sinks) (drop (c .at) text) ≡ taking (withSource (netsAt c sources firstSinks sinks)) (sourceLine n nets (c .nets) (drop (c .at) text))
     unfolding nextSource
     source-line-is e d =
         line-source n nets (netsAt c sources firstSinks sinks) here e d
         ∙ ap (λ (i : ℕ). taking (withSource (netsAt c sources firstSinks sinks)) (sourceLine n nets i (drop (c .at) text))) sources-now
 
-    pub source-step : (step : NetStep) (sources' firstSinks' seen' : List ℕ) → getD text (c .at) 0 ≡ 83 → sourceDue nets (netsAt c sources firstSinks sinks) ≡ true → c .nets < nets → SourceAdded n nets text c step sources firstSinks seen sources' firstSinks' seen' (sourceLine n nets (c .nets) (drop (c .at) text)) → (netLineAt text step sources' firstSinks' sinks ≡ netLine n nets (netsAt c sources firstSinks sinks) (drop (c .at) text)) × KeptAfter n nets text c step sources' firstSinks' sinks seen'
+    pub source-step : (step : NetStep) (sources' firstSinks' seen' : List ℕ) → getD text (c .at) 0 ≡ letterS → sourceDue nets (netsAt c sources firstSinks sinks) ≡ true → c .nets < nets → SourceAdded n nets text c step sources firstSinks seen sources' firstSinks' seen' (sourceLine n nets (c .nets) (drop (c .at) text)) → (netLineAt text step sources' firstSinks' sinks ≡ netLine n nets (netsAt c sources firstSinks sinks) (drop (c .at) text)) × KeptAfter n nets text c step sources' firstSinks' sinks seen'
     unfolding sinksNow
     source-step (ns.Stopped number) sources' firstSinks' seen' e d b a = (sym (source-line-is e d ∙ ap (taking (withSource (netsAt c sources firstSinks sinks))) a), tt)
     source-step (ns.On next) sources' firstSinks' seen' e d b a =
@@ -181,13 +178,13 @@ module _ {n nets : ℕ} {text : List ℕ} {c : NetCursor} {sources firstSinks si
           ),
         )
 
-    pub source-undue : getD text (c .at) 0 ≡ 83 → sourceDue nets (netsAt c sources firstSinks sinks) ≡ false → refused 1 ≡ netLine n nets (netsAt c sources firstSinks sinks) (drop (c .at) text)
+    pub source-undue : getD text (c .at) 0 ≡ letterS → sourceDue nets (netsAt c sources firstSinks sinks) ≡ false → refused 1 ≡ netLine n nets (netsAt c sources firstSinks sinks) (drop (c .at) text)
     source-undue e d = sym (line-undue n nets (netsAt c sources firstSinks sinks) here e d)
 
-    pub other-letter : (getD text (c .at) 0 ≡ 83 → ⊥) → (getD text (c .at) 0 ≡ 84 → ⊥) → refused 1 ≡ netLine n nets (netsAt c sources firstSinks sinks) (drop (c .at) text)
+    pub other-letter : (getD text (c .at) 0 ≡ letterS → ⊥) → (getD text (c .at) 0 ≡ letterT → ⊥) → refused 1 ≡ netLine n nets (netsAt c sources firstSinks sinks) (drop (c .at) text)
     other-letter f e = sym (line-unknown n nets (netsAt c sources firstSinks sinks) here f e)
 
-    pub no-net : (getD text (c .at) 0 ≡ 83 → ⊥) → c .nets < 1 → refused 1 ≡ netLine n nets (netsAt c sources firstSinks sinks) (drop (c .at) text)
+    pub no-net : (getD text (c .at) 0 ≡ letterS → ⊥) → c .nets < 1 → refused 1 ≡ netLine n nets (netsAt c sources firstSinks sinks) (drop (c .at) text)
     unfolding sinkDue
     no-net f h = sym (line-early n nets (netsAt c sources firstSinks sinks) here f (lt-leb 1 (length (take (c .nets) sources)) (omega (arith, sources-now))))
 
@@ -197,13 +194,13 @@ module _ {n nets : ℕ} {text : List ℕ} {c : NetCursor} {sources firstSinks si
     one-sink-more node = rw (← k .first-is) (drop-append-le (c .first) (take (c .sinks) sinks) (node ∷ []) (omega (arith, all-sinks-now)))
 
     -- a T line
-    sink-line-is : (getD text (c .at) 0 ≡ 83 → ⊥) → getD text (c .at) 0 ≡ 84 → 1 ≤ c .nets → netLine n nets (netsAt c sources firstSinks sinks) (drop (c .at) text) ≡ taking (withSink (netsAt c sources firstSinks sinks)) (sinkLine n nets (c .nets - 1) (lastOf (take (c .nets) sources) ∷ sinksNow (netsAt c sources firstSinks sinks)) (c .sinks) (drop (c .at) text))
+    sink-line-is : (getD text (c .at) 0 ≡ letterS → ⊥) → getD text (c .at) 0 ≡ letterT → 1 ≤ c .nets → netLine n nets (netsAt c sources firstSinks sinks) (drop (c .at) text) ≡ taking (withSink (netsAt c sources firstSinks sinks)) (sinkLine n nets (c .nets - 1) (lastOf (take (c .nets) sources) ∷ sinksNow (netsAt c sources firstSinks sinks)) (c .sinks) (drop (c .at) text))
     unfolding nextSink sinkDue
     sink-line-is f e h =
         line-sink n nets (netsAt c sources firstSinks sinks) here f e (le-leb 1 (length (take (c .nets) sources)) (omega (arith, sources-now)))
         ∙ rw (sources-now, all-sinks-now)
 
-    pub sink-step : (step : NetStep) (sinks' seen' : List ℕ) → (getD text (c .at) 0 ≡ 83 → ⊥) → getD text (c .at) 0 ≡ 84 → 1 ≤ c .nets → ((pins : List ℕ) → Marked n (c .nets) seen pins → SinkAdded n nets text c step sinks seen sinks' seen' (sinkLine n nets (c .nets - 1) pins (c .sinks) (drop (c .at) text))) → (netLineAt text step sources firstSinks sinks' ≡ netLine n nets (netsAt c sources firstSinks sinks) (drop (c .at) text)) × KeptAfter n nets text c step sources firstSinks sinks' seen'
+    pub sink-step : (step : NetStep) (sinks' seen' : List ℕ) → (getD text (c .at) 0 ≡ letterS → ⊥) → getD text (c .at) 0 ≡ letterT → 1 ≤ c .nets → ((pins : List ℕ) → Marked n (c .nets) seen pins → SinkAdded n nets text c step sinks seen sinks' seen' (sinkLine n nets (c .nets - 1) pins (c .sinks) (drop (c .at) text))) → (netLineAt text step sources firstSinks sinks' ≡ netLine n nets (netsAt c sources firstSinks sinks) (drop (c .at) text)) × KeptAfter n nets text c step sources firstSinks sinks' seen'
     sink-step (ns.Stopped number) sinks' seen' f e h added =
         let a = added (lastOf (take (c .nets) sources) ∷ sinksNow (netsAt c sources firstSinks sinks)) (k .marked h) in
         (sym (sink-line-is f e h ∙ ap (taking (withSink (netsAt c sources firstSinks sinks))) a), tt)

@@ -24,7 +24,7 @@ use Rattle.negotiation.specs.Job.{sinksBetween}
 use Rattle.negotiation.specs.Tables.{firstSinksSound, netSound}
 use Rattle.negotiation.proofs.NetTableLaws.{firsts-last}
 use Rattle.negotiation.proofs.MemberLaws.{lacks-append, distinct-append}
-use Rattle.text.specs.Lines.{printLine}
+use Rattle.text.specs.Lines.{letterS, letterT, printLine}
 use Rattle.text.specs.Printed.{joined, eachLine}
 use Rattle.text.proofs.LastLaws.{every-more}
 
@@ -32,7 +32,7 @@ use Rattle.text.proofs.LastLaws.{every-more}
 
 -- the text of net i of these tables
 abbrev pub netAt : List ℕ → List ℕ → List ℕ → ℕ → List ℕ
-netAt ss fs ts i = printLine 83 (i ∷ getD ss i 0 ∷ []) ++ eachLine 84 i (sinksBetween fs ts i)
+netAt ss fs ts i = printLine letterS (i ∷ getD ss i 0 ∷ []) ++ eachLine letterT i (sinksBetween fs ts i)
 
 -- the first sink places with the end of the last net
 abbrev pub ends : List ℕ → List ℕ → List ℕ
@@ -202,13 +202,13 @@ module _ {n nets m : ℕ} {ss fs ts : List ℕ} (g : Good n nets m ss fs ts) whe
           few = g .few;
         }
 
-    pub source-text : written (m + 1) (ss ++ (s ∷ [])) (ends fs ts) ts ≡ written m ss fs ts ++ printLine 83 (m ∷ s ∷ [])
+    pub source-text : written (m + 1) (ss ++ (s ∷ [])) (ends fs ts) ts ≡ written m ss fs ts ++ printLine letterS (m ∷ s ∷ [])
     unfolding eachLine
     source-text =
         rw add-one
         (joined-last (netAt (ss ++ (s ∷ [])) (ends (ends fs ts) ts) ts) 0 m m (omega arith)
-        ∙ rw (source-here, sinks-here, append-nil (printLine 83 (m ∷ s ∷ [])))
-        (ap (λ (r : List ℕ). r ++ printLine 83 (m ∷ s ∷ []))
+        ∙ rw (source-here, sinks-here, append-nil (printLine letterS (m ∷ s ∷ [])))
+        (ap (λ (r : List ℕ). r ++ printLine letterS (m ∷ s ∷ []))
         (joined-same (netAt (ss ++ (s ∷ [])) (ends (ends fs ts) ts) ts) (netAt ss (ends fs ts) ts) 0 m m (omega arith)
         (λ i h. rw (source-at i h, sinks-at i h)))))
 
@@ -251,11 +251,11 @@ module _ {n nets m : ℕ} {ss fs ts : List ℕ} (g : Good n nets m ss fs ts) whe
           few = omega arith;
         }
 
-    pub sink-text : written m ss fs (ts ++ (t ∷ [])) ≡ written m ss fs ts ++ printLine 84 (i ∷ t ∷ [])
+    pub sink-text : written m ss fs (ts ++ (t ∷ [])) ≡ written m ss fs ts ++ printLine letterT (i ∷ t ∷ [])
     sink-text =
         rw (← last, add-one)
         (joined-last (netAt ss (ends fs (ts ++ (t ∷ []))) (ts ++ (t ∷ []))) 0 i i (omega arith)
-        ∙ rw (sinks-grown, eachLine-last 84 i (sinksBetween (ends fs ts) ts i) t)
+        ∙ rw (sinks-grown, eachLine-last letterT i (sinksBetween (ends fs ts) ts i) t)
         (rw (joined-same (netAt ss (ends fs (ts ++ (t ∷ []))) (ts ++ (t ∷ []))) (netAt ss (ends fs ts) ts) 0 i i (omega arith) (λ k h. rw (sinks-kept k h)))
         (rw (joined-last (netAt ss (ends fs ts) ts) 0 i i (omega arith)) (simp append-assoc))))
 

@@ -12,7 +12,7 @@ use lib.Dec.{eqb}
 use lib.ListN.{length, getD, take, drop, set, length-set}
 use lib.Seq.{length-take-le, take-suc-set}
 use borrow.Author.Tests.{lt-ltb, le-ltb, le-leb, lt-leb, eq-eqb, ne-eqb}
-use Rattle.text.specs.Lines.{taken, fields, line}
+use Rattle.text.specs.Lines.{letterN, taken, fields, line}
 use Rattle.text.specs.JobText.{values, refused, nodeWithin, nodeLine, part, stopped, nodeLists, nodeLines}
 use Rattle.text.specs.Steps.{begins, After, threeAt, ThreePlace, nodeAt, NodePlace}
 use Rattle.text.specs.declared.fields.Three.{Three}
@@ -44,18 +44,18 @@ module _ (n a b c : ℕ) where
   unfolding nodeWithin
   node-within l k m t = rw (lt-ltb a n l, le-leb b 15 k, le-leb 1 c m, le-leb c 255 t)
 
-pub node-other : (n v at : ℕ) (text : List ℕ) → begins 78 (drop at text) ≡ false → refused 1 ≡ nodeLine n v (drop at text)
+pub node-other : (n v at : ℕ) (text : List ℕ) → begins letterN (drop at text) ≡ false → refused 1 ≡ nodeLine n v (drop at text)
 unfolding nodeLine
-node-other n v at text b = rw (line-other 78 3 (drop at text) b)
+node-other n v at text b = rw (line-other letterN 3 (drop at text) b)
 
-module _ (n v at : ℕ) (text : List ℕ) {r : Three} (letter : begins 78 (drop at text) ≡ true) (read : threeAt text r ≡ fields 3 (drop (at + 1) text)) where
+module _ (n v at : ℕ) (text : List ℕ) {r : Three} (letter : begins letterN (drop at text) ≡ true) (read : threeAt text r ≡ fields 3 (drop (at + 1) text)) where
   pub node-shape : r ≡ h.Fault → refused 1 ≡ nodeLine n v (drop at text)
   unfolding nodeLine
-  node-shape e = rw (line-is 78 3 at text letter (sym (ap (threeAt text) e) ∙ read))
+  node-shape e = rw (line-is letterN 3 at text letter (sym (ap (threeAt text) e) ∙ read))
 
   module _ {a b c next : ℕ} (e : r ≡ h.Fields a b c next) where
-    shape : line 78 3 (drop at text) ≡ taken (a ∷ b ∷ c ∷ []) (drop next text)
-    shape = line-is 78 3 at text letter (sym (ap (threeAt text) e) ∙ read)
+    shape : line letterN 3 (drop at text) ≡ taken (a ∷ b ∷ c ∷ []) (drop next text)
+    shape = line-is letterN 3 at text letter (sym (ap (threeAt text) e) ∙ read)
 
     pub node-beyond : nodeWithin n (a ∷ b ∷ c ∷ []) ≡ false → refused 2 ≡ nodeLine n v (drop at text)
     unfolding nodeLine

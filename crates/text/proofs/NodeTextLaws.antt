@@ -16,7 +16,7 @@ use Rattle.price.specs.Lists.{every}
 use Rattle.price.proofs.ListLaws.{both-true, both-left, both-right, every-at}
 use Rattle.search.specs.Tables.{kindsSound, capacitiesSound}
 use Rattle.search.proofs.BlockLaws.{kinds-few, capacities-long}
-use Rattle.text.specs.Lines.{printLine}
+use Rattle.text.specs.Lines.{letterN, printLine}
 use Rattle.text.specs.JobText.{values, nodeWithin, nodeLine, part, NodeLists, nodeLists, nodeLines}
 use Rattle.text.specs.Printed.{joined}
 use Rattle.text.proofs.LastLaws.{every-more}
@@ -24,7 +24,7 @@ use Rattle.text.proofs.PrintLaws.{LineRead, judged-line, line-judged, o
 
 -- the line of node v: what `nodeText` unfolds to
 abbrev pub nodePrinted : List ℕ → List ℕ → ℕ → List ℕ
-nodePrinted kinds capacities v = printLine 78 (v ∷ getD kinds v 0 ∷ getD capacities v 0 ∷ [])
+nodePrinted kinds capacities v = printLine letterN (v ∷ getD kinds v 0 ∷ getD capacities v 0 ∷ [])
 
 abbrev kindWithin : ℕ → Bool
 kindWithin k = leb k kindMost
@@ -84,7 +84,7 @@ kept-last xs zs y m long kept = kept m (omega (arith, length-append xs (y ∷ []
 nodes-step :
     (n k : ℕ) (l l′ : NodeLists) (bs vs mid rest : List ℕ)
     → length (l .capacities) ≡ length (l .kinds)
-    → LineRead 78 3 (nodeWithin n) (λ vs. eqb (getD vs 0 0) (length (l .kinds))) bs vs mid
+    → LineRead letterN 3 (nodeWithin n) (λ vs. eqb (getD vs 0 0) (length (l .kinds))) bs vs mid
     → NodesTold n k (withNode l vs) l′ mid rest
     → NodesTold n (suc k) l l′ bs rest
 nodes-step n k l l′ bs vs mid rest even told r =
@@ -94,8 +94,8 @@ nodes-step n k l l′ bs vs mid rest even told r =
     let due : getD vs 0 0 ≡ m = eqb-true (getD vs 0 0) m (told .order) in
     let kind : getD (l′ .kinds) m 0 ≡ x = kept-last (l .kinds) (l′ .kinds) x m refl (r .kinds-kept) in
     let capacity : getD (l′ .capacities) m 0 ≡ y = kept-last (l .capacities) (l′ .capacities) y m even (r .capacities-kept) in
-    let here : printLine 78 vs ≡ nodePrinted (l′ .kinds) (l′ .capacities) m =
-    ap (printLine 78) (three vs (told .long) ∙ cc) in
+    let here : printLine letterN vs ≡ nodePrinted (l′ .kinds) (l′ .capacities) m =
+    ap (printLine letterN) (three vs (told .long) ∙ cc) in
     record {
       kinds-long = r .kinds-long;
       capacities-long = r .capacities-long;
@@ -104,7 +104,7 @@ nodes-step n k l l′ bs vs mid rest even told r =
       kinds-kept = kept-more (l .kinds) (l′ .kinds) x (r .kinds-kept);
       capacities-kept = kept-more (l .capacities) (l′ .capacities) y (r .capacities-kept);
       text =
-          joined-more (nodePrinted (l′ .kinds) (l′ .capacities)) m (length (l .kinds ++ (x ∷ []))) k bs (printLine 78 vs) mid rest (told .text) here
+          joined-more (nodePrinted (l′ .kinds) (l′ .capacities)) m (length (l .kinds ++ (x ∷ []))) k bs (printLine letterN vs) mid rest (told .text) here
           (length-append (l .kinds) (x ∷ []) ∙ add-one m) (r .text);
     }
 
@@ -133,8 +133,8 @@ nodes-from n (suc k) l l′ at at′ bs rest e even all ks cs =
     let r = onward-part (nodeLine n m bs) at (λ vs rest. nodeLines n k (withNode l vs) (at + 1) rest) l′ at′ rest e in
     let vs : List ℕ = r .0 in
     let mid : List ℕ = r .1 in
-    let told : LineRead 78 3 (nodeWithin n) (λ vs. eqb (getD vs 0 0) m) bs vs mid =
-    judged-line (nodeWithin n) (λ vs. eqb (getD vs 0 0) m) 78 3 bs vs mid (r .2) in
+    let told : LineRead letterN 3 (nodeWithin n) (λ vs. eqb (getD vs 0 0) m) bs vs mid =
+    judged-line (nodeWithin n) (λ vs. eqb (getD vs 0 0) m) letterN 3 bs vs mid (r .2) in
     let long : length (l .kinds ++ (getD vs 1 0 ∷ [])) ≡ length (l .kinds) + 1 = length-append (l .kinds) (getD vs 1 0 ∷ []) in
     let long′ : length (l .capacities ++ (getD vs 2 0 ∷ [])) ≡ length (l .capacities) + 1 = length-append (l .capacities) (getD vs 2 0 ∷ []) in
     nodes-step n k l l′ bs vs mid rest even told
@@ -187,7 +187,7 @@ module _ (n : ℕ) (kinds capacities : List ℕ) (kinds-long : length kinds ≡ 
       let capacity : getD capacities v 0 ≤ capacityMost =
       leb-true (getD capacities v 0) capacityMost
       (both-right (leb 1 (getD capacities v 0)) (leb (getD capacities v 0) capacityMost) (capacity-at v h)) in
-      line-judged (nodeWithin n) (λ vs. eqb (getD vs 0 0) v) 78 (v ∷ getD kinds v 0 ∷ getD capacities v 0 ∷ []) rest
+      line-judged (nodeWithin n) (λ vs. eqb (getD vs 0 0) v) letterN (v ∷ getD kinds v 0 ∷ getD capacities v 0 ∷ []) rest
       (both-true (lt-ltb v (10 ^ 6) (omega (arith, few)))
       (both-true (lt-ltb (getD kinds v 0) (10 ^ 6) (omega arith)) (both-true (lt-ltb (getD capacities v 0) (10 ^ 6) (omega arith)) refl)))
       (both-true (lt-ltb v n h) (both-true (kind-at v h) (capacity-at v h)))

@@ -9,7 +9,7 @@ use native.Mathlib.Omega.{arith}
 use lib.ListN.{length, take, drop, set, getD, length-append, length-take, length-drop, length-set, take-append-drop}
 use lib.Seq.{length-take-le, take-at, drop-append-add, drop-drop, take-suc, append-snoc, set-at, set-split}
 use Rattle.text.specs.Decimal.{decimal}
-use Rattle.text.specs.Lines.{printFields, printLine}
+use Rattle.text.specs.Lines.{lf, comma, printFields, printLine}
 use Rattle.text.specs.ReadReplies.{laid}
 use Rattle.text.specs.WriteSteps.{placed, Put}
 use Rattle.text.proofs.DecimalLaws.{Parted, parted-start, parted-next, parted-end, parted-long}
@@ -132,7 +132,7 @@ put-room {at} {p} {xs} {b₀} {b₁} f k fits =
 -- a field before the rest of its line
 pub put-field-then :
     {p q r : ℕ} {b₁ b₂ b₃ : List ℕ} (v : ℕ) (vs : List ℕ)
-    → Put p (44 ∷ decimal v) b₁ b₂ q → p + length (printFields (v ∷ vs)) ≤ length b₁
+    → Put p (comma ∷ decimal v) b₁ b₂ q → p + length (printFields (v ∷ vs)) ≤ length b₁
     → (q + length (printFields vs) ≤ length b₂ → Put q (printFields vs) b₂ b₃ r) → Put p (printFields (v ∷ vs)) b₁ b₃ r
 unfolding printFields
 put-field-then v vs f fits rest =
@@ -149,6 +149,6 @@ put-letter-then vs f fits rest =
     put-then f (rest (put-room f (length (printFields vs)) (omega arith))) (omega arith)
 
 -- LF is what a line without further fields has
-pub put-last : {p q : ℕ} {b₀ b₁ : List ℕ} → Put p (10 ∷ []) b₀ b₁ q → Put p (printFields []) b₀ b₁ q
+pub put-last : {p q : ℕ} {b₀ b₁ : List ℕ} → Put p (lf ∷ []) b₀ b₁ q → Put p (printFields []) b₀ b₁ q
 unfolding printFields
 put-last f = f

@@ -182,7 +182,7 @@ printed-fields zero (b ∷ bs) vs rest e =
     let end : taken [] bs ≡ taken vs rest = rw q at e in
     let none : [] ≡ vs = cc in
     let follow : bs ≡ rest = cc in
-    let byte : b ≡ 10 = eqb-true b lf q in
+    let byte : b ≡ lf = eqb-true b lf q in
     (rw (← none), rw (← none, byte, follow)))
     (λ (q : eqb b lf ≡ false).
     let bad : malformed ≡ taken vs rest = rw q at e in

@@ -12,7 +12,7 @@ use Rattle.price.proofs.ListLaws.{le-or-lt}
 use Rattle.search.specs.Replies.{sinksMost}
 use Rattle.negotiation.specs.Job.{Job}
 use Rattle.text.specs.JobText.{Part, readText}
-use Rattle.text.specs.ReadReplies.{Tables, ReadReply, notRead, shortTable, laid, tablesWith, jobNumbers, laidReply, replyOf, readReply}
+use Rattle.text.specs.ReadReplies.{Tables, notRead, shortTable, laid, tablesWith, jobNumbers, laidReply, replyOf, readReply}
 use Rattle.text.specs.ReadSteps.{RoomForAll, CountsWithin, jobTaken, jobAt, JobPlace, Over, shortest}
 use Rattle.text.specs.declared.reader.JobLines.{JobLines}
 use Rattle.text.specs.declared.reader.JobLines.the-variants as jl
@@ -140,11 +140,10 @@ module _ (n edges nets count limit : ℕ) (kinds capacities firstEdges edgeTarge
         rw (short-is, ← is, zero-is, nodes-are, edges-are, nets-are, count-is, ← one, ← two, ← three, ← four, ← five, ← six, ← seven)
 
 -- all lines are read, and what lies over the tables is that job; or a line was refused
-pub job-read : (text : List ℕ) (x : JobLines) (n edges nets count limit line : ℕ) (kinds capacities firstEdges edgeTargets sources firstSinks sinks : List ℕ) (t : Tables) (r : ReadReply) → x ≡ jl.Counts n edges nets count limit line → jobAt x kinds capacities firstEdges edgeTargets sources firstSinks sinks ≡ readText text → r ≡ laidReply (jobTaken n edges nets count limit kinds capacities firstEdges edgeTargets sources firstSinks sinks) t → r ≡ readReply text t
+pub job-read : (text : List ℕ) (x : JobLines) (n edges nets count limit line : ℕ) (kinds capacities firstEdges edgeTargets sources firstSinks sinks : List ℕ) (t : Tables) → x ≡ jl.Counts n edges nets count limit line → jobAt x kinds capacities firstEdges edgeTargets sources firstSinks sinks ≡ readText text → laidReply (jobTaken n edges nets count limit kinds capacities firstEdges edgeTargets sources firstSinks sinks) t ≡ readReply text t
 unfolding readReply
-job-read text x n edges nets count limit line kinds capacities firstEdges edgeTargets sources firstSinks sinks t r is read reply =
-    reply
-    ∙ ap (λ (p : Part Job). replyOf p t) (ap (λ (y : JobLines). jobAt y kinds capacities firstEdges edgeTargets sources firstSinks sinks) (sym is) ∙ read)
+job-read text x n edges nets count limit line kinds capacities firstEdges edgeTargets sources firstSinks sinks t is read =
+    ap (λ (p : Part Job). replyOf p t) (ap (λ (y : JobLines). jobAt y kinds capacities firstEdges edgeTargets sources firstSinks sinks) (sym is) ∙ read)
 
 pub job-stopped : (text : List ℕ) (x : JobLines) (k line : ℕ) (kinds capacities firstEdges edgeTargets sources firstSinks sinks : List ℕ) (t : Tables) → x ≡ jl.Stopped k line → jobAt x kinds capacities firstEdges edgeTargets sources firstSinks sinks ≡ readText text → notRead (k ∷ line ∷ []) t ≡ readReply text t
 unfolding readReply

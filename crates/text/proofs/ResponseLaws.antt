@@ -8,12 +8,11 @@ use Prim.Native.Nat.{ℕ, _≤_, zero-le}
 use native.Mathlib.Omega.{arith}
 use lib.Dec.{leb, ltb}
 use lib.ListN.{length, take, drop, length-append}
-use Rattle.price.specs.Test.{choose}
 use Rattle.price.proofs.ListLaws.{either-way}
 use Rattle.negotiation.specs.Job.{Job}
 use Rattle.negotiation.specs.Records.{decode}
 use Rattle.negotiation.specs.Outcome.{RouteReply, routeReply}
-use Rattle.text.specs.Lines.{printLine}
+use Rattle.text.specs.Lines.{letterX, printLine}
 use Rattle.text.specs.JobText.{Part, part, stopped, readText}
 use Rattle.text.specs.ReadReplies.{Tables, shortTable, tablesWith, laid}
 use Rattle.text.specs.Routes.{routesText, logSound, textReply, writeReply}
@@ -58,9 +57,9 @@ line-fits : (numbers : List ℕ) (l : Lent) → lineResponse (refusalLine number
 unfolding refusalLine
 line-fits numbers l =
     ⊎-elim
-    (λ (e : ltb (length (l .routes)) (length (printLine 88 numbers)) ≡ true). rw e zero-le)
-    (λ (e : ltb (length (l .routes)) (length (printLine 88 numbers)) ≡ false). rw e (laid-long (printLine 88 numbers) (l .routes)))
-    (either-way (ltb (length (l .routes)) (length (printLine 88 numbers))))
+    (λ (e : ltb (length (l .routes)) (length (printLine letterX numbers)) ≡ true). rw e zero-le)
+    (λ (e : ltb (length (l .routes)) (length (printLine letterX numbers)) ≡ false). rw e (laid-long (printLine letterX numbers) (l .routes)))
+    (either-way (ltb (length (l .routes)) (length (printLine letterX numbers))))
 
 answer-fits : (refusal : List ℕ) (r : RunReply) → r .bytes ≤ length (r .lent .routes) → answered refusal r .bytes ≤ length (answered refusal r .lent .routes)
 answer-fits [] r h = h

@@ -28,7 +28,9 @@ use Rattle.text.specs.JobText.{Part, part, stopped, readText}
 use Rattle.text.specs.ReadReplies.{Tables, shortTable, laid, tablesWith, ReadReply, notRead, jobNumbers, laidReply, replyOf, readReply}
 use Rattle.text.specs.Routes.{WriteReply, writeReply}
 use Rattle.text.specs.RunReplies.{Lent, lentOf, RunReply, runReplyOf, afterWrite, afterRoute, routeRun, runOf, runReply, writtenTold, runTold, inputMost, responseOf, LineReply, lineTold, refusalLine, lineResponse, answered, response}
+use Rattle.text.specs.WriteSteps.{shownOf}
 use Rattle.text.specs.declared.RunAnswer.{RunAnswer}
+use Rattle.text.specs.declared.RunAnswer.the-variants as ra
 use Rattle.text.proofs.TextHolds.{accepted-printed}
 
 -- ---- the router's reply
@@ -237,13 +239,17 @@ module _ (input : List ℕ) (l : Lent) (short : length input ≤ inputMost) wher
   unfolding response
   responded r e = rw (le-ltb inputMost (length input) short) (ap (λ (x : RunReply). answered (x .refusal) x) e)
 
-  pub written-out : (bytes : ℕ) (l′ : Lent) → runReplyOf [] bytes l′ ≡ runReply input l → responseOf bytes l′ ≡ response input l
-  written-out bytes l′ e = responded (runReplyOf [] bytes l′) e
-
-  pub line-out :
-      (k : ℕ) (ks : List ℕ) (t : Tables) (work log routes : List ℕ) (bytes : ℕ) (routes′ : List ℕ)
-      → runReplyOf (k ∷ ks) 0 (lentOf t work log routes) ≡ runReply input l → lineTold bytes routes′ ≡ refusalLine (k ∷ ks) routes
+  -- the routes text, or the line of the refusal
+  pub shown-out :
+      (r : RunAnswer) (t : Tables) (work log routes : List ℕ) (bytes : ℕ) (routes′ : List ℕ)
+      → runTold r (lentOf t work log routes) ≡ runReply input l → lineTold bytes routes′ ≡ shownOf r routes
       → responseOf bytes (lentOf t work log routes′) ≡ response input l
-  line-out k ks t work log routes bytes routes′ e line =
-      ap (λ (x : LineReply). lineResponse x (lentOf t work log routes)) line
-      ∙ responded (runReplyOf (k ∷ ks) 0 (lentOf t work log routes)) e
+  shown-out (ra.Written b) t work log routes bytes routes′ e shown =
+      ap (λ (x : LineReply). lineResponse x (lentOf t work log routes)) shown
+      ∙ responded (runReplyOf [] b (lentOf t work log routes)) e
+  shown-out (ra.One k v) t work log routes bytes routes′ e shown =
+      ap (λ (x : LineReply). lineResponse x (lentOf t work log routes)) shown
+      ∙ responded (runReplyOf (k ∷ v ∷ []) 0 (lentOf t work log routes)) e
+  shown-out (ra.Two k v w) t work log routes bytes routes′ e shown =
+      ap (λ (x : LineReply). lineResponse x (lentOf t work log routes)) shown
+      ∙ responded (runReplyOf (k ∷ v ∷ w ∷ []) 0 (lentOf t work log routes)) e

@@ -12,7 +12,7 @@ use native.Mathlib.Nat.{add-zero}
 use native.Mathlib.Omega.{arith}
 use lib.ListN.{length, getD, take, drop, length-append, length-take, length-drop}
 use lib.Seq.{getD-take, getD-drop, drop-cons, length-take-le}
-use Rattle.text.specs.Lines.{printLine}
+use Rattle.text.specs.Lines.{letterB, printLine}
 use Rattle.text.specs.Routes.{steps, branchText}
 use Rattle.text.specs.WriteSteps.{Put}
 use Rattle.text.proofs.PlacedLaws.{placed-none, put-length, put-then}
@@ -89,7 +89,7 @@ part log from to = take (to - from) (drop from log)
 
 -- the line of the step to a place of the log
 abbrev pub stepLine : ℕ → List ℕ → ℕ → List ℕ
-stepLine net log k = printLine 66 (net ∷ getD log (k - 1) 0 ∷ getD log k 0 ∷ [])
+stepLine net log k = printLine letterB (net ∷ getD log (k - 1) 0 ∷ getD log k 0 ∷ [])
 
 -- the lines of the steps to this place and those after it
 abbrev pub stepsLeft : ℕ → List ℕ → ℕ → ℕ → ℕ → List ℕ
@@ -143,7 +143,7 @@ module _ {net from to bytes k : ℕ} {log : List ℕ} (fits : to ≤ length log)
   pub stepping-more : {r : ℕ} → k < to → r ≡ length (printLine 0 (net ∷ getD log (k - 1) 0 ∷ getD log k 0 ∷ [])) → r ≤ 65 → Stepping net log from to (bytes + r) (k + 1)
   stepping-more {r} l e most =
       let above = p .above in
-      let long = letter-any 0 66 (net ∷ getD log (k - 1) 0 ∷ getD log k 0 ∷ []) in
+      let long = letter-any 0 letterB (net ∷ getD log (k - 1) 0 ∷ getD log k 0 ∷ []) in
       let more = ap length (left-more net log from to k above fits l) in
       record {
         above = omega arith;

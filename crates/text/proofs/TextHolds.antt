@@ -18,8 +18,8 @@ use Rattle.search.proofs.TableLaws.{edges-all}
 use Rattle.negotiation.specs.Job.{Job, jobOf, nodes, nets, netSinks}
 use Rattle.negotiation.specs.Tables.{sourcesSound, firstSinksSound, sinksSound, limitSound, SoundJob}
 use Rattle.negotiation.proofs.JobLaws.{nets-some, nets-few, limit-some, limit-few}
-use Rattle.text.specs.Lines.{printLine}
-use Rattle.text.specs.JobText.{part, Counts, headPart, NodeLists, nodeLists, nodeLines, EdgeLists, edgeLists, edgeLines, NetLists, netLists, netLines, firstPlaces, jobRead, readText}
+use Rattle.text.specs.Lines.{letterF, printLine}
+use Rattle.text.specs.JobText.{Part, part, andThen, Counts, headPart, NodeLists, nodeLists, nodeLines, EdgeLists, edgeLists, edgeLines, NetLists, netLists, netLines, firstPlaces, jobRead, readText}
 use Rattle.text.specs.Printed.{joined, nodeText, rowText, netText, printJob, Accepts, Exactly}
 use Rattle.text.proofs.PrintLaws.{then-part}
 use Rattle.text.proofs.HeadTextLaws.{HeadBounds, head-read, head-printed}
@@ -38,7 +38,7 @@ module _
     (nodes-are : length kinds ≡ n) (edges-are : length targets ≡ m) (nets-are : length sources ≡ k) where
   made-text :
       printJob (jobOf kinds capacities first targets sources firsts sinks limit)
-      ≡ printLine 70 (n ∷ m ∷ k ∷ limit ∷ [])
+      ≡ printLine letterF (n ∷ m ∷ k ∷ limit ∷ [])
       ++ (joined (nodePrinted kinds capacities) 0 n ++ (edgesText n first targets ++ joined (netAt sources firsts sinks) 0 k))
   unfolding printJob nodeText rowText row netText netSinks
   made-text = rw (nodes-are, edges-are, nets-are)
@@ -72,7 +72,7 @@ module _
 -- what the four parts of a text tell together
 parts-told :
     (c : Counts) (ns : NodeLists) (es : EdgeLists) (ts : NetLists) (bs rest1 rest2 rest3 rest4 : List ℕ)
-    → HeadBounds c → bs ≡ printLine 70 (c .nodes ∷ c .edges ∷ c .nets ∷ c .limit ∷ []) ++ rest1
+    → HeadBounds c → bs ≡ printLine letterF (c .nodes ∷ c .edges ∷ c .nets ∷ c .limit ∷ []) ++ rest1
     → NodesTold (c .nodes) (c .nodes) (nodeLists [] []) ns rest1 rest2
     → EdgesTold (c .nodes) (c .edges) es rest2 rest3
     → TablesRead (c .nodes) (c .nets) ts rest3 rest4
@@ -91,33 +91,56 @@ parts-told c ns es ts bs rest1 rest2 rest3 rest4 head whole nr er tr =
           (nr .kinds-long) (er .targets-long) (tr .count))),
     )
 
+-- the stages of a text after its head line
+abbrev netStage : Counts → NodeLists → EdgeLists → ℕ → List ℕ → Part Job
+netStage c ns es at bs =
+    andThen (netLines (length bs) (c .nodes) (c .nets) (netLists [] [] []) at bs) (λ ts end rest. part (jobRead c ns es ts) end rest)
+
+abbrev edgeStage : Counts → NodeLists → ℕ → List ℕ → Part Job
+edgeStage c ns at bs =
+    andThen (edgeLines (c .nodes) (c .edges) (edgeLists [] []) at bs) (λ es next rest. netStage c ns es next rest)
+
+abbrev nodeStage : Counts → ℕ → List ℕ → Part Job
+nodeStage c at bs = andThen (nodeLines (c .nodes) (c .nodes) (nodeLists [] []) at bs) (λ ns next rest. edgeStage c ns next rest)
+
+-- a stage that gives a job, once the parts before it are read
+module _
+    (bs : List ℕ) (j : Job) (at : ℕ) (rest : List ℕ) (c : Counts) (rest1 : List ℕ)
+    (head : HeadBounds c) (whole : bs ≡ printLine letterF (c .nodes ∷ c .edges ∷ c .nets ∷ c .limit ∷ []) ++ rest1) where
+  after-edges :
+      (ns : NodeLists) (es : EdgeLists) (at3 : ℕ) (rest2 rest3 : List ℕ)
+      → NodesTold (c .nodes) (c .nodes) (nodeLists [] []) ns rest1 rest2 → EdgesTold (c .nodes) (c .edges) es rest2 rest3
+      → netStage c ns es at3 rest3 ≡ part j at rest → SoundJob j × (bs ≡ printJob j) × (rest ≡ [])
+  after-edges ns es at3 rest2 rest3 nr er e =
+      let r = then-part (netLines (length rest3) (c .nodes) (c .nets) (netLists [] [] []) at3 rest3) _ j at rest e in
+      let ts : NetLists = r .0 in
+      let rest4 : List ℕ = r .2 in
+      let made : part (jobRead c ns es ts) (r .1) rest4 ≡ part j at rest = r .4 in
+      let same : jobRead c ns es ts ≡ j = cc in
+      let left : rest4 ≡ rest = cc in
+      let tables : TablesRead (c .nodes) (c .nets) ts rest3 rest4 =
+      nets-read (length rest3) (c .nodes) (c .nets) ts at3 (r .1) rest3 rest4 (head .some-nets) (head .few-nets) (r .3) in
+      let told = parts-told c ns es ts bs rest1 rest2 rest3 rest4 head whole nr er tables in
+      (rw same at (told .0), rw same at (told .1), rw left at (tables .end))
+
+  after-nodes :
+      (ns : NodeLists) (at2 : ℕ) (rest2 : List ℕ) → NodesTold (c .nodes) (c .nodes) (nodeLists [] []) ns rest1 rest2
+      → edgeStage c ns at2 rest2 ≡ part j at rest → SoundJob j × (bs ≡ printJob j) × (rest ≡ [])
+  after-nodes ns at2 rest2 nr e =
+      let q = then-part (edgeLines (c .nodes) (c .edges) (edgeLists [] []) at2 rest2) (λ es next more. netStage c ns es next more) j at rest e in
+      after-edges ns (q .0) (q .1) rest2 (q .2) nr (edges-read (c .nodes) (c .edges) (q .0) at2 (q .1) rest2 (q .2) (q .3)) (q .4)
+
+  after-head : (at1 : ℕ) → nodeStage c at1 rest1 ≡ part j at rest → SoundJob j × (bs ≡ printJob j) × (rest ≡ [])
+  after-head at1 e =
+      let p = then-part (nodeLines (c .nodes) (c .nodes) (nodeLists [] []) at1 rest1) (λ ns next more. edgeStage c ns next more) j at rest e in
+      after-nodes (p .0) (p .1) (p .2) (nodes-read (c .nodes) (p .0) at1 (p .1) rest1 (p .2) (p .3)) (p .4)
+
 pub accepted-printed : (bs : List ℕ) (j : Job) (at : ℕ) (rest : List ℕ) → readText bs ≡ part j at rest → SoundJob j × (bs ≡ printJob j) × (rest ≡ [])
 unfolding readText
 accepted-printed bs j at rest e =
-    let a = then-part (headPart bs) _ j at rest e in
-    let c : Counts = a .0 in
-    let at1 : ℕ = a .1 in
-    let rest1 : List ℕ = a .2 in
-    let p = then-part (nodeLines (c .nodes) (c .nodes) (nodeLists [] []) at1 rest1) _ j at rest (a .4) in
-    let ns : NodeLists = p .0 in
-    let at2 : ℕ = p .1 in
-    let rest2 : List ℕ = p .2 in
-    let q = then-part (edgeLines (c .nodes) (c .edges) (edgeLists [] []) at2 rest2) _ j at rest (p .4) in
-    let es : EdgeLists = q .0 in
-    let at3 : ℕ = q .1 in
-    let rest3 : List ℕ = q .2 in
-    let r = then-part (netLines (length rest3) (c .nodes) (c .nets) (netLists [] [] []) at3 rest3) _ j at rest (q .4) in
-    let ts : NetLists = r .0 in
-    let rest4 : List ℕ = r .2 in
-    let made : part (jobRead c ns es ts) (r .1) rest4 ≡ part j at rest = r .4 in
-    let same : jobRead c ns es ts ≡ j = cc in
-    let left : rest4 ≡ rest = cc in
-    let head = head-read bs c at1 rest1 (a .3) in
-    let tables : TablesRead (c .nodes) (c .nets) ts rest3 rest4 =
-    nets-read (length rest3) (c .nodes) (c .nets) ts at3 (r .1) rest3 rest4 (head .0 .some-nets) (head .0 .few-nets) (r .3) in
-    let told = parts-told c ns es ts bs rest1 rest2 rest3 rest4 (head .0) (head .1)
-    (nodes-read (c .nodes) ns at1 at2 rest1 rest2 (p .3)) (edges-read (c .nodes) (c .edges) es at2 at3 rest2 rest3 (q .3)) tables in
-    (rw same at (told .0), rw same at (told .1), rw left at (tables .end))
+    let a = then-part (headPart bs) (λ c next more. nodeStage c next more) j at rest e in
+    let head = head-read bs (a .0) (a .1) (a .2) (a .3) in
+    after-head bs j at rest (a .0) (a .2) (head .0) (head .1) (a .1) (a .4)
 
 -- ---- a sound job's printed form
 

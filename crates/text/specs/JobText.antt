@@ -12,7 +12,7 @@ use Rattle.search.specs.Tables.{edgesMost}
 use Rattle.search.specs.Replies.{sinksMost}
 use Rattle.negotiation.specs.Tables.{netsMost}
 use Rattle.negotiation.specs.Job.{Job, jobOf}
-use Rattle.text.specs.Lines.{Fields, taken, malformed, line}
+use Rattle.text.specs.Lines.{letterF, letterN, letterE, letterS, letterT, Fields, taken, malformed, line}
 
 -- ---- a line
 
@@ -39,14 +39,14 @@ headWithin vs =
     (both (leb (getD vs 1 0) edgesMost) (both (between 1 netsMost (getD vs 2 0)) (between 1 limitMost (getD vs 3 0))))
 
 unfoldable pub headLine : List ℕ → Reading (List ℕ)
-headLine bs = judged headWithin (λ vs. true) (line 70 4 bs)
+headLine bs = judged headWithin (λ vs. true) (line letterF 4 bs)
 
 -- "`N,node,kind,capacity` in order": of n nodes, node v is due
 unfoldable pub nodeWithin : ℕ → List ℕ → Bool
 nodeWithin n vs = both (ltb (getD vs 0 0) n) (both (leb (getD vs 1 0) kindMost) (between 1 capacityMost (getD vs 2 0)))
 
 unfoldable pub nodeLine : ℕ → ℕ → List ℕ → Reading (List ℕ)
-nodeLine n v bs = judged (nodeWithin n) (λ vs. eqb (getD vs 0 0) v) (line 78 3 bs)
+nodeLine n v bs = judged (nodeWithin n) (λ vs. eqb (getD vs 0 0) v) (line letterN 3 bs)
 
 -- "`E,from,to` rising by from, then to": after so many edges, the last of which is from `lastFrom` to `lastTo`
 unfoldable pub rises : ℕ → ℕ → ℕ → ℕ → ℕ → Bool
@@ -61,7 +61,7 @@ edgeOrdered count lastFrom lastTo vs =
     both (not (eqb (getD vs 0 0) (getD vs 1 0))) (rises count lastFrom lastTo (getD vs 0 0) (getD vs 1 0))
 
 unfoldable pub edgeLine : ℕ → ℕ → ℕ → ℕ → List ℕ → Reading (List ℕ)
-edgeLine n count lastFrom lastTo bs = judged (edgeWithin n) (edgeOrdered count lastFrom lastTo) (line 69 2 bs)
+edgeLine n count lastFrom lastTo bs = judged (edgeWithin n) (edgeOrdered count lastFrom lastTo) (line letterE 2 bs)
 
 -- "`S,net,node`" and "`T,net,node`": "node and net numbers not below their count are 2"
 unfoldable pub pinWithin : ℕ → ℕ → List ℕ → Bool
@@ -69,14 +69,14 @@ pinWithin n nets vs = both (ltb (getD vs 0 0) nets) (ltb (getD vs 1 0) n)
 
 -- the source of net i
 unfoldable pub sourceLine : ℕ → ℕ → ℕ → List ℕ → Reading (List ℕ)
-sourceLine n nets i bs = judged (pinWithin n nets) (λ vs. eqb (getD vs 0 0) i) (line 83 2 bs)
+sourceLine n nets i bs = judged (pinWithin n nets) (λ vs. eqb (getD vs 0 0) i) (line letterS 2 bs)
 
 -- a sink of net i, whose source and sinks so far are `pins`, after so many sinks of all nets: "repeated sink, sink = source; a 4,097th sink"
 unfoldable pub sinkOrdered : ℕ → List ℕ → ℕ → List ℕ → Bool
 sinkOrdered i pins count vs = both (eqb (getD vs 0 0) i) (both (not (has (getD vs 1 0) pins)) (ltb count sinksMost))
 
 unfoldable pub sinkLine : ℕ → ℕ → ℕ → List ℕ → ℕ → List ℕ → Reading (List ℕ)
-sinkLine n nets i pins count bs = judged (pinWithin n nets) (sinkOrdered i pins count) (line 84 2 bs)
+sinkLine n nets i pins count bs = judged (pinWithin n nets) (sinkOrdered i pins count) (line letterT 2 bs)
 
 -- ---- lines one after the other
 
@@ -188,8 +188,8 @@ taking f (refused k) = refused k
 unfoldable pub netLine : ℕ → ℕ → NetLists → List ℕ → Reading NetLists
 netLine n nets l [] = refused 1
 netLine n nets l (b ∷ bs) =
-    choose (both (eqb b 83) (sourceDue nets l)) (taking (withSource l) (nextSource n nets l (b ∷ bs)))
-    (choose (both (eqb b 84) (sinkDue l)) (taking (withSink l) (nextSink n nets l (b ∷ bs))) (refused 1))
+    choose (both (eqb b letterS) (sourceDue nets l)) (taking (withSource l) (nextSource n nets l (b ∷ bs)))
+    (choose (both (eqb b letterT) (sinkDue l)) (taking (withSink l) (nextSink n nets l (b ∷ bs))) (refused 1))
 
 -- the lines of the nets, at most so many: no text has more lines than bytes
 unfoldable pub netLines : ℕ → ℕ → ℕ → NetLists → ℕ → List ℕ → Part NetLists

@@ -5,6 +5,7 @@ pub mod Printed
 pub mod Steps
 pub mod ReadReplies
 pub mod Routes
+pub mod Listed
 pub mod ReadSteps
 pub mod WriteSteps
 pub mod RunReplies

@@ -12,6 +12,31 @@ lf = 10
 abbrev pub comma : ℕ
 comma = 44
 
+-- ASCII codes of 01's line letters: F, N, E, S and T of a job text, R and B of a routes text, X of a refusal
+abbrev pub letterF : ℕ
+letterF = 70
+
+abbrev pub letterN : ℕ
+letterN = 78
+
+abbrev pub letterE : ℕ
+letterE = 69
+
+abbrev pub letterS : ℕ
+letterS = 83
+
+abbrev pub letterT : ℕ
+letterT = 84
+
+abbrev pub letterR : ℕ
+letterR = 82
+
+abbrev pub letterB : ℕ
+letterB = 66
+
+abbrev pub letterX : ℕ
+letterX = 88
+
 -- ---- reading
 
 -- "Each field reading gives a number with the next place, or a fault": here with the bytes that follow

@@ -7,7 +7,7 @@ use lib.ListN.{length, getD}
 use Rattle.search.specs.Block.{row}
 use Rattle.negotiation.specs.Job.{Job, nodes, nets, source, netSinks}
 use Rattle.negotiation.specs.Tables.{SoundJob}
-use Rattle.text.specs.Lines.{printLine}
+use Rattle.text.specs.Lines.{letterF, letterN, letterE, letterS, letterT, printLine}
 use Rattle.text.specs.JobText.{part, readText}
 
 -- the texts of m, m + 1, .., one after the other, so many of them
@@ -22,20 +22,20 @@ eachLine letter first (x ∷ xs) = printLine letter (first ∷ x ∷ []) ++ each
 
 -- "`N,node,kind,capacity` in order"
 unfoldable pub nodeText : Job → ℕ → List ℕ
-nodeText j v = printLine 78 (v ∷ getD (j .block .kinds) v 0 ∷ getD (j .block .capacities) v 0 ∷ [])
+nodeText j v = printLine letterN (v ∷ getD (j .block .kinds) v 0 ∷ getD (j .block .capacities) v 0 ∷ [])
 
 -- "`E,from,to` rising by from, then to"
 unfoldable pub rowText : Job → ℕ → List ℕ
-rowText j u = eachLine 69 u (row (j .block) u)
+rowText j u = eachLine letterE u (row (j .block) u)
 
 -- "per net in order `S,net,node`, then one or more `T,net,node`"
 unfoldable pub netText : Job → ℕ → List ℕ
-netText j i = printLine 83 (i ∷ source j i ∷ []) ++ eachLine 84 i (netSinks j i)
+netText j i = printLine letterS (i ∷ source j i ∷ []) ++ eachLine letterT i (netSinks j i)
 
 -- "`F,nodes,edges,nets,limit`", then nodes, edges and nets; "end of text"
 unfoldable pub printJob : Job → List ℕ
 printJob j =
-    printLine 70 (nodes j ∷ length (j .block .edgeTargets) ∷ nets j ∷ j .limit ∷ [])
+    printLine letterF (nodes j ∷ length (j .block .edgeTargets) ∷ nets j ∷ j .limit ∷ [])
     ++ (joined (nodeText j) 0 (nodes j) ++ (joined (rowText j) 0 (nodes j) ++ joined (netText j) 0 (nets j)))
 
 -- the reader takes the text for this job

@@ -11,7 +11,7 @@ use Rattle.price.specs.Lists.{every}
 use Rattle.negotiation.specs.Tables.{netsMost}
 use Rattle.negotiation.specs.Records.{Record, decode}
 use Rattle.negotiation.specs.Demand.{latest}
-use Rattle.text.specs.Lines.{printLine}
+use Rattle.text.specs.Lines.{letterR, letterB, printLine}
 use Rattle.text.specs.JobText.{between}
 use Rattle.text.specs.ReadReplies.{laid}
 use Rattle.text.specs.declared.WriteAnswer.{WriteAnswer}
@@ -96,11 +96,11 @@ ofNet i (b ∷ bs) = choose (eqb (b .net) i) (b ∷ ofNet i bs) (ofNet i bs)
 -- "`B,net,from,to`"
 unfoldable pub branchText : List Branch → List ℕ
 branchText [] = []
-branchText (b ∷ bs) = printLine 66 (b .net ∷ b .from ∷ b .to ∷ []) ++ branchText bs
+branchText (b ∷ bs) = printLine letterB (b .net ∷ b .from ∷ b .to ∷ []) ++ branchText bs
 
 -- "`R,iteration,turns` from the last record and the record count, then `B,net,from,to` for each path step of records with that iteration"
 unfoldable pub routesText : List Record → List ℕ
-routesText rs = printLine 82 (lastIteration rs ∷ length rs ∷ []) ++ branchText (routeBranches rs)
+routesText rs = printLine letterR (lastIteration rs ∷ length rs ∷ []) ++ branchText (routeBranches rs)
 
 -- ---- the writer
 

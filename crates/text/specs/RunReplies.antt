@@ -7,7 +7,7 @@ use lib.ListN.{length, take}
 use Rattle.price.specs.Test.{choose}
 use Rattle.negotiation.specs.Job.{Job}
 use Rattle.negotiation.specs.Outcome.{RouteReply, routeReply}
-use Rattle.text.specs.Lines.{printLine}
+use Rattle.text.specs.Lines.{letterX, printLine}
 use Rattle.text.specs.JobText.{Part, part, stopped, readText}
 use Rattle.text.specs.ReadReplies.{Tables, shortTable, tablesWith, laid}
 use Rattle.text.specs.Routes.{WriteReply, writeReply}
@@ -99,8 +99,8 @@ lineTold bytes buffer = record { bytes = bytes; buffer = buffer }
 -- "`X,` and the numbers of the refusal's first column below, parted by commas, then LF"; nothing where the buffer is too short for the line
 unfoldable pub refusalLine : List ℕ → List ℕ → LineReply
 refusalLine numbers buffer =
-    choose (ltb (length buffer) (length (printLine 88 numbers))) (lineTold 0 buffer)
-    (lineTold (length (printLine 88 numbers)) (laid (printLine 88 numbers) buffer))
+    choose (ltb (length buffer) (length (printLine letterX numbers))) (lineTold 0 buffer)
+    (lineTold (length (printLine letterX numbers)) (laid (printLine letterX numbers) buffer))
 
 abbrev pub lineResponse : LineReply → Lent → Response
 lineResponse x l = responseOf (x .bytes) (lentOf (l .tables) (l .work) (l .log) (x .buffer))

@@ -4,7 +4,7 @@ ghost use mathlib.Core.Path.{_≡_};
 ghost use Prim.Native.Nat.{_+_, _≤_};
 ghost use lib.ListN.{length};
 ghost use Rattle.text.specs.Decimal.{decimal};
-ghost use Rattle.text.specs.Lines.{printLine};
+ghost use Rattle.text.specs.Lines.{comma, printLine};
 ghost use Rattle.text.specs.WriteSteps.{Put};
 
 // How many digits a number has.
@@ -20,7 +20,7 @@ pub fn digit_count(n: u64) -> usize
     count
 }
 
-// Writes a number's digits, the last one first.
+// Writes a number's digits, the last one first. 48 is the digit 0.
 fn put_number(buffer: &mut [u8], at: usize, n: u64) -> usize
     requires { ⌜ at + length (decimal n) ≤ length (now buffer) ⌝ }
     ensures { λ r. ⌜ Put at (decimal n) (now (buffer .entry)) (now (buffer .exit)) r ⌝ }
@@ -47,7 +47,7 @@ fn put_byte(buffer: &mut [u8], at: usize, byte: u8) -> usize
 // Writes a comma and a number.
 fn put_field(buffer: &mut [u8], at: usize, n: u64) -> usize
     requires { ⌜ at + (1 + length (decimal n)) ≤ length (now buffer) ⌝ }
-    ensures { λ r. ⌜ Put at (44 ∷ decimal n) (now (buffer .entry)) (now (buffer .exit)) r ⌝ }
+    ensures { λ r. ⌜ Put at (comma ∷ decimal n) (now (buffer .entry)) (now (buffer .exit)) r ⌝ }
 {
     let next = put_byte(buffer, at, b',');
     put_number(buffer, next, n)
@@ -66,7 +66,7 @@ pub fn three_length(first: u64, second: u64, third: u64) -> usize
     digit_count(first) + digit_count(second) + digit_count(third) + 5
 }
 
-// Writes a line of two fields.
+// Writes a line of two fields. 10 is LF.
 pub fn put_two(buffer: &mut [u8], at: usize, letter: u8, first: u64, second: u64) -> usize
     requires { ⌜ at + length (printLine letter (first ∷ second ∷ [])) ≤ length (now buffer) ⌝ }
     ensures { λ r. ⌜ Put at (printLine letter (first ∷ second ∷ [])) (now (buffer .entry)) (now (buffer .exit)) r ⌝ }

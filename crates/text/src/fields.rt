@@ -61,10 +61,10 @@ pub fn stands(text: &[u8], at: usize, byte: u8) -> bool
 fn is_digit(b: u8) -> bool
     ensures { λ r. ⌜ r ≡ isDigit b ⌝ }
 {
-    if b < 48 {
+    if b < b'0' {
         return false;
     }
-    b <= 57
+    b <= b'9'
 }
 
 // A number that begins with this digit goes on over at most five more.
@@ -75,7 +75,7 @@ fn further_digits(text: &[u8], at: usize, first: u32) -> Field
 {
     let mut value = first;
     let mut next = at;
-    let mut left = 5;
+    let mut left: u32 = 5;
     while 0 < left {
         if text.len() <= next {
             return Field::Number {
@@ -90,7 +90,7 @@ fn further_digits(text: &[u8], at: usize, first: u32) -> Field
                 next: next,
             };
         }
-        value = value * 10 + (b - 48) as u32;
+        value = value * 10 + (b - b'0') as u32;
         next += 1;
         left -= 1;
     }
@@ -109,7 +109,7 @@ fn number(text: &[u8], at: usize) -> Field
         return Field::Fault;
     }
     let b = text[at];
-    if b == 48 {
+    if b == b'0' {
         return Field::Number {
             value: 0,
             next: at + 1,
@@ -118,7 +118,7 @@ fn number(text: &[u8], at: usize) -> Field
     if !is_digit(b) {
         return Field::Fault;
     }
-    further_digits(text, at + 1, (b - 48) as u32)
+    further_digits(text, at + 1, (b - b'0') as u32)
 }
 
 // A field after a comma, at a place of the text.
@@ -165,6 +165,7 @@ pub fn comma_field(text: &[u8], at: usize) -> Field
     read_field(moved(start(text), at))
 }
 
+// Two fields, then 10, which is LF.
 pub fn two_fields(text: &[u8], at: usize) -> Two
     ensures { λ r. ⌜ twoAt (now (text .entry)) r ≡ fields 2 (drop at (now (text .entry))) ⌝ }
     ensures { λ r. ⌜ TwoPlace at (now (text .entry)) r ⌝ }

@@ -6,6 +6,7 @@ ghost use lib.ListN.{length, take};
 ghost use Rattle.negotiation.specs.Job.{jobOf};
 ghost use Rattle.text.specs.ReadReplies.{Tables, tablesOf};
 ghost use Rattle.text.specs.Routes.{writeReply};
+ghost use Rattle.text.specs.WriteSteps.{shownOf};
 ghost use Rattle.text.specs.RunReplies.{lentOf, routeRun, runReply, runTold, writtenTold, refusalLine, lineTold, responseOf, response};
 use crate::ReadAnswer;
 use crate::RunAnswer;
@@ -168,6 +169,21 @@ fn put_pair(number: u32, first: u64, second: u64, routes: &mut [u8]) -> usize
     decimal::put_three(routes, 0, b'X', number as u64, first, second)
 }
 
+// What an answer leaves in the routes buffer: the routes text that stands there already, or the line of the refusal.
+fn put_answer(answer: RunAnswer, routes: &mut [u8]) -> usize
+    ensures { λ r. ⌜ lineTold r (now (routes .exit)) ≡ shownOf answer (now (routes .entry)) ⌝ }
+{
+    match answer {
+        RunAnswer::Written(bytes) => bytes,
+        RunAnswer::One { number, value } => put_one(number, value, routes),
+        RunAnswer::Two {
+            number,
+            first,
+            second,
+        } => put_pair(number, first, second, routes),
+    }
+}
+
 // What the program prints for its input: the routes text, or the line of the refusal. It stands at the beginning of the routes buffer.
 pub fn respond(
     input: &[u8],
@@ -187,7 +203,7 @@ pub fn respond(
     if 65536 < input.len() {
         return put_one(12, 65536, routes);
     }
-    match run(
+    let answer = run(
         input,
         kind,
         capacity,
@@ -199,13 +215,6 @@ pub fn respond(
         work,
         log,
         routes,
-    ) {
-        RunAnswer::Written(bytes) => bytes,
-        RunAnswer::One { number, value } => put_one(number, value, routes),
-        RunAnswer::Two {
-            number,
-            first,
-            second,
-        } => put_pair(number, first, second, routes),
-    }
+    );
+    put_answer(answer, routes)
 }

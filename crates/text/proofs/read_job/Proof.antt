@@ -1,7 +1,9 @@
 -- `text::read_job` meets its contract: all lines are read into tables of its own, and the job is laid over those that were lent.
 -- Assumes nothing.
+use mathlib.Core.Path.{_∙_}
 use native.Mathlib.Omega.{arith}
 use borrow.Author.Needs.{needs}
+use Rattle.text.specs.ReadReplies.{tablesOf}
 use Rattle.text.proofs.ReadJobLaws.{job-read, job-stopped, job-counts}
 use Rattle.text.proofs.read_job.Statement.{statement}
 use Rattle.text.proofs.read_job.Tie as tie
@@ -70,31 +72,41 @@ lay-job-requires c κs = let lines = c .before .before .before .before .before .
 enum-known-number : tie.Need-enum-known-number
 enum-known-number c = search needs
 
+-- the call of `lay_job` before the return, which leaves the lengths of the tables as they were
+abbrev over : tie.After-slice-known14 → tie.After-lay-job
+over c = c .before .before .before .before .before .before .before .before .before .before .before .before .before .before
+
 same-length : tie.Need-same-length
-same-length c = search needs
+same-length c = over c .lay-job .kept .1 .1 .1 .1 .1 .1 .1 .1 .1 .1 .1 .1 .0
 
 same-length-2 : tie.Need-same-length-2
-same-length-2 c = search needs
+same-length-2 c = over c .lay-job .kept .1 .1 .1 .1 .1 .1 .1 .1 .1 .1 .1 .1 .1 .0
 
 same-length-3 : tie.Need-same-length-3
-same-length-3 c = search needs
+same-length-3 c = over c .lay-job .kept .1 .1 .1 .1 .1 .1 .1 .1 .1 .1 .1 .1 .1 .1 .0
 
 same-length-4 : tie.Need-same-length-4
-same-length-4 c = search needs
+same-length-4 c = over c .lay-job .kept .1 .1 .1 .1 .1 .1 .1 .1 .1 .1 .1 .1 .1 .1 .1 .0
 
 same-length-5 : tie.Need-same-length-5
-same-length-5 c = search needs
+same-length-5 c = over c .lay-job .kept .1 .1 .1 .1 .1 .1 .1 .1 .1 .1 .1 .1 .1 .1 .1 .1 .0
 
 same-length-6 : tie.Need-same-length-6
-same-length-6 c = search needs
+same-length-6 c = over c .lay-job .kept .1 .1 .1 .1 .1 .1 .1 .1 .1 .1 .1 .1 .1 .1 .1 .1 .1 .0
 
 same-length-7 : tie.Need-same-length-7
-same-length-7 c = search needs
+same-length-7 c = over c .lay-job .kept .1 .1 .1 .1 .1 .1 .1 .1 .1 .1 .1 .1 .1 .1 .1 .1 .1 .1 .0
 
 returns : tie.Need-returns
 returns c = let lines = c .before .before .before .before .before .before .before .before .before .before .before .before .before .before .before .before .before .before .before .before .before .before .before .before .before .before .before .before .before .before .before .before .before .before .before .before .before .before .before .read-lines in
     let l = lines .last .1 in
-    job-read _ (lines .result) _ _ _ _ _ _ (l .0) (l .1 .0) (l .1 .1 .0) (l .1 .1 .1 .0) (l .1 .1 .1 .1 .0) (l .1 .1 .1 .1 .1 .0) (l .1 .1 .1 .1 .1 .1 .0) _ _ (c .before .before .before .before .before .before .before .before .before .before .before .before .before .before .before .before .before .before .before .before .before .before .before .before .before .before .before .before .before .before .nodes .given .1) (lines .ensures .0) (c .before .before .before .before .before .before .before .before .before .before .before .before .before .before .lay-job .ensures)
+    let a = c .before .before .before .before .before .before .before .before .before .before .before .before .before .before .before .before .before .before .before .before .before .before .before .before .before .before .before .before .before .before .before .before .before .before .before .before .before .before .before .before .before .before .before .before .before .before .before .before .before .before .before .before .before .before .before .args in
+    let known = c .before .before .before .before .before .before .before .before .before .before .before .before .before .before .before .before .before .before .before .before .before .before .before .before .before .before .before .before .before .before .nodes .given in
+    let counts = known .0 in
+    over c .lay-job .ensures
+    ∙ job-read (a .text .now) (lines .result) (counts .0) (counts .1 .0) (counts .1 .1 .0) (counts .1 .1 .1 .0) (counts .1 .1 .1 .1 .0) (counts .1 .1 .1 .1 .1 .0) (l .0) (l .1 .0) (l .1 .1 .0) (l .1 .1 .1 .0) (l .1 .1 .1 .1 .0) (l .1 .1 .1 .1 .1 .0) (l .1 .1 .1 .1 .1 .1 .0)
+    (tablesOf (a .kind .now) (a .capacity .now) (a .first-edge .now) (a .edge-target .now) (a .source .now) (a .first-sink .now) (a .sink .now))
+    (known .1) (lines .ensures .0)
 
 returns-2 : tie.Need-returns-2
 returns-2 c = let lines = c .before .before .before .before .before .before .before .before .before .before .read-lines in

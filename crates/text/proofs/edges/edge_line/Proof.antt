@@ -9,6 +9,7 @@ use lib.ListN.{drop}
 use denote.Ref.{now}
 use borrow.Author.Needs.{needs}
 use borrow.Author.Tests.{not-true, not-false}
+use Rattle.text.specs.Lines.{letterE}
 use Rattle.text.specs.Steps.{begins}
 use Rattle.text.proofs.FieldLaws.{begins-within}
 use Rattle.text.proofs.JudgedLaws.{two-place}
@@ -23,7 +24,7 @@ at-of c = c .before .before .before .args .at
 abbrev text-of : tie.Else1 → List ℕ
 text-of c = now (c .before .before .before .args .text)
 
-letter : (c : tie.Else1) → begins 69 (drop (at-of c) (text-of c)) ≡ true
+letter : (c : tie.Else1) → begins letterE (drop (at-of c) (text-of c)) ≡ true
 letter c = sym (c .before .stands .ensures) ∙ not-false _ (c .if1 .left)
 
 stands-requires : tie.Need-stands-requires
@@ -33,7 +34,7 @@ returns : tie.Need-returns
 returns c = (edge-other _ _ _ _ (c .before .before .before .args .at) (now (c .before .before .before .args .text)) (sym (c .before .stands .ensures) ∙ not-true _ (c .if1 .taken)), tt)
 
 add-two-fields : tie.Need-add-two-fields
-add-two-fields c = omega (arith, begins-within 69 (at-of c) (text-of c) (letter c))
+add-two-fields c = omega (arith, begins-within letterE (at-of c) (text-of c) (letter c))
 
 two-fields-requires : tie.Need-two-fields-requires
 two-fields-requires c κs = search needs

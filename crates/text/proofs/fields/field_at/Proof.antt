@@ -4,6 +4,7 @@ use mathlib.Core.Path.{sym}
 use native.Mathlib.Omega.{arith}
 use borrow.Author.Needs.{needs}
 use Rattle.search.proofs.TableLaws.{refused, passed}
+use Rattle.text.specs.Lines.{comma}
 use Rattle.text.proofs.FieldLaws.{begins-within, comma-other, comma-begins, field-onward}
 use Rattle.text.proofs.fields.field_at.Statement.{statement}
 use Rattle.text.proofs.fields.field_at.Tie as tie
@@ -15,7 +16,7 @@ returns : tie.Need-returns
 returns c = (sym (comma-other _ (refused (c .before .stands .ensures) (c .if1 .taken))), tt)
 
 add-number : tie.Need-add-number
-add-number c = omega (arith, begins-within 44 (c .before .before .before .args .at) (c .before .before .before .args .text .now) (passed (c .before .stands .ensures) (c .if1 .left)))
+add-number c = omega (arith, begins-within comma (c .before .before .before .args .at) (c .before .before .before .args .text .now) (passed (c .before .stands .ensures) (c .if1 .left)))
 
 number-requires : tie.Need-number-requires
 number-requires c κs = search needs

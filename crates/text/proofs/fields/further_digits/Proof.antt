@@ -2,13 +2,13 @@
 -- Assumes nothing.
 use mathlib.Core.Bool.{true}
 use mathlib.Core.Path.{_≡_}
-use Prim.Native.Nat.{_-_, _<_}
+use Prim.Native.Nat.{_-_, _≤_, _<_}
 use native.Mathlib.Omega.{arith}
 use lib.ListN.{length, getD}
 use borrow.Author.Needs.{needs}
 use Rattle.search.proofs.TableLaws.{refused, passed}
 use Rattle.text.specs.Decimal.{isDigit}
-use Rattle.text.proofs.FieldLaws.{Digits, digits-start, digits-past, digits-other, digits-full, digits-step, digits-room, digit-least, digit-most, count-some, count-none, count-fits, count-less}
+use Rattle.text.proofs.FieldLaws.{Digits, digits-start, digits-past, digits-other, digits-full, digits-step, digits-room, digit-least, digit-most}
 use Rattle.text.proofs.fields.further_digits.Statement.{statement}
 use Rattle.text.proofs.fields.further_digits.Tie as tie
 
@@ -20,7 +20,7 @@ abbrev μ-loop : tie.MeasureT-loop
 
 -- in a turn a digit may still come
 some : (c : tie.Else2 Inv-loop μ-loop) → 0 < c .before .before .before .before .before .loop .left
-some c = count-some _ (c .before .before .before .before .before .loop .inv .few) (c .before .before .before .before .loop-test .taken)
+some c = c .before .before .before .before .loop-test .taken
 
 -- and it did
 digit : (c : tie.Else2 Inv-loop μ-loop) → isDigit (getD (c .before .before .before .before .before .before .before .args .text .now) (c .before .before .before .before .before .loop .next) 0) ≡ true
@@ -57,16 +57,16 @@ add-next : tie.Need-add-next Inv-loop μ-loop
 add-next c = search needs
 
 sub-left : tie.Need-sub-left Inv-loop μ-loop
-sub-left c = count-fits _ (c .before .before .before .before .before .loop .inv .few) (some c)
+sub-left c = some c
 
 loop-less : tie.Need-loop-less Inv-loop μ-loop
 loop-less c = search needs
 
 loop-again : tie.Need-loop-again Inv-loop μ-loop
-loop-again c = rw (count-less (c .before .before .before .before .before .loop .left) (c .before .before .before .before .before .loop .inv .few) (some c)) (digits-step (c .before .before .before .before .before .loop .inv) (some c) (search needs) (digit c))
+loop-again c = digits-step (c .before .before .before .before .before .loop .inv) (some c) (search needs) (digit c)
 
 returns-3 : tie.Need-returns-3 Inv-loop μ-loop
-returns-3 c = digits-full (c .before .loop .inv) (count-none _ (c .before .loop .inv .few) (c .loop-test .left))
+returns-3 c = let none : c .before .loop .left ≤ 0 = c .loop-test .left in digits-full (c .before .loop .inv) (omega arith)
 
 pub further-digits-spec : {M : Type 1} → statement M
 further-digits-spec =

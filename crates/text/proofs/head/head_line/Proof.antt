@@ -5,13 +5,14 @@ use mathlib.Core.List.{[], _∷_}
 use mathlib.Core.Path.{_≡_, sym}
 use borrow.Author.Needs.{needs}
 use Rattle.search.proofs.TableLaws.{refused, passed}
+use Rattle.text.specs.Lines.{letterF}
 use Rattle.text.specs.Steps.{begins}
 use Rattle.text.proofs.FieldLaws.{Taken, four-read, four-fault, taken-here}
 use Rattle.text.proofs.HeadLineLaws.{head-other, head-malformed, head-beyond, head-read}
 use Rattle.text.proofs.head.head_line.Statement.{statement}
 use Rattle.text.proofs.head.head_line.Tie as tie
 
-begun : (c : tie.Else1) → begins 70 (c .before .before .before .args .text .now) ≡ true
+begun : (c : tie.Else1) → begins letterF (c .before .before .before .args .text .now) ≡ true
 begun c = passed (c .before .stands .ensures) (c .if1 .left)
 
 four : (c : tie.After-known-told) → Taken 4 1 (c .before .before .before .before .before .before .before .args .text .now) ((c .before .first .given .0 .0) ∷ (c .before .first .given .0 .1 .0) ∷ (c .before .first .given .0 .1 .1 .0) ∷ (c .before .first .given .0 .1 .1 .1 .0) ∷ []) (c .before .first .given .0 .1 .1 .1 .1 .0)

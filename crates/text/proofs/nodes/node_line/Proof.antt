@@ -9,6 +9,7 @@ use lib.ListN.{drop}
 use denote.Ref.{now}
 use borrow.Author.Needs.{needs}
 use borrow.Author.Tests.{not-true, not-false}
+use Rattle.text.specs.Lines.{letterN}
 use Rattle.text.specs.Steps.{begins}
 use Rattle.text.proofs.FieldLaws.{begins-within}
 use Rattle.text.proofs.NodeLineLaws.{node-beyond-count, node-beyond-kind, node-beyond-least, node-beyond-most, node-within, node-other, node-shape, node-beyond, node-wrong, node-taken, three-place}
@@ -22,7 +23,7 @@ at-of c = c .before .before .before .args .at
 abbrev text-of : tie.Else1 → List ℕ
 text-of c = now (c .before .before .before .args .text)
 
-letter : (c : tie.Else1) → begins 78 (drop (at-of c) (text-of c)) ≡ true
+letter : (c : tie.Else1) → begins letterN (drop (at-of c) (text-of c)) ≡ true
 letter c = sym (c .before .stands .ensures) ∙ not-false _ (c .if1 .left)
 
 stands-requires : tie.Need-stands-requires
@@ -32,7 +33,7 @@ returns : tie.Need-returns
 returns c = (node-other _ _ (c .before .before .before .args .at) (now (c .before .before .before .args .text)) (sym (c .before .stands .ensures) ∙ not-true _ (c .if1 .taken)), tt)
 
 add-three-fields : tie.Need-add-three-fields
-add-three-fields c = omega (arith, begins-within 78 (at-of c) (text-of c) (letter c))
+add-three-fields c = omega (arith, begins-within letterN (at-of c) (text-of c) (letter c))
 
 three-fields-requires : tie.Need-three-fields-requires
 three-fields-requires c κs = search needs

@@ -1,0 +1,51 @@
+-- Document 01, "Routes text", from the reader's side: which branches its B lines list, by the records of the log and the places of their paths.
+-- Assumes nothing.
+use mathlib.Core.List.{List, [], _∷_, _++_, filter, flatMap, List·Memᴰ}
+use mathlib.Core.Path.{_≡_}
+use Prim.Native.Nat.{ℕ, suc, _-_, _<_}
+use native.Mathlib.Decide.{ℕ-discrete}
+use lib.ListN.{length, getD}
+use Rattle.price.specs.Lists.{upTo}
+use Rattle.negotiation.specs.Records.{Record, decode}
+use Rattle.text.specs.Lines.{letterR, letterB, taken, line, printLine}
+use Rattle.text.specs.Routes.{Branch}
+
+-- "`B,net,from,to`": the lines of a text, read one after the other to its end as a job text's are, give these branches
+pub data BranchLines : List ℕ → List Branch → Type 0 where
+  ended : BranchLines [] []
+  next : {bytes rest : List ℕ} {b : Branch} {bs : List Branch} → line letterB 3 bytes ≡ taken (b .net ∷ b .from ∷ b .to ∷ []) rest → BranchLines rest bs → BranchLines bytes (b ∷ bs)
+
+-- step k of a record's path, from its node k to its node k + 1
+unfoldable pub stepAt : Record → ℕ → Branch
+stepAt r k = record { net = r .net; from = getD (r .path) k 0; to = getD (r .path) (suc k) 0 }
+
+-- the steps of a record's path: one fewer than its nodes
+unfoldable pub pathSteps : Record → List Branch
+pathSteps r = upTo (stepAt r) (length (r .path) - 1)
+
+-- the records of this iteration, in log order
+unfoldable pub recordsOf : ℕ → List Record → List Record
+recordsOf t rs = filter (λ (r : Record). ℕ-discrete (r .iteration) t) rs
+
+-- their path steps, record after record
+unfoldable pub stepsOf : ℕ → List Record → List Branch
+stepsOf t rs = flatMap pathSteps (recordsOf t rs)
+
+-- "`R,iteration,turns` from the last record and the record count, then `B,net,from,to` for each path step of records with that iteration". The R line is said by its
+-- bytes: a record count may have more digits than a field that is read
+pub record Listed (log text : List ℕ) : Type 0 where
+  pub earlier : List Record
+  pub last : Record
+  pub last-is : decode log ≡ earlier ++ (last ∷ [])
+  pub rest : List ℕ
+  pub text-is : text ≡ printLine letterR (last .iteration ∷ length (decode log) ∷ []) ++ rest
+  pub lines : BranchLines rest (stepsOf (last .iteration) (decode log))
+
+-- a record of this iteration has the branch as a step of its path
+pub record StepOf (t : ℕ) (rs : List Record) (b : Branch) : Type 0 where
+  pub turn : Record
+  pub logged : List·Memᴰ turn rs
+  pub iteration-is : turn .iteration ≡ t
+  pub place : ℕ
+  pub within : suc place < length (turn .path)
+  pub branch-is : b ≡ stepAt turn place
