@@ -15,7 +15,7 @@ use Rattle.negotiation.specs.Tables.{sourcesSound, firstSinksSound, netS
 use Rattle.negotiation.specs.Records.{words, encode, fitting, pathNodes}
 use Rattle.negotiation.specs.Machine.{othersOf, usersOf, marksOf, congestionFor, turnOf, turnsOf, netRecords, afterNets, iterate, overfull, overCount, moveOn, firstState, stateAfter, recordsAfter, settlesAt}
 use Rattle.negotiation.specs.Outcome.{hasPath, unreachableNet, unreachablePlace, iterationsMade, allRecords, loggedRecords, cutIteration, logWith, endNumbers, negotiated, routeReply}
-use Rattle.negotiation.specs.Samples.{answer, jobB, settled, limited, filled, nearestFirst, cutOff, lowestFirst, samples}
+use Rattle.negotiation.specs.Samples.{answer, jobB, jobC, jobCut, jobDiamond, settled, limited, filled, nearestFirst, cutOff, lowestFirst, samples}
 
 -- all that a closed job computes with
 computing : Unit {0}
@@ -27,11 +27,12 @@ unfolding routeReply negotiated endNumbers logWith cutIteration loggedRecords al
     total placeOf least countBelow firstBelow upTo distinct has neighbours every
 computing = tt
 
+-- The job is written out on the left (`answer jobC 40` and not `nearestFirst .defined`): the comparison then takes a tenth of the time.
 settled-holds : answer (jobB 2) 40 ≡ settled .stated
 unfolding computing
 settled-holds = refl
 
-limited-holds : limited .defined ≡ limited .stated
+limited-holds : answer (jobB 1) 40 ≡ limited .stated
 unfolding computing
 limited-holds = refl
 
@@ -39,15 +40,15 @@ filled-holds : answer (jobB 2) 35 ≡ filled .stated
 unfolding computing
 filled-holds = refl
 
-nearest-first-holds : nearestFirst .defined ≡ nearestFirst .stated
+nearest-first-holds : answer jobC 40 ≡ nearestFirst .stated
 unfolding computing
 nearest-first-holds = refl
 
-cut-off-holds : cutOff .defined ≡ cutOff .stated
+cut-off-holds : answer jobCut 40 ≡ cutOff .stated
 unfolding computing
 cut-off-holds = refl
 
-lowest-first-holds : lowestFirst .defined ≡ lowestFirst .stated
+lowest-first-holds : answer jobDiamond 40 ≡ lowestFirst .stated
 unfolding computing
 lowest-first-holds = refl
 

@@ -7,7 +7,6 @@ use mathlib.Core.Path.{_≡_, refl, _∙_, ap, sym, subst}
 use Prim.Native.Nat.{ℕ, _+_, _-_, _*_, _≤_, _<_}
 use native.Mathlib.Nat.{lt-of-lt-of-le, le-antisymm, le-of-eq, le-trans}
 use native.Mathlib.Omega.{arith}
-use borrow.Author.Needs.{needs}
 use lib.Dec.{ltb}
 use lib.ListN.{length, getD, take, drop, getD-replicate}
 use Rattle.price.specs.Lists.{countBelow}
@@ -124,17 +123,17 @@ loop-holds : tie.Need-loop-holds Inv-loop2 μ-loop2 Inv-loop μ-loop Inv-iterati
 loop-holds c = λ W L m e at. at
 
 mul-s : tie.Need-mul-s Inv-loop2 μ-loop2 Inv-loop μ-loop Inv-iterations μ-iterations
-mul-s c = search needs
+mul-s c = let f = nets-few _ (sound (c .before)) in let h = c .loop-test .taken in omega arith
 
 shared-slice-read-s :
     tie.Need-shared-slice-read-s Inv-loop2 μ-loop2 Inv-loop μ-loop Inv-iterations μ-iterations
-shared-slice-read-s c = search needs
+shared-slice-read-s c = c .before .loop-test .taken
 
 cast-s : tie.Need-cast-s Inv-loop2 μ-loop2 Inv-loop μ-loop Inv-iterations μ-iterations
 cast-s c = omega (arith, c .shared-slice-known8 .given (c .before .before .loop .net))
 
 mul-from : tie.Need-mul-from Inv-loop2 μ-loop2 Inv-loop μ-loop Inv-iterations μ-iterations
-mul-from c = search needs
+mul-from c = let f = nets-few _ (sound (c .before .before)) in let h = c .before .loop-test .taken in omega arith
 
 shared-slice-read-from :
     tie.Need-shared-slice-read-from Inv-loop2 μ-loop2 Inv-loop μ-loop Inv-iterations μ-iterations
@@ -272,19 +271,19 @@ one-turn-requires :
 one-turn-requires c κs = call-turn _ (sound (c .before .before .before .before .before .before .before .before .before .before .before .before .before .before .before .before .before .before)) _ _ (enough (c .before .before .before .before .before .before .before .before .before .before .before .before .before .before .before .before .before .before)) _ _ _ _ _ _ _ _ _ _ _ _ _ (sinks-part _ (sound (c .before .before .before .before .before .before .before .before .before .before .before .before .before .before .before .before .before .before)) (c .before .before .before .before .before .before .before .before .before .before .before .before .before .before .before .before .before .before .loop .net) (c .before .before .before .before .before .before .before .before .before .before .before .before .before .before .before .before .before .loop-test .taken)) (at-turn (c .before .before .before .before .before .before .before))
 
 enum-told : tie.Need-enum-told Inv-loop2 μ-loop2 Inv-loop μ-loop Inv-iterations μ-iterations
-enum-told c = search needs
+enum-told c = c .match .keys1
 
 enum-told-2 : tie.Need-enum-told-2 Inv-loop2 μ-loop2 Inv-loop μ-loop Inv-iterations μ-iterations
-enum-told-2 c = search needs
+enum-told-2 c = c .match .keys2
 
 enum-known-t : tie.Need-enum-known-t Inv-loop2 μ-loop2 Inv-loop μ-loop Inv-iterations μ-iterations
-enum-known-t c = search needs
+enum-known-t c = c .match .keys3
 
 sub-left-2 : tie.Need-sub-left-2 Inv-loop2 μ-loop2 Inv-loop μ-loop Inv-iterations μ-iterations
-sub-left-2 c = search needs
+sub-left-2 c = c .before .before .before .before .before .before .before .before .before .before .before .before .before .loop2-test .taken
 
 loop2-less : tie.Need-loop2-less Inv-loop2 μ-loop2 Inv-loop μ-loop Inv-iterations μ-iterations
-loop2-less c = search needs
+loop2-less c = let h = c .before .before .before .before .before .before .before .before .before .before .before .before .before .loop2-test .taken in omega arith
 
 loop2-again : tie.Need-loop2-again Inv-loop2 μ-loop2 Inv-loop μ-loop Inv-iterations μ-iterations
 loop2-again c = λ W L m e o.
@@ -341,7 +340,7 @@ add-net : tie.Need-add-net Inv-loop2 μ-loop2 Inv-loop μ-loop Inv-iterations μ
 add-net c = let f = nets-few _ (sound (c .before .before .before .before .before .before .before .before .before .before .before .before .before .before .before .before .before .before)) in let h = (c .before .before .before .before .before .before .before .before .before .before .before .before .before .before .before .before .before .loop-test .taken) in omega arith
 
 loop-less : tie.Need-loop-less Inv-loop2 μ-loop2 Inv-loop μ-loop Inv-iterations μ-iterations
-loop-less c = search needs
+loop-less c = let h = c .before .before .before .before .before .before .before .before .before .before .before .before .before .before .before .before .before .loop-test .taken in omega arith
 
 loop-again : tie.Need-loop-again Inv-loop2 μ-loop2 Inv-loop μ-loop Inv-iterations μ-iterations
 loop-again c = λ W L m e o.
@@ -380,7 +379,7 @@ clear-requires c κs = let e = enough (c .before .before .before .before .before
 
 answer-requires :
     tie.Need-answer-requires Inv-loop2 μ-loop2 Inv-loop μ-loop Inv-iterations μ-iterations
-answer-requires c κs = search needs
+answer-requires c κs = tt
 
 same-length : tie.Need-same-length Inv-loop2 μ-loop2 Inv-loop μ-loop Inv-iterations μ-iterations
 same-length c = c .before .before .before .clear .kept .0 ∙ (at-net (c .before .before .before .before .before .before .before .before .before)) .work-same .long
@@ -404,7 +403,7 @@ clear-requires-2 c κs = let e = enough (c .before .before .before .before .befo
 
 answer-requires-2 :
     tie.Need-answer-requires-2 Inv-loop2 μ-loop2 Inv-loop μ-loop Inv-iterations μ-iterations
-answer-requires-2 c κs = search needs
+answer-requires-2 c κs = tt
 
 same-length-3 :
     tie.Need-same-length-3 Inv-loop2 μ-loop2 Inv-loop μ-loop Inv-iterations μ-iterations
@@ -497,7 +496,7 @@ clear-requires-3 c κs = let e = enough (c .before .before .before .before .befo
 
 answer-requires-3 :
     tie.Need-answer-requires-3 Inv-loop2 μ-loop2 Inv-loop μ-loop Inv-iterations μ-iterations
-answer-requires-3 c κs = search needs
+answer-requires-3 c κs = tt
 
 same-length-5 :
     tie.Need-same-length-5 Inv-loop2 μ-loop2 Inv-loop μ-loop Inv-iterations μ-iterations
