@@ -68,7 +68,7 @@ module _ (j : Job) (m : ℕ) (below : m < j .limit) (unsettled : (k : ℕ) → k
 
 module _ (j : Job) (s : State) where
   -- later iterations add records
-  records-more : (n m : ℕ) → m ≤ n → (later : List Record) × (recordsAfter j s n ≡ recordsAfter j s m ++ later)
+  pub records-more : (n m : ℕ) → m ≤ n → (later : List Record) × (recordsAfter j s n ≡ recordsAfter j s m ++ later)
   unfolding recordsAfter
   records-more zero m h = let e : m ≡ 0 = omega arith in ([], rw e)
   records-more (suc n) m h =

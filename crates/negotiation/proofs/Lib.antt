@@ -29,3 +29,4 @@ pub mod EndLaws
 pub mod KeepEnd
 pub mod KeepCalls
 pub mod RouteLaws
+pub mod LongerHolds

@@ -4,6 +4,7 @@ pub mod Records
 pub mod Machine
 pub mod Outcome
 pub mod Demand
+pub mod Longer
 pub mod TariffSteps
 pub mod Steps
 pub mod Flood
