@@ -107,7 +107,7 @@ pub firsts-most : (n m : ℕ) (fs : List ℕ) → firstSinksSound n m fs ≡ tru
 firsts-most n m fs s i h = firsts-below n m fs s (n - i) i (omega arith)
 
 -- the rule of table 7 for one net
-net-rule :
+pub net-rule :
     (n : ℕ) (ss fs ts : List ℕ) → sinksSound n ss fs ts ≡ true → (i : ℕ) → i < length ss
     → netSound n (getD ss i 0) (sinksBetween fs ts i) ≡ true
 unfolding sinksSound

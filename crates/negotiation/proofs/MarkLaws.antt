@@ -1,5 +1,4 @@
 -- Marks and users of nodes that are passed one after the other: what one node does, and two lists after each other do what their join does.
---     has-append                                membership in a join
 --     below-left, below-right, below-at         nodes of a part
 --     slice-more, slice-parts                   the part of a list that was passed
 --     set-none, -one, -append                   marks that are set
@@ -23,19 +22,8 @@ use lib.Seq.{length-take-le, take-suc, drop-append-le, take-take, getD-append-ad
 use borrow.Author.Tests.{eq-eqb, ne-eqb, eqb-true, eqb-false}
 use Rattle.price.specs.Test.{choose, both, either}
 use Rattle.price.specs.Lists.{has}
-use Rattle.price.proofs.ListLaws.{either-way, has-append-left, has-append-right}
+use Rattle.price.proofs.ListLaws.{either-way, has-append, has-append-left, has-append-right}
 use Rattle.negotiation.specs.Steps.{AllBelow, MarksSet, MarksCleared, Dropped, Added, CanDrop, CanAddMarked}
-
--- ---- membership
-
-pub has-append : (v : ℕ) (xs ys : List ℕ) → has v (xs ++ ys) ≡ either (has v xs) (has v ys)
-unfolding has
-has-append v [] ys = refl
-has-append v (x ∷ xs) ys =
-    ⊎-elim
-    (λ (q : eqb v x ≡ true). rw q)
-    (λ (q : eqb v x ≡ false). rw q (has-append v xs ys))
-    (either-way (eqb v x))
 
 -- ---- nodes of a part
 

@@ -9,16 +9,16 @@ use native.Mathlib.Nat.{not-suc-le-zero, le-of-suc-le-suc, le-refl, eq-or-lt-of-
 use native.Mathlib.Numerals.{add-one}
 use native.Mathlib.Omega.{arith}
 use lib.Dec.{eqb, leb}
-use lib.ListN.{length, getD, drop, length-append, getD-replicate, List·getD-append}
-use lib.Seq.{slice, take-append-seam, drop-append-seam, getD-append-add}
+use lib.ListN.{length, getD, drop, length-append, getD-replicate}
+use lib.Seq.{slice, take-append-seam, drop-append-seam}
 use borrow.Author.Tests.{eq-eqb, ne-eqb, lt-leb}
 use Rattle.price.specs.Bounds.{limitMost}
 use Rattle.price.specs.Test.{choose, both}
 use Rattle.price.specs.Lists.{has, countBelow}
-use Rattle.price.proofs.ListLaws.{true≢false, le-or-lt, count-less, count-same}
+use Rattle.price.proofs.ListLaws.{true≢false, count-less, count-same}
 use Rattle.negotiation.specs.Job.{Job, nodes, nets, source}
 use Rattle.negotiation.specs.Tables.{SoundJob}
-use Rattle.negotiation.specs.Records.{Record, encode, decode, pathNodes}
+use Rattle.negotiation.specs.Records.{Record, encode, decode}
 use Rattle.negotiation.specs.Machine.{State, treeAt, usersOf, othersOf, netRecords, afterNets, iterate, moveOn, firstState, stateAfter, recordsAfter}
 use Rattle.negotiation.specs.Outcome.{logWith}
 use Rattle.negotiation.specs.Steps.{AllBelow, Whole, leading, oldTree, oldNext}
@@ -27,6 +27,7 @@ use Rattle.negotiation.proofs.RecordLaws.{decode-encode, encode-append}
 use Rattle.negotiation.proofs.FilterLaws.{All, all-append, all-map, all-splits}
 use Rattle.negotiation.proofs.NetLaws.{state-ready, net-turn}
 use Rattle.negotiation.proofs.KeepLaws.{oldBefore, stateFor}
+use Rattle.negotiation.proofs.TurnStepLaws.{paths-below}
 
 -- ---- counts
 
@@ -85,21 +86,6 @@ record Owned (j : Job) (k : ℕ) (r : Record) : Type 0 where
 record Above (j : Job) (i : ℕ) (r : Record) : Type 0 where
   net-above : i < r .net
   path-below : AllBelow (nodes j) (r .path)
-
-below-append : (n : ℕ) (xs ys : List ℕ) → AllBelow n xs → AllBelow n ys → AllBelow n (xs ++ ys)
-below-append n xs ys h k i l =
-    let long : length (xs ++ ys) ≡ length xs + length ys = length-append xs ys in
-    ⊎-elim
-    (λ (g : length xs ≤ i).
-    let e : i ≡ length xs + (i - length xs) = omega arith in
-    rw (ap (λ (p : ℕ). getD (xs ++ ys) p 0) e ∙ getD-append-add xs ys (i - length xs) 0) (k (i - length xs) (omega arith)))
-    (λ (g : i < length xs). rw (List·getD-append xs ys 0 i g) (h i g))
-    (le-or-lt (length xs) i)
-
-paths-below : (n : ℕ) (rs : List Record) → All (λ r. AllBelow n (r .path)) rs → AllBelow n (pathNodes rs)
-unfolding pathNodes
-paths-below n [] h = λ i l. absurd (not-suc-le-zero l)
-paths-below n (r ∷ rs) h = below-append n (r .path) (pathNodes rs) (h .0) (paths-below n rs (h .1))
 
 -- records of net i lead where none of it follows
 leading-none : (j : Job) (i : ℕ) (rs : List Record) → All (Above j i) rs → leading i rs ≡ []

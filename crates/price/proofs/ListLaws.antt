@@ -1,7 +1,7 @@
 -- Laws of the functions of `specs/Lists.antt`: each from its entries, and its entries from it.
 --     every-all, every-none, every-at           a test of every entry
 --     neighbours-all, neighbours-none, -at      a test of each two neighbours
---     has-at, has-place, has-append-left, -right  membership
+--     has-at, has-place, has-append, -left, -right  membership
 --     length-upTo, getD-upTo, upTo-more         a list made by places
 --     firstBelow-le, -holds, -below, -is, -all  the lowest number that passes a test
 --     count-most, count-le, -less, -same        how many numbers pass a test
@@ -137,6 +137,12 @@ has-place x (y ∷ ys) e =
     let r = has-place x ys (subst (λ (t : Bool). either t (has x ys) ≡ true) q e) in
     (suc (r .0), suc-le-suc (r .1), r .2))
     (either-way (eqb x y))
+
+pub has-append : (x : ℕ) (xs ys : List ℕ) → has x (xs ++ ys) ≡ either (has x xs) (has x ys)
+unfolding has
+has-append x [] ys = refl
+has-append x (z ∷ zs) ys =
+    ⊎-elim (λ q. rw q) (λ (q : eqb x z ≡ false). rw q (has-append x zs ys)) (either-way (eqb x z))
 
 pub has-append-left : (x : ℕ) (xs ys : List ℕ) → has x xs ≡ true → has x (xs ++ ys) ≡ true
 unfolding has

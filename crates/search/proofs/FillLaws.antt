@@ -24,7 +24,7 @@ use Rattle.price.specs.Replies.{Reply, priced, toldOf, priceReply}
 use Rattle.price.specs.declared.PriceAnswer.{PriceAnswer}
 use Rattle.price.specs.declared.PriceAnswer.the-variants.{Price, Refused}
 use Rattle.price.proofs.ReplyLaws.{reply-priced}
-use Rattle.price.proofs.ListLaws.{either-way, both-false-right, either-true, either-false}
+use Rattle.price.proofs.ListLaws.{either-way, both-false-right, either-true, either-false, has-append}
 use Rattle.search.specs.Block.{blockOf}
 use Rattle.search.specs.Turn.{congestionOf, priceAt}
 use Rattle.search.specs.Frontier.{PriceReady}
@@ -181,12 +181,6 @@ starting-all l s = record {
 }
 
 -- ---- the loop that marks goals
-
-has-append : (x : ℕ) (xs ys : List ℕ) → has x (xs ++ ys) ≡ either (has x xs) (has x ys)
-unfolding has
-has-append x [] ys = refl
-has-append x (z ∷ zs) ys =
-    ⊎-elim (λ q. rw q) (λ (q : eqb x z ≡ false). rw q (has-append x zs ys)) (either-way (eqb x z))
 
 -- one entry more
 has-more : (x : ℕ) (xs : List ℕ) (i : ℕ) → i < length xs → has x (take (i + 1) xs) ≡ either (has x (take i xs)) (eqb x (getD xs i 0))

@@ -13,12 +13,12 @@ use lib.ListN.{length, getD, take, length-append}
 use lib.Seq.{slice, slice-empty, slice-cons, length-slice, take-suc, take-all, length-take-le, getD-take}
 use borrow.Author.Tests.{le-leb, lt-ltb, leb-true, ltb-true, eqb-true, eq-eqb}
 use Rattle.price.specs.Bounds.{nodesMost}
-use Rattle.price.specs.Lists.{every, has, upTo}
-use Rattle.price.proofs.ListLaws.{either-way, both-true, both-left, both-right, every-at, length-upTo, getD-upTo}
+use Rattle.price.specs.Lists.{every, has}
+use Rattle.price.proofs.ListLaws.{either-way, both-true, both-left, both-right, every-at}
 use Rattle.search.specs.Replies.{sinksMost}
 use Rattle.negotiation.specs.Job.{sinksBetween}
 use Rattle.negotiation.specs.Tables.{netsMost, sourcesSound, firstSinksSound, netSound, sinksSound}
-use Rattle.negotiation.proofs.JobLaws.{sources-some, sources-few, source-below, firsts-long, firsts-end, firsts-order, firsts-most}
+use Rattle.negotiation.proofs.JobLaws.{sources-some, sources-few, source-below, firsts-long, firsts-end, firsts-order, firsts-most, net-rule}
 use Rattle.negotiation.proofs.MarkLaws.{below-at, slice-parts}
 use Rattle.text.specs.Lines.{letterS, letterT, taken, line, printLine}
 use Rattle.text.specs.JobText.{values, lastOf, pinWithin, sourceLine, sinkOrdered, sinkLine, part, NetLists, netLists, sinksNow, sourceDue, sinkDue, complete, netEnd, withSource, withSink, nextSource, nextSink, netLine, netLines}
@@ -127,12 +127,8 @@ module _
   unfolding sinksSound
   sinks-few = leb-true (length ts) sinksMost (both-left _ _ sinks-sound)
 
-  -- the rule of table 7 for one net
   rule : (i : ℕ) → i < length ss → netSound n (getD ss i 0) (sinksBetween fs ts i) ≡ true
-  unfolding sinksSound
-  rule i h =
-      let here = every-at (λ i. netSound n (getD ss i 0) (sinksBetween fs ts i)) (upTo (λ i. i) (length ss)) (both-right (leb (length ts) sinksMost) _ sinks-sound) i (rw length-upTo h) in
-      rw (getD-upTo (λ i. i) (length ss) i 0 h) at here
+  rule = net-rule n ss fs ts sinks-sound
 
   -- in the last net i
   module _ (m i p : ℕ) (last : i + 1 ≡ m) (few : m ≤ length ss) where
