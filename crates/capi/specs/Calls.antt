@@ -30,14 +30,12 @@ pub record Call : Type 0 where
 abbrev pub callOf : ℕ → List ℕ → Call
 callOf returned out = record { returned = returned; out = out }
 
--- a call whose `out` has fewer than 8 entries does nothing and returns 0
-abbrev pub unless : List ℕ → Call → Call
-unless out c = choose (ltb (length out) 8) (callOf 0 out) c
+-- In each of the five a call whose `out` has fewer than 8 entries does nothing and returns 0.
 
 -- price: 3 price
 unfoldable pub priceCall : ℕ → ℕ → ℕ → ℕ → ℕ → List ℕ → Call
 priceCall kind factor others capacity history out =
-    unless out
+    choose (ltb (length out) 8) (callOf 0 out)
     (callOf 1 (told (p.priceReply kind factor others capacity history .refusal) (p.priceReply kind factor others capacity history .price ∷ []) out))
 
 -- search, with the work slice afterwards

@@ -1,4 +1,4 @@
--- The tariff after each step that brings it up to date.
+-- The tariff after each step that brings it up to date. Only contracts of private functions cite this file: no caller has to believe it.
 -- Assumes nothing.
 use Prim.Native.Nat.{ℕ, _+_}
 use Rattle.price.specs.Prices.{nextFactor}

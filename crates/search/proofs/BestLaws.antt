@@ -2,14 +2,14 @@
 -- Assumes nothing.
 use mathlib.Core.List.{List}
 use mathlib.Core.Logic.{⊎-elim, inl, inr}
-use mathlib.Core.Path.{_≡_, sym, _∙_, ap, subst}
+use mathlib.Core.Path.{_≡_, sym, _∙_, subst}
 use Prim.Native.Nat.{ℕ, _+_, _*_, _≤_, _<_}
 use native.Mathlib.Nat.{eq-or-lt-of-le}
 use native.Mathlib.Omega.{arith}
 use lib.ListN.{length, getD, set}
-use lib.Seq.{getD-set-other}
 use Rattle.search.specs.Layout.{distAt, priceIn, goalAt, Shortened, stepMost, Cheapest}
 use Rattle.search.specs.Frontier.{BestGoal}
+use Rattle.search.proofs.StoreLaws.{stored-other}
 use Rattle.search.proofs.QueueLaws.{same-or-not}
 
 -- distances and goals are as they were
@@ -34,7 +34,7 @@ best-lower n v u w {best} {w′} h e =
     best-same (λ x hx. at x (λ q. omega arith)) (λ x hx. at (5 * n + x) (λ q. omega arith))
   where
     at : (j : ℕ) → (j ≡ 4 * n + v → ⊥) → getD w′ j 0 ≡ getD w j 0
-    at j ne = ap (λ (l : List ℕ). getD l j 0) e ∙ getD-set-other w (4 * n + v) j u 0 ne
+    at = stored-other w (4 * n + v) u e
 
 -- v has a shorter way
 module _ {n u v d best : ℕ} {w w′ : List ℕ} (h : v < n) (t : Shortened n u v d w w′) (s : BestGoal n best w) where

@@ -8,13 +8,14 @@ use Prim.Native.Nat.{ℕ, _+_, _*_, _≤_, _<_, min}
 use native.Mathlib.Nat.{eq-or-lt-of-le}
 use native.Mathlib.Omega.{arith}
 use lib.ListN.{getD, set, length-set}
-use lib.Seq.{getD-set-same, getD-set-other}
+use lib.Seq.{getD-set-same}
 use Rattle.search.specs.Block.{Block, nodes, hasEdge}
 use Rattle.search.specs.Tables.{Graph}
 use Rattle.search.specs.Distance.{far, inTree}
 use Rattle.search.specs.Layout.{distAt, entryAt, leafAt, priceIn, predAt, Shortened, Relaxed, shorter, lower, kept}
 use Rattle.search.specs.Frontier.{Open, Settled, Seen, Reached, Frontier}
 use Rattle.search.proofs.BlockLaws.{target-node}
+use Rattle.search.proofs.StoreLaws.{stored-other}
 use Rattle.search.proofs.QueueLaws.{same-or-not}
 
 -- the place e is seen too
@@ -77,7 +78,7 @@ module _ (b : Block) (g : Graph b) (price : ℕ → ℕ) (marks w : List ℕ) (l
   -- the same distance over a lower node
   module _ (w′ : List ℕ) (sum : distAt w u + price v ≡ distAt w v) (lower-u : u < predAt (nodes b) w v) (is-w : w′ ≡ set w (4 * nodes b + v) u) where
     other-place : (j : ℕ) → (j ≡ 4 * nodes b + v → ⊥) → getD w′ j 0 ≡ getD w j 0
-    other-place j ne = ap (λ (l : List ℕ). getD l j 0) is-w ∙ getD-set-other w (4 * nodes b + v) j u 0 ne
+    other-place = stored-other w (4 * nodes b + v) u is-w
 
     dist-same : (x : ℕ) → x < nodes b → distAt w′ x ≡ distAt w x
     dist-same x h = other-place x (λ q. omega arith)

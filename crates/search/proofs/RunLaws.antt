@@ -9,7 +9,6 @@ use native.Mathlib.Nat.{le-antisymm}
 use native.Mathlib.Omega.{arith}
 use lib.Dec.{eqb, ltb}
 use lib.ListN.{length, getD, set, length-set}
-use lib.Seq.{getD-set-other}
 use borrow.Author.Tests.{eq-eqb, lt-ltb, eqb-true, ltb-true, not-false}
 use Rattle.price.specs.Test.{both}
 use Rattle.price.specs.Lists.{countBelow}
@@ -24,6 +23,7 @@ use Rattle.search.proofs.DistanceLaws.{distance-most}
 use Rattle.search.proofs.Exactness.{exact-near}
 use Rattle.search.proofs.BestLaws.{best-same}
 use Rattle.search.proofs.FrontierSteps.{now-settled, still-settled, settle-frontier, row-waiting}
+use Rattle.search.proofs.StoreLaws.{stored-other}
 use Rattle.search.proofs.RelaxSteps.{relax-frontier}
 
 -- ---- a row
@@ -60,7 +60,7 @@ module _ (n u v : ℕ) (w w′ : List ℕ) (hu : u < n) (hv : v < n) (other : v 
       }
     where
       at : (j : ℕ) → (j ≡ 4 * n + v → ⊥) → getD w′ j 0 ≡ getD w j 0
-      at j ne = ap (λ (l : List ℕ). getD l j 0) e ∙ getD-set-other w (4 * n + v) j u 0 ne
+      at = stored-other w (4 * n + v) u e
 
   kept-frame : w′ ≡ w → Frame n u w w′
   kept-frame e =

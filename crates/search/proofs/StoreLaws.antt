@@ -1,10 +1,11 @@
 -- What a store at one place of a list does: that place holds the stored number, the others and the length stay.
 --     store-here, store-other      the place itself, another place
+--     stored-other                 another place of a list that is known to be the one after the store
 --     same-none, same-store        a list is as before but for a range of places, with no store yet and with one more
 --     shortened, taken-out         what the stores of a shorter way and of a settled node leave, once the queue is right again
 -- Assumes nothing.
 use mathlib.Core.List.{List}
-use mathlib.Core.Path.{_≡_, refl, _∙_}
+use mathlib.Core.Path.{_≡_, refl, _∙_, ap}
 use Prim.Native.Nat.{ℕ, _+_, _*_, _≤_, _<_}
 use native.Mathlib.Omega.{arith}
 use lib.ListN.{length, getD, set, length-set}
@@ -17,6 +18,9 @@ store-here w i x h = getD-set-same w i x 0 h
 
 pub store-other : (w : List ℕ) (i x j : ℕ) → (j ≡ i → ⊥) → getD (set w i x) j 0 ≡ getD w j 0
 store-other w i x j h = getD-set-other w i j x 0 h
+
+pub stored-other : (w : List ℕ) (i x : ℕ) {w′ : List ℕ} → w′ ≡ set w i x → (j : ℕ) → (j ≡ i → ⊥) → getD w′ j 0 ≡ getD w j 0
+stored-other w i x e j h = ap (λ (l : List ℕ). getD l j 0) e ∙ store-other w i x j h
 
 pub same-none : (lo hi : ℕ) (w : List ℕ) → SameBut lo hi w w
 same-none lo hi w = record { long = refl; low = λ j h. refl; high = λ j h. refl }
