@@ -64,7 +64,7 @@ unfolding faultyJob faultyNets
 faulty-none j s =
     rw (faulty-of (j .block) (s .block-sound), s .sources-sound, s .firstSinks-sound, s .sinks-sound, s .limit-sound)
 
--- ---- the rules of tables 5, 6 and 7
+-- ---- the rules of tables 5 to 8
 
 pub sources-some : (n : ℕ) (ss : List ℕ) → sourcesSound n ss ≡ true → 1 ≤ length ss
 unfolding sourcesSound
@@ -115,6 +115,10 @@ net-rule n ss fs ts s i h =
     let rule = every-at (λ i. netSound n (getD ss i 0) (sinksBetween fs ts i)) (upTo (λ i. i) (length ss)) (both-right (leb (length ts) sinksMost) _ s) i (rw length-upTo h) in
     rw (getD-upTo (λ i. i) (length ss) i 0 h) at rule
 
+pub limit-least : (limit : ℕ) → limitSound limit ≡ true → 1 ≤ limit
+unfolding limitSound
+limit-least limit s = leb-true 1 limit (both-left _ _ s)
+
 -- ---- a sound job
 
 module _ (j : Job) (s : SoundJob j) where
@@ -125,8 +129,7 @@ module _ (j : Job) (s : SoundJob j) where
   nets-few = sources-few _ _ (s .sources-sound)
 
   pub limit-some : 1 ≤ j .limit
-  unfolding limitSound
-  limit-some = leb-true _ _ (both-left _ _ (s .limit-sound))
+  limit-some = limit-least (j .limit) (s .limit-sound)
 
   pub limit-few : j .limit ≤ limitMost
   unfolding limitSound

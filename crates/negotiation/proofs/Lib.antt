@@ -29,4 +29,6 @@ pub mod EndLaws
 pub mod KeepEnd
 pub mod KeepCalls
 pub mod RouteLaws
+pub mod LimitLaws
+pub mod ReplyLogLaws
 pub mod LongerHolds

@@ -1,0 +1,194 @@
+-- A job under two limits of iterations: no turn depends on the limit, the larger makes as many iterations at least, and its records begin with the smaller's.
+-- Assumes nothing.
+use mathlib.Core.Bool.{Bool, true, false}
+use mathlib.Core.List.{List, [], _∷_, _++_}
+use mathlib.Core.Logic.{⊎-elim}
+use mathlib.Core.Path.{_≡_, refl, sym, _∙_, ap, fun-ext}
+use Prim.Native.Nat.{ℕ, zero, suc, _+_, _-_, _≤_, _<_}
+use native.Mathlib.Nat.{le-refl}
+use native.Mathlib.Omega.{arith}
+use lib.Dec.{ltb}
+use lib.ListN.{length}
+use borrow.Author.Tests.{lt-ltb, le-ltb, ltb-true}
+use Rattle.price.specs.Test.{choose}
+use Rattle.price.specs.Lists.{firstBelow}
+use Rattle.price.proofs.ListLaws.{either-way, le-or-lt, true≢false, firstBelow-holds, firstBelow-below, firstBelow-is}
+use Rattle.search.specs.Turn.{Congestion, Turn, joins, stuck}
+use Rattle.negotiation.specs.Job.{Job, nets, source, netSinks}
+use Rattle.negotiation.specs.Records.{Record}
+use Rattle.negotiation.specs.Machine.{State, othersOf, usersOf, marksOf, congestionFor, turnOf, logTurn, turnsOf, netRecords, afterNets, iterate, overfull, overCount, moveOn, firstState, stateAfter, recordsAfter, settlesAt}
+use Rattle.negotiation.specs.Outcome.{iterationsMade, allRecords, endNumbers}
+use Rattle.negotiation.specs.Longer.{withLimit}
+use Rattle.negotiation.proofs.EndLaws.{records-more}
+
+-- ---- no turn depends on the limit
+
+module _ (j : Job) (limit : ℕ) where
+  turn-alike : (t i : ℕ) (tree : List ℕ) (made : Turn) (rest rest′ : List ℕ → List Record) → ((tree : List ℕ) → rest tree ≡ rest′ tree)
+      → logTurn (withLimit j limit) t i tree made rest ≡ logTurn j t i tree made rest′
+  unfolding netSinks
+  turn-alike t i tree (joins place cost path) rest rest′ same = rw (same (tree ++ path))
+  turn-alike t i tree stuck rest rest′ same = refl
+
+  turns-alike : (t : ℕ) (c : Congestion) (i k : ℕ) (tree : List ℕ) → turnsOf (withLimit j limit) t c i k tree ≡ turnsOf j t c i k tree
+  unfolding turnsOf turnOf marksOf netSinks
+  turns-alike t c i zero tree = refl
+  turns-alike t c i (suc k) tree = turn-alike t i tree (turnOf j c i tree) _ _ (turns-alike t c i k)
+
+  net-alike : (s : State) (i : ℕ) → netRecords (withLimit j limit) s i ≡ netRecords j s i
+  unfolding netRecords congestionFor othersOf netSinks
+  net-alike s i = turns-alike (s .iteration) (congestionFor j s i) i (length (netSinks j i)) (source j i ∷ [])
+
+  nets-alike : (s : State) (i : ℕ) → afterNets (withLimit j limit) s i ≡ afterNets j s i
+  unfolding afterNets
+  nets-alike s zero = refl
+  nets-alike s (suc i) = rw (nets-alike s i, net-alike (afterNets j s i .state) i)
+
+  iterate-alike : (s : State) → iterate (withLimit j limit) s ≡ iterate j s
+  unfolding iterate
+  iterate-alike s = nets-alike s (nets j)
+
+  move-alike : (s : State) → moveOn (withLimit j limit) s ≡ moveOn j s
+  unfolding moveOn usersOf
+  move-alike s = refl
+
+  state-alike : (s : State) (m : ℕ) → stateAfter (withLimit j limit) s m ≡ stateAfter j s m
+  unfolding stateAfter
+  state-alike s zero = refl
+  state-alike s (suc m) = rw (state-alike s m, iterate-alike (stateAfter j s m), move-alike (iterate j (stateAfter j s m) .state))
+
+  records-alike : (s : State) (m : ℕ) → recordsAfter (withLimit j limit) s m ≡ recordsAfter j s m
+  unfolding recordsAfter
+  records-alike s zero = refl
+  records-alike s (suc m) = rw (records-alike s m, state-alike s m, iterate-alike (stateAfter j s m))
+
+  over-alike : (trees : List (List ℕ)) → overCount (withLimit j limit) trees ≡ overCount j trees
+  unfolding overCount overfull usersOf
+  over-alike trees = refl
+
+  settles-alike : (s : State) (m : ℕ) → settlesAt (withLimit j limit) s m ≡ settlesAt j s m
+  unfolding settlesAt
+  settles-alike s m = rw (state-alike s m, iterate-alike (stateAfter j s m), over-alike (iterate j (stateAfter j s m) .state .trees))
+
+  pub first-alike : firstState (withLimit j limit) ≡ firstState j
+  unfolding firstState
+  first-alike = refl
+
+  pub made-alike : (s : State) (most : ℕ) → iterationsMade (withLimit j limit) s most ≡ iterationsMade j s most
+  unfolding iterationsMade
+  made-alike s most =
+      ap (λ (t : ℕ → Bool). choose (ltb (firstBelow t most) most) (firstBelow t most + 1) most) (fun-ext (settles-alike s))
+
+  pub all-alike : allRecords (withLimit j limit) ≡ recordsAfter j (firstState j) (iterationsMade j (firstState j) limit)
+  unfolding allRecords
+  all-alike =
+      rw (first-alike, made-alike (firstState j) limit)
+      (records-alike (firstState j) (iterationsMade j (firstState j) limit))
+
+-- ---- how many iterations are made under two limits
+
+module _ (j : Job) (s : State) (low high : ℕ) (more : low ≤ high) where
+  -- a run that settles below the smaller limit ends there under both
+  made-early : firstBelow (settlesAt j s) low < low → iterationsMade j s high ≡ iterationsMade j s low
+  unfolding iterationsMade
+  made-early l =
+      let first : ℕ = firstBelow (settlesAt j s) low in
+      let settles : settlesAt j s first ≡ true = firstBelow-holds (settlesAt j s) low l in
+      let same : firstBelow (settlesAt j s) high ≡ first =
+      firstBelow-is (settlesAt j s) high first (omega arith) settles (firstBelow-below (settlesAt j s) low) in
+      rw (same, lt-ltb first high (omega arith), lt-ltb first low l)
+
+  -- else the smaller ends it
+  made-late : low ≤ firstBelow (settlesAt j s) low → iterationsMade j s low ≡ low
+  unfolding iterationsMade
+  made-late l = rw (le-ltb (firstBelow (settlesAt j s) low) low l)
+
+  -- and under the larger it goes on, by one iteration at least where that is larger
+  made-past : low ≤ firstBelow (settlesAt j s) low → (k : ℕ) → k ≤ low + 1 → k ≤ high → k ≤ iterationsMade j s high
+  unfolding iterationsMade
+  made-past l k near below =
+      ⊎-elim
+      (λ (t : ltb (firstBelow (settlesAt j s) high) high ≡ true).
+      let settles : settlesAt j s (firstBelow (settlesAt j s) high) ≡ true = firstBelow-holds (settlesAt j s) high (ltb-true _ _ t) in
+      ⊎-elim
+      (λ (h : low ≤ firstBelow (settlesAt j s) high). rw t (omega arith))
+      (λ (h : firstBelow (settlesAt j s) high < low).
+      absurd (true≢false (sym settles ∙ firstBelow-below (settlesAt j s) low (firstBelow (settlesAt j s) high) (omega arith))))
+      (le-or-lt low (firstBelow (settlesAt j s) high)))
+      (λ (t : ltb (firstBelow (settlesAt j s) high) high ≡ false). rw t below)
+      (either-way (ltb (firstBelow (settlesAt j s) high) high))
+
+  made-more : iterationsMade j s low ≤ iterationsMade j s high
+  made-more =
+      ⊎-elim
+      (λ (l : low ≤ firstBelow (settlesAt j s) low). rw (made-late l) (made-past l low (omega arith) more))
+      (λ (l : firstBelow (settlesAt j s) low < low). rw (made-early l) (le-refl (iterationsMade j s low)))
+      (le-or-lt low (firstBelow (settlesAt j s) low))
+
+  -- where the last iteration under the smaller settles, no more are made under the larger
+  pub made-same : 1 ≤ low → settlesAt j s (iterationsMade j s low - 1) ≡ true → iterationsMade j s high ≡ iterationsMade j s low
+  made-same some settles =
+      ⊎-elim
+      (λ (l : low ≤ firstBelow (settlesAt j s) low).
+      let last : settlesAt j s (low - 1) ≡ true = rw (made-late l) at settles in
+      absurd (true≢false (sym last ∙ firstBelow-below (settlesAt j s) low (low - 1) (omega arith))))
+      (λ (l : firstBelow (settlesAt j s) low < low). made-early l)
+      (le-or-lt low (firstBelow (settlesAt j s) low))
+
+  -- where it does not, more are
+  pub made-again : settlesAt j s (iterationsMade j s low - 1) ≡ false → low < high → low < iterationsMade j s high
+  unfolding iterationsMade
+  made-again unsettled less =
+      ⊎-elim
+      (λ (l : low ≤ firstBelow (settlesAt j s) low). let past = made-past l (low + 1) (omega arith) (omega arith) in omega arith)
+      (λ (l : firstBelow (settlesAt j s) low < low).
+      let first : ℕ = firstBelow (settlesAt j s) low in
+      let last : first + 1 - 1 ≡ first = omega arith in
+      absurd (true≢false (sym (firstBelow-holds (settlesAt j s) low l) ∙ (rw (lt-ltb first low l, last) at unsettled))))
+      (le-or-lt low (firstBelow (settlesAt j s) low))
+
+-- ---- the run's end and its records under a limit
+
+-- an accepted job has no numbers
+pub not-accepted : (number : ℕ) (numbers : List ℕ) → [] ≡ number ∷ numbers → ⊥
+not-accepted number numbers e = let z : _≡_ {A = ℕ} 0 1 = cc in omega arith
+
+-- the run's end under a limit has no numbers where its last iteration settles, and only there
+module _ (j : Job) (limit : ℕ) where
+  last-alike :
+      settlesAt (withLimit j limit) (firstState (withLimit j limit)) (iterationsMade (withLimit j limit) (firstState (withLimit j limit)) limit - 1)
+      ≡ settlesAt j (firstState j) (iterationsMade j (firstState j) limit - 1)
+  last-alike =
+      rw (first-alike j limit, made-alike j limit (firstState j) limit)
+      (settles-alike j limit (firstState j) (iterationsMade j (firstState j) limit - 1))
+
+  pub end-settles : endNumbers (withLimit j limit) ≡ [] → settlesAt j (firstState j) (iterationsMade j (firstState j) limit - 1) ≡ true
+  unfolding endNumbers
+  end-settles e =
+      ⊎-elim
+      (λ (t : settlesAt j (firstState j) (iterationsMade j (firstState j) limit - 1) ≡ true). t)
+      (λ (t : settlesAt j (firstState j) (iterationsMade j (firstState j) limit - 1) ≡ false).
+      absurd (not-accepted _ _ (sym (rw (last-alike, t) at e))))
+      (either-way (settlesAt j (firstState j) (iterationsMade j (firstState j) limit - 1)))
+
+  pub settled-end : settlesAt j (firstState j) (iterationsMade j (firstState j) limit - 1) ≡ true → endNumbers (withLimit j limit) ≡ []
+  unfolding endNumbers
+  settled-end t = rw (last-alike, t)
+
+  pub end-unsettled : (number : ℕ) (numbers : List ℕ) → endNumbers (withLimit j limit) ≡ number ∷ numbers
+      → settlesAt j (firstState j) (iterationsMade j (firstState j) limit - 1) ≡ false
+  end-unsettled number numbers e =
+      ⊎-elim
+      (λ (t : settlesAt j (firstState j) (iterationsMade j (firstState j) limit - 1) ≡ true).
+      absurd (not-accepted number numbers (sym (settled-end t) ∙ e)))
+      (λ (t : settlesAt j (firstState j) (iterationsMade j (firstState j) limit - 1) ≡ false). t)
+      (either-way (settlesAt j (firstState j) (iterationsMade j (firstState j) limit - 1)))
+
+module _ (j : Job) (low high : ℕ) (more : low ≤ high) where
+  -- the records under the smaller are a beginning of those under the larger
+  pub raised-records : (later : List Record) × (allRecords (withLimit j high) ≡ allRecords (withLimit j low) ++ later)
+  raised-records =
+      let rest =
+      records-more j (firstState j) (iterationsMade j (firstState j) high) (iterationsMade j (firstState j) low)
+      (made-more j (firstState j) low high more) in
+      (rest .0, all-alike j high ∙ rest .1 ∙ ap (λ (l : List Record). l ++ rest .0) (sym (all-alike j low)))
