@@ -82,7 +82,6 @@ tested-alike j low high l h work log run = rw (l, h)
 
 -- ---- a longer log
 
-
 module _ (j : Job) (work short long : List ℕ) (more : length short ≤ length long) where
   -- from the records of which each log has those that fit
   lengthened : (all : List Record) → ((log : List ℕ) → Logs (routeReply j work log) (fitting (length log) all))

@@ -15,7 +15,8 @@ use Rattle.search.specs.Block.{Block}
 use Rattle.search.specs.Tables.{Sound}
 use Rattle.search.specs.Turn.{Congestion, congestionOf, Turn, joins, stuck}
 use Rattle.search.specs.Replies.{nodeSound, sinksSound}
-use Rattle.negotiation.specs.Job.{Job, nets}
+use Rattle.negotiation.specs.Job.{Job, nets, jobOf}
+use Rattle.negotiation.specs.Tables.{SoundJob}
 use Rattle.negotiation.specs.Outcome.{unreachableNet, unreachablePlace}
 use Rattle.negotiation.specs.TariffSteps.{loggedTariff}
 use Rattle.negotiation.specs.declared.tariff.Tariff.{Tariff}
@@ -97,6 +98,19 @@ missing j = choose (ltb (unreachableNet j) (nets j)) (unreachableNet j ∷ unrea
 abbrev pub reachNumbers : Reach → List ℕ
 reachNumbers All = []
 reachNumbers (Missing net place) = net ∷ place ∷ []
+
+-- a capacity table and a limit with which these tables are a sound job
+pub record SoundWith (kinds firstEdges edgeTargets sources firstSinks sinks : List ℕ) : Type 0 where
+  pub capacities : List ℕ
+  pub limit : ℕ
+  pub sound : SoundJob (jobOf kinds capacities firstEdges edgeTargets sources firstSinks sinks limit)
+
+-- the test answers for every capacity table and limit with which these tables are a sound job: whether a path is there depends on neither
+abbrev pub FirstMissing : (kinds firstEdges edgeTargets sources firstSinks sinks : List ℕ) → Reach → Type 0
+FirstMissing kinds firstEdges edgeTargets sources firstSinks sinks found =
+    (capacities : List ℕ) (limit : ℕ)
+    → SoundJob (jobOf kinds capacities firstEdges edgeTargets sources firstSinks sinks limit)
+    → reachNumbers found ≡ missing (jobOf kinds capacities firstEdges edgeTargets sources firstSinks sinks limit)
 
 -- ---- a net's old and new tree
 

@@ -90,14 +90,12 @@ pub fn route(
     }
     match reach::unreachable(
         kind,
-        capacity,
         first_edge,
         edge_target,
         source,
         first_sink,
         sink,
         work,
-        limit,
     ) {
         Reach::Missing { net, place } => {
             turns::clear(work, needed);

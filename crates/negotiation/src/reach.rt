@@ -1,11 +1,8 @@
 // Whether every sink has a path from its source, before iteration 1.
-ghost use mathlib.Core.Path.{_≡_};
 ghost use Prim.Native.Nat.{_*_, _≤_};
 ghost use lib.ListN.{length};
-ghost use Rattle.negotiation.specs.Steps.{AllBelow, SameFrom, missing, reachNumbers};
+ghost use Rattle.negotiation.specs.Steps.{AllBelow, SameFrom, SoundWith, FirstMissing};
 ghost use Rattle.negotiation.specs.Flood.{FirstUnmarked};
-ghost use Rattle.negotiation.specs.Job.{jobOf};
-ghost use Rattle.negotiation.specs.Tables.{SoundJob};
 use crate::flood;
 
 // What the test of all nets, or of one net, finds.
@@ -33,18 +30,16 @@ fn missing_sink(reached: &[u8], sinks: &[u16]) -> usize
 // The first net, and the place of its first sink, without a path.
 pub fn unreachable(
     kind: &[u8],
-    capacity: &[u8],
     first_edge: &[u32],
     edge_target: &[u16],
     source: &[u16],
     first_sink: &[u32],
     sink: &[u16],
     work: &mut [u64],
-    limit: u32,
 ) -> Reach
-    requires { ⌜ SoundJob (jobOf (now kind) (now capacity) (now «first_edge») (now «edge_target») (now source) (now «first_sink») (now sink) limit) ⌝ }
+    requires { ⌜ SoundWith (now kind) (now «first_edge») (now «edge_target») (now source) (now «first_sink») (now sink) ⌝ }
     requires { ⌜ 8 * length (now kind) ≤ length (now work) ⌝ }
-    ensures { λ r. ⌜ reachNumbers r ≡ missing (jobOf (now (kind .entry)) (now (capacity .entry)) (now («first_edge» .entry)) (now («edge_target» .entry)) (now (source .entry)) (now («first_sink» .entry)) (now (sink .entry)) limit) ⌝ }
+    ensures { λ r. ⌜ FirstMissing (now (kind .entry)) (now («first_edge» .entry)) (now («edge_target» .entry)) (now (source .entry)) (now («first_sink» .entry)) (now (sink .entry)) r ⌝ }
     ensures { λ _. ⌜ SameFrom (8 * length (now (kind .entry))) (now (work .entry)) (now (work .exit)) ⌝ }
 {
     let n = kind.len();

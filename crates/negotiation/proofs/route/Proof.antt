@@ -35,7 +35,7 @@ returns-2 : tie.Need-returns-2
 returns-2 c = work-refused _ _ _ _ (c .before .before .before .faulty-job .ensures) (c .before .before .if1 .left) _ (c .before .if2 .taken) (c .refused2 .ensures)
 
 unreachable-requires : tie.Need-unreachable-requires
-unreachable-requires c κs = (sound (c .before .before), c .before .if2 .left)
+unreachable-requires c κs = (record { capacities = _; limit = _; sound = sound (c .before .before) }, c .before .if2 .left)
 
 enum-known-net : tie.Need-enum-known-net
 enum-known-net c = search needs
@@ -57,7 +57,7 @@ same-length c = search needs
 
 returns-3 : tie.Need-returns-3
 returns-3 c =
-    unreachable-refused _ _ _ _ (c .before .before .before .before .before .before .before .before .before .before .before .before .before .before .faulty-job .ensures) (c .before .before .before .before .before .before .before .before .before .before .before .before .before .if1 .left) (c .before .before .before .before .before .before .before .before .before .before .before .before .if2 .left) _ (c .before .before .before .before .before .before .before .before .before .before .unreachable .ensures .1) _ (c .before .before .before .before .before .before .before .before .before .before .unreachable .ensures .0)
+    unreachable-refused _ _ _ _ (c .before .before .before .before .before .before .before .before .before .before .before .before .before .before .faulty-job .ensures) (c .before .before .before .before .before .before .before .before .before .before .before .before .before .if1 .left) (c .before .before .before .before .before .before .before .before .before .before .before .before .if2 .left) _ (c .before .before .before .before .before .before .before .before .before .before .unreachable .ensures .1) _ (c .before .before .before .before .before .before .before .before .before .before .unreachable .ensures .0 _ _ (sound (c .before .before .before .before .before .before .before .before .before .before .before .before .before)))
     _ _ _ _ (c .before .before .before .before .before .before .net .given .1) (c .refused3 .ensures) (c .before .before .before .clear .ensures)
 
 same-length-2 : tie.Need-same-length-2
@@ -68,7 +68,7 @@ same-length-3 c = search needs
 
 returns-4 : tie.Need-returns-4
 returns-4 c =
-    run-answered _ _ _ _ (c .before .before .before .before .before .before .before .before .before .before .before .before .before .before .before .faulty-job .ensures) (c .before .before .before .before .before .before .before .before .before .before .before .before .before .before .if1 .left) (c .before .before .before .before .before .before .before .before .before .before .before .before .before .if2 .left) _ (c .before .before .before .before .before .before .before .before .before .before .before .unreachable .ensures .1) _ (c .before .before .before .before .before .before .before .before .before .before .before .unreachable .ensures .0)
+    run-answered _ _ _ _ (c .before .before .before .before .before .before .before .before .before .before .before .before .before .before .before .faulty-job .ensures) (c .before .before .before .before .before .before .before .before .before .before .before .before .before .before .if1 .left) (c .before .before .before .before .before .before .before .before .before .before .before .before .before .if2 .left) _ (c .before .before .before .before .before .before .before .before .before .before .before .unreachable .ensures .1) _ (c .before .before .before .before .before .before .before .before .before .before .before .unreachable .ensures .0 _ _ (sound (c .before .before .before .before .before .before .before .before .before .before .before .before .before .before)))
     (c .before .before .before .before .negotiate .result) _ _ (c .before .before .before .before .before .before .before .enum-told .given .1) (c .before .before .before .before .negotiate .ensures)
 
 pub route-spec : {M : Type 1} → statement M

@@ -1,5 +1,6 @@
 -- `negotiation::reach::unreachable` meets its contract: no net that the loop has passed has a sink without a path.
 -- Assumes nothing.
+use mathlib.Core.List.{List}
 use mathlib.Core.Path.{sym}
 use Prim.Native.Nat.{ℕ, _+_, _-_, _≤_}
 use native.Mathlib.Omega.{arith}
@@ -16,27 +17,36 @@ use Rattle.negotiation.proofs.reach.unreachable.Statement.{statement}
 use Rattle.negotiation.proofs.reach.unreachable.Tie as tie
 
 abbrev Inv-loop : tie.InvT-loop
-Inv-loop kind capacity first-edge edge-target source first-sink sink work₀ limit n reached₀ net₀ work reached net =
-    Tested (jobOf kind capacity first-edge edge-target source first-sink sink limit) 4096 work₀ work reached net
+Inv-loop kind first-edge edge-target source first-sink sink work₀ n reached₀ net₀ work reached net =
+    (capacities : List ℕ) (limit : ℕ)
+    → SoundJob (jobOf kind capacities first-edge edge-target source first-sink sink limit)
+    → Tested (jobOf kind capacities first-edge edge-target source first-sink sink limit) 4096 work₀ work reached net
 
 abbrev μ-loop : tie.MeasureT-loop
-μ-loop kind capacity first-edge edge-target source first-sink sink work₀ limit n reached₀ net₀ work reached net =
+μ-loop kind first-edge edge-target source first-sink sink work₀ n reached₀ net₀ work reached net =
     length source - net
 
--- the job at the entry
+-- the entry's tables as a job, with any capacity table and limit
+abbrev jobWith : tie.Start Inv-loop μ-loop → List ℕ → ℕ → Job
+jobWith s capacities limit =
+    jobOf (s .args .kind .now) capacities (s .args .first-edge .now) (s .args .edge-target .now) (s .args .source .now) (s .args .first-sink .now) (s .args .sink .now) limit
+
+-- with those of the precondition it is sound
 abbrev job : tie.Start Inv-loop μ-loop → Job
-job s =
-    jobOf (s .args .kind .now) (s .args .capacity .now) (s .args .first-edge .now) (s .args .edge-target .now) (s .args .source .now) (s .args .first-sink .now) (s .args .sink .now) (s .args .limit)
+job s = jobWith s (s .pre .0 .capacities) (s .pre .0 .limit)
 
 sound : (s : tie.Start Inv-loop μ-loop) → SoundJob (job s)
-sound s = s .pre .0
+sound s = s .pre .0 .sound
 
 few : (s : tie.Start Inv-loop μ-loop) → nodes (job s) ≤ 4096
 few s = kinds-few (s .args .kind .now) (sound s .block-sound .kinds-sound)
 
--- the entry, from a turn
+-- the entry, from where the loop's test is made, and from a turn
+abbrev start : tie.At-loop Inv-loop μ-loop → tie.Start Inv-loop μ-loop
+start l = l .before .before .before .before .before .before .before .before
+
 abbrev entry : tie.In-loop Inv-loop μ-loop → tie.Start Inv-loop μ-loop
-entry t = t .before .before .before .before .before .before .before .before .before .before
+entry t = start (t .before)
 
 -- the turn, from where its net's graph is flooded, and from where its sinks are looked at
 abbrev turn : tie.After-flood Inv-loop μ-loop → tie.In-loop Inv-loop μ-loop
@@ -47,6 +57,10 @@ flooded m = m .before .before .before .before .before .before
 
 abbrev net : tie.In-loop Inv-loop μ-loop → ℕ
 net t = t .before .loop .net
+
+-- what is tested there, of the precondition's job
+tested : (l : tie.At-loop Inv-loop μ-loop) → Tested (job (start l)) 4096 (start l .args .work .now) (l .loop .work) (l .loop .reached) (l .loop .net)
+tested l = l .loop .inv _ _ (sound (start l))
 
 -- a turn's sinks stand one after the other within table 7
 sinks-rise : (t : tie.In-loop Inv-loop μ-loop) → getD (entry t .args .first-sink .now) (net t) 0 ≤ getD (entry t .args .first-sink .now) (net t + 1) 0
@@ -60,10 +74,10 @@ sinks-small t = omega (arith, sinks-within t, sinks-few (job (entry t)) (sound (
 
 -- there is a mark for each node
 marks-enough : (t : tie.In-loop Inv-loop μ-loop) → length (entry t .args .kind .now) ≤ length (t .before .loop .reached)
-marks-enough t = omega (arith, few (entry t), t .before .loop .inv .marks-long)
+marks-enough t = omega (arith, few (entry t), tested (t .before) .marks-long)
 
 loop-holds : tie.Need-loop-holds Inv-loop μ-loop
-loop-holds c =
+loop-holds c capacities limit s =
     record {
       within = omega arith;
       same = same-from-refl _ _;
@@ -78,7 +92,7 @@ shared-slice-read-from : tie.Need-shared-slice-read-from Inv-loop μ-loop
 shared-slice-read-from c = omega (arith, firstSinks-long (job (entry (c .before))) (sound (entry (c .before))))
 
 cast-from : tie.Need-cast-from Inv-loop μ-loop
-cast-from c = omega (arith, c .shared-slice-known8 .given (c .before .before .loop .net))
+cast-from c = omega (arith, c .shared-slice-known7 .given (c .before .before .loop .net))
 
 add-to : tie.Need-add-to Inv-loop μ-loop
 add-to c = omega arith
@@ -90,7 +104,7 @@ shared-slice-read-to : tie.Need-shared-slice-read-to Inv-loop μ-loop
 shared-slice-read-to c = omega (arith, firstSinks-long (job (entry (c .before .before))) (sound (entry (c .before .before))))
 
 cast-to : tie.Need-cast-to Inv-loop μ-loop
-cast-to c = omega (arith, c .shared-slice-known9 .given (c .before .before .before .loop .net + 1))
+cast-to c = omega (arith, c .shared-slice-known8 .given (c .before .before .before .loop .net + 1))
 
 mul-s : tie.Need-mul-s Inv-loop μ-loop
 mul-s c = omega arith
@@ -99,7 +113,7 @@ shared-slice-read-s : tie.Need-shared-slice-read-s Inv-loop μ-loop
 shared-slice-read-s c = omega arith
 
 cast-s : tie.Need-cast-s Inv-loop μ-loop
-cast-s c = omega (arith, c .shared-slice-known10 .given (c .before .before .before .before .loop .net))
+cast-s c = omega (arith, c .shared-slice-known9 .given (c .before .before .before .before .loop .net))
 
 array-borrow-prefix-reached : tie.Need-array-borrow-prefix-reached Inv-loop μ-loop
 array-borrow-prefix-reached c = marks-enough (c .before .before .before)
@@ -110,19 +124,19 @@ slice-aggregate-flood c = sym (length-take-le _ _ (marks-enough (c .before .befo
 flood-requires : tie.Need-flood-requires Inv-loop μ-loop
 flood-requires c κs =
     let t = c .before .before .before .before .before in
-    flood-asked (job (entry t)) (sound (entry t)) (net t) (t .loop-test .taken) (few (entry t)) (entry t .pre .1) (t .before .loop .inv)
+    flood-asked (job (entry t)) (sound (entry t)) (net t) (t .loop-test .taken) (few (entry t)) (entry t .pre .1) (tested (t .before))
 
 array-share-prefix-reached : tie.Need-array-share-prefix-reached Inv-loop μ-loop
 array-share-prefix-reached c =
     let f = c .before .before .before in
     let t = turn f in
-    marks-fit (job (entry t)) (sound (entry t)) (net t) (t .loop-test .taken) (few (entry t)) (entry t .pre .1) (t .before .loop .inv) (f .flood .ensures)
+    marks-fit (job (entry t)) (sound (entry t)) (net t) (t .loop-test .taken) (few (entry t)) (entry t .pre .1) (tested (t .before)) (f .flood .ensures)
 
 slice-aggregate-missing-sink : tie.Need-slice-aggregate-missing-sink Inv-loop μ-loop
 slice-aggregate-missing-sink c =
     let f = c .before .before .before .before in
     let t = turn f in
-    sym (length-take-le _ _ (marks-fit (job (entry t)) (sound (entry t)) (net t) (t .loop-test .taken) (few (entry t)) (entry t .pre .1) (t .before .loop .inv) (f .flood .ensures)))
+    sym (length-take-le _ _ (marks-fit (job (entry t)) (sound (entry t)) (net t) (t .loop-test .taken) (few (entry t)) (entry t .pre .1) (tested (t .before)) (f .flood .ensures)))
 
 mul-missing-sink : tie.Need-mul-missing-sink Inv-loop μ-loop
 mul-missing-sink c =
@@ -142,32 +156,33 @@ missing-sink-requires : tie.Need-missing-sink-requires Inv-loop μ-loop
 missing-sink-requires c κs =
     let f = c .before .before .before .before .before in
     let t = turn f in
-    sinks-asked (job (entry t)) (sound (entry t)) (net t) (t .loop-test .taken) (few (entry t)) (entry t .pre .1) (t .before .loop .inv) (f .flood .ensures)
+    sinks-asked (job (entry t)) (sound (entry t)) (net t) (t .loop-test .taken) (few (entry t)) (entry t .pre .1) (tested (t .before)) (f .flood .ensures)
 
 sub-if1 : tie.Need-sub-if1 Inv-loop μ-loop
 sub-if1 c = sinks-rise (turn (flooded c))
 
-cast-t35 : tie.Need-cast-t35 Inv-loop μ-loop
-cast-t35 c =
+cast-t33 : tie.Need-cast-t33 Inv-loop μ-loop
+cast-t33 c =
     let t = turn (flooded (c .before)) in
     omega (arith, nets-few (job (entry t)) (sound (entry t)), t .loop-test .taken)
 
-cast-t36 : tie.Need-cast-t36 Inv-loop μ-loop
-cast-t36 c = omega (arith, sinks-small (turn (flooded (c .before))), c .if1 .taken)
+cast-t34 : tie.Need-cast-t34 Inv-loop μ-loop
+cast-t34 c = omega (arith, sinks-small (turn (flooded (c .before))), c .if1 .taken)
 
 same-length : tie.Need-same-length Inv-loop μ-loop
 same-length c =
     let f = flooded (c .before) in
     let t = turn f in
-    tested-same (job (entry t)) (sound (entry t)) (net t) (t .loop-test .taken) (few (entry t)) (entry t .pre .1) (t .before .loop .inv) (f .flood .ensures) .long
+    tested-same (job (entry t)) (sound (entry t)) (net t) (t .loop-test .taken) (few (entry t)) (entry t .pre .1) (tested (t .before)) (f .flood .ensures) .long
 
 returns : tie.Need-returns Inv-loop μ-loop
 returns c =
     let f = flooded (c .before) in
     let t = turn f in
     let call = c .before .missing-sink in (
-      tested-found (job (entry t)) (sound (entry t)) (net t) (t .loop-test .taken) (few (entry t)) (entry t .pre .1) (t .before .loop .inv) (f .flood .ensures) (call .result) (call .ensures) (c .if1 .taken),
-      tested-same (job (entry t)) (sound (entry t)) (net t) (t .loop-test .taken) (few (entry t)) (entry t .pre .1) (t .before .loop .inv) (f .flood .ensures),
+      λ capacities limit s.
+          tested-found (jobWith (entry t) capacities limit) s (net t) (t .loop-test .taken) (few (entry t)) (entry t .pre .1) (t .before .loop .inv capacities limit s) (f .flood .ensures) (call .result) (call .ensures) (c .if1 .taken),
+      tested-same (job (entry t)) (sound (entry t)) (net t) (t .loop-test .taken) (few (entry t)) (entry t .pre .1) (tested (t .before)) (f .flood .ensures),
     )
 
 add-net : tie.Need-add-net Inv-loop μ-loop
@@ -177,17 +192,18 @@ loop-less : tie.Need-loop-less Inv-loop μ-loop
 loop-less c = omega (arith, turn (flooded (c .before)) .loop-test .taken)
 
 loop-again : tie.Need-loop-again Inv-loop μ-loop
-loop-again c =
+loop-again c capacities limit s =
     let f = flooded (c .before) in
     let t = turn f in
     let call = c .before .missing-sink in
-    tested-more (job (entry t)) (sound (entry t)) (net t) (t .loop-test .taken) (few (entry t)) (entry t .pre .1) (t .before .loop .inv) (f .flood .ensures) (call .result) (call .ensures) (c .if1 .left)
+    tested-more (jobWith (entry t) capacities limit) s (net t) (t .loop-test .taken) (few (entry t)) (entry t .pre .1) (t .before .loop .inv capacities limit s) (f .flood .ensures) (call .result) (call .ensures) (c .if1 .left)
 
 same-length-2 : tie.Need-same-length-2 Inv-loop μ-loop
-same-length-2 c = c .before .loop .inv .same .long
+same-length-2 c = tested (c .before) .same .long
 
 returns-2 : tie.Need-returns-2 Inv-loop μ-loop
-returns-2 c = (tested-all (c .loop-test .left) (c .before .loop .inv), c .before .loop .inv .same)
+returns-2 c =
+    (λ capacities limit s. tested-all (c .loop-test .left) (c .before .loop .inv capacities limit s), tested (c .before) .same)
 
 pub unreachable-spec : {M : Type 1} → statement M
 unreachable-spec =
@@ -217,8 +233,8 @@ unreachable-spec =
     part-missing-sink-end
     missing-sink-requires
     sub-if1
-    cast-t35
-    cast-t36
+    cast-t33
+    cast-t34
     same-length
     returns
     add-net
