@@ -41,10 +41,15 @@ sound s = s .pre .0 .sound
 few : (s : tie.Start Inv-loop μ-loop) → nodes (job s) ≤ 4096
 few s = kinds-few (s .args .kind .now) (sound s .block-sound .kinds-sound)
 
--- the entry, from where the loop's test is made, and from a turn
+-- the entry, from where the loop's test is made
 abbrev start : tie.At-loop Inv-loop μ-loop → tie.Start Inv-loop μ-loop
 start l = l .before .before .before .before .before .before .before .before
 
+-- what is tested where the loop's test is made, of the precondition's job
+tested : (l : tie.At-loop Inv-loop μ-loop) → Tested (job (start l)) 4096 (start l .args .work .now) (l .loop .work) (l .loop .reached) (l .loop .net)
+tested l = l .loop .inv _ _ (sound (start l))
+
+-- the entry, from a turn
 abbrev entry : tie.In-loop Inv-loop μ-loop → tie.Start Inv-loop μ-loop
 entry t = start (t .before)
 
@@ -57,10 +62,6 @@ flooded m = m .before .before .before .before .before .before
 
 abbrev net : tie.In-loop Inv-loop μ-loop → ℕ
 net t = t .before .loop .net
-
--- what is tested there, of the precondition's job
-tested : (l : tie.At-loop Inv-loop μ-loop) → Tested (job (start l)) 4096 (start l .args .work .now) (l .loop .work) (l .loop .reached) (l .loop .net)
-tested l = l .loop .inv _ _ (sound (start l))
 
 -- a turn's sinks stand one after the other within table 7
 sinks-rise : (t : tie.In-loop Inv-loop μ-loop) → getD (entry t .args .first-sink .now) (net t) 0 ≤ getD (entry t .args .first-sink .now) (net t + 1) 0
