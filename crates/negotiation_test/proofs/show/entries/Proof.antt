@@ -1,10 +1,10 @@
--- `negotiation_test::show_work` prints every entry. The invariant: k is within the slice. The measure is what is left of it.
+-- `negotiation_test::show::entries` prints every entry. The invariant: k is within the slice. The measure is what is left of it.
 -- Assumes nothing.
 use Prim.Native.Nat.{_≤_, _-_}
 use borrow.Author.Needs.{needs}
 use lib.ListN.{length}
-use Rattle.negotiation_test.proofs.show_work.Statement.{statement}
-use Rattle.negotiation_test.proofs.show_work.Tie as tie
+use Rattle.negotiation_test.proofs.show.entries.Statement.{statement}
+use Rattle.negotiation_test.proofs.show.entries.Tie as tie
 
 abbrev Inv-loop : tie.InvT-loop
 Inv-loop work k₀ k = k ≤ length work
@@ -36,8 +36,8 @@ loop-again c = search needs
 returns : tie.Need-returns Inv-loop μ-loop
 returns c = search needs
 
-pub show-work-spec : {M : Type 1} → statement M
-show-work-spec =
+pub entries-spec : {M : Type 1} → statement M
+entries-spec =
     tie.close
     (tie.spec
     Inv-loop

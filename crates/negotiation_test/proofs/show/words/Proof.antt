@@ -1,10 +1,10 @@
--- `negotiation_test::show_log` prints every entry. The invariant: k is within the slice. The measure is what is left of it.
+-- `negotiation_test::show::words` prints every entry. The invariant: k is within the slice. The measure is what is left of it.
 -- Assumes nothing.
 use Prim.Native.Nat.{_≤_, _-_}
 use borrow.Author.Needs.{needs}
 use lib.ListN.{length}
-use Rattle.negotiation_test.proofs.show_log.Statement.{statement}
-use Rattle.negotiation_test.proofs.show_log.Tie as tie
+use Rattle.negotiation_test.proofs.show.words.Statement.{statement}
+use Rattle.negotiation_test.proofs.show.words.Tie as tie
 
 abbrev Inv-loop : tie.InvT-loop
 Inv-loop log k₀ k = k ≤ length log
@@ -36,8 +36,8 @@ loop-again c = search needs
 returns : tie.Need-returns Inv-loop μ-loop
 returns c = search needs
 
-pub show-log-spec : {M : Type 1} → statement M
-show-log-spec =
+pub words-spec : {M : Type 1} → statement M
+words-spec =
     tie.close
     (tie.spec
     Inv-loop
