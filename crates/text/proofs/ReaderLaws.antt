@@ -1,7 +1,7 @@
 -- The lines of a job text in their order: what each stage gives is what the whole text gives.
 -- Assumes nothing.
 use mathlib.Core.List.{List, [], _∷_, _++_}
-use mathlib.Core.Path.{_≡_, refl, sym, _∙_, ap}
+use mathlib.Core.Path.{_≡_, refl, sym, _∙_, ap, subst}
 use Prim.Native.Nat.{ℕ, _+_, _≤_}
 use native.Mathlib.Numerals.{add-one}
 use native.Mathlib.Omega.{arith}
@@ -12,7 +12,7 @@ use Rattle.negotiation.specs.Job.{Job, jobOf}
 use Rattle.text.specs.JobText.{Part, part, stopped, andThen, Counts, headLine, headPart, NodeLists, nodeLists, nodeLines, EdgeLists, edgeLists, edgeLines, NetLists, netLists, netLines, firstPlaces, jobRead, readText}
 use Rattle.text.specs.ReadReplies.{Tables}
 use Rattle.text.specs.Steps.{edgeTables, edgesAt, nodesAt, LinesPlace, netsReadAt, NetsEnd, headAt, HeadPlace}
-use Rattle.text.specs.ReadSteps.{withNets, netsAfter, bodyAfterNodes, edgesNetsAt, withWires, wiresAfter, bodyAfterHead, bodyAt, jobTaken, CountsWithin}
+use Rattle.text.specs.ReadSteps.{withNets, netsAfter, bodyAfterNodes, edgesNetsAt, withWires, wiresAfter, bodyAfterHead, bodyAt, jobLines, jobAt, JobPlace, CountsWithin}
 use Rattle.text.proofs.HeadTextLaws.{head-read}
 use Rattle.text.specs.declared.head.Head.{Head}
 use Rattle.text.specs.declared.head.Head.the-variants as hd
@@ -20,6 +20,7 @@ use Rattle.text.specs.declared.head.Lines.{Lines}
 use Rattle.text.specs.declared.head.Lines.the-variants as ls
 use Rattle.text.specs.declared.nets.NetsRead.{NetsRead}
 use Rattle.text.specs.declared.nets.NetsRead.the-variants as nr
+use Rattle.text.specs.declared.reader.JobLines.{JobLines}
 
 -- the nets as they stand in the tables, with the entry after the last net's
 with-nets : (n edges nets : ℕ) (r : NetsRead) (firstEdges edgeTargets sources firstSinks sinks : List ℕ) → NetsEnd nets r firstSinks → nets + 1 ≤ length firstSinks → sinksMost ≤ length sinks → edgesNetsAt n edges nets r firstEdges edgeTargets sources firstSinks sinks ≡ withNets (take (n + 1) firstEdges) (take edges edgeTargets) (netsReadAt nets r sources firstSinks sinks)
@@ -101,19 +102,22 @@ module _ (n edges nets limit next : ℕ) (text : List ℕ) (x : Head) (kinds cap
       ∙ node-stage (record { nodes = n; edges = edges; nets = nets; limit = limit }) (nodeLines n n (nodeLists [] []) 2 (drop next text))
       ∙ rw (← read, is)
 
-  pub text-read : (r : NetsRead) (count line : ℕ) → r ≡ nr.Read count line → bodyAt n edges nets r kinds capacities firstEdges edgeTargets sources firstSinks sinks ≡ bodyAfterHead n edges nets (drop next text) → part (jobTaken n edges nets count limit kinds capacities firstEdges edgeTargets sources firstSinks sinks) line [] ≡ readText text
-  text-read r count line e body =
-      ap (λ (y : NetsRead). jobAfter limit (bodyAt n edges nets y kinds capacities firstEdges edgeTargets sources firstSinks sinks)) (sym e)
-      ∙ text-body r body
+  job-body : (r : NetsRead) → jobAt (jobLines n edges nets limit r) kinds capacities firstEdges edgeTargets sources firstSinks sinks ≡ jobAfter limit (bodyAt n edges nets r kinds capacities firstEdges edgeTargets sources firstSinks sinks)
+  job-body (nr.Read count line) = refl
+  job-body (nr.Stopped k line) = refl
 
-  pub body-stop : (r : NetsRead) (k line : ℕ) → r ≡ nr.Stopped k line → bodyAt n edges nets r kinds capacities firstEdges edgeTargets sources firstSinks sinks ≡ bodyAfterHead n edges nets (drop next text) → stopped k line ≡ readText text
-  body-stop r k line e body =
-      ap (λ (y : NetsRead). jobAfter limit (bodyAt n edges nets y kinds capacities firstEdges edgeTargets sources firstSinks sinks)) (sym e)
-      ∙ text-body r body
+  pub text-read : (r : NetsRead) (j : JobLines) → j ≡ jobLines n edges nets limit r → bodyAt n edges nets r kinds capacities firstEdges edgeTargets sources firstSinks sinks ≡ bodyAfterHead n edges nets (drop next text) → jobAt j kinds capacities firstEdges edgeTargets sources firstSinks sinks ≡ readText text
+  text-read r j e body =
+      ap (λ (y : JobLines). jobAt y kinds capacities firstEdges edgeTargets sources firstSinks sinks) e ∙ job-body r ∙ text-body r body
 
--- a text has at most so many sinks
-pub read-sinks : (nets count line : ℕ) (r : NetsRead) (firstSinks : List ℕ) → r ≡ nr.Read count line → NetsEnd nets r firstSinks → count ≤ sinksMost
-read-sinks nets count line r firstSinks e end = (rw e at end) .0
+-- the counts of a text that was read are within their bounds
+module _ (n edges nets limit : ℕ) (firstSinks : List ℕ) (within : CountsWithin n edges nets) where
+  lines-place : (r : NetsRead) → NetsEnd nets r firstSinks → JobPlace (jobLines n edges nets limit r)
+  lines-place (nr.Read count line) end = (within, end .0)
+  lines-place (nr.Stopped k line) end = tt
+
+  pub job-place : (r : NetsRead) (j : JobLines) → j ≡ jobLines n edges nets limit r → NetsEnd nets r firstSinks → JobPlace j
+  job-place r j e end = subst JobPlace (sym e) (lines-place r end)
 
 -- a faulty first line
 pub text-stop : (k : ℕ) (text : List ℕ) (x : Head) → x ≡ hd.Refused k → headAt text x ≡ headLine text → stopped k 1 ≡ readText text

@@ -96,6 +96,11 @@ abbrev pub jobTaken : ℕ → ℕ → ℕ → ℕ → ℕ → List ℕ → List 
 jobTaken n edges nets count limit kinds capacities firstEdges edgeTargets sources firstSinks sinks =
     jobOf (take n kinds) (take n capacities) (take (n + 1) firstEdges) (take edges edgeTargets) (take nets sources) (take (nets + 1) firstSinks) (take count sinks) limit
 
+-- the first line's counts and what the lines after it gave, as one answer
+abbrev pub jobLines : ℕ → ℕ → ℕ → ℕ → NetsRead → JobLines
+jobLines n edges nets limit (nr.Read count line) = jl.Counts n edges nets count limit line
+jobLines n edges nets limit (nr.Stopped k line) = jl.Stopped k line
+
 -- the whole text
 abbrev pub jobAt : JobLines → List ℕ → List ℕ → List ℕ → List ℕ → List ℕ → List ℕ → List ℕ → Part Job
 jobAt (jl.Counts n edges nets count limit line) kinds capacities firstEdges edgeTargets sources firstSinks sinks =

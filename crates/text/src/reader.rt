@@ -4,7 +4,7 @@ ghost use Prim.Native.Nat.{_+_, _≤_};
 ghost use lib.ListN.{length, drop};
 ghost use Rattle.text.specs.JobText.{readText};
 ghost use Rattle.text.specs.Steps.{NetsEnd};
-ghost use Rattle.text.specs.ReadSteps.{EdgeRoom, NetTablesRoom, RoomForAll, CountsWithin, bodyAfterNodes, edgesNetsAt, bodyAfterHead, bodyAt, jobAt, JobPlace};
+ghost use Rattle.text.specs.ReadSteps.{EdgeRoom, NetTablesRoom, RoomForAll, CountsWithin, bodyAfterNodes, edgesNetsAt, bodyAfterHead, bodyAt, jobLines, jobAt, JobPlace};
 use crate::edges;
 use crate::head;
 use crate::head::Head;
@@ -107,6 +107,26 @@ fn read_body(
     }
 }
 
+// The counts of the first line with what the lines after it gave.
+fn job_lines(nodes: usize, edges: usize, nets: usize, limit: u32, body: NetsRead) -> JobLines
+    ensures { λ r. ⌜ r ≡ jobLines nodes edges nets limit body ⌝ }
+{
+    match body {
+        NetsRead::Read { sinks, line } => JobLines::Counts {
+            nodes: nodes,
+            edges: edges,
+            nets: nets,
+            sinks: sinks,
+            limit: limit,
+            line: line,
+        },
+        NetsRead::Stopped { number, line } => JobLines::Stopped {
+            number: number,
+            line: line,
+        },
+    }
+}
+
 // The whole text.
 pub fn read_lines(
     text: &[u8],
@@ -134,7 +154,7 @@ pub fn read_lines(
             let n = nodes as usize;
             let e = edges as usize;
             let m = nets as usize;
-            match read_body(
+            let body = read_body(
                 text,
                 next,
                 n,
@@ -147,20 +167,8 @@ pub fn read_lines(
                 source,
                 first_sink,
                 sink,
-            ) {
-                NetsRead::Read { sinks, line } => JobLines::Counts {
-                    nodes: n,
-                    edges: e,
-                    nets: m,
-                    sinks: sinks,
-                    limit: limit,
-                    line: line,
-                },
-                NetsRead::Stopped { number, line } => JobLines::Stopped {
-                    number: number,
-                    line: line,
-                },
-            }
+            );
+            job_lines(n, e, m, limit, body)
         }
         Head::Refused(number) => JobLines::Stopped {
             number: number,

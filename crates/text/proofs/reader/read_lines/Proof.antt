@@ -1,7 +1,7 @@
 -- `text::reader::read_lines` meets its contract: the first line, then those after it.
 -- Assumes nothing.
 use borrow.Author.Needs.{needs}
-use Rattle.text.proofs.ReaderLaws.{head-counts, head-place, text-read, body-stop, text-stop, read-sinks}
+use Rattle.text.proofs.ReaderLaws.{head-counts, head-place, text-read, job-place, text-stop}
 use Rattle.text.proofs.reader.read_lines.Statement.{statement}
 use Rattle.text.proofs.reader.read_lines.Tie as tie
 
@@ -26,21 +26,15 @@ read-body-requires c κs = let head = c .before .before .before .before .before 
     let place = head-place (start .args .text .now) (head .result) _ _ _ _ _ (c .before .before .before .before .before .before .before .before .head .given .1) (head .ensures .1) in
     (start .pre, (head-counts _ _ _ _ _ (start .args .text .now) (head .result) (c .before .before .before .before .before .before .before .before .head .given .1) (head .ensures .0), place .0, place .1))
 
-enum-known-sinks : tie.Need-enum-known-sinks
-enum-known-sinks c = search needs
-
-enum-known-number : tie.Need-enum-known-number
-enum-known-number c = search needs
+job-lines-requires : tie.Need-job-lines-requires
+job-lines-requires c κs = search needs
 
 enum-known-head-2 : tie.Need-enum-known-head-2
 enum-known-head-2 c = search needs
 
--- the call of `read_body` before the two returns after it, which leaves the lengths of the tables as they were
-abbrev read : tie.After-known-told2 → tie.After-read-body
-read c = c .before .before .before .before .before .before .before .before .before .before .before .before .before .before .before .before .before
-
-abbrev misread : tie.After-known-told3 → tie.After-read-body
-misread c = c .before .before .before .before .before .before .before .before .before .before .before .before .before .before .before .before .before
+-- the call of `read_body` before the return after it, which leaves the lengths of the tables as they were
+abbrev read : tie.After-job-lines → tie.After-read-body
+read c = c .before .before .before .before .before .before .before .before .before .before .before .before .before .before .before
 
 same-length : tie.Need-same-length
 same-length c = read c .read-body .kept .1 .1 .1 .1 .1 .0
@@ -64,45 +58,16 @@ same-length-7 : tie.Need-same-length-7
 same-length-7 c = read c .read-body .kept .1 .1 .1 .1 .1 .1 .1 .1 .1 .1 .1 .0
 
 returns : tie.Need-returns
-returns c = let head = c .before .before .before .before .before .before .before .before .before .before .before .before .before .before .before .before .before .before .before .before .before .before .before .before .before .before .before .before .head-line in
-    let body = c .before .before .before .before .before .before .before .before .before .before .before .before .before .before .before .before .before .read-body in
+returns c = let head = c .before .before .before .before .before .before .before .before .before .before .before .before .before .before .before .before .before .before .before .before .before .before .before .before .before .before .head-line in
+    let body = c .before .before .before .before .before .before .before .before .before .before .before .before .before .before .before .read-body in
     let l = body .last .1 .1 .1 .1 .1 in
-    let known = c .before .before .before .before .before .before .before .before .before .before .before .before .before .before .before .before .before .before .before .before .before .before .before .before .before .before .head .given .1 in (
-      text-read _ _ _ _ _ _ (head .result) (l .0) (l .1 .0) (l .1 .1 .0) (l .1 .1 .1 .0) (l .1 .1 .1 .1 .0) (l .1 .1 .1 .1 .1 .0) (l .1 .1 .1 .1 .1 .1 .0) known (head .ensures .0) (body .result) _ _ (c .before .sinks .given .1) (body .ensures .0),
-      (head-counts _ _ _ _ _ _ (head .result) known (head .ensures .0), read-sinks _ _ _ (body .result) (l .1 .1 .1 .1 .1 .0) (c .before .sinks .given .1) (body .ensures .1)),
+    let known = c .before .before .before .before .before .before .before .before .before .before .before .before .before .before .before .before .before .before .before .before .before .before .before .before .head .given .1 in (
+      text-read _ _ _ _ _ _ (head .result) (l .0) (l .1 .0) (l .1 .1 .0) (l .1 .1 .1 .0) (l .1 .1 .1 .1 .0) (l .1 .1 .1 .1 .1 .0) (l .1 .1 .1 .1 .1 .1 .0) known (head .ensures .0) (body .result) (c .job-lines .result) (c .job-lines .ensures) (body .ensures .0),
+      job-place _ _ _ _ (l .1 .1 .1 .1 .1 .0) (head-counts _ _ _ _ _ _ (head .result) known (head .ensures .0)) (body .result) (c .job-lines .result) (c .job-lines .ensures) (body .ensures .1),
     )
-
-same-length-8 : tie.Need-same-length-8
-same-length-8 c = misread c .read-body .kept .1 .1 .1 .1 .1 .0
-
-same-length-9 : tie.Need-same-length-9
-same-length-9 c = misread c .read-body .kept .1 .1 .1 .1 .1 .1 .0
-
-same-length-10 : tie.Need-same-length-10
-same-length-10 c = misread c .read-body .kept .1 .1 .1 .1 .1 .1 .1 .0
-
-same-length-11 : tie.Need-same-length-11
-same-length-11 c = misread c .read-body .kept .1 .1 .1 .1 .1 .1 .1 .1 .0
-
-same-length-12 : tie.Need-same-length-12
-same-length-12 c = misread c .read-body .kept .1 .1 .1 .1 .1 .1 .1 .1 .1 .0
-
-same-length-13 : tie.Need-same-length-13
-same-length-13 c = misread c .read-body .kept .1 .1 .1 .1 .1 .1 .1 .1 .1 .1 .0
-
-same-length-14 : tie.Need-same-length-14
-same-length-14 c = misread c .read-body .kept .1 .1 .1 .1 .1 .1 .1 .1 .1 .1 .1 .0
 
 returns-2 : tie.Need-returns-2
-returns-2 c = let head = c .before .before .before .before .before .before .before .before .before .before .before .before .before .before .before .before .before .before .before .before .before .before .before .before .before .before .before .before .head-line in
-    let body = c .before .before .before .before .before .before .before .before .before .before .before .before .before .before .before .before .before .read-body in
-    let l = body .last .1 .1 .1 .1 .1 in (
-      body-stop _ _ _ _ _ _ (head .result) (l .0) (l .1 .0) (l .1 .1 .0) (l .1 .1 .1 .0) (l .1 .1 .1 .1 .0) (l .1 .1 .1 .1 .1 .0) (l .1 .1 .1 .1 .1 .1 .0) (c .before .before .before .before .before .before .before .before .before .before .before .before .before .before .before .before .before .before .before .before .before .before .before .before .before .before .head .given .1) (head .ensures .0) (body .result) _ _ (c .before .number .given .1) (body .ensures .0),
-      tt,
-    )
-
-returns-3 : tie.Need-returns-3
-returns-3 c = (text-stop _ _ (c .before .before .before .head-line .result) (c .before .head2 .given .1) (c .before .before .before .head-line .ensures .0), tt)
+returns-2 c = (text-stop _ _ (c .before .before .before .head-line .result) (c .before .head2 .given .1) (c .before .before .before .head-line .ensures .0), tt)
 
 pub read-lines-spec : {M : Type 1} → statement M
 read-lines-spec =
@@ -114,8 +79,7 @@ read-lines-spec =
     cast-e
     cast-m
     read-body-requires
-    enum-known-sinks
-    enum-known-number
+    job-lines-requires
     enum-known-head-2
     same-length
     same-length-2
@@ -125,12 +89,4 @@ read-lines-spec =
     same-length-6
     same-length-7
     returns
-    same-length-8
-    same-length-9
-    same-length-10
-    same-length-11
-    same-length-12
-    same-length-13
-    same-length-14
-    returns-2
-    returns-3)
+    returns-2)
