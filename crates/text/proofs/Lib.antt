@@ -28,6 +28,9 @@ pub mod StepTextLaws
 pub mod BranchLaws
 pub mod BranchHolds
 pub mod LogHolds
+pub mod BranchLineLaws
+pub mod StepListLaws
+pub mod ShortRecordLaws
 pub mod ListedHolds
 pub mod TextHolds
 pub mod RefusalLineLaws
