@@ -1,6 +1,6 @@
 -- The E lines: what one gives by its numbers, a table that is filled up to a row, and what holds between two of them.
 --     rises-first, -later, -lower, -same, -least    the order of edges
---     edge-other, -shape, -beyond, -wrong, -taken   an E line
+--     edge-shape, -beyond, -wrong, -taken           an E line
 --     filled, fill-none, fill-more                  a part of a table that holds one value
 --     EdgesRead                                     between two E lines
 -- Assumes nothing.
@@ -19,14 +19,14 @@ use borrow.Author.Tests.{lt-ltb, le-ltb, eq-eqb, ne-eqb, ltb-true, eqb-true}
 use Rattle.price.specs.Test.{choose}
 use Rattle.price.specs.Lists.{upTo, total}
 use Rattle.price.proofs.ListLaws.{either-way, both-left, both-right, total-append}
-use Rattle.text.specs.Lines.{letterE, taken, fields, line}
+use Rattle.text.specs.Lines.{letterE, taken, line}
 use Rattle.text.specs.JobText.{values, refused, lastOf, rises, edgeWithin, edgeOrdered, edgeLine, part, stopped, edgeLists, edgeLines, firstPlaces}
-use Rattle.text.specs.Steps.{begins, After, twoAt, edgeAt, EdgePlace, edgeTables}
+use Rattle.text.specs.Steps.{After, twoAt, edgeAt, EdgePlace, edgeTables}
 use Rattle.text.specs.declared.fields.Two.{Two}
 use Rattle.text.specs.declared.fields.Two.the-variants as w
 use Rattle.text.specs.declared.edges.EdgeLine.{EdgeLine}
 use Rattle.text.specs.declared.edges.EdgeLine.the-variants as el
-use Rattle.text.proofs.JudgedLaws.{line-other, two-malformed, two-line, judged-beyond, judged-wrong, judged-taken, judged-values}
+use Rattle.text.proofs.JudgedLaws.{two-malformed, two-taken, judged-beyond, judged-wrong, judged-taken, judged-values}
 use Rattle.text.proofs.LastLaws.{last-more}
 
 -- ---- the order of edges
@@ -87,18 +87,14 @@ module _ (count lastFrom lastTo a b : ℕ) where
   unfolding edgeOrdered
   edge-order d q e = rw (ne-eqb a b d) (sym e ∙ q)
 
-pub edge-other : (n count lastFrom lastTo at : ℕ) (text : List ℕ) → begins letterE (drop at text) ≡ false → refused 1 ≡ edgeLine n count lastFrom lastTo (drop at text)
-unfolding edgeLine
-edge-other n count lastFrom lastTo at text b = rw (line-other letterE 2 (drop at text) b)
-
-module _ (n count lastFrom lastTo at : ℕ) (text : List ℕ) {r : Two} (letter : begins letterE (drop at text) ≡ true) (read : twoAt text r ≡ fields 2 (drop (at + 1) text)) where
+module _ (n count lastFrom lastTo at : ℕ) (text : List ℕ) {r : Two} (read : twoAt text r ≡ line letterE 2 (drop at text)) where
   pub edge-shape : r ≡ w.Fault → refused 1 ≡ edgeLine n count lastFrom lastTo (drop at text)
   unfolding edgeLine
-  edge-shape e = rw (two-malformed letterE at text letter read e)
+  edge-shape e = rw (two-malformed text read e)
 
   module _ {a b next : ℕ} (e : r ≡ w.Fields a b next) where
     shape : line letterE 2 (drop at text) ≡ taken (a ∷ b ∷ []) (drop next text)
-    shape = two-line letterE at text letter read e
+    shape = two-taken text read e
 
     pub edge-beyond : edgeWithin n (a ∷ b ∷ []) ≡ false → refused 2 ≡ edgeLine n count lastFrom lastTo (drop at text)
     unfolding edgeLine

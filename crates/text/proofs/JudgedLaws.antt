@@ -1,6 +1,6 @@
 -- A line at a place of the text, and its three judgements: 1, 2 or 3, or the values.
 --     line-begins, line-other, line-is       a line by the byte that it begins with
---     two-line, two-malformed, two-place     a line with two fields, as its answer tells it
+--     two-taken, two-malformed, two-place    two fields, as their answer tells them
 --     judged-beyond, -wrong, -taken          fields that are tested
 --     judged-values                          values that are given passed both tests
 -- Assumes nothing.
@@ -36,16 +36,16 @@ pub line-is : (letter k at : ℕ) (text : List ℕ) {f : Fields} → begins lett
 line-is letter k at text b e =
     line-begins letter k (drop at text) b ∙ ap (λ (bs : List ℕ). fields k bs) (drop-drop 1 at text) ∙ sym e
 
--- ---- a line with two fields
+-- ---- two fields
 
-module _ (letter at : ℕ) (text : List ℕ) {r : Two} (b : begins letter (drop at text) ≡ true) (read : twoAt text r ≡ fields 2 (drop (at + 1) text)) where
-  pub two-malformed : r ≡ w.Fault → line letter 2 (drop at text) ≡ malformed
-  two-malformed e = line-is letter 2 at text b (sym (ap (twoAt text) e) ∙ read)
+module _ (text : List ℕ) {r : Two} {fs : Fields} (read : twoAt text r ≡ fs) where
+  pub two-malformed : r ≡ w.Fault → fs ≡ malformed
+  two-malformed e = sym read ∙ ap (twoAt text) e
 
-  pub two-line : {f s next : ℕ} → r ≡ w.Fields f s next → line letter 2 (drop at text) ≡ taken (f ∷ s ∷ []) (drop next text)
-  two-line e = line-is letter 2 at text b (sym (ap (twoAt text) e) ∙ read)
+  pub two-taken : {f s next : ℕ} → r ≡ w.Fields f s next → fs ≡ taken (f ∷ s ∷ []) (drop next text)
+  two-taken e = sym read ∙ ap (twoAt text) e
 
--- the place after it
+-- the place after them
 pub two-place : (at : ℕ) (text : List ℕ) {r : Two} {f s next : ℕ} → r ≡ w.Fields f s next → TwoPlace at text r → After at text next
 two-place at text e p = subst (λ (x : Two). TwoPlace at text x) e p
 

@@ -1,14 +1,13 @@
 -- The S and T lines: what a line gives, by the tests that its reading passes or fails, and what a line that is read tells.
---     letter-inside                             where the letter stands the text goes on
---     source-other, -fault                      an S line of wrong shape
+--     source-fault                              an S line of wrong shape
 --     source-net, -node, -order, -pin           an S line by its values
---     sink-other, -fault                        a T line of wrong shape
+--     sink-fault                                a T line of wrong shape
 --     sink-net, -node, -order, -seen, -many, -pin    a T line by its values
 --     bearing-marked                            some list has the nodes that bear a stamp
 --     sink-few                                  before a sink that is read there were not too many
 --     pin-reading, pin-refused, pin-place       a line as its answer tells it
 -- Assumes nothing.
-use mathlib.Core.Bool.{Bool, true, false, not}
+use mathlib.Core.Bool.{true, false, not}
 use mathlib.Core.List.{List, [], _∷_}
 use mathlib.Core.Logic.{⊎-elim}
 use mathlib.Core.Path.{_≡_, refl, sym, _∙_, ap}
@@ -16,21 +15,20 @@ use Prim.Native.Nat.{ℕ, zero, suc, _+_, _≤_, _<_}
 use native.Mathlib.Nat.{not-suc-le-zero, eq-or-lt-of-le, le-of-suc-le-suc}
 use native.Mathlib.Omega.{arith}
 use lib.Dec.{eqb, ltb}
-use lib.ListN.{length, getD, drop}
-use borrow.Author.Tests.{lt-ltb, le-ltb, eq-eqb, ne-eqb, ltb-true, not-true, not-false}
+use lib.ListN.{getD, drop}
+use borrow.Author.Tests.{lt-ltb, le-ltb, eq-eqb, ne-eqb, ltb-true}
 use Rattle.price.specs.Test.{choose, both}
 use Rattle.price.specs.Lists.{has}
 use Rattle.price.proofs.ListLaws.{either-way, both-right, both-true, both-false-right}
 use Rattle.search.specs.Replies.{sinksMost}
-use Rattle.text.specs.Lines.{letterS, letterT, taken, fields, line}
+use Rattle.text.specs.Lines.{letterS, letterT, taken, line}
 use Rattle.text.specs.JobText.{Reading, values, refused, pinWithin, sourceLine, sinkOrdered, sinkLine}
-use Rattle.text.specs.Steps.{begins, After, twoAt, pinAt, PinPlace, Marked}
+use Rattle.text.specs.Steps.{After, twoAt, pinAt, PinPlace, Marked}
 use Rattle.text.specs.declared.fields.Two as twoType
 use Rattle.text.specs.declared.fields.Two.the-variants as w
 use Rattle.text.specs.declared.nets.PinLine.{PinLine}
 use Rattle.text.specs.declared.nets.PinLine.the-variants as pl
-use Rattle.text.proofs.FieldLaws.{begins-within}
-use Rattle.text.proofs.JudgedLaws.{line-other, two-malformed, two-line, judged-beyond, judged-wrong, judged-taken, judged-values}
+use Rattle.text.proofs.JudgedLaws.{two-malformed, two-taken, judged-beyond, judged-wrong, judged-taken, judged-values}
 
 -- ---- the tests of a pin
 
@@ -47,48 +45,35 @@ module _ (n nets f s : ℕ) where
   unfolding pinWithin
   within-both h k = both-true (lt-ltb f nets h) (lt-ltb s n k)
 
--- the letter stands
-letter-stands : (letter at : ℕ) (text : List ℕ) {t : Bool} → t ≡ begins letter (drop at text) → not t ≡ false → begins letter (drop at text) ≡ true
-letter-stands letter at text {t} s b = sym s ∙ not-false t b
-
--- where it stands the text goes on
-pub letter-inside : (letter at : ℕ) (text : List ℕ) {t : Bool} → t ≡ begins letter (drop at text) → not t ≡ false → at < length text
-letter-inside letter at text s b = begins-within letter at text (letter-stands letter at text s b)
-
 -- ---- the S line
 
-module _ (n nets i at : ℕ) (text : List ℕ) {t : Bool} (stands : t ≡ begins letterS (drop at text)) where
-  pub source-other : not t ≡ true → refused 1 ≡ sourceLine n nets i (drop at text)
+module _ (n nets i at : ℕ) (text : List ℕ) (r : twoType.Two) (e : twoAt text r ≡ line letterS 2 (drop at text)) where
+  pub source-fault : r ≡ w.Fault → refused 1 ≡ sourceLine n nets i (drop at text)
   unfolding sourceLine
-  source-other b = rw (line-other letterS 2 (drop at text) (sym stands ∙ not-true t b))
+  source-fault q = rw (two-malformed text e q)
 
-  module _ (r : twoType.Two) (b : not t ≡ false) (e : twoAt text r ≡ fields 2 (drop (at + 1) text)) where
-    pub source-fault : r ≡ w.Fault → refused 1 ≡ sourceLine n nets i (drop at text)
+  module _ {f s next : ℕ} (q : r ≡ w.Fields f s next) where
+    source-fields : line letterS 2 (drop at text) ≡ taken (f ∷ s ∷ []) (drop next text)
+    source-fields = two-taken text e q
+
+    pub source-net : nets ≤ f → refused 2 ≡ sourceLine n nets i (drop at text)
     unfolding sourceLine
-    source-fault q = rw (two-malformed letterS at text (letter-stands letterS at text stands b) e q)
+    source-net h = sym (judged-beyond (pinWithin n nets) (λ vs. eqb (getD vs 0 0) i) source-fields (beyond-nets n nets f s h))
 
-    module _ {f s next : ℕ} (q : r ≡ w.Fields f s next) where
-      source-fields : line letterS 2 (drop at text) ≡ taken (f ∷ s ∷ []) (drop next text)
-      source-fields = two-line letterS at text (letter-stands letterS at text stands b) e q
+    pub source-node : n ≤ s → refused 2 ≡ sourceLine n nets i (drop at text)
+    unfolding sourceLine
+    source-node h = sym (judged-beyond (pinWithin n nets) (λ vs. eqb (getD vs 0 0) i) source-fields (beyond-nodes n nets f s h))
 
-      pub source-net : nets ≤ f → refused 2 ≡ sourceLine n nets i (drop at text)
+    module _ (in-nets : f < nets) (in-nodes : s < n) where
+      pub source-order : (f ≡ i → ⊥) → refused 3 ≡ sourceLine n nets i (drop at text)
       unfolding sourceLine
-      source-net h = sym (judged-beyond (pinWithin n nets) (λ vs. eqb (getD vs 0 0) i) source-fields (beyond-nets n nets f s h))
+      source-order h = sym (judged-wrong (pinWithin n nets) (λ vs. eqb (getD vs 0 0) i) source-fields (within-both n nets f s in-nets in-nodes) (ne-eqb f i h))
 
-      pub source-node : n ≤ s → refused 2 ≡ sourceLine n nets i (drop at text)
+      pub source-pin : f ≡ i → values (i ∷ s ∷ []) (drop next text) ≡ sourceLine n nets i (drop at text)
       unfolding sourceLine
-      source-node h = sym (judged-beyond (pinWithin n nets) (λ vs. eqb (getD vs 0 0) i) source-fields (beyond-nodes n nets f s h))
-
-      module _ (in-nets : f < nets) (in-nodes : s < n) where
-        pub source-order : (f ≡ i → ⊥) → refused 3 ≡ sourceLine n nets i (drop at text)
-        unfolding sourceLine
-        source-order h = sym (judged-wrong (pinWithin n nets) (λ vs. eqb (getD vs 0 0) i) source-fields (within-both n nets f s in-nets in-nodes) (ne-eqb f i h))
-
-        pub source-pin : f ≡ i → values (i ∷ s ∷ []) (drop next text) ≡ sourceLine n nets i (drop at text)
-        unfolding sourceLine
-        source-pin h =
-            ap (λ (x : ℕ). values (x ∷ s ∷ []) (drop next text)) (sym h)
-            ∙ sym (judged-taken (pinWithin n nets) (λ vs. eqb (getD vs 0 0) i) source-fields (within-both n nets f s in-nets in-nodes) (eq-eqb f i h))
+      source-pin h =
+          ap (λ (x : ℕ). values (x ∷ s ∷ []) (drop next text)) (sym h)
+          ∙ sym (judged-taken (pinWithin n nets) (λ vs. eqb (getD vs 0 0) i) source-fields (within-both n nets f s in-nets in-nodes) (eq-eqb f i h))
 
 -- ---- the T line
 
@@ -111,49 +96,44 @@ module _ (i : ℕ) (pins : List ℕ) (count f s : ℕ) where
   unfolding sinkOrdered
   in-order h g l = rw (eq-eqb f i h, g, lt-ltb count sinksMost l)
 
-module _ (n nets i at count : ℕ) (text : List ℕ) {t : Bool} (stands : t ≡ begins letterT (drop at text)) where
-  pub sink-other : (pins : List ℕ) → not t ≡ true → refused 1 ≡ sinkLine n nets i pins count (drop at text)
+module _ (n nets i at count : ℕ) (text : List ℕ) (r : twoType.Two) (e : twoAt text r ≡ line letterT 2 (drop at text)) where
+  pub sink-fault : (pins : List ℕ) → r ≡ w.Fault → refused 1 ≡ sinkLine n nets i pins count (drop at text)
   unfolding sinkLine
-  sink-other pins b = rw (line-other letterT 2 (drop at text) (sym stands ∙ not-true t b))
+  sink-fault pins q = rw (two-malformed text e q)
 
-  module _ (r : twoType.Two) (b : not t ≡ false) (e : twoAt text r ≡ fields 2 (drop (at + 1) text)) where
-    pub sink-fault : (pins : List ℕ) → r ≡ w.Fault → refused 1 ≡ sinkLine n nets i pins count (drop at text)
+  module _ {f s next : ℕ} (q : r ≡ w.Fields f s next) where
+    sink-fields : line letterT 2 (drop at text) ≡ taken (f ∷ s ∷ []) (drop next text)
+    sink-fields = two-taken text e q
+
+    pub sink-net : (pins : List ℕ) → nets ≤ f → refused 2 ≡ sinkLine n nets i pins count (drop at text)
     unfolding sinkLine
-    sink-fault pins q = rw (two-malformed letterT at text (letter-stands letterT at text stands b) e q)
+    sink-net pins h = sym (judged-beyond (pinWithin n nets) (sinkOrdered i pins count) sink-fields (beyond-nets n nets f s h))
 
-    module _ {f s next : ℕ} (q : r ≡ w.Fields f s next) where
-      sink-fields : line letterT 2 (drop at text) ≡ taken (f ∷ s ∷ []) (drop next text)
-      sink-fields = two-line letterT at text (letter-stands letterT at text stands b) e q
+    pub sink-node : (pins : List ℕ) → n ≤ s → refused 2 ≡ sinkLine n nets i pins count (drop at text)
+    unfolding sinkLine
+    sink-node pins h = sym (judged-beyond (pinWithin n nets) (sinkOrdered i pins count) sink-fields (beyond-nodes n nets f s h))
 
-      pub sink-net : (pins : List ℕ) → nets ≤ f → refused 2 ≡ sinkLine n nets i pins count (drop at text)
+    module _ (in-nets : f < nets) (in-nodes : s < n) where
+      sink-wrong : (pins : List ℕ) → sinkOrdered i pins count (f ∷ s ∷ []) ≡ false → refused 3 ≡ sinkLine n nets i pins count (drop at text)
       unfolding sinkLine
-      sink-net pins h = sym (judged-beyond (pinWithin n nets) (sinkOrdered i pins count) sink-fields (beyond-nets n nets f s h))
+      sink-wrong pins o = sym (judged-wrong (pinWithin n nets) (sinkOrdered i pins count) sink-fields (within-both n nets f s in-nets in-nodes) o)
 
-      pub sink-node : (pins : List ℕ) → n ≤ s → refused 2 ≡ sinkLine n nets i pins count (drop at text)
+      pub sink-order : (pins : List ℕ) → (f ≡ i → ⊥) → refused 3 ≡ sinkLine n nets i pins count (drop at text)
+      sink-order pins h = sink-wrong pins (other-net i pins count f s h)
+
+      pub sink-seen : (stamp : ℕ) (seen pins : List ℕ) → Marked n stamp seen pins → getD seen s 0 ≡ stamp → refused 3 ≡ sinkLine n nets i pins count (drop at text)
+      sink-seen stamp seen pins m h =
+          sink-wrong pins (seen-before i pins count f s (sym (m s in-nodes) ∙ eq-eqb (getD seen s 0) stamp h))
+
+      pub sink-many : (pins : List ℕ) → sinksMost ≤ count → refused 3 ≡ sinkLine n nets i pins count (drop at text)
+      sink-many pins h = sink-wrong pins (too-many i pins count f s h)
+
+      pub sink-pin : (stamp : ℕ) (seen pins : List ℕ) → Marked n stamp seen pins → f ≡ i → (getD seen s 0 ≡ stamp → ⊥) → count < sinksMost → values (i ∷ s ∷ []) (drop next text) ≡ sinkLine n nets i pins count (drop at text)
       unfolding sinkLine
-      sink-node pins h = sym (judged-beyond (pinWithin n nets) (sinkOrdered i pins count) sink-fields (beyond-nodes n nets f s h))
-
-      module _ (in-nets : f < nets) (in-nodes : s < n) where
-        sink-wrong : (pins : List ℕ) → sinkOrdered i pins count (f ∷ s ∷ []) ≡ false → refused 3 ≡ sinkLine n nets i pins count (drop at text)
-        unfolding sinkLine
-        sink-wrong pins o = sym (judged-wrong (pinWithin n nets) (sinkOrdered i pins count) sink-fields (within-both n nets f s in-nets in-nodes) o)
-
-        pub sink-order : (pins : List ℕ) → (f ≡ i → ⊥) → refused 3 ≡ sinkLine n nets i pins count (drop at text)
-        sink-order pins h = sink-wrong pins (other-net i pins count f s h)
-
-        pub sink-seen : (stamp : ℕ) (seen pins : List ℕ) → Marked n stamp seen pins → getD seen s 0 ≡ stamp → refused 3 ≡ sinkLine n nets i pins count (drop at text)
-        sink-seen stamp seen pins m h =
-            sink-wrong pins (seen-before i pins count f s (sym (m s in-nodes) ∙ eq-eqb (getD seen s 0) stamp h))
-
-        pub sink-many : (pins : List ℕ) → sinksMost ≤ count → refused 3 ≡ sinkLine n nets i pins count (drop at text)
-        sink-many pins h = sink-wrong pins (too-many i pins count f s h)
-
-        pub sink-pin : (stamp : ℕ) (seen pins : List ℕ) → Marked n stamp seen pins → f ≡ i → (getD seen s 0 ≡ stamp → ⊥) → count < sinksMost → values (i ∷ s ∷ []) (drop next text) ≡ sinkLine n nets i pins count (drop at text)
-        unfolding sinkLine
-        sink-pin stamp seen pins m h g l =
-            ap (λ (x : ℕ). values (x ∷ s ∷ []) (drop next text)) (sym h)
-            ∙ sym (judged-taken (pinWithin n nets) (sinkOrdered i pins count) sink-fields (within-both n nets f s in-nets in-nodes)
-            (in-order i pins count f s h (sym (m s in-nodes) ∙ ne-eqb (getD seen s 0) stamp g) l))
+      sink-pin stamp seen pins m h g l =
+          ap (λ (x : ℕ). values (x ∷ s ∷ []) (drop next text)) (sym h)
+          ∙ sym (judged-taken (pinWithin n nets) (sinkOrdered i pins count) sink-fields (within-both n nets f s in-nets in-nodes)
+          (in-order i pins count f s h (sym (m s in-nodes) ∙ ne-eqb (getD seen s 0) stamp g) l))
 
 -- ---- what a line that is read tells
 

@@ -43,14 +43,11 @@ fn edge_line(
     ensures { λ r. ⌜ edgeAt (now (text .entry)) r ≡ edgeLine nodes count «last_from» «last_to» (drop at (now (text .entry))) ⌝ }
     ensures { λ r. ⌜ EdgePlace nodes at (now (text .entry)) r ⌝ }
 {
-    if !fields::stands(text, at, b'E') {
-        return EdgeLine::Refused(1);
-    }
     let Two::Fields {
         first,
         second,
         next,
-    } = fields::two_fields(text, at + 1)
+    } = fields::two_line(text, at, b'E')
     else {
         return EdgeLine::Refused(1);
     };

@@ -1,9 +1,9 @@
 // Fields of a line: each reading gives a number with the next place, or a fault.
 ghost use mathlib.Core.Path.{_≡_};
-ghost use Prim.Native.Nat.{_≤_, _<_};
+ghost use Prim.Native.Nat.{_+_, _≤_, _<_};
 ghost use lib.ListN.{length, drop};
 ghost use Rattle.text.specs.Decimal.{isDigit};
-ghost use Rattle.text.specs.Lines.{digitsAfter, field, fields};
+ghost use Rattle.text.specs.Lines.{digitsAfter, field, fields, line};
 ghost use Rattle.text.specs.Steps.{begins, commaField, fieldAt, FieldPlace, twoAt, TwoPlace, threeAt, ThreePlace, fourAt, FourPlace};
 
 pub enum Field {
@@ -166,7 +166,7 @@ pub fn comma_field(text: &[u8], at: usize) -> Field
 }
 
 // Two fields, then 10, which is LF.
-pub fn two_fields(text: &[u8], at: usize) -> Two
+fn two_fields(text: &[u8], at: usize) -> Two
     ensures { λ r. ⌜ twoAt (now (text .entry)) r ≡ fields 2 (drop at (now (text .entry))) ⌝ }
     ensures { λ r. ⌜ TwoPlace at (now (text .entry)) r ⌝ }
 {
@@ -248,4 +248,15 @@ pub fn four_fields(text: &[u8], at: usize) -> Four
         fourth: fourth,
         next: end,
     }
+}
+
+// A line with this letter and two fields.
+pub fn two_line(text: &[u8], at: usize, letter: u8) -> Two
+    ensures { λ r. ⌜ twoAt (now (text .entry)) r ≡ line letter 2 (drop at (now (text .entry))) ⌝ }
+    ensures { λ r. ⌜ TwoPlace (at + 1) (now (text .entry)) r ⌝ }
+{
+    if !stands(text, at, letter) {
+        return Two::Fault;
+    }
+    two_fields(text, at + 1)
 }

@@ -41,14 +41,11 @@ fn source_line(text: &[u8], at: usize, nodes: usize, nets: usize, i: usize) -> P
     ensures { λ r. ⌜ pinAt i (now (text .entry)) r ≡ sourceLine nodes nets i (drop at (now (text .entry))) ⌝ }
     ensures { λ r. ⌜ PinPlace nodes at (now (text .entry)) r ⌝ }
 {
-    if !fields::stands(text, at, b'S') {
-        return PinLine::Refused(1);
-    }
     let Two::Fields {
         first,
         second,
         next,
-    } = fields::two_fields(text, at + 1)
+    } = fields::two_line(text, at, b'S')
     else {
         return PinLine::Refused(1);
     };
@@ -82,14 +79,11 @@ fn sink_line(
     ensures { λ r. ⌜ ((pins : List ℕ) → Marked nodes stamp (now (seen .entry)) pins → pinAt i (now (text .entry)) r ≡ sinkLine nodes nets i pins count (drop at (now (text .entry)))) ⌝ }
     ensures { λ r. ⌜ PinPlace nodes at (now (text .entry)) r ⌝ }
 {
-    if !fields::stands(text, at, b'T') {
-        return PinLine::Refused(1);
-    }
     let Two::Fields {
         first,
         second,
         next,
-    } = fields::two_fields(text, at + 1)
+    } = fields::two_line(text, at, b'T')
     else {
         return PinLine::Refused(1);
     };

@@ -1,29 +1,14 @@
 -- `text::nets::sink_line` meets its contract: each answer follows from the tests before it, where the stamps tell the net's pins.
 -- Assumes nothing.
 use Prim.Native.Nat.{_+_}
-use native.Mathlib.Omega.{arith}
 use borrow.Author.Needs.{needs}
-use Rattle.text.specs.Lines.{letterT}
 use Rattle.text.proofs.JudgedLaws.{two-place}
-use Rattle.text.proofs.NetLineLaws.{letter-inside, sink-other, sink-fault, sink-net, sink-node, sink-order, sink-seen, sink-many, sink-pin}
+use Rattle.text.proofs.NetLineLaws.{sink-fault, sink-net, sink-node, sink-order, sink-seen, sink-many, sink-pin}
 use Rattle.text.proofs.nets.sink_line.Statement.{statement}
 use Rattle.text.proofs.nets.sink_line.Tie as tie
 
-stands-requires : tie.Need-stands-requires
-stands-requires c κs = search needs
-
-returns : tie.Need-returns
-returns c =
-    let a = c .before .before .before .before .args in
-    (λ pins m. sink-other _ _ _ (a .at) _ (a .text .now) (c .before .stands .ensures) pins (c .if1 .taken), tt)
-
-add-two-fields : tie.Need-add-two-fields
-add-two-fields c =
-    let a = c .before .before .before .before .args in
-    omega (arith, letter-inside letterT (a .at) (a .text .now) (c .before .stands .ensures) (c .if1 .left))
-
-two-fields-requires : tie.Need-two-fields-requires
-two-fields-requires c κs = search needs
+two-line-requires : tie.Need-two-line-requires
+two-line-requires c κs = search needs
 
 enum-known-first : tie.Need-enum-known-first
 enum-known-first c = search needs
@@ -31,83 +16,80 @@ enum-known-first c = search needs
 enum-told : tie.Need-enum-told
 enum-told c = search needs
 
+returns : tie.Need-returns
+returns c =
+    let a = c .before .before .before .before .before .args in
+    (λ pins m. sink-fault _ _ _ (a .at) _ (a .text .now) _ (c .before .before .two-line .ensures .0) pins (c .enum-told .given .1), tt)
+
+cast-if1 : tie.Need-cast-if1
+cast-if1 c = search needs
+
 returns-2 : tie.Need-returns-2
 returns-2 c =
     let a = c .before .before .before .before .before .before .before .args in
-    (λ pins m. sink-fault _ _ _ (a .at) _ (a .text .now) (c .before .before .before .before .stands .ensures) _ (c .before .before .before .if1 .left) (c .before .before .two-fields .ensures .0) pins (c .enum-told .given .1), tt)
+    (λ pins m. sink-net _ _ _ (a .at) _ (a .text .now) _ (c .before .before .before .before .two-line .ensures .0) (c .before .before .first .given .1) pins (c .if1 .taken), tt)
 
 cast-if2 : tie.Need-cast-if2
 cast-if2 c = search needs
 
 returns-3 : tie.Need-returns-3
 returns-3 c =
-    let a = c .before .before .before .before .before .before .before .before .before .args in
-    (λ pins m. sink-net _ _ _ (a .at) _ (a .text .now) (c .before .before .before .before .before .before .stands .ensures) _ (c .before .before .before .before .before .if1 .left) (c .before .before .before .before .two-fields .ensures .0) (c .before .before .first .given .1) pins (c .if2 .taken), tt)
+    let a = c .before .before .before .before .before .before .before .before .args in
+    (λ pins m. sink-node _ _ _ (a .at) _ (a .text .now) _ (c .before .before .before .before .before .two-line .ensures .0) (c .before .before .before .first .given .1) pins (c .if2 .taken), tt)
 
 cast-if3 : tie.Need-cast-if3
 cast-if3 c = search needs
 
 returns-4 : tie.Need-returns-4
 returns-4 c =
-    let a = c .before .before .before .before .before .before .before .before .before .before .args in
-    (λ pins m. sink-node _ _ _ (a .at) _ (a .text .now) (c .before .before .before .before .before .before .before .stands .ensures) _ (c .before .before .before .before .before .before .if1 .left) (c .before .before .before .before .before .two-fields .ensures .0) (c .before .before .before .first .given .1) pins (c .if3 .taken), tt)
+    let a = c .before .before .before .before .before .before .before .before .before .args in
+    (λ pins m. sink-order _ _ _ (a .at) _ (a .text .now) _ (c .before .before .before .before .before .before .two-line .ensures .0) (c .before .before .before .before .first .given .1) (c .before .before .if1 .left) (c .before .if2 .left) pins (c .if3 .taken), tt)
 
 cast-if4 : tie.Need-cast-if4
 cast-if4 c = search needs
 
+mul-if4 : tie.Need-mul-if4
+mul-if4 c = search needs
+
+shared-slice-read-if4 : tie.Need-shared-slice-read-if4
+shared-slice-read-if4 c = search needs
+
 returns-5 : tie.Need-returns-5
 returns-5 c =
     let a = c .before .before .before .before .before .before .before .before .before .before .before .args in
-    (λ pins m. sink-order _ _ _ (a .at) _ (a .text .now) (c .before .before .before .before .before .before .before .before .stands .ensures) _ (c .before .before .before .before .before .before .before .if1 .left) (c .before .before .before .before .before .before .two-fields .ensures .0) (c .before .before .before .before .first .given .1) (c .before .before .if2 .left) (c .before .if3 .left) pins (c .if4 .taken), tt)
-
-cast-if5 : tie.Need-cast-if5
-cast-if5 c = search needs
-
-mul-if5 : tie.Need-mul-if5
-mul-if5 c = search needs
-
-shared-slice-read-if5 : tie.Need-shared-slice-read-if5
-shared-slice-read-if5 c = search needs
+    (λ pins m. sink-seen _ _ _ (a .at) _ (a .text .now) _ (c .before .before .before .before .before .before .before .before .two-line .ensures .0) (c .before .before .before .before .before .before .first .given .1) (c .before .before .before .before .if1 .left) (c .before .before .before .if2 .left) (a .stamp) (a .seen .now) pins m (c .if4 .taken), tt)
 
 returns-6 : tie.Need-returns-6
 returns-6 c =
-    let a = c .before .before .before .before .before .before .before .before .before .before .before .before .before .args in
-    (λ pins m. sink-seen _ _ _ (a .at) _ (a .text .now) (c .before .before .before .before .before .before .before .before .before .before .stands .ensures) _ (c .before .before .before .before .before .before .before .before .before .if1 .left) (c .before .before .before .before .before .before .before .before .two-fields .ensures .0) (c .before .before .before .before .before .before .first .given .1) (c .before .before .before .before .if2 .left) (c .before .before .before .if3 .left) (a .stamp) (a .seen .now) pins m (c .if5 .taken), tt)
+    let a = c .before .before .before .before .before .before .before .before .before .before .before .before .args in
+    (λ pins m. sink-many _ _ _ (a .at) _ (a .text .now) _ (c .before .before .before .before .before .before .before .before .before .two-line .ensures .0) (c .before .before .before .before .before .before .before .first .given .1) (c .before .before .before .before .before .if1 .left) (c .before .before .before .before .if2 .left) pins (c .if5 .taken), tt)
+
+cast-t17 : tie.Need-cast-t17
+cast-t17 c = search needs
 
 returns-7 : tie.Need-returns-7
 returns-7 c =
-    let a = c .before .before .before .before .before .before .before .before .before .before .before .before .before .before .args in
-    (λ pins m. sink-many _ _ _ (a .at) _ (a .text .now) (c .before .before .before .before .before .before .before .before .before .before .before .stands .ensures) _ (c .before .before .before .before .before .before .before .before .before .before .if1 .left) (c .before .before .before .before .before .before .before .before .before .two-fields .ensures .0) (c .before .before .before .before .before .before .before .first .given .1) (c .before .before .before .before .before .if2 .left) (c .before .before .before .before .if3 .left) pins (c .if6 .taken), tt)
-
-cast-t18 : tie.Need-cast-t18
-cast-t18 c = search needs
-
-returns-8 : tie.Need-returns-8
-returns-8 c =
-    let a = c .before .before .before .before .before .before .before .before .before .before .before .before .before .before .args in
-    (λ pins m. sink-pin _ _ _ (a .at) _ (a .text .now) (c .before .before .before .before .before .before .before .before .before .before .before .stands .ensures) _ (c .before .before .before .before .before .before .before .before .before .before .if1 .left) (c .before .before .before .before .before .before .before .before .before .two-fields .ensures .0) (c .before .before .before .before .before .before .before .first .given .1) (c .before .before .before .before .before .if2 .left) (c .before .before .before .before .if3 .left) (a .stamp) (a .seen .now) pins m (c .before .before .before .if4 .left) (c .before .if5 .left) (c .if6 .left), (two-place (a .at + 1) (a .text .now) (c .before .before .before .before .before .before .before .first .given .1) (c .before .before .before .before .before .before .before .before .before .two-fields .ensures .1), c .before .before .before .before .if3 .left))
+    let a = c .before .before .before .before .before .before .before .before .before .before .before .before .args in
+    (λ pins m. sink-pin _ _ _ (a .at) _ (a .text .now) _ (c .before .before .before .before .before .before .before .before .before .two-line .ensures .0) (c .before .before .before .before .before .before .before .first .given .1) (c .before .before .before .before .before .if1 .left) (c .before .before .before .before .if2 .left) (a .stamp) (a .seen .now) pins m (c .before .before .before .if3 .left) (c .before .if4 .left) (c .if5 .left), (two-place (a .at + 1) (a .text .now) (c .before .before .before .before .before .before .before .first .given .1) (c .before .before .before .before .before .before .before .before .before .two-line .ensures .1), c .before .before .before .before .if2 .left))
 
 pub sink-line-spec : {M : Type 1} → statement M
 sink-line-spec =
     tie.close
     (tie.spec
-    stands-requires
-    returns
-    add-two-fields
-    two-fields-requires
+    two-line-requires
     enum-known-first
     enum-told
+    returns
+    cast-if1
     returns-2
     cast-if2
     returns-3
     cast-if3
     returns-4
     cast-if4
+    mul-if4
+    shared-slice-read-if4
     returns-5
-    cast-if5
-    mul-if5
-    shared-slice-read-if5
     returns-6
-    returns-7
-    cast-t18
-    returns-8)
+    cast-t17
+    returns-7)
