@@ -18,9 +18,9 @@ use Rattle.price.proofs.PriceLaws.{price-pos, price-most}
 use Rattle.search.specs.Block.{blockOf, graphOf, row}
 use Rattle.search.specs.Tables.{Sound, Graph, edgeTargetsSound}
 use Rattle.search.specs.Turn.{Congestion, congestionOf, priceAt}
-use Rattle.search.specs.Replies.{workNeeded, nodeSound, badNode, refusalOf}
+use Rattle.search.specs.Replies.{workNeeded, bounded, historyBounded, nodeSound, badNode, refusalOf}
 use Rattle.search.specs.Frontier.{PriceReady, Fair}
-use Rattle.search.specs.Ready.{Ready}
+use Rattle.search.specs.Ready.{allBelow, Ready}
 use Rattle.search.proofs.BlockLaws.{kinds-some, kinds-few, kind-most, capacities-long, capacity-least, capacity-most}
 
 -- ---- a test of every number below n
@@ -69,16 +69,16 @@ leb-fell {m} {n} {found} {fine} e f s =
     omega arith
 
 -- two tests at once
-all-both : (s t : ℕ → Bool) (n : ℕ) → both (leb n (failsAt s n)) (leb n (failsAt t n)) ≡ leb n (failsAt (λ v. both (s v) (t v)) n)
+all-both : (s t : ℕ → Bool) (n : ℕ) → both (allBelow n s) (allBelow n t) ≡ allBelow n (λ v. both (s v) (t v))
 all-both s t n =
-    tells-leb n (failsAt (λ v. both (s v) (t v)) n) (both (leb n (failsAt s n)) (leb n (failsAt t n)))
+    tells-leb n (failsAt (λ v. both (s v) (t v)) n) (both (allBelow n s) (allBelow n t))
     (record {
       stands = λ e.
           all-pass (λ v. both (s v) (t v)) n
           (λ v h.
           both-true
-          (none-fails s n (leb-true _ _ (both-left (leb n (failsAt s n)) (leb n (failsAt t n)) e)) v h)
-          (none-fails t n (leb-true _ _ (both-right (leb n (failsAt s n)) (leb n (failsAt t n)) e)) v h));
+          (none-fails s n (leb-true _ _ (both-left (allBelow n s) (allBelow n t) e)) v h)
+          (none-fails t n (leb-true _ _ (both-right (allBelow n s) (allBelow n t) e)) v h));
       fell = λ e.
           ⊎-elim
           (λ (l : n ≤ failsAt (λ v. both (s v) (t v)) n).
@@ -96,13 +96,6 @@ all-both s t n =
 
 -- ---- a pass over a list that never leaves early
 
--- an entry is there and at most so much; a history is also at least 1
-abbrev pub bounded : ℕ → List ℕ → ℕ → Bool
-bounded most xs v = both (ltb v (length xs)) (leb (getD xs v 0) most)
-
-abbrev pub history-bounded : List ℕ → ℕ → Bool
-history-bounded xs v = both (ltb v (length xs)) (both (leb 1 (getD xs v 0)) (leb (getD xs v 0) historyMost))
-
 -- the flag tells whether every number below v passes or one below n fails
 pub record Passing (t : ℕ → Bool) (n v : ℕ) (fine : Bool) : Type 0 where
   pub within : v ≤ n
@@ -113,13 +106,13 @@ module _ (t : ℕ → Bool) (n : ℕ) where
   passing-none =
       record { within = omega arith; tells = record { stands = λ e. below-none _; fell = λ e. absurd (true≢false e) } }
 
-  pub passing-all : {v : ℕ} {fine : Bool} → n ≤ v → Passing t n v fine → fine ≡ leb n (failsAt t n)
+  pub passing-all : {v : ℕ} {fine : Bool} → n ≤ v → Passing t n v fine → fine ≡ allBelow n t
   passing-all {v} {fine} end p =
       tells-leb n (failsAt t n) fine
       (record { stands = λ e. all-pass t n (λ k h. p .tells .stands e k (omega arith)); fell = p .tells .fell })
 
 -- a list that is too short
-pub short-fails : (n : ℕ) (xs : List ℕ) (s : ℕ → Bool) → length xs < n → false ≡ leb n (failsAt (λ v. both (ltb v (length xs)) (s v)) n)
+pub short-fails : (n : ℕ) (xs : List ℕ) (s : ℕ → Bool) → length xs < n → false ≡ allBelow n (λ v. both (ltb v (length xs)) (s v))
 short-fails n xs s h =
     sym
     (lt-leb n (failsAt (λ v. both (ltb v (length xs)) (s v)) n)
@@ -138,16 +131,16 @@ module _ (xs : List ℕ) {n v : ℕ} (h : v < n) (long : n ≤ length xs) {T F :
             (p .tells);
       }
 
-  pub history-more : {T₂ F₂ : Type 0} {last : Bool} → (T → getD xs v 0 < 1) → (F → 1 ≤ getD xs v 0) → (T₂ × (last ≡ false)) ⊎ (F₂ × (last ≡ next)) → (T₂ → historyMost < getD xs v 0) → (F₂ → getD xs v 0 ≤ historyMost) → Passing (history-bounded xs) n v fine → Passing (history-bounded xs) n (v + 1) last
+  pub history-more : {T₂ F₂ : Type 0} {last : Bool} → (T → getD xs v 0 < 1) → (F → 1 ≤ getD xs v 0) → (T₂ × (last ≡ false)) ⊎ (F₂ × (last ≡ next)) → (T₂ → historyMost < getD xs v 0) → (F₂ → getD xs v 0 ≤ historyMost) → Passing (historyBounded xs) n v fine → Passing (historyBounded xs) n (v + 1) last
   history-more low some came₂ high few p =
-      let fails : both (leb 1 (getD xs v 0)) (leb (getD xs v 0) historyMost) ≡ false → failsAt (history-bounded xs) n < n =
-      λ e. one-fails (history-bounded xs) n v h (both-false-right (ltb v (length xs)) (both (leb 1 (getD xs v 0)) (leb (getD xs v 0) historyMost)) e) in
+      let fails : both (leb 1 (getD xs v 0)) (leb (getD xs v 0) historyMost) ≡ false → failsAt (historyBounded xs) n < n =
+      λ e. one-fails (historyBounded xs) n v h (both-false-right (ltb v (length xs)) (both (leb 1 (getD xs v 0)) (leb (getD xs v 0) historyMost)) e) in
       record {
         within = omega arith;
         tells =
             tells-more came₂
             (λ w. fails (both-false-right (leb 1 (getD xs v 0)) (leb (getD xs v 0) historyMost) (lt-leb (getD xs v 0) historyMost (high w))))
-            (λ w (s : (1 ≤ getD xs v 0) × ((k : ℕ) → k < v → history-bounded xs k ≡ true)).
+            (λ w (s : (1 ≤ getD xs v 0) × ((k : ℕ) → k < v → historyBounded xs k ≡ true)).
             below-more _ _ (s .1)
             (both-true (lt-ltb v (length xs) (omega arith)) (both-true (le-leb 1 (getD xs v 0) (s .0)) (le-leb (getD xs v 0) historyMost (few w)))))
             (tells-more came (λ w. fails (rw (lt-leb 1 (getD xs v 0) (low w)))) (λ w all. (some w, all)) (p .tells));
@@ -178,20 +171,20 @@ sound-below n c marks l = none-fails (nodeSound c marks) n l
 
 -- whether a node is bad, by the three lists
 module _ (n : ℕ) (hs os ms : List ℕ) where
-  lists-all : both (leb n (failsAt (history-bounded hs) n)) (both (leb n (failsAt (bounded othersMost os) n)) (leb n (failsAt (bounded 1 ms) n))) ≡ leb n (badNode n (congestionOf 0 hs os) ms)
+  lists-all : both (allBelow n (historyBounded hs)) (both (allBelow n (bounded othersMost os)) (allBelow n (bounded 1 ms))) ≡ leb n (badNode n (congestionOf 0 hs os) ms)
   unfolding badNode nodeSound
   lists-all =
-      ap (both (leb n (failsAt (history-bounded hs) n))) (all-both (bounded othersMost os) (bounded 1 ms) n)
-      ∙ all-both (history-bounded hs) (λ v. both (bounded othersMost os v) (bounded 1 ms v)) n
+      ap (both (allBelow n (historyBounded hs))) (all-both (bounded othersMost os) (bounded 1 ms) n)
+      ∙ all-both (historyBounded hs) (λ v. both (bounded othersMost os v) (bounded 1 ms v)) n
 
-  pub bad-history : leb n (failsAt (history-bounded hs) n) ≡ false → false ≡ leb n (badNode n (congestionOf 0 hs os) ms)
-  bad-history e = sym (both-false-left (leb n (failsAt (history-bounded hs) n)) _ e) ∙ lists-all
+  pub bad-history : allBelow n (historyBounded hs) ≡ false → false ≡ leb n (badNode n (congestionOf 0 hs os) ms)
+  bad-history e = sym (both-false-left (allBelow n (historyBounded hs)) _ e) ∙ lists-all
 
-  module _ (h : leb n (failsAt (history-bounded hs) n) ≡ true) where
-    pub bad-others : leb n (failsAt (bounded othersMost os) n) ≡ false → false ≡ leb n (badNode n (congestionOf 0 hs os) ms)
+  module _ (h : allBelow n (historyBounded hs) ≡ true) where
+    pub bad-others : allBelow n (bounded othersMost os) ≡ false → false ≡ leb n (badNode n (congestionOf 0 hs os) ms)
     bad-others e = sym (rw (h, e)) ∙ lists-all
 
-    pub marks-left : {r : Bool} → leb n (failsAt (bounded othersMost os) n) ≡ true → r ≡ leb n (failsAt (bounded 1 ms) n) → r ≡ leb n (badNode n (congestionOf 0 hs os) ms)
+    pub marks-left : {r : Bool} → allBelow n (bounded othersMost os) ≡ true → r ≡ allBelow n (bounded 1 ms) → r ≡ leb n (badNode n (congestionOf 0 hs os) ms)
     marks-left o e = e ∙ sym (rw (h, o)) ∙ lists-all
 
 pub refusal-none : (table n : ℕ) (c : Congestion) (marks : List ℕ) (entries : ℕ) → refusalOf table n c marks entries ≡ [] → Passed table n c marks entries
@@ -221,10 +214,10 @@ record NodeSound (c : Congestion) (marks : List ℕ) (v : ℕ) : Type 0 where
 node-has : (c : Congestion) (marks : List ℕ) (v : ℕ) → nodeSound c marks v ≡ true → NodeSound c marks v
 unfolding nodeSound
 node-has c marks v s =
-    let history = both-left (both (ltb v (length (c .histories))) (both (leb 1 (getD (c .histories) v 0)) (leb (getD (c .histories) v 0) historyMost))) _ s in
-    let others-mark = both-right (both (ltb v (length (c .histories))) (both (leb 1 (getD (c .histories) v 0)) (leb (getD (c .histories) v 0) historyMost))) _ s in
-    let others = both-left (both (ltb v (length (c .others))) (leb (getD (c .others) v 0) othersMost)) _ others-mark in
-    let mark = both-right (both (ltb v (length (c .others))) (leb (getD (c .others) v 0) othersMost)) _ others-mark in
+    let history = both-left (historyBounded (c .histories) v) _ s in
+    let others-mark = both-right (historyBounded (c .histories) v) _ s in
+    let others = both-left (bounded othersMost (c .others) v) _ others-mark in
+    let mark = both-right (bounded othersMost (c .others) v) _ others-mark in
     let history-bounds = both-right (ltb v (length (c .histories))) _ history in
     record {
       has-history = ltb-true _ _ (both-left _ _ history);

@@ -22,7 +22,7 @@ use Rattle.price.specs.Lists.{every, neighbours, upTo}
 use Rattle.price.proofs.ListLaws.{true≢false, both-true, both-left, both-false-left, both-false-right, every-all, every-none, neighbours-all, neighbours-none, length-upTo, getD-upTo, firstBelow-is, firstBelow-all}
 use Rattle.search.specs.Block.{Block, graphOf, nodes, row}
 use Rattle.search.specs.Tables.{kindsSound, capacitiesSound, firstEdgesSound, rowSound, edgeTargetsSound, edgesMost, faultyTable}
-use Rattle.search.specs.Replies.{sinksMost, sinksSound, nodeSound, badNode, refusalOf}
+use Rattle.search.specs.Replies.{sinksMost, sinksSound, bounded, historyBounded, nodeSound, badNode, refusalOf}
 use Rattle.search.specs.Turn.{Congestion, congestionOf}
 use Rattle.search.proofs.BlockLaws.{faulty-of, slice-at}
 
@@ -330,31 +330,22 @@ sinks-all n ss i few end all =
 
 -- ---- row 13 for a node: its three parts
 
-abbrev historySound : Congestion → ℕ → Bool
-historySound c v = both (ltb v (length (c .histories))) (both (leb 1 (getD (c .histories) v 0)) (leb (getD (c .histories) v 0) historyMost))
-
-abbrev othersSound : Congestion → ℕ → Bool
-othersSound c v = both (ltb v (length (c .others))) (leb (getD (c .others) v 0) othersMost)
-
-abbrev markSound : List ℕ → ℕ → Bool
-markSound marks v = both (ltb v (length marks)) (leb (getD marks v 0) 1)
-
 module _ (c : Congestion) (marks : List ℕ) (v : ℕ) where
-  history-bad : historySound c v ≡ false → nodeSound c marks v ≡ false
+  history-bad : historyBounded (c .histories) v ≡ false → nodeSound c marks v ≡ false
   unfolding nodeSound
-  history-bad e = both-false-left (historySound c v) (both (othersSound c v) (markSound marks v)) e
+  history-bad e = both-false-left (historyBounded (c .histories) v) (both (bounded othersMost (c .others) v) (bounded 1 marks v)) e
 
-  others-bad : othersSound c v ≡ false → nodeSound c marks v ≡ false
+  others-bad : bounded othersMost (c .others) v ≡ false → nodeSound c marks v ≡ false
   unfolding nodeSound
   others-bad e =
-      both-false-right (historySound c v) (both (othersSound c v) (markSound marks v))
-      (both-false-left (othersSound c v) (markSound marks v) e)
+      both-false-right (historyBounded (c .histories) v) (both (bounded othersMost (c .others) v) (bounded 1 marks v))
+      (both-false-left (bounded othersMost (c .others) v) (bounded 1 marks v) e)
 
-  mark-bad : markSound marks v ≡ false → nodeSound c marks v ≡ false
+  mark-bad : bounded 1 marks v ≡ false → nodeSound c marks v ≡ false
   unfolding nodeSound
   mark-bad e =
-      both-false-right (historySound c v) (both (othersSound c v) (markSound marks v))
-      (both-false-right (othersSound c v) (markSound marks v) e)
+      both-false-right (historyBounded (c .histories) v) (both (bounded othersMost (c .others) v) (bounded 1 marks v))
+      (both-false-right (bounded othersMost (c .others) v) (bounded 1 marks v) e)
 
   pub history-missing : length (c .histories) ≤ v → nodeSound c marks v ≡ false
   history-missing h = history-bad (rw (le-ltb v (length (c .histories)) h))

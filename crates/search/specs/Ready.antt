@@ -1,12 +1,14 @@
 -- What the tests before a search have shown, and the work slice that is ready to run. Only the contracts of private functions cite this file: no caller has to believe it.
 -- Assumes nothing.
-use mathlib.Core.Bool.{true}
+use mathlib.Core.Bool.{Bool, true, not}
 use mathlib.Core.List.{List, _++_}
 use mathlib.Core.Path.{_≡_}
 use Prim.Native.Nat.{ℕ, _*_, _-_, _≤_, _<_}
+use lib.Dec.{leb}
 use lib.ListN.{length, getD, drop, replicate}
 use Rattle.price.specs.Test.{choose}
 use Rattle.price.specs.Bounds.{factorMost, nodesMost}
+use Rattle.price.specs.Lists.{firstBelow}
 use Rattle.search.specs.Distance.{far, inTree}
 use Rattle.search.specs.Tables.{kindsSound, capacitiesSound}
 use Rattle.search.specs.Turn.{Congestion}
@@ -14,6 +16,10 @@ use Rattle.search.specs.Replies.{nodeSound, sinksMost}
 use Rattle.search.specs.Layout.{distAt, leafAt, priceIn, goalAt, FirstAt, Leads, pathIn}
 use Rattle.search.specs.declared.PathAnswer.{PathAnswer}
 use Rattle.search.specs.declared.PathAnswer.the-variants.{Joins}
+
+-- every number below n passes the test: the lowest that fails is not below n
+abbrev pub allBelow : ℕ → (ℕ → Bool) → Bool
+allBelow n t = leb n (firstBelow (λ v. not (t v)) n)
 
 -- every number that prices a turn keeps its bounds
 pub record Ready (kinds capacities : List ℕ) (c : Congestion) (marks : List ℕ) : Type 0 where

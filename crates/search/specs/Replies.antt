@@ -27,13 +27,17 @@ workNeeded n = 8 * n
 unfoldable pub cleared : ℕ → List ℕ → List ℕ → List ℕ
 cleared n first work = first ++ (replicate (workNeeded n - length first) 0 ++ drop (workNeeded n) work)
 
+-- the list has an entry at this place, and it is at most so much
+abbrev pub bounded : ℕ → List ℕ → ℕ → Bool
+bounded most xs v = both (ltb v (length xs)) (leb (getD xs v 0) most)
+
+-- the list has a history at this place, and it is within its bounds
+abbrev pub historyBounded : List ℕ → ℕ → Bool
+historyBounded xs v = both (ltb v (length xs)) (both (leb 1 (getD xs v 0)) (leb (getD xs v 0) historyMost))
+
 -- row 13 for a node: its history, others and tree mark are there and within their bounds
 unfoldable pub nodeSound : Congestion → List ℕ → ℕ → Bool
-nodeSound c marks v =
-    both
-    (both (ltb v (length (c .histories))) (both (leb 1 (getD (c .histories) v 0)) (leb (getD (c .histories) v 0) historyMost)))
-    (both (both (ltb v (length (c .others))) (leb (getD (c .others) v 0) othersMost))
-    (both (ltb v (length marks)) (leb (getD marks v 0) 1)))
+nodeSound c marks v = both (historyBounded (c .histories) v) (both (bounded othersMost (c .others) v) (bounded 1 marks v))
 
 -- "the lowest node whose history or others is bad or whose tree mark isn't 0 or 1, or that one of the lists lacks"; the node count where there is none
 unfoldable pub badNode : ℕ → Congestion → List ℕ → ℕ

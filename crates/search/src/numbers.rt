@@ -1,14 +1,11 @@
 // Tests of the lists that price a turn: row 13, and the refusals that search and cheapest path share.
-ghost use mathlib.Core.Bool.{not};
 ghost use mathlib.Core.Path.{_≡_};
 ghost use Prim.Native.Nat.{_≤_};
-ghost use lib.Dec.{leb, ltb};
-ghost use lib.ListN.{length, getD};
-ghost use Rattle.price.specs.Test.{both};
-ghost use Rattle.price.specs.Bounds.{othersMost, historyMost};
-ghost use Rattle.price.specs.Lists.{firstBelow};
+ghost use lib.Dec.{leb};
+ghost use Rattle.price.specs.Bounds.{othersMost};
 ghost use Rattle.search.specs.Turn.{congestionOf};
-ghost use Rattle.search.specs.Replies.{nodeSound, badNode, refusalOf, checkNumbers};
+ghost use Rattle.search.specs.Replies.{bounded, historyBounded, nodeSound, badNode, refusalOf, checkNumbers};
+ghost use Rattle.search.specs.Ready.{allBelow};
 
 // What the tests before a search find.
 pub enum Check {
@@ -60,7 +57,7 @@ fn bad_node(n: usize, history: &[u32], others: &[u16], in_tree: &[u8]) -> usize
 // Each node's history is there and within its bounds. This loop and the next two go over one list each and never leave early: so they are
 // compiled to vector code.
 fn histories_sound(n: usize, history: &[u32]) -> bool
-    ensures { λ r. ⌜ r ≡ leb n (firstBelow (λ v. not (both (ltb v (length (now (history .entry)))) (both (leb 1 (getD (now (history .entry)) v 0)) (leb (getD (now (history .entry)) v 0) historyMost)))) n) ⌝ }
+    ensures { λ r. ⌜ r ≡ allBelow n (historyBounded (now (history .entry))) ⌝ }
 {
     if history.len() < n {
         return false;
@@ -77,7 +74,7 @@ fn histories_sound(n: usize, history: &[u32]) -> bool
 
 // Each node's others is there and within its bound.
 fn others_sound(n: usize, others: &[u16]) -> bool
-    ensures { λ r. ⌜ r ≡ leb n (firstBelow (λ v. not (both (ltb v (length (now (others .entry)))) (leb (getD (now (others .entry)) v 0) othersMost))) n) ⌝ }
+    ensures { λ r. ⌜ r ≡ allBelow n (bounded othersMost (now (others .entry))) ⌝ }
 {
     if others.len() < n {
         return false;
@@ -93,7 +90,7 @@ fn others_sound(n: usize, others: &[u16]) -> bool
 
 // Each node's tree mark is there and 0 or 1.
 fn marks_sound(n: usize, in_tree: &[u8]) -> bool
-    ensures { λ r. ⌜ r ≡ leb n (firstBelow (λ v. not (both (ltb v (length (now («in_tree» .entry)))) (leb (getD (now («in_tree» .entry)) v 0) 1))) n) ⌝ }
+    ensures { λ r. ⌜ r ≡ allBelow n (bounded 1 (now («in_tree» .entry))) ⌝ }
 {
     if in_tree.len() < n {
         return false;

@@ -6,12 +6,13 @@ use lib.ListN.{getD}
 use borrow.Author.Needs.{needs}
 use Rattle.price.specs.Test.{both}
 use Rattle.price.specs.Bounds.{historyMost}
-use Rattle.search.proofs.ReadyLaws.{history-bounded, Passing, passing-none, passing-all, short-fails, history-more}
+use Rattle.search.specs.Replies.{historyBounded}
+use Rattle.search.proofs.ReadyLaws.{Passing, passing-none, passing-all, short-fails, history-more}
 use Rattle.search.proofs.numbers.histories_sound.Statement.{statement}
 use Rattle.search.proofs.numbers.histories_sound.Tie as tie
 
 abbrev Inv-loop : tie.InvT-loop
-Inv-loop n history fine₀ v₀ fine v = Passing (history-bounded history) n v fine
+Inv-loop n history fine₀ v₀ fine v = Passing (historyBounded history) n v fine
 
 abbrev μ-loop : tie.MeasureT-loop
 μ-loop n history fine₀ v₀ fine v = n - v
