@@ -27,7 +27,7 @@ use Rattle.search.specs.Replies.{sinksMost, faultyWithSinks, pathTaken, pathRep
 use Rattle.search.specs.Replies as search
 use Rattle.search.specs.declared.PathAnswer.{PathAnswer}
 use Rattle.search.proofs.BlockLaws.{sound-of, kinds-some, kinds-few}
-use Rattle.search.proofs.TableLaws.{refusal-table, refusal-work}
+use Rattle.search.proofs.NumberLaws.{refusal-table, refusal-work}
 use Rattle.negotiation.specs.Job.{Job, nodes, sinksBetween}
 use Rattle.negotiation.specs.Tables.{netsMost, sourcesSound, firstSinksSound, netSound, sinksSound, limitSound, faultyNets, faultyJob}
 use Rattle.negotiation.proofs.SinkMarkLaws.{Unmarked, unmarked-new}

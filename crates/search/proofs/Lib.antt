@@ -1,5 +1,9 @@
 pub mod BlockLaws
+pub mod KeptLaws
+pub mod RowLaws
+pub mod RisingRowLaws
 pub mod TableLaws
+pub mod NumberLaws
 pub mod DistinctLaws
 pub mod WalkLaws
 pub mod DistanceLaws

@@ -16,7 +16,7 @@ use Rattle.price.specs.Test.{both, either}
 use Rattle.price.proofs.ListLaws.{either-way, true≢false, both-true, both-left, both-right, le-or-lt, neighbours-all, neighbours-at}
 use Rattle.search.specs.Tables.{rowSound}
 use Rattle.search.proofs.BlockLaws.{firsts-most}
-use Rattle.search.proofs.TableLaws.{Entry, row-no-node, row-itself, row-no-rise, row-all}
+use Rattle.search.proofs.RowLaws.{Entry, row-no-node, row-itself, row-no-rise, row-all}
 use Rattle.text.specs.JobText.{rises, edgeWithin, edgeOrdered}
 use Rattle.text.proofs.FirstPlaceLaws.{Keys, Filed, InRow, key-row, filed-keys}
 

@@ -2,7 +2,7 @@
 -- Assumes nothing.
 use mathlib.Core.Path.{sym}
 use borrow.Author.Needs.{needs}
-use Rattle.search.proofs.TableLaws.{refused, passed}
+use Rattle.search.proofs.KeptLaws.{refused, passed}
 use Rattle.negotiation.proofs.JobLaws.{sources-few}
 use Rattle.negotiation.proofs.NetTableLaws.{faulty-5, faulty-6, faulty-7, faulty-low, faulty-high, faulty-no-net}
 use Rattle.negotiation.proofs.tables.faulty_nets.Statement.{statement}

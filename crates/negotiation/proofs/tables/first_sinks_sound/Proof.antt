@@ -3,7 +3,7 @@
 use mathlib.Core.Path.{sym}
 use native.Mathlib.Omega.{arith}
 use borrow.Author.Needs.{needs}
-use Rattle.search.proofs.TableLaws.{refused, passed}
+use Rattle.search.proofs.KeptLaws.{refused, passed}
 use Rattle.negotiation.proofs.NetTableLaws.{firsts-length, firsts-begin, firsts-stay, firsts-last}
 use Rattle.negotiation.proofs.tables.first_sinks_sound.Statement.{statement}
 use Rattle.negotiation.proofs.tables.first_sinks_sound.Tie as tie

@@ -4,7 +4,7 @@ use mathlib.Core.Path.{sym, _∙_}
 use Prim.Native.Nat.{_+_, _-_}
 use native.Mathlib.Omega.{arith}
 use lib.ListN.{length}
-use Rattle.search.proofs.TableLaws.{refused, passed}
+use Rattle.search.proofs.KeptLaws.{refused, passed}
 use Rattle.negotiation.proofs.JobLaws.{source-below, firsts-long, firsts-order, firsts-most}
 use Rattle.negotiation.proofs.NetTableLaws.{Passing, passing-none, passing-more, net-told, nets-many, nets-bad, nets-all}
 use Rattle.negotiation.proofs.tables.sinks_sound.Statement.{statement}

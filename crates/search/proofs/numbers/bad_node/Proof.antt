@@ -7,7 +7,8 @@ use borrow.Author.Needs.{needs}
 use borrow.Author.Count.{below-none, below-more}
 use Rattle.search.specs.Turn.{congestionOf}
 use Rattle.search.specs.Replies.{nodeSound}
-use Rattle.search.proofs.TableLaws.{refused, passed, bad-here, bad-nowhere}
+use Rattle.search.proofs.KeptLaws.{refused, passed}
+use Rattle.search.proofs.NumberLaws.{bad-here, bad-nowhere}
 use Rattle.search.proofs.numbers.bad_node.Statement.{statement}
 use Rattle.search.proofs.numbers.bad_node.Tie as tie
 

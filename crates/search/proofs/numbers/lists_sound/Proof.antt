@@ -1,7 +1,7 @@
 -- `numbers::lists_sound` meets its contract: a node is bad where one of the three lists has a bad entry.
 -- Assumes nothing.
 use borrow.Author.Needs.{needs}
-use Rattle.search.proofs.TableLaws.{refused, passed}
+use Rattle.search.proofs.KeptLaws.{refused, passed}
 use Rattle.search.proofs.ReadyLaws.{bad-history, bad-others, marks-left}
 use Rattle.search.proofs.numbers.lists_sound.Statement.{statement}
 use Rattle.search.proofs.numbers.lists_sound.Tie as tie

@@ -7,7 +7,8 @@ use native.Mathlib.Omega.{arith}
 use lib.ListN.{length, drop}
 use borrow.Author.Needs.{needs}
 use Rattle.price.specs.Lists.{every}
-use Rattle.search.proofs.TableLaws.{Kept, kept-none, kept-all, fails, stays, every-next, every-end, capacitySound, capacity-low, capacity-byte, capacities-length, capacities-each}
+use Rattle.search.proofs.KeptLaws.{Kept, kept-none, kept-all, fails, stays, every-next, every-end}
+use Rattle.search.proofs.TableLaws.{capacitySound, capacity-low, capacity-byte, capacities-length, capacities-each}
 use Rattle.search.proofs.tables.capacities_sound.Statement.{statement}
 use Rattle.search.proofs.tables.capacities_sound.Tie as tie
 

@@ -11,7 +11,8 @@ use borrow.Author.Count.{below-none, below-more}
 use Rattle.search.specs.Block.{graphOf, row}
 use Rattle.search.specs.Tables.{rowSound}
 use Rattle.search.proofs.BlockLaws.{firsts-long, firsts-most}
-use Rattle.search.proofs.TableLaws.{refused, passed, edges-many, edges-bad, edges-all}
+use Rattle.search.proofs.KeptLaws.{refused, passed}
+use Rattle.search.proofs.TableLaws.{edges-many, edges-bad, edges-all}
 use Rattle.search.proofs.tables.edge_targets_sound.Statement.{statement}
 use Rattle.search.proofs.tables.edge_targets_sound.Tie as tie
 

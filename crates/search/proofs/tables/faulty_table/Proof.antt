@@ -3,7 +3,8 @@
 use mathlib.Core.Path.{sym}
 use borrow.Author.Needs.{needs}
 use Rattle.search.proofs.BlockLaws.{kinds-few}
-use Rattle.search.proofs.TableLaws.{refused, passed, faulty-1, faulty-2, faulty-3, faulty-4, faulty-none}
+use Rattle.search.proofs.KeptLaws.{refused, passed}
+use Rattle.search.proofs.TableLaws.{faulty-1, faulty-2, faulty-3, faulty-4, faulty-none}
 use Rattle.search.proofs.tables.faulty_table.Statement.{statement}
 use Rattle.search.proofs.tables.faulty_table.Tie as tie
 

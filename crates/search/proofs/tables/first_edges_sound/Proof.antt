@@ -3,7 +3,8 @@
 use mathlib.Core.Path.{sym}
 use native.Mathlib.Omega.{arith}
 use borrow.Author.Needs.{needs}
-use Rattle.search.proofs.TableLaws.{refused, passed, firsts-length, firsts-begin, firsts-fall, firsts-last}
+use Rattle.search.proofs.KeptLaws.{refused, passed}
+use Rattle.search.proofs.TableLaws.{firsts-length, firsts-begin, firsts-fall, firsts-last}
 use Rattle.search.proofs.tables.first_edges_sound.Statement.{statement}
 use Rattle.search.proofs.tables.first_edges_sound.Tie as tie
 

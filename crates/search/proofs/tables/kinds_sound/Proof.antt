@@ -8,7 +8,8 @@ use borrow.Author.Needs.{needs}
 use borrow.Author.Tests.{le-leb, lt-leb}
 use Rattle.price.specs.Bounds.{kindMost}
 use Rattle.price.specs.Lists.{every}
-use Rattle.search.proofs.TableLaws.{Kept, kept-none, kept-all, fails, stays, every-next, every-end, kindSound, kinds-none, kinds-many, kinds-each}
+use Rattle.search.proofs.KeptLaws.{Kept, kept-none, kept-all, fails, stays, every-next, every-end}
+use Rattle.search.proofs.TableLaws.{kindSound, kinds-none, kinds-many, kinds-each}
 use Rattle.search.proofs.tables.kinds_sound.Statement.{statement}
 use Rattle.search.proofs.tables.kinds_sound.Tie as tie
 

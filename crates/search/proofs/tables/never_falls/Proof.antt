@@ -7,7 +7,8 @@ use lib.ListN.{length, drop}
 use borrow.Author.Needs.{needs}
 use borrow.Author.Tests.{le-leb, lt-leb}
 use Rattle.price.specs.Lists.{neighbours}
-use Rattle.search.proofs.TableLaws.{Kept, kept-none, kept-all, fails, stays, falls-next, falls-end}
+use Rattle.search.proofs.KeptLaws.{Kept, kept-none, kept-all, fails, stays}
+use Rattle.search.proofs.TableLaws.{falls-next, falls-end}
 use Rattle.search.proofs.tables.never_falls.Statement.{statement}
 use Rattle.search.proofs.tables.never_falls.Tie as tie
 

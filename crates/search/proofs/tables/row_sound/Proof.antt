@@ -9,7 +9,8 @@ use lib.Seq.{slice}
 use borrow.Author.Needs.{needs}
 use borrow.Author.Tests.{le-leb, lt-leb, eq-eqb, ne-eqb}
 use Rattle.search.specs.Tables.{rowSound}
-use Rattle.search.proofs.TableLaws.{Kept, kept-fails, kept-all, fails, stays, leftSound, left-whole, left-next, left-end}
+use Rattle.search.proofs.KeptLaws.{Kept, kept-fails, kept-all, fails, stays}
+use Rattle.search.proofs.RisingRowLaws.{leftSound, left-whole, left-next, left-end}
 use Rattle.search.proofs.tables.row_sound.Statement.{statement}
 use Rattle.search.proofs.tables.row_sound.Tie as tie
 

@@ -3,7 +3,7 @@
 use mathlib.Core.Path.{sym}
 use native.Mathlib.Omega.{arith}
 use borrow.Author.Needs.{needs}
-use Rattle.search.proofs.TableLaws.{refused, passed}
+use Rattle.search.proofs.KeptLaws.{refused, passed}
 use Rattle.text.specs.Lines.{comma}
 use Rattle.text.proofs.FieldLaws.{begins-within, comma-other, comma-begins, field-onward}
 use Rattle.text.proofs.fields.field_at.Statement.{statement}

@@ -6,7 +6,7 @@ use Prim.Native.Nat.{_-_, _≤_, _<_}
 use native.Mathlib.Omega.{arith}
 use lib.ListN.{length, getD}
 use borrow.Author.Needs.{needs}
-use Rattle.search.proofs.TableLaws.{refused, passed}
+use Rattle.search.proofs.KeptLaws.{refused, passed}
 use Rattle.text.specs.Decimal.{isDigit}
 use Rattle.text.proofs.FieldLaws.{Digits, digits-start, digits-past, digits-other, digits-full, digits-step, digits-room, digit-least, digit-most}
 use Rattle.text.proofs.fields.further_digits.Statement.{statement}

@@ -5,7 +5,7 @@ use mathlib.Core.Path.{_≡_, sym}
 use native.Mathlib.Omega.{arith}
 use lib.ListN.{getD}
 use borrow.Author.Needs.{needs}
-use Rattle.search.proofs.TableLaws.{refused, passed}
+use Rattle.search.proofs.KeptLaws.{refused, passed}
 use Rattle.text.specs.Decimal.{isDigit}
 use Rattle.text.proofs.FieldLaws.{field-past, field-zero, field-other, field-digits, field-onward, digit-least, digit-most}
 use Rattle.text.proofs.fields.number.Statement.{statement}

@@ -5,7 +5,7 @@ use mathlib.Core.Path.{sym}
 use Prim.Native.Nat.{_+_}
 use native.Mathlib.Omega.{arith}
 use borrow.Author.Needs.{needs}
-use Rattle.search.proofs.TableLaws.{refused, passed}
+use Rattle.search.proofs.KeptLaws.{refused, passed}
 use Rattle.text.proofs.FieldLaws.{Comma, Taken, comma-read, comma-fault, fields-malformed, fields-taken, fields-no-end, fields-end, taken-here}
 use Rattle.text.proofs.fields.two_fields.Statement.{statement}
 use Rattle.text.proofs.fields.two_fields.Tie as tie

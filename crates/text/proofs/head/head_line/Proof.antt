@@ -4,7 +4,7 @@ use mathlib.Core.Bool.{true}
 use mathlib.Core.List.{[], _∷_}
 use mathlib.Core.Path.{_≡_, sym}
 use borrow.Author.Needs.{needs}
-use Rattle.search.proofs.TableLaws.{refused, passed}
+use Rattle.search.proofs.KeptLaws.{refused, passed}
 use Rattle.text.specs.Lines.{letterF}
 use Rattle.text.specs.Steps.{begins}
 use Rattle.text.proofs.FieldLaws.{Taken, four-read, four-fault, taken-here}
