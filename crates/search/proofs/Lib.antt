@@ -20,6 +20,7 @@ pub mod FrontierSteps
 pub mod RelaxSteps
 pub mod RunLaws
 pub mod GraphLaws
+pub mod PassLaws
 pub mod ReadyLaws
 pub mod SearchLaws
 pub mod JoinLaws

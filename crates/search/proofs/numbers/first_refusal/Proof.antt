@@ -6,7 +6,7 @@ use borrow.Author.Needs.{needs}
 use borrow.Author.Tests.{leb-true}
 use Rattle.search.proofs.KeptLaws.{passed}
 use Rattle.search.proofs.NumberLaws.{refusal-table, refusal-work, refusal-node, refusal-factor, refusal-none}
-use Rattle.search.proofs.ReadyLaws.{leb-fell}
+use Rattle.search.proofs.PassLaws.{leb-fell}
 use Rattle.search.proofs.numbers.first_refusal.Statement.{statement}
 use Rattle.search.proofs.numbers.first_refusal.Tie as tie
 

@@ -7,7 +7,7 @@ use borrow.Author.Needs.{needs}
 use Rattle.price.specs.Test.{both}
 use Rattle.price.specs.Bounds.{historyMost}
 use Rattle.search.specs.Replies.{historyBounded}
-use Rattle.search.proofs.ReadyLaws.{Passing, passing-none, passing-all, short-fails, history-more}
+use Rattle.search.proofs.PassLaws.{Passing, passing-none, passing-all, short-fails, history-more}
 use Rattle.search.proofs.numbers.histories_sound.Statement.{statement}
 use Rattle.search.proofs.numbers.histories_sound.Tie as tie
 

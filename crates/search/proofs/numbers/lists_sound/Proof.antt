@@ -2,7 +2,7 @@
 -- Assumes nothing.
 use borrow.Author.Needs.{needs}
 use Rattle.search.proofs.KeptLaws.{refused, passed}
-use Rattle.search.proofs.ReadyLaws.{bad-history, bad-others, marks-left}
+use Rattle.search.proofs.PassLaws.{bad-history, bad-others, marks-left}
 use Rattle.search.proofs.numbers.lists_sound.Statement.{statement}
 use Rattle.search.proofs.numbers.lists_sound.Tie as tie
 

@@ -5,7 +5,7 @@ use lib.Dec.{leb}
 use lib.ListN.{getD}
 use borrow.Author.Needs.{needs}
 use Rattle.search.specs.Replies.{bounded}
-use Rattle.search.proofs.ReadyLaws.{Passing, passing-none, passing-all, short-fails, bounded-more}
+use Rattle.search.proofs.PassLaws.{Passing, passing-none, passing-all, short-fails, bounded-more}
 use Rattle.search.proofs.numbers.marks_sound.Statement.{statement}
 use Rattle.search.proofs.numbers.marks_sound.Tie as tie
 

@@ -6,7 +6,7 @@ use lib.ListN.{getD}
 use borrow.Author.Needs.{needs}
 use Rattle.price.specs.Bounds.{othersMost}
 use Rattle.search.specs.Replies.{bounded}
-use Rattle.search.proofs.ReadyLaws.{Passing, passing-none, passing-all, short-fails, bounded-more}
+use Rattle.search.proofs.PassLaws.{Passing, passing-none, passing-all, short-fails, bounded-more}
 use Rattle.search.proofs.numbers.others_sound.Statement.{statement}
 use Rattle.search.proofs.numbers.others_sound.Tie as tie
 
