@@ -16,7 +16,7 @@ use Rattle.search.specs.Replies.{PathReply, cleared, turnReply, pathReply, path
 use Rattle.search.specs.declared.PathAnswer.{PathAnswer}
 use Rattle.search.specs.declared.PathAnswer.the-variants.{Joins, Stuck, BadTable, ShortWork, BadNumber}
 use Rattle.search.proofs.BlockLaws.{graph-of}
-use Rattle.search.proofs.JoinLaws.{sinks-nodes}
+use Rattle.search.proofs.PathTestLaws.{sinks-nodes}
 use Rattle.search.proofs.ReadyLaws.{ready-fair}
 use Rattle.search.proofs.TurnLaws.{joins-within, joins-path, joins-near, path-short, path-nodes}
 use Rattle.search.proofs.PathReplyLaws.{path-turn, joined-turn, stuck-turn, no-refusal}

@@ -23,5 +23,8 @@ pub mod GraphLaws
 pub mod PassLaws
 pub mod ReadyLaws
 pub mod SearchLaws
+pub mod PathTestLaws
+pub mod FoundLaws
+pub mod HaltLaws
 pub mod JoinLaws
 pub mod PathReplyLaws

@@ -3,7 +3,7 @@
 use mathlib.Core.Path.{ap}
 use borrow.Author.Needs.{needs}
 use Rattle.search.specs.Replies.{checkNumbers}
-use Rattle.search.proofs.JoinLaws.{path-few, path-refused, path-ready, path-taken}
+use Rattle.search.proofs.PathTestLaws.{path-few, path-refused, path-ready, path-taken}
 use Rattle.search.proofs.cheapest_path.Statement.{statement}
 use Rattle.search.proofs.cheapest_path.Tie as tie
 

@@ -5,7 +5,9 @@ use borrow.Author.Needs.{needs}
 use native.Mathlib.Omega.{arith}
 use Rattle.search.specs.Turn.{congestionOf}
 use Rattle.search.proofs.ReadyLaws.{ready-marks}
-use Rattle.search.proofs.JoinLaws.{Joining, sinks-nodes, join-stands, join-goals, join-halts, halted-found, join-stuck, join-joins}
+use Rattle.search.proofs.PathTestLaws.{sinks-nodes}
+use Rattle.search.proofs.HaltLaws.{halted-found}
+use Rattle.search.proofs.JoinLaws.{Joining, join-stands, join-goals, join-halts, join-stuck, join-joins}
 use Rattle.search.proofs.run.join.Statement.{statement}
 use Rattle.search.proofs.run.join.Tie as tie
 

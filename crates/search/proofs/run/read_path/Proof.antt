@@ -3,7 +3,7 @@
 use mathlib.Core.Path.{refl}
 use borrow.Author.Needs.{needs}
 use native.Mathlib.Omega.{arith}
-use Rattle.search.proofs.JoinLaws.{found-within, found-node, found-leads, found-short, found-read}
+use Rattle.search.proofs.FoundLaws.{found-within, found-node, found-leads, found-short, found-read}
 use Rattle.search.proofs.run.read_path.Statement.{statement}
 use Rattle.search.proofs.run.read_path.Tie as tie
 

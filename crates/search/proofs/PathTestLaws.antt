@@ -1,0 +1,91 @@
+-- What the tests before a turn have shown, where they refuse nothing: the tables and the list of sinks keep their rules, and the turn is the reply.
+-- Assumes nothing.
+use mathlib.Core.Bool.{true, false}
+use mathlib.Core.List.{List, [], _∷_}
+use mathlib.Core.Logic.{⊎-elim}
+use mathlib.Core.Path.{_≡_, sym, _∙_}
+use Prim.Native.Nat.{ℕ, _*_, _≤_, _<_}
+use native.Mathlib.Omega.{arith}
+use lib.Dec.{leb, ltb}
+use lib.ListN.{length, getD}
+use borrow.Author.Tests.{leb-true, leb-false, ltb-true}
+use Rattle.price.specs.Test.{choose}
+use Rattle.price.specs.Bounds.{nodesMost}
+use Rattle.price.proofs.ListLaws.{either-way, both-left, both-right, every-at}
+use Rattle.search.specs.Block.{Block, blockOf, nodes}
+use Rattle.search.specs.Tables.{faultyTable, Sound}
+use Rattle.search.specs.Turn.{Congestion, priceAt, turn}
+use Rattle.search.specs.Replies.{refusalOf, sinksMost, sinksSound, faultyWithSinks, PathReply, turnReply, pathReply}
+use Rattle.search.specs.Ready.{Ready}
+use Rattle.search.proofs.BlockLaws.{sound-of, kinds-few}
+use Rattle.search.proofs.ReadyLaws.{Passed, refusal-none}
+
+-- ---- a list of sinks that keeps its rule
+
+module _ (n : ℕ) (sinks : List ℕ) (s : sinksSound n sinks ≡ true) where
+  pub sinks-few : length sinks ≤ sinksMost
+  unfolding sinksSound
+  sinks-few = leb-true _ _ (both-left (leb (length sinks) sinksMost) _ s)
+
+  pub sinks-nodes : (i : ℕ) → i < length sinks → getD sinks i 0 < n
+  unfolding sinksSound
+  sinks-nodes i l = ltb-true _ _ (every-at (λ s. ltb s n) sinks (both-right (leb (length sinks) sinksMost) _ s) i l)
+
+-- ---- the tests before a turn
+
+-- where neither a table nor the list of sinks is faulty, each keeps its rule
+no-fault : (b : Block) (sinks : List ℕ) → faultyWithSinks b sinks ≡ 0 → (faultyTable b ≡ 0) × (sinksSound (nodes b) sinks ≡ true)
+unfolding faultyWithSinks
+no-fault b sinks e =
+    ⊎-elim
+    (λ (q : leb 1 (faultyTable b) ≡ true).
+    let some : 1 ≤ faultyTable b = leb-true _ _ q in
+    let none : faultyTable b ≡ 0 = rw q at e in
+    absurd (omega arith))
+    (λ (q : leb 1 (faultyTable b) ≡ false).
+    let none : faultyTable b < 1 = leb-false _ _ q in
+    let rest : choose (sinksSound (nodes b) sinks) 0 7 ≡ 0 = rw q at e in (
+      omega arith,
+      ⊎-elim
+          (λ s. s)
+          (λ (s : sinksSound (nodes b) sinks ≡ false). absurd (let z : _≡_ {A = ℕ} 7 0 = rw s at rest in omega arith))
+          (either-way (sinksSound (nodes b) sinks)),
+    ))
+    (either-way (leb 1 (faultyTable b)))
+
+module _ (ks cs fs ts sinks : List ℕ) {table : ℕ} (found : table ≡ faultyWithSinks (blockOf ks cs fs ts) sinks) where
+  pub path-few : table ≡ 0 → length ks ≤ nodesMost
+  path-few e = kinds-few ks (sound-of (blockOf ks cs fs ts) (no-fault (blockOf ks cs fs ts) sinks (sym found ∙ e) .0) .kinds-sound)
+
+  -- with the numbers of the first refusal that is due
+  module _ (c : Congestion) (marks work : List ℕ) {numbers : List ℕ} (checked : numbers ≡ refusalOf table (length ks) c marks (length work)) where
+    due : refusalOf (faultyWithSinks (blockOf ks cs fs ts) sinks) (length ks) c marks (length work) ≡ numbers
+    due = rw found at (sym checked)
+
+    -- a refusal leaves the work slice as it was
+    pub path-refused : {k : ℕ} {more : List ℕ} → numbers ≡ k ∷ more → _≡_ {A = PathReply} (record { refusal = k ∷ more; joined = []; work = work }) (pathReply (blockOf ks cs fs ts) c marks sinks work)
+    unfolding pathReply
+    path-refused e = rw (due ∙ e)
+
+    module _ (fine : numbers ≡ []) where
+      passed : Passed (faultyWithSinks (blockOf ks cs fs ts) sinks) (length ks) c marks (length work)
+      passed = refusal-none _ _ _ _ _ (due ∙ fine)
+
+      sound-tables : Sound (blockOf ks cs fs ts)
+      sound-tables = sound-of (blockOf ks cs fs ts) (no-fault (blockOf ks cs fs ts) sinks (passed .table-sound) .0)
+
+      -- where nothing is refused the turn can be taken, and it is the reply
+      pub path-ready : Ready ks cs c marks × (Sound (blockOf ks cs fs ts) × ((8 * length ks ≤ length work) × (sinksSound (length ks) sinks ≡ true)))
+      path-ready = (
+        record {
+          kinds-sound = sound-tables .kinds-sound;
+          capacities-sound = sound-tables .capacities-sound;
+          nodes-sound = passed .nodes-sound;
+          factor-most = passed .factor-most;
+        },
+        (sound-tables, (passed .work-long, no-fault (blockOf ks cs fs ts) sinks (passed .table-sound) .1)),
+      )
+
+      pub path-taken : {x : PathReply} → x ≡ turnReply (length ks) work (turn (blockOf ks cs fs ts) (priceAt (blockOf ks cs fs ts) c) marks sinks) → x ≡ pathReply (blockOf ks cs fs ts) c marks sinks work
+      unfolding pathReply
+      path-taken e = rw (due ∙ fine) e
