@@ -18,7 +18,8 @@ use Rattle.search.specs.declared.PathAnswer.the-variants.{Joins, Stuck, BadTabl
 use Rattle.search.proofs.BlockLaws.{graph-of}
 use Rattle.search.proofs.PathTestLaws.{sinks-nodes}
 use Rattle.search.proofs.ReadyLaws.{ready-fair}
-use Rattle.search.proofs.TurnLaws.{joins-within, joins-path, joins-near, path-short, path-nodes}
+use Rattle.search.proofs.PathToLaws.{path-short, path-nodes}
+use Rattle.search.proofs.TurnLaws.{joins-within, joins-path, joins-near}
 use Rattle.search.proofs.PathReplyLaws.{path-turn, joined-turn, stuck-turn, no-refusal}
 use Rattle.negotiation.specs.Records.{recordOf, words}
 use Rattle.negotiation.specs.Steps.{AllBelow, MarksSet, SameFrom, CanTurn, Skipped, Overflows, Logs}

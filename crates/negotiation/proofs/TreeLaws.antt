@@ -18,7 +18,8 @@ use Rattle.search.specs.Distance.{far, inTree, distance}
 use Rattle.search.specs.Frontier.{Fair}
 use Rattle.search.specs.Turn.{Congestion, Turn, joins, stuck, priceAt, pathTo, turn}
 use Rattle.search.proofs.DistinctLaws.{has-cons, has-first, lacks}
-use Rattle.search.proofs.TurnLaws.{path-walk, path-distinct, path-one-tree-node, path-short, path-nodes, joins-within, joins-path, joins-near, joins-cheapest, stuck-no-path}
+use Rattle.search.proofs.PathToLaws.{path-walk, path-distinct, path-one-tree-node, path-short, path-nodes}
+use Rattle.search.proofs.TurnLaws.{joins-within, joins-path, joins-near, joins-cheapest, stuck-no-path}
 use Rattle.negotiation.specs.Job.{Job, nodes, netSinks}
 use Rattle.negotiation.specs.Records.{Record, pathNodes}
 use Rattle.negotiation.specs.Machine.{marksOf, turnOf, logTurn, turnsOf}

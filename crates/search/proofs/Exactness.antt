@@ -17,7 +17,7 @@ use Rattle.search.specs.Layout.{distAt, entryAt, predAt}
 use Rattle.search.specs.Frontier.{Open, Settled, Seen, Reached, Waiting, Fair}
 use Rattle.search.proofs.BlockLaws.{edge-from, edge-place}
 use Rattle.search.proofs.DistanceLaws.{distance-top, distance-tree, distance-step, distance-over}
-use Rattle.search.proofs.TurnLaws.{before-edge, before-sum, before-lowest}
+use Rattle.search.proofs.BeforeLaws.{before-edge, before-sum, before-lowest}
 
 module _ (b : Block) (price : ℕ → ℕ) (marks w : List ℕ) (g : Graph b) (fair : Fair b price) (f : Waiting b price marks w) where
   -- between two settlings every place of a row has been seen

@@ -24,7 +24,8 @@ use Rattle.search.specs.Ready.{Found, Read}
 use Rattle.search.specs.declared.PathAnswer.{PathAnswer}
 use Rattle.search.specs.declared.PathAnswer.the-variants.{Stuck}
 use Rattle.search.proofs.DistanceLaws.{distance-top}
-use Rattle.search.proofs.TurnLaws.{path-short, trail-is, turn-is, stuck-is}
+use Rattle.search.proofs.PathToLaws.{path-short, trail-is}
+use Rattle.search.proofs.TurnLaws.{turn-is, stuck-is}
 use Rattle.search.proofs.Exactness.{exact, exact-near, pred-exact}
 
 -- ---- goals

@@ -8,6 +8,9 @@ pub mod DistinctLaws
 pub mod WalkLaws
 pub mod DistanceLaws
 pub mod PathLaws
+pub mod BeforeLaws
+pub mod PathToLaws
+pub mod NearestLaws
 pub mod TurnLaws
 pub mod StoreLaws
 pub mod FillLaws
