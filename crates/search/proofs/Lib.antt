@@ -20,6 +20,7 @@ pub mod LevelLaws
 pub mod Exactness
 pub mod BestLaws
 pub mod FrontierSteps
+pub mod WaySteps
 pub mod RelaxSteps
 pub mod RunLaws
 pub mod GraphLaws
