@@ -1,4 +1,4 @@
--- A step of the search keeps the frontier: an edge is looked at. It is no shorter way, or leads to the same distance over a lower node, or is a shorter way.
+-- A step of the search keeps the frontier: an edge is looked at. It is no shorter way, or it is a new one (`WaySteps.antt`): shorter, or as short over a lower node.
 -- Assumes nothing.
 use mathlib.Core.Bool.{true}
 use mathlib.Core.List.{List}
@@ -6,11 +6,11 @@ use mathlib.Core.Logic.{⊎-elim}
 use mathlib.Core.Path.{_≡_, sym, _∙_, ap, ap₂, subst}
 use Prim.Native.Nat.{ℕ, _+_, _*_, _≤_, _<_, min}
 use native.Mathlib.Omega.{arith}
-use lib.ListN.{getD, set, length-set, length}
+use lib.ListN.{length, getD, set, length-set}
 use lib.Seq.{getD-set-same}
 use Rattle.search.specs.Block.{Block, nodes, hasEdge}
 use Rattle.search.specs.Tables.{Graph}
-use Rattle.search.specs.Layout.{distAt, entryAt, priceIn, predAt, Shortened, Relaxed, shorter, lower, kept, Heap}
+use Rattle.search.specs.Layout.{distAt, entryAt, priceIn, predAt, Heap, Shortened, Relaxed, shorter, lower, kept}
 use Rattle.search.specs.Frontier.{Settled, Seen, Frontier}
 use Rattle.search.proofs.StoreLaws.{stored-other}
 use Rattle.search.proofs.WaySteps.{seen-more, nearer, as-near, NewWay, way-kept, way-only, way-frontier}
@@ -58,7 +58,7 @@ lower-way n u v d w w′ hv long heap same low is-w =
 
 module _ (b : Block) (g : Graph b) (price : ℕ → ℕ) (marks w : List ℕ) (level u e v : ℕ)
     (su : Settled (nodes b) w u) (at : distAt w u ≡ level)
-    (is-v : getD (b .edgeTargets) e 0 ≡ v) (hv : v < nodes b) (other : v ≡ u → ⊥) (edge : hasEdge b u v ≡ true)
+    (is-v : getD (b .edgeTargets) e 0 ≡ v) (hv : v < nodes b) (edge : hasEdge b u v ≡ true)
     (f : Frontier b price marks w level u e) where
   -- nothing changes: the edge is no shorter way
   module _ (no-shorter : distAt w v ≤ distAt w u + price v) (no-lower : distAt w v ≡ distAt w u + price v → predAt (nodes b) w v ≤ u) where

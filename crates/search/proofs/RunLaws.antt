@@ -96,7 +96,7 @@ module _ (b : Block) (w₀ w : List ℕ) (u e : ℕ) (ready : RowReady b w₀ u)
       record {
         looked = λ price marks fair s f.
             let l = done .looked price marks fair s f in
-            let st = relax-frontier b g price marks w (distAt w₀ u) u e (getD (b .edgeTargets) e 0) (l .settled-kept u s) (done .dist-same) refl hv ne
+            let st = relax-frontier b g price marks w (distAt w₀ u) u e (getD (b .edgeTargets) e 0) (l .settled-kept u s) (done .dist-same) refl hv
             (edge-at b g u e hu from below) (l .frontier) w′ (l .frontier .prices (getD (b .edgeTargets) e 0) hv) r in
             record {
               frontier = st .frontier;
