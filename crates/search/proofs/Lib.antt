@@ -20,8 +20,10 @@ pub mod LevelLaws
 pub mod Exactness
 pub mod BestLaws
 pub mod FrontierSteps
+pub mod WayLaws
 pub mod WaySteps
 pub mod RelaxSteps
+pub mod RowSteps
 pub mod RunLaws
 pub mod GraphLaws
 pub mod PassLaws

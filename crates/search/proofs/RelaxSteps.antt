@@ -1,60 +1,17 @@
--- A step of the search keeps the frontier: an edge is looked at. It is no shorter way, or it is a new one (`WaySteps.antt`): shorter, or as short over a lower node.
+-- A step of the search keeps the frontier: an edge is looked at. It is no shorter way, or it is a new one: shorter, or as short over a lower node.
 -- Assumes nothing.
 use mathlib.Core.Bool.{true}
 use mathlib.Core.List.{List}
 use mathlib.Core.Logic.{⊎-elim}
-use mathlib.Core.Path.{_≡_, sym, _∙_, ap, ap₂, subst}
-use Prim.Native.Nat.{ℕ, _+_, _*_, _≤_, _<_, min}
-use native.Mathlib.Omega.{arith}
-use lib.ListN.{length, getD, set, length-set}
-use lib.Seq.{getD-set-same}
+use mathlib.Core.Path.{_≡_, sym, _∙_, ap, subst}
+use Prim.Native.Nat.{ℕ, _+_, _≤_, _<_}
+use lib.ListN.{getD}
 use Rattle.search.specs.Block.{Block, nodes, hasEdge}
 use Rattle.search.specs.Tables.{Graph}
-use Rattle.search.specs.Layout.{distAt, entryAt, priceIn, predAt, Heap, Shortened, Relaxed, shorter, lower, kept}
+use Rattle.search.specs.Layout.{distAt, priceIn, predAt, Relaxed, shorter, lower, kept}
 use Rattle.search.specs.Frontier.{Settled, Seen, Frontier}
-use Rattle.search.proofs.StoreLaws.{stored-other}
-use Rattle.search.proofs.WaySteps.{seen-more, nearer, as-near, NewWay, way-kept, way-only, way-frontier}
-
--- ---- the two new ways
-
-shorter-way : {n u v d : ℕ} {w w′ : List ℕ} → d < distAt w v → Shortened n u v d w w′ → NewWay n u v d w w′
-shorter-way less t =
-    record {
-      long = t .long;
-      heap = t .heap;
-      price-same = t .price-same;
-      way = nearer less (t .leaf-here);
-      dist-here = t .dist-here;
-      pred-here = t .pred-here;
-      dist-other = t .dist-other;
-      leaf-other = t .leaf-other;
-      pred-other = t .pred-other;
-    }
-
--- only the predecessor of v is written
-lower-way :
-    (n u v d : ℕ) (w w′ : List ℕ) → v < n → 8 * n ≤ length w → Heap n w
-    → d ≡ distAt w v → u < predAt n w v → w′ ≡ set w (4 * n + v) u → NewWay n u v d w w′
-lower-way n u v d w w′ hv long heap same low is-w =
-    record {
-      long = rw (is-w, length-set);
-      heap = λ i p h. entry i (omega arith) ∙ heap i p h ∙ ap₂ min (sym (entry (2 * i) (omega arith))) (sym (entry (2 * i + 1) (omega arith)));
-      price-same = λ x h. other (3 * n + x) (λ q. omega arith);
-      way = as-near same low (other (2 * n + v) (λ q. omega arith));
-      dist-here = other v (λ q. omega arith) ∙ sym same;
-      pred-here = ap (λ (l : List ℕ). getD l (4 * n + v) 0) is-w ∙ getD-set-same w (4 * n + v) u 0 (omega arith);
-      dist-other = λ x h ne. other x (λ q. omega arith);
-      leaf-other = λ x h ne. other (2 * n + x) (λ q. omega arith);
-      pred-other = λ x h ne. other (4 * n + x) (λ q. ne (omega arith));
-    }
-  where
-    other : (j : ℕ) → (j ≡ 4 * n + v → ⊥) → getD w′ j 0 ≡ getD w j 0
-    other = stored-other w (4 * n + v) u is-w
-
-    entry : (i : ℕ) → i < 2 * n → entryAt n w′ i ≡ entryAt n w i
-    entry i h = other (n + i) (λ q. omega arith)
-
--- ---- the edge at place e is looked at
+use Rattle.search.proofs.WayLaws.{NewWay, shorter-way, lower-way}
+use Rattle.search.proofs.WaySteps.{seen-more, way-kept, way-only, way-frontier}
 
 module _ (b : Block) (g : Graph b) (price : ℕ → ℕ) (marks w : List ℕ) (level u e v : ℕ)
     (su : Settled (nodes b) w u) (at : distAt w u ≡ level)

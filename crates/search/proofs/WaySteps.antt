@@ -7,14 +7,15 @@ use mathlib.Core.Path.{_≡_, refl, sym, _∙_, ap, subst}
 use Prim.Native.Nat.{ℕ, _+_, _≤_, _<_}
 use native.Mathlib.Nat.{eq-or-lt-of-le}
 use native.Mathlib.Omega.{arith}
-use lib.ListN.{length, getD}
+use lib.ListN.{getD}
 use Rattle.search.specs.Block.{Block, nodes, hasEdge}
 use Rattle.search.specs.Tables.{Graph}
 use Rattle.search.specs.Distance.{far, inTree}
-use Rattle.search.specs.Layout.{distAt, leafAt, priceIn, predAt, Heap}
+use Rattle.search.specs.Layout.{distAt, leafAt, predAt}
 use Rattle.search.specs.Frontier.{Open, Settled, Seen, Reached, Frontier}
 use Rattle.search.proofs.BlockLaws.{target-node}
 use Rattle.search.proofs.QueueLaws.{same-or-not}
+use Rattle.search.proofs.WayLaws.{Way, nearer, as-near, NewWay}
 
 -- the place e is seen too
 module _ (b : Block) (u e : ℕ) where
@@ -32,23 +33,6 @@ module _ (b : Block) (u e : ℕ) where
     where
       less : k < e + 1 → (k ≡ e → ⊥) → k < e
       less l p = ⊎-elim (λ (q : k ≡ e). absurd (p q)) (λ (q : k < e). q) (eq-or-lt-of-le (omega arith))
-
--- how the way to v over u, d long, compares with the one before
-pub data Way (n u v d : ℕ) (w w′ : List ℕ) : Type 0 where
-  nearer : d < distAt w v → leafAt n w′ v ≡ d → Way n u v d w w′
-  as-near : d ≡ distAt w v → u < predAt n w v → leafAt n w′ v ≡ leafAt n w v → Way n u v d w w′
-
--- w′ is w with a way to v over u, d long; what the other nodes have stays
-pub record NewWay (n u v d : ℕ) (w w′ : List ℕ) : Type 0 where
-  pub long : length w′ ≡ length w
-  pub heap : Heap n w′
-  pub price-same : (x : ℕ) → x < n → priceIn n w′ x ≡ priceIn n w x
-  pub way : Way n u v d w w′
-  pub dist-here : distAt w′ v ≡ d
-  pub pred-here : predAt n w′ v ≡ u
-  pub dist-other : (x : ℕ) → x < n → (x ≡ v → ⊥) → distAt w′ x ≡ distAt w x
-  pub leaf-other : (x : ℕ) → x < n → (x ≡ v → ⊥) → leafAt n w′ x ≡ leafAt n w x
-  pub pred-other : (x : ℕ) → x < n → (x ≡ v → ⊥) → predAt n w′ x ≡ predAt n w x
 
 module _ (b : Block) (g : Graph b) (price : ℕ → ℕ) (marks w w′ : List ℕ) (level u e v : ℕ)
     (su : Settled (nodes b) w u) (at : distAt w u ≡ level)

@@ -6,7 +6,7 @@ use native.Mathlib.Omega.{arith}
 use borrow.Author.Needs.{needs}
 use Rattle.search.specs.Block.{graphOf}
 use Rattle.search.proofs.BlockLaws.{firstEdges-long, row-order, row-end, target-node}
-use Rattle.search.proofs.RunLaws.{RowSoFar, row-start, row-more, row-fits, row-whole}
+use Rattle.search.proofs.RowSteps.{RowSoFar, row-start, row-more, row-fits, row-whole}
 use Rattle.search.proofs.distances.relax_row.Statement.{statement}
 use Rattle.search.proofs.distances.relax_row.Tie as tie
 
