@@ -29,6 +29,7 @@ pub mod GraphLaws
 pub mod PassLaws
 pub mod ReadyLaws
 pub mod SearchLaws
+pub mod SearchTestLaws
 pub mod PathTestLaws
 pub mod FoundLaws
 pub mod HaltLaws

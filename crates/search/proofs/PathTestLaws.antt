@@ -18,7 +18,7 @@ use Rattle.search.specs.Turn.{Congestion, priceAt, turn}
 use Rattle.search.specs.Replies.{refusalOf, sinksMost, sinksSound, faultyWithSinks, PathReply, turnReply, pathReply}
 use Rattle.search.specs.Ready.{Ready}
 use Rattle.search.proofs.BlockLaws.{sound-of, kinds-few}
-use Rattle.search.proofs.ReadyLaws.{Passed, refusal-none}
+use Rattle.search.proofs.ReadyLaws.{Passed, refusal-none, passed-ready}
 
 -- ---- a list of sinks that keeps its rule
 
@@ -77,12 +77,7 @@ module _ (ks cs fs ts sinks : List ℕ) {table : ℕ} (found : table ≡ faultyW
       -- where nothing is refused the turn can be taken, and it is the reply
       pub path-ready : Ready ks cs c marks × (Sound (blockOf ks cs fs ts) × ((8 * length ks ≤ length work) × (sinksSound (length ks) sinks ≡ true)))
       path-ready = (
-        record {
-          kinds-sound = sound-tables .kinds-sound;
-          capacities-sound = sound-tables .capacities-sound;
-          nodes-sound = passed .nodes-sound;
-          factor-most = passed .factor-most;
-        },
+        passed-ready ks cs fs ts c marks sound-tables passed,
         (sound-tables, (passed .work-long, no-fault (blockOf ks cs fs ts) sinks (passed .table-sound) .1)),
       )
 

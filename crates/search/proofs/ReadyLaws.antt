@@ -54,6 +54,15 @@ refusal-none table n c marks entries e =
       factor-most = ltb-false factorMost (c .factor) (not-due (ltb factorMost (c .factor)) _ _ _ e₄);
     }
 
+pub passed-ready : (ks cs fs ts : List ℕ) (c : Congestion) (marks : List ℕ) {table entries : ℕ} → Sound (blockOf ks cs fs ts) → Passed table (length ks) c marks entries → Ready ks cs c marks
+passed-ready ks cs fs ts c marks s p =
+    record {
+      kinds-sound = s .kinds-sound;
+      capacities-sound = s .capacities-sound;
+      nodes-sound = p .nodes-sound;
+      factor-most = p .factor-most;
+    }
+
 -- what a sound node has
 record NodeSound (c : Congestion) (marks : List ℕ) (v : ℕ) : Type 0 where
   has-history : v < length (c .histories)

@@ -1,44 +1,34 @@
--- A whole search: prepared, ready to run, run to its end, and its reply.
+-- A whole search: prepared, ready to run, and run to its end.
 --     prepared                                  the work slice before the queue is built
 --     waiting-from, stands-from                 a search that stands ready: nothing is settled, and every node waits
 --     best-from                                 then no goal has a distance
 --     built-stands, built-goals, search-leaves  the search that has no goals: it stands ready, and what it leaves
---     with-sinks-table, -none, -bad             the lowest faulty table, sinks counted
---     few-nodes, fine-passed, passed-ready      what the tests before a search have shown
---     search-ready                              that a search may run
---     search-table, -work, -number, -done       the search's reply
 -- Assumes nothing.
-use mathlib.Core.Bool.{Bool, true, false}
+use mathlib.Core.Bool.{false}
 use mathlib.Core.List.{List, [], _∷_, _++_}
 use mathlib.Core.Logic.{⊎-elim, inl}
-use mathlib.Core.Path.{_≡_, refl, sym, _∙_, ap}
+use mathlib.Core.Path.{_≡_, refl, sym, _∙_}
 use Prim.Native.Nat.{ℕ, zero, suc, _+_, _-_, _*_, _≤_, _<_}
 use native.Mathlib.Nat.{not-suc-le-zero, le-of-suc-le-suc}
 use native.Mathlib.Omega.{arith}
 use lib.ListN.{length, getD, take, drop, replicate}
 use lib.Seq.{length-take-le, getD-take, ext-getD}
-use borrow.Author.Tests.{le-leb, lt-leb}
 use Rattle.price.specs.Test.{choose}
-use Rattle.price.specs.Bounds.{nodesMost}
 use Rattle.price.proofs.ListLaws.{drop-same}
 use Rattle.search.specs.Block.{blockOf, graphOf}
-use Rattle.search.specs.Tables.{faultyTable, Sound}
+use Rattle.search.specs.Tables.{Sound}
 use Rattle.search.specs.Distance.{far, inTree, distances, distance}
 use Rattle.search.specs.Turn.{Congestion, congestionOf, priceAt}
-use Rattle.search.specs.Replies.{cleared, sinksSound, faultyWithSinks, refusalOf, checkNumbers, searchReply, searched}
-use Rattle.search.specs.declared.SearchAnswer.the-variants as answer
-use Rattle.search.specs.declared.numbers.Check.{Check}
-use Rattle.search.specs.declared.numbers.Check.the-variants as check
+use Rattle.search.specs.Replies.{cleared}
 use Rattle.search.specs.Layout.{distAt, entryAt, leafAt, priceIn, goalAt, Heap, SameBut, Started, Priced}
 use Rattle.search.specs.Frontier.{Waiting, BestGoal, LastStep, Stands, Ran}
 use Rattle.search.specs.Ready.{Ready, Prepared}
-use Rattle.search.proofs.BlockLaws.{sound-of, kinds-few}
 use Rattle.search.proofs.DistanceLaws.{length-distances, distance-top}
 use Rattle.search.proofs.GraphLaws.{distances-same}
 use Rattle.search.proofs.FillLaws.{cleared-length, cleared-low, cleared-zero, cleared-high}
 use Rattle.search.proofs.FrontierSteps.{start-waiting}
 use Rattle.search.proofs.Exactness.{exact}
-use Rattle.search.proofs.ReadyLaws.{Passed, refusal-none, sound-graph, ready-fair}
+use Rattle.search.proofs.ReadyLaws.{sound-graph, ready-fair}
 
 -- ---- the work slice before the queue is built: prices, then first distances, then no goals
 
@@ -182,73 +172,3 @@ module _ (ks cs fs ts : List ℕ) (c : Congestion) (marks w₀ w₁ w₂ : List 
     unfolding cleared
     search-leaves =
         rw (length-distances (blockOf ks cs fs ts) (priceAt (blockOf ks cs fs ts) c) marks, ← first-part, ← last-part) end
-
--- ---- the lowest faulty table, sinks counted
-
-module _ (ks cs fs ts sinks : List ℕ) {table : ℕ} (lowest : table ≡ faultyTable (blockOf ks cs fs ts)) where
-  pub with-sinks-table : 1 ≤ table → table ≡ faultyWithSinks (blockOf ks cs fs ts) sinks
-  unfolding faultyWithSinks
-  with-sinks-table h = rw (← lowest, le-leb 1 table h)
-
-  module _ (none : table < 1) {sound : Bool} (answer : sound ≡ sinksSound (length ks) sinks) where
-    pub with-sinks-none : sound ≡ true → 0 ≡ faultyWithSinks (blockOf ks cs fs ts) sinks
-    unfolding faultyWithSinks
-    with-sinks-none t = rw (← lowest, lt-leb 1 table none, ← answer, t)
-
-    pub with-sinks-bad : sound ≡ false → 7 ≡ faultyWithSinks (blockOf ks cs fs ts) sinks
-    unfolding faultyWithSinks
-    with-sinks-bad t = rw (← lowest, lt-leb 1 table none, ← answer, t)
-
--- ---- what the tests before a search have shown
-
-pub few-nodes : (ks cs fs ts : List ℕ) {table : ℕ} → table ≡ faultyTable (blockOf ks cs fs ts) → table ≡ 0 → length ks ≤ nodesMost
-few-nodes ks cs fs ts lowest none = kinds-few ks (sound-of (blockOf ks cs fs ts) (sym lowest ∙ none) .kinds-sound)
-
--- where they find nothing, every test has passed
-pub fine-passed : {table n : ℕ} {c : Congestion} {marks : List ℕ} {entries : ℕ} {r : Check} → r ≡ check.Fine → checkNumbers r ≡ refusalOf table n c marks entries → Passed table n c marks entries
-fine-passed {table} {n} {c} {marks} {entries} fine found =
-    refusal-none table n c marks entries (sym found ∙ ap checkNumbers fine)
-
-pub passed-ready : (ks cs fs ts : List ℕ) (c : Congestion) (marks : List ℕ) {table entries : ℕ} → Sound (blockOf ks cs fs ts) → Passed table (length ks) c marks entries → Ready ks cs c marks
-passed-ready ks cs fs ts c marks s p =
-    record {
-      kinds-sound = s .kinds-sound;
-      capacities-sound = s .capacities-sound;
-      nodes-sound = p .nodes-sound;
-      factor-most = p .factor-most;
-    }
-
--- so a sound block and numbers within their bounds
-pub search-ready :
-    (ks cs fs ts : List ℕ) (factor : ℕ) (hs os marks : List ℕ) {table entries : ℕ} {r : Check} → table ≡ faultyTable (blockOf ks cs fs ts) → r ≡ check.Fine
-    → checkNumbers r ≡ refusalOf table (length ks) (congestionOf factor hs os) marks entries
-    → Ready ks cs (congestionOf factor hs os) marks × (Sound (blockOf ks cs fs ts) × (8 * length ks ≤ entries))
-search-ready ks cs fs ts factor hs os marks lowest fine found =
-    let p = fine-passed fine found in
-    let sound = sound-of (blockOf ks cs fs ts) (sym lowest ∙ p .table-sound) in
-    (passed-ready ks cs fs ts (congestionOf factor hs os) marks sound p, (sound, p .work-long))
-
--- ---- the search's reply
-
-module _ (ks cs fs ts : List ℕ) (factor : ℕ) (hs os marks w : List ℕ)
-    {table : ℕ} (lowest : table ≡ faultyTable (blockOf ks cs fs ts))
-    {r : Check} (found : checkNumbers r ≡ refusalOf table (length ks) (congestionOf factor hs os) marks (length w)) where
-  -- a refusal leaves the work slice as it was
-  pub search-table : {t : ℕ} → r ≡ check.BadTable t → searched (answer.BadTable t) w ≡ searchReply (blockOf ks cs fs ts) (congestionOf factor hs os) marks w
-  unfolding searchReply
-  search-table e = rw (← lowest, ← found, e)
-
-  pub search-work : {needed : ℕ} → r ≡ check.ShortWork needed → searched (answer.ShortWork needed) w ≡ searchReply (blockOf ks cs fs ts) (congestionOf factor hs os) marks w
-  unfolding searchReply
-  search-work e = rw (← lowest, ← found, e)
-
-  pub search-number : {place : ℕ} → r ≡ check.BadNumber place → searched (answer.BadNumber place) w ≡ searchReply (blockOf ks cs fs ts) (congestionOf factor hs os) marks w
-  unfolding searchReply
-  search-number e = rw (← lowest, ← found, e)
-
-  pub search-done :
-      {w′ : List ℕ} → r ≡ check.Fine
-      → w′ ≡ cleared (length ks) (distances (blockOf ks cs fs ts) (priceAt (blockOf ks cs fs ts) (congestionOf factor hs os)) marks) w
-      → searched answer.Done w′ ≡ searchReply (blockOf ks cs fs ts) (congestionOf factor hs os) marks w
-  unfolding searchReply
-  search-done e end = rw (← lowest, ← found, e, end)

@@ -4,6 +4,7 @@
 --     edges-                            table 4 by its rows
 --     faulty-                           the lowest faulty table
 --     sinks-                            a list of sinks
+--     with-sinks-                       the lowest faulty table, sinks counted
 -- Assumes nothing.
 use mathlib.Core.Bool.{Bool, true, false}
 use mathlib.Core.List.{List}
@@ -18,9 +19,9 @@ use Rattle.price.specs.Test.{both}
 use Rattle.price.specs.Bounds.{kindMost, capacityMost, nodesMost}
 use Rattle.price.specs.Lists.{every, neighbours, upTo}
 use Rattle.price.proofs.ListLaws.{both-true, both-false-right, every-all, every-none, neighbours-all, length-upTo, getD-upTo}
-use Rattle.search.specs.Block.{Block, graphOf, nodes, row}
+use Rattle.search.specs.Block.{Block, blockOf, graphOf, nodes, row}
 use Rattle.search.specs.Tables.{kindsSound, capacitiesSound, firstEdgesSound, rowSound, edgeTargetsSound, edgesMost, faultyTable}
-use Rattle.search.specs.Replies.{sinksMost, sinksSound}
+use Rattle.search.specs.Replies.{sinksMost, sinksSound, faultyWithSinks}
 use Rattle.search.proofs.BlockLaws.{faulty-of}
 
 -- ---- table 1
@@ -167,3 +168,19 @@ pub sinks-all : (n : ℕ) (ss : List ℕ) (i : ℕ) → length ss ≤ sinksMost 
 unfolding sinksSound
 sinks-all n ss i few end all =
     both-true (le-leb (length ss) sinksMost few) (every-all (λ s. ltb s n) ss (λ k l. lt-ltb (getD ss k 0) n (all k (omega arith))))
+
+-- ---- the lowest faulty table, sinks counted
+
+module _ (ks cs fs ts sinks : List ℕ) {table : ℕ} (lowest : table ≡ faultyTable (blockOf ks cs fs ts)) where
+  pub with-sinks-table : 1 ≤ table → table ≡ faultyWithSinks (blockOf ks cs fs ts) sinks
+  unfolding faultyWithSinks
+  with-sinks-table h = rw (← lowest, le-leb 1 table h)
+
+  module _ (none : table < 1) {sound : Bool} (answer : sound ≡ sinksSound (length ks) sinks) where
+    pub with-sinks-none : sound ≡ true → 0 ≡ faultyWithSinks (blockOf ks cs fs ts) sinks
+    unfolding faultyWithSinks
+    with-sinks-none t = rw (← lowest, lt-leb 1 table none, ← answer, t)
+
+    pub with-sinks-bad : sound ≡ false → 7 ≡ faultyWithSinks (blockOf ks cs fs ts) sinks
+    unfolding faultyWithSinks
+    with-sinks-bad t = rw (← lowest, lt-leb 1 table none, ← answer, t)

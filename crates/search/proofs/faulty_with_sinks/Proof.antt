@@ -1,7 +1,7 @@
 -- `search::faulty_with_sinks` meets its contract: each return by the law of the lowest faulty table, from what the two tests answered.
 -- Assumes nothing.
 use borrow.Author.Needs.{needs}
-use Rattle.search.proofs.SearchLaws.{with-sinks-table, with-sinks-none, with-sinks-bad}
+use Rattle.search.proofs.TableLaws.{with-sinks-table, with-sinks-none, with-sinks-bad}
 use Rattle.search.proofs.faulty_with_sinks.Statement.{statement}
 use Rattle.search.proofs.faulty_with_sinks.Tie as tie
 

@@ -1,7 +1,7 @@
 -- `search::search` meets its contract: a refusal is the one that is due, and where none is due the distances are left.
 -- Assumes nothing.
 use borrow.Author.Needs.{needs}
-use Rattle.search.proofs.SearchLaws.{few-nodes, search-ready, search-table, search-work, search-number, search-done}
+use Rattle.search.proofs.SearchTestLaws.{few-nodes, search-ready, search-table, search-work, search-number, search-done}
 use Rattle.search.proofs.search.Statement.{statement}
 use Rattle.search.proofs.search.Tie as tie
 
