@@ -12,7 +12,7 @@ use lib.Seq.{take-append-seam}
 use borrow.Author.Tests.{lt-leb, le-ltb, ltb-true, ltb-false}
 use Rattle.price.specs.Test.{choose}
 use Rattle.price.specs.Lists.{has, firstBelow}
-use Rattle.price.proofs.ListLaws.{either-way}
+use Rattle.price.proofs.TestLaws.{either-way}
 use Rattle.search.specs.Replies.{workNeeded, cleared}
 use Rattle.negotiation.specs.Job.{Job, nodes, nets, netSinks}
 use Rattle.negotiation.specs.Tables.{SoundJob, faultyJob}

@@ -14,7 +14,9 @@ use Rattle.price.specs.Test.{choose}
 use Rattle.price.specs.Bounds.{limitMost}
 use Rattle.price.specs.Lists.{every, has, upTo, firstBelow, countBelow, total}
 use Rattle.price.specs.Prices.{priceOf}
-use Rattle.price.proofs.ListLaws.{either-way, true≢false, every-at, every-all, has-at, has-place, getD-upTo, firstBelow-below, firstBelow-holds, count-same}
+use Rattle.price.proofs.TestLaws.{either-way, true≢false}
+use Rattle.price.proofs.ListLaws.{every-at, every-all, has-at, has-place, getD-upTo}
+use Rattle.price.proofs.BelowLaws.{firstBelow-below, firstBelow-holds, count-same}
 use Rattle.search.specs.Block.{Block}
 use Rattle.search.specs.Block as block
 use Rattle.search.specs.Tables.{Graph}

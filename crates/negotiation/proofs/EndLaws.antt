@@ -12,7 +12,9 @@ use lib.Dec.{ltb}
 use lib.ListN.{length, getD, drop, replicate, length-append}
 use borrow.Author.Tests.{lt-ltb, le-ltb}
 use Rattle.price.specs.Lists.{firstBelow}
-use Rattle.price.proofs.ListLaws.{either-way, le-or-lt, true≢false, firstBelow-holds, firstBelow-is, firstBelow-all, drop-same}
+use Rattle.price.proofs.TestLaws.{either-way, le-or-lt, true≢false}
+use Rattle.price.proofs.ListLaws.{drop-same}
+use Rattle.price.proofs.BelowLaws.{firstBelow-holds, firstBelow-is, firstBelow-all}
 use Rattle.search.specs.Replies.{cleared}
 use Rattle.negotiation.specs.Job.{Job, nodes, nets}
 use Rattle.negotiation.specs.Records.{Record, words, encode}

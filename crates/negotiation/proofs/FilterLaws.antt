@@ -12,7 +12,7 @@ use lib.ListN.{drop}
 use borrow.Author.Tests.{eq-eqb, ne-eqb, eqb-true, le-leb, lt-leb}
 use Rattle.price.specs.Test.{choose, both}
 use Rattle.price.specs.Lists.{has}
-use Rattle.price.proofs.ListLaws.{either-way, true≢false, both-false-right}
+use Rattle.price.proofs.TestLaws.{either-way, true≢false, both-false-right}
 use Rattle.negotiation.specs.Records.{Record, pathNodes}
 use Rattle.negotiation.specs.Demand.{nodesIn, latest, upToIteration, endsIn}
 use Rattle.negotiation.proofs.NetLaws.{branchEnds}

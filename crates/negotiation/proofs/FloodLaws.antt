@@ -12,7 +12,8 @@ use lib.ListN.{length, getD, set, replicate, length-set, length-replicate, getD-
 use lib.Seq.{getD-set-same, getD-set-other}
 use borrow.Author.Count.{below-none, below-more}
 use borrow.Author.Tests.{eqb-true, eqb-false, eq-eqb, ne-eqb}
-use Rattle.price.proofs.ListLaws.{either-way, le-or-lt, count-most, count-less}
+use Rattle.price.proofs.TestLaws.{either-way, le-or-lt}
+use Rattle.price.proofs.BelowLaws.{count-most, count-less}
 use Rattle.search.specs.Block.{Block, nodes, rowStart, hasEdge}
 use Rattle.search.specs.Tables.{Graph}
 use Rattle.search.specs.Paths.{Walk, stay, step}

@@ -11,7 +11,7 @@ use lib.Dec.{eqb}
 use lib.ListN.{length}
 use borrow.Author.Tests.{eqb-true}
 use Rattle.price.specs.Lists.{has}
-use Rattle.price.proofs.ListLaws.{either-way}
+use Rattle.price.proofs.TestLaws.{either-way}
 use Rattle.negotiation.specs.Job.{Job, nets, source}
 use Rattle.negotiation.specs.Records.{Record, pathNodes}
 use Rattle.negotiation.specs.Machine.{State, treeAt, netRecords, afterNets}

@@ -15,7 +15,8 @@ use borrow.Author.Tests.{leb-true, leb-false, ltb-true, eqb-true, not-true}
 use Rattle.price.specs.Test.{choose, both}
 use Rattle.price.specs.Bounds.{limitMost}
 use Rattle.price.specs.Lists.{every, neighbours, has, distinct, upTo}
-use Rattle.price.proofs.ListLaws.{either-way, both-left, both-right, every-at, neighbours-at, length-upTo, getD-upTo}
+use Rattle.price.proofs.TestLaws.{either-way, both-left, both-right}
+use Rattle.price.proofs.ListLaws.{every-at, neighbours-at, length-upTo, getD-upTo}
 use Rattle.search.specs.Tables.{faultyTable}
 use Rattle.search.specs.Replies.{sinksMost}
 use Rattle.search.specs.Replies as search

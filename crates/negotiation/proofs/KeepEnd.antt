@@ -15,7 +15,8 @@ use borrow.Author.Tests.{eq-eqb, ne-eqb}
 use Rattle.price.specs.Lists.{upTo, countBelow}
 use Rattle.price.specs.Prices.{nextFactor, nextHistory}
 use Rattle.price.specs.Bounds.{limitMost}
-use Rattle.price.proofs.ListLaws.{length-upTo, getD-upTo, count-same}
+use Rattle.price.proofs.ListLaws.{length-upTo, getD-upTo}
+use Rattle.price.proofs.BelowLaws.{count-same}
 use Rattle.search.specs.Turn.{joins}
 use Rattle.negotiation.specs.Job.{Job, nodes, nets, netSinks}
 use Rattle.negotiation.specs.Tables.{SoundJob}

@@ -15,7 +15,8 @@ use Rattle.price.specs.Bounds.{limitMost}
 use Rattle.price.specs.Test.{choose}
 use Rattle.price.specs.Lists.{has}
 use Rattle.price.specs.Prices.{nextFactor}
-use Rattle.price.proofs.ListLaws.{either-way, getD-upTo}
+use Rattle.price.proofs.TestLaws.{either-way}
+use Rattle.price.proofs.ListLaws.{getD-upTo}
 use Rattle.negotiation.specs.Job.{Job, nodes, nets, source, netSinks}
 use Rattle.negotiation.specs.Tables.{SoundJob}
 use Rattle.negotiation.specs.Records.{Record, encode, decode, pathNodes}

@@ -10,7 +10,8 @@ use lib.Seq.{slice, length-take-le, getD-take, append-snoc}
 use Rattle.price.specs.Bounds.{limitMost}
 use Rattle.price.specs.Test.{choose}
 use Rattle.price.specs.Lists.{has, upTo}
-use Rattle.price.proofs.ListLaws.{length-upTo, getD-upTo, one-most}
+use Rattle.price.proofs.TestLaws.{one-most}
+use Rattle.price.proofs.ListLaws.{length-upTo, getD-upTo}
 use Rattle.search.specs.Turn.{joins, stuck, turn, congestionOf, priceAt}
 use Rattle.negotiation.specs.Job.{Job, nodes, nets, source, netSinks}
 use Rattle.negotiation.specs.Tables.{SoundJob, netsMost}

@@ -12,7 +12,8 @@ use lib.ListN.{length}
 use borrow.Author.Tests.{lt-ltb, le-ltb, ltb-true}
 use Rattle.price.specs.Test.{choose}
 use Rattle.price.specs.Lists.{firstBelow}
-use Rattle.price.proofs.ListLaws.{either-way, le-or-lt, true≢false, firstBelow-holds, firstBelow-below, firstBelow-is}
+use Rattle.price.proofs.TestLaws.{either-way, le-or-lt, true≢false}
+use Rattle.price.proofs.BelowLaws.{firstBelow-holds, firstBelow-below, firstBelow-is}
 use Rattle.search.specs.Turn.{Congestion, Turn, joins, stuck}
 use Rattle.negotiation.specs.Job.{Job, nets, source, netSinks}
 use Rattle.negotiation.specs.Records.{Record}

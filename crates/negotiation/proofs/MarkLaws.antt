@@ -22,7 +22,8 @@ use lib.Seq.{length-take-le, take-suc, drop-append-le, take-take, getD-append-ad
 use borrow.Author.Tests.{eq-eqb, ne-eqb, eqb-true, eqb-false}
 use Rattle.price.specs.Test.{choose, both, either}
 use Rattle.price.specs.Lists.{has}
-use Rattle.price.proofs.ListLaws.{either-way, has-append, has-append-left, has-append-right}
+use Rattle.price.proofs.TestLaws.{either-way}
+use Rattle.price.proofs.ListLaws.{has-append, has-append-left, has-append-right}
 use Rattle.negotiation.specs.Steps.{AllBelow, MarksSet, MarksCleared, Dropped, Added, CanDrop, CanAddMarked}
 
 -- ---- nodes of a part

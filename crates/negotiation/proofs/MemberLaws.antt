@@ -11,7 +11,8 @@ use lib.ListN.{length, getD}
 use borrow.Author.Tests.{not-true}
 use Rattle.price.specs.Test.{choose}
 use Rattle.price.specs.Lists.{every, has, distinct, total}
-use Rattle.price.proofs.ListLaws.{either-way, true≢false, has-at, has-place, every-at, every-all, total-most, has-append-left, has-append-right}
+use Rattle.price.proofs.TestLaws.{either-way, true≢false}
+use Rattle.price.proofs.ListLaws.{has-at, has-place, every-at, every-all, total-most, has-append-left, has-append-right}
 use Rattle.search.proofs.DistinctLaws.{has-cons, has-first, has-rest, lacks, distinct-cons, distinct-first, distinct-rest}
 
 -- an entry of two lists is an entry of one of them

@@ -16,7 +16,9 @@ use Rattle.price.specs.Test.{both}
 use Rattle.price.specs.Lists.{every, has, distinct, upTo}
 use Rattle.price.specs.Prices.{nextHistory}
 use Rattle.price.specs.Replies.{InBounds}
-use Rattle.price.proofs.ListLaws.{true≢false, count-most, count-less, length-upTo, getD-upTo, has-at, has-place}
+use Rattle.price.proofs.TestLaws.{true≢false}
+use Rattle.price.proofs.ListLaws.{length-upTo, getD-upTo, has-at, has-place}
+use Rattle.price.proofs.BelowLaws.{count-most, count-less}
 use Rattle.price.proofs.PriceLaws as price
 use Rattle.price.proofs.PriceLaws.{price-pos, price-most, next-factor-most, history-grows, history-reach}
 use Rattle.search.specs.Paths.{Walk, CheapestPath}

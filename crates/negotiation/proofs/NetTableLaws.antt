@@ -18,7 +18,8 @@ use borrow.Author.Tests.{le-leb, lt-leb, lt-ltb, le-ltb, eq-eqb, ne-eqb}
 use Rattle.price.specs.Test.{choose, both}
 use Rattle.price.specs.Bounds.{nodesMost, limitMost}
 use Rattle.price.specs.Lists.{every, neighbours, upTo}
-use Rattle.price.proofs.ListLaws.{le-or-lt, both-true, both-false-right, every-all, every-none, neighbours-all, neighbours-none, length-upTo, getD-upTo, part-slice}
+use Rattle.price.proofs.TestLaws.{le-or-lt, both-true, both-false-right}
+use Rattle.price.proofs.ListLaws.{every-all, every-none, neighbours-all, neighbours-none, length-upTo, getD-upTo, part-slice}
 use Rattle.search.specs.Block.{Block}
 use Rattle.search.specs.Block as block
 use Rattle.search.specs.Tables.{faultyTable}

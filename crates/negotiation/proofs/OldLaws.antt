@@ -15,7 +15,8 @@ use borrow.Author.Tests.{eq-eqb, ne-eqb, lt-leb}
 use Rattle.price.specs.Bounds.{limitMost}
 use Rattle.price.specs.Test.{choose, both}
 use Rattle.price.specs.Lists.{has, countBelow}
-use Rattle.price.proofs.ListLaws.{true≢false, count-less, count-same}
+use Rattle.price.proofs.TestLaws.{true≢false}
+use Rattle.price.proofs.BelowLaws.{count-less, count-same}
 use Rattle.negotiation.specs.Job.{Job, nodes, nets, source}
 use Rattle.negotiation.specs.Tables.{SoundJob}
 use Rattle.negotiation.specs.Records.{Record, encode, decode}

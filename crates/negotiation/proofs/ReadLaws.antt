@@ -15,7 +15,9 @@ use Rattle.price.specs.Test.{both}
 use Rattle.price.specs.Bounds.{limitMost}
 use Rattle.price.specs.Lists.{has}
 use Rattle.price.specs.Prices.{nextHistory}
-use Rattle.price.proofs.ListLaws.{either-way, le-or-lt, getD-upTo, count-same}
+use Rattle.price.proofs.TestLaws.{either-way, le-or-lt}
+use Rattle.price.proofs.ListLaws.{getD-upTo}
+use Rattle.price.proofs.BelowLaws.{count-same}
 use Rattle.negotiation.specs.Job.{Job, nodes, nets, netSinks}
 use Rattle.negotiation.specs.Tables.{SoundJob}
 use Rattle.negotiation.specs.Records.{Record, pathNodes}

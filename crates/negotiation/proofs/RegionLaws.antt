@@ -18,7 +18,7 @@ use lib.ListN.{length, getD, take, length-append}
 use lib.Seq.{length-take-le, take-take, take-add, take-at, drop-at, drop-drop, getD-take, getD-drop, slice, length-slice}
 use borrow.Author.Tests.{eq-eqb, ne-eqb, ltb-true, ltb-false}
 use Rattle.price.specs.Test.{choose}
-use Rattle.price.proofs.ListLaws.{either-way, true≢false}
+use Rattle.price.proofs.TestLaws.{either-way, true≢false}
 use Rattle.negotiation.specs.Records.{Record, words, encode, decode, pathNodes}
 use Rattle.negotiation.specs.Steps.{AllBelow, MarksCleared, Dropped, Added, CanDrop, Whole, leading}
 use Rattle.negotiation.proofs.RecordLaws.{encode-append, pathNodes-append, words-length}

@@ -12,7 +12,7 @@ use lib.Seq.{slice, length-slice, length-take-le, take-append-seam, take-take, t
 use borrow.Author.Tests.{le-leb, lt-leb, eq-eqb, ne-eqb, eqb-true, eqb-false}
 use Rattle.price.specs.Test.{choose}
 use Rattle.price.specs.Lists.{has}
-use Rattle.price.proofs.ListLaws.{either-way, both-false-right}
+use Rattle.price.proofs.TestLaws.{either-way, both-false-right}
 use Rattle.negotiation.specs.Records.{Record, encode, decode, pathNodes}
 use Rattle.negotiation.specs.Steps.{AllBelow, MarksCleared, Dropped, Added, CanDrop, CanAddMarked, Whole, leading, oldTree, RipReady, RippedUp, CountReady, Counted}
 use Rattle.negotiation.proofs.RecordLaws.{decode-encode, encode-append, pathNodes-append}

@@ -8,7 +8,8 @@ use native.Mathlib.Nat.{sub-zero}
 use native.Mathlib.Omega.{arith}
 use lib.ListN.{length, drop, replicate}
 use borrow.Author.Tests.{le-leb, lt-leb, lt-ltb, le-ltb}
-use Rattle.price.proofs.ListLaws.{le-or-lt, drop-same}
+use Rattle.price.proofs.TestLaws.{le-or-lt}
+use Rattle.price.proofs.ListLaws.{drop-same}
 use Rattle.search.specs.Replies.{workNeeded, cleared}
 use Rattle.negotiation.specs.Job.{Job, nodes, nets}
 use Rattle.negotiation.specs.Tables.{SoundJob, faultyJob}

@@ -14,7 +14,9 @@ use borrow.Author.Count.{below-more}
 use borrow.Author.Tests.{ltb-true, lt-ltb, le-ltb, eqb-true, not-true, not-false}
 use Rattle.price.specs.Test.{choose}
 use Rattle.price.specs.Lists.{every, has, firstBelow}
-use Rattle.price.proofs.ListLaws.{either-way, le-or-lt, either-false, every-all, every-none, getD-upTo, firstBelow-below, firstBelow-holds, firstBelow-is, firstBelow-all, part-slice}
+use Rattle.price.proofs.TestLaws.{either-way, le-or-lt, either-false}
+use Rattle.price.proofs.ListLaws.{every-all, every-none, getD-upTo, part-slice}
+use Rattle.price.proofs.BelowLaws.{firstBelow-below, firstBelow-holds, firstBelow-is, firstBelow-all}
 use Rattle.search.specs.Block.{Block, graphOf, row, hasEdge}
 use Rattle.search.specs.Paths.{Walk, stay, step}
 use Rattle.search.specs.Distance.{inTree}

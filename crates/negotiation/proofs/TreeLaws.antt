@@ -10,7 +10,8 @@ use native.Mathlib.Omega.{arith}
 use lib.ListN.{length, getD, drop, List·getD-eq-default}
 use Rattle.price.specs.Test.{choose}
 use Rattle.price.specs.Lists.{every, has, distinct, upTo}
-use Rattle.price.proofs.ListLaws.{either-way, le-or-lt, has-at, has-place, length-upTo, getD-upTo, has-append-left, has-append-right}
+use Rattle.price.proofs.TestLaws.{either-way, le-or-lt}
+use Rattle.price.proofs.ListLaws.{has-at, has-place, length-upTo, getD-upTo, has-append-left, has-append-right}
 use Rattle.search.specs.Block.{Block}
 use Rattle.search.specs.Tables.{Graph}
 use Rattle.search.specs.Paths.{Walk, stay, step, CheapestPath}

@@ -15,7 +15,9 @@ use borrow.Author.Tests.{eq-eqb, ne-eqb, eqb-false, lt-ltb, le-leb}
 use Rattle.price.specs.Bounds.{historyMost, othersMost}
 use Rattle.price.specs.Test.{choose, both}
 use Rattle.price.specs.Lists.{has, countBelow}
-use Rattle.price.proofs.ListLaws.{either-way, le-or-lt, both-true, has-append-left, has-append-right, getD-upTo, count-same}
+use Rattle.price.proofs.TestLaws.{either-way, le-or-lt, both-true}
+use Rattle.price.proofs.ListLaws.{has-append-left, has-append-right, getD-upTo}
+use Rattle.price.proofs.BelowLaws.{count-same}
 use Rattle.search.specs.Turn.{Congestion, joins, stuck}
 use Rattle.search.specs.Replies.{nodeSound}
 use Rattle.negotiation.specs.Job.{Job, nodes, nets, netSinks}

@@ -1,4 +1,7 @@
 pub mod PriceLaws
 pub mod ReplyLaws
 pub mod SamplesHold
+pub mod TestLaws
 pub mod ListLaws
+pub mod BelowLaws
+pub mod EntryLaws

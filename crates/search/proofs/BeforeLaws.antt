@@ -11,7 +11,8 @@ use lib.Dec.{eqb}
 use borrow.Author.Tests.{eq-eqb, eqb-true}
 use Rattle.price.specs.Test.{both}
 use Rattle.price.specs.Lists.{firstBelow}
-use Rattle.price.proofs.ListLaws.{true≢false, both-true, both-left, both-right, le-or-lt, firstBelow-below, firstBelow-holds}
+use Rattle.price.proofs.TestLaws.{true≢false, both-true, both-left, both-right, le-or-lt}
+use Rattle.price.proofs.BelowLaws.{firstBelow-below, firstBelow-holds}
 use Rattle.search.specs.Block.{Block, nodes, hasEdge}
 use Rattle.search.specs.Tables.{Graph}
 use Rattle.search.specs.Distance.{far, inTree, distances, distance}

@@ -15,7 +15,8 @@ use borrow.Author.Tests.{leb-true, ltb-true, eqb-true, eqb-false, not-true}
 use Rattle.price.specs.Test.{choose, both}
 use Rattle.price.specs.Bounds.{kindMost, capacityMost, nodesMost}
 use Rattle.price.specs.Lists.{neighbours, has, upTo}
-use Rattle.price.proofs.ListLaws.{true≢false, both-left, both-right, le-or-lt, every-at, neighbours-at, has-at, has-place, length-upTo, getD-upTo}
+use Rattle.price.proofs.TestLaws.{true≢false, both-left, both-right, le-or-lt}
+use Rattle.price.proofs.ListLaws.{every-at, neighbours-at, has-at, has-place, length-upTo, getD-upTo}
 use Rattle.search.specs.Block.{Block, nodes, rowStart, row, hasEdge}
 use Rattle.search.specs.Tables.{kindsSound, capacitiesSound, firstEdgesSound, rowSound, edgeTargetsSound, edgesMost, faultyTable, Sound, Graph}
 

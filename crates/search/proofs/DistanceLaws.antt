@@ -12,7 +12,9 @@ use lib.ListN.{length, getD, List·getD-eq-default}
 use Rattle.price.specs.Bounds.{priceMost}
 use Rattle.price.specs.Test.{choose}
 use Rattle.price.specs.Lists.{upTo, least}
-use Rattle.price.proofs.ListLaws.{either-way, true≢false, le-or-lt, length-upTo, getD-upTo, least-top, least-le, least-is}
+use Rattle.price.proofs.TestLaws.{either-way, true≢false, le-or-lt}
+use Rattle.price.proofs.ListLaws.{length-upTo, getD-upTo}
+use Rattle.price.proofs.EntryLaws.{least-top, least-le, least-is}
 use Rattle.price.proofs.PriceLaws.{path-most}
 use Rattle.search.specs.Block.{Block, nodes, hasEdge}
 use Rattle.search.specs.Tables.{Graph}

@@ -10,7 +10,8 @@ use lib.Dec.{eqb}
 use lib.ListN.{length, getD}
 use borrow.Author.Tests.{eq-eqb, eqb-true, not-true}
 use Rattle.price.specs.Lists.{has, distinct}
-use Rattle.price.proofs.ListLaws.{either-way, true≢false, both-left, both-right, has-place}
+use Rattle.price.proofs.TestLaws.{either-way, true≢false, both-left, both-right}
+use Rattle.price.proofs.ListLaws.{has-place}
 
 -- an entry of a longer list is its first entry, or an entry of the rest
 pub has-cons : (x y : ℕ) (ys : List ℕ) → has x (y ∷ ys) ≡ true → (x ≡ y) ⊎ (has x ys ≡ true)

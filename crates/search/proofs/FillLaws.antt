@@ -24,7 +24,8 @@ use Rattle.price.specs.Replies.{Reply, priced, toldOf, priceReply}
 use Rattle.price.specs.declared.PriceAnswer.{PriceAnswer}
 use Rattle.price.specs.declared.PriceAnswer.the-variants.{Price, Refused}
 use Rattle.price.proofs.ReplyLaws.{reply-priced}
-use Rattle.price.proofs.ListLaws.{either-way, both-false-right, either-true, either-false, has-append}
+use Rattle.price.proofs.TestLaws.{either-way, both-false-right, either-true, either-false}
+use Rattle.price.proofs.ListLaws.{has-append}
 use Rattle.search.specs.Block.{blockOf}
 use Rattle.search.specs.Turn.{congestionOf, priceAt}
 use Rattle.search.specs.Frontier.{PriceReady}

@@ -15,7 +15,7 @@ use lib.ListN.{length, getD, set, take, drop, length-set}
 use lib.Seq.{getD-set-same, drop-set-lt, take-set-lt, slice, slice-cons, slice-empty, length-slice}
 use borrow.Author.Tests.{eq-eqb, ne-eqb, le-leb, lt-leb, leb-true}
 use Rattle.price.specs.Test.{choose}
-use Rattle.price.proofs.ListLaws.{either-way, le-or-lt}
+use Rattle.price.proofs.TestLaws.{either-way, le-or-lt}
 use Rattle.search.specs.Distance.{inTree}
 use Rattle.search.specs.Layout.{distAt, predAt, SameBut, trail, Leads, pathIn}
 use Rattle.search.proofs.StoreLaws.{same-none, same-store}

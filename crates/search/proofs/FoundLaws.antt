@@ -6,7 +6,8 @@ use mathlib.Core.Path.{_≡_, _∙_}
 use Prim.Native.Nat.{ℕ, _-_, _*_, _≤_, _<_}
 use native.Mathlib.Omega.{arith}
 use lib.ListN.{length, getD, take, drop, replicate}
-use Rattle.price.proofs.ListLaws.{le-or-lt, drop-same}
+use Rattle.price.proofs.TestLaws.{le-or-lt}
+use Rattle.price.proofs.ListLaws.{drop-same}
 use Rattle.search.specs.Layout.{distAt, SameBut, FirstAt, Leads, pathIn}
 use Rattle.search.specs.Ready.{Found, Read}
 use Rattle.search.specs.declared.PathAnswer.{PathAnswer}

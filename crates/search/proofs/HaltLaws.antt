@@ -12,7 +12,8 @@ use lib.ListN.{length, getD, take, drop, replicate}
 use borrow.Author.Tests.{eq-eqb, ne-eqb, eqb-true, eqb-false}
 use Rattle.price.specs.Test.{choose, both}
 use Rattle.price.specs.Lists.{has}
-use Rattle.price.proofs.ListLaws.{either-way, both-left, both-right, le-or-lt, has-at, has-place}
+use Rattle.price.proofs.TestLaws.{either-way, both-left, both-right, le-or-lt}
+use Rattle.price.proofs.ListLaws.{has-at, has-place}
 use Rattle.search.specs.Block.{Block, nodes}
 use Rattle.search.specs.Tables.{Graph}
 use Rattle.search.specs.Distance.{far, inTree, distance}

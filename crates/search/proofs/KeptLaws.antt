@@ -12,7 +12,7 @@ use lib.Seq.{drop-cons}
 use borrow.Author.Tests.{not-true, not-false}
 use Rattle.price.specs.Test.{both}
 use Rattle.price.specs.Lists.{every}
-use Rattle.price.proofs.ListLaws.{both-false-right}
+use Rattle.price.proofs.TestLaws.{both-false-right}
 
 -- ---- a function's answer to a test
 

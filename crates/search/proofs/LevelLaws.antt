@@ -7,7 +7,7 @@ use Prim.Native.Nat.{ℕ, zero, suc, _+_, _-_, _*_, _≤_, _<_}
 use native.Mathlib.Nat.{le-min}
 use native.Mathlib.Omega.{arith}
 use lib.ListN.{getD}
-use Rattle.price.proofs.ListLaws.{le-or-lt}
+use Rattle.price.proofs.TestLaws.{le-or-lt}
 use Rattle.search.specs.Layout.{entryAt, leafAt, Heap}
 
 module _ (n : ℕ) (w : List ℕ) (heap : Heap n w) (k : ℕ) (leaves : (v : ℕ) → v < n → k ≤ leafAt n w v) where

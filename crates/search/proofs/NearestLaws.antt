@@ -9,7 +9,9 @@ use native.Mathlib.Nat.{not-suc-le-zero, le-of-suc-le-suc, eq-or-lt-of-le}
 use lib.ListN.{length, getD, length-map}
 use borrow.Author.Tests.{eq-eqb, ne-eqb}
 use Rattle.price.specs.Lists.{has, least, placeOf}
-use Rattle.price.proofs.ListLaws.{either-way, has-place, least-top, least-le, least-is, least-above, placeOf-at, placeOf-lt}
+use Rattle.price.proofs.TestLaws.{either-way}
+use Rattle.price.proofs.ListLaws.{has-place}
+use Rattle.price.proofs.EntryLaws.{least-top, least-le, least-is, least-above, placeOf-at, placeOf-lt}
 use Rattle.search.specs.Block.{Block}
 use Rattle.search.specs.Distance.{far, inTree, distances, distance}
 use Rattle.search.specs.Turn.{stuck, openDistance, openDistances, joinAt, turn}

@@ -13,7 +13,8 @@ use lib.ListN.{length, getD}
 use borrow.Author.Tests.{le-leb, lt-leb, lt-ltb, le-ltb}
 use Rattle.price.specs.Test.{both}
 use Rattle.price.specs.Bounds.{historyMost, othersMost, factorMost}
-use Rattle.price.proofs.ListLaws.{both-false-left, both-false-right, firstBelow-is, firstBelow-all}
+use Rattle.price.proofs.TestLaws.{both-false-left, both-false-right}
+use Rattle.price.proofs.BelowLaws.{firstBelow-is, firstBelow-all}
 use Rattle.search.specs.Replies.{bounded, historyBounded, nodeSound, badNode, refusalOf}
 use Rattle.search.specs.Turn.{Congestion, congestionOf}
 

@@ -13,7 +13,8 @@ use borrow.Author.Count.{below-none, below-more}
 use Rattle.price.specs.Test.{both}
 use Rattle.price.specs.Bounds.{othersMost, historyMost}
 use Rattle.price.specs.Lists.{firstBelow}
-use Rattle.price.proofs.ListLaws.{true≢false, both-true, both-false-left, both-false-right, both-left, both-right, le-or-lt, firstBelow-below, firstBelow-all}
+use Rattle.price.proofs.TestLaws.{true≢false, both-true, both-false-left, both-false-right, both-left, both-right, le-or-lt}
+use Rattle.price.proofs.BelowLaws.{firstBelow-below, firstBelow-all}
 use Rattle.search.specs.Turn.{Congestion, congestionOf}
 use Rattle.search.specs.Replies.{bounded, historyBounded, nodeSound, badNode}
 use Rattle.search.specs.Ready.{allBelow}

@@ -10,7 +10,8 @@ use native.Mathlib.Nat.{not-suc-le-zero, le-of-suc-le-suc}
 use native.Mathlib.Omega.{arith}
 use lib.ListN.{length, getD}
 use Rattle.price.specs.Lists.{every, has, distinct, total}
-use Rattle.price.proofs.ListLaws.{either-way, both-true, has-place}
+use Rattle.price.proofs.TestLaws.{either-way, both-true}
+use Rattle.price.proofs.ListLaws.{has-place}
 use Rattle.search.specs.Block.{Block, nodes, hasEdge}
 use Rattle.search.specs.Paths.{Walk, stay, step}
 use Rattle.search.specs.Distance.{inTree, distance}

@@ -8,7 +8,7 @@ use native.Mathlib.Omega.{arith}
 use lib.ListN.{length}
 use borrow.Author.Tests.{le-ltb}
 use Rattle.price.specs.Bounds.{factorMost}
-use Rattle.price.proofs.ListLaws.{firstBelow-all}
+use Rattle.price.proofs.BelowLaws.{firstBelow-all}
 use Rattle.search.specs.Block.{Block, nodes}
 use Rattle.search.specs.Tables.{Sound}
 use Rattle.search.specs.Turn.{Congestion, priceAt, Turn, joins, stuck, turn}

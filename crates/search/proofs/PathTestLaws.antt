@@ -11,7 +11,8 @@ use lib.ListN.{length, getD}
 use borrow.Author.Tests.{leb-true, leb-false, ltb-true}
 use Rattle.price.specs.Test.{choose}
 use Rattle.price.specs.Bounds.{nodesMost}
-use Rattle.price.proofs.ListLaws.{either-way, both-left, both-right, every-at}
+use Rattle.price.proofs.TestLaws.{either-way, both-left, both-right}
+use Rattle.price.proofs.ListLaws.{every-at}
 use Rattle.search.specs.Block.{Block, blockOf, nodes}
 use Rattle.search.specs.Tables.{faultyTable, Sound}
 use Rattle.search.specs.Turn.{Congestion, priceAt, turn}

@@ -10,7 +10,7 @@ use native.Mathlib.Nat.{le-trans}
 use native.Mathlib.Omega.{arith}
 use lib.ListN.{length, getD, drop}
 use Rattle.price.specs.Lists.{every, distinct}
-use Rattle.price.proofs.ListLaws.{either-way}
+use Rattle.price.proofs.TestLaws.{either-way}
 use Rattle.search.specs.Block.{Block, nodes}
 use Rattle.search.specs.Tables.{Graph}
 use Rattle.search.specs.Paths.{Walk, pathCost}

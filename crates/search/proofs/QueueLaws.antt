@@ -15,7 +15,7 @@ use native.Mathlib.Omega.{arith}
 use lib.Dec.{eqb}
 use lib.ListN.{length, getD, set, length-set}
 use borrow.Author.Tests.{eqb-true, eqb-false}
-use Rattle.price.proofs.ListLaws.{either-way, le-or-lt}
+use Rattle.price.proofs.TestLaws.{either-way, le-or-lt}
 use Rattle.search.specs.Layout.{entryAt, leafAt, HeapAt, HeapBut, Heap, SameBut}
 use Rattle.search.proofs.StoreLaws.{store-here, store-other, same-none, same-store}
 

@@ -11,7 +11,7 @@ use lib.ListN.{length, getD}
 use borrow.Author.Tests.{leb-true, leb-false, ltb-true, ltb-false}
 use Rattle.price.specs.Test.{choose}
 use Rattle.price.specs.Bounds.{factorMost, othersMost, historyMost}
-use Rattle.price.proofs.ListLaws.{both-left, both-right, le-or-lt}
+use Rattle.price.proofs.TestLaws.{both-left, both-right, le-or-lt}
 use Rattle.price.proofs.PriceLaws.{price-pos, price-most}
 use Rattle.search.specs.Block.{blockOf, graphOf, row}
 use Rattle.search.specs.Tables.{Sound, Graph, edgeTargetsSound}

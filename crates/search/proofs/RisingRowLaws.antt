@@ -12,7 +12,7 @@ use lib.Seq.{slice, length-take-le, slice-cons}
 use borrow.Author.Tests.{ltb-true, lt-ltb}
 use Rattle.price.specs.Test.{both}
 use Rattle.price.specs.Lists.{every, neighbours}
-use Rattle.price.proofs.ListLaws.{true≢false, both-left}
+use Rattle.price.proofs.TestLaws.{true≢false, both-left}
 use Rattle.search.specs.Tables.{rowSound}
 
 -- what is left of the row of node u, where `low` is the least target that may come next: rising, so only the last has to be below n

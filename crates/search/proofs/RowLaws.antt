@@ -11,7 +11,8 @@ use lib.Seq.{slice, length-slice}
 use borrow.Author.Tests.{lt-ltb, le-ltb, eq-eqb, ne-eqb}
 use Rattle.price.specs.Test.{both}
 use Rattle.price.specs.Lists.{every, neighbours}
-use Rattle.price.proofs.ListLaws.{both-true, both-false-left, both-false-right, every-all, every-none, neighbours-all, neighbours-none}
+use Rattle.price.proofs.TestLaws.{both-true, both-false-left, both-false-right}
+use Rattle.price.proofs.ListLaws.{every-all, every-none, neighbours-all, neighbours-none}
 use Rattle.search.specs.Tables.{rowSound}
 use Rattle.search.proofs.BlockLaws.{slice-at}
 

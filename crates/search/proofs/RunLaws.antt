@@ -12,7 +12,8 @@ use borrow.Author.Tests.{eq-eqb, lt-ltb, eqb-true, ltb-true, not-false}
 use Rattle.price.specs.Test.{both}
 use Rattle.price.specs.Lists.{countBelow}
 use Rattle.price.proofs.PriceLaws.{path-most}
-use Rattle.price.proofs.ListLaws.{both-left, both-right, count-less, either-way, true≢false}
+use Rattle.price.proofs.TestLaws.{both-left, both-right, either-way, true≢false}
+use Rattle.price.proofs.BelowLaws.{count-less}
 use Rattle.search.specs.Block.{Block, nodes, rowStart}
 use Rattle.search.specs.Distance.{far, distance}
 use Rattle.search.specs.Layout.{distAt, entryAt, leafAt, TakenOut}

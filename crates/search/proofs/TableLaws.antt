@@ -18,7 +18,8 @@ use borrow.Author.Tests.{le-leb, lt-leb, lt-ltb, le-ltb, eq-eqb, ne-eqb}
 use Rattle.price.specs.Test.{both}
 use Rattle.price.specs.Bounds.{kindMost, capacityMost, nodesMost}
 use Rattle.price.specs.Lists.{every, neighbours, upTo}
-use Rattle.price.proofs.ListLaws.{both-true, both-false-right, every-all, every-none, neighbours-all, length-upTo, getD-upTo}
+use Rattle.price.proofs.TestLaws.{both-true, both-false-right}
+use Rattle.price.proofs.ListLaws.{every-all, every-none, neighbours-all, length-upTo, getD-upTo}
 use Rattle.search.specs.Block.{Block, blockOf, graphOf, nodes, row}
 use Rattle.search.specs.Tables.{kindsSound, capacitiesSound, firstEdgesSound, rowSound, edgeTargetsSound, edgesMost, faultyTable}
 use Rattle.search.specs.Replies.{sinksMost, sinksSound, faultyWithSinks}

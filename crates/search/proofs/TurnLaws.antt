@@ -12,7 +12,9 @@ use lib.Dec.{eqb}
 use lib.ListN.{length, getD}
 use borrow.Author.Tests.{eqb-true, eqb-false}
 use Rattle.price.specs.Lists.{has}
-use Rattle.price.proofs.ListLaws.{either-way, has-at, has-place, least-top, least-le, placeOf-is}
+use Rattle.price.proofs.TestLaws.{either-way}
+use Rattle.price.proofs.ListLaws.{has-at, has-place}
+use Rattle.price.proofs.EntryLaws.{least-top, least-le, placeOf-is}
 use Rattle.search.specs.Block.{Block, nodes}
 use Rattle.search.specs.Tables.{Graph}
 use Rattle.search.specs.Paths.{Walk, stay, step, pathCost, CheapestPath}

@@ -10,7 +10,8 @@ use native.Mathlib.Omega.{arith}
 use lib.ListN.{length, getD}
 use Rattle.price.specs.Bounds.{priceMost}
 use Rattle.price.specs.Lists.{has, distinct, total}
-use Rattle.price.proofs.ListLaws.{either-way, true≢false, total-append, total-most}
+use Rattle.price.proofs.TestLaws.{either-way, true≢false}
+use Rattle.price.proofs.ListLaws.{total-append, total-most}
 use Rattle.search.specs.Block.{Block, nodes, hasEdge}
 use Rattle.search.specs.Tables.{Graph}
 use Rattle.search.specs.Paths.{Walk, stay, step, pathCost}

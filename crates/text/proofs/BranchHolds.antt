@@ -13,7 +13,7 @@ use lib.Seq.{take-append-seam, getD-append-add}
 use borrow.Author.Tests.{ne-eqb}
 use Rattle.price.specs.Bounds.{limitMost}
 use Rattle.price.specs.Lists.{has}
-use Rattle.price.proofs.ListLaws.{either-way, true≢false, le-or-lt}
+use Rattle.price.proofs.TestLaws.{either-way, true≢false, le-or-lt}
 use Rattle.search.specs.Block.{Block}
 use Rattle.search.specs.Paths.{Walk, stay, step}
 use Rattle.negotiation.specs.Job.{Job, nodes, nets, netSinks}

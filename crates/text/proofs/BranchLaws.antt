@@ -14,7 +14,7 @@ use native.Mathlib.Nat.{zero-add}
 use native.Mathlib.Omega.{arith}
 use lib.ListN.{length, getD, take, drop, length-append, length-drop, drop-of-length-le}
 use borrow.Author.Tests.{lt-ltb, le-ltb, eq-eqb, ne-eqb}
-use Rattle.price.proofs.ListLaws.{either-way}
+use Rattle.price.proofs.TestLaws.{either-way}
 use Rattle.negotiation.specs.Records.{decode}
 use Rattle.text.specs.Lines.{letterR, letterB, printLine}
 use Rattle.text.specs.Routes.{recordSound, soundWords, Branch, steps, branchesIn, branchText, held, routeBranches, routesText, notWritten, textReply, writeReply}

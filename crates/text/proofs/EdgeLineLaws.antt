@@ -18,7 +18,8 @@ use lib.Seq.{length-take-le, take-suc-set, drop-cons, set-at, take-at}
 use borrow.Author.Tests.{lt-ltb, le-ltb, eq-eqb, ne-eqb, ltb-true, eqb-true}
 use Rattle.price.specs.Test.{choose}
 use Rattle.price.specs.Lists.{upTo, total}
-use Rattle.price.proofs.ListLaws.{either-way, both-left, both-right, total-append}
+use Rattle.price.proofs.TestLaws.{either-way, both-left, both-right}
+use Rattle.price.proofs.ListLaws.{total-append}
 use Rattle.text.specs.Lines.{letterE, taken, line}
 use Rattle.text.specs.JobText.{values, refused, lastOf, rises, edgeWithin, edgeOrdered, edgeLine, part, stopped, edgeLists, edgeLines, firstPlaces}
 use Rattle.text.specs.Steps.{After, twoAt, edgeAt, EdgePlace, edgeTables}

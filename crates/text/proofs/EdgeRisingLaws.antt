@@ -13,7 +13,8 @@ use lib.ListN.{length, getD}
 use lib.Seq.{slice}
 use borrow.Author.Tests.{ltb-true, leb-true, eqb-true, eqb-false, not-true, lt-ltb, le-leb, eq-eqb, ne-eqb}
 use Rattle.price.specs.Test.{both, either}
-use Rattle.price.proofs.ListLaws.{either-way, true≢false, both-true, both-left, both-right, le-or-lt, neighbours-all, neighbours-at}
+use Rattle.price.proofs.TestLaws.{either-way, true≢false, both-true, both-left, both-right, le-or-lt}
+use Rattle.price.proofs.ListLaws.{neighbours-all, neighbours-at}
 use Rattle.search.specs.Tables.{rowSound}
 use Rattle.search.proofs.BlockLaws.{firsts-most}
 use Rattle.search.proofs.RowLaws.{Entry, row-no-node, row-itself, row-no-rise, row-all}

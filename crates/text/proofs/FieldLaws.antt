@@ -20,7 +20,7 @@ use lib.ListN.{length, getD, drop, drop-of-length-le}
 use lib.Seq.{drop-cons, drop-drop}
 use borrow.Author.Tests.{le-leb, lt-leb, eq-eqb, ne-eqb, leb-true}
 use Rattle.price.specs.Test.{choose}
-use Rattle.price.proofs.ListLaws.{both-left, both-right, le-or-lt, true≢false}
+use Rattle.price.proofs.TestLaws.{both-left, both-right, le-or-lt, true≢false}
 use Rattle.text.specs.Decimal.{isDigit}
 use Rattle.text.specs.Lines.{lf, comma, Field, number, fault, digitsAfter, field, Fields, taken, malformed, afterField, fields}
 use Rattle.text.specs.Steps.{begins, commaField, After, fieldAt, FieldPlace, twoAt, TwoPlace, threeAt, ThreePlace, fourAt, FourPlace}

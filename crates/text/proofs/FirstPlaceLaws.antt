@@ -14,7 +14,8 @@ use lib.Seq.{ext-getD, getD-append-add}
 use borrow.Author.Tests.{ltb-true, ltb-false, leb-true, eqb-true, lt-ltb, le-ltb, le-leb, eq-eqb}
 use Rattle.price.specs.Test.{choose}
 use Rattle.price.specs.Lists.{neighbours, total}
-use Rattle.price.proofs.ListLaws.{either-way, both-left, both-right, le-or-lt, neighbours-all, length-upTo, getD-upTo}
+use Rattle.price.proofs.TestLaws.{either-way, both-left, both-right, le-or-lt}
+use Rattle.price.proofs.ListLaws.{neighbours-all, length-upTo, getD-upTo}
 use Rattle.search.specs.Tables.{firstEdgesSound}
 use Rattle.search.proofs.BlockLaws.{firsts-long, firsts-end, firsts-order, firsts-most}
 use Rattle.search.proofs.TableLaws.{firsts-last}

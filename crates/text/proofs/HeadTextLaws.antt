@@ -11,7 +11,7 @@ use borrow.Author.Tests.{le-leb, leb-true, lt-ltb}
 use Rattle.price.specs.Test.{both}
 use Rattle.price.specs.Bounds.{nodesMost, limitMost}
 use Rattle.price.specs.Lists.{every}
-use Rattle.price.proofs.ListLaws.{both-true, both-left, both-right}
+use Rattle.price.proofs.TestLaws.{both-true, both-left, both-right}
 use Rattle.search.specs.Tables.{edgesMost}
 use Rattle.negotiation.specs.Tables.{netsMost}
 use Rattle.text.specs.Lines.{letterF, printLine}

@@ -12,7 +12,7 @@ use Prim.Native.Nat.{ℕ, _+_}
 use native.Mathlib.Omega.{arith}
 use lib.ListN.{drop}
 use lib.Seq.{drop-drop}
-use Rattle.price.proofs.ListLaws.{either-way, true≢false}
+use Rattle.price.proofs.TestLaws.{either-way, true≢false}
 use Rattle.text.specs.Lines.{Fields, taken, malformed, fields, line}
 use Rattle.text.specs.JobText.{values, refused, judged}
 use Rattle.text.specs.Steps.{begins, After, twoAt, TwoPlace}

@@ -8,7 +8,7 @@ use native.Mathlib.Omega.{arith}
 use lib.ListN.{length, length-append}
 use lib.Seq.{getD-at}
 use Rattle.price.specs.Lists.{every}
-use Rattle.price.proofs.ListLaws.{both-true, both-left, both-right}
+use Rattle.price.proofs.TestLaws.{both-true, both-left, both-right}
 use Rattle.text.specs.JobText.{lastOf}
 
 pub last-more : (xs : List ℕ) (x : ℕ) → lastOf (xs ++ (x ∷ [])) ≡ x

@@ -13,7 +13,7 @@ use lib.Dec.{leb, eqb}
 use lib.ListN.{length, drop, length-append, length-map}
 use lib.Seq.{getD-at}
 use borrow.Author.Tests.{leb-true}
-use Rattle.price.proofs.ListLaws.{both-left}
+use Rattle.price.proofs.TestLaws.{both-left}
 use Rattle.negotiation.specs.Records.{Record, decode}
 use Rattle.text.specs.Routes.{logSound, soundWords, Branch, lastIteration, routeBranches, branchText, routesText}
 use Rattle.text.specs.Listed.{BranchLines, ended, next, stepsOf, Listed, StepOf}

@@ -12,7 +12,8 @@ use lib.Seq.{take-append-seam, drop-append-seam, getD-drop}
 use borrow.Author.Tests.{lt-ltb, le-leb, lt-leb, eq-eqb}
 use Rattle.price.specs.Bounds.{nodesMost, limitMost}
 use Rattle.price.specs.Lists.{every}
-use Rattle.price.proofs.ListLaws.{both-true, every-all}
+use Rattle.price.proofs.TestLaws.{both-true}
+use Rattle.price.proofs.ListLaws.{every-all}
 use Rattle.search.proofs.BlockLaws.{kinds-few}
 use Rattle.negotiation.specs.Job.{Job, nodes, nets}
 use Rattle.negotiation.specs.Tables.{SoundJob, netsMost}

@@ -11,7 +11,7 @@ use lib.Dec.{leb, eqb}
 use lib.ListN.{length, getD, take, drop, length-drop, drop-of-length-le}
 use lib.Seq.{getD-drop, drop-drop}
 use borrow.Author.Tests.{le-leb, lt-leb, eq-eqb, ne-eqb, eqb-true}
-use Rattle.price.proofs.ListLaws.{either-way, both-right, le-or-lt}
+use Rattle.price.proofs.TestLaws.{either-way, both-right, le-or-lt}
 use Rattle.negotiation.specs.Records.{Record, recordOf, decodeUpTo, decode}
 use Rattle.text.specs.Routes.{pathIn, recordSound, soundUpTo, soundWords, logSound, lastIteration}
 use Rattle.text.specs.WriteSteps.{sound, unsound, logChecked}

@@ -19,7 +19,7 @@ use lib.ListN.{getD, drop}
 use borrow.Author.Tests.{lt-ltb, le-ltb, eq-eqb, ne-eqb, ltb-true}
 use Rattle.price.specs.Test.{choose, both}
 use Rattle.price.specs.Lists.{has}
-use Rattle.price.proofs.ListLaws.{either-way, both-right, both-true, both-false-right}
+use Rattle.price.proofs.TestLaws.{either-way, both-right, both-true, both-false-right}
 use Rattle.search.specs.Replies.{sinksMost}
 use Rattle.text.specs.Lines.{letterS, letterT, taken, line}
 use Rattle.text.specs.JobText.{Reading, values, refused, pinWithin, sourceLine, sinkOrdered, sinkLine}

@@ -12,7 +12,7 @@ use lib.Dec.{eqb}
 use lib.ListN.{length, take, drop, set, replicate, length-drop, length-replicate, getD-replicate, drop-of-length-le}
 use lib.Seq.{drop-cons, take-set-le}
 use borrow.Author.Tests.{lt-ltb, le-ltb, eq-eqb, ne-eqb}
-use Rattle.price.proofs.ListLaws.{both-false-right}
+use Rattle.price.proofs.TestLaws.{both-false-right}
 use Rattle.search.specs.Replies.{sinksMost}
 use Rattle.text.specs.JobText.{values, refused, Part, part, stopped, NetLists, netLists, complete, netEnd, netLine, netLines}
 use Rattle.text.specs.Steps.{netsAt, NetKept, netLineAt, KeptAfter}

@@ -14,7 +14,8 @@ use lib.Seq.{slice, slice-empty, slice-cons, length-slice, take-suc, take-all, l
 use borrow.Author.Tests.{le-leb, lt-ltb, leb-true, ltb-true, eqb-true, eq-eqb}
 use Rattle.price.specs.Bounds.{nodesMost}
 use Rattle.price.specs.Lists.{every, has}
-use Rattle.price.proofs.ListLaws.{either-way, both-true, both-left, both-right, every-at}
+use Rattle.price.proofs.TestLaws.{either-way, both-true, both-left, both-right}
+use Rattle.price.proofs.ListLaws.{every-at}
 use Rattle.search.specs.Replies.{sinksMost}
 use Rattle.negotiation.specs.Job.{sinksBetween}
 use Rattle.negotiation.specs.Tables.{netsMost, sourcesSound, firstSinksSound, netSound, sinksSound}

@@ -11,7 +11,7 @@ use lib.ListN.{length, getD, drop, length-drop}
 use borrow.Author.Tests.{leb-true, ltb-true, eqb-true, not-true}
 use Rattle.price.specs.Test.{both}
 use Rattle.price.specs.Lists.{has}
-use Rattle.price.proofs.ListLaws.{either-way, both-left, both-right}
+use Rattle.price.proofs.TestLaws.{either-way, both-left, both-right}
 use Rattle.search.specs.Replies.{sinksMost}
 use Rattle.negotiation.specs.Tables.{netsMost, sourcesSound, firstSinksSound, sinksSound}
 use Rattle.negotiation.proofs.NetTableLaws.{sources-all, nets-all}

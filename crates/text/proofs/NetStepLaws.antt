@@ -17,7 +17,8 @@ use lib.Seq.{length-take-le, drop-cons, drop-append-le, take-suc-set, getD-set-s
 use borrow.Author.Tests.{lt-ltb, le-ltb, le-leb, lt-leb, eq-eqb, ne-eqb, eqb-true, eqb-false, ltb-true}
 use Rattle.price.specs.Test.{both, either}
 use Rattle.price.specs.Lists.{has}
-use Rattle.price.proofs.ListLaws.{either-false, either-way, le-or-lt, both-left, both-false-right, has-append, has-append-right}
+use Rattle.price.proofs.TestLaws.{either-false, either-way, le-or-lt, both-left, both-false-right}
+use Rattle.price.proofs.ListLaws.{has-append, has-append-right}
 use Rattle.search.specs.Replies.{sinksMost}
 use Rattle.text.specs.Lines.{letterS, letterT}
 use Rattle.text.specs.JobText.{values, refused, NetLists, lastOf, sinksNow, sourceDue, sinkDue, withSource, withSink, taking, sourceLine, sinkLine, nextSource, nextSink, netLine}

@@ -17,7 +17,8 @@ use lib.Seq.{getD-at, take-length, drop-length, take-append-le, drop-append-le}
 use borrow.Author.Count.{below-none, below-more}
 use borrow.Author.Tests.{lt-ltb, eq-eqb, not-true}
 use Rattle.price.specs.Lists.{every, has, distinct}
-use Rattle.price.proofs.ListLaws.{true≢false, both-true, both-left, both-right, neighbours-all, has-append-right}
+use Rattle.price.proofs.TestLaws.{true≢false, both-true, both-left, both-right}
+use Rattle.price.proofs.ListLaws.{neighbours-all, has-append-right}
 use Rattle.search.specs.Replies.{sinksMost}
 use Rattle.search.proofs.DistinctLaws.{has-cons, has-first, has-rest, lacks, distinct-first, distinct-rest}
 use Rattle.negotiation.specs.Job.{sinksBetween}

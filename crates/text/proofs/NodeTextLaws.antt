@@ -13,7 +13,8 @@ use borrow.Author.Tests.{le-leb, leb-true, lt-ltb, eq-eqb, eqb-true}
 use Rattle.price.specs.Test.{both}
 use Rattle.price.specs.Bounds.{nodesMost, kindMost, capacityMost}
 use Rattle.price.specs.Lists.{every}
-use Rattle.price.proofs.ListLaws.{both-true, both-left, both-right, every-at}
+use Rattle.price.proofs.TestLaws.{both-true, both-left, both-right}
+use Rattle.price.proofs.ListLaws.{every-at}
 use Rattle.search.specs.Tables.{kindsSound, capacitiesSound}
 use Rattle.search.proofs.BlockLaws.{kinds-few, capacities-long}
 use Rattle.text.specs.Lines.{letterN, printLine}

@@ -16,7 +16,7 @@ use lib.Dec.{ltb, eqb}
 use lib.ListN.{length, getD}
 use borrow.Author.Tests.{le-leb, ltb-true, eq-eqb, ne-eqb, eqb-true, eqb-false}
 use Rattle.price.specs.Lists.{every}
-use Rattle.price.proofs.ListLaws.{either-way, both-true, both-left, both-right, le-or-lt}
+use Rattle.price.proofs.TestLaws.{either-way, both-true, both-left, both-right, le-or-lt}
 use Rattle.text.specs.Decimal.{zeroByte, isDigit, decimal}
 use Rattle.text.specs.Lines.{Field, number, fault, digitsAfter, field, lf, comma, Fields, taken, malformed, withValue, afterField, fields, line, printFields, printLine}
 use Rattle.text.specs.JobText.{Reading, values, refused, judged, Part, part, stopped, onward, andThen}

@@ -8,7 +8,7 @@ use native.Mathlib.Omega.{arith}
 use lib.ListN.{length, take}
 use lib.Seq.{length-take-le}
 use borrow.Author.Tests.{lt-ltb, le-ltb, le-leb}
-use Rattle.price.proofs.ListLaws.{le-or-lt}
+use Rattle.price.proofs.TestLaws.{le-or-lt}
 use Rattle.search.specs.Replies.{sinksMost}
 use Rattle.negotiation.specs.Job.{Job}
 use Rattle.text.specs.JobText.{Part, readText}

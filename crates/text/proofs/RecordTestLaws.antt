@@ -14,7 +14,8 @@ use borrow.Author.Tests.{le-leb, lt-leb, lt-ltb, le-ltb, leb-true}
 use Rattle.price.specs.Test.{both}
 use Rattle.price.specs.Bounds.{nodesMost, limitMost}
 use Rattle.price.specs.Lists.{every}
-use Rattle.price.proofs.ListLaws.{both-left, both-right, every-all, every-none}
+use Rattle.price.proofs.TestLaws.{both-left, both-right}
+use Rattle.price.proofs.ListLaws.{every-all, every-none}
 use Rattle.negotiation.specs.Tables.{netsMost}
 use Rattle.text.specs.JobText.{between}
 use Rattle.text.specs.Routes.{pathIn, pathSound, recordSound}

@@ -8,7 +8,7 @@ use Prim.Native.Nat.{ℕ, _≤_, zero-le}
 use native.Mathlib.Omega.{arith}
 use lib.Dec.{leb, ltb}
 use lib.ListN.{length, take, drop, length-append}
-use Rattle.price.proofs.ListLaws.{either-way}
+use Rattle.price.proofs.TestLaws.{either-way}
 use Rattle.negotiation.specs.Job.{Job}
 use Rattle.negotiation.specs.Records.{decode}
 use Rattle.negotiation.specs.Outcome.{RouteReply, routeReply}

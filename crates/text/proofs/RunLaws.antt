@@ -11,7 +11,7 @@ use lib.ListN.{length, getD, take, drop, length-append}
 use lib.Seq.{take-at}
 use borrow.Author.Tests.{lt-ltb, le-ltb}
 use Rattle.price.specs.Bounds.{nodesMost}
-use Rattle.price.proofs.ListLaws.{either-way}
+use Rattle.price.proofs.TestLaws.{either-way}
 use Rattle.search.specs.Replies.{workNeeded}
 use Rattle.search.proofs.BlockLaws.{kinds-few, capacities-long}
 use Rattle.search.proofs.BlockLaws as block

@@ -15,7 +15,8 @@ use borrow.Author.Tests.{lt-ltb, ltb-true}
 use Rattle.price.specs.Test.{both}
 use Rattle.price.specs.Bounds.{nodesMost, limitMost}
 use Rattle.price.specs.Lists.{every}
-use Rattle.price.proofs.ListLaws.{either-way, both-true, both-left, both-right, every-at, le-or-lt}
+use Rattle.price.proofs.TestLaws.{either-way, both-true, both-left, both-right, le-or-lt}
+use Rattle.price.proofs.ListLaws.{every-at}
 use Rattle.negotiation.specs.Tables.{netsMost}
 use Rattle.negotiation.specs.Records.{Record, decode}
 use Rattle.text.specs.JobText.{between}

@@ -10,7 +10,8 @@ use lib.ListN.{length}
 use borrow.Author.Tests.{le-leb, leb-true}
 use Rattle.price.specs.Bounds.{limitMost}
 use Rattle.price.specs.Lists.{upTo}
-use Rattle.price.proofs.ListLaws.{both-true, both-left, both-right, every-at, length-upTo, getD-upTo}
+use Rattle.price.proofs.TestLaws.{both-true, both-left, both-right}
+use Rattle.price.proofs.ListLaws.{every-at, length-upTo, getD-upTo}
 use Rattle.search.specs.Block.{blockOf, row}
 use Rattle.search.specs.Tables.{edgesMost, kindsSound, capacitiesSound, firstEdgesSound, rowSound, edgeTargetsSound}
 use Rattle.search.proofs.BlockLaws.{kinds-some, kinds-few}

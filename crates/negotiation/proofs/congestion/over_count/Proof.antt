@@ -10,7 +10,7 @@ use lib.Dec.{ltb}
 use lib.ListN.{length, getD}
 use borrow.Author.Tests.{lt-ltb, le-ltb}
 use Rattle.price.specs.Lists.{countBelow}
-use Rattle.price.proofs.ListLaws.{count-most}
+use Rattle.price.proofs.BelowLaws.{count-most}
 use Rattle.negotiation.proofs.congestion.over_count.Statement.{statement}
 use Rattle.negotiation.proofs.congestion.over_count.Tie as tie
 

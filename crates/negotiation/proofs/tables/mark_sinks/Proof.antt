@@ -4,7 +4,7 @@ use mathlib.Core.Path.{sym}
 use Prim.Native.Nat.{_-_}
 use native.Mathlib.Omega.{arith}
 use lib.ListN.{length}
-use Rattle.price.proofs.ListLaws.{true≢false}
+use Rattle.price.proofs.TestLaws.{true≢false}
 use Rattle.negotiation.proofs.SinkMarkLaws.{Marking, marking-none, marking-more, marking-bad, marking-twice, marking-free, stored-all}
 use Rattle.negotiation.proofs.tables.mark_sinks.Statement.{statement}
 use Rattle.negotiation.proofs.tables.mark_sinks.Tie as tie

@@ -4,7 +4,7 @@ use mathlib.Core.Path.{sym, _∙_}
 use native.Mathlib.Omega.{arith}
 use lib.ListN.{length-set}
 use borrow.Author.Needs.{needs}
-use Rattle.price.proofs.ListLaws.{true≢false}
+use Rattle.price.proofs.TestLaws.{true≢false}
 use Rattle.search.proofs.KeptLaws.{refused, passed}
 use Rattle.negotiation.proofs.SinkMarkLaws.{free-source, free-below, unmarked-again}
 use Rattle.negotiation.proofs.tables.net_sound.Statement.{statement}

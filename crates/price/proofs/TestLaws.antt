@@ -1,0 +1,53 @@
+-- Laws of tests and of comparing two numbers.
+-- Assumes nothing.
+use mathlib.Core.Bool.{Bool, true, false}
+use mathlib.Core.Logic.{_⊎_, ⊎-elim, inl, inr}
+use mathlib.Core.Path.{_≡_, refl, sym}
+use Prim.Native.Nat.{ℕ, _-_, _≤_, _<_}
+use native.Mathlib.Omega.{arith}
+use lib.Dec.{leb}
+use borrow.Author.Tests.{leb-true, leb-false}
+use Rattle.price.specs.Test.{choose, both, either}
+
+-- a test is one or the other
+pub either-way : (t : Bool) → (t ≡ true) ⊎ (t ≡ false)
+either-way true = inl refl
+either-way false = inr refl
+
+pub true≢false : true ≡ false → ⊥
+true≢false e = let z : _≡_ {A = ℕ} 0 1 = cc in omega arith
+
+pub both-true : {a b : Bool} → a ≡ true → b ≡ true → both a b ≡ true
+both-true p q = rw (p, q)
+
+pub both-left : (a b : Bool) → both a b ≡ true → a ≡ true
+both-left true b e = refl
+both-left false b e = e
+
+pub both-right : (a b : Bool) → both a b ≡ true → b ≡ true
+both-right true b e = e
+both-right false b e = absurd (true≢false (sym e))
+
+pub both-false-left : (a b : Bool) → a ≡ false → both a b ≡ false
+both-false-left a b e = rw e
+
+pub both-false-right : (a b : Bool) → b ≡ false → both a b ≡ false
+both-false-right true b e = e
+both-false-right false b e = refl
+
+pub either-true : (a : Bool) → either a true ≡ true
+either-true true = refl
+either-true false = refl
+
+pub either-false : (a : Bool) → either a false ≡ a
+either-false true = refl
+either-false false = refl
+
+-- a test as a number
+pub one-most : (t : Bool) → choose t 1 0 ≤ 1
+one-most true = omega arith
+one-most false = omega arith
+
+-- of two numbers one is at most the other, or above it
+pub le-or-lt : (m n : ℕ) → (m ≤ n) ⊎ (n < m)
+le-or-lt m n = ⊎-elim (λ t. inl (leb-true m n t)) (λ t. inr (leb-false m n t)) (either-way (leb m n))
