@@ -4,7 +4,7 @@ use mathlib.Core.Path.{sym}
 use native.Mathlib.Omega.{arith}
 use lib.ListN.{drop}
 use borrow.Author.Needs.{needs}
-use Rattle.search.proofs.TableLaws.{refused, passed}
+use Rattle.search.proofs.KeptLaws.{refused, passed}
 use Rattle.text.proofs.FieldLaws.{begins-within}
 use Rattle.text.proofs.JudgedLaws.{line-other, line-is}
 use Rattle.text.proofs.fields.two_line.Statement.{statement}
