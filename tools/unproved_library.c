@@ -10,7 +10,7 @@ struct slice {
 
 uint32_t rattle_price(uint32_t, uint32_t, uint32_t, uint32_t, uint32_t, struct slice *);
 uint32_t rattle_search(struct slice *, struct slice *, struct slice *, struct slice *, uint32_t, struct slice *, struct slice *, struct slice *, struct slice *, struct slice *);
-uint32_t rattle_route(struct slice *, struct slice *, struct slice *, struct slice *, struct slice *, struct slice *, struct slice *, uint32_t, struct slice *, struct slice *, struct slice *);
+uint32_t rattle_route(struct slice *, struct slice *, struct slice *, struct slice *, struct slice *, struct slice *, struct slice *, uint32_t, uint32_t, uint32_t, uint32_t, uint32_t, struct slice *, struct slice *, struct slice *);
 uint32_t rattle_read(struct slice *, struct slice *, struct slice *, struct slice *, struct slice *, struct slice *, struct slice *, struct slice *, struct slice *);
 uint32_t rattle_write(struct slice *, struct slice *, struct slice *);
 
@@ -41,7 +41,7 @@ uint32_t arvumnao_search(const uint8_t *kind, size_t kind_count, const uint8_t *
 uint32_t arvumnao_route(const uint8_t *kind, size_t kind_count, const uint8_t *capacity, size_t capacity_count,
                         const uint32_t *first_edge, size_t first_edge_count, const uint16_t *edge_target, size_t edge_target_count,
                         const uint16_t *source, size_t source_count, const uint32_t *first_sink, size_t first_sink_count,
-                        const uint16_t *sink, size_t sink_count, uint32_t limit,
+                        const uint16_t *sink, size_t sink_count, uint32_t limit, uint32_t first, uint32_t up, uint32_t down, uint32_t step,
                         uint64_t *work, size_t work_count, uint32_t *log, size_t log_count, uint64_t *out, size_t out_count)
 {
     SLICE(kind);
@@ -54,7 +54,7 @@ uint32_t arvumnao_route(const uint8_t *kind, size_t kind_count, const uint8_t *c
     SLICE(work);
     SLICE(log);
     SLICE(out);
-    return rattle_route(&kind_slice, &capacity_slice, &first_edge_slice, &edge_target_slice, &source_slice, &first_sink_slice, &sink_slice, limit, &work_slice, &log_slice, &out_slice);
+    return rattle_route(&kind_slice, &capacity_slice, &first_edge_slice, &edge_target_slice, &source_slice, &first_sink_slice, &sink_slice, limit, first, up, down, step, &work_slice, &log_slice, &out_slice);
 }
 
 uint32_t arvumnao_read(const uint8_t *text, size_t text_count, uint8_t *kind, size_t kind_count, uint8_t *capacity, size_t capacity_count,

@@ -25,7 +25,7 @@ chmod +x "$scratch/tools/bin/clang"
 # a program from which every call for C is reached
 cat >"$scratch/main/main.rt" <<'MAIN'
 fn main() {
-    let mut out = [0u64; 8];
+    let mut out = [0u64; 16];
     let r = capi::arvumnao_price(0, 0, 0, 1, 1, &mut out);
 }
 MAIN

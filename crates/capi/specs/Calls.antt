@@ -10,6 +10,7 @@ use Rattle.search.specs.Block.{Block}
 use Rattle.search.specs.Turn.{Congestion}
 use Rattle.search.specs.Replies.{SearchReply, searchReply}
 use Rattle.negotiation.specs.Job.{Job}
+use Rattle.negotiation.specs.declared.Terms.{Terms}
 use Rattle.negotiation.specs.Outcome.{RouteReply, routeReply}
 use Rattle.text.specs.ReadReplies.{Tables, ReadReply, readReply}
 use Rattle.text.specs.Routes.{WriteReply, writeReply}
@@ -18,9 +19,9 @@ use Rattle.text.specs.Routes.{WriteReply, writeReply}
 abbrev pub padded : ℕ → List ℕ → List ℕ
 padded k xs = take k (xs ++ replicate k 0)
 
--- at 0 the refusal's number or 0, at 1 and 2 its further numbers or 0, from 3 on the call's own numbers, 0 up to 8; entries past 8 stay
+-- at 0 the refusal's number or 0, at 1 and 2 its further numbers or 0, from 3 on the call's own numbers, 0 up to 16; entries past 16 stay
 abbrev pub told : List ℕ → List ℕ → List ℕ → List ℕ
-told refusal numbers out = padded 3 refusal ++ (padded 5 numbers ++ drop 8 out)
+told refusal numbers out = padded 3 refusal ++ (padded 13 numbers ++ drop 16 out)
 
 -- what a call returns, with `out` afterwards
 pub record Call : Type 0 where
@@ -30,12 +31,12 @@ pub record Call : Type 0 where
 abbrev pub callOf : ℕ → List ℕ → Call
 callOf returned out = record { returned = returned; out = out }
 
--- In each of the five a call whose `out` has fewer than 8 entries does nothing and returns 0.
+-- In each of the five a call whose `out` has fewer than 16 entries does nothing and returns 0.
 
 -- price: 3 price
 unfoldable pub priceCall : ℕ → ℕ → ℕ → ℕ → ℕ → List ℕ → Call
 priceCall kind factor others capacity history out =
-    choose (ltb (length out) 8) (callOf 0 out)
+    choose (ltb (length out) 16) (callOf 0 out)
     (callOf 1 (told (p.priceReply kind factor others capacity history .refusal) (p.priceReply kind factor others capacity history .price ∷ []) out))
 
 -- search, with the work slice afterwards
@@ -48,8 +49,13 @@ searchDone call work = record { call = call; work = work }
 
 unfoldable pub searchCall : Block → Congestion → List ℕ → List ℕ → List ℕ → SearchCall
 searchCall b c marks work out =
-    choose (ltb (length out) 8) (searchDone (callOf 0 out) work)
+    choose (ltb (length out) 16) (searchDone (callOf 0 out) work)
     (searchDone (callOf 1 (told (searchReply b c marks work .refusal) [] out)) (searchReply b c marks work .work))
+
+-- the limit of iterations, and the factor in iteration 2, its growth and the history's step
+abbrev pub termsOf : ℕ → ℕ → ℕ → ℕ → ℕ → Terms
+termsOf limit first up down step =
+    record { limit = limit; tuning = record { first = first; up = up; down = down; step = step } }
 
 -- route: 3 iteration, 4 turns, 5 words
 pub record RouteCall : Type 0 where
@@ -65,9 +71,9 @@ routeTold r out = routeDone (callOf 1 (told (r .refusal) (r .iteration ∷ r .tu
 
 unfoldable pub routeCall : Job → List ℕ → List ℕ → List ℕ → RouteCall
 routeCall j work log out =
-    choose (ltb (length out) 8) (routeDone (callOf 0 out) work log) (routeTold (routeReply j work log) out)
+    choose (ltb (length out) 16) (routeDone (callOf 0 out) work log) (routeTold (routeReply j work log) out)
 
--- read: 3 nodes, 4 edges, 5 nets, 6 sinks, 7 limit
+-- read: 3 nodes, 4 edges, 5 nets, 6 sinks, 7 limit, 8 first, 9 up, 10 down, 11 step
 pub record ReadCall : Type 0 where
   pub call : Call
   pub tables : Tables
@@ -79,7 +85,7 @@ abbrev pub tablesTold : ReadReply → List ℕ → ReadCall
 tablesTold r out = readDone (callOf 1 (told (r .refusal) (r .numbers) out)) (r .tables)
 
 unfoldable pub readCall : List ℕ → Tables → List ℕ → ReadCall
-readCall text t out = choose (ltb (length out) 8) (readDone (callOf 0 out) t) (tablesTold (readReply text t) out)
+readCall text t out = choose (ltb (length out) 16) (readDone (callOf 0 out) t) (tablesTold (readReply text t) out)
 
 -- write: 3 bytes
 pub record WriteCall : Type 0 where
@@ -94,4 +100,4 @@ bufferTold r out = writeDone (callOf 1 (told (r .refusal) (r .bytes ∷ []) out)
 
 unfoldable pub writeCall : List ℕ → List ℕ → List ℕ → WriteCall
 writeCall log buffer out =
-    choose (ltb (length out) 8) (writeDone (callOf 0 out) buffer) (bufferTold (writeReply log buffer) out)
+    choose (ltb (length out) 16) (writeDone (callOf 0 out) buffer) (bufferTold (writeReply log buffer) out)

@@ -97,16 +97,16 @@ module _ (j : Job) (sound : SoundJob j) (all : (i x : ℕ) → i < nets j → ha
   unfolding allRecords
   run-turn earlier later t e =
       let few = limit-few j sound in
-      let most = made-most j (firstState j) (j .limit) in
-      turn-holds j sound all (iterationsMade j (firstState j) (j .limit)) (omega arith) earlier later t e
+      let most = made-most j (firstState j) (j .terms .limit) in
+      turn-holds j sound all (iterationsMade j (firstState j) (j .terms .limit)) (omega arith) earlier later t e
 
   run-final : endNumbers j ≡ [] → FinalTrees j (allRecords j)
   unfolding allRecords endNumbers
   run-final e =
       let few = limit-few j sound in
-      let made : ℕ = iterationsMade j (firstState j) (j .limit) in
-      let most : made ≤ j .limit = made-most j (firstState j) (j .limit) in
-      let some : 1 ≤ made = made-some j (firstState j) (j .limit) (limit-some j sound) in
+      let made : ℕ = iterationsMade j (firstState j) (j .terms .limit) in
+      let most : made ≤ j .terms .limit = made-most j (firstState j) (j .terms .limit) in
+      let some : 1 ≤ made = made-some j (firstState j) (j .terms .limit) (limit-some j sound) in
       let last : made ≡ suc (made - 1) = omega arith in
       let settled : settlesAt j (firstState j) (made - 1) ≡ true = chosen-none _ _ _ e in
       rw last (final-trees-hold j sound all (made - 1) (omega arith) settled)
@@ -122,7 +122,7 @@ module _ (j : Job) (sound : SoundJob j) (all : (i x : ℕ) → i < nets j → ha
   end-reached : (net place : ℕ) → endNumbers j ≡ 7 ∷ net ∷ place ∷ [] → ⊥
   unfolding endNumbers
   end-reached net place e =
-      let z : _≡_ {A = ℕ} 9 7 = chosen-number (settlesAt j (firstState j) (iterationsMade j (firstState j) (j .limit) - 1)) _ _ _ _ e in
+      let z : _≡_ {A = ℕ} 9 7 = chosen-number (settlesAt j (firstState j) (iterationsMade j (firstState j) (j .terms .limit) - 1)) _ _ _ _ e in
       omega arith
 
   run-demand : (work log : List ℕ) → Demand3 j (negotiated j work log)

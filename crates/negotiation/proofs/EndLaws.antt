@@ -26,12 +26,12 @@ use Rattle.negotiation.proofs.RecordLaws.{fitting-all, fitting-cut}
 
 -- ---- how many iterations
 
-module _ (j : Job) (m : ℕ) (below : m < j .limit) (unsettled : (k : ℕ) → k < m → settlesAt j (firstState j) k ≡ false) where
+module _ (j : Job) (m : ℕ) (below : m < j .terms .limit) (unsettled : (k : ℕ) → k < m → settlesAt j (firstState j) k ≡ false) where
   -- the first iteration that settles is the last
-  pub made-settled : settlesAt j (firstState j) m ≡ true → iterationsMade j (firstState j) (j .limit) ≡ m + 1
+  pub made-settled : settlesAt j (firstState j) m ≡ true → iterationsMade j (firstState j) (j .terms .limit) ≡ m + 1
   unfolding iterationsMade
   made-settled s =
-      rw (firstBelow-is (settlesAt j (firstState j)) (j .limit) m below s unsettled, lt-ltb m (j .limit) below)
+      rw (firstBelow-is (settlesAt j (firstState j)) (j .terms .limit) m below s unsettled, lt-ltb m (j .terms .limit) below)
 
   pub unsettled-more : settlesAt j (firstState j) m ≡ false → (k : ℕ) → k < m + 1 → settlesAt j (firstState j) k ≡ false
   unsettled-more s k h =
@@ -41,30 +41,30 @@ module _ (j : Job) (m : ℕ) (below : m < j .limit) (unsettled : (k : ℕ) → k
       (eq-or-lt-of-le (omega (arith, h)))
 
   -- where none settles the limit ends the run
-  pub made-limit : settlesAt j (firstState j) m ≡ false → m + 1 ≡ j .limit → iterationsMade j (firstState j) (j .limit) ≡ m + 1
+  pub made-limit : settlesAt j (firstState j) m ≡ false → m + 1 ≡ j .terms .limit → iterationsMade j (firstState j) (j .terms .limit) ≡ m + 1
   unfolding iterationsMade
   made-limit s last =
-      let none : firstBelow (settlesAt j (firstState j)) (j .limit) ≡ j .limit =
-      firstBelow-all (settlesAt j (firstState j)) (j .limit) (λ k h. unsettled-more s k (omega (arith, h))) in
-      rw (none, le-ltb (j .limit) (j .limit) (le-refl (j .limit))) (sym last)
+      let none : firstBelow (settlesAt j (firstState j)) (j .terms .limit) ≡ j .terms .limit =
+      firstBelow-all (settlesAt j (firstState j)) (j .terms .limit) (λ k h. unsettled-more s k (omega (arith, h))) in
+      rw (none, le-ltb (j .terms .limit) (j .terms .limit) (le-refl (j .terms .limit))) (sym last)
 
   -- the iteration after m that do not settle is made
-  pub made-least : suc m ≤ iterationsMade j (firstState j) (j .limit)
+  pub made-least : suc m ≤ iterationsMade j (firstState j) (j .terms .limit)
   unfolding iterationsMade
   made-least =
-      let least : m ≤ firstBelow (settlesAt j (firstState j)) (j .limit) =
+      let least : m ≤ firstBelow (settlesAt j (firstState j)) (j .terms .limit) =
       ⊎-elim
-      (λ (l : m ≤ firstBelow (settlesAt j (firstState j)) (j .limit)). l)
-      (λ (l : firstBelow (settlesAt j (firstState j)) (j .limit) < m).
+      (λ (l : m ≤ firstBelow (settlesAt j (firstState j)) (j .terms .limit)). l)
+      (λ (l : firstBelow (settlesAt j (firstState j)) (j .terms .limit) < m).
       absurd
       (true≢false
-      (sym (firstBelow-holds (settlesAt j (firstState j)) (j .limit) (omega arith))
-      ∙ unsettled (firstBelow (settlesAt j (firstState j)) (j .limit)) l)))
-      (le-or-lt m (firstBelow (settlesAt j (firstState j)) (j .limit))) in
+      (sym (firstBelow-holds (settlesAt j (firstState j)) (j .terms .limit) (omega arith))
+      ∙ unsettled (firstBelow (settlesAt j (firstState j)) (j .terms .limit)) l)))
+      (le-or-lt m (firstBelow (settlesAt j (firstState j)) (j .terms .limit))) in
       ⊎-elim
-      (λ (t : ltb (firstBelow (settlesAt j (firstState j)) (j .limit)) (j .limit) ≡ true). rw t (omega arith))
-      (λ (t : ltb (firstBelow (settlesAt j (firstState j)) (j .limit)) (j .limit) ≡ false). rw t below)
-      (either-way (ltb (firstBelow (settlesAt j (firstState j)) (j .limit)) (j .limit)))
+      (λ (t : ltb (firstBelow (settlesAt j (firstState j)) (j .terms .limit)) (j .terms .limit) ≡ true). rw t (omega arith))
+      (λ (t : ltb (firstBelow (settlesAt j (firstState j)) (j .terms .limit)) (j .terms .limit) ≡ false). rw t below)
+      (either-way (ltb (firstBelow (settlesAt j (firstState j)) (j .terms .limit)) (j .terms .limit)))
 
 -- ---- its records
 
@@ -100,14 +100,14 @@ module _ (j : Job) (s : State) where
       (eq-or-lt-of-le h)
 
 -- a record of net i has its place among all
-pub all-split : (j : Job) (m i : ℕ) → m < j .limit → ((k : ℕ) → k < m → settlesAt j (firstState j) k ≡ false) → i < nets j
+pub all-split : (j : Job) (m i : ℕ) → m < j .terms .limit → ((k : ℕ) → k < m → settlesAt j (firstState j) k ≡ false) → i < nets j
     → (made : List Record) (r : Record) (rest : List Record) → netRecords j (afterNets j (stateAfter j (firstState j) m) i .state) i ≡ made ++ (r ∷ rest)
     → (later : List Record)
     × (allRecords j ≡ ((recordsAfter j (firstState j) m ++ afterNets j (stateAfter j (firstState j) m) i .records) ++ made) ++ (r ∷ later))
 unfolding allRecords recordsAfter afterNets iterate
 all-split j m i below unsettled net made r rest is =
     let s = stateAfter j (firstState j) m in
-    let after = records-more j (firstState j) (iterationsMade j (firstState j) (j .limit)) (suc m) (made-least j m below unsettled) in
+    let after = records-more j (firstState j) (iterationsMade j (firstState j) (j .terms .limit)) (suc m) (made-least j m below unsettled) in
     let others = nets-more j s (nets j) (suc i) net in (
       rest ++ (others .0 ++ after .0),
       after .1
@@ -131,17 +131,17 @@ full-reply j work log rs r later e fits over =
 
 -- where all fit, the last iteration ends it
 pub whole-reply : (j : Job) (work log : List ℕ) (rs : List Record) → allRecords j ≡ rs → length (encode rs) ≤ length log
-    → negotiated j work log ≡ ranReply j (endNumbers j) (iterationsMade j (firstState j) (j .limit)) rs work log
+    → negotiated j work log ≡ ranReply j (endNumbers j) (iterationsMade j (firstState j) (j .terms .limit)) rs work log
 unfolding negotiated loggedRecords
 whole-reply j work log rs e fits =
     rw (e, fitting-all (length log) rs fits, le-ltb (length rs) (length rs) (le-refl (length rs)))
 
-module _ (j : Job) (m : ℕ) (made : iterationsMade j (firstState j) (j .limit) ≡ m + 1) where
+module _ (j : Job) (m : ℕ) (made : iterationsMade j (firstState j) (j .terms .limit) ≡ m + 1) where
   pub end-settled : settlesAt j (firstState j) m ≡ true → endNumbers j ≡ []
   unfolding endNumbers
   end-settled s = let e : m + 1 - 1 ≡ m = omega arith in rw (made, e, s)
 
-  pub end-limit : settlesAt j (firstState j) m ≡ false → endNumbers j ≡ 9 ∷ j .limit ∷ overCount j (iterationAfter j (firstState j) m .state .trees) ∷ []
+  pub end-limit : settlesAt j (firstState j) m ≡ false → endNumbers j ≡ 9 ∷ j .terms .limit ∷ overCount j (iterationAfter j (firstState j) m .state .trees) ∷ []
   unfolding endNumbers
   end-limit s = let e : m + 1 - 1 ≡ m = omega arith in rw (made, e, s)
 

@@ -17,13 +17,14 @@ use Rattle.price.specs.Bounds.{limitMost}
 use Rattle.price.specs.Lists.{every, neighbours, has, distinct, upTo}
 use Rattle.price.proofs.TestLaws.{either-way, both-left, both-right}
 use Rattle.price.proofs.ListLaws.{every-at, neighbours-at, length-upTo, getD-upTo}
+use Rattle.price.proofs.TuningLaws.{TuningWithin, tuning-within}
 use Rattle.search.specs.Tables.{faultyTable}
 use Rattle.search.specs.Replies.{sinksMost}
 use Rattle.search.specs.Replies as search
 use Rattle.search.proofs.BlockLaws.{sound-of, faulty-of}
 use Rattle.search.proofs.TableLaws.{sinks-all}
 use Rattle.negotiation.specs.Job.{Job, nodes, nets, source, sinksBetween, netSinks}
-use Rattle.negotiation.specs.Tables.{sourcesSound, firstSinksSound, netSound, sinksSound, limitSound, faultyNets, faultyJob, SoundJob, netsMost}
+use Rattle.negotiation.specs.Tables.{sourcesSound, firstSinksSound, netSound, sinksSound, limitSound, termsSound, faultyNets, faultyJob, SoundJob, netsMost}
 
 -- ---- the lowest faulty table
 
@@ -57,13 +58,13 @@ sound-job j e =
       sources-sound = five .0;
       firstSinks-sound = six .0;
       sinks-sound = seven .0;
-      limit-sound = chosen (limitSound (j .limit)) _ 7 (seven .1) .0;
+      terms-sound = chosen (termsSound (j .terms)) _ 7 (seven .1) .0;
     }
 
 pub faulty-none : (j : Job) → SoundJob j → faultyJob j ≡ 0
 unfolding faultyJob faultyNets
 faulty-none j s =
-    rw (faulty-of (j .block) (s .block-sound), s .sources-sound, s .firstSinks-sound, s .sinks-sound, s .limit-sound)
+    rw (faulty-of (j .block) (s .block-sound), s .sources-sound, s .firstSinks-sound, s .sinks-sound, s .terms-sound)
 
 -- ---- the rules of tables 5 to 8
 
@@ -129,12 +130,17 @@ module _ (j : Job) (s : SoundJob j) where
   pub nets-few : nets j ≤ netsMost
   nets-few = sources-few _ _ (s .sources-sound)
 
-  pub limit-some : 1 ≤ j .limit
-  limit-some = limit-least (j .limit) (s .limit-sound)
+  pub limit-some : 1 ≤ j .terms .limit
+  unfolding termsSound
+  limit-some = limit-least (j .terms .limit) (both-left _ _ (s .terms-sound))
 
-  pub limit-few : j .limit ≤ limitMost
-  unfolding limitSound
-  limit-few = leb-true _ _ (both-right (leb 1 (j .limit)) _ (s .limit-sound))
+  pub limit-few : j .terms .limit ≤ limitMost
+  unfolding termsSound limitSound
+  limit-few = leb-true _ _ (both-right (leb 1 (j .terms .limit)) _ (both-left _ _ (s .terms-sound)))
+
+  pub tuning-fits : TuningWithin (j .terms .tuning)
+  unfolding termsSound
+  tuning-fits = tuning-within _ (both-right (limitSound (j .terms .limit)) _ (s .terms-sound))
 
   pub source-node : (i : ℕ) → i < nets j → source j i < nodes j
   source-node i h = source-below _ _ (s .sources-sound) i h

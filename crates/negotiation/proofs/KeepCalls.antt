@@ -146,16 +146,16 @@ module _ (j : Job) (sound : SoundJob j) (W L : List ℕ) (enough : 8 * nodes j �
 module _ (j : Job) (sound : SoundJob j) (W L : List ℕ) (enough : 8 * nodes j ≤ length W) (m : ℕ) (t : Tariff) (history users marks work log : List ℕ) (old start : ℕ)
     (at : AtNet j W L m (nets j) t history users marks work log old start) where
   pub after-growth :
-      (overCount j (iterationAfter j (firstState j) m .state .trees) ≡ 0 → ⊥) → (t .iteration ≡ j .limit → ⊥)
-      → (t′ : Tariff) → t′ .iteration ≡ t .iteration + 1 → t′ .factor ≡ nextFactor (t .iteration) (t .factor) → t′ .turns ≡ t .turns → t′ .words ≡ t .words
+      (overCount j (iterationAfter j (firstState j) m .state .trees) ≡ 0 → ⊥) → (t .iteration ≡ j .terms .limit → ⊥)
+      → (t′ : Tariff) → t′ .iteration ≡ t .iteration + 1 → t′ .factor ≡ nextFactor (j .terms .tuning) (t .iteration) (t .factor) → t′ .turns ≡ t .turns → t′ .words ≡ t .words
       → (grown : List ℕ)
-      → grown ≡ upTo (λ (v : ℕ). nextHistory (getD (take (nodes j) history) v 0) (getD (take (nodes j) users) v 0) (getD (j .block .capacities) v 0)) (length (take (nodes j) history))
+      → grown ≡ upTo (λ (v : ℕ). nextHistory (j .terms .tuning) (getD (take (nodes j) history) v 0) (getD (take (nodes j) users) v 0) (getD (j .block .capacities) v 0)) (length (take (nodes j) history))
       → AtNet j W L (m + 1) 0 t′ (grown ++ drop (nodes j) history) users marks work log start (t′ .words)
   after-growth some go t′ a b c d grown e =
       subst (λ (k : ℕ). AtNet j W L (m + 1) 0 t′ (grown ++ drop (nodes j) history) users marks work log start k) (sym d)
       (subst (λ (l : List ℕ). AtNet j W L (m + 1) 0 t′ (l ++ drop (nodes j) history) users marks work log start (t .words))
       (sym
       (e
-      ∙ ap (upTo (λ (v : ℕ). nextHistory (getD (take (nodes j) history) v 0) (getD (take (nodes j) users) v 0) (getD (j .block .capacities) v 0)))
+      ∙ ap (upTo (λ (v : ℕ). nextHistory (j .terms .tuning) (getD (take (nodes j) history) v 0) (getD (take (nodes j) users) v 0) (getD (j .block .capacities) v 0)))
       (length-take-le (nodes j) history (at .under .history-long))))
       (keep-next j sound W L enough m t history users marks work log old start at some go t′ a b c d))

@@ -104,7 +104,7 @@ module _ (j : Job) (sound : SoundJob j) (work₀ log₀ : List ℕ) (enough : 8 
     records-here = refl
 
     -- where this iteration is the last, its end is the run's
-    module _ (made : iterationsMade j (firstState j) (j .limit) ≡ m + 1) (numbers : List ℕ) (ends : endNumbers j ≡ numbers) where
+    module _ (made : iterationsMade j (firstState j) (j .terms .limit) ≡ m + 1) (numbers : List ℕ) (ends : endNumbers j ≡ numbers) where
       last-reply : negotiated j work₀ log₀ ≡ ranReply j numbers (m + 1) (newBefore j m (nets j)) work₀ log₀
       last-reply =
           whole-reply j work₀ log₀ (newBefore j m (nets j)) (all-made j m made ∙ records-here) (at .tallied .fits) ∙ rw (ends, made)
@@ -125,32 +125,32 @@ module _ (j : Job) (sound : SoundJob j) (work₀ log₀ : List ℕ) (enough : 8 
         last-same made [] (end-settled j m made (settled none)) r a (rw is)
 
     pub keep-limit :
-        (over : ℕ) → over ≡ overCount j (iterationAfter j (firstState j) m .state .trees) → (over ≡ 0 → ⊥) → t .iteration ≡ j .limit
+        (over : ℕ) → over ≡ overCount j (iterationAfter j (firstState j) m .state .trees) → (over ≡ 0 → ⊥) → t .iteration ≡ j .terms .limit
         → (r : Routed) → r .outcome ≡ Limit over → Answers r t
         → routed r (replicate (8 * nodes j) 0 ++ drop (8 * nodes j) work) log ≡ negotiated j work₀ log₀
     keep-limit over e some last r is a =
         let open-still = unsettled (λ z. some (e ∙ z)) in
         let made = made-limit j m (at .under .below) (at .under .unsettled) open-still (sym (at .under .iteration-is) ∙ last) in
-        last-same made (9 ∷ j .limit ∷ over ∷ []) (end-limit j m made open-still ∙ rw (← e)) r a (rw (is, a .iteration-is, last))
+        last-same made (9 ∷ j .terms .limit ∷ over ∷ []) (end-limit j m made open-still ∙ rw (← e)) r a (rw (is, a .iteration-is, last))
 
     -- histories can grow
     pub keep-growable : (v : ℕ) → v < nodes j → getD (take (nodes j) history) v 0 < 2147483648
     keep-growable v h =
-        let few : j .limit ≤ limitMost = limit-few j sound in
+        let few : j .terms .limit ≤ limitMost = limit-few j sound in
         let most = state-ready j sound m 0 (omega (arith, at .under .below)) .history-most v h in
         let is : getD (take (nodes j) history) v 0 ≡ getD (stateFor j m 0 .histories) v 0 =
         getD-take (nodes j) history v 0 h ∙ at .under .history-is v h ∙ rw (nets-histories j (stateAfter j (firstState j) m) 0) in
         omega arith
 
     -- there is an iteration left
-    pub keep-below : (t .iteration ≡ j .limit → ⊥) → t .iteration < j .limit
+    pub keep-below : (t .iteration ≡ j .terms .limit → ⊥) → t .iteration < j .terms .limit
     keep-below go =
-        ⊎-elim (λ (e : t .iteration ≡ j .limit). absurd (go e)) (λ l. l)
+        ⊎-elim (λ (e : t .iteration ≡ j .terms .limit). absurd (go e)) (λ l. l)
         (eq-or-lt-of-le (omega (arith, at .under .below, at .under .iteration-is)))
 
     -- the histories that the code leaves
     abbrev grow : ℕ → ℕ
-    grow v = nextHistory (getD (take (nodes j) history) v 0) (getD (take (nodes j) users) v 0) (getD (j .block .capacities) v 0)
+    grow v = nextHistory (j .terms .tuning) (getD (take (nodes j) history) v 0) (getD (take (nodes j) users) v 0) (getD (j .block .capacities) v 0)
 
     abbrev grown : List ℕ
     grown = upTo grow (nodes j) ++ drop (nodes j) history
@@ -158,12 +158,12 @@ module _ (j : Job) (sound : SoundJob j) (work₀ log₀ : List ℕ) (enough : 8 
     -- the state's histories
     next-history :
         (v : ℕ) → v < nodes j → getD (stateAfter j (firstState j) (suc m) .histories) v 0
-        ≡ nextHistory (getD (stateAfter j (firstState j) m .histories) v 0) (usersOf j (stateFor j m (nets j) .trees) v) (getD (j .block .capacities) v 0)
+        ≡ nextHistory (j .terms .tuning) (getD (stateAfter j (firstState j) m .histories) v 0) (usersOf j (stateFor j m (nets j) .trees) v) (getD (j .block .capacities) v 0)
     unfolding stateAfter moveOn iterate
     next-history v h =
         getD-upTo
         (λ u.
-        nextHistory (getD (stateFor j m (nets j) .histories) u 0) (usersOf j (stateFor j m (nets j) .trees) u) (getD (j .block .capacities) u 0))
+        nextHistory (j .terms .tuning) (getD (stateFor j m (nets j) .histories) u 0) (usersOf j (stateFor j m (nets j) .trees) u) (getD (j .block .capacities) u 0))
         (nodes j) v 0 h
         ∙ rw (nets-histories j (stateAfter j (firstState j) m) (nets j))
 
@@ -179,7 +179,7 @@ module _ (j : Job) (sound : SoundJob j) (work₀ log₀ : List ℕ) (enough : 8 
         )
         (sym (next-history v h))
 
-    next-factor : stateAfter j (firstState j) (suc m) .factor ≡ nextFactor (m + 1) (stateAfter j (firstState j) m .factor)
+    next-factor : stateAfter j (firstState j) (suc m) .factor ≡ nextFactor (j .terms .tuning) (m + 1) (stateAfter j (firstState j) m .factor)
     unfolding stateAfter moveOn iterate
     next-factor =
         rw (
@@ -189,8 +189,8 @@ module _ (j : Job) (sound : SoundJob j) (work₀ log₀ : List ℕ) (enough : 8 
         )
 
     next-under :
-        settlesAt j (firstState j) m ≡ false → t .iteration < j .limit
-        → (t′ : Tariff) → t′ .iteration ≡ t .iteration + 1 → t′ .factor ≡ nextFactor (t .iteration) (t .factor) → Under j (suc m) t′ grown
+        settlesAt j (firstState j) m ≡ false → t .iteration < j .terms .limit
+        → (t′ : Tariff) → t′ .iteration ≡ t .iteration + 1 → t′ .factor ≡ nextFactor (j .terms .tuning) (t .iteration) (t .factor) → Under j (suc m) t′ grown
     next-under open-still l t′ a b =
         let n = at .under .iteration-is in
         let long = length-append (upTo grow (nodes j)) (drop (nodes j) history) in
@@ -243,10 +243,10 @@ module _ (j : Job) (sound : SoundJob j) (work₀ log₀ : List ℕ) (enough : 8 
 
     -- else histories and factor move on
     pub keep-next :
-        (overCount j (iterationAfter j (firstState j) m .state .trees) ≡ 0 → ⊥) → (t .iteration ≡ j .limit → ⊥)
-        → (t′ : Tariff) → t′ .iteration ≡ t .iteration + 1 → t′ .factor ≡ nextFactor (t .iteration) (t .factor) → t′ .turns ≡ t .turns → t′ .words ≡ t .words
+        (overCount j (iterationAfter j (firstState j) m .state .trees) ≡ 0 → ⊥) → (t .iteration ≡ j .terms .limit → ⊥)
+        → (t′ : Tariff) → t′ .iteration ≡ t .iteration + 1 → t′ .factor ≡ nextFactor (j .terms .tuning) (t .iteration) (t .factor) → t′ .turns ≡ t .turns → t′ .words ≡ t .words
         → AtNet j work₀ log₀ (m + 1) 0 t′
-        (upTo (λ (v : ℕ). nextHistory (getD (take (nodes j) history) v 0) (getD (take (nodes j) users) v 0) (getD (j .block .capacities) v 0)) (nodes j) ++ drop (nodes j) history)
+        (upTo (λ (v : ℕ). nextHistory (j .terms .tuning) (getD (take (nodes j) history) v 0) (getD (take (nodes j) users) v 0) (getD (j .block .capacities) v 0)) (nodes j) ++ drop (nodes j) history)
         users marks work log start (t .words)
     keep-next some go t′ a b c d =
         rw (add-one m) (next-net t′ c d (next-under (unsettled some) (keep-below go) t′ a b))

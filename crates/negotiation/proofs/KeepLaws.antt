@@ -34,7 +34,7 @@ pub record Tallied (rs : List Record) (log₀ : List ℕ) (t : Tariff) (log : Li
 
 -- what no loop changes but for the iteration: m iterations are made, none settled, and the tariff and the histories are the state's
 pub record Under (j : Job) (m : ℕ) (t : Tariff) (history : List ℕ) : Type 0 where
-  pub below : m < j .limit
+  pub below : m < j .terms .limit
   pub unsettled : (k : ℕ) → k < m → settlesAt j (firstState j) k ≡ false
   pub iteration-is : t .iteration ≡ m + 1
   pub factor-is : t .factor ≡ stateAfter j (firstState j) m .factor

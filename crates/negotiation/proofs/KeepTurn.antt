@@ -44,8 +44,8 @@ module _ (j : Job) (sound : SoundJob j) (work₀ log₀ : List ℕ) (enough : 8 
   module _ (m i : ℕ) (t : Tariff) (history : List ℕ) (under : Under j m t history) where
     ready-state : StateReady j (stateFor j m i)
     ready-state =
-        let few : j .limit ≤ limitMost = limit-few j sound in
-        let below : m < j .limit = under .below in
+        let few : j .terms .limit ≤ limitMost = limit-few j sound in
+        let below : m < j .terms .limit = under .below in
         state-ready j sound m i (omega arith)
 
     factor-same : t .factor ≡ stateFor j m i .factor

@@ -12,7 +12,7 @@ use Rattle.price.specs.Test.{choose}
 use Rattle.price.proofs.TestLaws.{either-way}
 use Rattle.search.specs.Replies.{workNeeded, cleared}
 use Rattle.negotiation.specs.Job.{Job, nodes, nets, netSinks}
-use Rattle.negotiation.specs.Tables.{limitSound, faultyNets, faultyJob}
+use Rattle.negotiation.specs.Tables.{limitSound, termsSound, faultyNets, faultyJob}
 use Rattle.negotiation.specs.Records.{Record, encode, fitting}
 use Rattle.negotiation.specs.Machine.{othersOf, marksOf, congestionFor, firstState, recordsAfter}
 use Rattle.negotiation.specs.Outcome.{RouteReply, hasPath, unreachableNet, unreachablePlace, iterationsMade, allRecords, endNumbers, refusedReply, negotiated, routeReply}
@@ -77,7 +77,7 @@ reply-tested j work log = refl
 -- of the tests only that of table 8 reads the limit
 tested-alike : (j : Job) (low high : ℕ) → limitSound low ≡ true → limitSound high ≡ true → (work log : List ℕ) (run : RouteReply)
     → tested (withLimit j high) work log run ≡ tested (withLimit j low) work log run
-unfolding faultyJob faultyNets unreachableNet unreachablePlace hasPath congestionFor othersOf firstState marksOf netSinks
+unfolding faultyJob faultyNets termsSound unreachableNet unreachablePlace hasPath congestionFor othersOf firstState marksOf netSinks
 tested-alike j low high l h work log run = rw (l, h)
 
 -- ---- a longer log

@@ -33,7 +33,7 @@ use Rattle.negotiation.specs.Records.{Record, pathNodes}
 use Rattle.negotiation.specs.Machine.{State, treeAt, othersOf, usersOf, marksOf, congestionFor, netRecords, treeFrom, afterNets, iterate, moveOn, firstState, stateAfter}
 use Rattle.negotiation.specs.Outcome.{hasPath}
 use Rattle.negotiation.proofs.StateLaws.{nets-factor, nets-histories}
-use Rattle.negotiation.proofs.JobLaws.{nets-few, source-node, sinks-order, sinks-end, sink-node, source-no-sink}
+use Rattle.negotiation.proofs.JobLaws.{nets-few, source-node, sinks-order, sinks-end, sink-node, source-no-sink, tuning-fits}
 use Rattle.negotiation.proofs.RecordLaws.{pathNodes-append}
 use Rattle.negotiation.proofs.MemberLaws.{no-entry, has-append-split, none-has, lacks-left, lacks-right, distinct-append, missing-most}
 use Rattle.negotiation.proofs.TreeLaws.{TreeNodes, mark-is, TreeTurn, Turns, none, stop, more, turns-are, turns-join, turns-source, only-entry}
@@ -61,14 +61,14 @@ grown-after j s m i g =
       factor-most = rw (nets-factor j s i) (g .factor-most);
     }
 
-grown-first : (j : Job) → Grown j (firstState j) 0
+grown-first : (j : Job) → SoundJob j → Grown j (firstState j) 0
 unfolding firstState
-grown-first j =
+grown-first j sound =
     record {
       long = length-replicate (nodes j) 1;
       least = λ v h. le-of-eq (sym (getD-replicate (nodes j) v 1 0 h));
       most = λ v h. le-of-eq (getD-replicate (nodes j) v 1 0 h);
-      factor-most = next-factor-most 0 0;
+      factor-most = next-factor-most _ (tuning-fits j sound .few-first) 0 0;
     }
 
 -- a node has at most as many users as there are nets
@@ -79,26 +79,26 @@ users-few j sound trees v =
 
 -- what histories move on to
 abbrev movedHistory : Job → State → ℕ → ℕ
-movedHistory j s v = nextHistory (getD (s .histories) v 0) (usersOf j (s .trees) v) (getD (j .block .capacities) v 0)
+movedHistory j s v = nextHistory (j .terms .tuning) (getD (s .histories) v 0) (usersOf j (s .trees) v) (getD (j .block .capacities) v 0)
 
 grown-on : (j : Job) → SoundJob j → (s : State) (m : ℕ) → Grown j s m → Grown j (moveOn j s) (suc m)
 unfolding moveOn
 grown-on j sound s m g =
     record {
       long = length-upTo (movedHistory j s) (nodes j);
-      least = λ v h. rw (getD-upTo (movedHistory j s) (nodes j) v 0 h) (price.history-least _ _ _ (g .least v h));
+      least = λ v h. rw (getD-upTo (movedHistory j s) (nodes j) v 0 h) (price.history-least _ _ _ _ (g .least v h));
       most =
           λ v h.
           rw (getD-upTo (movedHistory j s) (nodes j) v 0 h)
           (let most : movedHistory j s v ≤ 1 + (m + 1) * historyGain =
-          history-grows m _ _ _ (g .most v h) (users-few j sound (s .trees) v) (capacity-least (nodes j) (j .block .capacities) (sound .block-sound .capacities-sound) v h) in
+          history-grows _ m _ _ _ (tuning-fits j sound .few-step) (g .most v h) (users-few j sound (s .trees) v) (capacity-least (nodes j) (j .block .capacities) (sound .block-sound .capacities-sound) v h) in
           omega arith);
-      factor-most = next-factor-most _ _;
+      factor-most = next-factor-most _ (tuning-fits j sound .few-first) _ _;
     }
 
 grown : (j : Job) → SoundJob j → (m : ℕ) → Grown j (stateAfter j (firstState j) m) m
 unfolding stateAfter iterate
-grown j sound zero = grown-first j
+grown j sound zero = grown-first j sound
 grown j sound (suc m) =
     grown-on j sound _ m (grown-after j (stateAfter j (firstState j) m) m (nets j) (grown j sound m))
 

@@ -17,6 +17,7 @@ use borrow.Author.Count.{below-none, below-more}
 use borrow.Author.Tests.{le-leb, lt-leb, lt-ltb, le-ltb, eq-eqb, ne-eqb}
 use Rattle.price.specs.Test.{choose, both}
 use Rattle.price.specs.Bounds.{nodesMost, limitMost}
+use Rattle.price.specs.Tuning.{tuningSound}
 use Rattle.price.specs.Lists.{every, neighbours, upTo}
 use Rattle.price.proofs.TestLaws.{le-or-lt, both-true, both-false-right}
 use Rattle.price.proofs.ListLaws.{every-all, every-none, neighbours-all, neighbours-none, length-upTo, getD-upTo, part-slice}
@@ -30,7 +31,8 @@ use Rattle.search.specs.declared.PathAnswer.{PathAnswer}
 use Rattle.search.proofs.BlockLaws.{sound-of, kinds-some, kinds-few}
 use Rattle.search.proofs.NumberLaws.{refusal-table, refusal-work}
 use Rattle.negotiation.specs.Job.{Job, nodes, sinksBetween}
-use Rattle.negotiation.specs.Tables.{netsMost, sourcesSound, firstSinksSound, netSound, sinksSound, limitSound, faultyNets, faultyJob}
+use Rattle.negotiation.specs.Tables.{netsMost, sourcesSound, firstSinksSound, netSound, sinksSound, limitSound, termsSound, faultyNets, faultyJob}
+use Rattle.negotiation.specs.declared.Terms.{Terms}
 use Rattle.negotiation.proofs.SinkMarkLaws.{Unmarked, unmarked-new}
 
 -- ---- table 5
@@ -131,40 +133,50 @@ passing-more i p here none long =
 
 -- ---- the lowest faulty table
 
-module _ (n : ℕ) (ss fs ts : List ℕ) (limit : ℕ) where
-  pub faulty-5 : sourcesSound n ss ≡ false → faultyNets n ss fs ts limit ≡ 5
+-- table 8
+module _ (t : Terms) where
+  pub terms-low : t .limit < 1 → termsSound t ≡ false
+  unfolding termsSound limitSound
+  terms-low h = rw (lt-leb 1 (t .limit) h)
+
+  pub terms-high : 1 ≤ t .limit → limitMost < t .limit → termsSound t ≡ false
+  unfolding termsSound limitSound
+  terms-high some h = rw (le-leb 1 (t .limit) some, lt-leb (t .limit) limitMost h)
+
+  pub terms-tuning : 1 ≤ t .limit → t .limit ≤ limitMost → termsSound t ≡ tuningSound (t .tuning)
+  unfolding termsSound limitSound
+  terms-tuning some few = rw (le-leb 1 (t .limit) some, le-leb (t .limit) limitMost few)
+
+module _ (n : ℕ) (ss fs ts : List ℕ) (terms : Terms) where
+  pub faulty-5 : sourcesSound n ss ≡ false → faultyNets n ss fs ts terms ≡ 5
   unfolding faultyNets
   faulty-5 p = rw p
 
   module _ (p : sourcesSound n ss ≡ true) where
-    pub faulty-6 : firstSinksSound (length ss) (length ts) fs ≡ false → faultyNets n ss fs ts limit ≡ 6
+    pub faulty-6 : firstSinksSound (length ss) (length ts) fs ≡ false → faultyNets n ss fs ts terms ≡ 6
     unfolding faultyNets
     faulty-6 q = rw (p, q)
 
     module _ (q : firstSinksSound (length ss) (length ts) fs ≡ true) where
-      pub faulty-7 : sinksSound n ss fs ts ≡ false → faultyNets n ss fs ts limit ≡ 7
+      pub faulty-7 : sinksSound n ss fs ts ≡ false → faultyNets n ss fs ts terms ≡ 7
       unfolding faultyNets
       faulty-7 r = rw (p, q, r)
 
       module _ (r : sinksSound n ss fs ts ≡ true) where
-        pub faulty-low : limit < 1 → faultyNets n ss fs ts limit ≡ 8
-        unfolding faultyNets limitSound
-        faulty-low h = rw (p, q, r, lt-leb 1 limit h)
+        pub faulty-8 : termsSound terms ≡ false → faultyNets n ss fs ts terms ≡ 8
+        unfolding faultyNets
+        faulty-8 e = rw (p, q, r, e)
 
-        pub faulty-high : 1 ≤ limit → limitMost < limit → faultyNets n ss fs ts limit ≡ 8
-        unfolding faultyNets limitSound
-        faulty-high some h = rw (p, q, r, le-leb 1 limit some, lt-leb limit limitMost h)
-
-        pub faulty-no-net : 1 ≤ limit → limit ≤ limitMost → faultyNets n ss fs ts limit ≡ 0
-        unfolding faultyNets limitSound
-        faulty-no-net some few = rw (p, q, r, le-leb 1 limit some, le-leb limit limitMost few)
+        pub faulty-no-net : termsSound terms ≡ true → faultyNets n ss fs ts terms ≡ 0
+        unfolding faultyNets
+        faulty-no-net e = rw (p, q, r, e)
 
 module _ {table : ℕ} (j : Job) (e : table ≡ faultyTable (j .block)) where
   pub faulty-by-block : 1 ≤ table → faultyJob j ≡ table
   unfolding faultyJob
   faulty-by-block h = rw (← e, le-leb 1 table h)
 
-  pub faulty-by-nets : table < 1 → faultyJob j ≡ faultyNets (nodes j) (j .sources) (j .firstSinks) (j .sinks) (j .limit)
+  pub faulty-by-nets : table < 1 → faultyJob j ≡ faultyNets (nodes j) (j .sources) (j .firstSinks) (j .sinks) (j .terms)
   unfolding faultyJob
   faulty-by-nets h = rw (← e, lt-leb 1 table h)
 

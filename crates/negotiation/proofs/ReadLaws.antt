@@ -38,12 +38,12 @@ abbrev done : Job → ℕ → List Record
 done j m = recordsAfter j (firstState j) m
 
 -- a history moves on with the users after the iteration
-start-history : (j : Job) (m v : ℕ) → v < nodes j → getD (start j (suc m) .histories) v 0 ≡ nextHistory (getD (start j m .histories) v 0) (usersOf j (start j (suc m) .trees) v) (getD (j .block .capacities) v 0)
+start-history : (j : Job) (m v : ℕ) → v < nodes j → getD (start j (suc m) .histories) v 0 ≡ nextHistory (j .terms .tuning) (getD (start j m .histories) v 0) (usersOf j (start j (suc m) .trees) v) (getD (j .block .capacities) v 0)
 unfolding stateAfter moveOn iterate
 start-history j m v h =
     getD-upTo
     (λ u.
-    nextHistory (getD (afterNets j (start j m) (nets j) .state .histories) u 0) (usersOf j (afterNets j (start j m) (nets j) .state .trees) u)
+    nextHistory (j .terms .tuning) (getD (afterNets j (start j m) (nets j) .state .histories) u 0) (usersOf j (afterNets j (start j m) (nets j) .state .trees) u)
     (getD (j .block .capacities) u 0))
     (nodes j) v 0 h
     ∙ rw (nets-histories j (start j m) (nets j))

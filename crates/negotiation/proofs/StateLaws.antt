@@ -39,7 +39,7 @@ module _ (j : Job) where
   state-iteration (suc m) =
       rw (nets-iteration j (stateAfter j (firstState j) m) (nets j), state-iteration m) (omega arith)
 
-  pub state-factor : (m : ℕ) → stateAfter j (firstState j) m .factor ≡ factorAt (m + 1)
+  pub state-factor : (m : ℕ) → stateAfter j (firstState j) m .factor ≡ factorAt (j .terms .tuning) (m + 1)
   unfolding stateAfter firstState moveOn iterate factorAt
   state-factor zero = refl
   state-factor (suc m) =
@@ -50,7 +50,7 @@ module _ (j : Job) where
         state-iteration m,
         state-factor m,
       )
-      (sym (factor-steps (m + 1)) ∙ ap factorAt two)
+      (sym (factor-steps (j .terms .tuning) (m + 1)) ∙ ap (factorAt (j .terms .tuning)) two)
 
 -- ---- trees
 

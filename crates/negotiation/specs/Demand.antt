@@ -55,12 +55,12 @@ usersRead j rs v = countBelow (λ k. has v (treeRead k rs)) (nets j)
 unfoldable pub historyRead : Job → List Record → ℕ → ℕ → ℕ
 historyRead j rs zero v = 1
 historyRead j rs (suc m) v =
-    nextHistory (historyRead j rs m v) (usersRead j (upToIteration (suc m) rs) v) (getD (j .block .capacities) v 0)
+    nextHistory (j .terms .tuning) (historyRead j rs m v) (usersRead j (upToIteration (suc m) rs) v) (getD (j .block .capacities) v 0)
 
 -- the price of a node for net i in iteration t, "t gives the factor"
 unfoldable pub priceRead : Job → ℕ → ℕ → List Record → ℕ → ℕ
 priceRead j i t earlier v =
-    priceOf (getD (j .block .kinds) v 0) (factorAt t) (othersRead j i earlier v) (getD (j .block .capacities) v 0)
+    priceOf (getD (j .block .kinds) v 0) (factorAt (j .terms .tuning) t) (othersRead j i earlier v) (getD (j .block .capacities) v 0)
     (historyRead j earlier (t - 1) v)
 
 -- ---- the demand

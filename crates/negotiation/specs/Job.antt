@@ -1,11 +1,13 @@
--- Document 01, "Tables and bounds": a job is the block with its nets and the limit of iterations. Nets are numbered from 0.
+-- Document 01, "Tables and bounds": a job is the block with its nets and its terms. Nets are numbered from 0.
 -- Assumes nothing.
 use mathlib.Core.List.{List}
 use Prim.Native.Nat.{ℕ, _+_}
 use lib.ListN.{length, getD}
 use lib.Seq.{slice}
+use Rattle.price.specs.Tuning.{plain}
 use Rattle.search.specs.Block.{Block}
 use Rattle.search.specs.Block as b
+use Rattle.negotiation.specs.declared.Terms.{Terms}
 
 pub record Job : Type 0 where
   -- tables 1 to 4
@@ -16,8 +18,8 @@ pub record Job : Type 0 where
   pub firstSinks : List ℕ
   -- 7. sink node
   pub sinks : List ℕ
-  -- "The limit of iterations is 1 to 100. It counts as table 8."
-  pub limit : ℕ
+  -- the limit of iterations, which "counts as table 8", and the tuning of request 2.1
+  pub terms : Terms
 
 abbrev pub nodes : Job → ℕ
 nodes j = b.nodes (j .block)
@@ -37,13 +39,17 @@ sinksBetween firstSinks sinks i = slice (getD firstSinks i 0) (getD firstSinks (
 unfoldable pub netSinks : Job → ℕ → List ℕ
 netSinks j i = sinksBetween (j .firstSinks) (j .sinks) i
 
--- the job of seven tables and the limit
-abbrev pub jobOf : List ℕ → List ℕ → List ℕ → List ℕ → List ℕ → List ℕ → List ℕ → ℕ → Job
-jobOf kinds capacities firstEdges edgeTargets sources firstSinks sinks limit =
+-- the terms of a job that asks for no tuning
+abbrev pub plainTerms : ℕ → Terms
+plainTerms limit = record { limit = limit; tuning = plain }
+
+-- the job of seven tables and the terms
+abbrev pub jobOf : List ℕ → List ℕ → List ℕ → List ℕ → List ℕ → List ℕ → List ℕ → Terms → Job
+jobOf kinds capacities firstEdges edgeTargets sources firstSinks sinks terms =
     record {
       block = b.blockOf kinds capacities firstEdges edgeTargets;
       sources = sources;
       firstSinks = firstSinks;
       sinks = sinks;
-      limit = limit;
+      terms = terms;
     }

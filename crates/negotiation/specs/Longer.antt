@@ -11,7 +11,7 @@ use Rattle.negotiation.specs.Outcome.{RouteReply, allRecords, routeReply
 -- "one job under two allowed limits": the job under another limit
 abbrev pub withLimit : Job → ℕ → Job
 withLimit j limit =
-    record { block = j .block; sources = j .sources; firstSinks = j .firstSinks; sinks = j .sinks; limit = limit }
+    record { block = j .block; sources = j .sources; firstSinks = j .firstSinks; sinks = j .sinks; terms = record { limit = limit; tuning = j .terms .tuning } }
 
 -- the log that a call made: the words used
 abbrev pub wordsUsed : RouteReply → List ℕ

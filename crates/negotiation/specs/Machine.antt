@@ -102,15 +102,15 @@ unfoldable pub moveOn : Job → State → State
 moveOn j s =
     record {
       iteration = s .iteration + 1;
-      factor = nextFactor (s .iteration) (s .factor);
-      histories = upTo (λ v. nextHistory (getD (s .histories) v 0) (usersOf j (s .trees) v) (getD (j .block .capacities) v 0)) (nodes j);
+      factor = nextFactor (j .terms .tuning) (s .iteration) (s .factor);
+      histories = upTo (λ v. nextHistory (j .terms .tuning) (getD (s .histories) v 0) (usersOf j (s .trees) v) (getD (j .block .capacities) v 0)) (nodes j);
       trees = s .trees;
     }
 
 -- iteration 1: factor 0, "History is 1 at first", trees "empty at first"
 unfoldable pub firstState : Job → State
 firstState j =
-    record { iteration = 1; factor = nextFactor 0 0; histories = replicate (nodes j) 1; trees = replicate (nets j) [] }
+    record { iteration = 1; factor = nextFactor (j .terms .tuning) 0 0; histories = replicate (nodes j) 1; trees = replicate (nets j) [] }
 
 -- the state at the start of an iteration, after so many whole ones from a state
 unfoldable pub stateAfter : Job → State → ℕ → State

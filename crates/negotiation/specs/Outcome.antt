@@ -38,7 +38,7 @@ iterationsMade j s most =
 
 -- all turns of the run, in a log of any length
 unfoldable pub allRecords : Job → List Record
-allRecords j = recordsAfter j (firstState j) (iterationsMade j (firstState j) (j .limit))
+allRecords j = recordsAfter j (firstState j) (iterationsMade j (firstState j) (j .terms .limit))
 
 -- the turns that are logged in so many words
 unfoldable pub loggedRecords : Job → ℕ → List Record
@@ -106,10 +106,10 @@ ranReply j numbers iteration rs work log =
 -- the run's end where every record fits: "nothing over capacity, accepted; else limit reached, refusal 9"
 unfoldable pub endNumbers : Job → List ℕ
 endNumbers j =
-    choose (settlesAt j (firstState j) (iterationsMade j (firstState j) (j .limit) - 1))
+    choose (settlesAt j (firstState j) (iterationsMade j (firstState j) (j .terms .limit) - 1))
     []
-    (9 ∷ j .limit
-    ∷ overCount j (iterationAfter j (firstState j) (iterationsMade j (firstState j) (j .limit) - 1) .state .trees)
+    (9 ∷ j .terms .limit
+    ∷ overCount j (iterationAfter j (firstState j) (iterationsMade j (firstState j) (j .terms .limit) - 1) .state .trees)
     ∷ [])
 
 -- the reply of the negotiation itself
@@ -117,7 +117,7 @@ unfoldable pub negotiated : Job → List ℕ → List ℕ → RouteReply
 negotiated j work log =
     choose (ltb (length (loggedRecords j (length log))) (length (allRecords j)))
     (ranReply j (8 ∷ cutIteration j (length log) ∷ length (loggedRecords j (length log)) ∷ []) (cutIteration j (length log)) (loggedRecords j (length log)) work log)
-    (ranReply j (endNumbers j) (iterationsMade j (firstState j) (j .limit)) (allRecords j) work log)
+    (ranReply j (endNumbers j) (iterationsMade j (firstState j) (j .terms .limit)) (allRecords j) work log)
 
 -- "The router tests 5, 6, 7, then 8 and 9 as they arise"
 unfoldable pub routeReply : Job → List ℕ → List ℕ → RouteReply

@@ -5,7 +5,7 @@ use Prim.Native.Nat.{ℕ}
 use lib.ListN.{take, replicate}
 use Rattle.price.specs.Samples.{Sample}
 use Rattle.search.specs.Block.{blockOf}
-use Rattle.negotiation.specs.Job.{Job}
+use Rattle.negotiation.specs.Job.{Job, plainTerms}
 use Rattle.negotiation.specs.Outcome.{RouteReply, routeReply}
 
 -- job B, under a limit
@@ -20,7 +20,7 @@ jobB limit =
       sources = 0 ∷ 1 ∷ [];
       firstSinks = 0 ∷ 1 ∷ 2 ∷ [];
       sinks = 4 ∷ 5 ∷ [];
-      limit = limit;
+      terms = plainTerms limit;
     }
 
 -- job C: one net from 0, edges 0-1, 1-2, 1-3, sinks listed 3, 2
@@ -31,7 +31,7 @@ jobC =
       sources = 0 ∷ [];
       firstSinks = 0 ∷ 2 ∷ [];
       sinks = 3 ∷ 2 ∷ [];
-      limit = 1;
+      terms = plainTerms 1;
     }
 
 -- job C without 1-3
@@ -42,7 +42,7 @@ jobCut =
       sources = 0 ∷ [];
       firstSinks = 0 ∷ 2 ∷ [];
       sinks = 3 ∷ 2 ∷ [];
-      limit = 1;
+      terms = plainTerms 1;
     }
 
 -- edges 0-1, 0-2, 1-3, 2-3, source 0, sink 3
@@ -53,7 +53,7 @@ jobDiamond =
       sources = 0 ∷ [];
       firstSinks = 0 ∷ 1 ∷ [];
       sinks = 3 ∷ [];
-      limit = 1;
+      terms = plainTerms 1;
     }
 
 -- what a call with enough work memory and so long a log answers and logs: the refusal's numbers; iteration, turns, words used; the words used

@@ -19,6 +19,7 @@ use Rattle.negotiation.specs.Job.{Job, nets, jobOf}
 use Rattle.negotiation.specs.Tables.{SoundJob}
 use Rattle.negotiation.specs.Outcome.{unreachableNet, unreachablePlace}
 use Rattle.negotiation.specs.TariffSteps.{loggedTariff}
+use Rattle.negotiation.specs.declared.Terms.{Terms}
 use Rattle.negotiation.specs.declared.tariff.Tariff.{Tariff}
 use Rattle.negotiation.specs.declared.turns.TurnMade.{TurnMade}
 use Rattle.negotiation.specs.declared.turns.TurnMade.the-variants.{Nothing, Full, Logged}
@@ -99,18 +100,18 @@ abbrev pub reachNumbers : Reach → List ℕ
 reachNumbers All = []
 reachNumbers (Missing net place) = net ∷ place ∷ []
 
--- a capacity table and a limit with which these tables are a sound job
+-- a capacity table and terms with which these tables are a sound job
 pub record SoundWith (kinds firstEdges edgeTargets sources firstSinks sinks : List ℕ) : Type 0 where
   pub capacities : List ℕ
-  pub limit : ℕ
-  pub sound : SoundJob (jobOf kinds capacities firstEdges edgeTargets sources firstSinks sinks limit)
+  pub terms : Terms
+  pub sound : SoundJob (jobOf kinds capacities firstEdges edgeTargets sources firstSinks sinks terms)
 
--- the test answers for every capacity table and limit with which these tables are a sound job: whether a path is there depends on neither
+-- the test answers for every capacity table and terms with which these tables are a sound job: whether a path is there depends on neither
 abbrev pub FirstMissing : (kinds firstEdges edgeTargets sources firstSinks sinks : List ℕ) → Reach → Type 0
 FirstMissing kinds firstEdges edgeTargets sources firstSinks sinks found =
-    (capacities : List ℕ) (limit : ℕ)
-    → SoundJob (jobOf kinds capacities firstEdges edgeTargets sources firstSinks sinks limit)
-    → reachNumbers found ≡ missing (jobOf kinds capacities firstEdges edgeTargets sources firstSinks sinks limit)
+    (capacities : List ℕ) (terms : Terms)
+    → SoundJob (jobOf kinds capacities firstEdges edgeTargets sources firstSinks sinks terms)
+    → reachNumbers found ≡ missing (jobOf kinds capacities firstEdges edgeTargets sources firstSinks sinks terms)
 
 -- ---- a net's old and new tree
 

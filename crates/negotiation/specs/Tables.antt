@@ -9,9 +9,11 @@ use lib.ListN.{length, getD}
 use Rattle.price.specs.Test.{choose, both}
 use Rattle.price.specs.Bounds.{limitMost}
 use Rattle.price.specs.Lists.{every, neighbours, has, distinct, upTo}
+use Rattle.price.specs.Tuning.{tuningSound}
 use Rattle.search.specs.Tables.{faultyTable, Sound}
 use Rattle.search.specs.Replies.{sinksMost}
 use Rattle.negotiation.specs.Job.{Job, nodes, nets, sinksBetween}
+use Rattle.negotiation.specs.declared.Terms.{Terms}
 
 -- "1 to 512 nets"
 abbrev pub netsMost : ℕ
@@ -41,19 +43,23 @@ sinksSound n sources firstSinks sinks =
 unfoldable pub limitSound : ℕ → Bool
 limitSound limit = both (leb 1 limit) (leb limit limitMost)
 
+-- table 8: the limit, and by request 2.1 the tuning: "Bad values fall .. under 5 with table 8 in a direct call"
+unfoldable pub termsSound : Terms → Bool
+termsSound t = both (limitSound (t .limit)) (tuningSound (t .tuning))
+
 -- the lowest of tables 5 to 8 that breaks its rule, 0 where none does
-unfoldable pub faultyNets : ℕ → List ℕ → List ℕ → List ℕ → ℕ → ℕ
-faultyNets n sources firstSinks sinks limit =
+unfoldable pub faultyNets : ℕ → List ℕ → List ℕ → List ℕ → Terms → ℕ
+faultyNets n sources firstSinks sinks terms =
     choose (sourcesSound n sources)
     (choose (firstSinksSound (length sources) (length sinks) firstSinks)
-    (choose (sinksSound n sources firstSinks sinks) (choose (limitSound limit) 0 8) 7)
+    (choose (sinksSound n sources firstSinks sinks) (choose (termsSound terms) 0 8) 7)
     6)
     5
 
 -- "lowest table that breaks its rule", 0 where none does
 unfoldable pub faultyJob : Job → ℕ
 faultyJob j =
-    choose (leb 1 (faultyTable (j .block))) (faultyTable (j .block)) (faultyNets (nodes j) (j .sources) (j .firstSinks) (j .sinks) (j .limit))
+    choose (leb 1 (faultyTable (j .block))) (faultyTable (j .block)) (faultyNets (nodes j) (j .sources) (j .firstSinks) (j .sinks) (j .terms))
 
 -- "Tables are sound when each numbered one has its length and keeps its rule."
 pub record SoundJob (j : Job) : Type 0 where
@@ -61,4 +67,4 @@ pub record SoundJob (j : Job) : Type 0 where
   pub sources-sound : sourcesSound (nodes j) (j .sources) ≡ true
   pub firstSinks-sound : firstSinksSound (nets j) (length (j .sinks)) (j .firstSinks) ≡ true
   pub sinks-sound : sinksSound (nodes j) (j .sources) (j .firstSinks) (j .sinks) ≡ true
-  pub limit-sound : limitSound (j .limit) ≡ true
+  pub terms-sound : termsSound (j .terms) ≡ true

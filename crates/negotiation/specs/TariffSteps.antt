@@ -2,6 +2,7 @@
 -- Assumes nothing.
 use Prim.Native.Nat.{ℕ, _+_}
 use Rattle.price.specs.Prices.{nextFactor}
+use Rattle.price.specs.declared.Tuning.{Tuning}
 use Rattle.negotiation.specs.declared.tariff.Tariff.{Tariff}
 
 -- after a turn of so many words is logged
@@ -10,9 +11,9 @@ loggedTariff t count =
     record { iteration = t .iteration; factor = t .factor; turns = t .turns + 1; words = t .words + count }
 
 -- at an iteration's end, "factor move on"
-abbrev pub endedTariff : Tariff → Tariff
-endedTariff t =
-    record { iteration = t .iteration; factor = nextFactor (t .iteration) (t .factor); turns = t .turns; words = t .words }
+abbrev pub endedTariff : Tuning → Tariff → Tariff
+endedTariff g t =
+    record { iteration = t .iteration; factor = nextFactor g (t .iteration) (t .factor); turns = t .turns; words = t .words }
 
 -- at the next iteration's start
 abbrev pub startedTariff : Tariff → Tariff

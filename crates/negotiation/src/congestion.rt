@@ -3,8 +3,10 @@ ghost use mathlib.Core.Path.{_≡_};
 ghost use Prim.Native.Nat.{ℕ, _≤_, _<_, _^_};
 ghost use lib.Dec.{ltb};
 ghost use lib.ListN.{length, getD};
+ghost use Rattle.price.specs.Bounds.{stepMost};
 ghost use Rattle.price.specs.Lists.{upTo, countBelow};
 ghost use Rattle.price.specs.Prices.{nextHistory};
+use price::Tuning;
 
 // How many nodes have more users than their capacity.
 pub fn over_count(capacity: &[u8], users: &[u16]) -> u32
@@ -23,14 +25,14 @@ pub fn over_count(capacity: &[u8], users: &[u16]) -> u32
 }
 
 // Every node's historical congestion after the iteration.
-pub fn grow_histories(capacity: &[u8], users: &[u16], history: &mut [u32])
+pub fn grow_histories(g: Tuning, capacity: &[u8], users: &[u16], history: &mut [u32])
     requires { ⌜ (length (now capacity) ≡ length (now users)) × (length (now capacity) ≡ length (now history)) ⌝ }
-    requires { ⌜ ((v : ℕ) → v < length (now history) → getD (now history) v 0 < 2 ^ 31) ⌝ }
-    ensures { λ _. ⌜ now (history .exit) ≡ upTo (λ (v : ℕ). nextHistory (getD (now (history .entry)) v 0) (getD (now (users .entry)) v 0) (getD (now (capacity .entry)) v 0)) (length (now (history .entry))) ⌝ }
+    requires { ⌜ ((v : ℕ) → v < length (now history) → getD (now history) v 0 < 2 ^ 31) × (g .step ≤ stepMost) ⌝ }
+    ensures { λ _. ⌜ now (history .exit) ≡ upTo (λ (v : ℕ). nextHistory g (getD (now (history .entry)) v 0) (getD (now (users .entry)) v 0) (getD (now (capacity .entry)) v 0)) (length (now (history .entry))) ⌝ }
 {
     let mut v = 0;
     while v < history.len() {
-        history[v] = price::next_history(history[v], users[v] as u32, capacity[v] as u32) as u32;
+        history[v] = price::next_history(g, history[v], users[v] as u32, capacity[v] as u32) as u32;
         v += 1;
     }
 }

@@ -8,6 +8,12 @@ ghost use Rattle.negotiation.specs.Tables.{SoundJob};
 ghost use Rattle.negotiation.specs.Outcome.{refusedAnswer, routed, routeReply};
 ghost use Rattle.negotiation.specs.Demand.{Demand3};
 
+// What a job asks beside its seven tables: the limit of iterations and the tuning of the tariff. A refusal counts it as table 8.
+pub struct Terms {
+    pub limit: u32,
+    pub tuning: Tuning,
+}
+
 // How a run ends.
 pub enum Outcome {
     // Nothing is over capacity.
@@ -41,6 +47,7 @@ mod tariff;
 mod trees;
 mod turns;
 
+use price::Tuning;
 use reach::Reach;
 
 // The answer of a call that is refused before any turn.
@@ -64,12 +71,12 @@ pub fn route(
     source: &[u16],
     first_sink: &[u32],
     sink: &[u16],
-    limit: u32,
+    terms: Terms,
     work: &mut [u64],
     log: &mut [u32],
 ) -> Routed
-    ensures answers { λ r. ⌜ routed r (now (work .exit)) (now (log .exit)) ≡ routeReply (jobOf (now (kind .entry)) (now (capacity .entry)) (now («first_edge» .entry)) (now («edge_target» .entry)) (now (source .entry)) (now («first_sink» .entry)) (now (sink .entry)) limit) (now (work .entry)) (now (log .entry)) ⌝ }
-    ensures demand { λ r. ⌜ (SoundJob (jobOf (now (kind .entry)) (now (capacity .entry)) (now («first_edge» .entry)) (now («edge_target» .entry)) (now (source .entry)) (now («first_sink» .entry)) (now (sink .entry)) limit) → workNeeded (length (now (kind .entry))) ≤ length (now (work .entry)) → Demand3 (jobOf (now (kind .entry)) (now (capacity .entry)) (now («first_edge» .entry)) (now («edge_target» .entry)) (now (source .entry)) (now («first_sink» .entry)) (now (sink .entry)) limit) (routed r (now (work .exit)) (now (log .exit)))) ⌝ }
+    ensures answers { λ r. ⌜ routed r (now (work .exit)) (now (log .exit)) ≡ routeReply (jobOf (now (kind .entry)) (now (capacity .entry)) (now («first_edge» .entry)) (now («edge_target» .entry)) (now (source .entry)) (now («first_sink» .entry)) (now (sink .entry)) terms) (now (work .entry)) (now (log .entry)) ⌝ }
+    ensures demand { λ r. ⌜ (SoundJob (jobOf (now (kind .entry)) (now (capacity .entry)) (now («first_edge» .entry)) (now («edge_target» .entry)) (now (source .entry)) (now («first_sink» .entry)) (now (sink .entry)) terms) → workNeeded (length (now (kind .entry))) ≤ length (now (work .entry)) → Demand3 (jobOf (now (kind .entry)) (now (capacity .entry)) (now («first_edge» .entry)) (now («edge_target» .entry)) (now (source .entry)) (now («first_sink» .entry)) (now (sink .entry)) terms) (routed r (now (work .exit)) (now (log .exit)))) ⌝ }
 {
     let table = tables::faulty_job(
         kind,
@@ -79,7 +86,7 @@ pub fn route(
         source,
         first_sink,
         sink,
-        limit,
+        terms,
     );
     if 1 <= table {
         return refused(Outcome::BadTable(table));
@@ -112,7 +119,7 @@ pub fn route(
             source,
             first_sink,
             sink,
-            limit,
+            terms,
             work,
             log,
         ),

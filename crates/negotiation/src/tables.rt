@@ -9,7 +9,8 @@ ghost use Rattle.search.specs.Block.{blockOf};
 ghost use Rattle.search.specs.Tables.{faultyTable};
 ghost use Rattle.negotiation.specs.Job.{jobOf};
 ghost use Rattle.negotiation.specs.Steps.{AllBelow, Stored, sinksFree};
-ghost use Rattle.negotiation.specs.Tables.{sourcesSound, firstSinksSound, netSound, sinksSound, faultyNets, faultyJob};
+ghost use Rattle.negotiation.specs.Tables.{sourcesSound, firstSinksSound, netSound, sinksSound, termsSound, faultyNets, faultyJob};
+use crate::Terms;
 use search::PathAnswer;
 
 fn sources_sound(n: usize, source: &[u16]) -> bool
@@ -134,10 +135,23 @@ fn sinks_sound(n: usize, source: &[u16], first_sink: &[u32], sink: &[u16]) -> bo
     true
 }
 
+// Table 8: the limit and the tuning.
+fn terms_sound(terms: Terms) -> bool
+    ensures { λ r. ⌜ r ≡ termsSound terms ⌝ }
+{
+    if terms.limit < 1 {
+        return false;
+    }
+    if 100 < terms.limit {
+        return false;
+    }
+    price::tuning_sound(terms.tuning)
+}
+
 // The lowest of tables 5 to 8 that breaks its rule, 0 where none does.
-fn faulty_nets(n: usize, source: &[u16], first_sink: &[u32], sink: &[u16], limit: u32) -> u32
+fn faulty_nets(n: usize, source: &[u16], first_sink: &[u32], sink: &[u16], terms: Terms) -> u32
     requires { ⌜ n ≤ 4096 ⌝ }
-    ensures { λ r. ⌜ r ≡ faultyNets n (now (source .entry)) (now («first_sink» .entry)) (now (sink .entry)) limit ⌝ }
+    ensures { λ r. ⌜ r ≡ faultyNets n (now (source .entry)) (now («first_sink» .entry)) (now (sink .entry)) terms ⌝ }
 {
     if !sources_sound(n, source) {
         return 5;
@@ -148,10 +162,7 @@ fn faulty_nets(n: usize, source: &[u16], first_sink: &[u32], sink: &[u16], limit
     if !sinks_sound(n, source, first_sink, sink) {
         return 7;
     }
-    if limit < 1 {
-        return 8;
-    }
-    if 100 < limit {
+    if !terms_sound(terms) {
         return 8;
     }
     0
@@ -199,13 +210,13 @@ pub fn faulty_job(
     source: &[u16],
     first_sink: &[u32],
     sink: &[u16],
-    limit: u32,
+    terms: Terms,
 ) -> u32
-    ensures { λ r. ⌜ r ≡ faultyJob (jobOf (now (kind .entry)) (now (capacity .entry)) (now («first_edge» .entry)) (now («edge_target» .entry)) (now (source .entry)) (now («first_sink» .entry)) (now (sink .entry)) limit) ⌝ }
+    ensures { λ r. ⌜ r ≡ faultyJob (jobOf (now (kind .entry)) (now (capacity .entry)) (now («first_edge» .entry)) (now («edge_target» .entry)) (now (source .entry)) (now («first_sink» .entry)) (now (sink .entry)) terms) ⌝ }
 {
     let table = faulty_block(kind, capacity, first_edge, edge_target);
     if 1 <= table {
         return table;
     }
-    faulty_nets(kind.len(), source, first_sink, sink, limit)
+    faulty_nets(kind.len(), source, first_sink, sink, terms)
 }

@@ -2,6 +2,7 @@
 ghost use mathlib.Core.Path.{_≡_};
 ghost use Prim.Native.Nat.{_+_, _<_, _^_};
 ghost use Rattle.negotiation.specs.TariffSteps.{loggedTariff, endedTariff, startedTariff};
+use price::Tuning;
 
 // What 01 calls the tariff: iteration, factor, turns made and words written.
 pub struct Tariff {
@@ -21,10 +22,10 @@ fn log_turn(t: &mut Tariff, count: usize)
 }
 
 // The iteration is over: the present congestion factor moves on.
-fn end_iteration(t: &mut Tariff)
-    ensures { λ _. ⌜ now (t .exit) ≡ endedTariff (now (t .entry)) ⌝ }
+fn end_iteration(t: &mut Tariff, g: Tuning)
+    ensures { λ _. ⌜ now (t .exit) ≡ endedTariff g (now (t .entry)) ⌝ }
 {
-    t.factor = price::next_factor(t.iteration, t.factor);
+    t.factor = price::next_factor(g, t.iteration, t.factor);
 }
 
 // The next iteration starts.
@@ -46,11 +47,11 @@ pub fn turn_logged(t: Tariff, count: usize) -> Tariff
 }
 
 // The tariff after the iteration's end.
-pub fn iteration_ended(t: Tariff) -> Tariff
-    ensures { λ r. ⌜ r ≡ endedTariff t ⌝ }
+pub fn iteration_ended(t: Tariff, g: Tuning) -> Tariff
+    ensures { λ r. ⌜ r ≡ endedTariff g t ⌝ }
 {
     let mut next = t;
-    end_iteration(&mut next);
+    end_iteration(&mut next, g);
     next
 }
 

@@ -14,11 +14,13 @@ ghost use Rattle.negotiation.specs.Records.{decode, pathNodes};
 ghost use Rattle.negotiation.specs.Steps.{SameFrom, leading, oldTree, oldNext, RipReady, RippedUp, CountReady, Counted, TurnDone, CanTurn};
 use crate::Outcome;
 use crate::Routed;
+use crate::Terms;
 use crate::congestion;
 use crate::records;
 use crate::tariff;
 use crate::tariff::Tariff;
 use crate::trees;
+use price::Tuning;
 use search::PathAnswer;
 
 // What an attempt at a turn does.
@@ -32,11 +34,11 @@ pub enum TurnMade {
 }
 
 // The tariff at the next iteration's start.
-fn next_iteration(t: Tariff) -> Tariff
+fn next_iteration(t: Tariff, g: Tuning) -> Tariff
     requires { ⌜ t .iteration < 100 ⌝ }
-    ensures { λ r. ⌜ (r .iteration ≡ t .iteration + 1) × (r .factor ≡ nextFactor (t .iteration) (t .factor)) × (r .turns ≡ t .turns) × (r .words ≡ t .words) ⌝ }
+    ensures { λ r. ⌜ (r .iteration ≡ t .iteration + 1) × (r .factor ≡ nextFactor g (t .iteration) (t .factor)) × (r .turns ≡ t .turns) × (r .words ≡ t .words) ⌝ }
 {
-    tariff::iteration_started(tariff::iteration_ended(t))
+    tariff::iteration_started(tariff::iteration_ended(t, g))
 }
 
 // The answer at the end of a run.
@@ -170,13 +172,13 @@ pub fn negotiate(
     source: &[u16],
     first_sink: &[u32],
     sink: &[u16],
-    limit: u32,
+    terms: Terms,
     work: &mut [u64],
     log: &mut [u32],
 ) -> Routed
-    requires { ⌜ SoundJob (jobOf (now kind) (now capacity) (now «first_edge») (now «edge_target») (now source) (now «first_sink») (now sink) limit) ⌝ }
+    requires { ⌜ SoundJob (jobOf (now kind) (now capacity) (now «first_edge») (now «edge_target») (now source) (now «first_sink») (now sink) terms) ⌝ }
     requires { ⌜ 8 * length (now kind) ≤ length (now work) ⌝ }
-    ensures { λ r. ⌜ routed r (now (work .exit)) (now (log .exit)) ≡ negotiated (jobOf (now (kind .entry)) (now (capacity .entry)) (now («first_edge» .entry)) (now («edge_target» .entry)) (now (source .entry)) (now («first_sink» .entry)) (now (sink .entry)) limit) (now (work .entry)) (now (log .entry)) ⌝ }
+    ensures { λ r. ⌜ routed r (now (work .exit)) (now (log .exit)) ≡ negotiated (jobOf (now (kind .entry)) (now (capacity .entry)) (now («first_edge» .entry)) (now («edge_target» .entry)) (now (source .entry)) (now («first_sink» .entry)) (now (sink .entry)) terms) (now (work .entry)) (now (log .entry)) ⌝ }
 {
     let n = kind.len();
     let mut history = [1u32; 4096];
@@ -244,12 +246,12 @@ pub fn negotiate(
             clear(work, 8 * n);
             return answer(Outcome::Accepted, tariff);
         }
-        if tariff.iteration == limit {
+        if tariff.iteration == terms.limit {
             clear(work, 8 * n);
             return answer(Outcome::Limit(over), tariff);
         }
-        congestion::grow_histories(capacity, &users[..n], &mut history[..n]);
-        tariff = next_iteration(tariff);
+        congestion::grow_histories(terms.tuning, capacity, &users[..n], &mut history[..n]);
+        tariff = next_iteration(tariff, terms.tuning);
         old = start;
     }
     clear(work, 8 * n);

@@ -1,8 +1,10 @@
 // Job B of document 01: accepted in iteration 2, over the limit 1, and in logs of each length around its records.
 use crate::line;
+use crate::terms::plain;
+use negotiation::Terms;
 
-// Job B with this limit, work slice and log.
-pub fn job_b(name: &[u8], limit: u32, work: &mut [u64], log: &mut [u32]) {
+// Job B with these terms, this work slice and this log.
+pub fn job_b(name: &[u8], terms: Terms, work: &mut [u64], log: &mut [u32]) {
     line(
         name,
         &[0, 0, 4, 5, 1, 1],
@@ -12,7 +14,7 @@ pub fn job_b(name: &[u8], limit: u32, work: &mut [u64], log: &mut [u32]) {
         &[0, 1],
         &[0, 1, 2],
         &[4, 5],
-        limit,
+        terms,
         work,
         log,
     );
@@ -20,12 +22,12 @@ pub fn job_b(name: &[u8], limit: u32, work: &mut [u64], log: &mut [u32]) {
 
 // Limit 2, two work entries more than needed, and this log.
 fn logged(name: &[u8], log: &mut [u32]) {
-    job_b(name, 2, &mut [7; 50], log);
+    job_b(name, plain(2), &mut [7; 50], log);
 }
 
 pub fn all() {
     logged(b"b", &mut [7; 40]);
-    job_b(b"b_limit_1", 1, &mut [7; 50], &mut [7; 40]);
+    job_b(b"b_limit_1", plain(1), &mut [7; 50], &mut [7; 40]);
     logged(b"b_35_words", &mut [7; 35]);
     logged(b"b_36_words", &mut [7; 36]);
     logged(b"b_no_log", &mut []);

@@ -5,6 +5,10 @@ mod nets;
 mod refusals;
 mod samples;
 mod show;
+mod terms;
+mod tuned;
+
+use negotiation::Terms;
 
 // Routes the job and prints its line.
 fn line(
@@ -16,7 +20,7 @@ fn line(
     source: &[u16],
     first_sink: &[u32],
     sink: &[u16],
-    limit: u32,
+    terms: Terms,
     work: &mut [u64],
     log: &mut [u32],
 ) {
@@ -28,7 +32,7 @@ fn line(
         source,
         first_sink,
         sink,
-        limit,
+        terms,
         work,
         log,
     );
@@ -41,4 +45,5 @@ fn main() {
     samples::all();
     nets::all();
     refusals::all();
+    tuned::all();
 }

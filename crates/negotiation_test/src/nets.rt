@@ -1,5 +1,6 @@
 // Jobs with a source shared by two nets, a net of many sinks, and a wire that has room for two of three nets.
 use crate::line;
+use crate::terms::plain;
 
 // Two nets from node 0, of this capacity, over a wire each.
 fn shared_source(name: &[u8], capacity: u8) {
@@ -12,7 +13,7 @@ fn shared_source(name: &[u8], capacity: u8) {
         &[0, 0],
         &[0, 1, 2],
         &[3, 4],
-        3,
+        plain(3),
         &mut [7; 41],
         &mut [7; 60],
     );
@@ -29,7 +30,7 @@ fn star() {
         &[0],
         &[0, 6],
         &[7, 2, 6, 3, 5, 4],
-        5,
+        plain(5),
         &mut [7; 65],
         &mut [7; 60],
     );
@@ -46,7 +47,7 @@ fn crowd() {
         &[0, 1, 2],
         &[0, 1, 2, 3],
         &[5, 6, 7],
-        20,
+        plain(20),
         &mut [7; 66],
         &mut [7; 160],
     );

@@ -1,6 +1,7 @@
 // Job B of document 01 with a work slice that is too short, and with each table broken.
 use crate::job_b::job_b;
 use crate::line;
+use crate::terms::plain;
 
 // Job B's nets on these nodes and edges.
 fn graph(name: &[u8], kind: &[u8], capacity: &[u8], first_edge: &[u32], edge_target: &[u16]) {
@@ -13,7 +14,7 @@ fn graph(name: &[u8], kind: &[u8], capacity: &[u8], first_edge: &[u32], edge_tar
         &[0, 1],
         &[0, 1, 2],
         &[4, 5],
-        2,
+        plain(2),
         &mut [7; 50],
         &mut [7; 20],
     );
@@ -43,14 +44,14 @@ fn nets(name: &[u8], source: &[u16], first_sink: &[u32], sink: [u16; 2]) {
         source,
         first_sink,
         &sink,
-        2,
+        plain(2),
         &mut [7; 50],
         &mut [7; 20],
     );
 }
 
 fn short_work() {
-    job_b(b"short_work", 2, &mut [7; 47], &mut [7; 40]);
+    job_b(b"short_work", plain(2), &mut [7; 47], &mut [7; 40]);
 }
 
 fn tables_1_and_2() {
@@ -80,8 +81,8 @@ fn tables_5_to_7() {
 
 // Limits out of range, which are named as table 8.
 fn limits() {
-    job_b(b"table_8_zero", 0, &mut [7; 50], &mut [7; 20]);
-    job_b(b"table_8_101", 101, &mut [7; 50], &mut [7; 20]);
+    job_b(b"table_8_zero", plain(0), &mut [7; 50], &mut [7; 20]);
+    job_b(b"table_8_101", plain(101), &mut [7; 50], &mut [7; 20]);
 }
 
 // Two broken tables, of which the first is named, and a short work slice, which comes after them.
@@ -95,7 +96,7 @@ fn tables_2_and_7() {
         &[0, 1],
         &[0, 1, 2],
         &[4, 1],
-        2,
+        plain(2),
         &mut [7; 3],
         &mut [7; 20],
     );

@@ -1,5 +1,6 @@
 // The other samples of document 01 on four nodes with one net: job C, job C with an edge cut, and the diamond.
 use crate::line;
+use crate::terms::plain;
 
 fn job_c() {
     line(
@@ -11,7 +12,7 @@ fn job_c() {
         &[0],
         &[0, 2],
         &[3, 2],
-        1,
+        plain(1),
         &mut [7; 33],
         &mut [7; 20],
     );
@@ -28,7 +29,7 @@ fn cut_job_c() {
         &[0],
         &[0, 2],
         &[3, 2],
-        1,
+        plain(1),
         &mut [7; 33],
         &mut [7; 20],
     );
@@ -45,7 +46,7 @@ fn diamond() {
         &[0],
         &[0, 1],
         &[3],
-        1,
+        plain(1),
         &mut [7; 32],
         &mut [7; 12],
     );

@@ -1,4 +1,5 @@
 pub mod PriceLaws
+pub mod TuningLaws
 pub mod ReplyLaws
 pub mod SamplesHold
 pub mod TestLaws

@@ -1,19 +1,20 @@
 -- Laws of prices, factors and histories over the bounds of row 13. The crates above cite these and not the definitions' text.
 --     price-pos, price-most     a price is above 0 and at most `priceMost`
---     path-most                 so many prices as a path has nodes add up to less than 2 ^ 61
+--     path-most                 so many prices as a path has nodes add up to less than 2 ^ 62
 --     factor-steps, factor-most the factor of the next iteration is the stepped one, and at most `factorMost`
 --     history-reach             what history can reach before iteration t
 -- Assumes nothing.
-use mathlib.Core.Path.{_≡_, refl}
+use mathlib.Core.Path.{_≡_, refl, _∙_}
 use mathlib.Core.Logic.{_⊎_, ⊎-elim, inl, inr}
 use Prim.Native.Nat.{ℕ, zero, suc, _+_, _-_, _*_, _/_, _^_, _≤_, _<_, min}
-use native.Mathlib.Nat.{mul-le-mul, mul-pos, min-le-right}
+use native.Mathlib.Nat.{mul-le-mul, mul-pos, min-le-right, div-zero}
 use native.Mathlib.Numerals.{add-one}
 use native.Mathlib.Omega.{arith}
 use borrow.Author.Tests.{lt-ltb, le-ltb, eq-eqb, ne-eqb}
-use Rattle.price.specs.Bounds.{kindMost, factorMost, othersMost, nodesMost, limitMost, historyGain, historyMost, baseMost, priceMost}
+use Rattle.price.specs.Bounds.{kindMost, factorMost, othersMost, nodesMost, limitMost, firstMost, stepMost, historyGain, historyMost, baseMost, priceMost}
 use Rattle.price.specs.Prices.{baseCost, overuse, priceOf, nextFactor, factorAt, nextHistory}
 use Rattle.price.specs.Replies.{InBounds}
+use Rattle.price.specs.declared.Tuning.{Tuning}
 
 -- the base cost, case by case
 
@@ -72,51 +73,74 @@ pub price-pos : (k f o c h : ℕ) → 1 ≤ h → 0 < priceOf k f o c h
 unfolding priceOf
 price-pos k f o c h l = mul-pos (mul-pos l (base-pos k)) (omega arith)
 
--- "The largest is below 2^61."
-pub path-most : (n : ℕ) → n ≤ nodesMost → n * priceMost < 2 ^ 61
+-- "A path's cost is then below 2^62."
+pub path-most : (n : ℕ) → n ≤ nodesMost → n * priceMost < 2 ^ 62
 path-most n h = omega arith
 
 -- the factor
 
-pub factor-steps : (t : ℕ) → factorAt (t + 1) ≡ nextFactor t (factorAt t)
-unfolding factorAt
-factor-steps t = rw add-one
+module _ (g : Tuning) where
+  pub factor-steps : (t : ℕ) → factorAt g (t + 1) ≡ nextFactor g t (factorAt g t)
+  unfolding factorAt
+  factor-steps t = rw add-one
 
-pub next-factor-first : (t f : ℕ) → t ≡ 0 → nextFactor t f ≡ 0
-unfolding nextFactor
-next-factor-first t f e = rw e
+  pub next-factor-first : (t f : ℕ) → t ≡ 0 → nextFactor g t f ≡ 0
+  unfolding nextFactor
+  next-factor-first t f e = rw e
 
-pub next-factor-second : (t f : ℕ) → t ≡ 1 → nextFactor t f ≡ 50
-unfolding nextFactor
-next-factor-second t f e = rw e
+  pub next-factor-second : (t f : ℕ) → t ≡ 1 → nextFactor g t f ≡ g .first
+  unfolding nextFactor
+  next-factor-second t f e = rw e
 
-pub next-factor-later : (t f : ℕ) → (t ≡ 0 → ⊥) → (t ≡ 1 → ⊥) → nextFactor t f ≡ min (3 * f / 2) factorMost
-unfolding nextFactor
-next-factor-later zero f h₀ h₁ = absurd (h₀ refl)
-next-factor-later (suc zero) f h₀ h₁ = absurd (h₁ refl)
-next-factor-later (suc (suc t)) f h₀ h₁ = refl
+  pub next-factor-later : (t f : ℕ) → (t ≡ 0 → ⊥) → (t ≡ 1 → ⊥) → nextFactor g t f ≡ min (f * g .up / g .down) factorMost
+  unfolding nextFactor
+  next-factor-later zero f h₀ h₁ = absurd (h₀ refl)
+  next-factor-later (suc zero) f h₀ h₁ = absurd (h₁ refl)
+  next-factor-later (suc (suc t)) f h₀ h₁ = refl
 
-pub next-factor-most : (t f : ℕ) → nextFactor t f ≤ factorMost
-unfolding nextFactor
-next-factor-most zero f = omega arith
-next-factor-most (suc zero) f = omega arith
-next-factor-most (suc (suc t)) f = min-le-right (3 * f / 2) factorMost
+  -- the library's division by 0 gives 0
+  pub next-factor-none : (t f : ℕ) → (t ≡ 0 → ⊥) → (t ≡ 1 → ⊥) → g .down ≡ 0 → nextFactor g t f ≡ 0
+  next-factor-none t f h₀ h₁ e = next-factor-later t f h₀ h₁ ∙ rw (e, div-zero (f * g .up))
 
-pub factor-most : (t : ℕ) → factorAt t ≤ factorMost
-unfolding factorAt
-factor-most zero = omega arith
-factor-most (suc t) = next-factor-most t (factorAt t)
+  module _ (few : g .first ≤ firstMost) where
+    pub next-factor-most : (t f : ℕ) → nextFactor g t f ≤ factorMost
+    unfolding nextFactor
+    next-factor-most zero f = omega arith
+    next-factor-most (suc zero) f = omega arith
+    next-factor-most (suc (suc t)) f = min-le-right (f * g .up / g .down) factorMost
+
+    pub factor-most : (t : ℕ) → factorAt g t ≤ factorMost
+    unfolding factorAt
+    factor-most zero = omega arith
+    factor-most (suc t) = next-factor-most t (factorAt g t)
+
+-- a product of two numbers of 32 bits fits 64, a third one added
+pub words-fit : (c a b : ℕ) → c < 2 ^ 32 → a < 2 ^ 32 → b < 2 ^ 32 → c + a * b < 2 ^ 64
+words-fit c a b hc ha hb =
+    let few : a ≤ 2 ^ 32 - 1 = omega arith in
+    let more : b ≤ 2 ^ 32 - 1 = omega arith in
+    omega (arith, mul-le-mul few more)
 
 -- the history: before iteration t + 1, t iterations have added at most `historyGain` each
 
-pub history-least : (h u c : ℕ) → 1 ≤ h → 1 ≤ nextHistory h u c
+pub history-least : (g : Tuning) (h u c : ℕ) → 1 ≤ h → 1 ≤ nextHistory g h u c
 unfolding nextHistory
-history-least h u c l = omega arith
+history-least g h u c l = omega arith
 
-pub history-grows : (t h u c : ℕ) → h ≤ 1 + t * historyGain → u ≤ othersMost + 1 → 1 ≤ c → nextHistory h u c ≤ 1 + (t + 1) * historyGain
+-- without overuse it stays
+pub history-stays : (g : Tuning) (h u c : ℕ) → u ≤ c → nextHistory g h u c ≡ h
 unfolding nextHistory
-history-grows t h u c hh hu hc = omega arith
+history-stays g h u c l =
+    let none : u - c ≡ 0 = omega arith in
+    rw none (omega arith)
 
--- "1 + 99 × 511 = 50,590": no iteration but the last of 100 adds to the history that prices a turn
+pub history-grows : (g : Tuning) (t h u c : ℕ) → g .step ≤ stepMost → h ≤ 1 + t * historyGain → u ≤ othersMost + 1 → 1 ≤ c → nextHistory g h u c ≤ 1 + (t + 1) * historyGain
+unfolding nextHistory
+history-grows g t h u c hs hh hu hc =
+    let over : u - c ≤ othersMost = omega arith in
+    let gain : g .step * (u - c) ≤ stepMost * othersMost = mul-le-mul hs over in
+    omega arith
+
+-- "history up to 101,179" is 1 + 99 × 1,022: no iteration but the last of 100 adds to the history that prices a turn
 pub history-reach : (t h : ℕ) → h ≤ 1 + t * historyGain → t < limitMost → h ≤ historyMost
 history-reach t h hh ht = omega arith

@@ -1,4 +1,4 @@
--- The bounds of document 01 that prices rest on ("Tables and bounds", "Prices", row 13 of "Numbers for a stopped call").
+-- The bounds of document 01 that prices rest on ("Tables and bounds", "Prices", row 13 of "Numbers for a stopped call"), with those of request 2.1.
 -- Assumes nothing.
 use Prim.Native.Nat.{ℕ, _+_, _*_}
 
@@ -26,13 +26,28 @@ nodesMost = 4096
 abbrev pub limitMost : ℕ
 limitMost = 100
 
--- the most that history grows by after one iteration: 512 users of a node of capacity 1
-abbrev pub historyGain : ℕ
-historyGain = 511
+-- request 2.1: "factor in iteration 2, 0 to 1,000"
+abbrev pub firstMost : ℕ
+firstMost = 1000
 
--- "history (1 to 50,590)": what 99 iterations can add to 1
+-- "growth up/down with down 1 to 4 and up from down to 8"
+abbrev pub downMost : ℕ
+downMost = 4
+
+abbrev pub upMost : ℕ
+upMost = 8
+
+-- "history step 1 or 2"
+abbrev pub stepMost : ℕ
+stepMost = 2
+
+-- the most that history grows by after one iteration: 512 users of a node of capacity 1, by a step of 2
+abbrev pub historyGain : ℕ
+historyGain = 1022
+
+-- "13 allows history up to 101,179": what 99 iterations can add to 1
 abbrev pub historyMost : ℕ
-historyMost = 50590
+historyMost = 101179
 
 -- the largest base cost, of the longest wire
 abbrev pub baseMost : ℕ

@@ -1,9 +1,10 @@
--- Document 01, "Prices", in its order.
+-- Document 01, "Prices", in its order, with the tuning of request 2.1.
 -- Assumes nothing.
 use Prim.Native.Nat.{ℕ, zero, suc, _+_, _-_, _*_, _/_, min}
 use lib.Dec.{ltb, eqb}
 use Rattle.price.specs.Test.{choose}
 use Rattle.price.specs.Bounds.{factorMost}
+use Rattle.price.specs.declared.Tuning.{Tuning}
 
 -- "0 source, 1 sink and 2 output pin cost 20; 3 input pin costs 19; 4 to 15 are wires of length 1 to 12 and cost 20 times the length"
 unfoldable pub baseCost : ℕ → ℕ
@@ -17,18 +18,18 @@ overuse others capacity = others + 1 - capacity
 unfoldable pub priceOf : ℕ → ℕ → ℕ → ℕ → ℕ → ℕ
 priceOf kind factor others capacity history = history * baseCost kind * (100 + factor * overuse others capacity)
 
--- "0 in iteration 1, 50 in iteration 2, then 3 times the last, halved and rounded down, at most 65,535":
+-- "0 in iteration 1", the first factor in iteration 2, and "Each next factor is factor × up, divided by down and rounded down, at most 65,535":
 -- the factor of the iteration after this one
-unfoldable pub nextFactor : ℕ → ℕ → ℕ
-nextFactor zero factor = 0
-nextFactor (suc zero) factor = 50
-nextFactor (suc (suc t)) factor = min (3 * factor / 2) factorMost
+unfoldable pub nextFactor : Tuning → ℕ → ℕ → ℕ
+nextFactor g zero factor = 0
+nextFactor g (suc zero) factor = g .first
+nextFactor g (suc (suc t)) factor = min (factor * g .up / g .down) factorMost
 
 -- the factor of an iteration, counted from 1
-unfoldable pub factorAt : ℕ → ℕ
-factorAt zero = 0
-factorAt (suc t) = nextFactor t (factorAt t)
+unfoldable pub factorAt : Tuning → ℕ → ℕ
+factorAt g zero = 0
+factorAt g (suc t) = nextFactor g t (factorAt g t)
 
--- "After an iteration it grows by max(0, users − capacity)."
-unfoldable pub nextHistory : ℕ → ℕ → ℕ → ℕ
-nextHistory history users capacity = history + (users - capacity)
+-- "History grows by step × overuse": by max(0, users − capacity) after an iteration, times the step
+unfoldable pub nextHistory : Tuning → ℕ → ℕ → ℕ → ℕ
+nextHistory g history users capacity = history + g .step * (users - capacity)

@@ -5,6 +5,7 @@ use mathlib.Core.List.{List, [], _∷_}
 use mathlib.Core.Path.{_≡_}
 use Prim.Native.Nat.{ℕ}
 use Rattle.price.specs.Prices.{factorAt, baseCost, priceOf}
+use Rattle.price.specs.Tuning.{plain}
 
 -- what 01 states, and what the definitions give
 pub record Sample : Type 0 where
@@ -25,7 +26,7 @@ unfolding wire
 samples =
     record {
       stated = 112 ∷ 48997 ∷ 65535 ∷ 65535 ∷ [];
-      defined = factorAt 4 ∷ factorAt 19 ∷ factorAt 20 ∷ factorAt 21 ∷ [];
+      defined = factorAt plain 4 ∷ factorAt plain 19 ∷ factorAt plain 20 ∷ factorAt plain 21 ∷ [];
     }
     ∷ record {
       stated = 20 ∷ 2000 ∷ 3000 ∷ [];

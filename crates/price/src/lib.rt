@@ -5,11 +5,57 @@ ghost use Prim.Native.Nat.{_≤_};
 ghost use Rattle.price.specs.Bounds.{kindMost, factorMost, othersMost, capacityMost, historyMost};
 ghost use Rattle.price.specs.Prices.{baseCost, priceOf, nextFactor, nextHistory};
 ghost use Rattle.price.specs.Replies.{InBounds, toldOf, priceReply};
+ghost use Rattle.price.specs.Tuning.{plain, tuningSound};
 
 // What a call of the price answers: the price, or refusal 13 with the place from 0 of the first number beyond its bounds.
 pub enum PriceAnswer {
     Price(u64),
     Refused(u32),
+}
+
+// How the tariff is tuned: the factor in iteration 2, then factor × up / down, and by how much history grows for each net too many.
+pub struct Tuning {
+    pub first: u32,
+    pub up: u32,
+    pub down: u32,
+    pub step: u32,
+}
+
+// The tuning of a job that asks for none.
+pub fn plain_tuning() -> Tuning
+    ensures { λ r. ⌜ r ≡ plain ⌝ }
+{
+    Tuning {
+        first: 50,
+        up: 3,
+        down: 2,
+        step: 1,
+    }
+}
+
+// Each number of a tuning keeps its bounds.
+pub fn tuning_sound(g: Tuning) -> bool
+    ensures { λ r. ⌜ r ≡ tuningSound g ⌝ }
+{
+    if 1000 < g.first {
+        return false;
+    }
+    if g.down < 1 {
+        return false;
+    }
+    if 4 < g.down {
+        return false;
+    }
+    if g.up < g.down {
+        return false;
+    }
+    if 8 < g.up {
+        return false;
+    }
+    if g.step < 1 {
+        return false;
+    }
+    g.step <= 2
 }
 
 // The base cost of a node of this kind.
@@ -70,32 +116,35 @@ pub fn price(kind: u32, factor: u32, others: u32, capacity: u32, history: u32) -
     if history < 1 {
         return PriceAnswer::Refused(4);
     }
-    if 50590 < history {
+    if 101179 < history {
         return PriceAnswer::Refused(4);
     }
     PriceAnswer::Price(product(kind, factor, others, capacity, history))
 }
 
 // The present congestion factor of the iteration after `iteration`, whose own factor is `factor`.
-pub fn next_factor(iteration: u32, factor: u32) -> u32
-    ensures { λ r. ⌜ r ≡ nextFactor iteration factor ⌝ }
+pub fn next_factor(g: Tuning, iteration: u32, factor: u32) -> u32
+    ensures { λ r. ⌜ r ≡ nextFactor g iteration factor ⌝ }
 {
     if iteration == 0 {
         return 0;
     }
     if iteration == 1 {
-        return 50;
+        return g.first;
     }
-    let grown = 3 * factor as u64 / 2;
+    if g.down == 0 {
+        return 0;
+    }
+    let grown = factor as u64 * g.up as u64 / g.down as u64;
     if grown < 65535 { grown as u32 } else { 65535 }
 }
 
 // The historical congestion of a node after an iteration that leaves it with this many users.
-pub fn next_history(history: u32, users: u32, capacity: u32) -> u64
-    ensures { λ r. ⌜ r ≡ nextHistory history users capacity ⌝ }
+pub fn next_history(g: Tuning, history: u32, users: u32, capacity: u32) -> u64
+    ensures { λ r. ⌜ r ≡ nextHistory g history users capacity ⌝ }
 {
     if capacity < users {
-        history as u64 + (users - capacity) as u64
+        history as u64 + g.step as u64 * (users - capacity) as u64
     } else {
         history as u64
     }

@@ -1,16 +1,18 @@
-// Prices, factors and histories at their bounds and beyond each of them, a line each. The expected lines stand in the file stdout.
+// Prices, factors and histories at their bounds and beyond each of them, under the plain tuning and others, a line each. The expected lines stand in the file stdout.
 use libc::STDOUT_FILENO;
 use price::PriceAnswer;
 
-fn put(text: &[u8]) {
+mod tuned;
+
+pub fn put(text: &[u8]) {
     io::write_all(STDOUT_FILENO, text);
 }
 
-fn number(n: u64) {
+pub fn number(n: u64) {
     io::print_decimal(STDOUT_FILENO, n);
 }
 
-fn field(n: u32) {
+pub fn field(n: u32) {
     number(n as u64);
     put(b" ");
 }
@@ -37,7 +39,7 @@ fn show_price(kind: u32, factor: u32, others: u32, capacity: u32, history: u32) 
 }
 
 fn show_factor(iteration: u32, factor: u32) -> u32 {
-    let next = price::next_factor(iteration, factor);
+    let next = price::next_factor(price::plain_tuning(), iteration, factor);
     put(b"factor after ");
     field(iteration);
     field(factor);
@@ -53,7 +55,7 @@ fn show_history(history: u32, users: u32, capacity: u32) {
     field(users);
     field(capacity);
     put(b"is ");
-    number(price::next_history(history, users, capacity));
+    number(price::next_history(price::plain_tuning(), history, users, capacity));
     put(b"\n");
 }
 
@@ -85,8 +87,8 @@ fn kinds() {
 fn prices() {
     show_price(4, 50, 1, 2, 1);
     show_price(4, 50, 2, 2, 1);
-    show_price(15, 65535, 511, 1, 50590);
-    show_price(15, 65535, 511, 255, 50590);
+    show_price(15, 65535, 511, 1, 101179);
+    show_price(15, 65535, 511, 255, 101179);
     show_price(4294967295, 0, 0, 1, 1);
     show_price(4, 65536, 0, 1, 1);
     show_price(4, 4294967295, 0, 1, 1);
@@ -96,11 +98,11 @@ fn prices() {
     show_price(4, 0, 0, 256, 1);
     show_price(4, 0, 0, 4294967295, 1);
     show_price(4, 0, 0, 1, 0);
-    show_price(4, 0, 0, 1, 50591);
+    show_price(4, 0, 0, 1, 101180);
     show_price(4, 0, 0, 1, 4294967295);
     show_price(16, 65536, 512, 0, 0);
     show_price(0, 65536, 512, 256, 0);
-    show_price(0, 0, 512, 0, 50591);
+    show_price(0, 0, 512, 0, 101180);
     show_price(0, 0, 511, 256, 0);
 }
 
@@ -154,4 +156,7 @@ fn main() {
     factors();
     single_factors();
     histories();
+    tuned::bounds();
+    tuned::factors();
+    tuned::histories();
 }

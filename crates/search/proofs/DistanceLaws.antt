@@ -212,7 +212,7 @@ module _ (b : Block) (price : ℕ → ℕ) (marks : List ℕ) where
     path-near t v path h m w =
         let s = shorten g price fair h w in
         let most : distance b price marks v ≤ nodes b * priceMost = le-trans (short-walk t v (s .path′) h m (s .walk) (s .few)) (s .most) in
-        let fits : nodes b * priceMost < 2 ^ 61 = path-most (nodes b) (g .few) in
+        let fits : nodes b * priceMost < 2 ^ 62 = path-most (nodes b) (g .few) in
         omega arith
 
     -- no edge leads to a shorter way

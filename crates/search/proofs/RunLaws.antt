@@ -74,7 +74,7 @@ module _ (b : Block) (step best : ℕ) (w₀ w : List ℕ) (u : ℕ) (run : Runn
       ⊎-elim (λ (o : Open (nodes b) w u). sym o ∙ nearest) (λ (t : Settled (nodes b) w u). absurd (let l = t .left in omega arith)) (run .stands .waiting .sides u node)
 
   -- so the level is no more than a path can cost
-  level-most : entryAt (nodes b) w 1 < 2 ^ 61
+  level-most : entryAt (nodes b) w 1 < 2 ^ 62
   level-most =
       let s = run .stands in
       let pos = s .fair .pos u node in

@@ -106,7 +106,7 @@ pub record RowReady (b : Block) (w : List ℕ) (u : ℕ) : Type 0 where
   pub node : u < nodes b
   pub long : 8 * nodes b ≤ length w
   pub heap : Heap (nodes b) w
-  pub near : distAt w u < 2 ^ 61
+  pub near : distAt w u < 2 ^ 62
   pub prices : (v : ℕ) → v < nodes b → priceIn (nodes b) w v ≤ priceMost
 
 -- the frontier after looking at u's row up to place e, and the same nodes are settled

@@ -25,7 +25,7 @@ fn node_sound(history: &[u32], others: &[u16], in_tree: &[u8], v: usize) -> bool
     if history[v] < 1 {
         return false;
     }
-    if 50590 < history[v] {
+    if 101179 < history[v] {
         return false;
     }
     if others.len() <= v {
@@ -66,7 +66,7 @@ fn histories_sound(n: usize, history: &[u32]) -> bool
     let mut v = 0;
     while v < n {
         fine = if history[v] < 1 { false } else { fine };
-        fine = if 50590 < history[v] { false } else { fine };
+        fine = if 101179 < history[v] { false } else { fine };
         v += 1;
     }
     fine

@@ -247,7 +247,7 @@ fn chains() {
     chain(
         b"chain, dearest",
         65535,
-        &[50590; 5],
+        &[101179; 5],
         &[511; 5],
         &source,
         &[4],

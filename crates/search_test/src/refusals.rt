@@ -206,8 +206,8 @@ fn numbers(label: &[u8], factor: u32, history: [u32; 3], others: [u16; 3], in_tr
 fn histories() {
     let tree = [1, 0, 0];
     numbers(b"history 0", 0, [1, 0, 1], [0; 3], tree);
-    numbers(b"history 50590", 0, [1, 50590, 1], [0; 3], tree);
-    numbers(b"history 50591", 0, [1, 1, 50591], [0; 3], tree);
+    numbers(b"history 101179", 0, [1, 101179, 1], [0; 3], tree);
+    numbers(b"history 101180", 0, [1, 1, 101180], [0; 3], tree);
     numbers(b"history 4294967295", 0, [4294967295, 1, 1], [0; 3], tree);
 }
 
@@ -251,7 +251,7 @@ fn two_numbers() {
     lists(
         b"no others of 1, history of 2",
         0,
-        &[1, 1, 50591],
+        &[1, 1, 101180],
         &[0; 1],
         &tree,
     );

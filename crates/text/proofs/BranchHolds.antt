@@ -218,9 +218,9 @@ accepted j work log sound enough e =
     let fine = faulty-none j sound in
     let some = made-least j 0 (limit-some j sound) (λ k l. absurd (not-suc-le-zero l)) in
     let few = limit-few j sound in
-    let most = made-most j (firstState j) (j .limit) in
-    let last : ℕ = iterationsMade j (firstState j) (j .limit) - 1 in
-    let made : iterationsMade j (firstState j) (j .limit) ≡ last + 1 = omega arith in
+    let most = made-most j (firstState j) (j .terms .limit) in
+    let last : ℕ = iterationsMade j (firstState j) (j .terms .limit) - 1 in
+    let made : iterationsMade j (firstState j) (j .terms .limit) ≡ last + 1 = omega arith in
     ⊎-elim
     (λ (h : nets j ≤ unreachableNet j).
     let is = route-run j work log (omega arith) enough h in

@@ -22,8 +22,8 @@ use borrow.Author.Tests.{le-leb, lt-leb, eq-eqb, ne-eqb, leb-true}
 use Rattle.price.specs.Test.{choose}
 use Rattle.price.proofs.TestLaws.{both-left, both-right, le-or-lt, true≢false}
 use Rattle.text.specs.Decimal.{isDigit}
-use Rattle.text.specs.Lines.{lf, comma, Field, number, fault, digitsAfter, field, Fields, taken, malformed, afterField, fields}
-use Rattle.text.specs.Steps.{begins, commaField, After, fieldAt, FieldPlace, twoAt, TwoPlace, threeAt, ThreePlace, fourAt, FourPlace}
+use Rattle.text.specs.Lines.{lf, comma, Field, number, fault, digitsAfter, field, Fields, taken, malformed, afterField, fields, begins}
+use Rattle.text.specs.Steps.{commaField, After, fieldAt, FieldPlace, twoAt, TwoPlace, threeAt, ThreePlace, fourAt, FourPlace}
 use Rattle.text.specs.declared.fields.Field as fieldType
 use Rattle.text.specs.declared.fields.Field.the-variants as f
 use Rattle.text.specs.declared.fields.Two as twoType

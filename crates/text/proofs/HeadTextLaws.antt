@@ -1,38 +1,39 @@
--- The head line: reading it gives counts within their bounds, and printing these gives its bytes.
+-- The lines before the nodes: reading them gives counts and terms within their bounds, and printing these gives the lines' bytes.
 -- Assumes nothing.
-use mathlib.Core.Bool.{true}
+use mathlib.Core.Bool.{Bool, true, false}
 use mathlib.Core.List.{List, [], _∷_, _++_}
-use mathlib.Core.Path.{_≡_, refl, _∙_, ap, subst}
+use mathlib.Core.Path.{_≡_, refl, _∙_, ap}
 use Prim.Native.Nat.{ℕ, _≤_, _^_}
 use native.Mathlib.Omega.{arith}
 use lib.Dec.{leb, ltb}
-use lib.ListN.{length, getD}
+use lib.ListN.{getD}
 use borrow.Author.Tests.{le-leb, leb-true, lt-ltb}
-use Rattle.price.specs.Test.{both}
+use Rattle.price.specs.Test.{choose, both}
 use Rattle.price.specs.Bounds.{nodesMost, limitMost}
 use Rattle.price.specs.Lists.{every}
+use Rattle.price.specs.Tuning.{tuningSound}
+use Rattle.price.specs.declared.Tuning.{Tuning}
 use Rattle.price.proofs.TestLaws.{both-true, both-left, both-right}
 use Rattle.search.specs.Tables.{edgesMost}
 use Rattle.negotiation.specs.Tables.{netsMost}
-use Rattle.text.specs.Lines.{letterF, printLine}
-use Rattle.text.specs.JobText.{between, headWithin, headLine, part, Counts, headPart}
-use Rattle.text.proofs.PrintLaws.{LineRead, judged-line, line-judged, onward-part}
+use Rattle.text.specs.Lines.{letterF, letterP, begins, printLine}
+use Rattle.text.specs.JobText.{between, headWithin, headLine, part, andThen, Counts, tuningPart, countsOf, headPart}
+use Rattle.text.specs.Printed.{tuningText, Written}
+use Rattle.text.proofs.PrintLaws.{LineRead, judged-line, line-judged, onward-part, then-part}
+use Rattle.text.proofs.TuningTextLaws.{four-of, TuningTold, tuning-read, tuning-printed}
 
--- the bounds of the four counts
+-- the bounds of the three counts, of the limit and of the tuning
 pub record HeadBounds (c : Counts) : Type 0 where
   pub some-nodes : 1 ≤ c .nodes
   pub few-nodes : c .nodes ≤ nodesMost
   pub few-edges : c .edges ≤ edgesMost
   pub some-nets : 1 ≤ c .nets
   pub few-nets : c .nets ≤ netsMost
-  pub some-turns : 1 ≤ c .limit
-  pub few-turns : c .limit ≤ limitMost
+  pub some-turns : 1 ≤ c .terms .limit
+  pub few-turns : c .terms .limit ≤ limitMost
+  pub tuned : tuningSound (c .terms .tuning) ≡ true
 
-abbrev headText : Counts → List ℕ
-headText c = printLine letterF (c .nodes ∷ c .edges ∷ c .nets ∷ c .limit ∷ [])
-
-abbrev countsOf : List ℕ → Counts
-countsOf vs = record { nodes = getD vs 0 0; edges = getD vs 1 0; nets = getD vs 2 0; limit = getD vs 3 0 }
+-- ---- from reading
 
 between-low : (low high x : ℕ) → between low high x ≡ true → low ≤ x
 between-low low high x e = leb-true low x (both-left (leb low x) (leb x high) e)
@@ -40,9 +41,9 @@ between-low low high x e = leb-true low x (both-left (leb low x) (leb x high) e)
 between-high : (low high x : ℕ) → between low high x ≡ true → x ≤ high
 between-high low high x e = leb-true x high (both-right (leb low x) (leb x high) e)
 
-bounds-hold : (vs : List ℕ) → headWithin vs ≡ true → HeadBounds (countsOf vs)
+bounds-hold : (vs : List ℕ) (g : Tuning) → headWithin vs ≡ true → tuningSound g ≡ true → HeadBounds (countsOf vs g)
 unfolding headWithin
-bounds-hold vs e =
+bounds-hold vs g e s =
     let n = getD vs 0 0 in
     let m = getD vs 1 0 in
     let k = getD vs 2 0 in
@@ -61,48 +62,70 @@ bounds-hold vs e =
       few-nets = between-high 1 netsMost k p2;
       some-turns = between-low 1 limitMost l p3;
       few-turns = between-high 1 limitMost l p3;
+      tuned = s;
     }
 
-four : (vs : List ℕ) → length vs ≡ 4 → vs ≡ getD vs 0 0 ∷ getD vs 1 0 ∷ getD vs 2 0 ∷ getD vs 3 0 ∷ []
-four [] e = absurd (omega arith)
-four (a ∷ []) e = absurd (omega arith)
-four (a ∷ b ∷ []) e = absurd (omega arith)
-four (a ∷ b ∷ c ∷ []) e = absurd (omega arith)
-four (a ∷ b ∷ c ∷ d ∷ []) e = refl
-four (a ∷ b ∷ c ∷ d ∷ x ∷ xs) e = absurd (omega arith)
+-- the bytes are those of the counts' F line, and of the P line where it is written
+abbrev pub HeadTold : Counts → List ℕ → List ℕ → Type 0
+HeadTold c bs rest =
+    HeadBounds c × (written : Bool) × Written written (c .terms .tuning)
+    × (bs ≡ printLine letterF (c .nodes ∷ c .edges ∷ c .nets ∷ c .terms .limit ∷ []) ++ (tuningText written (c .terms .tuning) ++ rest))
 
-pub head-read : (bs : List ℕ) (c : Counts) (at : ℕ) (rest : List ℕ) → headPart bs ≡ part c at rest → HeadBounds c × (bs ≡ printLine letterF (c .nodes ∷ c .edges ∷ c .nets ∷ c .limit ∷ []) ++ rest)
+lines-told : (bs vs mid rest : List ℕ) (g : Tuning) → LineRead letterF 4 headWithin (λ vs. true) bs vs mid → TuningTold g mid rest → HeadTold (countsOf vs g) bs rest
+lines-told bs vs mid rest g head tuned = (
+  bounds-hold vs g (head .bounds) (tuned .0),
+  tuned .1,
+  tuned .2,
+  head .text ∙ ap (λ (us : List ℕ). printLine letterF us ++ mid) (four-of vs (head .long))
+      ∙ ap (λ (us : List ℕ). printLine letterF (getD vs 0 0 ∷ getD vs 1 0 ∷ getD vs 2 0 ∷ getD vs 3 0 ∷ []) ++ us) (tuned .3),
+)
+
+told-moved : (c d : Counts) (bs mid rest : List ℕ) → c ≡ d → mid ≡ rest → HeadTold c bs mid → HeadTold d bs rest
+told-moved c d bs mid rest same follow told = rw (same, follow) at told
+
+pub head-read : (bs : List ℕ) (c : Counts) (at : ℕ) (rest : List ℕ) → headPart bs ≡ part c at rest → HeadTold c bs rest
 unfolding headPart headLine
 head-read bs c at rest e =
-    let r = onward-part (headLine bs) 1 (λ vs rest. part (countsOf vs) 2 rest) c at rest e in
+    let r = onward-part (headLine bs) 1 (λ vs rest. andThen (tuningPart 2 rest) (λ g at more. part (countsOf vs g) at more)) c at rest e in
     let vs : List ℕ = r .0 in
     let mid : List ℕ = r .1 in
-    let told : LineRead letterF 4 headWithin (λ vs. true) bs vs mid = judged-line headWithin (λ vs. true) letterF 4 bs vs mid (r .2) in
-    let made : part (countsOf vs) 2 mid ≡ part c at rest = r .3 in
-    let same : countsOf vs ≡ c = cc in
-    let follow : mid ≡ rest = cc in (
-      subst HeadBounds same (bounds-hold vs (told .bounds)),
-      told .text ∙ ap (λ (us : List ℕ). printLine letterF us ++ mid) (four vs (told .long))
-          ∙ ap (λ (d : Counts). headText d ++ mid) same ∙ ap (λ (us : List ℕ). headText c ++ us) follow,
-    )
+    let head : LineRead letterF 4 headWithin (λ vs. true) bs vs mid = judged-line headWithin (λ vs. true) letterF 4 bs vs mid (r .2) in
+    let t = then-part (tuningPart 2 mid) (λ g at more. part (countsOf vs g) at more) c at rest (r .3) in
+    let g : Tuning = t .0 in
+    let more : List ℕ = t .2 in
+    let made : part (countsOf vs g) (t .1) more ≡ part c at rest = t .4 in
+    let same : countsOf vs g ≡ c = cc in
+    let follow : more ≡ rest = cc in
+    told-moved (countsOf vs g) c bs more rest same follow (lines-told bs vs mid more g head (tuning-read 2 (t .1) mid g more (t .3)))
+
+-- ---- from printing
 
 module _ (c : Counts) (rest : List ℕ) (h : HeadBounds c) where
-  head-small : every (λ v. ltb v (10 ^ 6)) (c .nodes ∷ c .edges ∷ c .nets ∷ c .limit ∷ []) ≡ true
+  head-small : every (λ v. ltb v (10 ^ 6)) (c .nodes ∷ c .edges ∷ c .nets ∷ c .terms .limit ∷ []) ≡ true
   unfolding every
   head-small =
       both-true (lt-ltb (c .nodes) (10 ^ 6) (omega arith))
       (both-true (lt-ltb (c .edges) (10 ^ 6) (omega arith))
-      (both-true (lt-ltb (c .nets) (10 ^ 6) (omega arith)) (both-true (lt-ltb (c .limit) (10 ^ 6) (omega arith)) refl)))
+      (both-true (lt-ltb (c .nets) (10 ^ 6) (omega arith)) (both-true (lt-ltb (c .terms .limit) (10 ^ 6) (omega arith)) refl)))
 
-  head-within : headWithin (c .nodes ∷ c .edges ∷ c .nets ∷ c .limit ∷ []) ≡ true
+  head-within : headWithin (c .nodes ∷ c .edges ∷ c .nets ∷ c .terms .limit ∷ []) ≡ true
   unfolding headWithin
   head-within =
       both-true (both-true (le-leb 1 (c .nodes) (h .some-nodes)) (le-leb (c .nodes) nodesMost (h .few-nodes)))
       (both-true (le-leb (c .edges) edgesMost (h .few-edges))
       (both-true (both-true (le-leb 1 (c .nets) (h .some-nets)) (le-leb (c .nets) netsMost (h .few-nets)))
-      (both-true (le-leb 1 (c .limit) (h .some-turns)) (le-leb (c .limit) limitMost (h .few-turns)))))
+      (both-true (le-leb 1 (c .terms .limit) (h .some-turns)) (le-leb (c .terms .limit) limitMost (h .few-turns)))))
 
-  pub head-printed : headPart (printLine letterF (c .nodes ∷ c .edges ∷ c .nets ∷ c .limit ∷ []) ++ rest) ≡ part c 2 rest
+  -- where the tuning is left out no P may follow
+  pub head-printed :
+      (written : Bool) → Written written (c .terms .tuning) → (written ≡ false → begins letterP rest ≡ false)
+      → headPart
+      (printLine letterF (c .nodes ∷ c .edges ∷ c .nets ∷ c .terms .limit ∷ []) ++ (tuningText written (c .terms .tuning) ++ rest))
+      ≡ part c (choose written 3 2) rest
   unfolding headPart headLine
-  head-printed =
-      rw (line-judged headWithin (λ vs. true) letterF (c .nodes ∷ c .edges ∷ c .nets ∷ c .limit ∷ []) rest head-small head-within refl)
+  head-printed written may next =
+      rw (
+        line-judged headWithin (λ vs. true) letterF (c .nodes ∷ c .edges ∷ c .nets ∷ c .terms .limit ∷ [])
+            (tuningText written (c .terms .tuning) ++ rest) head-small head-within refl,
+        tuning-printed (c .terms .tuning) 2 rest (h .tuned) written may next,
+      )

@@ -13,9 +13,9 @@ use native.Mathlib.Omega.{arith}
 use lib.ListN.{drop}
 use lib.Seq.{drop-drop}
 use Rattle.price.proofs.TestLaws.{either-way, true≢false}
-use Rattle.text.specs.Lines.{Fields, taken, malformed, fields, line}
+use Rattle.text.specs.Lines.{Fields, taken, malformed, fields, line, begins}
 use Rattle.text.specs.JobText.{values, refused, judged}
-use Rattle.text.specs.Steps.{begins, After, twoAt, TwoPlace}
+use Rattle.text.specs.Steps.{After, twoAt, TwoPlace}
 use Rattle.text.specs.declared.fields.Two.{Two}
 use Rattle.text.specs.declared.fields.Two.the-variants as w
 

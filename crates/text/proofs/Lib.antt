@@ -3,6 +3,7 @@ pub mod FieldLaws
 pub mod SideLaws
 pub mod JudgedLaws
 pub mod HeadLineLaws
+pub mod TuningLineLaws
 pub mod NodeLineLaws
 pub mod EdgeLineLaws
 pub mod NetLineLaws
@@ -14,6 +15,7 @@ pub mod ReadJobLaws
 pub mod DecimalLaws
 pub mod PlacedLaws
 pub mod PrintLaws
+pub mod TuningTextLaws
 pub mod HeadTextLaws
 pub mod NodeTextLaws
 pub mod FirstPlaceLaws

@@ -12,9 +12,9 @@ use lib.Dec.{eqb}
 use lib.ListN.{length, getD, take, drop, set, length-set}
 use lib.Seq.{length-take-le, take-suc-set}
 use borrow.Author.Tests.{lt-ltb, le-ltb, le-leb, lt-leb, eq-eqb, ne-eqb}
-use Rattle.text.specs.Lines.{letterN, taken, fields, line}
+use Rattle.text.specs.Lines.{letterN, taken, fields, line, begins}
 use Rattle.text.specs.JobText.{values, refused, nodeWithin, nodeLine, part, stopped, nodeLists, nodeLines}
-use Rattle.text.specs.Steps.{begins, After, threeAt, ThreePlace, nodeAt, NodePlace}
+use Rattle.text.specs.Steps.{After, threeAt, ThreePlace, nodeAt, NodePlace}
 use Rattle.text.specs.declared.fields.Three.{Three}
 use Rattle.text.specs.declared.fields.Three.the-variants as h
 use Rattle.text.specs.declared.nodes.NodeLine.{NodeLine}

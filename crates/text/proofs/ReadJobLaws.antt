@@ -11,8 +11,9 @@ use borrow.Author.Tests.{lt-ltb, le-ltb, le-leb}
 use Rattle.price.proofs.TestLaws.{le-or-lt}
 use Rattle.search.specs.Replies.{sinksMost}
 use Rattle.negotiation.specs.Job.{Job}
+use Rattle.negotiation.specs.declared.Terms.{Terms}
 use Rattle.text.specs.JobText.{Part, readText}
-use Rattle.text.specs.ReadReplies.{Tables, notRead, shortTable, laid, tablesWith, jobNumbers, laidReply, replyOf, readReply}
+use Rattle.text.specs.ReadReplies.{Tables, notRead, shortTable, laid, tablesWith, termsNumbers, jobNumbers, laidReply, replyOf, readReply}
 use Rattle.text.specs.ReadSteps.{RoomForAll, CountsWithin, jobTaken, jobAt, JobPlace, Over, shortest}
 use Rattle.text.specs.declared.reader.JobLines.{JobLines}
 use Rattle.text.specs.declared.reader.JobLines.the-variants as jl
@@ -90,9 +91,9 @@ unfolding laid
 laid-over count from before after long over = rw (length-take-le count from long) over
 
 -- the job in tables that have room for any, and the tables that were lent
-module _ (n edges nets count limit : ℕ) (kinds capacities firstEdges edgeTargets sources firstSinks sinks : List ℕ) (room : RoomForAll kinds capacities firstEdges edgeTargets sources firstSinks sinks) (within : CountsWithin n edges nets) (few : count ≤ sinksMost) where
+module _ (n edges nets count : ℕ) (terms : Terms) (kinds capacities firstEdges edgeTargets sources firstSinks sinks : List ℕ) (room : RoomForAll kinds capacities firstEdges edgeTargets sources firstSinks sinks) (within : CountsWithin n edges nets) (few : count ≤ sinksMost) where
   abbrev job : Job
-  job = jobTaken n edges nets count limit kinds capacities firstEdges edgeTargets sources firstSinks sinks
+  job = jobTaken n edges nets count terms kinds capacities firstEdges edgeTargets sources firstSinks sinks
 
   nodes-are : length (take n kinds) ≡ n
   nodes-are = length-take-le n kinds (omega (arith, room .kinds-long, within .nodes-most))
@@ -126,7 +127,7 @@ module _ (n edges nets count limit : ℕ) (kinds capacities firstEdges edgeTarge
         (omega (arith, is))
 
     -- the tables with the job laid over them
-    pub lay-done : (after : Tables) (table : ℕ) → table ≡ lacking → table < 1 → Over n kinds (t .kinds) (after .kinds) → Over n capacities (t .capacities) (after .capacities) → Over (n + 1) firstEdges (t .firstEdges) (after .firstEdges) → Over edges edgeTargets (t .edgeTargets) (after .edgeTargets) → Over nets sources (t .sources) (after .sources) → Over (nets + 1) firstSinks (t .firstSinks) (after .firstSinks) → Over count sinks (t .sinks) (after .sinks) → record { refusal = []; numbers = n ∷ edges ∷ nets ∷ count ∷ limit ∷ []; tables = after } ≡ laidReply job t
+    pub lay-done : (after : Tables) (table : ℕ) → table ≡ lacking → table < 1 → Over n kinds (t .kinds) (after .kinds) → Over n capacities (t .capacities) (after .capacities) → Over (n + 1) firstEdges (t .firstEdges) (after .firstEdges) → Over edges edgeTargets (t .edgeTargets) (after .edgeTargets) → Over nets sources (t .sources) (after .sources) → Over (nets + 1) firstSinks (t .firstSinks) (after .firstSinks) → Over count sinks (t .sinks) (after .sinks) → record { refusal = []; numbers = n ∷ edges ∷ nets ∷ count ∷ termsNumbers terms; tables = after } ≡ laidReply job t
     unfolding laidReply tablesWith jobNumbers
     lay-done after table is none k c fe et s fs si =
         let zero-is : table ≡ 0 = omega arith in
@@ -140,9 +141,9 @@ module _ (n edges nets count limit : ℕ) (kinds capacities firstEdges edgeTarge
         rw (short-is, ← is, zero-is, nodes-are, edges-are, nets-are, count-is, ← one, ← two, ← three, ← four, ← five, ← six, ← seven)
 
 -- all lines are read, and what lies over the tables is that job; or a line was refused
-pub job-read : (text : List ℕ) (x : JobLines) (n edges nets count limit line : ℕ) (kinds capacities firstEdges edgeTargets sources firstSinks sinks : List ℕ) (t : Tables) → x ≡ jl.Counts n edges nets count limit line → jobAt x kinds capacities firstEdges edgeTargets sources firstSinks sinks ≡ readText text → laidReply (jobTaken n edges nets count limit kinds capacities firstEdges edgeTargets sources firstSinks sinks) t ≡ readReply text t
+pub job-read : (text : List ℕ) (x : JobLines) (n edges nets count : ℕ) (terms : Terms) (line : ℕ) (kinds capacities firstEdges edgeTargets sources firstSinks sinks : List ℕ) (t : Tables) → x ≡ jl.Counts n edges nets count terms line → jobAt x kinds capacities firstEdges edgeTargets sources firstSinks sinks ≡ readText text → laidReply (jobTaken n edges nets count terms kinds capacities firstEdges edgeTargets sources firstSinks sinks) t ≡ readReply text t
 unfolding readReply
-job-read text x n edges nets count limit line kinds capacities firstEdges edgeTargets sources firstSinks sinks t is read =
+job-read text x n edges nets count terms line kinds capacities firstEdges edgeTargets sources firstSinks sinks t is read =
     ap (λ (p : Part Job). replyOf p t) (ap (λ (y : JobLines). jobAt y kinds capacities firstEdges edgeTargets sources firstSinks sinks) (sym is) ∙ read)
 
 pub job-stopped : (text : List ℕ) (x : JobLines) (k line : ℕ) (kinds capacities firstEdges edgeTargets sources firstSinks sinks : List ℕ) (t : Tables) → x ≡ jl.Stopped k line → jobAt x kinds capacities firstEdges edgeTargets sources firstSinks sinks ≡ readText text → notRead (k ∷ line ∷ []) t ≡ readReply text t
@@ -151,5 +152,5 @@ job-stopped text x k line kinds capacities firstEdges edgeTargets sources firstS
     ap (λ (p : Part Job). replyOf p t) (ap (λ (y : JobLines). jobAt y kinds capacities firstEdges edgeTargets sources firstSinks sinks) (sym is) ∙ read)
 
 -- the counts of a job that was read
-pub job-counts : (x : JobLines) (n edges nets count limit line : ℕ) → x ≡ jl.Counts n edges nets count limit line → JobPlace x → CountsWithin n edges nets × (count ≤ sinksMost)
-job-counts x n edges nets count limit line is place = rw is at place
+pub job-counts : (x : JobLines) (n edges nets count : ℕ) (terms : Terms) (line : ℕ) → x ≡ jl.Counts n edges nets count terms line → JobPlace x → CountsWithin n edges nets × (count ≤ sinksMost)
+job-counts x n edges nets count terms line is place = rw is at place

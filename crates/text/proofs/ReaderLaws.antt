@@ -9,13 +9,13 @@ use lib.ListN.{length, take, drop}
 use lib.Seq.{take-suc, length-take-le}
 use Rattle.search.specs.Replies.{sinksMost}
 use Rattle.negotiation.specs.Job.{Job, jobOf}
-use Rattle.text.specs.JobText.{Part, part, stopped, andThen, Counts, headLine, headPart, NodeLists, nodeLists, nodeLines, EdgeLists, edgeLists, edgeLines, NetLists, netLists, netLines, firstPlaces, jobRead, readText}
+use Rattle.negotiation.specs.declared.Terms.{Terms}
+use Rattle.text.specs.JobText.{Part, part, stopped, andThen, Counts, headPart, NodeLists, nodeLists, nodeLines, EdgeLists, edgeLists, edgeLines, NetLists, netLists, netLines, firstPlaces, jobRead, readText}
 use Rattle.text.specs.ReadReplies.{Tables}
-use Rattle.text.specs.Steps.{edgeTables, edgesAt, nodesAt, LinesPlace, netsReadAt, NetsEnd, headAt, HeadPlace}
-use Rattle.text.specs.ReadSteps.{withNets, netsAfter, bodyAfterNodes, edgesNetsAt, withWires, wiresAfter, bodyAfterHead, bodyAt, jobLines, jobAt, JobPlace, CountsWithin}
-use Rattle.text.proofs.HeadTextLaws.{head-read}
-use Rattle.text.specs.declared.head.Head.{Head}
-use Rattle.text.specs.declared.head.Head.the-variants as hd
+use Rattle.text.specs.Steps.{edgeTables, edgesAt, nodesAt, LinesPlace, netsReadAt, NetsEnd}
+use Rattle.text.specs.ReadSteps.{withNets, netsAfter, bodyAfterNodes, edgesNetsAt, withWires, wiresAfter, bodyAfterHead, bodyAt, jobLines, jobAt, JobPlace, CountsWithin, headReadAt, HeadReadPlace}
+use Rattle.text.specs.declared.head.HeadRead.{HeadRead}
+use Rattle.text.specs.declared.head.HeadRead.the-variants as hr
 use Rattle.text.specs.declared.head.Lines.{Lines}
 use Rattle.text.specs.declared.head.Lines.the-variants as ls
 use Rattle.text.specs.declared.nets.NetsRead.{NetsRead}
@@ -49,85 +49,76 @@ with-wires n edges nets (nr.Read count line) kinds capacities firstEdges edgeTar
 with-wires n edges nets (nr.Stopped k line) kinds capacities firstEdges edgeTargets sources firstSinks sinks = refl
 
 -- nodes, then edges and nets
-pub nodes-wires : (n edges nets at next : ℕ) (text bs : List ℕ) (x : Lines) (r : NetsRead) (kinds capacities firstEdges edgeTargets sources firstSinks sinks : List ℕ) → x ≡ ls.Read at next → nodesAt text x (take n kinds) (take n capacities) ≡ nodeLines n n (nodeLists [] []) 2 bs → edgesNetsAt n edges nets r firstEdges edgeTargets sources firstSinks sinks ≡ bodyAfterNodes n edges nets next (drop at text) → bodyAt n edges nets r kinds capacities firstEdges edgeTargets sources firstSinks sinks ≡ bodyAfterHead n edges nets bs
+pub nodes-wires : (n edges nets line at next : ℕ) (text bs : List ℕ) (x : Lines) (r : NetsRead) (kinds capacities firstEdges edgeTargets sources firstSinks sinks : List ℕ) → x ≡ ls.Read at next → nodesAt text x (take n kinds) (take n capacities) ≡ nodeLines n n (nodeLists [] []) line bs → edgesNetsAt n edges nets r firstEdges edgeTargets sources firstSinks sinks ≡ bodyAfterNodes n edges nets next (drop at text) → bodyAt n edges nets r kinds capacities firstEdges edgeTargets sources firstSinks sinks ≡ bodyAfterHead n edges nets line bs
 unfolding bodyAfterHead
-nodes-wires n edges nets at next text bs x r kinds capacities firstEdges edgeTargets sources firstSinks sinks is read wires =
+nodes-wires n edges nets line at next text bs x r kinds capacities firstEdges edgeTargets sources firstSinks sinks is read wires =
     with-wires n edges nets r kinds capacities firstEdges edgeTargets sources firstSinks sinks
     ∙ ap (withWires (take n kinds) (take n capacities)) wires
     ∙ ap (wiresAfter n edges nets) (ap (λ (y : Lines). nodesAt text y (take n kinds) (take n capacities)) (sym is) ∙ read)
 
 -- a faulty N line
-pub nodes-stop : (n edges nets k at : ℕ) (text bs : List ℕ) (x : Lines) (kinds capacities : List ℕ) → x ≡ ls.Stopped k at → nodesAt text x kinds capacities ≡ nodeLines n n (nodeLists [] []) 2 bs → stopped k at ≡ bodyAfterHead n edges nets bs
+pub nodes-stop : (n edges nets line k at : ℕ) (text bs : List ℕ) (x : Lines) (kinds capacities : List ℕ) → x ≡ ls.Stopped k at → nodesAt text x kinds capacities ≡ nodeLines n n (nodeLists [] []) line bs → stopped k at ≡ bodyAfterHead n edges nets line bs
 unfolding bodyAfterHead
-nodes-stop n edges nets k at text bs x kinds capacities is read =
+nodes-stop n edges nets line k at text bs x kinds capacities is read =
     ap (wiresAfter n edges nets) (ap (λ (y : Lines). nodesAt text y kinds capacities) (sym is) ∙ read)
 
 -- the job of the tables that were read
-abbrev jobAfter : ℕ → Part Tables → Part Job
-jobAfter limit (part t at rest) =
-    part (jobOf (t .kinds) (t .capacities) (t .firstEdges) (t .edgeTargets) (t .sources) (t .firstSinks) (t .sinks) limit) at rest
-jobAfter limit (stopped k at) = stopped k at
+abbrev jobAfter : Terms → Part Tables → Part Job
+jobAfter terms (part t at rest) =
+    part (jobOf (t .kinds) (t .capacities) (t .firstEdges) (t .edgeTargets) (t .sources) (t .firstSinks) (t .sinks) terms) at rest
+jobAfter terms (stopped k at) = stopped k at
 
--- one stage after the other is the whole text, once the first line is read
+-- one stage after the other is the whole text, once the lines before the nodes are read
 module _ (c : Counts) where
-  last-stage : (ns : NodeLists) (es : EdgeLists) (x : Part NetLists) → jobAfter (c .limit) (withWires (ns .kinds) (ns .capacities) (withNets (firstPlaces (c .nodes) (es .froms)) (es .targets) x)) ≡ andThen x (λ ts at rest. part (jobRead c ns es ts) at rest)
+  last-stage : (ns : NodeLists) (es : EdgeLists) (x : Part NetLists) → jobAfter (c .terms) (withWires (ns .kinds) (ns .capacities) (withNets (firstPlaces (c .nodes) (es .froms)) (es .targets) x)) ≡ andThen x (λ ts at rest. part (jobRead c ns es ts) at rest)
   unfolding jobRead
   last-stage ns es (part ts at rest) = refl
   last-stage ns es (stopped k at) = refl
 
-  edge-stage : (ns : NodeLists) (x : Part EdgeLists) → jobAfter (c .limit) (withWires (ns .kinds) (ns .capacities) (netsAfter (c .nodes) (c .nets) (edgeTables (c .nodes) x))) ≡ andThen x (λ es at rest. andThen (netLines (length rest) (c .nodes) (c .nets) (netLists [] [] []) at rest) (λ ts at2 rest2. part (jobRead c ns es ts) at2 rest2))
+  edge-stage : (ns : NodeLists) (x : Part EdgeLists) → jobAfter (c .terms) (withWires (ns .kinds) (ns .capacities) (netsAfter (c .nodes) (c .nets) (edgeTables (c .nodes) x))) ≡ andThen x (λ es at rest. andThen (netLines (length rest) (c .nodes) (c .nets) (netLists [] [] []) at rest) (λ ts at2 rest2. part (jobRead c ns es ts) at2 rest2))
   edge-stage ns (part es at rest) = last-stage ns es (netLines (length rest) (c .nodes) (c .nets) (netLists [] [] []) at rest)
   edge-stage ns (stopped k at) = refl
 
-  node-stage : (x : Part NodeLists) → jobAfter (c .limit) (wiresAfter (c .nodes) (c .edges) (c .nets) x) ≡ andThen x (λ ns at rest. andThen (edgeLines (c .nodes) (c .edges) (edgeLists [] []) at rest) (λ es at2 rest2. andThen (netLines (length rest2) (c .nodes) (c .nets) (netLists [] [] []) at2 rest2) (λ ts at3 rest3. part (jobRead c ns es ts) at3 rest3)))
+  node-stage : (x : Part NodeLists) → jobAfter (c .terms) (wiresAfter (c .nodes) (c .edges) (c .nets) x) ≡ andThen x (λ ns at rest. andThen (edgeLines (c .nodes) (c .edges) (edgeLists [] []) at rest) (λ es at2 rest2. andThen (netLines (length rest2) (c .nodes) (c .nets) (netLists [] [] []) at2 rest2) (λ ts at3 rest3. part (jobRead c ns es ts) at3 rest3)))
   unfolding bodyAfterNodes
   node-stage (part ns at rest) = edge-stage ns (edgeLines (c .nodes) (c .edges) (edgeLists [] []) at rest)
   node-stage (stopped k at) = refl
 
--- the counts of the first line are within their bounds
-pub head-counts : (n edges nets limit next : ℕ) (text : List ℕ) (x : Head) → x ≡ hd.Counts n edges nets limit next → headAt text x ≡ headLine text → CountsWithin n edges nets
-unfolding headPart
-head-counts n edges nets limit next text x is read =
-    let counts : Counts = record { nodes = n; edges = edges; nets = nets; limit = limit } in
-    let given : headPart text ≡ part counts 2 (drop next text) = rw (← read, is) in
-    let bounds = head-read text counts 2 (drop next text) given .0 in
-    record { nodes-most = bounds .few-nodes; edges-most = bounds .few-edges; nets-most = bounds .few-nets }
-
--- the counts of the first line, then the lines after it
-module _ (n edges nets limit next : ℕ) (text : List ℕ) (x : Head) (kinds capacities firstEdges edgeTargets sources firstSinks sinks : List ℕ) (is : x ≡ hd.Counts n edges nets limit next) (read : headAt text x ≡ headLine text) where
-  text-body : (r : NetsRead) → bodyAt n edges nets r kinds capacities firstEdges edgeTargets sources firstSinks sinks ≡ bodyAfterHead n edges nets (drop next text) → jobAfter limit (bodyAt n edges nets r kinds capacities firstEdges edgeTargets sources firstSinks sinks) ≡ readText text
-  unfolding readText headPart bodyAfterHead
+-- the lines before the nodes, then those from the nodes on
+module _ (n edges nets : ℕ) (terms : Terms) (at line : ℕ) (text : List ℕ) (x : HeadRead) (kinds capacities firstEdges edgeTargets sources firstSinks sinks : List ℕ) (is : x ≡ hr.Counts n edges nets terms at line) (read : headReadAt text x ≡ headPart text) where
+  text-body : (r : NetsRead) → bodyAt n edges nets r kinds capacities firstEdges edgeTargets sources firstSinks sinks ≡ bodyAfterHead n edges nets line (drop at text) → jobAfter terms (bodyAt n edges nets r kinds capacities firstEdges edgeTargets sources firstSinks sinks) ≡ readText text
+  unfolding readText bodyAfterHead
   text-body r body =
-      ap (jobAfter limit) body
-      ∙ node-stage (record { nodes = n; edges = edges; nets = nets; limit = limit }) (nodeLines n n (nodeLists [] []) 2 (drop next text))
+      ap (jobAfter terms) body
+      ∙ node-stage (record { nodes = n; edges = edges; nets = nets; terms = terms }) (nodeLines n n (nodeLists [] []) line (drop at text))
       ∙ rw (← read, is)
 
-  job-body : (r : NetsRead) → jobAt (jobLines n edges nets limit r) kinds capacities firstEdges edgeTargets sources firstSinks sinks ≡ jobAfter limit (bodyAt n edges nets r kinds capacities firstEdges edgeTargets sources firstSinks sinks)
-  job-body (nr.Read count line) = refl
-  job-body (nr.Stopped k line) = refl
+  job-body : (r : NetsRead) → jobAt (jobLines n edges nets terms r) kinds capacities firstEdges edgeTargets sources firstSinks sinks ≡ jobAfter terms (bodyAt n edges nets r kinds capacities firstEdges edgeTargets sources firstSinks sinks)
+  job-body (nr.Read count end) = refl
+  job-body (nr.Stopped k end) = refl
 
-  pub text-read : (r : NetsRead) (j : JobLines) → j ≡ jobLines n edges nets limit r → bodyAt n edges nets r kinds capacities firstEdges edgeTargets sources firstSinks sinks ≡ bodyAfterHead n edges nets (drop next text) → jobAt j kinds capacities firstEdges edgeTargets sources firstSinks sinks ≡ readText text
+  pub text-read : (r : NetsRead) (j : JobLines) → j ≡ jobLines n edges nets terms r → bodyAt n edges nets r kinds capacities firstEdges edgeTargets sources firstSinks sinks ≡ bodyAfterHead n edges nets line (drop at text) → jobAt j kinds capacities firstEdges edgeTargets sources firstSinks sinks ≡ readText text
   text-read r j e body =
       ap (λ (y : JobLines). jobAt y kinds capacities firstEdges edgeTargets sources firstSinks sinks) e ∙ job-body r ∙ text-body r body
 
 -- the counts of a text that was read are within their bounds
-module _ (n edges nets limit : ℕ) (firstSinks : List ℕ) (within : CountsWithin n edges nets) where
-  lines-place : (r : NetsRead) → NetsEnd nets r firstSinks → JobPlace (jobLines n edges nets limit r)
+module _ (n edges nets : ℕ) (terms : Terms) (firstSinks : List ℕ) (within : CountsWithin n edges nets) where
+  lines-place : (r : NetsRead) → NetsEnd nets r firstSinks → JobPlace (jobLines n edges nets terms r)
   lines-place (nr.Read count line) end = (within, end .0)
   lines-place (nr.Stopped k line) end = tt
 
-  pub job-place : (r : NetsRead) (j : JobLines) → j ≡ jobLines n edges nets limit r → NetsEnd nets r firstSinks → JobPlace j
+  pub job-place : (r : NetsRead) (j : JobLines) → j ≡ jobLines n edges nets terms r → NetsEnd nets r firstSinks → JobPlace j
   job-place r j e end = subst JobPlace (sym e) (lines-place r end)
 
--- a faulty first line
-pub text-stop : (k : ℕ) (text : List ℕ) (x : Head) → x ≡ hd.Refused k → headAt text x ≡ headLine text → stopped k 1 ≡ readText text
-unfolding readText headPart
-text-stop k text x is read = rw (← read, is)
+-- a faulty line before the nodes
+pub text-stop : (k line : ℕ) (text : List ℕ) (x : HeadRead) → x ≡ hr.Stopped k line → headReadAt text x ≡ headPart text → stopped k line ≡ readText text
+unfolding readText
+text-stop k line text x is read = rw (← read, is)
 
 -- where a part of the text ends
 pub read-place : (text : List ℕ) (x : Lines) (at line : ℕ) → x ≡ ls.Read at line → LinesPlace text x → (at ≤ length text) × (line ≤ at + 1)
 read-place text x at line is place = rw is at place
 
--- where the first line ends
-pub head-place : (text : List ℕ) (x : Head) (n edges nets limit next : ℕ) → x ≡ hd.Counts n edges nets limit next → HeadPlace text x → (1 ≤ next) × (next ≤ length text)
-head-place text x n edges nets limit next is place = rw is at place
+-- the counts, and where the nodes begin
+pub body-place : (text : List ℕ) (x : HeadRead) (n edges nets : ℕ) (terms : Terms) (at line : ℕ) → x ≡ hr.Counts n edges nets terms at line → HeadReadPlace text x → CountsWithin n edges nets × (at ≤ length text) × (line ≤ at + 1)
+body-place text x n edges nets terms at line is place = rw is at place

@@ -20,12 +20,13 @@ use Rattle.negotiation.specs.Job.{Job, jobOf, nodes, nets}
 use Rattle.negotiation.specs.Records.{Record, encode}
 use Rattle.negotiation.specs.Outcome.{RouteReply, outcomeNumbers, routed, logWith, loggedRecords, allRecords, unreachableNet, negotiated, routeReply}
 use Rattle.negotiation.specs.declared.Routed.{Routed}
+use Rattle.negotiation.specs.declared.Terms.{Terms}
 use Rattle.negotiation.specs.declared.Outcome.{Outcome}
 use Rattle.negotiation.specs.declared.Outcome.the-variants.{Accepted}
 use Rattle.negotiation.proofs.JobLaws.{nets-few}
 use Rattle.negotiation.proofs.JobLaws as job
 use Rattle.text.specs.JobText.{Part, part, stopped, readText}
-use Rattle.text.specs.ReadReplies.{Tables, shortTable, laid, tablesWith, ReadReply, notRead, jobNumbers, laidReply, replyOf, readReply}
+use Rattle.text.specs.ReadReplies.{Tables, shortTable, laid, tablesWith, ReadReply, notRead, termsNumbers, jobNumbers, laidReply, replyOf, readReply}
 use Rattle.text.specs.Routes.{WriteReply, writeReply}
 use Rattle.text.specs.RunReplies.{Lent, lentOf, RunReply, runReplyOf, afterWrite, afterRoute, routeRun, runOf, runReply, writtenTold, runTold, inputMost, responseOf, LineReply, lineTold, refusalLine, lineResponse, answered, response}
 use Rattle.text.specs.WriteSteps.{shownOf}
@@ -149,7 +150,7 @@ taken-of (part j at rest) numbers t t′ e =
     (either-way (leb 1 (shortTable j t)))
 
 -- what the counts mark out in the tables afterwards: each part is within its table, and together they are the job that is run
-pub record Taken (text : List ℕ) (n edges m count limit : ℕ) (t t′ : Tables) : Type 0 where
+pub record Taken (text : List ℕ) (n edges m count : ℕ) (terms : Terms) (t t′ : Tables) : Type 0 where
   pub few-nodes : n ≤ nodesMost
   pub few-nets : m ≤ netsMost
   pub kinds-fit : n ≤ length (t′ .kinds)
@@ -163,7 +164,7 @@ pub record Taken (text : List ℕ) (n edges m count limit : ℕ) (t t′ : Table
       (work log routes : List ℕ)
       → routeRun
       (jobOf (take n (t′ .kinds)) (take n (t′ .capacities)) (take (n + 1) (t′ .firstEdges)) (take edges (t′ .edgeTargets))
-      (take m (t′ .sources)) (take (m + 1) (t′ .firstSinks)) (take count (t′ .sinks)) limit)
+      (take m (t′ .sources)) (take (m + 1) (t′ .firstSinks)) (take count (t′ .sinks)) terms)
       t′ work log routes
       ≡ runReply text (lentOf t work log routes)
 
@@ -178,7 +179,7 @@ module _ (new old : List ℕ) (n : ℕ) (long : length new ≡ n) where
 
 job-taken :
     (text : List ℕ) (t : Tables) (j : Job) (at : ℕ) (rest : List ℕ) → readText text ≡ part j at rest → leb 1 (shortTable j t) ≡ false
-    → Taken text (nodes j) (length (j .block .edgeTargets)) (nets j) (length (j .sinks)) (j .limit) t (tablesWith j t)
+    → Taken text (nodes j) (length (j .block .edgeTargets)) (nets j) (length (j .sinks)) (j .terms) t (tablesWith j t)
 unfolding tablesWith runReply
 job-taken text t j at rest is long =
     let s : SoundJob j = accepted-printed text j at rest is .0 in
@@ -210,16 +211,21 @@ job-taken text t j at rest is long =
           );
     }
 
+-- the terms among the numbers of a job
+abbrev termsIn : List ℕ → Terms
+termsIn xs =
+    record { limit = getD xs 4 0; tuning = record { first = getD xs 5 0; up = getD xs 6 0; down = getD xs 7 0; step = getD xs 8 0 } }
+
 pub read-taken :
-    (text : List ℕ) (n edges m count limit : ℕ) (t t′ : Tables) → readTaken (n ∷ edges ∷ m ∷ count ∷ limit ∷ []) t′ ≡ readReply text t
-    → Taken text n edges m count limit t t′
+    (text : List ℕ) (n edges m count : ℕ) (terms : Terms) (t t′ : Tables)
+    → readTaken (n ∷ edges ∷ m ∷ count ∷ termsNumbers terms) t′ ≡ readReply text t → Taken text n edges m count terms t t′
 unfolding readReply jobNumbers
-read-taken text n edges m count limit t t′ e =
-    let got = taken-of (readText text) (n ∷ edges ∷ m ∷ count ∷ limit ∷ []) t t′ e in
+read-taken text n edges m count terms t t′ e =
+    let got = taken-of (readText text) (n ∷ edges ∷ m ∷ count ∷ termsNumbers terms) t t′ e in
     let j : Job = got .0 in
-    subst (λ (x : Tables). Taken text n edges m count limit t x) (got .6)
+    subst (λ (x : Tables). Taken text n edges m count terms t x) (got .6)
     (subst
-    (λ (x : List ℕ). Taken text (getD x 0 0) (getD x 1 0) (getD x 2 0) (getD x 3 0) (getD x 4 0) t (tablesWith j t))
+    (λ (x : List ℕ). Taken text (getD x 0 0) (getD x 1 0) (getD x 2 0) (getD x 3 0) (termsIn x) t (tablesWith j t))
     (got .5)
     (job-taken text t j (got .1) (got .2) (got .3) (got .4)))
 

@@ -11,18 +11,19 @@ use Rattle.search.specs.Distance.{inTree, treeDistances, nearer, round, rounds,
 use Rattle.search.specs.Turn.{priceAt, openDistance, before, back, pathTo, openDistances, joinAt, turn}
 use Rattle.search.specs.Replies.{cleared}
 use Rattle.negotiation.specs.Job.{netSinks}
-use Rattle.negotiation.specs.Tables.{sourcesSound, firstSinksSound, netSound, sinksSound, limitSound, faultyNets, faultyJob}
+use Rattle.negotiation.specs.Tables.{sourcesSound, firstSinksSound, netSound, sinksSound, limitSound, termsSound, faultyNets, faultyJob}
 use Rattle.negotiation.specs.Records.{words, encode, decodeUpTo, decode, fitting, pathNodes}
 use Rattle.negotiation.specs.Machine.{othersOf, usersOf, marksOf, congestionFor, turnOf, turnsOf, netRecords, afterNets, iterate, overfull, overCount, moveOn, firstState, stateAfter, recordsAfter, settlesAt}
 use Rattle.negotiation.specs.Outcome.{hasPath, unreachableNet, unreachablePlace, iterationsMade, allRecords, loggedRecords, cutIteration, logWith, endNumbers, negotiated, routeReply}
 use Rattle.price.specs.Samples.{Sample, Hold}
+use Rattle.price.specs.Tuning.{tuningSound}
 use Rattle.price.specs.Samples as p
 use Rattle.price.proofs.SamplesHold as p-hold
 use Rattle.negotiation.specs.Samples as n
 use Rattle.negotiation.proofs.SamplesHold as n-hold
 use Rattle.text.specs.Decimal.{isDigit, digits, decimal}
-use Rattle.text.specs.Lines.{digitsAfter, field, fields, line, printFields, printLine}
-use Rattle.text.specs.JobText.{headWithin, headLine, nodeWithin, nodeLine, rises, edgeWithin, edgeOrdered, edgeLine, pinWithin, sourceLine, sinkOrdered, sinkLine, headPart, nodeLines, edgeLines, sinksNow, sourceDue, sinkDue, complete, netEnd, nextSource, nextSink, netLine, netLines, firstPlaces, jobRead, readText}
+use Rattle.text.specs.Lines.{digitsAfter, field, begins, fields, line, printFields, printLine}
+use Rattle.text.specs.JobText.{headWithin, headLine, tuningWithin, tuningLine, nodeWithin, nodeLine, rises, edgeWithin, edgeOrdered, edgeLine, pinWithin, sourceLine, sinkOrdered, sinkLine, tuningPart, headPart, nodeLines, edgeLines, sinksNow, sourceDue, sinkDue, complete, netEnd, nextSource, nextSink, netLine, netLines, firstPlaces, jobRead, readText}
 use Rattle.text.specs.ReadReplies.{shortTable, laid, tablesWith}
 use Rattle.text.specs.Routes.{pathSound, recordSound, soundUpTo, soundWords, logSound, steps, branchesIn, lastIteration, routeBranches, branchText, routesText, textReply, writeReply}
 use Rattle.text.specs.RunReplies.{routeRun, runReply, refusalLine, response}
@@ -32,12 +33,12 @@ use Rattle.text.specs.Samples.{lined, linesB, shown, routed, limited, fi
 computing : Unit {0}
 unfolding response refusalLine runReply routeRun
     writeReply textReply routesText branchText routeBranches lastIteration branchesIn steps logSound soundWords soundUpTo recordSound pathSound
-    tablesWith laid shortTable readText jobRead firstPlaces netLines netLine nextSink nextSource netEnd complete sinkDue sourceDue sinksNow edgeLines nodeLines headPart
-    sinkLine sinkOrdered sourceLine pinWithin edgeLine edgeOrdered edgeWithin rises nodeLine nodeWithin headLine headWithin
-    printLine printFields line fields field digitsAfter decimal digits isDigit lined decode decodeUpTo
+    tablesWith laid shortTable readText jobRead firstPlaces netLines netLine nextSink nextSource netEnd complete sinkDue sourceDue sinksNow edgeLines nodeLines headPart tuningPart
+    sinkLine sinkOrdered sourceLine pinWithin edgeLine edgeOrdered edgeWithin rises nodeLine nodeWithin tuningLine tuningWithin headLine headWithin
+    printLine printFields line fields begins field digitsAfter decimal digits isDigit lined decode decodeUpTo
     routeReply negotiated endNumbers logWith cutIteration loggedRecords allRecords iterationsMade unreachablePlace unreachableNet hasPath
     settlesAt recordsAfter stateAfter firstState moveOn overCount overfull iterate afterNets netRecords turnsOf turnOf congestionFor marksOf usersOf othersOf
-    pathNodes fitting encode words faultyJob faultyNets limitSound sinksSound netSound firstSinksSound sourcesSound netSinks cleared
+    pathNodes fitting encode words faultyJob faultyNets termsSound tuningSound limitSound sinksSound netSound firstSinksSound sourcesSound netSinks cleared
     turn joinAt openDistances pathTo back before openDistance priceAt distances rounds round nearer treeDistances inTree pathCost
     faultyTable edgeTargetsSound rowSound firstEdgesSound capacitiesSound kindsSound hasEdge row nextHistory nextFactor priceOf overuse baseCost
     total placeOf least countBelow firstBelow upTo distinct has neighbours every

@@ -1,15 +1,17 @@
--- A text is taken for a job exactly where the job is sound and the text is its printed form; so no two sound jobs have the same printed form.
+-- A text is taken for a job exactly where the job is sound and the text is a printed form of it; so no two sound jobs have the same printed form.
 -- Assumes nothing.
-use mathlib.Core.Bool.{true}
+use mathlib.Core.Bool.{Bool, true, false}
 use mathlib.Core.List.{List, [], _∷_, _++_}
 use mathlib.Core.Path.{_≡_, refl, sym, _∙_, ap}
-use Prim.Native.Nat.{ℕ, _+_, _≤_, _<_}
+use Prim.Native.Nat.{ℕ, zero, suc, _+_, _≤_, _<_}
 use native.Mathlib.Omega.{arith}
 use lib.Dec.{leb}
 use lib.ListN.{length}
 use borrow.Author.Tests.{le-leb, leb-true}
+use Rattle.price.specs.Test.{choose}
 use Rattle.price.specs.Bounds.{limitMost}
 use Rattle.price.specs.Lists.{upTo}
+use Rattle.price.specs.Tuning.{tuningSound}
 use Rattle.price.proofs.TestLaws.{both-true, both-left, both-right}
 use Rattle.price.proofs.ListLaws.{every-at, length-upTo, getD-upTo}
 use Rattle.search.specs.Block.{blockOf, row}
@@ -17,13 +19,14 @@ use Rattle.search.specs.Tables.{edgesMost, kindsSound, capacitiesSound, firstEd
 use Rattle.search.proofs.BlockLaws.{kinds-some, kinds-few}
 use Rattle.search.proofs.TableLaws.{edges-all}
 use Rattle.negotiation.specs.Job.{Job, jobOf, nodes, nets, netSinks}
-use Rattle.negotiation.specs.Tables.{sourcesSound, firstSinksSound, sinksSound, limitSound, SoundJob}
+use Rattle.negotiation.specs.declared.Terms.{Terms}
+use Rattle.negotiation.specs.Tables.{sourcesSound, firstSinksSound, sinksSound, limitSound, termsSound, SoundJob}
 use Rattle.negotiation.proofs.JobLaws.{nets-some, nets-few, limit-some, limit-few}
-use Rattle.text.specs.Lines.{letterF, printLine}
+use Rattle.text.specs.Lines.{letterF, letterP, begins, printLine}
 use Rattle.text.specs.JobText.{Part, part, andThen, Counts, headPart, NodeLists, nodeLists, nodeLines, EdgeLists, edgeLists, edgeLines, NetLists, netLists, netLines, firstPlaces, jobRead, readText}
-use Rattle.text.specs.Printed.{joined, nodeText, rowText, netText, printJob, Accepts, Exactly}
+use Rattle.text.specs.Printed.{joined, nodeText, rowText, netText, tuningText, Written, printJob, Accepts, PrintedAs, Exactly}
 use Rattle.text.proofs.PrintLaws.{then-part}
-use Rattle.text.proofs.HeadTextLaws.{HeadBounds, head-read, head-printed}
+use Rattle.text.proofs.HeadTextLaws.{HeadBounds, HeadTold, head-read, head-printed}
 use Rattle.text.proofs.NodeTextLaws.{nodePrinted, NodesTold, nodes-read, read-kinds-sound, read-capacities-sound, nodes-printed}
 use Rattle.text.proofs.EdgeRisingLaws.{rowOf}
 use Rattle.text.proofs.EdgeTextLaws.{edgesText, EdgesTold, edges-read, EdgesPrinted, edges-printed}
@@ -35,14 +38,16 @@ use Rattle.text.proofs.NetPrintLaws.{TablesPrinted, nets-printed}
 
 -- tables whose lengths the head line gives
 module _
-    (n m k limit : ℕ) (kinds capacities first targets sources firsts sinks : List ℕ)
+    (n m k : ℕ) (terms : Terms) (kinds capacities first targets sources firsts sinks : List ℕ)
     (nodes-are : length kinds ≡ n) (edges-are : length targets ≡ m) (nets-are : length sources ≡ k) where
   made-text :
-      printJob (jobOf kinds capacities first targets sources firsts sinks limit)
-      ≡ printLine letterF (n ∷ m ∷ k ∷ limit ∷ [])
-      ++ (joined (nodePrinted kinds capacities) 0 n ++ (edgesText n first targets ++ joined (netAt sources firsts sinks) 0 k))
+      (written : Bool)
+      → printJob written (jobOf kinds capacities first targets sources firsts sinks terms)
+      ≡ printLine letterF (n ∷ m ∷ k ∷ terms .limit ∷ [])
+      ++ (tuningText written (terms .tuning)
+      ++ (joined (nodePrinted kinds capacities) 0 n ++ (edgesText n first targets ++ joined (netAt sources firsts sinks) 0 k)))
   unfolding printJob nodeText rowText row netText netSinks
-  made-text = rw (nodes-are, edges-are, nets-are)
+  made-text written = rw (nodes-are, edges-are, nets-are)
 
   made-edges : m ≤ edgesMost → ((u : ℕ) → u < n → rowSound n u (rowOf first targets u) ≡ true) → edgeTargetsSound (blockOf kinds capacities first targets) ≡ true
   unfolding row
@@ -51,11 +56,11 @@ module _
       (λ u h. rw nodes-are (rows u (omega arith)))
 
   made-sound :
-      HeadBounds (record { nodes = n; edges = m; nets = k; limit = limit }) → kindsSound kinds ≡ true → capacitiesSound n capacities ≡ true → firstEdgesSound n m first ≡ true
+      HeadBounds (record { nodes = n; edges = m; nets = k; terms = terms }) → kindsSound kinds ≡ true → capacitiesSound n capacities ≡ true → firstEdgesSound n m first ≡ true
       → ((u : ℕ) → u < n → rowSound n u (rowOf first targets u) ≡ true)
       → sourcesSound n sources ≡ true → firstSinksSound k (length sinks) firsts ≡ true → sinksSound n sources firsts sinks ≡ true
-      → SoundJob (jobOf kinds capacities first targets sources firsts sinks limit)
-  unfolding limitSound
+      → SoundJob (jobOf kinds capacities first targets sources firsts sinks terms)
+  unfolding limitSound termsSound
   made-sound head ks cs fs rows ss is ts =
       record {
         block-sound = record {
@@ -67,32 +72,42 @@ module _
         sources-sound = rw nodes-are ss;
         firstSinks-sound = rw nets-are is;
         sinks-sound = rw nodes-are ts;
-        limit-sound = both-true (le-leb 1 limit (head .some-turns)) (le-leb limit limitMost (head .few-turns));
+        terms-sound =
+            both-true
+            (both-true (le-leb 1 (terms .limit) (head .some-turns)) (le-leb (terms .limit) limitMost (head .few-turns)))
+            (head .tuned);
       }
 
 -- what the four parts of a text tell together
 parts-told :
     (c : Counts) (ns : NodeLists) (es : EdgeLists) (ts : NetLists) (bs rest1 rest2 rest3 rest4 : List ℕ)
-    → HeadBounds c → bs ≡ printLine letterF (c .nodes ∷ c .edges ∷ c .nets ∷ c .limit ∷ []) ++ rest1
+    → HeadTold c bs rest1
     → NodesTold (c .nodes) (c .nodes) (nodeLists [] []) ns rest1 rest2
     → EdgesTold (c .nodes) (c .edges) es rest2 rest3
     → TablesRead (c .nodes) (c .nets) ts rest3 rest4
-    → SoundJob (jobRead c ns es ts) × (bs ≡ printJob (jobRead c ns es ts))
+    → SoundJob (jobRead c ns es ts) × PrintedAs bs (jobRead c ns es ts)
 unfolding jobRead
-parts-told c ns es ts bs rest1 rest2 rest3 rest4 head whole nr er tr =
+parts-told c ns es ts bs rest1 rest2 rest3 rest4 told nr er tr =
+    let head : HeadBounds c = told .0 in
+    let written : Bool = told .1 in
     let first : List ℕ = firstPlaces (c .nodes) (es .froms) in
     let firsts : List ℕ = ends (ts .firstSinks) (ts .sinks) in (
-      made-sound (c .nodes) (c .edges) (c .nets) (c .limit) (ns .kinds) (ns .capacities) first (es .targets) (ts .sources) firsts (ts .sinks)
+      made-sound (c .nodes) (c .edges) (c .nets) (c .terms) (ns .kinds) (ns .capacities) first (es .targets) (ts .sources) firsts (ts .sinks)
           (nr .kinds-long) (er .targets-long) (tr .count) head
           (read-kinds-sound (c .nodes) (c .nodes) (nodeLists [] []) ns rest1 rest2 nr (head .some-nodes) (head .few-nodes))
           (read-capacities-sound (c .nodes) (c .nodes) (nodeLists [] []) ns rest1 rest2 nr)
           (er .firsts-sound) (er .rows-sound) (tr .sources-sound) (tr .firstSinks-sound) (tr .sinks-sound),
-      whole ∙ rw (nr .text, er .text-is, tr .text)
-          (sym (made-text (c .nodes) (c .edges) (c .nets) (c .limit) (ns .kinds) (ns .capacities) first (es .targets) (ts .sources) firsts (ts .sinks)
-          (nr .kinds-long) (er .targets-long) (tr .count))),
+      record {
+        written = written;
+        may = told .2;
+        is =
+            told .3 ∙ rw (nr .text, er .text-is, tr .text)
+            (sym (made-text (c .nodes) (c .edges) (c .nets) (c .terms) (ns .kinds) (ns .capacities) first (es .targets) (ts .sources) firsts (ts .sinks)
+            (nr .kinds-long) (er .targets-long) (tr .count) written));
+      },
     )
 
--- the stages of a text after its head line
+-- the stages of a text after its head
 abbrev netStage : Counts → NodeLists → EdgeLists → ℕ → List ℕ → Part Job
 netStage c ns es at bs =
     andThen (netLines (length bs) (c .nodes) (c .nets) (netLists [] [] []) at bs) (λ ts end rest. part (jobRead c ns es ts) end rest)
@@ -106,12 +121,11 @@ nodeStage c at bs = andThen (nodeLines (c .nodes) (c .nodes) (nodeLists [] []) a
 
 -- a stage that gives a job, once the parts before it are read
 module _
-    (bs : List ℕ) (j : Job) (at : ℕ) (rest : List ℕ) (c : Counts) (rest1 : List ℕ)
-    (head : HeadBounds c) (whole : bs ≡ printLine letterF (c .nodes ∷ c .edges ∷ c .nets ∷ c .limit ∷ []) ++ rest1) where
+    (bs : List ℕ) (j : Job) (at : ℕ) (rest : List ℕ) (c : Counts) (rest1 : List ℕ) (head : HeadTold c bs rest1) where
   after-edges :
       (ns : NodeLists) (es : EdgeLists) (at3 : ℕ) (rest2 rest3 : List ℕ)
       → NodesTold (c .nodes) (c .nodes) (nodeLists [] []) ns rest1 rest2 → EdgesTold (c .nodes) (c .edges) es rest2 rest3
-      → netStage c ns es at3 rest3 ≡ part j at rest → SoundJob j × (bs ≡ printJob j) × (rest ≡ [])
+      → netStage c ns es at3 rest3 ≡ part j at rest → SoundJob j × PrintedAs bs j × (rest ≡ [])
   after-edges ns es at3 rest2 rest3 nr er e =
       let r = then-part (netLines (length rest3) (c .nodes) (c .nets) (netLists [] [] []) at3 rest3) _ j at rest e in
       let ts : NetLists = r .0 in
@@ -120,34 +134,39 @@ module _
       let same : jobRead c ns es ts ≡ j = cc in
       let left : rest4 ≡ rest = cc in
       let tables : TablesRead (c .nodes) (c .nets) ts rest3 rest4 =
-      nets-read (length rest3) (c .nodes) (c .nets) ts at3 (r .1) rest3 rest4 (head .some-nets) (head .few-nets) (r .3) in
-      let told = parts-told c ns es ts bs rest1 rest2 rest3 rest4 head whole nr er tables in
+      nets-read (length rest3) (c .nodes) (c .nets) ts at3 (r .1) rest3 rest4 (head .0 .some-nets) (head .0 .few-nets) (r .3) in
+      let told = parts-told c ns es ts bs rest1 rest2 rest3 rest4 head nr er tables in
       (rw same at (told .0), rw same at (told .1), rw left at (tables .end))
 
   after-nodes :
       (ns : NodeLists) (at2 : ℕ) (rest2 : List ℕ) → NodesTold (c .nodes) (c .nodes) (nodeLists [] []) ns rest1 rest2
-      → edgeStage c ns at2 rest2 ≡ part j at rest → SoundJob j × (bs ≡ printJob j) × (rest ≡ [])
+      → edgeStage c ns at2 rest2 ≡ part j at rest → SoundJob j × PrintedAs bs j × (rest ≡ [])
   after-nodes ns at2 rest2 nr e =
       let q = then-part (edgeLines (c .nodes) (c .edges) (edgeLists [] []) at2 rest2) (λ es next more. netStage c ns es next more) j at rest e in
       after-edges ns (q .0) (q .1) rest2 (q .2) nr (edges-read (c .nodes) (c .edges) (q .0) at2 (q .1) rest2 (q .2) (q .3)) (q .4)
 
-  after-head : (at1 : ℕ) → nodeStage c at1 rest1 ≡ part j at rest → SoundJob j × (bs ≡ printJob j) × (rest ≡ [])
+  after-head : (at1 : ℕ) → nodeStage c at1 rest1 ≡ part j at rest → SoundJob j × PrintedAs bs j × (rest ≡ [])
   after-head at1 e =
       let p = then-part (nodeLines (c .nodes) (c .nodes) (nodeLists [] []) at1 rest1) (λ ns next more. edgeStage c ns next more) j at rest e in
       after-nodes (p .0) (p .1) (p .2) (nodes-read (c .nodes) (p .0) at1 (p .1) rest1 (p .2) (p .3)) (p .4)
 
-pub accepted-printed : (bs : List ℕ) (j : Job) (at : ℕ) (rest : List ℕ) → readText bs ≡ part j at rest → SoundJob j × (bs ≡ printJob j) × (rest ≡ [])
+pub accepted-printed : (bs : List ℕ) (j : Job) (at : ℕ) (rest : List ℕ) → readText bs ≡ part j at rest → SoundJob j × PrintedAs bs j × (rest ≡ [])
 unfolding readText
 accepted-printed bs j at rest e =
     let a = then-part (headPart bs) (λ c next more. nodeStage c next more) j at rest e in
-    let head = head-read bs (a .0) (a .1) (a .2) (a .3) in
-    after-head bs j at rest (a .0) (a .2) (head .0) (head .1) (a .1) (a .4)
+    after-head bs j at rest (a .0) (a .2) (head-read bs (a .0) (a .1) (a .2) (a .3)) (a .1) (a .4)
 
 -- ---- a sound job's printed form
 
+-- the first of the node lines
+nodes-begin : (n : ℕ) (kinds capacities rest : List ℕ) → 1 ≤ n → begins letterP (joined (nodePrinted kinds capacities) 0 n ++ rest) ≡ false
+unfolding begins joined printLine
+nodes-begin zero kinds capacities rest some = absurd (omega arith)
+nodes-begin (suc k) kinds capacities rest some = refl
+
 module _ (j : Job) (s : SoundJob j) where
   abbrev counts : Counts
-  counts = record { nodes = nodes j; edges = length (j .block .edgeTargets); nets = nets j; limit = j .limit }
+  counts = record { nodes = nodes j; edges = length (j .block .edgeTargets); nets = nets j; terms = j .terms }
 
   edges-few : length (j .block .edgeTargets) ≤ edgesMost
   unfolding edgeTargetsSound
@@ -162,6 +181,7 @@ module _ (j : Job) (s : SoundJob j) where
       rw (getD-upTo (λ u. u) (nodes j) u 0 h) at here
 
   counts-within : HeadBounds counts
+  unfolding termsSound
   counts-within =
       record {
         some-nodes = kinds-some (j .block .kinds) (s .block-sound .kinds-sound);
@@ -171,25 +191,29 @@ module _ (j : Job) (s : SoundJob j) where
         few-nets = nets-few j s;
         some-turns = limit-some j s;
         few-turns = limit-few j s;
+        tuned = both-right (limitSound (j .terms .limit)) (tuningSound (j .terms .tuning)) (s .terms-sound);
       }
 
-  pub printed-accepted : Accepts (printJob j) j
+  pub printed-accepted : (written : Bool) → Written written (j .terms .tuning) → Accepts (printJob written j) j
   unfolding readText jobRead printJob nodeText rowText row netText netSinks
-  printed-accepted =
+  printed-accepted written may =
       let n : ℕ = nodes j in
+      let at : ℕ = choose written 3 2 in
       let kinds : List ℕ = j .block .kinds in
       let capacities : List ℕ = j .block .capacities in
       let first : List ℕ = j .block .firstEdges in
       let targets : List ℕ = j .block .edgeTargets in
       let third : List ℕ = joined (netAt (j .sources) (j .firstSinks) (j .sinks)) 0 (nets j) in
       let second : List ℕ = edgesText n first targets ++ third in
-      let head = head-printed counts (joined (nodePrinted kinds capacities) 0 n ++ second) counts-within in
-      let node = nodes-printed n kinds capacities refl (s .block-sound .kinds-sound) (s .block-sound .capacities-sound) 2 second in
-      let edge : EdgesPrinted n first targets (2 + n) third =
-      edges-printed n first targets (2 + n) third (counts-within .few-nodes) (s .block-sound .firstEdges-sound) rows-sound in
-      let net : TablesPrinted (length third) n (2 + n + length targets) (j .sources) (j .firstSinks) (j .sinks) =
+      let head =
+      head-printed counts (joined (nodePrinted kinds capacities) 0 n ++ second) counts-within written may
+      (λ left-out. nodes-begin n kinds capacities second (counts-within .some-nodes)) in
+      let node = nodes-printed n kinds capacities refl (s .block-sound .kinds-sound) (s .block-sound .capacities-sound) at second in
+      let edge : EdgesPrinted n first targets (at + n) third =
+      edges-printed n first targets (at + n) third (counts-within .few-nodes) (s .block-sound .firstEdges-sound) rows-sound in
+      let net : TablesPrinted (length third) n (at + n + length targets) (j .sources) (j .firstSinks) (j .sinks) =
       nets-printed n (j .sources) (j .firstSinks) (j .sinks) (counts-within .few-nodes) (s .sources-sound) (s .firstSinks-sound) (s .sinks-sound)
-      (length third) (2 + n + length targets) (omega arith) in
+      (length third) (at + n + length targets) (omega arith) in
       (net .after, rw (head, node, edge .read, net .reads, edge .places, net .firsts))
 
 -- ---- the theorem
@@ -198,13 +222,15 @@ pub reader-exact : (bs : List ℕ) (j : Job) → Exactly bs j
 reader-exact bs j =
     record {
       only-printed = λ a. let r = accepted-printed bs j (a .0) [] (a .1) in (r .0, r .1);
-      all-printed = λ s e. let a = printed-accepted j s in (a .0, ap readText e ∙ a .1);
+      all-printed = λ s p. let a = printed-accepted j s (p .written) (p .may) in (a .0, ap readText (p .is) ∙ a .1);
     }
 
 -- two sound jobs with the same printed form are the same job
-pub printed-once : (j k : Job) → SoundJob j → SoundJob k → printJob j ≡ printJob k → j ≡ k
-printed-once j k s t e =
-    let a = printed-accepted j s in
-    let d = printed-accepted k t in
-    let same : part j (a .0) [] ≡ part k (d .0) [] = sym (a .1) ∙ ap readText e ∙ d .1 in
+pub printed-once :
+    (j k : Job) → SoundJob j → SoundJob k → (a b : Bool) → Written a (j .terms .tuning) → Written b (k .terms .tuning)
+    → printJob a j ≡ printJob b k → j ≡ k
+printed-once j k s t a b may may′ e =
+    let p = printed-accepted j s a may in
+    let q = printed-accepted k t b may′ in
+    let same : part j (p .0) [] ≡ part k (q .0) [] = sym (p .1) ∙ ap readText e ∙ q .1 in
     cc

@@ -1,4 +1,4 @@
--- Document 01, "Job text" and rows 1 to 3 of "Numbers for a stopped call": what a text gives, line by line, or the first faulty line.
+-- Document 01, "Job text" and rows 1 to 3 of "Numbers for a stopped call", with the P line of request 2.1: what a text gives, line by line, or the first faulty line.
 -- Assumes nothing.
 use mathlib.Core.Bool.{Bool, true, not}
 use mathlib.Core.List.{List, [], _∷_, _++_}
@@ -8,11 +8,14 @@ use lib.ListN.{length, getD, drop}
 use Rattle.price.specs.Test.{choose, both, either}
 use Rattle.price.specs.Bounds.{nodesMost, kindMost, capacityMost, limitMost}
 use Rattle.price.specs.Lists.{has, upTo, total}
+use Rattle.price.specs.Tuning.{plain, tuningSound}
+use Rattle.price.specs.declared.Tuning.{Tuning}
 use Rattle.search.specs.Tables.{edgesMost}
 use Rattle.search.specs.Replies.{sinksMost}
 use Rattle.negotiation.specs.Tables.{netsMost}
 use Rattle.negotiation.specs.Job.{Job, jobOf}
-use Rattle.text.specs.Lines.{letterF, letterN, letterE, letterS, letterT, Fields, taken, malformed, line}
+use Rattle.negotiation.specs.declared.Terms.{Terms}
+use Rattle.text.specs.Lines.{letterF, letterP, letterN, letterE, letterS, letterT, begins, Fields, taken, malformed, line}
 
 -- ---- a line
 
@@ -40,6 +43,16 @@ headWithin vs =
 
 unfoldable pub headLine : List ℕ → Reading (List ℕ)
 headLine bs = judged headWithin (λ vs. true) (line letterF 4 bs)
+
+-- "`P,first,up,down,step`"
+abbrev pub tuningOf : List ℕ → Tuning
+tuningOf vs = record { first = getD vs 0 0; up = getD vs 1 0; down = getD vs 2 0; step = getD vs 3 0 }
+
+unfoldable pub tuningWithin : List ℕ → Bool
+tuningWithin vs = tuningSound (tuningOf vs)
+
+unfoldable pub tuningLine : List ℕ → Reading (List ℕ)
+tuningLine bs = judged tuningWithin (λ vs. true) (line letterP 4 bs)
 
 -- "`N,node,kind,capacity` in order": of n nodes, node v is due
 unfoldable pub nodeWithin : ℕ → List ℕ → Bool
@@ -99,12 +112,23 @@ pub record Counts : Type 0 where
   pub nodes : ℕ
   pub edges : ℕ
   pub nets : ℕ
-  pub limit : ℕ
+  pub terms : Terms
 
+-- "A line `P,first,up,down,step` may follow F" .. "Without the line it is 50,3,2,1."
+unfoldable pub tuningPart : ℕ → List ℕ → Part Tuning
+tuningPart at bs =
+    choose (begins letterP bs) (onward (tuningLine bs) at (λ vs rest. part (tuningOf vs) (at + 1) rest)) (part plain at bs)
+
+-- the counts of the F line, with its limit and this tuning
+abbrev pub countsOf : List ℕ → Tuning → Counts
+countsOf vs g =
+    record { nodes = getD vs 0 0; edges = getD vs 1 0; nets = getD vs 2 0; terms = record { limit = getD vs 3 0; tuning = g } }
+
+-- the lines before the nodes
 unfoldable pub headPart : List ℕ → Part Counts
 headPart bs =
     onward (headLine bs) 1
-    (λ vs rest. part (record { nodes = getD vs 0 0; edges = getD vs 1 0; nets = getD vs 2 0; limit = getD vs 3 0 }) 2 rest)
+    (λ vs rest. andThen (tuningPart 2 rest) (λ g at more. part (countsOf vs g) at more))
 
 -- the nodes read so far
 pub record NodeLists : Type 0 where
@@ -209,7 +233,7 @@ firstPlaces n froms = upTo (λ u. total (λ from. choose (ltb from u) 1 0) froms
 unfoldable pub jobRead : Counts → NodeLists → EdgeLists → NetLists → Job
 jobRead c ns es ts =
     jobOf (ns .kinds) (ns .capacities) (firstPlaces (c .nodes) (es .froms)) (es .targets)
-    (ts .sources) (ts .firstSinks ++ (length (ts .sinks) ∷ [])) (ts .sinks) (c .limit)
+    (ts .sources) (ts .firstSinks ++ (length (ts .sinks) ∷ [])) (ts .sinks) (c .terms)
 
 unfoldable pub readText : List ℕ → Part Job
 readText bs =

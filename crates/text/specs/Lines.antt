@@ -1,5 +1,6 @@
 -- Document 01, "Job text" and "Routes text": a line is a letter, fields parted by commas, and LF.
 -- Assumes nothing.
+use mathlib.Core.Bool.{Bool, false}
 use mathlib.Core.List.{List, [], _∷_, _++_}
 use Prim.Native.Nat.{ℕ, zero, suc, _+_, _*_, _-_}
 use lib.Dec.{eqb}
@@ -12,9 +13,12 @@ lf = 10
 abbrev pub comma : ℕ
 comma = 44
 
--- ASCII codes of 01's line letters: F, N, E, S and T of a job text, R and B of a routes text, X of a refusal
+-- ASCII codes of the line letters: F, P, N, E, S and T of a job text, R and B of a routes text, X of a refusal
 abbrev pub letterF : ℕ
 letterF = 70
+
+abbrev pub letterP : ℕ
+letterP = 80
 
 abbrev pub letterN : ℕ
 letterN = 78
@@ -55,6 +59,11 @@ digitsAfter (suc k) value (b ∷ bs) =
 unfoldable pub field : List ℕ → Field
 field [] = fault
 field (b ∷ bs) = choose (eqb b zeroByte) (number 0 bs) (choose (isDigit b) (digitsAfter 5 (b - zeroByte) bs) fault)
+
+-- the bytes begin with this one
+unfoldable pub begins : ℕ → List ℕ → Bool
+begins byte [] = false
+begins byte (b ∷ bs) = eqb b byte
 
 -- the values of a line's fields with the bytes that follow the line, or a line of wrong shape
 pub data Fields : Type 0 where

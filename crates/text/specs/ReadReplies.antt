@@ -6,6 +6,7 @@ use lib.Dec.{leb, ltb}
 use lib.ListN.{length, drop}
 use Rattle.price.specs.Test.{choose}
 use Rattle.negotiation.specs.Job.{Job, nodes, nets}
+use Rattle.negotiation.specs.declared.Terms.{Terms}
 use Rattle.text.specs.JobText.{Part, part, stopped, readText}
 use Rattle.text.specs.declared.ReadAnswer.{ReadAnswer}
 use Rattle.text.specs.declared.ReadAnswer.the-variants as a
@@ -53,7 +54,7 @@ tablesWith j t =
     (laid (j .block .firstEdges) (t .firstEdges)) (laid (j .block .edgeTargets) (t .edgeTargets))
     (laid (j .sources) (t .sources)) (laid (j .firstSinks) (t .firstSinks)) (laid (j .sinks) (t .sinks))
 
--- the refusal's numbers, none where the text is taken; nodes, edges, nets, sinks and limit, none after a refusal; and the tables afterwards
+-- the refusal's numbers, none where the text is taken; nodes, edges, nets, sinks, limit and the four of the tuning, none after a refusal; and the tables afterwards
 pub record ReadReply : Type 0 where
   pub refusal : List ℕ
   pub numbers : List ℕ
@@ -63,9 +64,13 @@ pub record ReadReply : Type 0 where
 abbrev pub notRead : List ℕ → Tables → ReadReply
 notRead refusal t = record { refusal = refusal; numbers = []; tables = t }
 
--- "The reader returns nodes, edges, nets, sinks and limit."
+-- limit, first, up, down and step
+abbrev pub termsNumbers : Terms → List ℕ
+termsNumbers t = t .limit ∷ t .tuning .first ∷ t .tuning .up ∷ t .tuning .down ∷ t .tuning .step ∷ []
+
+-- "The reader returns nodes, edges, nets, sinks and limit.", and by request 2.1 "these too"
 unfoldable pub jobNumbers : Job → List ℕ
-jobNumbers j = nodes j ∷ length (j .block .edgeTargets) ∷ nets j ∷ length (j .sinks) ∷ j .limit ∷ []
+jobNumbers j = nodes j ∷ length (j .block .edgeTargets) ∷ nets j ∷ length (j .sinks) ∷ termsNumbers (j .terms)
 
 -- the reply for a job that was read: "4 follows a sound text"
 unfoldable pub laidReply : Job → Tables → ReadReply
@@ -82,7 +87,7 @@ readReply text t = replyOf (readText text) t
 
 -- 01's numbers for each case of the answer, with the tables at the call's end
 abbrev pub readTold : ReadAnswer → Tables → ReadReply
-readTold (a.Job nodes edges nets sinks limit) t =
-    record { refusal = []; numbers = nodes ∷ edges ∷ nets ∷ sinks ∷ limit ∷ []; tables = t }
+readTold (a.Job nodes edges nets sinks terms) t =
+    record { refusal = []; numbers = nodes ∷ edges ∷ nets ∷ sinks ∷ termsNumbers terms; tables = t }
 readTold (a.BadLine number at) t = notRead (number ∷ at ∷ []) t
 readTold (a.ShortTable table) t = notRead (4 ∷ table ∷ []) t

@@ -11,9 +11,12 @@ use Rattle.search.specs.Tables.{edgesMost}
 use Rattle.search.specs.Replies.{sinksMost}
 use Rattle.negotiation.specs.Tables.{netsMost}
 use Rattle.negotiation.specs.Job.{Job, jobOf}
-use Rattle.text.specs.JobText.{Part, part, stopped, NodeLists, nodeLists, nodeLines, edgeLists, edgeLines, NetLists, netLists, netLines}
+use Rattle.negotiation.specs.declared.Terms.{Terms}
+use Rattle.text.specs.JobText.{Part, part, stopped, Counts, NodeLists, nodeLists, nodeLines, edgeLists, edgeLines, NetLists, netLists, netLines}
 use Rattle.text.specs.ReadReplies.{Tables, tablesOf}
 use Rattle.text.specs.Steps.{EdgeTables, edgeTables}
+use Rattle.text.specs.declared.head.HeadRead.{HeadRead}
+use Rattle.text.specs.declared.head.HeadRead.the-variants as hr
 use Rattle.text.specs.declared.nets.NetsRead.{NetsRead}
 use Rattle.text.specs.declared.nets.NetsRead.the-variants as nr
 use Rattle.text.specs.declared.reader.JobLines.{JobLines}
@@ -39,6 +42,16 @@ pub record CountsWithin (n edges nets : ℕ) : Type 0 where
   pub nodes-most : n ≤ nodesMost
   pub edges-most : edges ≤ edgesMost
   pub nets-most : nets ≤ netsMost
+
+-- the lines before the nodes, as their values
+abbrev pub headReadAt : List ℕ → HeadRead → Part Counts
+headReadAt text (hr.Counts n edges nets terms at line) =
+    part (record { nodes = n; edges = edges; nets = nets; terms = terms }) line (drop at text)
+headReadAt text (hr.Stopped k line) = stopped k line
+
+abbrev pub HeadReadPlace : List ℕ → HeadRead → Type 0
+HeadReadPlace text (hr.Counts n edges nets terms at line) = CountsWithin n edges nets × (at ≤ length text) × (line ≤ at + 1)
+HeadReadPlace text (hr.Stopped k line) = Unit {0}
 
 -- tables 3 to 7
 pub record WireTables : Type 0 where
@@ -82,9 +95,9 @@ abbrev pub wiresAfter : ℕ → ℕ → ℕ → Part NodeLists → Part Tables
 wiresAfter n edges nets (part ns at rest) = withWires (ns .kinds) (ns .capacities) (bodyAfterNodes n edges nets at rest)
 wiresAfter n edges nets (stopped k at) = stopped k at
 
--- the lines after the first
-unfoldable pub bodyAfterHead : ℕ → ℕ → ℕ → List ℕ → Part Tables
-bodyAfterHead n edges nets bs = wiresAfter n edges nets (nodeLines n n (nodeLists [] []) 2 bs)
+-- the lines from the nodes on
+unfoldable pub bodyAfterHead : ℕ → ℕ → ℕ → ℕ → List ℕ → Part Tables
+bodyAfterHead n edges nets at bs = wiresAfter n edges nets (nodeLines n n (nodeLists [] []) at bs)
 
 abbrev pub bodyAt : ℕ → ℕ → ℕ → NetsRead → List ℕ → List ℕ → List ℕ → List ℕ → List ℕ → List ℕ → List ℕ → Part Tables
 bodyAt n edges nets (nr.Read count line) kinds capacities firstEdges edgeTargets sources firstSinks sinks =
@@ -92,23 +105,23 @@ bodyAt n edges nets (nr.Read count line) kinds capacities firstEdges edgeTargets
 bodyAt n edges nets (nr.Stopped k line) kinds capacities firstEdges edgeTargets sources firstSinks sinks = stopped k line
 
 -- the job that stands in tables that have room for any
-abbrev pub jobTaken : ℕ → ℕ → ℕ → ℕ → ℕ → List ℕ → List ℕ → List ℕ → List ℕ → List ℕ → List ℕ → List ℕ → Job
-jobTaken n edges nets count limit kinds capacities firstEdges edgeTargets sources firstSinks sinks =
-    jobOf (take n kinds) (take n capacities) (take (n + 1) firstEdges) (take edges edgeTargets) (take nets sources) (take (nets + 1) firstSinks) (take count sinks) limit
+abbrev pub jobTaken : ℕ → ℕ → ℕ → ℕ → Terms → List ℕ → List ℕ → List ℕ → List ℕ → List ℕ → List ℕ → List ℕ → Job
+jobTaken n edges nets count terms kinds capacities firstEdges edgeTargets sources firstSinks sinks =
+    jobOf (take n kinds) (take n capacities) (take (n + 1) firstEdges) (take edges edgeTargets) (take nets sources) (take (nets + 1) firstSinks) (take count sinks) terms
 
 -- the first line's counts and what the lines after it gave, as one answer
-abbrev pub jobLines : ℕ → ℕ → ℕ → ℕ → NetsRead → JobLines
-jobLines n edges nets limit (nr.Read count line) = jl.Counts n edges nets count limit line
-jobLines n edges nets limit (nr.Stopped k line) = jl.Stopped k line
+abbrev pub jobLines : ℕ → ℕ → ℕ → Terms → NetsRead → JobLines
+jobLines n edges nets terms (nr.Read count line) = jl.Counts n edges nets count terms line
+jobLines n edges nets terms (nr.Stopped k line) = jl.Stopped k line
 
 -- the whole text
 abbrev pub jobAt : JobLines → List ℕ → List ℕ → List ℕ → List ℕ → List ℕ → List ℕ → List ℕ → Part Job
-jobAt (jl.Counts n edges nets count limit line) kinds capacities firstEdges edgeTargets sources firstSinks sinks =
-    part (jobTaken n edges nets count limit kinds capacities firstEdges edgeTargets sources firstSinks sinks) line []
+jobAt (jl.Counts n edges nets count terms line) kinds capacities firstEdges edgeTargets sources firstSinks sinks =
+    part (jobTaken n edges nets count terms kinds capacities firstEdges edgeTargets sources firstSinks sinks) line []
 jobAt (jl.Stopped k line) kinds capacities firstEdges edgeTargets sources firstSinks sinks = stopped k line
 
 abbrev pub JobPlace : JobLines → Type 0
-JobPlace (jl.Counts n edges nets count limit line) = CountsWithin n edges nets × (count ≤ sinksMost)
+JobPlace (jl.Counts n edges nets count terms line) = CountsWithin n edges nets × (count ≤ sinksMost)
 JobPlace (jl.Stopped k line) = Unit {0}
 
 -- both lists have so many entries

@@ -8,6 +8,7 @@ use lib.Dec.{eqb}
 use lib.ListN.{length, getD, take, drop, set}
 use Rattle.price.specs.Test.{choose}
 use Rattle.price.specs.Lists.{has}
+use Rattle.price.specs.declared.Tuning.{Tuning}
 use Rattle.search.specs.Replies.{sinksMost}
 use Rattle.text.specs.Lines.{Field, number, fault, Fields, taken, malformed, field, comma}
 use Rattle.text.specs.JobText.{Reading, values, refused, Part, part, stopped, NodeLists, nodeLists, EdgeLists, NetLists, netLists, lastOf, sinksNow, firstPlaces}
@@ -21,6 +22,10 @@ use Rattle.text.specs.declared.fields.Four as fourType
 use Rattle.text.specs.declared.fields.Four.the-variants as q
 use Rattle.text.specs.declared.head.Head.{Head}
 use Rattle.text.specs.declared.head.Head.the-variants as hd
+use Rattle.text.specs.declared.tuning.TuningLine.{TuningLine}
+use Rattle.text.specs.declared.tuning.TuningLine.the-variants as tl
+use Rattle.text.specs.declared.tuning.Tuned.{Tuned}
+use Rattle.text.specs.declared.tuning.Tuned.the-variants as tu
 use Rattle.text.specs.declared.head.Lines.{Lines}
 use Rattle.text.specs.declared.head.Lines.the-variants as ls
 use Rattle.text.specs.declared.nodes.NodeLine.{NodeLine}
@@ -36,11 +41,6 @@ use Rattle.text.specs.declared.nets.NetsRead.{NetsRead}
 use Rattle.text.specs.declared.nets.NetsRead.the-variants as nr
 
 -- ---- fields
-
--- the bytes begin with this one
-unfoldable pub begins : ℕ → List ℕ → Bool
-begins byte [] = false
-begins byte (b ∷ bs) = eqb b byte
 
 -- a field after a comma
 unfoldable pub commaField : List ℕ → Field
@@ -93,6 +93,24 @@ headAt text (hd.Refused k) = refused k
 abbrev pub HeadPlace : List ℕ → Head → Type 0
 HeadPlace text (hd.Counts nodes edges nets limit next) = After 1 text next
 HeadPlace text (hd.Refused k) = Unit {0}
+
+-- the P line
+abbrev pub tuningAt : List ℕ → TuningLine → Reading Tuning
+tuningAt text (tl.Given g next) = values g (drop next text)
+tuningAt text (tl.Refused k) = refused k
+
+abbrev pub TuningPlace : ℕ → List ℕ → TuningLine → Type 0
+TuningPlace at text (tl.Given g next) = After (at + 1) text next
+TuningPlace at text (tl.Refused k) = Unit {0}
+
+-- the tuning, whether its line is there or not
+abbrev pub tunedAt : List ℕ → Tuned → Part Tuning
+tunedAt text (tu.Read g at line) = part g line (drop at text)
+tunedAt text (tu.Stopped k line) = stopped k line
+
+abbrev pub TunedPlace : List ℕ → Tuned → Type 0
+TunedPlace text (tu.Read g at line) = (at ≤ length text) × (line ≤ at + 1)
+TunedPlace text (tu.Stopped k line) = Unit {0}
 
 abbrev pub LinesPlace : List ℕ → Lines → Type 0
 LinesPlace text (ls.Read at line) = (at ≤ length text) × (line ≤ at + 1)

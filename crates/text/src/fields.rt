@@ -3,8 +3,8 @@ ghost use mathlib.Core.Path.{_≡_};
 ghost use Prim.Native.Nat.{_+_, _≤_, _<_};
 ghost use lib.ListN.{length, drop};
 ghost use Rattle.text.specs.Decimal.{isDigit};
-ghost use Rattle.text.specs.Lines.{digitsAfter, field, fields, line};
-ghost use Rattle.text.specs.Steps.{begins, commaField, fieldAt, FieldPlace, twoAt, TwoPlace, threeAt, ThreePlace, fourAt, FourPlace};
+ghost use Rattle.text.specs.Lines.{digitsAfter, field, fields, line, begins};
+ghost use Rattle.text.specs.Steps.{commaField, fieldAt, FieldPlace, twoAt, TwoPlace, threeAt, ThreePlace, fourAt, FourPlace};
 
 pub enum Field {
     Number { value: u32, next: usize },

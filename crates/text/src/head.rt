@@ -1,10 +1,14 @@
-// The first line of a job text, and what a run of lines answers.
+// The lines of a job text before its nodes, and what a run of lines answers.
 ghost use mathlib.Core.Path.{_≡_};
 ghost use mathlib.Core.List.{[], _∷_};
-ghost use Rattle.text.specs.JobText.{headWithin, headLine};
+ghost use Rattle.text.specs.JobText.{headWithin, headLine, headPart};
 ghost use Rattle.text.specs.Steps.{headAt, HeadPlace};
+ghost use Rattle.text.specs.ReadSteps.{headReadAt, HeadReadPlace};
 use crate::fields;
 use crate::fields::Four;
+use crate::tuning;
+use crate::tuning::Tuned;
+use negotiation::Terms;
 
 // The place and number of the line after those that were read, or the refusal's number and its line.
 pub enum Lines {
@@ -21,6 +25,22 @@ pub enum Head {
         next: usize,
     },
     Refused(u32),
+}
+
+// The counts and the terms of the lines before the nodes, with the place and number of the line after these; or the refusal's number and its line.
+pub enum HeadRead {
+    Counts {
+        nodes: usize,
+        edges: usize,
+        nets: usize,
+        terms: Terms,
+        at: usize,
+        line: usize,
+    },
+    Stopped {
+        number: u32,
+        line: usize,
+    },
 }
 
 // The counts and the limit are within their bounds.
@@ -48,7 +68,7 @@ fn head_within(nodes: u32, edges: u32, nets: u32, limit: u32) -> bool
     limit <= 100
 }
 
-pub fn head_line(text: &[u8]) -> Head
+fn head_line(text: &[u8]) -> Head
     ensures { λ r. ⌜ headAt (now (text .entry)) r ≡ headLine (now (text .entry)) ⌝ }
     ensures { λ r. ⌜ HeadPlace (now (text .entry)) r ⌝ }
 {
@@ -74,5 +94,41 @@ pub fn head_line(text: &[u8]) -> Head
         nets: third,
         limit: fourth,
         next: next,
+    }
+}
+
+// The F line, and the P line where one follows.
+pub fn read_head(text: &[u8]) -> HeadRead
+    ensures { λ r. ⌜ headReadAt (now (text .entry)) r ≡ headPart (now (text .entry)) ⌝ }
+    ensures { λ r. ⌜ HeadReadPlace (now (text .entry)) r ⌝ }
+{
+    match head_line(text) {
+        Head::Counts {
+            nodes,
+            edges,
+            nets,
+            limit,
+            next,
+        } => match tuning::read_tuning(text, next, 2) {
+            Tuned::Read { tuning, at, line } => HeadRead::Counts {
+                nodes: nodes as usize,
+                edges: edges as usize,
+                nets: nets as usize,
+                terms: Terms {
+                    limit: limit,
+                    tuning: tuning,
+                },
+                at: at,
+                line: line,
+            },
+            Tuned::Stopped { number, line } => HeadRead::Stopped {
+                number: number,
+                line: line,
+            },
+        },
+        Head::Refused(number) => HeadRead::Stopped {
+            number: number,
+            line: 1,
+        },
     }
 }

@@ -7,13 +7,13 @@ ghost use Rattle.text.specs.Routes.{writeReply, writeTold};
 
 // What the reader answers.
 pub enum ReadAnswer {
-    // The counts of the job, which the tables now hold, and its limit.
+    // The counts of the job, which the tables now hold, and its terms.
     Job {
         nodes: usize,
         edges: usize,
         nets: usize,
         sinks: usize,
-        limit: u32,
+        terms: Terms,
     },
     // 1, 2 or 3: this line is faulty.
     BadLine {
@@ -62,8 +62,10 @@ mod nets;
 mod nodes;
 mod reader;
 mod runs;
+mod tuning;
 
 use log_check::LogCheck;
+use negotiation::Terms;
 use reader::JobLines;
 pub use runs::respond;
 pub use runs::run;
@@ -115,7 +117,7 @@ fn lay_job(
     edges: usize,
     nets: usize,
     count: usize,
-    limit: u32,
+    terms: Terms,
     kinds: &[u8],
     capacities: &[u8],
     first_edges: &[u32],
@@ -133,7 +135,7 @@ fn lay_job(
 ) -> ReadAnswer
     requires { ⌜ RoomForAll (now kinds) (now capacities) (now «first_edges») (now «edge_targets») (now sources) (now «first_sinks») (now sinks) ⌝ }
     requires { ⌜ CountsWithin nodes edges nets × (count ≤ 4096) ⌝ }
-    ensures { λ r. ⌜ readTold r (tablesOf (now (kind .exit)) (now (capacity .exit)) (now («first_edge» .exit)) (now («edge_target» .exit)) (now (source .exit)) (now («first_sink» .exit)) (now (sink .exit))) ≡ laidReply (jobTaken nodes edges nets count limit (now (kinds .entry)) (now (capacities .entry)) (now («first_edges» .entry)) (now («edge_targets» .entry)) (now (sources .entry)) (now («first_sinks» .entry)) (now (sinks .entry))) (tablesOf (now (kind .entry)) (now (capacity .entry)) (now («first_edge» .entry)) (now («edge_target» .entry)) (now (source .entry)) (now («first_sink» .entry)) (now (sink .entry))) ⌝ }
+    ensures { λ r. ⌜ readTold r (tablesOf (now (kind .exit)) (now (capacity .exit)) (now («first_edge» .exit)) (now («edge_target» .exit)) (now (source .exit)) (now («first_sink» .exit)) (now (sink .exit))) ≡ laidReply (jobTaken nodes edges nets count terms (now (kinds .entry)) (now (capacities .entry)) (now («first_edges» .entry)) (now («edge_targets» .entry)) (now (sources .entry)) (now («first_sinks» .entry)) (now (sinks .entry))) (tablesOf (now (kind .entry)) (now (capacity .entry)) (now («first_edge» .entry)) (now («edge_target» .entry)) (now (source .entry)) (now («first_sink» .entry)) (now (sink .entry))) ⌝ }
 {
     let table = short_table(
         nodes,
@@ -178,7 +180,7 @@ fn lay_job(
         edges: edges,
         nets: nets,
         sinks: count,
-        limit: limit,
+        terms: terms,
     }
 }
 
@@ -217,14 +219,14 @@ pub fn read_job(
             edges,
             nets,
             sinks,
-            limit,
+            terms,
             line: _,
         } => lay_job(
             nodes,
             edges,
             nets,
             sinks,
-            limit,
+            terms,
             &kinds,
             &capacities,
             &first_edges,

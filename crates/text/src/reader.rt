@@ -7,11 +7,12 @@ ghost use Rattle.text.specs.Steps.{NetsEnd};
 ghost use Rattle.text.specs.ReadSteps.{EdgeRoom, NetTablesRoom, RoomForAll, CountsWithin, bodyAfterNodes, edgesNetsAt, bodyAfterHead, bodyAt, jobLines, jobAt, JobPlace};
 use crate::edges;
 use crate::head;
-use crate::head::Head;
+use crate::head::HeadRead;
 use crate::head::Lines;
 use crate::nets;
 use crate::nets::NetsRead;
 use crate::nodes;
+use negotiation::Terms;
 
 // The counts of a job that was read and the number of the line after its last, or the refusal's number and its line.
 pub enum JobLines {
@@ -20,7 +21,7 @@ pub enum JobLines {
         edges: usize,
         nets: usize,
         sinks: usize,
-        limit: u32,
+        terms: Terms,
         line: usize,
     },
     Stopped {
@@ -66,10 +67,11 @@ fn read_edges_nets(
     }
 }
 
-// The lines after the first, whose counts these are.
+// The lines from the nodes on, whose counts these are.
 fn read_body(
     text: &[u8],
     from: usize,
+    line: usize,
     nodes: usize,
     edges: usize,
     nets: usize,
@@ -82,15 +84,15 @@ fn read_body(
     sink: &mut [u16],
 ) -> NetsRead
     requires { ⌜ RoomForAll (now kind) (now capacity) (now «first_edge») (now «edge_target») (now source) (now «first_sink») (now sink) ⌝ }
-    requires { ⌜ CountsWithin nodes edges nets × (1 ≤ from) × (from ≤ length (now text)) ⌝ }
-    ensures { λ r. ⌜ bodyAt nodes edges nets r (now (kind .exit)) (now (capacity .exit)) (now («first_edge» .exit)) (now («edge_target» .exit)) (now (source .exit)) (now («first_sink» .exit)) (now (sink .exit)) ≡ bodyAfterHead nodes edges nets (drop from (now (text .entry))) ⌝ }
+    requires { ⌜ CountsWithin nodes edges nets × (from ≤ length (now text)) × (line ≤ from + 1) ⌝ }
+    ensures { λ r. ⌜ bodyAt nodes edges nets r (now (kind .exit)) (now (capacity .exit)) (now («first_edge» .exit)) (now («edge_target» .exit)) (now (source .exit)) (now («first_sink» .exit)) (now (sink .exit)) ≡ bodyAfterHead nodes edges nets line (drop from (now (text .entry))) ⌝ }
     ensures { λ r. ⌜ NetsEnd nets r (now («first_sink» .exit)) ⌝ }
 {
-    match nodes::read_nodes(text, from, 2, nodes, kind, capacity) {
-        Lines::Read { at, line } => read_edges_nets(
+    match nodes::read_nodes(text, from, line, nodes, kind, capacity) {
+        Lines::Read { at, line: next } => read_edges_nets(
             text,
             at,
-            line,
+            next,
             nodes,
             edges,
             nets,
@@ -107,9 +109,9 @@ fn read_body(
     }
 }
 
-// The counts of the first line with what the lines after it gave.
-fn job_lines(nodes: usize, edges: usize, nets: usize, limit: u32, body: NetsRead) -> JobLines
-    ensures { λ r. ⌜ r ≡ jobLines nodes edges nets limit body ⌝ }
+// The counts and the terms with what the lines from the nodes on gave.
+fn job_lines(nodes: usize, edges: usize, nets: usize, terms: Terms, body: NetsRead) -> JobLines
+    ensures { λ r. ⌜ r ≡ jobLines nodes edges nets terms body ⌝ }
 {
     match body {
         NetsRead::Read { sinks, line } => JobLines::Counts {
@@ -117,7 +119,7 @@ fn job_lines(nodes: usize, edges: usize, nets: usize, limit: u32, body: NetsRead
             edges: edges,
             nets: nets,
             sinks: sinks,
-            limit: limit,
+            terms: terms,
             line: line,
         },
         NetsRead::Stopped { number, line } => JobLines::Stopped {
@@ -142,24 +144,22 @@ pub fn read_lines(
     ensures { λ r. ⌜ jobAt r (now (kind .exit)) (now (capacity .exit)) (now («first_edge» .exit)) (now («edge_target» .exit)) (now (source .exit)) (now («first_sink» .exit)) (now (sink .exit)) ≡ readText (now (text .entry)) ⌝ }
     ensures { λ r. ⌜ JobPlace r ⌝ }
 {
-    let head = head::head_line(text);
-    match head {
-        Head::Counts {
+    match head::read_head(text) {
+        HeadRead::Counts {
             nodes,
             edges,
             nets,
-            limit,
-            next,
+            terms,
+            at,
+            line,
         } => {
-            let n = nodes as usize;
-            let e = edges as usize;
-            let m = nets as usize;
             let body = read_body(
                 text,
-                next,
-                n,
-                e,
-                m,
+                at,
+                line,
+                nodes,
+                edges,
+                nets,
                 kind,
                 capacity,
                 first_edge,
@@ -168,11 +168,11 @@ pub fn read_lines(
                 first_sink,
                 sink,
             );
-            job_lines(n, e, m, limit, body)
+            job_lines(nodes, edges, nets, terms, body)
         }
-        Head::Refused(number) => JobLines::Stopped {
+        HeadRead::Stopped { number, line } => JobLines::Stopped {
             number: number,
-            line: 1,
+            line: line,
         },
     }
 }

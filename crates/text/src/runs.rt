@@ -13,6 +13,7 @@ use crate::RunAnswer;
 use crate::WriteAnswer;
 use crate::decimal;
 use negotiation::Outcome;
+use negotiation::Terms;
 
 // Writes the routes from the words used.
 fn write_used(log: &[u32], words: usize, routes: &mut [u8]) -> RunAnswer
@@ -41,12 +42,12 @@ fn route_job(
     source: &[u16],
     first_sink: &[u32],
     sink: &[u16],
-    limit: u32,
+    terms: Terms,
     work: &mut [u64],
     log: &mut [u32],
     routes: &mut [u8],
 ) -> RunAnswer
-    ensures { λ r. ⌜ ((t : Tables) → runTold r (lentOf t (now (work .exit)) (now (log .exit)) (now (routes .exit))) ≡ routeRun (jobOf (now (kind .entry)) (now (capacity .entry)) (now («first_edge» .entry)) (now («edge_target» .entry)) (now (source .entry)) (now («first_sink» .entry)) (now (sink .entry)) limit) t (now (work .entry)) (now (log .entry)) (now (routes .entry))) ⌝ }
+    ensures { λ r. ⌜ ((t : Tables) → runTold r (lentOf t (now (work .exit)) (now (log .exit)) (now (routes .exit))) ≡ routeRun (jobOf (now (kind .entry)) (now (capacity .entry)) (now («first_edge» .entry)) (now («edge_target» .entry)) (now (source .entry)) (now («first_sink» .entry)) (now (sink .entry)) terms) t (now (work .entry)) (now (log .entry)) (now (routes .entry))) ⌝ }
 {
     let r = negotiation::route(
         kind,
@@ -56,7 +57,7 @@ fn route_job(
         source,
         first_sink,
         sink,
-        limit,
+        terms,
         work,
         log,
     );
@@ -121,7 +122,7 @@ pub fn run(
             edges,
             nets,
             sinks,
-            limit,
+            terms,
         } => {
             let places = nodes + 1;
             let firsts = nets + 1;
@@ -133,7 +134,7 @@ pub fn run(
                 &source[..nets],
                 &first_sink[..firsts],
                 &sink[..sinks],
-                limit,
+                terms,
                 work,
                 log,
                 routes,

@@ -1,6 +1,8 @@
 // The reader on texts of the largest counts, a line each: label, answer, and a sum of each table, which held 7 before the call. The expected lines stand in the
 // file stdout. `rt try` stops before the end, at ten million steps; the compiled program runs to it.
 use libc::STDOUT_FILENO;
+use negotiation::Terms;
+use price::Tuning;
 use text::ReadAnswer;
 
 mod lines;
@@ -19,13 +21,21 @@ fn entry(n: u64) {
     number(n);
 }
 
-fn counts(nodes: usize, edges: usize, nets: usize, sinks: usize, limit: u32) {
+fn tuning(g: Tuning) {
+    entry(g.first as u64);
+    entry(g.up as u64);
+    entry(g.down as u64);
+    entry(g.step as u64);
+}
+
+fn counts(nodes: usize, edges: usize, nets: usize, sinks: usize, terms: Terms) {
     put(b"job");
     entry(nodes as u64);
     entry(edges as u64);
     entry(nets as u64);
     entry(sinks as u64);
-    entry(limit as u64);
+    entry(terms.limit as u64);
+    tuning(terms.tuning);
 }
 
 fn refused(row: u64, value: u64) {
@@ -42,8 +52,8 @@ fn answer(a: ReadAnswer) {
             edges,
             nets,
             sinks,
-            limit,
-        } => counts(nodes, edges, nets, sinks, limit),
+            terms,
+        } => counts(nodes, edges, nets, sinks, terms),
         ReadAnswer::BadLine { number, line } => refused(number as u64, line as u64),
         ReadAnswer::ShortTable(table) => refused(4, table as u64),
     }

@@ -20,7 +20,7 @@ pub fn append(text: &mut [u8], from: usize, part: &[u8]) -> usize {
     at
 }
 
-// Puts job B's text with this limit and these lines for its nets: the place after it.
+// Puts job B's text with this limit, after which a P line may stand, and these lines for its nets: the place after it.
 pub fn job_b(text: &mut [u8], limit: &[u8], nets: &[u8]) -> usize {
     let counts = append(text, 0, b"F,6,6,2,");
     let head = append(text, counts, limit);

@@ -4,7 +4,7 @@ use crate::reading::parts;
 use crate::reading::small;
 
 // A sound job but for this first line.
-fn head(label: &[u8], line: &[u8]) {
+pub fn head(label: &[u8], line: &[u8]) {
     parts(
         label,
         line,

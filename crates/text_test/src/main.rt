@@ -10,15 +10,19 @@ mod responses;
 mod runs;
 mod show;
 mod tables;
+mod tuned_runs;
+mod tuning_lines;
 mod writing;
 
 fn main() {
     tables::all();
     head_lines::all();
+    tuning_lines::all();
     node_lines::all();
     edge_lines::all();
     net_lines::all();
     writing::all();
     runs::all();
     responses::all();
+    tuned_runs::all();
 }

@@ -1,15 +1,25 @@
 // Reading a text into tables, and printing what came of it.
 use crate::build;
 use crate::show;
+use negotiation::Terms;
+use price::Tuning;
 use text::ReadAnswer;
 
-fn counts(nodes: usize, edges: usize, nets: usize, sinks: usize, limit: u32) {
+fn tuning(g: Tuning) {
+    show::entry(g.first as u64);
+    show::entry(g.up as u64);
+    show::entry(g.down as u64);
+    show::entry(g.step as u64);
+}
+
+fn counts(nodes: usize, edges: usize, nets: usize, sinks: usize, terms: Terms) {
     show::put(b"job");
     show::entry(nodes as u64);
     show::entry(edges as u64);
     show::entry(nets as u64);
     show::entry(sinks as u64);
-    show::entry(limit as u64);
+    show::entry(terms.limit as u64);
+    tuning(terms.tuning);
 }
 
 fn answer(a: ReadAnswer) {
@@ -19,8 +29,8 @@ fn answer(a: ReadAnswer) {
             edges,
             nets,
             sinks,
-            limit,
-        } => counts(nodes, edges, nets, sinks, limit),
+            terms,
+        } => counts(nodes, edges, nets, sinks, terms),
         ReadAnswer::BadLine { number, line } => show::one(number as u64, line as u64),
         ReadAnswer::ShortTable(table) => show::one(4, table as u64),
     }

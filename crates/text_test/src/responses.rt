@@ -4,7 +4,7 @@ use crate::runs;
 use crate::show;
 
 // The response to this input, with tables for six nodes, six edges, two nets and two sinks.
-fn respond(label: &[u8], input: &[u8], work: &mut [u64], log: &mut [u32], routes: &mut [u8]) {
+pub fn respond(label: &[u8], input: &[u8], work: &mut [u64], log: &mut [u32], routes: &mut [u8]) {
     let mut kind = [7u8; 6];
     let mut capacity = [7u8; 6];
     let mut first_edge = [7u32; 7];
@@ -45,8 +45,8 @@ fn refused(label: &[u8], input: &[u8], routes: &mut [u8]) {
     respond(label, input, &mut [7; 2], &mut [7; 2], routes);
 }
 
-// Job B with this limit, with as many work entries as it needs.
-fn job_b(label: &[u8], limit: &[u8], log: &mut [u32], routes: &mut [u8]) {
+// Job B with this limit, after which a P line may stand, with as many work entries as it needs.
+pub fn job_b(label: &[u8], limit: &[u8], log: &mut [u32], routes: &mut [u8]) {
     let mut input = [0; 256];
     let end = build::job_b(&mut input, limit, b"S,0,0\nT,0,4\nS,1,1\nT,1,5\n");
     if end <= 256 {

@@ -12,7 +12,7 @@ pub struct Answer {
 }
 
 /// The entries of `out` that a call fills.
-pub const OUT: usize = 8;
+pub const OUT: usize = 16;
 
 /// The place in `out` of a call's first own number.
 const OWN: usize = 3;
@@ -45,7 +45,7 @@ mod c {
             source: *const u16, source_len: usize,
             first_sink: *const u32, first_sink_len: usize,
             sink: *const u16, sink_len: usize,
-            limit: u32,
+            limit: u32, first: u32, up: u32, down: u32, step: u32,
             work: *mut u64, work_len: usize,
             log: *mut u32, log_len: usize,
             out: *mut u64, out_len: usize,
@@ -106,7 +106,8 @@ pub fn raw_search(
 #[allow(clippy::too_many_arguments)]
 pub fn raw_route(
     kind: &[u8], capacity: &[u8], first_edge: &[u32], edge_target: &[u16], source: &[u16],
-    first_sink: &[u32], sink: &[u16], limit: u32, work: &mut [u64], log: &mut [u32], out: &mut [u64],
+    first_sink: &[u32], sink: &[u16], limit: u32, first: u32, up: u32, down: u32, step: u32,
+    work: &mut [u64], log: &mut [u32], out: &mut [u64],
 ) -> u32 {
     unsafe {
         c::arvumnao_route(
@@ -117,7 +118,7 @@ pub fn raw_route(
             source.as_ptr(), source.len(),
             first_sink.as_ptr(), first_sink.len(),
             sink.as_ptr(), sink.len(),
-            limit,
+            limit, first, up, down, step,
             work.as_mut_ptr(), work.len(),
             log.as_mut_ptr(), log.len(),
             out.as_mut_ptr(), out.len(),
@@ -201,16 +202,18 @@ pub fn search(
 #[allow(clippy::too_many_arguments)]
 pub fn route(
     kind: &[u8], capacity: &[u8], first_edge: &[u32], edge_target: &[u16], source: &[u16],
-    first_sink: &[u32], sink: &[u16], limit: u32, work: &mut [u64], log: &mut [u32],
+    first_sink: &[u32], sink: &[u16], limit: u32, first: u32, up: u32, down: u32, step: u32,
+    work: &mut [u64], log: &mut [u32],
 ) -> Answer {
     let mut out = [0; OUT];
     let returned = raw_route(
-        kind, capacity, first_edge, edge_target, source, first_sink, sink, limit, work, log, &mut out,
+        kind, capacity, first_edge, edge_target, source, first_sink, sink,
+        limit, first, up, down, step, work, log, &mut out,
     );
     taken(returned, &out, 3)
 }
 
-/// Reads a job text. Numbers: nodes, edges, nets, sinks, limit.
+/// Reads a job text. Numbers: nodes, edges, nets, sinks, limit, first, up, down, step.
 #[allow(clippy::too_many_arguments)]
 pub fn read(
     text: &[u8], kind: &mut [u8], capacity: &mut [u8], first_edge: &mut [u32], edge_target: &mut [u16],
@@ -220,7 +223,7 @@ pub fn read(
     let returned = raw_read(
         text, kind, capacity, first_edge, edge_target, source, first_sink, sink, &mut out,
     );
-    taken(returned, &out, 5)
+    taken(returned, &out, 9)
 }
 
 /// Writes the routes text of a log. Numbers: bytes.

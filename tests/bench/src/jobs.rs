@@ -191,9 +191,11 @@ mod tests {
         for shape in SHAPES {
             for nodes in SIZES {
                 let job = make(shape, nodes);
+                let [first, up, down, step] = job.tuning.numbers();
                 let answer = plain::route(
                     &job.kind, &job.capacity, &job.first_edge, &job.edge_target,
-                    &job.source, &job.first_sink, &job.sink, job.limit, &mut vec![0; 8 * nodes], &mut [],
+                    &job.source, &job.first_sink, &job.sink, job.limit, first, up, down, step,
+                    &mut vec![0; 8 * nodes], &mut [],
                 );
                 assert_eq!(answer.refusal, [8, 1, 0], "{shape:?} {nodes}");
             }

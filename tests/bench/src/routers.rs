@@ -46,9 +46,10 @@ pub fn all() -> Vec<Router> {
 
 #[cfg(all(feature = "proved", not(feature = "no-proved")))]
 fn proved(job: &Job, work: &mut [u64], log: &mut [u32]) -> Result {
+    let [first, up, down, step] = job.tuning.numbers();
     let answer = arvumnao::route(
         &job.kind, &job.capacity, &job.first_edge, &job.edge_target,
-        &job.source, &job.first_sink, &job.sink, job.limit, work, log,
+        &job.source, &job.first_sink, &job.sink, job.limit, first, up, down, step, work, log,
     );
     Result { refusal: answer.refusal, numbers: answer.numbers }
 }
@@ -59,17 +60,19 @@ fn proved(_: &Job, _: &mut [u64], _: &mut [u32]) -> Result {
 }
 
 fn plain(job: &Job, work: &mut [u64], log: &mut [u32]) -> Result {
+    let [first, up, down, step] = job.tuning.numbers();
     let answer = plain::route(
         &job.kind, &job.capacity, &job.first_edge, &job.edge_target,
-        &job.source, &job.first_sink, &job.sink, job.limit, work, log,
+        &job.source, &job.first_sink, &job.sink, job.limit, first, up, down, step, work, log,
     );
     Result { refusal: answer.refusal, numbers: answer.numbers }
 }
 
 fn tuned_answer(way: Way, job: &Job, log: &mut [u32]) -> Result {
+    let [first, up, down, step] = job.tuning.numbers();
     let outcome = tuned::route(
         way, &job.kind, &job.capacity, &job.first_edge, &job.edge_target,
-        &job.source, &job.first_sink, &job.sink, job.limit, log,
+        &job.source, &job.first_sink, &job.sink, job.limit, first, up, down, step, log,
     );
     let numbers = vec![outcome.iteration, outcome.turns, outcome.words];
     Result { refusal: outcome.refusal, numbers }

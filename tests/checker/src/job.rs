@@ -1,6 +1,15 @@
 //! The job's tables, as 01 numbers them. They are taken to be sound.
 
-/// A job: tables 1 to 7 and the limit of iterations.
+/// The numbers of a P line.
+#[derive(Clone, Copy)]
+pub struct Tuning {
+    pub first: u32,
+    pub up: u32,
+    pub down: u32,
+    pub step: u32,
+}
+
+/// A job: tables 1 to 7, the limit of iterations and the tuning.
 pub struct Job<'a> {
     pub kind: &'a [u8],
     pub capacity: &'a [u8],
@@ -10,6 +19,7 @@ pub struct Job<'a> {
     pub first_sink: &'a [u32],
     pub sink: &'a [u16],
     pub limit: u32,
+    pub tuning: Tuning,
 }
 
 impl<'a> Job<'a> {

@@ -12,7 +12,7 @@ pub mod trees;
 mod turns;
 
 pub use fault::Fault;
-pub use job::Job;
+pub use job::{Job, Tuning};
 
 /// Checks the answer to a job with sound tables and enough work memory.
 /// `log` is the whole lent log, `words` the words used, `refusal` 01's

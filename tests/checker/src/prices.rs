@@ -1,6 +1,6 @@
 //! Prices worked out from the job and the log's earlier turns.
 
-use crate::job::Job;
+use crate::job::{Job, Tuning};
 use crate::trees::Trees;
 
 const TOP_FACTOR: u64 = 65_535;
@@ -15,10 +15,11 @@ pub fn base(kind: u8) -> u64 {
 }
 
 /// The factor of an iteration, from 1.
-pub fn factor(iteration: u32) -> u64 {
+pub fn factor(tuning: Tuning, iteration: u32) -> u64 {
+    let [first, up, down] = [tuning.first, tuning.up, tuning.down].map(u64::from);
     match iteration {
         0 | 1 => 0,
-        _ => (2..iteration).fold(50, |last, _| (last * 3 / 2).min(TOP_FACTOR)),
+        _ => (2..iteration).fold(first, |last, _| (last * up / down).min(TOP_FACTOR)),
     }
 }
 
@@ -40,7 +41,7 @@ impl Prices {
     pub fn new(job: &Job) -> Prices {
         Prices {
             iteration: 1,
-            factor: factor(1),
+            factor: factor(job.tuning, 1),
             history: vec![1; job.nodes()],
         }
     }
@@ -48,9 +49,9 @@ impl Prices {
     /// Moves on to the next iteration, given the trees after this one.
     pub fn step(&mut self, job: &Job, trees: &Trees) {
         self.iteration += 1;
-        self.factor = factor(self.iteration);
+        self.factor = factor(job.tuning, self.iteration);
         for (node, history) in self.history.iter_mut().enumerate() {
-            *history += u64::from(trees.over(job, node));
+            *history += u64::from(job.tuning.step) * u64::from(trees.over(job, node));
         }
     }
 

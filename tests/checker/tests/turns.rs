@@ -305,6 +305,28 @@ fn histories_and_others_over_three_iterations() {
 }
 
 #[test]
+fn histories_and_factors_by_the_tuning() {
+    let mut job = narrow(3);
+    job.tuning = job::Tuning {
+        first: 10,
+        up: 8,
+        down: 3,
+        step: 2,
+    };
+    // 3 x 20 x 110 and 5 x 20 x 126, each with the sink's 2000.
+    let costs = [(21, 8600), (30, 8600), (39, 14600), (48, 14600)];
+    let log = with(&NARROW_LOG, &costs);
+    assert_eq!(job.check(&log, &[9, 3, 1], 3, 6), Ok(()));
+    let fault = Fault::Cost {
+        turn: 2,
+        logged: 8000,
+        path: 8600,
+    };
+    assert_eq!(job.check(&NARROW_LOG, &[9, 3, 1], 3, 6), Err(fault));
+    assert!(narrow(3).check(&log, &[9, 3, 1], 3, 6).is_err());
+}
+
+#[test]
 fn every_changed_word_is_found() {
     for (place, &right) in B_LOG.iter().enumerate() {
         for word in (0..8).chain([4096, 65_536, 1 << 31, u32::MAX]) {

@@ -14,8 +14,8 @@ const OTHERS: [u32; 9] = [0, 1, 2, 3, 254, 255, 256, 510, 511];
 const BAD_OTHERS: [u32; 4] = [512, 513, 65_535, u32::MAX];
 const CAPACITIES: [u32; 7] = [1, 2, 3, 4, 128, 254, 255];
 const BAD_CAPACITIES: [u32; 4] = [0, 256, 257, u32::MAX];
-const HISTORIES: [u32; 6] = [1, 2, 3, 1_000, 50_589, 50_590];
-const BAD_HISTORIES: [u32; 4] = [0, 50_591, 65_537, u32::MAX];
+const HISTORIES: [u32; 8] = [1, 2, 3, 1_000, 50_590, 50_591, 101_178, 101_179];
+const BAD_HISTORIES: [u32; 4] = [0, 101_180, 131_073, u32::MAX];
 
 /// A good number, once in 12 draws a bad one.
 fn number(rng: &mut Rng, good: &[u32], bad: &[u32]) -> u32 {
@@ -24,7 +24,7 @@ fn number(rng: &mut Rng, good: &[u32], bad: &[u32]) -> u32 {
 
 /// A call of the price.
 pub fn price(rng: &mut Rng) -> Case {
-    let history = if rng.percent(40) { rng.within(1, 50_590) as u32 } else { number(rng, &HISTORIES, &BAD_HISTORIES) };
+    let history = if rng.percent(40) { rng.within(1, 101_179) as u32 } else { number(rng, &HISTORIES, &BAD_HISTORIES) };
     Case::Price {
         kind: number(rng, &KINDS, &BAD_KINDS),
         factor: number(rng, &FACTORS, &BAD_FACTORS),
@@ -34,8 +34,21 @@ pub fn price(rng: &mut Rng) -> Case {
     }
 }
 
+/// The search with the largest distances there are: a line of the longest wires, every number at its bound.
+fn dearest() -> Case {
+    let mut graph = jobs::line(4_096);
+    graph.kind.fill(15);
+    let mut in_tree = vec![0; 4_096];
+    in_tree[0] = 1;
+    let lists = Lists { history: vec![101_179; 4_096], others: vec![511; 4_096], in_tree };
+    lists.case(graph, 65_535, 8 * 4_096)
+}
+
 /// A call of the search; one in a few has something wrong with it.
 pub fn search(rng: &mut Rng) -> Case {
+    if rng.once_in(2_000) {
+        return dearest();
+    }
     let mut graph = jobs::job(rng);
     if rng.once_in(500) {
         graph = jobs::full(182, 32_768);

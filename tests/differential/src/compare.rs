@@ -25,7 +25,7 @@ pub fn own(case: &Case) -> usize {
         Case::Price { .. } | Case::Write { .. } => 1,
         Case::Search { .. } => 0,
         Case::Route { .. } => 3,
-        Case::Read { .. } => 5,
+        Case::Read { .. } => 9,
     }
 }
 
@@ -93,7 +93,8 @@ macro_rules! side {
                 ),
                 Case::Route { job, work, log } => $side::route(
                     &job.kind, &job.capacity, &job.first_edge, &job.edge_target,
-                    &job.source, &job.first_sink, &job.sink, job.limit, lend(work), lend(log),
+                    &job.source, &job.first_sink, &job.sink, job.limit,
+                    job.tuning.first, job.tuning.up, job.tuning.down, job.tuning.step, lend(work), lend(log),
                 ),
                 Case::Read { text, tables } => $side::read(
                     text, lend(&mut tables.kind), lend(&mut tables.capacity), lend(&mut tables.first_edge),
@@ -246,6 +247,7 @@ fn check(after: &After) -> Result<(), String> {
     if matches!(refusal.first(), Some(5 | 6)) {
         return Ok(());
     }
+    let job::Tuning { first, up, down, step } = job.tuning;
     let job = checker::Job {
         kind: &job.kind,
         capacity: &job.capacity,
@@ -255,6 +257,7 @@ fn check(after: &After) -> Result<(), String> {
         first_sink: &job.first_sink,
         sink: &job.sink,
         limit: job.limit,
+        tuning: checker::Tuning { first, up, down, step },
     };
     checker::check(&job, log, refusal, numbers[0], numbers[1], numbers[2])
         .map_err(|fault| format!("the checker faults the log ({:?}): {fault}", after.answer))
@@ -304,7 +307,8 @@ fn raw(case: &mut Case, out: &mut [u64]) -> u32 {
         ),
         Case::Route { job, work, log } => arvumnao::raw_route(
             &job.kind, &job.capacity, &job.first_edge, &job.edge_target,
-            &job.source, &job.first_sink, &job.sink, job.limit, lend(work), lend(log), out,
+            &job.source, &job.first_sink, &job.sink, job.limit,
+            job.tuning.first, job.tuning.up, job.tuning.down, job.tuning.step, lend(work), lend(log), out,
         ),
         Case::Read { text, tables } => arvumnao::raw_read(
             text, lend(&mut tables.kind), lend(&mut tables.capacity), lend(&mut tables.first_edge),
@@ -358,8 +362,19 @@ pub mod inject {
             (7, Case::Price { factor, .. }, _) if answer.refusal.is_empty() && *factor == 65_535 => {
                 answer.numbers[0] += 1;
             }
-            _ => {}
+            (fault, ..) => tuning(fault, before, &mut answer),
         }
         answer
+    }
+
+    /// Faults of the tuning.
+    fn tuning(fault: u32, before: &Case, answer: &mut Answer) {
+        match (fault, before) {
+            // a step of 2 counts a turn too many
+            (8, Case::Route { job, .. }) if job.tuning.step == 2 && answer.numbers[0] >= 2 => answer.numbers[1] += 1,
+            // a value beyond its bounds in a P line is taken for a wrong shape
+            (9, Case::Read { text, .. }) if answer.refusal == [2, 2] && text.contains(&b'P') => answer.refusal = vec![1, 2],
+            _ => {}
+        }
     }
 }

@@ -1,16 +1,17 @@
 //! Tables that break a rule.
 
-use job::{Job, Rng};
+use job::{Job, Rng, Tuning};
 
 /// Damages a job in one way, at times in two or three.
 pub fn damage(rng: &mut Rng, job: &mut Job) {
     let times = rng.pick(&[1, 1, 1, 1, 2, 3]);
     for _ in 0..times {
-        match rng.below(8) {
+        match rng.below(9) {
             0..=3 => one_of_graph(rng, job),
             4 => sources(rng, job),
             5 => firsts(rng, &mut job.first_sink),
             6 => sinks(rng, job),
+            7 => tuning(rng, &mut job.tuning),
             _ => job.limit = rng.pick(&[0, 101, 102, 256, 257, 65_536, 65_537, u32::MAX]),
         }
     }
@@ -163,7 +164,8 @@ fn too_many_edges(rng: &mut Rng, job: &mut Job) {
     if rng.percent(50) {
         let full = crate::jobs::full(182, rng.pick(&[32_769, 32_770, 32_942]));
         let old = std::mem::replace(job, full);
-        (job.source, job.first_sink, job.sink, job.limit) = (old.source, old.first_sink, old.sink, old.limit);
+        (job.source, job.first_sink, job.sink) = (old.source, old.first_sink, old.sink);
+        (job.limit, job.tuning) = (old.limit, old.tuning);
         return;
     }
     let edges = rng.pick(&[32_768, 32_769, 65_536]);
@@ -173,6 +175,23 @@ fn too_many_edges(rng: &mut Rng, job: &mut Job) {
             *last = edges as u32;
         }
     }
+}
+
+/// One number of the tuning beyond its bounds, some by a power of two.
+fn tuning(rng: &mut Rng, tuning: &mut Tuning) {
+    match rng.below(5) {
+        0 => tuning.first = rng.pick(&[1_001, 1_002, 65_536, 65_586, u32::MAX]),
+        1 => tuning.up = rng.pick(&[0, 9, 10, 256, 259, 65_539, u32::MAX]),
+        2 => tuning.down = rng.pick(&[0, 5, 8, 256, 258, 65_538, u32::MAX]),
+        3 => tuning.step = rng.pick(&[0, 3, 4, 256, 257, 65_537, u32::MAX]),
+        _ => below_down(rng, tuning),
+    }
+}
+
+/// Growth up below down, both else allowed.
+fn below_down(rng: &mut Rng, tuning: &mut Tuning) {
+    tuning.down = rng.within(2, 4) as u32;
+    tuning.up = rng.within(1, tuning.down as usize - 1) as u32;
 }
 
 fn sources(rng: &mut Rng, job: &mut Job) {
@@ -245,7 +264,6 @@ fn source_as_sink(rng: &mut Rng, job: &mut Job) {
 
 /// 4,097 sinks, in all else sound.
 fn too_many_sinks(rng: &mut Rng, job: &mut Job) {
-    let limit = job.limit;
-    *job = crate::jobs::many_sinks(rng, 4_097);
-    job.limit = limit;
+    let (limit, tuning) = (job.limit, job.tuning);
+    *job = Job { limit, tuning, ..crate::jobs::many_sinks(rng, 4_097) };
 }

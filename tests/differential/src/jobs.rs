@@ -1,6 +1,6 @@
 //! Sound jobs from a seed.
 
-use job::{Job, Rng};
+use job::{Job, Rng, Tuning};
 
 /// A job as lists of lists, from which the tables are made.
 #[derive(Clone, Debug)]
@@ -10,10 +10,11 @@ pub struct Plan {
     pub rows: Vec<Vec<u16>>,
     pub nets: Vec<(u16, Vec<u16>)>,
     pub limit: u32,
+    pub tuning: Tuning,
 }
 
 impl Plan {
-    /// A graph of wires of length 1, capacities 1, without edges and nets.
+    /// A graph of wires of length 1, capacities 1, without edges and nets, with the plain tuning.
     fn empty(nodes: usize) -> Plan {
         Plan {
             kind: vec![4; nodes],
@@ -21,6 +22,7 @@ impl Plan {
             rows: vec![Vec::new(); nodes],
             nets: Vec::new(),
             limit: 1,
+            tuning: Tuning::PLAIN,
         }
     }
 
@@ -51,7 +53,9 @@ impl Plan {
 
     /// The tables.
     pub fn job(&self) -> Job {
-        Job::new(self.kind.clone(), self.capacity.clone(), &self.rows, &self.nets, self.limit)
+        let mut job = Job::new(self.kind.clone(), self.capacity.clone(), &self.rows, &self.nets, self.limit);
+        job.tuning = self.tuning;
+        job
     }
 }
 
@@ -62,11 +66,38 @@ pub fn job(rng: &mut Rng) -> Job {
 
 /// A sound job of few nodes.
 pub fn small(rng: &mut Rng) -> Job {
-    small_plan(rng).job()
+    let mut plan = untuned_small(rng);
+    plan.tuning = tuning(rng);
+    plan.job()
 }
 
 /// A sound job's lists.
 pub fn plan(rng: &mut Rng) -> Plan {
+    let mut plan = untuned(rng);
+    plan.tuning = tuning(rng);
+    plan
+}
+
+/// The plain tuning or any other, its bounds more often than what is between them.
+pub fn tuning(rng: &mut Rng) -> Tuning {
+    if rng.percent(40) {
+        return Tuning::PLAIN;
+    }
+    let down = rng.within(1, 4);
+    let up = match rng.below(4) {
+        0 => down,
+        1 => 8,
+        _ => rng.within(down, 8),
+    };
+    let first = match rng.below(3) {
+        0 => rng.below(1_001),
+        _ => rng.pick(&[0, 1, 2, 10, 49, 50, 51, 999, 1_000]),
+    };
+    Tuning { first: first as u32, up: up as u32, down: down as u32, step: rng.within(1, 2) as u32 }
+}
+
+/// A sound job's lists with the plain tuning.
+fn untuned(rng: &mut Rng) -> Plan {
     match rng.below(1000) {
         0..=2 => large(rng),
         3 => crowd(rng),
@@ -75,12 +106,12 @@ pub fn plan(rng: &mut Rng) -> Plan {
             any(rng, nodes, 4)
         }
         70..=119 => heavy(rng),
-        _ => small_plan(rng),
+        _ => untuned_small(rng),
     }
 }
 
-/// A job of few nodes, often a congested one.
-fn small_plan(rng: &mut Rng) -> Plan {
+/// A job of few nodes, often a congested one, with the plain tuning.
+fn untuned_small(rng: &mut Rng) -> Plan {
     if rng.percent(45) {
         congested(rng)
     } else {

@@ -5,7 +5,7 @@ use crate::compare::{self, After, Case};
 use crate::damage;
 use crate::jobs;
 use crate::texts;
-use job::{Job, Rng};
+use job::{Job, Rng, Tuning};
 use std::collections::BTreeMap;
 
 /// A case that fails, and how.
@@ -17,7 +17,7 @@ pub struct Failure {
 }
 
 /// Every outcome that a long run should come to.
-const EXPECTED: [&str; 46] = [
+const EXPECTED: [&str; 63] = [
     "price accepted", "price 13,0", "price 13,1", "price 13,2", "price 13,3", "price 13,4",
     "search accepted", "search 5,1", "search 5,2", "search 5,3", "search 5,4", "search 6", "search 13",
     "route accepted", "route 5,1", "route 5,2", "route 5,3", "route 5,4", "route 5,5", "route 5,6", "route 5,7",
@@ -26,6 +26,10 @@ const EXPECTED: [&str; 46] = [
     "read 4,6", "read 4,7", "write accepted", "write 10", "write 11",
     "sound job accepted, iteration 6 to 20", "route at iteration 21 or later", "route with costs over 32 bits",
     "text of 4,096 sinks accepted", "text of 4,097 sinks 3", "search 13 with the node count",
+    "search with a distance over 2^61",
+    "tuning plain", "tuning first 0", "tuning first 1,000", "tuning down 1", "tuning down 2", "tuning down 3", "tuning down 4",
+    "tuning up as down", "tuning up 8", "tuning step 1", "tuning step 2", "tuning not plain, accepted",
+    "P line accepted", "P line 1,2", "P line 2,2", "P line 1,3",
 ];
 
 /// The counts, and each seed's generator.
@@ -77,7 +81,7 @@ impl Run {
         };
         self.count_outcome(&after);
         if self.rng.once_in(8) {
-            let length = self.rng.below(11);
+            let length = self.rng.pick(&[0, 1, 3, 7, 8, 11, 12, 15, 16, 17, 18]);
             if let Err(message) = examine(&case, Some(length)) {
                 return Err(Failure { case, out: Some(length), message });
             }
@@ -88,17 +92,20 @@ impl Run {
     fn count_outcome(&mut self, after: &After) {
         let call = match &after.case {
             Case::Price { .. } => "price",
-            Case::Search { graph, .. } => {
-                if after.answer.refusal == [13, graph.kind.len() as u64] {
-                    self.count(String::from("search 13 with the node count"));
-                }
+            Case::Search { graph, work, .. } => {
+                self.count_search(after, graph.kind.len(), work);
                 "search"
             }
             Case::Route { log, .. } => {
                 self.count_route(after, log);
                 "route"
             }
-            Case::Read { .. } => "read",
+            Case::Read { text, .. } => {
+                if text.windows(2).any(|bytes| bytes == b"\nP") {
+                    self.count_tuning_line(after);
+                }
+                "read"
+            }
             Case::Write { .. } => "write",
         };
         let outcome = match after.answer.refusal[..] {
@@ -108,6 +115,44 @@ impl Run {
             [number, ..] => format!("{call} {number}"),
         };
         self.count(outcome);
+    }
+
+    /// Counts what few searches come to.
+    fn count_search(&mut self, after: &After, nodes: usize, work: &[u64]) {
+        if after.answer.refusal.is_empty() && work[..nodes].iter().any(|far| (1 << 61..1 << 62).contains(far)) {
+            self.count(String::from("search with a distance over 2^61"));
+        }
+        if after.answer.refusal == [13, nodes as u64] {
+            self.count(String::from("search 13 with the node count"));
+        }
+    }
+
+    /// Counts how a text with a P line ends, as far as that may be the line's doing.
+    fn count_tuning_line(&mut self, after: &After) {
+        match after.answer.refusal[..] {
+            [] => self.count(String::from("P line accepted")),
+            [number @ (1 | 2), line @ (2 | 3)] => self.count(format!("P line {number},{line}")),
+            _ => {}
+        }
+    }
+
+    /// Counts a sound job's tuning, if the job comes to an iteration in which all of it counts.
+    fn count_tuning(&mut self, tuning: Tuning, after: &After) {
+        if after.answer.numbers[0] < 3 {
+            return;
+        }
+        let Tuning { first, up, down, step } = tuning;
+        if tuning == Tuning::PLAIN {
+            self.count(String::from("tuning plain"));
+        } else if after.answer.refusal.is_empty() {
+            self.count(String::from("tuning not plain, accepted"));
+        }
+        let bounds = [(first == 0, "first 0"), (first == 1_000, "first 1,000"), (up == down, "up as down"), (up == 8, "up 8")];
+        for (_, name) in bounds.into_iter().filter(|bound| bound.0) {
+            self.count(format!("tuning {name}"));
+        }
+        self.count(format!("tuning down {down}"));
+        self.count(format!("tuning step {step}"));
     }
 
     /// Counts what only long negotiations come to.
@@ -162,6 +207,7 @@ impl Run {
         let log = self.old_log(length);
         let after = self.case(route(job, 8 * job.kind.len() + extra, log))?;
         self.count_whole(&after);
+        self.count_tuning(job.tuning, &after);
         Ok(after.answer.numbers[2] as usize)
     }
 
@@ -264,7 +310,7 @@ impl Run {
 
     /// Sound and changed texts of a job.
     fn reads(&mut self, job: &Job) -> Result<(), Failure> {
-        let sound = texts::text(job);
+        let sound = texts::some_text(&mut self.rng, job);
         let needed = texts::needed(job);
         self.read(sound.clone(), needed)?;
         for _ in 0..3 {

@@ -1,7 +1,7 @@
 //! Makes a failing case smaller while it still fails, and prints it.
 
 use crate::compare::Case;
-use job::Job;
+use job::{Job, Tuning};
 use std::time::{Duration, Instant};
 
 /// A way to a smaller case. Spans are a first place and a count.
@@ -15,6 +15,8 @@ enum Step {
     Nets(usize, usize),
     /// Drops sinks.
     Sinks(usize, usize),
+    /// Sets the plain tuning.
+    Plain,
     /// Drops entries of the slice with this number.
     Cut(usize, usize, usize),
     /// Lowers an entry of the slice with this number.
@@ -57,7 +59,7 @@ pub fn shrink(case: &Case, fails: &dyn Fn(&Case) -> bool) -> Case {
 
 /// All steps worth trying, coarse ones first.
 fn steps(case: &Case) -> Vec<Step> {
-    let mut list = Vec::new();
+    let mut list = vec![Step::Plain];
     let (nodes, edges, nets, sinks) = sizes(case);
     list.extend(spans(nets).into_iter().map(|(from, count)| Step::Nets(from, count)));
     list.extend(spans(nodes).into_iter().map(|(from, count)| Step::Nodes(from, count)));
@@ -198,7 +200,7 @@ fn apply(case: &Case, step: Step) -> Option<Case> {
     Some(smaller)
 }
 
-/// The case without some nodes, edges, nets or sinks.
+/// The case without some nodes, edges, nets or sinks, or without a tuning of its own.
 fn drop_parts(mut case: Case, step: Step) -> Option<Case> {
     match &mut case {
         Case::Search { graph, work, history, others, in_tree, .. } => {
@@ -235,6 +237,7 @@ fn drop_from_job(job: &mut Job, step: Step) -> Option<()> {
         Step::Edges(from, count) => drop_edges(job, from, count),
         Step::Nets(from, count) => (0..count).try_for_each(|_| drop_net(job, from)),
         Step::Sinks(from, count) => (0..count).try_for_each(|_| drop_sink(job, from)),
+        Step::Plain => (job.tuning != Tuning::PLAIN).then(|| job.tuning = Tuning::PLAIN),
         _ => None,
     }
 }
@@ -405,14 +408,15 @@ fn fill_slice(case: &mut Case, number: usize) {
     with_slice!(case, number, slice => slice.fill(7));
 }
 
-/// The single numbers of a case.
+/// The single numbers of a case; those of the plain tuning are not to be lowered.
 fn numbers(case: &Case) -> Vec<u64> {
     match case {
         Case::Price { kind, factor, others, capacity, history } => {
             [kind, factor, others, capacity, history].map(|number| u64::from(*number)).to_vec()
         }
         Case::Search { factor, .. } => vec![u64::from(*factor)],
-        Case::Route { job, .. } => vec![u64::from(job.limit)],
+        Case::Route { job, .. } if job.tuning == Tuning::PLAIN => vec![u64::from(job.limit)],
+        Case::Route { job, .. } => [&[job.limit][..], &job.tuning.numbers()].concat().into_iter().map(u64::from).collect(),
         _ => Vec::new(),
     }
 }
@@ -423,7 +427,12 @@ fn set_number(case: &mut Case, number: usize, value: u64) -> Option<()> {
             [kind, factor, others, capacity, history].into_iter().nth(number)?
         }
         Case::Search { factor, .. } => factor,
-        Case::Route { job, .. } => &mut job.limit,
+        Case::Route { job: Job { limit, tuning, .. }, .. } if number == 0 || *tuning == Tuning::PLAIN => {
+            [limit].into_iter().nth(number)?
+        }
+        Case::Route { job: Job { tuning: Tuning { first, up, down, step }, .. }, .. } => {
+            [first, up, down, step].into_iter().nth(number - 1)?
+        }
         _ => return None,
     };
     if value >= u64::from(*place) {
@@ -483,8 +492,9 @@ fn call(case: &Case) -> String {
             "search(&kind, &capacity, &first_edge, &edge_target, {factor}, &mut work, &history, &others, &in_tree)"
         ),
         Case::Route { job, .. } => format!(
-            "route(&kind, &capacity, &first_edge, &edge_target, &source, &first_sink, &sink, {}, &mut work, &mut log)",
-            job.limit
+            "route(&kind, &capacity, &first_edge, &edge_target, &source, &first_sink, &sink, {}, {}, &mut work, &mut log)",
+            job.limit,
+            job.tuning.numbers().map(|number| number.to_string()).join(", ")
         ),
         Case::Read { .. } => String::from(
             "read(&text, &mut kind, &mut capacity, &mut first_edge, &mut edge_target, &mut source, &mut first_sink, &mut sink)",
@@ -521,6 +531,7 @@ mod tests {
     fn faults_are_found_and_made_small() {
         let Case::Route { job, log, .. } = smallest(1) else { panic!("fault 1") };
         assert!(job.kind.len() <= 4 && job.source.len() <= 2 && job.limit == 3 && log.len() <= 60);
+        assert!(job.tuning == Tuning::PLAIN);
         let Case::Route { job, work, log } = smallest(2) else { panic!("fault 2") };
         assert!(job.kind.len() == 2 && job.source.is_empty() && work.is_empty() && log.is_empty());
         let Case::Read { text, tables } = smallest(3) else { panic!("fault 3") };
@@ -532,6 +543,10 @@ mod tests {
         let Case::Search { graph, .. } = smallest(6) else { panic!("fault 6") };
         assert!(graph.kind.len() <= 5 && graph.edge_target.is_empty());
         assert_eq!(smallest(7), Case::Price { kind: 0, factor: 65_535, others: 0, capacity: 1, history: 1 });
+        let Case::Route { job, .. } = smallest(8) else { panic!("fault 8") };
+        assert!(job.limit == 2 && job.tuning == Tuning { first: 0, up: 1, down: 1, step: 2 });
+        let Case::Read { text, .. } = smallest(9) else { panic!("fault 9") };
+        assert!(text.starts_with(b"F,1,0,1,1\nP,") && text.len() <= 20, "{}", text.escape_ascii());
         FAULT.store(0, Ordering::Relaxed);
         assert!(first_failure().is_none());
     }

@@ -1,6 +1,6 @@
 //! Job texts, sound and changed, and logs for the writer.
 
-use job::{Job, Rng};
+use job::{Job, Rng, Tuning};
 
 /// A line's letter and numbers.
 #[derive(Clone)]
@@ -9,14 +9,17 @@ struct Line {
     fields: Vec<u64>,
 }
 
-/// The lines of a job's text.
-fn lines(job: &Job) -> Vec<Line> {
+/// The lines of a job's text; the P line of the plain tuning may be left out.
+fn lines(job: &Job, say_plain: bool) -> Vec<Line> {
     let (nodes, nets) = (job.kind.len(), job.source.len());
     let mut list = Vec::new();
     let mut add = |letter, fields: &[usize]| {
         list.push(Line { letter, fields: fields.iter().map(|field| *field as u64).collect() });
     };
     add(b'F', &[nodes, job.edge_target.len(), nets, job.limit as usize]);
+    if say_plain || job.tuning != Tuning::PLAIN {
+        add(b'P', &job.tuning.numbers().map(|number| number as usize));
+    }
     for node in 0..nodes {
         add(b'N', &[node, job.kind[node] as usize, job.capacity[node] as usize]);
     }
@@ -48,14 +51,23 @@ fn print(list: &[Line]) -> Vec<u8> {
     text
 }
 
-/// The text of a job with sound tables.
+/// The text of a job with sound tables, with a P line only where it is needed.
 pub fn text(job: &Job) -> Vec<u8> {
-    print(&lines(job))
+    print(&lines(job, false))
+}
+
+/// The same, at times with the P line of the plain tuning.
+pub fn some_text(rng: &mut Rng, job: &Job) -> Vec<u8> {
+    print(&lines(job, rng.once_in(4)))
 }
 
 /// A job's text with wrong content, wrong bytes or both.
 pub fn changed(rng: &mut Rng, job: &Job) -> Vec<u8> {
-    let mut list = lines(job);
+    let mut list = lines(job, rng.once_in(4));
+    if rng.once_in(8) {
+        change_tuning(rng, &mut list);
+        return print(&list);
+    }
     let way = rng.below(100);
     if way < 60 {
         for _ in 0..rng.pick(&[1, 1, 1, 2, 3]) {
@@ -63,7 +75,9 @@ pub fn changed(rng: &mut Rng, job: &Job) -> Vec<u8> {
         }
     }
     let mut text = print(&list);
-    if way >= 50 {
+    if rng.once_in(30) {
+        leading_in_second(rng, &mut text);
+    } else if way >= 50 {
         for _ in 0..rng.pick(&[1, 1, 1, 2, 4]) {
             change_bytes(rng, &mut text);
         }
@@ -73,9 +87,10 @@ pub fn changed(rng: &mut Rng, job: &Job) -> Vec<u8> {
 
 /// Texts that hardly hold a job at all.
 pub fn odd(rng: &mut Rng) -> Vec<u8> {
-    let choices: [&[u8]; 12] = [
+    let choices: [&[u8]; 18] = [
         b"", b"\n", b"F", b"F\n", b"F,1,0,1,1\n", b"F,1,0,1,1", b"\r\n", b"F,4097,0,1,1\n", b"F,1,32769,1,1\n", b"F,1,0,513,1\n",
-        b"F,1,0,1,101\n", b"F,0,0,0,0\n",
+        b"F,1,0,1,101\n", b"F,0,0,0,0\n", b"F,1,0,1,1\nP", b"F,1,0,1,1\nP\n", b"F,1,0,1,1\nP,50,3,2,1", b"F,1,0,1,1\nP,50,3,2,1\n",
+        b"P,50,3,2,1\n", b"F,1,0,1,1\nP,1001,3,2,1",
     ];
     rng.pick(&choices).to_vec()
 }
@@ -89,7 +104,7 @@ fn change_lines(rng: &mut Rng, list: &mut Vec<Line>) {
     match rng.below(16) {
         0..=5 => change_field(rng, &mut list[place]),
         6 => copy_field(rng, list, place),
-        7 => list[place].letter = rng.pick(b"FNESTRBXfn ,\n0"),
+        7 => list[place].letter = rng.pick(b"FPNESTRBXfn ,\n0"),
         8 => drop(list[place].fields.pop()),
         9 => {
             let field = rng.below(9) as u64;
@@ -114,9 +129,39 @@ fn change_lines(rng: &mut Rng, list: &mut Vec<Line>) {
     }
 }
 
+/// A P line of another shape, with a bad value, twice or elsewhere. There is one afterwards even if there was none.
+fn change_tuning(rng: &mut Rng, list: &mut Vec<Line>) {
+    if list.get(1).is_none_or(|line| line.letter != b'P') {
+        let fields = crate::jobs::tuning(rng).numbers().map(u64::from).to_vec();
+        list.insert(1, Line { letter: b'P', fields });
+    }
+    match rng.below(12) {
+        0 => list.insert(1, list[1].clone()),
+        1 => list.swap(0, 1),
+        2 => list.swap(1, 2),
+        3 => {
+            let line = list.remove(1);
+            list.insert(rng.below(list.len() + 1), line);
+        }
+        4 => list.insert(rng.within(2, list.len()), list[1].clone()),
+        5 => list[1].fields.push(rng.below(4) as u64),
+        6 => list[1].fields.truncate(rng.below(4)),
+        7 => list[1].letter = rng.pick(b"pNFVWR"),
+        8 => change_field(rng, &mut list[1]),
+        9 => {
+            let down = rng.within(1, 4) as u64;
+            (list[1].fields[1], list[1].fields[2]) = (down - rng.below(2) as u64, down);
+        }
+        _ => {
+            let (field, bad) = rng.pick(&[(0, 1_001), (1, 9), (1, 0), (2, 0), (2, 5), (3, 0), (3, 3)]);
+            list[1].fields[field] = bad;
+        }
+    }
+}
+
 /// Some line, with each letter about as often.
 fn some_line(rng: &mut Rng, list: &[Line]) -> usize {
-    let letter = rng.pick(b"FNEST");
+    let letter = rng.pick(b"FPNEST");
     let same: Vec<usize> = (0..list.len()).filter(|place| list[*place].letter == letter).collect();
     if same.is_empty() { rng.below(list.len()) } else { rng.pick(&same) }
 }
@@ -133,7 +178,7 @@ fn change_field(rng: &mut Rng, line: &mut Line) {
         1 => old.saturating_sub(1),
         _ => rng.pick(&[
             0, 1, 2, 5, 15, 16, 100, 101, 255, 256, 511, 512, 513, 4_095, 4_096, 4_097, 32_767, 32_768, 32_769, 65_535,
-            65_536, 65_537, 99_999, 100_000, 999_999, 1_000_000, 4_294_967_296, 18_446_744_073_709_551_615,
+            3, 4, 8, 9, 1_000, 1_001, 65_536, 65_537, 99_999, 100_000, 999_999, 1_000_000, 4_294_967_296, 18_446_744_073_709_551_615,
         ]),
     };
 }
@@ -151,7 +196,7 @@ fn copy_field(rng: &mut Rng, list: &mut [Line], place: usize) {
 
 /// A line after the end.
 fn extra(rng: &mut Rng) -> Line {
-    let letter = rng.pick(b"FNESTT");
+    let letter = rng.pick(b"FPNESTT");
     let fields = (0..rng.within(1, 4)).map(|_| rng.below(8) as u64).collect();
     Line { letter, fields }
 }
@@ -186,7 +231,7 @@ fn change_bytes(rng: &mut Rng, text: &mut Vec<u8>) {
 /// A byte, mostly one that job texts have.
 fn byte(rng: &mut Rng) -> u8 {
     if rng.percent(85) {
-        rng.pick(b"0123456789,,\n\n\rFNEST -+.\"")
+        rng.pick(b"0123456789,,\n\n\rFPNEST -+.\"")
     } else {
         rng.next() as u8
     }
@@ -208,12 +253,25 @@ fn carriage_return(rng: &mut Rng, text: &mut Vec<u8>) {
 
 /// Digits before a number.
 fn leading(rng: &mut Rng, text: &mut Vec<u8>, digits: &[u8]) {
-    let commas: Vec<usize> = (0..text.len()).filter(|place| text[*place] == b',').collect();
+    leading_within(rng, text, digits, 0, text.len());
+}
+
+/// The same among the bytes from one place up to another.
+fn leading_within(rng: &mut Rng, text: &mut Vec<u8>, digits: &[u8], from: usize, end: usize) {
+    let commas: Vec<usize> = (from..end).filter(|place| text[*place] == b',').collect();
     if commas.is_empty() {
         return;
     }
     let place = rng.pick(&commas) + 1;
     text.splice(place..place, digits.iter().copied());
+}
+
+/// A zero before a number of the second line, which may be a P line.
+fn leading_in_second(rng: &mut Rng, text: &mut Vec<u8>) {
+    let ends: Vec<usize> = (0..text.len()).filter(|place| text[*place] == b'\n').take(2).collect();
+    if let [from, end] = ends[..] {
+        leading_within(rng, text, b"0", from, end);
+    }
 }
 
 /// What a job needs of each table.

@@ -4,7 +4,26 @@ mod rng;
 
 pub use rng::Rng;
 
-/// Tables 1 to 7, as 01 numbers them, and the limit of iterations.
+/// The tuning of the tariff: the factor in iteration 2, its growth up / down, the histories' step.
+#[derive(Clone, Copy, Debug, PartialEq, Eq)]
+pub struct Tuning {
+    pub first: u32,
+    pub up: u32,
+    pub down: u32,
+    pub step: u32,
+}
+
+impl Tuning {
+    /// That of a job text without a P line.
+    pub const PLAIN: Tuning = Tuning { first: 50, up: 3, down: 2, step: 1 };
+
+    /// In the order of the P line.
+    pub fn numbers(self) -> [u32; 4] {
+        [self.first, self.up, self.down, self.step]
+    }
+}
+
+/// Tables 1 to 7, as 01 numbers them, the limit of iterations and the tuning.
 #[derive(Clone, Debug, PartialEq, Eq)]
 pub struct Job {
     pub kind: Vec<u8>,
@@ -15,10 +34,11 @@ pub struct Job {
     pub first_sink: Vec<u32>,
     pub sink: Vec<u16>,
     pub limit: u32,
+    pub tuning: Tuning,
 }
 
 impl Job {
-    /// Nodes only: rows and nets are still to be added.
+    /// Nodes only: rows and nets are still to be added. The tuning is the plain one.
     pub fn bare(kind: Vec<u8>, capacity: Vec<u8>, limit: u32) -> Job {
         Job {
             kind,
@@ -29,10 +49,11 @@ impl Job {
             first_sink: vec![0],
             sink: Vec::new(),
             limit,
+            tuning: Tuning::PLAIN,
         }
     }
 
-    /// From each node's row of targets and each net's source and sinks.
+    /// From each node's row of targets and each net's source and sinks, with the plain tuning.
     pub fn new(kind: Vec<u8>, capacity: Vec<u8>, rows: &[Vec<u16>], nets: &[(u16, impl AsRef<[u16]>)], limit: u32) -> Job {
         let mut job = Job::bare(kind, capacity, limit);
         for row in rows {
@@ -79,10 +100,11 @@ impl Job {
             first_sink: vec![0xa6a6_a6a6; first_sink],
             sink: vec![0xa7a7; sink],
             limit: 0,
+            tuning: Tuning { first: 0, up: 0, down: 0, step: 0 },
         }
     }
 
-    /// Takes the reader's five numbers: cuts the tables to what it filled and sets the limit.
+    /// Takes the reader's nine numbers: cuts the tables to what it filled, sets the limit and the tuning.
     pub fn take_numbers(&mut self, numbers: &[u64]) {
         let counts: Vec<usize> = numbers.iter().map(|number| *number as usize).collect();
         self.kind.truncate(counts[0]);
@@ -92,7 +114,9 @@ impl Job {
         self.source.truncate(counts[2]);
         self.first_sink.truncate(counts[2] + 1);
         self.sink.truncate(counts[3]);
-        self.limit = counts[4] as u32;
+        let [limit, first, up, down, step] = [4, 5, 6, 7, 8].map(|place| counts[place] as u32);
+        self.limit = limit;
+        self.tuning = Tuning { first, up, down, step };
     }
 }
 
@@ -112,6 +136,7 @@ mod tests {
             first_sink: vec![0, 2, 4],
             sink: vec![2, 1, 0, 2],
             limit: 9,
+            tuning: Tuning { first: 50, up: 3, down: 2, step: 1 },
         };
         assert_eq!(job, tables);
         assert_eq!((job.row(0), job.row(1), job.row(2)), (&[1, 2][..], &[][..], &[0][..]));
@@ -121,7 +146,9 @@ mod tests {
     #[test]
     fn numbers_cut_unread_tables() {
         let mut job = Job::unread([9; 7]);
-        job.take_numbers(&[2, 3, 4, 6, 7]);
-        assert_eq!(job, Job { limit: 7, ..Job::unread([2, 2, 3, 3, 4, 5, 6]) });
+        job.take_numbers(&[2, 3, 4, 6, 7, 1000, 8, 4, 2]);
+        let tuning = Tuning { first: 1000, up: 8, down: 4, step: 2 };
+        assert_eq!(job, Job { limit: 7, tuning, ..Job::unread([2, 2, 3, 3, 4, 5, 6]) });
+        assert_eq!(job.tuning.numbers(), [1000, 8, 4, 2]);
     }
 }

@@ -1,4 +1,4 @@
-//! A plain and slow router, written from 01-scope.md alone, to compare others with.
+//! A plain and slow router, written from 01-scope.md and 02-change-requests.md alone, to compare others with.
 
 mod price;
 mod reader;
@@ -7,7 +7,7 @@ mod search;
 mod tables;
 mod writer;
 
-pub use price::{factor_in, price};
+pub use price::{price, Tuning};
 pub use reader::read;
 pub use route::route;
 pub use search::search;

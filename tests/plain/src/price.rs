@@ -1,11 +1,56 @@
-//! Base costs, prices and factors.
+//! Base costs, prices, factors and the tuning that they move by.
 
 use crate::Answer;
 
 pub const MAX_KIND: u32 = 15;
 pub const MAX_FACTOR: u32 = 65_535;
 pub const MAX_OTHERS: u32 = 511;
-pub const MAX_HISTORY: u32 = 50_590;
+pub const MAX_HISTORY: u32 = 101_179;
+
+/// Factor in iteration 2, growth up / down, and what a history grows by for each net too many.
+#[derive(Clone, Copy)]
+pub struct Tuning {
+    pub first: u32,
+    pub up: u32,
+    pub down: u32,
+    pub step: u32,
+}
+
+impl Tuning {
+    /// That of a text without a P line.
+    pub const PLAIN: Tuning = Tuning { first: 50, up: 3, down: 2, step: 1 };
+
+    /// The same bounds hold in a text and in a direct call.
+    pub fn is_sound(self) -> bool {
+        self.first <= 1_000
+            && (1..=4).contains(&self.down)
+            && (self.down..=8).contains(&self.up)
+            && (1..=2).contains(&self.step)
+    }
+
+    /// The factor of the next iteration: of iteration 2 after iteration 1, else from the last factor.
+    pub fn next_factor(self, iteration: u32, factor: u32) -> u32 {
+        if iteration <= 1 {
+            return self.first;
+        }
+        let grown = factor as u64 * self.up as u64 / self.down as u64;
+        grown.min(MAX_FACTOR as u64) as u32
+    }
+
+    /// The factor in an iteration (from 1).
+    pub fn factor_in(self, iteration: u32) -> u32 {
+        let mut factor = 0;
+        for earlier in 1..iteration {
+            factor = self.next_factor(earlier, factor);
+        }
+        factor
+    }
+
+    /// A history after an iteration.
+    pub fn next_history(self, history: u32, overuse: u32) -> u32 {
+        history + self.step * overuse
+    }
+}
 
 /// The base cost of a kind from 0 to 15.
 fn base(kind: u32) -> u64 {
@@ -20,23 +65,6 @@ fn base(kind: u32) -> u64 {
 pub fn price_of(kind: u32, factor: u32, others: u32, capacity: u32, history: u32) -> u64 {
     let over = (others as u64 + 1).saturating_sub(capacity as u64);
     history as u64 * base(kind) * (100 + factor as u64 * over)
-}
-
-/// The factor of the next iteration: of iteration 2 after iteration 1, else from the last factor.
-pub fn next_factor(iteration: u32, factor: u32) -> u32 {
-    if iteration <= 1 {
-        return 50;
-    }
-    (factor as u64 * 3 / 2).min(MAX_FACTOR as u64) as u32
-}
-
-/// The factor in an iteration (from 1).
-pub fn factor_in(iteration: u32) -> u32 {
-    let mut factor = 0;
-    for earlier in 1..iteration {
-        factor = next_factor(earlier, factor);
-    }
-    factor
 }
 
 pub fn factor_is_good(factor: u32) -> bool {

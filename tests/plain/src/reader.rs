@@ -1,6 +1,6 @@
 //! The job text into tables.
 
-use crate::price::MAX_KIND;
+use crate::price::{Tuning, MAX_KIND};
 use crate::tables::{MAX_EDGES, MAX_LIMIT, MAX_NETS, MAX_NODES, MAX_SINKS};
 use crate::Answer;
 
@@ -24,7 +24,11 @@ struct Job {
     first_sink: Vec<u32>,
     sink: Vec<u16>,
     limit: u32,
+    tuning: Tuning,
 }
+
+/// The own numbers of the reader.
+const NUMBERS: usize = 9;
 
 /// The counts that the F line gives.
 struct Counts {
@@ -89,6 +93,17 @@ fn read_counts(lines: &mut Lines) -> Result<Counts, Fault> {
     lines.bounds((1..=MAX_NETS as u32).contains(&f[2]))?;
     lines.bounds((1..=MAX_LIMIT).contains(&f[3]))?;
     Ok(Counts { nodes: f[0], edges: f[1], nets: f[2], limit: f[3] })
+}
+
+/// The P line, which may be missing.
+fn read_tuning(lines: &mut Lines) -> Result<Tuning, Fault> {
+    if lines.rest().first() != Some(&b'P') {
+        return Ok(Tuning::PLAIN);
+    }
+    let f = lines.take(b'P', 4)?;
+    let tuning = Tuning { first: f[0], up: f[1], down: f[2], step: f[3] };
+    lines.bounds(tuning.is_sound())?;
+    Ok(tuning)
 }
 
 fn read_nodes(lines: &mut Lines, counts: &Counts, job: &mut Job) -> Result<(), Fault> {
@@ -169,6 +184,7 @@ fn read_sink(
 fn read_job(text: &[u8]) -> Result<Job, Fault> {
     let mut lines = Lines { text, place: 0, line: 0 };
     let counts = read_counts(&mut lines)?;
+    let tuning = read_tuning(&mut lines)?;
     let mut job = Job {
         kind: Vec::new(),
         capacity: Vec::new(),
@@ -178,6 +194,7 @@ fn read_job(text: &[u8]) -> Result<Job, Fault> {
         first_sink: Vec::new(),
         sink: Vec::new(),
         limit: counts.limit,
+        tuning,
     };
     read_nodes(&mut lines, &counts, &mut job)?;
     read_edges(&mut lines, &counts, &mut job)?;
@@ -186,6 +203,22 @@ fn read_job(text: &[u8]) -> Result<Job, Fault> {
         return Err([1, lines.line + 1]);
     }
     Ok(job)
+}
+
+/// What the reader returns of a sound text.
+fn numbers(job: &Job) -> [u64; NUMBERS] {
+    let Tuning { first, up, down, step } = job.tuning;
+    [
+        job.kind.len() as u64,
+        job.edge_target.len() as u64,
+        job.source.len() as u64,
+        job.sink.len() as u64,
+        job.limit as u64,
+        first as u64,
+        up as u64,
+        down as u64,
+        step as u64,
+    ]
 }
 
 /// The reader: 1, 2 or 3 for the first faulty line, then 4 for the lowest table too short.
@@ -201,7 +234,7 @@ pub fn read(
 ) -> Answer {
     let job = match read_job(text) {
         Ok(job) => job,
-        Err(fault) => return Answer::refused(&fault, 5),
+        Err(fault) => return Answer::refused(&fault, NUMBERS),
     };
     let too_short = [
         kind.len() < job.kind.len(),
@@ -213,7 +246,7 @@ pub fn read(
         sink.len() < job.sink.len(),
     ];
     if let Some(place) = too_short.iter().position(|&short| short) {
-        return Answer::refused(&[4, place as u64 + 1], 5);
+        return Answer::refused(&[4, place as u64 + 1], NUMBERS);
     }
     kind[..job.kind.len()].copy_from_slice(&job.kind);
     capacity[..job.capacity.len()].copy_from_slice(&job.capacity);
@@ -222,11 +255,5 @@ pub fn read(
     source[..job.source.len()].copy_from_slice(&job.source);
     first_sink[..job.first_sink.len()].copy_from_slice(&job.first_sink);
     sink[..job.sink.len()].copy_from_slice(&job.sink);
-    Answer::good(&[
-        job.kind.len() as u64,
-        job.edge_target.len() as u64,
-        job.source.len() as u64,
-        job.sink.len() as u64,
-        job.limit as u64,
-    ])
+    Answer::good(&numbers(&job))
 }

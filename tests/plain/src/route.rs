@@ -1,6 +1,6 @@
 //! The negotiation as a machine, with its log.
 
-use crate::price::next_factor;
+use crate::price::Tuning;
 use crate::search::{distances, path, prices, NO_PATH};
 use crate::tables::{Graph, Nets, MAX_LIMIT};
 use crate::Answer;
@@ -12,6 +12,7 @@ struct State {
     factor: u32,
     histories: Vec<u32>,
     trees: Vec<BTreeSet<usize>>,
+    tuning: Tuning,
 }
 
 /// The log with what has been written.
@@ -32,12 +33,13 @@ enum End {
 struct Full;
 
 impl State {
-    fn new(nodes: usize, nets: usize) -> State {
+    fn new(nodes: usize, nets: usize, tuning: Tuning) -> State {
         State {
             iteration: 1,
             factor: 0,
             histories: vec![1; nodes],
             trees: vec![BTreeSet::new(); nets],
+            tuning,
         }
     }
 
@@ -64,9 +66,9 @@ impl State {
     /// Histories, factor and iteration move on.
     fn move_on(&mut self, overuse: &[u32]) {
         for (history, over) in self.histories.iter_mut().zip(overuse) {
-            *history += over;
+            *history = self.tuning.next_history(*history, *over);
         }
-        self.factor = next_factor(self.iteration, self.factor);
+        self.factor = self.tuning.next_factor(self.iteration, self.factor);
         self.iteration += 1;
     }
 }
@@ -168,13 +170,23 @@ fn negotiate(graph: &Graph, nets: &Nets, limit: u32, state: &mut State, log: &mu
     }
 }
 
-/// The lowest of tables 1 to 8 that breaks its rule.
-fn broken(graph: &Graph, nets: &Nets, limit: u32) -> Option<u64> {
-    let bad_limit = !(1..=MAX_LIMIT).contains(&limit);
+/// The lowest of tables 1 to 8 that breaks its rule; limit and tuning are table 8.
+fn broken(graph: &Graph, nets: &Nets, limit: u32, tuning: Tuning) -> Option<u64> {
+    let sound = (1..=MAX_LIMIT).contains(&limit) && tuning.is_sound();
     graph
         .broken()
         .or_else(|| nets.broken(graph.nodes()))
-        .or(if bad_limit { Some(8) } else { None })
+        .or(if sound { None } else { Some(8) })
+}
+
+/// The answer once the negotiation has ended.
+fn answer(end: End, iteration: u64, log: &Log) -> Answer {
+    let refusal = match end {
+        End::Accepted => vec![],
+        End::LogFull => vec![8, iteration, log.turns],
+        End::Limit { over } => vec![9, iteration, over],
+    };
+    Answer { refusal, numbers: vec![iteration, log.turns, log.words as u64] }
 }
 
 /// The router: tests 5, 6, 7, then 8 and 9 as they arise.
@@ -187,13 +199,18 @@ pub fn route(
     first_sink: &[u32],
     sink: &[u16],
     limit: u32,
+    first: u32,
+    up: u32,
+    down: u32,
+    step: u32,
     work: &mut [u64],
     log: &mut [u32],
 ) -> Answer {
     let graph = Graph { kind, capacity, first_edge, edge_target };
     let nets = Nets { source, first_sink, sink };
+    let tuning = Tuning { first, up, down, step };
     let nodes = graph.nodes();
-    if let Some(table) = broken(&graph, &nets, limit) {
+    if let Some(table) = broken(&graph, &nets, limit, tuning) {
         return Answer::refused(&[5, table], 3);
     }
     if work.len() < 8 * nodes {
@@ -203,14 +220,8 @@ pub fn route(
     if let Some((net, place)) = unreachable(&graph, &nets) {
         return Answer::refused(&[7, net as u64, place as u64], 3);
     }
-    let mut state = State::new(nodes, nets.count());
+    let mut state = State::new(nodes, nets.count(), tuning);
     let mut log = Log { space: log, words: 0, turns: 0 };
     let end = negotiate(&graph, &nets, limit, &mut state, &mut log);
-    let iteration = state.iteration as u64;
-    let refusal = match end {
-        End::Accepted => vec![],
-        End::LogFull => vec![8, iteration, log.turns],
-        End::Limit { over } => vec![9, iteration, over],
-    };
-    Answer { refusal, numbers: vec![iteration, log.turns, log.words as u64] }
+    answer(end, state.iteration as u64, &log)
 }

@@ -2,7 +2,7 @@
 
 mod common;
 use common::*;
-use job::Job;
+use job::{Job, Tuning};
 use plain::search;
 
 #[test]
@@ -21,14 +21,14 @@ fn the_largest_distance() {
         &edge_target,
         65535,
         &mut work,
-        &[50590; 4096],
+        &[101179; 4096],
         &[511; 4096],
         &marks,
     );
     assert!(answer.refusal.is_empty());
-    let price = 50590 * 240 * (100 + 65535 * 511);
+    let price = 101179 * 240 * (100 + 65535 * 511);
     assert!((0..4096).all(|v| work[v] == (4095 - v as u64) * price));
-    assert!(work[0] < 1 << 61);
+    assert!(work[0] < 1 << 62);
     assert!(work[4096..8 * 4096].iter().all(|&w| w == 0));
     assert_eq!(work[8 * 4096], 9);
 }
@@ -53,6 +53,7 @@ fn sized(nodes: usize, edges: usize, nets: usize, sinks: usize) -> Job {
         first_sink,
         sink: (0..sinks).map(sink).collect(),
         limit: 1,
+        tuning: Tuning::PLAIN,
     }
 }
 

@@ -73,7 +73,7 @@ fn the_4097th_sink() {
     }
     job += "S,1,0\nT,1,1\n";
     let mut t = Job::unread([4096, 4096, 4097, 0, 2, 3, 4096]);
-    assert_eq!(read_into(job.as_bytes(), &mut t).numbers, [4096, 0, 2, 4096, 1]);
+    assert_eq!(read_into(job.as_bytes(), &mut t).numbers, [4096, 0, 2, 4096, 1, 50, 3, 2, 1]);
     assert_eq!(refusal(&(job.clone() + "T,1,4096\n")), [2, 8196]);
     assert_eq!(refusal(&(job + "T,1,2\n")), [3, 8196]);
 }
@@ -137,7 +137,7 @@ fn prices_beyond_bounds() {
     assert_eq!(price(15, 65536, 512, 0, 0).refusal, [13, 1]);
     assert_eq!(price(15, 65535, 512, 0, 0).refusal, [13, 2]);
     assert_eq!(price(15, 65535, 511, 256, 0).refusal, [13, 3]);
-    assert_eq!(price(15, 65535, 511, 255, 50591).refusal, [13, 4]);
+    assert_eq!(price(15, 65535, 511, 255, 101180).refusal, [13, 4]);
     assert_eq!(price(15, 65535, 511, 255, 0).numbers, [0]);
 }
 
@@ -200,12 +200,12 @@ fn nothing_panics() {
         (state >> 33) % below
     };
     let sound = tables(&text(B));
-    let bytes = text(B).into_bytes();
+    let bytes = text(&B.replace("F,6,6,2,2", "F,6,6,2,2 P,50,3,2,1")).into_bytes();
     for _ in 0..20_000 {
         let mut t = sound.clone();
         let value = [0, 1, 2, 3, 5, 6, 255, 65535][next(8) as usize];
         let place = next(9) as usize;
-        match next(8) {
+        match next(9) {
             0 => t.kind.resize(place, value as u8),
             1 => t.capacity.resize(place, value as u8),
             2 => t.first_edge[place % 7] = value,
@@ -213,6 +213,7 @@ fn nothing_panics() {
             4 => t.source[place % 2] = value as u16,
             5 => t.first_sink[place % 3] = value,
             6 => t.sink[place % 2] = value as u16,
+            7 => t.tuning.down = value,
             _ => t.limit = value,
         }
         let mut log = vec![0; next(60) as usize];
@@ -223,7 +224,7 @@ fn nothing_panics() {
         write(&log, &mut vec![0; next(80) as usize]);
         let mut damaged = bytes.clone();
         for _ in 0..=next(3) {
-            damaged[next(bytes.len() as u64) as usize] = b"0123456789,\nFNEST\r\xff"[next(19) as usize];
+            damaged[next(bytes.len() as u64) as usize] = b"0123456789,\nFPNEST\r\xff"[next(20) as usize];
         }
         damaged.truncate(bytes.len() - next(4) as usize);
         read_into(&damaged, &mut Job::unread([next(9) as usize; 7]));

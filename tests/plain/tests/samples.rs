@@ -3,7 +3,7 @@
 mod common;
 use common::*;
 use job::Job;
-use plain::{factor_in, price, Answer};
+use plain::{price, Answer, Tuning};
 
 const B: &str = "F,6,6,2,2 N,0,0,1 N,1,0,1 N,2,4,1 N,3,5,1 N,4,1,1 N,5,1,1 \
     E,0,2 E,0,3 E,1,2 E,2,4 E,2,5 E,3,4 S,0,0 T,0,4 S,1,1 T,1,5";
@@ -21,7 +21,7 @@ fn answer(refusal: &[u64], numbers: &[u64]) -> Answer {
 fn job_b_is_read() {
     let mut t = Job::unread([7; 7]);
     let got = read_into(text(B).as_bytes(), &mut t);
-    assert_eq!(got, answer(&[], &[6, 6, 2, 2, 2]));
+    assert_eq!(got, answer(&[], &[6, 6, 2, 2, 2, 50, 3, 2, 1]));
     // Entries past those needed stay as they were.
     let mut wanted = Job::unread([7; 7]);
     wanted.kind[..6].copy_from_slice(&[0, 0, 4, 5, 1, 1]);
@@ -93,7 +93,8 @@ fn equal_paths_take_the_lowest_node() {
 
 #[test]
 fn factors() {
-    assert_eq!([1, 2, 3, 4, 19, 20, 21].map(factor_in), [0, 50, 75, 112, 48997, 65535, 65535]);
+    let factors = [1, 2, 3, 4, 19, 20, 21].map(|iteration| Tuning::PLAIN.factor_in(iteration));
+    assert_eq!(factors, [0, 50, 75, 112, 48997, 65535, 65535]);
 }
 
 #[test]
@@ -103,7 +104,7 @@ fn prices() {
         assert_eq!(price(kind, 50, 2, 2, 1), answer(&[], &[3000]));
     }
     assert_eq!(price(3, 0, 511, 1, 1), answer(&[], &[1900]));
-    assert_eq!(price(15, 65535, 511, 1, 50590), answer(&[], &[50590 * 240 * (100 + 65535 * 511)]));
+    assert_eq!(price(15, 65535, 511, 1, 101179), answer(&[], &[101179 * 240 * (100 + 65535 * 511)]));
 }
 
 #[test]

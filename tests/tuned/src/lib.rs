@@ -1,4 +1,4 @@
-//! The block router of 01, written for speed, for jobs whose tables are sound.
+//! The block router of 01 and 02, written for speed, for jobs whose tables are sound.
 //!
 //! Three ways, each faster than the one before:
 //! - Heap: each turn searches anew with a binary heap and stops at the first open sink that it settles.
@@ -15,7 +15,7 @@ mod prices;
 mod search;
 
 use graph::Graph;
-use prices::Prices;
+use prices::{Prices, Tuning};
 use search::{Heap, Key, Search, SHORT_KEY};
 
 /// What a call answers: refusal is empty after acceptance.
@@ -37,7 +37,7 @@ pub enum Way {
 
 pub const WAYS: [Way; 3] = [Way::Heap, Way::Pruned, Way::Carried];
 
-/// Routes a job with sound tables.
+/// Routes a job with sound tables, limit and tuning.
 #[allow(clippy::too_many_arguments)]
 pub fn route(
     way: Way,
@@ -49,14 +49,20 @@ pub fn route(
     first_sink: &[u32],
     sink: &[u16],
     limit: u32,
+    first: u32,
+    up: u32,
+    down: u32,
+    step: u32,
     log: &mut [u32],
 ) -> Outcome {
+    let [first, up, down, step] = [first, up, down, step].map(u64::from);
+    let prices = Prices::new(kind, capacity, Tuning { first, up, down, step });
     let nets = Nets { source, first_sink, sink };
     let graph = Graph::new(first_edge, edge_target);
     match way {
-        Way::Heap => Router::<false, false>::new(kind, capacity, graph, nets).run(limit, log),
-        Way::Pruned => Router::<true, false>::new(kind, capacity, graph, nets).run(limit, log),
-        Way::Carried => Router::<true, true>::new(kind, capacity, graph, nets).run(limit, log),
+        Way::Heap => Router::<false, false>::new(prices, graph, nets).run(limit, log),
+        Way::Pruned => Router::<true, false>::new(prices, graph, nets).run(limit, log),
+        Way::Carried => Router::<true, true>::new(prices, graph, nets).run(limit, log),
     }
 }
 
@@ -90,11 +96,11 @@ struct NoPath {
 }
 
 impl<'a, const PRUNE: bool, const CARRY: bool> Router<'a, PRUNE, CARRY> {
-    fn new(kind: &[u8], capacity: &'a [u8], graph: Graph<'a>, nets: Nets<'a>) -> Self {
+    fn new(prices: Prices<'a>, graph: Graph<'a>, nets: Nets<'a>) -> Self {
         let trees = vec![Vec::new(); nets.source.len()];
         Router {
-            prices: Prices::new(kind, capacity),
-            search: Search::new(kind.len(), graph),
+            search: Search::new(prices.nodes(), graph),
+            prices,
             trees,
             nets,
             made: Vec::new(),

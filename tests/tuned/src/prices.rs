@@ -4,7 +4,16 @@ use crate::search::Node;
 
 const LAST_FACTOR: u64 = 65_535;
 
+/// What factor and histories move on by.
+pub struct Tuning {
+    pub first: u64,
+    pub up: u64,
+    pub down: u64,
+    pub step: u64,
+}
+
 pub struct Prices<'a> {
+    tuning: Tuning,
     capacity: &'a [u8],
     base: Vec<u64>,
     /// History times base.
@@ -27,9 +36,10 @@ fn base(kind: u8) -> u64 {
 }
 
 impl<'a> Prices<'a> {
-    pub fn new(kind: &[u8], capacity: &'a [u8]) -> Self {
+    pub fn new(kind: &[u8], capacity: &'a [u8], tuning: Tuning) -> Self {
         let base: Vec<u64> = kind.iter().map(|&k| base(k)).collect();
         Prices {
+            tuning,
             capacity,
             weight: base.clone(),
             base,
@@ -39,6 +49,10 @@ impl<'a> Prices<'a> {
             iteration: 1,
             history: vec![1; kind.len()],
         }
+    }
+
+    pub fn nodes(&self) -> usize {
+        self.capacity.len()
     }
 
     /// Price to a net that isn't among v's users.
@@ -78,12 +92,13 @@ impl<'a> Prices<'a> {
     pub fn step(&mut self) {
         for v in 0..self.over.len() {
             if self.over[v] > 0 {
-                self.history[v] += self.over[v] as u64;
+                self.history[v] += self.tuning.step * self.over[v] as u64;
                 self.weight[v] = self.history[v] * self.base[v];
                 self.worst_history = self.worst_history.max(self.history[v]);
             }
         }
-        self.factor = if self.iteration == 1 { 50 } else { LAST_FACTOR.min(self.factor * 3 / 2) };
+        let Tuning { first, up, down, .. } = self.tuning;
+        self.factor = if self.iteration == 1 { first } else { LAST_FACTOR.min(self.factor * up / down) };
         self.iteration += 1;
     }
 

@@ -1,6 +1,6 @@
 //! The tuned router beside the plain one: same outcome, same log, on many small random jobs.
 
-use job::{Job, Rng};
+use job::{Job, Rng, Tuning};
 use tuned::{Outcome, Way, WAYS};
 
 const UNWRITTEN: u32 = 0xdead_beef;
@@ -39,6 +39,17 @@ fn random_job(draw: &mut Rng, most_nodes: usize) -> Job {
         add_apart_nets(draw, nodes, &mut job);
     }
     job
+}
+
+/// The plain tuning, or one of all allowed.
+fn random_tuning(draw: &mut Rng) -> Tuning {
+    if draw.once_in(2) {
+        return Tuning::PLAIN;
+    }
+    let first = [0, 1, 50, 1_000, draw.below(1_001)][draw.below(5)] as u32;
+    let down = draw.within(1, 4);
+    let up = draw.within(down, 8) as u32;
+    Tuning { first, up, down: down as u32, step: draw.within(1, 2) as u32 }
 }
 
 /// Nets with pins anywhere: most of them never settle.
@@ -153,19 +164,21 @@ fn keep_reachable(job: &mut Job) {
 
 fn run_tuned(way: Way, job: &Job, words: usize) -> (Outcome, Vec<u32>) {
     let mut log = vec![UNWRITTEN; words];
+    let [first, up, down, step] = job.tuning.numbers();
     let outcome = tuned::route(
         way, &job.kind, &job.capacity, &job.first_edge, &job.edge_target,
-        &job.source, &job.first_sink, &job.sink, job.limit, &mut log,
+        &job.source, &job.first_sink, &job.sink, job.limit, first, up, down, step, &mut log,
     );
     (outcome, log)
 }
 
 fn run_plain(job: &Job, words: usize) -> (Outcome, Vec<u32>) {
     let mut log = vec![UNWRITTEN; words];
+    let [first, up, down, step] = job.tuning.numbers();
     let mut work = vec![0; 8 * job.kind.len()];
     let answer = plain::route(
         &job.kind, &job.capacity, &job.first_edge, &job.edge_target,
-        &job.source, &job.first_sink, &job.sink, job.limit, &mut work, &mut log,
+        &job.source, &job.first_sink, &job.sink, job.limit, first, up, down, step, &mut work, &mut log,
     );
     let (iteration, turns, words) = (answer.numbers[0], answer.numbers[1], answer.numbers[2]);
     (Outcome { refusal: answer.refusal, iteration, turns, words }, log)
@@ -190,7 +203,8 @@ fn many_random_jobs() {
     for seed in 0..4_000 {
         let mut draw = Rng::new(seed);
         let most_nodes = if seed % 20 == 0 { 120 } else { 24 };
-        let job = if seed % 3 == 0 { layered_job(&mut draw) } else { random_job(&mut draw, most_nodes) };
+        let mut job = if seed % 3 == 0 { layered_job(&mut draw) } else { random_job(&mut draw, most_nodes) };
+        job.tuning = random_tuning(&mut draw);
         let outcome = compare(&job, 60_000, seed);
         seen[outcome.refusal.first().map_or(0, |&r| r as usize - 6)] += 1;
         late += (outcome.refusal.is_empty() && outcome.iteration > 2) as u32;

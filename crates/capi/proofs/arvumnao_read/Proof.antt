@@ -14,29 +14,26 @@ read-job-requires c κs = search needs
 enum-known-nodes : tie.Need-enum-known-nodes
 enum-known-nodes c = search needs
 
+tell-job-requires : tie.Need-tell-job-requires
+tell-job-requires c κs = search needs
+
+enum-known-number : tie.Need-enum-known-number
+enum-known-number c = search needs
+
 cast-tell : tie.Need-cast-tell
 cast-tell c = search needs
 
 tell-requires : tie.Need-tell-requires
 tell-requires c κs = search needs
 
-enum-known-number : tie.Need-enum-known-number
-enum-known-number c = search needs
+enum-known-table : tie.Need-enum-known-table
+enum-known-table c = search needs
 
 cast-tell-2 : tie.Need-cast-tell-2
 cast-tell-2 c = search needs
 
 tell-requires-2 : tie.Need-tell-requires-2
 tell-requires-2 c κs = search needs
-
-enum-known-table : tie.Need-enum-known-table
-enum-known-table c = search needs
-
-cast-tell-3 : tie.Need-cast-tell-3
-cast-tell-3 c = search needs
-
-tell-requires-3 : tie.Need-tell-requires-3
-tell-requires-3 c κs = search needs
 
 same-length : tie.Need-same-length
 same-length c = search needs
@@ -65,7 +62,7 @@ same-length-8 c = search needs
 returns-2 : tie.Need-returns-2
 returns-2 c =
     let asked = c .before .before .before .before .before .before .before .before .before .before .before .before .before .before .before .before .before .before .before .before .before in
-    read-told _ _ _ _ _ (asked .before .before .before .before .before .before .before .before .if1 .left) (c .before .before .before .before .before .nodes .given .1) (asked .read-job .ensures) (c .before .before .tell .ensures)
+    read-told _ _ _ _ _ (asked .before .before .before .before .before .before .before .before .if1 .left) (c .before .before .before .before .before .nodes .given .1) (asked .read-job .ensures) (c .before .before .tell-job .ensures)
 
 same-length-9 : tie.Need-same-length-9
 same-length-9 c = search needs
@@ -94,7 +91,7 @@ same-length-16 c = search needs
 returns-3 : tie.Need-returns-3
 returns-3 c =
     let asked = c .before .before .before .before .before .before .before .before .before .before .before .before .before .before .before .before .before .before .before .before .before in
-    read-told _ _ _ _ _ (asked .before .before .before .before .before .before .before .before .if1 .left) (c .before .before .before .before .before .number .given .1) (asked .read-job .ensures) (c .before .before .tell2 .ensures)
+    read-told _ _ _ _ _ (asked .before .before .before .before .before .before .before .before .if1 .left) (c .before .before .before .before .before .number .given .1) (asked .read-job .ensures) (c .before .before .tell .ensures)
 
 same-length-17 : tie.Need-same-length-17
 same-length-17 c = search needs
@@ -123,7 +120,7 @@ same-length-24 c = search needs
 returns-4 : tie.Need-returns-4
 returns-4 c =
     let asked = c .before .before .before .before .before .before .before .before .before .before .before .before .before .before .before .before .before .before .before .before .before in
-    read-told _ _ _ _ _ (asked .before .before .before .before .before .before .before .before .if1 .left) (c .before .before .before .before .before .table .given .1) (asked .read-job .ensures) (c .before .before .tell3 .ensures)
+    read-told _ _ _ _ _ (asked .before .before .before .before .before .before .before .before .if1 .left) (c .before .before .before .before .before .table .given .1) (asked .read-job .ensures) (c .before .before .tell2 .ensures)
 
 pub arvumnao-read-spec : {M : Type 1} → statement M
 arvumnao-read-spec =
@@ -132,14 +129,13 @@ arvumnao-read-spec =
     returns
     read-job-requires
     enum-known-nodes
+    tell-job-requires
+    enum-known-number
     cast-tell
     tell-requires
-    enum-known-number
+    enum-known-table
     cast-tell-2
     tell-requires-2
-    enum-known-table
-    cast-tell-3
-    tell-requires-3
     same-length
     same-length-2
     same-length-3

@@ -8,6 +8,9 @@ use Rattle.capi.proofs.arvumnao_route.Tie as tie
 returns : tie.Need-returns
 returns c = route-short _ _ _ _ (c .if1 .taken)
 
+terms-of-requires : tie.Need-terms-of-requires
+terms-of-requires c κs = search needs
+
 route-requires : tie.Need-route-requires
 route-requires c κs = search needs
 
@@ -26,13 +29,16 @@ same-length-3 c = search needs
 returns-2 : tie.Need-returns-2
 returns-2 c =
     let asked = c .before .before .before .before .before .before .before .before in
-    route-told _ _ _ _ _ _ _ (asked .route .result) (asked .before .before .before .if1 .left) (asked .route .ensures .0) (c .before .before .tell-routed .ensures)
+    let made = asked .before .before .before in
+    let answers = rw (made .terms-of .ensures) at (asked .route .ensures .0) in
+    route-told _ _ _ _ _ _ _ (asked .route .result) (made .before .if1 .left) answers (c .before .before .tell-routed .ensures)
 
 pub arvumnao-route-spec : {M : Type 1} → statement M
 arvumnao-route-spec =
     tie.close
     (tie.spec
     returns
+    terms-of-requires
     route-requires
     tell-routed-requires
     same-length

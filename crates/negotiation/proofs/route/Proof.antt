@@ -13,7 +13,7 @@ use Rattle.negotiation.proofs.route.Statement.{statement}
 use Rattle.negotiation.proofs.route.Tie as tie
 
 -- no table is faulty
-sound : (c : tie.Else1) → SoundJob (jobOf (c .before .before .before .before .before .before .before .before .before .before .before .args .kind .now) (c .before .before .before .before .before .before .before .before .before .before .before .args .capacity .now) (c .before .before .before .before .before .before .before .before .before .before .before .args .first-edge .now) (c .before .before .before .before .before .before .before .before .before .before .before .args .edge-target .now) (c .before .before .before .before .before .before .before .before .before .before .before .args .source .now) (c .before .before .before .before .before .before .before .before .before .before .before .args .first-sink .now) (c .before .before .before .before .before .before .before .before .before .before .before .args .sink .now) (c .before .before .before .before .before .before .before .before .before .before .before .args .limit))
+sound : (c : tie.Else1) → SoundJob (jobOf (c .before .before .before .before .before .before .before .before .before .before .before .args .kind .now) (c .before .before .before .before .before .before .before .before .before .before .before .args .capacity .now) (c .before .before .before .before .before .before .before .before .before .before .before .args .first-edge .now) (c .before .before .before .before .before .before .before .before .before .before .before .args .edge-target .now) (c .before .before .before .before .before .before .before .before .before .before .before .args .source .now) (c .before .before .before .before .before .before .before .before .before .before .before .args .first-sink .now) (c .before .before .before .before .before .before .before .before .before .before .before .args .sink .now) (c .before .before .before .before .before .before .before .before .before .before .before .args .terms))
 sound c = tables-sound _ [] [] _ (c .before .faulty-job .ensures) (c .if1 .left)
 
 faulty-job-requires : tie.Need-faulty-job-requires
@@ -35,7 +35,7 @@ returns-2 : tie.Need-returns-2
 returns-2 c = work-refused _ _ _ _ (c .before .before .before .faulty-job .ensures) (c .before .before .if1 .left) _ (c .before .if2 .taken) (c .refused2 .ensures)
 
 unreachable-requires : tie.Need-unreachable-requires
-unreachable-requires c κs = (record { capacities = _; limit = _; sound = sound (c .before .before) }, c .before .if2 .left)
+unreachable-requires c κs = (record { capacities = _; terms = _; sound = sound (c .before .before) }, c .before .if2 .left)
 
 enum-known-net : tie.Need-enum-known-net
 enum-known-net c = search needs

@@ -2,30 +2,45 @@
 -- Assumes nothing.
 use mathlib.Core.Path.{sym, _∙_}
 use native.Mathlib.Nat.{min-eq-left, min-eq-right}
-use Rattle.price.proofs.PriceLaws.{next-factor-first, next-factor-second, next-factor-later}
+use native.Mathlib.Omega.{arith}
+use Rattle.price.proofs.PriceLaws.{next-factor-first, next-factor-second, next-factor-later, next-factor-none, words-fit}
 use borrow.Author.Needs.{needs}
 use Rattle.price.proofs.next_factor.Statement.{statement}
 use Rattle.price.proofs.next_factor.Tie as tie
 
 returns : tie.Need-returns
-returns c = sym (next-factor-first _ _ (c .if1 .taken))
+returns c = sym (next-factor-first _ _ _ (search needs))
 
 returns-2 : tie.Need-returns-2
-returns-2 c = sym (next-factor-second _ _ (c .if2 .taken))
+returns-2 c = sym (next-factor-second _ _ _ (search needs))
+
+returns-3 : tie.Need-returns-3
+returns-3 c = sym (next-factor-none _ _ _ (search needs) (search needs) (search needs))
+
+cast-grown : tie.Need-cast-grown
+cast-grown c = search needs
 
 mul-grown : tie.Need-mul-grown
-mul-grown c = search needs
+mul-grown c =
+    let a = c .before .before .before .before .before .args in
+    omega (arith, words-fit 0 (a .factor) (a .g .up) (omega arith) (search needs) (search needs))
+
+cast-grown-2 : tie.Need-cast-grown-2
+cast-grown-2 c = search needs
+
+div-grown : tie.Need-div-grown
+div-grown c = search needs
 
 cast-result : tie.Need-cast-result
 cast-result c = search needs
 
-returns-3 : tie.Need-returns-3
-returns-3 c =
-    sym (next-factor-later _ _ (c .before .before .if1 .left) (c .before .if2 .left) ∙ min-eq-left (search needs))
-
 returns-4 : tie.Need-returns-4
-returns-4 c =
-    sym (next-factor-later _ _ (c .before .before .if1 .left) (c .before .if2 .left) ∙ min-eq-right (search needs))
+returns-4 c = sym (next-factor-later _ _ _ (search needs) (search needs) ∙ min-eq-left (search needs))
+
+returns-5 : tie.Need-returns-5
+returns-5 c = sym (next-factor-later _ _ _ (search needs) (search needs) ∙ min-eq-right (search needs))
 
 pub next-factor-spec : {M : Type 1} → statement M
-next-factor-spec = tie.close (tie.spec returns returns-2 mul-grown cast-result returns-3 returns-4)
+next-factor-spec =
+    tie.close
+    (tie.spec returns returns-2 returns-3 cast-grown mul-grown cast-grown-2 div-grown cast-result returns-4 returns-5)

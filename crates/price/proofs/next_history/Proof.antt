@@ -1,26 +1,41 @@
 -- `price::next_history` meets its contract: natural subtraction, taken apart by the test.
 -- Assumes nothing.
-use Rattle.price.specs.Prices.{nextHistory}
+use mathlib.Core.Path.{sym}
+use Prim.Native.Nat.{_-_}
+use native.Mathlib.Omega.{arith}
 use borrow.Author.Needs.{needs}
+use Rattle.price.specs.Prices.{nextHistory}
+use Rattle.price.proofs.PriceLaws.{words-fit, history-stays}
 use Rattle.price.proofs.next_history.Statement.{statement}
 use Rattle.price.proofs.next_history.Tie as tie
-
-sub-result : tie.Need-sub-result
-sub-result c = search needs
 
 cast-result : tie.Need-cast-result
 cast-result c = search needs
 
+sub-result : tie.Need-sub-result
+sub-result c = search needs
+
+cast-result-2 : tie.Need-cast-result-2
+cast-result-2 c = search needs
+
+mul-result : tie.Need-mul-result
+mul-result c =
+    let a = c .before .before .args in
+    omega (arith, words-fit 0 (a .g .step) (a .users - a .capacity) (omega arith) (search needs) (search needs))
+
 add-result : tie.Need-add-result
-add-result c = search needs
+add-result c =
+    let a = c .before .before .args in
+    omega (arith, words-fit (a .history) (a .g .step) (a .users - a .capacity) (search needs) (search needs) (search needs))
 
 returns : tie.Need-returns
 unfolding nextHistory
 returns c = search needs
 
 returns-2 : tie.Need-returns-2
-unfolding nextHistory
-returns-2 c = search needs
+returns-2 c = sym (history-stays _ _ _ _ (search needs))
 
 pub next-history-spec : {M : Type 1} → statement M
-next-history-spec = tie.close (tie.spec sub-result cast-result add-result returns returns-2)
+next-history-spec =
+    tie.close
+    (tie.spec cast-result sub-result cast-result-2 mul-result add-result returns returns-2)

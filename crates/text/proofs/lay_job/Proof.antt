@@ -20,7 +20,7 @@ copy-block-requires c κs = let start = c .before .before .before .before .befor
     let t = tablesOf (a .kind .now) (a .capacity .now) (a .first-edge .now) (a .edge-target .now) (a .source .now) (a .first-sink .now) (a .sink .now) in
     let room = start .pre .0 in
     let within = start .pre .1 .0 in
-    let long = lay-room _ _ _ _ (a .limit) _ _ _ _ _ _ _ room within (start .pre .1 .1) t (c .before .before .before .before .before .short-table .result) (c .before .before .before .before .before .short-table .ensures) (c .before .before .before .before .if1 .left) in (
+    let long = lay-room _ _ _ _ (a .terms) _ _ _ _ _ _ _ room within (start .pre .1 .1) t (c .before .before .before .before .before .short-table .result) (c .before .before .before .before .before .short-table .ensures) (c .before .before .before .before .if1 .left) in (
       record { there = omega (arith, room .kinds-long, within .nodes-most); room = long .kinds-long },
       record { there = omega (arith, room .capacities-long, within .nodes-most); room = long .capacities-long },
       record { there = omega (arith, room .edge-room .firsts-long, within .nodes-most); room = long .firstEdges-long },
@@ -33,7 +33,7 @@ copy-nets-requires c κs = let start = c .before .before .before .before .before
     let t = tablesOf (a .kind .now) (a .capacity .now) (a .first-edge .now) (a .edge-target .now) (a .source .now) (a .first-sink .now) (a .sink .now) in
     let room = start .pre .0 in
     let within = start .pre .1 .0 in
-    let long = lay-room _ _ _ _ (a .limit) _ _ _ _ _ _ _ room within (start .pre .1 .1) t (c .before .before .before .before .before .before .before .before .before .before .before .before .before .before .before .before .before .short-table .result) (c .before .before .before .before .before .before .before .before .before .before .before .before .before .before .before .before .before .short-table .ensures) (c .before .before .before .before .before .before .before .before .before .before .before .before .before .before .before .before .if1 .left) in (
+    let long = lay-room _ _ _ _ (a .terms) _ _ _ _ _ _ _ room within (start .pre .1 .1) t (c .before .before .before .before .before .before .before .before .before .before .before .before .before .before .before .before .before .short-table .result) (c .before .before .before .before .before .before .before .before .before .before .before .before .before .before .before .before .before .short-table .ensures) (c .before .before .before .before .before .before .before .before .before .before .before .before .before .before .before .before .if1 .left) in (
       record { there = omega (arith, room .net-room .sources-long, within .nets-most); room = long .sources-long },
       record { there = omega (arith, room .net-room .firsts-long, within .nets-most); room = long .firstSinks-long },
       record { there = omega (arith, room .net-room .sinks-long, start .pre .1 .1); room = long .sinks-long },
@@ -74,7 +74,7 @@ returns-2 c = let start = c .before .before .before .before .before .before .bef
     let nets = c .before .before .before .before .before .before .copy-nets in
     let l = block .last .1 .1 .1 .1 .1 .1 in
     let m = nets .last .1 .1 .1 .1 .1 in
-    lay-done _ _ _ _ (a .limit) _ _ _ _ _ _ _ (start .pre .0) (start .pre .1 .0) (start .pre .1 .1)
+    lay-done _ _ _ _ (a .terms) _ _ _ _ _ _ _ (start .pre .0) (start .pre .1 .0) (start .pre .1 .1)
     (tablesOf (a .kind .now) (a .capacity .now) (a .first-edge .now) (a .edge-target .now) (a .source .now) (a .first-sink .now) (a .sink .now))
     (tablesOf (l .0) (l .1 .0) (l .1 .1 .0) (l .1 .1 .1 .0) (m .0) (m .1 .0) (m .1 .1 .0))
     (c .before .before .before .before .before .before .before .before .before .before .before .before .before .before .before .before .before .before .before .before .before .before .before .before .short-table .result) (c .before .before .before .before .before .before .before .before .before .before .before .before .before .before .before .before .before .before .before .before .before .before .before .before .short-table .ensures) (c .before .before .before .before .before .before .before .before .before .before .before .before .before .before .before .before .before .before .before .before .before .before .before .if1 .left)

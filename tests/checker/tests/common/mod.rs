@@ -11,6 +11,11 @@ pub fn tables(kind: &[u8], edges: &[(u16, u16)], nets: &[(u16, &[u16])], limit: 
     Job::new(kind.to_vec(), vec![1; kind.len()], &rows, nets, limit)
 }
 
+/// The checker's tuning.
+pub fn tuning([first, up, down, step]: [u32; 4]) -> checker::Tuning {
+    checker::Tuning { first, up, down, step }
+}
+
 /// The checker on a job with its own tables.
 pub trait Checked {
     /// The tables lent.
@@ -33,6 +38,7 @@ impl Checked for Job {
             first_sink: &self.first_sink,
             sink: &self.sink,
             limit: self.limit,
+            tuning: tuning(self.tuning.numbers()),
         }
     }
 }

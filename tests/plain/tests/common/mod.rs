@@ -37,7 +37,7 @@ pub fn tables(text: &str) -> Job {
 pub fn refusal(text: &str) -> Vec<u64> {
     let mut t = Job::unread([40; 7]);
     let answer = read_into(text.as_bytes(), &mut t);
-    assert_eq!(answer.numbers, vec![0; 5]);
+    assert_eq!(answer.numbers, vec![0; 9]);
     assert_eq!(t, Job::unread([40; 7]));
     answer.refusal
 }
@@ -52,6 +52,10 @@ pub fn route_with(t: &Job, work: &mut [u64], log: &mut [u32]) -> Answer {
         &t.first_sink,
         &t.sink,
         t.limit,
+        t.tuning.first,
+        t.tuning.up,
+        t.tuning.down,
+        t.tuning.step,
         work,
         log,
     )

@@ -3,12 +3,15 @@
 use mathlib.Core.List.{List, _++_, append-nil}
 use mathlib.Core.Path.{_≡_, refl, sym, _∙_}
 use Prim.Native.Nat.{ℕ, suc, _+_, _-_, _^_, _≤_, _<_}
+use native.Mathlib.Nat.{mul-le-mul}
 use native.Mathlib.Numerals.{add-one}
 use native.Mathlib.Omega.{arith}
 use lib.ListN.{length, getD, set, drop, length-set}
 use lib.Seq.{drop-cons, drop-length, append-snoc, getD-at, set-at}
+use Rattle.price.specs.Bounds.{stepMost}
 use Rattle.price.specs.Lists.{upTo}
 use Rattle.price.specs.Prices.{nextHistory}
+use Rattle.price.specs.declared.Tuning.{Tuning}
 use Rattle.price.proofs.ListLaws.{length-upTo, upTo-more}
 use Rattle.negotiation.proofs.congestion.grow_histories.Statement.{statement}
 use Rattle.negotiation.proofs.congestion.grow_histories.Tie as tie
@@ -35,29 +38,31 @@ module _ (f : ℕ → ℕ) (hs : List ℕ) where
       rw (e, drop-length) (append-nil (upTo f (length hs)))
 
 -- what a node's history becomes
-abbrev next : List ℕ → List ℕ → List ℕ → ℕ → ℕ
-next cs us hs v = nextHistory (getD hs v 0) (getD us v 0) (getD cs v 0)
+abbrev next : Tuning → List ℕ → List ℕ → List ℕ → ℕ → ℕ
+next g cs us hs v = nextHistory g (getD hs v 0) (getD us v 0) (getD cs v 0)
 
 -- the history that is read is the first one
-grown-read : (cs us hs now : List ℕ) (v r : ℕ) → v < length hs → now ≡ upTo (next cs us hs) v ++ drop v hs → r ≡ nextHistory (getD now v 0) (getD us v 0) (getD cs v 0) → r ≡ next cs us hs v
-grown-read cs us hs now v r h e n = n ∙ rw (e, grown-at (next cs us hs) hs v h)
+grown-read : (g : Tuning) (cs us hs now : List ℕ) (v r : ℕ) → v < length hs → now ≡ upTo (next g cs us hs) v ++ drop v hs → r ≡ nextHistory g (getD now v 0) (getD us v 0) (getD cs v 0) → r ≡ next g cs us hs v
+grown-read g cs us hs now v r h e n = n ∙ rw (e, grown-at (next g cs us hs) hs v h)
 
 -- a history below 2 ^ 31 does not outgrow 32 bits
-history-fits : (h u c : ℕ) → h < 2 ^ 31 → u < 2 ^ 16 → nextHistory h u c < 2 ^ 32
+history-fits : (g : Tuning) (h u c : ℕ) → g .step ≤ stepMost → h < 2 ^ 31 → u < 2 ^ 16 → nextHistory g h u c < 2 ^ 32
 unfolding nextHistory
-history-fits h u c hh hu = omega arith
+history-fits g h u c hs hh hu =
+    let few : u - c ≤ 2 ^ 16 = omega arith in
+    omega (arith, mul-le-mul hs few)
 
 abbrev Inv-loop : tie.InvT-loop
-Inv-loop capacity users history₀ v₀ history v =
+Inv-loop g capacity users history₀ v₀ history v =
     (v ≤ length history₀) × (length history ≡ length history₀)
-    × (history ≡ upTo (next capacity users history₀) v ++ drop v history₀)
+    × (history ≡ upTo (next g capacity users history₀) v ++ drop v history₀)
 
 abbrev μ-loop : tie.MeasureT-loop
-μ-loop capacity users history₀ v₀ history v = length history₀ - v
+μ-loop g capacity users history₀ v₀ history v = length history₀ - v
 
 -- what a node's history becomes, by the lists at the entry
 abbrev becomes : tie.Start Inv-loop μ-loop → ℕ → ℕ
-becomes s = next (s .args .capacity .now) (s .args .users .now) (s .args .history .now)
+becomes s = next (s .args .g) (s .args .capacity .now) (s .args .users .now) (s .args .history .now)
 
 -- the entry, from a turn
 abbrev entry : tie.In-loop Inv-loop μ-loop → tie.Start Inv-loop μ-loop
@@ -95,7 +100,7 @@ grows : (c : tie.After-next-history Inv-loop μ-loop) → c .next-history .resul
 grows c =
     let turn = c .before .before .before .before in
     let args = entry turn .args in
-    grown-read (args .capacity .now) (args .users .now) (args .history .now) _ (turn .before .loop .v) _ (omega arith) (turn .before .loop .inv .2) (c .next-history .ensures)
+    grown-read (args .g) (args .capacity .now) (args .users .now) (args .history .now) _ (turn .before .loop .v) _ (omega arith) (turn .before .loop .inv .2) (c .next-history .ensures)
 
 cast-history : tie.Need-cast-history Inv-loop μ-loop
 cast-history c =
@@ -103,7 +108,7 @@ cast-history c =
     rw (grows c)
     (record {
       fits =
-          history-fits _ _ _ (entry turn .pre .1 (turn .before .loop .v) (omega arith))
+          history-fits _ _ _ _ (entry turn .pre .1 .1) (entry turn .pre .1 .0 (turn .before .loop .v) (omega arith))
           (c .before .before .shared-slice-known3 .given (turn .before .loop .v) .fits);
     })
 

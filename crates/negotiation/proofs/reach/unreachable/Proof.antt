@@ -10,6 +10,7 @@ use borrow.Author.Count.{below-none}
 use Rattle.search.proofs.BlockLaws.{kinds-few}
 use Rattle.negotiation.specs.Job.{Job, jobOf, nodes}
 use Rattle.negotiation.specs.Tables.{SoundJob}
+use Rattle.negotiation.specs.declared.Terms.{Terms}
 use Rattle.negotiation.proofs.JobLaws.{nets-few, firstSinks-long, sinks-order, sinks-end, sinks-few}
 use Rattle.negotiation.proofs.FloodLaws.{same-from-refl}
 use Rattle.negotiation.proofs.TestedLaws.{Tested, tested-all, flood-asked, marks-fit, tested-same, sinks-asked, tested-found, tested-more}
@@ -18,22 +19,22 @@ use Rattle.negotiation.proofs.reach.unreachable.Tie as tie
 
 abbrev Inv-loop : tie.InvT-loop
 Inv-loop kind first-edge edge-target source first-sink sink work₀ n reached₀ net₀ work reached net =
-    (capacities : List ℕ) (limit : ℕ)
-    → SoundJob (jobOf kind capacities first-edge edge-target source first-sink sink limit)
-    → Tested (jobOf kind capacities first-edge edge-target source first-sink sink limit) 4096 work₀ work reached net
+    (capacities : List ℕ) (terms : Terms)
+    → SoundJob (jobOf kind capacities first-edge edge-target source first-sink sink terms)
+    → Tested (jobOf kind capacities first-edge edge-target source first-sink sink terms) 4096 work₀ work reached net
 
 abbrev μ-loop : tie.MeasureT-loop
 μ-loop kind first-edge edge-target source first-sink sink work₀ n reached₀ net₀ work reached net =
     length source - net
 
--- the entry's tables as a job, with any capacity table and limit
-abbrev jobWith : tie.Start Inv-loop μ-loop → List ℕ → ℕ → Job
-jobWith s capacities limit =
-    jobOf (s .args .kind .now) capacities (s .args .first-edge .now) (s .args .edge-target .now) (s .args .source .now) (s .args .first-sink .now) (s .args .sink .now) limit
+-- the entry's tables as a job, with any capacity table and terms
+abbrev jobWith : tie.Start Inv-loop μ-loop → List ℕ → Terms → Job
+jobWith s capacities terms =
+    jobOf (s .args .kind .now) capacities (s .args .first-edge .now) (s .args .edge-target .now) (s .args .source .now) (s .args .first-sink .now) (s .args .sink .now) terms
 
 -- with those of the precondition it is sound
 abbrev job : tie.Start Inv-loop μ-loop → Job
-job s = jobWith s (s .pre .0 .capacities) (s .pre .0 .limit)
+job s = jobWith s (s .pre .0 .capacities) (s .pre .0 .terms)
 
 sound : (s : tie.Start Inv-loop μ-loop) → SoundJob (job s)
 sound s = s .pre .0 .sound
@@ -78,7 +79,7 @@ marks-enough : (t : tie.In-loop Inv-loop μ-loop) → length (entry t .args .kin
 marks-enough t = omega (arith, few (entry t), tested (t .before) .marks-long)
 
 loop-holds : tie.Need-loop-holds Inv-loop μ-loop
-loop-holds c capacities limit s =
+loop-holds c capacities terms s =
     record {
       within = omega arith;
       same = same-from-refl _ _;
@@ -181,8 +182,8 @@ returns c =
     let f = flooded (c .before) in
     let t = turn f in
     let call = c .before .missing-sink in (
-      λ capacities limit s.
-          tested-found (jobWith (entry t) capacities limit) s (net t) (t .loop-test .taken) (few (entry t)) (entry t .pre .1) (t .before .loop .inv capacities limit s) (f .flood .ensures) (call .result) (call .ensures) (c .if1 .taken),
+      λ capacities terms s.
+          tested-found (jobWith (entry t) capacities terms) s (net t) (t .loop-test .taken) (few (entry t)) (entry t .pre .1) (t .before .loop .inv capacities terms s) (f .flood .ensures) (call .result) (call .ensures) (c .if1 .taken),
       tested-same (job (entry t)) (sound (entry t)) (net t) (t .loop-test .taken) (few (entry t)) (entry t .pre .1) (tested (t .before)) (f .flood .ensures),
     )
 
@@ -193,18 +194,18 @@ loop-less : tie.Need-loop-less Inv-loop μ-loop
 loop-less c = omega (arith, turn (flooded (c .before)) .loop-test .taken)
 
 loop-again : tie.Need-loop-again Inv-loop μ-loop
-loop-again c capacities limit s =
+loop-again c capacities terms s =
     let f = flooded (c .before) in
     let t = turn f in
     let call = c .before .missing-sink in
-    tested-more (jobWith (entry t) capacities limit) s (net t) (t .loop-test .taken) (few (entry t)) (entry t .pre .1) (t .before .loop .inv capacities limit s) (f .flood .ensures) (call .result) (call .ensures) (c .if1 .left)
+    tested-more (jobWith (entry t) capacities terms) s (net t) (t .loop-test .taken) (few (entry t)) (entry t .pre .1) (t .before .loop .inv capacities terms s) (f .flood .ensures) (call .result) (call .ensures) (c .if1 .left)
 
 same-length-2 : tie.Need-same-length-2 Inv-loop μ-loop
 same-length-2 c = tested (c .before) .same .long
 
 returns-2 : tie.Need-returns-2 Inv-loop μ-loop
 returns-2 c =
-    (λ capacities limit s. tested-all (c .loop-test .left) (c .before .loop .inv capacities limit s), tested (c .before) .same)
+    (λ capacities terms s. tested-all (c .loop-test .left) (c .before .loop .inv capacities terms s), tested (c .before) .same)
 
 pub unreachable-spec : {M : Type 1} → statement M
 unreachable-spec =

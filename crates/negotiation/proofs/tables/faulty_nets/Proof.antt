@@ -4,7 +4,7 @@ use mathlib.Core.Path.{sym}
 use borrow.Author.Needs.{needs}
 use Rattle.search.proofs.KeptLaws.{refused, passed}
 use Rattle.negotiation.proofs.JobLaws.{sources-few}
-use Rattle.negotiation.proofs.NetTableLaws.{faulty-5, faulty-6, faulty-7, faulty-low, faulty-high, faulty-no-net}
+use Rattle.negotiation.proofs.NetTableLaws.{faulty-5, faulty-6, faulty-7, faulty-8, faulty-no-net}
 use Rattle.negotiation.proofs.tables.faulty_nets.Statement.{statement}
 use Rattle.negotiation.proofs.tables.faulty_nets.Tie as tie
 
@@ -26,14 +26,14 @@ sinks-sound-requires c κs = (search needs, ((passed (c .before .before .before 
 returns-3 : tie.Need-returns-3
 returns-3 c = sym (faulty-7 _ _ _ _ _ (passed (c .before .before .before .before .before .sources-sound .ensures) (c .before .before .before .before .if1 .left)) (passed (c .before .before .before .first-sinks-sound .ensures) (c .before .before .if2 .left)) (refused (c .before .sinks-sound .ensures) (c .if3 .taken)))
 
+terms-sound-requires : tie.Need-terms-sound-requires
+terms-sound-requires c κs = search needs
+
 returns-4 : tie.Need-returns-4
-returns-4 c = sym (faulty-low _ _ _ _ _ (passed (c .before .before .before .before .before .before .sources-sound .ensures) (c .before .before .before .before .before .if1 .left)) (passed (c .before .before .before .before .first-sinks-sound .ensures) (c .before .before .before .if2 .left)) (passed (c .before .before .sinks-sound .ensures) (c .before .if3 .left)) (search needs))
+returns-4 c = sym (faulty-8 _ _ _ _ _ (passed (c .before .before .before .before .before .before .before .sources-sound .ensures) (c .before .before .before .before .before .before .if1 .left)) (passed (c .before .before .before .before .before .first-sinks-sound .ensures) (c .before .before .before .before .if2 .left)) (passed (c .before .before .before .sinks-sound .ensures) (c .before .before .if3 .left)) (refused (c .before .terms-sound .ensures) (c .if4 .taken)))
 
 returns-5 : tie.Need-returns-5
-returns-5 c = sym (faulty-high _ _ _ _ _ (passed (c .before .before .before .before .before .before .before .sources-sound .ensures) (c .before .before .before .before .before .before .if1 .left)) (passed (c .before .before .before .before .before .first-sinks-sound .ensures) (c .before .before .before .before .if2 .left)) (passed (c .before .before .before .sinks-sound .ensures) (c .before .before .if3 .left)) (search needs) (search needs))
-
-returns-6 : tie.Need-returns-6
-returns-6 c = sym (faulty-no-net _ _ _ _ _ (passed (c .before .before .before .before .before .before .before .sources-sound .ensures) (c .before .before .before .before .before .before .if1 .left)) (passed (c .before .before .before .before .before .first-sinks-sound .ensures) (c .before .before .before .before .if2 .left)) (passed (c .before .before .before .sinks-sound .ensures) (c .before .before .if3 .left)) (search needs) (search needs))
+returns-5 c = sym (faulty-no-net _ _ _ _ _ (passed (c .before .before .before .before .before .before .before .sources-sound .ensures) (c .before .before .before .before .before .before .if1 .left)) (passed (c .before .before .before .before .before .first-sinks-sound .ensures) (c .before .before .before .before .if2 .left)) (passed (c .before .before .before .sinks-sound .ensures) (c .before .before .if3 .left)) (passed (c .before .terms-sound .ensures) (c .if4 .left)))
 
 pub faulty-nets-spec : {M : Type 1} → statement M
 faulty-nets-spec =
@@ -45,6 +45,6 @@ faulty-nets-spec =
     returns-2
     sinks-sound-requires
     returns-3
+    terms-sound-requires
     returns-4
-    returns-5
-    returns-6)
+    returns-5)

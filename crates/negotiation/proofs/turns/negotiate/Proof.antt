@@ -16,7 +16,7 @@ use Rattle.negotiation.specs.Tables.{SoundJob}
 use Rattle.negotiation.specs.Records.{Record}
 use Rattle.negotiation.specs.Machine.{overCount, iterationAfter, firstState}
 use Rattle.negotiation.specs.declared.tariff.Tariff.{Tariff}
-use Rattle.negotiation.proofs.JobLaws.{nets-few, limit-few, source-node, firstSinks-long, sinks-order, sinks-end, sinks-few}
+use Rattle.negotiation.proofs.JobLaws.{nets-few, limit-few, tuning-fits, source-node, firstSinks-long, sinks-order, sinks-end, sinks-few}
 use Rattle.negotiation.proofs.KeepLaws.{Tallied, AtNet, AtTurn}
 use Rattle.negotiation.proofs.TurnStepLaws.{log-length}
 use Rattle.negotiation.proofs.KeepEnd.{keep-over, keep-below, keep-growable, keep-accepted, keep-limit}
@@ -26,36 +26,36 @@ use Rattle.negotiation.proofs.turns.negotiate.Statement.{statement}
 use Rattle.negotiation.proofs.turns.negotiate.Tie as tie
 
 abbrev Inv-loop2 : tie.InvT-loop2
-Inv-loop2 kind capacity first-edge edge-target source first-sink sink limit work₀ log₀ n history users in-tree₀ tariff₀ old start net s from to iteration first left₀ work log in-tree tariff left =
+Inv-loop2 kind capacity first-edge edge-target source first-sink sink terms work₀ log₀ n history users in-tree₀ tariff₀ old start net s from to iteration first left₀ work log in-tree tariff left =
     (W L : List ℕ) (m : ℕ) → 8 * length kind ≤ length W
-    → AtTurn (jobOf kind capacity first-edge edge-target source first-sink sink limit) W L m net left₀ tariff₀ history users in-tree₀ work₀ log₀ old start first
-    → AtTurn (jobOf kind capacity first-edge edge-target source first-sink sink limit) W L m net left tariff history users in-tree work log old start first
+    → AtTurn (jobOf kind capacity first-edge edge-target source first-sink sink terms) W L m net left₀ tariff₀ history users in-tree₀ work₀ log₀ old start first
+    → AtTurn (jobOf kind capacity first-edge edge-target source first-sink sink terms) W L m net left tariff history users in-tree work log old start first
 
 abbrev μ-loop2 : tie.MeasureT-loop2
-μ-loop2 kind capacity first-edge edge-target source first-sink sink limit work₀ log₀ n history users in-tree₀ tariff₀ old start net s from to iteration first left₀ work log in-tree tariff left =
+μ-loop2 kind capacity first-edge edge-target source first-sink sink terms work₀ log₀ n history users in-tree₀ tariff₀ old start net s from to iteration first left₀ work log in-tree tariff left =
     left
 
 abbrev Inv-loop : tie.InvT-loop
-Inv-loop kind capacity first-edge edge-target source first-sink sink limit work₀ log₀ n history users₀ in-tree₀ tariff₀ old₀ start net₀ work log users in-tree tariff old net =
+Inv-loop kind capacity first-edge edge-target source first-sink sink terms work₀ log₀ n history users₀ in-tree₀ tariff₀ old₀ start net₀ work log users in-tree tariff old net =
     (W L : List ℕ) (m : ℕ) → 8 * length kind ≤ length W
-    → AtNet (jobOf kind capacity first-edge edge-target source first-sink sink limit) W L m 0 tariff₀ history users₀ in-tree₀ work₀ log₀ old₀ start
-    → AtNet (jobOf kind capacity first-edge edge-target source first-sink sink limit) W L m net tariff history users in-tree work log old start
+    → AtNet (jobOf kind capacity first-edge edge-target source first-sink sink terms) W L m 0 tariff₀ history users₀ in-tree₀ work₀ log₀ old₀ start
+    → AtNet (jobOf kind capacity first-edge edge-target source first-sink sink terms) W L m net tariff history users in-tree work log old start
 
 abbrev μ-loop : tie.MeasureT-loop
-μ-loop kind capacity first-edge edge-target source first-sink sink limit work₀ log₀ n history users₀ in-tree₀ tariff₀ old₀ start net₀ work log users in-tree tariff old net =
+μ-loop kind capacity first-edge edge-target source first-sink sink terms work₀ log₀ n history users₀ in-tree₀ tariff₀ old₀ start net₀ work log users in-tree tariff old net =
     length source - net
 
 abbrev Inv-iterations : tie.InvT-iterations
-Inv-iterations kind capacity first-edge edge-target source first-sink sink limit work₀ log₀ n history₀ users₀ in-tree₀ tariff₀ old₀ work log history users in-tree tariff old =
-    (m : ℕ) × AtNet (jobOf kind capacity first-edge edge-target source first-sink sink limit) work₀ log₀ m 0 tariff history users in-tree work log old (tariff .words)
+Inv-iterations kind capacity first-edge edge-target source first-sink sink terms work₀ log₀ n history₀ users₀ in-tree₀ tariff₀ old₀ work log history users in-tree tariff old =
+    (m : ℕ) × AtNet (jobOf kind capacity first-edge edge-target source first-sink sink terms) work₀ log₀ m 0 tariff history users in-tree work log old (tariff .words)
 
 abbrev μ-iterations : tie.MeasureT-iterations
-μ-iterations kind capacity first-edge edge-target source first-sink sink limit work₀ log₀ n history₀ users₀ in-tree₀ tariff₀ old₀ work log history users in-tree tariff old =
-    limit - tariff .iteration
+μ-iterations kind capacity first-edge edge-target source first-sink sink terms work₀ log₀ n history₀ users₀ in-tree₀ tariff₀ old₀ work log history users in-tree tariff old =
+    terms .limit - tariff .iteration
 
 -- at the head of the loop over nets, from any such place at the iteration's start
 module _ (c : tie.At-loop Inv-loop2 μ-loop2 Inv-loop μ-loop Inv-iterations μ-iterations) where
-  sound : SoundJob (jobOf (c .before .before .before .before .before .before .before .before .before .before .before .args .kind .now) (c .before .before .before .before .before .before .before .before .before .before .before .args .capacity .now) (c .before .before .before .before .before .before .before .before .before .before .before .args .first-edge .now) (c .before .before .before .before .before .before .before .before .before .before .before .args .edge-target .now) (c .before .before .before .before .before .before .before .before .before .before .before .args .source .now) (c .before .before .before .before .before .before .before .before .before .before .before .args .first-sink .now) (c .before .before .before .before .before .before .before .before .before .before .before .args .sink .now) (c .before .before .before .before .before .before .before .before .before .before .before .args .limit))
+  sound : SoundJob (jobOf (c .before .before .before .before .before .before .before .before .before .before .before .args .kind .now) (c .before .before .before .before .before .before .before .before .before .before .before .args .capacity .now) (c .before .before .before .before .before .before .before .before .before .before .before .args .first-edge .now) (c .before .before .before .before .before .before .before .before .before .before .before .args .edge-target .now) (c .before .before .before .before .before .before .before .before .before .before .before .args .source .now) (c .before .before .before .before .before .before .before .before .before .before .before .args .first-sink .now) (c .before .before .before .before .before .before .before .before .before .before .before .args .sink .now) (c .before .before .before .before .before .before .before .before .before .before .before .args .terms))
   sound = c .before .before .before .before .before .before .before .before .before .before .before .pre .0
 
   enough : 8 * length (c .before .before .before .before .before .before .before .before .before .before .before .args .kind .now) ≤ length (c .before .before .before .before .before .before .before .before .before .before .before .args .work .now)
@@ -64,28 +64,28 @@ module _ (c : tie.At-loop Inv-loop2 μ-loop2 Inv-loop μ-loop Inv-iterations μ-
   few-nodes : length (c .before .before .before .before .before .before .before .before .before .before .before .args .kind .now) ≤ 4096
   few-nodes = kinds-few _ (sound .block-sound .kinds-sound)
 
-  net-of : (W L : List ℕ) (m : ℕ) → 8 * length (c .before .before .before .before .before .before .before .before .before .before .before .args .kind .now) ≤ length W → AtNet (jobOf (c .before .before .before .before .before .before .before .before .before .before .before .args .kind .now) (c .before .before .before .before .before .before .before .before .before .before .before .args .capacity .now) (c .before .before .before .before .before .before .before .before .before .before .before .args .first-edge .now) (c .before .before .before .before .before .before .before .before .before .before .before .args .edge-target .now) (c .before .before .before .before .before .before .before .before .before .before .before .args .source .now) (c .before .before .before .before .before .before .before .before .before .before .before .args .first-sink .now) (c .before .before .before .before .before .before .before .before .before .before .before .args .sink .now) (c .before .before .before .before .before .before .before .before .before .before .before .args .limit)) W L m 0 (c .before .iterations .tariff) (c .before .iterations .history) (c .before .iterations .users) (c .before .iterations .in-tree) (c .before .iterations .work) (c .before .iterations .log) (c .before .iterations .old) (c .before .iterations .tariff .words) → AtNet (jobOf (c .before .before .before .before .before .before .before .before .before .before .before .args .kind .now) (c .before .before .before .before .before .before .before .before .before .before .before .args .capacity .now) (c .before .before .before .before .before .before .before .before .before .before .before .args .first-edge .now) (c .before .before .before .before .before .before .before .before .before .before .before .args .edge-target .now) (c .before .before .before .before .before .before .before .before .before .before .before .args .source .now) (c .before .before .before .before .before .before .before .before .before .before .before .args .first-sink .now) (c .before .before .before .before .before .before .before .before .before .before .before .args .sink .now) (c .before .before .before .before .before .before .before .before .before .before .before .args .limit)) W L m (c .loop .net) (c .loop .tariff) (c .before .iterations .history) (c .loop .users) (c .loop .in-tree) (c .loop .work) (c .loop .log) (c .loop .old) (c .before .iterations .tariff .words)
+  net-of : (W L : List ℕ) (m : ℕ) → 8 * length (c .before .before .before .before .before .before .before .before .before .before .before .args .kind .now) ≤ length W → AtNet (jobOf (c .before .before .before .before .before .before .before .before .before .before .before .args .kind .now) (c .before .before .before .before .before .before .before .before .before .before .before .args .capacity .now) (c .before .before .before .before .before .before .before .before .before .before .before .args .first-edge .now) (c .before .before .before .before .before .before .before .before .before .before .before .args .edge-target .now) (c .before .before .before .before .before .before .before .before .before .before .before .args .source .now) (c .before .before .before .before .before .before .before .before .before .before .before .args .first-sink .now) (c .before .before .before .before .before .before .before .before .before .before .before .args .sink .now) (c .before .before .before .before .before .before .before .before .before .before .before .args .terms)) W L m 0 (c .before .iterations .tariff) (c .before .iterations .history) (c .before .iterations .users) (c .before .iterations .in-tree) (c .before .iterations .work) (c .before .iterations .log) (c .before .iterations .old) (c .before .iterations .tariff .words) → AtNet (jobOf (c .before .before .before .before .before .before .before .before .before .before .before .args .kind .now) (c .before .before .before .before .before .before .before .before .before .before .before .args .capacity .now) (c .before .before .before .before .before .before .before .before .before .before .before .args .first-edge .now) (c .before .before .before .before .before .before .before .before .before .before .before .args .edge-target .now) (c .before .before .before .before .before .before .before .before .before .before .before .args .source .now) (c .before .before .before .before .before .before .before .before .before .before .before .args .first-sink .now) (c .before .before .before .before .before .before .before .before .before .before .before .args .sink .now) (c .before .before .before .before .before .before .before .before .before .before .before .args .terms)) W L m (c .loop .net) (c .loop .tariff) (c .before .iterations .history) (c .loop .users) (c .loop .in-tree) (c .loop .work) (c .loop .log) (c .loop .old) (c .before .iterations .tariff .words)
   net-of W L m e o = c .loop .inv W L m e o
 
-  at-net : AtNet (jobOf (c .before .before .before .before .before .before .before .before .before .before .before .args .kind .now) (c .before .before .before .before .before .before .before .before .before .before .before .args .capacity .now) (c .before .before .before .before .before .before .before .before .before .before .before .args .first-edge .now) (c .before .before .before .before .before .before .before .before .before .before .before .args .edge-target .now) (c .before .before .before .before .before .before .before .before .before .before .before .args .source .now) (c .before .before .before .before .before .before .before .before .before .before .before .args .first-sink .now) (c .before .before .before .before .before .before .before .before .before .before .before .args .sink .now) (c .before .before .before .before .before .before .before .before .before .before .before .args .limit)) (c .before .before .before .before .before .before .before .before .before .before .before .args .work .now) (c .before .before .before .before .before .before .before .before .before .before .before .args .log .now) (c .before .iterations .inv .0) (c .loop .net) (c .loop .tariff) (c .before .iterations .history) (c .loop .users) (c .loop .in-tree) (c .loop .work) (c .loop .log) (c .loop .old) (c .before .iterations .tariff .words)
+  at-net : AtNet (jobOf (c .before .before .before .before .before .before .before .before .before .before .before .args .kind .now) (c .before .before .before .before .before .before .before .before .before .before .before .args .capacity .now) (c .before .before .before .before .before .before .before .before .before .before .before .args .first-edge .now) (c .before .before .before .before .before .before .before .before .before .before .before .args .edge-target .now) (c .before .before .before .before .before .before .before .before .before .before .before .args .source .now) (c .before .before .before .before .before .before .before .before .before .before .before .args .first-sink .now) (c .before .before .before .before .before .before .before .before .before .before .before .args .sink .now) (c .before .before .before .before .before .before .before .before .before .before .before .args .terms)) (c .before .before .before .before .before .before .before .before .before .before .before .args .work .now) (c .before .before .before .before .before .before .before .before .before .before .before .args .log .now) (c .before .iterations .inv .0) (c .loop .net) (c .loop .tariff) (c .before .iterations .history) (c .loop .users) (c .loop .in-tree) (c .loop .work) (c .loop .log) (c .loop .old) (c .before .iterations .tariff .words)
   at-net = net-of _ _ _ enough (c .before .iterations .inv .1)
 
 -- at the head of the loop over turns
 module _ (c : tie.At-loop2 Inv-loop2 μ-loop2 Inv-loop μ-loop Inv-iterations μ-iterations) where
-  turn-of : (W L : List ℕ) (m : ℕ) → 8 * length (c .before .before .before .before .before .before .before .before .before .before .before .before .before .before .before .before .before .before .before .before .before .before .args .kind .now) ≤ length W → AtNet (jobOf (c .before .before .before .before .before .before .before .before .before .before .before .before .before .before .before .before .before .before .before .before .before .before .args .kind .now) (c .before .before .before .before .before .before .before .before .before .before .before .before .before .before .before .before .before .before .before .before .before .before .args .capacity .now) (c .before .before .before .before .before .before .before .before .before .before .before .before .before .before .before .before .before .before .before .before .before .before .args .first-edge .now) (c .before .before .before .before .before .before .before .before .before .before .before .before .before .before .before .before .before .before .before .before .before .before .args .edge-target .now) (c .before .before .before .before .before .before .before .before .before .before .before .before .before .before .before .before .before .before .before .before .before .before .args .source .now) (c .before .before .before .before .before .before .before .before .before .before .before .before .before .before .before .before .before .before .before .before .before .before .args .first-sink .now) (c .before .before .before .before .before .before .before .before .before .before .before .before .before .before .before .before .before .before .before .before .before .before .args .sink .now) (c .before .before .before .before .before .before .before .before .before .before .before .before .before .before .before .before .before .before .before .before .before .before .args .limit)) W L m 0 (c .before .before .before .before .before .before .before .before .before .before .before .before .iterations .tariff) (c .before .before .before .before .before .before .before .before .before .before .before .before .iterations .history) (c .before .before .before .before .before .before .before .before .before .before .before .before .iterations .users) (c .before .before .before .before .before .before .before .before .before .before .before .before .iterations .in-tree) (c .before .before .before .before .before .before .before .before .before .before .before .before .iterations .work) (c .before .before .before .before .before .before .before .before .before .before .before .before .iterations .log) (c .before .before .before .before .before .before .before .before .before .before .before .before .iterations .old) (c .before .before .before .before .before .before .before .before .before .before .before .before .iterations .tariff .words) → AtTurn (jobOf (c .before .before .before .before .before .before .before .before .before .before .before .before .before .before .before .before .before .before .before .before .before .before .args .kind .now) (c .before .before .before .before .before .before .before .before .before .before .before .before .before .before .before .before .before .before .before .before .before .before .args .capacity .now) (c .before .before .before .before .before .before .before .before .before .before .before .before .before .before .before .before .before .before .before .before .before .before .args .first-edge .now) (c .before .before .before .before .before .before .before .before .before .before .before .before .before .before .before .before .before .before .before .before .before .before .args .edge-target .now) (c .before .before .before .before .before .before .before .before .before .before .before .before .before .before .before .before .before .before .before .before .before .before .args .source .now) (c .before .before .before .before .before .before .before .before .before .before .before .before .before .before .before .before .before .before .before .before .before .before .args .first-sink .now) (c .before .before .before .before .before .before .before .before .before .before .before .before .before .before .before .before .before .before .before .before .before .before .args .sink .now) (c .before .before .before .before .before .before .before .before .before .before .before .before .before .before .before .before .before .before .before .before .before .before .args .limit)) W L m (c .before .before .before .before .before .before .before .before .before .before .before .loop .net) (c .loop2 .left) (c .loop2 .tariff) (c .before .before .before .before .before .before .before .before .before .before .before .before .iterations .history) ((c .before .before .before .rip-up .last .1 .1 .1 .1 .1 .1 .0) ++ drop (length (c .before .before .before .before .before .before .before .before .before .before .before .before .before .before .before .before .before .before .before .before .before .before .args .kind .now)) (c .before .before .before .before .before .before .before .before .before .before .before .loop .users)) (c .loop2 .in-tree) (c .loop2 .work) (c .loop2 .log) (c .before .before .before .rip-up .result) (c .before .before .before .before .before .before .before .before .before .before .before .before .iterations .tariff .words) (c .before .before .before .before .before .before .before .before .before .before .before .loop .tariff .words)
+  turn-of : (W L : List ℕ) (m : ℕ) → 8 * length (c .before .before .before .before .before .before .before .before .before .before .before .before .before .before .before .before .before .before .before .before .before .before .args .kind .now) ≤ length W → AtNet (jobOf (c .before .before .before .before .before .before .before .before .before .before .before .before .before .before .before .before .before .before .before .before .before .before .args .kind .now) (c .before .before .before .before .before .before .before .before .before .before .before .before .before .before .before .before .before .before .before .before .before .before .args .capacity .now) (c .before .before .before .before .before .before .before .before .before .before .before .before .before .before .before .before .before .before .before .before .before .before .args .first-edge .now) (c .before .before .before .before .before .before .before .before .before .before .before .before .before .before .before .before .before .before .before .before .before .before .args .edge-target .now) (c .before .before .before .before .before .before .before .before .before .before .before .before .before .before .before .before .before .before .before .before .before .before .args .source .now) (c .before .before .before .before .before .before .before .before .before .before .before .before .before .before .before .before .before .before .before .before .before .before .args .first-sink .now) (c .before .before .before .before .before .before .before .before .before .before .before .before .before .before .before .before .before .before .before .before .before .before .args .sink .now) (c .before .before .before .before .before .before .before .before .before .before .before .before .before .before .before .before .before .before .before .before .before .before .args .terms)) W L m 0 (c .before .before .before .before .before .before .before .before .before .before .before .before .iterations .tariff) (c .before .before .before .before .before .before .before .before .before .before .before .before .iterations .history) (c .before .before .before .before .before .before .before .before .before .before .before .before .iterations .users) (c .before .before .before .before .before .before .before .before .before .before .before .before .iterations .in-tree) (c .before .before .before .before .before .before .before .before .before .before .before .before .iterations .work) (c .before .before .before .before .before .before .before .before .before .before .before .before .iterations .log) (c .before .before .before .before .before .before .before .before .before .before .before .before .iterations .old) (c .before .before .before .before .before .before .before .before .before .before .before .before .iterations .tariff .words) → AtTurn (jobOf (c .before .before .before .before .before .before .before .before .before .before .before .before .before .before .before .before .before .before .before .before .before .before .args .kind .now) (c .before .before .before .before .before .before .before .before .before .before .before .before .before .before .before .before .before .before .before .before .before .before .args .capacity .now) (c .before .before .before .before .before .before .before .before .before .before .before .before .before .before .before .before .before .before .before .before .before .before .args .first-edge .now) (c .before .before .before .before .before .before .before .before .before .before .before .before .before .before .before .before .before .before .before .before .before .before .args .edge-target .now) (c .before .before .before .before .before .before .before .before .before .before .before .before .before .before .before .before .before .before .before .before .before .before .args .source .now) (c .before .before .before .before .before .before .before .before .before .before .before .before .before .before .before .before .before .before .before .before .before .before .args .first-sink .now) (c .before .before .before .before .before .before .before .before .before .before .before .before .before .before .before .before .before .before .before .before .before .before .args .sink .now) (c .before .before .before .before .before .before .before .before .before .before .before .before .before .before .before .before .before .before .before .before .before .before .args .terms)) W L m (c .before .before .before .before .before .before .before .before .before .before .before .loop .net) (c .loop2 .left) (c .loop2 .tariff) (c .before .before .before .before .before .before .before .before .before .before .before .before .iterations .history) ((c .before .before .before .rip-up .last .1 .1 .1 .1 .1 .1 .0) ++ drop (length (c .before .before .before .before .before .before .before .before .before .before .before .before .before .before .before .before .before .before .before .before .before .before .args .kind .now)) (c .before .before .before .before .before .before .before .before .before .before .before .loop .users)) (c .loop2 .in-tree) (c .loop2 .work) (c .loop2 .log) (c .before .before .before .rip-up .result) (c .before .before .before .before .before .before .before .before .before .before .before .before .iterations .tariff .words) (c .before .before .before .before .before .before .before .before .before .before .before .loop .tariff .words)
   turn-of W L m e o =
       c .loop2 .inv W L m e
       (after-rip-up _ (sound (c .before .before .before .before .before .before .before .before .before .before .before)) _ _ _ _ _ _ _ _ _ _ _ _ (net-of (c .before .before .before .before .before .before .before .before .before .before .before) W L m e o) (c .before .before .before .before .before .before .before .before .before .before .loop-test .taken) _ _ _ _
       (sinks-count _ (sound (c .before .before .before .before .before .before .before .before .before .before .before)) (c .before .before .before .before .before .before .before .before .before .before .before .loop .net) (c .before .before .before .before .before .before .before .before .before .before .loop-test .taken)) (c .before .before .before .rip-up .ensures .0) (c .before .before .before .rip-up .ensures .1))
 
-  at-turn : AtTurn (jobOf (c .before .before .before .before .before .before .before .before .before .before .before .before .before .before .before .before .before .before .before .before .before .before .args .kind .now) (c .before .before .before .before .before .before .before .before .before .before .before .before .before .before .before .before .before .before .before .before .before .before .args .capacity .now) (c .before .before .before .before .before .before .before .before .before .before .before .before .before .before .before .before .before .before .before .before .before .before .args .first-edge .now) (c .before .before .before .before .before .before .before .before .before .before .before .before .before .before .before .before .before .before .before .before .before .before .args .edge-target .now) (c .before .before .before .before .before .before .before .before .before .before .before .before .before .before .before .before .before .before .before .before .before .before .args .source .now) (c .before .before .before .before .before .before .before .before .before .before .before .before .before .before .before .before .before .before .before .before .before .before .args .first-sink .now) (c .before .before .before .before .before .before .before .before .before .before .before .before .before .before .before .before .before .before .before .before .before .before .args .sink .now) (c .before .before .before .before .before .before .before .before .before .before .before .before .before .before .before .before .before .before .before .before .before .before .args .limit)) (c .before .before .before .before .before .before .before .before .before .before .before .before .before .before .before .before .before .before .before .before .before .before .args .work .now) (c .before .before .before .before .before .before .before .before .before .before .before .before .before .before .before .before .before .before .before .before .before .before .args .log .now) (c .before .before .before .before .before .before .before .before .before .before .before .before .iterations .inv .0) (c .before .before .before .before .before .before .before .before .before .before .before .loop .net) (c .loop2 .left) (c .loop2 .tariff) (c .before .before .before .before .before .before .before .before .before .before .before .before .iterations .history) ((c .before .before .before .rip-up .last .1 .1 .1 .1 .1 .1 .0) ++ drop (length (c .before .before .before .before .before .before .before .before .before .before .before .before .before .before .before .before .before .before .before .before .before .before .args .kind .now)) (c .before .before .before .before .before .before .before .before .before .before .before .loop .users)) (c .loop2 .in-tree) (c .loop2 .work) (c .loop2 .log) (c .before .before .before .rip-up .result) (c .before .before .before .before .before .before .before .before .before .before .before .before .iterations .tariff .words) (c .before .before .before .before .before .before .before .before .before .before .before .loop .tariff .words)
+  at-turn : AtTurn (jobOf (c .before .before .before .before .before .before .before .before .before .before .before .before .before .before .before .before .before .before .before .before .before .before .args .kind .now) (c .before .before .before .before .before .before .before .before .before .before .before .before .before .before .before .before .before .before .before .before .before .before .args .capacity .now) (c .before .before .before .before .before .before .before .before .before .before .before .before .before .before .before .before .before .before .before .before .before .before .args .first-edge .now) (c .before .before .before .before .before .before .before .before .before .before .before .before .before .before .before .before .before .before .before .before .before .before .args .edge-target .now) (c .before .before .before .before .before .before .before .before .before .before .before .before .before .before .before .before .before .before .before .before .before .before .args .source .now) (c .before .before .before .before .before .before .before .before .before .before .before .before .before .before .before .before .before .before .before .before .before .before .args .first-sink .now) (c .before .before .before .before .before .before .before .before .before .before .before .before .before .before .before .before .before .before .before .before .before .before .args .sink .now) (c .before .before .before .before .before .before .before .before .before .before .before .before .before .before .before .before .before .before .before .before .before .before .args .terms)) (c .before .before .before .before .before .before .before .before .before .before .before .before .before .before .before .before .before .before .before .before .before .before .args .work .now) (c .before .before .before .before .before .before .before .before .before .before .before .before .before .before .before .before .before .before .before .before .before .before .args .log .now) (c .before .before .before .before .before .before .before .before .before .before .before .before .iterations .inv .0) (c .before .before .before .before .before .before .before .before .before .before .before .loop .net) (c .loop2 .left) (c .loop2 .tariff) (c .before .before .before .before .before .before .before .before .before .before .before .before .iterations .history) ((c .before .before .before .rip-up .last .1 .1 .1 .1 .1 .1 .0) ++ drop (length (c .before .before .before .before .before .before .before .before .before .before .before .before .before .before .before .before .before .before .before .before .before .before .args .kind .now)) (c .before .before .before .before .before .before .before .before .before .before .before .loop .users)) (c .loop2 .in-tree) (c .loop2 .work) (c .loop2 .log) (c .before .before .before .rip-up .result) (c .before .before .before .before .before .before .before .before .before .before .before .before .iterations .tariff .words) (c .before .before .before .before .before .before .before .before .before .before .before .loop .tariff .words)
   at-turn = turn-of _ _ _ (enough (c .before .before .before .before .before .before .before .before .before .before .before)) (c .before .before .before .before .before .before .before .before .before .before .before .before .iterations .inv .1)
 
 -- past the last turn of a net
 module _ (c : tie.After-loop2 Inv-loop2 μ-loop2 Inv-loop μ-loop Inv-iterations μ-iterations) where
-  end-of : (W L : List ℕ) (m : ℕ) → 8 * length (c .before .before .before .before .before .before .before .before .before .before .before .before .before .before .before .before .before .before .before .before .before .before .before .args .kind .now) ≤ length W → AtNet (jobOf (c .before .before .before .before .before .before .before .before .before .before .before .before .before .before .before .before .before .before .before .before .before .before .before .args .kind .now) (c .before .before .before .before .before .before .before .before .before .before .before .before .before .before .before .before .before .before .before .before .before .before .before .args .capacity .now) (c .before .before .before .before .before .before .before .before .before .before .before .before .before .before .before .before .before .before .before .before .before .before .before .args .first-edge .now) (c .before .before .before .before .before .before .before .before .before .before .before .before .before .before .before .before .before .before .before .before .before .before .before .args .edge-target .now) (c .before .before .before .before .before .before .before .before .before .before .before .before .before .before .before .before .before .before .before .before .before .before .before .args .source .now) (c .before .before .before .before .before .before .before .before .before .before .before .before .before .before .before .before .before .before .before .before .before .before .before .args .first-sink .now) (c .before .before .before .before .before .before .before .before .before .before .before .before .before .before .before .before .before .before .before .before .before .before .before .args .sink .now) (c .before .before .before .before .before .before .before .before .before .before .before .before .before .before .before .before .before .before .before .before .before .before .before .args .limit)) W L m 0 (c .before .before .before .before .before .before .before .before .before .before .before .before .before .iterations .tariff) (c .before .before .before .before .before .before .before .before .before .before .before .before .before .iterations .history) (c .before .before .before .before .before .before .before .before .before .before .before .before .before .iterations .users) (c .before .before .before .before .before .before .before .before .before .before .before .before .before .iterations .in-tree) (c .before .before .before .before .before .before .before .before .before .before .before .before .before .iterations .work) (c .before .before .before .before .before .before .before .before .before .before .before .before .before .iterations .log) (c .before .before .before .before .before .before .before .before .before .before .before .before .before .iterations .old) (c .before .before .before .before .before .before .before .before .before .before .before .before .before .iterations .tariff .words) → AtTurn (jobOf (c .before .before .before .before .before .before .before .before .before .before .before .before .before .before .before .before .before .before .before .before .before .before .before .args .kind .now) (c .before .before .before .before .before .before .before .before .before .before .before .before .before .before .before .before .before .before .before .before .before .before .before .args .capacity .now) (c .before .before .before .before .before .before .before .before .before .before .before .before .before .before .before .before .before .before .before .before .before .before .before .args .first-edge .now) (c .before .before .before .before .before .before .before .before .before .before .before .before .before .before .before .before .before .before .before .before .before .before .before .args .edge-target .now) (c .before .before .before .before .before .before .before .before .before .before .before .before .before .before .before .before .before .before .before .before .before .before .before .args .source .now) (c .before .before .before .before .before .before .before .before .before .before .before .before .before .before .before .before .before .before .before .before .before .before .before .args .first-sink .now) (c .before .before .before .before .before .before .before .before .before .before .before .before .before .before .before .before .before .before .before .before .before .before .before .args .sink .now) (c .before .before .before .before .before .before .before .before .before .before .before .before .before .before .before .before .before .before .before .before .before .before .before .args .limit)) W L m (c .before .before .before .before .before .before .before .before .before .before .before .before .loop .net) 0 (c .before .loop2 .tariff) (c .before .before .before .before .before .before .before .before .before .before .before .before .before .iterations .history) ((c .before .before .before .before .rip-up .last .1 .1 .1 .1 .1 .1 .0) ++ drop (length (c .before .before .before .before .before .before .before .before .before .before .before .before .before .before .before .before .before .before .before .before .before .before .before .args .kind .now)) (c .before .before .before .before .before .before .before .before .before .before .before .before .loop .users)) (c .before .loop2 .in-tree) (c .before .loop2 .work) (c .before .loop2 .log) (c .before .before .before .before .rip-up .result) (c .before .before .before .before .before .before .before .before .before .before .before .before .before .iterations .tariff .words) (c .before .before .before .before .before .before .before .before .before .before .before .before .loop .tariff .words)
+  end-of : (W L : List ℕ) (m : ℕ) → 8 * length (c .before .before .before .before .before .before .before .before .before .before .before .before .before .before .before .before .before .before .before .before .before .before .before .args .kind .now) ≤ length W → AtNet (jobOf (c .before .before .before .before .before .before .before .before .before .before .before .before .before .before .before .before .before .before .before .before .before .before .before .args .kind .now) (c .before .before .before .before .before .before .before .before .before .before .before .before .before .before .before .before .before .before .before .before .before .before .before .args .capacity .now) (c .before .before .before .before .before .before .before .before .before .before .before .before .before .before .before .before .before .before .before .before .before .before .before .args .first-edge .now) (c .before .before .before .before .before .before .before .before .before .before .before .before .before .before .before .before .before .before .before .before .before .before .before .args .edge-target .now) (c .before .before .before .before .before .before .before .before .before .before .before .before .before .before .before .before .before .before .before .before .before .before .before .args .source .now) (c .before .before .before .before .before .before .before .before .before .before .before .before .before .before .before .before .before .before .before .before .before .before .before .args .first-sink .now) (c .before .before .before .before .before .before .before .before .before .before .before .before .before .before .before .before .before .before .before .before .before .before .before .args .sink .now) (c .before .before .before .before .before .before .before .before .before .before .before .before .before .before .before .before .before .before .before .before .before .before .before .args .terms)) W L m 0 (c .before .before .before .before .before .before .before .before .before .before .before .before .before .iterations .tariff) (c .before .before .before .before .before .before .before .before .before .before .before .before .before .iterations .history) (c .before .before .before .before .before .before .before .before .before .before .before .before .before .iterations .users) (c .before .before .before .before .before .before .before .before .before .before .before .before .before .iterations .in-tree) (c .before .before .before .before .before .before .before .before .before .before .before .before .before .iterations .work) (c .before .before .before .before .before .before .before .before .before .before .before .before .before .iterations .log) (c .before .before .before .before .before .before .before .before .before .before .before .before .before .iterations .old) (c .before .before .before .before .before .before .before .before .before .before .before .before .before .iterations .tariff .words) → AtTurn (jobOf (c .before .before .before .before .before .before .before .before .before .before .before .before .before .before .before .before .before .before .before .before .before .before .before .args .kind .now) (c .before .before .before .before .before .before .before .before .before .before .before .before .before .before .before .before .before .before .before .before .before .before .before .args .capacity .now) (c .before .before .before .before .before .before .before .before .before .before .before .before .before .before .before .before .before .before .before .before .before .before .before .args .first-edge .now) (c .before .before .before .before .before .before .before .before .before .before .before .before .before .before .before .before .before .before .before .before .before .before .before .args .edge-target .now) (c .before .before .before .before .before .before .before .before .before .before .before .before .before .before .before .before .before .before .before .before .before .before .before .args .source .now) (c .before .before .before .before .before .before .before .before .before .before .before .before .before .before .before .before .before .before .before .before .before .before .before .args .first-sink .now) (c .before .before .before .before .before .before .before .before .before .before .before .before .before .before .before .before .before .before .before .before .before .before .before .args .sink .now) (c .before .before .before .before .before .before .before .before .before .before .before .before .before .before .before .before .before .before .before .before .before .before .before .args .terms)) W L m (c .before .before .before .before .before .before .before .before .before .before .before .before .loop .net) 0 (c .before .loop2 .tariff) (c .before .before .before .before .before .before .before .before .before .before .before .before .before .iterations .history) ((c .before .before .before .before .rip-up .last .1 .1 .1 .1 .1 .1 .0) ++ drop (length (c .before .before .before .before .before .before .before .before .before .before .before .before .before .before .before .before .before .before .before .before .before .before .before .args .kind .now)) (c .before .before .before .before .before .before .before .before .before .before .before .before .loop .users)) (c .before .loop2 .in-tree) (c .before .loop2 .work) (c .before .loop2 .log) (c .before .before .before .before .rip-up .result) (c .before .before .before .before .before .before .before .before .before .before .before .before .before .iterations .tariff .words) (c .before .before .before .before .before .before .before .before .before .before .before .before .loop .tariff .words)
   end-of W L m e o =
-      subst (λ (k : ℕ). AtTurn (jobOf (c .before .before .before .before .before .before .before .before .before .before .before .before .before .before .before .before .before .before .before .before .before .before .before .args .kind .now) (c .before .before .before .before .before .before .before .before .before .before .before .before .before .before .before .before .before .before .before .before .before .before .before .args .capacity .now) (c .before .before .before .before .before .before .before .before .before .before .before .before .before .before .before .before .before .before .before .before .before .before .before .args .first-edge .now) (c .before .before .before .before .before .before .before .before .before .before .before .before .before .before .before .before .before .before .before .before .before .before .before .args .edge-target .now) (c .before .before .before .before .before .before .before .before .before .before .before .before .before .before .before .before .before .before .before .before .before .before .before .args .source .now) (c .before .before .before .before .before .before .before .before .before .before .before .before .before .before .before .before .before .before .before .before .before .before .before .args .first-sink .now) (c .before .before .before .before .before .before .before .before .before .before .before .before .before .before .before .before .before .before .before .before .before .before .before .args .sink .now) (c .before .before .before .before .before .before .before .before .before .before .before .before .before .before .before .before .before .before .before .before .before .before .before .args .limit)) W L m (c .before .before .before .before .before .before .before .before .before .before .before .before .loop .net) k (c .before .loop2 .tariff) (c .before .before .before .before .before .before .before .before .before .before .before .before .before .iterations .history) ((c .before .before .before .before .rip-up .last .1 .1 .1 .1 .1 .1 .0) ++ drop (length (c .before .before .before .before .before .before .before .before .before .before .before .before .before .before .before .before .before .before .before .before .before .before .before .args .kind .now)) (c .before .before .before .before .before .before .before .before .before .before .before .before .loop .users)) (c .before .loop2 .in-tree) (c .before .loop2 .work) (c .before .loop2 .log) (c .before .before .before .before .rip-up .result) (c .before .before .before .before .before .before .before .before .before .before .before .before .before .iterations .tariff .words) (c .before .before .before .before .before .before .before .before .before .before .before .before .loop .tariff .words)) (let l = c .loop2-test .left in omega arith) (turn-of (c .before) W L m e o)
+      subst (λ (k : ℕ). AtTurn (jobOf (c .before .before .before .before .before .before .before .before .before .before .before .before .before .before .before .before .before .before .before .before .before .before .before .args .kind .now) (c .before .before .before .before .before .before .before .before .before .before .before .before .before .before .before .before .before .before .before .before .before .before .before .args .capacity .now) (c .before .before .before .before .before .before .before .before .before .before .before .before .before .before .before .before .before .before .before .before .before .before .before .args .first-edge .now) (c .before .before .before .before .before .before .before .before .before .before .before .before .before .before .before .before .before .before .before .before .before .before .before .args .edge-target .now) (c .before .before .before .before .before .before .before .before .before .before .before .before .before .before .before .before .before .before .before .before .before .before .before .args .source .now) (c .before .before .before .before .before .before .before .before .before .before .before .before .before .before .before .before .before .before .before .before .before .before .before .args .first-sink .now) (c .before .before .before .before .before .before .before .before .before .before .before .before .before .before .before .before .before .before .before .before .before .before .before .args .sink .now) (c .before .before .before .before .before .before .before .before .before .before .before .before .before .before .before .before .before .before .before .before .before .before .before .args .terms)) W L m (c .before .before .before .before .before .before .before .before .before .before .before .before .loop .net) k (c .before .loop2 .tariff) (c .before .before .before .before .before .before .before .before .before .before .before .before .before .iterations .history) ((c .before .before .before .before .rip-up .last .1 .1 .1 .1 .1 .1 .0) ++ drop (length (c .before .before .before .before .before .before .before .before .before .before .before .before .before .before .before .before .before .before .before .before .before .before .before .args .kind .now)) (c .before .before .before .before .before .before .before .before .before .before .before .before .loop .users)) (c .before .loop2 .in-tree) (c .before .loop2 .work) (c .before .loop2 .log) (c .before .before .before .before .rip-up .result) (c .before .before .before .before .before .before .before .before .before .before .before .before .before .iterations .tariff .words) (c .before .before .before .before .before .before .before .before .before .before .before .before .loop .tariff .words)) (let l = c .loop2-test .left in omega arith) (turn-of (c .before) W L m e o)
 
 -- the log keeps its length
 tallied-long : (rs : List Record) (log₀ : List ℕ) (t : Tariff) (log : List ℕ) → Tallied rs log₀ t log → length log ≡ length log₀
@@ -93,21 +93,21 @@ tallied-long rs log₀ t log k = ap length (k .log-is) ∙ log-length rs log₀ 
 
 -- past the last net
 module _ (c : tie.After-loop Inv-loop2 μ-loop2 Inv-loop μ-loop Inv-iterations μ-iterations) where
-  whole : AtNet (jobOf (c .before .before .before .before .before .before .before .before .before .before .before .before .args .kind .now) (c .before .before .before .before .before .before .before .before .before .before .before .before .args .capacity .now) (c .before .before .before .before .before .before .before .before .before .before .before .before .args .first-edge .now) (c .before .before .before .before .before .before .before .before .before .before .before .before .args .edge-target .now) (c .before .before .before .before .before .before .before .before .before .before .before .before .args .source .now) (c .before .before .before .before .before .before .before .before .before .before .before .before .args .first-sink .now) (c .before .before .before .before .before .before .before .before .before .before .before .before .args .sink .now) (c .before .before .before .before .before .before .before .before .before .before .before .before .args .limit)) (c .before .before .before .before .before .before .before .before .before .before .before .before .args .work .now) (c .before .before .before .before .before .before .before .before .before .before .before .before .args .log .now) (c .before .before .iterations .inv .0) (length (c .before .before .before .before .before .before .before .before .before .before .before .before .args .source .now)) (c .before .loop .tariff) (c .before .before .iterations .history) (c .before .loop .users) (c .before .loop .in-tree) (c .before .loop .work) (c .before .loop .log) (c .before .loop .old) (c .before .before .iterations .tariff .words)
+  whole : AtNet (jobOf (c .before .before .before .before .before .before .before .before .before .before .before .before .args .kind .now) (c .before .before .before .before .before .before .before .before .before .before .before .before .args .capacity .now) (c .before .before .before .before .before .before .before .before .before .before .before .before .args .first-edge .now) (c .before .before .before .before .before .before .before .before .before .before .before .before .args .edge-target .now) (c .before .before .before .before .before .before .before .before .before .before .before .before .args .source .now) (c .before .before .before .before .before .before .before .before .before .before .before .before .args .first-sink .now) (c .before .before .before .before .before .before .before .before .before .before .before .before .args .sink .now) (c .before .before .before .before .before .before .before .before .before .before .before .before .args .terms)) (c .before .before .before .before .before .before .before .before .before .before .before .before .args .work .now) (c .before .before .before .before .before .before .before .before .before .before .before .before .args .log .now) (c .before .before .iterations .inv .0) (length (c .before .before .before .before .before .before .before .before .before .before .before .before .args .source .now)) (c .before .loop .tariff) (c .before .before .iterations .history) (c .before .loop .users) (c .before .loop .in-tree) (c .before .loop .work) (c .before .loop .log) (c .before .loop .old) (c .before .before .iterations .tariff .words)
   whole =
       let at = at-net (c .before) in
-      subst (λ (i : ℕ). AtNet (jobOf (c .before .before .before .before .before .before .before .before .before .before .before .before .args .kind .now) (c .before .before .before .before .before .before .before .before .before .before .before .before .args .capacity .now) (c .before .before .before .before .before .before .before .before .before .before .before .before .args .first-edge .now) (c .before .before .before .before .before .before .before .before .before .before .before .before .args .edge-target .now) (c .before .before .before .before .before .before .before .before .before .before .before .before .args .source .now) (c .before .before .before .before .before .before .before .before .before .before .before .before .args .first-sink .now) (c .before .before .before .before .before .before .before .before .before .before .before .before .args .sink .now) (c .before .before .before .before .before .before .before .before .before .before .before .before .args .limit)) (c .before .before .before .before .before .before .before .before .before .before .before .before .args .work .now) (c .before .before .before .before .before .before .before .before .before .before .before .before .args .log .now) (c .before .before .iterations .inv .0) i (c .before .loop .tariff) (c .before .before .iterations .history) (c .before .loop .users) (c .before .loop .in-tree) (c .before .loop .work) (c .before .loop .log) (c .before .loop .old) (c .before .before .iterations .tariff .words)) (le-antisymm (at .upto) (c .loop-test .left)) at
+      subst (λ (i : ℕ). AtNet (jobOf (c .before .before .before .before .before .before .before .before .before .before .before .before .args .kind .now) (c .before .before .before .before .before .before .before .before .before .before .before .before .args .capacity .now) (c .before .before .before .before .before .before .before .before .before .before .before .before .args .first-edge .now) (c .before .before .before .before .before .before .before .before .before .before .before .before .args .edge-target .now) (c .before .before .before .before .before .before .before .before .before .before .before .before .args .source .now) (c .before .before .before .before .before .before .before .before .before .before .before .before .args .first-sink .now) (c .before .before .before .before .before .before .before .before .before .before .before .before .args .sink .now) (c .before .before .before .before .before .before .before .before .before .before .before .before .args .terms)) (c .before .before .before .before .before .before .before .before .before .before .before .before .args .work .now) (c .before .before .before .before .before .before .before .before .before .before .before .before .args .log .now) (c .before .before .iterations .inv .0) i (c .before .loop .tariff) (c .before .before .iterations .history) (c .before .loop .users) (c .before .loop .in-tree) (c .before .loop .work) (c .before .loop .log) (c .before .loop .old) (c .before .before .iterations .tariff .words)) (le-antisymm (at .upto) (c .loop-test .left)) at
 
 -- the nodes over capacity, counted
 module _ (c : tie.After-over-count Inv-loop2 μ-loop2 Inv-loop μ-loop Inv-iterations μ-iterations) where
-  over-is : c .over-count .result ≡ overCount (jobOf (c .before .before .before .before .before .before .before .before .before .before .before .before .before .before .args .kind .now) (c .before .before .before .before .before .before .before .before .before .before .before .before .before .before .args .capacity .now) (c .before .before .before .before .before .before .before .before .before .before .before .before .before .before .args .first-edge .now) (c .before .before .before .before .before .before .before .before .before .before .before .before .before .before .args .edge-target .now) (c .before .before .before .before .before .before .before .before .before .before .before .before .before .before .args .source .now) (c .before .before .before .before .before .before .before .before .before .before .before .before .before .before .args .first-sink .now) (c .before .before .before .before .before .before .before .before .before .before .before .before .before .before .args .sink .now) (c .before .before .before .before .before .before .before .before .before .before .before .before .before .before .args .limit)) (iterationAfter (jobOf (c .before .before .before .before .before .before .before .before .before .before .before .before .before .before .args .kind .now) (c .before .before .before .before .before .before .before .before .before .before .before .before .before .before .args .capacity .now) (c .before .before .before .before .before .before .before .before .before .before .before .before .before .before .args .first-edge .now) (c .before .before .before .before .before .before .before .before .before .before .before .before .before .before .args .edge-target .now) (c .before .before .before .before .before .before .before .before .before .before .before .before .before .before .args .source .now) (c .before .before .before .before .before .before .before .before .before .before .before .before .before .before .args .first-sink .now) (c .before .before .before .before .before .before .before .before .before .before .before .before .before .before .args .sink .now) (c .before .before .before .before .before .before .before .before .before .before .before .before .before .before .args .limit)) (firstState (jobOf (c .before .before .before .before .before .before .before .before .before .before .before .before .before .before .args .kind .now) (c .before .before .before .before .before .before .before .before .before .before .before .before .before .before .args .capacity .now) (c .before .before .before .before .before .before .before .before .before .before .before .before .before .before .args .first-edge .now) (c .before .before .before .before .before .before .before .before .before .before .before .before .before .before .args .edge-target .now) (c .before .before .before .before .before .before .before .before .before .before .before .before .before .before .args .source .now) (c .before .before .before .before .before .before .before .before .before .before .before .before .before .before .args .first-sink .now) (c .before .before .before .before .before .before .before .before .before .before .before .before .before .before .args .sink .now) (c .before .before .before .before .before .before .before .before .before .before .before .before .before .before .args .limit))) (c .before .before .before .before .iterations .inv .0) .state .trees)
+  over-is : c .over-count .result ≡ overCount (jobOf (c .before .before .before .before .before .before .before .before .before .before .before .before .before .before .args .kind .now) (c .before .before .before .before .before .before .before .before .before .before .before .before .before .before .args .capacity .now) (c .before .before .before .before .before .before .before .before .before .before .before .before .before .before .args .first-edge .now) (c .before .before .before .before .before .before .before .before .before .before .before .before .before .before .args .edge-target .now) (c .before .before .before .before .before .before .before .before .before .before .before .before .before .before .args .source .now) (c .before .before .before .before .before .before .before .before .before .before .before .before .before .before .args .first-sink .now) (c .before .before .before .before .before .before .before .before .before .before .before .before .before .before .args .sink .now) (c .before .before .before .before .before .before .before .before .before .before .before .before .before .before .args .terms)) (iterationAfter (jobOf (c .before .before .before .before .before .before .before .before .before .before .before .before .before .before .args .kind .now) (c .before .before .before .before .before .before .before .before .before .before .before .before .before .before .args .capacity .now) (c .before .before .before .before .before .before .before .before .before .before .before .before .before .before .args .first-edge .now) (c .before .before .before .before .before .before .before .before .before .before .before .before .before .before .args .edge-target .now) (c .before .before .before .before .before .before .before .before .before .before .before .before .before .before .args .source .now) (c .before .before .before .before .before .before .before .before .before .before .before .before .before .before .args .first-sink .now) (c .before .before .before .before .before .before .before .before .before .before .before .before .before .before .args .sink .now) (c .before .before .before .before .before .before .before .before .before .before .before .before .before .before .args .terms)) (firstState (jobOf (c .before .before .before .before .before .before .before .before .before .before .before .before .before .before .args .kind .now) (c .before .before .before .before .before .before .before .before .before .before .before .before .before .before .args .capacity .now) (c .before .before .before .before .before .before .before .before .before .before .before .before .before .before .args .first-edge .now) (c .before .before .before .before .before .before .before .before .before .before .before .before .before .before .args .edge-target .now) (c .before .before .before .before .before .before .before .before .before .before .before .before .before .before .args .source .now) (c .before .before .before .before .before .before .before .before .before .before .before .before .before .before .args .first-sink .now) (c .before .before .before .before .before .before .before .before .before .before .before .before .before .before .args .sink .now) (c .before .before .before .before .before .before .before .before .before .before .before .before .before .before .args .terms))) (c .before .before .before .before .iterations .inv .0) .state .trees)
   over-is =
       c .over-count .ensures
-      ∙ subst (λ (k : ℕ). countBelow (λ (v : ℕ). ltb (getD (c .before .before .before .before .before .before .before .before .before .before .before .before .before .before .args .capacity .now) v 0) (getD (take (length (c .before .before .before .before .before .before .before .before .before .before .before .before .before .before .args .kind .now)) (c .before .before .before .loop .users)) v 0)) k ≡ overCount (jobOf (c .before .before .before .before .before .before .before .before .before .before .before .before .before .before .args .kind .now) (c .before .before .before .before .before .before .before .before .before .before .before .before .before .before .args .capacity .now) (c .before .before .before .before .before .before .before .before .before .before .before .before .before .before .args .first-edge .now) (c .before .before .before .before .before .before .before .before .before .before .before .before .before .before .args .edge-target .now) (c .before .before .before .before .before .before .before .before .before .before .before .before .before .before .args .source .now) (c .before .before .before .before .before .before .before .before .before .before .before .before .before .before .args .first-sink .now) (c .before .before .before .before .before .before .before .before .before .before .before .before .before .before .args .sink .now) (c .before .before .before .before .before .before .before .before .before .before .before .before .before .before .args .limit)) (iterationAfter (jobOf (c .before .before .before .before .before .before .before .before .before .before .before .before .before .before .args .kind .now) (c .before .before .before .before .before .before .before .before .before .before .before .before .before .before .args .capacity .now) (c .before .before .before .before .before .before .before .before .before .before .before .before .before .before .args .first-edge .now) (c .before .before .before .before .before .before .before .before .before .before .before .before .before .before .args .edge-target .now) (c .before .before .before .before .before .before .before .before .before .before .before .before .before .before .args .source .now) (c .before .before .before .before .before .before .before .before .before .before .before .before .before .before .args .first-sink .now) (c .before .before .before .before .before .before .before .before .before .before .before .before .before .before .args .sink .now) (c .before .before .before .before .before .before .before .before .before .before .before .before .before .before .args .limit)) (firstState (jobOf (c .before .before .before .before .before .before .before .before .before .before .before .before .before .before .args .kind .now) (c .before .before .before .before .before .before .before .before .before .before .before .before .before .before .args .capacity .now) (c .before .before .before .before .before .before .before .before .before .before .before .before .before .before .args .first-edge .now) (c .before .before .before .before .before .before .before .before .before .before .before .before .before .before .args .edge-target .now) (c .before .before .before .before .before .before .before .before .before .before .before .before .before .before .args .source .now) (c .before .before .before .before .before .before .before .before .before .before .before .before .before .before .args .first-sink .now) (c .before .before .before .before .before .before .before .before .before .before .before .before .before .before .args .sink .now) (c .before .before .before .before .before .before .before .before .before .before .before .before .before .before .args .limit))) (c .before .before .before .before .iterations .inv .0) .state .trees))
+      ∙ subst (λ (k : ℕ). countBelow (λ (v : ℕ). ltb (getD (c .before .before .before .before .before .before .before .before .before .before .before .before .before .before .args .capacity .now) v 0) (getD (take (length (c .before .before .before .before .before .before .before .before .before .before .before .before .before .before .args .kind .now)) (c .before .before .before .loop .users)) v 0)) k ≡ overCount (jobOf (c .before .before .before .before .before .before .before .before .before .before .before .before .before .before .args .kind .now) (c .before .before .before .before .before .before .before .before .before .before .before .before .before .before .args .capacity .now) (c .before .before .before .before .before .before .before .before .before .before .before .before .before .before .args .first-edge .now) (c .before .before .before .before .before .before .before .before .before .before .before .before .before .before .args .edge-target .now) (c .before .before .before .before .before .before .before .before .before .before .before .before .before .before .args .source .now) (c .before .before .before .before .before .before .before .before .before .before .before .before .before .before .args .first-sink .now) (c .before .before .before .before .before .before .before .before .before .before .before .before .before .before .args .sink .now) (c .before .before .before .before .before .before .before .before .before .before .before .before .before .before .args .terms)) (iterationAfter (jobOf (c .before .before .before .before .before .before .before .before .before .before .before .before .before .before .args .kind .now) (c .before .before .before .before .before .before .before .before .before .before .before .before .before .before .args .capacity .now) (c .before .before .before .before .before .before .before .before .before .before .before .before .before .before .args .first-edge .now) (c .before .before .before .before .before .before .before .before .before .before .before .before .before .before .args .edge-target .now) (c .before .before .before .before .before .before .before .before .before .before .before .before .before .before .args .source .now) (c .before .before .before .before .before .before .before .before .before .before .before .before .before .before .args .first-sink .now) (c .before .before .before .before .before .before .before .before .before .before .before .before .before .before .args .sink .now) (c .before .before .before .before .before .before .before .before .before .before .before .before .before .before .args .terms)) (firstState (jobOf (c .before .before .before .before .before .before .before .before .before .before .before .before .before .before .args .kind .now) (c .before .before .before .before .before .before .before .before .before .before .before .before .before .before .args .capacity .now) (c .before .before .before .before .before .before .before .before .before .before .before .before .before .before .args .first-edge .now) (c .before .before .before .before .before .before .before .before .before .before .before .before .before .before .args .edge-target .now) (c .before .before .before .before .before .before .before .before .before .before .before .before .before .before .args .source .now) (c .before .before .before .before .before .before .before .before .before .before .before .before .before .before .args .first-sink .now) (c .before .before .before .before .before .before .before .before .before .before .before .before .before .before .args .sink .now) (c .before .before .before .before .before .before .before .before .before .before .before .before .before .before .args .terms))) (c .before .before .before .before .iterations .inv .0) .state .trees))
       (sym (capacities-long _ _ (sound (c .before .before .before) .block-sound .capacities-sound)))
       (keep-over _ (sound (c .before .before .before)) _ _ (enough (c .before .before .before)) _ _ _ _ _ _ _ _ _ (whole (c .before .before)))
 
-  over-none : c .over-count .result ≡ 0 → overCount (jobOf (c .before .before .before .before .before .before .before .before .before .before .before .before .before .before .args .kind .now) (c .before .before .before .before .before .before .before .before .before .before .before .before .before .before .args .capacity .now) (c .before .before .before .before .before .before .before .before .before .before .before .before .before .before .args .first-edge .now) (c .before .before .before .before .before .before .before .before .before .before .before .before .before .before .args .edge-target .now) (c .before .before .before .before .before .before .before .before .before .before .before .before .before .before .args .source .now) (c .before .before .before .before .before .before .before .before .before .before .before .before .before .before .args .first-sink .now) (c .before .before .before .before .before .before .before .before .before .before .before .before .before .before .args .sink .now) (c .before .before .before .before .before .before .before .before .before .before .before .before .before .before .args .limit)) (iterationAfter (jobOf (c .before .before .before .before .before .before .before .before .before .before .before .before .before .before .args .kind .now) (c .before .before .before .before .before .before .before .before .before .before .before .before .before .before .args .capacity .now) (c .before .before .before .before .before .before .before .before .before .before .before .before .before .before .args .first-edge .now) (c .before .before .before .before .before .before .before .before .before .before .before .before .before .before .args .edge-target .now) (c .before .before .before .before .before .before .before .before .before .before .before .before .before .before .args .source .now) (c .before .before .before .before .before .before .before .before .before .before .before .before .before .before .args .first-sink .now) (c .before .before .before .before .before .before .before .before .before .before .before .before .before .before .args .sink .now) (c .before .before .before .before .before .before .before .before .before .before .before .before .before .before .args .limit)) (firstState (jobOf (c .before .before .before .before .before .before .before .before .before .before .before .before .before .before .args .kind .now) (c .before .before .before .before .before .before .before .before .before .before .before .before .before .before .args .capacity .now) (c .before .before .before .before .before .before .before .before .before .before .before .before .before .before .args .first-edge .now) (c .before .before .before .before .before .before .before .before .before .before .before .before .before .before .args .edge-target .now) (c .before .before .before .before .before .before .before .before .before .before .before .before .before .before .args .source .now) (c .before .before .before .before .before .before .before .before .before .before .before .before .before .before .args .first-sink .now) (c .before .before .before .before .before .before .before .before .before .before .before .before .before .before .args .sink .now) (c .before .before .before .before .before .before .before .before .before .before .before .before .before .before .args .limit))) (c .before .before .before .before .iterations .inv .0) .state .trees) ≡ 0
+  over-none : c .over-count .result ≡ 0 → overCount (jobOf (c .before .before .before .before .before .before .before .before .before .before .before .before .before .before .args .kind .now) (c .before .before .before .before .before .before .before .before .before .before .before .before .before .before .args .capacity .now) (c .before .before .before .before .before .before .before .before .before .before .before .before .before .before .args .first-edge .now) (c .before .before .before .before .before .before .before .before .before .before .before .before .before .before .args .edge-target .now) (c .before .before .before .before .before .before .before .before .before .before .before .before .before .before .args .source .now) (c .before .before .before .before .before .before .before .before .before .before .before .before .before .before .args .first-sink .now) (c .before .before .before .before .before .before .before .before .before .before .before .before .before .before .args .sink .now) (c .before .before .before .before .before .before .before .before .before .before .before .before .before .before .args .terms)) (iterationAfter (jobOf (c .before .before .before .before .before .before .before .before .before .before .before .before .before .before .args .kind .now) (c .before .before .before .before .before .before .before .before .before .before .before .before .before .before .args .capacity .now) (c .before .before .before .before .before .before .before .before .before .before .before .before .before .before .args .first-edge .now) (c .before .before .before .before .before .before .before .before .before .before .before .before .before .before .args .edge-target .now) (c .before .before .before .before .before .before .before .before .before .before .before .before .before .before .args .source .now) (c .before .before .before .before .before .before .before .before .before .before .before .before .before .before .args .first-sink .now) (c .before .before .before .before .before .before .before .before .before .before .before .before .before .before .args .sink .now) (c .before .before .before .before .before .before .before .before .before .before .before .before .before .before .args .terms)) (firstState (jobOf (c .before .before .before .before .before .before .before .before .before .before .before .before .before .before .args .kind .now) (c .before .before .before .before .before .before .before .before .before .before .before .before .before .before .args .capacity .now) (c .before .before .before .before .before .before .before .before .before .before .before .before .before .before .args .first-edge .now) (c .before .before .before .before .before .before .before .before .before .before .before .before .before .before .args .edge-target .now) (c .before .before .before .before .before .before .before .before .before .before .before .before .before .before .args .source .now) (c .before .before .before .before .before .before .before .before .before .before .before .before .before .before .args .first-sink .now) (c .before .before .before .before .before .before .before .before .before .before .before .before .before .before .args .sink .now) (c .before .before .before .before .before .before .before .before .before .before .before .before .before .before .args .terms))) (c .before .before .before .before .iterations .inv .0) .state .trees) ≡ 0
   over-none e = sym over-is ∙ e
 
 iterations-holds :
@@ -395,11 +395,11 @@ returns c =
     (keep-accepted _ (sound (c .before .before .before .before .before .before .before .before .before)) _ _ (enough (c .before .before .before .before .before .before .before .before .before)) _ _ _ _ _ _ _ _ _ at (over-none (c .before .before .before .before .before .before) (c .before .before .before .before .before .if1 .taken)) (c .answer .result) (c .answer .ensures .0) (record { iteration-is = c .answer .ensures .1; turns-is = c .answer .ensures .2; words-is = c .answer .ensures .3 }))
 
 mul-clear-2 : tie.Need-mul-clear-2 Inv-loop2 μ-loop2 Inv-loop μ-loop Inv-iterations μ-iterations
-mul-clear-2 c = let f = (few-nodes (c .before .before .before .before .before .before .before)) in omega arith
+mul-clear-2 c = let f = (few-nodes (c .before .before .before .before .before .before .before .before)) in omega arith
 
 clear-requires-2 :
     tie.Need-clear-requires-2 Inv-loop2 μ-loop2 Inv-loop μ-loop Inv-iterations μ-iterations
-clear-requires-2 c κs = let e = enough (c .before .before .before .before .before .before .before) in let l = (at-net (c .before .before .before .before .before .before .before)) .work-same .long in omega arith
+clear-requires-2 c κs = let e = enough (c .before .before .before .before .before .before .before .before) in let l = (at-net (c .before .before .before .before .before .before .before .before)) .work-same .long in omega arith
 
 answer-requires-2 :
     tie.Need-answer-requires-2 Inv-loop2 μ-loop2 Inv-loop μ-loop Inv-iterations μ-iterations
@@ -407,17 +407,17 @@ answer-requires-2 c κs = tt
 
 same-length-3 :
     tie.Need-same-length-3 Inv-loop2 μ-loop2 Inv-loop μ-loop Inv-iterations μ-iterations
-same-length-3 c = c .before .before .before .clear2 .kept .0 ∙ (at-net (c .before .before .before .before .before .before .before .before .before .before .before)) .work-same .long
+same-length-3 c = c .before .before .before .clear2 .kept .0 ∙ (at-net (c .before .before .before .before .before .before .before .before .before .before .before .before)) .work-same .long
 
 same-length-4 :
     tie.Need-same-length-4 Inv-loop2 μ-loop2 Inv-loop μ-loop Inv-iterations μ-iterations
-same-length-4 c = tallied-long _ _ _ _ ((at-net (c .before .before .before .before .before .before .before .before .before .before .before)) .tallied)
+same-length-4 c = tallied-long _ _ _ _ ((at-net (c .before .before .before .before .before .before .before .before .before .before .before .before)) .tallied)
 
 returns-2 : tie.Need-returns-2 Inv-loop2 μ-loop2 Inv-loop μ-loop Inv-iterations μ-iterations
 returns-2 c =
-    let at = whole (c .before .before .before .before .before .before .before .before .before .before) in
+    let at = whole (c .before .before .before .before .before .before .before .before .before .before .before) in
     rw (c .before .before .before .clear2 .ensures)
-    (keep-limit _ (sound (c .before .before .before .before .before .before .before .before .before .before .before)) _ _ (enough (c .before .before .before .before .before .before .before .before .before .before .before)) _ _ _ _ _ _ _ _ _ at _ (over-is (c .before .before .before .before .before .before .before .before)) (c .before .before .before .before .before .before .before .if1 .left) (c .before .before .before .before .before .if2 .taken) (c .answer2 .result) (c .answer2 .ensures .0) (record { iteration-is = c .answer2 .ensures .1; turns-is = c .answer2 .ensures .2; words-is = c .answer2 .ensures .3 }))
+    (keep-limit _ (sound (c .before .before .before .before .before .before .before .before .before .before .before .before)) _ _ (enough (c .before .before .before .before .before .before .before .before .before .before .before .before)) _ _ _ _ _ _ _ _ _ at _ (over-is (c .before .before .before .before .before .before .before .before .before)) (c .before .before .before .before .before .before .before .before .if1 .left) (c .before .before .before .before .before .if2 .taken) (c .answer2 .result) (c .answer2 .ensures .0) (record { iteration-is = c .answer2 .ensures .1; turns-is = c .answer2 .ensures .2; words-is = c .answer2 .ensures .3 }))
 
 array-share-prefix-users-3 :
     tie.Need-array-share-prefix-users-3
@@ -427,7 +427,7 @@ array-share-prefix-users-3 :
     μ-loop
     Inv-iterations
     μ-iterations
-array-share-prefix-users-3 c = (at-net (c .before .before .before .before .before .before)) .users-long
+array-share-prefix-users-3 c = (at-net (c .before .before .before .before .before .before .before)) .users-long
 
 slice-aggregate-grow-histories :
     tie.Need-slice-aggregate-grow-histories
@@ -437,7 +437,7 @@ slice-aggregate-grow-histories :
     μ-loop
     Inv-iterations
     μ-iterations
-slice-aggregate-grow-histories c = part-long _ _ ((at-net (c .before .before .before .before .before .before .before)) .users-long)
+slice-aggregate-grow-histories c = part-long _ _ ((at-net (c .before .before .before .before .before .before .before .before)) .users-long)
 
 array-borrow-prefix-history :
     tie.Need-array-borrow-prefix-history
@@ -447,7 +447,7 @@ array-borrow-prefix-history :
     μ-loop
     Inv-iterations
     μ-iterations
-array-borrow-prefix-history c = (at-net (c .before .before .before .before .before .before .before)) .under .history-long
+array-borrow-prefix-history c = (at-net (c .before .before .before .before .before .before .before .before)) .under .history-long
 
 slice-aggregate-grow-histories-2 :
     tie.Need-slice-aggregate-grow-histories-2
@@ -457,35 +457,35 @@ slice-aggregate-grow-histories-2 :
     μ-loop
     Inv-iterations
     μ-iterations
-slice-aggregate-grow-histories-2 c = part-long _ _ ((at-net (c .before .before .before .before .before .before .before .before)) .under .history-long)
+slice-aggregate-grow-histories-2 c = part-long _ _ ((at-net (c .before .before .before .before .before .before .before .before .before)) .under .history-long)
 
 grow-histories-requires :
     tie.Need-grow-histories-requires Inv-loop2 μ-loop2 Inv-loop μ-loop Inv-iterations μ-iterations
 grow-histories-requires c κs =
-    let at = whole (c .before .before .before .before .before .before .before) in
-    let l = capacities-long _ _ ((sound (c .before .before .before .before .before .before .before .before)) .block-sound .capacities-sound) in
+    let at = whole (c .before .before .before .before .before .before .before .before) in
+    let l = capacities-long _ _ ((sound (c .before .before .before .before .before .before .before .before .before)) .block-sound .capacities-sound) in
     let p = part-long _ _ (at .users-long) in
     let q = part-long _ _ (at .under .history-long) in
-    ((l ∙ p, l ∙ q), λ v h. keep-growable _ (sound (c .before .before .before .before .before .before .before .before)) _ _ (enough (c .before .before .before .before .before .before .before .before)) _ _ _ _ _ _ _ _ _ at v (subst (λ k. v < k) (sym q) h))
+    ((l ∙ p, l ∙ q), (λ v h. keep-growable _ (sound (c .before .before .before .before .before .before .before .before .before)) _ _ (enough (c .before .before .before .before .before .before .before .before .before)) _ _ _ _ _ _ _ _ _ at v (subst (λ k. v < k) (sym q) h), tuning-fits _ (sound (c .before .before .before .before .before .before .before .before .before)) .few-step))
 
 next-iteration-requires :
     tie.Need-next-iteration-requires Inv-loop2 μ-loop2 Inv-loop μ-loop Inv-iterations μ-iterations
-next-iteration-requires c κs = let b = keep-below _ (sound (c .before .before .before .before .before .before .before .before .before .before)) _ _ (enough (c .before .before .before .before .before .before .before .before .before .before)) _ _ _ _ _ _ _ _ _ (whole (c .before .before .before .before .before .before .before .before .before)) (c .before .before .before .before .if2 .left) in let l = limit-few _ (sound (c .before .before .before .before .before .before .before .before .before .before)) in omega arith
+next-iteration-requires c κs = let b = keep-below _ (sound (c .before .before .before .before .before .before .before .before .before .before .before)) _ _ (enough (c .before .before .before .before .before .before .before .before .before .before .before)) _ _ _ _ _ _ _ _ _ (whole (c .before .before .before .before .before .before .before .before .before .before)) (c .before .before .before .before .if2 .left) in let l = limit-few _ (sound (c .before .before .before .before .before .before .before .before .before .before .before)) in omega arith
 
 iterations-less :
     tie.Need-iterations-less Inv-loop2 μ-loop2 Inv-loop μ-loop Inv-iterations μ-iterations
 iterations-less c =
-    let b = keep-below _ (sound (c .before .before .before .before .before .before .before .before .before .before .before)) _ _ (enough (c .before .before .before .before .before .before .before .before .before .before .before)) _ _ _ _ _ _ _ _ _ (whole (c .before .before .before .before .before .before .before .before .before .before)) (c .before .before .before .before .before .if2 .left) in
+    let b = keep-below _ (sound (c .before .before .before .before .before .before .before .before .before .before .before .before)) _ _ (enough (c .before .before .before .before .before .before .before .before .before .before .before .before)) _ _ _ _ _ _ _ _ _ (whole (c .before .before .before .before .before .before .before .before .before .before .before)) (c .before .before .before .before .before .if2 .left) in
     let e = c .next-iteration .ensures .0 in
-    let a = whole (c .before .before .before .before .before .before .before .before .before .before) .under .iteration-is in
-    let h = c .before .before .before .before .before .before .before .before .before .before .before .before .iterations .inv .1 .under .iteration-is in
+    let a = whole (c .before .before .before .before .before .before .before .before .before .before .before) .under .iteration-is in
+    let h = c .before .before .before .before .before .before .before .before .before .before .before .before .before .iterations .inv .1 .under .iteration-is in
     omega arith
 
 iterations-again :
     tie.Need-iterations-again Inv-loop2 μ-loop2 Inv-loop μ-loop Inv-iterations μ-iterations
 iterations-again c =
     let e = c .next-iteration .ensures in
-    (_, after-growth _ (sound (c .before .before .before .before .before .before .before .before .before .before .before)) _ _ (enough (c .before .before .before .before .before .before .before .before .before .before .before)) _ _ _ _ _ _ _ _ _ (whole (c .before .before .before .before .before .before .before .before .before .before)) (λ z. c .before .before .before .before .before .before .before .if1 .left (over-is (c .before .before .before .before .before .before .before .before) ∙ z)) (c .before .before .before .before .before .if2 .left) (c .next-iteration .result) (e .0) (e .1) (e .2) (e .3) _ (c .before .before .grow-histories .ensures))
+    (_, after-growth _ (sound (c .before .before .before .before .before .before .before .before .before .before .before .before)) _ _ (enough (c .before .before .before .before .before .before .before .before .before .before .before .before)) _ _ _ _ _ _ _ _ _ (whole (c .before .before .before .before .before .before .before .before .before .before .before)) (λ z. c .before .before .before .before .before .before .before .before .if1 .left (over-is (c .before .before .before .before .before .before .before .before .before) ∙ z)) (c .before .before .before .before .before .if2 .left) (c .next-iteration .result) (e .0) (e .1) (e .2) (e .3) _ (c .before .before .grow-histories .ensures))
 
 mul-clear-3 : tie.Need-mul-clear-3 Inv-loop2 μ-loop2 Inv-loop μ-loop Inv-iterations μ-iterations
 mul-clear-3 c = let f = (few-nodes (c .before .before .before .before .before .before .before .before .before .before .before .before .before .before .before .before .before .before .before .before .before .before .before .before .before .before .before)) in omega arith

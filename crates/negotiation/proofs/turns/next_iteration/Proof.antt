@@ -22,7 +22,7 @@ iteration-started-requires c κs =
 
 returns : tie.Need-returns
 returns c =
-    parts _ (startedTariff (endedTariff (c .before .before .args .t))) (c .iteration-started .ensures ∙ ap startedTariff (c .before .iteration-ended .ensures))
+    parts _ (startedTariff (endedTariff (c .before .before .args .g) (c .before .before .args .t))) (c .iteration-started .ensures ∙ ap startedTariff (c .before .iteration-ended .ensures))
 
 pub next-iteration-spec : {M : Type 1} → statement M
 next-iteration-spec = tie.close (tie.spec iteration-ended-requires iteration-started-requires returns)

@@ -5,8 +5,7 @@ use mathlib.Core.List.{[], _∷_}
 use mathlib.Core.Path.{_≡_, sym}
 use borrow.Author.Needs.{needs}
 use Rattle.search.proofs.KeptLaws.{refused, passed}
-use Rattle.text.specs.Lines.{letterF}
-use Rattle.text.specs.Steps.{begins}
+use Rattle.text.specs.Lines.{letterF, begins}
 use Rattle.text.proofs.FieldLaws.{Taken, four-read, four-fault, taken-here}
 use Rattle.text.proofs.HeadLineLaws.{head-other, head-malformed, head-beyond, head-read}
 use Rattle.text.proofs.head.head_line.Statement.{statement}

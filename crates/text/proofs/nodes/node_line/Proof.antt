@@ -9,8 +9,7 @@ use lib.ListN.{drop}
 use denote.Ref.{now}
 use borrow.Author.Needs.{needs}
 use borrow.Author.Tests.{not-true, not-false}
-use Rattle.text.specs.Lines.{letterN}
-use Rattle.text.specs.Steps.{begins}
+use Rattle.text.specs.Lines.{letterN, begins}
 use Rattle.text.proofs.FieldLaws.{begins-within}
 use Rattle.text.proofs.NodeLineLaws.{node-beyond-count, node-beyond-kind, node-beyond-least, node-beyond-most, node-within, node-other, node-shape, node-beyond, node-wrong, node-taken, three-place}
 use Rattle.text.proofs.nodes.node_line.Statement.{statement}

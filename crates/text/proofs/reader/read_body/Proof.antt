@@ -54,7 +54,7 @@ same-length-7 c = wired c .read-edges-nets .kept .1 .1 .1 .1 .1 .1 .1 .1 .1 .1 .
 returns : tie.Need-returns
 returns c = let nodes = c .before .before .before .before .before .before .before .before .before .before .before .before .before .before .before .before .before .before .before .before .before .before .before .read-nodes in
     let wires = c .before .before .before .before .before .before .before .before .before .before .read-edges-nets in (
-      nodes-wires _ _ _ _ _ _ _ (nodes .result) (wires .result) (nodes .last .1 .1 .1 .1 .0) (nodes .last .1 .1 .1 .1 .1 .0) (wires .last .1 .1 .1 .1 .1 .1 .0) (wires .last .1 .1 .1 .1 .1 .1 .1 .0) (wires .last .1 .1 .1 .1 .1 .1 .1 .1 .0) (wires .last .1 .1 .1 .1 .1 .1 .1 .1 .1 .0) (wires .last .1 .1 .1 .1 .1 .1 .1 .1 .1 .1 .0) (c .before .before .before .before .before .before .before .before .before .before .before .before .before .before .before .before .before .at .given .1) (nodes .ensures .0) (wires .ensures .0),
+      nodes-wires _ _ _ _ _ _ _ _ (nodes .result) (wires .result) (nodes .last .1 .1 .1 .1 .0) (nodes .last .1 .1 .1 .1 .1 .0) (wires .last .1 .1 .1 .1 .1 .1 .0) (wires .last .1 .1 .1 .1 .1 .1 .1 .0) (wires .last .1 .1 .1 .1 .1 .1 .1 .1 .0) (wires .last .1 .1 .1 .1 .1 .1 .1 .1 .1 .0) (wires .last .1 .1 .1 .1 .1 .1 .1 .1 .1 .1 .0) (c .before .before .before .before .before .before .before .before .before .before .before .before .before .before .before .before .before .at .given .1) (nodes .ensures .0) (wires .ensures .0),
       wires .ensures .1,
     )
 
@@ -65,7 +65,7 @@ same-length-9 : tie.Need-same-length-9
 same-length-9 c = refused c .read-nodes .kept .1 .1 .1 .1 .1 .0
 
 returns-2 : tie.Need-returns-2
-returns-2 c = (nodes-stop _ _ _ _ _ _ _ _ _ _ (c .before .number .given .1) (c .before .before .before .before .before .before .before .read-nodes .ensures .0), tt)
+returns-2 c = (nodes-stop _ _ _ _ _ _ _ _ _ _ _ (c .before .number .given .1) (c .before .before .before .before .before .before .before .read-nodes .ensures .0), tt)
 
 pub read-body-spec : {M : Type 1} → statement M
 read-body-spec =

@@ -1,86 +1,73 @@
--- `text::reader::read_lines` meets its contract: the first line, then those after it.
+-- `text::reader::read_lines` meets its contract: the lines before the nodes, then those from the nodes on.
 -- Assumes nothing.
 use borrow.Author.Needs.{needs}
-use Rattle.text.proofs.ReaderLaws.{head-counts, head-place, text-read, job-place, text-stop}
+use Rattle.text.proofs.ReaderLaws.{body-place, text-read, job-place, text-stop}
 use Rattle.text.proofs.reader.read_lines.Statement.{statement}
 use Rattle.text.proofs.reader.read_lines.Tie as tie
 
-head-line-requires : tie.Need-head-line-requires
-head-line-requires c κs = search needs
+read-head-requires : tie.Need-read-head-requires
+read-head-requires c κs = search needs
 
-enum-known-head : tie.Need-enum-known-head
-enum-known-head c = search needs
-
-cast-n : tie.Need-cast-n
-cast-n c = search needs
-
-cast-e : tie.Need-cast-e
-cast-e c = search needs
-
-cast-m : tie.Need-cast-m
-cast-m c = search needs
+enum-known-nodes : tie.Need-enum-known-nodes
+enum-known-nodes c = search needs
 
 read-body-requires : tie.Need-read-body-requires
-read-body-requires c κs = let head = c .before .before .before .before .before .before .before .before .before .before .head-line in
+read-body-requires c κs = let head = c .before .before .before .before .before .before .before .before .before .before .read-head in
     let start = c .before .before .before .before .before .before .before .before .before .before .before .before .before .before .before .before .before .before .before in
-    let place = head-place (start .args .text .now) (head .result) _ _ _ _ _ (c .before .before .before .before .before .before .before .before .head .given .1) (head .ensures .1) in
-    (start .pre, (head-counts _ _ _ _ _ (start .args .text .now) (head .result) (c .before .before .before .before .before .before .before .before .head .given .1) (head .ensures .0), place .0, place .1))
+    (start .pre, body-place (start .args .text .now) (head .result) _ _ _ _ _ _ (c .before .before .before .before .before .before .before .before .nodes .given .1) (head .ensures .1))
 
 job-lines-requires : tie.Need-job-lines-requires
 job-lines-requires c κs = search needs
 
-enum-known-head-2 : tie.Need-enum-known-head-2
-enum-known-head-2 c = search needs
+enum-known-number : tie.Need-enum-known-number
+enum-known-number c = search needs
 
 -- the call of `read_body` before the return after it, which leaves the lengths of the tables as they were
 abbrev read : tie.After-job-lines → tie.After-read-body
 read c = c .before .before .before .before .before .before .before .before .before .before .before .before .before .before .before
 
 same-length : tie.Need-same-length
-same-length c = read c .read-body .kept .1 .1 .1 .1 .1 .0
+same-length c = read c .read-body .kept .1 .1 .1 .1 .1 .1 .0
 
 same-length-2 : tie.Need-same-length-2
-same-length-2 c = read c .read-body .kept .1 .1 .1 .1 .1 .1 .0
+same-length-2 c = read c .read-body .kept .1 .1 .1 .1 .1 .1 .1 .0
 
 same-length-3 : tie.Need-same-length-3
-same-length-3 c = read c .read-body .kept .1 .1 .1 .1 .1 .1 .1 .0
+same-length-3 c = read c .read-body .kept .1 .1 .1 .1 .1 .1 .1 .1 .0
 
 same-length-4 : tie.Need-same-length-4
-same-length-4 c = read c .read-body .kept .1 .1 .1 .1 .1 .1 .1 .1 .0
+same-length-4 c = read c .read-body .kept .1 .1 .1 .1 .1 .1 .1 .1 .1 .0
 
 same-length-5 : tie.Need-same-length-5
-same-length-5 c = read c .read-body .kept .1 .1 .1 .1 .1 .1 .1 .1 .1 .0
+same-length-5 c = read c .read-body .kept .1 .1 .1 .1 .1 .1 .1 .1 .1 .1 .0
 
 same-length-6 : tie.Need-same-length-6
-same-length-6 c = read c .read-body .kept .1 .1 .1 .1 .1 .1 .1 .1 .1 .1 .0
+same-length-6 c = read c .read-body .kept .1 .1 .1 .1 .1 .1 .1 .1 .1 .1 .1 .0
 
 same-length-7 : tie.Need-same-length-7
-same-length-7 c = read c .read-body .kept .1 .1 .1 .1 .1 .1 .1 .1 .1 .1 .1 .0
+same-length-7 c = read c .read-body .kept .1 .1 .1 .1 .1 .1 .1 .1 .1 .1 .1 .1 .0
 
 returns : tie.Need-returns
-returns c = let head = c .before .before .before .before .before .before .before .before .before .before .before .before .before .before .before .before .before .before .before .before .before .before .before .before .before .before .head-line in
+returns c = let head = c .before .before .before .before .before .before .before .before .before .before .before .before .before .before .before .before .before .before .before .before .before .before .before .before .before .before .read-head in
     let body = c .before .before .before .before .before .before .before .before .before .before .before .before .before .before .before .read-body in
-    let l = body .last .1 .1 .1 .1 .1 in
-    let known = c .before .before .before .before .before .before .before .before .before .before .before .before .before .before .before .before .before .before .before .before .before .before .before .before .head .given .1 in (
-      text-read _ _ _ _ _ _ (head .result) (l .0) (l .1 .0) (l .1 .1 .0) (l .1 .1 .1 .0) (l .1 .1 .1 .1 .0) (l .1 .1 .1 .1 .1 .0) (l .1 .1 .1 .1 .1 .1 .0) known (head .ensures .0) (body .result) (c .job-lines .result) (c .job-lines .ensures) (body .ensures .0),
-      job-place _ _ _ _ (l .1 .1 .1 .1 .1 .0) (head-counts _ _ _ _ _ _ (head .result) known (head .ensures .0)) (body .result) (c .job-lines .result) (c .job-lines .ensures) (body .ensures .1),
+    let l = body .last .1 .1 .1 .1 .1 .1 in
+    let known = c .before .before .before .before .before .before .before .before .before .before .before .before .before .before .before .before .before .before .before .before .before .before .before .before .nodes .given .1 in (
+      text-read _ _ _ _ _ _ _ (head .result) (l .0) (l .1 .0) (l .1 .1 .0) (l .1 .1 .1 .0) (l .1 .1 .1 .1 .0) (l .1 .1 .1 .1 .1 .0) (l .1 .1 .1 .1 .1 .1 .0) known (head .ensures .0) (body .result) (c .job-lines .result) (c .job-lines .ensures) (body .ensures .0),
+      job-place _ _ _ _ (l .1 .1 .1 .1 .1 .0) (body-place _ (head .result) _ _ _ _ _ _ known (head .ensures .1) .0) (body .result) (c .job-lines .result) (c .job-lines .ensures) (body .ensures .1),
     )
 
 returns-2 : tie.Need-returns-2
-returns-2 c = (text-stop _ _ (c .before .before .before .head-line .result) (c .before .head2 .given .1) (c .before .before .before .head-line .ensures .0), tt)
+returns-2 c = (text-stop _ _ _ (c .before .before .before .read-head .result) (c .before .number .given .1) (c .before .before .before .read-head .ensures .0), tt)
 
 pub read-lines-spec : {M : Type 1} → statement M
 read-lines-spec =
     tie.close
     (tie.spec
-    head-line-requires
-    enum-known-head
-    cast-n
-    cast-e
-    cast-m
+    read-head-requires
+    enum-known-nodes
     read-body-requires
     job-lines-requires
-    enum-known-head-2
+    enum-known-number
     same-length
     same-length-2
     same-length-3

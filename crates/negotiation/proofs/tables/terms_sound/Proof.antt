@@ -1,0 +1,22 @@
+-- `tables::terms_sound` meets its contract: the limit by its two bounds, then the answer about the tuning.
+-- Assumes nothing.
+use mathlib.Core.Path.{sym, _∙_}
+use borrow.Author.Needs.{needs}
+use Rattle.negotiation.proofs.NetTableLaws.{terms-low, terms-high, terms-tuning}
+use Rattle.negotiation.proofs.tables.terms_sound.Statement.{statement}
+use Rattle.negotiation.proofs.tables.terms_sound.Tie as tie
+
+returns : tie.Need-returns
+returns c = sym (terms-low _ (search needs))
+
+returns-2 : tie.Need-returns-2
+returns-2 c = sym (terms-high _ (search needs) (search needs))
+
+tuning-sound-requires : tie.Need-tuning-sound-requires
+tuning-sound-requires c κs = search needs
+
+returns-3 : tie.Need-returns-3
+returns-3 c = c .tuning-sound .ensures ∙ sym (terms-tuning _ (search needs) (search needs))
+
+pub terms-sound-spec : {M : Type 1} → statement M
+terms-sound-spec = tie.close (tie.spec returns returns-2 tuning-sound-requires returns-3)

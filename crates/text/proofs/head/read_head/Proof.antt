@@ -1,0 +1,75 @@
+-- `head::read_head` meets its contract: the counts of the first line, and the tuning from where it ends.
+-- Assumes nothing.
+use native.Mathlib.Omega.{arith}
+use borrow.Author.Needs.{needs}
+use Rattle.text.proofs.HeadLineLaws.{head-refused, head-counts, head-tuned, head-untuned, head-place, tuned-place}
+use Rattle.text.proofs.head.read_head.Statement.{statement}
+use Rattle.text.proofs.head.read_head.Tie as tie
+
+head-line-requires : tie.Need-head-line-requires
+head-line-requires c κs = search needs
+
+enum-known-nodes : tie.Need-enum-known-nodes
+enum-known-nodes c = search needs
+
+read-tuning-requires : tie.Need-read-tuning-requires
+read-tuning-requires c κs =
+    let head = c .before .before .before .head-line in
+    let place = head-place (c .before .before .before .before .before .args .text .now) (head .result) (c .before .nodes .given .1) (head .ensures .1) in
+    (place .1, omega (arith, place .0))
+
+enum-known-tuning : tie.Need-enum-known-tuning
+enum-known-tuning c = search needs
+
+cast-t17 : tie.Need-cast-t17
+cast-t17 c = search needs
+
+cast-t18 : tie.Need-cast-t18
+cast-t18 c = search needs
+
+cast-t19 : tie.Need-cast-t19
+cast-t19 c = search needs
+
+enum-known-number : tie.Need-enum-known-number
+enum-known-number c = search needs
+
+enum-known-number-2 : tie.Need-enum-known-number-2
+enum-known-number-2 c = search needs
+
+returns : tie.Need-returns
+returns c =
+    let tuned = c .before .before .before .read-tuning in
+    let counted = c .before .before .before .before .before in
+    let head = counted .before .before .head-line in
+    let text = counted .before .before .before .before .args .text .now in
+    let place = tuned-place text (tuned .result) (c .before .tuning .given .1) (tuned .ensures .1) in (
+      head-tuned text (head .result) (head .ensures .0) (counted .nodes .given .1) (tuned .result) (tuned .ensures .0) (c .before .tuning .given .1),
+      (head-counts text (head .result) (head .ensures .0) (counted .nodes .given .1), place .0, place .1),
+    )
+
+returns-2 : tie.Need-returns-2
+returns-2 c =
+    let tuned = c .before .before .before .read-tuning in
+    let counted = c .before .before .before .before .before in
+    let head = counted .before .before .head-line in
+    (head-untuned _ (head .result) (head .ensures .0) (counted .nodes .given .1) (tuned .result) (tuned .ensures .0) (c .before .number .given .1), tt)
+
+returns-3 : tie.Need-returns-3
+returns-3 c = let head = c .before .before .before .head-line in (head-refused _ (head .result) (head .ensures .0) (c .before .number2 .given .1), tt)
+
+pub read-head-spec : {M : Type 1} → statement M
+read-head-spec =
+    tie.close
+    (tie.spec
+    head-line-requires
+    enum-known-nodes
+    read-tuning-requires
+    enum-known-tuning
+    cast-t17
+    cast-t18
+    cast-t19
+    enum-known-number
+    enum-known-number-2
+    returns
+    returns-2
+    returns-3)
