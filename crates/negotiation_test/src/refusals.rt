@@ -56,7 +56,7 @@ fn short_work() {
 
 fn tables_1_and_2() {
     let kind = [0, 0, 4, 5, 1, 1];
-    nodes(b"table_1", [0, 0, 16, 5, 1, 1], &[1; 6]);
+    nodes(b"table_1", [0, 0, 54, 5, 1, 1], &[1; 6]);
     nodes(b"table_2", kind, &[1, 1, 0, 1, 1, 1]);
     nodes(b"table_2_short", kind, &[1; 5]);
 }

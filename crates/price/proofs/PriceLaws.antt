@@ -1,6 +1,6 @@
 -- Laws of prices, factors and histories over the bounds of row 13. The crates above cite these and not the definitions' text.
 --     price-pos, price-most     a price is above 0 and at most `priceMost`
---     path-most                 so many prices as a path has nodes add up to less than 2 ^ 62
+--     path-most, path-fits      so many prices as a path has nodes add up to less than `pathMost`, which fits 64 bits
 --     factor-steps, factor-most the factor of the next iteration is the stepped one, and at most `factorMost`
 --     history-reach             what history can reach before iteration t
 -- Assumes nothing.
@@ -11,7 +11,7 @@ use native.Mathlib.Nat.{mul-le-mul, mul-pos, min-le-right, div-zero}
 use native.Mathlib.Numerals.{add-one}
 use native.Mathlib.Omega.{arith}
 use borrow.Author.Tests.{lt-ltb, le-ltb, eq-eqb, ne-eqb}
-use Rattle.price.specs.Bounds.{kindMost, factorMost, othersMost, nodesMost, limitMost, firstMost, stepMost, historyGain, historyMost, baseMost, priceMost}
+use Rattle.price.specs.Bounds.{kindMost, factorMost, othersMost, nodesMost, limitMost, firstMost, stepMost, historyGain, historyMost, baseMost, priceMost, pathMost}
 use Rattle.price.specs.Prices.{baseCost, overuse, priceOf, nextFactor, factorAt, nextHistory}
 use Rattle.price.specs.Replies.{InBounds}
 use Rattle.price.specs.declared.Tuning.{Tuning}
@@ -73,9 +73,12 @@ pub price-pos : (k f o c h : ℕ) → 1 ≤ h → 0 < priceOf k f o c h
 unfolding priceOf
 price-pos k f o c h l = mul-pos (mul-pos l (base-pos k)) (omega arith)
 
--- "A path's cost is then below 2^62."
-pub path-most : (n : ℕ) → n ≤ nodesMost → n * priceMost < 2 ^ 62
+pub path-most : (n : ℕ) → n ≤ nodesMost → n * priceMost < pathMost
 path-most n h = omega arith
+
+-- "still fits 64 bits", with room for one price more
+pub path-fits : pathMost + priceMost < 2 ^ 64
+path-fits = omega arith
 
 -- the factor
 

@@ -1,10 +1,10 @@
--- The bounds of document 01 that prices rest on ("Tables and bounds", "Prices", row 13 of "Numbers for a stopped call"), with those of request 2.1.
+-- The bounds of document 01 that prices rest on ("Tables and bounds", "Prices", row 13 of "Numbers for a stopped call"), with those of requests 2.1 and 2.2.
 -- Assumes nothing.
 use Prim.Native.Nat.{ℕ, _+_, _*_}
 
--- "codes 0 to 15"
+-- "Kind 54 takes the place of 16 as the first refused code"
 abbrev pub kindMost : ℕ
-kindMost = 15
+kindMost = 53
 
 -- "factor (0 to 65,535)"
 abbrev pub factorMost : ℕ
@@ -49,10 +49,14 @@ historyGain = 1022
 abbrev pub historyMost : ℕ
 historyMost = 101179
 
--- the largest base cost, of the longest wire
+-- "base cost .. reaches 1,000": that of a wire of 50 tiles
 abbrev pub baseMost : ℕ
-baseMost = 240
+baseMost = 1000
 
 -- the largest price under the bounds above
 abbrev pub priceMost : ℕ
 priceMost = historyMost * baseMost * (100 + factorMost * othersMost)
+
+-- a path's cost stays below this: "The new bound on a path's cost still fits 64 bits, with 2.1's step of 2 too"
+abbrev pub pathMost : ℕ
+pathMost = nodesMost * priceMost + 1

@@ -1,4 +1,4 @@
--- Document 01, "Prices", in its order, with the tuning of request 2.1.
+-- Document 01, "Prices", in its order, with the tuning of request 2.1 and the long wires of 2.2.
 -- Assumes nothing.
 use Prim.Native.Nat.{ℕ, zero, suc, _+_, _-_, _*_, _/_, min}
 use lib.Dec.{ltb, eqb}
@@ -6,7 +6,8 @@ use Rattle.price.specs.Test.{choose}
 use Rattle.price.specs.Bounds.{factorMost}
 use Rattle.price.specs.declared.Tuning.{Tuning}
 
--- "0 source, 1 sink and 2 output pin cost 20; 3 input pin costs 19; 4 to 15 are wires of length 1 to 12 and cost 20 times the length"
+-- "0 source, 1 sink and 2 output pin cost 20; 3 input pin costs 19", wires "cost 20 times the length", and
+-- "Kinds 4 to 53 become lengths 1 to 50"
 unfoldable pub baseCost : ℕ → ℕ
 baseCost kind = choose (eqb kind 3) 19 (choose (ltb kind 3) 20 (20 * (kind - 3)))
 

@@ -59,14 +59,14 @@ pub fn tuning_sound(g: Tuning) -> bool
 }
 
 // The base cost of a node of this kind.
-fn base_cost(kind: u32) -> u64
+fn base_cost(kind: u32) -> u16
     requires { ⌜ kind ≤ kindMost ⌝ }
     ensures { λ r. ⌜ r ≡ baseCost kind ⌝ }
 {
     match kind {
         0 | 1 | 2 => 20,
         3 => 19,
-        4..=15 => 20 * ((kind - 3) as u64),
+        4..=53 => 20 * ((kind - 3) as u16),
         _ => 0,
     }
 }
@@ -88,7 +88,7 @@ fn product(kind: u32, factor: u32, others: u32, capacity: u32, history: u32) -> 
     requires { ⌜ InBounds kind factor others capacity history ⌝ }
     ensures { λ r. ⌜ r ≡ priceOf kind factor others capacity history ⌝ }
 {
-    let base = base_cost(kind);
+    let base = base_cost(kind) as u64;
     let over = overuse(others, capacity);
     let present = 100 + factor as u64 * over;
     history as u64 * base * present
@@ -98,7 +98,7 @@ fn product(kind: u32, factor: u32, others: u32, capacity: u32, history: u32) -> 
 pub fn price(kind: u32, factor: u32, others: u32, capacity: u32, history: u32) -> PriceAnswer
     ensures { λ r. ⌜ toldOf r ≡ priceReply kind factor others capacity history ⌝ }
 {
-    if 15 < kind {
+    if 53 < kind {
         return PriceAnswer::Refused(0);
     }
     if 65535 < factor {

@@ -81,14 +81,18 @@ fn kinds() {
     kind(14);
     kind(15);
     kind(16);
+    kind(17);
+    kind(52);
+    kind(53);
+    kind(54);
 }
 
 // The starred samples, the largest price, each bound and one beyond it, and which of two bad numbers comes first.
 fn prices() {
     show_price(4, 50, 1, 2, 1);
     show_price(4, 50, 2, 2, 1);
-    show_price(15, 65535, 511, 1, 101179);
-    show_price(15, 65535, 511, 255, 101179);
+    show_price(53, 65535, 511, 1, 101179);
+    show_price(53, 65535, 511, 255, 101179);
     show_price(4294967295, 0, 0, 1, 1);
     show_price(4, 65536, 0, 1, 1);
     show_price(4, 4294967295, 0, 1, 1);
@@ -100,7 +104,7 @@ fn prices() {
     show_price(4, 0, 0, 1, 0);
     show_price(4, 0, 0, 1, 101180);
     show_price(4, 0, 0, 1, 4294967295);
-    show_price(16, 65536, 512, 0, 0);
+    show_price(54, 65536, 512, 0, 0);
     show_price(0, 65536, 512, 256, 0);
     show_price(0, 0, 512, 0, 101180);
     show_price(0, 0, 511, 256, 0);

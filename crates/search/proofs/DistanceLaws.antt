@@ -9,7 +9,7 @@ use Prim.Native.Nat.{ℕ, zero, suc, _+_, _*_, _^_, _≤_, _<_, zero-le}
 use native.Mathlib.Nat.{le-refl, le-trans, le-antisymm, le-of-eq, le-dest, lt-irrefl, add-zero, suc-add, add-suc, zero-add}
 use native.Mathlib.Omega.{arith}
 use lib.ListN.{length, getD, List·getD-eq-default}
-use Rattle.price.specs.Bounds.{priceMost}
+use Rattle.price.specs.Bounds.{priceMost, pathMost}
 use Rattle.price.specs.Test.{choose}
 use Rattle.price.specs.Lists.{upTo, least}
 use Rattle.price.proofs.TestLaws.{either-way, true≢false, le-or-lt}
@@ -212,7 +212,7 @@ module _ (b : Block) (price : ℕ → ℕ) (marks : List ℕ) where
     path-near t v path h m w =
         let s = shorten g price fair h w in
         let most : distance b price marks v ≤ nodes b * priceMost = le-trans (short-walk t v (s .path′) h m (s .walk) (s .few)) (s .most) in
-        let fits : nodes b * priceMost < 2 ^ 62 = path-most (nodes b) (g .few) in
+        let fits : nodes b * priceMost < pathMost = path-most (nodes b) (g .few) in
         omega arith
 
     -- no edge leads to a shorter way

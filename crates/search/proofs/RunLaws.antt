@@ -9,6 +9,7 @@ use native.Mathlib.Omega.{arith}
 use lib.Dec.{eqb, ltb}
 use lib.ListN.{length, getD}
 use borrow.Author.Tests.{eq-eqb, lt-ltb, eqb-true, ltb-true, not-false}
+use Rattle.price.specs.Bounds.{pathMost}
 use Rattle.price.specs.Test.{both}
 use Rattle.price.specs.Lists.{countBelow}
 use Rattle.price.proofs.PriceLaws.{path-most}
@@ -74,7 +75,7 @@ module _ (b : Block) (step best : ℕ) (w₀ w : List ℕ) (u : ℕ) (run : Runn
       ⊎-elim (λ (o : Open (nodes b) w u). sym o ∙ nearest) (λ (t : Settled (nodes b) w u). absurd (let l = t .left in omega arith)) (run .stands .waiting .sides u node)
 
   -- so the level is no more than a path can cost
-  level-most : entryAt (nodes b) w 1 < 2 ^ 62
+  level-most : entryAt (nodes b) w 1 < pathMost
   level-most =
       let s = run .stands in
       let pos = s .fair .pos u node in

@@ -8,7 +8,7 @@ use Prim.Native.Nat.{ℕ, _+_, _*_, _^_, _≤_, _<_}
 use lib.Dec.{eqb, ltb}
 use lib.ListN.{length, getD}
 use Rattle.price.specs.Test.{both}
-use Rattle.price.specs.Bounds.{priceMost}
+use Rattle.price.specs.Bounds.{priceMost, pathMost}
 use Rattle.price.specs.Replies.{InBounds}
 use Rattle.search.specs.Block.{Block, nodes, rowStart, hasEdge}
 use Rattle.search.specs.Tables.{Graph}
@@ -106,7 +106,7 @@ pub record RowReady (b : Block) (w : List ℕ) (u : ℕ) : Type 0 where
   pub node : u < nodes b
   pub long : 8 * nodes b ≤ length w
   pub heap : Heap (nodes b) w
-  pub near : distAt w u < 2 ^ 62
+  pub near : distAt w u < pathMost
   pub prices : (v : ℕ) → v < nodes b → priceIn (nodes b) w v ≤ priceMost
 
 -- the frontier after looking at u's row up to place e, and the same nodes are settled

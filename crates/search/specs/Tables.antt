@@ -15,7 +15,7 @@ use Rattle.search.specs.Block.{Block, nodes, row}
 abbrev pub edgesMost : ℕ
 edgesMost = 32768
 
--- "1. kind, a byte a node: 1 to 4,096 nodes, codes 0 to 15."
+-- "1. kind, a byte a node: 1 to 4,096 nodes, codes 0 to 15", by request 2.2 to 53.
 unfoldable pub kindsSound : List ℕ → Bool
 kindsSound kinds =
     both (both (leb 1 (length kinds)) (leb (length kinds) nodesMost)) (every (λ k. leb k kindMost) kinds)

@@ -23,7 +23,7 @@ fn kinds_sound(kind: &[u8]) -> bool
     let mut fine = true;
     let mut v = 0;
     while v < kind.len() {
-        fine = if 15 < kind[v] { false } else { fine };
+        fine = if 53 < kind[v] { false } else { fine };
         v += 1;
     }
     fine

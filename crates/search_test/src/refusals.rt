@@ -51,14 +51,14 @@ fn table_1() {
     let row = [0, 1, 2, 2];
     three(b"sound tables", [0, 4, 1], [1; 3], row, [1, 2]);
     three(
-        b"kind 15 and capacity 255",
-        [0, 15, 1],
+        b"kind 53 and capacity 255",
+        [0, 53, 1],
         [1, 255, 1],
         row,
         [1, 2],
     );
     tables(b"no nodes", &[], &[], &[0], &[]);
-    three(b"kind 16", [0, 4, 16], [1; 3], row, [1, 2]);
+    three(b"kind 54", [0, 4, 54], [1; 3], row, [1, 2]);
     three(b"kind 255 first", [255, 4, 1], [1; 3], row, [1, 2]);
     tables(b"4097 nodes", &[4; 4097], &[1; 4097], &[0; 4098], &[]);
     tables(b"4096 nodes", &[4; 4096], &[1; 4096], &[0; 4097], &[]);
@@ -96,12 +96,12 @@ fn table_4() {
 fn two_tables() {
     three(
         b"tables 1 and 2",
-        [0, 16, 1],
+        [0, 54, 1],
         [1, 0, 1],
         [0, 1, 2, 2],
         [1, 2],
     );
-    three(b"tables 1 and 4", [0, 16, 1], [1; 3], [0, 1, 2, 2], [1, 3]);
+    three(b"tables 1 and 4", [0, 54, 1], [1; 3], [0, 1, 2, 2], [1, 3]);
     three(
         b"tables 2 and 3",
         [0, 4, 1],
@@ -119,7 +119,7 @@ fn two_tables() {
     three(b"tables 3 and 4", [0, 4, 1], [1; 3], [0, 1, 2, 3], [1, 3]);
     three(
         b"tables 1 to 4",
-        [16, 4, 1],
+        [54, 4, 1],
         [0, 1, 1],
         [1, 1, 2, 2],
         [0, 3],

@@ -28,21 +28,21 @@ module _ (n a b c : ℕ) where
   unfolding nodeWithin
   node-beyond-count l = rw (le-ltb a n l)
 
-  pub node-beyond-kind : a < n → 15 < b → nodeWithin n (a ∷ b ∷ c ∷ []) ≡ false
+  pub node-beyond-kind : a < n → 53 < b → nodeWithin n (a ∷ b ∷ c ∷ []) ≡ false
   unfolding nodeWithin
-  node-beyond-kind l k = rw (lt-ltb a n l, lt-leb b 15 k)
+  node-beyond-kind l k = rw (lt-ltb a n l, lt-leb b 53 k)
 
-  pub node-beyond-least : a < n → b ≤ 15 → c < 1 → nodeWithin n (a ∷ b ∷ c ∷ []) ≡ false
+  pub node-beyond-least : a < n → b ≤ 53 → c < 1 → nodeWithin n (a ∷ b ∷ c ∷ []) ≡ false
   unfolding nodeWithin
-  node-beyond-least l k m = rw (lt-ltb a n l, le-leb b 15 k, lt-leb 1 c m)
+  node-beyond-least l k m = rw (lt-ltb a n l, le-leb b 53 k, lt-leb 1 c m)
 
-  pub node-beyond-most : a < n → b ≤ 15 → 1 ≤ c → 255 < c → nodeWithin n (a ∷ b ∷ c ∷ []) ≡ false
+  pub node-beyond-most : a < n → b ≤ 53 → 1 ≤ c → 255 < c → nodeWithin n (a ∷ b ∷ c ∷ []) ≡ false
   unfolding nodeWithin
-  node-beyond-most l k m t = rw (lt-ltb a n l, le-leb b 15 k, le-leb 1 c m, lt-leb c 255 t)
+  node-beyond-most l k m t = rw (lt-ltb a n l, le-leb b 53 k, le-leb 1 c m, lt-leb c 255 t)
 
-  pub node-within : a < n → b ≤ 15 → 1 ≤ c → c ≤ 255 → nodeWithin n (a ∷ b ∷ c ∷ []) ≡ true
+  pub node-within : a < n → b ≤ 53 → 1 ≤ c → c ≤ 255 → nodeWithin n (a ∷ b ∷ c ∷ []) ≡ true
   unfolding nodeWithin
-  node-within l k m t = rw (lt-ltb a n l, le-leb b 15 k, le-leb 1 c m, le-leb c 255 t)
+  node-within l k m t = rw (lt-ltb a n l, le-leb b 53 k, le-leb 1 c m, le-leb c 255 t)
 
 pub node-other : (n v at : ℕ) (text : List ℕ) → begins letterN (drop at text) ≡ false → refused 1 ≡ nodeLine n v (drop at text)
 unfolding nodeLine

@@ -35,7 +35,7 @@ fn node_line(text: &[u8], at: usize, nodes: usize, v: usize) -> NodeLine
     if nodes <= first as usize {
         return NodeLine::Refused(2);
     }
-    if 15 < second {
+    if 53 < second {
         return NodeLine::Refused(2);
     }
     if third < 1 {

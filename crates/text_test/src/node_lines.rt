@@ -8,13 +8,13 @@ fn nodes(label: &[u8], lines: &[u8]) {
 
 fn sound() {
     nodes(
-        b"kind 15, capacity 255",
-        b"N,0,0,1\nN,1,15,255\nN,2,1,1\nS,0,0\nT,0,2\n",
+        b"kind 53, capacity 255",
+        b"N,0,0,1\nN,1,53,255\nN,2,1,1\nS,0,0\nT,0,2\n",
     );
 }
 
 fn bounds() {
-    nodes(b"kind 16", b"N,0,16,1\n");
+    nodes(b"kind 54", b"N,0,54,1\n");
     nodes(b"kind 256", b"N,0,256,1\n");
     nodes(b"capacity 0", b"N,0,0,1\nN,1,4,0\n");
     nodes(b"capacity 256", b"N,0,0,1\nN,1,4,256\n");
@@ -45,14 +45,14 @@ fn shape() {
 
 // Two faults in one line, and in two.
 fn which() {
-    nodes(b"kind 16, two fields", b"N,0,16\n");
-    nodes(b"kind 16, no LF", b"N,0,16,1");
-    nodes(b"node 1 first, kind 16", b"N,1,16,1\n");
+    nodes(b"kind 54, two fields", b"N,0,54\n");
+    nodes(b"kind 54, no LF", b"N,0,54,1");
+    nodes(b"node 1 first, kind 54", b"N,1,54,1\n");
     nodes(b"node 1 first, capacity 0", b"N,1,0,0\n");
     nodes(b"node 1 first, blank", b"N,1,0,1 \n");
     nodes(b"order, then shape", b"N,1,0,1\nN,0,0,1 \n");
-    nodes(b"order, then bounds", b"N,0,0,1\nN,2,0,1\nN,2,16,1\n");
-    nodes(b"bounds, then shape", b"N,0,16,1\nN\n");
+    nodes(b"order, then bounds", b"N,0,0,1\nN,2,0,1\nN,2,54,1\n");
+    nodes(b"bounds, then shape", b"N,0,54,1\nN\n");
     nodes(b"bounds, then order", b"N,0,0,0\nN,0,0,1\n");
 }
 

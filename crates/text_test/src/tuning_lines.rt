@@ -83,8 +83,8 @@ fn place() {
 // Lines after P count on.
 fn counted_on() {
     after(
-        b"P, then kind 16",
-        b"P,50,3,2,1\nN,0,16,1\nN,1,4,1\nN,2,1,1\nS,0,0\nT,0,2\n",
+        b"P, then kind 54",
+        b"P,50,3,2,1\nN,0,54,1\nN,1,4,1\nN,2,1,1\nS,0,0\nT,0,2\n",
     );
     after(
         b"P, then a node of two fields",

@@ -7,8 +7,8 @@ use common::tuning;
 
 #[test]
 fn base_costs() {
-    let costs: Vec<u64> = (0..16).map(base).collect();
-    let wires = (1..=12).map(|length| 20 * length);
+    let costs: Vec<u64> = (0..54).map(base).collect();
+    let wires = (1..=50).map(|length| 20 * length);
     assert_eq!(
         costs,
         [20, 20, 20, 19]

@@ -6,8 +6,8 @@ use crate::jobs;
 use crate::texts::around;
 use job::{Job, Rng};
 
-const KINDS: [u32; 8] = [0, 1, 2, 3, 4, 5, 14, 15];
-const BAD_KINDS: [u32; 5] = [16, 17, 256, 260, u32::MAX];
+const KINDS: [u32; 8] = [0, 1, 2, 3, 4, 15, 16, 53];
+const BAD_KINDS: [u32; 5] = [54, 55, 256, 260, u32::MAX];
 const FACTORS: [u32; 8] = [0, 1, 50, 75, 112, 48_997, 65_534, 65_535];
 const BAD_FACTORS: [u32; 4] = [65_536, 65_586, 131_072, u32::MAX];
 const OTHERS: [u32; 9] = [0, 1, 2, 3, 254, 255, 256, 510, 511];
@@ -37,7 +37,7 @@ pub fn price(rng: &mut Rng) -> Case {
 /// The search with the largest distances there are: a line of the longest wires, every number at its bound.
 fn dearest() -> Case {
     let mut graph = jobs::line(4_096);
-    graph.kind.fill(15);
+    graph.kind.fill(53);
     let mut in_tree = vec![0; 4_096];
     in_tree[0] = 1;
     let lists = Lists { history: vec![101_179; 4_096], others: vec![511; 4_096], in_tree };

@@ -63,7 +63,7 @@ fn kinds(rng: &mut Rng, job: &mut Job) {
     } else if rng.percent(40) {
         length(rng, &mut job.kind, 4);
     } else {
-        let code = rng.pick(&[16, 17, 100, 128, 255]);
+        let code = rng.pick(&[54, 55, 100, 128, 255]);
         put(rng, &mut job.kind, code);
     }
 }

@@ -258,7 +258,7 @@ fn link(rng: &mut Rng, plan: &mut Plan, nets: usize, net: usize, own: usize, rea
 
 /// Lengths of wires, equal or nearly so.
 fn wire_kinds(rng: &mut Rng, plan: &mut Plan, nets: usize, wires: usize) {
-    let most = rng.pick(&[4, 4, 5, 6, 15]);
+    let most = rng.pick(&[4, 4, 5, 6, 53]);
     for wire in nets..nets + wires {
         plan.kind[wire] = rng.within(4, most) as u8;
     }
@@ -275,7 +275,7 @@ fn heavy(rng: &mut Rng) -> Plan {
     }
     for kind in &mut plan.kind {
         if *kind >= 4 && rng.percent(80) {
-            *kind = 15;
+            *kind = rng.pick(&[15, 16, 52, 53]);
         }
     }
     plan
@@ -400,7 +400,7 @@ fn kinds(rng: &mut Rng, plan: &mut Plan) {
         2 => &[3, 4],
         3 => &[4, 5],
         4 => &[4, 4, 4, 5, 6, 7],
-        _ => &[0, 1, 2, 3, 4, 5, 6, 7, 8, 9, 10, 11, 12, 13, 14, 15],
+        _ => &[0, 1, 2, 3, 4, 5, 6, 7, 8, 9, 14, 15, 16, 17, 33, 52, 53],
     };
     for kind in &mut plan.kind {
         *kind = rng.pick(choices);

@@ -2,7 +2,7 @@
 
 use crate::Answer;
 
-pub const MAX_KIND: u32 = 15;
+pub const MAX_KIND: u32 = 53;
 pub const MAX_FACTOR: u32 = 65_535;
 pub const MAX_OTHERS: u32 = 511;
 pub const MAX_HISTORY: u32 = 101_179;
@@ -52,7 +52,7 @@ impl Tuning {
     }
 }
 
-/// The base cost of a kind from 0 to 15.
+/// The base cost of a kind from 0 to 53.
 fn base(kind: u32) -> u64 {
     match kind {
         0 | 1 | 2 => 20,

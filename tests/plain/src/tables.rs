@@ -51,7 +51,7 @@ impl Graph<'_> {
     }
 
     fn kind_is_sound(&self) -> bool {
-        (1..=MAX_NODES).contains(&self.kind.len()) && self.kind.iter().all(|&k| k <= 15)
+        (1..=MAX_NODES).contains(&self.kind.len()) && self.kind.iter().all(|&k| k <= 53)
     }
 
     fn capacity_is_sound(&self) -> bool {

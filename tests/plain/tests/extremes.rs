@@ -15,7 +15,7 @@ fn the_largest_distance() {
     marks[4095] = 1;
     let mut work = vec![9; 8 * 4096 + 1];
     let answer = search(
-        &[15; 4096],
+        &[53; 4096],
         &[1; 4096],
         &first_edge,
         &edge_target,
@@ -26,9 +26,9 @@ fn the_largest_distance() {
         &marks,
     );
     assert!(answer.refusal.is_empty());
-    let price = 101179 * 240 * (100 + 65535 * 511);
+    let price = 101179 * 1000 * (100 + 65535 * 511);
     assert!((0..4096).all(|v| work[v] == (4095 - v as u64) * price));
-    assert!(work[0] < 1 << 62);
+    assert_eq!(work[0], 4095 * 3_388_331_423_815_000);
     assert!(work[4096..8 * 4096].iter().all(|&w| w == 0));
     assert_eq!(work[8 * 4096], 9);
 }

@@ -106,7 +106,7 @@ fn broken(change: fn(&mut Job)) -> Vec<u64> {
 #[test]
 fn broken_tables() {
     assert_eq!(broken(|t| t.kind.clear()), [5, 1]);
-    assert_eq!(broken(|t| t.kind[5] = 16), [5, 1]);
+    assert_eq!(broken(|t| t.kind[5] = 54), [5, 1]);
     assert_eq!(broken(|t| t.kind.push(0)), [5, 2]);
     assert_eq!(broken(|t| t.capacity[5] = 0), [5, 2]);
     assert_eq!(broken(|t| t.first_edge[0] = 1), [5, 3]);
@@ -133,12 +133,12 @@ fn broken_tables() {
 
 #[test]
 fn prices_beyond_bounds() {
-    assert_eq!(price(16, 65536, 512, 0, 0).refusal, [13, 0]);
-    assert_eq!(price(15, 65536, 512, 0, 0).refusal, [13, 1]);
-    assert_eq!(price(15, 65535, 512, 0, 0).refusal, [13, 2]);
-    assert_eq!(price(15, 65535, 511, 256, 0).refusal, [13, 3]);
-    assert_eq!(price(15, 65535, 511, 255, 101180).refusal, [13, 4]);
-    assert_eq!(price(15, 65535, 511, 255, 0).numbers, [0]);
+    assert_eq!(price(54, 65536, 512, 0, 0).refusal, [13, 0]);
+    assert_eq!(price(53, 65536, 512, 0, 0).refusal, [13, 1]);
+    assert_eq!(price(53, 65535, 512, 0, 0).refusal, [13, 2]);
+    assert_eq!(price(53, 65535, 511, 256, 0).refusal, [13, 3]);
+    assert_eq!(price(53, 65535, 511, 255, 101180).refusal, [13, 4]);
+    assert_eq!(price(53, 65535, 511, 255, 0).numbers, [0]);
 }
 
 #[test]

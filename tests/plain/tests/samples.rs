@@ -104,7 +104,7 @@ fn prices() {
         assert_eq!(price(kind, 50, 2, 2, 1), answer(&[], &[3000]));
     }
     assert_eq!(price(3, 0, 511, 1, 1), answer(&[], &[1900]));
-    assert_eq!(price(15, 65535, 511, 1, 101179), answer(&[], &[101179 * 240 * (100 + 65535 * 511)]));
+    assert_eq!(price(53, 65535, 511, 1, 101179), answer(&[], &[101179 * 1000 * (100 + 65535 * 511)]));
 }
 
 #[test]
@@ -122,7 +122,7 @@ fn faulty_texts() {
     assert_eq!(refusal(""), [1, 1]);
     assert_eq!(refusal(&text(B).replace("T,0,4\n", "T,0,4\rT,0,5\n")), [1, 15]);
     assert_eq!(refusal(&text(B).replace("T,0,4\n", "T,0,4\r\n")), [1, 15]);
-    assert_eq!(refusal(&text(&B.replace("N,2,4,1", "N,2,16,1"))), [2, 4]);
+    assert_eq!(refusal(&text(&B.replace("N,2,4,1", "N,2,54,1"))), [2, 4]);
     assert_eq!(refusal(&text(&B.replace("N,2,4,1", "N,2,4,0"))), [2, 4]);
     assert_eq!(refusal(&text(&B.replace("F,6,6,2,2", "F,6,6,2,101"))), [2, 1]);
 }

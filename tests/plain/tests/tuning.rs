@@ -56,8 +56,8 @@ fn lines_beyond_bounds() {
     }
     // The F line comes first, the N line after.
     assert_eq!(refusal(&b_with("P,1001,3,2,1").replace("F,6,6,2,2", "F,0,6,2,2")), [2, 1]);
-    assert_eq!(refusal(&b_with("P,1001,3,2,1").replace("N,0,0,1", "N,0,16")), [2, 2]);
-    assert_eq!(refusal(&b_with("P,50,3,2,1").replace("N,0,0,1", "N,0,16,1")), [2, 3]);
+    assert_eq!(refusal(&b_with("P,1001,3,2,1").replace("N,0,0,1", "N,0,54")), [2, 2]);
+    assert_eq!(refusal(&b_with("P,50,3,2,1").replace("N,0,0,1", "N,0,54,1")), [2, 3]);
 }
 
 #[test]

@@ -13,6 +13,9 @@ use Rattle.price.proofs.product.Tie as tie
 base-cost-requires : tie.Need-base-cost-requires
 base-cost-requires c κs = search needs
 
+cast-base : tie.Need-cast-base
+cast-base c = search needs
+
 overuse-requires : tie.Need-overuse-requires
 overuse-requires c κs = search needs
 
@@ -67,6 +70,7 @@ product-spec =
     tie.close
     (tie.spec
     base-cost-requires
+    cast-base
     overuse-requires
     mul-present
     add-present
