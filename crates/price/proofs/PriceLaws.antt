@@ -59,7 +59,7 @@ overuse-most o c h l = omega arith
 pub congestion-most : (f o c : ℕ) → f ≤ factorMost → o ≤ othersMost → 1 ≤ c → f * overuse o c ≤ factorMost * othersMost
 congestion-most f o c hf ho hc = mul-le-mul hf (overuse-most o c ho hc)
 
-pub weight-most : (k h : ℕ) → k ≤ kindMost → h ≤ historyMost → h * baseCost k ≤ historyMost * baseMost
+weight-most : (k h : ℕ) → k ≤ kindMost → h ≤ historyMost → h * baseCost k ≤ historyMost * baseMost
 weight-most k h hk hh = mul-le-mul hh (base-most k hk)
 
 pub price-most : {k f o c h : ℕ} → InBounds k f o c h → priceOf k f o c h ≤ priceMost

@@ -4,4 +4,5 @@ pub mod Bounds
 pub mod Tuning
 pub mod Prices
 pub mod Replies
+pub mod Running
 pub mod Samples

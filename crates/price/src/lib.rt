@@ -83,7 +83,8 @@ fn overuse(others: u32, capacity: u32) -> u64
     }
 }
 
-// history × base × (100 + factor × overuse), where every number keeps its bounds, so that no product wraps.
+// The price in document 003's order, where every number keeps its bounds: the base cost, times the present congestion, times the historical congestion.
+// No running product wraps.
 fn product(kind: u32, factor: u32, others: u32, capacity: u32, history: u32) -> u64
     requires { ⌜ InBounds kind factor others capacity history ⌝ }
     ensures { λ r. ⌜ r ≡ priceOf kind factor others capacity history ⌝ }
@@ -91,7 +92,8 @@ fn product(kind: u32, factor: u32, others: u32, capacity: u32, history: u32) -> 
     let base = base_cost(kind) as u64;
     let over = overuse(others, capacity);
     let present = 100 + factor as u64 * over;
-    history as u64 * base * present
+    let congested = base * present;
+    congested * history as u64
 }
 
 // The price of a node of this kind and capacity at these numbers. 13 names the first of the five that is beyond its bounds.

@@ -1,11 +1,12 @@
 -- `price::product` meets its contract: no product wraps, by the laws of the largest values.
 -- Assumes nothing.
-use mathlib.Core.Path.{_≡_}
+use mathlib.Core.Path.{_≡_, _∙_}
 use Prim.Native.Nat.{_+_, _*_}
 use native.Mathlib.Omega.{arith}
-use Rattle.price.specs.Prices.{priceOf}
 use Rattle.price.specs.Replies.{InBounds}
-use Rattle.price.proofs.PriceLaws.{congestion-most, weight-most, price-most}
+use Rattle.price.specs.Running.{congestedCost, historicCost}
+use Rattle.price.proofs.PriceLaws.{congestion-most}
+use Rattle.price.proofs.RunningHolds.{congested-most, historic-most, historic-price}
 use borrow.Author.Needs.{needs}
 use Rattle.price.proofs.product.Statement.{statement}
 use Rattle.price.proofs.product.Tie as tie
@@ -28,16 +29,26 @@ module _ (c : tie.After-overuse) where
       (c .before .before .args .history)
   bounds = c .before .before .pre
 
-  is-price :
-      c .before .before .args .history * c .before .base-cost .result * (100 + c .before .before .args .factor * c .overuse .result)
-      ≡ priceOf
+  is-congested :
+      c .before .base-cost .result * (100 + c .before .before .args .factor * c .overuse .result)
+      ≡ congestedCost
+      (c .before .before .args .kind)
+      (c .before .before .args .factor)
+      (c .before .before .args .others)
+      (c .before .before .args .capacity)
+  unfolding congestedCost
+  is-congested = rw (c .before .base-cost .ensures, c .overuse .ensures)
+
+  is-historic :
+      c .before .base-cost .result * (100 + c .before .before .args .factor * c .overuse .result) * c .before .before .args .history
+      ≡ historicCost
       (c .before .before .args .kind)
       (c .before .before .args .factor)
       (c .before .before .args .others)
       (c .before .before .args .capacity)
       (c .before .before .args .history)
-  unfolding priceOf
-  is-price = rw (c .before .base-cost .ensures, c .overuse .ensures)
+  unfolding historicCost
+  is-historic = rw is-congested
 
 mul-present : tie.Need-mul-present
 mul-present c =
@@ -51,19 +62,18 @@ add-present c =
     let f = congestion-most _ _ _ (b .factor-most) (b .others-most) (b .capacity-least) in
     rw (c .overuse .ensures) (omega arith)
 
+mul-congested : tie.Need-mul-congested
+mul-congested c =
+    let m = congested-most (bounds c) in
+    rw (is-congested c) (omega arith)
+
 mul-result : tie.Need-mul-result
 mul-result c =
-    let b = bounds c in
-    let w = weight-most _ _ (b .kind-most) (b .history-most) in
-    rw (c .before .base-cost .ensures) (omega arith)
-
-mul-result-2 : tie.Need-mul-result-2
-mul-result-2 c =
-    let m = price-most (bounds c) in
-    rw (is-price c) (omega arith)
+    let m = historic-most (bounds c) in
+    rw (is-historic c) (omega arith)
 
 returns : tie.Need-returns
-returns c = is-price c
+returns c = is-historic c ∙ historic-price _ _ _ _ _
 
 pub product-spec : {M : Type 1} → statement M
 product-spec =
@@ -74,6 +84,6 @@ product-spec =
     overuse-requires
     mul-present
     add-present
+    mul-congested
     mul-result
-    mul-result-2
     returns)
