@@ -24,7 +24,7 @@ use Rattle.search.specs.Replies as search
 use Rattle.search.proofs.BlockLaws.{sound-of, faulty-of}
 use Rattle.search.proofs.TableLaws.{sinks-all}
 use Rattle.negotiation.specs.Job.{Job, nodes, nets, source, sinksBetween, netSinks}
-use Rattle.negotiation.specs.Tables.{sourcesSound, firstSinksSound, netSound, sinksSound, limitSound, termsSound, faultyNets, faultyJob, SoundJob, netsMost}
+use Rattle.negotiation.specs.Tables.{sourcesSound, firstSinksSound, netSound, sinksSound, limitSound, termsSound, sourcePins, sinkPins, faultyNets, faultyJob, SoundJob, netsMost}
 
 -- ---- the lowest faulty table
 
@@ -50,21 +50,24 @@ pub sound-job : (j : Job) → faultyJob j ≡ 0 → SoundJob j
 unfolding faultyJob faultyNets
 sound-job j e =
     let both-none = first-none (faultyTable (j .block)) _ e in
-    let five = chosen (sourcesSound (nodes j) (j .sources)) _ 4 (both-none .1) in
+    let five = chosen (both (sourcesSound (nodes j) (j .sources)) (sourcePins (j .block .kinds) (j .sources))) _ 4 (both-none .1) in
     let six = chosen (firstSinksSound (nets j) (length (j .sinks)) (j .firstSinks)) _ 5 (five .1) in
-    let seven = chosen (sinksSound (nodes j) (j .sources) (j .firstSinks) (j .sinks)) _ 6 (six .1) in
+    let seven =
+    chosen (both (sinksSound (nodes j) (j .sources) (j .firstSinks) (j .sinks)) (sinkPins (j .block .kinds) (j .sinks))) _ 6 (six .1) in
     record {
       block-sound = sound-of (j .block) (both-none .0);
-      sources-sound = five .0;
+      sources-sound = both-left _ _ (five .0);
+      source-pins = both-right (sourcesSound (nodes j) (j .sources)) _ (five .0);
       firstSinks-sound = six .0;
-      sinks-sound = seven .0;
+      sinks-sound = both-left _ _ (seven .0);
+      sink-pins = both-right (sinksSound (nodes j) (j .sources) (j .firstSinks) (j .sinks)) _ (seven .0);
       terms-sound = chosen (termsSound (j .terms)) _ 7 (seven .1) .0;
     }
 
 pub faulty-none : (j : Job) → SoundJob j → faultyJob j ≡ 0
 unfolding faultyJob faultyNets
 faulty-none j s =
-    rw (faulty-of (j .block) (s .block-sound), s .sources-sound, s .firstSinks-sound, s .sinks-sound, s .terms-sound)
+    rw (faulty-of (j .block) (s .block-sound), s .sources-sound, s .source-pins, s .firstSinks-sound, s .sinks-sound, s .sink-pins, s .terms-sound)
 
 -- ---- the rules of tables 5 to 8
 

@@ -1,6 +1,7 @@
 -- How a pass over tables 5 to 8 decides their rules: by the entry that breaks one, or by every entry passed.
 --     sources-, stays-at, always-rises, firsts-     tables 5 and 6
 --     net-told, Passing, passing-, nets-            table 7
+--     kind-, pin-bad, pins-all                      the pins' kinds
 --     faulty-, block-few                            the lowest faulty table
 --     named                                         tables 1 to 4, by what the cheapest path refuses
 -- Assumes nothing.
@@ -31,7 +32,7 @@ use Rattle.search.specs.declared.PathAnswer.{PathAnswer}
 use Rattle.search.proofs.BlockLaws.{sound-of, kinds-some, kinds-few}
 use Rattle.search.proofs.NumberLaws.{refusal-table, refusal-work}
 use Rattle.negotiation.specs.Job.{Job, nodes, sinksBetween}
-use Rattle.negotiation.specs.Tables.{netsMost, sourcesSound, firstSinksSound, netSound, sinksSound, limitSound, termsSound, faultyNets, faultyJob}
+use Rattle.negotiation.specs.Tables.{netsMost, sourcesSound, firstSinksSound, netSound, sinksSound, limitSound, termsSound, oneOf, pinsOf, sourcePins, sinkPins, faultyNets, faultyJob}
 use Rattle.negotiation.specs.declared.Terms.{Terms}
 use Rattle.negotiation.proofs.SinkMarkLaws.{Unmarked, unmarked-new}
 
@@ -131,6 +132,26 @@ pub passing-more :
 passing-more i p here none long =
     record { sound = below-more _ i (p .sound) here; unmarked = none; long = long ∙ p .long }
 
+-- ---- the pins' kinds
+
+module _ (a b kind : ℕ) where
+  pub kind-first : kind ≡ a → true ≡ oneOf a b kind
+  unfolding oneOf
+  kind-first e = rw (eq-eqb kind a e)
+
+  pub kind-second : (kind ≡ a → ⊥) → eqb kind b ≡ oneOf a b kind
+  unfolding oneOf
+  kind-second n = rw (ne-eqb kind a n)
+
+module _ (a b : ℕ) (kinds ps : List ℕ) where
+  pub pin-bad : (i : ℕ) → i < length ps → oneOf a b (getD kinds (getD ps i 0) 0) ≡ false → pinsOf a b kinds ps ≡ false
+  unfolding pinsOf
+  pin-bad i h bad = every-none (λ v. oneOf a b (getD kinds v 0)) ps i h bad
+
+  pub pins-all : (i : ℕ) → length ps ≤ i → ((k : ℕ) → k < i → oneOf a b (getD kinds (getD ps k 0) 0) ≡ true) → pinsOf a b kinds ps ≡ true
+  unfolding pinsOf
+  pins-all i end all = every-all (λ v. oneOf a b (getD kinds v 0)) ps (λ k l. all k (omega arith))
+
 -- ---- the lowest faulty table
 
 -- table 8
@@ -147,36 +168,46 @@ module _ (t : Terms) where
   unfolding termsSound limitSound
   terms-tuning some few = rw (le-leb 1 (t .limit) some, le-leb (t .limit) limitMost few)
 
-module _ (n : ℕ) (ss fs ts : List ℕ) (terms : Terms) where
-  pub faulty-5 : sourcesSound n ss ≡ false → faultyNets n ss fs ts terms ≡ 5
+module _ (kinds ss fs ts : List ℕ) (terms : Terms) where
+  pub faulty-5 : sourcesSound (length kinds) ss ≡ false → faultyNets kinds ss fs ts terms ≡ 5
   unfolding faultyNets
   faulty-5 p = rw p
 
-  module _ (p : sourcesSound n ss ≡ true) where
-    pub faulty-6 : firstSinksSound (length ss) (length ts) fs ≡ false → faultyNets n ss fs ts terms ≡ 6
+  module _ (p : sourcesSound (length kinds) ss ≡ true) where
+    pub faulty-source : sourcePins kinds ss ≡ false → faultyNets kinds ss fs ts terms ≡ 5
     unfolding faultyNets
-    faulty-6 q = rw (p, q)
+    faulty-source u = rw (p, u)
 
-    module _ (q : firstSinksSound (length ss) (length ts) fs ≡ true) where
-      pub faulty-7 : sinksSound n ss fs ts ≡ false → faultyNets n ss fs ts terms ≡ 7
+    module _ (u : sourcePins kinds ss ≡ true) where
+      pub faulty-6 : firstSinksSound (length ss) (length ts) fs ≡ false → faultyNets kinds ss fs ts terms ≡ 6
       unfolding faultyNets
-      faulty-7 r = rw (p, q, r)
+      faulty-6 q = rw (p, u, q)
 
-      module _ (r : sinksSound n ss fs ts ≡ true) where
-        pub faulty-8 : termsSound terms ≡ false → faultyNets n ss fs ts terms ≡ 8
+      module _ (q : firstSinksSound (length ss) (length ts) fs ≡ true) where
+        pub faulty-7 : sinksSound (length kinds) ss fs ts ≡ false → faultyNets kinds ss fs ts terms ≡ 7
         unfolding faultyNets
-        faulty-8 e = rw (p, q, r, e)
+        faulty-7 r = rw (p, u, q, r)
 
-        pub faulty-no-net : termsSound terms ≡ true → faultyNets n ss fs ts terms ≡ 0
-        unfolding faultyNets
-        faulty-no-net e = rw (p, q, r, e)
+        module _ (r : sinksSound (length kinds) ss fs ts ≡ true) where
+          pub faulty-sink : sinkPins kinds ts ≡ false → faultyNets kinds ss fs ts terms ≡ 7
+          unfolding faultyNets
+          faulty-sink v = rw (p, u, q, r, v)
+
+          module _ (v : sinkPins kinds ts ≡ true) where
+            pub faulty-8 : termsSound terms ≡ false → faultyNets kinds ss fs ts terms ≡ 8
+            unfolding faultyNets
+            faulty-8 e = rw (p, u, q, r, v, e)
+
+            pub faulty-no-net : termsSound terms ≡ true → faultyNets kinds ss fs ts terms ≡ 0
+            unfolding faultyNets
+            faulty-no-net e = rw (p, u, q, r, v, e)
 
 module _ {table : ℕ} (j : Job) (e : table ≡ faultyTable (j .block)) where
   pub faulty-by-block : 1 ≤ table → faultyJob j ≡ table
   unfolding faultyJob
   faulty-by-block h = rw (← e, le-leb 1 table h)
 
-  pub faulty-by-nets : table < 1 → faultyJob j ≡ faultyNets (nodes j) (j .sources) (j .firstSinks) (j .sinks) (j .terms)
+  pub faulty-by-nets : table < 1 → faultyJob j ≡ faultyNets (j .block .kinds) (j .sources) (j .firstSinks) (j .sinks) (j .terms)
   unfolding faultyJob
   faulty-by-nets h = rw (← e, lt-leb 1 table h)
 

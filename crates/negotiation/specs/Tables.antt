@@ -1,4 +1,4 @@
--- Document 01, "Tables and bounds": the rules of tables 5 to 8, and the lowest table of all eight that breaks its rule. A table's length is part of its rule.
+-- Document 01, "Tables and bounds", with the pins' kinds of request 2.5: the rules of tables 5 to 8, and the lowest table of all eight that breaks its rule. A table's length is part of its rule.
 -- Assumes nothing.
 use mathlib.Core.Bool.{Bool, true, not}
 use mathlib.Core.List.{List}
@@ -6,7 +6,7 @@ use mathlib.Core.Path.{_≡_}
 use Prim.Native.Nat.{ℕ, _+_}
 use lib.Dec.{leb, ltb, eqb}
 use lib.ListN.{length, getD}
-use Rattle.price.specs.Test.{choose, both}
+use Rattle.price.specs.Test.{choose, both, either}
 use Rattle.price.specs.Bounds.{limitMost}
 use Rattle.price.specs.Lists.{every, neighbours, has, distinct, upTo}
 use Rattle.price.specs.Tuning.{tuningSound}
@@ -47,24 +47,42 @@ limitSound limit = both (leb 1 limit) (leb limit limitMost)
 unfoldable pub termsSound : Terms → Bool
 termsSound t = both (limitSound (t .limit)) (tuningSound (t .tuning))
 
+-- one of two kinds
+unfoldable pub oneOf : ℕ → ℕ → ℕ → Bool
+oneOf a b kind = either (eqb kind a) (eqb kind b)
+
+-- every entry of a table is a node of one of two kinds; that it is a node at all is the table's own rule
+unfoldable pub pinsOf : ℕ → ℕ → List ℕ → List ℕ → Bool
+pinsOf a b kinds pins = every (λ v. oneOf a b (getD kinds v 0)) pins
+
+-- "A source must now be of kind 0 or 2"
+abbrev pub sourcePins : List ℕ → List ℕ → Bool
+sourcePins kinds sources = pinsOf 0 2 kinds sources
+
+-- "and a sink of kind 1 or 3"
+abbrev pub sinkPins : List ℕ → List ℕ → Bool
+sinkPins kinds sinks = pinsOf 1 3 kinds sinks
+
 -- the lowest of tables 5 to 8 that breaks its rule, 0 where none does
-unfoldable pub faultyNets : ℕ → List ℕ → List ℕ → List ℕ → Terms → ℕ
-faultyNets n sources firstSinks sinks terms =
-    choose (sourcesSound n sources)
+unfoldable pub faultyNets : List ℕ → List ℕ → List ℕ → List ℕ → Terms → ℕ
+faultyNets kinds sources firstSinks sinks terms =
+    choose (both (sourcesSound (length kinds) sources) (sourcePins kinds sources))
     (choose (firstSinksSound (length sources) (length sinks) firstSinks)
-    (choose (sinksSound n sources firstSinks sinks) (choose (termsSound terms) 0 8) 7)
+    (choose (both (sinksSound (length kinds) sources firstSinks sinks) (sinkPins kinds sinks)) (choose (termsSound terms) 0 8) 7)
     6)
     5
 
 -- "lowest table that breaks its rule", 0 where none does
 unfoldable pub faultyJob : Job → ℕ
 faultyJob j =
-    choose (leb 1 (faultyTable (j .block))) (faultyTable (j .block)) (faultyNets (nodes j) (j .sources) (j .firstSinks) (j .sinks) (j .terms))
+    choose (leb 1 (faultyTable (j .block))) (faultyTable (j .block)) (faultyNets (j .block .kinds) (j .sources) (j .firstSinks) (j .sinks) (j .terms))
 
 -- "Tables are sound when each numbered one has its length and keeps its rule."
 pub record SoundJob (j : Job) : Type 0 where
   pub block-sound : Sound (j .block)
   pub sources-sound : sourcesSound (nodes j) (j .sources) ≡ true
+  pub source-pins : sourcePins (j .block .kinds) (j .sources) ≡ true
   pub firstSinks-sound : firstSinksSound (nets j) (length (j .sinks)) (j .firstSinks) ≡ true
   pub sinks-sound : sinksSound (nodes j) (j .sources) (j .firstSinks) (j .sinks) ≡ true
+  pub sink-pins : sinkPins (j .block .kinds) (j .sinks) ≡ true
   pub terms-sound : termsSound (j .terms) ≡ true

@@ -49,6 +49,7 @@ mod turns;
 
 use price::Tuning;
 use reach::Reach;
+pub use tables::one_of;
 
 // The answer of a call that is refused before any turn.
 fn refused(outcome: Outcome) -> Routed

@@ -9,7 +9,7 @@ ghost use Rattle.search.specs.Block.{blockOf};
 ghost use Rattle.search.specs.Tables.{faultyTable};
 ghost use Rattle.negotiation.specs.Job.{jobOf};
 ghost use Rattle.negotiation.specs.Steps.{AllBelow, Stored, sinksFree};
-ghost use Rattle.negotiation.specs.Tables.{sourcesSound, firstSinksSound, netSound, sinksSound, termsSound, faultyNets, faultyJob};
+ghost use Rattle.negotiation.specs.Tables.{sourcesSound, firstSinksSound, netSound, sinksSound, termsSound, oneOf, pinsOf, faultyNets, faultyJob};
 use crate::Terms;
 use search::PathAnswer;
 
@@ -148,18 +148,56 @@ fn terms_sound(terms: Terms) -> bool
     price::tuning_sound(terms.tuning)
 }
 
-// The lowest of tables 5 to 8 that breaks its rule, 0 where none does.
-fn faulty_nets(n: usize, source: &[u16], first_sink: &[u32], sink: &[u16], terms: Terms) -> u32
-    requires { ⌜ n ≤ 4096 ⌝ }
-    ensures { λ r. ⌜ r ≡ faultyNets n (now (source .entry)) (now («first_sink» .entry)) (now (sink .entry)) terms ⌝ }
+// The kind of a node, 0 where it is none.
+fn kind_at(kind: &[u8], v: usize) -> u8
+    ensures { λ r. ⌜ r ≡ getD (now (kind .entry)) v 0 ⌝ }
 {
+    if v < kind.len() { kind[v] } else { 0 }
+}
+
+// The kind is one of these two.
+pub fn one_of(kind: u8, one: u8, other: u8) -> bool
+    ensures { λ r. ⌜ r ≡ oneOf one other kind ⌝ }
+{
+    if kind == one {
+        return true;
+    }
+    kind == other
+}
+
+// Each pin is of one of these kinds. That it is a node is its table's own rule, which is tested before.
+fn pins_of(kind: &[u8], pins: &[u16], one: u8, other: u8) -> bool
+    ensures { λ r. ⌜ r ≡ pinsOf one other (now (kind .entry)) (now (pins .entry)) ⌝ }
+{
+    let mut i = 0;
+    while i < pins.len() {
+        if !one_of(kind_at(kind, pins[i] as usize), one, other) {
+            return false;
+        }
+        i += 1;
+    }
+    true
+}
+
+// The lowest of tables 5 to 8 that breaks its rule, 0 where none does.
+fn faulty_nets(kind: &[u8], source: &[u16], first_sink: &[u32], sink: &[u16], terms: Terms) -> u32
+    requires { ⌜ length (now kind) ≤ 4096 ⌝ }
+    ensures { λ r. ⌜ r ≡ faultyNets (now (kind .entry)) (now (source .entry)) (now («first_sink» .entry)) (now (sink .entry)) terms ⌝ }
+{
+    let n = kind.len();
     if !sources_sound(n, source) {
+        return 5;
+    }
+    if !pins_of(kind, source, 0, 2) {
         return 5;
     }
     if !first_sinks_sound(source.len(), sink.len(), first_sink) {
         return 6;
     }
     if !sinks_sound(n, source, first_sink, sink) {
+        return 7;
+    }
+    if !pins_of(kind, sink, 1, 3) {
         return 7;
     }
     if !terms_sound(terms) {
@@ -218,5 +256,5 @@ pub fn faulty_job(
     if 1 <= table {
         return table;
     }
-    faulty_nets(kind.len(), source, first_sink, sink, terms)
+    faulty_nets(kind, source, first_sink, sink, terms)
 }

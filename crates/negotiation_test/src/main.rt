@@ -2,6 +2,7 @@
 // The expected lines stand in the file stdout.
 mod job_b;
 mod nets;
+mod pins;
 mod refusals;
 mod samples;
 mod show;
@@ -45,5 +46,6 @@ fn main() {
     samples::all();
     nets::all();
     refusals::all();
+    pins::all();
     tuned::all();
 }

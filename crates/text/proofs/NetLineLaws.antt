@@ -3,6 +3,7 @@
 --     source-net, -node, -order, -pin           an S line by its values
 --     sink-fault                                a T line of wrong shape
 --     sink-net, -node, -order, -seen, -many, -pin    a T line by its values
+--     of-refused, of-none, of-one, of-values    either line by its pin's kind
 --     bearing-marked                            some list has the nodes that bear a stamp
 --     sink-few                                  before a sink that is read there were not too many
 --     pin-reading, pin-refused, pin-place       a line as its answer tells it
@@ -21,8 +22,9 @@ use Rattle.price.specs.Test.{choose, both}
 use Rattle.price.specs.Lists.{has}
 use Rattle.price.proofs.TestLaws.{either-way, both-right, both-true, both-false-right}
 use Rattle.search.specs.Replies.{sinksMost}
+use Rattle.negotiation.specs.Tables.{oneOf}
 use Rattle.text.specs.Lines.{letterS, letterT, taken, line}
-use Rattle.text.specs.JobText.{Reading, values, refused, pinWithin, sourceLine, sinkOrdered, sinkLine}
+use Rattle.text.specs.JobText.{Reading, values, refused, pinWithin, sourceLine, sinkOrdered, sinkLine, ofKind}
 use Rattle.text.specs.Steps.{After, twoAt, pinAt, PinPlace, Marked}
 use Rattle.text.specs.declared.fields.Two as twoType
 use Rattle.text.specs.declared.fields.Two.the-variants as w
@@ -135,6 +137,33 @@ module _ (n nets i at count : ℕ) (text : List ℕ) (r : twoType.Two) (e : twoA
           ∙ sym (judged-taken (pinWithin n nets) (sinkOrdered i pins count) sink-fields (within-both n nets f s in-nets in-nodes)
           (in-order i pins count f s h (sym (m s in-nodes) ∙ ne-eqb (getD seen s 0) stamp g) l))
 
+-- ---- the pin's kind
+
+module _ (a b : ℕ) (kinds : List ℕ) where
+  pub of-refused : {k : ℕ} {r : Reading (List ℕ)} → refused k ≡ r → refused k ≡ ofKind a b kinds r
+  of-refused e = ap (ofKind a b kinds) e
+
+  module _ {vs rest : List ℕ} {r : Reading (List ℕ)} (e : values vs rest ≡ r) where
+    pub of-none : oneOf a b (getD kinds (getD vs 1 0) 0) ≡ false → refused 3 ≡ ofKind a b kinds r
+    of-none h = rw (← e, h)
+
+    pub of-one : oneOf a b (getD kinds (getD vs 1 0) 0) ≡ true → values vs rest ≡ ofKind a b kinds r
+    of-one h = rw (← e, h)
+
+  -- a line that is read was taken, and its pin is of one of the kinds
+  pub of-values : (r : Reading (List ℕ)) (vs rest : List ℕ) → ofKind a b kinds r ≡ values vs rest → (r ≡ values vs rest) × (oneOf a b (getD kinds (getD vs 1 0) 0) ≡ true)
+  of-values (values us left) vs rest e =
+      ⊎-elim
+      (λ (q : oneOf a b (getD kinds (getD us 1 0) 0) ≡ true).
+      let same : values us left ≡ values vs rest = rw q at e in
+      let these : us ≡ vs = cc in
+      (same, rw these at q))
+      (λ (q : oneOf a b (getD kinds (getD us 1 0) 0) ≡ false).
+      let none : refused 3 ≡ values vs rest = rw q at e in
+      absurd (let z : _≡_ {A = ℕ} 0 1 = cc in omega arith))
+      (either-way (oneOf a b (getD kinds (getD us 1 0) 0)))
+  of-values (refused k) vs rest e = absurd (let z : _≡_ {A = ℕ} 0 1 = cc in omega arith)
+
 -- ---- what a line that is read tells
 
 -- the nodes below n that bear a stamp
@@ -170,10 +199,10 @@ module _ (stamp : ℕ) (seen : List ℕ) where
       (either-way (eqb (getD seen n 0) stamp)))
       (eq-or-lt-of-le (le-of-suc-le-suc l))
 
-pub sink-few : (n nets i : ℕ) (pins : List ℕ) (count : ℕ) (bs : List ℕ) {vs rest : List ℕ} → sinkLine n nets i pins count bs ≡ values vs rest → count < sinksMost
+pub sink-few : (kinds : List ℕ) (n nets i : ℕ) (pins : List ℕ) (count : ℕ) (bs : List ℕ) {vs rest : List ℕ} → ofKind 1 3 kinds (sinkLine n nets i pins count bs) ≡ values vs rest → count < sinksMost
 unfolding sinkLine sinkOrdered
-sink-few n nets i pins count bs {vs} {rest} e =
-    let told = judged-values (pinWithin n nets) (sinkOrdered i pins count) (line letterT 2 bs) vs rest e in
+sink-few kinds n nets i pins count bs {vs} {rest} e =
+    let told = judged-values (pinWithin n nets) (sinkOrdered i pins count) (line letterT 2 bs) vs rest (of-values 1 3 kinds (sinkLine n nets i pins count bs) vs rest e .0) in
     ltb-true count sinksMost
     (both-right (not (has (getD vs 1 0) pins)) (ltb count sinksMost)
     (both-right (eqb (getD vs 0 0) i) (both (not (has (getD vs 1 0) pins)) (ltb count sinksMost)) (told .order)))

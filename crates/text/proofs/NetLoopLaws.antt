@@ -21,29 +21,29 @@ use Rattle.text.specs.declared.nets.NetStep.{NetStep}
 use Rattle.text.specs.declared.nets.NetStep.the-variants as ns
 use Rattle.text.proofs.NetStepLaws.{some-left, sources-now, sinks-now}
 
-module _ (m n nets at : ℕ) (l : NetLists) {b : ℕ} {rest bs : List ℕ} (h : bs ≡ b ∷ rest) where
-  lines-more : {next : NetLists} {more : List ℕ} → netLine n nets l bs ≡ values next more → netLines (suc m) n nets l at bs ≡ netLines m n nets next (at + 1) more
+module _ (m : ℕ) (kinds : List ℕ) (n nets at : ℕ) (l : NetLists) {b : ℕ} {rest bs : List ℕ} (h : bs ≡ b ∷ rest) where
+  lines-more : {next : NetLists} {more : List ℕ} → netLine kinds n nets l bs ≡ values next more → netLines (suc m) kinds n nets l at bs ≡ netLines m kinds n nets next (at + 1) more
   unfolding netLines
-  lines-more {next} {more} e = let e' : netLine n nets l (b ∷ rest) ≡ values next more = rw h at e in rw (h, e')
+  lines-more {next} {more} e = let e' : netLine kinds n nets l (b ∷ rest) ≡ values next more = rw h at e in rw (h, e')
 
-  lines-stop : {number : ℕ} → netLine n nets l bs ≡ refused number → netLines (suc m) n nets l at bs ≡ stopped number at
+  lines-stop : {number : ℕ} → netLine kinds n nets l bs ≡ refused number → netLines (suc m) kinds n nets l at bs ≡ stopped number at
   unfolding netLines
-  lines-stop {number} e = let e' : netLine n nets l (b ∷ rest) ≡ refused number = rw h at e in rw (h, e')
+  lines-stop {number} e = let e' : netLine kinds n nets l (b ∷ rest) ≡ refused number = rw h at e in rw (h, e')
 
-lines-end : (m n nets at : ℕ) (l : NetLists) → netLines m n nets l at [] ≡ netEnd nets l at
+lines-end : (m : ℕ) (kinds : List ℕ) (n nets at : ℕ) (l : NetLists) → netLines m kinds n nets l at [] ≡ netEnd nets l at
 unfolding netLines
-lines-end zero n nets at l = refl
-lines-end (suc m) n nets at l = refl
+lines-end zero kinds n nets at l = refl
+lines-end (suc m) kinds n nets at l = refl
 
 -- the lines that are left give with the lists so far what all of them give
-pub record Going (n nets : ℕ) (text : List ℕ) (whole : Part NetLists) (c : NetCursor) (sources firstSinks sinks seen : List ℕ) : Type 0 where
+pub record Going (kinds : List ℕ) (n nets : ℕ) (text : List ℕ) (whole : Part NetLists) (c : NetCursor) (sources firstSinks sinks seen : List ℕ) : Type 0 where
   pub left : ℕ
   pub enough : length (drop (c .at) text) ≤ left
-  pub same : netLines left n nets (netsAt c sources firstSinks sinks) (c .line) (drop (c .at) text) ≡ whole
+  pub same : netLines left kinds n nets (netsAt c sources firstSinks sinks) (c .line) (drop (c .at) text) ≡ whole
   pub kept : NetKept n nets text c sources firstSinks sinks seen
 
-pub going-first : (n nets : ℕ) (text : List ℕ) (from line : ℕ) (sources firstSinks sinks : List ℕ) → (from ≤ length text) × (line ≤ from + 1) × (n ≤ 4096) × (nets ≤ 512) → (nets ≤ length sources) × (nets + 1 ≤ length firstSinks) × (sinksMost ≤ length sinks) → Going n nets text (netLines (length (drop from text)) n nets (netLists [] [] []) line (drop from text)) (record { at = from; line = line; nets = 0; sinks = 0; first = 0 }) sources firstSinks sinks (replicate 4096 0)
-going-first n nets text from line sources firstSinks sinks b r = record {
+pub going-first : (kinds : List ℕ) (n nets : ℕ) (text : List ℕ) (from line : ℕ) (sources firstSinks sinks : List ℕ) → (from ≤ length text) × (line ≤ from + 1) × (n ≤ 4096) × (nets ≤ 512) → (nets ≤ length sources) × (nets + 1 ≤ length firstSinks) × (sinksMost ≤ length sinks) → Going kinds n nets text (netLines (length (drop from text)) kinds n nets (netLists [] [] []) line (drop from text)) (record { at = from; line = line; nets = 0; sinks = 0; first = 0 }) sources firstSinks sinks (replicate 4096 0)
+going-first kinds n nets text from line sources firstSinks sinks b r = record {
   left = length (drop from text);
   enough = omega arith;
   same = refl;
@@ -67,19 +67,19 @@ going-first n nets text from line sources firstSinks sinks b r = record {
   };
 }
 
-module _ {n nets : ℕ} {text : List ℕ} {whole : Part NetLists} {c : NetCursor} {sources firstSinks sinks seen : List ℕ} (g : Going n nets text whole c sources firstSinks sinks seen) where
+module _ {kinds : List ℕ} {n nets : ℕ} {text : List ℕ} {whole : Part NetLists} {c : NetCursor} {sources firstSinks sinks seen : List ℕ} (g : Going kinds n nets text whole c sources firstSinks sinks seen) where
   module _ (inside : c .at < length text) where
     left-more : g .left ≡ suc (g .left - 1)
     left-more = omega (arith, length-drop (c .at) text, g .enough)
 
-    pub going-more : (step : NetStep) {next : NetCursor} (sources' firstSinks' sinks' seen' : List ℕ) → step ≡ ns.On next → netLineAt text step sources' firstSinks' sinks' ≡ netLine n nets (netsAt c sources firstSinks sinks) (drop (c .at) text) → KeptAfter n nets text c step sources' firstSinks' sinks' seen' → Going n nets text whole next sources' firstSinks' sinks' seen'
+    pub going-more : (step : NetStep) {next : NetCursor} (sources' firstSinks' sinks' seen' : List ℕ) → step ≡ ns.On next → netLineAt text step sources' firstSinks' sinks' ≡ netLine kinds n nets (netsAt c sources firstSinks sinks) (drop (c .at) text) → KeptAfter n nets text c step sources' firstSinks' sinks' seen' → Going kinds n nets text whole next sources' firstSinks' sinks' seen'
     going-more step {next} sources' firstSinks' sinks' seen' q e a =
-        let e' : values (netsAt next sources' firstSinks' sinks') (drop (next .at) text) ≡ netLine n nets (netsAt c sources firstSinks sinks) (drop (c .at) text) = rw q at e in
+        let e' : values (netsAt next sources' firstSinks' sinks') (drop (next .at) text) ≡ netLine kinds n nets (netsAt c sources firstSinks sinks) (drop (c .at) text) = rw q at e in
         let a' : KeptAfter n nets text c (ns.On next) sources' firstSinks' sinks' seen' = rw q at a in
         record {
           left = g .left - 1;
           enough = omega (arith, length-drop (c .at) text, length-drop (next .at) text, g .enough, a' .0);
-          same = rw (a' .1) (sym (lines-more (g .left - 1) n nets (c .line) (netsAt c sources firstSinks sinks) (drop-cons text (c .at) 0 inside) (sym e')) ∙ rw (← left-more) (g .same));
+          same = rw (a' .1) (sym (lines-more (g .left - 1) kinds n nets (c .line) (netsAt c sources firstSinks sinks) (drop-cons text (c .at) 0 inside) (sym e')) ∙ rw (← left-more) (g .same));
           kept = a' .2;
         }
 
@@ -88,17 +88,17 @@ module _ {n nets : ℕ} {text : List ℕ} {whole : Part NetLists} {c : NetCursor
         let a' : KeptAfter n nets text c (ns.On next) sources' firstSinks' sinks' seen' = rw q at a in
         omega (arith, a' .0)
 
-    pub going-stops : (step : NetStep) {number : ℕ} (sources' firstSinks' sinks' : List ℕ) → step ≡ ns.Stopped number → netLineAt text step sources' firstSinks' sinks' ≡ netLine n nets (netsAt c sources firstSinks sinks) (drop (c .at) text) → stopped number (c .line) ≡ whole
+    pub going-stops : (step : NetStep) {number : ℕ} (sources' firstSinks' sinks' : List ℕ) → step ≡ ns.Stopped number → netLineAt text step sources' firstSinks' sinks' ≡ netLine kinds n nets (netsAt c sources firstSinks sinks) (drop (c .at) text) → stopped number (c .line) ≡ whole
     going-stops step {number} sources' firstSinks' sinks' q e =
-        let e' : refused number ≡ netLine n nets (netsAt c sources firstSinks sinks) (drop (c .at) text) = rw q at e in
-        sym (lines-stop (g .left - 1) n nets (c .line) (netsAt c sources firstSinks sinks) (drop-cons text (c .at) 0 inside) (sym e')) ∙ rw (← left-more) (g .same)
+        let e' : refused number ≡ netLine kinds n nets (netsAt c sources firstSinks sinks) (drop (c .at) text) = rw q at e in
+        sym (lines-stop (g .left - 1) kinds n nets (c .line) (netsAt c sources firstSinks sinks) (drop-cons text (c .at) 0 inside) (sym e')) ∙ rw (← left-more) (g .same)
 
   -- the text is used up
   module _ (over : length text ≤ c .at) where
     going-end : netEnd nets (netsAt c sources firstSinks sinks) (c .line) ≡ whole
     going-end =
         let none : drop (c .at) text ≡ [] = drop-of-length-le text over in
-        sym (lines-end (g .left) n nets (c .line) (netsAt c sources firstSinks sinks)) ∙ rw none at (g .same)
+        sym (lines-end (g .left) kinds n nets (c .line) (netsAt c sources firstSinks sinks)) ∙ rw none at (g .same)
 
     pub going-short : (c .nets ≡ nets → ⊥) → stopped 1 (c .line) ≡ whole
     unfolding netEnd complete

@@ -18,7 +18,7 @@ use Rattle.price.proofs.TestLaws.{either-way, both-true, both-left, both-right}
 use Rattle.price.proofs.ListLaws.{every-at}
 use Rattle.search.specs.Replies.{sinksMost}
 use Rattle.negotiation.specs.Job.{sinksBetween}
-use Rattle.negotiation.specs.Tables.{netsMost, sourcesSound, firstSinksSound, netSound, sinksSound}
+use Rattle.negotiation.specs.Tables.{netsMost, sourcesSound, firstSinksSound, netSound, sinksSound, oneOf, pinsOf, sourcePins, sinkPins}
 use Rattle.negotiation.proofs.JobLaws.{sources-some, sources-few, source-below, firsts-long, firsts-end, firsts-order, firsts-most, net-rule}
 use Rattle.negotiation.proofs.MarkLaws.{below-at, slice-parts}
 use Rattle.text.specs.Lines.{letterS, letterT, taken, line, printLine}
@@ -37,29 +37,34 @@ two-taken letter i v rest h l =
     line-printed letter (i ∷ v ∷ []) rest
     (both-true (lt-ltb i (10 ^ 6) (omega arith)) (both-true (lt-ltb v (10 ^ 6) (omega arith)) refl))
 
-module _ (n nets : ℕ) (l : NetLists) (nodes-few : n ≤ nodesMost) (nets-few : nets ≤ netsMost) where
+-- a pin of a sound table is of one of its kinds
+pin-at : (a b : ℕ) (kinds ps : List ℕ) → pinsOf a b kinds ps ≡ true → (i : ℕ) → i < length ps → oneOf a b (getD kinds (getD ps i 0) 0) ≡ true
+unfolding pinsOf
+pin-at a b kinds ps all i h = every-at (λ v. oneOf a b (getD kinds v 0)) ps all i h
+
+module _ (kinds : List ℕ) (n nets : ℕ) (l : NetLists) (nodes-few : n ≤ nodesMost) (nets-few : nets ≤ netsMost) where
   source-read :
-      (i s : ℕ) (rest : List ℕ) → length (l .sources) ≡ i → i < nets → s < n → sourceDue nets l ≡ true
-      → netLine n nets l (printLine letterS (i ∷ s ∷ []) ++ rest) ≡ values (withSource l (i ∷ s ∷ [])) rest
+      (i s : ℕ) (rest : List ℕ) → length (l .sources) ≡ i → i < nets → s < n → oneOf 0 2 (getD kinds s 0) ≡ true → sourceDue nets l ≡ true
+      → netLine kinds n nets l (printLine letterS (i ∷ s ∷ []) ++ rest) ≡ values (withSource l (i ∷ s ∷ [])) rest
   unfolding netLine nextSource sourceLine pinWithin printLine
-  source-read i s rest count fits node due =
-      rw (due, two-taken letterS i s rest (omega arith) (omega arith), lt-ltb i nets fits, lt-ltb s n node, count, eq-eqb i i refl)
+  source-read i s rest count fits node kind due =
+      rw (due, two-taken letterS i s rest (omega arith) (omega arith), lt-ltb i nets fits, lt-ltb s n node, count, eq-eqb i i refl, kind)
 
   sink-read :
-      (i t : ℕ) (rest : List ℕ) → length (l .sources) ≡ i + 1 → i < nets → t < n → has t (lastOf (l .sources) ∷ sinksNow l) ≡ false → length (l .sinks) < sinksMost
-      → netLine n nets l (printLine letterT (i ∷ t ∷ []) ++ rest) ≡ values (withSink l (i ∷ t ∷ [])) rest
+      (i t : ℕ) (rest : List ℕ) → length (l .sources) ≡ i + 1 → i < nets → t < n → oneOf 1 3 (getD kinds t 0) ≡ true → has t (lastOf (l .sources) ∷ sinksNow l) ≡ false → length (l .sinks) < sinksMost
+      → netLine kinds n nets l (printLine letterT (i ∷ t ∷ []) ++ rest) ≡ values (withSink l (i ∷ t ∷ [])) rest
   unfolding netLine nextSink sinkLine sinkOrdered pinWithin printLine sinkDue
-  sink-read i t rest count fits node new room =
+  sink-read i t rest count fits node kind new room =
       let due : leb 1 (length (l .sources)) ≡ true = le-leb 1 (length (l .sources)) (omega arith) in
       let last : i ≡ length (l .sources) - 1 = omega arith in
-      rw (due, two-taken letterT i t rest (omega arith) (omega arith), lt-ltb i nets fits, lt-ltb t n node, eq-eqb i (length (l .sources) - 1) last, new, lt-ltb (length (l .sinks)) sinksMost room)
+      rw (due, two-taken letterT i t rest (omega arith) (omega arith), lt-ltb i nets fits, lt-ltb t n node, eq-eqb i (length (l .sources) - 1) last, new, lt-ltb (length (l .sinks)) sinksMost room, kind)
 
 -- a line that is taken is the first of the lines
 line-first :
-    (n nets k : ℕ) (l next : NetLists) (at letter : ℕ) (vs rest : List ℕ) → netLine n nets l (printLine letter vs ++ rest) ≡ values next rest
-    → netLines (suc k) n nets l at (printLine letter vs ++ rest) ≡ netLines k n nets next (at + 1) rest
+    (kinds : List ℕ) (n nets k : ℕ) (l next : NetLists) (at letter : ℕ) (vs rest : List ℕ) → netLine kinds n nets l (printLine letter vs ++ rest) ≡ values next rest
+    → netLines (suc k) kinds n nets l at (printLine letter vs ++ rest) ≡ netLines k kinds n nets next (at + 1) rest
 unfolding netLines printLine
-line-first n nets k l next at letter vs rest e = rw e
+line-first kinds n nets k l next at letter vs rest e = rw e
 
 line-longer : (letter : ℕ) (vs rest : List ℕ) → length rest < length (printLine letter vs ++ rest)
 unfolding printLine
@@ -68,10 +73,10 @@ line-longer letter vs rest = rw length-append (omega arith)
 -- ---- the tables that are read
 
 -- the reader takes the printed form from line `at` on, and gives these tables
-pub record TablesPrinted (k n at : ℕ) (ss fs ts : List ℕ) : Type 0 where
+pub record TablesPrinted (k : ℕ) (kinds : List ℕ) (n at : ℕ) (ss fs ts : List ℕ) : Type 0 where
   pub after : ℕ
   pub reads :
-      netLines k n (length ss) (netLists [] [] []) at (joined (netAt ss fs ts) 0 (length ss))
+      netLines k kinds n (length ss) (netLists [] [] []) at (joined (netAt ss fs ts) 0 (length ss))
       ≡ part (netLists ss (take (length ss) fs) ts) after []
   pub firsts : ends (take (length ss) fs) ts ≡ fs
 
@@ -90,14 +95,14 @@ record Stand (ss fs : List ℕ) (m p : ℕ) : Type 0 where
   most : p ≤ getD fs m 0
 
 -- a line is left, and the reader takes it
-record Next (n : ℕ) (ss fs ts : List ℕ) (m p : ℕ) : Type 0 where
+record Next (kinds : List ℕ) (n : ℕ) (ss fs ts : List ℕ) (m p : ℕ) : Type 0 where
   m2 : ℕ
   p2 : ℕ
   letter : ℕ
   vs : List ℕ
   stand : Stand ss fs m2 p2
   text : textAt ss fs ts m p ≡ printLine letter vs ++ textAt ss fs ts m2 p2
-  reads : netLine n (length ss) (listsAt ss fs ts m p) (printLine letter vs ++ textAt ss fs ts m2 p2) ≡ values (listsAt ss fs ts m2 p2) (textAt ss fs ts m2 p2)
+  reads : netLine kinds n (length ss) (listsAt ss fs ts m p) (printLine letter vs ++ textAt ss fs ts m2 p2) ≡ values (listsAt ss fs ts m2 p2) (textAt ss fs ts m2 p2)
 
 -- or none is
 record Last (ss fs ts : List ℕ) (m p : ℕ) : Type 0 where
@@ -106,7 +111,7 @@ record Last (ss fs ts : List ℕ) (m p : ℕ) : Type 0 where
   lists : listsAt ss fs ts m p ≡ netLists ss (take (length ss) fs) ts
 
 module _
-    (n : ℕ) (ss fs ts : List ℕ) (nodes-few : n ≤ nodesMost)
+    (kinds : List ℕ) (n : ℕ) (ss fs ts : List ℕ) (nodes-few : n ≤ nodesMost) (source-pins : sourcePins kinds ss ≡ true) (sink-pins : sinkPins kinds ts ≡ true)
     (sources-sound : sourcesSound n ss ≡ true) (firsts-sound : firstSinksSound (length ss) (length ts) fs ≡ true) (sinks-sound : sinksSound n ss fs ts ≡ true) where
   nets-few : length ss ≤ netsMost
   nets-few = sources-few n ss sources-sound
@@ -148,7 +153,7 @@ module _
     now-some h l = rw (now-at, length-slice (getD fs i 0) p ts l) (le-leb 1 (p - getD fs i 0) (omega arith))
 
     -- a sink of it is left
-    sink-next : getD fs i 0 ≤ p → p < getD fs m 0 → Next n ss fs ts m p
+    sink-next : getD fs i 0 ≤ p → p < getD fs m 0 → Next kinds n ss fs ts m p
     unfolding eachLine netSound
     sink-next least below =
         let within : getD fs m 0 ≤ length ts = inside m few in
@@ -172,8 +177,8 @@ module _
               rw (slice-cons p (getD fs m 0) ts 0 below within, place)
               (append-assoc (printLine letterT (i ∷ getD ts p 0 ∷ [])) (eachLine letterT i (slice (suc p) (getD fs m 0) ts)) (joined (netAt ss fs ts) m (length ss - m)));
           reads =
-              sink-read n (length ss) (listsAt ss fs ts m p) nodes-few nets-few i (getD ts p 0) (textAt ss fs ts m (suc p))
-              (length-take-le m ss few ∙ sym last) (omega arith) node
+              sink-read kinds n (length ss) (listsAt ss fs ts m p) nodes-few nets-few i (getD ts p 0) (textAt ss fs ts m (suc p))
+              (length-take-le m ss few ∙ sym last) (omega arith) node (pin-at 1 3 kinds ts sink-pins p (omega arith))
               (rw (source-at, now-at) (net-new n (getD ss i 0) (slice (getD fs i 0) p ts) (getD ts p 0) (slice (suc p) (getD fs m 0) ts) (rw parts at net)))
               (omega arith)
               ∙ rw (take-suc ts p 0 (omega arith));
@@ -193,7 +198,7 @@ module _
       (either-way (eqb (length (take (suc i) ss)) 0)))
 
   -- all its sinks are read, and a net is left
-  source-next : (m : ℕ) → m < length ss → Next n ss fs ts m (getD fs m 0)
+  source-next : (m : ℕ) → m < length ss → Next kinds n ss fs ts m (getD fs m 0)
   unfolding eachLine joined
   source-next m h =
       let l : length fs ≡ length ss + 1 = long in
@@ -212,8 +217,8 @@ module _
             (append-assoc (printLine letterS (m ∷ getD ss m 0 ∷ [])) (eachLine letterT m (sinksBetween fs ts m)) (joined (netAt ss fs ts) (suc m) (length ss - (m + 1)))
             ∙ ap (λ (k : ℕ). printLine letterS (m ∷ getD ss m 0 ∷ []) ++ (eachLine letterT m (sinksBetween fs ts m) ++ joined (netAt ss fs ts) k (length ss - (m + 1)))) (sym (add-one m)));
         reads =
-            source-read n (length ss) (listsAt ss fs ts m (getD fs m 0)) nodes-few nets-few m (getD ss m 0) (textAt ss fs ts (m + 1) (getD fs m 0))
-            (length-take-le m ss (omega arith)) h (source-below n ss sources-sound m h) (source-due m h)
+            source-read kinds n (length ss) (listsAt ss fs ts m (getD fs m 0)) nodes-few nets-few m (getD ss m 0) (textAt ss fs ts (m + 1) (getD fs m 0))
+            (length-take-le m ss (omega arith)) h (source-below n ss sources-sound m h) (pin-at 0 2 kinds ss source-pins m h) (source-due m h)
             ∙ rw (length-take-le (getD fs m 0) ts within, add-one, take-suc ss m 0 h, take-suc fs m 0 (omega arith));
       }
 
@@ -235,7 +240,7 @@ module _
       }
 
   -- one of the three
-  line-left : (m p : ℕ) → Stand ss fs m p → Next n ss fs ts m p ⊎ Last ss fs ts m p
+  line-left : (m p : ℕ) → Stand ss fs m p → Next kinds n ss fs ts m p ⊎ Last ss fs ts m p
   line-left m p st =
       ⊎-elim
       (λ (e : p ≡ getD fs m 0).
@@ -252,16 +257,16 @@ module _
       (eq-or-lt-of-le (let z : 0 ≤ m = omega arith in z)))
       (eq-or-lt-of-le (st .most))
 
-  last-end : (k m p at : ℕ) → Last ss fs ts m p → netLines k n (length ss) (listsAt ss fs ts m p) at (textAt ss fs ts m p) ≡ part (netLists ss (take (length ss) fs) ts) at []
+  last-end : (k m p at : ℕ) → Last ss fs ts m p → netLines k kinds n (length ss) (listsAt ss fs ts m p) at (textAt ss fs ts m p) ≡ part (netLists ss (take (length ss) fs) ts) at []
   unfolding netLines netEnd
   last-end zero m p at r = rw (r .text, r .whole, r .lists)
   last-end (suc k) m p at r = rw (r .text, r .whole, r .lists)
 
   -- no text has more lines than bytes
-  read-on : (k m p at : ℕ) → Stand ss fs m p → length (textAt ss fs ts m p) ≤ k → (at2 : ℕ) × (netLines k n (length ss) (listsAt ss fs ts m p) at (textAt ss fs ts m p) ≡ part (netLists ss (take (length ss) fs) ts) at2 [])
+  read-on : (k m p at : ℕ) → Stand ss fs m p → length (textAt ss fs ts m p) ≤ k → (at2 : ℕ) × (netLines k kinds n (length ss) (listsAt ss fs ts m p) at (textAt ss fs ts m p) ≡ part (netLists ss (take (length ss) fs) ts) at2 [])
   read-on zero m p at st short =
       ⊎-elim
-      (λ (r : Next n ss fs ts m p).
+      (λ (r : Next kinds n ss fs ts m p).
       let longer = line-longer (r .letter) (r .vs) (textAt ss fs ts (r .m2) (r .p2)) in
       let here : length (textAt ss fs ts m p) ≡ length (printLine (r .letter) (r .vs) ++ textAt ss fs ts (r .m2) (r .p2)) = ap length (r .text) in
       absurd (omega arith))
@@ -269,19 +274,19 @@ module _
       (line-left m p st)
   read-on (suc k) m p at st short =
       ⊎-elim
-      (λ (r : Next n ss fs ts m p).
+      (λ (r : Next kinds n ss fs ts m p).
       let longer = line-longer (r .letter) (r .vs) (textAt ss fs ts (r .m2) (r .p2)) in
       let here : length (textAt ss fs ts m p) ≡ length (printLine (r .letter) (r .vs) ++ textAt ss fs ts (r .m2) (r .p2)) = ap length (r .text) in
       let later = read-on k (r .m2) (r .p2) (at + 1) (r .stand) (omega arith) in (
         later .0,
-        ap (netLines (suc k) n (length ss) (listsAt ss fs ts m p) at) (r .text)
-            ∙ line-first n (length ss) k (listsAt ss fs ts m p) (listsAt ss fs ts (r .m2) (r .p2)) at (r .letter) (r .vs) (textAt ss fs ts (r .m2) (r .p2)) (r .reads)
+        ap (netLines (suc k) kinds n (length ss) (listsAt ss fs ts m p) at) (r .text)
+            ∙ line-first kinds n (length ss) k (listsAt ss fs ts m p) (listsAt ss fs ts (r .m2) (r .p2)) at (r .letter) (r .vs) (textAt ss fs ts (r .m2) (r .p2)) (r .reads)
             ∙ later .1,
       ))
       (λ (r : Last ss fs ts m p). (at, last-end (suc k) m p at r))
       (line-left m p st)
 
-  pub nets-printed : (k at : ℕ) → length (joined (netAt ss fs ts) 0 (length ss)) ≤ k → TablesPrinted k n at ss fs ts
+  pub nets-printed : (k at : ℕ) → length (joined (netAt ss fs ts) 0 (length ss)) ≤ k → TablesPrinted k kinds n at ss fs ts
   unfolding eachLine
   nets-printed k at short =
       let l : length fs ≡ length ss + 1 = long in

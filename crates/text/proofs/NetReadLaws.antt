@@ -10,14 +10,16 @@ use lib.Dec.{leb, ltb, eqb}
 use lib.ListN.{length, getD, drop, length-drop}
 use borrow.Author.Tests.{leb-true, ltb-true, eqb-true, not-true}
 use Rattle.price.specs.Test.{both}
-use Rattle.price.specs.Lists.{has}
+use Rattle.price.specs.Lists.{every, has}
 use Rattle.price.proofs.TestLaws.{either-way, both-left, both-right}
 use Rattle.search.specs.Replies.{sinksMost}
-use Rattle.negotiation.specs.Tables.{netsMost, sourcesSound, firstSinksSound, sinksSound}
+use Rattle.negotiation.specs.Tables.{netsMost, sourcesSound, firstSinksSound, sinksSound, oneOf, pinsOf, sourcePins, sinkPins}
 use Rattle.negotiation.proofs.NetTableLaws.{sources-all, nets-all}
 use Rattle.text.specs.Lines.{letterS, letterT, printLine}
 use Rattle.text.specs.JobText.{Reading, values, refused, lastOf, pinWithin, sourceLine, sinkOrdered, sinkLine, part, stopped, NetLists, netLists, sinksNow, sourceDue, sinkDue, complete, netEnd, withSource, withSink, nextSource, nextSink, taking, netLine, netLines}
 use Rattle.text.specs.Printed.{joined}
+use Rattle.text.proofs.LastLaws.{every-more}
+use Rattle.text.proofs.NetLineLaws.{of-values}
 use Rattle.text.proofs.NetTextLaws.{netAt, ends, Good, written, good-none, with-source, source-text, with-sink, sink-text, good-firsts}
 use Rattle.text.proofs.PrintLaws.{LineRead, judged-line, two-of, onward-part}
 
@@ -39,12 +41,13 @@ taking-values : {A B : Type 0} (f : A → B) (r : Reading A) (l : B) (rest : Lis
 taking-values f (values x rs) l rest e = let left : rs ≡ rest = cc in record { given = x; is = rw left; made = cc }
 taking-values f (refused k) l rest e = absurd (let z : _≡_ {A = ℕ} 0 1 = cc in omega arith)
 
-module _ (n nets : ℕ) (l : NetLists) where
+module _ (kinds : List ℕ) (n nets : ℕ) (l : NetLists) where
   -- what an S line says
   record Sourced (bs : List ℕ) (next : NetLists) (rest : List ℕ) : Type 0 where
     s : ℕ
     due : sourceDue nets l ≡ true
     node : s < n
+    kind : oneOf 0 2 (getD kinds s 0) ≡ true
     is : next ≡ netLists (l .sources ++ (s ∷ [])) (ends (l .firstSinks) (l .sinks)) (l .sinks)
     text : bs ≡ printLine letterS (length (l .sources) ∷ s ∷ []) ++ rest
 
@@ -53,42 +56,47 @@ module _ (n nets : ℕ) (l : NetLists) where
     t : ℕ
     due : sinkDue l ≡ true
     node : ltb t n ≡ true
+    kind : oneOf 1 3 (getD kinds t 0) ≡ true
     new : has t (lastOf (l .sources) ∷ sinksNow l) ≡ false
     room : length (l .sinks) < sinksMost
     is : next ≡ netLists (l .sources) (l .firstSinks) (l .sinks ++ (t ∷ []))
     text : bs ≡ printLine letterT ((length (l .sources) - 1) ∷ t ∷ []) ++ rest
 
   -- by either letter
-  sourced : (bs : List ℕ) (next : NetLists) (rest : List ℕ) → sourceDue nets l ≡ true → taking (withSource l) (nextSource n nets l bs) ≡ values next rest → Sourced bs next rest
+  sourced : (bs : List ℕ) (next : NetLists) (rest : List ℕ) → sourceDue nets l ≡ true → taking (withSource l) (nextSource kinds n nets l bs) ≡ values next rest → Sourced bs next rest
   unfolding nextSource sourceLine pinWithin
   sourced bs next rest due e =
-      let k = taking-values (withSource l) (nextSource n nets l bs) next rest e in
-      let j = judged-line (pinWithin n nets) (λ vs. eqb (getD vs 0 0) (length (l .sources))) letterS 2 bs (k .given) rest (k .is) in
+      let k = taking-values (withSource l) (nextSource kinds n nets l bs) next rest e in
+      let o = of-values 0 2 kinds (sourceLine n nets (length (l .sources)) bs) (k .given) rest (k .is) in
+      let j = judged-line (pinWithin n nets) (λ vs. eqb (getD vs 0 0) (length (l .sources))) letterS 2 bs (k .given) rest (o .0) in
       record {
         s = getD (k .given) 1 0;
         due = due;
         node = ltb-true (getD (k .given) 1 0) n (both-right (ltb (getD (k .given) 0 0) nets) _ (j .bounds));
+        kind = o .1;
         is = k .made;
         text = two-text letterS (length (l .sources)) bs (k .given) rest j (j .order);
       }
 
-  sunk : (bs : List ℕ) (next : NetLists) (rest : List ℕ) → sinkDue l ≡ true → taking (withSink l) (nextSink n nets l bs) ≡ values next rest → Sunk bs next rest
+  sunk : (bs : List ℕ) (next : NetLists) (rest : List ℕ) → sinkDue l ≡ true → taking (withSink l) (nextSink kinds n nets l bs) ≡ values next rest → Sunk bs next rest
   unfolding nextSink sinkLine sinkOrdered pinWithin
   sunk bs next rest due e =
-      let k = taking-values (withSink l) (nextSink n nets l bs) next rest e in
-      let j = judged-line (pinWithin n nets) (sinkOrdered (length (l .sources) - 1) (lastOf (l .sources) ∷ sinksNow l) (length (l .sinks))) letterT 2 bs (k .given) rest (k .is) in
+      let k = taking-values (withSink l) (nextSink kinds n nets l bs) next rest e in
+      let o = of-values 1 3 kinds (sinkLine n nets (length (l .sources) - 1) (lastOf (l .sources) ∷ sinksNow l) (length (l .sinks)) bs) (k .given) rest (k .is) in
+      let j = judged-line (pinWithin n nets) (sinkOrdered (length (l .sources) - 1) (lastOf (l .sources) ∷ sinksNow l) (length (l .sinks))) letterT 2 bs (k .given) rest (o .0) in
       let others = both-right (eqb (getD (k .given) 0 0) (length (l .sources) - 1)) _ (j .order) in
       record {
         t = getD (k .given) 1 0;
         due = due;
         node = both-right (ltb (getD (k .given) 0 0) nets) _ (j .bounds);
+        kind = o .1;
         new = not-true (has (getD (k .given) 1 0) (lastOf (l .sources) ∷ sinksNow l)) (both-left _ _ others);
         room = ltb-true (length (l .sinks)) sinksMost (both-right (not (has (getD (k .given) 1 0) (lastOf (l .sources) ∷ sinksNow l))) _ others);
         is = k .made;
         text = two-text letterT (length (l .sources) - 1) bs (k .given) rest j (both-left _ _ (j .order));
       }
 
-  net-line : (bs : List ℕ) (next : NetLists) (rest : List ℕ) → netLine n nets l bs ≡ values next rest → Sourced bs next rest ⊎ Sunk bs next rest
+  net-line : (bs : List ℕ) (next : NetLists) (rest : List ℕ) → netLine kinds n nets l bs ≡ values next rest → Sourced bs next rest ⊎ Sunk bs next rest
   unfolding netLine
   net-line [] next rest e = absurd (let z : _≡_ {A = ℕ} 0 1 = cc in omega arith)
   net-line (b ∷ bs) next rest e =
@@ -116,17 +124,31 @@ now-some l i e h =
     let less : 1 ≤ length (l .sinks) - getD (l .firstSinks) i 0 = rw length-drop at some in
     omega arith
 
+-- the pins read so far are of their kinds
+record Pinned (kinds ss ts : List ℕ) : Type 0 where
+  sources-of : sourcePins kinds ss ≡ true
+  sinks-of : sinkPins kinds ts ≡ true
+
+pinned-none : (kinds : List ℕ) → Pinned kinds [] []
+unfolding pinsOf every
+pinned-none kinds = record { sources-of = refl; sinks-of = refl }
+
+pins-more : (a b : ℕ) (kinds ps : List ℕ) (v : ℕ) → pinsOf a b kinds ps ≡ true → oneOf a b (getD kinds v 0) ≡ true → pinsOf a b kinds (ps ++ (v ∷ [])) ≡ true
+unfolding pinsOf
+pins-more a b kinds ps v all one = every-more (λ p. oneOf a b (getD kinds p 0)) ps v all one
+
 -- the lists that the reader gives where the text `before` is read and the bytes `bs` follow
-record Ended (n nets : ℕ) (before bs : List ℕ) (l : NetLists) (rest : List ℕ) : Type 0 where
+record Ended (kinds : List ℕ) (n nets : ℕ) (before bs : List ℕ) (l : NetLists) (rest : List ℕ) : Type 0 where
   end : rest ≡ []
   good : Good n nets nets (l .sources) (l .firstSinks) (l .sinks)
+  pinned : Pinned kinds (l .sources) (l .sinks)
   last : (i : ℕ) → i + 1 ≡ nets → getD (l .firstSinks) i 0 < length (l .sinks)
   text : written nets (l .sources) (l .firstSinks) (l .sinks) ≡ before ++ bs
 
 -- at the end of the text
-ended : (n nets m : ℕ) (l l2 : NetLists) (at at2 : ℕ) (rest : List ℕ) → Good n nets m (l .sources) (l .firstSinks) (l .sinks) → netEnd nets l at ≡ part l2 at2 rest → Ended n nets (written m (l .sources) (l .firstSinks) (l .sinks)) [] l2 rest
+ended : (kinds : List ℕ) (n nets m : ℕ) (l l2 : NetLists) (at at2 : ℕ) (rest : List ℕ) → Good n nets m (l .sources) (l .firstSinks) (l .sinks) → Pinned kinds (l .sources) (l .sinks) → netEnd nets l at ≡ part l2 at2 rest → Ended kinds n nets (written m (l .sources) (l .firstSinks) (l .sinks)) [] l2 rest
 unfolding netEnd complete
-ended n nets m l l2 at at2 rest g e =
+ended kinds n nets m l l2 at at2 rest g q e =
     ⊎-elim
     (λ (p : complete nets l ≡ true).
     let e2 : part l at [] ≡ part l2 at2 rest = rw p at e in
@@ -137,6 +159,7 @@ ended n nets m l l2 at at2 rest g e =
     record {
       end = refl;
       good = rw all at g;
+      pinned = q;
       last = λ i h. now-some l i (g .long ∙ all ∙ sym h) (both-right (eqb (length (l .sources)) nets) _ p);
       text = sym (append-nil _);
     })
@@ -146,9 +169,9 @@ ended n nets m l l2 at at2 rest g e =
     (either-way (complete nets l))
 
 -- one line before them
-more-text : {n nets : ℕ} {before now rest bs left : List ℕ} {l : NetLists} (this : List ℕ) → now ≡ before ++ this → bs ≡ this ++ rest → Ended n nets now rest l left → Ended n nets before bs l left
+more-text : {kinds : List ℕ} {n nets : ℕ} {before now rest bs left : List ℕ} {l : NetLists} (this : List ℕ) → now ≡ before ++ this → bs ≡ this ++ rest → Ended kinds n nets now rest l left → Ended kinds n nets before bs l left
 more-text {before = before} {rest = rest} this p q r =
-    record { end = r .end; good = r .good; last = r .last; text = r .text ∙ rw (p, q) (append-assoc before this rest) }
+    record { end = r .end; good = r .good; pinned = r .pinned; last = r .last; text = r .text ∙ rw (p, q) (append-assoc before this rest) }
 
 -- where an S line is due, the last net has a sink
 source-ready : (nets m : ℕ) (l : NetLists) → length (l .sources) ≡ m → length (l .firstSinks) ≡ m → sourceDue nets l ≡ true → (i : ℕ) → i + 1 ≡ m → getD (l .firstSinks) i 0 < length (l .sinks)
@@ -160,54 +183,60 @@ source-ready nets m l count long due i e =
     (λ (q : eqb (length (l .sources)) 0 ≡ false). now-some l i (long ∙ sym e) (rw q at second))
     (either-way (eqb (length (l .sources)) 0))
 
-nets-on : (n nets k m : ℕ) (l l2 : NetLists) (at at2 : ℕ) (bs rest : List ℕ) → Good n nets m (l .sources) (l .firstSinks) (l .sinks) → netLines k n nets l at bs ≡ part l2 at2 rest → Ended n nets (written m (l .sources) (l .firstSinks) (l .sinks)) bs l2 rest
+nets-on : (kinds : List ℕ) (n nets k m : ℕ) (l l2 : NetLists) (at at2 : ℕ) (bs rest : List ℕ) → Good n nets m (l .sources) (l .firstSinks) (l .sinks) → Pinned kinds (l .sources) (l .sinks) → netLines k kinds n nets l at bs ≡ part l2 at2 rest → Ended kinds n nets (written m (l .sources) (l .firstSinks) (l .sinks)) bs l2 rest
 unfolding netLines sourceDue sinkDue
-nets-on n nets zero m l l2 at at2 [] rest g e = ended n nets m l l2 at at2 rest g e
-nets-on n nets zero m l l2 at at2 (b ∷ bs) rest g e = absurd (let z : _≡_ {A = ℕ} 0 1 = cc in omega arith)
-nets-on n nets (suc k) m l l2 at at2 [] rest g e = ended n nets m l l2 at at2 rest g e
-nets-on n nets (suc k) m l l2 at at2 (b ∷ bs) rest g e =
-    let o = onward-part (netLine n nets l (b ∷ bs)) at (λ next left. netLines k n nets next (at + 1) left) l2 at2 rest e in
+nets-on kinds n nets zero m l l2 at at2 [] rest g q e = ended kinds n nets m l l2 at at2 rest g q e
+nets-on kinds n nets zero m l l2 at at2 (b ∷ bs) rest g q e = absurd (let z : _≡_ {A = ℕ} 0 1 = cc in omega arith)
+nets-on kinds n nets (suc k) m l l2 at at2 [] rest g q e = ended kinds n nets m l l2 at at2 rest g q e
+nets-on kinds n nets (suc k) m l l2 at at2 (b ∷ bs) rest g q e =
+    let o = onward-part (netLine kinds n nets l (b ∷ bs)) at (λ next left. netLines k kinds n nets next (at + 1) left) l2 at2 rest e in
     let count : length (l .sources) ≡ m = g .count in
     ⊎-elim
-    (λ (p : Sourced n nets l (b ∷ bs) (o .0) (o .1)).
+    (λ (p : Sourced kinds n nets l (b ∷ bs) (o .0) (o .1)).
     let fits : length (l .sources) < nets = ltb-true (length (l .sources)) nets (both-left _ _ (p .due)) in
     more-text (printLine letterS (m ∷ p .s ∷ [])) (source-text g (p .s)) (subst (λ (j : ℕ). b ∷ bs ≡ printLine letterS (j ∷ p .s ∷ []) ++ o .1) count (p .text))
-    (nets-on n nets k (m + 1) (netLists (l .sources ++ (p .s ∷ [])) (ends (l .firstSinks) (l .sinks)) (l .sinks)) l2 (at + 1) at2 (o .1) rest
+    (nets-on kinds n nets k (m + 1) (netLists (l .sources ++ (p .s ∷ [])) (ends (l .firstSinks) (l .sinks)) (l .sinks)) l2 (at + 1) at2 (o .1) rest
     (with-source g (p .s) (p .node) (omega arith) (source-ready nets m l count (g .long) (p .due)))
+    (record { sources-of = pins-more 0 2 kinds (l .sources) (p .s) (q .sources-of) (p .kind); sinks-of = q .sinks-of })
     (rw (p .is) at (o .3))))
-    (λ (p : Sunk n nets l (b ∷ bs) (o .0) (o .1)).
+    (λ (p : Sunk kinds n nets l (b ∷ bs) (o .0) (o .1)).
     let some : 1 ≤ length (l .sources) = leb-true 1 (length (l .sources)) (p .due) in
     let last : length (l .sources) - 1 + 1 ≡ m = omega arith in
     more-text (printLine letterT ((length (l .sources) - 1) ∷ p .t ∷ [])) (sink-text g (length (l .sources) - 1) (p .t) last) (p .text)
-    (nets-on n nets k m (netLists (l .sources) (l .firstSinks) (l .sinks ++ (p .t ∷ []))) l2 (at + 1) at2 (o .1) rest
+    (nets-on kinds n nets k m (netLists (l .sources) (l .firstSinks) (l .sinks ++ (p .t ∷ []))) l2 (at + 1) at2 (o .1) rest
     (with-sink g (length (l .sources) - 1) (p .t) last (p .node) (rw (now-is l (length (l .sources) - 1) (g .long ∙ sym last)) at (p .new)) (p .room))
+    (record { sources-of = q .sources-of; sinks-of = pins-more 1 3 kinds (l .sinks) (p .t) (q .sinks-of) (p .kind) })
     (rw (p .is) at (o .3))))
-    (net-line n nets l (b ∷ bs) (o .0) (o .1) (o .2))
+    (net-line kinds n nets l (b ∷ bs) (o .0) (o .1) (o .2))
 
 -- ---- the tables
 
 -- what the reader gives for the nets' lines, and which bytes they were
-pub record TablesRead (n nets : ℕ) (l : NetLists) (bs rest : List ℕ) : Type 0 where
+pub record TablesRead (kinds : List ℕ) (n nets : ℕ) (l : NetLists) (bs rest : List ℕ) : Type 0 where
   pub end : rest ≡ []
   pub count : length (l .sources) ≡ nets
   pub sources-sound : sourcesSound n (l .sources) ≡ true
+  pub source-pins : sourcePins kinds (l .sources) ≡ true
   pub firstSinks-sound : firstSinksSound nets (length (l .sinks)) (ends (l .firstSinks) (l .sinks)) ≡ true
   pub sinks-sound : sinksSound n (l .sources) (ends (l .firstSinks) (l .sinks)) (l .sinks) ≡ true
+  pub sink-pins : sinkPins kinds (l .sinks) ≡ true
   pub text : bs ≡ joined (netAt (l .sources) (ends (l .firstSinks) (l .sinks)) (l .sinks)) 0 nets
 
 pub nets-read :
-    (k n nets : ℕ) (l : NetLists) (at at2 : ℕ) (bs rest : List ℕ) → 1 ≤ nets → nets ≤ netsMost
-    → netLines k n nets (netLists [] [] []) at bs ≡ part l at2 rest → TablesRead n nets l bs rest
+    (k : ℕ) (kinds : List ℕ) (n nets : ℕ) (l : NetLists) (at at2 : ℕ) (bs rest : List ℕ) → 1 ≤ nets → nets ≤ netsMost
+    → netLines k kinds n nets (netLists [] [] []) at bs ≡ part l at2 rest → TablesRead kinds n nets l bs rest
 unfolding joined
-nets-read k n nets l at at2 bs rest some few e =
-    let r = nets-on n nets k 0 (netLists [] [] []) l at at2 bs rest (good-none n nets) e in
+nets-read k kinds n nets l at at2 bs rest some few e =
+    let r = nets-on kinds n nets k 0 (netLists [] [] []) l at at2 bs rest (good-none n nets) (pinned-none kinds) e in
     let g : Good n nets nets (l .sources) (l .firstSinks) (l .sinks) = r .good in
     let count : length (l .sources) ≡ nets = g .count in
     record {
       end = r .end;
       count = count;
       sources-sound = sources-all n (l .sources) nets (omega arith) (omega arith) (omega arith) (g .node);
+      source-pins = r .pinned .sources-of;
       firstSinks-sound = good-firsts n nets (l .sources) (l .firstSinks) (l .sinks) g (r .last);
       sinks-sound = nets-all n (l .sources) (ends (l .firstSinks) (l .sinks)) (l .sinks) nets (g .few) (omega arith) (g .sound);
+      sink-pins = r .pinned .sinks-of;
       text = sym (r .text);
     }

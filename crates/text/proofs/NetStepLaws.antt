@@ -21,7 +21,7 @@ use Rattle.price.proofs.TestLaws.{either-false, either-way, le-or-lt, both-left
 use Rattle.price.proofs.ListLaws.{has-append, has-append-right}
 use Rattle.search.specs.Replies.{sinksMost}
 use Rattle.text.specs.Lines.{letterS, letterT}
-use Rattle.text.specs.JobText.{values, refused, NetLists, lastOf, sinksNow, sourceDue, sinkDue, withSource, withSink, taking, sourceLine, sinkLine, nextSource, nextSink, netLine}
+use Rattle.text.specs.JobText.{values, refused, NetLists, lastOf, sinksNow, sourceDue, sinkDue, withSource, withSink, taking, sourceLine, sinkLine, ofKind, nextSource, nextSink, netLine}
 use Rattle.text.specs.Steps.{Marked, netsAt, NetKept, SourceAdded, SinkAdded, netLineAt, KeptAfter}
 use Rattle.text.specs.declared.nets.NetCursor.{NetCursor}
 use Rattle.text.specs.declared.nets.NetStep.{NetStep}
@@ -94,24 +94,24 @@ sink-marks n k node seen pins l m v b =
 
 -- ---- a line of the nets by its letter
 
-module _ (n nets : ℕ) (l : NetLists) {b : ℕ} {rest bs : List ℕ} (h : bs ≡ b ∷ rest) where
-  line-source : b ≡ letterS → sourceDue nets l ≡ true → netLine n nets l bs ≡ taking (withSource l) (nextSource n nets l bs)
+module _ (kinds : List ℕ) (n nets : ℕ) (l : NetLists) {b : ℕ} {rest bs : List ℕ} (h : bs ≡ b ∷ rest) where
+  line-source : b ≡ letterS → sourceDue nets l ≡ true → netLine kinds n nets l bs ≡ taking (withSource l) (nextSource kinds n nets l bs)
   unfolding netLine
   line-source e d = rw (h, eq-eqb b letterS e, d)
 
-  line-undue : b ≡ letterS → sourceDue nets l ≡ false → netLine n nets l bs ≡ refused 1
+  line-undue : b ≡ letterS → sourceDue nets l ≡ false → netLine kinds n nets l bs ≡ refused 1
   unfolding netLine
   line-undue e d = rw (h, eq-eqb b letterS e, d, ne-eqb b letterT (λ q. omega arith))
 
-  line-sink : (b ≡ letterS → ⊥) → b ≡ letterT → sinkDue l ≡ true → netLine n nets l bs ≡ taking (withSink l) (nextSink n nets l bs)
+  line-sink : (b ≡ letterS → ⊥) → b ≡ letterT → sinkDue l ≡ true → netLine kinds n nets l bs ≡ taking (withSink l) (nextSink kinds n nets l bs)
   unfolding netLine
   line-sink f e d = rw (h, ne-eqb b letterS f, eq-eqb b letterT e, d)
 
-  line-unknown : (b ≡ letterS → ⊥) → (b ≡ letterT → ⊥) → netLine n nets l bs ≡ refused 1
+  line-unknown : (b ≡ letterS → ⊥) → (b ≡ letterT → ⊥) → netLine kinds n nets l bs ≡ refused 1
   unfolding netLine
   line-unknown f e = rw (h, ne-eqb b letterS f, ne-eqb b letterT e)
 
-  line-early : (b ≡ letterS → ⊥) → sinkDue l ≡ false → netLine n nets l bs ≡ refused 1
+  line-early : (b ≡ letterS → ⊥) → sinkDue l ≡ false → netLine kinds n nets l bs ≡ refused 1
   unfolding netLine
   line-early f d = rw (h, ne-eqb b letterS f, both-false-right (eqb b letterT) (sinkDue l) d)
 
@@ -132,18 +132,18 @@ module _ {n nets : ℕ} {text : List ℕ} {c : NetCursor} {sources firstSinks si
   unfolding sourceDue
   due-is = rw (sources-now, sinks-now, some-left (c .first) (c .sinks))
 
-  module _ (inside : c .at < length text) where
+  module _ (kinds : List ℕ) (inside : c .at < length text) where
     here : drop (c .at) text ≡ getD text (c .at) 0 ∷ drop (suc (c .at)) text
     here = drop-cons text (c .at) 0 inside
 
     -- an S line
-    source-line-is : getD text (c .at) 0 ≡ letterS → sourceDue nets (netsAt c sources firstSinks sinks) ≡ true → netLine n nets (netsAt c sources firstSinks sinks) (drop (c .at) text) ≡ taking (withSource (netsAt c sources firstSinks sinks)) (sourceLine n nets (c .nets) (drop (c .at) text))
+    source-line-is : getD text (c .at) 0 ≡ letterS → sourceDue nets (netsAt c sources firstSinks sinks) ≡ true → netLine kinds n nets (netsAt c sources firstSinks sinks) (drop (c .at) text) ≡ taking (withSource (netsAt c sources firstSinks sinks)) (ofKind 0 2 kinds (sourceLine n nets (c .nets) (drop (c .at) text)))
     unfolding nextSource
     source-line-is e d =
-        line-source n nets (netsAt c sources firstSinks sinks) here e d
-        ∙ ap (λ (i : ℕ). taking (withSource (netsAt c sources firstSinks sinks)) (sourceLine n nets i (drop (c .at) text))) sources-now
+        line-source kinds n nets (netsAt c sources firstSinks sinks) here e d
+        ∙ ap (λ (i : ℕ). taking (withSource (netsAt c sources firstSinks sinks)) (ofKind 0 2 kinds (sourceLine n nets i (drop (c .at) text)))) sources-now
 
-    pub source-step : (step : NetStep) (sources' firstSinks' seen' : List ℕ) → getD text (c .at) 0 ≡ letterS → sourceDue nets (netsAt c sources firstSinks sinks) ≡ true → c .nets < nets → SourceAdded n nets text c step sources firstSinks seen sources' firstSinks' seen' (sourceLine n nets (c .nets) (drop (c .at) text)) → (netLineAt text step sources' firstSinks' sinks ≡ netLine n nets (netsAt c sources firstSinks sinks) (drop (c .at) text)) × KeptAfter n nets text c step sources' firstSinks' sinks seen'
+    pub source-step : (step : NetStep) (sources' firstSinks' seen' : List ℕ) → getD text (c .at) 0 ≡ letterS → sourceDue nets (netsAt c sources firstSinks sinks) ≡ true → c .nets < nets → SourceAdded n nets text c step sources firstSinks seen sources' firstSinks' seen' (ofKind 0 2 kinds (sourceLine n nets (c .nets) (drop (c .at) text))) → (netLineAt text step sources' firstSinks' sinks ≡ netLine kinds n nets (netsAt c sources firstSinks sinks) (drop (c .at) text)) × KeptAfter n nets text c step sources' firstSinks' sinks seen'
     unfolding sinksNow
     source-step (ns.Stopped number) sources' firstSinks' seen' e d b a = (sym (source-line-is e d ∙ ap (taking (withSource (netsAt c sources firstSinks sinks))) a), tt)
     source-step (ns.On next) sources' firstSinks' seen' e d b a =
@@ -178,15 +178,15 @@ module _ {n nets : ℕ} {text : List ℕ} {c : NetCursor} {sources firstSinks si
           ),
         )
 
-    pub source-undue : getD text (c .at) 0 ≡ letterS → sourceDue nets (netsAt c sources firstSinks sinks) ≡ false → refused 1 ≡ netLine n nets (netsAt c sources firstSinks sinks) (drop (c .at) text)
-    source-undue e d = sym (line-undue n nets (netsAt c sources firstSinks sinks) here e d)
+    pub source-undue : getD text (c .at) 0 ≡ letterS → sourceDue nets (netsAt c sources firstSinks sinks) ≡ false → refused 1 ≡ netLine kinds n nets (netsAt c sources firstSinks sinks) (drop (c .at) text)
+    source-undue e d = sym (line-undue kinds n nets (netsAt c sources firstSinks sinks) here e d)
 
-    pub other-letter : (getD text (c .at) 0 ≡ letterS → ⊥) → (getD text (c .at) 0 ≡ letterT → ⊥) → refused 1 ≡ netLine n nets (netsAt c sources firstSinks sinks) (drop (c .at) text)
-    other-letter f e = sym (line-unknown n nets (netsAt c sources firstSinks sinks) here f e)
+    pub other-letter : (getD text (c .at) 0 ≡ letterS → ⊥) → (getD text (c .at) 0 ≡ letterT → ⊥) → refused 1 ≡ netLine kinds n nets (netsAt c sources firstSinks sinks) (drop (c .at) text)
+    other-letter f e = sym (line-unknown kinds n nets (netsAt c sources firstSinks sinks) here f e)
 
-    pub no-net : (getD text (c .at) 0 ≡ letterS → ⊥) → c .nets < 1 → refused 1 ≡ netLine n nets (netsAt c sources firstSinks sinks) (drop (c .at) text)
+    pub no-net : (getD text (c .at) 0 ≡ letterS → ⊥) → c .nets < 1 → refused 1 ≡ netLine kinds n nets (netsAt c sources firstSinks sinks) (drop (c .at) text)
     unfolding sinkDue
-    no-net f h = sym (line-early n nets (netsAt c sources firstSinks sinks) here f (lt-leb 1 (length (take (c .nets) sources)) (omega (arith, sources-now))))
+    no-net f h = sym (line-early kinds n nets (netsAt c sources firstSinks sinks) here f (lt-leb 1 (length (take (c .nets) sources)) (omega (arith, sources-now))))
 
     -- the sinks of the last net after a T line
     one-sink-more : (node : ℕ) → sinksNow (withSink (netsAt c sources firstSinks sinks) ((c .nets - 1) ∷ node ∷ [])) ≡ sinksNow (netsAt c sources firstSinks sinks) ++ (node ∷ [])
@@ -194,13 +194,13 @@ module _ {n nets : ℕ} {text : List ℕ} {c : NetCursor} {sources firstSinks si
     one-sink-more node = rw (← k .first-is) (drop-append-le (c .first) (take (c .sinks) sinks) (node ∷ []) (omega (arith, all-sinks-now)))
 
     -- a T line
-    sink-line-is : (getD text (c .at) 0 ≡ letterS → ⊥) → getD text (c .at) 0 ≡ letterT → 1 ≤ c .nets → netLine n nets (netsAt c sources firstSinks sinks) (drop (c .at) text) ≡ taking (withSink (netsAt c sources firstSinks sinks)) (sinkLine n nets (c .nets - 1) (lastOf (take (c .nets) sources) ∷ sinksNow (netsAt c sources firstSinks sinks)) (c .sinks) (drop (c .at) text))
+    sink-line-is : (getD text (c .at) 0 ≡ letterS → ⊥) → getD text (c .at) 0 ≡ letterT → 1 ≤ c .nets → netLine kinds n nets (netsAt c sources firstSinks sinks) (drop (c .at) text) ≡ taking (withSink (netsAt c sources firstSinks sinks)) (ofKind 1 3 kinds (sinkLine n nets (c .nets - 1) (lastOf (take (c .nets) sources) ∷ sinksNow (netsAt c sources firstSinks sinks)) (c .sinks) (drop (c .at) text)))
     unfolding nextSink sinkDue
     sink-line-is f e h =
-        line-sink n nets (netsAt c sources firstSinks sinks) here f e (le-leb 1 (length (take (c .nets) sources)) (omega (arith, sources-now)))
+        line-sink kinds n nets (netsAt c sources firstSinks sinks) here f e (le-leb 1 (length (take (c .nets) sources)) (omega (arith, sources-now)))
         ∙ rw (sources-now, all-sinks-now)
 
-    pub sink-step : (step : NetStep) (sinks' seen' : List ℕ) → (getD text (c .at) 0 ≡ letterS → ⊥) → getD text (c .at) 0 ≡ letterT → 1 ≤ c .nets → ((pins : List ℕ) → Marked n (c .nets) seen pins → SinkAdded n nets text c step sinks seen sinks' seen' (sinkLine n nets (c .nets - 1) pins (c .sinks) (drop (c .at) text))) → (netLineAt text step sources firstSinks sinks' ≡ netLine n nets (netsAt c sources firstSinks sinks) (drop (c .at) text)) × KeptAfter n nets text c step sources firstSinks sinks' seen'
+    pub sink-step : (step : NetStep) (sinks' seen' : List ℕ) → (getD text (c .at) 0 ≡ letterS → ⊥) → getD text (c .at) 0 ≡ letterT → 1 ≤ c .nets → ((pins : List ℕ) → Marked n (c .nets) seen pins → SinkAdded n nets text c step sinks seen sinks' seen' (ofKind 1 3 kinds (sinkLine n nets (c .nets - 1) pins (c .sinks) (drop (c .at) text)))) → (netLineAt text step sources firstSinks sinks' ≡ netLine kinds n nets (netsAt c sources firstSinks sinks) (drop (c .at) text)) × KeptAfter n nets text c step sources firstSinks sinks' seen'
     sink-step (ns.Stopped number) sinks' seen' f e h added =
         let a = added (lastOf (take (c .nets) sources) ∷ sinksNow (netsAt c sources firstSinks sinks)) (k .marked h) in
         (sym (sink-line-is f e h ∙ ap (taking (withSink (netsAt c sources firstSinks sinks))) a), tt)
@@ -208,7 +208,7 @@ module _ {n nets : ℕ} {text : List ℕ} {c : NetCursor} {sources firstSinks si
         let pins : List ℕ = lastOf (take (c .nets) sources) ∷ sinksNow (netsAt c sources firstSinks sinks) in
         let a = added pins (k .marked h) in
         let node : ℕ = a .0 in
-        let few : c .sinks < sinksMost = sink-few n nets (c .nets - 1) pins (c .sinks) (drop (c .at) text) (a .1) in
+        let few : c .sinks < sinksMost = sink-few kinds n nets (c .nets - 1) pins (c .sinks) (drop (c .at) text) (a .1) in
         let in-seen : node < length seen = omega (arith, k .room .seen-long, a .2) in
         let t : take (next .sinks) sinks' ≡ take (c .sinks) sinks ++ (node ∷ []) = rw (a .6, a .8) (take-more sinks (c .sinks) node (omega arith)) in
         let lists : netsAt next sources firstSinks sinks' ≡ withSink (netsAt c sources firstSinks sinks) ((c .nets - 1) ∷ node ∷ []) = rw (t, a .5) in

@@ -31,25 +31,25 @@ with-nets n edges nets (nr.Read count line) firstEdges edgeTargets sources first
 with-nets n edges nets (nr.Stopped k line) firstEdges edgeTargets sources firstSinks sinks end long room = refl
 
 -- edges, then nets
-pub edges-nets : (n edges nets line at next : ℕ) (text bs : List ℕ) (x : Lines) (r : NetsRead) (firstEdges edgeTargets sources firstSinks sinks : List ℕ) → x ≡ ls.Read at next → edgesAt text x (take (n + 1) firstEdges) (take edges edgeTargets) ≡ edgeTables n (edgeLines n edges (edgeLists [] []) line bs) → netsReadAt nets r sources firstSinks sinks ≡ netLines (length (drop at text)) n nets (netLists [] [] []) next (drop at text) → NetsEnd nets r firstSinks → nets + 1 ≤ length firstSinks → sinksMost ≤ length sinks → edgesNetsAt n edges nets r firstEdges edgeTargets sources firstSinks sinks ≡ bodyAfterNodes n edges nets line bs
+pub edges-nets : (kinds : List ℕ) (n edges nets line at next : ℕ) (text bs : List ℕ) (x : Lines) (r : NetsRead) (firstEdges edgeTargets sources firstSinks sinks : List ℕ) → x ≡ ls.Read at next → edgesAt text x (take (n + 1) firstEdges) (take edges edgeTargets) ≡ edgeTables n (edgeLines n edges (edgeLists [] []) line bs) → netsReadAt nets r sources firstSinks sinks ≡ netLines (length (drop at text)) kinds n nets (netLists [] [] []) next (drop at text) → NetsEnd nets r firstSinks → nets + 1 ≤ length firstSinks → sinksMost ≤ length sinks → edgesNetsAt n edges nets r firstEdges edgeTargets sources firstSinks sinks ≡ bodyAfterNodes kinds n edges nets line bs
 unfolding bodyAfterNodes
-edges-nets n edges nets line at next text bs x r firstEdges edgeTargets sources firstSinks sinks is read nets-are end long room =
+edges-nets kinds n edges nets line at next text bs x r firstEdges edgeTargets sources firstSinks sinks is read nets-are end long room =
     with-nets n edges nets r firstEdges edgeTargets sources firstSinks sinks end long room
     ∙ ap (withNets (take (n + 1) firstEdges) (take edges edgeTargets)) nets-are
-    ∙ ap (netsAfter n nets) (ap (λ (y : Lines). edgesAt text y (take (n + 1) firstEdges) (take edges edgeTargets)) (sym is) ∙ read)
+    ∙ ap (netsAfter kinds n nets) (ap (λ (y : Lines). edgesAt text y (take (n + 1) firstEdges) (take edges edgeTargets)) (sym is) ∙ read)
 
 -- a faulty E line
-pub edges-stop : (n edges nets line k at : ℕ) (text bs : List ℕ) (x : Lines) (firstEdges edgeTargets : List ℕ) → x ≡ ls.Stopped k at → edgesAt text x firstEdges edgeTargets ≡ edgeTables n (edgeLines n edges (edgeLists [] []) line bs) → stopped k at ≡ bodyAfterNodes n edges nets line bs
+pub edges-stop : (kinds : List ℕ) (n edges nets line k at : ℕ) (text bs : List ℕ) (x : Lines) (firstEdges edgeTargets : List ℕ) → x ≡ ls.Stopped k at → edgesAt text x firstEdges edgeTargets ≡ edgeTables n (edgeLines n edges (edgeLists [] []) line bs) → stopped k at ≡ bodyAfterNodes kinds n edges nets line bs
 unfolding bodyAfterNodes
-edges-stop n edges nets line k at text bs x firstEdges edgeTargets is read =
-    ap (netsAfter n nets) (ap (λ (y : Lines). edgesAt text y firstEdges edgeTargets) (sym is) ∙ read)
+edges-stop kinds n edges nets line k at text bs x firstEdges edgeTargets is read =
+    ap (netsAfter kinds n nets) (ap (λ (y : Lines). edgesAt text y firstEdges edgeTargets) (sym is) ∙ read)
 
 with-wires : (n edges nets : ℕ) (r : NetsRead) (kinds capacities firstEdges edgeTargets sources firstSinks sinks : List ℕ) → bodyAt n edges nets r kinds capacities firstEdges edgeTargets sources firstSinks sinks ≡ withWires (take n kinds) (take n capacities) (edgesNetsAt n edges nets r firstEdges edgeTargets sources firstSinks sinks)
 with-wires n edges nets (nr.Read count line) kinds capacities firstEdges edgeTargets sources firstSinks sinks = refl
 with-wires n edges nets (nr.Stopped k line) kinds capacities firstEdges edgeTargets sources firstSinks sinks = refl
 
 -- nodes, then edges and nets
-pub nodes-wires : (n edges nets line at next : ℕ) (text bs : List ℕ) (x : Lines) (r : NetsRead) (kinds capacities firstEdges edgeTargets sources firstSinks sinks : List ℕ) → x ≡ ls.Read at next → nodesAt text x (take n kinds) (take n capacities) ≡ nodeLines n n (nodeLists [] []) line bs → edgesNetsAt n edges nets r firstEdges edgeTargets sources firstSinks sinks ≡ bodyAfterNodes n edges nets next (drop at text) → bodyAt n edges nets r kinds capacities firstEdges edgeTargets sources firstSinks sinks ≡ bodyAfterHead n edges nets line bs
+pub nodes-wires : (n edges nets line at next : ℕ) (text bs : List ℕ) (x : Lines) (r : NetsRead) (kinds capacities firstEdges edgeTargets sources firstSinks sinks : List ℕ) → x ≡ ls.Read at next → nodesAt text x (take n kinds) (take n capacities) ≡ nodeLines n n (nodeLists [] []) line bs → edgesNetsAt n edges nets r firstEdges edgeTargets sources firstSinks sinks ≡ bodyAfterNodes (take n kinds) n edges nets next (drop at text) → bodyAt n edges nets r kinds capacities firstEdges edgeTargets sources firstSinks sinks ≡ bodyAfterHead n edges nets line bs
 unfolding bodyAfterHead
 nodes-wires n edges nets line at next text bs x r kinds capacities firstEdges edgeTargets sources firstSinks sinks is read wires =
     with-wires n edges nets r kinds capacities firstEdges edgeTargets sources firstSinks sinks
@@ -75,11 +75,11 @@ module _ (c : Counts) where
   last-stage ns es (part ts at rest) = refl
   last-stage ns es (stopped k at) = refl
 
-  edge-stage : (ns : NodeLists) (x : Part EdgeLists) → jobAfter (c .terms) (withWires (ns .kinds) (ns .capacities) (netsAfter (c .nodes) (c .nets) (edgeTables (c .nodes) x))) ≡ andThen x (λ es at rest. andThen (netLines (length rest) (c .nodes) (c .nets) (netLists [] [] []) at rest) (λ ts at2 rest2. part (jobRead c ns es ts) at2 rest2))
-  edge-stage ns (part es at rest) = last-stage ns es (netLines (length rest) (c .nodes) (c .nets) (netLists [] [] []) at rest)
+  edge-stage : (ns : NodeLists) (x : Part EdgeLists) → jobAfter (c .terms) (withWires (ns .kinds) (ns .capacities) (netsAfter (ns .kinds) (c .nodes) (c .nets) (edgeTables (c .nodes) x))) ≡ andThen x (λ es at rest. andThen (netLines (length rest) (ns .kinds) (c .nodes) (c .nets) (netLists [] [] []) at rest) (λ ts at2 rest2. part (jobRead c ns es ts) at2 rest2))
+  edge-stage ns (part es at rest) = last-stage ns es (netLines (length rest) (ns .kinds) (c .nodes) (c .nets) (netLists [] [] []) at rest)
   edge-stage ns (stopped k at) = refl
 
-  node-stage : (x : Part NodeLists) → jobAfter (c .terms) (wiresAfter (c .nodes) (c .edges) (c .nets) x) ≡ andThen x (λ ns at rest. andThen (edgeLines (c .nodes) (c .edges) (edgeLists [] []) at rest) (λ es at2 rest2. andThen (netLines (length rest2) (c .nodes) (c .nets) (netLists [] [] []) at2 rest2) (λ ts at3 rest3. part (jobRead c ns es ts) at3 rest3)))
+  node-stage : (x : Part NodeLists) → jobAfter (c .terms) (wiresAfter (c .nodes) (c .edges) (c .nets) x) ≡ andThen x (λ ns at rest. andThen (edgeLines (c .nodes) (c .edges) (edgeLists [] []) at rest) (λ es at2 rest2. andThen (netLines (length rest2) (ns .kinds) (c .nodes) (c .nets) (netLists [] [] []) at2 rest2) (λ ts at3 rest3. part (jobRead c ns es ts) at3 rest3)))
   unfolding bodyAfterNodes
   node-stage (part ns at rest) = edge-stage ns (edgeLines (c .nodes) (c .edges) (edgeLists [] []) at rest)
   node-stage (stopped k at) = refl

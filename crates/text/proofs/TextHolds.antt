@@ -20,7 +20,7 @@ use Rattle.search.proofs.BlockLaws.{kinds-some, kinds-few}
 use Rattle.search.proofs.TableLaws.{edges-all}
 use Rattle.negotiation.specs.Job.{Job, jobOf, nodes, nets, netSinks}
 use Rattle.negotiation.specs.declared.Terms.{Terms}
-use Rattle.negotiation.specs.Tables.{sourcesSound, firstSinksSound, sinksSound, limitSound, termsSound, SoundJob}
+use Rattle.negotiation.specs.Tables.{sourcesSound, firstSinksSound, sinksSound, limitSound, termsSound, sourcePins, sinkPins, SoundJob}
 use Rattle.negotiation.proofs.JobLaws.{nets-some, nets-few, limit-some, limit-few}
 use Rattle.text.specs.Lines.{letterF, letterP, begins, printLine}
 use Rattle.text.specs.JobText.{Part, part, andThen, Counts, headPart, NodeLists, nodeLists, nodeLines, EdgeLists, edgeLists, edgeLines, NetLists, netLists, netLines, firstPlaces, jobRead, readText}
@@ -58,10 +58,11 @@ module _
   made-sound :
       HeadBounds (record { nodes = n; edges = m; nets = k; terms = terms }) → kindsSound kinds ≡ true → capacitiesSound n capacities ≡ true → firstEdgesSound n m first ≡ true
       → ((u : ℕ) → u < n → rowSound n u (rowOf first targets u) ≡ true)
-      → sourcesSound n sources ≡ true → firstSinksSound k (length sinks) firsts ≡ true → sinksSound n sources firsts sinks ≡ true
+      → sourcesSound n sources ≡ true → sourcePins kinds sources ≡ true → firstSinksSound k (length sinks) firsts ≡ true
+      → sinksSound n sources firsts sinks ≡ true → sinkPins kinds sinks ≡ true
       → SoundJob (jobOf kinds capacities first targets sources firsts sinks terms)
   unfolding limitSound termsSound
-  made-sound head ks cs fs rows ss is ts =
+  made-sound head ks cs fs rows ss sp is ts tp =
       record {
         block-sound = record {
           kinds-sound = ks;
@@ -70,8 +71,10 @@ module _
           edgeTargets-sound = made-edges (head .few-edges) rows;
         };
         sources-sound = rw nodes-are ss;
+        source-pins = sp;
         firstSinks-sound = rw nets-are is;
         sinks-sound = rw nodes-are ts;
+        sink-pins = tp;
         terms-sound =
             both-true
             (both-true (le-leb 1 (terms .limit) (head .some-turns)) (le-leb (terms .limit) limitMost (head .few-turns)))
@@ -84,7 +87,7 @@ parts-told :
     → HeadTold c bs rest1
     → NodesTold (c .nodes) (c .nodes) (nodeLists [] []) ns rest1 rest2
     → EdgesTold (c .nodes) (c .edges) es rest2 rest3
-    → TablesRead (c .nodes) (c .nets) ts rest3 rest4
+    → TablesRead (ns .kinds) (c .nodes) (c .nets) ts rest3 rest4
     → SoundJob (jobRead c ns es ts) × PrintedAs bs (jobRead c ns es ts)
 unfolding jobRead
 parts-told c ns es ts bs rest1 rest2 rest3 rest4 told nr er tr =
@@ -96,7 +99,7 @@ parts-told c ns es ts bs rest1 rest2 rest3 rest4 told nr er tr =
           (nr .kinds-long) (er .targets-long) (tr .count) head
           (read-kinds-sound (c .nodes) (c .nodes) (nodeLists [] []) ns rest1 rest2 nr (head .some-nodes) (head .few-nodes))
           (read-capacities-sound (c .nodes) (c .nodes) (nodeLists [] []) ns rest1 rest2 nr)
-          (er .firsts-sound) (er .rows-sound) (tr .sources-sound) (tr .firstSinks-sound) (tr .sinks-sound),
+          (er .firsts-sound) (er .rows-sound) (tr .sources-sound) (tr .source-pins) (tr .firstSinks-sound) (tr .sinks-sound) (tr .sink-pins),
       record {
         written = written;
         may = told .2;
@@ -110,7 +113,7 @@ parts-told c ns es ts bs rest1 rest2 rest3 rest4 told nr er tr =
 -- the stages of a text after its head
 abbrev netStage : Counts → NodeLists → EdgeLists → ℕ → List ℕ → Part Job
 netStage c ns es at bs =
-    andThen (netLines (length bs) (c .nodes) (c .nets) (netLists [] [] []) at bs) (λ ts end rest. part (jobRead c ns es ts) end rest)
+    andThen (netLines (length bs) (ns .kinds) (c .nodes) (c .nets) (netLists [] [] []) at bs) (λ ts end rest. part (jobRead c ns es ts) end rest)
 
 abbrev edgeStage : Counts → NodeLists → ℕ → List ℕ → Part Job
 edgeStage c ns at bs =
@@ -127,14 +130,14 @@ module _
       → NodesTold (c .nodes) (c .nodes) (nodeLists [] []) ns rest1 rest2 → EdgesTold (c .nodes) (c .edges) es rest2 rest3
       → netStage c ns es at3 rest3 ≡ part j at rest → SoundJob j × PrintedAs bs j × (rest ≡ [])
   after-edges ns es at3 rest2 rest3 nr er e =
-      let r = then-part (netLines (length rest3) (c .nodes) (c .nets) (netLists [] [] []) at3 rest3) _ j at rest e in
+      let r = then-part (netLines (length rest3) (ns .kinds) (c .nodes) (c .nets) (netLists [] [] []) at3 rest3) _ j at rest e in
       let ts : NetLists = r .0 in
       let rest4 : List ℕ = r .2 in
       let made : part (jobRead c ns es ts) (r .1) rest4 ≡ part j at rest = r .4 in
       let same : jobRead c ns es ts ≡ j = cc in
       let left : rest4 ≡ rest = cc in
-      let tables : TablesRead (c .nodes) (c .nets) ts rest3 rest4 =
-      nets-read (length rest3) (c .nodes) (c .nets) ts at3 (r .1) rest3 rest4 (head .0 .some-nets) (head .0 .few-nets) (r .3) in
+      let tables : TablesRead (ns .kinds) (c .nodes) (c .nets) ts rest3 rest4 =
+      nets-read (length rest3) (ns .kinds) (c .nodes) (c .nets) ts at3 (r .1) rest3 rest4 (head .0 .some-nets) (head .0 .few-nets) (r .3) in
       let told = parts-told c ns es ts bs rest1 rest2 rest3 rest4 head nr er tables in
       (rw same at (told .0), rw same at (told .1), rw left at (tables .end))
 
@@ -211,8 +214,8 @@ module _ (j : Job) (s : SoundJob j) where
       let node = nodes-printed n kinds capacities refl (s .block-sound .kinds-sound) (s .block-sound .capacities-sound) at second in
       let edge : EdgesPrinted n first targets (at + n) third =
       edges-printed n first targets (at + n) third (counts-within .few-nodes) (s .block-sound .firstEdges-sound) rows-sound in
-      let net : TablesPrinted (length third) n (at + n + length targets) (j .sources) (j .firstSinks) (j .sinks) =
-      nets-printed n (j .sources) (j .firstSinks) (j .sinks) (counts-within .few-nodes) (s .sources-sound) (s .firstSinks-sound) (s .sinks-sound)
+      let net : TablesPrinted (length third) kinds n (at + n + length targets) (j .sources) (j .firstSinks) (j .sinks) =
+      nets-printed kinds n (j .sources) (j .firstSinks) (j .sinks) (counts-within .few-nodes) (s .source-pins) (s .sink-pins) (s .sources-sound) (s .firstSinks-sound) (s .sinks-sound)
       (length third) (at + n + length targets) (omega arith) in
       (net .after, rw (head, node, edge .read, net .reads, edge .places, net .firsts))
 

@@ -1,4 +1,4 @@
--- Document 01, "Job text" and rows 1 to 3 of "Numbers for a stopped call", with the P line of request 2.1: what a text gives, line by line, or the first faulty line.
+-- Document 01, "Job text" and rows 1 to 3 of "Numbers for a stopped call", with the P line of request 2.1 and the pins' kinds of 2.5: what a text gives, line by line, or the first faulty line.
 -- Assumes nothing.
 use mathlib.Core.Bool.{Bool, true, not}
 use mathlib.Core.List.{List, [], _∷_, _++_}
@@ -12,7 +12,7 @@ use Rattle.price.specs.Tuning.{plain, tuningSound}
 use Rattle.price.specs.declared.Tuning.{Tuning}
 use Rattle.search.specs.Tables.{edgesMost}
 use Rattle.search.specs.Replies.{sinksMost}
-use Rattle.negotiation.specs.Tables.{netsMost}
+use Rattle.negotiation.specs.Tables.{netsMost, oneOf}
 use Rattle.negotiation.specs.Job.{Job, jobOf}
 use Rattle.negotiation.specs.declared.Terms.{Terms}
 use Rattle.text.specs.Lines.{letterF, letterP, letterN, letterE, letterS, letterT, begins, Fields, taken, malformed, line}
@@ -194,14 +194,19 @@ withSource l vs =
 abbrev pub withSink : NetLists → List ℕ → NetLists
 withSink l vs = netLists (l .sources) (l .firstSinks) (l .sinks ++ (getD vs 1 0 ∷ []))
 
--- the S line that is due
-unfoldable pub nextSource : ℕ → ℕ → NetLists → List ℕ → Reading (List ℕ)
-nextSource n nets l bs = sourceLine n nets (length (l .sources)) bs
+-- request 2.5: a pin that is of neither of these kinds is "refusal 3 at the S or T line"
+abbrev pub ofKind : ℕ → ℕ → List ℕ → Reading (List ℕ) → Reading (List ℕ)
+ofKind a b kinds (values vs rest) = choose (oneOf a b (getD kinds (getD vs 1 0) 0)) (values vs rest) (refused 3)
+ofKind a b kinds (refused k) = refused k
 
--- a T line of the last net
-unfoldable pub nextSink : ℕ → ℕ → NetLists → List ℕ → Reading (List ℕ)
-nextSink n nets l bs =
-    sinkLine n nets (length (l .sources) - 1) (lastOf (l .sources) ∷ sinksNow l) (length (l .sinks)) bs
+-- the S line that is due: "A source must now be of kind 0 or 2"
+unfoldable pub nextSource : List ℕ → ℕ → ℕ → NetLists → List ℕ → Reading (List ℕ)
+nextSource kinds n nets l bs = ofKind 0 2 kinds (sourceLine n nets (length (l .sources)) bs)
+
+-- a T line of the last net: "a sink of kind 1 or 3"
+unfoldable pub nextSink : List ℕ → ℕ → ℕ → NetLists → List ℕ → Reading (List ℕ)
+nextSink kinds n nets l bs =
+    ofKind 1 3 kinds (sinkLine n nets (length (l .sources) - 1) (lastOf (l .sources) ∷ sinksNow l) (length (l .sinks)) bs)
 
 -- the lists with what a line gives
 abbrev pub taking : {A B : Type 0} → (A → B) → Reading A → Reading B
@@ -209,19 +214,19 @@ taking f (values given rest) = values (f given) rest
 taking f (refused k) = refused k
 
 -- one line of the nets: "A letter that can't come there .. is 1"
-unfoldable pub netLine : ℕ → ℕ → NetLists → List ℕ → Reading NetLists
-netLine n nets l [] = refused 1
-netLine n nets l (b ∷ bs) =
-    choose (both (eqb b letterS) (sourceDue nets l)) (taking (withSource l) (nextSource n nets l (b ∷ bs)))
-    (choose (both (eqb b letterT) (sinkDue l)) (taking (withSink l) (nextSink n nets l (b ∷ bs))) (refused 1))
+unfoldable pub netLine : List ℕ → ℕ → ℕ → NetLists → List ℕ → Reading NetLists
+netLine kinds n nets l [] = refused 1
+netLine kinds n nets l (b ∷ bs) =
+    choose (both (eqb b letterS) (sourceDue nets l)) (taking (withSource l) (nextSource kinds n nets l (b ∷ bs)))
+    (choose (both (eqb b letterT) (sinkDue l)) (taking (withSink l) (nextSink kinds n nets l (b ∷ bs))) (refused 1))
 
 -- the lines of the nets, at most so many: no text has more lines than bytes
-unfoldable pub netLines : ℕ → ℕ → ℕ → NetLists → ℕ → List ℕ → Part NetLists
-netLines zero n nets l at [] = netEnd nets l at
-netLines zero n nets l at (b ∷ bs) = stopped 1 at
-netLines (suc k) n nets l at [] = netEnd nets l at
-netLines (suc k) n nets l at (b ∷ bs) =
-    onward (netLine n nets l (b ∷ bs)) at (λ next rest. netLines k n nets next (at + 1) rest)
+unfoldable pub netLines : ℕ → List ℕ → ℕ → ℕ → NetLists → ℕ → List ℕ → Part NetLists
+netLines zero kinds n nets l at [] = netEnd nets l at
+netLines zero kinds n nets l at (b ∷ bs) = stopped 1 at
+netLines (suc k) kinds n nets l at [] = netEnd nets l at
+netLines (suc k) kinds n nets l at (b ∷ bs) =
+    onward (netLine kinds n nets l (b ∷ bs)) at (λ next rest. netLines k kinds n nets next (at + 1) rest)
 
 -- ---- the whole text
 
@@ -240,5 +245,5 @@ readText bs =
     andThen (headPart bs) (λ c at rest.
     andThen (nodeLines (c .nodes) (c .nodes) (nodeLists [] []) at rest) (λ ns at2 rest2.
     andThen (edgeLines (c .nodes) (c .edges) (edgeLists [] []) at2 rest2) (λ es at3 rest3.
-    andThen (netLines (length rest3) (c .nodes) (c .nets) (netLists [] [] []) at3 rest3) (λ ts at4 rest4.
+    andThen (netLines (length rest3) (ns .kinds) (c .nodes) (c .nets) (netLists [] [] []) at3 rest3) (λ ts at4 rest4.
     part (jobRead c ns es ts) at4 rest4))))

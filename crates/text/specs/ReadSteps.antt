@@ -71,14 +71,14 @@ withNets firstEdges edgeTargets (part ts at rest) =
     part (wireTables firstEdges edgeTargets (ts .sources) (ts .firstSinks ++ (length (ts .sinks) ∷ [])) (ts .sinks)) at rest
 withNets firstEdges edgeTargets (stopped k at) = stopped k at
 
-abbrev pub netsAfter : ℕ → ℕ → Part EdgeTables → Part WireTables
-netsAfter n nets (part es at rest) =
-    withNets (es .firstEdges) (es .edgeTargets) (netLines (length rest) n nets (netLists [] [] []) at rest)
-netsAfter n nets (stopped k at) = stopped k at
+abbrev pub netsAfter : List ℕ → ℕ → ℕ → Part EdgeTables → Part WireTables
+netsAfter kinds n nets (part es at rest) =
+    withNets (es .firstEdges) (es .edgeTargets) (netLines (length rest) kinds n nets (netLists [] [] []) at rest)
+netsAfter kinds n nets (stopped k at) = stopped k at
 
 -- edges and nets, from a line on
-unfoldable pub bodyAfterNodes : ℕ → ℕ → ℕ → ℕ → List ℕ → Part WireTables
-bodyAfterNodes n edges nets at bs = netsAfter n nets (edgeTables n (edgeLines n edges (edgeLists [] []) at bs))
+unfoldable pub bodyAfterNodes : List ℕ → ℕ → ℕ → ℕ → ℕ → List ℕ → Part WireTables
+bodyAfterNodes kinds n edges nets at bs = netsAfter kinds n nets (edgeTables n (edgeLines n edges (edgeLists [] []) at bs))
 
 abbrev pub edgesNetsAt : ℕ → ℕ → ℕ → NetsRead → List ℕ → List ℕ → List ℕ → List ℕ → List ℕ → Part WireTables
 edgesNetsAt n edges nets (nr.Read count line) firstEdges edgeTargets sources firstSinks sinks =
@@ -92,7 +92,7 @@ withWires kinds capacities (part w at rest) =
 withWires kinds capacities (stopped k at) = stopped k at
 
 abbrev pub wiresAfter : ℕ → ℕ → ℕ → Part NodeLists → Part Tables
-wiresAfter n edges nets (part ns at rest) = withWires (ns .kinds) (ns .capacities) (bodyAfterNodes n edges nets at rest)
+wiresAfter n edges nets (part ns at rest) = withWires (ns .kinds) (ns .capacities) (bodyAfterNodes (ns .kinds) n edges nets at rest)
 wiresAfter n edges nets (stopped k at) = stopped k at
 
 -- the lines from the nodes on

@@ -5,7 +5,7 @@ ghost use Prim.Native.Nat.{ℕ, _+_, _-_, _≤_, _<_};
 ghost use lib.Dec.{ltb, eqb};
 ghost use lib.ListN.{length, drop};
 ghost use Rattle.price.specs.Test.{both, either};
-ghost use Rattle.text.specs.JobText.{sourceLine, sinkLine, netLists, netLine, netLines};
+ghost use Rattle.text.specs.JobText.{sourceLine, sinkLine, ofKind, netLists, netLine, netLines};
 ghost use Rattle.text.specs.Steps.{pinAt, PinPlace, Marked, netsAt, NetKept, SourceAdded, SinkAdded, netLineAt, KeptAfter, netsReadAt, NetsEnd};
 use crate::fields;
 use crate::fields::Two;
@@ -36,9 +36,9 @@ pub enum NetsRead {
 }
 
 // The S line of net i.
-fn source_line(text: &[u8], at: usize, nodes: usize, nets: usize, i: usize) -> PinLine
-    requires { ⌜ nodes ≤ 4096 ⌝ }
-    ensures { λ r. ⌜ pinAt i (now (text .entry)) r ≡ sourceLine nodes nets i (drop at (now (text .entry))) ⌝ }
+fn source_line(text: &[u8], at: usize, kind: &[u8], nodes: usize, nets: usize, i: usize) -> PinLine
+    requires { ⌜ (nodes ≤ 4096) × (nodes ≤ length (now kind)) ⌝ }
+    ensures { λ r. ⌜ pinAt i (now (text .entry)) r ≡ ofKind 0 2 (now (kind .entry)) (sourceLine nodes nets i (drop at (now (text .entry)))) ⌝ }
     ensures { λ r. ⌜ PinPlace nodes at (now (text .entry)) r ⌝ }
 {
     let Two::Fields {
@@ -58,6 +58,9 @@ fn source_line(text: &[u8], at: usize, nodes: usize, nets: usize, i: usize) -> P
     if first as usize != i {
         return PinLine::Refused(3);
     }
+    if !negotiation::one_of(kind[second as usize], 0, 2) {
+        return PinLine::Refused(3);
+    }
     PinLine::Pin {
         node: second as u16,
         next: next,
@@ -68,6 +71,7 @@ fn source_line(text: &[u8], at: usize, nodes: usize, nets: usize, i: usize) -> P
 fn sink_line(
     text: &[u8],
     at: usize,
+    kind: &[u8],
     nodes: usize,
     nets: usize,
     i: usize,
@@ -75,8 +79,8 @@ fn sink_line(
     seen: &[u16],
     stamp: u16,
 ) -> PinLine
-    requires { ⌜ (nodes ≤ 4096) × (nodes ≤ length (now seen)) ⌝ }
-    ensures { λ r. ⌜ ((pins : List ℕ) → Marked nodes stamp (now (seen .entry)) pins → pinAt i (now (text .entry)) r ≡ sinkLine nodes nets i pins count (drop at (now (text .entry)))) ⌝ }
+    requires { ⌜ (nodes ≤ 4096) × (nodes ≤ length (now seen)) × (nodes ≤ length (now kind)) ⌝ }
+    ensures { λ r. ⌜ ((pins : List ℕ) → Marked nodes stamp (now (seen .entry)) pins → pinAt i (now (text .entry)) r ≡ ofKind 1 3 (now (kind .entry)) (sinkLine nodes nets i pins count (drop at (now (text .entry))))) ⌝ }
     ensures { λ r. ⌜ PinPlace nodes at (now (text .entry)) r ⌝ }
 {
     let Two::Fields {
@@ -102,6 +106,9 @@ fn sink_line(
     if 4096 <= count {
         return PinLine::Refused(3);
     }
+    if !negotiation::one_of(kind[second as usize], 1, 3) {
+        return PinLine::Refused(3);
+    }
     PinLine::Pin {
         node: second as u16,
         next: next,
@@ -112,6 +119,7 @@ fn sink_line(
 fn add_source(
     text: &[u8],
     c: NetCursor,
+    kind: &[u8],
     nodes: usize,
     nets: usize,
     source: &mut [u16],
@@ -119,13 +127,13 @@ fn add_source(
     seen: &mut [u16],
 ) -> NetStep
     requires { ⌜ (c .at ≤ length (now text)) × (c .line ≤ c .at + 1) × (nodes ≤ 4096) × (nets ≤ 512) × (c .sinks ≤ 4096) ⌝ }
-    requires { ⌜ (c .nets < nets) × (nets ≤ length (now source)) × (nets ≤ length (now «first_sink»)) × (nodes ≤ length (now seen)) ⌝ }
-    ensures { λ r. ⌜ SourceAdded nodes nets (now (text .entry)) c r (now (source .entry)) (now («first_sink» .entry)) (now (seen .entry)) (now (source .exit)) (now («first_sink» .exit)) (now (seen .exit)) (sourceLine nodes nets (c .nets) (drop (c .at) (now (text .entry)))) ⌝ }
+    requires { ⌜ (c .nets < nets) × (nets ≤ length (now source)) × (nets ≤ length (now «first_sink»)) × (nodes ≤ length (now seen)) × (nodes ≤ length (now kind)) ⌝ }
+    ensures { λ r. ⌜ SourceAdded nodes nets (now (text .entry)) c r (now (source .entry)) (now («first_sink» .entry)) (now (seen .entry)) (now (source .exit)) (now («first_sink» .exit)) (now (seen .exit)) (ofKind 0 2 (now (kind .entry)) (sourceLine nodes nets (c .nets) (drop (c .at) (now (text .entry))))) ⌝ }
 {
     let at = c.at;
     let net = c.nets;
     let sinks = c.sinks;
-    match source_line(text, at, nodes, nets, net) {
+    match source_line(text, at, kind, nodes, nets, net) {
         PinLine::Pin { node, next } => {
             source[net] = node;
             first_sink[net] = sinks as u32;
@@ -146,19 +154,30 @@ fn add_source(
 fn add_sink(
     text: &[u8],
     c: NetCursor,
+    kind: &[u8],
     nodes: usize,
     nets: usize,
     sink: &mut [u16],
     seen: &mut [u16],
 ) -> NetStep
     requires { ⌜ (c .at ≤ length (now text)) × (c .line ≤ c .at + 1) × (nodes ≤ 4096) × (nets ≤ 512) ⌝ }
-    requires { ⌜ (1 ≤ c .nets) × (c .nets ≤ nets) × (4096 ≤ length (now sink)) × (nodes ≤ length (now seen)) ⌝ }
-    ensures { λ r. ⌜ ((pins : List ℕ) → Marked nodes (c .nets) (now (seen .entry)) pins → SinkAdded nodes nets (now (text .entry)) c r (now (sink .entry)) (now (seen .entry)) (now (sink .exit)) (now (seen .exit)) (sinkLine nodes nets (c .nets - 1) pins (c .sinks) (drop (c .at) (now (text .entry))))) ⌝ }
+    requires { ⌜ (1 ≤ c .nets) × (c .nets ≤ nets) × (4096 ≤ length (now sink)) × (nodes ≤ length (now seen)) × (nodes ≤ length (now kind)) ⌝ }
+    ensures { λ r. ⌜ ((pins : List ℕ) → Marked nodes (c .nets) (now (seen .entry)) pins → SinkAdded nodes nets (now (text .entry)) c r (now (sink .entry)) (now (seen .entry)) (now (sink .exit)) (now (seen .exit)) (ofKind 1 3 (now (kind .entry)) (sinkLine nodes nets (c .nets - 1) pins (c .sinks) (drop (c .at) (now (text .entry)))))) ⌝ }
 {
     let at = c.at;
     let net = c.nets;
     let sinks = c.sinks;
-    match sink_line(text, at, nodes, nets, net - 1, sinks, seen, net as u16) {
+    match sink_line(
+        text,
+        at,
+        kind,
+        nodes,
+        nets,
+        net - 1,
+        sinks,
+        seen,
+        net as u16,
+    ) {
         PinLine::Pin { node, next } => {
             sink[sinks] = node;
             seen[node as usize] = net as u16;
@@ -178,6 +197,7 @@ fn add_sink(
 fn net_line(
     text: &[u8],
     c: NetCursor,
+    kind: &[u8],
     nodes: usize,
     nets: usize,
     source: &mut [u16],
@@ -185,21 +205,21 @@ fn net_line(
     sink: &mut [u16],
     seen: &mut [u16],
 ) -> NetStep
-    requires { ⌜ NetKept nodes nets (now text) c (now source) (now «first_sink») (now sink) (now seen) × (c .at < length (now text)) ⌝ }
-    ensures { λ r. ⌜ netLineAt (now (text .entry)) r (now (source .exit)) (now («first_sink» .exit)) (now (sink .exit)) ≡ netLine nodes nets (netsAt c (now (source .entry)) (now («first_sink» .entry)) (now (sink .entry))) (drop (c .at) (now (text .entry))) ⌝ }
+    requires { ⌜ NetKept nodes nets (now text) c (now source) (now «first_sink») (now sink) (now seen) × (c .at < length (now text)) × (nodes ≤ length (now kind)) ⌝ }
+    ensures { λ r. ⌜ netLineAt (now (text .entry)) r (now (source .exit)) (now («first_sink» .exit)) (now (sink .exit)) ≡ netLine (now (kind .entry)) nodes nets (netsAt c (now (source .entry)) (now («first_sink» .entry)) (now (sink .entry))) (drop (c .at) (now (text .entry))) ⌝ }
     ensures { λ r. ⌜ KeptAfter nodes nets (now (text .entry)) c r (now (source .exit)) (now («first_sink» .exit)) (now (sink .exit)) (now (seen .exit)) ⌝ }
 {
     let at = c.at;
     let b = text[at];
     if b == b'S' {
         if source_due(c, nets) {
-            return add_source(text, c, nodes, nets, source, first_sink, seen);
+            return add_source(text, c, kind, nodes, nets, source, first_sink, seen);
         }
         return NetStep::Stopped(1);
     }
     if b == b'T' {
         if 1 <= c.nets {
-            return add_sink(text, c, nodes, nets, sink, seen);
+            return add_sink(text, c, kind, nodes, nets, sink, seen);
         }
     }
     NetStep::Stopped(1)
@@ -223,15 +243,16 @@ pub fn read_nets(
     text: &[u8],
     from: usize,
     first_line: usize,
+    kind: &[u8],
     nodes: usize,
     nets: usize,
     source: &mut [u16],
     first_sink: &mut [u32],
     sink: &mut [u16],
 ) -> NetsRead
-    requires { ⌜ (from ≤ length (now text)) × («first_line» ≤ from + 1) × (nodes ≤ 4096) × (nets ≤ 512) ⌝ }
+    requires { ⌜ (from ≤ length (now text)) × («first_line» ≤ from + 1) × (nodes ≤ 4096) × (nets ≤ 512) × (nodes ≤ length (now kind)) ⌝ }
     requires { ⌜ (nets ≤ length (now source)) × (nets + 1 ≤ length (now «first_sink»)) × (4096 ≤ length (now sink)) ⌝ }
-    ensures { λ r. ⌜ netsReadAt nets r (now (source .exit)) (now («first_sink» .exit)) (now (sink .exit)) ≡ netLines (length (drop from (now (text .entry)))) nodes nets (netLists [] [] []) «first_line» (drop from (now (text .entry))) ⌝ }
+    ensures { λ r. ⌜ netsReadAt nets r (now (source .exit)) (now («first_sink» .exit)) (now (sink .exit)) ≡ netLines (length (drop from (now (text .entry)))) (now (kind .entry)) nodes nets (netLists [] [] []) «first_line» (drop from (now (text .entry))) ⌝ }
     ensures { λ r. ⌜ NetsEnd nets r (now («first_sink» .exit)) ⌝ }
 {
     let mut seen = [0u16; 4096];
@@ -243,7 +264,17 @@ pub fn read_nets(
         first: 0,
     };
     while c.at < text.len() {
-        match net_line(text, c, nodes, nets, source, first_sink, sink, &mut seen) {
+        match net_line(
+            text,
+            c,
+            kind,
+            nodes,
+            nets,
+            source,
+            first_sink,
+            sink,
+            &mut seen,
+        ) {
             NetStep::On(next) => {
                 c = next;
             }

@@ -35,6 +35,7 @@ fn read_edges_nets(
     text: &[u8],
     from: usize,
     line: usize,
+    kind: &[u8],
     nodes: usize,
     edges: usize,
     nets: usize,
@@ -44,9 +45,9 @@ fn read_edges_nets(
     first_sink: &mut [u32],
     sink: &mut [u16],
 ) -> NetsRead
-    requires { ⌜ CountsWithin nodes edges nets × (from ≤ length (now text)) × (line ≤ from + 1) ⌝ }
+    requires { ⌜ CountsWithin nodes edges nets × (from ≤ length (now text)) × (line ≤ from + 1) × (nodes ≤ length (now kind)) ⌝ }
     requires { ⌜ EdgeRoom (now «first_edge») (now «edge_target») × NetTablesRoom (now source) (now «first_sink») (now sink) ⌝ }
-    ensures { λ r. ⌜ edgesNetsAt nodes edges nets r (now («first_edge» .exit)) (now («edge_target» .exit)) (now (source .exit)) (now («first_sink» .exit)) (now (sink .exit)) ≡ bodyAfterNodes nodes edges nets line (drop from (now (text .entry))) ⌝ }
+    ensures { λ r. ⌜ edgesNetsAt nodes edges nets r (now («first_edge» .exit)) (now («edge_target» .exit)) (now (source .exit)) (now («first_sink» .exit)) (now (sink .exit)) ≡ bodyAfterNodes (now (kind .entry)) nodes edges nets line (drop from (now (text .entry))) ⌝ }
     ensures { λ r. ⌜ NetsEnd nets r (now («first_sink» .exit)) ⌝ }
 {
     match edges::read_edges(text, from, line, nodes, edges, first_edge, edge_target) {
@@ -54,6 +55,7 @@ fn read_edges_nets(
             text,
             at,
             next,
+            kind,
             nodes,
             nets,
             source,
@@ -93,6 +95,7 @@ fn read_body(
             text,
             at,
             next,
+            &kind[..nodes],
             nodes,
             edges,
             nets,

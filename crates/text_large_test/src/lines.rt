@@ -56,18 +56,29 @@ pub fn head(job: &mut [u8], edges: u32, nets: u32, limit: u32) -> usize {
     put_byte(job, end, 10)
 }
 
-fn node(job: &mut [u8], from: usize, v: u32) -> usize {
-    let kind = open_pin(job, from, b'N', v, v % 16);
-    let capacity = put_field(job, kind, v % 255 + 1);
+// Kinds 1 and 3 up to `sinks`, 0 and 2 from `sources`, and from 0 to 53 between them.
+fn kind_of(v: u32, sinks: u32, sources: u32) -> u32 {
+    if v < sinks {
+        return v % 2 * 2 + 1;
+    }
+    if sources <= v {
+        return v % 2 * 2;
+    }
+    v % 54
+}
+
+fn node(job: &mut [u8], from: usize, v: u32, kind: u32) -> usize {
+    let open = open_pin(job, from, b'N', v, kind);
+    let capacity = put_field(job, open, v % 255 + 1);
     put_byte(job, capacity, 10)
 }
 
-// All N lines: kinds from 0 to 15 and capacities from 1 to 255, again and again.
-pub fn nodes(job: &mut [u8], from: usize) -> usize {
+// All N lines: nodes below `sinks` may be sinks, those from `sources` on sources. Capacities go from 1 to 255, again and again.
+pub fn nodes(job: &mut [u8], from: usize, sinks: u32, sources: u32) -> usize {
     let mut at = from;
     let mut v = 0;
     while v < 4096 {
-        at = node(job, at, v);
+        at = node(job, at, v, kind_of(v, sinks, sources));
         v += 1;
     }
     at
@@ -92,7 +103,7 @@ pub fn edges(job: &mut [u8], from: usize) -> usize {
     at
 }
 
-// The source of net i, before its sink 0.
+// The source of net i, before its sink 0: a node from 3584 on.
 fn source(job: &mut [u8], at: usize, i: u32, k: u32) -> usize {
     if k != 0 {
         return at;
@@ -100,7 +111,7 @@ fn source(job: &mut [u8], at: usize, i: u32, k: u32) -> usize {
     pin(job, at, b'S', i, 4095 - i % 512)
 }
 
-// Sink k, of 8, of net i.
+// Sink k, of 8, of net i: a node below 3074.
 fn sink(job: &mut [u8], from: usize, i: u32, k: u32) -> usize {
     let at = source(job, from, i, k);
     pin(job, at, b'T', i, i % 512 * 6 + k % 8)
@@ -117,11 +128,11 @@ pub fn nets(job: &mut [u8], from: usize) -> usize {
     at
 }
 
-// Every node but 0 as sink of net 0.
+// Every node but 4095 as sink of net 0.
 pub fn sinks(job: &mut [u8], from: usize) -> usize {
     let mut at = from;
-    let mut v = 1;
-    while v < 4096 {
+    let mut v = 0;
+    while v < 4095 {
         at = pin(job, at, b'T', 0, v);
         v += 1;
     }

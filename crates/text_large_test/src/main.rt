@@ -102,7 +102,7 @@ fn up_to(label: &[u8], job: &[u8], end: usize) {
 fn full() {
     let mut job = [0u8; 500000];
     let head = lines::head(&mut job, 32768, 512, 100);
-    let nodes = lines::nodes(&mut job, head);
+    let nodes = lines::nodes(&mut job, head, 3074, 3584);
     let edges = lines::edges(&mut job, nodes);
     let end = lines::nets(&mut job, edges);
     up_to(b"every table full", &job, end);
@@ -118,11 +118,11 @@ fn full() {
 fn two_nets() {
     let mut job = [0u8; 100000];
     let head = lines::head(&mut job, 0, 2, 1);
-    let nodes = lines::nodes(&mut job, head);
-    let source = lines::pin(&mut job, nodes, b'S', 0, 0);
+    let nodes = lines::nodes(&mut job, head, 4095, 4095);
+    let source = lines::pin(&mut job, nodes, b'S', 0, 4095);
     let sinks = lines::sinks(&mut job, source);
-    let second = lines::pin(&mut job, sinks, b'S', 1, 0);
-    let end = lines::pin(&mut job, second, b'T', 1, 4095);
+    let second = lines::pin(&mut job, sinks, b'S', 1, 4095);
+    let end = lines::pin(&mut job, second, b'T', 1, 4094);
     up_to(b"two nets of 4096 sinks", &job, end);
     let more = lines::pin(&mut job, end, b'T', 1, 1);
     up_to(b"two nets of 4097 sinks", &job, more);

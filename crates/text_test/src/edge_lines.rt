@@ -7,7 +7,7 @@ fn edges(label: &[u8], lines: &[u8]) {
 }
 
 fn sound() {
-    edges(b"edges from the last node", b"E,2,0\nE,2,1\nS,0,2\nT,0,0\n");
+    edges(b"edges from the last node", b"E,2,0\nE,2,1\nS,0,0\nT,0,2\n");
     edges(b"edges there and back", b"E,0,2\nE,2,0\nS,0,0\nT,0,2\n");
     edges(
         b"target falls with the next node",

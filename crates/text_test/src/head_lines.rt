@@ -8,7 +8,7 @@ pub fn head(label: &[u8], line: &[u8]) {
     parts(
         label,
         line,
-        b"N,0,0,1\nN,1,4,2\nN,2,1,3\nE,0,1\nE,1,2\nS,0,0\nT,0,2\nS,1,0\nT,1,2\nT,1,1\n",
+        b"N,0,0,1\nN,1,3,2\nN,2,1,3\nE,0,1\nE,1,2\nS,0,0\nT,0,2\nS,1,0\nT,1,2\nT,1,1\n",
     );
 }
 

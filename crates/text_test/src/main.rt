@@ -5,6 +5,7 @@ mod edge_lines;
 mod head_lines;
 mod net_lines;
 mod node_lines;
+mod pin_lines;
 mod reading;
 mod responses;
 mod runs;
@@ -21,6 +22,7 @@ fn main() {
     node_lines::all();
     edge_lines::all();
     net_lines::all();
+    pin_lines::all();
     writing::all();
     runs::all();
     responses::all();

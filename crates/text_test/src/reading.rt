@@ -101,7 +101,7 @@ pub fn parts(label: &[u8], begin: &[u8], rest: &[u8]) {
 pub fn nets(label: &[u8], rest: &[u8]) {
     parts(
         label,
-        b"F,3,2,2,5\nN,0,0,1\nN,1,4,2\nN,2,1,3\nE,0,1\nE,1,2\n",
+        b"F,3,2,2,5\nN,0,0,1\nN,1,3,2\nN,2,1,3\nE,0,1\nE,1,2\n",
         rest,
     );
 }

@@ -73,7 +73,7 @@ fn no_input() {
 fn short_memory() {
     refused(
         b"table 1 short",
-        b"F,7,0,1,1\nN,0,0,1\nN,1,0,1\nN,2,0,1\nN,3,0,1\nN,4,0,1\nN,5,0,1\nN,6,0,1\nS,0,0\nT,0,6\n",
+        b"F,7,0,1,1\nN,0,0,1\nN,1,0,1\nN,2,0,1\nN,3,0,1\nN,4,0,1\nN,5,0,1\nN,6,1,1\nS,0,0\nT,0,6\n",
         &mut [7; 12],
     );
     refused(

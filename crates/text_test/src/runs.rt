@@ -145,6 +145,10 @@ fn others() {
         b"run two nets from one source",
         b"F,3,2,2,1\nN,0,0,1\nN,1,1,1\nN,2,1,1\nE,0,1\nE,0,2\nS,0,0\nT,0,1\nS,1,0\nT,1,2\n",
     );
+    small(
+        b"run from kind 2 to kind 3",
+        b"F,2,1,1,1\nN,0,2,1\nN,1,3,1\nE,0,1\nS,0,0\nT,0,1\n",
+    );
 }
 
 fn refused_texts() {
@@ -158,8 +162,16 @@ fn refused_texts() {
         b"F,2,1,1,1\nN,0,0,1\nN,1,1,1\nE,1,1\nS,0,0\nT,0,1\n",
     );
     small(
+        b"run with a wire as source",
+        b"F,2,1,1,1\nN,0,4,1\nN,1,1,1\nE,0,1\nS,0,0\nT,0,1\n",
+    );
+    small(
+        b"run with a wire as sink",
+        b"F,2,1,1,1\nN,0,0,1\nN,1,4,1\nE,0,1\nS,0,0\nT,0,1\n",
+    );
+    small(
         b"run three sinks, table 7 short",
-        b"F,4,0,1,1\nN,0,0,1\nN,1,4,1\nN,2,1,1\nN,3,1,1\nS,0,0\nT,0,1\nT,0,2\nT,0,3\n",
+        b"F,4,0,1,1\nN,0,0,1\nN,1,3,1\nN,2,1,1\nN,3,1,1\nS,0,0\nT,0,1\nT,0,2\nT,0,3\n",
     );
 }
 

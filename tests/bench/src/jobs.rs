@@ -144,11 +144,15 @@ fn near(draw: &mut Rng, place: usize, reach: usize, bound: usize) -> usize {
     draw.within(place.saturating_sub(reach), (place + reach).min(bound - 1))
 }
 
-/// A ring with further edges anywhere. The ring gives every sink a path.
+/// A ring with further edges anywhere. The ring gives every sink a path. Every eighth node is a source, others are sinks or wires.
 fn random(draw: &mut Rng, nodes: usize, more: (usize, usize), sinks: (usize, usize), limit: u32) -> Job {
     let rows: Vec<_> = (0..nodes).map(|u| random_row(draw, nodes, u, more)).collect();
-    let nets: Vec<_> = (0..nodes / 8).map(|n| random_net(draw, nodes, n, sinks)).collect();
-    let kind = (0..nodes).map(|_| draw.within(0, 7) as u8).collect();
+    let nets: Vec<_> = (0..nodes / 8).map(|n| (8 * n as u16, random_sinks(draw, nodes, sinks))).collect();
+    let mut kind: Vec<u8> = (0..nodes).map(|_| draw.within(0, 7) as u8).collect();
+    for (source, list) in &nets {
+        kind[*source as usize] = draw.pick(&[0, 2]);
+        list.iter().for_each(|&sink| kind[sink as usize] = draw.pick(&[1, 3]));
+    }
     let room = 2 * sinks.1;
     let capacity = (0..nodes).map(|_| draw.within(room, 2 * room) as u8).collect();
     Job::new(kind, capacity, &rows, &nets, limit)
@@ -164,14 +168,15 @@ fn random_row(draw: &mut Rng, nodes: usize, u: usize, more: (usize, usize)) -> V
     row
 }
 
-fn random_net(draw: &mut Rng, nodes: usize, net: usize, sinks: (usize, usize)) -> (u16, Vec<u16>) {
-    let source = net * 8 + draw.below(8);
+/// Sinks anywhere between the sources.
+fn random_sinks(draw: &mut Rng, nodes: usize, sinks: (usize, usize)) -> Vec<u16> {
     let count = draw.within(sinks.0, sinks.1);
     let mut list = Vec::new();
     while list.len() < count {
-        add_new(&mut list, draw.below(nodes), source);
+        let sink = 8 * draw.below(nodes / 8) + draw.within(1, 7);
+        add_new(&mut list, sink, nodes);
     }
-    (source as u16, list)
+    list
 }
 
 /// Adds v unless the list has it or it is the one to leave out.

@@ -324,6 +324,7 @@ fn raw(case: &mut Case, out: &mut [u64]) -> u32 {
 #[cfg(not(feature = "library"))]
 pub mod inject {
     use super::{Answer, Case};
+    use job::Job;
     use std::sync::atomic::{AtomicU32, Ordering};
 
     /// Which fault the second side has; 0 is none.
@@ -362,18 +363,24 @@ pub mod inject {
             (7, Case::Price { factor, .. }, _) if answer.refusal.is_empty() && *factor == 65_535 => {
                 answer.numbers[0] += 1;
             }
-            (fault, ..) => tuning(fault, before, &mut answer),
+            (fault, ..) => tuning_or_pins(fault, before, &mut answer),
         }
         answer
     }
 
-    /// Faults of the tuning.
-    fn tuning(fault: u32, before: &Case, answer: &mut Answer) {
+    fn has_source_of_kind_1(job: &Job) -> bool {
+        job.source.iter().any(|pin| job.kind.get(*pin as usize) == Some(&1))
+    }
+
+    /// Faults of the tuning and the pins.
+    fn tuning_or_pins(fault: u32, before: &Case, answer: &mut Answer) {
         match (fault, before) {
             // a step of 2 counts a turn too many
             (8, Case::Route { job, .. }) if job.tuning.step == 2 && answer.numbers[0] >= 2 => answer.numbers[1] += 1,
             // a value beyond its bounds in a P line is taken for a wrong shape
             (9, Case::Read { text, .. }) if answer.refusal == [2, 2] && text.contains(&b'P') => answer.refusal = vec![1, 2],
+            // a source of kind 1 goes unseen
+            (10, Case::Route { job, .. }) if answer.refusal == [5, 5] && has_source_of_kind_1(job) => answer.refusal = vec![5, 6],
             _ => {}
         }
     }

@@ -6,12 +6,13 @@ use job::{Job, Rng, Tuning};
 pub fn damage(rng: &mut Rng, job: &mut Job) {
     let times = rng.pick(&[1, 1, 1, 1, 2, 3]);
     for _ in 0..times {
-        match rng.below(9) {
+        match rng.below(11) {
             0..=3 => one_of_graph(rng, job),
             4 => sources(rng, job),
             5 => firsts(rng, &mut job.first_sink),
             6 => sinks(rng, job),
             7 => tuning(rng, &mut job.tuning),
+            8 | 9 => pin(rng, job),
             _ => job.limit = rng.pick(&[0, 101, 102, 256, 257, 65_536, 65_537, u32::MAX]),
         }
     }
@@ -233,6 +234,20 @@ fn sinks(rng: &mut Rng, job: &mut Job) {
         4 | 5 => source_as_sink(rng, job),
         6 if rng.once_in(20) => too_many_sinks(rng, job),
         _ => length(rng, &mut job.sink, 1),
+    }
+}
+
+/// A source or sink of any kind: its node gets the kind, or its entry another node.
+fn pin(rng: &mut Rng, job: &mut Job) {
+    let table = if rng.percent(50) { &mut job.source } else { &mut job.sink };
+    if table.is_empty() || job.kind.is_empty() {
+        return;
+    }
+    let place = rng.below(table.len());
+    if rng.percent(30) {
+        table[place] = rng.below(job.kind.len()) as u16;
+    } else if let Some(kind) = job.kind.get_mut(table[place] as usize) {
+        *kind = rng.pick(&[0, 1, 2, 3, 4, 5, 15, 53]);
     }
 }
 

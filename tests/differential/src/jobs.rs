@@ -202,6 +202,7 @@ fn wired(rng: &mut Rng, nets: usize, wires: usize) -> Plan {
     } else {
         widen_sinks(&mut plan, sinks);
     }
+    pin_kinds(rng, &mut plan);
     plan.limit = rng.within(2, 20) as u32;
     plan
 }
@@ -420,41 +421,64 @@ fn capacities(rng: &mut Rng, plan: &mut Plan) {
     }
 }
 
-/// Adds nets; their sinks are mostly ones that have a path.
+/// What a node is to the nets so far.
+#[derive(Clone, Copy, PartialEq, Eq)]
+enum Role {
+    Free,
+    Source,
+    Sink,
+}
+
+/// Adds nets and gives their pins kinds; their sinks are mostly ones that have a path. No node is a source and a sink.
 fn add_nets(rng: &mut Rng, plan: &mut Plan, count: usize) {
     let anywhere = rng.percent(12);
     let apart = rng.percent(80);
     let most = if rng.percent(20) { plan.nodes() } else { 3 };
-    let mut taken = vec![false; plan.nodes()];
+    let mut roles = vec![Role::Free; plan.nodes()];
     for _ in 0..count {
-        let source = start(rng, plan, &taken, apart);
-        taken[source] = true;
+        let source = start(rng, plan, &roles, apart);
+        roles[source] = Role::Source;
         let mut sinks = if anywhere { Vec::new() } else { reached(plan, source) };
-        if apart && sinks.iter().any(|node| !taken[*node as usize]) {
-            sinks.retain(|node| !taken[*node as usize]);
+        sinks.retain(|node| roles[*node as usize] != Role::Source);
+        if apart && sinks.iter().any(|node| roles[*node as usize] == Role::Free) {
+            sinks.retain(|node| roles[*node as usize] == Role::Free);
         }
         if sinks.is_empty() {
-            sinks = (0..plan.nodes() as u16).filter(|node| *node as usize != source).collect();
+            sinks = (0..plan.nodes() as u16).filter(|node| roles[*node as usize] != Role::Source).collect();
         }
         rng.shuffle(&mut sinks);
         sinks.truncate(rng.within(1, most));
         for sink in &sinks {
-            taken[*sink as usize] = true;
+            roles[*sink as usize] = Role::Sink;
         }
         plan.nets.push((source as u16, sinks));
     }
+    pin_kinds(rng, plan);
 }
 
-/// A source, if possible one with edges and no part in other nets.
-fn start(rng: &mut Rng, plan: &Plan, taken: &[bool], apart: bool) -> usize {
-    let mut node = rng.below(plan.nodes());
+/// A source that is no sink, if possible one with edges and no part in other nets.
+fn start(rng: &mut Rng, plan: &Plan, roles: &[Role], apart: bool) -> usize {
+    let choices: Vec<usize> = (0..plan.nodes()).filter(|node| roles[*node] != Role::Sink).collect();
+    let mut node = rng.pick(&choices);
     for _ in 0..8 {
-        if !plan.rows[node].is_empty() && !(apart && taken[node]) {
+        if !plan.rows[node].is_empty() && !(apart && roles[node] == Role::Source) {
             break;
         }
-        node = rng.below(plan.nodes());
+        node = rng.pick(&choices);
     }
     node
+}
+
+/// Gives sources kind 0 or 2 and sinks kind 1 or 3, at times all of them one kind.
+fn pin_kinds(rng: &mut Rng, plan: &mut Plan) {
+    let sources = rng.pick(&[[0, 2], [0, 0], [2, 2]]);
+    let sinks = rng.pick(&[[1, 3], [1, 1], [3, 3]]);
+    for (source, list) in &plan.nets {
+        plan.kind[*source as usize] = rng.pick(&sources);
+        for sink in list {
+            plan.kind[*sink as usize] = rng.pick(&sinks);
+        }
+    }
 }
 
 /// Leaves out sinks without a path, mostly.
@@ -507,24 +531,26 @@ pub fn full(nodes: usize, edges: usize) -> Job {
         }
     }
     plan.nets.push((0, vec![1]));
+    (plan.kind[0], plan.kind[1]) = (0, 1);
     plan.job()
 }
 
-/// 512 nets over ten nodes with so many sinks in all (512 to 4,608).
+/// 512 nets from three nodes to nine others with so many sinks in all (512 to 4,608).
 pub fn many_sinks(rng: &mut Rng, sinks: usize) -> Job {
-    let mut plan = Plan::empty(10);
-    for from in 0..10 {
-        for to in 0..10 {
+    let mut plan = Plan::empty(12);
+    for from in 0..12 {
+        for to in 0..12 {
             plan.join(from, to);
         }
     }
     plan.capacity.fill(255);
     for net in 0..512 {
         let count = sinks / 512 + usize::from(net < sinks % 512);
-        let source = rng.below(10);
-        let list = (1..=count).map(|step| ((source + step) % 10) as u16).collect();
-        plan.nets.push((source as u16, list));
+        let first = rng.below(9);
+        let list = (first..first + count).map(|step| (3 + step % 9) as u16).collect();
+        plan.nets.push((rng.below(3) as u16, list));
     }
+    pin_kinds(rng, &mut plan);
     plan.job()
 }
 
@@ -535,5 +561,6 @@ pub fn line(nodes: usize) -> Job {
         plan.join(node - 1, node);
     }
     plan.nets.push((0, vec![nodes as u16 - 1]));
+    (plan.kind[0], plan.kind[nodes - 1]) = (2, 3);
     plan.job()
 }

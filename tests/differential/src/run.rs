@@ -17,7 +17,7 @@ pub struct Failure {
 }
 
 /// Every outcome that a long run should come to.
-const EXPECTED: [&str; 63] = [
+const EXPECTED: [&str; 79] = [
     "price accepted", "price 13,0", "price 13,1", "price 13,2", "price 13,3", "price 13,4",
     "search accepted", "search 5,1", "search 5,2", "search 5,3", "search 5,4", "search 6", "search 13",
     "route accepted", "route 5,1", "route 5,2", "route 5,3", "route 5,4", "route 5,5", "route 5,6", "route 5,7",
@@ -30,6 +30,9 @@ const EXPECTED: [&str; 63] = [
     "tuning plain", "tuning first 0", "tuning first 1,000", "tuning down 1", "tuning down 2", "tuning down 3", "tuning down 4",
     "tuning up as down", "tuning up 8", "tuning step 1", "tuning step 2", "tuning not plain, accepted",
     "P line accepted", "P line 1,2", "P line 2,2", "P line 1,3",
+    "source of kind 0 accepted", "source of kind 2 accepted", "sink of kind 1 accepted", "sink of kind 3 accepted",
+    "source of kind 1 5,5", "source of kind 3 5,5", "source a wire 5,5", "sink of kind 0 5,7", "sink of kind 2 5,7", "sink a wire 5,7",
+    "S line of kind 1 3", "S line of kind 3 3", "S line of a wire 3", "T line of kind 0 3", "T line of kind 2 3", "T line of a wire 3",
 ];
 
 /// The counts, and each seed's generator.
@@ -96,11 +99,13 @@ impl Run {
                 self.count_search(after, graph.kind.len(), work);
                 "search"
             }
-            Case::Route { log, .. } => {
+            Case::Route { job, log, .. } => {
                 self.count_route(after, log);
+                self.count_pins(after, job);
                 "route"
             }
             Case::Read { text, .. } => {
+                self.count_pin_line(after, text);
                 if text.windows(2).any(|bytes| bytes == b"\nP") {
                     self.count_tuning_line(after);
                 }
@@ -124,6 +129,41 @@ impl Run {
         }
         if after.answer.refusal == [13, nodes as u64] {
             self.count(String::from("search 13 with the node count"));
+        }
+    }
+
+    /// Counts the kinds of accepted pins, and that of the first pin that its table doesn't allow.
+    fn count_pins(&mut self, after: &After, job: &Job) {
+        let kinds = |pins: &[u16]| -> Vec<u8> { pins.iter().filter_map(|pin| job.kind.get(*pin as usize)).copied().collect() };
+        let (sources, sinks) = (kinds(&job.source), kinds(&job.sink));
+        match after.answer.refusal[..] {
+            [] => {
+                for (name, kind) in [("source", sources[0]), ("sink", sinks[0])] {
+                    self.count(format!("{name} {} accepted", kind_name(kind, "a wire")));
+                }
+            }
+            [5, 5] if sources.len() == job.source.len() => {
+                if let Some(kind) = sources.into_iter().find(|kind| ![0, 2].contains(kind)) {
+                    self.count(format!("source {} 5,5", kind_name(kind, "a wire")));
+                }
+            }
+            [5, 7] if sinks.len() == job.sink.len() => {
+                if let Some(kind) = sinks.into_iter().find(|kind| ![1, 3].contains(kind)) {
+                    self.count(format!("sink {} 5,7", kind_name(kind, "a wire")));
+                }
+            }
+            _ => {}
+        }
+    }
+
+    /// Counts the kind of a pin whose line is refused, as far as the kind may be why.
+    fn count_pin_line(&mut self, after: &After, text: &[u8]) {
+        let [3, line] = after.answer.refusal[..] else { return };
+        match texts::pin(text, line) {
+            Some((b'S', 0 | 2)) | Some((b'T', 1 | 3)) | None => {}
+            Some((letter, kind)) => {
+                self.count(format!("{} line {} 3", letter as char, kind_name(kind, "of a wire")));
+            }
         }
     }
 
@@ -369,6 +409,11 @@ impl Run {
         }
         Ok(())
     }
+}
+
+/// Words for a pin's kind, the same for all wires.
+fn kind_name(kind: u8, wire: &str) -> String {
+    if kind < 4 { format!("of kind {kind}") } else { String::from(wire) }
 }
 
 /// A call of the router.

@@ -547,6 +547,8 @@ mod tests {
         assert!(job.limit == 2 && job.tuning == Tuning { first: 0, up: 1, down: 1, step: 2 });
         let Case::Read { text, .. } = smallest(9) else { panic!("fault 9") };
         assert!(text.starts_with(b"F,1,0,1,1\nP,") && text.len() <= 20, "{}", text.escape_ascii());
+        let Case::Route { job, .. } = smallest(10) else { panic!("fault 10") };
+        assert!(job.kind == [1] && job.source == [0] && job.sink.is_empty());
         FAULT.store(0, Ordering::Relaxed);
         assert!(first_failure().is_none());
     }

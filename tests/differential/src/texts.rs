@@ -68,6 +68,12 @@ pub fn changed(rng: &mut Rng, job: &Job) -> Vec<u8> {
         change_tuning(rng, &mut list);
         return print(&list);
     }
+    if rng.once_in(8) {
+        change_pin(rng, &mut list);
+        if rng.percent(70) {
+            return print(&list);
+        }
+    }
     let way = rng.below(100);
     if way < 60 {
         for _ in 0..rng.pick(&[1, 1, 1, 2, 3]) {
@@ -157,6 +163,33 @@ fn change_tuning(rng: &mut Rng, list: &mut Vec<Line>) {
             list[1].fields[field] = bad;
         }
     }
+}
+
+/// A source or sink of any kind: its N line gets the kind, or its own line another node.
+fn change_pin(rng: &mut Rng, list: &mut [Line]) {
+    let letter = rng.pick(b"ST");
+    let nodes = list[0].fields[0];
+    let places: Vec<usize> = (0..list.len()).filter(|place| list[*place].letter == letter).collect();
+    let pin = rng.pick(&places);
+    if rng.percent(30) {
+        list[pin].fields[1] = rng.below(nodes as usize) as u64;
+        return;
+    }
+    let node = list[pin].fields[1];
+    let kind = rng.pick(&[0, 1, 2, 3, 4, 5, 15, 53]);
+    for line in list.iter_mut().filter(|line| line.letter == b'N' && line.fields[0] == node) {
+        line.fields[1] = kind;
+    }
+}
+
+/// The letter of a text's line (from 1), if it is an S or T line, with the kind that its node has by the N lines.
+pub fn pin(text: &[u8], line: u64) -> Option<(u8, u8)> {
+    let lines: Vec<&[u8]> = text.split(|byte| *byte == b'\n').collect();
+    let fields: Vec<&[u8]> = lines.get(line as usize - 1)?.split(|byte| *byte == b',').collect();
+    let ([b"S"] | [b"T"]) = fields[..1] else { return None };
+    let node = [b"N," as &[u8], fields.get(2)?, b","].concat();
+    let kind = lines.iter().find_map(|line| line.strip_prefix(&node[..]))?.split(|byte| *byte == b',').next()?;
+    Some((fields[0][0], std::str::from_utf8(kind).ok()?.parse().ok()?))
 }
 
 /// Some line, with each letter about as often.

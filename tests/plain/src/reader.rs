@@ -1,7 +1,7 @@
 //! The job text into tables.
 
 use crate::price::{Tuning, MAX_KIND};
-use crate::tables::{MAX_EDGES, MAX_LIMIT, MAX_NETS, MAX_NODES, MAX_SINKS};
+use crate::tables::{may_be_sink, may_be_source, MAX_EDGES, MAX_LIMIT, MAX_NETS, MAX_NODES, MAX_SINKS};
 use crate::Answer;
 
 /// A refusal: its number and the line.
@@ -139,11 +139,11 @@ fn read_edges(lines: &mut Lines, counts: &Counts, job: &mut Job) -> Result<(), F
 fn read_nets(lines: &mut Lines, counts: &Counts, job: &mut Job) -> Result<(), Fault> {
     for net in 0..counts.nets {
         job.first_sink.push(job.sink.len() as u32);
-        let source = read_source(lines, counts, net)?;
+        let source = read_source(lines, counts, job, net)?;
         job.source.push(source);
         let mut sinks = Vec::new();
         loop {
-            read_sink(lines, counts, net, source, job.sink.len(), &mut sinks)?;
+            read_sink(lines, counts, job, net, source, &mut sinks)?;
             if lines.rest().first() != Some(&b'T') {
                 break;
             }
@@ -154,20 +154,21 @@ fn read_nets(lines: &mut Lines, counts: &Counts, job: &mut Job) -> Result<(), Fa
     Ok(())
 }
 
-fn read_source(lines: &mut Lines, counts: &Counts, net: u32) -> Result<u16, Fault> {
+fn read_source(lines: &mut Lines, counts: &Counts, job: &Job, net: u32) -> Result<u16, Fault> {
     let f = lines.take(b'S', 2)?;
     lines.bounds(f[0] < counts.nets && f[1] < counts.nodes)?;
     lines.order(f[0] == net)?;
+    lines.order(may_be_source(job.kind[f[1] as usize]))?;
     Ok(f[1] as u16)
 }
 
-/// One T line; `earlier` is the number of sinks of earlier nets, `sinks` those of this one.
+/// One T line; `job` has the sinks of earlier nets, `sinks` those of this one.
 fn read_sink(
     lines: &mut Lines,
     counts: &Counts,
+    job: &Job,
     net: u32,
     source: u16,
-    earlier: usize,
     sinks: &mut Vec<u16>,
 ) -> Result<(), Fault> {
     let f = lines.take(b'T', 2)?;
@@ -175,7 +176,8 @@ fn read_sink(
     let sink = f[1] as u16;
     lines.order(f[0] == net)?;
     lines.order(sink != source && !sinks.contains(&sink))?;
-    lines.order(earlier + sinks.len() < MAX_SINKS)?;
+    lines.order(may_be_sink(job.kind[f[1] as usize]))?;
+    lines.order(job.sink.len() + sinks.len() < MAX_SINKS)?;
     sinks.push(sink);
     Ok(())
 }

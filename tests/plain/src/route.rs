@@ -175,7 +175,7 @@ fn broken(graph: &Graph, nets: &Nets, limit: u32, tuning: Tuning) -> Option<u64>
     let sound = (1..=MAX_LIMIT).contains(&limit) && tuning.is_sound();
     graph
         .broken()
-        .or_else(|| nets.broken(graph.nodes()))
+        .or_else(|| nets.broken(graph.kind))
         .or(if sound { None } else { Some(8) })
 }
 

@@ -6,6 +6,16 @@ pub const MAX_NETS: usize = 512;
 pub const MAX_SINKS: usize = 4_096;
 pub const MAX_LIMIT: u32 = 100;
 
+/// A source must be a source or an output pin.
+pub fn may_be_source(kind: u8) -> bool {
+    kind == 0 || kind == 2
+}
+
+/// A sink must be a sink or an input pin.
+pub fn may_be_sink(kind: u8) -> bool {
+    kind == 1 || kind == 3
+}
+
 /// Tables 1 to 4.
 pub struct Graph<'a> {
     pub kind: &'a [u8],
@@ -86,22 +96,22 @@ impl Nets<'_> {
         row(self.first_sink, self.sink, net)
     }
 
-    /// The lowest of tables 5 to 7 that breaks its rule.
-    pub fn broken(&self, nodes: usize) -> Option<u64> {
-        if !self.source_is_sound(nodes) {
+    /// The lowest of tables 5 to 7 that breaks its rule, beside a sound table 1.
+    pub fn broken(&self, kind: &[u8]) -> Option<u64> {
+        if !self.source_is_sound(kind) {
             Some(5)
         } else if !self.first_sink_is_sound() {
             Some(6)
-        } else if !self.sink_is_sound(nodes) {
+        } else if !self.sink_is_sound(kind) {
             Some(7)
         } else {
             None
         }
     }
 
-    fn source_is_sound(&self, nodes: usize) -> bool {
+    fn source_is_sound(&self, kind: &[u8]) -> bool {
         (1..=MAX_NETS).contains(&self.source.len())
-            && self.source.iter().all(|&s| (s as usize) < nodes)
+            && self.source.iter().all(|&s| kind.get(s as usize).is_some_and(|&k| may_be_source(k)))
     }
 
     fn first_sink_is_sound(&self) -> bool {
@@ -110,16 +120,15 @@ impl Nets<'_> {
     }
 
     /// Asked only when tables 5 and 6 are sound.
-    fn sink_is_sound(&self, nodes: usize) -> bool {
+    fn sink_is_sound(&self, kind: &[u8]) -> bool {
         self.sink.len() <= MAX_SINKS
-            && (0..self.count()).all(|net| self.net_is_sound(net, nodes))
+            && self.sink.iter().all(|&s| kind.get(s as usize).is_some_and(|&k| may_be_sink(k)))
+            && (0..self.count()).all(|net| self.net_is_sound(net))
     }
 
-    fn net_is_sound(&self, net: usize, nodes: usize) -> bool {
+    fn net_is_sound(&self, net: usize) -> bool {
         let sinks = self.sinks(net);
-        sinks.iter().enumerate().all(|(place, s)| {
-            (*s as usize) < nodes && *s != self.source[net] && !sinks[..place].contains(s)
-        })
+        sinks.iter().enumerate().all(|(place, s)| *s != self.source[net] && !sinks[..place].contains(s))
     }
 }
 

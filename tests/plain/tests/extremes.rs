@@ -44,8 +44,10 @@ fn sized(nodes: usize, edges: usize, nets: usize, sinks: usize) -> Job {
     let mut first_sink: Vec<u32> = (0..nets as u32).collect();
     first_sink.push(sinks as u32);
     let sink = |s: usize| (if s < nets { 1 } else { s - nets + 2 }) as u16;
+    let mut kind = vec![1; nodes];
+    kind[0] = 0;
     Job {
-        kind: vec![0; nodes],
+        kind,
         capacity: vec![255; nodes],
         first_edge,
         edge_target: (0..edges).map(target).collect(),

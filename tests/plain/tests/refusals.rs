@@ -65,7 +65,7 @@ fn texts_of_wrong_order() {
 fn the_4097th_sink() {
     let mut job = String::from("F,4096,0,2,1\n");
     for v in 0..4096 {
-        job += &format!("N,{v},0,1\n");
+        job += &format!("N,{v},{},1\n", u8::from(v > 0));
     }
     job += "S,0,0\n";
     for v in 1..4096 {
@@ -76,6 +76,30 @@ fn the_4097th_sink() {
     assert_eq!(read_into(job.as_bytes(), &mut t).numbers, [4096, 0, 2, 4096, 1, 50, 3, 2, 1]);
     assert_eq!(refusal(&(job.clone() + "T,1,4096\n")), [2, 8196]);
     assert_eq!(refusal(&(job + "T,1,2\n")), [3, 8196]);
+}
+
+#[test]
+fn pins_of_other_kinds_in_a_text() {
+    for kind in 0..54 {
+        let source = text(&B.replace("N,1,0,1", &format!("N,1,{kind},1")));
+        let sink = text(&B.replace("N,4,1,1", &format!("N,4,{kind},1")));
+        for (lines, pins, line) in [(source, [0, 2], 16), (sink, [1, 3], 15)] {
+            if pins.contains(&kind) {
+                assert_eq!(tables(&lines).source, [0, 1], "{lines}");
+            } else {
+                assert_eq!(refusal(&lines), [3, line], "{lines}");
+            }
+        }
+    }
+    // The first line counts, and in a line 1 before 2 before 3.
+    assert_eq!(changed("S,0,0 T,0,4", "S,0,4 T,0,0"), [3, 14]);
+    assert_eq!(changed("S,0,0 T,0,4", "S,0,2, T,0,0"), [1, 14]);
+    assert_eq!(changed("S,0,0 T,0,4", "S,2,2 T,0,0"), [2, 14]);
+    assert_eq!(changed("T,1,5", "T,1,2,"), [1, 17]);
+    assert_eq!(changed("T,1,5", "T,2,2"), [2, 17]);
+    assert_eq!(changed("T,1,5", "T,1,5 T,1,0"), [3, 18]);
+    assert_eq!(changed("S,1,1", "S,1,3"), [3, 16]);
+    assert_eq!(refusal(&text(&B.replace("T,1,5", "T,1,3")).trim_end()), [1, 17]);
 }
 
 #[test]
@@ -129,6 +153,38 @@ fn broken_tables() {
     let mut work = vec![9; 47];
     assert_eq!(route_with(&tables(&text(B)), &mut work, &mut []).refusal, [6, 48]);
     assert_eq!(work, [9; 47]);
+}
+
+#[test]
+fn pins_of_other_kinds_in_tables() {
+    for kind in 0..54 {
+        for (node, pins, table) in [(0, [0, 2], 5), (1, [0, 2], 5), (4, [1, 3], 7), (5, [1, 3], 7)] {
+            let mut t = tables(&text(B));
+            t.kind[node] = kind;
+            let refusal = route_with(&t, &mut [], &mut []).refusal;
+            assert_eq!(refusal, if pins.contains(&kind) { [6, 48] } else { [5, table] }, "{kind} at {node}");
+        }
+    }
+    assert_eq!(broken(|t| t.source[1] = 2), [5, 5]);
+    assert_eq!(broken(|t| t.source[1] = 4), [5, 5]);
+    assert_eq!(broken(|t| t.sink[1] = 2), [5, 7]);
+    assert_eq!(broken(|t| t.sink[1] = 0), [5, 7]);
+    assert_eq!(broken(|t| t.kind.swap(0, 4)), [5, 5]);
+    // Table 6 comes between, tables 1 to 4 before, table 8 after.
+    assert_eq!(broken(|t| (t.kind[5], t.first_sink[1]) = (4, 0)), [5, 6]);
+    assert_eq!(broken(|t| (t.kind[0], t.first_sink[1]) = (4, 0)), [5, 5]);
+    assert_eq!(broken(|t| (t.kind[0], t.capacity[0]) = (4, 0)), [5, 2]);
+    assert_eq!(broken(|t| (t.kind[5], t.limit) = (4, 0)), [5, 7]);
+}
+
+#[test]
+fn pins_of_both_kinds_are_routed() {
+    let lines = B.replace("N,1,0,1", "N,1,2,1").replace("N,4,1,1", "N,4,3,1");
+    let (answer, log) = routed(&tables(&text(&lines)), 36);
+    assert_eq!((answer.refusal, answer.numbers), (vec![], vec![2, 4, 36]));
+    // Node 4 costs 1900, node 5 2000; net 0 gives way in iteration 2.
+    let costs = [3, 12, 21, 30].map(|place| log[place]);
+    assert_eq!(costs, [3900, 4000, 5900, 6000]);
 }
 
 #[test]

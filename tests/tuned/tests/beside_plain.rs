@@ -33,12 +33,25 @@ fn random_job(draw: &mut Rng, most_nodes: usize) -> Job {
         row.sort();
         job.add_row(&row);
     }
+    let mut pins = some(draw, nodes, nodes, nodes);
+    let sinks = pins.split_off(draw.within(1, nodes - 1));
     if draw.below(2) == 0 {
-        add_nets(draw, nodes, &mut job);
+        add_nets(draw, &pins, &sinks, &mut job);
     } else {
-        add_apart_nets(draw, nodes, &mut job);
+        add_apart_nets(draw, &pins, &sinks, &mut job);
     }
+    add_pin_kinds(draw, &mut job);
     job
+}
+
+/// Kind 0 or 2 for sources, 1 or 3 for sinks.
+fn add_pin_kinds(draw: &mut Rng, job: &mut Job) {
+    for &source in &job.source {
+        job.kind[source as usize] = draw.pick(&[0, 2]);
+    }
+    for &sink in &job.sink {
+        job.kind[sink as usize] = draw.pick(&[1, 3]);
+    }
 }
 
 /// The plain tuning, or one of all allowed.
@@ -52,28 +65,27 @@ fn random_tuning(draw: &mut Rng) -> Tuning {
     Tuning { first, up, down: down as u32, step: draw.within(1, 2) as u32 }
 }
 
-/// Nets with pins anywhere: most of them never settle.
-fn add_nets(draw: &mut Rng, nodes: usize, job: &mut Job) {
-    let sinks = 1 + draw.below(6);
+/// Nets with pins in common: most of them never settle.
+fn add_nets(draw: &mut Rng, sources: &[u16], sinks: &[u16], job: &mut Job) {
+    let most = 1 + draw.below(6);
     for _ in 0..1 + draw.below(8) {
-        let source = draw.below(nodes);
-        let count = 1 + draw.below(sinks);
-        job.add_net(source as u16, &some(draw, nodes, count, source));
+        let source = draw.pick(sources);
+        let count = 1 + draw.below(most);
+        let list: Vec<u16> = some(draw, sinks.len(), count, sinks.len()).iter().map(|&s| sinks[s as usize]).collect();
+        job.add_net(source, &list);
     }
 }
 
 /// Nets without a pin in common: many settle after some iterations.
-fn add_apart_nets(draw: &mut Rng, nodes: usize, job: &mut Job) {
-    let mut pins = some(draw, nodes, nodes, nodes).into_iter();
-    for net in 0..1 + draw.below(nodes / 3 + 1) {
-        let (source, first) = match (pins.next(), pins.next()) {
-            (Some(source), Some(sink)) => (source, sink),
-            _ if net > 0 => break,
-            _ => (0, 1),
-        };
-        let mut sinks = vec![first];
-        sinks.extend(pins.by_ref().take(draw.below(3)));
-        job.add_net(source, &sinks);
+fn add_apart_nets(draw: &mut Rng, sources: &[u16], sinks: &[u16], job: &mut Job) {
+    let nets = 1 + draw.below((sources.len() + sinks.len()) / 3 + 1);
+    let mut sinks = sinks.iter().copied();
+    for &source in &sources[..nets.min(sources.len())] {
+        let list: Vec<u16> = sinks.by_ref().take(1 + draw.below(3)).collect();
+        if list.is_empty() {
+            break;
+        }
+        job.add_net(source, &list);
     }
 }
 
@@ -91,6 +103,7 @@ fn layered_job(draw: &mut Rng) -> Job {
     add_layered_nets(draw, &number[..nets], &number[nodes - 2 * nets..], &mut job);
     // Reachable sinks only, or else nearly every job would be refused.
     keep_reachable(&mut job);
+    add_pin_kinds(draw, &mut job);
     job
 }
 
@@ -242,7 +255,8 @@ fn job_b() {
 fn long_keys() {
     let (chain, ends) = (80, 20);
     let nodes = chain + ends;
-    let kind = (0..nodes).map(|v| if v < chain { 15 } else { 4 + (v % 3) as u8 }).collect();
+    let mut kind: Vec<u8> = (0..nodes).map(|v| if v < chain { 15 } else { 1 + 2 * (v % 2) as u8 }).collect();
+    kind[0] = 0;
     let mut rows: Vec<Vec<u16>> = (1..chain as u16).map(|v| vec![v]).collect();
     // The last chain node leads to every end.
     rows.push((chain as u16..nodes as u16).collect());

@@ -22,11 +22,11 @@ enum-known-node : tie.Need-enum-known-node
 enum-known-node c = search needs
 
 -- a sink that is read was not one too many
-few : (c : tie.After-known-told) → c .before .before .before .before .before .before .before .before .args .c .sinks < sinksMost
+few : (c : tie.After-known-told) → c .before .before .before .before .before .before .before .before .before .args .c .sinks < sinksMost
 few c =
-    let a = c .before .before .before .before .before .before .before .before .args in
+    let a = c .before .before .before .before .before .before .before .before .before .args in
     let pins = bearing (a .nodes) (a .c .nets) (a .seen .now) in
-    sink-few (a .nodes) (a .nets) (a .c .nets - 1) pins (a .c .sinks) _
+    sink-few (a .kind .now) (a .nodes) (a .nets) (a .c .nets - 1) pins (a .c .sinks) _
     (pin-reading (a .c .nets - 1) (a .text .now) (c .before .before .before .sink-line .ensures .0 pins (bearing-marked (a .c .nets) (a .seen .now) (a .nodes))) (c .before .node .given .1))
 
 mul-sink : tie.Need-mul-sink
@@ -46,14 +46,14 @@ mul-seen c = search needs
 
 slice-write-seen : tie.Need-slice-write-seen
 slice-write-seen c =
-    let a = c .before .before .before .before .before .before .before .before .args in
+    let a = c .before .before .before .before .before .before .before .before .before .args in
     omega (arith, (pin-place (a .nodes) (a .c .at) (a .text .now) (c .before .node .given .1) (c .before .before .before .sink-line .ensures .1)) .1)
 
-add-t19 : tie.Need-add-t19
-add-t19 c = search needs
+add-t20 : tie.Need-add-t20
+add-t20 c = search needs
 
-add-t22 : tie.Need-add-t22
-add-t22 c = omega (arith, few (c .before))
+add-t23 : tie.Need-add-t23
+add-t23 c = omega (arith, few (c .before))
 
 enum-known-number : tie.Need-enum-known-number
 enum-known-number c = search needs
@@ -66,7 +66,7 @@ same-length-2 c = search needs
 
 returns : tie.Need-returns
 returns c =
-    let a = c .before .before .before .before .before .before .before .before .before .args in
+    let a = c .before .before .before .before .before .before .before .before .before .before .args in
     let place = pin-place (a .nodes) (a .c .at) (a .text .now) (c .before .before .node .given .1) (c .before .before .before .before .sink-line .ensures .1) in
     λ pins m. (_, pin-reading (a .c .nets - 1) (a .text .now) (c .before .before .before .before .sink-line .ensures .0 pins m) (c .before .before .node .given .1), place .1, place .0, refl, refl, refl, refl, refl, refl)
 
@@ -75,7 +75,7 @@ same-length-3 c = search needs
 
 returns-2 : tie.Need-returns-2
 returns-2 c =
-    let a = c .before .before .before .before .before .before .before .before .args in
+    let a = c .before .before .before .before .before .before .before .before .before .args in
     λ pins m. pin-refused (a .c .nets - 1) (a .text .now) (c .before .before .before .sink-line .ensures .0 pins m) (c .before .number .given .1)
 
 pub add-sink-spec : {M : Type 1} → statement M
@@ -92,8 +92,8 @@ add-sink-spec =
     cast-seen-2
     mul-seen
     slice-write-seen
-    add-t19
-    add-t22
+    add-t20
+    add-t23
     enum-known-number
     same-length
     same-length-2

@@ -42,14 +42,14 @@ mul-seen c = search needs
 
 slice-write-seen : tie.Need-slice-write-seen
 slice-write-seen c =
-    let a = c .before .before .before .before .before .before .before .before .args in
+    let a = c .before .before .before .before .before .before .before .before .before .args in
     omega (arith, (pin-place (a .nodes) (a .c .at) (a .text .now) (c .before .node .given .1) (c .before .before .before .source-line .ensures .1)) .1)
 
-add-t16 : tie.Need-add-t16
-add-t16 c = search needs
+add-t17 : tie.Need-add-t17
+add-t17 c = search needs
 
-add-t22 : tie.Need-add-t22
-add-t22 c = search needs
+add-t23 : tie.Need-add-t23
+add-t23 c = search needs
 
 enum-known-number : tie.Need-enum-known-number
 enum-known-number c = search needs
@@ -65,13 +65,13 @@ same-length-3 c = search needs
 
 returns : tie.Need-returns
 returns c =
-    let a = c .before .before .before .before .before .before .before .before .before .args in
+    let a = c .before .before .before .before .before .before .before .before .before .before .args in
     let place = pin-place (a .nodes) (a .c .at) (a .text .now) (c .before .before .node .given .1) (c .before .before .before .before .source-line .ensures .1) in
     (_, pin-reading (a .c .nets) (a .text .now) (c .before .before .before .before .source-line .ensures .0) (c .before .before .node .given .1), place .1, place .0, refl, refl, refl, refl, refl, refl, refl)
 
 returns-2 : tie.Need-returns-2
 returns-2 c =
-    let a = c .before .before .before .before .before .before .before .before .args in
+    let a = c .before .before .before .before .before .before .before .before .before .args in
     pin-refused (a .c .nets) (a .text .now) (c .before .before .before .source-line .ensures .0) (c .before .number .given .1)
 
 pub add-source-spec : {M : Type 1} → statement M
@@ -90,8 +90,8 @@ add-source-spec =
     cast-seen-2
     mul-seen
     slice-write-seen
-    add-t16
-    add-t22
+    add-t17
+    add-t23
     enum-known-number
     same-length
     same-length-2

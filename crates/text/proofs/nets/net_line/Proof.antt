@@ -15,9 +15,9 @@ source-due-requires c κs = search needs
 
 add-source-requires : tie.Need-add-source-requires
 add-source-requires c κs =
-    let a = c .before .before .before .before .before .before .before .before .before .before .before .before .args in
+    let a = c .before .before .before .before .before .before .before .before .before .before .before .before .before .args in
     let below = due-below (a .c .nets) (a .nets) (a .c .first) (a .c .sinks) (c .before .before .before .before .source-due .ensures) (c .before .before .before .if2 .taken) in
-    omega (arith, below, c .before .before .before .before .before .before .before .before .before .before .before .before .pre)
+    omega (arith, below, c .before .before .before .before .before .before .before .before .before .before .before .before .before .pre)
 
 same-length : tie.Need-same-length
 same-length c = search needs
@@ -30,16 +30,16 @@ same-length-3 c = search needs
 
 returns : tie.Need-returns
 returns c =
-    let a = c .before .before .before .before .before .before .before .before .before .before .before .before .before .before .before .before .before .before .before .args in
-    let kept = c .before .before .before .before .before .before .before .before .before .before .before .before .before .before .before .before .before .before .before .pre in
+    let a = c .before .before .before .before .before .before .before .before .before .before .before .before .before .before .before .before .before .before .before .before .args in
+    let kept = c .before .before .before .before .before .before .before .before .before .before .before .before .before .before .before .before .before .before .before .before .pre in
     let due = c .before .before .before .before .before .before .before .before .before .before .before .source-due .ensures in
     let below = due-below (a .c .nets) (a .nets) (a .c .first) (a .c .sinks) due (c .before .before .before .before .before .before .before .before .before .before .if2 .taken) in
-    source-step (kept .0) (kept .1) (c .before .before .before .before .before .before .add-source .result) _ _ _ (c .before .before .before .before .before .before .before .before .before .before .before .before .if1 .taken) (due-is (kept .0) ∙ sym due ∙ c .before .before .before .before .before .before .before .before .before .before .if2 .taken) below (c .before .before .before .before .before .before .add-source .ensures)
+    source-step (kept .0) _ (kept .1) (c .before .before .before .before .before .before .add-source .result) _ _ _ (c .before .before .before .before .before .before .before .before .before .before .before .before .if1 .taken) (due-is (kept .0) ∙ sym due ∙ c .before .before .before .before .before .before .before .before .before .before .if2 .taken) below (c .before .before .before .before .before .before .add-source .ensures)
 
 returns-2 : tie.Need-returns-2
 returns-2 c =
-    let kept = c .before .before .before .before .before .before .before .before .before .pre in
-    (source-undue (kept .0) (kept .1) (c .before .before .if1 .taken) (due-is (kept .0) ∙ sym (c .before .source-due .ensures) ∙ c .if2 .left), tt)
+    let kept = c .before .before .before .before .before .before .before .before .before .before .pre in
+    (source-undue (kept .0) _ (kept .1) (c .before .before .if1 .taken) (due-is (kept .0) ∙ sym (c .before .source-due .ensures) ∙ c .if2 .left), tt)
 
 add-sink-requires : tie.Need-add-sink-requires
 add-sink-requires c κs = search needs
@@ -52,18 +52,18 @@ same-length-5 c = search needs
 
 returns-3 : tie.Need-returns-3
 returns-3 c =
-    let kept = c .before .before .before .before .before .before .before .before .before .before .before .before .before .before .before .before .before .pre in
-    sink-step (kept .0) (kept .1) (c .before .before .before .before .add-sink .result) _ _ (c .before .before .before .before .before .before .before .before .before .before .if1 .left) (c .before .before .before .before .before .before .before .before .before .if3 .taken) (c .before .before .before .before .before .before .before .if4 .taken) (c .before .before .before .before .add-sink .ensures)
+    let kept = c .before .before .before .before .before .before .before .before .before .before .before .before .before .before .before .before .before .before .pre in
+    sink-step (kept .0) _ (kept .1) (c .before .before .before .before .add-sink .result) _ _ (c .before .before .before .before .before .before .before .before .before .before .if1 .left) (c .before .before .before .before .before .before .before .before .before .if3 .taken) (c .before .before .before .before .before .before .before .if4 .taken) (c .before .before .before .before .add-sink .ensures)
 
 returns-4 : tie.Need-returns-4
 returns-4 c =
-    let kept = c .before .before .before .before .before .before .before .before .before .before .pre in
-    (no-net (kept .0) (kept .1) (c .before .before .before .if1 .left) (c .if4 .left), tt)
+    let kept = c .before .before .before .before .before .before .before .before .before .before .before .pre in
+    (no-net (kept .0) _ (kept .1) (c .before .before .before .if1 .left) (c .if4 .left), tt)
 
 returns-5 : tie.Need-returns-5
 returns-5 c =
-    let kept = c .before .before .before .before .before .before .before .before .pre in
-    (other-letter (kept .0) (kept .1) (c .before .if1 .left) (c .if3 .left), tt)
+    let kept = c .before .before .before .before .before .before .before .before .before .pre in
+    (other-letter (kept .0) _ (kept .1) (c .before .if1 .left) (c .if3 .left), tt)
 
 pub net-line-spec : {M : Type 1} → statement M
 net-line-spec =

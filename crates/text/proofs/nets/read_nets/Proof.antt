@@ -13,18 +13,18 @@ use Rattle.text.proofs.nets.read_nets.Statement.{statement}
 use Rattle.text.proofs.nets.read_nets.Tie as tie
 
 abbrev Inv-loop : tie.InvT-loop
-Inv-loop text from first-line nodes nets source₀ first-sink₀ sink₀ seen₀ c₀ source first-sink sink seen c =
-    Going nodes nets text (netLines (length (drop from text)) nodes nets (netLists [] [] []) first-line (drop from text)) c source first-sink sink seen × (length source ≡ length source₀) × (length first-sink ≡ length first-sink₀) × (length sink ≡ length sink₀) × (length seen ≡ 4096)
+Inv-loop text from first-line kind nodes nets source₀ first-sink₀ sink₀ seen₀ c₀ source first-sink sink seen c =
+    Going kind nodes nets text (netLines (length (drop from text)) kind nodes nets (netLists [] [] []) first-line (drop from text)) c source first-sink sink seen × (length source ≡ length source₀) × (length first-sink ≡ length first-sink₀) × (length sink ≡ length sink₀) × (length seen ≡ 4096)
 
 abbrev μ-loop : tie.MeasureT-loop
-μ-loop text from first-line nodes nets source₀ first-sink₀ sink₀ seen₀ c₀ source first-sink sink seen c =
+μ-loop text from first-line kind nodes nets source₀ first-sink₀ sink₀ seen₀ c₀ source first-sink sink seen c =
     length text - c .at
 
 loop-holds : tie.Need-loop-holds Inv-loop μ-loop
 loop-holds c =
-    let s = c .before .before .before .before in
+    let s = c .before .before .before .before .before in
     let a = s .args in
-    (going-first (a .nodes) (a .nets) (a .text .now) (a .from) (a .first-line) (a .source .now) (a .first-sink .now) (a .sink .now) (s .pre .0) (s .pre .1), refl, refl, refl, refl)
+    (going-first (a .kind .now) (a .nodes) (a .nets) (a .text .now) (a .from) (a .first-line) (a .source .now) (a .first-sink .now) (a .sink .now) (s .pre .0 .0, s .pre .0 .1, s .pre .0 .2, s .pre .0 .3) (s .pre .1), refl, refl, refl, refl)
 
 slice-aggregate-net-line : tie.Need-slice-aggregate-net-line Inv-loop μ-loop
 slice-aggregate-net-line c = search needs
@@ -44,7 +44,7 @@ loop-again : tie.Need-loop-again Inv-loop μ-loop
 loop-again c =
     let call = c .before .before .before .before .before .before .before .before .before .before .net-line in
     let inv = c .before .before .before .before .before .before .before .before .before .before .before .before .before .before .before .before .before .loop .inv in
-    (going-more (inv .0) (c .before .before .before .before .before .before .before .before .before .before .before .before .before .before .before .if1 .taken) (call .result) _ _ _ _ (c .before .next .given .1) (call .ensures .0) (call .ensures .1), call .kept .1 .1 .1 .1 .0 ∙ inv .1, call .kept .1 .1 .1 .1 .1 .0 ∙ inv .2, call .kept .1 .1 .1 .1 .1 .1 .0 ∙ inv .3, call .kept .1 .1 .1 .1 .1 .1 .1 .0 ∙ inv .4)
+    (going-more (inv .0) (c .before .before .before .before .before .before .before .before .before .before .before .before .before .before .before .if1 .taken) (call .result) _ _ _ _ (c .before .next .given .1) (call .ensures .0) (call .ensures .1), call .kept .1 .1 .1 .1 .1 .0 ∙ inv .1, call .kept .1 .1 .1 .1 .1 .1 .0 ∙ inv .2, call .kept .1 .1 .1 .1 .1 .1 .1 .0 ∙ inv .3, call .kept .1 .1 .1 .1 .1 .1 .1 .1 .0 ∙ inv .4)
 
 enum-known-number : tie.Need-enum-known-number Inv-loop μ-loop
 enum-known-number c = search needs
@@ -108,7 +108,7 @@ same-length-12 c = search needs
 returns-4 : tie.Need-returns-4 Inv-loop μ-loop
 returns-4 c =
     let inv = c .before .before .before .before .before .before .before .loop .inv in
-    (going-done (inv .0) (c .before .before .before .before .before .if1 .left) (c .before .before .before .if2 .left) (c .before .if3 .left), (inv .0 .kept .sinks-read, getD-set-same (c .before .before .before .before .before .before .before .loop .first-sink) (c .before .before .before .before .before .before .before .before .before .before .before .before .args .nets) (c .before .before .before .before .before .before .before .loop .c .sinks) 0 (omega (arith, inv .0 .kept .room .firsts-long))))
+    (going-done (inv .0) (c .before .before .before .before .before .if1 .left) (c .before .before .before .if2 .left) (c .before .if3 .left), (inv .0 .kept .sinks-read, getD-set-same (c .before .before .before .before .before .before .before .loop .first-sink) (c .before .before .before .before .before .before .before .before .before .before .before .before .before .args .nets) (c .before .before .before .before .before .before .before .loop .c .sinks) 0 (omega (arith, inv .0 .kept .room .firsts-long))))
 
 pub read-nets-spec : {M : Type 1} → statement M
 read-nets-spec =

@@ -2,8 +2,9 @@
 -- Assumes nothing.
 use Prim.Native.Nat.{_+_}
 use borrow.Author.Needs.{needs}
+use Rattle.search.proofs.KeptLaws.{refused, passed}
 use Rattle.text.proofs.JudgedLaws.{two-place}
-use Rattle.text.proofs.NetLineLaws.{sink-fault, sink-net, sink-node, sink-order, sink-seen, sink-many, sink-pin}
+use Rattle.text.proofs.NetLineLaws.{sink-fault, sink-net, sink-node, sink-order, sink-seen, sink-many, sink-pin, of-refused, of-none, of-one}
 use Rattle.text.proofs.nets.sink_line.Statement.{statement}
 use Rattle.text.proofs.nets.sink_line.Tie as tie
 
@@ -18,32 +19,32 @@ enum-told c = search needs
 
 returns : tie.Need-returns
 returns c =
-    let a = c .before .before .before .before .before .args in
-    (λ pins m. sink-fault _ _ _ (a .at) _ (a .text .now) _ (c .before .before .two-line .ensures .0) pins (c .enum-told .given .1), tt)
+    let a = c .before .before .before .before .before .before .args in
+    (λ pins m. of-refused 1 3 (a .kind .now) (sink-fault _ _ _ (a .at) _ (a .text .now) _ (c .before .before .two-line .ensures .0) pins (c .enum-told .given .1)), tt)
 
 cast-if1 : tie.Need-cast-if1
 cast-if1 c = search needs
 
 returns-2 : tie.Need-returns-2
 returns-2 c =
-    let a = c .before .before .before .before .before .before .before .args in
-    (λ pins m. sink-net _ _ _ (a .at) _ (a .text .now) _ (c .before .before .before .before .two-line .ensures .0) (c .before .before .first .given .1) pins (c .if1 .taken), tt)
+    let a = c .before .before .before .before .before .before .before .before .args in
+    (λ pins m. of-refused 1 3 (a .kind .now) (sink-net _ _ _ (a .at) _ (a .text .now) _ (c .before .before .before .before .two-line .ensures .0) (c .before .before .first .given .1) pins (c .if1 .taken)), tt)
 
 cast-if2 : tie.Need-cast-if2
 cast-if2 c = search needs
 
 returns-3 : tie.Need-returns-3
 returns-3 c =
-    let a = c .before .before .before .before .before .before .before .before .args in
-    (λ pins m. sink-node _ _ _ (a .at) _ (a .text .now) _ (c .before .before .before .before .before .two-line .ensures .0) (c .before .before .before .first .given .1) pins (c .if2 .taken), tt)
+    let a = c .before .before .before .before .before .before .before .before .before .args in
+    (λ pins m. of-refused 1 3 (a .kind .now) (sink-node _ _ _ (a .at) _ (a .text .now) _ (c .before .before .before .before .before .two-line .ensures .0) (c .before .before .before .first .given .1) pins (c .if2 .taken)), tt)
 
 cast-if3 : tie.Need-cast-if3
 cast-if3 c = search needs
 
 returns-4 : tie.Need-returns-4
 returns-4 c =
-    let a = c .before .before .before .before .before .before .before .before .before .args in
-    (λ pins m. sink-order _ _ _ (a .at) _ (a .text .now) _ (c .before .before .before .before .before .before .two-line .ensures .0) (c .before .before .before .before .first .given .1) (c .before .before .if1 .left) (c .before .if2 .left) pins (c .if3 .taken), tt)
+    let a = c .before .before .before .before .before .before .before .before .before .before .args in
+    (λ pins m. of-refused 1 3 (a .kind .now) (sink-order _ _ _ (a .at) _ (a .text .now) _ (c .before .before .before .before .before .before .two-line .ensures .0) (c .before .before .before .before .first .given .1) (c .before .before .if1 .left) (c .before .if2 .left) pins (c .if3 .taken)), tt)
 
 cast-if4 : tie.Need-cast-if4
 cast-if4 c = search needs
@@ -56,21 +57,37 @@ shared-slice-read-if4 c = search needs
 
 returns-5 : tie.Need-returns-5
 returns-5 c =
-    let a = c .before .before .before .before .before .before .before .before .before .before .before .args in
-    (λ pins m. sink-seen _ _ _ (a .at) _ (a .text .now) _ (c .before .before .before .before .before .before .before .before .two-line .ensures .0) (c .before .before .before .before .before .before .first .given .1) (c .before .before .before .before .if1 .left) (c .before .before .before .if2 .left) (a .stamp) (a .seen .now) pins m (c .if4 .taken), tt)
+    let a = c .before .before .before .before .before .before .before .before .before .before .before .before .args in
+    (λ pins m. of-refused 1 3 (a .kind .now) (sink-seen _ _ _ (a .at) _ (a .text .now) _ (c .before .before .before .before .before .before .before .before .two-line .ensures .0) (c .before .before .before .before .before .before .first .given .1) (c .before .before .before .before .if1 .left) (c .before .before .before .if2 .left) (a .stamp) (a .seen .now) pins m (c .if4 .taken)), tt)
 
 returns-6 : tie.Need-returns-6
 returns-6 c =
-    let a = c .before .before .before .before .before .before .before .before .before .before .before .before .args in
-    (λ pins m. sink-many _ _ _ (a .at) _ (a .text .now) _ (c .before .before .before .before .before .before .before .before .before .two-line .ensures .0) (c .before .before .before .before .before .before .before .first .given .1) (c .before .before .before .before .before .if1 .left) (c .before .before .before .before .if2 .left) pins (c .if5 .taken), tt)
+    let a = c .before .before .before .before .before .before .before .before .before .before .before .before .before .args in
+    (λ pins m. of-refused 1 3 (a .kind .now) (sink-many _ _ _ (a .at) _ (a .text .now) _ (c .before .before .before .before .before .before .before .before .before .two-line .ensures .0) (c .before .before .before .before .before .before .before .first .given .1) (c .before .before .before .before .before .if1 .left) (c .before .before .before .before .if2 .left) pins (c .if5 .taken)), tt)
 
-cast-t17 : tie.Need-cast-t17
-cast-t17 c = search needs
+cast-one-of : tie.Need-cast-one-of
+cast-one-of c = search needs
+
+shared-slice-read-one-of : tie.Need-shared-slice-read-one-of
+shared-slice-read-one-of c = search needs
+
+one-of-requires : tie.Need-one-of-requires
+one-of-requires c κs = search needs
 
 returns-7 : tie.Need-returns-7
 returns-7 c =
-    let a = c .before .before .before .before .before .before .before .before .before .before .before .before .args in
-    (λ pins m. sink-pin _ _ _ (a .at) _ (a .text .now) _ (c .before .before .before .before .before .before .before .before .before .two-line .ensures .0) (c .before .before .before .before .before .before .before .first .given .1) (c .before .before .before .before .before .if1 .left) (c .before .before .before .before .if2 .left) (a .stamp) (a .seen .now) pins m (c .before .before .before .if3 .left) (c .before .if4 .left) (c .if5 .left), (two-place (a .at + 1) (a .text .now) (c .before .before .before .before .before .before .before .first .given .1) (c .before .before .before .before .before .before .before .before .before .two-line .ensures .1), c .before .before .before .before .if2 .left))
+    let b = c .before .before .before in
+    let a = b .before .before .before .before .before .before .before .before .before .before .before .before .before .args in
+    (λ pins m. of-none 1 3 (a .kind .now) (sink-pin _ _ _ (a .at) _ (a .text .now) _ (b .before .before .before .before .before .before .before .before .before .two-line .ensures .0) (b .before .before .before .before .before .before .before .first .given .1) (b .before .before .before .before .before .if1 .left) (b .before .before .before .before .if2 .left) (a .stamp) (a .seen .now) pins m (b .before .before .before .if3 .left) (b .before .if4 .left) (b .if5 .left)) (refused (c .before .one-of .ensures) (c .if6 .taken)), tt)
+
+cast-t18 : tie.Need-cast-t18
+cast-t18 c = search needs
+
+returns-8 : tie.Need-returns-8
+returns-8 c =
+    let b = c .before .before .before in
+    let a = b .before .before .before .before .before .before .before .before .before .before .before .before .before .args in
+    (λ pins m. of-one 1 3 (a .kind .now) (sink-pin _ _ _ (a .at) _ (a .text .now) _ (b .before .before .before .before .before .before .before .before .before .two-line .ensures .0) (b .before .before .before .before .before .before .before .first .given .1) (b .before .before .before .before .before .if1 .left) (b .before .before .before .before .if2 .left) (a .stamp) (a .seen .now) pins m (b .before .before .before .if3 .left) (b .before .if4 .left) (b .if5 .left)) (passed (c .before .one-of .ensures) (c .if6 .left)), (two-place (a .at + 1) (a .text .now) (b .before .before .before .before .before .before .before .first .given .1) (b .before .before .before .before .before .before .before .before .before .two-line .ensures .1), b .before .before .before .before .if2 .left))
 
 pub sink-line-spec : {M : Type 1} → statement M
 sink-line-spec =
@@ -91,5 +108,9 @@ sink-line-spec =
     shared-slice-read-if4
     returns-5
     returns-6
-    cast-t17
-    returns-7)
+    cast-one-of
+    shared-slice-read-one-of
+    one-of-requires
+    returns-7
+    cast-t18
+    returns-8)

@@ -1,5 +1,10 @@
 -- `text::reader::read_body` meets its contract: edges and nets are read from where the nodes end.
 -- Assumes nothing.
+use mathlib.Core.Path.{sym}
+use Prim.Native.Nat.{_≤_}
+use native.Mathlib.Omega.{arith}
+use lib.ListN.{length}
+use lib.Seq.{length-take-le}
 use borrow.Author.Needs.{needs}
 use Rattle.text.proofs.ReaderLaws.{nodes-wires, nodes-stop, read-place}
 use Rattle.text.proofs.reader.read_body.Statement.{statement}
@@ -11,18 +16,30 @@ read-nodes-requires c κs = search needs
 enum-known-at : tie.Need-enum-known-at
 enum-known-at c = search needs
 
+-- the table of kinds, as the nodes leave it, has an entry for each of them
+kinds-fit : (c : tie.After-known-told) → c .before .before .before .before .before .before .before .before .before .before .before .before .before .before .before .before .before .before .args .nodes ≤ length (c .before .before .before .before .before .before .before .read-nodes .last .1 .1 .1 .1 .0)
+kinds-fit c =
+    let pre = c .before .before .before .before .before .before .before .before .before .before .before .before .before .before .before .before .before .before .pre in
+    omega (arith, c .before .before .before .before .before .before .before .read-nodes .kept .1 .1 .1 .1 .0, pre .0 .kinds-long, pre .1 .0 .nodes-most)
+
+slice-reshare-prefix-read-edges-nets : tie.Need-slice-reshare-prefix-read-edges-nets
+slice-reshare-prefix-read-edges-nets c = kinds-fit c
+
+slice-aggregate-read-edges-nets : tie.Need-slice-aggregate-read-edges-nets
+slice-aggregate-read-edges-nets c = sym (length-take-le _ _ (kinds-fit (c .before)))
+
 read-edges-nets-requires : tie.Need-read-edges-nets-requires
-read-edges-nets-requires c κs = let nodes = c .before .before .before .before .before .before .before .before .before .before .before .before .read-nodes in
-    let start = c .before .before .before .before .before .before .before .before .before .before .before .before .before .before .before .before .before .before .before .before .before .before .before in
-    let place = read-place (start .args .text .now) (nodes .result) _ _ (c .before .before .before .before .before .before .at .given .1) (nodes .ensures .1) in
-    ((start .pre .1 .0, place .0, place .1), (start .pre .0 .edge-room, start .pre .0 .net-room))
+read-edges-nets-requires c κs = let nodes = c .before .before .before .before .before .before .before .before .before .before .before .before .before .read-nodes in
+    let start = c .before .before .before .before .before .before .before .before .before .before .before .before .before .before .before .before .before .before .before .before .before .before .before .before in
+    let place = read-place (start .args .text .now) (nodes .result) _ _ (c .before .before .before .before .before .before .before .at .given .1) (nodes .ensures .1) in
+    ((start .pre .1 .0, place .0, place .1, omega (arith, length-take-le (start .args .nodes) (nodes .last .1 .1 .1 .1 .0) (kinds-fit (c .before .before .before .before .before .before)))), (start .pre .0 .edge-room, start .pre .0 .net-room))
 
 enum-known-number : tie.Need-enum-known-number
 enum-known-number c = search needs
 
 -- the calls before the two returns, which leave the lengths of the tables as they were
 abbrev noded : tie.After-slice-known14 → tie.After-read-nodes
-noded c = c .before .before .before .before .before .before .before .before .before .before .before .before .before .before .before .before .before .before .before .before .before .before .before
+noded c = c .before .before .before .before .before .before .before .before .before .before .before .before .before .before .before .before .before .before .before .before .before .before .before .before
 
 abbrev wired : tie.After-slice-known14 → tie.After-read-edges-nets
 wired c = c .before .before .before .before .before .before .before .before .before .before
@@ -37,24 +54,24 @@ same-length-2 : tie.Need-same-length-2
 same-length-2 c = noded c .read-nodes .kept .1 .1 .1 .1 .1 .0
 
 same-length-3 : tie.Need-same-length-3
-same-length-3 c = wired c .read-edges-nets .kept .1 .1 .1 .1 .1 .1 .0
+same-length-3 c = wired c .read-edges-nets .kept .1 .1 .1 .1 .1 .1 .1 .0
 
 same-length-4 : tie.Need-same-length-4
-same-length-4 c = wired c .read-edges-nets .kept .1 .1 .1 .1 .1 .1 .1 .0
+same-length-4 c = wired c .read-edges-nets .kept .1 .1 .1 .1 .1 .1 .1 .1 .0
 
 same-length-5 : tie.Need-same-length-5
-same-length-5 c = wired c .read-edges-nets .kept .1 .1 .1 .1 .1 .1 .1 .1 .0
+same-length-5 c = wired c .read-edges-nets .kept .1 .1 .1 .1 .1 .1 .1 .1 .1 .0
 
 same-length-6 : tie.Need-same-length-6
-same-length-6 c = wired c .read-edges-nets .kept .1 .1 .1 .1 .1 .1 .1 .1 .1 .0
+same-length-6 c = wired c .read-edges-nets .kept .1 .1 .1 .1 .1 .1 .1 .1 .1 .1 .0
 
 same-length-7 : tie.Need-same-length-7
-same-length-7 c = wired c .read-edges-nets .kept .1 .1 .1 .1 .1 .1 .1 .1 .1 .1 .0
+same-length-7 c = wired c .read-edges-nets .kept .1 .1 .1 .1 .1 .1 .1 .1 .1 .1 .1 .0
 
 returns : tie.Need-returns
-returns c = let nodes = c .before .before .before .before .before .before .before .before .before .before .before .before .before .before .before .before .before .before .before .before .before .before .before .read-nodes in
+returns c = let nodes = c .before .before .before .before .before .before .before .before .before .before .before .before .before .before .before .before .before .before .before .before .before .before .before .before .read-nodes in
     let wires = c .before .before .before .before .before .before .before .before .before .before .read-edges-nets in (
-      nodes-wires _ _ _ _ _ _ _ _ (nodes .result) (wires .result) (nodes .last .1 .1 .1 .1 .0) (nodes .last .1 .1 .1 .1 .1 .0) (wires .last .1 .1 .1 .1 .1 .1 .0) (wires .last .1 .1 .1 .1 .1 .1 .1 .0) (wires .last .1 .1 .1 .1 .1 .1 .1 .1 .0) (wires .last .1 .1 .1 .1 .1 .1 .1 .1 .1 .0) (wires .last .1 .1 .1 .1 .1 .1 .1 .1 .1 .1 .0) (c .before .before .before .before .before .before .before .before .before .before .before .before .before .before .before .before .before .at .given .1) (nodes .ensures .0) (wires .ensures .0),
+      nodes-wires _ _ _ _ _ _ _ _ (nodes .result) (wires .result) (nodes .last .1 .1 .1 .1 .0) (nodes .last .1 .1 .1 .1 .1 .0) (wires .last .1 .1 .1 .1 .1 .1 .1 .0) (wires .last .1 .1 .1 .1 .1 .1 .1 .1 .0) (wires .last .1 .1 .1 .1 .1 .1 .1 .1 .1 .0) (wires .last .1 .1 .1 .1 .1 .1 .1 .1 .1 .1 .0) (wires .last .1 .1 .1 .1 .1 .1 .1 .1 .1 .1 .1 .0) (c .before .before .before .before .before .before .before .before .before .before .before .before .before .before .before .before .before .before .at .given .1) (nodes .ensures .0) (wires .ensures .0),
       wires .ensures .1,
     )
 
@@ -73,6 +90,8 @@ read-body-spec =
     (tie.spec
     read-nodes-requires
     enum-known-at
+    slice-reshare-prefix-read-edges-nets
+    slice-aggregate-read-edges-nets
     read-edges-nets-requires
     enum-known-number
     same-length

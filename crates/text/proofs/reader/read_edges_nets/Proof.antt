@@ -14,10 +14,10 @@ enum-known-at c = search needs
 
 read-nets-requires : tie.Need-read-nets-requires
 read-nets-requires c κs = let edges = c .before .before .before .before .before .before .before .before .before .before .read-edges in
-    let start = c .before .before .before .before .before .before .before .before .before .before .before .before .before .before .before .before .before .before .before in
+    let start = c .before .before .before .before .before .before .before .before .before .before .before .before .before .before .before .before .before .before .before .before in
     let place = read-place (start .args .text .now) (edges .result) _ _ (c .before .before .before .before .at .given .1) (edges .ensures .1) in
     let pre = start .pre in
-    ((place .0, place .1, pre .0 .0 .nodes-most, pre .0 .0 .nets-most), (omega (arith, pre .1 .1 .sources-long, pre .0 .0 .nets-most), omega (arith, pre .1 .1 .firsts-long, pre .0 .0 .nets-most), pre .1 .1 .sinks-long))
+    ((place .0, place .1, pre .0 .0 .nodes-most, pre .0 .0 .nets-most, pre .0 .3), (omega (arith, pre .1 .1 .sources-long, pre .0 .0 .nets-most), omega (arith, pre .1 .1 .firsts-long, pre .0 .0 .nets-most), pre .1 .1 .sinks-long))
 
 enum-known-number : tie.Need-enum-known-number
 enum-known-number c = search needs
@@ -40,8 +40,8 @@ same-length-5 c = search needs
 returns : tie.Need-returns
 returns c = let edges = c .before .before .before .before .before .before .before .before .before .before .before .before .before .before .before .before .before .read-edges in
     let nets = c .before .before .before .before .before .before .read-nets in
-    let pre = c .before .before .before .before .before .before .before .before .before .before .before .before .before .before .before .before .before .before .before .before .before .before .before .before .before .before .pre in (
-      edges-nets _ _ _ _ _ _ _ _ (edges .result) (nets .result) (edges .last .1 .1 .1 .1 .1 .0) (edges .last .1 .1 .1 .1 .1 .1 .0) (nets .last .1 .1 .1 .1 .1 .0) (nets .last .1 .1 .1 .1 .1 .1 .0) (nets .last .1 .1 .1 .1 .1 .1 .1 .0) (c .before .before .before .before .before .before .before .before .before .before .before .at .given .1) (edges .ensures .0) (nets .ensures .0) (nets .ensures .1) (omega (arith, nets .kept .1 .1 .1 .1 .1 .1 .0, pre .1 .1 .firsts-long, pre .0 .0 .nets-most)) (omega (arith, nets .kept .1 .1 .1 .1 .1 .1 .1 .0, pre .1 .1 .sinks-long)),
+    let pre = c .before .before .before .before .before .before .before .before .before .before .before .before .before .before .before .before .before .before .before .before .before .before .before .before .before .before .before .pre in (
+      edges-nets _ _ _ _ _ _ _ _ _ (edges .result) (nets .result) (edges .last .1 .1 .1 .1 .1 .0) (edges .last .1 .1 .1 .1 .1 .1 .0) (nets .last .1 .1 .1 .1 .1 .1 .0) (nets .last .1 .1 .1 .1 .1 .1 .1 .0) (nets .last .1 .1 .1 .1 .1 .1 .1 .1 .0) (c .before .before .before .before .before .before .before .before .before .before .before .at .given .1) (edges .ensures .0) (nets .ensures .0) (nets .ensures .1) (omega (arith, nets .kept .1 .1 .1 .1 .1 .1 .1 .0, pre .1 .1 .firsts-long, pre .0 .0 .nets-most)) (omega (arith, nets .kept .1 .1 .1 .1 .1 .1 .1 .1 .0, pre .1 .1 .sinks-long)),
       nets .ensures .1,
     )
 
@@ -52,7 +52,7 @@ same-length-7 : tie.Need-same-length-7
 same-length-7 c = search needs
 
 returns-2 : tie.Need-returns-2
-returns-2 c = let edges = c .before .before .before .before .before .before .before .read-edges in (edges-stop _ _ _ _ _ _ _ _ _ _ _ (c .before .number .given .1) (edges .ensures .0), tt)
+returns-2 c = let edges = c .before .before .before .before .before .before .before .read-edges in (edges-stop _ _ _ _ _ _ _ _ _ _ _ _ (c .before .number .given .1) (edges .ensures .0), tt)
 
 pub read-edges-nets-spec : {M : Type 1} → statement M
 read-edges-nets-spec =

@@ -8,13 +8,16 @@ use Rattle.text_large_test.proofs.lines.nodes.Statement.{statement}
 use Rattle.text_large_test.proofs.lines.nodes.Tie as tie
 
 abbrev Inv-loop : tie.InvT-loop
-Inv-loop job₀ from at₀ v₀ job at v = (length job ≡ length job₀) × (v ≤ 4096)
+Inv-loop job₀ from sinks sources at₀ v₀ job at v = (length job ≡ length job₀) × (v ≤ 4096)
 
 abbrev μ-loop : tie.MeasureT-loop
-μ-loop job₀ from at₀ v₀ job at v = 4096 - v
+μ-loop job₀ from sinks sources at₀ v₀ job at v = 4096 - v
 
 loop-holds : tie.Need-loop-holds Inv-loop μ-loop
 loop-holds c = search needs
+
+kind-of-requires : tie.Need-kind-of-requires Inv-loop μ-loop
+kind-of-requires c κs = search needs
 
 node-requires : tie.Need-node-requires Inv-loop μ-loop
 node-requires c κs = search needs
@@ -41,6 +44,7 @@ nodes-spec =
     Inv-loop
     μ-loop
     loop-holds
+    kind-of-requires
     node-requires
     add-v
     loop-less

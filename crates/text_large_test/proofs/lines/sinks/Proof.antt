@@ -1,4 +1,4 @@
--- `text_large_test::lines::sinks` ends. The invariant: the length stays, and v is at most 4096. The measure is what is left of that.
+-- `text_large_test::lines::sinks` ends. The invariant: the length stays, and v is at most 4095. The measure is what is left of that.
 -- Assumes nothing.
 use mathlib.Core.Path.{_≡_}
 use Prim.Native.Nat.{_≤_, _-_}
@@ -8,10 +8,10 @@ use Rattle.text_large_test.proofs.lines.sinks.Statement.{statement}
 use Rattle.text_large_test.proofs.lines.sinks.Tie as tie
 
 abbrev Inv-loop : tie.InvT-loop
-Inv-loop job₀ from at₀ v₀ job at v = (length job ≡ length job₀) × (v ≤ 4096)
+Inv-loop job₀ from at₀ v₀ job at v = (length job ≡ length job₀) × (v ≤ 4095)
 
 abbrev μ-loop : tie.MeasureT-loop
-μ-loop job₀ from at₀ v₀ job at v = 4096 - v
+μ-loop job₀ from at₀ v₀ job at v = 4095 - v
 
 loop-holds : tie.Need-loop-holds Inv-loop μ-loop
 loop-holds c = search needs
