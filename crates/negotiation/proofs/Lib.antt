@@ -1,5 +1,6 @@
 pub mod TariffLaws
 pub mod StepLaws
+pub mod StepWithLaws
 pub mod JobLaws
 pub mod SinkMarkLaws
 pub mod NetTableLaws
