@@ -21,7 +21,7 @@
 extern "C" {
 #endif
 
-/* The price of a node: out[3]. Refusal 13, with the place from 0 of the first bad one of kind, factor (0 to 65,535), others (0 to 511), capacity (1 to 255)
+/* The price of a node: out[3]. Refusal 13, with the place from 0 of the first bad one of kind (0 to 53), factor (0 to 65,535), others (0 to 511), capacity (1 to 255)
  * and history (1 to 101,179). */
 uint32_t arvumnao_price(uint32_t kind, uint32_t factor, uint32_t others, uint32_t capacity, uint32_t history,
                         uint64_t *out, size_t out_count);
@@ -39,7 +39,7 @@ uint32_t arvumnao_search(const uint8_t *kind, size_t kind_count, const uint8_t *
 /* Routes a job given as tables: iteration out[3], turns out[4], words used of the log out[5]. The work slice needs 8 entries a node.
  * The limit of iterations is 1 to 100. The tuning: the factor is `first` (0 to 1,000) in iteration 2 and then each time factor x up / down, rounded down, at most
  * 65,535, with down 1 to 4 and up from down to 8; history grows by step (1 or 2) x overuse. A job that asks for no tuning has first 50, up 3, down 2, step 1.
- * Refusals 5, 6, 7, 8, 9: a bad limit or tuning is 5 with table 8. */
+ * A source is of kind 0 or 2 and a sink of kind 1 or 3: others are 5 with table 5 or 7. Refusals 5, 6, 7, 8, 9: a bad limit or tuning is 5 with table 8. */
 uint32_t arvumnao_route(const uint8_t *kind, size_t kind_count, const uint8_t *capacity, size_t capacity_count,
                         const uint32_t *first_edge, size_t first_edge_count, const uint16_t *edge_target, size_t edge_target_count,
                         const uint16_t *source, size_t source_count, const uint32_t *first_sink, size_t first_sink_count,

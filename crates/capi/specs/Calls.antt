@@ -8,7 +8,7 @@ use Rattle.price.specs.Test.{choose}
 use Rattle.price.specs.Replies as p
 use Rattle.search.specs.Block.{Block}
 use Rattle.search.specs.Turn.{Congestion}
-use Rattle.search.specs.Replies.{SearchReply, searchReply}
+use Rattle.search.specs.Replies.{searchReply}
 use Rattle.negotiation.specs.Job.{Job}
 use Rattle.negotiation.specs.declared.Terms.{Terms}
 use Rattle.negotiation.specs.Outcome.{RouteReply, routeReply}

@@ -1,8 +1,8 @@
 // Route trees as the router keeps them: a mark for each node of the net that is routed, and for every node how many nets have it.
 // A net's old tree is read off the log.
 ghost use mathlib.Core.Path.{_≡_};
-ghost use Prim.Native.Nat.{ℕ, _+_, _*_, _≤_, _<_};
-ghost use lib.ListN.{length, getD, take};
+ghost use Prim.Native.Nat.{_+_, _≤_, _<_};
+ghost use lib.ListN.{length, take};
 ghost use lib.Seq.{slice};
 ghost use Rattle.negotiation.specs.Records.{encode, decode, pathNodes};
 ghost use Rattle.negotiation.specs.Steps.{AllBelow, MarksSet, MarksCleared, Dropped, Added, CanDrop, CanAddMarked, Whole, leading};

@@ -9,7 +9,7 @@ use native.Mathlib.Omega.{arith}
 use lib.Dec.{eqb}
 use lib.ListN.{length, getD}
 use borrow.Author.Tests.{eq-eqb, ne-eqb, eqb-true}
-use Rattle.price.specs.Lists.{every, least, placeOf}
+use Rattle.price.specs.Lists.{least, placeOf}
 use Rattle.price.proofs.TestLaws.{either-way, le-or-lt}
 
 -- ---- the least entry

@@ -4,10 +4,10 @@ use mathlib.Core.Path.{_≡_, refl, sym, _∙_}
 use Prim.Native.Nat.{ℕ, _+_, _*_, _≤_}
 use native.Mathlib.Nat.{mul-le-mul, mul-comm, mul-assoc}
 use native.Mathlib.Omega.{arith}
-use Rattle.price.specs.Bounds.{factorMost, othersMost, historyMost, baseMost}
+use Rattle.price.specs.Bounds.{factorMost, othersMost}
 use Rattle.price.specs.Prices.{baseCost, overuse, priceOf}
 use Rattle.price.specs.Replies.{InBounds}
-use Rattle.price.specs.Running.{congestedCost, historicCost, Tops, RunningProducts}
+use Rattle.price.specs.Running.{congestedCost, historicCost, RunningProducts}
 use Rattle.price.proofs.PriceLaws.{base-most, congestion-most}
 
 -- the longest wire, the largest factor, every other net, capacity 1, the largest history

@@ -2,14 +2,14 @@
 -- Assumes nothing.
 use mathlib.Core.Bool.{true, false}
 use mathlib.Core.Path.{_≡_}
-use Prim.Native.Nat.{ℕ, _≤_, _<_}
+use Prim.Native.Nat.{_≤_, _<_}
 use lib.Dec.{leb}
 use borrow.Author.Tests.{le-leb, lt-leb, leb-true}
 use Rattle.price.specs.Test.{both}
 use Rattle.price.specs.Bounds.{firstMost, downMost, upMost, stepMost}
 use Rattle.price.specs.Tuning.{tuningSound}
 use Rattle.price.specs.declared.Tuning.{Tuning}
-use Rattle.price.proofs.TestLaws.{both-true, both-left, both-right}
+use Rattle.price.proofs.TestLaws.{both-left, both-right}
 
 pub record TuningWithin (g : Tuning) : Type 0 where
   pub few-first : g .first ≤ firstMost

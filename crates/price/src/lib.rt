@@ -2,7 +2,7 @@
 // Document 01, "Prices". Every public function takes every input that its types allow.
 ghost use mathlib.Core.Path.{_≡_};
 ghost use Prim.Native.Nat.{_≤_};
-ghost use Rattle.price.specs.Bounds.{kindMost, factorMost, othersMost, capacityMost, historyMost};
+ghost use Rattle.price.specs.Bounds.{kindMost, othersMost};
 ghost use Rattle.price.specs.Prices.{baseCost, priceOf, nextFactor, nextHistory};
 ghost use Rattle.price.specs.Replies.{InBounds, toldOf, priceReply};
 ghost use Rattle.price.specs.Tuning.{plain, tuningSound};

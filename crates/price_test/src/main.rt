@@ -4,15 +4,15 @@ use price::PriceAnswer;
 
 mod tuned;
 
-pub fn put(text: &[u8]) {
+fn put(text: &[u8]) {
     io::write_all(STDOUT_FILENO, text);
 }
 
-pub fn number(n: u64) {
+fn number(n: u64) {
     io::print_decimal(STDOUT_FILENO, n);
 }
 
-pub fn field(n: u32) {
+fn field(n: u32) {
     number(n as u64);
     put(b" ");
 }

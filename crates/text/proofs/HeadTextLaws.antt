@@ -19,8 +19,8 @@ use Rattle.negotiation.specs.Tables.{netsMost}
 use Rattle.text.specs.Lines.{letterF, letterP, begins, printLine}
 use Rattle.text.specs.JobText.{between, headWithin, headLine, part, andThen, Counts, tuningPart, countsOf, headPart}
 use Rattle.text.specs.Printed.{tuningText, Written}
-use Rattle.text.proofs.PrintLaws.{LineRead, judged-line, line-judged, onward-part, then-part}
-use Rattle.text.proofs.TuningTextLaws.{four-of, TuningTold, tuning-read, tuning-printed}
+use Rattle.text.proofs.PrintLaws.{LineRead, judged-line, line-judged, onward-part, then-part, four-of}
+use Rattle.text.proofs.TuningTextLaws.{TuningTold, tuning-read, tuning-printed}
 
 -- the bounds of the three counts, of the limit and of the tuning
 pub record HeadBounds (c : Counts) : Type 0 where

@@ -2,7 +2,7 @@
 --     field-printed, printed-field        a field
 --     line-printed, printed-line          a line
 --     line-judged, judged-line            a line whose values are tested
---     two-of                              the values of a line with two fields
+--     two-of, four-of                     the values of a line with two or four fields
 --     onward-part, then-part              what comes after a line, and after a part
 -- Assumes nothing.
 use mathlib.Core.Bool.{Bool, true, false}
@@ -240,6 +240,14 @@ two-of [] e = absurd (omega arith)
 two-of (x ∷ []) e = absurd (omega arith)
 two-of (x ∷ y ∷ []) e = refl
 two-of (x ∷ y ∷ z ∷ zs) e = absurd (omega arith)
+
+pub four-of : (vs : List ℕ) → length vs ≡ 4 → vs ≡ getD vs 0 0 ∷ getD vs 1 0 ∷ getD vs 2 0 ∷ getD vs 3 0 ∷ []
+four-of [] e = absurd (omega arith)
+four-of (a ∷ []) e = absurd (omega arith)
+four-of (a ∷ b ∷ []) e = absurd (omega arith)
+four-of (a ∷ b ∷ c ∷ []) e = absurd (omega arith)
+four-of (a ∷ b ∷ c ∷ d ∷ []) e = refl
+four-of (a ∷ b ∷ c ∷ d ∷ x ∷ xs) e = absurd (omega arith)
 
 -- ---- what comes after
 

@@ -1,5 +1,4 @@
 -- The P line: reading it, or none, gives a tuning within its bounds, and printing this where it is written gives the same bytes.
---     four-of          the values of a line with four fields
 --     tuning-read      from reading
 --     tuning-printed   from printing
 -- Assumes nothing.
@@ -10,7 +9,6 @@ use mathlib.Core.Path.{_≡_, refl, _∙_, ap}
 use Prim.Native.Nat.{ℕ, _+_, _^_}
 use native.Mathlib.Omega.{arith}
 use lib.Dec.{ltb}
-use lib.ListN.{length, getD}
 use borrow.Author.Tests.{lt-ltb}
 use Rattle.price.specs.Test.{choose}
 use Rattle.price.specs.Lists.{every}
@@ -21,15 +19,7 @@ use Rattle.price.proofs.TuningLaws.{TuningWithin, tuning-within}
 use Rattle.text.specs.Lines.{letterP, begins, printLine}
 use Rattle.text.specs.JobText.{tuningOf, tuningWithin, tuningLine, part, tuningPart}
 use Rattle.text.specs.Printed.{tuningText, Written}
-use Rattle.text.proofs.PrintLaws.{LineRead, judged-line, line-judged, onward-part}
-
-pub four-of : (vs : List ℕ) → length vs ≡ 4 → vs ≡ getD vs 0 0 ∷ getD vs 1 0 ∷ getD vs 2 0 ∷ getD vs 3 0 ∷ []
-four-of [] e = absurd (omega arith)
-four-of (a ∷ []) e = absurd (omega arith)
-four-of (a ∷ b ∷ []) e = absurd (omega arith)
-four-of (a ∷ b ∷ c ∷ []) e = absurd (omega arith)
-four-of (a ∷ b ∷ c ∷ d ∷ []) e = refl
-four-of (a ∷ b ∷ c ∷ d ∷ x ∷ xs) e = absurd (omega arith)
+use Rattle.text.proofs.PrintLaws.{LineRead, judged-line, line-judged, four-of, onward-part}
 
 -- ---- from reading
 

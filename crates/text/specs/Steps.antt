@@ -1,6 +1,5 @@
 -- What the private functions' contracts say: how their answers stand for the definitions of the job text, at places of the text.
 -- Assumes nothing.
-use mathlib.Core.Bool.{Bool, false}
 use mathlib.Core.List.{List, [], _∷_}
 use mathlib.Core.Path.{_≡_}
 use Prim.Native.Nat.{ℕ, _+_, _-_, _≤_, _<_}
