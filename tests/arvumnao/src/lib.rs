@@ -20,53 +20,93 @@ const OWN: usize = 3;
 mod c {
     extern "C" {
         pub fn arvumnao_price(
-            kind: u32, factor: u32, others: u32, capacity: u32, history: u32,
-            out: *mut u64, out_len: usize,
+            kind: u32,
+            factor: u32,
+            others: u32,
+            capacity: u32,
+            history: u32,
+            out: *mut u64,
+            out_len: usize,
         ) -> u32;
 
         pub fn arvumnao_search(
-            kind: *const u8, kind_len: usize,
-            capacity: *const u8, capacity_len: usize,
-            first_edge: *const u32, first_edge_len: usize,
-            edge_target: *const u16, edge_target_len: usize,
+            kind: *const u8,
+            kind_len: usize,
+            capacity: *const u8,
+            capacity_len: usize,
+            first_edge: *const u32,
+            first_edge_len: usize,
+            edge_target: *const u16,
+            edge_target_len: usize,
             factor: u32,
-            work: *mut u64, work_len: usize,
-            history: *const u32, history_len: usize,
-            others: *const u16, others_len: usize,
-            in_tree: *const u8, in_tree_len: usize,
-            out: *mut u64, out_len: usize,
+            work: *mut u64,
+            work_len: usize,
+            history: *const u32,
+            history_len: usize,
+            others: *const u16,
+            others_len: usize,
+            in_tree: *const u8,
+            in_tree_len: usize,
+            out: *mut u64,
+            out_len: usize,
         ) -> u32;
 
         pub fn arvumnao_route(
-            kind: *const u8, kind_len: usize,
-            capacity: *const u8, capacity_len: usize,
-            first_edge: *const u32, first_edge_len: usize,
-            edge_target: *const u16, edge_target_len: usize,
-            source: *const u16, source_len: usize,
-            first_sink: *const u32, first_sink_len: usize,
-            sink: *const u16, sink_len: usize,
-            limit: u32, first: u32, up: u32, down: u32, step: u32,
-            work: *mut u64, work_len: usize,
-            log: *mut u32, log_len: usize,
-            out: *mut u64, out_len: usize,
+            kind: *const u8,
+            kind_len: usize,
+            capacity: *const u8,
+            capacity_len: usize,
+            first_edge: *const u32,
+            first_edge_len: usize,
+            edge_target: *const u16,
+            edge_target_len: usize,
+            source: *const u16,
+            source_len: usize,
+            first_sink: *const u32,
+            first_sink_len: usize,
+            sink: *const u16,
+            sink_len: usize,
+            limit: u32,
+            first: u32,
+            up: u32,
+            down: u32,
+            step: u32,
+            work: *mut u64,
+            work_len: usize,
+            log: *mut u32,
+            log_len: usize,
+            out: *mut u64,
+            out_len: usize,
         ) -> u32;
 
         pub fn arvumnao_read(
-            text: *const u8, text_len: usize,
-            kind: *mut u8, kind_len: usize,
-            capacity: *mut u8, capacity_len: usize,
-            first_edge: *mut u32, first_edge_len: usize,
-            edge_target: *mut u16, edge_target_len: usize,
-            source: *mut u16, source_len: usize,
-            first_sink: *mut u32, first_sink_len: usize,
-            sink: *mut u16, sink_len: usize,
-            out: *mut u64, out_len: usize,
+            text: *const u8,
+            text_len: usize,
+            kind: *mut u8,
+            kind_len: usize,
+            capacity: *mut u8,
+            capacity_len: usize,
+            first_edge: *mut u32,
+            first_edge_len: usize,
+            edge_target: *mut u16,
+            edge_target_len: usize,
+            source: *mut u16,
+            source_len: usize,
+            first_sink: *mut u32,
+            first_sink_len: usize,
+            sink: *mut u16,
+            sink_len: usize,
+            out: *mut u64,
+            out_len: usize,
         ) -> u32;
 
         pub fn arvumnao_write(
-            log: *const u32, log_len: usize,
-            buffer: *mut u8, buffer_len: usize,
-            out: *mut u64, out_len: usize,
+            log: *const u32,
+            log_len: usize,
+            buffer: *mut u8,
+            buffer_len: usize,
+            out: *mut u64,
+            out_len: usize,
         ) -> u32;
     }
 }
@@ -83,21 +123,38 @@ pub fn raw_price(kind: u32, factor: u32, others: u32, capacity: u32, history: u3
 /// The search with the caller's own `out`; the library's return value.
 #[allow(clippy::too_many_arguments)]
 pub fn raw_search(
-    kind: &[u8], capacity: &[u8], first_edge: &[u32], edge_target: &[u16], factor: u32,
-    work: &mut [u64], history: &[u32], others: &[u16], in_tree: &[u8], out: &mut [u64],
+    kind: &[u8],
+    capacity: &[u8],
+    first_edge: &[u32],
+    edge_target: &[u16],
+    factor: u32,
+    work: &mut [u64],
+    history: &[u32],
+    others: &[u16],
+    in_tree: &[u8],
+    out: &mut [u64],
 ) -> u32 {
     unsafe {
         c::arvumnao_search(
-            kind.as_ptr(), kind.len(),
-            capacity.as_ptr(), capacity.len(),
-            first_edge.as_ptr(), first_edge.len(),
-            edge_target.as_ptr(), edge_target.len(),
+            kind.as_ptr(),
+            kind.len(),
+            capacity.as_ptr(),
+            capacity.len(),
+            first_edge.as_ptr(),
+            first_edge.len(),
+            edge_target.as_ptr(),
+            edge_target.len(),
             factor,
-            work.as_mut_ptr(), work.len(),
-            history.as_ptr(), history.len(),
-            others.as_ptr(), others.len(),
-            in_tree.as_ptr(), in_tree.len(),
-            out.as_mut_ptr(), out.len(),
+            work.as_mut_ptr(),
+            work.len(),
+            history.as_ptr(),
+            history.len(),
+            others.as_ptr(),
+            others.len(),
+            in_tree.as_ptr(),
+            in_tree.len(),
+            out.as_mut_ptr(),
+            out.len(),
         )
     }
 }
@@ -105,23 +162,49 @@ pub fn raw_search(
 /// The router with the caller's own `out`; the library's return value.
 #[allow(clippy::too_many_arguments)]
 pub fn raw_route(
-    kind: &[u8], capacity: &[u8], first_edge: &[u32], edge_target: &[u16], source: &[u16],
-    first_sink: &[u32], sink: &[u16], limit: u32, first: u32, up: u32, down: u32, step: u32,
-    work: &mut [u64], log: &mut [u32], out: &mut [u64],
+    kind: &[u8],
+    capacity: &[u8],
+    first_edge: &[u32],
+    edge_target: &[u16],
+    source: &[u16],
+    first_sink: &[u32],
+    sink: &[u16],
+    limit: u32,
+    first: u32,
+    up: u32,
+    down: u32,
+    step: u32,
+    work: &mut [u64],
+    log: &mut [u32],
+    out: &mut [u64],
 ) -> u32 {
     unsafe {
         c::arvumnao_route(
-            kind.as_ptr(), kind.len(),
-            capacity.as_ptr(), capacity.len(),
-            first_edge.as_ptr(), first_edge.len(),
-            edge_target.as_ptr(), edge_target.len(),
-            source.as_ptr(), source.len(),
-            first_sink.as_ptr(), first_sink.len(),
-            sink.as_ptr(), sink.len(),
-            limit, first, up, down, step,
-            work.as_mut_ptr(), work.len(),
-            log.as_mut_ptr(), log.len(),
-            out.as_mut_ptr(), out.len(),
+            kind.as_ptr(),
+            kind.len(),
+            capacity.as_ptr(),
+            capacity.len(),
+            first_edge.as_ptr(),
+            first_edge.len(),
+            edge_target.as_ptr(),
+            edge_target.len(),
+            source.as_ptr(),
+            source.len(),
+            first_sink.as_ptr(),
+            first_sink.len(),
+            sink.as_ptr(),
+            sink.len(),
+            limit,
+            first,
+            up,
+            down,
+            step,
+            work.as_mut_ptr(),
+            work.len(),
+            log.as_mut_ptr(),
+            log.len(),
+            out.as_mut_ptr(),
+            out.len(),
         )
     }
 }
@@ -129,20 +212,36 @@ pub fn raw_route(
 /// The reader with the caller's own `out`; the library's return value.
 #[allow(clippy::too_many_arguments)]
 pub fn raw_read(
-    text: &[u8], kind: &mut [u8], capacity: &mut [u8], first_edge: &mut [u32], edge_target: &mut [u16],
-    source: &mut [u16], first_sink: &mut [u32], sink: &mut [u16], out: &mut [u64],
+    text: &[u8],
+    kind: &mut [u8],
+    capacity: &mut [u8],
+    first_edge: &mut [u32],
+    edge_target: &mut [u16],
+    source: &mut [u16],
+    first_sink: &mut [u32],
+    sink: &mut [u16],
+    out: &mut [u64],
 ) -> u32 {
     unsafe {
         c::arvumnao_read(
-            text.as_ptr(), text.len(),
-            kind.as_mut_ptr(), kind.len(),
-            capacity.as_mut_ptr(), capacity.len(),
-            first_edge.as_mut_ptr(), first_edge.len(),
-            edge_target.as_mut_ptr(), edge_target.len(),
-            source.as_mut_ptr(), source.len(),
-            first_sink.as_mut_ptr(), first_sink.len(),
-            sink.as_mut_ptr(), sink.len(),
-            out.as_mut_ptr(), out.len(),
+            text.as_ptr(),
+            text.len(),
+            kind.as_mut_ptr(),
+            kind.len(),
+            capacity.as_mut_ptr(),
+            capacity.len(),
+            first_edge.as_mut_ptr(),
+            first_edge.len(),
+            edge_target.as_mut_ptr(),
+            edge_target.len(),
+            source.as_mut_ptr(),
+            source.len(),
+            first_sink.as_mut_ptr(),
+            first_sink.len(),
+            sink.as_mut_ptr(),
+            sink.len(),
+            out.as_mut_ptr(),
+            out.len(),
         )
     }
 }
@@ -151,9 +250,12 @@ pub fn raw_read(
 pub fn raw_write(log: &[u32], buffer: &mut [u8], out: &mut [u64]) -> u32 {
     unsafe {
         c::arvumnao_write(
-            log.as_ptr(), log.len(),
-            buffer.as_mut_ptr(), buffer.len(),
-            out.as_mut_ptr(), out.len(),
+            log.as_ptr(),
+            log.len(),
+            buffer.as_mut_ptr(),
+            buffer.len(),
+            out.as_mut_ptr(),
+            out.len(),
         )
     }
 }
@@ -188,27 +290,57 @@ pub fn price(kind: u32, factor: u32, others: u32, capacity: u32, history: u32) -
 /// The distances from a tree. Numbers: none.
 #[allow(clippy::too_many_arguments)]
 pub fn search(
-    kind: &[u8], capacity: &[u8], first_edge: &[u32], edge_target: &[u16], factor: u32,
-    work: &mut [u64], history: &[u32], others: &[u16], in_tree: &[u8],
+    kind: &[u8],
+    capacity: &[u8],
+    first_edge: &[u32],
+    edge_target: &[u16],
+    factor: u32,
+    work: &mut [u64],
+    history: &[u32],
+    others: &[u16],
+    in_tree: &[u8],
 ) -> Answer {
     let mut out = [0; OUT];
-    let returned = raw_search(
-        kind, capacity, first_edge, edge_target, factor, work, history, others, in_tree, &mut out,
-    );
+    let returned =
+        raw_search(kind, capacity, first_edge, edge_target, factor, work, history, others, in_tree, &mut out);
     taken(returned, &out, 0)
 }
 
 /// Routes a job. Numbers: iteration, turns, words.
 #[allow(clippy::too_many_arguments)]
 pub fn route(
-    kind: &[u8], capacity: &[u8], first_edge: &[u32], edge_target: &[u16], source: &[u16],
-    first_sink: &[u32], sink: &[u16], limit: u32, first: u32, up: u32, down: u32, step: u32,
-    work: &mut [u64], log: &mut [u32],
+    kind: &[u8],
+    capacity: &[u8],
+    first_edge: &[u32],
+    edge_target: &[u16],
+    source: &[u16],
+    first_sink: &[u32],
+    sink: &[u16],
+    limit: u32,
+    first: u32,
+    up: u32,
+    down: u32,
+    step: u32,
+    work: &mut [u64],
+    log: &mut [u32],
 ) -> Answer {
     let mut out = [0; OUT];
     let returned = raw_route(
-        kind, capacity, first_edge, edge_target, source, first_sink, sink,
-        limit, first, up, down, step, work, log, &mut out,
+        kind,
+        capacity,
+        first_edge,
+        edge_target,
+        source,
+        first_sink,
+        sink,
+        limit,
+        first,
+        up,
+        down,
+        step,
+        work,
+        log,
+        &mut out,
     );
     taken(returned, &out, 3)
 }
@@ -216,13 +348,18 @@ pub fn route(
 /// Reads a job text. Numbers: nodes, edges, nets, sinks, limit, first, up, down, step.
 #[allow(clippy::too_many_arguments)]
 pub fn read(
-    text: &[u8], kind: &mut [u8], capacity: &mut [u8], first_edge: &mut [u32], edge_target: &mut [u16],
-    source: &mut [u16], first_sink: &mut [u32], sink: &mut [u16],
+    text: &[u8],
+    kind: &mut [u8],
+    capacity: &mut [u8],
+    first_edge: &mut [u32],
+    edge_target: &mut [u16],
+    source: &mut [u16],
+    first_sink: &mut [u32],
+    sink: &mut [u16],
 ) -> Answer {
     let mut out = [0; OUT];
-    let returned = raw_read(
-        text, kind, capacity, first_edge, edge_target, source, first_sink, sink, &mut out,
-    );
+    let returned =
+        raw_read(text, kind, capacity, first_edge, edge_target, source, first_sink, sink, &mut out);
     taken(returned, &out, 9)
 }
 

@@ -68,7 +68,11 @@ impl Grid {
 
 /// Wires go four ways, a short and a long one each way.
 fn wire_length(wire: usize) -> usize {
-    if wire < 4 { 1 } else { 3 }
+    if wire < 4 {
+        1
+    } else {
+        3
+    }
 }
 
 fn cell_kind(part: usize) -> u8 {
@@ -198,9 +202,20 @@ mod tests {
                 let job = make(shape, nodes);
                 let [first, up, down, step] = job.tuning.numbers();
                 let answer = plain::route(
-                    &job.kind, &job.capacity, &job.first_edge, &job.edge_target,
-                    &job.source, &job.first_sink, &job.sink, job.limit, first, up, down, step,
-                    &mut vec![0; 8 * nodes], &mut [],
+                    &job.kind,
+                    &job.capacity,
+                    &job.first_edge,
+                    &job.edge_target,
+                    &job.source,
+                    &job.first_sink,
+                    &job.sink,
+                    job.limit,
+                    first,
+                    up,
+                    down,
+                    step,
+                    &mut vec![0; 8 * nodes],
+                    &mut [],
                 );
                 assert_eq!(answer.refusal, [8, 1, 0], "{shape:?} {nodes}");
             }

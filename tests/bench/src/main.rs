@@ -80,7 +80,13 @@ fn run_once(router: Router, job: &Job, lent: &mut Lent, wanted: &Result, wanted_
 }
 
 /// Runs the routers in turn, over and over, and keeps each one's best time.
-fn measure(routers: &[Router], job: &Job, lent: &mut Lent, wanted: &Result, log: &[u32]) -> Vec<(Router, Duration)> {
+fn measure(
+    routers: &[Router],
+    job: &Job,
+    lent: &mut Lent,
+    wanted: &Result,
+    log: &[u32],
+) -> Vec<(Router, Duration)> {
     let mut best: Vec<(Router, Duration)> = routers.iter().map(|&r| (r, Duration::MAX)).collect();
     let mut spent = vec![Duration::ZERO; routers.len()];
     for round in 0..MOST {
@@ -137,8 +143,19 @@ fn print_head() {
 fn print_row(row: &Row) {
     use Router::*;
     let job = &row.job;
-    print!("{:<10}{:>6}{:>7}", format!("{:?}", row.shape).to_lowercase(), job.kind.len(), job.edge_target.len());
-    print!("{:>5}{:>6}{:>5}{:>7}", job.source.len(), job.sink.len(), row.result.numbers[0], row.result.numbers[1]);
+    print!(
+        "{:<10}{:>6}{:>7}",
+        format!("{:?}", row.shape).to_lowercase(),
+        job.kind.len(),
+        job.edge_target.len()
+    );
+    print!(
+        "{:>5}{:>6}{:>5}{:>7}",
+        job.source.len(),
+        job.sink.len(),
+        row.result.numbers[0],
+        row.result.numbers[1]
+    );
     print!("  {:<10}|", row.outcome());
     for (router, width) in [(Proved, 10), (Heap, 9), (Pruned, 9), (Carried, 9), (Plain, 10)] {
         print!("{}", cell(row.seconds(router).map(|s| s * 1e3), width, 3));
@@ -167,7 +184,12 @@ fn print_ratio(name: &str, ratios: &[f64]) {
 
 fn print_ratios(rows: &[Row]) {
     use Router::*;
-    let pairs = [("proved/heap", Proved, Heap), ("proved/pruned", Proved, Pruned), ("proved/carried", Proved, Carried), ("plain/proved", Plain, Proved)];
+    let pairs = [
+        ("proved/heap", Proved, Heap),
+        ("proved/pruned", Proved, Pruned),
+        ("proved/carried", Proved, Carried),
+        ("plain/proved", Plain, Proved),
+    ];
     for (name, over, under) in pairs {
         let ratios: Vec<f64> = rows.iter().filter_map(|row| row.ratio(over, under)).collect();
         print_ratio(name, &ratios);

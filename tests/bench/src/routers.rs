@@ -48,8 +48,20 @@ pub fn all() -> Vec<Router> {
 fn proved(job: &Job, work: &mut [u64], log: &mut [u32]) -> Result {
     let [first, up, down, step] = job.tuning.numbers();
     let answer = arvumnao::route(
-        &job.kind, &job.capacity, &job.first_edge, &job.edge_target,
-        &job.source, &job.first_sink, &job.sink, job.limit, first, up, down, step, work, log,
+        &job.kind,
+        &job.capacity,
+        &job.first_edge,
+        &job.edge_target,
+        &job.source,
+        &job.first_sink,
+        &job.sink,
+        job.limit,
+        first,
+        up,
+        down,
+        step,
+        work,
+        log,
     );
     Result { refusal: answer.refusal, numbers: answer.numbers }
 }
@@ -62,8 +74,20 @@ fn proved(_: &Job, _: &mut [u64], _: &mut [u32]) -> Result {
 fn plain(job: &Job, work: &mut [u64], log: &mut [u32]) -> Result {
     let [first, up, down, step] = job.tuning.numbers();
     let answer = plain::route(
-        &job.kind, &job.capacity, &job.first_edge, &job.edge_target,
-        &job.source, &job.first_sink, &job.sink, job.limit, first, up, down, step, work, log,
+        &job.kind,
+        &job.capacity,
+        &job.first_edge,
+        &job.edge_target,
+        &job.source,
+        &job.first_sink,
+        &job.sink,
+        job.limit,
+        first,
+        up,
+        down,
+        step,
+        work,
+        log,
     );
     Result { refusal: answer.refusal, numbers: answer.numbers }
 }
@@ -71,8 +95,20 @@ fn plain(job: &Job, work: &mut [u64], log: &mut [u32]) -> Result {
 fn tuned_answer(way: Way, job: &Job, log: &mut [u32]) -> Result {
     let [first, up, down, step] = job.tuning.numbers();
     let outcome = tuned::route(
-        way, &job.kind, &job.capacity, &job.first_edge, &job.edge_target,
-        &job.source, &job.first_sink, &job.sink, job.limit, first, up, down, step, log,
+        way,
+        &job.kind,
+        &job.capacity,
+        &job.first_edge,
+        &job.edge_target,
+        &job.source,
+        &job.first_sink,
+        &job.sink,
+        job.limit,
+        first,
+        up,
+        down,
+        step,
+        log,
     );
     let numbers = vec![outcome.iteration, outcome.turns, outcome.words];
     Result { refusal: outcome.refusal, numbers }

@@ -18,17 +18,13 @@ pub struct Answer<'a> {
 
 /// With sound tables and enough work memory only 7, 8 and 9 can refuse.
 pub fn check(job: &Job, records: &[Record], trees: &Trees, answer: &Answer) -> Result<(), Fault> {
-    let last = records
-        .last()
-        .map_or(0, |record| u64::from(record.iteration));
+    let last = records.last().map_or(0, |record| u64::from(record.iteration));
     match *answer.refusal {
         [] => accepted(job, trees, answer, last),
         [7, net, place] => unreachable(job, answer, net, place),
         [8, iteration, turns] => log_full(job, answer, last, iteration, turns),
         [9, iteration, over] => limit(job, trees, answer, last, iteration, over),
-        _ => Err(Fault::UnknownRefusal {
-            numbers: answer.refusal.to_vec(),
-        }),
+        _ => Err(Fault::UnknownRefusal { numbers: answer.refusal.to_vec() }),
     }
 }
 
@@ -55,11 +51,7 @@ fn none_over(job: &Job, trees: &Trees) -> Result<(), Fault> {
     match (0..job.nodes()).find(|&node| trees.over(job, node) > 0) {
         Some(node) => {
             let (load, capacity) = (trees.users(node), job.capacity[node]);
-            Err(Fault::Overfull {
-                node,
-                load,
-                capacity,
-            })
+            Err(Fault::Overfull { node, load, capacity })
         }
         None => Ok(()),
     }
@@ -69,21 +61,13 @@ fn reported_iteration(answer: &Answer, last: u64) -> Result<(), Fault> {
     if answer.iteration == last {
         return Ok(());
     }
-    Err(Fault::ReportedIteration {
-        reported: answer.iteration,
-        logged: last,
-    })
+    Err(Fault::ReportedIteration { reported: answer.iteration, logged: last })
 }
 
 /// 7: the sink named has no path from its source and is the first such one;
 /// the three numbers are 0.
 fn unreachable(job: &Job, answer: &Answer, net: u64, place: u64) -> Result<(), Fault> {
-    let &Answer {
-        iteration,
-        turns,
-        words,
-        ..
-    } = answer;
+    let &Answer { iteration, turns, words, .. } = answer;
     let Some((first_net, first_place)) = first_unreachable(job) else {
         return Err(Fault::EverySinkReachable { net, place });
     };
@@ -93,19 +77,10 @@ fn unreachable(job: &Job, answer: &Answer, net: u64, place: u64) -> Result<(), F
         Some(false) => {}
     }
     if (net, place) != (first_net as u64, first_place as u64) {
-        return Err(Fault::NotFirstUnreachable {
-            net,
-            place,
-            first_net,
-            first_place,
-        });
+        return Err(Fault::NotFirstUnreachable { net, place, first_net, first_place });
     }
     if (iteration, turns, words) != (0, 0, 0) {
-        return Err(Fault::NotZero {
-            iteration,
-            turns,
-            words,
-        });
+        return Err(Fault::NotZero { iteration, turns, words });
     }
     Ok(())
 }
@@ -121,22 +96,13 @@ fn has_path(job: &Job, net: u64, place: u64) -> Option<bool> {
 /// 8: its numbers are those reported, of the last record's iteration or the
 /// next. A path has at most as many nodes as the graph, so a log with room for
 /// that isn't full.
-fn log_full(
-    job: &Job,
-    answer: &Answer,
-    last: u64,
-    iteration: u64,
-    turns: u64,
-) -> Result<(), Fault> {
+fn log_full(job: &Job, answer: &Answer, last: u64, iteration: u64, turns: u64) -> Result<(), Fault> {
     every_sink_has_path(job)?;
     number(8, 1, iteration, answer.iteration)?;
     number(8, 2, turns, answer.turns)?;
     let next = (last + 1).min(u64::from(job.limit));
     if iteration == 0 || (iteration != last && iteration != next) {
-        return Err(Fault::ReportedIteration {
-            reported: iteration,
-            logged: last,
-        });
+        return Err(Fault::ReportedIteration { reported: iteration, logged: last });
     }
     if answer.room >= (HEAD + job.nodes()) as u64 {
         return Err(Fault::LogNotFull { room: answer.room });
@@ -158,14 +124,9 @@ fn limit(
     number(9, 1, iteration, answer.iteration)?;
     reported_iteration(answer, last)?;
     if iteration != u64::from(job.limit) {
-        return Err(Fault::LimitNotReached {
-            iteration,
-            limit: job.limit,
-        });
+        return Err(Fault::LimitNotReached { iteration, limit: job.limit });
     }
-    let due = (0..job.nodes())
-        .filter(|&node| trees.over(job, node) > 0)
-        .count();
+    let due = (0..job.nodes()).filter(|&node| trees.over(job, node) > 0).count();
     if due == 0 {
         return Err(Fault::NothingOver);
     }
@@ -176,12 +137,7 @@ fn number(number: u64, place: usize, given: u64, due: u64) -> Result<(), Fault> 
     if given == due {
         return Ok(());
     }
-    Err(Fault::RefusalNumber {
-        number,
-        place,
-        given,
-        due,
-    })
+    Err(Fault::RefusalNumber { number, place, given, due })
 }
 
 /// A job that got past 7 has a path to every sink.

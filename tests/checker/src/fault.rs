@@ -6,132 +6,41 @@ use std::fmt;
 #[derive(Clone, Debug, PartialEq, Eq)]
 pub enum Fault {
     // The words used and the turn count.
-    WordsBeyondLog {
-        words: u64,
-        log: u64,
-    },
-    CutRecord {
-        turn: u64,
-        word: u64,
-    },
-    TurnCount {
-        reported: u64,
-        logged: u64,
-    },
+    WordsBeyondLog { words: u64, log: u64 },
+    CutRecord { turn: u64, word: u64 },
+    TurnCount { reported: u64, logged: u64 },
 
     // One turn.
-    Iteration {
-        turn: u64,
-        iteration: u32,
-    },
-    UnknownNet {
-        turn: u64,
-        net: u32,
-    },
-    UnknownNode {
-        turn: u64,
-        node: u32,
-    },
-    EmptyPath {
-        turn: u64,
-    },
-    NoEdge {
-        turn: u64,
-        from: usize,
-        to: usize,
-    },
-    StartOutsideTree {
-        turn: u64,
-        node: usize,
-    },
-    EndNotSink {
-        turn: u64,
-        end: usize,
-        sink: u32,
-    },
-    NotSinkOfNet {
-        turn: u64,
-        sink: usize,
-    },
-    SinkJoined {
-        turn: u64,
-        sink: usize,
-    },
-    Cost {
-        turn: u64,
-        logged: u64,
-        path: u128,
-    },
-    CheaperPath {
-        turn: u64,
-        logged: u64,
-        least: u64,
-    },
+    Iteration { turn: u64, iteration: u32 },
+    UnknownNet { turn: u64, net: u32 },
+    UnknownNode { turn: u64, node: u32 },
+    EmptyPath { turn: u64 },
+    NoEdge { turn: u64, from: usize, to: usize },
+    StartOutsideTree { turn: u64, node: usize },
+    EndNotSink { turn: u64, end: usize, sink: u32 },
+    NotSinkOfNet { turn: u64, sink: usize },
+    SinkJoined { turn: u64, sink: usize },
+    Cost { turn: u64, logged: u64, path: u128 },
+    CheaperPath { turn: u64, logged: u64, least: u64 },
 
     // The final trees of an accepted job.
-    MissedSink {
-        net: usize,
-        sink: usize,
-    },
-    ReachedTwice {
-        net: usize,
-        node: usize,
-    },
-    Overfull {
-        node: usize,
-        load: u32,
-        capacity: u8,
-    },
+    MissedSink { net: usize, sink: usize },
+    ReachedTwice { net: usize, node: usize },
+    Overfull { node: usize, load: u32, capacity: u8 },
 
     // The numbers of the answer.
-    UnknownRefusal {
-        numbers: Vec<u64>,
-    },
-    NotZero {
-        iteration: u64,
-        turns: u64,
-        words: u64,
-    },
-    EverySinkReachable {
-        net: u64,
-        place: u64,
-    },
-    NoSuchSink {
-        net: u64,
-        place: u64,
-    },
-    NamedSinkReachable {
-        net: u64,
-        place: u64,
-    },
-    NotFirstUnreachable {
-        net: u64,
-        place: u64,
-        first_net: usize,
-        first_place: usize,
-    },
-    NotRefused {
-        net: usize,
-        place: usize,
-    },
-    ReportedIteration {
-        reported: u64,
-        logged: u64,
-    },
-    RefusalNumber {
-        number: u64,
-        place: usize,
-        given: u64,
-        due: u64,
-    },
-    LogNotFull {
-        room: u64,
-    },
+    UnknownRefusal { numbers: Vec<u64> },
+    NotZero { iteration: u64, turns: u64, words: u64 },
+    EverySinkReachable { net: u64, place: u64 },
+    NoSuchSink { net: u64, place: u64 },
+    NamedSinkReachable { net: u64, place: u64 },
+    NotFirstUnreachable { net: u64, place: u64, first_net: usize, first_place: usize },
+    NotRefused { net: usize, place: usize },
+    ReportedIteration { reported: u64, logged: u64 },
+    RefusalNumber { number: u64, place: usize, given: u64, due: u64 },
+    LogNotFull { room: u64 },
     NothingOver,
-    LimitNotReached {
-        iteration: u64,
-        limit: u32,
-    },
+    LimitNotReached { iteration: u64, limit: u32 },
 }
 
 impl std::error::Error for Fault {}

@@ -28,19 +28,10 @@ pub fn check(
     let records = records::read(log, words)?;
     let logged = records.len() as u64;
     if turns != logged {
-        return Err(Fault::TurnCount {
-            reported: turns,
-            logged,
-        });
+        return Err(Fault::TurnCount { reported: turns, logged });
     }
     let trees = turns::walk(job, &records)?;
     let room = log.len() as u64 - words;
-    let answer = answer::Answer {
-        refusal,
-        iteration,
-        turns,
-        words,
-        room,
-    };
+    let answer = answer::Answer { refusal, iteration, turns, words, room };
     answer::check(job, &records, &trees, &answer)
 }

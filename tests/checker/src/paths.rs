@@ -28,18 +28,11 @@ impl View<'_> {
     /// The prices of the path's nodes but the first. A logged path may be so
     /// long that 64 bits don't hold the sum.
     pub fn cost(&self, path: &[usize]) -> u128 {
-        path.iter()
-            .skip(1)
-            .map(|&node| u128::from(self.price(node)))
-            .sum()
+        path.iter().skip(1).map(|&node| u128::from(self.price(node))).sum()
     }
 
     fn unjoined(&self) -> impl Iterator<Item = usize> + '_ {
-        let sinks = self
-            .job
-            .sinks(self.net)
-            .iter()
-            .map(|&sink| usize::from(sink));
+        let sinks = self.job.sinks(self.net).iter().map(|&sink| usize::from(sink));
         sinks.filter(|&sink| !self.in_tree(sink))
     }
 }
@@ -59,11 +52,7 @@ pub struct Search {
 
 impl Search {
     pub fn new(nodes: usize) -> Search {
-        Search {
-            distance: vec![0; nodes],
-            goal: vec![false; nodes],
-            heap: BinaryHeap::new(),
-        }
+        Search { distance: vec![0; nodes], goal: vec![false; nodes], heap: BinaryHeap::new() }
     }
 
     /// The least cost of a path from the net's tree to any unjoined sink.
@@ -127,10 +116,7 @@ pub fn reachable(job: &Job, start: usize) -> Vec<bool> {
 pub fn first_unreachable(job: &Job) -> Option<(usize, usize)> {
     (0..job.nets()).find_map(|net| {
         let mark = reachable(job, job.source_of(net));
-        let place = job
-            .sinks(net)
-            .iter()
-            .position(|&sink| !mark[usize::from(sink)])?;
+        let place = job.sinks(net).iter().position(|&sink| !mark[usize::from(sink)])?;
         Some((net, place))
     })
 }

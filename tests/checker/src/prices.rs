@@ -39,11 +39,7 @@ pub struct Prices {
 impl Prices {
     /// Those of iteration 1.
     pub fn new(job: &Job) -> Prices {
-        Prices {
-            iteration: 1,
-            factor: factor(job.tuning, 1),
-            history: vec![1; job.nodes()],
-        }
+        Prices { iteration: 1, factor: factor(job.tuning, 1), history: vec![1; job.nodes()] }
     }
 
     /// Moves on to the next iteration, given the trees after this one.
@@ -58,12 +54,6 @@ impl Prices {
     /// The node's price to the net while the trees are these.
     pub fn of(&self, job: &Job, trees: &Trees, net: usize, node: usize) -> u64 {
         let others = trees.others(net, node);
-        price(
-            job.kind[node],
-            self.factor,
-            others,
-            job.capacity[node],
-            self.history[node],
-        )
+        price(job.kind[node], self.factor, others, job.capacity[node], self.history[node])
     }
 }

@@ -21,10 +21,7 @@ pub fn read(log: &[u32], words: u64) -> Result<Vec<Record<'_>>, Fault> {
     while !rest.is_empty() {
         let Some((record, after)) = split(rest) else {
             let word = words - rest.len() as u64;
-            return Err(Fault::CutRecord {
-                turn: records.len() as u64,
-                word,
-            });
+            return Err(Fault::CutRecord { turn: records.len() as u64, word });
         };
         records.push(record);
         rest = after;
@@ -36,10 +33,7 @@ fn used(log: &[u32], words: u64) -> Result<&[u32], Fault> {
     usize::try_from(words)
         .ok()
         .and_then(|count| log.get(..count))
-        .ok_or(Fault::WordsBeyondLog {
-            words,
-            log: log.len() as u64,
-        })
+        .ok_or(Fault::WordsBeyondLog { words, log: log.len() as u64 })
 }
 
 /// The first record and the words after it, if it is whole.
@@ -47,14 +41,5 @@ fn split(words: &[u32]) -> Option<(Record<'_>, &[u32])> {
     let (&[iteration, net, sink, low, high, length], rest) = words.split_first_chunk::<HEAD>()?;
     let (path, after) = rest.split_at_checked(usize::try_from(length).ok()?)?;
     let cost = u64::from(high) << 32 | u64::from(low);
-    Some((
-        Record {
-            iteration,
-            net,
-            sink,
-            cost,
-            path,
-        },
-        after,
-    ))
+    Some((Record { iteration, net, sink, cost, path }, after))
 }

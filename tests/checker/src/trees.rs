@@ -86,8 +86,6 @@ impl Trees {
         let mut ends = self.ends[net].clone();
         ends.push(job.source_of(net));
         ends.sort_unstable();
-        ends.windows(2)
-            .find(|pair| pair[0] == pair[1])
-            .map(|pair| pair[0])
+        ends.windows(2).find(|pair| pair[0] == pair[1]).map(|pair| pair[0])
     }
 }

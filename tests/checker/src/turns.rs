@@ -17,12 +17,7 @@ pub fn walk(job: &Job, records: &[Record]) -> Result<Trees, Fault> {
         let net = net(job, turn, record)?;
         let path = path(job, turn, record)?;
         trees.begin(net, record.iteration);
-        let view = View {
-            job,
-            trees: &trees,
-            prices: &prices,
-            net,
-        };
+        let view = View { job, trees: &trees, prices: &prices, net };
         follows(&view, turn, &path)?;
         joins(&view, turn, record.sink, &path)?;
         costs(&view, turn, record.cost, &path, &mut search)?;
@@ -33,13 +28,7 @@ pub fn walk(job: &Job, records: &[Record]) -> Result<Trees, Fault> {
 
 /// Prices move on with the record's iteration. The first is 1; each next one
 /// is the same or one more, for every iteration of a sound job has records.
-fn move_on(
-    job: &Job,
-    turn: u64,
-    record: &Record,
-    trees: &Trees,
-    prices: &mut Prices,
-) -> Result<(), Fault> {
+fn move_on(job: &Job, turn: u64, record: &Record, trees: &Trees, prices: &mut Prices) -> Result<(), Fault> {
     let iteration = record.iteration;
     if iteration == prices.iteration {
         return Ok(());
@@ -53,10 +42,7 @@ fn move_on(
 
 fn net(job: &Job, turn: u64, record: &Record) -> Result<usize, Fault> {
     let net = below(record.net, job.nets());
-    net.ok_or(Fault::UnknownNet {
-        turn,
-        net: record.net,
-    })
+    net.ok_or(Fault::UnknownNet { turn, net: record.net })
 }
 
 /// The path's nodes, each a node of the job.
@@ -66,9 +52,7 @@ fn path(job: &Job, turn: u64, record: &Record) -> Result<Vec<usize>, Fault> {
 }
 
 fn below(number: u32, count: usize) -> Option<usize> {
-    usize::try_from(number)
-        .ok()
-        .filter(|&number| number < count)
+    usize::try_from(number).ok().filter(|&number| number < count)
 }
 
 /// The path follows edges from a node of the net's tree.
@@ -99,27 +83,13 @@ fn joins(view: &View, turn: u64, sink: u32, path: &[usize]) -> Result<(), Fault>
 }
 
 /// The logged cost is the path's, and no path costs less.
-fn costs(
-    view: &View,
-    turn: u64,
-    logged: u64,
-    path: &[usize],
-    search: &mut Search,
-) -> Result<(), Fault> {
+fn costs(view: &View, turn: u64, logged: u64, path: &[usize], search: &mut Search) -> Result<(), Fault> {
     let cost = view.cost(path);
     if cost != u128::from(logged) {
-        return Err(Fault::Cost {
-            turn,
-            logged,
-            path: cost,
-        });
+        return Err(Fault::Cost { turn, logged, path: cost });
     }
     match search.least(view) {
-        Some(least) if least < logged => Err(Fault::CheaperPath {
-            turn,
-            logged,
-            least,
-        }),
+        Some(least) if least < logged => Err(Fault::CheaperPath { turn, logged, least }),
         _ => Ok(()),
     }
 }

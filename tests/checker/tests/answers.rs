@@ -9,15 +9,9 @@ use common::*;
 #[test]
 fn refusals_of_01_pass() {
     assert_eq!(b(1).check(&B_LOG[..18], &[9, 1, 1], 1, 2), Ok(()));
-    assert_eq!(
-        check(&b(2).job(), &B_LOG[..35], &[8, 2, 3], 2, 3, 27),
-        Ok(())
-    );
+    assert_eq!(check(&b(2).job(), &B_LOG[..35], &[8, 2, 3], 2, 3, 27), Ok(()));
     assert_eq!(check(&b(2).job(), &[0; 8], &[8, 1, 0], 1, 0, 0), Ok(()));
-    assert_eq!(
-        check(&b(2).job(), &B_LOG[..20], &[8, 2, 2], 2, 2, 18),
-        Ok(())
-    );
+    assert_eq!(check(&b(2).job(), &B_LOG[..20], &[8, 2, 2], 2, 2, 18), Ok(()));
     assert_eq!(check(&c_cut().job(), &[5; 40], &[7, 0, 0], 0, 0, 0), Ok(()));
 }
 
@@ -25,25 +19,16 @@ fn refusals_of_01_pass() {
 fn shared_source_never_settles() {
     let nets: [(u16, &[u16]); 2] = [(0, &[1]), (0, &[2])];
     let job = tables(&[0, 1, 1], &[(0, 1), (0, 2)], &nets, 2);
-    let log: Vec<u32> = (1..=2)
-        .flat_map(|t| [t, 0, 1, 2000, 0, 2, 0, 1, t, 1, 2, 2000, 0, 2, 0, 2])
-        .collect();
+    let log: Vec<u32> =
+        (1..=2).flat_map(|t| [t, 0, 1, 2000, 0, 2, 0, 1, t, 1, 2, 2000, 0, 2, 0, 2]).collect();
     assert_eq!(job.check(&log, &[9, 2, 1], 2, 4), Ok(()));
-    let overfull = Fault::Overfull {
-        node: 0,
-        load: 2,
-        capacity: 1,
-    };
+    let overfull = Fault::Overfull { node: 0, load: 2, capacity: 1 };
     assert_eq!(job.check(&log, &[], 2, 4), Err(overfull));
 }
 
 #[test]
 fn accepted_with_overfull_node() {
-    let fault = Fault::Overfull {
-        node: 2,
-        load: 2,
-        capacity: 1,
-    };
+    let fault = Fault::Overfull { node: 2, load: 2, capacity: 1 };
     assert_eq!(b(1).check(&B_LOG[..18], &[], 1, 2), Err(fault));
     let mut wide = b(1);
     wide.capacity[2] = 2;
@@ -63,10 +48,7 @@ fn accepted_with_missing_sink() {
 #[test]
 fn accepted_in_another_iteration() {
     for reported in [0, 1, 3] {
-        let fault = Fault::ReportedIteration {
-            reported,
-            logged: 2,
-        };
+        let fault = Fault::ReportedIteration { reported, logged: 2 };
         assert_eq!(b(2).check(&B_LOG, &[], reported, 4), Err(fault));
     }
 }
@@ -102,22 +84,9 @@ fn seven_with_wrong_numbers() {
     let seven = |net, place| check(&cut.job(), &[], &[7, net, place], 0, 0, 0);
     assert_eq!(seven(0, 2), Err(Fault::NoSuchSink { net: 0, place: 2 }));
     assert_eq!(seven(1, 0), Err(Fault::NoSuchSink { net: 1, place: 0 }));
-    assert_eq!(
-        seven(u64::MAX, 0),
-        Err(Fault::NoSuchSink {
-            net: u64::MAX,
-            place: 0
-        })
-    );
+    assert_eq!(seven(u64::MAX, 0), Err(Fault::NoSuchSink { net: u64::MAX, place: 0 }));
     let one = check(&cut.job(), &[], &[7, 0, 0], 1, 0, 0);
-    assert_eq!(
-        one,
-        Err(Fault::NotZero {
-            iteration: 1,
-            turns: 0,
-            words: 0
-        })
-    );
+    assert_eq!(one, Err(Fault::NotZero { iteration: 1, turns: 0, words: 0 }));
 }
 
 #[test]
@@ -125,49 +94,21 @@ fn seven_names_the_first() {
     let lone = tables(&[0, 1, 1], &[], &[(0, &[1, 2])], 1);
     assert_eq!(check(&lone.job(), &[], &[7, 0, 0], 0, 0, 0), Ok(()));
     let later = check(&lone.job(), &[], &[7, 0, 1], 0, 0, 0);
-    let fault = Fault::NotFirstUnreachable {
-        net: 0,
-        place: 1,
-        first_net: 0,
-        first_place: 0,
-    };
+    let fault = Fault::NotFirstUnreachable { net: 0, place: 1, first_net: 0, first_place: 0 };
     assert_eq!(later, Err(fault));
 }
 
 #[test]
 fn eight_with_wrong_numbers() {
     let b = b(2);
-    let eight = |refusal: &[u64], iteration| {
-        check(&b.job(), &B_LOG[..35], refusal, iteration, 3, 27).unwrap_err()
-    };
-    let turns = Fault::RefusalNumber {
-        number: 8,
-        place: 2,
-        given: 4,
-        due: 3,
-    };
+    let eight =
+        |refusal: &[u64], iteration| check(&b.job(), &B_LOG[..35], refusal, iteration, 3, 27).unwrap_err();
+    let turns = Fault::RefusalNumber { number: 8, place: 2, given: 4, due: 3 };
     assert_eq!(eight(&[8, 2, 4], 2), turns);
-    let iteration = Fault::RefusalNumber {
-        number: 8,
-        place: 1,
-        given: 2,
-        due: 1,
-    };
+    let iteration = Fault::RefusalNumber { number: 8, place: 1, given: 2, due: 1 };
     assert_eq!(eight(&[8, 2, 3], 1), iteration);
-    assert_eq!(
-        eight(&[8, 1, 3], 1),
-        Fault::ReportedIteration {
-            reported: 1,
-            logged: 2
-        }
-    );
-    assert_eq!(
-        eight(&[8, 3, 3], 3),
-        Fault::ReportedIteration {
-            reported: 3,
-            logged: 2
-        }
-    );
+    assert_eq!(eight(&[8, 1, 3], 1), Fault::ReportedIteration { reported: 1, logged: 2 });
+    assert_eq!(eight(&[8, 3, 3], 3), Fault::ReportedIteration { reported: 3, logged: 2 });
 }
 
 #[test]
@@ -175,43 +116,24 @@ fn idle_refusals() {
     let eight = check(&b(2).job(), &[0; 40], &[8, 1, 0], 1, 0, 0);
     assert_eq!(eight, Err(Fault::LogNotFull { room: 40 }));
     let nine = check(&b(2).job(), &[0; 40], &[9, 2, 1], 2, 0, 0);
-    assert_eq!(
-        nine,
-        Err(Fault::ReportedIteration {
-            reported: 2,
-            logged: 0
-        })
-    );
+    assert_eq!(nine, Err(Fault::ReportedIteration { reported: 2, logged: 0 }));
     let unheeded = check(&c_cut().job(), &[], &[8, 1, 0], 1, 0, 0);
     assert_eq!(unheeded, Err(Fault::NotRefused { net: 0, place: 0 }));
 }
 
 #[test]
 fn nine_with_wrong_numbers() {
-    let over = Fault::RefusalNumber {
-        number: 9,
-        place: 2,
-        given: 2,
-        due: 1,
-    };
+    let over = Fault::RefusalNumber { number: 9, place: 2, given: 2, due: 1 };
     assert_eq!(b(1).check(&B_LOG[..18], &[9, 1, 2], 1, 2), Err(over));
-    let early = Fault::LimitNotReached {
-        iteration: 1,
-        limit: 2,
-    };
+    let early = Fault::LimitNotReached { iteration: 1, limit: 2 };
     assert_eq!(b(2).check(&B_LOG[..18], &[9, 1, 1], 1, 2), Err(early));
-    assert_eq!(
-        b(2).check(&B_LOG, &[9, 2, 1], 2, 4),
-        Err(Fault::NothingOver)
-    );
+    assert_eq!(b(2).check(&B_LOG, &[9, 2, 1], 2, 4), Err(Fault::NothingOver));
 }
 
 #[test]
 fn other_refusals() {
     for refusal in [&[5, 1][..], &[6, 48], &[7], &[7, 0], &[8, 2, 4, 0], &[0]] {
-        let fault = Fault::UnknownRefusal {
-            numbers: refusal.to_vec(),
-        };
+        let fault = Fault::UnknownRefusal { numbers: refusal.to_vec() };
         assert_eq!(b(2).check(&B_LOG, refusal, 2, 4), Err(fault));
     }
 }

@@ -7,9 +7,7 @@ use common::*;
 
 /// A small generator of numbers.
 fn draw(state: &mut u64) -> u32 {
-    *state = state
-        .wrapping_mul(6364136223846793005)
-        .wrapping_add(1442695040888963407);
+    *state = state.wrapping_mul(6364136223846793005).wrapping_add(1442695040888963407);
     (*state >> 33) as u32
 }
 
@@ -42,9 +40,7 @@ fn random_words_and_numbers() {
     let tables = b(2);
     let mut state = 2;
     for _ in 0..20_000 {
-        let log: Vec<u32> = (0..draw(&mut state) % 40)
-            .map(|_| word(&mut state))
-            .collect();
+        let log: Vec<u32> = (0..draw(&mut state) % 40).map(|_| word(&mut state)).collect();
         let mut number = || u64::from(word(&mut state));
         let refusal = [6 + number() % 4, number(), number()];
         let (iteration, turns) = (number(), number());
@@ -63,10 +59,6 @@ fn long_path() {
     let mut log = vec![1, 0, 3, cost, 0, 2 * rounds + 2, 0];
     log.extend((0..rounds).flat_map(|_| [1, 2]));
     log.push(3);
-    let fault = Fault::CheaperPath {
-        turn: 0,
-        logged: cost.into(),
-        least: 50_000,
-    };
+    let fault = Fault::CheaperPath { turn: 0, logged: cost.into(), least: 50_000 };
     assert_eq!(job.check(&log, &[], 1, 1), Err(fault));
 }

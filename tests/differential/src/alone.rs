@@ -19,12 +19,17 @@ const BAD_HISTORIES: [u32; 4] = [0, 101_180, 131_073, u32::MAX];
 
 /// A good number, once in 12 draws a bad one.
 fn number(rng: &mut Rng, good: &[u32], bad: &[u32]) -> u32 {
-    if rng.once_in(12) { rng.pick(bad) } else { rng.pick(good) }
+    if rng.once_in(12) {
+        rng.pick(bad)
+    } else {
+        rng.pick(good)
+    }
 }
 
 /// A call of the price.
 pub fn price(rng: &mut Rng) -> Case {
-    let history = if rng.percent(40) { rng.within(1, 101_179) as u32 } else { number(rng, &HISTORIES, &BAD_HISTORIES) };
+    let history =
+        if rng.percent(40) { rng.within(1, 101_179) as u32 } else { number(rng, &HISTORIES, &BAD_HISTORIES) };
     Case::Price {
         kind: number(rng, &KINDS, &BAD_KINDS),
         factor: number(rng, &FACTORS, &BAD_FACTORS),

@@ -88,17 +88,41 @@ macro_rules! side {
                     $side::price(*kind, *factor, *others, *capacity, *history)
                 }
                 Case::Search { graph, factor, work, history, others, in_tree } => $side::search(
-                    &graph.kind, &graph.capacity, &graph.first_edge, &graph.edge_target,
-                    *factor, lend(work), history, others, in_tree,
+                    &graph.kind,
+                    &graph.capacity,
+                    &graph.first_edge,
+                    &graph.edge_target,
+                    *factor,
+                    lend(work),
+                    history,
+                    others,
+                    in_tree,
                 ),
                 Case::Route { job, work, log } => $side::route(
-                    &job.kind, &job.capacity, &job.first_edge, &job.edge_target,
-                    &job.source, &job.first_sink, &job.sink, job.limit,
-                    job.tuning.first, job.tuning.up, job.tuning.down, job.tuning.step, lend(work), lend(log),
+                    &job.kind,
+                    &job.capacity,
+                    &job.first_edge,
+                    &job.edge_target,
+                    &job.source,
+                    &job.first_sink,
+                    &job.sink,
+                    job.limit,
+                    job.tuning.first,
+                    job.tuning.up,
+                    job.tuning.down,
+                    job.tuning.step,
+                    lend(work),
+                    lend(log),
                 ),
                 Case::Read { text, tables } => $side::read(
-                    text, lend(&mut tables.kind), lend(&mut tables.capacity), lend(&mut tables.first_edge),
-                    lend(&mut tables.edge_target), lend(&mut tables.source), lend(&mut tables.first_sink), lend(&mut tables.sink),
+                    text,
+                    lend(&mut tables.kind),
+                    lend(&mut tables.capacity),
+                    lend(&mut tables.first_edge),
+                    lend(&mut tables.edge_target),
+                    lend(&mut tables.source),
+                    lend(&mut tables.first_sink),
+                    lend(&mut tables.sink),
                 ),
                 Case::Write { log, buffer } => $side::write(log, lend(buffer)),
             };
@@ -174,7 +198,12 @@ fn slices(case: &Case) -> Vec<(&'static str, Vec<u64>)> {
         Case::Price { .. } => Vec::new(),
         Case::Search { graph, work, history, others, in_tree, .. } => {
             let mut list = graph_slices(graph);
-            list.extend([("work", work.clone()), ("history", wide(history)), ("others", wide(others)), ("in_tree", wide(in_tree))]);
+            list.extend([
+                ("work", work.clone()),
+                ("history", wide(history)),
+                ("others", wide(others)),
+                ("in_tree", wide(in_tree)),
+            ]);
             list
         }
         Case::Route { job, work, log } => {
@@ -202,7 +231,11 @@ fn graph_slices(graph: &Job) -> Vec<(&'static str, Vec<u64>)> {
 
 fn job_slices(job: &Job) -> Vec<(&'static str, Vec<u64>)> {
     let mut list = graph_slices(job);
-    list.extend([("source", wide(&job.source)), ("first_sink", wide(&job.first_sink)), ("sink", wide(&job.sink))]);
+    list.extend([
+        ("source", wide(&job.source)),
+        ("first_sink", wide(&job.first_sink)),
+        ("sink", wide(&job.sink)),
+    ]);
     list
 }
 
@@ -214,11 +247,14 @@ fn wide<T: Copy + Into<u64>>(slice: &[T]) -> Vec<u64> {
 fn memory(before: &Case, after: &After) -> Result<(), String> {
     let refusal = after.answer.refusal.first().copied().unwrap_or(0);
     let kept = match (before, &after.case) {
-        (Case::Route { job, work, log }, Case::Route { job: job_after, work: work_after, log: log_after })
-            if matches!(refusal, 0 | 7 | 8 | 9) =>
-        {
+        (
+            Case::Route { job, work, log },
+            Case::Route { job: job_after, work: work_after, log: log_after },
+        ) if matches!(refusal, 0 | 7 | 8 | 9) => {
             let words = after.answer.numbers[2] as usize;
-            job == job_after && cleared(work, work_after, 0, 8 * job.kind.len()) && log[words..] == log_after[words..]
+            job == job_after
+                && cleared(work, work_after, 0, 8 * job.kind.len())
+                && log[words..] == log_after[words..]
         }
         (Case::Search { graph, work, .. }, Case::Search { work: work_after, .. }) if refusal == 0 => {
             let nodes = graph.kind.len();
@@ -302,17 +338,44 @@ fn raw(case: &mut Case, out: &mut [u64]) -> u32 {
             arvumnao::raw_price(*kind, *factor, *others, *capacity, *history, out)
         }
         Case::Search { graph, factor, work, history, others, in_tree } => arvumnao::raw_search(
-            &graph.kind, &graph.capacity, &graph.first_edge, &graph.edge_target,
-            *factor, lend(work), history, others, in_tree, out,
+            &graph.kind,
+            &graph.capacity,
+            &graph.first_edge,
+            &graph.edge_target,
+            *factor,
+            lend(work),
+            history,
+            others,
+            in_tree,
+            out,
         ),
         Case::Route { job, work, log } => arvumnao::raw_route(
-            &job.kind, &job.capacity, &job.first_edge, &job.edge_target,
-            &job.source, &job.first_sink, &job.sink, job.limit,
-            job.tuning.first, job.tuning.up, job.tuning.down, job.tuning.step, lend(work), lend(log), out,
+            &job.kind,
+            &job.capacity,
+            &job.first_edge,
+            &job.edge_target,
+            &job.source,
+            &job.first_sink,
+            &job.sink,
+            job.limit,
+            job.tuning.first,
+            job.tuning.up,
+            job.tuning.down,
+            job.tuning.step,
+            lend(work),
+            lend(log),
+            out,
         ),
         Case::Read { text, tables } => arvumnao::raw_read(
-            text, lend(&mut tables.kind), lend(&mut tables.capacity), lend(&mut tables.first_edge),
-            lend(&mut tables.edge_target), lend(&mut tables.source), lend(&mut tables.first_sink), lend(&mut tables.sink), out,
+            text,
+            lend(&mut tables.kind),
+            lend(&mut tables.capacity),
+            lend(&mut tables.first_edge),
+            lend(&mut tables.edge_target),
+            lend(&mut tables.source),
+            lend(&mut tables.first_sink),
+            lend(&mut tables.sink),
+            out,
         ),
         Case::Write { log, buffer } => arvumnao::raw_write(log, lend(buffer), out),
     };
@@ -342,7 +405,9 @@ pub mod inject {
                 answer.refusal = vec![5, 5];
             }
             // a CR is taken for a wrong value
-            (3, Case::Read { text, .. }, _) if text.contains(&b'\r') && answer.refusal.first() == Some(&1) => {
+            (3, Case::Read { text, .. }, _)
+                if text.contains(&b'\r') && answer.refusal.first() == Some(&1) =>
+            {
                 answer.refusal[0] = 2;
             }
             // the last table too short is written to
@@ -376,11 +441,17 @@ pub mod inject {
     fn tuning_or_pins(fault: u32, before: &Case, answer: &mut Answer) {
         match (fault, before) {
             // a step of 2 counts a turn too many
-            (8, Case::Route { job, .. }) if job.tuning.step == 2 && answer.numbers[0] >= 2 => answer.numbers[1] += 1,
+            (8, Case::Route { job, .. }) if job.tuning.step == 2 && answer.numbers[0] >= 2 => {
+                answer.numbers[1] += 1
+            }
             // a value beyond its bounds in a P line is taken for a wrong shape
-            (9, Case::Read { text, .. }) if answer.refusal == [2, 2] && text.contains(&b'P') => answer.refusal = vec![1, 2],
+            (9, Case::Read { text, .. }) if answer.refusal == [2, 2] && text.contains(&b'P') => {
+                answer.refusal = vec![1, 2]
+            }
             // a source of kind 1 goes unseen
-            (10, Case::Route { job, .. }) if answer.refusal == [5, 5] && has_source_of_kind_1(job) => answer.refusal = vec![5, 6],
+            (10, Case::Route { job, .. }) if answer.refusal == [5, 5] && has_source_of_kind_1(job) => {
+                answer.refusal = vec![5, 6]
+            }
             _ => {}
         }
     }

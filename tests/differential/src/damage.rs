@@ -94,7 +94,9 @@ fn firsts(rng: &mut Rng, first: &mut Vec<u32>) {
         1 => *first = [0, 1, last].repeat(rng.within(0, 2)),
         2 if !first.is_empty() => first[0] = rng.pick(&[1, last, u32::MAX]),
         3 if first.len() > 2 => fall(rng, first),
-        4 if !first.is_empty() => *first.last_mut().unwrap() = rng.pick(&[last.wrapping_sub(1), last + 1, 0, u32::MAX]),
+        4 if !first.is_empty() => {
+            *first.last_mut().unwrap() = rng.pick(&[last.wrapping_sub(1), last + 1, 0, u32::MAX])
+        }
         5 if first.len() > 1 => {
             let place = rng.within(1, first.len() - 1);
             first[place] = first[place - 1];

@@ -18,21 +18,85 @@ pub struct Failure {
 
 /// Every outcome that a long run should come to.
 const EXPECTED: [&str; 79] = [
-    "price accepted", "price 13,0", "price 13,1", "price 13,2", "price 13,3", "price 13,4",
-    "search accepted", "search 5,1", "search 5,2", "search 5,3", "search 5,4", "search 6", "search 13",
-    "route accepted", "route 5,1", "route 5,2", "route 5,3", "route 5,4", "route 5,5", "route 5,6", "route 5,7",
-    "route 5,8", "route 6", "route 7", "route 8", "route 9",
-    "read accepted", "read 1", "read 2", "read 3", "read 4,1", "read 4,2", "read 4,3", "read 4,4", "read 4,5",
-    "read 4,6", "read 4,7", "write accepted", "write 10", "write 11",
-    "sound job accepted, iteration 6 to 20", "route at iteration 21 or later", "route with costs over 32 bits",
-    "text of 4,096 sinks accepted", "text of 4,097 sinks 3", "search 13 with the node count",
+    "price accepted",
+    "price 13,0",
+    "price 13,1",
+    "price 13,2",
+    "price 13,3",
+    "price 13,4",
+    "search accepted",
+    "search 5,1",
+    "search 5,2",
+    "search 5,3",
+    "search 5,4",
+    "search 6",
+    "search 13",
+    "route accepted",
+    "route 5,1",
+    "route 5,2",
+    "route 5,3",
+    "route 5,4",
+    "route 5,5",
+    "route 5,6",
+    "route 5,7",
+    "route 5,8",
+    "route 6",
+    "route 7",
+    "route 8",
+    "route 9",
+    "read accepted",
+    "read 1",
+    "read 2",
+    "read 3",
+    "read 4,1",
+    "read 4,2",
+    "read 4,3",
+    "read 4,4",
+    "read 4,5",
+    "read 4,6",
+    "read 4,7",
+    "write accepted",
+    "write 10",
+    "write 11",
+    "sound job accepted, iteration 6 to 20",
+    "route at iteration 21 or later",
+    "route with costs over 32 bits",
+    "text of 4,096 sinks accepted",
+    "text of 4,097 sinks 3",
+    "search 13 with the node count",
     "search with a distance over 2^61",
-    "tuning plain", "tuning first 0", "tuning first 1,000", "tuning down 1", "tuning down 2", "tuning down 3", "tuning down 4",
-    "tuning up as down", "tuning up 8", "tuning step 1", "tuning step 2", "tuning not plain, accepted",
-    "P line accepted", "P line 1,2", "P line 2,2", "P line 1,3",
-    "source of kind 0 accepted", "source of kind 2 accepted", "sink of kind 1 accepted", "sink of kind 3 accepted",
-    "source of kind 1 5,5", "source of kind 3 5,5", "source a wire 5,5", "sink of kind 0 5,7", "sink of kind 2 5,7", "sink a wire 5,7",
-    "S line of kind 1 3", "S line of kind 3 3", "S line of a wire 3", "T line of kind 0 3", "T line of kind 2 3", "T line of a wire 3",
+    "tuning plain",
+    "tuning first 0",
+    "tuning first 1,000",
+    "tuning down 1",
+    "tuning down 2",
+    "tuning down 3",
+    "tuning down 4",
+    "tuning up as down",
+    "tuning up 8",
+    "tuning step 1",
+    "tuning step 2",
+    "tuning not plain, accepted",
+    "P line accepted",
+    "P line 1,2",
+    "P line 2,2",
+    "P line 1,3",
+    "source of kind 0 accepted",
+    "source of kind 2 accepted",
+    "sink of kind 1 accepted",
+    "sink of kind 3 accepted",
+    "source of kind 1 5,5",
+    "source of kind 3 5,5",
+    "source a wire 5,5",
+    "sink of kind 0 5,7",
+    "sink of kind 2 5,7",
+    "sink a wire 5,7",
+    "S line of kind 1 3",
+    "S line of kind 3 3",
+    "S line of a wire 3",
+    "T line of kind 0 3",
+    "T line of kind 2 3",
+    "T line of a wire 3",
 ];
 
 /// The counts, and each seed's generator.
@@ -54,7 +118,11 @@ pub fn examine(case: &Case, out: Option<usize>) -> Result<After, String> {
 
 impl Run {
     pub fn new() -> Run {
-        Run { counts: BTreeMap::new(), rng: Rng::new(0), trace: std::env::var_os("DIFFERENTIAL_TRACE").is_some() }
+        Run {
+            counts: BTreeMap::new(),
+            rng: Rng::new(0),
+            trace: std::env::var_os("DIFFERENTIAL_TRACE").is_some(),
+        }
     }
 
     /// Prints the counts.
@@ -66,7 +134,8 @@ impl Run {
 
     /// Prints which outcomes were not reached.
     pub fn print_missing(&self) {
-        let missing: Vec<&str> = EXPECTED.into_iter().filter(|outcome| !self.counts.contains_key(*outcome)).collect();
+        let missing: Vec<&str> =
+            EXPECTED.into_iter().filter(|outcome| !self.counts.contains_key(*outcome)).collect();
         let text = if missing.is_empty() { String::from("none") } else { missing.join("; ") };
         println!("outcomes not reached: {text}");
     }
@@ -124,7 +193,8 @@ impl Run {
 
     /// Counts what few searches come to.
     fn count_search(&mut self, after: &After, nodes: usize, work: &[u64]) {
-        if after.answer.refusal.is_empty() && work[..nodes].iter().any(|far| (1 << 61..1 << 62).contains(far)) {
+        if after.answer.refusal.is_empty() && work[..nodes].iter().any(|far| (1 << 61..1 << 62).contains(far))
+        {
             self.count(String::from("search with a distance over 2^61"));
         }
         if after.answer.refusal == [13, nodes as u64] {
@@ -134,7 +204,9 @@ impl Run {
 
     /// Counts the kinds of accepted pins, and that of the first pin that its table doesn't allow.
     fn count_pins(&mut self, after: &After, job: &Job) {
-        let kinds = |pins: &[u16]| -> Vec<u8> { pins.iter().filter_map(|pin| job.kind.get(*pin as usize)).copied().collect() };
+        let kinds = |pins: &[u16]| -> Vec<u8> {
+            pins.iter().filter_map(|pin| job.kind.get(*pin as usize)).copied().collect()
+        };
         let (sources, sinks) = (kinds(&job.source), kinds(&job.sink));
         match after.answer.refusal[..] {
             [] => {
@@ -187,7 +259,12 @@ impl Run {
         } else if after.answer.refusal.is_empty() {
             self.count(String::from("tuning not plain, accepted"));
         }
-        let bounds = [(first == 0, "first 0"), (first == 1_000, "first 1,000"), (up == down, "up as down"), (up == 8, "up 8")];
+        let bounds = [
+            (first == 0, "first 0"),
+            (first == 1_000, "first 1,000"),
+            (up == down, "up as down"),
+            (up == 8, "up 8"),
+        ];
         for (_, name) in bounds.into_iter().filter(|bound| bound.0) {
             self.count(format!("tuning {name}"));
         }
@@ -413,7 +490,11 @@ impl Run {
 
 /// Words for a pin's kind, the same for all wires.
 fn kind_name(kind: u8, wire: &str) -> String {
-    if kind < 4 { format!("of kind {kind}") } else { String::from(wire) }
+    if kind < 4 {
+        format!("of kind {kind}")
+    } else {
+        String::from(wire)
+    }
 }
 
 /// A call of the router.

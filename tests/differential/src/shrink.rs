@@ -292,7 +292,8 @@ fn drop_nodes(graph: &mut Job, from: usize, count: usize) -> Option<()> {
 
 fn drop_node(graph: &mut Job, node: usize) -> Option<()> {
     let (from, end) = (*graph.first_edge.get(node)? as usize, *graph.first_edge.get(node + 1)? as usize);
-    if node >= graph.kind.len() || node >= graph.capacity.len() || from > end || end > graph.edge_target.len() {
+    if node >= graph.kind.len() || node >= graph.capacity.len() || from > end || end > graph.edge_target.len()
+    {
         return None;
     }
     drop_edges(graph, from, end - from)?;
@@ -416,7 +417,9 @@ fn numbers(case: &Case) -> Vec<u64> {
         }
         Case::Search { factor, .. } => vec![u64::from(*factor)],
         Case::Route { job, .. } if job.tuning == Tuning::PLAIN => vec![u64::from(job.limit)],
-        Case::Route { job, .. } => [&[job.limit][..], &job.tuning.numbers()].concat().into_iter().map(u64::from).collect(),
+        Case::Route { job, .. } => {
+            [&[job.limit][..], &job.tuning.numbers()].concat().into_iter().map(u64::from).collect()
+        }
         _ => Vec::new(),
     }
 }
@@ -447,22 +450,42 @@ pub fn literal(case: &Case) -> String {
     let names: &[(&str, &str)] = match case {
         Case::Price { .. } => &[],
         Case::Search { .. } => &[
-            ("kind", "u8"), ("capacity", "u8"), ("first_edge", "u32"), ("edge_target", "u16"),
-            ("mut work", "u64"), ("history", "u32"), ("others", "u16"), ("in_tree", "u8"),
+            ("kind", "u8"),
+            ("capacity", "u8"),
+            ("first_edge", "u32"),
+            ("edge_target", "u16"),
+            ("mut work", "u64"),
+            ("history", "u32"),
+            ("others", "u16"),
+            ("in_tree", "u8"),
         ],
         Case::Route { .. } => &[
-            ("kind", "u8"), ("capacity", "u8"), ("first_edge", "u32"), ("edge_target", "u16"),
-            ("source", "u16"), ("first_sink", "u32"), ("sink", "u16"), ("mut work", "u64"), ("mut log", "u32"),
+            ("kind", "u8"),
+            ("capacity", "u8"),
+            ("first_edge", "u32"),
+            ("edge_target", "u16"),
+            ("source", "u16"),
+            ("first_sink", "u32"),
+            ("sink", "u16"),
+            ("mut work", "u64"),
+            ("mut log", "u32"),
         ],
         Case::Read { .. } => &[
-            ("text", "u8"), ("mut kind", "u8"), ("mut capacity", "u8"), ("mut first_edge", "u32"), ("mut edge_target", "u16"),
-            ("mut source", "u16"), ("mut first_sink", "u32"), ("mut sink", "u16"),
+            ("text", "u8"),
+            ("mut kind", "u8"),
+            ("mut capacity", "u8"),
+            ("mut first_edge", "u32"),
+            ("mut edge_target", "u16"),
+            ("mut source", "u16"),
+            ("mut first_sink", "u32"),
+            ("mut sink", "u16"),
         ],
         Case::Write { .. } => &[("log", "u32"), ("mut buffer", "u8")],
     };
     let mut text = String::new();
     for (number, (name, kind)) in names.iter().enumerate() {
-        let entries: Vec<u64> = with_slice!(case, number, slice => slice.iter().map(|entry| (*entry).into()).collect());
+        let entries: Vec<u64> =
+            with_slice!(case, number, slice => slice.iter().map(|entry| (*entry).into()).collect());
         text += &format!("let {name}: [{kind}; {}] = {};\n", entries.len(), list(name, &entries));
     }
     text + call(case).as_str()

@@ -94,9 +94,24 @@ pub fn changed(rng: &mut Rng, job: &Job) -> Vec<u8> {
 /// Texts that hardly hold a job at all.
 pub fn odd(rng: &mut Rng) -> Vec<u8> {
     let choices: [&[u8]; 18] = [
-        b"", b"\n", b"F", b"F\n", b"F,1,0,1,1\n", b"F,1,0,1,1", b"\r\n", b"F,4097,0,1,1\n", b"F,1,32769,1,1\n", b"F,1,0,513,1\n",
-        b"F,1,0,1,101\n", b"F,0,0,0,0\n", b"F,1,0,1,1\nP", b"F,1,0,1,1\nP\n", b"F,1,0,1,1\nP,50,3,2,1", b"F,1,0,1,1\nP,50,3,2,1\n",
-        b"P,50,3,2,1\n", b"F,1,0,1,1\nP,1001,3,2,1",
+        b"",
+        b"\n",
+        b"F",
+        b"F\n",
+        b"F,1,0,1,1\n",
+        b"F,1,0,1,1",
+        b"\r\n",
+        b"F,4097,0,1,1\n",
+        b"F,1,32769,1,1\n",
+        b"F,1,0,513,1\n",
+        b"F,1,0,1,101\n",
+        b"F,0,0,0,0\n",
+        b"F,1,0,1,1\nP",
+        b"F,1,0,1,1\nP\n",
+        b"F,1,0,1,1\nP,50,3,2,1",
+        b"F,1,0,1,1\nP,50,3,2,1\n",
+        b"P,50,3,2,1\n",
+        b"F,1,0,1,1\nP,1001,3,2,1",
     ];
     rng.pick(&choices).to_vec()
 }
@@ -188,7 +203,8 @@ pub fn pin(text: &[u8], line: u64) -> Option<(u8, u8)> {
     let fields: Vec<&[u8]> = lines.get(line as usize - 1)?.split(|byte| *byte == b',').collect();
     let ([b"S"] | [b"T"]) = fields[..1] else { return None };
     let node = [b"N," as &[u8], fields.get(2)?, b","].concat();
-    let kind = lines.iter().find_map(|line| line.strip_prefix(&node[..]))?.split(|byte| *byte == b',').next()?;
+    let kind =
+        lines.iter().find_map(|line| line.strip_prefix(&node[..]))?.split(|byte| *byte == b',').next()?;
     Some((fields[0][0], std::str::from_utf8(kind).ok()?.parse().ok()?))
 }
 
@@ -196,7 +212,11 @@ pub fn pin(text: &[u8], line: u64) -> Option<(u8, u8)> {
 fn some_line(rng: &mut Rng, list: &[Line]) -> usize {
     let letter = rng.pick(b"FPNEST");
     let same: Vec<usize> = (0..list.len()).filter(|place| list[*place].letter == letter).collect();
-    if same.is_empty() { rng.below(list.len()) } else { rng.pick(&same) }
+    if same.is_empty() {
+        rng.below(list.len())
+    } else {
+        rng.pick(&same)
+    }
 }
 
 /// A number near the one there, or near a bound.
@@ -210,8 +230,40 @@ fn change_field(rng: &mut Rng, line: &mut Line) {
         0 => old + 1,
         1 => old.saturating_sub(1),
         _ => rng.pick(&[
-            0, 1, 2, 5, 53, 54, 100, 101, 255, 256, 511, 512, 513, 4_095, 4_096, 4_097, 32_767, 32_768, 32_769, 65_535,
-            3, 4, 8, 9, 1_000, 1_001, 65_536, 65_537, 99_999, 100_000, 999_999, 1_000_000, 4_294_967_296, 18_446_744_073_709_551_615,
+            0,
+            1,
+            2,
+            5,
+            53,
+            54,
+            100,
+            101,
+            255,
+            256,
+            511,
+            512,
+            513,
+            4_095,
+            4_096,
+            4_097,
+            32_767,
+            32_768,
+            32_769,
+            65_535,
+            3,
+            4,
+            8,
+            9,
+            1_000,
+            1_001,
+            65_536,
+            65_537,
+            99_999,
+            100_000,
+            999_999,
+            1_000_000,
+            4_294_967_296,
+            18_446_744_073_709_551_615,
         ]),
     };
 }
@@ -251,7 +303,8 @@ fn change_bytes(rng: &mut Rng, text: &mut Vec<u8>) {
         10 => carriage_return(rng, text),
         11 => leading(rng, text, b"0"),
         12 => {
-            let digits: &[u8] = rng.pick(&[b"10000" as &[u8], b"000000", b"00000", b"1000000", b"99999999999999999999"]);
+            let digits: &[u8] =
+                rng.pick(&[b"10000" as &[u8], b"000000", b"00000", b"1000000", b"99999999999999999999"]);
             leading(rng, text, digits);
         }
         _ => {
@@ -368,7 +421,23 @@ fn damage_log(rng: &mut Rng, log: &mut [u32]) {
     log[place] = match rng.below(3) {
         0 => log[place].wrapping_add(1),
         1 => log[place].wrapping_sub(1),
-        _ => rng.pick(&[0, 1, 2, 99, 100, 101, 511, 512, 4_095, 4_096, 4_097, 65_536, 0x7fff_ffff, 0x8000_0000, u32::MAX]),
+        _ => rng.pick(&[
+            0,
+            1,
+            2,
+            99,
+            100,
+            101,
+            511,
+            512,
+            4_095,
+            4_096,
+            4_097,
+            65_536,
+            0x7fff_ffff,
+            0x8000_0000,
+            u32::MAX,
+        ]),
     };
 }
 

@@ -54,7 +54,13 @@ impl Job {
     }
 
     /// From each node's row of targets and each net's source and sinks, with the plain tuning.
-    pub fn new(kind: Vec<u8>, capacity: Vec<u8>, rows: &[Vec<u16>], nets: &[(u16, impl AsRef<[u16]>)], limit: u32) -> Job {
+    pub fn new(
+        kind: Vec<u8>,
+        capacity: Vec<u8>,
+        rows: &[Vec<u16>],
+        nets: &[(u16, impl AsRef<[u16]>)],
+        limit: u32,
+    ) -> Job {
         let mut job = Job::bare(kind, capacity, limit);
         for row in rows {
             job.add_row(row);
@@ -126,7 +132,13 @@ mod tests {
 
     #[test]
     fn tables_from_lists() {
-        let job = Job::new(vec![0, 4, 1], vec![1, 2, 3], &[vec![1, 2], vec![], vec![0]], &[(0, [2, 1]), (1, [0, 2])], 9);
+        let job = Job::new(
+            vec![0, 4, 1],
+            vec![1, 2, 3],
+            &[vec![1, 2], vec![], vec![0]],
+            &[(0, [2, 1]), (1, [0, 2])],
+            9,
+        );
         let tables = Job {
             kind: vec![0, 4, 1],
             capacity: vec![1, 2, 3],

@@ -56,12 +56,20 @@ impl<'a> Lines<'a> {
 
     /// Fault 2 in the line taken last unless all is within bounds.
     fn bounds(&self, good: bool) -> Result<(), Fault> {
-        if good { Ok(()) } else { Err([2, self.line]) }
+        if good {
+            Ok(())
+        } else {
+            Err([2, self.line])
+        }
     }
 
     /// Fault 3 in the line taken last unless its order and numbers are right.
     fn order(&self, good: bool) -> Result<(), Fault> {
-        if good { Ok(()) } else { Err([3, self.line]) }
+        if good {
+            Ok(())
+        } else {
+            Err([3, self.line])
+        }
     }
 }
 

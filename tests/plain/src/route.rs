@@ -123,13 +123,7 @@ fn nearest(sinks: &[u16], distance: &[u64], tree: &BTreeSet<usize>) -> Option<us
 }
 
 /// One turn: joins the nearest sink; false if none was left.
-fn turn(
-    graph: &Graph,
-    nets: &Nets,
-    net: usize,
-    state: &mut State,
-    log: &mut Log,
-) -> Result<bool, Full> {
+fn turn(graph: &Graph, nets: &Nets, net: usize, state: &mut State, log: &mut Log) -> Result<bool, Full> {
     let others = state.users(Some(net));
     let prices = prices(graph, state.factor, &state.histories, &others);
     let tree = &mut state.trees[net];
@@ -173,10 +167,7 @@ fn negotiate(graph: &Graph, nets: &Nets, limit: u32, state: &mut State, log: &mu
 /// The lowest of tables 1 to 8 that breaks its rule; limit and tuning are table 8.
 fn broken(graph: &Graph, nets: &Nets, limit: u32, tuning: Tuning) -> Option<u64> {
     let sound = (1..=MAX_LIMIT).contains(&limit) && tuning.is_sound();
-    graph
-        .broken()
-        .or_else(|| nets.broken(graph.kind))
-        .or(if sound { None } else { Some(8) })
+    graph.broken().or_else(|| nets.broken(graph.kind)).or(if sound { None } else { Some(8) })
 }
 
 /// The answer once the negotiation has ended.

@@ -9,9 +9,8 @@ pub const NO_PATH: u64 = u64::MAX;
 
 /// Every node's price.
 pub fn prices(graph: &Graph, factor: u32, history: &[u32], others: &[u32]) -> Vec<u64> {
-    let price = |v: usize| {
-        price_of(graph.kind[v] as u32, factor, others[v], graph.capacity[v] as u32, history[v])
-    };
+    let price =
+        |v: usize| price_of(graph.kind[v] as u32, factor, others[v], graph.capacity[v] as u32, history[v]);
     (0..graph.nodes()).map(price).collect()
 }
 
@@ -67,9 +66,7 @@ pub fn path(
 /// The lowest node with an edge to v from which v's distance comes.
 fn before(graph: &Graph, prices: &[u64], distance: &[u64], v: usize) -> Option<usize> {
     (0..graph.nodes()).find(|&u| {
-        distance[u] != NO_PATH
-            && graph.has_edge(u, v)
-            && sum(distance[u], prices[v]) == distance[v]
+        distance[u] != NO_PATH && graph.has_edge(u, v) && sum(distance[u], prices[v]) == distance[v]
     })
 }
 

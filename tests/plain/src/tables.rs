@@ -75,8 +75,7 @@ impl Graph<'_> {
 
     /// Asked only when table 3 is sound.
     fn edge_target_is_sound(&self) -> bool {
-        self.edge_target.len() <= MAX_EDGES
-            && (0..self.nodes()).all(|v| self.row_is_sound(v))
+        self.edge_target.len() <= MAX_EDGES && (0..self.nodes()).all(|v| self.row_is_sound(v))
     }
 
     fn row_is_sound(&self, node: usize) -> bool {

@@ -110,8 +110,7 @@ fn prices() {
 #[test]
 fn two_nets_from_one_source_never_settle() {
     for limit in [1, 2, 7, 100] {
-        let lines =
-            format!("F,3,2,2,{limit} N,0,0,1 N,1,1,1 N,2,1,1 E,0,1 E,0,2 S,0,0 T,0,1 S,1,0 T,1,2");
+        let lines = format!("F,3,2,2,{limit} N,0,0,1 N,1,1,1 N,2,1,1 E,0,1 E,0,2 S,0,0 T,0,1 S,1,0 T,1,2");
         let (got, _) = routed(&tables(&text(&lines)), 1600);
         assert_eq!(got, answer(&[9, limit, 1], &[limit, 2 * limit, 16 * limit]));
     }

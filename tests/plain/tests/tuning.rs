@@ -32,7 +32,17 @@ fn the_line_is_read() {
 
 #[test]
 fn lines_of_wrong_shape_or_place() {
-    for line in ["P", "P,", "P,50,3,2", "P,50,3,2,1,1", "P,050,3,2,1", "P,50,3,2,01", "p,50,3,2,1", "P,50,3,,1", "P,1000000,3,2,1"] {
+    for line in [
+        "P",
+        "P,",
+        "P,50,3,2",
+        "P,50,3,2,1,1",
+        "P,050,3,2,1",
+        "P,50,3,2,01",
+        "p,50,3,2,1",
+        "P,50,3,,1",
+        "P,1000000,3,2,1",
+    ] {
         assert_eq!(refusal(&b_with(line)), [1, 2], "{line}");
     }
     assert_eq!(refusal(&text(B).replacen("F,6,6,2,2\n", "F,6,6,2,2\nP,50,3,2,1\r\n", 1)), [1, 2]);
@@ -50,7 +60,19 @@ fn lines_of_wrong_shape_or_place() {
 
 #[test]
 fn lines_beyond_bounds() {
-    let bad = ["1001,3,2,1", "50,1,2,1", "50,3,4,1", "50,9,2,1", "50,0,0,1", "50,3,0,1", "50,5,5,1", "50,8,5,1", "50,3,2,0", "50,3,2,3", "999999,3,2,1"];
+    let bad = [
+        "1001,3,2,1",
+        "50,1,2,1",
+        "50,3,4,1",
+        "50,9,2,1",
+        "50,0,0,1",
+        "50,3,0,1",
+        "50,5,5,1",
+        "50,8,5,1",
+        "50,3,2,0",
+        "50,3,2,3",
+        "999999,3,2,1",
+    ];
     for numbers in bad {
         assert_eq!(refusal(&b_with(&format!("P,{numbers}"))), [2, 2], "{numbers}");
     }
@@ -77,7 +99,11 @@ fn numbers_beyond_bounds_in_a_call() {
         for up in [0, 1, 2, 3, 4, 5, 8, 9, u32::MAX] {
             for down in [0, 1, 2, 3, 4, 5, u32::MAX] {
                 for step in [0, 1, 2, 3, u32::MAX] {
-                    let sound = first <= 1000 && (1..=4).contains(&down) && down <= up && up <= 8 && (step == 1 || step == 2);
+                    let sound = first <= 1000
+                        && (1..=4).contains(&down)
+                        && down <= up
+                        && up <= 8
+                        && (step == 1 || step == 2);
                     assert_eq!(refused(first, up, down, step), !sound, "{first} {up} {down} {step}");
                 }
             }

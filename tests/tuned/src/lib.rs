@@ -98,13 +98,7 @@ struct NoPath {
 impl<'a, const PRUNE: bool, const CARRY: bool> Router<'a, PRUNE, CARRY> {
     fn new(prices: Prices<'a>, graph: Graph<'a>, nets: Nets<'a>) -> Self {
         let trees = vec![Vec::new(); nets.source.len()];
-        Router {
-            search: Search::new(prices.nodes(), graph),
-            prices,
-            trees,
-            nets,
-            made: Vec::new(),
-        }
+        Router { search: Search::new(prices.nodes(), graph), prices, trees, nets, made: Vec::new() }
     }
 
     fn run(mut self, limit: u32, words: &mut [u32]) -> Outcome {

@@ -71,7 +71,8 @@ fn add_nets(draw: &mut Rng, sources: &[u16], sinks: &[u16], job: &mut Job) {
     for _ in 0..1 + draw.below(8) {
         let source = draw.pick(sources);
         let count = 1 + draw.below(most);
-        let list: Vec<u16> = some(draw, sinks.len(), count, sinks.len()).iter().map(|&s| sinks[s as usize]).collect();
+        let list: Vec<u16> =
+            some(draw, sinks.len(), count, sinks.len()).iter().map(|&s| sinks[s as usize]).collect();
         job.add_net(source, &list);
     }
 }
@@ -129,7 +130,8 @@ fn add_layers(draw: &mut Rng, width: &[usize], number: &[u16], job: &mut Job) {
 /// A pin leads to one sink; the others to one to three nodes of the next layer and at times along their own.
 fn layer_row(draw: &mut Rng, u: u16, own: &[u16], next: &[u16], pins: bool) -> Vec<u16> {
     let count = if pins { 1 } else { 1 + draw.below(3) };
-    let mut row: Vec<u16> = some(draw, next.len(), count, next.len()).iter().map(|&v| next[v as usize]).collect();
+    let mut row: Vec<u16> =
+        some(draw, next.len(), count, next.len()).iter().map(|&v| next[v as usize]).collect();
     let beside = own[draw.below(own.len())];
     if !pins && beside != u && draw.below(3) == 0 {
         row.push(beside);
@@ -179,8 +181,20 @@ fn run_tuned(way: Way, job: &Job, words: usize) -> (Outcome, Vec<u32>) {
     let mut log = vec![UNWRITTEN; words];
     let [first, up, down, step] = job.tuning.numbers();
     let outcome = tuned::route(
-        way, &job.kind, &job.capacity, &job.first_edge, &job.edge_target,
-        &job.source, &job.first_sink, &job.sink, job.limit, first, up, down, step, &mut log,
+        way,
+        &job.kind,
+        &job.capacity,
+        &job.first_edge,
+        &job.edge_target,
+        &job.source,
+        &job.first_sink,
+        &job.sink,
+        job.limit,
+        first,
+        up,
+        down,
+        step,
+        &mut log,
     );
     (outcome, log)
 }
@@ -190,8 +204,20 @@ fn run_plain(job: &Job, words: usize) -> (Outcome, Vec<u32>) {
     let [first, up, down, step] = job.tuning.numbers();
     let mut work = vec![0; 8 * job.kind.len()];
     let answer = plain::route(
-        &job.kind, &job.capacity, &job.first_edge, &job.edge_target,
-        &job.source, &job.first_sink, &job.sink, job.limit, first, up, down, step, &mut work, &mut log,
+        &job.kind,
+        &job.capacity,
+        &job.first_edge,
+        &job.edge_target,
+        &job.source,
+        &job.first_sink,
+        &job.sink,
+        job.limit,
+        first,
+        up,
+        down,
+        step,
+        &mut work,
+        &mut log,
     );
     let (iteration, turns, words) = (answer.numbers[0], answer.numbers[1], answer.numbers[2]);
     (Outcome { refusal: answer.refusal, iteration, turns, words }, log)
@@ -230,7 +256,10 @@ fn many_random_jobs() {
             seen[2] += (compare(&job, cut, seed).refusal.first() == Some(&8)) as u32;
         }
     }
-    println!("accepted {}, 7: {}, 8: {}, 9: {}; accepted after iteration 2: {late}", seen[0], seen[1], seen[2], seen[3]);
+    println!(
+        "accepted {}, 7: {}, 8: {}, 9: {}; accepted after iteration 2: {late}",
+        seen[0], seen[1], seen[2], seen[3]
+    );
     assert!(seen.iter().all(|&count| count > 100) && late > 50);
 }
 
@@ -239,7 +268,8 @@ fn job_b() {
     let rows = [vec![2, 3], vec![2], vec![4, 5], vec![4], vec![], vec![]];
     let job = Job::new(vec![0, 0, 4, 5, 1, 1], vec![1; 6], &rows, &[(0, [4]), (1, [5])], 2);
     let wanted = [
-        1, 0, 4, 4000, 0, 3, 0, 2, 4, 1, 1, 5, 4000, 0, 3, 1, 2, 5, 2, 0, 4, 6000, 0, 3, 0, 3, 4, 2, 1, 5, 6000, 0, 3, 1, 2, 5,
+        1, 0, 4, 4000, 0, 3, 0, 2, 4, 1, 1, 5, 4000, 0, 3, 1, 2, 5, 2, 0, 4, 6000, 0, 3, 0, 3, 4, 2, 1, 5,
+        6000, 0, 3, 1, 2, 5,
     ];
     for way in WAYS {
         let (outcome, log) = run_tuned(way, &job, 36);

@@ -53,12 +53,7 @@ pub const B_LOG: [u32; 36] = [
 ];
 
 pub fn b(limit: u32) -> Job {
-    tables(
-        &[0, 0, 4, 5, 1, 1],
-        &B_EDGES,
-        &[(0, &[4]), (1, &[5])],
-        limit,
-    )
+    tables(&[0, 0, 4, 5, 1, 1], &B_EDGES, &[(0, &[4]), (1, &[5])], limit)
 }
 
 pub const C_LOG: [u32; 17] = [
