@@ -461,7 +461,8 @@ fn start(rng: &mut Rng, plan: &Plan, roles: &[Role], apart: bool) -> usize {
     let choices: Vec<usize> = (0..plan.nodes()).filter(|node| roles[*node] != Role::Sink).collect();
     let mut node = rng.pick(&choices);
     for _ in 0..8 {
-        if !plan.rows[node].is_empty() && !(apart && roles[node] == Role::Source) {
+        let taken = apart && roles[node] == Role::Source;
+        if !plan.rows[node].is_empty() && !taken {
             break;
         }
         node = rng.pick(&choices);

@@ -10,7 +10,7 @@ use std::collections::BTreeMap;
 
 /// A case that fails, and how.
 pub struct Failure {
-    pub case: Case,
+    pub case: Box<Case>,
     /// The length of `out` at which it fails; none where the safe call does.
     pub out: Option<usize>,
     pub message: String,
@@ -149,13 +149,13 @@ impl Run {
     fn case(&mut self, case: Case) -> Result<After, Failure> {
         let after = match examine(&case, None) {
             Ok(after) => after,
-            Err(message) => return Err(Failure { case, out: None, message }),
+            Err(message) => return Err(Failure { case: Box::new(case), out: None, message }),
         };
         self.count_outcome(&after);
         if self.rng.once_in(8) {
             let length = self.rng.pick(&[0, 1, 3, 7, 8, 11, 12, 15, 16, 17, 18]);
             if let Err(message) = examine(&case, Some(length)) {
-                return Err(Failure { case, out: Some(length), message });
+                return Err(Failure { case: Box::new(case), out: Some(length), message });
             }
         }
         Ok(after)

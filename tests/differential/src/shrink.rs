@@ -380,8 +380,13 @@ fn slice_length(case: &Case, number: usize) -> usize {
     with_slice!(case, number, slice => slice.len())
 }
 
+/// An entry of any slice in 64 bits.
+fn wide<T: Into<u64>>(entry: T) -> u64 {
+    entry.into()
+}
+
 fn entry(case: &Case, number: usize, place: usize) -> u64 {
-    with_slice!(case, number, slice => slice[place].into())
+    with_slice!(case, number, slice => wide(slice[place]))
 }
 
 fn cut_slice(case: &mut Case, number: usize, from: usize, count: usize) -> Option<()> {
@@ -395,13 +400,15 @@ fn cut_slice(case: &mut Case, number: usize, from: usize, count: usize) -> Optio
 }
 
 fn set_entry(case: &mut Case, number: usize, place: usize, value: u64) -> Option<()> {
-    with_slice!(case, number, slice => {
-        let entry = slice.get_mut(place)?;
-        if value >= (*entry).into() {
-            return None;
-        }
-        *entry = value.try_into().ok()?;
-    });
+    with_slice!(case, number, slice => reduce(slice.get_mut(place)?, value))
+}
+
+/// Gives an entry a lower value.
+fn reduce<T: Copy + Into<u64> + TryFrom<u64>>(entry: &mut T, value: u64) -> Option<()> {
+    if value >= wide(*entry) {
+        return None;
+    }
+    *entry = value.try_into().ok()?;
     Some(())
 }
 
@@ -484,8 +491,7 @@ pub fn literal(case: &Case) -> String {
     };
     let mut text = String::new();
     for (number, (name, kind)) in names.iter().enumerate() {
-        let entries: Vec<u64> =
-            with_slice!(case, number, slice => slice.iter().map(|entry| (*entry).into()).collect());
+        let entries: Vec<u64> = with_slice!(case, number, slice => slice.iter().copied().map(wide).collect());
         text += &format!("let {name}: [{kind}; {}] = {};\n", entries.len(), list(name, &entries));
     }
     text + call(case).as_str()

@@ -319,7 +319,7 @@ fn byte(rng: &mut Rng) -> u8 {
     if rng.percent(85) {
         rng.pick(b"0123456789,,\n\n\rFPNEST -+.\"")
     } else {
-        rng.next() as u8
+        rng.draw() as u8
     }
 }
 
@@ -461,7 +461,7 @@ pub fn free_log(rng: &mut Rng) -> Vec<u32> {
         let length = if rng.once_in(300) { rng.pick(&[4_095, 4_096, 4_097]) } else { rng.within(2, 5) };
         let path: Vec<u32> = (0..length).map(|_| rng.pick(&[0, 9, 10, 99, 100, 999, 1_000, 4_095])).collect();
         let net = rng.pick(&[0, 9, 10, 99, 100, 511]);
-        log.extend([iteration, net, path[length - 1], rng.next() as u32, rng.next() as u32, length as u32]);
+        log.extend([iteration, net, path[length - 1], rng.draw() as u32, rng.draw() as u32, length as u32]);
         log.extend(path);
         if rng.percent(30) {
             iteration = (iteration + rng.within(1, 9) as u32).min(100);

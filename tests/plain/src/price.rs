@@ -55,7 +55,7 @@ impl Tuning {
 /// The base cost of a kind from 0 to 53.
 fn base(kind: u32) -> u64 {
     match kind {
-        0 | 1 | 2 => 20,
+        0..=2 => 20,
         3 => 19,
         _ => 20 * (kind as u64 - 3),
     }

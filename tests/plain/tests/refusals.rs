@@ -99,7 +99,7 @@ fn pins_of_other_kinds_in_a_text() {
     assert_eq!(changed("T,1,5", "T,2,2"), [2, 17]);
     assert_eq!(changed("T,1,5", "T,1,5 T,1,0"), [3, 18]);
     assert_eq!(changed("S,1,1", "S,1,3"), [3, 16]);
-    assert_eq!(refusal(&text(&B.replace("T,1,5", "T,1,3")).trim_end()), [1, 17]);
+    assert_eq!(refusal(text(&B.replace("T,1,5", "T,1,3")).trim_end()), [1, 17]);
 }
 
 #[test]

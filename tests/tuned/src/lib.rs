@@ -38,7 +38,6 @@ pub enum Way {
 pub const WAYS: [Way; 3] = [Way::Heap, Way::Pruned, Way::Carried];
 
 /// Routes a job with sound tables, limit and tuning.
-#[allow(clippy::too_many_arguments)]
 pub fn route(
     way: Way,
     kind: &[u8],
