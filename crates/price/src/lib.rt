@@ -2,9 +2,10 @@
 // Document 01, "Prices". Every public function takes every input that its types allow.
 ghost use mathlib.Core.Path.{_≡_};
 ghost use Prim.Native.Nat.{_≤_};
-ghost use Rattle.price.specs.Bounds.{kindMost, othersMost};
-ghost use Rattle.price.specs.Prices.{baseCost, priceOf, nextFactor, nextHistory};
+ghost use Rattle.price.specs.Bounds.{kindMost, factorMost, othersMost};
+ghost use Rattle.price.specs.Prices.{baseCost, nextFactor, nextHistory};
 ghost use Rattle.price.specs.Replies.{InBounds, toldOf, priceReply};
+ghost use Rattle.price.specs.Running.{congestedCost, historicCost};
 ghost use Rattle.price.specs.Tuning.{plain, tuningSound};
 
 // What a call of the price answers: the price, or refusal 13 with the place from 0 of the first number beyond its bounds.
@@ -58,7 +59,7 @@ pub fn tuning_sound(g: Tuning) -> bool
     g.step <= 2
 }
 
-// The base cost of a node of this kind.
+// The first running product, b_v in document 003: the base cost of a node of this kind.
 fn base_cost(kind: u32) -> u16
     requires { ⌜ kind ≤ kindMost ⌝ }
     ensures { λ r. ⌜ r ≡ baseCost kind ⌝ }
@@ -83,16 +84,23 @@ fn overuse(others: u32, capacity: u32) -> u64
     }
 }
 
-// The price in document 003's order, where every number keeps its bounds: the base cost, times the present congestion, times the historical congestion.
-// No running product wraps.
-fn product(kind: u32, factor: u32, others: u32, capacity: u32, history: u32) -> u64
-    requires { ⌜ InBounds kind factor others capacity history ⌝ }
-    ensures { λ r. ⌜ r ≡ priceOf kind factor others capacity history ⌝ }
+// The second running product, b_v · p_v in document 003: the base cost times the present congestion, in hundredths.
+fn congested_cost(kind: u32, factor: u32, others: u32, capacity: u32) -> u64
+    requires { ⌜ (kind ≤ kindMost) × (factor ≤ factorMost) × (others ≤ othersMost) × (1 ≤ capacity) ⌝ }
+    ensures { λ r. ⌜ r ≡ congestedCost kind factor others capacity ⌝ }
 {
     let base = base_cost(kind) as u64;
     let over = overuse(others, capacity);
     let present = 100 + factor as u64 * over;
-    let congested = base * present;
+    base * present
+}
+
+// The third running product, b_v · p_v · h_v in document 003: that times the historical congestion.
+fn historic_cost(kind: u32, factor: u32, others: u32, capacity: u32, history: u32) -> u64
+    requires { ⌜ InBounds kind factor others capacity history ⌝ }
+    ensures { λ r. ⌜ r ≡ historicCost kind factor others capacity history ⌝ }
+{
+    let congested = congested_cost(kind, factor, others, capacity);
     congested * history as u64
 }
 
@@ -121,7 +129,7 @@ pub fn price(kind: u32, factor: u32, others: u32, capacity: u32, history: u32) -
     if 101179 < history {
         return PriceAnswer::Refused(4);
     }
-    PriceAnswer::Price(product(kind, factor, others, capacity, history))
+    PriceAnswer::Price(historic_cost(kind, factor, others, capacity, history))
 }
 
 // The present congestion factor of the iteration after `iteration`, whose own factor is `factor`.

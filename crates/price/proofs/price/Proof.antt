@@ -4,6 +4,7 @@ use mathlib.Core.Path.{_∙_, ap, sym}
 use borrow.Author.Needs.{needs}
 use Rattle.price.specs.Replies.{priced}
 use Rattle.price.proofs.ReplyLaws.{reply-kind, reply-factor, reply-others, reply-no-capacity, reply-capacity, reply-no-history, reply-history, reply-priced}
+use Rattle.price.proofs.RunningHolds.{historic-price}
 use Rattle.price.proofs.price.Statement.{statement}
 use Rattle.price.proofs.price.Tie as tie
 
@@ -28,11 +29,11 @@ returns-6 c = sym (reply-no-history _ _ _ _ _ (search needs) (search needs) (sea
 returns-7 : tie.Need-returns-7
 returns-7 c = sym (reply-history _ _ _ _ _ (search needs) (search needs) (search needs) (search needs) (search needs) (search needs) (search needs))
 
-product-requires : tie.Need-product-requires
-product-requires c κs = search needs
+historic-cost-requires : tie.Need-historic-cost-requires
+historic-cost-requires c κs = search needs
 
 returns-8 : tie.Need-returns-8
-returns-8 c = ap priced (c .product .ensures) ∙ sym (reply-priced _ _ _ _ _ (search needs))
+returns-8 c = ap priced (c .historic-cost .ensures ∙ historic-price _ _ _ _ _) ∙ sym (reply-priced _ _ _ _ _ (search needs))
 
 pub price-spec : {M : Type 1} → statement M
 price-spec =
@@ -45,5 +46,5 @@ price-spec =
     returns-5
     returns-6
     returns-7
-    product-requires
+    historic-cost-requires
     returns-8)
