@@ -2,6 +2,7 @@ pub mod PriceLaws
 pub mod TuningLaws
 pub mod ReplyLaws
 pub mod RunningHolds
+pub mod OlderHolds
 pub mod SamplesHold
 pub mod TestLaws
 pub mod ListLaws

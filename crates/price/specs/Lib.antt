@@ -5,4 +5,5 @@ pub mod Tuning
 pub mod Prices
 pub mod Replies
 pub mod Running
+pub mod OlderKinds
 pub mod Samples

@@ -8,6 +8,17 @@ ghost use Rattle.price.specs.Replies.{InBounds, toldOf, priceReply};
 ghost use Rattle.price.specs.Running.{congestedCost, historicCost};
 ghost use Rattle.price.specs.Tuning.{plain, tuningSound};
 
+// Row 13's bounds, as specs/Bounds.antt has them.
+pub const KIND_MOST: u32 = 53;
+
+pub const FACTOR_MOST: u32 = 65535;
+
+pub const OTHERS_MOST: u32 = 511;
+
+pub const CAPACITY_MOST: u32 = 255;
+
+pub const HISTORY_MOST: u32 = 101179;
+
 // What a call of the price answers: the price, or refusal 13 with the place from 0 of the first number beyond its bounds.
 pub enum PriceAnswer {
     Price(u64),
@@ -67,7 +78,7 @@ fn base_cost(kind: u32) -> u16
     match kind {
         0 | 1 | 2 => 20,
         3 => 19,
-        4..=53 => 20 * ((kind - 3) as u16),
+        4..=KIND_MOST => 20 * ((kind - 3) as u16),
         _ => 0,
     }
 }
@@ -108,25 +119,25 @@ fn historic_cost(kind: u32, factor: u32, others: u32, capacity: u32, history: u3
 pub fn price(kind: u32, factor: u32, others: u32, capacity: u32, history: u32) -> PriceAnswer
     ensures { λ r. ⌜ toldOf r ≡ priceReply kind factor others capacity history ⌝ }
 {
-    if 53 < kind {
+    if KIND_MOST < kind {
         return PriceAnswer::Refused(0);
     }
-    if 65535 < factor {
+    if FACTOR_MOST < factor {
         return PriceAnswer::Refused(1);
     }
-    if 511 < others {
+    if OTHERS_MOST < others {
         return PriceAnswer::Refused(2);
     }
     if capacity < 1 {
         return PriceAnswer::Refused(3);
     }
-    if 255 < capacity {
+    if CAPACITY_MOST < capacity {
         return PriceAnswer::Refused(3);
     }
     if history < 1 {
         return PriceAnswer::Refused(4);
     }
-    if 101179 < history {
+    if HISTORY_MOST < history {
         return PriceAnswer::Refused(4);
     }
     PriceAnswer::Price(historic_cost(kind, factor, others, capacity, history))
@@ -146,7 +157,12 @@ pub fn next_factor(g: Tuning, iteration: u32, factor: u32) -> u32
         return 0;
     }
     let grown = factor as u64 * g.up as u64 / g.down as u64;
-    if grown < 65535 { grown as u32 } else { 65535 }
+    let most = FACTOR_MOST as u64;
+    if grown < most {
+        grown as u32
+    } else {
+        FACTOR_MOST
+    }
 }
 
 // The historical congestion of a node after an iteration that leaves it with this many users.

@@ -31,6 +31,9 @@ cast-grown-2 c = search needs
 div-grown : tie.Need-div-grown
 div-grown c = search needs
 
+cast-most : tie.Need-cast-most
+cast-most c = search needs
+
 cast-result : tie.Need-cast-result
 cast-result c = search needs
 
@@ -43,4 +46,4 @@ returns-5 c = sym (next-factor-later _ _ _ (search needs) (search needs) ∙ min
 pub next-factor-spec : {M : Type 1} → statement M
 next-factor-spec =
     tie.close
-    (tie.spec returns returns-2 returns-3 cast-grown mul-grown cast-grown-2 div-grown cast-result returns-4 returns-5)
+    (tie.spec returns returns-2 returns-3 cast-grown mul-grown cast-grown-2 div-grown cast-most cast-result returns-4 returns-5)
