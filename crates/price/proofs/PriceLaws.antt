@@ -117,12 +117,15 @@ module _ (g : Tuning) where
     factor-most zero = omega arith
     factor-most (suc t) = next-factor-most t (factorAt g t)
 
--- a product of two numbers of 32 bits fits 64, a third one added
-pub words-fit : (c a b : ℕ) → c < 2 ^ 32 → a < 2 ^ 32 → b < 2 ^ 32 → c + a * b < 2 ^ 64
-words-fit c a b hc ha hb =
+-- a product of two numbers of 32 bits fits 64, also with a third one added
+pub sum-fits : {c a b : ℕ} → c < 2 ^ 32 → a < 2 ^ 32 → b < 2 ^ 32 → c + a * b < 2 ^ 64
+sum-fits {c} {a} {b} hc ha hb =
     let few : a ≤ 2 ^ 32 - 1 = omega arith in
     let more : b ≤ 2 ^ 32 - 1 = omega arith in
     omega (arith, mul-le-mul few more)
+
+pub product-fits : {a b : ℕ} → a < 2 ^ 32 → b < 2 ^ 32 → a * b < 2 ^ 64
+product-fits {a} {b} ha hb = omega (arith, sum-fits {c = 0} {a = a} {b = b} (omega arith) ha hb)
 
 -- the history: before iteration t + 1, t iterations have added at most `historyGain` each
 

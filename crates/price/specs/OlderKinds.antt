@@ -6,8 +6,8 @@ use Prim.Native.Nat.{ℕ, _+_, _*_, _<_}
 use lib.ListN.{getD}
 use Rattle.price.specs.Prices.{baseCost, overuse, priceOf}
 
--- document 01's base costs of kinds 0 to 15: "0 source, 1 sink and 2 output pin cost 20; 3 input pin costs 19; 4 to 15 are wires of length 1 to 12
--- and cost 20 times the length"
+-- document 01's base costs of kinds 0 to 15: "0 source, 1 sink and 2 output pin cost 20; 3 input pin costs 19; 4 to 15 are wires of length
+-- 1 to 12 and cost 20 times the length"
 abbrev pub olderCosts : List ℕ
 olderCosts =
     20 ∷ 20 ∷ 20 ∷ 19 ∷ 20 ∷ 40 ∷ 60 ∷ 80 ∷ 100 ∷ 120 ∷ 140 ∷ 160 ∷ 180 ∷ 200 ∷ 220 ∷ 240 ∷ []

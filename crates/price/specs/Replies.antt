@@ -41,8 +41,8 @@ pub record InBounds (kind factor others capacity history : ℕ) : Type 0 where
 abbrev pub kept : Bool → ℕ → Reply → Reply
 kept inside place rest = choose inside rest (refused place)
 
--- "The price gives 13 with the place from 0 of the first bad number of kind, factor (0 to 65,535), others (0 to 511), capacity, history", which 2.1
--- lets reach 101,179.
+-- "The price gives 13 with the place from 0 of the first bad number of kind, factor (0 to 65,535), others (0 to 511), capacity, history", which
+-- 2.1 lets reach 101,179.
 unfoldable pub priceReply : ℕ → ℕ → ℕ → ℕ → ℕ → Reply
 priceReply kind factor others capacity history =
     kept (leb kind kindMost) 0

@@ -1,4 +1,4 @@
--- Request 2.4: the price in the order of document 003, "base, then the present factor, then history", and how large each running product gets.
+-- Request 2.4: the price in document 003's order, "base, then the present factor, then history", and how large each running product gets.
 -- 003 writes c_v = b_v · p_v · h_v; the running products are b_v, which is `baseCost`, then b_v · p_v, then b_v · p_v · h_v.
 -- Assumes nothing.
 use mathlib.Core.Path.{_≡_}

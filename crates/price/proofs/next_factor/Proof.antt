@@ -2,8 +2,7 @@
 -- Assumes nothing.
 use mathlib.Core.Path.{sym, _∙_}
 use native.Mathlib.Nat.{min-eq-left, min-eq-right}
-use native.Mathlib.Omega.{arith}
-use Rattle.price.proofs.PriceLaws.{next-factor-first, next-factor-second, next-factor-later, next-factor-none, words-fit}
+use Rattle.price.proofs.PriceLaws.{next-factor-first, next-factor-second, next-factor-later, next-factor-none, product-fits}
 use borrow.Author.Needs.{needs}
 use Rattle.price.proofs.next_factor.Statement.{statement}
 use Rattle.price.proofs.next_factor.Tie as tie
@@ -21,9 +20,7 @@ cast-grown : tie.Need-cast-grown
 cast-grown c = search needs
 
 mul-grown : tie.Need-mul-grown
-mul-grown c =
-    let a = c .before .before .before .before .before .args in
-    omega (arith, words-fit 0 (a .factor) (a .g .up) (omega arith) (search needs) (search needs))
+mul-grown c = record { fits = product-fits (search needs) (search needs) }
 
 cast-grown-2 : tie.Need-cast-grown-2
 cast-grown-2 c = search needs

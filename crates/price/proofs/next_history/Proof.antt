@@ -1,11 +1,9 @@
 -- `price::next_history` meets its contract: natural subtraction, taken apart by the test.
 -- Assumes nothing.
 use mathlib.Core.Path.{sym}
-use Prim.Native.Nat.{_-_}
-use native.Mathlib.Omega.{arith}
 use borrow.Author.Needs.{needs}
 use Rattle.price.specs.Prices.{nextHistory}
-use Rattle.price.proofs.PriceLaws.{words-fit, history-stays}
+use Rattle.price.proofs.PriceLaws.{product-fits, sum-fits, history-stays}
 use Rattle.price.proofs.next_history.Statement.{statement}
 use Rattle.price.proofs.next_history.Tie as tie
 
@@ -19,14 +17,10 @@ cast-result-2 : tie.Need-cast-result-2
 cast-result-2 c = search needs
 
 mul-result : tie.Need-mul-result
-mul-result c =
-    let a = c .before .before .args in
-    omega (arith, words-fit 0 (a .g .step) (a .users - a .capacity) (omega arith) (search needs) (search needs))
+mul-result c = record { fits = product-fits (search needs) (search needs) }
 
 add-result : tie.Need-add-result
-add-result c =
-    let a = c .before .before .args in
-    omega (arith, words-fit (a .history) (a .g .step) (a .users - a .capacity) (search needs) (search needs) (search needs))
+add-result c = record { fits = sum-fits (search needs) (search needs) (search needs) }
 
 returns : tie.Need-returns
 unfolding nextHistory
