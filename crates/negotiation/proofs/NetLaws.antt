@@ -11,7 +11,7 @@ use lib.Dec.{eqb}
 use lib.ListN.{length, getD, drop, length-append, length-replicate, getD-replicate}
 use lib.Seq.{append-snoc, length-slice}
 use borrow.Author.Tests.{eq-eqb, ltb-true}
-use Rattle.price.specs.Bounds.{factorMost, historyMost, historyGain, othersMost, limitMost}
+use Rattle.price.specs.Bounds.{factorMost, historyMost, historyGain, othersMost, limitMost, priceMost}
 use Rattle.price.specs.Test.{both}
 use Rattle.price.specs.Lists.{every, has, distinct, upTo}
 use Rattle.price.specs.Prices.{nextHistory}
@@ -21,8 +21,7 @@ use Rattle.price.proofs.ListLaws.{length-upTo, getD-upTo, has-at, has-place}
 use Rattle.price.proofs.BelowLaws.{count-most, count-less}
 use Rattle.price.proofs.PriceLaws as price
 use Rattle.price.proofs.PriceLaws.{price-pos, price-most, next-factor-most, history-grows, history-reach}
-use Rattle.search.specs.Paths.{Walk, CheapestPath}
-use Rattle.search.specs.Frontier.{Fair}
+use Rattle.search.specs.Paths.{Walk, CheapestPath, Fair}
 use Rattle.search.specs.Turn.{Congestion, priceAt}
 use Rattle.search.proofs.BlockLaws.{graph-of, kind-most, capacity-least, capacity-most}
 use Rattle.search.proofs.DistanceLaws.{some-path}
@@ -144,6 +143,9 @@ module _ (j : Job) (sound : SoundJob j) (s : State) (ready : StateReady j s) (i 
   unfolding priceAt congestionFor
   turn-fair =
       record {
+        ceiling = priceMost;
+        low = omega arith;
+        fits = price.path-most (nodes j) (graph-of (j .block) (sound .block-sound) .few);
         pos = λ v h. price-pos _ _ _ _ _ (ready .history-least v h);
         most = λ v h. rw (others-at v h) (price-most (turn-bounds v h));
       }

@@ -9,8 +9,8 @@ use lib.Seq.{take-at, getD-append-add, getD-drop}
 use Rattle.price.specs.Bounds.{nodesMost}
 use Rattle.search.specs.Block as block
 use Rattle.search.specs.Block.{Block}
-use Rattle.search.specs.Frontier.{Fair}
 use Rattle.search.specs.Tables.{Graph}
+use Rattle.search.specs.Paths.{Fair}
 use Rattle.search.specs.Turn.{Congestion, congestionOf, priceAt, Turn, joins, turn}
 use Rattle.search.specs.Replies.{PathReply, cleared, turnReply, pathReply, pathTaken}
 use Rattle.search.specs.declared.PathAnswer.{PathAnswer}
@@ -76,7 +76,7 @@ module _ {b : Block} {tariff : Tariff} {net : ℕ} {sinks history users marks wo
   unfolding priceAt
   fair =
       let f = ready-fair (b .kinds) (b .capacities) (b .firstEdges) (b .edgeTargets) prices marks (record { kinds-sound = t .ready .sound .kinds-sound; capacities-sound = t .ready .sound .capacities-sound; nodes-sound = t .ready .numbers; factor-most = t .ready .factor-most }) in
-      record { pos = f .pos; most = f .most }
+      record { ceiling = f .ceiling; low = f .low; fits = f .fits; pos = f .pos; most = f .most }
 
   reply : {x : PathReply} → x ≡ pathReply b prices marks sinks work → x ≡ turnReply (block.nodes b) work made
   reply e = e ∙ path-turn b prices marks sinks work (t .ready .sound) (t .sinks-sound) (t .ready .enough) (t .ready .numbers) (t .ready .factor-most)

@@ -14,9 +14,8 @@ use Rattle.price.proofs.TestLaws.{either-way, le-or-lt}
 use Rattle.price.proofs.ListLaws.{has-at, has-place, length-upTo, getD-upTo, has-append-left, has-append-right}
 use Rattle.search.specs.Block.{Block}
 use Rattle.search.specs.Tables.{Graph}
-use Rattle.search.specs.Paths.{Walk, stay, step, CheapestPath}
+use Rattle.search.specs.Paths.{Walk, stay, step, CheapestPath, Fair}
 use Rattle.search.specs.Distance.{far, inTree, distance}
-use Rattle.search.specs.Frontier.{Fair}
 use Rattle.search.specs.Turn.{Congestion, Turn, joins, stuck, priceAt, pathTo, turn}
 use Rattle.search.proofs.DistinctLaws.{has-cons, has-first, lacks}
 use Rattle.search.proofs.PathToLaws.{path-walk, path-distinct, path-one-tree-node, path-short, path-nodes}

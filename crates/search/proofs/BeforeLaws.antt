@@ -15,9 +15,9 @@ use Rattle.price.proofs.TestLaws.{true≢false, both-true, both-left, both-righ
 use Rattle.price.proofs.BelowLaws.{firstBelow-below, firstBelow-holds}
 use Rattle.search.specs.Block.{Block, nodes, hasEdge}
 use Rattle.search.specs.Tables.{Graph}
+use Rattle.search.specs.Paths.{Fair}
 use Rattle.search.specs.Distance.{far, inTree, distances, distance}
 use Rattle.search.specs.Turn.{before}
-use Rattle.search.specs.Frontier.{Fair}
 use Rattle.search.proofs.BlockLaws.{edge-from}
 use Rattle.search.proofs.DistanceLaws.{distance-over}
 

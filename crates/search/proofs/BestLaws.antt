@@ -7,7 +7,8 @@ use Prim.Native.Nat.{ℕ, _+_, _*_, _≤_, _<_}
 use native.Mathlib.Nat.{eq-or-lt-of-le}
 use native.Mathlib.Omega.{arith}
 use lib.ListN.{length, getD, set}
-use Rattle.search.specs.Layout.{distAt, priceIn, goalAt, Shortened, stepMost, Cheapest}
+use Rattle.search.specs.Paths.{anyPriceMost}
+use Rattle.search.specs.Layout.{distAt, priceIn, goalAt, Shortened, Cheapest}
 use Rattle.search.specs.Frontier.{BestGoal}
 use Rattle.search.proofs.StoreLaws.{stored-other}
 use Rattle.search.proofs.QueueLaws.{same-or-not}
@@ -84,7 +85,7 @@ module _ {n u v d best : ℕ} {w w′ : List ℕ} (h : v < n) (t : Shortened n u
 
 -- ---- a number at most the price of each goal, place by place of the list
 
-pub cheapest-none : (n : ℕ) (sinks w : List ℕ) → Cheapest n sinks w 0 stepMost
+pub cheapest-none : (n : ℕ) (sinks w : List ℕ) → Cheapest n sinks w 0 anyPriceMost
 cheapest-none n sinks w = record { most = omega arith; least = λ j l g. absurd (omega arith) }
 
 module _ {n : ℕ} {sinks w : List ℕ} {i step : ℕ} (c : Cheapest n sinks w i step) where

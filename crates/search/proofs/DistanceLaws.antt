@@ -9,18 +9,16 @@ use Prim.Native.Nat.{ℕ, zero, suc, _+_, _*_, _≤_, _<_, zero-le}
 use native.Mathlib.Nat.{le-refl, le-trans, le-antisymm, le-of-eq, le-dest, lt-irrefl, add-zero, suc-add, add-suc, zero-add}
 use native.Mathlib.Omega.{arith}
 use lib.ListN.{length, getD, List·getD-eq-default}
-use Rattle.price.specs.Bounds.{priceMost, pathMost}
+use Rattle.price.specs.Bounds.{pathMost}
 use Rattle.price.specs.Test.{choose}
 use Rattle.price.specs.Lists.{upTo, least}
 use Rattle.price.proofs.TestLaws.{either-way, true≢false, le-or-lt}
 use Rattle.price.proofs.ListLaws.{length-upTo, getD-upTo}
 use Rattle.price.proofs.EntryLaws.{least-top, least-le, least-is}
-use Rattle.price.proofs.PriceLaws.{path-most}
 use Rattle.search.specs.Block.{Block, nodes, hasEdge}
 use Rattle.search.specs.Tables.{Graph}
-use Rattle.search.specs.Paths.{Walk, stay, step, pathCost}
+use Rattle.search.specs.Paths.{Walk, stay, step, pathCost, Fair}
 use Rattle.search.specs.Distance.{far, inTree, treeDistances, nearer, round, rounds, distances, distance}
-use Rattle.search.specs.Frontier.{Fair}
 use Rattle.search.proofs.BlockLaws.{edge-from, edge-to}
 use Rattle.search.proofs.WalkLaws.{stay-cost, step-cost, snoc, snoc-cost, last-step, LastStep, shorten}
 
@@ -201,19 +199,19 @@ module _ (b : Block) (price : ℕ → ℕ) (marks : List ℕ) where
         (le-or-lt far d))
 
     -- it is at most the largest price for each node
-    pub distance-most : (v : ℕ) → v < nodes b → distance b price marks v < far → distance b price marks v ≤ nodes b * priceMost
+    pub distance-most : (v : ℕ) → v < nodes b → distance b price marks v < far → distance b price marks v < pathMost
     distance-most v h l =
         let r = some-path v h l in
         let s = shorten g price fair (r .2) (r .4) in
-        le-trans (short-walk (r .0) v (s .path′) (r .2) (r .3) (s .walk) (s .few)) (s .most)
+        let less = short-walk (r .0) v (s .path′) (r .2) (r .3) (s .walk) (s .few) in
+        omega (arith, s .most)
 
     -- a node to which any path leads from the tree has a distance
     pub path-near : (t v : ℕ) (path : List ℕ) → t < nodes b → inTree marks t ≡ true → Walk b t path v → distance b price marks v < far
     path-near t v path h m w =
         let s = shorten g price fair h w in
-        let most : distance b price marks v ≤ nodes b * priceMost = le-trans (short-walk t v (s .path′) h m (s .walk) (s .few)) (s .most) in
-        let fits : nodes b * priceMost < pathMost = path-most (nodes b) (g .few) in
-        omega arith
+        let less = short-walk t v (s .path′) h m (s .walk) (s .few) in
+        omega (arith, s .most)
 
     -- no edge leads to a shorter way
     pub distance-step : (u v : ℕ) → hasEdge b u v ≡ true → distance b price marks v ≤ distance b price marks u + price v

@@ -11,10 +11,11 @@ use lib.ListN.{getD}
 use Rattle.price.proofs.TestLaws.{either-way, le-or-lt}
 use Rattle.search.specs.Block.{Block, nodes, rowStart, hasEdge}
 use Rattle.search.specs.Tables.{Graph}
+use Rattle.search.specs.Paths.{Fair}
 use Rattle.search.specs.Distance.{far, inTree, distances, distance}
 use Rattle.search.specs.Turn.{before}
 use Rattle.search.specs.Layout.{distAt, entryAt, predAt}
-use Rattle.search.specs.Frontier.{Open, Settled, Seen, Reached, Waiting, Fair}
+use Rattle.search.specs.Frontier.{Open, Settled, Seen, Reached, Waiting}
 use Rattle.search.proofs.BlockLaws.{edge-from, edge-place}
 use Rattle.search.proofs.DistanceLaws.{distance-top, distance-tree, distance-step, distance-over}
 use Rattle.search.proofs.BeforeLaws.{before-edge, before-sum, before-lowest}

@@ -16,11 +16,12 @@ use Rattle.price.proofs.TestLaws.{either-way, both-left, both-right, le-or-lt}
 use Rattle.price.proofs.ListLaws.{has-at, has-place}
 use Rattle.search.specs.Block.{Block, nodes}
 use Rattle.search.specs.Tables.{Graph}
+use Rattle.search.specs.Paths.{Fair}
 use Rattle.search.specs.Distance.{far, inTree, distance}
 use Rattle.search.specs.Turn.{joins, stuck, pathTo, turn}
 use Rattle.search.specs.Replies.{cleared, sinksMost, turnReply, pathTaken}
 use Rattle.search.specs.Layout.{distAt, entryAt, priceIn, goalAt, Cheapest, Leads, pathIn}
-use Rattle.search.specs.Frontier.{Reached, Waiting, BestGoal, LastStep, Stopped, Fair}
+use Rattle.search.specs.Frontier.{Reached, Waiting, BestGoal, LastStep, Stopped}
 use Rattle.search.specs.Ready.{Found, Read}
 use Rattle.search.specs.declared.PathAnswer.{PathAnswer}
 use Rattle.search.specs.declared.PathAnswer.the-variants.{Stuck}

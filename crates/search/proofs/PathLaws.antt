@@ -13,9 +13,8 @@ use Rattle.price.specs.Lists.{every, has, distinct, total}
 use Rattle.price.proofs.TestLaws.{either-way, both-true}
 use Rattle.price.proofs.ListLaws.{has-place}
 use Rattle.search.specs.Block.{Block, nodes, hasEdge}
-use Rattle.search.specs.Paths.{Walk, stay, step}
+use Rattle.search.specs.Paths.{Walk, stay, step, Fair}
 use Rattle.search.specs.Distance.{inTree, distance}
-use Rattle.search.specs.Frontier.{Fair}
 use Rattle.search.proofs.DistinctLaws.{distinct-short}
 
 -- the part of a path behind u, up to s: each of its nodes is outside the tree and has its distance over the edge from the node before it

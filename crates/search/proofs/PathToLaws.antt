@@ -13,11 +13,10 @@ use Rattle.price.specs.Lists.{every, distinct}
 use Rattle.price.proofs.TestLaws.{either-way}
 use Rattle.search.specs.Block.{Block, nodes}
 use Rattle.search.specs.Tables.{Graph}
-use Rattle.search.specs.Paths.{Walk, pathCost}
+use Rattle.search.specs.Paths.{Walk, pathCost, Fair}
 use Rattle.search.specs.Distance.{far, inTree, distances, distance}
 use Rattle.search.specs.Turn.{before, back, pathTo}
 use Rattle.search.specs.Layout.{predAt, trail}
-use Rattle.search.specs.Frontier.{Fair}
 use Rattle.search.proofs.DistanceLaws.{distance-tree}
 use Rattle.search.proofs.PathLaws.{Onward, done, on, onward-walk, onward-cost, onward-out, onward-all, onward-distinct, onward-short}
 use Rattle.search.proofs.BeforeLaws.{before-node, before-edge, before-sum, before-near}

@@ -10,14 +10,15 @@ use lib.Dec.{leb, ltb}
 use lib.ListN.{length, getD}
 use borrow.Author.Tests.{leb-true, leb-false, ltb-true, ltb-false}
 use Rattle.price.specs.Test.{choose}
-use Rattle.price.specs.Bounds.{factorMost, othersMost, historyMost}
+use Rattle.price.specs.Bounds.{factorMost, othersMost, historyMost, priceMost}
 use Rattle.price.proofs.TestLaws.{both-left, both-right, le-or-lt}
-use Rattle.price.proofs.PriceLaws.{price-pos, price-most}
+use Rattle.price.proofs.PriceLaws.{price-pos, price-most, path-most}
 use Rattle.search.specs.Block.{blockOf, graphOf, row}
 use Rattle.search.specs.Tables.{Sound, Graph, edgeTargetsSound}
+use Rattle.search.specs.Paths.{Fair}
 use Rattle.search.specs.Turn.{Congestion, priceAt}
 use Rattle.search.specs.Replies.{workNeeded, bounded, historyBounded, nodeSound, badNode, refusalOf}
-use Rattle.search.specs.Frontier.{PriceReady, Fair}
+use Rattle.search.specs.Frontier.{PriceReady}
 use Rattle.search.specs.Ready.{Ready}
 use Rattle.search.proofs.BlockLaws.{kinds-some, kinds-few, kind-most, capacities-long, capacity-least, capacity-most}
 use Rattle.search.proofs.PassLaws.{sound-below}
@@ -132,6 +133,9 @@ module _ (ks cs fs ts : List ℕ) (c : Congestion) (marks : List ℕ) where
     unfolding priceAt
     ready-fair =
         record {
+          ceiling = priceMost;
+          low = omega arith;
+          fits = path-most (length ks) (kinds-few ks (r .kinds-sound));
           pos = λ v h. price-pos _ _ _ _ _ (ready-node v h .history-least);
           most = λ v h. price-most (ready-price v h .bounds);
         }

@@ -12,13 +12,13 @@ use borrow.Author.Tests.{eq-eqb, lt-ltb, eqb-true, ltb-true, not-false}
 use Rattle.price.specs.Bounds.{pathMost}
 use Rattle.price.specs.Test.{both}
 use Rattle.price.specs.Lists.{countBelow}
-use Rattle.price.proofs.PriceLaws.{path-most}
 use Rattle.price.proofs.TestLaws.{both-left, both-right, either-way, true≢false}
 use Rattle.price.proofs.BelowLaws.{count-less}
 use Rattle.search.specs.Block.{Block, nodes, rowStart}
+use Rattle.search.specs.Paths.{Fair}
 use Rattle.search.specs.Distance.{far, distance}
 use Rattle.search.specs.Layout.{distAt, entryAt, leafAt, TakenOut}
-use Rattle.search.specs.Frontier.{Open, Settled, Waiting, BestGoal, LastStep, Stopped, Fair, Stands, Ran, RowReady, Looked, RowDone, unsettled}
+use Rattle.search.specs.Frontier.{Open, Settled, Waiting, BestGoal, LastStep, Stopped, Stands, Ran, RowReady, Looked, RowDone, unsettled}
 use Rattle.search.proofs.DistanceLaws.{distance-most}
 use Rattle.search.proofs.Exactness.{exact-near}
 use Rattle.search.proofs.BestLaws.{best-same}
@@ -82,7 +82,6 @@ module _ (b : Block) (step best : ℕ) (w₀ w : List ℕ) (u : ℕ) (run : Runn
       let d : distAt w u ≡ distance b (s .price) (s .marks) u =
       exact-near b (s .price) (s .marks) w (s .sound) (s .fair) (s .waiting) u node (omega (arith, at-level)) in
       let m = distance-most b (s .price) (s .marks) (s .sound) (s .fair) u node (omega (arith, at-level)) in
-      let p = path-most (nodes b) (s .sound .few) in
       omega (arith, at-level)
 
   -- and a last step more does not wrap
@@ -114,6 +113,7 @@ module _ (b : Block) (step best : ℕ) (w₀ w w₁ : List ℕ) (u : ℕ) (run :
             let a = taken .high (3 * nodes b + v) (omega arith) in
             let c = f .prices v h in
             let q = s .fair .most v h in
+            let low = s .fair .low in
             omega arith;
       }
 

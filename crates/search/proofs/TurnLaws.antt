@@ -17,10 +17,9 @@ use Rattle.price.proofs.ListLaws.{has-at, has-place}
 use Rattle.price.proofs.EntryLaws.{least-top, least-le, placeOf-is}
 use Rattle.search.specs.Block.{Block, nodes}
 use Rattle.search.specs.Tables.{Graph}
-use Rattle.search.specs.Paths.{Walk, stay, step, pathCost, CheapestPath}
+use Rattle.search.specs.Paths.{Walk, stay, step, pathCost, CheapestPath, Fair}
 use Rattle.search.specs.Distance.{far, inTree, distance}
 use Rattle.search.specs.Turn.{joins, stuck, pathTo, openDistances, joinAt, turn}
-use Rattle.search.specs.Frontier.{Fair}
 use Rattle.search.proofs.BlockLaws.{edge-from}
 use Rattle.search.proofs.DistanceLaws.{no-path-cheaper, path-near}
 use Rattle.search.proofs.PathToLaws.{path-walk, path-cost}

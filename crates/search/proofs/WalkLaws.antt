@@ -8,14 +8,13 @@ use Prim.Native.Nat.{ℕ, zero, suc, _+_, _*_, _≤_, _<_}
 use native.Mathlib.Nat.{not-suc-le-zero, le-of-suc-le-suc, add-zero, le-refl, le-trans, mul-le-mul-right}
 use native.Mathlib.Omega.{arith}
 use lib.ListN.{length, getD}
-use Rattle.price.specs.Bounds.{priceMost}
+use Rattle.price.specs.Bounds.{pathMost}
 use Rattle.price.specs.Lists.{has, distinct, total}
 use Rattle.price.proofs.TestLaws.{either-way, true≢false}
 use Rattle.price.proofs.ListLaws.{total-append, total-most}
 use Rattle.search.specs.Block.{Block, nodes, hasEdge}
 use Rattle.search.specs.Tables.{Graph}
-use Rattle.search.specs.Paths.{Walk, stay, step, pathCost}
-use Rattle.search.specs.Frontier.{Fair}
+use Rattle.search.specs.Paths.{Walk, stay, step, pathCost, Fair}
 use Rattle.search.proofs.BlockLaws.{edge-to}
 use Rattle.search.proofs.DistinctLaws.{has-cons, distinct-cons, distinct-rest, distinct-short}
 
@@ -55,7 +54,7 @@ pub record Short (b : Block) (price : ℕ → ℕ) (u : ℕ) (path : List ℕ) (
   pub walk : Walk b u path′ v
   pub few : length path′ ≤ nodes b
   pub less : pathCost price path′ ≤ pathCost price path
-  pub most : pathCost price path′ ≤ nodes b * priceMost
+  pub most : pathCost price path′ < pathMost
 
 module _ {b : Block} where
   -- the cost leaves the first node out
@@ -157,6 +156,6 @@ module _ {b : Block} where
         let whole : total price path ≡ price u + pathCost price path = walk-total price w in
         let part : total price (r .path′) ≡ price u + pathCost price (r .path′) = walk-total price (r .walk) in
         let less : total price (r .path′) ≤ total price path = r .less in
-        let sum : total price (r .path′) ≤ length (r .path′) * priceMost = total-most price priceMost (r .path′) (λ i l. fair .most (getD (r .path′) i 0) (ns i l)) in
-        let all : length (r .path′) * priceMost ≤ nodes b * priceMost = mul-le-mul-right priceMost few in
-        record { path′ = r .path′; walk = r .walk; few = few; less = omega arith; most = omega arith }
+        let sum : total price (r .path′) ≤ length (r .path′) * fair .ceiling = total-most price (fair .ceiling) (r .path′) (λ i l. fair .most (getD (r .path′) i 0) (ns i l)) in
+        let all : length (r .path′) * fair .ceiling ≤ nodes b * fair .ceiling = mul-le-mul-right (fair .ceiling) few in
+        record { path′ = r .path′; walk = r .walk; few = few; less = omega arith; most = let room = fair .fits in omega arith }

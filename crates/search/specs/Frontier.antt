@@ -8,12 +8,13 @@ use Prim.Native.Nat.{ℕ, _+_, _*_, _≤_, _<_}
 use lib.Dec.{eqb, ltb}
 use lib.ListN.{length, getD}
 use Rattle.price.specs.Test.{both}
-use Rattle.price.specs.Bounds.{priceMost, pathMost}
+use Rattle.price.specs.Bounds.{pathMost}
 use Rattle.price.specs.Replies.{InBounds}
 use Rattle.search.specs.Block.{Block, nodes, rowStart, hasEdge}
 use Rattle.search.specs.Tables.{Graph}
+use Rattle.search.specs.Paths.{anyPriceMost, Fair}
 use Rattle.search.specs.Distance.{far, inTree}
-use Rattle.search.specs.Layout.{distAt, entryAt, leafAt, priceIn, predAt, goalAt, Heap, stepMost}
+use Rattle.search.specs.Layout.{distAt, entryAt, leafAt, priceIn, predAt, goalAt, Heap}
 
 -- an open node waits in the queue at its distance so far, `far` where it has none
 abbrev pub Open : ℕ → List ℕ → ℕ → Type 0
@@ -64,7 +65,7 @@ pub record BestGoal (n best : ℕ) (w : List ℕ) : Type 0 where
 
 -- the last step to a goal costs at least `step`
 pub record LastStep (n step : ℕ) (w : List ℕ) : Type 0 where
-  pub most : step ≤ stepMost
+  pub most : step ≤ anyPriceMost
   pub goals : (v : ℕ) → v < n → goalAt n w v ≡ 1 → step ≤ priceIn n w v
 
 -- where the search stops: nothing waits any more, or a goal is so near that none is reached as cheaply over a node that waits
@@ -78,11 +79,6 @@ pub record PriceReady (kinds capacities histories others : List ℕ) (factor v :
   pub has-history : v < length histories
   pub has-others : v < length others
   pub bounds : InBounds (getD kinds v 0) factor (getD others v 0) (getD capacities v 0) (getD histories v 0)
-
--- prices that a search can work with: above 0 and at most the largest
-pub record Fair (b : Block) (price : ℕ → ℕ) : Type 0 where
-  pub pos : (v : ℕ) → v < nodes b → 0 < price v
-  pub most : (v : ℕ) → v < nodes b → price v ≤ priceMost
 
 -- some search stands so
 pub record Stands (b : Block) (w : List ℕ) : Type 0 where
@@ -107,7 +103,7 @@ pub record RowReady (b : Block) (w : List ℕ) (u : ℕ) : Type 0 where
   pub long : 8 * nodes b ≤ length w
   pub heap : Heap (nodes b) w
   pub near : distAt w u < pathMost
-  pub prices : (v : ℕ) → v < nodes b → priceIn (nodes b) w v ≤ priceMost
+  pub prices : (v : ℕ) → v < nodes b → priceIn (nodes b) w v ≤ anyPriceMost
 
 -- the frontier after looking at u's row up to place e, and the same nodes are settled
 pub record Looked (b : Block) (price : ℕ → ℕ) (marks : List ℕ) (u e : ℕ) (w w′ : List ℕ) : Type 0 where

@@ -10,6 +10,7 @@ use lib.Dec.{eqb}
 use lib.ListN.{length, getD, set}
 use Rattle.price.specs.Test.{choose, both}
 use Rattle.price.specs.Lists.{has}
+use Rattle.search.specs.Paths.{anyPriceMost}
 use Rattle.search.specs.Distance.{far, inTree}
 
 abbrev pub distAt : List ℕ → ℕ → ℕ
@@ -92,13 +93,9 @@ pub record Marked (n : ℕ) (marks sinks w w′ : List ℕ) : Type 0 where
   pub same : SameBut (5 * n) (6 * n) w w′
   pub goals : (v : ℕ) → v < n → goalAt n w′ v ≡ choose (both (has v sinks) (eqb (getD marks v 0) 0)) 1 (goalAt n w v)
 
--- a number above every price
-abbrev pub stepMost : ℕ
-stepMost = 1000000000000000000
-
 -- a number at most the price of each goal at a place of the list below `upto`
 pub record Cheapest (n : ℕ) (sinks w : List ℕ) (upto step : ℕ) : Type 0 where
-  pub most : step ≤ stepMost
+  pub most : step ≤ anyPriceMost
   pub least : (j : ℕ) → j < upto → goalAt n w (getD sinks j 0) ≡ 1 → step ≤ priceIn n w (getD sinks j 0)
 
 -- the first place of the list at which a goal of distance d stands

@@ -3,9 +3,10 @@
 use mathlib.Core.Bool.{Bool, true, false}
 use mathlib.Core.List.{List, [], _∷_}
 use mathlib.Core.Path.{_≡_}
-use Prim.Native.Nat.{ℕ, _≤_}
+use Prim.Native.Nat.{ℕ, _*_, _≤_, _<_}
+use Rattle.price.specs.Bounds.{pathMost}
 use Rattle.price.specs.Lists.{has, total}
-use Rattle.search.specs.Block.{Block, hasEdge}
+use Rattle.search.specs.Block.{Block, nodes, hasEdge}
 
 -- "In a path each node has an edge to the next." `Walk b u path v`: a path from u to v. It may pass a node twice.
 pub data Walk (b : Block) : ℕ → List ℕ → ℕ → Type 0 where
@@ -16,6 +17,18 @@ pub data Walk (b : Block) : ℕ → List ℕ → ℕ → Type 0 where
 unfoldable pub pathCost : (ℕ → ℕ) → List ℕ → ℕ
 pathCost price [] = 0
 pathCost price (u ∷ path) = total price path
+
+-- no price that a search works with is above this
+abbrev pub anyPriceMost : ℕ
+anyPriceMost = 1000000000000000000
+
+-- prices that a search can work with: above 0, at most some ceiling, and so many of these as there are nodes add up to less than `pathMost`
+pub record Fair (b : Block) (price : ℕ → ℕ) : Type 0 where
+  pub ceiling : ℕ
+  pub low : ceiling ≤ anyPriceMost
+  pub fits : nodes b * ceiling < pathMost
+  pub pos : (v : ℕ) → v < nodes b → 0 < price v
+  pub most : (v : ℕ) → v < nodes b → price v ≤ ceiling
 
 -- A path along edges from a node of the tree to a listed sink that the tree lacks, at its cost; and every path in the graph from any node of the tree
 -- to any such sink costs at least as much.
