@@ -9,7 +9,7 @@ use Rattle.price.specs.Replies as p
 use Rattle.price.specs.declared.PriceAnswer.{PriceAnswer}
 use Rattle.search.specs.Block.{Block}
 use Rattle.search.specs.Turn.{Congestion}
-use Rattle.search.specs.Replies.{searchNumbers, searchReply, searched}
+use Rattle.search.specs.Replies.{searchRefusal, searchReply, searchReplyOf}
 use Rattle.search.specs.declared.SearchAnswer.{SearchAnswer}
 use Rattle.negotiation.specs.Job.{Job}
 use Rattle.negotiation.specs.Outcome.{outcomeNumbers, routed, routeReply}
@@ -37,7 +37,7 @@ unfolding priceCall
 price-short kind factor others capacity history out h = rw (lt-ltb (length out) 16 h)
 
 -- the price answered `r`, in this case, and the call told the case's numbers; so of each call below
-pub price-told : (kind factor others capacity history : ℕ) (out : List ℕ) (call : Call) {r case : PriceAnswer} → 16 ≤ length out → r ≡ case → p.toldOf r ≡ p.priceReply kind factor others capacity history → call ≡ callOf 1 (told (p.toldOf case .refusal) (p.toldOf case .price ∷ []) out) → call ≡ priceCall kind factor others capacity history out
+pub price-told : (kind factor others capacity history : ℕ) (out : List ℕ) (call : Call) {r case : PriceAnswer} → 16 ≤ length out → r ≡ case → p.priceReplyOf r ≡ p.priceReply kind factor others capacity history → call ≡ callOf 1 (told (p.priceReplyOf case .refusal) (p.priceReplyOf case .price ∷ []) out) → call ≡ priceCall kind factor others capacity history out
 unfolding priceCall
 price-told kind factor others capacity history out call h e answers t = rw (le-ltb (length out) 16 h, ← answers, e) t
 
@@ -47,7 +47,7 @@ pub search-short : (b : Block) (c : Congestion) (marks work out : List ℕ) → 
 unfolding searchCall
 search-short b c marks work out h = rw (lt-ltb (length out) 16 h)
 
-pub search-told : (b : Block) (c : Congestion) (marks work left out : List ℕ) (call : Call) {r case : SearchAnswer} → 16 ≤ length out → r ≡ case → searched r left ≡ searchReply b c marks work → call ≡ callOf 1 (told (searchNumbers case) [] out) → searchDone call left ≡ searchCall b c marks work out
+pub search-told : (b : Block) (c : Congestion) (marks work left out : List ℕ) (call : Call) {r case : SearchAnswer} → 16 ≤ length out → r ≡ case → searchReplyOf r left ≡ searchReply b c marks work → call ≡ callOf 1 (told (searchRefusal case) [] out) → searchDone call left ≡ searchCall b c marks work out
 unfolding searchCall
 search-told b c marks work left out call h e answers t = rw (le-ltb (length out) 16 h, ← answers, e, t)
 

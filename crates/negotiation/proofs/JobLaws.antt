@@ -184,6 +184,6 @@ module _ (j : Job) (s : SoundJob j) where
         rw (length-slice (getD (j .firstSinks) i 0) (getD (j .firstSinks) (i + 1) 0) (j .sinks) end) (omega arith)
 
     -- as the search asks it of a list of sinks
-    pub sinks-searched : search.sinksSound (nodes j) (netSinks j i) ≡ true
+    pub sinks-searched : search.sinkListSound (nodes j) (netSinks j i) ≡ true
     sinks-searched =
         sinks-all _ _ (length (netSinks j i)) (le-trans sinks-within sinks-few) (omega arith) (λ k l. sink-node k l)

@@ -26,7 +26,7 @@ use Rattle.search.specs.Block.{Block}
 use Rattle.search.specs.Block as block
 use Rattle.search.specs.Tables.{faultyTable}
 use Rattle.search.specs.Turn.{congestionOf}
-use Rattle.search.specs.Replies.{sinksMost, faultyWithSinks, pathTaken, pathReply}
+use Rattle.search.specs.Replies.{sinksMost, faultyWithSinks, pathReplyOf, pathReply}
 use Rattle.search.specs.Replies as search
 use Rattle.search.specs.declared.PathAnswer.{PathAnswer}
 use Rattle.search.proofs.BlockLaws.{sound-of, kinds-some, kinds-few}
@@ -231,15 +231,15 @@ module _ (b : Block) (factor : ℕ) (histories others marks work : List ℕ) (sh
       rw (le-leb 1 (faultyTable b) h, refusal-table (faultyTable b) (block.nodes b) factor (length work) histories others marks h)
 
   refused-work : faultyTable b < 1 → pathReply b (congestionOf factor histories others) marks [] work .refusal ≡ 6 ∷ 8 * block.nodes b ∷ []
-  unfolding pathReply faultyWithSinks search.sinksSound every
+  unfolding pathReply faultyWithSinks search.sinkListSound every
   refused-work h =
       let none : faultyTable b ≡ 0 = omega arith in
       let some : 1 ≤ block.nodes b = kinds-some (b .kinds) (sound-of b none .kinds-sound) in
       rw (lt-leb 1 (faultyTable b) h, refusal-work 0 (block.nodes b) factor (length work) histories others marks (omega arith) (omega arith))
 
-  pub named : {r told : PathAnswer} (left : List ℕ) → pathTaken r left ≡ pathReply b (congestionOf factor histories others) marks [] work → r ≡ told → tableNamed (pathTaken told left .refusal) ≡ faultyTable b
+  pub named : {r told : PathAnswer} (left : List ℕ) → pathReplyOf r left ≡ pathReply b (congestionOf factor histories others) marks [] work → r ≡ told → tableNamed (pathReplyOf told left .refusal) ≡ faultyTable b
   named left e t =
-      ap (λ a. tableNamed (pathTaken a left .refusal)) (sym t)
+      ap (λ a. tableNamed (pathReplyOf a left .refusal)) (sym t)
       ∙ ap (λ a. tableNamed (a .refusal)) e
       ∙ ⊎-elim
       (λ (h : 1 ≤ faultyTable b). ap tableNamed (refused-table h))

@@ -12,7 +12,7 @@ use Rattle.search.specs.Block.{Block}
 use Rattle.search.specs.Tables.{Graph}
 use Rattle.search.specs.Paths.{Fair}
 use Rattle.search.specs.Turn.{Congestion, congestionOf, priceAt, Turn, joins, turn}
-use Rattle.search.specs.Replies.{PathReply, cleared, turnReply, pathReply, pathTaken}
+use Rattle.search.specs.Replies.{PathReply, cleared, turnReply, pathReply, pathReplyOf}
 use Rattle.search.specs.declared.PathAnswer.{PathAnswer}
 use Rattle.search.specs.declared.PathAnswer.the-variants.{Joins, Stuck, BadTable, ShortWork, BadNumber}
 use Rattle.search.proofs.BlockLaws.{graph-of}
@@ -81,9 +81,9 @@ module _ {b : Block} {tariff : Tariff} {net : ℕ} {sinks history users marks wo
   reply : {x : PathReply} → x ≡ pathReply b prices marks sinks work → x ≡ turnReply (block.nodes b) work made
   reply e = e ∙ path-turn b prices marks sinks work (t .ready .sound) (t .sinks-sound) (t .ready .enough) (t .ready .numbers) (t .ready .factor-most)
 
-  pub turn-joined : {r : PathAnswer} {place cost count : ℕ} {work′ : List ℕ} → r ≡ Joins place cost count → pathTaken r work′ ≡ pathReply b prices marks sinks work → Joined (block.nodes b) made sinks marks work work′ place cost count
+  pub turn-joined : {r : PathAnswer} {place cost count : ℕ} {work′ : List ℕ} → r ≡ Joins place cost count → pathReplyOf r work′ ≡ pathReply b prices marks sinks work → Joined (block.nodes b) made sinks marks work work′ place cost count
   turn-joined {r} {place} {cost} {count} {work′} is e =
-      let e′ : pathTaken (Joins place cost count) work′ ≡ turnReply (block.nodes b) work made = reply (rw is at e) in
+      let e′ : pathReplyOf (Joins place cost count) work′ ≡ turnReply (block.nodes b) work made = reply (rw is at e) in
       let j = joined-turn b prices marks sinks work (block.nodes b) work′ made place cost count e′ in
       let path : List ℕ = j .0 in
       let price = priceAt b prices in
@@ -109,13 +109,13 @@ module _ {b : Block} {tariff : Tariff} {net : ℕ} {sinks history users marks wo
         rest = rest;
       }
 
-  turn-stuck : {work′ : List ℕ} → pathTaken Stuck work′ ≡ pathReply b prices marks sinks work → Skipped made log marks log marks × SameFrom (8 * block.nodes b) work work′
+  turn-stuck : {work′ : List ℕ} → pathReplyOf Stuck work′ ≡ pathReply b prices marks sinks work → Skipped made log marks log marks × SameFrom (8 * block.nodes b) work work′
   turn-stuck {work′} e =
       let s = stuck-turn b prices marks sinks work (block.nodes b) work′ made (reply e) in
       (record { is-stuck = s .0; log-same = refl; marks-same = refl }, rw (s .1) (cleared-rest (block.nodes b) [] work (omega arith) (t .ready .enough)))
 
   -- any other answer is that no sink is left to be joined
-  pub turn-other : {work′ : List ℕ} (r : PathAnswer) → ((place cost count : ℕ) → r ≡ Joins place cost count → ⊥) → pathTaken r work′ ≡ pathReply b prices marks sinks work → Skipped made log marks log marks × SameFrom (8 * block.nodes b) work work′
+  pub turn-other : {work′ : List ℕ} (r : PathAnswer) → ((place cost count : ℕ) → r ≡ Joins place cost count → ⊥) → pathReplyOf r work′ ≡ pathReply b prices marks sinks work → Skipped made log marks log marks × SameFrom (8 * block.nodes b) work work′
   turn-other (Joins place cost count) other e = absurd (other place cost count refl)
   turn-other Stuck other e = turn-stuck e
   turn-other {work′} (BadTable k) other e = absurd (no-refusal b prices marks sinks work (block.nodes b) work′ made (BadTable k) 5 (k ∷ []) refl (reply e))

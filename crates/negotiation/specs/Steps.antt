@@ -14,7 +14,7 @@ use Rattle.search.specs.Block as block
 use Rattle.search.specs.Block.{Block}
 use Rattle.search.specs.Tables.{Sound}
 use Rattle.search.specs.Turn.{Congestion, congestionOf, Turn, joins, stuck}
-use Rattle.search.specs.Replies.{nodeSound, sinksSound}
+use Rattle.search.specs.Replies.{nodeSound, sinkListSound}
 use Rattle.negotiation.specs.Job.{Job, nets, jobOf}
 use Rattle.negotiation.specs.Tables.{SoundJob}
 use Rattle.negotiation.specs.Outcome.{unreachableNet, unreachablePlace}
@@ -201,6 +201,6 @@ TurnDone n (Logged tariff′) t tariff net sinks log marks log′ marks′ = Log
 pub record CanTurn (b : Block) (tariff : Tariff) (net : ℕ) (sinks history users marks work log : List ℕ) : Type 0 where
   pub ready : TurnReady b (congestionOf (tariff .factor) history users) marks work
   pub marks-long : length marks ≡ block.nodes b
-  pub sinks-sound : sinksSound (block.nodes b) sinks ≡ true
+  pub sinks-sound : sinkListSound (block.nodes b) sinks ≡ true
   pub within : tariff .words ≤ length log
   pub few-turns : tariff .turns ≤ tariff .words

@@ -1,5 +1,5 @@
--- The bounds of document 01 that prices rest on ("Tables and bounds", "Prices", row 13 of "Numbers for a stopped call"), with those of requests
--- 2.1 and 2.2. How many edges, sinks and nets there may be stands with the rules of their tables.
+-- The bounds of document 01 that prices rest on ("Tables and bounds", "Prices", row 13 of "Numbers for a stopped call"), with those of
+-- requests 2.1 and 2.2. How many edges, sinks and nets there may be stands with the rules of their tables.
 -- Assumes nothing.
 use Prim.Native.Nat.{ℕ, _+_, _*_}
 

@@ -19,8 +19,8 @@ overuse others capacity = others + 1 - capacity
 unfoldable pub priceOf : ℕ → ℕ → ℕ → ℕ → ℕ → ℕ
 priceOf kind factor others capacity history = history * baseCost kind * (100 + factor * overuse others capacity)
 
--- the factor of the iteration after this one: "0 in iteration 1", the first factor in iteration 2, and "Each next factor is factor × up, divided
--- by down and rounded down, at most 65,535"
+-- the factor of the iteration after this one: "0 in iteration 1", the first factor in iteration 2, and "Each next factor is factor × up,
+-- divided by down and rounded down, at most 65,535"
 unfoldable pub nextFactor : Tuning → ℕ → ℕ → ℕ
 nextFactor g zero factor = 0
 nextFactor g (suc zero) factor = g .first

@@ -11,21 +11,21 @@ use Rattle.price.specs.declared.PriceAnswer.{PriceAnswer}
 use Rattle.price.specs.declared.PriceAnswer.the-variants.{Price, Refused}
 
 -- the numbers of the refusal, none where there is no refusal; and the price, 0 after a refusal
-pub record Reply : Type 0 where
+pub record PriceReply : Type 0 where
   pub refusal : List ℕ
   pub price : ℕ
 
-abbrev pub priced : ℕ → Reply
+abbrev pub priced : ℕ → PriceReply
 priced p = record { refusal = []; price = p }
 
 -- row 13: "13, place"
-abbrev pub refused : ℕ → Reply
+abbrev pub refused : ℕ → PriceReply
 refused place = record { refusal = 13 ∷ place ∷ []; price = 0 }
 
 -- 01's numbers for each case of the answer
-abbrev pub toldOf : PriceAnswer → Reply
-toldOf (Price p) = priced p
-toldOf (Refused place) = refused place
+abbrev pub priceReplyOf : PriceAnswer → PriceReply
+priceReplyOf (Price p) = priced p
+priceReplyOf (Refused place) = refused place
 
 -- row 13: the bounds of kind, factor, others, capacity and history
 pub record InBounds (kind factor others capacity history : ℕ) : Type 0 where
@@ -38,12 +38,12 @@ pub record InBounds (kind factor others capacity history : ℕ) : Type 0 where
   pub history-most : history ≤ historyMost
 
 -- go on where the number at this place keeps its bounds, else refusal 13 with the place
-abbrev pub kept : Bool → ℕ → Reply → Reply
+abbrev pub kept : Bool → ℕ → PriceReply → PriceReply
 kept inside place rest = choose inside rest (refused place)
 
--- "The price gives 13 with the place from 0 of the first bad number of kind, factor (0 to 65,535), others (0 to 511), capacity, history", which
--- 2.1 lets reach 101,179.
-unfoldable pub priceReply : ℕ → ℕ → ℕ → ℕ → ℕ → Reply
+-- "The price gives 13 with the place from 0 of the first bad number of kind, factor (0 to 65,535), others (0 to 511), capacity, history",
+-- which 2.1 lets reach 101,179.
+unfoldable pub priceReply : ℕ → ℕ → ℕ → ℕ → ℕ → PriceReply
 priceReply kind factor others capacity history =
     kept (leb kind kindMost) 0
     (kept (leb factor factorMost) 1

@@ -4,7 +4,7 @@ ghost use mathlib.Core.Path.{_≡_};
 ghost use Prim.Native.Nat.{_≤_};
 ghost use Rattle.price.specs.Bounds.{kindMost, factorMost, othersMost};
 ghost use Rattle.price.specs.Prices.{baseCost, nextFactor, nextHistory};
-ghost use Rattle.price.specs.Replies.{InBounds, toldOf, priceReply};
+ghost use Rattle.price.specs.Replies.{InBounds, priceReplyOf, priceReply};
 ghost use Rattle.price.specs.Running.{congestedCost, historicCost};
 ghost use Rattle.price.specs.Tuning.{plain, tuningSound};
 
@@ -117,7 +117,7 @@ fn historic_cost(kind: u32, factor: u32, others: u32, capacity: u32, history: u3
 
 // The price of a node of this kind and capacity at these numbers. 13 names the first of the five that is beyond its bounds.
 pub fn price(kind: u32, factor: u32, others: u32, capacity: u32, history: u32) -> PriceAnswer
-    ensures { λ r. ⌜ toldOf r ≡ priceReply kind factor others capacity history ⌝ }
+    ensures { λ r. ⌜ priceReplyOf r ≡ priceReply kind factor others capacity history ⌝ }
 {
     if KIND_MOST < kind {
         return PriceAnswer::Refused(0);

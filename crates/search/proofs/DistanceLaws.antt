@@ -18,9 +18,9 @@ use Rattle.price.proofs.EntryLaws.{least-top, least-le, least-is}
 use Rattle.search.specs.Block.{Block, nodes, hasEdge}
 use Rattle.search.specs.Tables.{Graph}
 use Rattle.search.specs.Paths.{Walk, stay, step, pathCost, Fair}
-use Rattle.search.specs.Distance.{far, inTree, treeDistances, nearer, round, rounds, distances, distance}
+use Rattle.search.specs.Distance.{far, LeastCost, reached, unreached, inTree, treeDistances, nearer, round, rounds, distances, distance}
 use Rattle.search.proofs.BlockLaws.{edge-from, edge-to}
-use Rattle.search.proofs.WalkLaws.{stay-cost, step-cost, snoc, snoc-cost, last-step, LastStep, shorten}
+use Rattle.search.proofs.WalkLaws.{stay-cost, step-cost, snoc, snoc-cost, last-step, WalkEnd, walk-start, shorten}
 
 -- a node's distance after k rounds
 abbrev after : Block → (ℕ → ℕ) → List ℕ → ℕ → ℕ → ℕ
@@ -213,6 +213,18 @@ module _ (b : Block) (price : ℕ → ℕ) (marks : List ℕ) where
         let less = short-walk t v (s .path′) h m (s .walk) (s .few) in
         omega (arith, s .most)
 
+    -- so the distance is the least cost of a path from the tree, `far` exactly where there is none
+    pub distance-least : (v : ℕ) → v < nodes b → LeastCost b price (inTree marks) v (distance b price marks v)
+    distance-least v h =
+        ⊎-elim
+        (λ (q : far ≤ distance b price marks v).
+        unreached (le-antisymm (distance-top v) q)
+        (λ t path m w. let near = path-near t v path (walk-start g h w) m w in omega arith))
+        (λ (q : distance b price marks v < far).
+        let r = some-path v h q in
+        reached (r .0) (r .1) (r .3) (r .4) (r .5) q (λ t other m w. no-path-cheaper t v other (walk-start g h w) m w))
+        (le-or-lt far (distance b price marks v))
+
     -- no edge leads to a shorter way
     pub distance-step : (u v : ℕ) → hasEdge b u v ≡ true → distance b price marks v ≤ distance b price marks u + price v
     distance-step u v e =
@@ -235,7 +247,7 @@ module _ (b : Block) (price : ℕ → ℕ) (marks : List ℕ) where
         let e : t ≡ v = q .0 in
         let m : inTree marks t ≡ true = r .3 in
         absurd (true≢false (sym (rw e at m) ∙ o)))
-        (λ (s : LastStep b price t path v).
+        (λ (s : WalkEnd b price t path v).
         let less : distance b price marks (s .before) ≤ pathCost price (s .front) = no-path-cheaper t (s .before) (s .front) (r .2) (r .3) (s .walk) in
         let most : distance b price marks v ≤ distance b price marks (s .before) + price v = distance-step (s .before) v (s .edge) in
         let cost : pathCost price path ≡ pathCost price (s .front) + price v = s .cost in

@@ -20,7 +20,7 @@ use borrow.Author.Count.{below-more}
 use borrow.Author.Tests.{eq-eqb, ne-eqb, eqb-true, eqb-false}
 use Rattle.price.specs.Test.{choose, both, either}
 use Rattle.price.specs.Lists.{has}
-use Rattle.price.specs.Replies.{Reply, priced, toldOf, priceReply}
+use Rattle.price.specs.Replies.{PriceReply, priced, priceReplyOf, priceReply}
 use Rattle.price.specs.declared.PriceAnswer.{PriceAnswer}
 use Rattle.price.specs.declared.PriceAnswer.the-variants.{Price, Refused}
 use Rattle.price.proofs.ReplyLaws.{reply-priced}
@@ -96,12 +96,12 @@ module _ {kinds capacities histories others : List ℕ} {factor v : ℕ} (ready 
   unfolding priceAt
   reply = reply-priced (getD kinds v 0) factor (getD others v 0) (getD capacities v 0) (getD histories v 0) (ready .bounds)
 
-  pub told-price : {r : PriceAnswer} {p : ℕ} → r ≡ Price p → toldOf r ≡ priceReply (getD kinds v 0) factor (getD others v 0) (getD capacities v 0) (getD histories v 0) → p ≡ priceAt (blockOf kinds capacities [] []) (congestionOf factor histories others) v
-  told-price q e = ap (λ (x : Reply). x .price) (sym (ap toldOf q) ∙ e ∙ reply)
+  pub told-price : {r : PriceAnswer} {p : ℕ} → r ≡ Price p → priceReplyOf r ≡ priceReply (getD kinds v 0) factor (getD others v 0) (getD capacities v 0) (getD histories v 0) → p ≡ priceAt (blockOf kinds capacities [] []) (congestionOf factor histories others) v
+  told-price q e = ap (λ (x : PriceReply). x .price) (sym (ap priceReplyOf q) ∙ e ∙ reply)
 
-  pub told-refused : {r : PriceAnswer} {place : ℕ} → r ≡ Refused place → toldOf r ≡ priceReply (getD kinds v 0) factor (getD others v 0) (getD capacities v 0) (getD histories v 0) → ⊥
+  pub told-refused : {r : PriceAnswer} {place : ℕ} → r ≡ Refused place → priceReplyOf r ≡ priceReply (getD kinds v 0) factor (getD others v 0) (getD capacities v 0) (getD histories v 0) → ⊥
   told-refused {r} {place} q e =
-      let refusal : 13 ∷ place ∷ [] ≡ [] = ap (λ (x : Reply). x .refusal) (sym (ap toldOf q) ∙ e ∙ reply) in
+      let refusal : 13 ∷ place ∷ [] ≡ [] = ap (λ (x : PriceReply). x .refusal) (sym (ap priceReplyOf q) ∙ e ∙ reply) in
       let z : _≡_ {A = ℕ} 0 1 = cc in
       omega arith
 

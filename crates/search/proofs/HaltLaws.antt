@@ -19,7 +19,7 @@ use Rattle.search.specs.Tables.{Graph}
 use Rattle.search.specs.Paths.{Fair}
 use Rattle.search.specs.Distance.{far, inTree, distance}
 use Rattle.search.specs.Turn.{joins, stuck, pathTo, turn}
-use Rattle.search.specs.Replies.{cleared, sinksMost, turnReply, pathTaken}
+use Rattle.search.specs.Replies.{cleared, sinksMost, turnReply, pathReplyOf}
 use Rattle.search.specs.Layout.{distAt, entryAt, priceIn, goalAt, Cheapest, Leads, pathIn}
 use Rattle.search.specs.Frontier.{Reached, Waiting, BestGoal, LastStep, Stopped}
 use Rattle.search.specs.Ready.{Found, Read}
@@ -115,7 +115,7 @@ module _ {b : Block} {price : ℕ → ℕ} {marks sinks w₀ w : List ℕ} {best
         stuck-is b price marks (s .sound) (s .fair) sinks (s .sinks-nodes)
         (λ j l out. le-antisymm (distance-top b price marks (getD sinks j 0)) (rw none at (sink-above j l out)))
 
-    pub halted-stuck : {w′ : List ℕ} → w′ ≡ take 0 w ++ (replicate (8 * nodes b - 0) 0 ++ drop (8 * nodes b) w) → pathTaken Stuck w′ ≡ turnReply (nodes b) w₀ (turn b price marks sinks)
+    pub halted-stuck : {w′ : List ℕ} → w′ ≡ take 0 w ++ (replicate (8 * nodes b - 0) 0 ++ drop (8 * nodes b) w) → pathReplyOf Stuck w′ ≡ turnReply (nodes b) w₀ (turn b price marks sinks)
     unfolding cleared
     halted-stuck e = rw (turn-stuck, e, s .kept)
 
@@ -213,6 +213,6 @@ module _ {b : Block} {price : ℕ → ℕ} {marks sinks w₀ w : List ℕ} {best
           d .first .earlier j l goal
           (exact b price marks w (s .sound) (s .fair) (s .waiting) (getD sinks j 0) h (goal-close (getD sinks j 0) (distance b price marks (getD sinks j 0)) h goal (omega arith)) ∙ e))
 
-      pub halted-joins : pathTaken r w′ ≡ turnReply (nodes b) w₀ (turn b price marks sinks)
+      pub halted-joins : pathReplyOf r w′ ≡ turnReply (nodes b) w₀ (turn b price marks sinks)
       unfolding cleared
       halted-joins = rw (d .answer, turn-joins, ← path-in (getD sinks (d .place) 0) sink-node sink-first sink-dist, d .work, s .kept)

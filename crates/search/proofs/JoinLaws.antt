@@ -14,7 +14,7 @@ use Rattle.search.specs.Block.{blockOf, graphOf}
 use Rattle.search.specs.Tables.{Sound}
 use Rattle.search.specs.Distance.{far, inTree}
 use Rattle.search.specs.Turn.{Congestion, priceAt, turn}
-use Rattle.search.specs.Replies.{sinksSound, turnReply, pathTaken}
+use Rattle.search.specs.Replies.{sinkListSound, turnReply, pathReplyOf}
 use Rattle.search.specs.Layout.{distAt, leafAt, priceIn, goalAt, Heap, SameBut, Marked, Cheapest}
 use Rattle.search.specs.Frontier.{BestGoal, LastStep, Stands, Ran}
 use Rattle.search.specs.Ready.{Ready, Prepared, Read}
@@ -66,7 +66,7 @@ module _ (ks cs fs ts : List ℕ) (c : Congestion) {marks sinks w₀ w₁ w₂ w
     goal-step (length ks) marks sinks w₃ built-goal cheapest,
   )
 
-  pub join-halts : sinksSound (length ks) sinks ≡ true → {w₄ : List ℕ} {best : ℕ} → Ran (graphOf ks fs ts) w₃ w₄ best → Joining ks cs fs ts c marks sinks w₀ w₄ best
+  pub join-halts : sinkListSound (length ks) sinks ≡ true → {w₄ : List ℕ} {best : ℕ} → Ran (graphOf ks fs ts) w₃ w₄ best → Joining ks cs fs ts c marks sinks w₀ w₄ best
   join-halts rule {w₄} {best} ran =
       record {
         sound = sound-graph ks cs fs ts c marks sound;
@@ -88,8 +88,8 @@ module _ (ks cs fs ts : List ℕ) (c : Congestion) {marks sinks w₀ w₁ w₂ w
 
 -- what the turn answers then
 module _ (ks cs fs ts : List ℕ) (c : Congestion) (marks sinks w₀ w : List ℕ) (best : ℕ) (s : Joining ks cs fs ts c marks sinks w₀ w best) where
-  pub join-stuck : best ≡ far → {w′ : List ℕ} → w′ ≡ take 0 w ++ (replicate (8 * length ks - 0) 0 ++ drop (8 * length ks) w) → pathTaken Stuck w′ ≡ turnReply (length ks) w₀ (turn (blockOf ks cs fs ts) (priceAt (blockOf ks cs fs ts) c) marks sinks)
+  pub join-stuck : best ≡ far → {w′ : List ℕ} → w′ ≡ take 0 w ++ (replicate (8 * length ks - 0) 0 ++ drop (8 * length ks) w) → pathReplyOf Stuck w′ ≡ turnReply (length ks) w₀ (turn (blockOf ks cs fs ts) (priceAt (blockOf ks cs fs ts) c) marks sinks)
   join-stuck none e = rw (← turn-same ks cs fs ts (priceAt (blockOf ks cs fs ts) c) marks sinks) (halted-stuck s none e)
 
-  pub join-joins : (best ≡ far → ⊥) → {r : PathAnswer} {w′ : List ℕ} → Read (length ks) marks sinks w best r w′ → pathTaken r w′ ≡ turnReply (length ks) w₀ (turn (blockOf ks cs fs ts) (priceAt (blockOf ks cs fs ts) c) marks sinks)
+  pub join-joins : (best ≡ far → ⊥) → {r : PathAnswer} {w′ : List ℕ} → Read (length ks) marks sinks w best r w′ → pathReplyOf r w′ ≡ turnReply (length ks) w₀ (turn (blockOf ks cs fs ts) (priceAt (blockOf ks cs fs ts) c) marks sinks)
   join-joins some d = rw (← turn-same ks cs fs ts (priceAt (blockOf ks cs fs ts) c) marks sinks) (halted-joins s some d)

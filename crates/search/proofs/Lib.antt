@@ -35,3 +35,4 @@ pub mod FoundLaws
 pub mod HaltLaws
 pub mod JoinLaws
 pub mod PathReplyLaws
+pub mod AnswersHold

@@ -14,14 +14,7 @@ use Rattle.price.proofs.ListLaws.{has-place}
 use Rattle.price.proofs.EntryLaws.{least-top, least-le, least-is, least-above, placeOf-at, placeOf-lt}
 use Rattle.search.specs.Block.{Block}
 use Rattle.search.specs.Distance.{far, inTree, distances, distance}
-use Rattle.search.specs.Turn.{stuck, openDistance, openDistances, joinAt, turn}
-
--- the least distance of an unjoined sink, and its first place
-abbrev pub nearestDistance : Block → (ℕ → ℕ) → List ℕ → List ℕ → ℕ
-nearestDistance b price marks sinks = least far (openDistances b price marks sinks)
-
-abbrev pub nearestPlace : Block → (ℕ → ℕ) → List ℕ → List ℕ → ℕ
-nearestPlace b price marks sinks = placeOf (nearestDistance b price marks sinks) (openDistances b price marks sinks)
+use Rattle.search.specs.Turn.{stuck, openDistance, openDistances, joinAt, nearestDistance, nearestPlace, turn}
 
 -- the place of an unjoined sink that has a distance, the least
 pub record Nearest (b : Block) (price : ℕ → ℕ) (marks sinks : List ℕ) (place : ℕ) : Type 0 where
@@ -59,7 +52,7 @@ module _ (b : Block) (price : ℕ → ℕ) (marks sinks : List ℕ) where
       rw here at (least-le far (openDistances b price marks sinks) (at .0) (rw open-long (at .1)))
 
   -- what is at most every unjoined sink's distance is at most the least
-  pub open-above : (k : ℕ) → k ≤ far → ((j : ℕ) → j < length sinks → inTree marks (getD sinks j 0) ≡ false → k ≤ distance b price marks (getD sinks j 0)) → k ≤ least far (openDistances b price marks sinks)
+  pub open-above : (k : ℕ) → k ≤ far → ((j : ℕ) → j < length sinks → inTree marks (getD sinks j 0) ≡ false → k ≤ distance b price marks (getD sinks j 0)) → k ≤ nearestDistance b price marks sinks
   open-above k top h =
       least-above far k (openDistances b price marks sinks) top
       (λ j l.

@@ -16,26 +16,26 @@ use Rattle.price.proofs.ListLaws.{every-at}
 use Rattle.search.specs.Block.{Block, blockOf, nodes}
 use Rattle.search.specs.Tables.{faultyTable, Sound}
 use Rattle.search.specs.Turn.{Congestion, priceAt, turn}
-use Rattle.search.specs.Replies.{refusalOf, sinksMost, sinksSound, faultyWithSinks, PathReply, turnReply, pathReply}
+use Rattle.search.specs.Replies.{refusalOf, sinksMost, sinkListSound, faultyWithSinks, PathReply, turnReply, pathReply}
 use Rattle.search.specs.Ready.{Ready}
 use Rattle.search.proofs.BlockLaws.{sound-of, kinds-few}
 use Rattle.search.proofs.ReadyLaws.{Passed, refusal-none, passed-ready}
 
 -- ---- a list of sinks that keeps its rule
 
-module _ (n : ℕ) (sinks : List ℕ) (s : sinksSound n sinks ≡ true) where
+module _ (n : ℕ) (sinks : List ℕ) (s : sinkListSound n sinks ≡ true) where
   pub sinks-few : length sinks ≤ sinksMost
-  unfolding sinksSound
+  unfolding sinkListSound
   sinks-few = leb-true _ _ (both-left (leb (length sinks) sinksMost) _ s)
 
   pub sinks-nodes : (i : ℕ) → i < length sinks → getD sinks i 0 < n
-  unfolding sinksSound
+  unfolding sinkListSound
   sinks-nodes i l = ltb-true _ _ (every-at (λ s. ltb s n) sinks (both-right (leb (length sinks) sinksMost) _ s) i l)
 
 -- ---- the tests before a turn
 
 -- where neither a table nor the list of sinks is faulty, each keeps its rule
-no-fault : (b : Block) (sinks : List ℕ) → faultyWithSinks b sinks ≡ 0 → (faultyTable b ≡ 0) × (sinksSound (nodes b) sinks ≡ true)
+no-fault : (b : Block) (sinks : List ℕ) → faultyWithSinks b sinks ≡ 0 → (faultyTable b ≡ 0) × (sinkListSound (nodes b) sinks ≡ true)
 unfolding faultyWithSinks
 no-fault b sinks e =
     ⊎-elim
@@ -45,12 +45,12 @@ no-fault b sinks e =
     absurd (omega arith))
     (λ (q : leb 1 (faultyTable b) ≡ false).
     let none : faultyTable b < 1 = leb-false _ _ q in
-    let rest : choose (sinksSound (nodes b) sinks) 0 7 ≡ 0 = rw q at e in (
+    let rest : choose (sinkListSound (nodes b) sinks) 0 7 ≡ 0 = rw q at e in (
       omega arith,
       ⊎-elim
           (λ s. s)
-          (λ (s : sinksSound (nodes b) sinks ≡ false). absurd (let z : _≡_ {A = ℕ} 7 0 = rw s at rest in omega arith))
-          (either-way (sinksSound (nodes b) sinks)),
+          (λ (s : sinkListSound (nodes b) sinks ≡ false). absurd (let z : _≡_ {A = ℕ} 7 0 = rw s at rest in omega arith))
+          (either-way (sinkListSound (nodes b) sinks)),
     ))
     (either-way (leb 1 (faultyTable b)))
 
@@ -76,7 +76,7 @@ module _ (ks cs fs ts sinks : List ℕ) {table : ℕ} (found : table ≡ faultyW
       sound-tables = sound-of (blockOf ks cs fs ts) (no-fault (blockOf ks cs fs ts) sinks (passed .table-sound) .0)
 
       -- where nothing is refused the turn can be taken, and it is the reply
-      pub path-ready : Ready ks cs c marks × (Sound (blockOf ks cs fs ts) × ((8 * length ks ≤ length work) × (sinksSound (length ks) sinks ≡ true)))
+      pub path-ready : Ready ks cs c marks × (Sound (blockOf ks cs fs ts) × ((8 * length ks ≤ length work) × (sinkListSound (length ks) sinks ≡ true)))
       path-ready = (
         passed-ready ks cs fs ts c marks sound-tables passed,
         (sound-tables, (passed .work-long, no-fault (blockOf ks cs fs ts) sinks (passed .table-sound) .1)),

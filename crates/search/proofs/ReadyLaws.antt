@@ -140,6 +140,10 @@ module _ (ks cs fs ts : List ℕ) (c : Congestion) (marks : List ℕ) where
           most = λ v h. price-most (ready-price v h .bounds);
         }
 
+    -- the same of the block with its capacities
+    pub ready-block-fair : Fair (blockOf ks cs fs ts) (priceAt (blockOf ks cs fs ts) c)
+    ready-block-fair = let f = ready-fair in record { ceiling = f .ceiling; low = f .low; fits = f .fits; pos = f .pos; most = f .most }
+
     pub ready-marks : length ks ≤ length marks
     ready-marks =
         ⊎-elim

@@ -22,7 +22,7 @@ use Rattle.price.proofs.TestLaws.{both-true, both-false-right}
 use Rattle.price.proofs.ListLaws.{every-all, every-none, neighbours-all, length-upTo, getD-upTo}
 use Rattle.search.specs.Block.{Block, blockOf, graphOf, nodes, row}
 use Rattle.search.specs.Tables.{kindsSound, capacitiesSound, firstEdgesSound, rowSound, edgeTargetsSound, edgesMost, faultyTable}
-use Rattle.search.specs.Replies.{sinksMost, sinksSound, faultyWithSinks}
+use Rattle.search.specs.Replies.{sinksMost, sinkListSound, faultyWithSinks}
 use Rattle.search.proofs.BlockLaws.{faulty-of}
 
 -- ---- table 1
@@ -155,18 +155,18 @@ module _ (b : Block) where
 
 -- ---- a list of sinks
 
-pub sinks-many : (n : ℕ) (ss : List ℕ) → sinksMost < length ss → sinksSound n ss ≡ false
-unfolding sinksSound
+pub sinks-many : (n : ℕ) (ss : List ℕ) → sinksMost < length ss → sinkListSound n ss ≡ false
+unfolding sinkListSound
 sinks-many n ss h = rw (lt-leb (length ss) sinksMost h)
 
-pub sinks-bad : (n : ℕ) (ss : List ℕ) (i : ℕ) → i < length ss → n ≤ getD ss i 0 → sinksSound n ss ≡ false
-unfolding sinksSound
+pub sinks-bad : (n : ℕ) (ss : List ℕ) (i : ℕ) → i < length ss → n ≤ getD ss i 0 → sinkListSound n ss ≡ false
+unfolding sinkListSound
 sinks-bad n ss i h l =
     both-false-right (leb (length ss) sinksMost) (every (λ s. ltb s n) ss)
     (every-none (λ s. ltb s n) ss i h (le-ltb (getD ss i 0) n l))
 
-pub sinks-all : (n : ℕ) (ss : List ℕ) (i : ℕ) → length ss ≤ sinksMost → length ss ≤ i → ((k : ℕ) → k < i → getD ss k 0 < n) → sinksSound n ss ≡ true
-unfolding sinksSound
+pub sinks-all : (n : ℕ) (ss : List ℕ) (i : ℕ) → length ss ≤ sinksMost → length ss ≤ i → ((k : ℕ) → k < i → getD ss k 0 < n) → sinkListSound n ss ≡ true
+unfolding sinkListSound
 sinks-all n ss i few end all =
     both-true (le-leb (length ss) sinksMost few) (every-all (λ s. ltb s n) ss (λ k l. lt-ltb (getD ss k 0) n (all k (omega arith))))
 
@@ -177,7 +177,7 @@ module _ (ks cs fs ts sinks : List ℕ) {table : ℕ} (lowest : table ≡ faulty
   unfolding faultyWithSinks
   with-sinks-table h = rw (← lowest, le-leb 1 table h)
 
-  module _ (none : table < 1) {sound : Bool} (answer : sound ≡ sinksSound (length ks) sinks) where
+  module _ (none : table < 1) {sound : Bool} (answer : sound ≡ sinkListSound (length ks) sinks) where
     pub with-sinks-none : sound ≡ true → 0 ≡ faultyWithSinks (blockOf ks cs fs ts) sinks
     unfolding faultyWithSinks
     with-sinks-none t = rw (← lowest, lt-leb 1 table none, ← answer, t)

@@ -17,18 +17,13 @@ use Rattle.price.proofs.ListLaws.{has-at, has-place}
 use Rattle.price.proofs.EntryLaws.{least-top, least-le, placeOf-is}
 use Rattle.search.specs.Block.{Block, nodes}
 use Rattle.search.specs.Tables.{Graph}
-use Rattle.search.specs.Paths.{Walk, stay, step, pathCost, CheapestPath, Fair}
+use Rattle.search.specs.Paths.{Walk, pathCost, CheapestPath, NoPath, Fair}
 use Rattle.search.specs.Distance.{far, inTree, distance}
-use Rattle.search.specs.Turn.{joins, stuck, pathTo, openDistances, joinAt, turn}
-use Rattle.search.proofs.BlockLaws.{edge-from}
+use Rattle.search.specs.Turn.{joins, stuck, pathTo, openDistances, joinAt, nearestDistance, nearestPlace, turn}
+use Rattle.search.proofs.WalkLaws.{walk-start}
 use Rattle.search.proofs.DistanceLaws.{no-path-cheaper, path-near}
 use Rattle.search.proofs.PathToLaws.{path-walk, path-cost}
-use Rattle.search.proofs.NearestLaws.{nearestDistance, nearestPlace, Nearest, open-long, open-out, open-in, open-least, open-above, turn-far, turn-near, nearest}
-
--- a path to a node starts at a node
-walk-start : (b : Block) → Graph b → {t s : ℕ} {path : List ℕ} → s < nodes b → Walk b t path s → t < nodes b
-walk-start b g h (stay u) = h
-walk-start b g h (step {u = u} {w = w} e r) = edge-from b g u w e
+use Rattle.search.proofs.NearestLaws.{Nearest, open-long, open-out, open-in, open-least, open-above, turn-far, turn-near, nearest}
 
 module _ (b : Block) (price : ℕ → ℕ) (marks : List ℕ) (g : Graph b) (fair : Fair b price) where
   -- the turn of a list of sinks
@@ -112,15 +107,14 @@ module _ (b : Block) (price : ℕ → ℕ) (marks : List ℕ) (g : Graph b) (fai
             sink-listed = has-at sinks place joins-within;
             sink-open = joins-nearest .0 .out;
             costs = joins-nearest .1;
-            cheapest = λ t s other m l o w. le-trans (joins-least s l o) (no-path-cheaper b price marks g fair t s other (walk-start b g (listed-node s l) w) m w);
+            cheapest = λ t s other m l o w. le-trans (joins-least s l o) (no-path-cheaper b price marks g fair t s other (walk-start g (listed-node s l) w) m w);
           }
 
     -- a stuck turn leaves no path from the tree to an unjoined sink
-    pub stuck-no-path :
-        turn b price marks sinks ≡ stuck → (t s : ℕ) (path : List ℕ) → inTree marks t ≡ true → has s sinks ≡ true → inTree marks s ≡ false → Walk b t path s → ⊥
+    pub stuck-no-path : turn b price marks sinks ≡ stuck → NoPath b (inTree marks) sinks
     unfolding joinAt
     stuck-no-path is t s path m l o w =
-        let close = path-near b price marks g fair t s path (walk-start b g (listed-node s l) w) m w in
+        let close = path-near b price marks g fair t s path (walk-start g (listed-node s l) w) m w in
         ⊎-elim
         (λ (q : eqb (nearestDistance b price marks sinks) far ≡ true).
         let none : nearestDistance b price marks sinks ≡ far = eqb-true _ _ q in

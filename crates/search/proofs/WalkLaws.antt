@@ -15,7 +15,7 @@ use Rattle.price.proofs.ListLaws.{total-append, total-most}
 use Rattle.search.specs.Block.{Block, nodes, hasEdge}
 use Rattle.search.specs.Tables.{Graph}
 use Rattle.search.specs.Paths.{Walk, stay, step, pathCost, Fair}
-use Rattle.search.proofs.BlockLaws.{edge-to}
+use Rattle.search.proofs.BlockLaws.{edge-from, edge-to}
 use Rattle.search.proofs.DistinctLaws.{has-cons, distinct-cons, distinct-rest, distinct-short}
 
 -- a walk that stays costs nothing
@@ -34,7 +34,7 @@ unfolding total
 cons-less price u part path h = omega arith
 
 -- a walk to v, taken apart at its last step
-pub record LastStep (b : Block) (price : ℕ → ℕ) (u : ℕ) (path : List ℕ) (v : ℕ) : Type 0 where
+pub record WalkEnd (b : Block) (price : ℕ → ℕ) (u : ℕ) (path : List ℕ) (v : ℕ) : Type 0 where
   pub before : ℕ
   pub front : List ℕ
   pub walk : Walk b u front before
@@ -79,7 +79,7 @@ module _ {b : Block} where
   snoc-cost price x (step {path = path} d w) = total-append price path (x ∷ []) ∙ rw add-zero
 
   -- a walk stays where it is, or has a last step
-  pub last-step : (price : ℕ → ℕ) {u v : ℕ} {path : List ℕ} → Walk b u path v → ((u ≡ v) × (pathCost price path ≡ 0)) ⊎ LastStep b price u path v
+  pub last-step : (price : ℕ → ℕ) {u v : ℕ} {path : List ℕ} → Walk b u path v → ((u ≡ v) × (pathCost price path ≡ 0)) ⊎ WalkEnd b price u path v
   last-step price (stay u) = inl (refl, stay-cost price u)
   last-step price {v = v} (step {u = u} {w = x} {path = path} e w) =
       inr
@@ -96,7 +96,7 @@ module _ {b : Block} where
         edge = rw to at e;
         cost = rw to at sum;
       })
-      (λ (r : LastStep b price x path v).
+      (λ (r : WalkEnd b price x path v).
       let whole : pathCost price (u ∷ path) ≡ price x + pathCost price path = step-cost price u w in
       let part : pathCost price (u ∷ r .front) ≡ price x + pathCost price (r .front) = step-cost price u (r .walk) in
       let last : pathCost price path ≡ pathCost price (r .front) + price v = r .cost in
@@ -140,6 +140,11 @@ module _ {b : Block} where
       (either-way (has u (r .path′)))
 
   module _ (g : Graph b) where
+    -- a walk to a node starts at a node
+    pub walk-start : {u v : ℕ} {path : List ℕ} → v < nodes b → Walk b u path v → u < nodes b
+    walk-start h (stay u) = h
+    walk-start h (step {u = u} {w = x} e w) = edge-from b g u x e
+
     -- a walk from a node passes only nodes
     pub walk-nodes : {u v : ℕ} {path : List ℕ} → u < nodes b → Walk b u path v → (i : ℕ) → i < length path → getD path i 0 < nodes b
     walk-nodes h (stay u) zero l = h

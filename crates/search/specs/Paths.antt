@@ -22,7 +22,8 @@ pathCost price (u ∷ path) = total price path
 abbrev pub anyPriceMost : ℕ
 anyPriceMost = 1000000000000000000
 
--- prices that a search can work with: above 0, at most some ceiling, and so many of these as there are nodes add up to less than `pathMost`
+-- prices that a search can work with: above 0, at most some ceiling, and so many of these as there are nodes add up to less than
+-- `pathMost`, so that no path's cost wraps
 pub record Fair (b : Block) (price : ℕ → ℕ) : Type 0 where
   pub ceiling : ℕ
   pub low : ceiling ≤ anyPriceMost
@@ -30,8 +31,8 @@ pub record Fair (b : Block) (price : ℕ → ℕ) : Type 0 where
   pub pos : (v : ℕ) → v < nodes b → 0 < price v
   pub most : (v : ℕ) → v < nodes b → price v ≤ ceiling
 
--- A path along edges from a node of the tree to a listed sink that the tree lacks, at its cost; and every path in the graph from any node of the tree
--- to any such sink costs at least as much.
+-- A path along edges from a node of the tree to a listed sink that the tree lacks, at its cost; and every path in the graph from any node of
+-- the tree to any such sink costs at least as much.
 pub record CheapestPath (b : Block) (price : ℕ → ℕ) (tree : ℕ → Bool) (sinks : List ℕ) (sink cost : ℕ) (path : List ℕ) : Type 0 where
   pub start : ℕ
   pub starts-in-tree : tree start ≡ true
@@ -39,4 +40,11 @@ pub record CheapestPath (b : Block) (price : ℕ → ℕ) (tree : ℕ → Bool) 
   pub sink-listed : has sink sinks ≡ true
   pub sink-open : tree sink ≡ false
   pub costs : cost ≡ pathCost price path
-  pub cheapest : (t s : ℕ) (other : List ℕ) → tree t ≡ true → has s sinks ≡ true → tree s ≡ false → Walk b t other s → cost ≤ pathCost price other
+  pub cheapest :
+      (t s : ℕ) (other : List ℕ) → tree t ≡ true → has s sinks ≡ true → tree s ≡ false → Walk b t other s
+      → cost ≤ pathCost price other
+
+-- no path in the graph leads from a node of the tree to a listed sink that the tree lacks
+abbrev pub NoPath : Block → (ℕ → Bool) → List ℕ → Type 0
+NoPath b tree sinks =
+    (t s : ℕ) (path : List ℕ) → tree t ≡ true → has s sinks ≡ true → tree s ≡ false → Walk b t path s → ⊥

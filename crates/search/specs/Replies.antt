@@ -2,15 +2,16 @@
 -- Assumes nothing.
 use mathlib.Core.Bool.{Bool, not}
 use mathlib.Core.List.{List, [], _∷_, _++_}
-use Prim.Native.Nat.{ℕ, _*_, _-_}
+use Prim.Native.Nat.{ℕ, _*_, _-_, _<_}
 use lib.Dec.{leb, ltb}
-use lib.ListN.{length, getD, drop, replicate}
+use lib.ListN.{length, getD, take, drop, replicate}
 use Rattle.price.specs.Test.{choose, both}
 use Rattle.price.specs.Bounds.{factorMost, othersMost, historyMost}
 use Rattle.price.specs.Lists.{every, firstBelow}
 use Rattle.search.specs.Block.{Block, nodes}
 use Rattle.search.specs.Tables.{faultyTable}
-use Rattle.search.specs.Distance.{distances}
+use Rattle.search.specs.Paths.{CheapestPath, NoPath}
+use Rattle.search.specs.Distance.{LeastCost, inTree, distances}
 use Rattle.search.specs.Turn.{Congestion, priceAt, Turn, joins, stuck, turn}
 use Rattle.search.specs.declared.SearchAnswer.{SearchAnswer}
 use Rattle.search.specs.declared.SearchAnswer.the-variants as s
@@ -39,25 +40,36 @@ historyBounded xs v = both (ltb v (length xs)) (both (leb 1 (getD xs v 0)) (leb 
 unfoldable pub nodeSound : Congestion → List ℕ → ℕ → Bool
 nodeSound c marks v = both (historyBounded (c .histories) v) (both (bounded othersMost (c .others) v) (bounded 1 marks v))
 
--- "the lowest node whose history or others is bad or whose tree mark isn't 0 or 1, or that one of the lists lacks"; the node count where there is none
+-- "the lowest node whose history or others is bad or whose tree mark isn't 0 or 1, or that one of the lists lacks"; the node count where
+-- there is none
 unfoldable pub badNode : ℕ → Congestion → List ℕ → ℕ
 badNode n c marks = firstBelow (λ v. not (nodeSound c marks v)) n
 
--- the numbers of the first refusal that is due, none where nothing is refused, for the faulty table or 0, and so many nodes and work entries:
+-- the numbers of a refusal: "5, table", "6, 8 × nodes" and "13, place"
+abbrev pub badTable : ℕ → List ℕ
+badTable table = 5 ∷ table ∷ []
+
+abbrev pub shortWork : ℕ → List ℕ
+shortWork needed = 6 ∷ needed ∷ []
+
+abbrev pub badNumber : ℕ → List ℕ
+badNumber place = 13 ∷ place ∷ []
+
+-- the first refusal that is due, none where nothing is refused, for the faulty table or 0, and so many nodes and work entries:
 -- 5, 6, 13 for a node, "then 13 with the node count for a bad factor"
 unfoldable pub refusalOf : ℕ → ℕ → Congestion → List ℕ → ℕ → List ℕ
 refusalOf table n c marks workLength =
-    choose (leb 1 table) (5 ∷ table ∷ [])
-    (choose (ltb workLength (workNeeded n)) (6 ∷ workNeeded n ∷ [])
-    (choose (ltb (badNode n c marks) n) (13 ∷ badNode n c marks ∷ [])
-    (choose (ltb factorMost (c .factor)) (13 ∷ n ∷ []) [])))
+    choose (leb 1 table) (badTable table)
+    (choose (ltb workLength (workNeeded n)) (shortWork (workNeeded n))
+    (choose (ltb (badNode n c marks) n) (badNumber (badNode n c marks))
+    (choose (ltb factorMost (c .factor)) (badNumber n) [])))
 
--- the same for what the tests before a search find
-abbrev pub checkNumbers : Check → List ℕ
-checkNumbers k.Fine = []
-checkNumbers (k.BadTable table) = 5 ∷ table ∷ []
-checkNumbers (k.ShortWork needed) = 6 ∷ needed ∷ []
-checkNumbers (k.BadNumber place) = 13 ∷ place ∷ []
+-- 01's numbers for what the tests before a search find
+abbrev pub checkRefusal : Check → List ℕ
+checkRefusal k.Fine = []
+checkRefusal (k.BadTable table) = badTable table
+checkRefusal (k.ShortWork needed) = shortWork needed
+checkRefusal (k.BadNumber place) = badNumber place
 
 -- ---- the search called alone
 
@@ -67,27 +79,34 @@ pub record SearchReply : Type 0 where
   pub work : List ℕ
 
 -- 01's numbers for each case of the answer
-abbrev pub searchNumbers : SearchAnswer → List ℕ
-searchNumbers s.Done = []
-searchNumbers (s.BadTable table) = 5 ∷ table ∷ []
-searchNumbers (s.ShortWork needed) = 6 ∷ needed ∷ []
-searchNumbers (s.BadNumber place) = 13 ∷ place ∷ []
+abbrev pub searchRefusal : SearchAnswer → List ℕ
+searchRefusal s.Done = []
+searchRefusal (s.BadTable table) = badTable table
+searchRefusal (s.ShortWork needed) = shortWork needed
+searchRefusal (s.BadNumber place) = badNumber place
 
--- a refusal leaves the work slice as it was
-abbrev pub searchReplyOf : List ℕ → List ℕ → List ℕ → SearchReply
-searchReplyOf [] done work = record { refusal = []; work = done }
-searchReplyOf (k ∷ ks) done work = record { refusal = k ∷ ks; work = work }
+-- the distances unless something is refused; a refusal leaves the work slice as it was
+abbrev pub searchUnlessRefused : List ℕ → List ℕ → List ℕ → SearchReply
+searchUnlessRefused [] done work = record { refusal = []; work = done }
+searchUnlessRefused (k ∷ ks) done work = record { refusal = k ∷ ks; work = work }
 
 -- "Otherwise the first nodes entries of the work slice hold the distances .. and the next 7 × nodes hold 0."
 unfoldable pub searchReply : Block → Congestion → List ℕ → List ℕ → SearchReply
 searchReply b c marks work =
-    searchReplyOf (refusalOf (faultyTable b) (nodes b) c marks (length work))
+    searchUnlessRefused (refusalOf (faultyTable b) (nodes b) c marks (length work))
     (cleared (nodes b) (distances b (priceAt b c) marks) work)
     work
 
--- the call's numbers and the work slice at its end, as one value
-abbrev pub searched : SearchAnswer → List ℕ → SearchReply
-searched r work = record { refusal = searchNumbers r; work = work }
+-- the answer with the work slice at the call's end
+abbrev pub searchReplyOf : SearchAnswer → List ℕ → SearchReply
+searchReplyOf r work = record { refusal = searchRefusal r; work = work }
+
+-- the same in terms of paths alone: a search that isn't refused leaves for each node the least cost of a path from the tree
+abbrev pub LeavesLeastCosts : Block → (ℕ → ℕ) → List ℕ → SearchAnswer → List ℕ → Type 0
+LeavesLeastCosts b price marks s.Done work = (v : ℕ) → v < nodes b → LeastCost b price (inTree marks) v (getD work v 0)
+LeavesLeastCosts b price marks (s.BadTable table) work = Unit {0}
+LeavesLeastCosts b price marks (s.ShortWork needed) work = Unit {0}
+LeavesLeastCosts b price marks (s.BadNumber place) work = Unit {0}
 
 -- ---- the cheapest path of one turn
 
@@ -96,12 +115,12 @@ abbrev pub sinksMost : ℕ
 sinksMost = 4096
 
 -- a list of sinks is short enough and each is a node
-unfoldable pub sinksSound : ℕ → List ℕ → Bool
-sinksSound n sinks = both (leb (length sinks) sinksMost) (every (λ s. ltb s n) sinks)
+unfoldable pub sinkListSound : ℕ → List ℕ → Bool
+sinkListSound n sinks = both (leb (length sinks) sinksMost) (every (λ s. ltb s n) sinks)
 
 -- the lowest of tables 1 to 4 that breaks its rule, else 7 for a bad list of sinks, 0 where all is sound
 unfoldable pub faultyWithSinks : Block → List ℕ → ℕ
-faultyWithSinks b sinks = choose (leb 1 (faultyTable b)) (faultyTable b) (choose (sinksSound (nodes b) sinks) 0 7)
+faultyWithSinks b sinks = choose (leb 1 (faultyTable b)) (faultyTable b) (choose (sinkListSound (nodes b) sinks) 0 7)
 
 -- the refusal's numbers; place, cost and path length of the joined sink, none where there is none; and the work slice afterwards
 pub record PathReply : Type 0 where
@@ -121,20 +140,42 @@ turnPath stuck = []
 abbrev pub turnReply : ℕ → List ℕ → Turn → PathReply
 turnReply n work t = record { refusal = []; joined = turnNumbers t; work = cleared n (turnPath t) work }
 
-abbrev pub pathReplyOf : List ℕ → PathReply → List ℕ → PathReply
-pathReplyOf [] done work = done
-pathReplyOf (k ∷ ks) done work = record { refusal = k ∷ ks; joined = []; work = work }
+-- the turn unless something is refused; a refusal leaves the work slice as it was
+abbrev pub pathUnlessRefused : List ℕ → PathReply → List ℕ → PathReply
+pathUnlessRefused [] done work = done
+pathUnlessRefused (k ∷ ks) done work = record { refusal = k ∷ ks; joined = []; work = work }
 
 unfoldable pub pathReply : Block → Congestion → List ℕ → List ℕ → List ℕ → PathReply
 pathReply b c marks sinks work =
-    pathReplyOf (refusalOf (faultyWithSinks b sinks) (nodes b) c marks (length work))
+    pathUnlessRefused (refusalOf (faultyWithSinks b sinks) (nodes b) c marks (length work))
     (turnReply (nodes b) work (turn b (priceAt b c) marks sinks))
     work
 
--- 01's numbers for each case of the answer, with the work slice at the call's end
-abbrev pub pathTaken : PathAnswer → List ℕ → PathReply
-pathTaken (p.Joins place cost n) work = record { refusal = []; joined = place ∷ cost ∷ n ∷ []; work = work }
-pathTaken p.Stuck work = record { refusal = []; joined = []; work = work }
-pathTaken (p.BadTable table) work = record { refusal = 5 ∷ table ∷ []; joined = []; work = work }
-pathTaken (p.ShortWork needed) work = record { refusal = 6 ∷ needed ∷ []; joined = []; work = work }
-pathTaken (p.BadNumber place) work = record { refusal = 13 ∷ place ∷ []; joined = []; work = work }
+-- 01's numbers for each case of the answer
+abbrev pub pathRefusal : PathAnswer → List ℕ
+pathRefusal (p.Joins place cost n) = []
+pathRefusal p.Stuck = []
+pathRefusal (p.BadTable table) = badTable table
+pathRefusal (p.ShortWork needed) = shortWork needed
+pathRefusal (p.BadNumber place) = badNumber place
+
+abbrev pub pathNumbers : PathAnswer → List ℕ
+pathNumbers (p.Joins place cost n) = place ∷ cost ∷ n ∷ []
+pathNumbers p.Stuck = []
+pathNumbers (p.BadTable table) = []
+pathNumbers (p.ShortWork needed) = []
+pathNumbers (p.BadNumber place) = []
+
+-- the answer with the work slice at the call's end
+abbrev pub pathReplyOf : PathAnswer → List ℕ → PathReply
+pathReplyOf r work = record { refusal = pathRefusal r; joined = pathNumbers r; work = work }
+
+-- the same in terms of paths alone: a sink that is joined is joined by a cheapest path, which stands at the beginning of the work slice; where
+-- the turn is stuck there is no path
+abbrev pub JoinsCheapest : Block → (ℕ → ℕ) → List ℕ → List ℕ → PathAnswer → List ℕ → Type 0
+JoinsCheapest b price marks sinks (p.Joins place cost n) work =
+    CheapestPath b price (inTree marks) sinks (getD sinks place 0) cost (take n work)
+JoinsCheapest b price marks sinks p.Stuck work = NoPath b (inTree marks) sinks
+JoinsCheapest b price marks sinks (p.BadTable table) work = Unit {0}
+JoinsCheapest b price marks sinks (p.ShortWork needed) work = Unit {0}
+JoinsCheapest b price marks sinks (p.BadNumber place) work = Unit {0}

@@ -58,10 +58,16 @@ unfoldable pub joinAt : Block → (ℕ → ℕ) → List ℕ → List ℕ → �
 joinAt b price marks sinks place =
     joins place (pathCost price (pathTo b price marks (getD sinks place 0))) (pathTo b price marks (getD sinks place 0))
 
+-- the least of them, 2^64 − 1 where no unjoined sink has a path; and the first place at which it stands
+abbrev pub nearestDistance : Block → (ℕ → ℕ) → List ℕ → List ℕ → ℕ
+nearestDistance b price marks sinks = least far (openDistances b price marks sinks)
+
+abbrev pub nearestPlace : Block → (ℕ → ℕ) → List ℕ → List ℕ → ℕ
+nearestPlace b price marks sinks = placeOf (nearestDistance b price marks sinks) (openDistances b price marks sinks)
+
 -- "The turn joins the unjoined sink of least distance, ties to the first listed"
 unfoldable pub turn : Block → (ℕ → ℕ) → List ℕ → List ℕ → Turn
 turn b price marks sinks =
-    choose (eqb (least far (openDistances b price marks sinks)) far)
+    choose (eqb (nearestDistance b price marks sinks) far)
     stuck
-    (joinAt b price marks sinks
-    (placeOf (least far (openDistances b price marks sinks)) (openDistances b price marks sinks)))
+    (joinAt b price marks sinks (nearestPlace b price marks sinks))

@@ -2,7 +2,7 @@
 ghost use mathlib.Core.Path.{_≡_};
 ghost use Rattle.search.specs.Block.{blockOf};
 ghost use Rattle.search.specs.Turn.{congestionOf};
-ghost use Rattle.search.specs.Replies.{searched, searchReply, faultyWithSinks, pathTaken, pathReply};
+ghost use Rattle.search.specs.Replies.{searchReplyOf, searchReply, faultyWithSinks, pathReplyOf, pathReply};
 
 // What a call of the search answers: the distances stand in the work slice, or one of 01's refusals.
 pub enum SearchAnswer {
@@ -50,7 +50,7 @@ pub fn search(
     others: &[u16],
     in_tree: &[u8],
 ) -> SearchAnswer
-    ensures { λ r. ⌜ searched r (now (work .exit)) ≡ searchReply (blockOf (now (kind .entry)) (now (capacity .entry)) (now («first_edge» .entry)) (now («edge_target» .entry))) (congestionOf factor (now (history .entry)) (now (others .entry))) (now («in_tree» .entry)) (now (work .entry)) ⌝ }
+    ensures { λ r. ⌜ searchReplyOf r (now (work .exit)) ≡ searchReply (blockOf (now (kind .entry)) (now (capacity .entry)) (now («first_edge» .entry)) (now («edge_target» .entry))) (congestionOf factor (now (history .entry)) (now (others .entry))) (now («in_tree» .entry)) (now (work .entry)) ⌝ }
 {
     let table = tables::faulty_table(kind, capacity, first_edge, edge_target);
     match numbers::first_refusal(
@@ -96,7 +96,7 @@ fn faulty_with_sinks(
     if 1 <= table {
         return table;
     }
-    if tables::sinks_sound(kind.len(), sinks) {
+    if tables::sink_list_sound(kind.len(), sinks) {
         return 0;
     }
     7
@@ -115,7 +115,7 @@ pub fn cheapest_path(
     in_tree: &[u8],
     sinks: &[u16],
 ) -> PathAnswer
-    ensures { λ r. ⌜ pathTaken r (now (work .exit)) ≡ pathReply (blockOf (now (kind .entry)) (now (capacity .entry)) (now («first_edge» .entry)) (now («edge_target» .entry))) (congestionOf factor (now (history .entry)) (now (others .entry))) (now («in_tree» .entry)) (now (sinks .entry)) (now (work .entry)) ⌝ }
+    ensures { λ r. ⌜ pathReplyOf r (now (work .exit)) ≡ pathReply (blockOf (now (kind .entry)) (now (capacity .entry)) (now («first_edge» .entry)) (now («edge_target» .entry))) (congestionOf factor (now (history .entry)) (now (others .entry))) (now («in_tree» .entry)) (now (sinks .entry)) (now (work .entry)) ⌝ }
 {
     let table = faulty_with_sinks(kind, capacity, first_edge, edge_target, sinks);
     match numbers::first_refusal(

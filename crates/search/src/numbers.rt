@@ -4,7 +4,7 @@ ghost use Prim.Native.Nat.{_≤_};
 ghost use lib.Dec.{leb};
 ghost use Rattle.price.specs.Bounds.{othersMost};
 ghost use Rattle.search.specs.Turn.{congestionOf};
-ghost use Rattle.search.specs.Replies.{bounded, historyBounded, nodeSound, badNode, refusalOf, checkNumbers};
+ghost use Rattle.search.specs.Replies.{bounded, historyBounded, nodeSound, badNode, refusalOf, checkRefusal};
 ghost use Rattle.search.specs.Ready.{allBelow};
 
 // What the tests before a search find.
@@ -128,7 +128,7 @@ pub fn first_refusal(
     in_tree: &[u8],
 ) -> Check
     requires { ⌜ (table ≡ 0 → n ≤ 4096) ⌝ }
-    ensures { λ r. ⌜ checkNumbers r ≡ refusalOf table n (congestionOf factor (now (history .entry)) (now (others .entry))) (now («in_tree» .entry)) entries ⌝ }
+    ensures { λ r. ⌜ checkRefusal r ≡ refusalOf table n (congestionOf factor (now (history .entry)) (now (others .entry))) (now («in_tree» .entry)) entries ⌝ }
 {
     if 1 <= table {
         return Check::BadTable(table);

@@ -8,7 +8,7 @@ ghost use Rattle.search.specs.Block.{blockOf};
 ghost use Rattle.search.specs.Tables.{Sound};
 ghost use Rattle.search.specs.Distance.{distances as distancesOf};
 ghost use Rattle.search.specs.Turn.{congestionOf, priceAt, turn};
-ghost use Rattle.search.specs.Replies.{cleared, sinksSound, turnReply, pathTaken};
+ghost use Rattle.search.specs.Replies.{cleared, sinkListSound, turnReply, pathReplyOf};
 ghost use Rattle.search.specs.Ready.{Ready, Prepared, Found, Read};
 use crate::PathAnswer;
 use crate::distances;
@@ -92,8 +92,8 @@ pub fn join(
     requires { ⌜ Ready (now kind) (now capacity) (congestionOf factor (now history) (now others)) (now «in_tree») ⌝ }
     requires { ⌜ Sound (blockOf (now kind) (now capacity) (now «first_edge») (now «edge_target»)) ⌝ }
     requires { ⌜ 8 * length (now kind) ≤ length (now work) ⌝ }
-    requires { ⌜ sinksSound (length (now kind)) (now sinks) ≡ true ⌝ }
-    ensures { λ r. ⌜ pathTaken r (now (work .exit)) ≡ turnReply (length (now (kind .entry))) (now (work .entry)) (turn (blockOf (now (kind .entry)) (now (capacity .entry)) (now («first_edge» .entry)) (now («edge_target» .entry))) (priceAt (blockOf (now (kind .entry)) (now (capacity .entry)) (now («first_edge» .entry)) (now («edge_target» .entry))) (congestionOf factor (now (history .entry)) (now (others .entry)))) (now («in_tree» .entry)) (now (sinks .entry))) ⌝ }
+    requires { ⌜ sinkListSound (length (now kind)) (now sinks) ≡ true ⌝ }
+    ensures { λ r. ⌜ pathReplyOf r (now (work .exit)) ≡ turnReply (length (now (kind .entry))) (now (work .entry)) (turn (blockOf (now (kind .entry)) (now (capacity .entry)) (now («first_edge» .entry)) (now («edge_target» .entry))) (priceAt (blockOf (now (kind .entry)) (now (capacity .entry)) (now («first_edge» .entry)) (now («edge_target» .entry))) (congestionOf factor (now (history .entry)) (now (others .entry)))) (now («in_tree» .entry)) (now (sinks .entry))) ⌝ }
 {
     let n = kind.len();
     prepare(kind, capacity, history, others, factor, in_tree, work);

@@ -9,7 +9,7 @@ ghost use lib.Seq.{slice};
 ghost use Rattle.price.specs.Lists.{neighbours};
 ghost use Rattle.search.specs.Block.{blockOf, graphOf};
 ghost use Rattle.search.specs.Tables.{kindsSound, capacitiesSound, firstEdgesSound, edgeTargetsSound, rowSound, faultyTable};
-ghost use Rattle.search.specs.Replies.{sinksSound};
+ghost use Rattle.search.specs.Replies.{sinkListSound};
 
 fn kinds_sound(kind: &[u8]) -> bool
     ensures { λ r. ⌜ r ≡ kindsSound (now (kind .entry)) ⌝ }
@@ -142,8 +142,8 @@ pub fn faulty_table(kind: &[u8], capacity: &[u8], first_edge: &[u32], edge_targe
 }
 
 // A list of sinks is short enough, and each is a node.
-pub fn sinks_sound(n: usize, sinks: &[u16]) -> bool
-    ensures { λ r. ⌜ r ≡ sinksSound n (now (sinks .entry)) ⌝ }
+pub fn sink_list_sound(n: usize, sinks: &[u16]) -> bool
+    ensures { λ r. ⌜ r ≡ sinkListSound n (now (sinks .entry)) ⌝ }
 {
     if 4096 < sinks.len() {
         return false;

@@ -2,7 +2,7 @@
 -- Assumes nothing.
 use mathlib.Core.Path.{ap}
 use borrow.Author.Needs.{needs}
-use Rattle.search.specs.Replies.{checkNumbers}
+use Rattle.search.specs.Replies.{checkRefusal}
 use Rattle.search.proofs.PathTestLaws.{path-few, path-refused, path-ready, path-taken}
 use Rattle.search.proofs.cheapest_path.Statement.{statement}
 use Rattle.search.proofs.cheapest_path.Tie as tie
@@ -26,22 +26,22 @@ enum-told : tie.Need-enum-told
 enum-told c = search needs
 
 join-requires : tie.Need-join-requires
-join-requires c κs = path-ready _ _ _ _ _ (c .before .before .before .before .faulty-with-sinks .ensures) _ _ (c .before .before .before .before .before .before .before .before .before .before .before .before .before .before .args .work .now) (c .before .before .before .first-refusal .ensures) (ap checkNumbers (c .before .enum-told .given .1))
+join-requires c κs = path-ready _ _ _ _ _ (c .before .before .before .before .faulty-with-sinks .ensures) _ _ (c .before .before .before .before .before .before .before .before .before .before .before .before .before .before .args .work .now) (c .before .before .before .first-refusal .ensures) (ap checkRefusal (c .before .enum-told .given .1))
 
 returns : tie.Need-returns
-returns c = path-refused _ _ _ _ _ (c .before .before .before .before .faulty-with-sinks .ensures) _ _ _ (c .before .before .before .first-refusal .ensures) (ap checkNumbers (c .before .t .given .1))
+returns c = path-refused _ _ _ _ _ (c .before .before .before .before .faulty-with-sinks .ensures) _ _ _ (c .before .before .before .first-refusal .ensures) (ap checkRefusal (c .before .t .given .1))
 
 returns-2 : tie.Need-returns-2
-returns-2 c = path-refused _ _ _ _ _ (c .before .before .before .before .faulty-with-sinks .ensures) _ _ _ (c .before .before .before .first-refusal .ensures) (ap checkNumbers (c .before .needed .given .1))
+returns-2 c = path-refused _ _ _ _ _ (c .before .before .before .before .faulty-with-sinks .ensures) _ _ _ (c .before .before .before .first-refusal .ensures) (ap checkRefusal (c .before .needed .given .1))
 
 returns-3 : tie.Need-returns-3
-returns-3 c = path-refused _ _ _ _ _ (c .before .before .before .before .faulty-with-sinks .ensures) _ _ _ (c .before .before .before .first-refusal .ensures) (ap checkNumbers (c .before .place .given .1))
+returns-3 c = path-refused _ _ _ _ _ (c .before .before .before .before .faulty-with-sinks .ensures) _ _ _ (c .before .before .before .first-refusal .ensures) (ap checkRefusal (c .before .place .given .1))
 
 same-length : tie.Need-same-length
 same-length c = search needs
 
 returns-4 : tie.Need-returns-4
-returns-4 c = path-taken _ _ _ _ _ (c .before .before .before .before .before .before .before .faulty-with-sinks .ensures) _ _ _ (c .before .before .before .before .before .before .first-refusal .ensures) (ap checkNumbers (c .before .before .before .before .enum-told .given .1)) (c .before .before .join .ensures)
+returns-4 c = path-taken _ _ _ _ _ (c .before .before .before .before .before .before .before .faulty-with-sinks .ensures) _ _ _ (c .before .before .before .before .before .before .first-refusal .ensures) (ap checkRefusal (c .before .before .before .before .enum-told .given .1)) (c .before .before .join .ensures)
 
 pub cheapest-path-spec : {M : Type 1} → statement M
 cheapest-path-spec =

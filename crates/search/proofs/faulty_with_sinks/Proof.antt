@@ -11,19 +11,19 @@ faulty-table-requires c κs = search needs
 returns : tie.Need-returns
 returns c = with-sinks-table _ _ _ _ _ (c .before .faulty-table .ensures) (c .if1 .taken)
 
-sinks-sound-requires : tie.Need-sinks-sound-requires
-sinks-sound-requires c κs = search needs
+sink-list-sound-requires : tie.Need-sink-list-sound-requires
+sink-list-sound-requires c κs = search needs
 
 returns-2 : tie.Need-returns-2
 returns-2 c =
     let tested = c .before in
-    with-sinks-none _ _ _ _ _ (tested .before .before .faulty-table .ensures) (tested .before .if1 .left) (tested .sinks-sound .ensures) (c .if2 .taken)
+    with-sinks-none _ _ _ _ _ (tested .before .before .faulty-table .ensures) (tested .before .if1 .left) (tested .sink-list-sound .ensures) (c .if2 .taken)
 
 returns-3 : tie.Need-returns-3
 returns-3 c =
     let tested = c .before in
-    with-sinks-bad _ _ _ _ _ (tested .before .before .faulty-table .ensures) (tested .before .if1 .left) (tested .sinks-sound .ensures) (c .if2 .left)
+    with-sinks-bad _ _ _ _ _ (tested .before .before .faulty-table .ensures) (tested .before .if1 .left) (tested .sink-list-sound .ensures) (c .if2 .left)
 
 pub faulty-with-sinks-spec : {M : Type 1} → statement M
 faulty-with-sinks-spec =
-    tie.close (tie.spec faulty-table-requires returns sinks-sound-requires returns-2 returns-3)
+    tie.close (tie.spec faulty-table-requires returns sink-list-sound-requires returns-2 returns-3)

@@ -1,4 +1,4 @@
--- `tables::sinks_sound` meets its contract. The loop's invariant: every sink passed is a node.
+-- `tables::sink_list_sound` meets its contract. The loop's invariant: every sink passed is a node.
 -- Assumes nothing.
 use mathlib.Core.Path.{sym}
 use Prim.Native.Nat.{ℕ, _-_, _<_}
@@ -7,8 +7,8 @@ use lib.ListN.{length, getD}
 use borrow.Author.Needs.{needs}
 use borrow.Author.Count.{below-none, below-more}
 use Rattle.search.proofs.TableLaws.{sinks-many, sinks-bad, sinks-all}
-use Rattle.search.proofs.tables.sinks_sound.Statement.{statement}
-use Rattle.search.proofs.tables.sinks_sound.Tie as tie
+use Rattle.search.proofs.tables.sink_list_sound.Statement.{statement}
+use Rattle.search.proofs.tables.sink_list_sound.Tie as tie
 
 abbrev Inv-loop : tie.InvT-loop
 Inv-loop n sinks i₀ i = (k : ℕ) → k < i → getD sinks k 0 < n
@@ -46,8 +46,8 @@ loop-again c = below-more _ _ (c .before .before .before .loop .inv) (search nee
 returns-3 : tie.Need-returns-3 Inv-loop μ-loop
 returns-3 c = sym (sinks-all _ _ _ (search needs) (search needs) (c .before .loop .inv))
 
-pub sinks-sound-spec : {M : Type 1} → statement M
-sinks-sound-spec =
+pub sink-list-sound-spec : {M : Type 1} → statement M
+sink-list-sound-spec =
     tie.close
     (tie.spec
     Inv-loop

@@ -1,0 +1,125 @@
+-- What the answers are in terms of paths alone: a search that isn't refused leaves least costs, and a turn joins by a cheapest path or has none.
+-- It follows from what the replies are, whatever the code does.
+-- Assumes nothing.
+use mathlib.Core.List.{List, [], _∷_, _++_}
+use mathlib.Core.Path.{_≡_, refl, sym, _∙_, ap}
+use Prim.Native.Nat.{ℕ, zero, suc, _*_, _-_, _<_}
+use native.Mathlib.Nat.{not-suc-le-zero, le-of-suc-le-suc}
+use native.Mathlib.Omega.{arith}
+use lib.ListN.{length, getD, take, drop, replicate, List·getD-append}
+use Rattle.search.specs.Block.{Block, blockOf, nodes}
+use Rattle.search.specs.Tables.{faultyTable, Sound, Graph}
+use Rattle.search.specs.Paths.{CheapestPath, NoPath, Fair}
+use Rattle.search.specs.Distance.{far, LeastCost, inTree, distances, distance}
+use Rattle.search.specs.Turn.{Congestion, priceAt, turn}
+use Rattle.search.specs.Replies.{cleared, refusalOf, faultyWithSinks, SearchReply, searchUnlessRefused, searchReply, searchReplyOf, LeavesLeastCosts, PathReply, turnReply, pathUnlessRefused, pathReply, pathReplyOf, JoinsCheapest}
+use Rattle.search.specs.declared.SearchAnswer.{SearchAnswer}
+use Rattle.search.specs.declared.SearchAnswer.the-variants as s
+use Rattle.search.specs.declared.PathAnswer.{PathAnswer}
+use Rattle.search.specs.declared.PathAnswer.the-variants as p
+use Rattle.search.proofs.BlockLaws.{graph-of, sound-of}
+use Rattle.search.proofs.ReadyLaws.{refusal-none, passed-ready, ready-block-fair}
+use Rattle.search.proofs.DistanceLaws.{length-distances, distance-least}
+use Rattle.search.proofs.TurnLaws.{joins-cheapest, stuck-no-path}
+use Rattle.search.proofs.PathTestLaws.{sinks-nodes, path-ready}
+use Rattle.search.proofs.PathReplyLaws.{joined-turn, stuck-turn, cleared-front}
+
+-- a reply without a refusal is what is done where nothing is refused
+search-unrefused : (ns done work : List ℕ) {x : SearchReply} → x ≡ searchUnlessRefused ns done work → x .refusal ≡ [] → (ns ≡ []) × (x .work ≡ done)
+search-unrefused [] done work e none = (refl, ap (λ (r : SearchReply). r .work) e)
+search-unrefused (k ∷ ks) done work e none =
+    let numbers : k ∷ ks ≡ [] = sym (ap (λ (r : SearchReply). r .refusal) e) ∙ none in
+    let z : _≡_ {A = ℕ} 0 1 = cc in
+    absurd (omega arith)
+
+path-unrefused : (ns : List ℕ) (done : PathReply) (work : List ℕ) {x : PathReply} → x ≡ pathUnlessRefused ns done work → x .refusal ≡ [] → (ns ≡ []) × (x ≡ done)
+path-unrefused [] done work e none = (refl, e)
+path-unrefused (k ∷ ks) done work e none =
+    let numbers : k ∷ ks ≡ [] = sym (ap (λ (r : PathReply). r .refusal) e) ∙ none in
+    let z : _≡_ {A = ℕ} 0 1 = cc in
+    absurd (omega arith)
+
+-- an entry within a list is the same whatever is taken beyond its end
+within-entry : (xs : List ℕ) (d e i : ℕ) → i < length xs → getD xs i d ≡ getD xs i e
+within-entry [] d e i l = absurd (not-suc-le-zero l)
+within-entry (x ∷ xs) d e zero l = refl
+within-entry (x ∷ xs) d e (suc i) l = within-entry xs d e i (le-of-suc-le-suc l)
+
+module _ (ks cs fs ts : List ℕ) (c : Congestion) (marks work : List ℕ) where
+  abbrev block : Block
+  block = blockOf ks cs fs ts
+
+  abbrev price : ℕ → ℕ
+  price = priceAt block c
+
+  -- ---- the search
+
+  -- the distances at the beginning of the work slice are least costs
+  least-left : refusalOf (faultyTable block) (nodes block) c marks (length work) ≡ [] → {w′ : List ℕ} → w′ ≡ cleared (nodes block) (distances block price marks) work
+      → (v : ℕ) → v < nodes block → LeastCost block price (inTree marks) v (getD w′ v 0)
+  unfolding cleared
+  least-left none {w′} end v h =
+      let passed = refusal-none _ _ c marks _ none in
+      let sound : Sound block = sound-of block (passed .table-sound) in
+      let fair : Fair block price = ready-block-fair ks cs fs ts c marks (passed-ready ks cs fs ts c marks sound passed) in
+      let ds : List ℕ = distances block price marks in
+      let long : length ds ≡ nodes block = length-distances block price marks in
+      let l : v < length ds = omega arith in
+      let here : getD w′ v 0 ≡ distance block price marks v =
+      ap (λ (xs : List ℕ). getD xs v 0) end ∙ List·getD-append ds (replicate (8 * nodes block - length ds) 0 ++ drop (8 * nodes block) work) 0 v l ∙ within-entry ds 0 far v l in
+      rw here (distance-least block price marks (graph-of block sound) fair v h)
+
+  pub search-least : (r : SearchAnswer) (w′ : List ℕ) → searchReplyOf r w′ ≡ searchReply block c marks work → LeavesLeastCosts block price marks r w′
+  unfolding searchReply
+  search-least s.Done w′ e =
+      let u = search-unrefused (refusalOf (faultyTable block) (nodes block) c marks (length work)) _ work e refl in
+      least-left (u .0) (u .1)
+  search-least (s.BadTable table) w′ e = tt
+  search-least (s.ShortWork needed) w′ e = tt
+  search-least (s.BadNumber place) w′ e = tt
+
+  -- ---- the cheapest path
+
+  module _ (sinks : List ℕ) where
+    module _ (none : refusalOf (faultyWithSinks block sinks) (nodes block) c marks (length work) ≡ []) where
+      sound : Sound block
+      sound = path-ready ks cs fs ts sinks refl c marks work refl none .1 .0
+
+      graph : Graph block
+      graph = graph-of block sound
+
+      fair : Fair block price
+      fair = ready-block-fair ks cs fs ts c marks (path-ready ks cs fs ts sinks refl c marks work refl none .0)
+
+      all-nodes : (i : ℕ) → i < length sinks → getD sinks i 0 < nodes block
+      all-nodes = sinks-nodes (nodes block) sinks (path-ready ks cs fs ts sinks refl c marks work refl none .1 .1 .1)
+
+      joined-cheapest : (place cost n : ℕ) (w′ : List ℕ) → pathReplyOf (p.Joins place cost n) w′ ≡ turnReply (nodes block) work (turn block price marks sinks)
+          → CheapestPath block price (inTree marks) sinks (getD sinks place 0) cost (take n w′)
+      joined-cheapest place cost n w′ e =
+          let j = joined-turn block c marks sinks work (nodes block) w′ (turn block price marks sinks) place cost n e in
+          let begins : take n w′ ≡ j .0 = cleared-front (nodes block) (j .0) work (j .2) (j .3) in
+          rw begins (joins-cheapest block price marks graph fair sinks all-nodes place cost (j .0) (j .1))
+
+      stuck-none : (w′ : List ℕ) → pathReplyOf p.Stuck w′ ≡ turnReply (nodes block) work (turn block price marks sinks) → NoPath block (inTree marks) sinks
+      stuck-none w′ e =
+          stuck-no-path block price marks graph fair sinks all-nodes
+          (stuck-turn block c marks sinks work (nodes block) w′ (turn block price marks sinks) e .0)
+
+    abbrev due : List ℕ
+    due = refusalOf (faultyWithSinks block sinks) (nodes block) c marks (length work)
+
+    abbrev made : PathReply
+    made = turnReply (nodes block) work (turn block price marks sinks)
+
+    pub path-cheapest : (r : PathAnswer) (w′ : List ℕ) → pathReplyOf r w′ ≡ pathReply block c marks sinks work → JoinsCheapest block price marks sinks r w′
+    unfolding pathReply
+    path-cheapest (p.Joins place cost n) w′ e =
+        let u = path-unrefused due made work e refl in
+        joined-cheapest (u .0) place cost n w′ (u .1)
+    path-cheapest p.Stuck w′ e =
+        let u = path-unrefused due made work e refl in
+        stuck-none (u .0) w′ (u .1)
+    path-cheapest (p.BadTable table) w′ e = tt
+    path-cheapest (p.ShortWork needed) w′ e = tt
+    path-cheapest (p.BadNumber place) w′ e = tt
