@@ -78,6 +78,9 @@ module _ (ks cs fs ts : List ℕ) (c : Congestion) (marks work : List ℕ) where
   search-least (s.ShortWork needed) w′ e = tt
   search-least (s.BadNumber place) w′ e = tt
 
+  pub search-both : (r : SearchAnswer) (w′ : List ℕ) → searchReplyOf r w′ ≡ searchReply block c marks work → (searchReplyOf r w′ ≡ searchReply block c marks work) × LeavesLeastCosts block price marks r w′
+  search-both r w′ e = (e, search-least r w′ e)
+
   -- ---- the cheapest path
 
   module _ (sinks : List ℕ) where
@@ -123,3 +126,6 @@ module _ (ks cs fs ts : List ℕ) (c : Congestion) (marks work : List ℕ) where
     path-cheapest (p.BadTable table) w′ e = tt
     path-cheapest (p.ShortWork needed) w′ e = tt
     path-cheapest (p.BadNumber place) w′ e = tt
+
+    pub path-both : (r : PathAnswer) (w′ : List ℕ) → pathReplyOf r w′ ≡ pathReply block c marks sinks work → (pathReplyOf r w′ ≡ pathReply block c marks sinks work) × JoinsCheapest block price marks sinks r w′
+    path-both r w′ e = (e, path-cheapest r w′ e)

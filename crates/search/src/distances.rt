@@ -24,7 +24,10 @@ fn node_price(
     v: usize,
 ) -> u64
     requires { ⌜ PriceReady (now kind) (now capacity) (now history) (now others) factor v ⌝ }
-    ensures { λ r. ⌜ r ≡ priceAt (blockOf (now (kind .entry)) (now (capacity .entry)) [] []) (congestionOf factor (now (history .entry)) (now (others .entry))) v ⌝ }
+    ensures { λ r. do
+      let block = blockOf (now (kind .entry)) (now (capacity .entry)) [] []
+      let congestion = congestionOf factor (now (history .entry)) (now (others .entry))
+      ⌜ r ≡ priceAt block congestion v ⌝ }
 {
     let k = kind[v] as u32;
     let c = capacity[v] as u32;
@@ -47,7 +50,10 @@ pub fn fill_prices(
 )
     requires { ⌜ ((v : ℕ) → v < length (now kind) → PriceReady (now kind) (now capacity) (now history) (now others) factor v) ⌝ }
     requires { ⌜ 8 * length (now kind) ≤ length (now work) ⌝ }
-    ensures { λ _. ⌜ Priced (length (now (kind .entry))) (priceAt (blockOf (now (kind .entry)) (now (capacity .entry)) [] []) (congestionOf factor (now (history .entry)) (now (others .entry)))) (now (work .entry)) (now (work .exit)) ⌝ }
+    ensures { λ _. do
+      let block = blockOf (now (kind .entry)) (now (capacity .entry)) [] []
+      let congestion = congestionOf factor (now (history .entry)) (now (others .entry))
+      ⌜ Priced (length (now (kind .entry))) (priceAt block congestion) (now (work .entry)) (now (work .exit)) ⌝ }
 {
     let n = kind.len();
     let mut v = 0;
@@ -99,7 +105,10 @@ fn shorten(work: &mut [u64], n: usize, u: usize, v: usize, d: u64)
 fn relax(work: &mut [u64], n: usize, u: usize, v: usize, best: u64) -> u64
     requires { ⌜ (u < n) × (v < n) × (8 * n ≤ length (now work)) × Heap n (now work) ⌝ }
     requires { ⌜ distAt (now work) u + priceIn n (now work) v < 2 ^ 64 ⌝ }
-    ensures { λ r. ⌜ Relaxed n u v (now (work .entry)) (now (work .exit)) × (BestGoal n best (now (work .entry)) → BestGoal n r (now (work .exit))) ⌝ }
+    ensures { λ r. do
+      let before = now (work .entry)
+      let after = now (work .exit)
+      ⌜ Relaxed n u v before after × (BestGoal n best before → BestGoal n r after) ⌝ }
 {
     let d = work[u] + work[3 * n + v];
     let old = work[v];
@@ -130,7 +139,12 @@ fn relax_row(
     least: u64,
 ) -> u64
     requires { ⌜ RowReady (graphOf (now kind) (now «first_edge») (now «edge_target»)) (now work) u ⌝ }
-    ensures { λ r. ⌜ RowDone (graphOf (now (kind .entry)) (now («first_edge» .entry)) (now («edge_target» .entry))) u (rowStart (graphOf (now (kind .entry)) (now («first_edge» .entry)) (now («edge_target» .entry))) (u + 1)) (now (work .entry)) (now (work .exit)) × (BestGoal (length (now (kind .entry))) least (now (work .entry)) → BestGoal (length (now (kind .entry))) r (now (work .exit))) ⌝ }
+    ensures { λ r. do
+      let graph = graphOf (now (kind .entry)) (now («first_edge» .entry)) (now («edge_target» .entry))
+      let n = length (now (kind .entry))
+      let before = now (work .entry)
+      let after = now (work .exit)
+      ⌜ RowDone graph u (rowStart graph (u + 1)) before after × (BestGoal n least before → BestGoal n r after) ⌝ }
 {
     let n = kind.len();
     let to = first_edge[u + 1] as usize;
@@ -165,7 +179,9 @@ pub fn settle_all(
 ) -> u64
     requires { ⌜ Stands (graphOf (now kind) (now «first_edge») (now «edge_target»)) (now work) ⌝ }
     requires { ⌜ BestGoal (length (now kind)) far (now work) × LastStep (length (now kind)) «last_step» (now work) ⌝ }
-    ensures { λ r. ⌜ Ran (graphOf (now (kind .entry)) (now («first_edge» .entry)) (now («edge_target» .entry))) (now (work .entry)) (now (work .exit)) r ⌝ }
+    ensures { λ r. do
+      let graph = graphOf (now (kind .entry)) (now («first_edge» .entry)) (now («edge_target» .entry))
+      ⌜ Ran graph (now (work .entry)) (now (work .exit)) r ⌝ }
 {
     let n = kind.len();
     let mut best = FAR;

@@ -1,8 +1,9 @@
 // The search: tests of tables 1 to 4, distances from a tree, and the cheapest path of one turn.
 ghost use mathlib.Core.Path.{_≡_};
 ghost use Rattle.search.specs.Block.{blockOf};
-ghost use Rattle.search.specs.Turn.{congestionOf};
-ghost use Rattle.search.specs.Replies.{searchReplyOf, searchReply, faultyWithSinks, pathReplyOf, pathReply};
+ghost use Rattle.search.specs.Turn.{congestionOf, priceAt};
+ghost use Rattle.search.specs.Replies.{searchReplyOf, searchReply, LeavesLeastCosts};
+ghost use Rattle.search.specs.Replies.{faultyWithSinks, pathReplyOf, pathReply, JoinsCheapest};
 
 // What a call of the search answers: the distances stand in the work slice, or one of 01's refusals.
 pub enum SearchAnswer {
@@ -50,7 +51,14 @@ pub fn search(
     others: &[u16],
     in_tree: &[u8],
 ) -> SearchAnswer
-    ensures { λ r. ⌜ searchReplyOf r (now (work .exit)) ≡ searchReply (blockOf (now (kind .entry)) (now (capacity .entry)) (now («first_edge» .entry)) (now («edge_target» .entry))) (congestionOf factor (now (history .entry)) (now (others .entry))) (now («in_tree» .entry)) (now (work .entry)) ⌝ }
+    ensures answers { λ r. do
+      let block = blockOf (now (kind .entry)) (now (capacity .entry)) (now («first_edge» .entry)) (now («edge_target» .entry))
+      let congestion = congestionOf factor (now (history .entry)) (now (others .entry))
+      ⌜ searchReplyOf r (now (work .exit)) ≡ searchReply block congestion (now («in_tree» .entry)) (now (work .entry)) ⌝ }
+    ensures distances { λ r. do
+      let block = blockOf (now (kind .entry)) (now (capacity .entry)) (now («first_edge» .entry)) (now («edge_target» .entry))
+      let congestion = congestionOf factor (now (history .entry)) (now (others .entry))
+      ⌜ LeavesLeastCosts block (priceAt block congestion) (now («in_tree» .entry)) r (now (work .exit)) ⌝ }
 {
     let table = tables::faulty_table(kind, capacity, first_edge, edge_target);
     match numbers::first_refusal(
@@ -90,7 +98,9 @@ fn faulty_with_sinks(
     edge_target: &[u16],
     sinks: &[u16],
 ) -> u32
-    ensures { λ r. ⌜ r ≡ faultyWithSinks (blockOf (now (kind .entry)) (now (capacity .entry)) (now («first_edge» .entry)) (now («edge_target» .entry))) (now (sinks .entry)) ⌝ }
+    ensures { λ r. do
+      let block = blockOf (now (kind .entry)) (now (capacity .entry)) (now («first_edge» .entry)) (now («edge_target» .entry))
+      ⌜ r ≡ faultyWithSinks block (now (sinks .entry)) ⌝ }
 {
     let table = tables::faulty_table(kind, capacity, first_edge, edge_target);
     if 1 <= table {
@@ -115,7 +125,15 @@ pub fn cheapest_path(
     in_tree: &[u8],
     sinks: &[u16],
 ) -> PathAnswer
-    ensures { λ r. ⌜ pathReplyOf r (now (work .exit)) ≡ pathReply (blockOf (now (kind .entry)) (now (capacity .entry)) (now («first_edge» .entry)) (now («edge_target» .entry))) (congestionOf factor (now (history .entry)) (now (others .entry))) (now («in_tree» .entry)) (now (sinks .entry)) (now (work .entry)) ⌝ }
+    ensures answers { λ r. do
+      let block = blockOf (now (kind .entry)) (now (capacity .entry)) (now («first_edge» .entry)) (now («edge_target» .entry))
+      let congestion = congestionOf factor (now (history .entry)) (now (others .entry))
+      let reply = pathReply block congestion (now («in_tree» .entry)) (now (sinks .entry)) (now (work .entry))
+      ⌜ pathReplyOf r (now (work .exit)) ≡ reply ⌝ }
+    ensures cheapest { λ r. do
+      let block = blockOf (now (kind .entry)) (now (capacity .entry)) (now («first_edge» .entry)) (now («edge_target» .entry))
+      let congestion = congestionOf factor (now (history .entry)) (now (others .entry))
+      ⌜ JoinsCheapest block (priceAt block congestion) (now («in_tree» .entry)) (now (sinks .entry)) r (now (work .exit)) ⌝ }
 {
     let table = faulty_with_sinks(kind, capacity, first_edge, edge_target, sinks);
     match numbers::first_refusal(

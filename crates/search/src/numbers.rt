@@ -106,7 +106,9 @@ fn marks_sound(n: usize, in_tree: &[u8]) -> bool
 
 // Each node's history, others and tree mark is there and within its bounds.
 fn lists_sound(n: usize, history: &[u32], others: &[u16], in_tree: &[u8]) -> bool
-    ensures { λ r. ⌜ r ≡ leb n (badNode n (congestionOf 0 (now (history .entry)) (now (others .entry))) (now («in_tree» .entry))) ⌝ }
+    ensures { λ r. do
+      let congestion = congestionOf 0 (now (history .entry)) (now (others .entry))
+      ⌜ r ≡ leb n (badNode n congestion (now («in_tree» .entry))) ⌝ }
 {
     if !histories_sound(n, history) {
         return false;
@@ -128,7 +130,9 @@ pub fn first_refusal(
     in_tree: &[u8],
 ) -> Check
     requires { ⌜ (table ≡ 0 → n ≤ 4096) ⌝ }
-    ensures { λ r. ⌜ checkRefusal r ≡ refusalOf table n (congestionOf factor (now (history .entry)) (now (others .entry))) (now («in_tree» .entry)) entries ⌝ }
+    ensures { λ r. do
+      let congestion = congestionOf factor (now (history .entry)) (now (others .entry))
+      ⌜ checkRefusal r ≡ refusalOf table n congestion (now («in_tree» .entry)) entries ⌝ }
 {
     if 1 <= table {
         return Check::BadTable(table);

@@ -78,7 +78,10 @@ pub fn path_length(in_tree: &[u8], work: &[u64], n: usize, sink: usize) -> usize
 pub fn write_path(in_tree: &[u8], work: &mut [u64], n: usize, sink: usize, count: usize)
     requires { ⌜ (sink < n) × Leads n (distAt (now work) sink) (now «in_tree») (now work) ⌝ }
     requires { ⌜ (count ≡ length (pathIn n (now «in_tree») (now work) sink)) × (count ≤ n) ⌝ }
-    ensures { λ _. ⌜ (take count (now (work .exit)) ≡ pathIn n (now («in_tree» .entry)) (now (work .entry)) sink) × SameBut 0 n (now (work .entry)) (now (work .exit)) ⌝ }
+    ensures { λ _. do
+      let before = now (work .entry)
+      let after = now (work .exit)
+      ⌜ (take count after ≡ pathIn n (now («in_tree» .entry)) before sink) × SameBut 0 n before after ⌝ }
 {
     let mut v = sink as u64;
     let mut i = count;

@@ -27,7 +27,11 @@ fn prepare(
 )
     requires { ⌜ Ready (now kind) (now capacity) (congestionOf factor (now history) (now others)) (now «in_tree») ⌝ }
     requires { ⌜ 8 * length (now kind) ≤ length (now work) ⌝ }
-    ensures { λ _. ⌜ Prepared (length (now (kind .entry))) (priceAt (blockOf (now (kind .entry)) (now (capacity .entry)) [] []) (congestionOf factor (now (history .entry)) (now (others .entry)))) (now («in_tree» .entry)) (now (work .entry)) (now (work .exit)) ⌝ }
+    ensures { λ _. do
+      let block = blockOf (now (kind .entry)) (now (capacity .entry)) [] []
+      let congestion = congestionOf factor (now (history .entry)) (now (others .entry))
+      let n = length (now (kind .entry))
+      ⌜ Prepared n (priceAt block congestion) (now («in_tree» .entry)) (now (work .entry)) (now (work .exit)) ⌝ }
 {
     let n = kind.len();
     distances::fill_prices(kind, capacity, history, others, factor, work);
@@ -50,7 +54,11 @@ pub fn distances_from_tree(
     requires { ⌜ Ready (now kind) (now capacity) (congestionOf factor (now history) (now others)) (now «in_tree») ⌝ }
     requires { ⌜ Sound (blockOf (now kind) (now capacity) (now «first_edge») (now «edge_target»)) ⌝ }
     requires { ⌜ 8 * length (now kind) ≤ length (now work) ⌝ }
-    ensures { λ _. ⌜ now (work .exit) ≡ cleared (length (now (kind .entry))) (distancesOf (blockOf (now (kind .entry)) (now (capacity .entry)) (now («first_edge» .entry)) (now («edge_target» .entry))) (priceAt (blockOf (now (kind .entry)) (now (capacity .entry)) (now («first_edge» .entry)) (now («edge_target» .entry))) (congestionOf factor (now (history .entry)) (now (others .entry)))) (now («in_tree» .entry))) (now (work .entry)) ⌝ }
+    ensures { λ _. do
+      let block = blockOf (now (kind .entry)) (now (capacity .entry)) (now («first_edge» .entry)) (now («edge_target» .entry))
+      let congestion = congestionOf factor (now (history .entry)) (now (others .entry))
+      let found = distancesOf block (priceAt block congestion) (now («in_tree» .entry))
+      ⌜ now (work .exit) ≡ cleared (length (now (kind .entry))) found (now (work .entry)) ⌝ }
 {
     let n = kind.len();
     prepare(kind, capacity, history, others, factor, in_tree, work);
@@ -93,7 +101,11 @@ pub fn join(
     requires { ⌜ Sound (blockOf (now kind) (now capacity) (now «first_edge») (now «edge_target»)) ⌝ }
     requires { ⌜ 8 * length (now kind) ≤ length (now work) ⌝ }
     requires { ⌜ sinkListSound (length (now kind)) (now sinks) ≡ true ⌝ }
-    ensures { λ r. ⌜ pathReplyOf r (now (work .exit)) ≡ turnReply (length (now (kind .entry))) (now (work .entry)) (turn (blockOf (now (kind .entry)) (now (capacity .entry)) (now («first_edge» .entry)) (now («edge_target» .entry))) (priceAt (blockOf (now (kind .entry)) (now (capacity .entry)) (now («first_edge» .entry)) (now («edge_target» .entry))) (congestionOf factor (now (history .entry)) (now (others .entry)))) (now («in_tree» .entry)) (now (sinks .entry))) ⌝ }
+    ensures { λ r. do
+      let block = blockOf (now (kind .entry)) (now (capacity .entry)) (now («first_edge» .entry)) (now («edge_target» .entry))
+      let congestion = congestionOf factor (now (history .entry)) (now (others .entry))
+      let made = turn block (priceAt block congestion) (now («in_tree» .entry)) (now (sinks .entry))
+      ⌜ pathReplyOf r (now (work .exit)) ≡ turnReply (length (now (kind .entry))) (now (work .entry)) made ⌝ }
 {
     let n = kind.len();
     prepare(kind, capacity, history, others, factor, in_tree, work);

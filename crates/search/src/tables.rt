@@ -123,7 +123,9 @@ fn edge_targets_sound(kind: &[u8], first_edge: &[u32], edge_target: &[u16]) -> b
 
 // The lowest of tables 1 to 4 that breaks its rule, 0 where none does.
 pub fn faulty_table(kind: &[u8], capacity: &[u8], first_edge: &[u32], edge_target: &[u16]) -> u32
-    ensures { λ r. ⌜ r ≡ faultyTable (blockOf (now (kind .entry)) (now (capacity .entry)) (now («first_edge» .entry)) (now («edge_target» .entry))) ⌝ }
+    ensures { λ r. do
+      let block = blockOf (now (kind .entry)) (now (capacity .entry)) (now («first_edge» .entry)) (now («edge_target» .entry))
+      ⌜ r ≡ faultyTable block ⌝ }
 {
     let n = kind.len();
     if !kinds_sound(kind) {

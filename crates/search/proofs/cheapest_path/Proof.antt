@@ -1,9 +1,11 @@
--- `search::cheapest_path` meets its contract: a refusal of the tests is the reply's, and where there is none the turn is.
+-- `search::cheapest_path` meets its contract: a refusal of the tests is the reply's, and where there is none the turn is, which joins by a
+-- cheapest path.
 -- Assumes nothing.
 use mathlib.Core.Path.{ap}
 use borrow.Author.Needs.{needs}
 use Rattle.search.specs.Replies.{checkRefusal}
 use Rattle.search.proofs.PathTestLaws.{path-few, path-refused, path-ready, path-taken}
+use Rattle.search.proofs.AnswersHold.{path-both}
 use Rattle.search.proofs.cheapest_path.Statement.{statement}
 use Rattle.search.proofs.cheapest_path.Tie as tie
 
@@ -25,23 +27,48 @@ enum-known-place c = search needs
 enum-told : tie.Need-enum-told
 enum-told c = search needs
 
+-- from the tests on: the faulty table that they found, and what they refuse
 join-requires : tie.Need-join-requires
-join-requires c κs = path-ready _ _ _ _ _ (c .before .before .before .before .faulty-with-sinks .ensures) _ _ (c .before .before .before .before .before .before .before .before .before .before .before .before .before .before .args .work .now) (c .before .before .before .first-refusal .ensures) (ap checkRefusal (c .before .enum-told .given .1))
+join-requires c κs =
+    let tested = c .before .before .before in
+    let entry = tested .before .before .before .before .before .before .before .before .before .before .before in
+    path-ready _ _ _ _ _ (tested .before .faulty-with-sinks .ensures) _ _ (entry .args .work .now) (tested .first-refusal .ensures)
+    (ap checkRefusal (c .before .enum-told .given .1))
 
 returns : tie.Need-returns
-returns c = path-refused _ _ _ _ _ (c .before .before .before .before .faulty-with-sinks .ensures) _ _ _ (c .before .before .before .first-refusal .ensures) (ap checkRefusal (c .before .t .given .1))
+returns c =
+    let tested = c .before .before .before in (
+      path-refused _ _ _ _ _ (tested .before .faulty-with-sinks .ensures) _ _ _ (tested .first-refusal .ensures)
+          (ap checkRefusal (c .before .t .given .1)),
+      tt,
+    )
 
 returns-2 : tie.Need-returns-2
-returns-2 c = path-refused _ _ _ _ _ (c .before .before .before .before .faulty-with-sinks .ensures) _ _ _ (c .before .before .before .first-refusal .ensures) (ap checkRefusal (c .before .needed .given .1))
+returns-2 c =
+    let tested = c .before .before .before in (
+      path-refused _ _ _ _ _ (tested .before .faulty-with-sinks .ensures) _ _ _ (tested .first-refusal .ensures)
+          (ap checkRefusal (c .before .needed .given .1)),
+      tt,
+    )
 
 returns-3 : tie.Need-returns-3
-returns-3 c = path-refused _ _ _ _ _ (c .before .before .before .before .faulty-with-sinks .ensures) _ _ _ (c .before .before .before .first-refusal .ensures) (ap checkRefusal (c .before .place .given .1))
+returns-3 c =
+    let tested = c .before .before .before in (
+      path-refused _ _ _ _ _ (tested .before .faulty-with-sinks .ensures) _ _ _ (tested .first-refusal .ensures)
+          (ap checkRefusal (c .before .place .given .1)),
+      tt,
+    )
 
 same-length : tie.Need-same-length
 same-length c = search needs
 
 returns-4 : tie.Need-returns-4
-returns-4 c = path-taken _ _ _ _ _ (c .before .before .before .before .before .before .before .faulty-with-sinks .ensures) _ _ _ (c .before .before .before .before .before .before .first-refusal .ensures) (ap checkRefusal (c .before .before .before .before .enum-told .given .1)) (c .before .before .join .ensures)
+returns-4 c =
+    let ran = c .before .before in
+    let tested = ran .before .before .before .before in
+    path-both _ _ _ _ _ _ _ _ (ran .join .result) _
+    (path-taken _ _ _ _ _ (tested .before .faulty-with-sinks .ensures) _ _ _ (tested .first-refusal .ensures)
+    (ap checkRefusal (ran .before .before .enum-told .given .1)) (ran .join .ensures))
 
 pub cheapest-path-spec : {M : Type 1} → statement M
 cheapest-path-spec =

@@ -1,7 +1,9 @@
--- `search::search` meets its contract: a refusal is the one that is due, and where none is due the distances are left.
+-- `search::search` meets its contract: a refusal is the one that is due, and where none is due the distances are left, which are least costs.
 -- Assumes nothing.
 use borrow.Author.Needs.{needs}
 use Rattle.search.proofs.SearchTestLaws.{few-nodes, search-ready, search-table, search-work, search-number, search-done}
+use Rattle.search.specs.declared.SearchAnswer.the-variants.{Done}
+use Rattle.search.proofs.AnswersHold.{search-both}
 use Rattle.search.proofs.search.Statement.{statement}
 use Rattle.search.proofs.search.Tie as tie
 
@@ -30,18 +32,24 @@ distances-from-tree-requires c κs =
 
 returns : tie.Need-returns
 returns c =
-    let tested = c .before .before .before in
-    search-table _ _ _ _ _ _ _ _ _ (tested .before .faulty-table .ensures) (tested .first-refusal .ensures) (c .before .t .given .1)
+    let tested = c .before .before .before in (
+      search-table _ _ _ _ _ _ _ _ _ (tested .before .faulty-table .ensures) (tested .first-refusal .ensures) (c .before .t .given .1),
+      tt,
+    )
 
 returns-2 : tie.Need-returns-2
 returns-2 c =
-    let tested = c .before .before .before in
-    search-work _ _ _ _ _ _ _ _ _ (tested .before .faulty-table .ensures) (tested .first-refusal .ensures) (c .before .needed .given .1)
+    let tested = c .before .before .before in (
+      search-work _ _ _ _ _ _ _ _ _ (tested .before .faulty-table .ensures) (tested .first-refusal .ensures) (c .before .needed .given .1),
+      tt,
+    )
 
 returns-3 : tie.Need-returns-3
 returns-3 c =
-    let tested = c .before .before .before in
-    search-number _ _ _ _ _ _ _ _ _ (tested .before .faulty-table .ensures) (tested .first-refusal .ensures) (c .before .place .given .1)
+    let tested = c .before .before .before in (
+      search-number _ _ _ _ _ _ _ _ _ (tested .before .faulty-table .ensures) (tested .first-refusal .ensures) (c .before .place .given .1),
+      tt,
+    )
 
 same-length : tie.Need-same-length
 same-length c = search needs
@@ -50,7 +58,9 @@ returns-4 : tie.Need-returns-4
 returns-4 c =
     let ran = c .before .before in
     let tested = ran .before .before .before .before in
-    search-done _ _ _ _ _ _ _ _ _ (tested .before .faulty-table .ensures) (tested .first-refusal .ensures) (ran .before .before .enum-told .given .1) (ran .distances-from-tree .ensures)
+    search-both _ _ _ _ _ _ _ Done _
+    (search-done _ _ _ _ _ _ _ _ _ (tested .before .faulty-table .ensures) (tested .first-refusal .ensures) (ran .before .before .enum-told .given .1)
+    (ran .distances-from-tree .ensures))
 
 pub search-spec : {M : Type 1} → statement M
 search-spec =
