@@ -50,7 +50,7 @@ same-length-2 c = search needs
 returns-2 : tie.Need-returns-2
 returns-2 c =
     let asked = c .before .before .before .before .before .before .before .before in
-    search-told _ _ _ _ _ _ _ (asked .before .before .if1 .left) (c .before .before .before .before .enum-told .given .1) (asked .search .ensures) (c .before .before .tell .ensures)
+    search-told _ _ _ _ _ _ _ (asked .before .before .if1 .left) (c .before .before .before .before .enum-told .given .1) (asked .search .ensures .0) (c .before .before .tell .ensures)
 
 same-length-3 : tie.Need-same-length-3
 same-length-3 c = search needs
@@ -61,7 +61,7 @@ same-length-4 c = search needs
 returns-3 : tie.Need-returns-3
 returns-3 c =
     let asked = c .before .before .before .before .before .before .before .before .before in
-    search-told _ _ _ _ _ _ _ (asked .before .before .if1 .left) (c .before .before .before .before .before .table .given .1) (asked .search .ensures) (c .before .before .tell2 .ensures)
+    search-told _ _ _ _ _ _ _ (asked .before .before .if1 .left) (c .before .before .before .before .before .table .given .1) (asked .search .ensures .0) (c .before .before .tell2 .ensures)
 
 same-length-5 : tie.Need-same-length-5
 same-length-5 c = search needs
@@ -72,7 +72,7 @@ same-length-6 c = search needs
 returns-4 : tie.Need-returns-4
 returns-4 c =
     let asked = c .before .before .before .before .before .before .before .before .before in
-    search-told _ _ _ _ _ _ _ (asked .before .before .if1 .left) (c .before .before .before .before .before .needed .given .1) (asked .search .ensures) (c .before .before .tell3 .ensures)
+    search-told _ _ _ _ _ _ _ (asked .before .before .if1 .left) (c .before .before .before .before .before .needed .given .1) (asked .search .ensures .0) (c .before .before .tell3 .ensures)
 
 same-length-7 : tie.Need-same-length-7
 same-length-7 c = search needs
@@ -83,7 +83,7 @@ same-length-8 c = search needs
 returns-5 : tie.Need-returns-5
 returns-5 c =
     let asked = c .before .before .before .before .before .before .before .before .before in
-    search-told _ _ _ _ _ _ _ (asked .before .before .if1 .left) (c .before .before .before .before .before .place .given .1) (asked .search .ensures) (c .before .before .tell4 .ensures)
+    search-told _ _ _ _ _ _ _ (asked .before .before .if1 .left) (c .before .before .before .before .before .place .given .1) (asked .search .ensures .0) (c .before .before .tell4 .ensures)
 
 pub arvumnao-search-spec : {M : Type 1} → statement M
 arvumnao-search-spec =

@@ -44,19 +44,19 @@ enum-told-4 : tie.Need-enum-told-4
 enum-told-4 c = search needs
 
 returns : tie.Need-returns
-returns c = named _ _ _ _ _ (0 ∷ []) refl _ (c .before .before .before .before .cheapest-path .ensures) (c .before .table .given .1)
+returns c = named _ _ _ _ _ (0 ∷ []) refl _ (c .before .before .before .before .cheapest-path .ensures .0) (c .before .table .given .1)
 
 returns-2 : tie.Need-returns-2
-returns-2 c = named _ _ _ _ _ (0 ∷ []) refl _ (c .before .before .before .cheapest-path .ensures) (c .enum-told .given .1)
+returns-2 c = named _ _ _ _ _ (0 ∷ []) refl _ (c .before .before .before .cheapest-path .ensures .0) (c .enum-told .given .1)
 
 returns-3 : tie.Need-returns-3
-returns-3 c = named _ _ _ _ _ (0 ∷ []) refl _ (c .before .before .before .cheapest-path .ensures) (c .enum-told2 .given .1)
+returns-3 c = named _ _ _ _ _ (0 ∷ []) refl _ (c .before .before .before .cheapest-path .ensures .0) (c .enum-told2 .given .1)
 
 returns-4 : tie.Need-returns-4
-returns-4 c = named _ _ _ _ _ (0 ∷ []) refl _ (c .before .before .before .cheapest-path .ensures) (c .enum-told3 .given .1)
+returns-4 c = named _ _ _ _ _ (0 ∷ []) refl _ (c .before .before .before .cheapest-path .ensures .0) (c .enum-told3 .given .1)
 
 returns-5 : tie.Need-returns-5
-returns-5 c = named _ _ _ _ _ (0 ∷ []) refl _ (c .before .before .before .cheapest-path .ensures) (c .enum-told4 .given .1)
+returns-5 c = named _ _ _ _ _ (0 ∷ []) refl _ (c .before .before .before .cheapest-path .ensures .0) (c .enum-told4 .given .1)
 
 pub faulty-block-spec : {M : Type 1} → statement M
 faulty-block-spec =

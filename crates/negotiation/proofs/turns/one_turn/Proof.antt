@@ -21,7 +21,7 @@ same-length-2 : tie.Need-same-length-2
 same-length-2 c = search needs
 
 returns : tie.Need-returns
-returns c = turn-other (c .before .before .before .before .before .before .before .before .before .before .before .before .before .before .before .before .pre) (c .before .before .before .cheapest-path .result) (λ place cost count e. miss (1 ∷ 2 ∷ 3 ∷ 4 ∷ []) 0 tt (rw e at (c .match .keys2))) (c .before .before .before .cheapest-path .ensures)
+returns c = turn-other (c .before .before .before .before .before .before .before .before .before .before .before .before .before .before .before .before .pre) (c .before .before .before .cheapest-path .result) (λ place cost count e. miss (1 ∷ 2 ∷ 3 ∷ 4 ∷ []) 0 tt (rw e at (c .match .keys2))) (c .before .before .before .cheapest-path .ensures .0)
 
 cast-count : tie.Need-cast-count
 cast-count c = search needs
@@ -40,7 +40,7 @@ same-length-4 c = search needs
 
 returns-2 : tie.Need-returns-2
 returns-2 c =
-    let j = turn-joined (c .before .before .before .before .before .before .before .before .before .before .before .before .before .before .before .before .before .before .before .pre) (c .before .before .answer .given .1) (c .before .before .before .before .before .before .cheapest-path .ensures) in
+    let j = turn-joined (c .before .before .before .before .before .before .before .before .before .before .before .before .before .before .before .before .before .before .before .pre) (c .before .before .answer .given .1) (c .before .before .before .before .before .before .cheapest-path .ensures .0) in
     (turn-full j (c .if1 .taken) (c .before .before .before .before .before .before .before .before .before .before .before .before .before .before .before .before .before .before .before .pre .within), j .rest)
 
 cast-p : tie.Need-cast-p
@@ -50,19 +50,19 @@ mul-write-record : tie.Need-mul-write-record
 mul-write-record c = search needs
 
 shared-slice-read-write-record : tie.Need-shared-slice-read-write-record
-shared-slice-read-write-record c = (turn-joined (c .before .before .before .before .before .before .before .before .before .before .before .before .before .before .before .before .before .before .before .before .before .pre) (c .before .before .before .before .answer .given .1) (c .before .before .before .before .before .before .before .before .cheapest-path .ensures)) .within
+shared-slice-read-write-record c = (turn-joined (c .before .before .before .before .before .before .before .before .before .before .before .before .before .before .before .before .before .before .before .before .before .pre) (c .before .before .before .before .answer .given .1) (c .before .before .before .before .before .before .before .before .cheapest-path .ensures .0)) .within
 
 cast-write-record : tie.Need-cast-write-record
 cast-write-record c = omega (arith, c .shared-slice-known8 .given (c .before .before .before .before .answer .given .0 .0))
 
 write-record-requires : tie.Need-write-record-requires
 write-record-requires c κs =
-    let j = turn-joined (c .before .before .before .before .before .before .before .before .before .before .before .before .before .before .before .before .before .before .before .before .before .before .pre) (c .before .before .before .before .before .answer .given .1) (c .before .before .before .before .before .before .before .before .before .cheapest-path .ensures) in
+    let j = turn-joined (c .before .before .before .before .before .before .before .before .before .before .before .before .before .before .before .before .before .before .before .before .before .before .pre) (c .before .before .before .before .before .answer .given .1) (c .before .before .before .before .before .before .before .before .before .cheapest-path .ensures .0) in
     ((j .long, omega (arith, c .before .before .before .if1 .left, c .before .before .before .before .before .before .before .before .before .before .before .before .before .before .before .before .before .before .before .before .before .before .pre .within), omega (arith, j .few)), j .small)
 
 mark-path-requires : tie.Need-mark-path-requires
 mark-path-requires c κs =
-    let j = turn-joined (c .before .before .before .before .before .before .before .before .before .before .before .before .before .before .before .before .before .before .before .before .before .before .before .before .before .before .before .pre) (c .before .before .before .before .before .before .before .before .before .before .answer .given .1) (c .before .before .before .before .before .before .before .before .before .before .before .before .before .before .cheapest-path .ensures) in
+    let j = turn-joined (c .before .before .before .before .before .before .before .before .before .before .before .before .before .before .before .before .before .before .before .before .before .before .before .before .before .before .before .pre) (c .before .before .before .before .before .before .before .before .before .before .answer .given .1) (c .before .before .before .before .before .before .before .before .before .before .before .before .before .before .cheapest-path .ensures .0) in
     (j .long, j .nodes-below)
 
 add-turn-logged : tie.Need-add-turn-logged
@@ -83,7 +83,7 @@ same-length-7 c = search needs
 
 returns-3 : tie.Need-returns-3
 returns-3 c =
-    let j = turn-joined (c .before .before .before .before .before .before .before .before .before .before .before .before .before .before .before .before .before .before .before .before .before .before .before .before .before .before .before .before .before .before .before .pre) (c .before .before .before .before .before .before .before .before .before .before .before .before .before .before .answer .given .1) (c .before .before .before .before .before .before .before .before .before .before .before .before .before .before .before .before .before .before .cheapest-path .ensures) in (
+    let j = turn-joined (c .before .before .before .before .before .before .before .before .before .before .before .before .before .before .before .before .before .before .before .before .before .before .before .before .before .before .before .before .before .before .before .pre) (c .before .before .before .before .before .before .before .before .before .before .before .before .before .before .answer .given .1) (c .before .before .before .before .before .before .before .before .before .before .before .before .before .before .before .before .before .before .cheapest-path .ensures .0) in (
       turn-logs j (c .before .before .before .before .before .before .before .before .before .before .before .before .before .before .before .before .before .before .before .before .before .before .before .before .before .before .before .before .before .before .before .pre .marks-long) (omega (arith, c .before .before .before .before .before .before .before .before .before .before .before .before .if1 .left, c .before .before .before .before .before .before .before .before .before .before .before .before .before .before .before .before .before .before .before .before .before .before .before .before .before .before .before .before .before .before .before .pre .within)) (c .before .before .before .before .before .before .before .before .write-record .ensures) (c .before .before .before .mark-path .ensures) (c .turn-logged .ensures),
       j .rest,
     )
