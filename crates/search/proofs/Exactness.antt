@@ -49,7 +49,10 @@ module _ (b : Block) (price : ℕ → ℕ) (marks w : List ℕ) (g : Graph b) (f
   never-below (suc k) v l h = below-by v h (λ p nearer hp. never-below k p (omega arith) hp)
 
   -- such a distance is kept: by the node over which it is had, which is nearer than the level and so settled
-  above-by : (v : ℕ) → v < nodes b → distance b price marks v < entryAt (nodes b) w 1 + price v → ((u : ℕ) → distance b price marks u < distance b price marks v → distance b price marks u < entryAt (nodes b) w 1 → u < nodes b → distAt w u ≤ distance b price marks u) → distAt w v ≤ distance b price marks v
+  above-by :
+      (v : ℕ) → v < nodes b → distance b price marks v < entryAt (nodes b) w 1 + price v
+      → ((u : ℕ) → distance b price marks u < distance b price marks v → distance b price marks u < entryAt (nodes b) w 1 → u < nodes b → distAt w u ≤ distance b price marks u)
+      → distAt w v ≤ distance b price marks v
   above-by v h le nearer =
       ⊎-elim
       (λ (t : inTree marks v ≡ true). omega (arith, f .tree v h t))

@@ -1,9 +1,60 @@
+-- The files of laws, by subject. A folder beside them proves the function of its name.
+--
+-- Tables 1 to 4, the list of sinks, row 13
+--     BlockLaws       what each rule of a table says at an entry; edges by their places in table 4
+--     KeptLaws        a function's answer and the test that it computes; a flag that is kept over a list
+--     TableLaws       how the tests of the tables decide
+--     RowLaws         a row of table 4 keeps its rule, by the places of the table
+--     RisingRowLaws   a row in one pass, by the least target that may come next
+--     NumberLaws      how the tests of row 13 decide, and which refusal is due first
+--     PassLaws        a pass over a list that never leaves early
+--
+-- Paths, distances, turns: what they are
+--     DistinctLaws    a list with no entry twice has at most n entries below n
+--     WalkLaws        a walk's cost, its last step, its nodes; one with no node twice costs no more
+--     DistanceLaws    theorem: the distance is the least cost of a path, 2^64 − 1 exactly where there is none
+--     PathLaws        a path built backwards, each node at its distance
+--     BeforeLaws      the node before v
+--     PathToLaws      the path to a node: along edges, no node twice, at the distance's cost
+--     NearestLaws     the unjoined sinks' distances, the least of them and its place
+--     TurnLaws        theorem: a turn joins by a cheapest path, and where it is stuck there is none
+--     GraphLaws       distances and turns without capacities are the same
+--
+-- The work slice
+--     StoreLaws       a store at one place of a list
+--     FillLaws        loops that clear or fill a part
+--     FollowLaws      loops that follow predecessors
+--     QueueLaws       the tournament tree
+--     LevelLaws       its least entry as the level of the search
+--
+-- The running search (Dijkstra)
+--     Exactness       which distances and predecessors are final
+--     BestLaws        the least distance of a goal so far, and a number at most every goal's price
+--     FrontierSteps   the frontier at the start, after a settling, after a row
+--     WayLaws         a new way to a node, as an edge gives it
+--     WaySteps        the frontier after a new way
+--     RelaxSteps      the frontier after an edge
+--     RowSteps        a row, edge by edge
+--     RunLaws         a run of settlings, and where it stops
+--
+-- A whole call
+--     ReadyLaws       what tests that refuse nothing have shown: fair prices, marks, a sound graph
+--     SearchLaws      a search: prepared, run, read
+--     SearchTestLaws  the tests before a search, and its reply
+--     PathTestLaws    the tests before a turn, and its reply
+--     FoundLaws       the path is read off the work slice
+--     HaltLaws        what a stopped search says of the turn
+--     JoinLaws        a turn, step by step
+--     PathReplyLaws   the answer of a turn by its cases, for the crate above
+--     AnswersHold     theorem: what the answers are in terms of paths alone
+-- Assumes nothing.
 pub mod BlockLaws
 pub mod KeptLaws
+pub mod TableLaws
 pub mod RowLaws
 pub mod RisingRowLaws
-pub mod TableLaws
 pub mod NumberLaws
+pub mod PassLaws
 pub mod DistinctLaws
 pub mod WalkLaws
 pub mod DistanceLaws
@@ -12,6 +63,7 @@ pub mod BeforeLaws
 pub mod PathToLaws
 pub mod NearestLaws
 pub mod TurnLaws
+pub mod GraphLaws
 pub mod StoreLaws
 pub mod FillLaws
 pub mod FollowLaws
@@ -25,8 +77,6 @@ pub mod WaySteps
 pub mod RelaxSteps
 pub mod RowSteps
 pub mod RunLaws
-pub mod GraphLaws
-pub mod PassLaws
 pub mod ReadyLaws
 pub mod SearchLaws
 pub mod SearchTestLaws

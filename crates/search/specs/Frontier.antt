@@ -1,4 +1,5 @@
--- What holds while the search settles one node after the other (Dijkstra). Only the contracts of private functions cite this file: no caller has to believe it.
+-- What holds while the search settles one node after the other (Dijkstra). Only the contracts of private functions cite this file: no
+-- caller has to believe it.
 -- Assumes nothing.
 use mathlib.Core.Bool.{Bool, true, false, not}
 use mathlib.Core.List.{List}
@@ -38,7 +39,8 @@ pub record Reached (b : Block) (price : ℕ → ℕ) (w : List ℕ) (v : ℕ) : 
   pub pred-edge : hasEdge b (predAt (nodes b) w v) v ≡ true
   pub sum : distAt w v ≡ distAt w (predAt (nodes b) w v) + price v
 
--- the search so far: settled nodes are at most `level` far, open nodes at least; cur is the node whose row is being looked at, up to `place`
+-- the search so far: settled nodes are at most `level` far, open nodes at least; cur is the node whose row is being looked at, up to
+-- `place`
 pub record Frontier (b : Block) (price : ℕ → ℕ) (marks w : List ℕ) (level cur place : ℕ) : Type 0 where
   pub long : 8 * nodes b ≤ length w
   pub heap : Heap (nodes b) w
@@ -48,10 +50,14 @@ pub record Frontier (b : Block) (price : ℕ → ℕ) (marks w : List ℕ) (leve
   pub sides : (v : ℕ) → v < nodes b → Open (nodes b) w v ⊎ Settled (nodes b) w v
   pub settled-below : (v : ℕ) → Settled (nodes b) w v → distAt w v ≤ level
   pub open-above : (v : ℕ) → v < nodes b → Open (nodes b) w v → level ≤ distAt w v
-  pub relaxed : (u k : ℕ) → Settled (nodes b) w u → Seen b cur place u k → distAt w (getD (b .edgeTargets) k 0) ≤ distAt w u + price (getD (b .edgeTargets) k 0)
+  pub relaxed :
+      (u k : ℕ) → Settled (nodes b) w u → Seen b cur place u k
+      → distAt w (getD (b .edgeTargets) k 0) ≤ distAt w u + price (getD (b .edgeTargets) k 0)
   pub reached : (v : ℕ) → v < nodes b → inTree marks v ≡ false → distAt w v < far → Reached b price w v
   -- the predecessor is the lowest-numbered settled node over which v has its distance
-  pub lowest : (u k v : ℕ) → v < nodes b → inTree marks v ≡ false → distAt w v < far → Settled (nodes b) w u → Seen b cur place u k → getD (b .edgeTargets) k 0 ≡ v → distAt w v ≡ distAt w u + price v → predAt (nodes b) w v ≤ u
+  pub lowest :
+      (u k v : ℕ) → v < nodes b → inTree marks v ≡ false → distAt w v < far → Settled (nodes b) w u → Seen b cur place u k
+      → getD (b .edgeTargets) k 0 ≡ v → distAt w v ≡ distAt w u + price v → predAt (nodes b) w v ≤ u
 
 -- the frontier between two settlings: the level is the queue's least entry, and every row of a settled node has been looked at
 abbrev pub Waiting : (b : Block) (price : ℕ → ℕ) (marks w : List ℕ) → Type 0
@@ -113,7 +119,9 @@ pub record Looked (b : Block) (price : ℕ → ℕ) (marks : List ℕ) (u e : �
 
 -- what looking at u's row up to place e does
 pub record RowDone (b : Block) (u e : ℕ) (w w′ : List ℕ) : Type 0 where
-  pub looked : (price : ℕ → ℕ) (marks : List ℕ) → Fair b price → Settled (nodes b) w u → Frontier b price marks w (distAt w u) u (rowStart b u) → Looked b price marks u e w w′
+  pub looked :
+      (price : ℕ → ℕ) (marks : List ℕ) → Fair b price → Settled (nodes b) w u → Frontier b price marks w (distAt w u) u (rowStart b u)
+      → Looked b price marks u e w w′
   pub dist-same : distAt w′ u ≡ distAt w u
   pub prices-same : (v : ℕ) → v < nodes b → priceIn (nodes b) w′ v ≡ priceIn (nodes b) w v
   pub long : length w′ ≡ length w

@@ -65,7 +65,9 @@ pub record Shortened (n u v d : ℕ) (w w′ : List ℕ) : Type 0 where
 pub data Relaxed (n u v : ℕ) (w w′ : List ℕ) : Type 0 where
   shorter : distAt w u + priceIn n w v < distAt w v → Shortened n u v (distAt w u + priceIn n w v) w w′ → Relaxed n u v w w′
   lower : distAt w u + priceIn n w v ≡ distAt w v → u < predAt n w v → w′ ≡ set w (4 * n + v) u → Relaxed n u v w w′
-  kept : distAt w v ≤ distAt w u + priceIn n w v → (distAt w u + priceIn n w v ≡ distAt w v → predAt n w v ≤ u) → w′ ≡ w → Relaxed n u v w w′
+  kept :
+      distAt w v ≤ distAt w u + priceIn n w v → (distAt w u + priceIn n w v ≡ distAt w v → predAt n w v ≤ u) → w′ ≡ w
+      → Relaxed n u v w w′
 
 -- w′ is w with node u out of the queue
 pub record TakenOut (n u : ℕ) (w w′ : List ℕ) : Type 0 where

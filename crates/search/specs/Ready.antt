@@ -1,4 +1,5 @@
--- What the tests before a search have shown, and the work slice that is ready to run. Only the contracts of private functions cite this file: no caller has to believe it.
+-- What the tests before a search have shown, and the work slice that is ready to run. Only the contracts of private functions cite this
+-- file: no caller has to believe it.
 -- Assumes nothing.
 use mathlib.Core.Bool.{Bool, true, not}
 use mathlib.Core.List.{List, _++_}
@@ -55,4 +56,6 @@ pub record Read (n : ℕ) (marks sinks w : List ℕ) (cost : ℕ) (r : PathAnswe
   pub first : FirstAt n cost sinks w place
   pub within : place < length sinks
   pub answer : r ≡ Joins place cost (length (pathIn n marks w (getD sinks place 0)))
-  pub work : w′ ≡ pathIn n marks w (getD sinks place 0) ++ (replicate (8 * n - length (pathIn n marks w (getD sinks place 0))) 0 ++ drop (8 * n) w)
+  pub work :
+      let path = pathIn n marks w (getD sinks place 0) in
+      w′ ≡ path ++ (replicate (8 * n - length path) 0 ++ drop (8 * n) w)

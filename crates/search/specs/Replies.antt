@@ -170,8 +170,8 @@ pathNumbers (p.BadNumber place) = []
 abbrev pub pathReplyOf : PathAnswer → List ℕ → PathReply
 pathReplyOf r work = record { refusal = pathRefusal r; joined = pathNumbers r; work = work }
 
--- the same in terms of paths alone: a sink that is joined is joined by a cheapest path, which stands at the beginning of the work slice; where
--- the turn is stuck there is no path
+-- the same in terms of paths alone: a sink that is joined is joined by a cheapest path, which stands at the beginning of the work slice;
+-- where the turn is stuck there is no path
 abbrev pub JoinsCheapest : Block → (ℕ → ℕ) → List ℕ → List ℕ → PathAnswer → List ℕ → Type 0
 JoinsCheapest b price marks sinks (p.Joins place cost n) work =
     CheapestPath b price (inTree marks) sinks (getD sinks place 0) cost (take n work)

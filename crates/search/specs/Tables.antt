@@ -1,4 +1,5 @@
--- Document 01, "Tables and bounds": the rules of tables 1 to 4, and the lowest table that breaks its rule. A table's length is part of its rule.
+-- Document 01, "Tables and bounds": the rules of tables 1 to 4, and the lowest table that breaks its rule. A table's length is part of its
+-- rule.
 -- Assumes nothing.
 use mathlib.Core.Bool.{Bool, true, not}
 use mathlib.Core.List.{List}

@@ -12,7 +12,7 @@ use crate::queue;
 use price::PriceAnswer;
 
 // No path.
-const FAR: u64 = 18446744073709551615;
+pub const FAR: u64 = 18446744073709551615;
 
 // The price of node v.
 fn node_price(

@@ -2,10 +2,13 @@
 ghost use mathlib.Core.Path.{_≡_};
 ghost use Prim.Native.Nat.{_≤_};
 ghost use lib.Dec.{leb};
-ghost use Rattle.price.specs.Bounds.{othersMost};
+ghost use Rattle.price.specs.Bounds.{othersMost, nodesMost};
 ghost use Rattle.search.specs.Turn.{congestionOf};
 ghost use Rattle.search.specs.Replies.{bounded, historyBounded, nodeSound, badNode, refusalOf, checkRefusal};
 ghost use Rattle.search.specs.Ready.{allBelow};
+
+// Row 13's bound of others, as wide as their list.
+const OTHERS_MOST: u16 = 511;
 
 // What the tests before a search find.
 pub enum Check {
@@ -25,13 +28,13 @@ fn node_sound(history: &[u32], others: &[u16], in_tree: &[u8], v: usize) -> bool
     if history[v] < 1 {
         return false;
     }
-    if 101179 < history[v] {
+    if price::HISTORY_MOST < history[v] {
         return false;
     }
     if others.len() <= v {
         return false;
     }
-    if 511 < others[v] {
+    if OTHERS_MOST < others[v] {
         return false;
     }
     if in_tree.len() <= v {
@@ -66,7 +69,11 @@ fn histories_sound(n: usize, history: &[u32]) -> bool
     let mut v = 0;
     while v < n {
         fine = if history[v] < 1 { false } else { fine };
-        fine = if 101179 < history[v] { false } else { fine };
+        fine = if price::HISTORY_MOST < history[v] {
+            false
+        } else {
+            fine
+        };
         v += 1;
     }
     fine
@@ -82,7 +89,7 @@ fn others_sound(n: usize, others: &[u16]) -> bool
     let mut fine = true;
     let mut v = 0;
     while v < n {
-        fine = if 511 < others[v] { false } else { fine };
+        fine = if OTHERS_MOST < others[v] { false } else { fine };
         v += 1;
     }
     fine
@@ -129,7 +136,7 @@ pub fn first_refusal(
     others: &[u16],
     in_tree: &[u8],
 ) -> Check
-    requires { ⌜ (table ≡ 0 → n ≤ 4096) ⌝ }
+    requires { ⌜ (table ≡ 0 → n ≤ nodesMost) ⌝ }
     ensures { λ r. do
       let congestion = congestionOf factor (now (history .entry)) (now (others .entry))
       ⌜ checkRefusal r ≡ refusalOf table n congestion (now («in_tree» .entry)) entries ⌝ }
@@ -144,7 +151,7 @@ pub fn first_refusal(
         let bad = bad_node(n, history, others, in_tree);
         return Check::BadNumber(bad as u32);
     }
-    if 65535 < factor {
+    if price::FACTOR_MOST < factor {
         return Check::BadNumber(n as u32);
     }
     Check::Fine

@@ -4,6 +4,9 @@ ghost use Prim.Native.Nat.{ℕ, _*_, _≤_, _<_};
 ghost use lib.ListN.{length, getD, take};
 ghost use Rattle.search.specs.Layout.{distAt, SameBut, Marked, Cheapest, FirstAt, Leads, pathIn};
 
+// No price is above this.
+const ANY_PRICE_MOST: u64 = 1000000000000000000;
+
 // Marks the sinks that are still to be joined as goals.
 pub fn mark_goals(sinks: &[u16], in_tree: &[u8], work: &mut [u64], n: usize)
     requires { ⌜ ((i : ℕ) → i < length (now sinks) → getD (now sinks) i 0 < n) ⌝ }
@@ -20,13 +23,13 @@ pub fn mark_goals(sinks: &[u16], in_tree: &[u8], work: &mut [u64], n: usize)
     }
 }
 
-// At most the price of every goal. The first value is above every price.
+// At most the price of every goal.
 pub fn least_price(sinks: &[u16], work: &[u64], n: usize) -> u64
     requires { ⌜ ((i : ℕ) → i < length (now sinks) → getD (now sinks) i 0 < n) ⌝ }
     requires { ⌜ 8 * n ≤ length (now work) ⌝ }
     ensures { λ r. ⌜ Cheapest n (now (sinks .entry)) (now (work .entry)) (length (now (sinks .entry))) r ⌝ }
 {
-    let mut least: u64 = 1000000000000000000;
+    let mut least: u64 = ANY_PRICE_MOST;
     let mut i = 0;
     while i < sinks.len() {
         let s = sinks[i] as usize;

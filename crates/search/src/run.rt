@@ -113,7 +113,7 @@ pub fn join(
     queue::build(work, n);
     let last_step = path::least_price(sinks, work, n);
     let cost = distances::settle_all(kind, first_edge, edge_target, work, last_step);
-    if cost == 18446744073709551615 {
+    if cost == distances::FAR {
         distances::clear(work, 0, 8 * n);
         return PathAnswer::Stuck;
     }

@@ -6,10 +6,20 @@ ghost use Prim.Native.Nat.{_≤_};
 ghost use lib.Dec.{leb};
 ghost use lib.ListN.{length};
 ghost use lib.Seq.{slice};
+ghost use Rattle.price.specs.Bounds.{nodesMost};
 ghost use Rattle.price.specs.Lists.{neighbours};
 ghost use Rattle.search.specs.Block.{blockOf, graphOf};
 ghost use Rattle.search.specs.Tables.{kindsSound, capacitiesSound, firstEdgesSound, edgeTargetsSound, rowSound, faultyTable};
 ghost use Rattle.search.specs.Replies.{sinkListSound};
+
+// The bounds of tables 1, 4 and 7.
+const KIND_MOST: u8 = 53;
+
+const NODES_MOST: usize = 4096;
+
+const EDGES_MOST: usize = 32768;
+
+const SINKS_MOST: usize = 4096;
 
 fn kinds_sound(kind: &[u8]) -> bool
     ensures { λ r. ⌜ r ≡ kindsSound (now (kind .entry)) ⌝ }
@@ -17,13 +27,13 @@ fn kinds_sound(kind: &[u8]) -> bool
     if kind.len() < 1 {
         return false;
     }
-    if 4096 < kind.len() {
+    if NODES_MOST < kind.len() {
         return false;
     }
     let mut fine = true;
     let mut v = 0;
     while v < kind.len() {
-        fine = if 53 < kind[v] { false } else { fine };
+        fine = if KIND_MOST < kind[v] { false } else { fine };
         v += 1;
     }
     fine
@@ -62,7 +72,7 @@ fn never_falls(first_edge: &[u32]) -> bool
 }
 
 fn first_edges_sound(n: usize, edges: usize, first_edge: &[u32]) -> bool
-    requires { ⌜ n ≤ 4096 ⌝ }
+    requires { ⌜ n ≤ nodesMost ⌝ }
     ensures { λ r. ⌜ r ≡ firstEdgesSound n edges (now («first_edge» .entry)) ⌝ }
 {
     if first_edge.len() != n + 1 {
@@ -106,7 +116,7 @@ fn edge_targets_sound(kind: &[u8], first_edge: &[u32], edge_target: &[u16]) -> b
     ensures { λ r. ⌜ r ≡ edgeTargetsSound (graphOf (now (kind .entry)) (now («first_edge» .entry)) (now («edge_target» .entry))) ⌝ }
 {
     let n = kind.len();
-    if 32768 < edge_target.len() {
+    if EDGES_MOST < edge_target.len() {
         return false;
     }
     let mut u = 0;
@@ -147,7 +157,7 @@ pub fn faulty_table(kind: &[u8], capacity: &[u8], first_edge: &[u32], edge_targe
 pub fn sink_list_sound(n: usize, sinks: &[u16]) -> bool
     ensures { λ r. ⌜ r ≡ sinkListSound n (now (sinks .entry)) ⌝ }
 {
-    if 4096 < sinks.len() {
+    if SINKS_MOST < sinks.len() {
         return false;
     }
     let mut i = 0;

@@ -71,19 +71,25 @@ settle-requires c κs =
 
 relax-row-requires : tie.Need-relax-row-requires Inv-loop μ-loop
 relax-row-requires c κs =
-    let u = c .before .before .before .before .before .before .nearest .ensures in
-    settle-ready _ _ _ _ _ _ _ (c .before .before .before .before .before .before .before .before .before .before .loop .inv) (u .0) (u .1) (below-far (c .before .before .before .before .before .before .before .before)) (c .before .before .before .settle .ensures)
+    let settled = c .before .before .before in
+    let found = settled .before .before .before in
+    let u = found .nearest .ensures in
+    settle-ready _ _ _ _ _ _ _ (found .before .before .before .before .loop .inv) (u .0) (u .1) (below-far (found .before .before)) (settled .settle .ensures)
 
 loop-less : tie.Need-loop-less Inv-loop μ-loop
 loop-less c =
-    let u = c .before .before .before .before .before .before .before .before .before .nearest .ensures in
-    run-falls _ _ _ _ _ _ _ (c .before .before .before .before .before .before .before .before .before .before .before .before .before .loop .inv) (u .0) (u .1) (below-far (c .before .before .before .before .before .before .before .before .before .before .before)) (c .before .before .before .before .before .before .settle .ensures) _ (c .before .before .relax-row .ensures .0)
+    let settled = c .before .before .before .before .before .before in
+    let found = settled .before .before .before in
+    let u = found .nearest .ensures in
+    run-falls _ _ _ _ _ _ _ (found .before .before .before .before .loop .inv) (u .0) (u .1) (below-far (found .before .before)) (settled .settle .ensures) _ (c .before .before .relax-row .ensures .0)
 
 loop-again : tie.Need-loop-again Inv-loop μ-loop
 loop-again c =
-    let u = c .before .before .before .before .before .before .before .before .before .nearest .ensures in
+    let settled = c .before .before .before .before .before .before in
+    let found = settled .before .before .before in
+    let u = found .nearest .ensures in
     let row = c .before .before .relax-row .ensures in
-    run-more _ _ _ _ _ _ _ (c .before .before .before .before .before .before .before .before .before .before .before .before .before .loop .inv) (u .0) (u .1) (below-far (c .before .before .before .before .before .before .before .before .before .before .before)) (c .before .before .before .before .before .before .settle .ensures) _ (row .0) _ (row .1)
+    run-more _ _ _ _ _ _ _ (found .before .before .before .before .loop .inv) (u .0) (u .1) (below-far (found .before .before)) (settled .settle .ensures) _ (row .0) _ (row .1)
 
 pub settle-all-spec : {M : Type 1} → statement M
 settle-all-spec =

@@ -43,7 +43,10 @@ loop-less c = search needs
 
 loop-again : tie.Need-loop-again Inv-loop μ-loop
 loop-again c =
-    history-more (c .before .before .before .before .before .before .before .args .history .now) (c .before .before .before .before .loop-test .taken) (c .before .before .before .before .before .before .if1 .left) (c .before .before .if2 .came) (λ w. w .taken) (λ w. w .left) (c .if3 .came) (λ w. w .taken) (λ w. w .left) (c .before .before .before .before .before .loop .inv)
+    let tested = c .before .before .before .before in
+    let head = tested .before in
+    history-more (head .before .before .args .history .now) (tested .loop-test .taken) (head .before .if1 .left) (c .before .before .if2 .came) (λ w. w .taken) (λ w. w .left)
+    (c .if3 .came) (λ w. w .taken) (λ w. w .left) (head .loop .inv)
 
 returns-2 : tie.Need-returns-2 Inv-loop μ-loop
 returns-2 c = passing-all _ _ (c .loop-test .left) (c .before .loop .inv)

@@ -18,7 +18,11 @@ settle-all-requires c κs =
     let built = c .before .before .before in
     let ready = built .before .before .before .before in
     let start = ready .before .before .before .before .before .before .before .before .before .before in
-    (built-stands _ _ _ _ _ _ _ _ _ (start .pre .1 .0) (start .pre .0) (start .pre .1 .1) (ready .prepare .ensures) (built .build .ensures .0) (built .build .ensures .1), built-goals _ _ _ _ _ _ _ _ _ (start .pre .1 .0) (start .pre .0) (start .pre .1 .1) (ready .prepare .ensures) (built .build .ensures .0) (built .build .ensures .1))
+    let pre = start .pre in
+    let heap = built .build .ensures in (
+      built-stands _ _ _ _ _ _ _ _ _ (pre .1 .0) (pre .0) (pre .1 .1) (ready .prepare .ensures) (heap .0) (heap .1),
+      built-goals _ _ _ _ _ _ _ _ _ (pre .1 .0) (pre .0) (pre .1 .1) (ready .prepare .ensures) (heap .0) (heap .1),
+    )
 
 mul-clear : tie.Need-mul-clear
 mul-clear c = omega (arith, kinds-few _ (c .before .before .before .before .before .before .before .before .before .before .before .before .before .before .before .before .before .before .before .before .before .pre .0 .kinds-sound))

@@ -15,11 +15,19 @@ use Rattle.search.proofs.run.join.Tie as tie
 abbrev start : tie.After-settle-all → tie.Start
 start c = c .before .before .before .before .before .before .before .before .before .before .before .before .before .before .before .before .before .before .before .before .before .before .before .before .before
 
-stopped : (c : tie.After-settle-all) → Joining (start c .args .kind .now) (start c .args .capacity .now) (start c .args .first-edge .now) (start c .args .edge-target .now) (congestionOf (start c .args .factor) (start c .args .history .now) (start c .args .others .now)) (start c .args .in-tree .now) (start c .args .sinks .now) (start c .args .work .now) (c .settle-all .last .1 .1 .1 .0) (c .settle-all .result)
+stopped :
+    (c : tie.After-settle-all)
+    → let a = start c .args in
+    Joining (a .kind .now) (a .capacity .now) (a .first-edge .now) (a .edge-target .now) (congestionOf (a .factor) (a .history .now) (a .others .now)) (a .in-tree .now)
+    (a .sinks .now) (a .work .now) (c .settle-all .last .1 .1 .1 .0) (c .settle-all .result)
 stopped c =
     let pre = start c .pre in
-    let built = c .before .before .before .before .before .before .build .ensures in
-    join-halts _ _ _ _ _ (pre .0) (pre .1 .0) (pre .1 .1 .0) (c .before .before .before .before .before .before .before .before .before .before .before .before .before .before .prepare .ensures) (c .before .before .before .before .before .before .before .before .before .before .mark-goals .ensures) (built .0) (built .1) (pre .1 .1 .1) (c .settle-all .ensures)
+    let built = c .before .before .before .before .before .before in
+    let marked = built .before .before .before .before in
+    let prepared = marked .before .before .before .before in
+    let heap = built .build .ensures in
+    join-halts _ _ _ _ _ (pre .0) (pre .1 .0) (pre .1 .1 .0) (prepared .prepare .ensures) (marked .mark-goals .ensures) (heap .0) (heap .1) (pre .1 .1 .1)
+    (c .settle-all .ensures)
 
 prepare-requires : tie.Need-prepare-requires
 prepare-requires c κs = search needs
