@@ -2,9 +2,8 @@
 
 use crate::compare::Case;
 use crate::damage;
-use crate::jobs;
-use crate::texts::around;
-use job::{Job, Rng};
+use crate::lengths::around;
+use job::{jobs, Job, Rng};
 
 const KINDS: [u32; 8] = [0, 1, 2, 3, 4, 15, 16, 53];
 const BAD_KINDS: [u32; 5] = [54, 55, 256, 260, u32::MAX];

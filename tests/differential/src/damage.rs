@@ -1,6 +1,6 @@
 //! Tables that break a rule.
 
-use job::{Job, Rng, Tuning};
+use job::{jobs, Job, Rng, Tuning};
 
 /// Damages a job in one way, at times in two or three.
 pub fn damage(rng: &mut Rng, job: &mut Job) {
@@ -165,7 +165,7 @@ fn to_itself(rng: &mut Rng, job: &mut Job) {
 /// More than 32,768 edges, with which table 3 agrees or not.
 fn too_many_edges(rng: &mut Rng, job: &mut Job) {
     if rng.percent(50) {
-        let full = crate::jobs::full(182, rng.pick(&[32_769, 32_770, 32_942]));
+        let full = jobs::full(182, rng.pick(&[32_769, 32_770, 32_942]));
         let old = std::mem::replace(job, full);
         (job.source, job.first_sink, job.sink) = (old.source, old.first_sink, old.sink);
         (job.limit, job.tuning) = (old.limit, old.tuning);
@@ -282,5 +282,5 @@ fn source_as_sink(rng: &mut Rng, job: &mut Job) {
 /// 4,097 sinks, in all else sound.
 fn too_many_sinks(rng: &mut Rng, job: &mut Job) {
     let (limit, tuning) = (job.limit, job.tuning);
-    *job = Job { limit, tuning, ..crate::jobs::many_sinks(rng, 4_097) };
+    *job = Job { limit, tuning, ..jobs::many_sinks(rng, 4_097) };
 }

@@ -1,14 +1,16 @@
-//! Sets the library beside the plain crate on many seeded jobs and texts.
+//! Sets the library beside the plain crate on many seeded jobs and texts. It fails where they differ, and where a run of at least
+//! the default length leaves an outcome out.
 //!
 //! differential [JOBS] [TEXTS] [SEED]
 
 mod alone;
 mod compare;
 mod damage;
-mod jobs;
+mod lengths;
+mod logs;
+mod outcomes;
 mod run;
 mod shrink;
-mod texts;
 
 use run::{Failure, Run};
 use std::process::ExitCode;
@@ -17,17 +19,6 @@ use std::time::Instant;
 const JOBS: u64 = 20_000;
 const TEXTS: u64 = 20_000;
 const SEED: u64 = 1;
-
-/// The argument at a place, or what stands for it.
-fn argument(place: usize, missing: u64) -> u64 {
-    match std::env::args().nth(place) {
-        None => missing,
-        Some(text) => text.parse().unwrap_or_else(|_| {
-            eprintln!("differential [JOBS] [TEXTS] [SEED], each a number");
-            std::process::exit(2);
-        }),
-    }
-}
 
 /// Runs all jobs and texts, up to the first that fails.
 fn run_all(run: &mut Run, jobs: u64, texts: u64, seed: u64) -> Result<(), (String, Failure)> {
@@ -66,25 +57,24 @@ fn prepare() {
 }
 
 fn main() -> ExitCode {
-    let (jobs, texts, seed) = (argument(1, JOBS), argument(2, TEXTS), argument(3, SEED));
+    let number = |place, missing| job::argument(place, missing, "differential [JOBS] [TEXTS] [SEED]");
+    let (jobs, texts, seed) = (number(1, JOBS), number(2, TEXTS), number(3, SEED));
     prepare();
     let start = Instant::now();
     println!("{jobs} jobs, {texts} texts, seed {seed}");
     let mut run = Run::new();
     let result = run_all(&mut run, jobs, texts, seed);
-    run.print();
-    if result.is_ok() && jobs >= JOBS && texts >= TEXTS {
-        run.print_missing();
-    }
+    run.outcomes.print();
     println!("{:.1} s", start.elapsed().as_secs_f64());
-    match result {
-        Ok(()) => {
-            println!("ok");
-            ExitCode::SUCCESS
-        }
-        Err((again, failure)) => {
-            report(&again, &failure);
-            ExitCode::FAILURE
-        }
+    if let Err((again, failure)) = result {
+        report(&again, &failure);
+        return ExitCode::FAILURE;
     }
+    let missing = run.outcomes.missing();
+    if jobs >= JOBS && texts >= TEXTS && !missing.is_empty() {
+        println!("\nOUTCOMES NOT REACHED: {}", missing.join("; "));
+        return ExitCode::FAILURE;
+    }
+    println!("ok");
+    ExitCode::SUCCESS
 }

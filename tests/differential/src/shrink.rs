@@ -125,7 +125,7 @@ fn only_written(case: &Case, number: usize) -> bool {
 /// Whole records of the writer's log.
 fn record_count(case: &Case) -> usize {
     match case {
-        Case::Write { log, .. } => crate::texts::records(log).len() - 1,
+        Case::Write { log, .. } => crate::logs::records(log).len() - 1,
         _ => 0,
     }
 }
@@ -133,7 +133,7 @@ fn record_count(case: &Case) -> usize {
 /// The writer's case without a record, or with one of a shorter path.
 fn drop_from_log(case: &mut Case, step: Step) -> Option<()> {
     let Case::Write { log, .. } = case else { return None };
-    let places = crate::texts::records(log);
+    let places = crate::logs::records(log);
     match step {
         Step::Record(record) => {
             log.drain(*places.get(record)?..*places.get(record + 1)?);
@@ -224,7 +224,7 @@ fn drop_parts(mut case: Case, step: Step) -> Option<Case> {
         Case::Read { text, .. } => {
             let mut job = read_back(text)?;
             drop_from_job(&mut job, step)?;
-            *text = crate::texts::text(&job);
+            *text = job::texts::text(&job);
         }
         _ => return None,
     }

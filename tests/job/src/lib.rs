@@ -1,8 +1,23 @@
-//! What the test crates share: a job with its own tables, and the seeded generator.
+//! What the test crates share: a job with its own tables, the seeded generator with jobs and job texts made by it, and counts.
 
+mod counts;
+pub mod jobs;
 mod rng;
+pub mod texts;
 
+pub use counts::Counts;
 pub use rng::Rng;
+
+/// The number at a place of the command line, or what stands for it.
+pub fn argument(place: usize, missing: u64, usage: &str) -> u64 {
+    match std::env::args().nth(place) {
+        None => missing,
+        Some(text) => text.parse().unwrap_or_else(|_| {
+            eprintln!("{usage}, each a number");
+            std::process::exit(2);
+        }),
+    }
+}
 
 /// The tuning of the tariff: the factor in iteration 2, its growth up / down, the histories' step.
 #[derive(Clone, Copy, Debug, PartialEq, Eq)]

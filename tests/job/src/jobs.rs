@@ -1,6 +1,6 @@
 //! Sound jobs from a seed.
 
-use job::{Job, Rng, Tuning};
+use crate::{Job, Rng, Tuning};
 
 /// A job as lists of lists, from which the tables are made.
 #[derive(Clone, Debug)]
@@ -280,6 +280,16 @@ fn heavy(rng: &mut Rng) -> Plan {
         }
     }
     plan
+}
+
+/// Unroutable jobs with many nets and iterations: long logs.
+pub fn endless(rng: &mut Rng) -> Job {
+    let nets = rng.within(9, 14);
+    let wires = rng.within(2, 4);
+    let mut plan = wired(rng, nets, wires);
+    plan.limit = rng.within(60, 100) as u32;
+    plan.tuning = tuning(rng);
+    plan.job()
 }
 
 /// Gives the nodes other numbers.

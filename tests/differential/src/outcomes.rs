@@ -1,0 +1,261 @@
+//! The outcomes that calls come to, counted, and those that a whole run must come to.
+
+use crate::compare::{After, Case};
+use crate::logs;
+use job::{texts, Counts, Job, Tuning};
+
+/// Every outcome that a whole run must come to.
+const EXPECTED: [&str; 82] = [
+    "price accepted",
+    "price 13,0",
+    "price 13,1",
+    "price 13,2",
+    "price 13,3",
+    "price 13,4",
+    "search accepted",
+    "search 5,1",
+    "search 5,2",
+    "search 5,3",
+    "search 5,4",
+    "search 6",
+    "search 13",
+    "route accepted",
+    "route 5,1",
+    "route 5,2",
+    "route 5,3",
+    "route 5,4",
+    "route 5,5",
+    "route 5,6",
+    "route 5,7",
+    "route 5,8",
+    "route 6",
+    "route 7",
+    "route 8",
+    "route 9",
+    "read accepted",
+    "read 1",
+    "read 2",
+    "read 3",
+    "read 4,1",
+    "read 4,2",
+    "read 4,3",
+    "read 4,4",
+    "read 4,5",
+    "read 4,6",
+    "read 4,7",
+    "write accepted",
+    "write 10",
+    "write 11",
+    "sound job accepted, iteration 6 to 20",
+    "route at iteration 21 or later",
+    "route with costs over 32 bits",
+    "text of 4,096 sinks accepted",
+    "text of 4,097 sinks 3",
+    "search 13 with the node count",
+    "search with a distance over 2^61",
+    "tuning plain",
+    "tuning first 0",
+    "tuning first 1,000",
+    "tuning down 1",
+    "tuning down 2",
+    "tuning down 3",
+    "tuning down 4",
+    "tuning up as down",
+    "tuning up 8",
+    "tuning step 1",
+    "tuning step 2",
+    "tuning not plain, accepted",
+    "P line accepted",
+    "P line 1,2",
+    "P line 2,2",
+    "P line 1,3",
+    "source of kind 0 accepted",
+    "source of kind 2 accepted",
+    "sink of kind 1 accepted",
+    "sink of kind 3 accepted",
+    "source of kind 1 5,5",
+    "source of kind 3 5,5",
+    "source a wire 5,5",
+    "sink of kind 0 5,7",
+    "sink of kind 2 5,7",
+    "sink a wire 5,7",
+    "S line of kind 1 3",
+    "S line of kind 3 3",
+    "S line of a wire 3",
+    "T line of kind 0 3",
+    "T line of kind 2 3",
+    "T line of a wire 3",
+    "out of 15 entries",
+    "out of 16 entries",
+    "out of 17 entries",
+];
+
+/// How often each outcome came.
+#[derive(Default)]
+pub struct Outcomes(Counts);
+
+impl Outcomes {
+    /// Prints the counts.
+    pub fn print(&self) {
+        self.0.print();
+    }
+
+    /// The outcomes of a whole run that did not come.
+    pub fn missing(&self) -> Vec<&'static str> {
+        self.0.missing(&EXPECTED)
+    }
+
+    /// Counts an outcome.
+    pub fn count(&mut self, outcome: impl Into<String>) {
+        self.0.count(outcome);
+    }
+
+    /// Counts how a call ends.
+    pub fn count_call(&mut self, after: &After) {
+        let call = match &after.case {
+            Case::Price { .. } => "price",
+            Case::Search { graph, work, .. } => {
+                self.count_search(after, graph.kind.len(), work);
+                "search"
+            }
+            Case::Route { job, log, .. } => {
+                self.count_route(after, log);
+                self.count_pins(after, job);
+                "route"
+            }
+            Case::Read { text, .. } => {
+                self.count_pin_line(after, text);
+                if text.windows(2).any(|bytes| bytes == b"\nP") {
+                    self.count_tuning_line(after);
+                }
+                "read"
+            }
+            Case::Write { .. } => "write",
+        };
+        let outcome = match after.answer.refusal[..] {
+            [] => format!("{call} accepted"),
+            [number @ (4 | 5), table] => format!("{call} {number},{table}"),
+            [13, place] if call == "price" => format!("{call} 13,{place}"),
+            [number, ..] => format!("{call} {number}"),
+        };
+        self.count(outcome);
+    }
+
+    /// Counts what few searches come to.
+    fn count_search(&mut self, after: &After, nodes: usize, work: &[u64]) {
+        if after.answer.refusal.is_empty() && work[..nodes].iter().any(|far| (1 << 61..1 << 62).contains(far))
+        {
+            self.count("search with a distance over 2^61");
+        }
+        if after.answer.refusal == [13, nodes as u64] {
+            self.count("search 13 with the node count");
+        }
+    }
+
+    /// Counts the kinds of accepted pins, and that of the first pin that its table doesn't allow.
+    fn count_pins(&mut self, after: &After, job: &Job) {
+        let kinds = |pins: &[u16]| -> Vec<u8> {
+            pins.iter().filter_map(|pin| job.kind.get(*pin as usize)).copied().collect()
+        };
+        let (sources, sinks) = (kinds(&job.source), kinds(&job.sink));
+        match after.answer.refusal[..] {
+            [] => {
+                for (name, kind) in [("source", sources[0]), ("sink", sinks[0])] {
+                    self.count(format!("{name} {} accepted", kind_name(kind, "a wire")));
+                }
+            }
+            [5, 5] if sources.len() == job.source.len() => {
+                if let Some(kind) = sources.into_iter().find(|kind| ![0, 2].contains(kind)) {
+                    self.count(format!("source {} 5,5", kind_name(kind, "a wire")));
+                }
+            }
+            [5, 7] if sinks.len() == job.sink.len() => {
+                if let Some(kind) = sinks.into_iter().find(|kind| ![1, 3].contains(kind)) {
+                    self.count(format!("sink {} 5,7", kind_name(kind, "a wire")));
+                }
+            }
+            _ => {}
+        }
+    }
+
+    /// Counts the kind of a pin whose line is refused, as far as the kind may be why.
+    fn count_pin_line(&mut self, after: &After, text: &[u8]) {
+        let [3, line] = after.answer.refusal[..] else { return };
+        match texts::pin(text, line) {
+            Some((b'S', 0 | 2)) | Some((b'T', 1 | 3)) | None => {}
+            Some((letter, kind)) => {
+                self.count(format!("{} line {} 3", letter as char, kind_name(kind, "of a wire")));
+            }
+        }
+    }
+
+    /// Counts how a text with a P line ends, as far as that may be the line's doing.
+    fn count_tuning_line(&mut self, after: &After) {
+        match after.answer.refusal[..] {
+            [] => self.count("P line accepted"),
+            [number @ (1 | 2), line @ (2 | 3)] => self.count(format!("P line {number},{line}")),
+            _ => {}
+        }
+    }
+
+    /// Counts a sound job's tuning, if the job comes to an iteration in which all of it counts.
+    pub fn count_tuning(&mut self, tuning: Tuning, after: &After) {
+        if after.answer.numbers[0] < 3 {
+            return;
+        }
+        let Tuning { first, up, down, step } = tuning;
+        if tuning == Tuning::PLAIN {
+            self.count("tuning plain");
+        } else if after.answer.refusal.is_empty() {
+            self.count("tuning not plain, accepted");
+        }
+        let bounds = [
+            (first == 0, "first 0"),
+            (first == 1_000, "first 1,000"),
+            (up == down, "up as down"),
+            (up == 8, "up 8"),
+        ];
+        for (_, name) in bounds.into_iter().filter(|bound| bound.0) {
+            self.count(format!("tuning {name}"));
+        }
+        self.count(format!("tuning down {down}"));
+        self.count(format!("tuning step {step}"));
+    }
+
+    /// Counts what only long negotiations come to.
+    fn count_route(&mut self, after: &After, log: &[u32]) {
+        let (iteration, words) = (after.answer.numbers[0], after.answer.numbers[2] as usize);
+        if iteration >= 21 {
+            self.count("route at iteration 21 or later");
+        }
+        let log = &log[..words];
+        if logs::records(log).iter().any(|place| log.get(place + 4).is_some_and(|high| *high > 0)) {
+            self.count("route with costs over 32 bits");
+        }
+    }
+
+    /// Counts how a sound job ends.
+    pub fn count_whole(&mut self, after: &After) {
+        let iterations = match after.answer.numbers[0] {
+            0 => "",
+            1 => ", iteration 1",
+            2 => ", iteration 2",
+            3..=5 => ", iteration 3 to 5",
+            6..=20 => ", iteration 6 to 20",
+            _ => ", iteration 21 or later",
+        };
+        self.count(match after.answer.refusal.first() {
+            None => format!("sound job accepted{iterations}"),
+            Some(number) => format!("sound job {number}{iterations}"),
+        });
+    }
+}
+
+/// Words for a pin's kind, the same for all wires.
+fn kind_name(kind: u8, wire: &str) -> String {
+    if kind < 4 {
+        format!("of kind {kind}")
+    } else {
+        String::from(wire)
+    }
+}
