@@ -1,0 +1,234 @@
+/* Calls every function of include/arvumnao.h with answers that are known: worked out by hand, or of the specification's job B.
+ * No two arguments of one type are alike, so that any two of them swapped give another answer. Compiled as C and as C++.
+ */
+#include "arvumnao.h"
+
+#include <stdio.h>
+#include <string.h>
+
+#define COUNT(array) (sizeof(array) / sizeof((array)[0]))
+#define EXPECT(held) expect((held) ? 1 : 0, #held, __LINE__)
+
+/* One entry more than a call fills. */
+enum { OUT = 17 };
+
+/* What stands in every lent entry that a call must leave alone. */
+#define OLD 77
+
+static uint64_t out[OUT];
+static int faults;
+
+static void expect(int held, const char *what, int line)
+{
+    if (held)
+        return;
+    printf("calls.c:%d: not so: %s\n", line, what);
+    faults++;
+}
+
+static void lend_out(void)
+{
+    size_t place;
+    for (place = 0; place < OUT; place++)
+        out[place] = OLD;
+}
+
+/* The refusal with its numbers, the call's own numbers, as many as are given, and 0 in the rest of the 16 entries. */
+static int told(uint64_t refusal, uint64_t first, uint64_t second, const uint64_t *own, size_t count)
+{
+    uint64_t expected[OUT];
+    memset(expected, 0, sizeof expected);
+    expected[0] = refusal;
+    expected[1] = first;
+    expected[2] = second;
+    memcpy(expected + 3, own, count * sizeof own[0]);
+    expected[16] = OLD;
+    return memcmp(out, expected, sizeof expected) == 0;
+}
+
+static int refused(uint64_t refusal, uint64_t first, uint64_t second)
+{
+    return told(refusal, first, second, out, 0);
+}
+
+static void price(void)
+{
+    /* 11 x 40 x (100 + 7 x (9 + 1 - 3)), and document 003's largest */
+    const uint64_t usual = 65560, largest = 3388331423815000u;
+    lend_out();
+    EXPECT(arvumnao_price(5, 7, 9, 3, 11, out, OUT) == 1);
+    EXPECT(told(0, 0, 0, &usual, 1));
+    EXPECT(arvumnao_price(53, 65535, 511, 1, 101179, out, OUT) == 1);
+    EXPECT(told(0, 0, 0, &largest, 1));
+    arvumnao_price(54, 65535, 511, 1, 101179, out, OUT);
+    EXPECT(refused(13, 0, 0));
+    arvumnao_price(53, 65536, 511, 1, 101179, out, OUT);
+    EXPECT(refused(13, 1, 0));
+    arvumnao_price(53, 65535, 512, 1, 101179, out, OUT);
+    EXPECT(refused(13, 2, 0));
+    arvumnao_price(53, 65535, 511, 256, 101179, out, OUT);
+    EXPECT(refused(13, 3, 0));
+    arvumnao_price(53, 65535, 511, 1, 101180, out, OUT);
+    EXPECT(refused(13, 4, 0));
+    lend_out();
+    EXPECT(arvumnao_price(5, 7, 9, 3, 11, out, 15) == 0);
+    EXPECT(out[0] == OLD && out[14] == OLD);
+}
+
+/* Node 0 is the tree; 1 costs 3 x 20 x (100 + 10 x 3), 2 costs 2 x 40 x 100, 3 costs 5 x 20 x (100 + 10 x 5); no edge leads to 4. */
+static void search(void)
+{
+    const uint8_t kind[] = { 0, 4, 5, 1, 6 };
+    const uint8_t capacity[] = { 1, 2, 1, 3, 9 };
+    const uint32_t first_edge[] = { 0, 2, 3, 4, 4, 4 };
+    const uint16_t edge_target[] = { 1, 2, 3, 3 };
+    const uint32_t history[] = { 1, 3, 2, 5, 8, 0 };
+    const uint16_t others[] = { 6, 4, 0, 7, 2, 999, 999 };
+    const uint8_t in_tree[] = { 1, 0, 0, 0, 0, 5, 5, 5 };
+    uint64_t work[41];
+    uint64_t expected[41] = { 0, 7800, 8000, 22800, UINT64_MAX };
+    work[40] = expected[40] = OLD;
+    lend_out();
+    EXPECT(arvumnao_search(kind, COUNT(kind), capacity, COUNT(capacity), first_edge, COUNT(first_edge),
+                           edge_target, COUNT(edge_target), 10, work, COUNT(work), history, COUNT(history),
+                           others, COUNT(others), in_tree, COUNT(in_tree), out, OUT) == 1);
+    EXPECT(refused(0, 0, 0));
+    EXPECT(memcmp(work, expected, sizeof work) == 0);
+    arvumnao_search(kind, 5, capacity, 5, first_edge, 6, edge_target, 4, 10, work, 39, history, 6, others, 7,
+                    in_tree, 8, out, OUT);
+    EXPECT(refused(6, 40, 0));
+    arvumnao_search(kind, 5, capacity, 5, first_edge, 6, edge_target, 4, 10, work, 41, history, 4, others, 7,
+                    in_tree, 8, out, OUT);
+    EXPECT(refused(13, 4, 0));
+    arvumnao_search(kind, 5, capacity, 5, first_edge, 6, edge_target, 4, 10, work, 41, history, 6, others, 3,
+                    in_tree, 8, out, OUT);
+    EXPECT(refused(13, 3, 0));
+    arvumnao_search(kind, 5, capacity, 5, first_edge, 6, edge_target, 4, 10, work, 41, history, 6, others, 7,
+                    in_tree, 2, out, OUT);
+    EXPECT(refused(13, 2, 0));
+    EXPECT(memcmp(work, expected, sizeof work) == 0);
+}
+
+/* Two nets that share wire 2 and never settle. It costs history x 20 x (100 + factor), with histories 1, 3, 5, 7 by a step of 2 and
+ * factors 0, 100, 233, 543 by 7 / 3; the sinks cost 2,000 and 1,900. */
+static void route(void)
+{
+    const uint8_t kind[] = { 0, 2, 4, 1, 3 };
+    const uint8_t capacity[] = { 2, 1, 1, 3, 1 };
+    const uint32_t first_edge[] = { 0, 1, 2, 4, 4, 4 };
+    const uint16_t edge_target[] = { 2, 2, 3, 4 };
+    const uint16_t source[] = { 0, 1 };
+    const uint32_t first_sink[] = { 0, 1, 2 };
+    const uint16_t sink[] = { 3, 4 };
+    const uint64_t ended[] = { 4, 8, 72 };
+    const uint32_t expected[73] = {
+        1, 0, 3, 4000,  0, 3, 0, 2, 3, 1, 1, 4, 3900,  0, 3, 1, 2, 4,
+        2, 0, 3, 14000, 0, 3, 0, 2, 3, 2, 1, 4, 13900, 0, 3, 1, 2, 4,
+        3, 0, 3, 35300, 0, 3, 0, 2, 3, 3, 1, 4, 35200, 0, 3, 1, 2, 4,
+        4, 0, 3, 92020, 0, 3, 0, 2, 3, 4, 1, 4, 91920, 0, 3, 1, 2, 4, OLD,
+    };
+    const uint64_t cleared[40] = { 0 };
+    uint64_t work[41];
+    uint32_t log[73];
+    memset(work, 9, sizeof work);
+    work[40] = OLD;
+    log[72] = OLD;
+    lend_out();
+    EXPECT(arvumnao_route(kind, COUNT(kind), capacity, COUNT(capacity), first_edge, COUNT(first_edge),
+                          edge_target, COUNT(edge_target), source, COUNT(source), first_sink, COUNT(first_sink),
+                          sink, COUNT(sink), 4, 100, 7, 3, 2, work, COUNT(work), log, COUNT(log), out, OUT) == 1);
+    EXPECT(told(9, 4, 1, ended, 3));
+    EXPECT(memcmp(log, expected, sizeof log) == 0);
+    EXPECT(memcmp(work, cleared, sizeof cleared) == 0 && work[40] == OLD);
+    arvumnao_route(kind, 5, capacity, 5, first_edge, 6, edge_target, 4, source, 2, first_sink, 3, sink, 2,
+                   4, 100, 7, 3, 2, work, 39, log, 73, out, OUT);
+    EXPECT(refused(6, 40, 0));
+    arvumnao_route(kind, 5, capacity, 5, first_edge, 6, edge_target, 4, source, 2, first_sink, 3, sink, 2,
+                   4, 100, 7, 3, 2, work, 41, log, 8, out, OUT);
+    EXPECT(out[0] == 8 && out[1] == 1 && out[2] == 0 && out[3] == 1 && out[4] == 0 && out[5] == 0);
+}
+
+/* Job B with capacities and a tuning of its own, read into tables longer than it needs. */
+static const char job[] = "F,6,6,2,9\nP,100,7,3,2\nN,0,0,2\nN,1,0,3\nN,2,4,1\nN,3,5,4\nN,4,1,5\nN,5,1,6\n"
+                          "E,0,2\nE,0,3\nE,1,2\nE,2,4\nE,2,5\nE,3,4\nS,0,0\nT,0,4\nS,1,1\nT,1,5\n";
+
+static uint8_t kind_read[7], capacity_read[8], text_read[sizeof job - 1];
+static uint32_t first_edge_read[9], first_sink_read[5];
+static uint16_t edge_target_read[10], source_read[4], sink_read[3];
+
+/* Reads it into tables of these lengths. */
+static uint32_t read_job(size_t kind, size_t capacity, size_t first_edge, size_t edge_target, size_t source,
+                         size_t first_sink, size_t sink)
+{
+    return arvumnao_read(text_read, sizeof text_read, kind_read, kind, capacity_read, capacity, first_edge_read,
+                         first_edge, edge_target_read, edge_target, source_read, source, first_sink_read,
+                         first_sink, sink_read, sink, out, OUT);
+}
+
+static void read_text(void)
+{
+    const uint64_t counts[] = { 6, 6, 2, 2, 9, 100, 7, 3, 2 };
+    const uint8_t kind[] = { 0, 0, 4, 5, 1, 1, 255 }, capacity[] = { 2, 3, 1, 4, 5, 6, 255, 255 };
+    const uint32_t first_edge[] = { 0, 2, 3, 5, 6, 6, 6, UINT32_MAX, UINT32_MAX };
+    const uint16_t edge_target[] = { 2, 3, 2, 4, 5, 4, 65535, 65535, 65535, 65535 };
+    const uint16_t source[] = { 0, 1, 65535, 65535 }, sink[] = { 4, 5, 65535 };
+    const uint32_t first_sink[] = { 0, 1, 2, UINT32_MAX, UINT32_MAX };
+    memcpy(text_read, job, sizeof text_read);
+    memset(kind_read, 255, sizeof kind_read);
+    memset(capacity_read, 255, sizeof capacity_read);
+    memset(first_edge_read, 255, sizeof first_edge_read);
+    memset(edge_target_read, 255, sizeof edge_target_read);
+    memset(source_read, 255, sizeof source_read);
+    memset(first_sink_read, 255, sizeof first_sink_read);
+    memset(sink_read, 255, sizeof sink_read);
+    lend_out();
+    EXPECT(read_job(7, 8, 9, 10, 4, 5, 3) == 1);
+    EXPECT(told(0, 0, 0, counts, 9));
+    EXPECT(memcmp(kind_read, kind, sizeof kind) == 0);
+    EXPECT(memcmp(capacity_read, capacity, sizeof capacity) == 0);
+    EXPECT(memcmp(first_edge_read, first_edge, sizeof first_edge) == 0);
+    EXPECT(memcmp(edge_target_read, edge_target, sizeof edge_target) == 0);
+    EXPECT(memcmp(source_read, source, sizeof source) == 0);
+    EXPECT(memcmp(first_sink_read, first_sink, sizeof first_sink) == 0);
+    EXPECT(memcmp(sink_read, sink, sizeof sink) == 0);
+    EXPECT(read_job(5, 8, 9, 10, 4, 5, 3) == 1 && refused(4, 1, 0));
+    EXPECT(read_job(7, 5, 9, 10, 4, 5, 3) == 1 && refused(4, 2, 0));
+    EXPECT(read_job(7, 8, 6, 10, 4, 5, 3) == 1 && refused(4, 3, 0));
+    EXPECT(read_job(7, 8, 9, 5, 4, 5, 3) == 1 && refused(4, 4, 0));
+    EXPECT(read_job(7, 8, 9, 10, 1, 5, 3) == 1 && refused(4, 5, 0));
+    EXPECT(read_job(7, 8, 9, 10, 4, 2, 3) == 1 && refused(4, 6, 0));
+    EXPECT(read_job(7, 8, 9, 10, 4, 5, 1) == 1 && refused(4, 7, 0));
+    text_read[16] = '9';
+    EXPECT(read_job(7, 8, 9, 10, 4, 5, 3) == 1 && refused(2, 2, 0));
+}
+
+/* The routes of job B's log. */
+static void write_routes(void)
+{
+    const uint32_t log[] = {
+        1, 0, 4, 4000, 0, 3, 0, 2, 4, 1, 1, 5, 4000, 0, 3, 1, 2, 5,
+        2, 0, 4, 6000, 0, 3, 0, 3, 4, 2, 1, 5, 6000, 0, 3, 1, 2, 5,
+    };
+    const char routes[] = "R,2,4\nB,0,0,3\nB,0,3,4\nB,1,1,2\nB,1,2,5\n";
+    const uint64_t bytes = sizeof routes - 1;
+    uint8_t buffer[50];
+    memset(buffer, OLD, sizeof buffer);
+    lend_out();
+    EXPECT(arvumnao_write(log, COUNT(log), buffer, COUNT(buffer), out, OUT) == 1);
+    EXPECT(told(0, 0, 0, &bytes, 1));
+    EXPECT(memcmp(buffer, routes, bytes) == 0 && buffer[bytes] == OLD);
+    arvumnao_write(log, 35, buffer, COUNT(buffer), out, OUT);
+    EXPECT(refused(10, 27, 0));
+    arvumnao_write(log, COUNT(log), buffer, 37, out, OUT);
+    EXPECT(refused(11, 38, 0));
+}
+
+int main(void)
+{
+    price();
+    search();
+    route();
+    read_text();
+    write_routes();
+    return faults != 0;
+}

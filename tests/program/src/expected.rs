@@ -1,0 +1,109 @@
+//! What the program must print, by the plain reader, router and writer.
+
+use job::Job;
+
+/// Bytes lent for the job text, and as many each for routes, log and work.
+pub const BYTES: usize = 65_536;
+/// Nodes, edges, nets and sinks for which the program has tables.
+pub const NODES: usize = 1_024;
+pub const EDGES: usize = 8_192;
+pub const NETS: usize = 512;
+pub const SINKS: usize = 4_096;
+/// Words of the log, of 4 bytes each.
+pub const WORDS: usize = BYTES / 4;
+/// Entries of the work slice, of 8 bytes each.
+const ENTRIES: usize = BYTES / 8;
+
+/// The routes text, or the line of the refusal: 12, then what the reader, the router and the writer refuse.
+pub fn printed(input: &[u8]) -> Vec<u8> {
+    routes(input).unwrap_or_else(|refusal| refusal_line(&refusal))
+}
+
+/// `X,` and the refusal's numbers.
+fn refusal_line(refusal: &[u64]) -> Vec<u8> {
+    let numbers: Vec<String> = refusal.iter().map(u64::to_string).collect();
+    format!("X,{}\n", numbers.join(",")).into_bytes()
+}
+
+fn routes(input: &[u8]) -> Result<Vec<u8>, Vec<u64>> {
+    if input.len() > BYTES {
+        return Err(vec![12, BYTES as u64]);
+    }
+    let job = read(input)?;
+    let log = route(&job)?;
+    let mut buffer = vec![0; BYTES];
+    let bytes = numbers(plain::write(&log, &mut buffer))?[0];
+    buffer.truncate(bytes as usize);
+    Ok(buffer)
+}
+
+/// The job of a text, if the program's tables can hold it.
+fn read(text: &[u8]) -> Result<Job, Vec<u64>> {
+    let mut job = Job::unread([NODES, NODES, NODES + 1, EDGES, NETS, NETS + 1, SINKS]);
+    let answer = plain::read(
+        text,
+        &mut job.kind,
+        &mut job.capacity,
+        &mut job.first_edge,
+        &mut job.edge_target,
+        &mut job.source,
+        &mut job.first_sink,
+        &mut job.sink,
+    );
+    job.take_numbers(&numbers(answer)?);
+    Ok(job)
+}
+
+/// The words used of a job's log.
+fn route(job: &Job) -> Result<Vec<u32>, Vec<u64>> {
+    let mut work = vec![0; ENTRIES];
+    let mut log = vec![0; WORDS];
+    let answer = plain::route(
+        &job.kind,
+        &job.capacity,
+        &job.first_edge,
+        &job.edge_target,
+        &job.source,
+        &job.first_sink,
+        &job.sink,
+        job.limit,
+        job.tuning.first,
+        job.tuning.up,
+        job.tuning.down,
+        job.tuning.step,
+        &mut work,
+        &mut log,
+    );
+    let words = numbers(answer)?[2];
+    log.truncate(words as usize);
+    Ok(log)
+}
+
+/// A call's own numbers, or its refusal.
+fn numbers(answer: plain::Answer) -> Result<Vec<u64>, Vec<u64>> {
+    if answer.refusal.is_empty() {
+        Ok(answer.numbers)
+    } else {
+        Err(answer.refusal)
+    }
+}
+
+#[cfg(test)]
+mod tests {
+    use super::*;
+
+    const JOB_B: &str = include_str!("../../../examples/job_b.txt");
+
+    fn prints(input: &str, output: &str) {
+        assert_eq!(String::from_utf8(printed(input.as_bytes())).unwrap(), output);
+    }
+
+    #[test]
+    fn samples_of_the_specification() {
+        prints(JOB_B, "R,2,4\nB,0,0,3\nB,0,3,4\nB,1,1,2\nB,1,2,5\n");
+        prints(&JOB_B.replace("F,6,6,2,2", "F,6,6,2,1"), "X,9,1,1\n");
+        prints(&JOB_B.replace("F,6,6,2,2", "F,6,6,2,101"), "X,2,1\n");
+        prints(&JOB_B.replace("T,1,5", "T,1,1"), "X,3,17\n");
+        prints("", "X,1,1\n");
+    }
+}
