@@ -106,11 +106,14 @@ static void search(void)
     arvumnao_search(kind, 5, capacity, 5, first_edge, 6, edge_target, 4, 10, work, 41, history, 6, others, 7,
                     in_tree, 2, out, OUT);
     EXPECT(refused(13, 2, 0));
+    arvumnao_search(kind, 0, capacity, 5, first_edge, 6, edge_target, 4, 10, work, 41, history, 6, others, 7,
+                    in_tree, 8, out, OUT);
+    EXPECT(refused(5, 1, 0));
     EXPECT(memcmp(work, expected, sizeof work) == 0);
 }
 
 /* Two nets that share wire 2 and never settle. It costs history x 20 x (100 + factor), with histories 1, 3, 5, 7 by a step of 2 and
- * factors 0, 100, 233, 543 by 7 / 3; the sinks cost 2,000 and 1,900. */
+ * factors 0, 100, 233, 543 by 7 / 3; the sinks cost 2,000 and 1,900. One net alone takes both sinks and settles. */
 static void route(void)
 {
     const uint8_t kind[] = { 0, 2, 4, 1, 3 };
@@ -120,13 +123,15 @@ static void route(void)
     const uint16_t source[] = { 0, 1 };
     const uint32_t first_sink[] = { 0, 1, 2 };
     const uint16_t sink[] = { 3, 4 };
-    const uint64_t ended[] = { 4, 8, 72 };
+    const uint32_t one_net[] = { 0, 2 };
+    const uint64_t ended[] = { 4, 8, 72 }, begun[] = { 1, 0, 0 }, settled[] = { 1, 2, 17 };
     const uint32_t expected[73] = {
         1, 0, 3, 4000,  0, 3, 0, 2, 3, 1, 1, 4, 3900,  0, 3, 1, 2, 4,
         2, 0, 3, 14000, 0, 3, 0, 2, 3, 2, 1, 4, 13900, 0, 3, 1, 2, 4,
         3, 0, 3, 35300, 0, 3, 0, 2, 3, 3, 1, 4, 35200, 0, 3, 1, 2, 4,
         4, 0, 3, 92020, 0, 3, 0, 2, 3, 4, 1, 4, 91920, 0, 3, 1, 2, 4, OLD,
     };
+    const uint32_t joined[] = { 1, 0, 4, 3900, 0, 3, 0, 2, 4, 1, 0, 3, 2000, 0, 2, 2, 3 };
     const uint64_t cleared[40] = { 0 };
     uint64_t work[41];
     uint32_t log[73];
@@ -145,7 +150,14 @@ static void route(void)
     EXPECT(refused(6, 40, 0));
     arvumnao_route(kind, 5, capacity, 5, first_edge, 6, edge_target, 4, source, 2, first_sink, 3, sink, 2,
                    4, 100, 7, 3, 2, work, 41, log, 8, out, OUT);
-    EXPECT(out[0] == 8 && out[1] == 1 && out[2] == 0 && out[3] == 1 && out[4] == 0 && out[5] == 0);
+    EXPECT(told(8, 1, 0, begun, 3));
+    arvumnao_route(kind, 0, capacity, 5, first_edge, 6, edge_target, 4, source, 2, first_sink, 3, sink, 2,
+                   4, 100, 7, 3, 2, work, 41, log, 73, out, OUT);
+    EXPECT(refused(5, 1, 0));
+    arvumnao_route(kind, 5, capacity, 5, first_edge, 6, edge_target, 4, source, 1, one_net, 2, sink, 2,
+                   4, 100, 7, 3, 2, work, 41, log, 73, out, OUT);
+    EXPECT(told(0, 0, 0, settled, 3));
+    EXPECT(memcmp(log, joined, sizeof joined) == 0);
 }
 
 /* Job B with capacities and a tuning of its own, read into tables longer than it needs. */
