@@ -64,10 +64,16 @@ impl Run {
     }
 }
 
-/// Says how two answers differ, with the beginning of the text.
+/// Says where two answers part, with the beginning of the text.
 fn difference(text: &[u8], way: Way, expected: &[u8], printed: &[u8]) -> String {
-    let (expected, printed, bytes) = (shown(expected, 200), shown(printed, 200), text.len());
-    format!("{way:?}, {bytes} bytes\n  plain:   {expected}\n  program: {printed}\n{}", shown(text, 2_000))
+    let same = expected.iter().zip(printed).take_while(|(one, other)| one == other).count();
+    let from = expected[..same].iter().rposition(|byte| *byte == b'\n').map_or(0, |end| end + 1);
+    let bytes = text.len();
+    let (text, expected, printed) =
+        (shown(text, 2_000), shown(&expected[from..], 200), shown(&printed[from..], 200));
+    format!(
+        "{way:?}, {bytes} bytes\n{text}\nfrom byte {from} on\n  plain:   {expected}\n  program: {printed}"
+    )
 }
 
 /// The beginning of a text, on one line.
