@@ -1,7 +1,7 @@
 -- What the loops that clear a part of the work slice, or fill one, keep from turn to turn.
 --     clear-none, clear-more                    a part that is being cleared
 --     cleared-length, -low, -zero, -high        a part that has been cleared, place by place
---     told-price, told-refused                  what the price's answer says
+--     answered-price, answered-refused                  what the price's answer says
 --     first-tree, first-other                   the first distance of a node
 --     Pricing, Starting, Marking                the loops that fill a part, a node a turn
 -- Assumes nothing.
@@ -96,11 +96,11 @@ module _ {kinds capacities histories others : List ℕ} {factor v : ℕ} (ready 
   unfolding priceAt
   reply = reply-priced (getD kinds v 0) factor (getD others v 0) (getD capacities v 0) (getD histories v 0) (ready .bounds)
 
-  pub told-price : {r : PriceAnswer} {p : ℕ} → r ≡ Price p → priceReplyOf r ≡ priceReply (getD kinds v 0) factor (getD others v 0) (getD capacities v 0) (getD histories v 0) → p ≡ priceAt (blockOf kinds capacities [] []) (congestionOf factor histories others) v
-  told-price q e = ap (λ (x : PriceReply). x .price) (sym (ap priceReplyOf q) ∙ e ∙ reply)
+  pub answered-price : {r : PriceAnswer} {p : ℕ} → r ≡ Price p → priceReplyOf r ≡ priceReply (getD kinds v 0) factor (getD others v 0) (getD capacities v 0) (getD histories v 0) → p ≡ priceAt (blockOf kinds capacities [] []) (congestionOf factor histories others) v
+  answered-price q e = ap (λ (x : PriceReply). x .price) (sym (ap priceReplyOf q) ∙ e ∙ reply)
 
-  pub told-refused : {r : PriceAnswer} {place : ℕ} → r ≡ Refused place → priceReplyOf r ≡ priceReply (getD kinds v 0) factor (getD others v 0) (getD capacities v 0) (getD histories v 0) → ⊥
-  told-refused {r} {place} q e =
+  pub answered-refused : {r : PriceAnswer} {place : ℕ} → r ≡ Refused place → priceReplyOf r ≡ priceReply (getD kinds v 0) factor (getD others v 0) (getD capacities v 0) (getD histories v 0) → ⊥
+  answered-refused {r} {place} q e =
       let refusal : 13 ∷ place ∷ [] ≡ [] = ap (λ (x : PriceReply). x .refusal) (sym (ap priceReplyOf q) ∙ e ∙ reply) in
       let z : _≡_ {A = ℕ} 0 1 = cc in
       omega arith

@@ -16,7 +16,7 @@ use Rattle.search.specs.Distance.{far, inTree}
 use Rattle.search.specs.Turn.{Congestion, priceAt, turn}
 use Rattle.search.specs.Replies.{sinkListSound, turnReply, pathReplyOf}
 use Rattle.search.specs.Layout.{distAt, leafAt, priceIn, goalAt, Heap, SameBut, Marked, Cheapest}
-use Rattle.search.specs.Frontier.{BestGoal, LastStep, Stands, Ran}
+use Rattle.search.specs.Frontier.{BestGoal, LastStep, InProgress, Ran}
 use Rattle.search.specs.Ready.{Ready, Prepared, Read}
 use Rattle.search.specs.declared.PathAnswer.{PathAnswer}
 use Rattle.search.specs.declared.PathAnswer.the-variants.{Stuck}
@@ -57,8 +57,8 @@ module _ (ks cs fs ts : List ℕ) (c : Congestion) {marks sinks w₀ w₁ w₂ w
   built-kept : (j : ℕ) → 8 * length ks ≤ j → getD w₃ j 0 ≡ getD w₀ j 0
   built-kept j l = built .high j (omega arith) ∙ marked .same .high j (omega arith) ∙ prepared .high j (omega arith)
 
-  pub join-stands : Stands (graphOf ks fs ts) w₃
-  join-stands = stands-from ks cs fs ts c marks w₃ sound ready built-enough heap built-price built-dist built-leaf
+  pub join-in-progress : InProgress (graphOf ks fs ts) w₃
+  join-in-progress = stands-from ks cs fs ts c marks w₃ sound ready built-enough heap built-price built-dist built-leaf
 
   pub join-goals : {step : ℕ} → Cheapest (length ks) sinks w₃ (length sinks) step → BestGoal (length ks) far w₃ × LastStep (length ks) step w₃
   join-goals cheapest = (

@@ -72,8 +72,8 @@ module _ (b : Block) (price : ℕ → ℕ) (marks sinks : List ℕ) where
     turn-near = rw (ne-eqb (nearestDistance b price marks sinks) far some)
 
     -- the least distance stands at some place
-    nearest-stands : (nearestPlace b price marks sinks < length sinks) × (getD (openDistances b price marks sinks) (nearestPlace b price marks sinks) 0 ≡ nearestDistance b price marks sinks)
-    nearest-stands =
+    nearest-entry : (nearestPlace b price marks sinks < length sinks) × (getD (openDistances b price marks sinks) (nearestPlace b price marks sinks) 0 ≡ nearestDistance b price marks sinks)
+    nearest-entry =
         let os : List ℕ = openDistances b price marks sinks in
         let m : ℕ = nearestDistance b price marks sinks in
         ⊎-elim
@@ -87,18 +87,18 @@ module _ (b : Block) (price : ℕ → ℕ) (marks sinks : List ℕ) where
     nearest-out =
         ⊎-elim
         (λ (q : inTree marks (getD sinks (nearestPlace b price marks sinks) 0) ≡ true).
-        absurd (some (sym (nearest-stands .1) ∙ open-in (nearestPlace b price marks sinks) (nearest-stands .0) q)))
+        absurd (some (sym (nearest-entry .1) ∙ open-in (nearestPlace b price marks sinks) (nearest-entry .0) q)))
         (λ q. q)
         (either-way (inTree marks (getD sinks (nearestPlace b price marks sinks) 0)))
 
     nearest-distance : distance b price marks (getD sinks (nearestPlace b price marks sinks) 0) ≡ nearestDistance b price marks sinks
     nearest-distance =
-        sym (open-out (nearestPlace b price marks sinks) (nearest-stands .0) nearest-out) ∙ nearest-stands .1
+        sym (open-out (nearestPlace b price marks sinks) (nearest-entry .0) nearest-out) ∙ nearest-entry .1
 
     pub nearest : Nearest b price marks sinks (nearestPlace b price marks sinks)
     nearest =
         record {
-          within = nearest-stands .0;
+          within = nearest-entry .0;
           out = nearest-out;
           near =
               rw nearest-distance

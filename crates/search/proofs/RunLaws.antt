@@ -18,7 +18,7 @@ use Rattle.search.specs.Block.{Block, nodes, rowStart}
 use Rattle.search.specs.Paths.{Fair}
 use Rattle.search.specs.Distance.{far, distance}
 use Rattle.search.specs.Layout.{distAt, entryAt, leafAt, TakenOut}
-use Rattle.search.specs.Frontier.{Open, Settled, Waiting, BestGoal, LastStep, Stopped, Stands, Ran, RowReady, Looked, RowDone, unsettled}
+use Rattle.search.specs.Frontier.{Open, Settled, Waiting, BestGoal, LastStep, Stopped, InProgress, Ran, RowReady, Looked, RowDone, unsettled}
 use Rattle.search.proofs.DistanceLaws.{distance-most}
 use Rattle.search.proofs.Exactness.{exact-near}
 use Rattle.search.proofs.BestLaws.{best-same}
@@ -26,14 +26,14 @@ use Rattle.search.proofs.FrontierSteps.{now-settled, still-settled, set
 
 -- what holds between two settlings, of the work slice at the start and now
 pub record Running (b : Block) (step best : ℕ) (w₀ w : List ℕ) : Type 0 where
-  pub stands : Stands b w
+  pub stands : InProgress b w
   pub best-goal : BestGoal (nodes b) best w
   pub last-step : LastStep (nodes b) step w
   pub waiting : (price : ℕ → ℕ) (marks : List ℕ) → Fair b price → Waiting b price marks w₀ → Waiting b price marks w
   pub long : length w ≡ length w₀
   pub high : (j : ℕ) → 5 * nodes b ≤ j → getD w j 0 ≡ getD w₀ j 0
 
-pub run-start : (b : Block) (step : ℕ) (w : List ℕ) → Stands b w → BestGoal (nodes b) far w → LastStep (nodes b) step w → Running b step far w w
+pub run-start : (b : Block) (step : ℕ) (w : List ℕ) → InProgress b w → BestGoal (nodes b) far w → LastStep (nodes b) step w → Running b step far w w
 run-start b step w s g l =
     record {
       stands = s;

@@ -2,7 +2,7 @@
 --     prepared                                  the work slice before the queue is built
 --     waiting-from, stands-from                 a search that stands ready: nothing is settled, and every node waits
 --     best-from                                 then no goal has a distance
---     built-stands, built-goals, search-leaves  the search that has no goals: it stands ready, and what it leaves
+--     built-in-progress, built-goals, search-leaves  the search that has no goals: it stands ready, and what it leaves
 -- Assumes nothing.
 use mathlib.Core.Bool.{false}
 use mathlib.Core.List.{List, [], _∷_, _++_}
@@ -21,7 +21,7 @@ use Rattle.search.specs.Distance.{far, inTree, distances, distance}
 use Rattle.search.specs.Turn.{Congestion, congestionOf, priceAt}
 use Rattle.search.specs.Replies.{cleared}
 use Rattle.search.specs.Layout.{distAt, entryAt, leafAt, priceIn, goalAt, Heap, SameBut, Started, Priced}
-use Rattle.search.specs.Frontier.{Waiting, BestGoal, LastStep, Stands, Ran}
+use Rattle.search.specs.Frontier.{Waiting, BestGoal, LastStep, InProgress, Ran}
 use Rattle.search.specs.Ready.{Ready, Prepared}
 use Rattle.search.proofs.DistanceLaws.{length-distances, distance-top}
 use Rattle.search.proofs.GraphLaws.{distances-same}
@@ -68,7 +68,7 @@ module _ (ks cs fs ts : List ℕ) (c : Congestion) (marks w : List ℕ)
   unfolding priceAt
   waiting-from = start-waiting (graphOf ks fs ts) (priceAt (blockOf ks cs fs ts) c) marks w long heap prices dist leaf
 
-  pub stands-from : Stands (graphOf ks fs ts) w
+  pub stands-from : InProgress (graphOf ks fs ts) w
   stands-from =
       record {
         sound = sound-graph ks cs fs ts c marks sound;
@@ -111,8 +111,8 @@ module _ (ks cs fs ts : List ℕ) (c : Congestion) (marks w₀ w₁ w₂ : List 
   built-leaf : (v : ℕ) → v < length ks → leafAt (length ks) w₂ v ≡ choose (inTree marks v) 0 far
   built-leaf v h = same .high (2 * length ks + v) (omega arith) ∙ prep .leaf v h
 
-  pub built-stands : Stands (graphOf ks fs ts) w₂
-  built-stands = stands-from ks cs fs ts c marks w₂ sound ready built-long heap built-prices built-dist built-leaf
+  pub built-in-progress : InProgress (graphOf ks fs ts) w₂
+  built-in-progress = stands-from ks cs fs ts c marks w₂ sound ready built-long heap built-prices built-dist built-leaf
 
   built-no-goal : (v : ℕ) → v < length ks → goalAt (length ks) w₂ v ≡ 0
   built-no-goal v h = same .high (5 * length ks + v) (omega arith) ∙ prep .no-goals v h

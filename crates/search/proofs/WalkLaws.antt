@@ -4,7 +4,7 @@ use mathlib.Core.Bool.{true, false}
 use mathlib.Core.List.{List, [], _∷_, _++_}
 use mathlib.Core.Logic.{_⊎_, ⊎-elim, inl, inr}
 use mathlib.Core.Path.{_≡_, refl, sym, _∙_}
-use Prim.Native.Nat.{ℕ, zero, suc, _+_, _*_, _≤_, _<_}
+use Prim.Native.Nat.{ℕ, zero, suc, _+_, _*_, _≤_, _<_, suc-le-suc}
 use native.Mathlib.Nat.{not-suc-le-zero, le-of-suc-le-suc, add-zero, le-refl, le-trans, mul-le-mul-right}
 use native.Mathlib.Omega.{arith}
 use lib.ListN.{length, getD}
@@ -48,7 +48,7 @@ record Once (b : Block) (price : ℕ → ℕ) (u : ℕ) (path : List ℕ) (v : �
   once : distinct path′ ≡ true
   less : total price path′ ≤ total price path
 
--- a walk with at most as many nodes as the block has, that costs no more than another and at most the largest price for each node
+-- a walk with at most as many nodes as the block has, that costs no more than another and less than `pathMost`
 pub record Short (b : Block) (price : ℕ → ℕ) (u : ℕ) (path : List ℕ) (v : ℕ) : Type 0 where
   pub path′ : List ℕ
   pub walk : Walk b u path′ v
@@ -57,6 +57,16 @@ pub record Short (b : Block) (price : ℕ → ℕ) (u : ℕ) (path : List ℕ) (
   pub most : pathCost price path′ < pathMost
 
 module _ {b : Block} where
+  -- at most as many nodes as the block has cost less than `pathMost`
+  pub cost-most : (price : ℕ → ℕ) → Fair b price → (path : List ℕ) → ((i : ℕ) → i < length path → getD path i 0 < nodes b) → length path ≤ nodes b → pathCost price path < pathMost
+  unfolding pathCost
+  cost-most price fair [] ns few = omega arith
+  cost-most price fair (u ∷ path) ns few =
+      let sum : total price path ≤ length path * fair .ceiling = total-most price (fair .ceiling) path (λ i l. fair .most (getD path i 0) (ns (suc i) (suc-le-suc l))) in
+      let all : length path * fair .ceiling ≤ nodes b * fair .ceiling = mul-le-mul-right (fair .ceiling) (omega arith) in
+      let room = fair .fits in
+      omega arith
+
   -- the cost leaves the first node out
   pub walk-total : (price : ℕ → ℕ) {u v : ℕ} {path : List ℕ} → Walk b u path v → total price path ≡ price u + pathCost price path
   unfolding total pathCost
@@ -161,6 +171,4 @@ module _ {b : Block} where
         let whole : total price path ≡ price u + pathCost price path = walk-total price w in
         let part : total price (r .path′) ≡ price u + pathCost price (r .path′) = walk-total price (r .walk) in
         let less : total price (r .path′) ≤ total price path = r .less in
-        let sum : total price (r .path′) ≤ length (r .path′) * fair .ceiling = total-most price (fair .ceiling) (r .path′) (λ i l. fair .most (getD (r .path′) i 0) (ns i l)) in
-        let all : length (r .path′) * fair .ceiling ≤ nodes b * fair .ceiling = mul-le-mul-right (fair .ceiling) few in
-        record { path′ = r .path′; walk = r .walk; few = few; less = omega arith; most = let room = fair .fits in omega arith }
+        record { path′ = r .path′; walk = r .walk; few = few; less = omega arith; most = cost-most price fair (r .path′) ns few }

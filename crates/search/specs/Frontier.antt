@@ -86,8 +86,8 @@ pub record PriceReady (kinds capacities histories others : List ℕ) (factor v :
   pub has-others : v < length others
   pub bounds : InBounds (getD kinds v 0) factor (getD others v 0) (getD capacities v 0) (getD histories v 0)
 
--- some search stands so
-pub record Stands (b : Block) (w : List ℕ) : Type 0 where
+-- a search is in progress: with some prices and tree marks this is its work slice
+pub record InProgress (b : Block) (w : List ℕ) : Type 0 where
   pub sound : Graph b
   pub price : ℕ → ℕ
   pub marks : List ℕ

@@ -15,8 +15,6 @@ use Rattle.search.specs.Distance.{LeastCost, inTree, distances}
 use Rattle.search.specs.Turn.{Congestion, priceAt, Turn, joins, stuck, turn}
 use Rattle.search.specs.declared.SearchAnswer.{SearchAnswer}
 use Rattle.search.specs.declared.SearchAnswer.the-variants as s
-use Rattle.search.specs.declared.numbers.Check.{Check}
-use Rattle.search.specs.declared.numbers.Check.the-variants as k
 use Rattle.search.specs.declared.PathAnswer.{PathAnswer}
 use Rattle.search.specs.declared.PathAnswer.the-variants as p
 
@@ -63,13 +61,6 @@ refusalOf table n c marks workLength =
     (choose (ltb workLength (workNeeded n)) (shortWork (workNeeded n))
     (choose (ltb (badNode n c marks) n) (badNumber (badNode n c marks))
     (choose (ltb factorMost (c .factor)) (badNumber n) [])))
-
--- 01's numbers for what the tests before a search find
-abbrev pub checkRefusal : Check → List ℕ
-checkRefusal k.Fine = []
-checkRefusal (k.BadTable table) = badTable table
-checkRefusal (k.ShortWork needed) = shortWork needed
-checkRefusal (k.BadNumber place) = badNumber place
 
 -- ---- the search called alone
 

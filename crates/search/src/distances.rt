@@ -7,7 +7,7 @@ ghost use Rattle.search.specs.Block.{blockOf, graphOf, rowStart};
 ghost use Rattle.search.specs.Distance.{far};
 ghost use Rattle.search.specs.Turn.{congestionOf, priceAt};
 ghost use Rattle.search.specs.Layout.{distAt, priceIn, Heap, Shortened, Relaxed, TakenOut, Started, Priced};
-ghost use Rattle.search.specs.Frontier.{PriceReady, RowReady, RowDone, BestGoal, LastStep, Stands, Ran};
+ghost use Rattle.search.specs.Frontier.{PriceReady, RowReady, RowDone, BestGoal, LastStep, InProgress, Ran};
 use crate::queue;
 use price::PriceAnswer;
 
@@ -177,7 +177,7 @@ pub fn settle_all(
     work: &mut [u64],
     last_step: u64,
 ) -> u64
-    requires { ⌜ Stands (graphOf (now kind) (now «first_edge») (now «edge_target»)) (now work) ⌝ }
+    requires { ⌜ InProgress (graphOf (now kind) (now «first_edge») (now «edge_target»)) (now work) ⌝ }
     requires { ⌜ BestGoal (length (now kind)) far (now work) × LastStep (length (now kind)) «last_step» (now work) ⌝ }
     ensures { λ r. do
       let graph = graphOf (now (kind .entry)) (now («first_edge» .entry)) (now («edge_target» .entry))

@@ -7,7 +7,7 @@ ghost use Rattle.search.specs.Replies.{faultyWithSinks, pathReplyOf, pat
 
 // What a call of the search answers: the distances stand in the work slice, or one of 01's refusals.
 pub enum SearchAnswer {
-    // The distances stand at the beginning of the work slice.
+    // Nothing is refused: the distances stand at the beginning of the work slice.
     Done,
     // 5: this table breaks its rule.
     BadTable(u32),
@@ -35,8 +35,6 @@ mod path;
 mod queue;
 mod run;
 mod tables;
-
-use numbers::Check;
 
 // The tests of tables 1 to 4, then the work slice, then the numbers that price a turn; where none fails the distances of all nodes
 // from the marked ones stand at the beginning of the work slice.
@@ -70,10 +68,10 @@ pub fn search(
         others,
         in_tree,
     ) {
-        Check::BadTable(t) => SearchAnswer::BadTable(t),
-        Check::ShortWork(needed) => SearchAnswer::ShortWork(needed),
-        Check::BadNumber(place) => SearchAnswer::BadNumber(place),
-        Check::Fine => {
+        SearchAnswer::BadTable(t) => SearchAnswer::BadTable(t),
+        SearchAnswer::ShortWork(needed) => SearchAnswer::ShortWork(needed),
+        SearchAnswer::BadNumber(place) => SearchAnswer::BadNumber(place),
+        SearchAnswer::Done => {
             run::distances_from_tree(
                 kind,
                 capacity,
@@ -145,10 +143,10 @@ pub fn cheapest_path(
         others,
         in_tree,
     ) {
-        Check::BadTable(t) => PathAnswer::BadTable(t),
-        Check::ShortWork(needed) => PathAnswer::ShortWork(needed),
-        Check::BadNumber(place) => PathAnswer::BadNumber(place),
-        Check::Fine => run::join(
+        SearchAnswer::BadTable(t) => PathAnswer::BadTable(t),
+        SearchAnswer::ShortWork(needed) => PathAnswer::ShortWork(needed),
+        SearchAnswer::BadNumber(place) => PathAnswer::BadNumber(place),
+        SearchAnswer::Done => run::join(
             kind,
             capacity,
             first_edge,

@@ -4,19 +4,12 @@ ghost use Prim.Native.Nat.{_≤_};
 ghost use lib.Dec.{leb};
 ghost use Rattle.price.specs.Bounds.{othersMost, nodesMost};
 ghost use Rattle.search.specs.Turn.{congestionOf};
-ghost use Rattle.search.specs.Replies.{bounded, historyBounded, nodeSound, badNode, refusalOf, checkRefusal};
+ghost use Rattle.search.specs.Replies.{bounded, historyBounded, nodeSound, badNode, refusalOf, searchRefusal};
 ghost use Rattle.search.specs.Ready.{allBelow};
+use crate::SearchAnswer;
 
 // Row 13's bound of others, as wide as their list.
 const OTHERS_MOST: u16 = 511;
-
-// What the tests before a search find.
-pub enum Check {
-    Fine,
-    BadTable(u32),
-    ShortWork(u64),
-    BadNumber(u32),
-}
 
 // The history, others and tree mark of node v are there and within their bounds.
 fn node_sound(history: &[u32], others: &[u16], in_tree: &[u8], v: usize) -> bool
@@ -126,7 +119,7 @@ fn lists_sound(n: usize, history: &[u32], others: &[u16], in_tree: &[u8]) -> boo
     marks_sound(n, in_tree)
 }
 
-// The first refusal that is due, for the lowest faulty table or 0.
+// The first refusal that is due, for the lowest faulty table or 0; Done where none is.
 pub fn first_refusal(
     table: u32,
     n: usize,
@@ -135,24 +128,24 @@ pub fn first_refusal(
     history: &[u32],
     others: &[u16],
     in_tree: &[u8],
-) -> Check
+) -> SearchAnswer
     requires { ⌜ (table ≡ 0 → n ≤ nodesMost) ⌝ }
     ensures { λ r. do
       let congestion = congestionOf factor (now (history .entry)) (now (others .entry))
-      ⌜ checkRefusal r ≡ refusalOf table n congestion (now («in_tree» .entry)) entries ⌝ }
+      ⌜ searchRefusal r ≡ refusalOf table n congestion (now («in_tree» .entry)) entries ⌝ }
 {
     if 1 <= table {
-        return Check::BadTable(table);
+        return SearchAnswer::BadTable(table);
     }
     if entries < 8 * n {
-        return Check::ShortWork((8 * n) as u64);
+        return SearchAnswer::ShortWork((8 * n) as u64);
     }
     if !lists_sound(n, history, others, in_tree) {
         let bad = bad_node(n, history, others, in_tree);
-        return Check::BadNumber(bad as u32);
+        return SearchAnswer::BadNumber(bad as u32);
     }
     if price::FACTOR_MOST < factor {
-        return Check::BadNumber(n as u32);
+        return SearchAnswer::BadNumber(n as u32);
     }
-    Check::Fine
+    SearchAnswer::Done
 }

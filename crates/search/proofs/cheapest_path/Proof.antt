@@ -3,7 +3,7 @@
 -- Assumes nothing.
 use mathlib.Core.Path.{ap}
 use borrow.Author.Needs.{needs}
-use Rattle.search.specs.Replies.{checkRefusal}
+use Rattle.search.specs.Replies.{searchRefusal}
 use Rattle.search.proofs.PathTestLaws.{path-few, path-refused, path-ready, path-taken}
 use Rattle.search.proofs.AnswersHold.{path-both}
 use Rattle.search.proofs.cheapest_path.Statement.{statement}
@@ -33,13 +33,13 @@ join-requires c κs =
     let tested = c .before .before .before in
     let entry = tested .before .before .before .before .before .before .before .before .before .before .before in
     path-ready _ _ _ _ _ (tested .before .faulty-with-sinks .ensures) _ _ (entry .args .work .now) (tested .first-refusal .ensures)
-    (ap checkRefusal (c .before .enum-told .given .1))
+    (ap searchRefusal (c .before .enum-told .given .1))
 
 returns : tie.Need-returns
 returns c =
     let tested = c .before .before .before in (
       path-refused _ _ _ _ _ (tested .before .faulty-with-sinks .ensures) _ _ _ (tested .first-refusal .ensures)
-          (ap checkRefusal (c .before .t .given .1)),
+          (ap searchRefusal (c .before .t .given .1)),
       tt,
     )
 
@@ -47,7 +47,7 @@ returns-2 : tie.Need-returns-2
 returns-2 c =
     let tested = c .before .before .before in (
       path-refused _ _ _ _ _ (tested .before .faulty-with-sinks .ensures) _ _ _ (tested .first-refusal .ensures)
-          (ap checkRefusal (c .before .needed .given .1)),
+          (ap searchRefusal (c .before .needed .given .1)),
       tt,
     )
 
@@ -55,7 +55,7 @@ returns-3 : tie.Need-returns-3
 returns-3 c =
     let tested = c .before .before .before in (
       path-refused _ _ _ _ _ (tested .before .faulty-with-sinks .ensures) _ _ _ (tested .first-refusal .ensures)
-          (ap checkRefusal (c .before .place .given .1)),
+          (ap searchRefusal (c .before .place .given .1)),
       tt,
     )
 
@@ -68,7 +68,7 @@ returns-4 c =
     let tested = ran .before .before .before .before in
     path-both _ _ _ _ _ _ _ _ (ran .join .result) _
     (path-taken _ _ _ _ _ (tested .before .faulty-with-sinks .ensures) _ _ _ (tested .first-refusal .ensures)
-    (ap checkRefusal (ran .before .before .enum-told .given .1)) (ran .join .ensures))
+    (ap searchRefusal (ran .before .before .enum-told .given .1)) (ran .join .ensures))
 
 pub cheapest-path-spec : {M : Type 1} → statement M
 cheapest-path-spec =

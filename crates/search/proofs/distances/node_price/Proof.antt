@@ -1,7 +1,7 @@
 -- `search::distances::node_price` meets its contract: where every number keeps its bounds, the answer is the price.
 -- Assumes nothing.
 use borrow.Author.Needs.{needs}
-use Rattle.search.proofs.FillLaws.{told-price, told-refused}
+use Rattle.search.proofs.FillLaws.{answered-price, answered-refused}
 use Rattle.search.proofs.distances.node_price.Statement.{statement}
 use Rattle.search.proofs.distances.node_price.Tie as tie
 
@@ -42,10 +42,10 @@ enum-told : tie.Need-enum-told
 enum-told c = search needs
 
 returns : tie.Need-returns
-returns c = absurd (told-refused (c .before .before .before .before .before .before .before .before .before .before .before .pre) (c .enum-told .given .1) (c .before .before .price .ensures))
+returns c = absurd (answered-refused (c .before .before .before .before .before .before .before .before .before .before .before .pre) (c .enum-told .given .1) (c .before .before .price .ensures))
 
 returns-2 : tie.Need-returns-2
-returns-2 c = told-price (c .before .before .before .before .before .before .before .before .before .before .before .before .pre) (c .before .p .given .1) (c .before .before .before .price .ensures)
+returns-2 c = answered-price (c .before .before .before .before .before .before .before .before .before .before .before .before .pre) (c .before .p .given .1) (c .before .before .before .price .ensures)
 
 pub node-price-spec : {M : Type 1} → statement M
 node-price-spec =

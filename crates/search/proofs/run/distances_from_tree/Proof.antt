@@ -3,7 +3,7 @@
 use borrow.Author.Needs.{needs}
 use native.Mathlib.Omega.{arith}
 use Rattle.search.proofs.BlockLaws.{kinds-few}
-use Rattle.search.proofs.SearchLaws.{built-stands, built-goals, search-leaves}
+use Rattle.search.proofs.SearchLaws.{built-in-progress, built-goals, search-leaves}
 use Rattle.search.proofs.run.distances_from_tree.Statement.{statement}
 use Rattle.search.proofs.run.distances_from_tree.Tie as tie
 
@@ -20,7 +20,7 @@ settle-all-requires c κs =
     let start = ready .before .before .before .before .before .before .before .before .before .before in
     let pre = start .pre in
     let heap = built .build .ensures in (
-      built-stands _ _ _ _ _ _ _ _ _ (pre .1 .0) (pre .0) (pre .1 .1) (ready .prepare .ensures) (heap .0) (heap .1),
+      built-in-progress _ _ _ _ _ _ _ _ _ (pre .1 .0) (pre .0) (pre .1 .1) (ready .prepare .ensures) (heap .0) (heap .1),
       built-goals _ _ _ _ _ _ _ _ _ (pre .1 .0) (pre .0) (pre .1 .1) (ready .prepare .ensures) (heap .0) (heap .1),
     )
 

@@ -7,7 +7,7 @@ use Rattle.search.specs.Turn.{congestionOf}
 use Rattle.search.proofs.ReadyLaws.{ready-marks}
 use Rattle.search.proofs.PathTestLaws.{sinks-nodes}
 use Rattle.search.proofs.HaltLaws.{halted-found}
-use Rattle.search.proofs.JoinLaws.{Joining, join-stands, join-goals, join-halts, join-stuck, join-joins}
+use Rattle.search.proofs.JoinLaws.{Joining, join-in-progress, join-goals, join-halts, join-stuck, join-joins}
 use Rattle.search.proofs.run.join.Statement.{statement}
 use Rattle.search.proofs.run.join.Tie as tie
 
@@ -55,7 +55,7 @@ settle-all-requires c κs =
     let prepared = c .before .before .before .before .before .before .before .before .before .before .before .before .before .prepare .ensures in
     let marked = c .before .before .before .before .before .before .before .before .before .mark-goals .ensures in
     let built = c .before .before .before .before .before .build .ensures in
-    (join-stands _ _ _ _ _ (pre .0) (pre .1 .0) (pre .1 .1 .0) prepared marked (built .0) (built .1), join-goals _ _ _ _ _ (pre .0) (pre .1 .0) (pre .1 .1 .0) prepared marked (built .0) (built .1) (c .before .least-price .ensures))
+    (join-in-progress _ _ _ _ _ (pre .0) (pre .1 .0) (pre .1 .1 .0) prepared marked (built .0) (built .1), join-goals _ _ _ _ _ (pre .0) (pre .1 .0) (pre .1 .1 .0) prepared marked (built .0) (built .1) (c .before .least-price .ensures))
 
 mul-clear : tie.Need-mul-clear
 mul-clear c = omega (arith, stopped (c .before .before .before .before) .sound .few)
