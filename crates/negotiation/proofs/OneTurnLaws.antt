@@ -5,7 +5,7 @@ use mathlib.Core.Path.{_≡_, refl, sym, _∙_, ap, subst}
 use Prim.Native.Nat.{ℕ, _+_, _*_, _-_, _^_, _≤_, _<_}
 use native.Mathlib.Omega.{arith}
 use lib.ListN.{length, getD, take, drop, replicate, length-append, length-drop, length-replicate}
-use lib.Seq.{take-at, getD-append-add, getD-drop}
+use lib.Seq.{getD-append-add, getD-drop}
 use Rattle.price.specs.Bounds.{nodesMost}
 use Rattle.search.specs.Block as block
 use Rattle.search.specs.Block.{Block}
@@ -20,7 +20,7 @@ use Rattle.search.proofs.PathTestLaws.{sinks-nodes}
 use Rattle.search.proofs.ReadyLaws.{ready-fair}
 use Rattle.search.proofs.PathToLaws.{path-short, path-nodes}
 use Rattle.search.proofs.TurnLaws.{joins-within, joins-path, joins-near}
-use Rattle.search.proofs.PathReplyLaws.{path-turn, joined-turn, stuck-turn, no-refusal}
+use Rattle.search.proofs.PathReplyLaws.{cleared-front, path-turn, joined-turn, stuck-turn, no-refusal}
 use Rattle.negotiation.specs.Records.{recordOf, words}
 use Rattle.negotiation.specs.Steps.{AllBelow, MarksSet, SameFrom, CanTurn, Skipped, Overflows, Logs}
 use Rattle.negotiation.specs.TariffSteps.{loggedTariff}
@@ -46,11 +46,6 @@ cleared-rest n first work s l =
           let place : 8 * n + (k - length first - length zeros) ≡ k = omega arith in
           getD-past first (zeros ++ drop (8 * n) work) k (omega arith) ∙ getD-past zeros (drop (8 * n) work) (k - length first) (omega arith) ∙ getD-drop (8 * n) work (k - length first - length zeros) 0 ∙ ap (λ (j : ℕ). getD work j 0) place;
     }
-
--- and its beginning is read back
-cleared-front : (n : ℕ) {count : ℕ} (first work : List ℕ) {work′ : List ℕ} → count ≡ length first → work′ ≡ cleared n first work → take count work′ ≡ first
-unfolding cleared
-cleared-front n {count} first work c e = rw e (take-at first (replicate (8 * n - length first) 0 ++ drop (8 * n) work) count (sym c))
 
 -- ---- what the search answers
 

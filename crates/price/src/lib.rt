@@ -8,16 +8,27 @@ ghost use Rattle.price.specs.Replies.{InBounds, priceReplyOf, priceReply
 ghost use Rattle.price.specs.Running.{congestedCost, historicCost};
 ghost use Rattle.price.specs.Tuning.{plain, tuningSound};
 
-// Row 13's bounds, as specs/Bounds.antt has them.
+// The bounds of specs/Bounds.antt. The last kind is a wire of 50 tiles.
 pub const KIND_MOST: u32 = 53;
 
 pub const FACTOR_MOST: u32 = 65535;
 
+// Every net but the one that is routed.
 pub const OTHERS_MOST: u32 = 511;
 
 pub const CAPACITY_MOST: u32 = 255;
 
+// What 99 iterations can add to 1.
 pub const HISTORY_MOST: u32 = 101179;
+
+// The tuning's bounds.
+const FIRST_MOST: u32 = 1000;
+
+const DOWN_MOST: u32 = 4;
+
+const UP_MOST: u32 = 8;
+
+const STEP_MOST: u32 = 2;
 
 // What a call of the price answers: the price, or refusal 13 with the place from 0 of the first number beyond its bounds.
 pub enum PriceAnswer {
@@ -49,25 +60,25 @@ pub fn plain_tuning() -> Tuning
 pub fn tuning_sound(g: Tuning) -> bool
     ensures { λ r. ⌜ r ≡ tuningSound g ⌝ }
 {
-    if 1000 < g.first {
+    if FIRST_MOST < g.first {
         return false;
     }
     if g.down < 1 {
         return false;
     }
-    if 4 < g.down {
+    if DOWN_MOST < g.down {
         return false;
     }
     if g.up < g.down {
         return false;
     }
-    if 8 < g.up {
+    if UP_MOST < g.up {
         return false;
     }
     if g.step < 1 {
         return false;
     }
-    g.step <= 2
+    g.step <= STEP_MOST
 }
 
 // The first running product, b_v in document 003: the base cost of a node of this kind.
