@@ -143,14 +143,14 @@ module _ (a b kind : ℕ) where
   unfolding oneOf
   kind-second n = rw (ne-eqb kind a n)
 
-module _ (a b : ℕ) (kinds ps : List ℕ) where
-  pub pin-bad : (i : ℕ) → i < length ps → oneOf a b (getD kinds (getD ps i 0) 0) ≡ false → pinsOf a b kinds ps ≡ false
+module _ (test : ℕ → Bool) (kinds ps : List ℕ) where
+  pub pin-bad : (i : ℕ) → i < length ps → test (getD kinds (getD ps i 0) 0) ≡ false → pinsOf test kinds ps ≡ false
   unfolding pinsOf
-  pin-bad i h bad = every-none (λ v. oneOf a b (getD kinds v 0)) ps i h bad
+  pin-bad i h bad = every-none (λ v. test (getD kinds v 0)) ps i h bad
 
-  pub pins-all : (i : ℕ) → length ps ≤ i → ((k : ℕ) → k < i → oneOf a b (getD kinds (getD ps k 0) 0) ≡ true) → pinsOf a b kinds ps ≡ true
+  pub pins-all : (i : ℕ) → length ps ≤ i → ((k : ℕ) → k < i → test (getD kinds (getD ps k 0) 0) ≡ true) → pinsOf test kinds ps ≡ true
   unfolding pinsOf
-  pins-all i end all = every-all (λ v. oneOf a b (getD kinds v 0)) ps (λ k l. all k (omega arith))
+  pins-all i end all = every-all (λ v. test (getD kinds v 0)) ps (λ k l. all k (omega arith))
 
 -- ---- the lowest faulty table
 

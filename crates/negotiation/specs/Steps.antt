@@ -16,16 +16,23 @@ use Rattle.search.specs.Tables.{Sound}
 use Rattle.search.specs.Turn.{Congestion, congestionOf, Turn, joins, stuck}
 use Rattle.search.specs.Replies.{nodeSound, sinkListSound}
 use Rattle.negotiation.specs.Job.{Job, nets, jobOf}
-use Rattle.negotiation.specs.Tables.{SoundJob}
+use Rattle.negotiation.specs.Tables.{SoundJob, sourceKind, sinkKind}
 use Rattle.negotiation.specs.Outcome.{unreachableNet, unreachablePlace}
 use Rattle.negotiation.specs.TariffSteps.{loggedTariff}
 use Rattle.negotiation.specs.declared.Terms.{Terms}
+use Rattle.negotiation.specs.declared.pins.Pin.{Pin}
+use Rattle.negotiation.specs.declared.pins.Pin.the-variants.{Source, Sink}
 use Rattle.negotiation.specs.declared.tariff.Tariff.{Tariff}
 use Rattle.negotiation.specs.declared.turns.TurnMade.{TurnMade}
 use Rattle.negotiation.specs.declared.turns.TurnMade.the-variants.{Nothing, Full, Logged}
 use Rattle.negotiation.specs.declared.reach.Reach.{Reach}
 use Rattle.negotiation.specs.declared.reach.Reach.the-variants.{All, Missing}
 use Rattle.negotiation.specs.Records.{Record, recordOf, words, encode, decode, pathNodes}
+
+-- the test of a pin's kind
+abbrev pub pinKind : Pin → ℕ → Bool
+pinKind Source = sourceKind
+pinKind Sink = sinkKind
 
 -- every entry is a node
 abbrev pub AllBelow : ℕ → List ℕ → Type 0

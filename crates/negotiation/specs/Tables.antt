@@ -51,17 +51,25 @@ termsSound t = both (limitSound (t .limit)) (tuningSound (t .tuning))
 unfoldable pub oneOf : ℕ → ℕ → ℕ → Bool
 oneOf a b kind = either (eqb kind a) (eqb kind b)
 
--- every entry of a table is a node of one of two kinds; that it is a node at all is the table's own rule
-unfoldable pub pinsOf : ℕ → ℕ → List ℕ → List ℕ → Bool
-pinsOf a b kinds pins = every (λ v. oneOf a b (getD kinds v 0)) pins
-
 -- "A source must now be of kind 0 or 2"
-abbrev pub sourcePins : List ℕ → List ℕ → Bool
-sourcePins kinds sources = pinsOf 0 2 kinds sources
+abbrev pub sourceKind : ℕ → Bool
+sourceKind kind = oneOf 0 2 kind
 
 -- "and a sink of kind 1 or 3"
+abbrev pub sinkKind : ℕ → Bool
+sinkKind kind = oneOf 1 3 kind
+
+-- the kind of every entry of a table passes the test; that the entry is a node at all is the table's own rule
+unfoldable pub pinsOf : (ℕ → Bool) → List ℕ → List ℕ → Bool
+pinsOf test kinds pins = every (λ v. test (getD kinds v 0)) pins
+
+-- every source is of a source's kind
+abbrev pub sourcePins : List ℕ → List ℕ → Bool
+sourcePins kinds sources = pinsOf sourceKind kinds sources
+
+-- every sink is of a sink's kind
 abbrev pub sinkPins : List ℕ → List ℕ → Bool
-sinkPins kinds sinks = pinsOf 1 3 kinds sinks
+sinkPins kinds sinks = pinsOf sinkKind kinds sinks
 
 -- the lowest of tables 5 to 8 that breaks its rule, 0 where none does
 unfoldable pub faultyNets : List ℕ → List ℕ → List ℕ → List ℕ → Terms → ℕ

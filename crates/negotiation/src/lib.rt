@@ -40,6 +40,8 @@ pub struct Routed {
 
 mod congestion;
 mod flood;
+mod job_terms;
+mod pins;
 mod reach;
 mod records;
 mod tables;
@@ -47,9 +49,13 @@ mod tariff;
 mod trees;
 mod turns;
 
+pub use job_terms::plain_terms;
+pub use job_terms::terms_sound;
+pub use pins::one_of;
+pub use pins::sink_kind;
+pub use pins::source_kind;
 use price::Tuning;
 use reach::Reach;
-pub use tables::one_of;
 
 // The answer of a call that is refused before any turn.
 fn refused(outcome: Outcome) -> Routed

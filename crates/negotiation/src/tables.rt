@@ -9,8 +9,11 @@ ghost use Rattle.search.specs.Block.{blockOf};
 ghost use Rattle.search.specs.Tables.{faultyTable};
 ghost use Rattle.negotiation.specs.Job.{jobOf};
 ghost use Rattle.negotiation.specs.Steps.{AllBelow, Stored, sinksFree};
-ghost use Rattle.negotiation.specs.Tables.{sourcesSound, firstSinksSound, netSound, sinksSound, termsSound, oneOf, pinsOf, faultyNets, faultyJob};
+ghost use Rattle.negotiation.specs.Tables.{sourcesSound, firstSinksSound, netSound, sinksSound, faultyNets, faultyJob};
 use crate::Terms;
+use crate::job_terms;
+use crate::pins;
+use crate::pins::Pin;
 use search::PathAnswer;
 
 fn sources_sound(n: usize, source: &[u16]) -> bool
@@ -135,50 +138,6 @@ fn sinks_sound(n: usize, source: &[u16], first_sink: &[u32], sink: &[u16]) -> bo
     true
 }
 
-// Table 8: the limit and the tuning.
-fn terms_sound(terms: Terms) -> bool
-    ensures { λ r. ⌜ r ≡ termsSound terms ⌝ }
-{
-    if terms.limit < 1 {
-        return false;
-    }
-    if 100 < terms.limit {
-        return false;
-    }
-    price::tuning_sound(terms.tuning)
-}
-
-// The kind of a node, 0 where it is none.
-fn kind_at(kind: &[u8], v: usize) -> u8
-    ensures { λ r. ⌜ r ≡ getD (now (kind .entry)) v 0 ⌝ }
-{
-    if v < kind.len() { kind[v] } else { 0 }
-}
-
-// The kind is one of these two.
-pub fn one_of(kind: u8, one: u8, other: u8) -> bool
-    ensures { λ r. ⌜ r ≡ oneOf one other kind ⌝ }
-{
-    if kind == one {
-        return true;
-    }
-    kind == other
-}
-
-// Each pin is of one of these kinds. That it is a node is its table's own rule, which is tested before.
-fn pins_of(kind: &[u8], pins: &[u16], one: u8, other: u8) -> bool
-    ensures { λ r. ⌜ r ≡ pinsOf one other (now (kind .entry)) (now (pins .entry)) ⌝ }
-{
-    let mut i = 0;
-    while i < pins.len() {
-        if !one_of(kind_at(kind, pins[i] as usize), one, other) {
-            return false;
-        }
-        i += 1;
-    }
-    true
-}
-
 // The lowest of tables 5 to 8 that breaks its rule, 0 where none does.
 fn faulty_nets(kind: &[u8], source: &[u16], first_sink: &[u32], sink: &[u16], terms: Terms) -> u32
     requires { ⌜ length (now kind) ≤ 4096 ⌝ }
@@ -188,7 +147,7 @@ fn faulty_nets(kind: &[u8], source: &[u16], first_sink: &[u32], sink: &[u16], te
     if !sources_sound(n, source) {
         return 5;
     }
-    if !pins_of(kind, source, 0, 2) {
+    if !pins::pins_of(kind, source, Pin::Source) {
         return 5;
     }
     if !first_sinks_sound(source.len(), sink.len(), first_sink) {
@@ -197,10 +156,10 @@ fn faulty_nets(kind: &[u8], source: &[u16], first_sink: &[u32], sink: &[u16], te
     if !sinks_sound(n, source, first_sink, sink) {
         return 7;
     }
-    if !pins_of(kind, sink, 1, 3) {
+    if !pins::pins_of(kind, sink, Pin::Sink) {
         return 7;
     }
-    if !terms_sound(terms) {
+    if !job_terms::terms_sound(terms) {
         return 8;
     }
     0

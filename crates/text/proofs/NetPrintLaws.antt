@@ -1,6 +1,6 @@
 -- The reader takes the printed form of sound tables 5 to 7, and gives these tables.
 -- Assumes nothing.
-use mathlib.Core.Bool.{true, false}
+use mathlib.Core.Bool.{Bool, true, false}
 use mathlib.Core.List.{List, [], _∷_, _++_, append-assoc}
 use mathlib.Core.Logic.{_⊎_, ⊎-elim, inl, inr}
 use mathlib.Core.Path.{_≡_, refl, sym, _∙_, ap, subst}
@@ -18,7 +18,7 @@ use Rattle.price.proofs.TestLaws.{either-way, both-true, both-left, both-right}
 use Rattle.price.proofs.ListLaws.{every-at}
 use Rattle.search.specs.Replies.{sinksMost}
 use Rattle.negotiation.specs.Job.{sinksBetween}
-use Rattle.negotiation.specs.Tables.{netsMost, sourcesSound, firstSinksSound, netSound, sinksSound, oneOf, pinsOf, sourcePins, sinkPins}
+use Rattle.negotiation.specs.Tables.{netsMost, sourcesSound, firstSinksSound, netSound, sinksSound, oneOf, sourceKind, sinkKind, pinsOf, sourcePins, sinkPins}
 use Rattle.negotiation.proofs.JobLaws.{sources-some, sources-few, source-below, firsts-long, firsts-end, firsts-order, firsts-most, net-rule}
 use Rattle.negotiation.proofs.MarkLaws.{below-at, slice-parts}
 use Rattle.text.specs.Lines.{letterS, letterT, taken, line, printLine}
@@ -38,9 +38,9 @@ two-taken letter i v rest h l =
     (both-true (lt-ltb i (10 ^ 6) (omega arith)) (both-true (lt-ltb v (10 ^ 6) (omega arith)) refl))
 
 -- a pin of a sound table is of one of its kinds
-pin-at : (a b : ℕ) (kinds ps : List ℕ) → pinsOf a b kinds ps ≡ true → (i : ℕ) → i < length ps → oneOf a b (getD kinds (getD ps i 0) 0) ≡ true
+pin-at : (test : ℕ → Bool) (kinds ps : List ℕ) → pinsOf test kinds ps ≡ true → (i : ℕ) → i < length ps → test (getD kinds (getD ps i 0) 0) ≡ true
 unfolding pinsOf
-pin-at a b kinds ps all i h = every-at (λ v. oneOf a b (getD kinds v 0)) ps all i h
+pin-at test kinds ps all i h = every-at (λ v. test (getD kinds v 0)) ps all i h
 
 module _ (kinds : List ℕ) (n nets : ℕ) (l : NetLists) (nodes-few : n ≤ nodesMost) (nets-few : nets ≤ netsMost) where
   source-read :
@@ -178,7 +178,7 @@ module _
               (append-assoc (printLine letterT (i ∷ getD ts p 0 ∷ [])) (eachLine letterT i (slice (suc p) (getD fs m 0) ts)) (joined (netAt ss fs ts) m (length ss - m)));
           reads =
               sink-read kinds n (length ss) (listsAt ss fs ts m p) nodes-few nets-few i (getD ts p 0) (textAt ss fs ts m (suc p))
-              (length-take-le m ss few ∙ sym last) (omega arith) node (pin-at 1 3 kinds ts sink-pins p (omega arith))
+              (length-take-le m ss few ∙ sym last) (omega arith) node (pin-at sinkKind kinds ts sink-pins p (omega arith))
               (rw (source-at, now-at) (net-new n (getD ss i 0) (slice (getD fs i 0) p ts) (getD ts p 0) (slice (suc p) (getD fs m 0) ts) (rw parts at net)))
               (omega arith)
               ∙ rw (take-suc ts p 0 (omega arith));
@@ -218,7 +218,7 @@ module _
             ∙ ap (λ (k : ℕ). printLine letterS (m ∷ getD ss m 0 ∷ []) ++ (eachLine letterT m (sinksBetween fs ts m) ++ joined (netAt ss fs ts) k (length ss - (m + 1)))) (sym (add-one m)));
         reads =
             source-read kinds n (length ss) (listsAt ss fs ts m (getD fs m 0)) nodes-few nets-few m (getD ss m 0) (textAt ss fs ts (m + 1) (getD fs m 0))
-            (length-take-le m ss (omega arith)) h (source-below n ss sources-sound m h) (pin-at 0 2 kinds ss source-pins m h) (source-due m h)
+            (length-take-le m ss (omega arith)) h (source-below n ss sources-sound m h) (pin-at sourceKind kinds ss source-pins m h) (source-due m h)
             ∙ rw (length-take-le (getD fs m 0) ts within, add-one, take-suc ss m 0 h, take-suc fs m 0 (omega arith));
       }
 

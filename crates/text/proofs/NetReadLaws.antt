@@ -13,7 +13,7 @@ use Rattle.price.specs.Test.{both}
 use Rattle.price.specs.Lists.{every, has}
 use Rattle.price.proofs.TestLaws.{either-way, both-left, both-right}
 use Rattle.search.specs.Replies.{sinksMost}
-use Rattle.negotiation.specs.Tables.{netsMost, sourcesSound, firstSinksSound, sinksSound, oneOf, pinsOf, sourcePins, sinkPins}
+use Rattle.negotiation.specs.Tables.{netsMost, sourcesSound, firstSinksSound, sinksSound, oneOf, sourceKind, sinkKind, pinsOf, sourcePins, sinkPins}
 use Rattle.negotiation.proofs.NetTableLaws.{sources-all, nets-all}
 use Rattle.text.specs.Lines.{letterS, letterT, printLine}
 use Rattle.text.specs.JobText.{Reading, values, refused, lastOf, pinWithin, sourceLine, sinkOrdered, sinkLine, part, stopped, NetLists, netLists, sinksNow, sourceDue, sinkDue, complete, netEnd, withSource, withSink, nextSource, nextSink, taking, netLine, netLines}
@@ -133,9 +133,9 @@ pinned-none : (kinds : List ℕ) → Pinned kinds [] []
 unfolding pinsOf every
 pinned-none kinds = record { sources-of = refl; sinks-of = refl }
 
-pins-more : (a b : ℕ) (kinds ps : List ℕ) (v : ℕ) → pinsOf a b kinds ps ≡ true → oneOf a b (getD kinds v 0) ≡ true → pinsOf a b kinds (ps ++ (v ∷ [])) ≡ true
+pins-more : (test : ℕ → Bool) (kinds ps : List ℕ) (v : ℕ) → pinsOf test kinds ps ≡ true → test (getD kinds v 0) ≡ true → pinsOf test kinds (ps ++ (v ∷ [])) ≡ true
 unfolding pinsOf
-pins-more a b kinds ps v all one = every-more (λ p. oneOf a b (getD kinds p 0)) ps v all one
+pins-more test kinds ps v all one = every-more (λ p. test (getD kinds p 0)) ps v all one
 
 -- the lists that the reader gives where the text `before` is read and the bytes `bs` follow
 record Ended (kinds : List ℕ) (n nets : ℕ) (before bs : List ℕ) (l : NetLists) (rest : List ℕ) : Type 0 where
@@ -197,7 +197,7 @@ nets-on kinds n nets (suc k) m l l2 at at2 (b ∷ bs) rest g q e =
     more-text (printLine letterS (m ∷ p .s ∷ [])) (source-text g (p .s)) (subst (λ (j : ℕ). b ∷ bs ≡ printLine letterS (j ∷ p .s ∷ []) ++ o .1) count (p .text))
     (nets-on kinds n nets k (m + 1) (netLists (l .sources ++ (p .s ∷ [])) (ends (l .firstSinks) (l .sinks)) (l .sinks)) l2 (at + 1) at2 (o .1) rest
     (with-source g (p .s) (p .node) (omega arith) (source-ready nets m l count (g .long) (p .due)))
-    (record { sources-of = pins-more 0 2 kinds (l .sources) (p .s) (q .sources-of) (p .kind); sinks-of = q .sinks-of })
+    (record { sources-of = pins-more sourceKind kinds (l .sources) (p .s) (q .sources-of) (p .kind); sinks-of = q .sinks-of })
     (rw (p .is) at (o .3))))
     (λ (p : Sunk kinds n nets l (b ∷ bs) (o .0) (o .1)).
     let some : 1 ≤ length (l .sources) = leb-true 1 (length (l .sources)) (p .due) in
@@ -205,7 +205,7 @@ nets-on kinds n nets (suc k) m l l2 at at2 (b ∷ bs) rest g q e =
     more-text (printLine letterT ((length (l .sources) - 1) ∷ p .t ∷ [])) (sink-text g (length (l .sources) - 1) (p .t) last) (p .text)
     (nets-on kinds n nets k m (netLists (l .sources) (l .firstSinks) (l .sinks ++ (p .t ∷ []))) l2 (at + 1) at2 (o .1) rest
     (with-sink g (length (l .sources) - 1) (p .t) last (p .node) (rw (now-is l (length (l .sources) - 1) (g .long ∙ sym last)) at (p .new)) (p .room))
-    (record { sources-of = q .sources-of; sinks-of = pins-more 1 3 kinds (l .sinks) (p .t) (q .sinks-of) (p .kind) })
+    (record { sources-of = q .sources-of; sinks-of = pins-more sinkKind kinds (l .sinks) (p .t) (q .sinks-of) (p .kind) })
     (rw (p .is) at (o .3))))
     (net-line kinds n nets l (b ∷ bs) (o .0) (o .1) (o .2))
 

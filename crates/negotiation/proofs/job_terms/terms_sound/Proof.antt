@@ -1,10 +1,10 @@
--- `tables::terms_sound` meets its contract: the limit by its two bounds, then the answer about the tuning.
+-- `job_terms::terms_sound` meets its contract: the limit by its two bounds, then the answer about the tuning.
 -- Assumes nothing.
 use mathlib.Core.Path.{sym, _∙_}
 use borrow.Author.Needs.{needs}
 use Rattle.negotiation.proofs.NetTableLaws.{terms-low, terms-high, terms-tuning}
-use Rattle.negotiation.proofs.tables.terms_sound.Statement.{statement}
-use Rattle.negotiation.proofs.tables.terms_sound.Tie as tie
+use Rattle.negotiation.proofs.job_terms.terms_sound.Statement.{statement}
+use Rattle.negotiation.proofs.job_terms.terms_sound.Tie as tie
 
 returns : tie.Need-returns
 returns c = sym (terms-low _ (search needs))

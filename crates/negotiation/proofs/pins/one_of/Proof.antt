@@ -1,9 +1,9 @@
--- `tables::one_of` meets its contract, by the law of either kind.
+-- `pins::one_of` meets its contract, by the law of either kind.
 -- Assumes nothing.
 use borrow.Author.Needs.{needs}
 use Rattle.negotiation.proofs.NetTableLaws.{kind-first, kind-second}
-use Rattle.negotiation.proofs.tables.one_of.Statement.{statement}
-use Rattle.negotiation.proofs.tables.one_of.Tie as tie
+use Rattle.negotiation.proofs.pins.one_of.Statement.{statement}
+use Rattle.negotiation.proofs.pins.one_of.Tie as tie
 
 returns : tie.Need-returns
 returns c = kind-first _ _ _ (search needs)

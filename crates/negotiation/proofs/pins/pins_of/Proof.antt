@@ -1,4 +1,4 @@
--- `tables::pins_of` meets its contract. The loop's invariant: every pin passed is of one of the kinds.
+-- `pins::pins_of` meets its contract. The loop's invariant: the kind of every pin passed passes the test.
 -- Assumes nothing.
 use mathlib.Core.Bool.{true}
 use mathlib.Core.Path.{_≡_, sym, _∙_, ap}
@@ -8,16 +8,16 @@ use lib.ListN.{length, getD}
 use borrow.Author.Needs.{needs}
 use borrow.Author.Count.{below-none, below-more}
 use Rattle.search.proofs.KeptLaws.{refused, passed}
-use Rattle.negotiation.specs.Tables.{oneOf}
+use Rattle.negotiation.specs.Steps.{pinKind}
 use Rattle.negotiation.proofs.NetTableLaws.{pin-bad, pins-all}
-use Rattle.negotiation.proofs.tables.pins_of.Statement.{statement}
-use Rattle.negotiation.proofs.tables.pins_of.Tie as tie
+use Rattle.negotiation.proofs.pins.pins_of.Statement.{statement}
+use Rattle.negotiation.proofs.pins.pins_of.Tie as tie
 
 abbrev Inv-loop : tie.InvT-loop
-Inv-loop kind pins one other i₀ i = (k : ℕ) → k < i → oneOf one other (getD kind (getD pins k 0) 0) ≡ true
+Inv-loop kind pins pin i₀ i = (k : ℕ) → k < i → pinKind pin (getD kind (getD pins k 0) 0) ≡ true
 
 abbrev μ-loop : tie.MeasureT-loop
-μ-loop kind pins one other i₀ i = length pins - i
+μ-loop kind pins pin i₀ i = length pins - i
 
 loop-holds : tie.Need-loop-holds Inv-loop μ-loop
 loop-holds c = below-none _
@@ -34,13 +34,15 @@ cast-kind-at c = omega (arith, c .shared-slice-known3 .given (c .before .before 
 kind-at-requires : tie.Need-kind-at-requires Inv-loop μ-loop
 kind-at-requires c κs = search needs
 
-one-of-requires : tie.Need-one-of-requires Inv-loop μ-loop
-one-of-requires c κs = search needs
+pin-kind-requires : tie.Need-pin-kind-requires Inv-loop μ-loop
+pin-kind-requires c κs = search needs
 
 returns : tie.Need-returns Inv-loop μ-loop
 returns c =
-    sym (pin-bad _ _ _ _ (c .before .before .before .before .before .loop .i) (search needs)
-    (refused (c .before .one-of .ensures ∙ ap (oneOf _ _) (c .before .before .kind-at .ensures)) (c .if1 .taken)))
+    let head = c .before .before .before .before .before in
+    let entry = head .before .before .before in
+    sym (pin-bad _ _ _ (head .loop .i) (search needs)
+    (refused (c .before .pin-kind .ensures ∙ ap (pinKind (entry .args .pin)) (c .before .before .kind-at .ensures)) (c .if1 .taken)))
 
 add-i : tie.Need-add-i Inv-loop μ-loop
 add-i c = search needs
@@ -50,11 +52,13 @@ loop-less c = search needs
 
 loop-again : tie.Need-loop-again Inv-loop μ-loop
 loop-again c =
-    below-more _ _ (c .before .before .before .before .before .loop .inv)
-    (passed (c .before .one-of .ensures ∙ ap (oneOf _ _) (c .before .before .kind-at .ensures)) (c .if1 .left))
+    let head = c .before .before .before .before .before in
+    let entry = head .before .before .before in
+    below-more _ _ (head .loop .inv)
+    (passed (c .before .pin-kind .ensures ∙ ap (pinKind (entry .args .pin)) (c .before .before .kind-at .ensures)) (c .if1 .left))
 
 returns-2 : tie.Need-returns-2 Inv-loop μ-loop
-returns-2 c = sym (pins-all _ _ _ _ _ (search needs) (c .before .loop .inv))
+returns-2 c = sym (pins-all _ _ _ _ (search needs) (c .before .loop .inv))
 
 pub pins-of-spec : {M : Type 1} → statement M
 pins-of-spec =
@@ -67,7 +71,7 @@ pins-of-spec =
     shared-slice-read-kind-at
     cast-kind-at
     kind-at-requires
-    one-of-requires
+    pin-kind-requires
     returns
     add-i
     loop-less

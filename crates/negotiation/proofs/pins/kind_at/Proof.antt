@@ -1,10 +1,10 @@
--- `tables::kind_at` meets its contract: past the table's end a list's default is read.
+-- `pins::kind_at` meets its contract: past the table's end a list's default is read.
 -- Assumes nothing.
 use mathlib.Core.Path.{sym}
 use lib.ListN.{List·getD-eq-default}
 use borrow.Author.Needs.{needs}
-use Rattle.negotiation.proofs.tables.kind_at.Statement.{statement}
-use Rattle.negotiation.proofs.tables.kind_at.Tie as tie
+use Rattle.negotiation.proofs.pins.kind_at.Statement.{statement}
+use Rattle.negotiation.proofs.pins.kind_at.Tie as tie
 
 shared-slice-read-result : tie.Need-shared-slice-read-result
 shared-slice-read-result c = search needs

@@ -1,0 +1,28 @@
+// The terms of a job, which a refusal counts as table 8.
+ghost use mathlib.Core.Path.{_≡_};
+ghost use Rattle.negotiation.specs.Job.{plainTerms};
+ghost use Rattle.negotiation.specs.Tables.{termsSound};
+use crate::Terms;
+
+// The terms of a job that asks for no tuning.
+pub fn plain_terms(limit: u32) -> Terms
+    ensures { λ r. ⌜ r ≡ plainTerms limit ⌝ }
+{
+    Terms {
+        limit: limit,
+        tuning: price::plain_tuning(),
+    }
+}
+
+// The limit and each number of the tuning keep their bounds.
+pub fn terms_sound(terms: Terms) -> bool
+    ensures { λ r. ⌜ r ≡ termsSound terms ⌝ }
+{
+    if terms.limit < 1 {
+        return false;
+    }
+    if 100 < terms.limit {
+        return false;
+    }
+    price::tuning_sound(terms.tuning)
+}
