@@ -11,7 +11,7 @@ use lib.Dec.{ltb}
 use lib.ListN.{getD}
 use borrow.Author.Tests.{ltb-false, lt-ltb, eqb-true, eq-eqb, not-true, not-false}
 use Rattle.price.specs.Test.{choose}
-use Rattle.price.specs.Bounds.{limitMost}
+use Rattle.price.specs.Bounds.{limitMost, pathMost}
 use Rattle.price.specs.Lists.{every, has, upTo, firstBelow, countBelow, total}
 use Rattle.price.specs.Prices.{priceOf}
 use Rattle.price.proofs.TestLaws.{either-way, true≢false}
@@ -32,10 +32,11 @@ use Rattle.negotiation.specs.Tables.{SoundJob}
 use Rattle.negotiation.specs.Records.{Record}
 use Rattle.negotiation.specs.Machine.{State, othersOf, usersOf, marksOf, congestionFor, netRecords, treeFrom, afterNets, iterate, overfull, overCount, firstState, stateAfter, iterationAfter, recordsAfter, settlesAt}
 use Rattle.negotiation.specs.Outcome.{hasPath, unreachableNet}
-use Rattle.negotiation.specs.Demand.{ownTree, othersRead, usersRead, historyRead, priceRead, TurnHolds, FinalTrees, AllReachable}
+use Rattle.negotiation.specs.Demand.{ownTree, othersRead, usersRead, historyRead, priceRead, TurnHolds, FinalTrees}
+use Rattle.negotiation.specs.Unreachable.{AllReachable}
 use Rattle.negotiation.proofs.StateLaws.{nets-iteration, nets-factor, nets-histories, state-iteration, state-factor, final-tree}
 use Rattle.negotiation.proofs.JobLaws.{source-node}
-use Rattle.negotiation.proofs.NetLaws.{state-ready, first-ready, turn-fair, NetTurn, net-turn, net-distinct, net-joins}
+use Rattle.negotiation.proofs.NetLaws.{state-ready, first-ready, turn-fair, NetTurn, turn-cost, net-turn, net-distinct, net-joins}
 use Rattle.negotiation.proofs.ReadLaws.{recordsBefore, others-read, own-read, history-read, latest-read, tree-read, ends-read}
 
 -- ---- lists and counts
@@ -227,6 +228,16 @@ module _ (j : Job) (sound : SoundJob j) (all : (i x : ℕ) → i < nets j → ha
       (r .before)
       (tree-as (own-same m hm i (r .net-below) (r .own) (t ∷ r .rest) (r .is))
       (cheapest-same (j .block) (graph-of (j .block) (sound .block-sound)) _ _ (price-same m hm i (r .net-below) (r .own) (t ∷ r .rest) (r .is)) (turn .cheapest)))
+
+  -- and its cost is below the bound on a path's
+  pub turn-below :
+      (most : ℕ) → most ≤ limitMost → (earlier later : List Record) (t : Record) → recordsAfter j (firstState j) most ≡ earlier ++ (t ∷ later) → t .cost < pathMost
+  turn-below most few earlier later t e =
+      let r : RunSplit j most earlier t = run-split j most earlier later t e in
+      let s : State = afterNets j (stateAfter j (firstState j) (r .whole)) (r .net) .state in
+      let hm : r .whole < limitMost = omega (arith, r .below) in
+      let ready = state-ready j sound (r .whole) (r .net) hm in
+      turn-cost j sound s ready (r .net) (r .net-below) (r .own) t (net-turn j sound s ready (r .net) (r .net-below) (r .own) (r .rest) t (r .is))
 
 -- ---- the final trees
 

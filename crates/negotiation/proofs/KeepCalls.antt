@@ -93,7 +93,7 @@ module _ (j : Job) (sound : SoundJob j) (W L : List ℕ) (enough : 8 * nodes j �
   -- what the attempt at a turn did, by its cases
   module _ (at : AtTurn j W L m i left t history users marks work log old start first) (some : 0 < left) (work′ log′ marks′ : List ℕ)
       (kept : SameFrom (8 * nodes j) work work′) (made : TurnMade)
-      (done : TurnDone (nodes j) made (turn (j .block) (priceAt (j .block) (congestionOf (t .factor) (take (nodes j) history) (take (nodes j) users))) (take (nodes j) marks) sinks) t i sinks log (take (nodes j) marks) log′ marks′) where
+      (done : TurnDone made (turn (j .block) (priceAt (j .block) (congestionOf (t .factor) (take (nodes j) history) (take (nodes j) users))) (take (nodes j) marks) sinks) t i sinks log (take (nodes j) marks) log′ marks′) where
     one-less : left ≡ suc (left - 1)
     one-less = omega arith
 
@@ -101,10 +101,10 @@ module _ (j : Job) (sound : SoundJob j) (W L : List ℕ) (enough : 8 * nodes j �
     at-more = subst (λ (k : ℕ). AtTurn j W L m i k t history users marks work log old start first) one-less at
 
     -- the same with the net's list of sinks
-    listed : TurnDone (nodes j) made (turn (j .block) (priceAt (j .block) (congestionOf (t .factor) (take (nodes j) history) (take (nodes j) users))) (take (nodes j) marks) (netSinks j i)) t i (netSinks j i) log (take (nodes j) marks) log′ marks′
+    listed : TurnDone made (turn (j .block) (priceAt (j .block) (congestionOf (t .factor) (take (nodes j) history) (take (nodes j) users))) (take (nodes j) marks) (netSinks j i)) t i (netSinks j i) log (take (nodes j) marks) log′ marks′
     listed =
         subst
-        (λ (l : List ℕ). TurnDone (nodes j) made (turn (j .block) (priceAt (j .block) (congestionOf (t .factor) (take (nodes j) history) (take (nodes j) users))) (take (nodes j) marks) l) t i l log (take (nodes j) marks) log′ marks′)
+        (λ (l : List ℕ). TurnDone made (turn (j .block) (priceAt (j .block) (congestionOf (t .factor) (take (nodes j) history) (take (nodes j) users))) (take (nodes j) marks) l) t i l log (take (nodes j) marks) log′ marks′)
         is done
 
     pub after-nothing :
@@ -114,7 +114,7 @@ module _ (j : Job) (sound : SoundJob j) (W L : List ℕ) (enough : 8 * nodes j �
         subst (λ (x : Tariff). AtTurn j W L m i (left - 1) x history users (marks′ ++ drop (nodes j) marks) work′ log′ old start first) (sym q)
         (keep-skipped j sound W L enough m i (left - 1) t history users marks work log old start first at-more work′ log′ marks′ kept
         (subst
-        (λ (x : TurnMade). TurnDone (nodes j) x (turn (j .block) (priceAt (j .block) (congestionOf (t .factor) (take (nodes j) history) (take (nodes j) users))) (take (nodes j) marks) (netSinks j i)) t i (netSinks j i) log (take (nodes j) marks) log′ marks′)
+        (λ (x : TurnMade). TurnDone x (turn (j .block) (priceAt (j .block) (congestionOf (t .factor) (take (nodes j) history) (take (nodes j) users))) (take (nodes j) marks) (netSinks j i)) t i (netSinks j i) log (take (nodes j) marks) log′ marks′)
         e listed))
 
     pub after-logged :
@@ -124,7 +124,7 @@ module _ (j : Job) (sound : SoundJob j) (W L : List ℕ) (enough : 8 * nodes j �
         subst (λ (x : Tariff). AtTurn j W L m i (left - 1) x history users (marks′ ++ drop (nodes j) marks) work′ log′ old start first) (sym q)
         (keep-logged j sound W L enough m i (left - 1) t history users marks work log old start first at-more work′ log′ marks′ kept t′
         (subst
-        (λ (x : TurnMade). TurnDone (nodes j) x (turn (j .block) (priceAt (j .block) (congestionOf (t .factor) (take (nodes j) history) (take (nodes j) users))) (take (nodes j) marks) (netSinks j i)) t i (netSinks j i) log (take (nodes j) marks) log′ marks′)
+        (λ (x : TurnMade). TurnDone x (turn (j .block) (priceAt (j .block) (congestionOf (t .factor) (take (nodes j) history) (take (nodes j) users))) (take (nodes j) marks) (netSinks j i)) t i (netSinks j i) log (take (nodes j) marks) log′ marks′)
         e listed))
 
     overflows : made ≡ Full → Overflows (turnOf j (congestionFor j (stateFor j m i) i) i (treeFrom j i (at-more .made))) t log log′
@@ -132,7 +132,7 @@ module _ (j : Job) (sound : SoundJob j) (W L : List ℕ) (enough : 8 * nodes j �
         subst (λ (u : Turn). Overflows u t log log′)
         (keep-turn j sound W L enough m i (suc (left - 1)) t history users marks work log old start first at-more)
         (subst
-        (λ (x : TurnMade). TurnDone (nodes j) x (turn (j .block) (priceAt (j .block) (congestionOf (t .factor) (take (nodes j) history) (take (nodes j) users))) (take (nodes j) marks) (netSinks j i)) t i (netSinks j i) log (take (nodes j) marks) log′ marks′)
+        (λ (x : TurnMade). TurnDone x (turn (j .block) (priceAt (j .block) (congestionOf (t .factor) (take (nodes j) history) (take (nodes j) users))) (take (nodes j) marks) (netSinks j i)) t i (netSinks j i) log (take (nodes j) marks) log′ marks′)
         e listed)
 
     pub after-full :

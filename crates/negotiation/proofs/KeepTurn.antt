@@ -17,7 +17,7 @@ use Rattle.negotiation.specs.Job.{Job, nodes, nets, source, netSinks}
 use Rattle.negotiation.specs.Tables.{SoundJob, netsMost}
 use Rattle.negotiation.specs.Records.{Record, recordOf, encode, decode, pathNodes}
 use Rattle.negotiation.specs.Machine.{State, othersOf, marksOf, congestionFor, turnOf, turnsOf, netRecords, treeFrom, firstState, stateAfter, recordsAfter, afterNets}
-use Rattle.negotiation.specs.Steps.{AllBelow, SameFrom, CountReady, Counted, CanTurn, Skipped, Logs}
+use Rattle.negotiation.specs.Steps.{AllBelow, SameFrom, CountReady, Counted, CanTurn, Skipped, TurnLogged}
 use Rattle.negotiation.specs.declared.tariff.Tariff.{Tariff}
 use Rattle.negotiation.proofs.StateLaws.{nets-factor, nets-histories, nets-trees, state-trees}
 use Rattle.negotiation.proofs.JobLaws.{nets-few, limit-few, source-node, sinks-searched}
@@ -164,7 +164,7 @@ module _ (j : Job) (sound : SoundJob j) (work₀ log₀ : List ℕ) (enough : 8 
     -- the turn is logged
     pub keep-logged :
         (t′ : Tariff)
-        → Logs (nodes j) (turn (j .block) (priceAt (j .block) (congestionOf (t .factor) (take (nodes j) history) (take (nodes j) users))) (take (nodes j) marks) (netSinks j i)) t i (netSinks j i) log (take (nodes j) marks) t′ log′ marks′
+        → TurnLogged (turn (j .block) (priceAt (j .block) (congestionOf (t .factor) (take (nodes j) history) (take (nodes j) users))) (take (nodes j) marks) (netSinks j i)) t i (netSinks j i) log (take (nodes j) marks) t′ log′ marks′
         → AtTurn j work₀ log₀ m i left t′ history users (marks′ ++ drop (nodes j) marks) work′ log′ old start first
     keep-logged t′ l =
         let n : ℕ = nodes j in
@@ -206,7 +206,7 @@ module _ (j : Job) (sound : SoundJob j) (work₀ log₀ : List ℕ) (enough : 8 
           marks-is =
               λ v h.
               front-at n marks′ (drop n marks) marks-long v h
-              ∙ l .marks-set .at v h
+              ∙ l .marks-set .at v
               ∙ rw (
                 getD-take n marks v 0 h,
                 mark-now m i (suc left) t history users marks work log old start first at v h,

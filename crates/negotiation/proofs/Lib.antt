@@ -19,7 +19,9 @@ pub mod OneTurnLaws
 pub mod DemandLaws
 pub mod FloodLaws
 pub mod TestedLaws
+pub mod RefusalLaws
 pub mod DemandHolds
+pub mod UnreachableHolds
 pub mod SamplesHold
 pub mod KeepLaws
 pub mod OldLaws

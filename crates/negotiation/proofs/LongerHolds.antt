@@ -8,6 +8,7 @@ use Prim.Native.Nat.{ℕ, _≤_, _<_}
 use native.Mathlib.Omega.{arith}
 use lib.Dec.{leb, ltb}
 use lib.ListN.{length}
+use borrow.Author.Tests.{le-ltb}
 use Rattle.price.specs.Test.{choose}
 use Rattle.price.proofs.TestLaws.{either-way}
 use Rattle.search.specs.Replies.{workNeeded, cleared}
@@ -15,13 +16,13 @@ use Rattle.negotiation.specs.Job.{Job, nodes, nets, netSinks}
 use Rattle.negotiation.specs.Tables.{limitSound, termsSound, faultyNets, faultyJob}
 use Rattle.negotiation.specs.Records.{Record, encode, fitting}
 use Rattle.negotiation.specs.Machine.{othersOf, marksOf, congestionFor, firstState, recordsAfter}
-use Rattle.negotiation.specs.Outcome.{RouteReply, hasPath, unreachableNet, unreachablePlace, iterationsMade, allRecords, endNumbers, refusedReply, negotiated, routeReply}
-use Rattle.negotiation.specs.Longer.{withLimit, Begins, SameAnswer, LimitRaised, LogLengthened}
+use Rattle.negotiation.specs.Outcome.{RouteReply, hasPath, unreachableNet, unreachablePlace, iterationsMade, iterationsRun, allRecords, endNumbers, refusedReply, ranReply, negotiated, routeReply}
+use Rattle.negotiation.specs.Longer.{withLimit, LongEnough, Begins, SameLog, LimitRaised, LimitsCompared, RaisedInPlace, LogLengthened, LogsCompared}
 use Rattle.negotiation.proofs.JobLaws.{limit-least}
 use Rattle.negotiation.proofs.RecordLaws.{fitting-begins, fitting-less, fitting-append}
 use Rattle.negotiation.proofs.EndLaws.{whole-reply}
 use Rattle.negotiation.proofs.LimitLaws.{first-alike, made-alike, all-alike, made-same, made-again, not-accepted, end-settles, settled-end, end-unsettled, raised-records}
-use Rattle.negotiation.proofs.ReplyLogLaws.{Logs, logs-turns, logs-begin, refused-logs, run-logs, full-or-fits, run-same}
+use Rattle.negotiation.proofs.ReplyLogLaws.{LogHas, log-words, log-turns, log-begins, refused-log, ran-log, run-log, full-or-fits, run-same}
 
 -- ---- the refusals before any turn
 
@@ -33,27 +34,56 @@ tested j work log run =
     (choose (ltb (unreachableNet j) (nets j))
     (refusedReply (7 ∷ unreachableNet j ∷ unreachablePlace j ∷ []) (cleared (nodes j) [] work) log) run))
 
--- a job is refused before any turn, by 5, 6 or 7, whatever the log and the run, or it runs
-record Refused (j : Job) (work : List ℕ) : Type 0 where
+-- both work slices are long enough, or neither is
+abbrev Alike : Job → List ℕ → List ℕ → Type 0
+Alike j work work′ = ltb (length work) (workNeeded (nodes j)) ≡ ltb (length work′) (workNeeded (nodes j))
+
+enough-alike : (j : Job) (work work′ : List ℕ) → workNeeded (nodes j) ≤ length work → workNeeded (nodes j) ≤ length work′ → Alike j work work′
+enough-alike j work work′ h k = le-ltb (length work) (workNeeded (nodes j)) h ∙ sym (le-ltb (length work′) (workNeeded (nodes j)) k)
+
+-- a job is refused before any turn, by 5, 6 or 7, in both work slices, whatever the log and the run
+record Refused (j : Job) (work work′ : List ℕ) : Type 0 where
   number : ℕ
   numbers : List ℕ
-  -- the work slice that is left
+  -- the work slices that are left
   left : List ℕ
+  left′ : List ℕ
   number-most : number ≤ 7
   reply : (log : List ℕ) (run : RouteReply) → tested j work log run ≡ refusedReply (number ∷ numbers) left log
+  reply′ : (log : List ℕ) (run : RouteReply) → tested j work′ log run ≡ refusedReply (number ∷ numbers) left′ log
 
-abbrev Runs : Job → List ℕ → Type 0
-Runs j work = (log : List ℕ) (run : RouteReply) → tested j work log run ≡ run
+-- or it runs in both
+record Runs (j : Job) (work work′ : List ℕ) : Type 0 where
+  reply : (log : List ℕ) (run : RouteReply) → tested j work log run ≡ run
+  reply′ : (log : List ℕ) (run : RouteReply) → tested j work′ log run ≡ run
 
-refused-or-runs : (j : Job) (work : List ℕ) → Refused j work ⊎ Runs j work
-refused-or-runs j work =
+refused-or-runs : (j : Job) (work work′ : List ℕ) → Alike j work work′ → Refused j work work′ ⊎ Runs j work work′
+refused-or-runs j work work′ alike =
     ⊎-elim
     (λ (t : leb 1 (faultyJob j) ≡ true).
-    inl (record { number = 5; numbers = faultyJob j ∷ []; left = work; number-most = omega arith; reply = λ log run. rw t }))
+    inl
+    (record {
+      number = 5;
+      numbers = faultyJob j ∷ [];
+      left = work;
+      left′ = work′;
+      number-most = omega arith;
+      reply = λ log run. rw t;
+      reply′ = λ log run. rw t;
+    }))
     (λ (t : leb 1 (faultyJob j) ≡ false).
     ⊎-elim
     (λ (u : ltb (length work) (workNeeded (nodes j)) ≡ true).
-    inl (record { number = 6; numbers = workNeeded (nodes j) ∷ []; left = work; number-most = omega arith; reply = λ log run. rw (t, u) }))
+    inl
+    (record {
+      number = 6;
+      numbers = workNeeded (nodes j) ∷ [];
+      left = work;
+      left′ = work′;
+      number-most = omega arith;
+      reply = λ log run. rw (t, u);
+      reply′ = λ log run. rw (t, sym alike ∙ u);
+    }))
     (λ (u : ltb (length work) (workNeeded (nodes j)) ≡ false).
     ⊎-elim
     (λ (v : ltb (unreachableNet j) (nets j) ≡ true).
@@ -62,13 +92,20 @@ refused-or-runs j work =
       number = 7;
       numbers = unreachableNet j ∷ unreachablePlace j ∷ [];
       left = cleared (nodes j) [] work;
+      left′ = cleared (nodes j) [] work′;
       number-most = omega arith;
       reply = λ log run. rw (t, u, v);
+      reply′ = λ log run. rw (t, sym alike ∙ u, v);
     }))
-    (λ (v : ltb (unreachableNet j) (nets j) ≡ false). inr (λ log run. rw (t, u, v)))
+    (λ (v : ltb (unreachableNet j) (nets j) ≡ false).
+    inr (record { reply = λ log run. rw (t, u, v); reply′ = λ log run. rw (t, sym alike ∙ u, v) }))
     (either-way (ltb (unreachableNet j) (nets j))))
     (either-way (ltb (length work) (workNeeded (nodes j)))))
     (either-way (leb 1 (faultyJob j)))
+
+-- two refusals by the same numbers
+refused-same : (numbers left left′ log log′ : List ℕ) → SameLog (refusedReply numbers left log) (refusedReply numbers left′ log′)
+refused-same numbers left left′ log log′ = record { refusal = refl; iteration = refl; turns = refl; used = refl; words = refl }
 
 reply-tested : (j : Job) (work log : List ℕ) → routeReply j work log ≡ tested j work log (negotiated j work log)
 unfolding routeReply
@@ -82,123 +119,203 @@ tested-alike j low high l h work log run = rw (l, h)
 
 -- ---- a longer log
 
-module _ (j : Job) (work short long : List ℕ) (more : length short ≤ length long) where
+module _ (j : Job) (work short work′ long : List ℕ) (more : length short ≤ length long) where
   -- from the records of which each log has those that fit
-  lengthened : (all : List Record) → ((log : List ℕ) → Logs (routeReply j work log) (fitting (length log) all))
+  lengthened :
+      (all : List Record) → LogHas (routeReply j work short) (fitting (length short) all) → LogHas (routeReply j work′ long) (fitting (length long) all)
       → (((iteration turns : ℕ) → routeReply j work short .refusal ≡ 8 ∷ iteration ∷ turns ∷ [] → ⊥)
-      → SameAnswer (routeReply j work short) (routeReply j work long))
-      → LogLengthened j work short long
-  lengthened all logs same =
+      → SameLog (routeReply j work short) (routeReply j work′ long))
+      → LogLengthened (length short) (routeReply j work short) (routeReply j work′ long)
+  lengthened all has-short has-long same =
+      let a = routeReply j work short in
+      let b = routeReply j work′ long in
       let less = fitting-less (length short) (length long) all more in
       let later = fitting-begins (length short) (fitting (length long) all) in
       record {
         begins =
-            logs-begin (routeReply j work short) (routeReply j work long) (fitting (length short) all) (later .0) (fitting (length long) all)
-            (logs short) (logs long) (later .1 ∙ ap (λ (l : List Record). l ++ later .0) less);
+            log-begins a b (fitting (length short) all) (later .0) (fitting (length long) all) has-short has-long
+            (later .1 ∙ ap (λ (l : List Record). l ++ later .0) less);
         fits =
-            logs-turns (routeReply j work short) (fitting (length short) all) (logs short) ∙ sym less
-            ∙ ap (fitting (length short)) (sym (logs-turns (routeReply j work long) (fitting (length long) all) (logs long)));
+            log-turns a (fitting (length short) all) has-short ∙ sym less
+            ∙ ap (fitting (length short)) (sym (log-turns b (fitting (length long) all) has-long));
         same = λ accepted. same (λ iteration turns e. not-accepted 8 (iteration ∷ turns ∷ []) (sym accepted ∙ e));
         unless-full = same;
       }
 
 -- "The same for two log lengths, up to the last whole record that fits the shorter."
-pub log-lengthened : (j : Job) (work short long : List ℕ) → length short ≤ length long → LogLengthened j work short long
+pub log-lengthened : (j : Job) (work short work′ long : List ℕ) → LogsCompared j work short work′ long
 unfolding fitting
-log-lengthened j work short long more =
+log-lengthened j work short work′ long enough enough′ more =
     ⊎-elim
-    (λ (r : Refused j work).
-    let reply : (log : List ℕ) → routeReply j work log ≡ refusedReply (r .number ∷ r .numbers) (r .left) log =
-    λ log. reply-tested j work log ∙ r .reply log (negotiated j work log) in
-    lengthened j work short long more [] (λ log. rw (reply log) (refused-logs (r .number ∷ r .numbers) (r .left) log))
-    (λ _.
-    rw (reply short, reply long)
-    (record { refusal = refl; iteration = refl; turns = refl; used = refl; work = refl; words = refl })))
-    (λ (r : Runs j work).
-    let reply : (log : List ℕ) → routeReply j work log ≡ negotiated j work log =
-    λ log. reply-tested j work log ∙ r log (negotiated j work log) in
-    lengthened j work short long more (allRecords j) (λ log. rw (reply log) (run-logs j work log))
+    (λ (r : Refused j work work′).
+    let left = reply-tested j work short ∙ r .reply short (negotiated j work short) in
+    let right = reply-tested j work′ long ∙ r .reply′ long (negotiated j work′ long) in
+    lengthened j work short work′ long more []
+    (rw left (refused-log (r .number ∷ r .numbers) (r .left) short)) (rw right (refused-log (r .number ∷ r .numbers) (r .left′) long))
+    (λ _. rw (left, right) (refused-same (r .number ∷ r .numbers) (r .left) (r .left′) short long)))
+    (λ (r : Runs j work work′).
+    let left = reply-tested j work short ∙ r .reply short (negotiated j work short) in
+    let right = reply-tested j work′ long ∙ r .reply′ long (negotiated j work′ long) in
+    lengthened j work short work′ long more (allRecords j) (rw left (run-log j work short)) (rw right (run-log j work′ long))
     (λ unfilled.
-    rw (reply short, reply long)
+    rw (left, right)
     (⊎-elim
-    (λ full. absurd (unfilled (full .0) (full .1) (ap (λ (r : RouteReply). r .refusal) (reply short) ∙ full .2)))
-    (run-same j work short long more)
+    (λ full. absurd (unfilled (full .0) (full .1) (ap (λ (r : RouteReply). r .refusal) left ∙ full .2)))
+    (λ (fits : length (encode (allRecords j)) ≤ length short). run-same j work short work′ long fits (omega arith))
     (full-or-fits j work short))))
-    (refused-or-runs j work)
+    (refused-or-runs j work work′ (enough-alike j work work′ enough enough′))
 
 -- ---- a larger limit
 
 module _ (j : Job) (low high : ℕ) (more : low ≤ high) where
-  raised-begins : (work log : List ℕ) → Begins (negotiated (withLimit j low) work log) (negotiated (withLimit j high) work log)
-  raised-begins work log =
+  -- where the run settles under the smaller, it makes as many iterations under the larger, and ends as accepted
+  settled-made : 1 ≤ low → endNumbers (withLimit j low) ≡ [] → iterationsMade j (firstState j) high ≡ iterationsMade j (firstState j) low
+  settled-made some end = made-same j (firstState j) low high more some (end-settles j low end)
+
+  settled-records : 1 ≤ low → endNumbers (withLimit j low) ≡ [] → allRecords (withLimit j high) ≡ allRecords (withLimit j low)
+  settled-records some end =
+      all-alike j high ∙ ap (recordsAfter j (firstState j)) (settled-made some end) ∙ sym (all-alike j low)
+
+  settled-iterations : 1 ≤ low → endNumbers (withLimit j low) ≡ [] → iterationsRun (withLimit j high) ≡ iterationsRun (withLimit j low)
+  settled-iterations some end =
+      rw (first-alike j low, first-alike j high, made-alike j low, made-alike j high) (settled-made some end)
+
+  settled-numbers : 1 ≤ low → endNumbers (withLimit j low) ≡ [] → endNumbers (withLimit j high) ≡ []
+  settled-numbers some end = settled-end j high (rw (settled-made some end) (end-settles j low end))
+
+  -- in the same slices
+  placed-begins : (work log : List ℕ) → Begins (negotiated (withLimit j low) work log) (negotiated (withLimit j high) work log)
+  placed-begins work log =
       let all = raised-records j low high more in
       let later = fitting-append (length log) (allRecords (withLimit j low)) (all .0) in
-      logs-begin (negotiated (withLimit j low) work log) (negotiated (withLimit j high) work log)
+      log-begins (negotiated (withLimit j low) work log) (negotiated (withLimit j high) work log)
       (fitting (length log) (allRecords (withLimit j low))) (later .0) (fitting (length log) (allRecords (withLimit j high)))
-      (run-logs (withLimit j low) work log) (run-logs (withLimit j high) work log)
+      (run-log (withLimit j low) work log) (run-log (withLimit j high) work log)
       (ap (fitting (length log)) (all .1) ∙ later .1)
 
-  -- a run that settles under the smaller ends so under the larger
-  raised-same : 1 ≤ low → (work log : List ℕ) → negotiated (withLimit j low) work log .refusal ≡ []
+  placed-same :
+      1 ≤ low → (work log : List ℕ) → negotiated (withLimit j low) work log .refusal ≡ []
       → negotiated (withLimit j high) work log ≡ negotiated (withLimit j low) work log
-  raised-same some work log accepted =
+  placed-same some work log accepted =
       ⊎-elim
       (λ full. absurd (not-accepted _ _ (sym accepted ∙ full .2)))
       (λ (fits : length (encode (allRecords (withLimit j low))) ≤ length log).
       let left = whole-reply (withLimit j low) work log (allRecords (withLimit j low)) refl fits in
       let end : endNumbers (withLimit j low) ≡ [] = sym (ap (λ (r : RouteReply). r .refusal) left) ∙ accepted in
-      let settles = end-settles j low end in
-      let same : iterationsMade j (firstState j) high ≡ iterationsMade j (firstState j) low = made-same j (firstState j) low high more some settles in
-      let all : allRecords (withLimit j high) ≡ allRecords (withLimit j low) =
-      all-alike j high ∙ ap (recordsAfter j (firstState j)) same ∙ sym (all-alike j low) in
-      let right = whole-reply (withLimit j high) work log (allRecords (withLimit j low)) all fits in
-      rw (right, left, end, settled-end j high (rw same settles), first-alike j low, first-alike j high, made-alike j low, made-alike j high, same))
+      let right = whole-reply (withLimit j high) work log (allRecords (withLimit j low)) (settled-records some end) fits in
+      rw (right, left, end, settled-numbers some end, settled-iterations some end))
       (full-or-fits (withLimit j low) work log)
 
-  -- one that the smaller ends goes on under the larger
-  raised-on : (work log : List ℕ) (over : ℕ) → negotiated (withLimit j low) work log .refusal ≡ 9 ∷ low ∷ over ∷ [] → low < high
-      → length (encode (allRecords (withLimit j high))) ≤ length log
-      → low < negotiated (withLimit j high) work log .iteration
-  raised-on work log over limited less enough =
-      ⊎-elim
-      (λ full. absurd (let both = sym (full .2) ∙ limited in let z : _≡_ {A = ℕ} 8 9 = cc in omega arith))
-      (λ (fits : length (encode (allRecords (withLimit j low))) ≤ length log).
-      let left = whole-reply (withLimit j low) work log (allRecords (withLimit j low)) refl fits in
-      let right = whole-reply (withLimit j high) work log (allRecords (withLimit j high)) refl enough in
-      let end : endNumbers (withLimit j low) ≡ 9 ∷ low ∷ over ∷ [] = sym (ap (λ (r : RouteReply). r .refusal) left) ∙ limited in
-      rw (right, first-alike j high, made-alike j high)
-      (made-again j (firstState j) low high more (end-unsettled j low 9 (low ∷ over ∷ []) end) less))
-      (full-or-fits (withLimit j low) work log)
+  -- each in its own slices, with room for all its turns
+  module _ (work log work′ log′ : List ℕ)
+      (fits : length (encode (allRecords (withLimit j low))) ≤ length log) (fits′ : length (encode (allRecords (withLimit j high))) ≤ length log′) where
+    left : negotiated (withLimit j low) work log ≡ ranReply (withLimit j low) (endNumbers (withLimit j low)) (iterationsRun (withLimit j low)) (allRecords (withLimit j low)) work log
+    left = whole-reply (withLimit j low) work log (allRecords (withLimit j low)) refl fits
+
+    right : negotiated (withLimit j high) work′ log′ ≡ ranReply (withLimit j high) (endNumbers (withLimit j high)) (iterationsRun (withLimit j high)) (allRecords (withLimit j high)) work′ log′
+    right = whole-reply (withLimit j high) work′ log′ (allRecords (withLimit j high)) refl fits′
+
+    raised-begins : Begins (negotiated (withLimit j low) work log) (negotiated (withLimit j high) work′ log′)
+    raised-begins =
+        let all = raised-records j low high more in
+        rw (left, right)
+        (log-begins _ _ (allRecords (withLimit j low)) (all .0) (allRecords (withLimit j high))
+        (ran-log (withLimit j low) _ _ (allRecords (withLimit j low)) work log) (ran-log (withLimit j high) _ _ (allRecords (withLimit j high)) work′ log′) (all .1))
+
+    raised-same : 1 ≤ low → negotiated (withLimit j low) work log .refusal ≡ [] → SameLog (negotiated (withLimit j low) work log) (negotiated (withLimit j high) work′ log′)
+    raised-same some accepted =
+        let end : endNumbers (withLimit j low) ≡ [] = sym (ap (λ (r : RouteReply). r .refusal) left) ∙ accepted in
+        let same = settled-records some end in
+        let words =
+        log-words (negotiated (withLimit j high) work′ log′) (allRecords (withLimit j high)) (rw right (ran-log (withLimit j high) _ _ (allRecords (withLimit j high)) work′ log′))
+        ∙ ap encode same
+        ∙ sym (log-words (negotiated (withLimit j low) work log) (allRecords (withLimit j low)) (rw left (ran-log (withLimit j low) _ _ (allRecords (withLimit j low)) work log))) in
+        record {
+          refusal = rw (left, right) (settled-numbers some end ∙ sym end);
+          iteration = rw (left, right) (settled-iterations some end);
+          turns = rw (left, right) (ap length same);
+          used = rw (left, right) (ap (λ (rs : List Record). length (encode rs)) same);
+          words = words;
+        }
+
+    raised-on : (over : ℕ) → negotiated (withLimit j low) work log .refusal ≡ 9 ∷ low ∷ over ∷ [] → low < high → low < negotiated (withLimit j high) work′ log′ .iteration
+    raised-on over limited less =
+        let end : endNumbers (withLimit j low) ≡ 9 ∷ low ∷ over ∷ [] = sym (ap (λ (r : RouteReply). r .refusal) left) ∙ limited in
+        rw (right, first-alike j high, made-alike j high)
+        (made-again j (firstState j) low high more (end-unsettled j low 9 (low ∷ over ∷ []) end) less)
+
+-- both replies under two allowed limits: refused alike, or the runs'
+module _ (j : Job) (low high : ℕ) (l : limitSound low ≡ true) (h : limitSound high ≡ true) (work log work′ log′ : List ℕ) where
+  low-refused : (r : Refused (withLimit j low) work work′) → routeReply (withLimit j low) work log ≡ refusedReply (r .number ∷ r .numbers) (r .left) log
+  low-refused r = reply-tested (withLimit j low) work log ∙ r .reply log (negotiated (withLimit j low) work log)
+
+  high-refused : (r : Refused (withLimit j low) work work′) → routeReply (withLimit j high) work′ log′ ≡ refusedReply (r .number ∷ r .numbers) (r .left′) log′
+  high-refused r =
+      reply-tested (withLimit j high) work′ log′ ∙ tested-alike j low high l h work′ log′ _ ∙ r .reply′ log′ (negotiated (withLimit j high) work′ log′)
+
+  low-runs : Runs (withLimit j low) work work′ → routeReply (withLimit j low) work log ≡ negotiated (withLimit j low) work log
+  low-runs r = reply-tested (withLimit j low) work log ∙ r .reply log (negotiated (withLimit j low) work log)
+
+  high-runs : Runs (withLimit j low) work work′ → routeReply (withLimit j high) work′ log′ ≡ negotiated (withLimit j high) work′ log′
+  high-runs r =
+      reply-tested (withLimit j high) work′ log′ ∙ tested-alike j low high l h work′ log′ _ ∙ r .reply′ log′ (negotiated (withLimit j high) work′ log′)
+
+  refused-begins : (r : Refused (withLimit j low) work work′) → Begins (routeReply (withLimit j low) work log) (routeReply (withLimit j high) work′ log′)
+  refused-begins r =
+      rw (low-refused r, high-refused r)
+      (log-begins _ _ [] [] [] (refused-log (r .number ∷ r .numbers) (r .left) log) (refused-log (r .number ∷ r .numbers) (r .left′) log′) refl)
 
 -- "for one job under two allowed limits, with work and log long enough for both, the log under the smaller is the beginning of the log under the larger,
 -- and a job accepted under the smaller has the same log under both"
-pub limit-raised :
-    (j : Job) (low high : ℕ) (work log : List ℕ) → limitSound low ≡ true → limitSound high ≡ true → low ≤ high
-    → LimitRaised j low high work log
-limit-raised j low high work log l h more =
+pub limit-raised : (j : Job) (low high : ℕ) (work log work′ log′ : List ℕ) → LimitsCompared j low high work log work′ log′
+limit-raised j low high work log work′ log′ l h more enough enough′ =
     ⊎-elim
-    (λ (r : Refused (withLimit j low) work).
-    let left : routeReply (withLimit j low) work log ≡ refusedReply (r .number ∷ r .numbers) (r .left) log =
-    reply-tested (withLimit j low) work log ∙ r .reply log (negotiated (withLimit j low) work log) in
-    let right : routeReply (withLimit j high) work log ≡ refusedReply (r .number ∷ r .numbers) (r .left) log =
-    reply-tested (withLimit j high) work log ∙ tested-alike j low high l h work log _ ∙ r .reply log (negotiated (withLimit j high) work log) in
-    let empty = refused-logs (r .number ∷ r .numbers) (r .left) log in
+    (λ (r : Refused (withLimit j low) work work′).
+    let left = low-refused j low high l h work log work′ log′ r in
+    let right = high-refused j low high l h work log work′ log′ r in
     record {
-      begins = rw (left, right) (logs-begin _ _ [] [] [] empty empty refl);
-      same = λ _. right ∙ sym left;
+      begins = refused-begins j low high l h work log work′ log′ r;
+      same = λ _. rw (left, right) (refused-same (r .number ∷ r .numbers) (r .left) (r .left′) log log′);
       goes-on =
-          λ over limited less enough.
+          λ over limited less.
           absurd (let both = sym (ap (λ (r : RouteReply). r .refusal) left) ∙ limited in let z : r .number ≡ 9 = cc in omega (arith, r .number-most));
     })
-    (λ (r : Runs (withLimit j low) work).
-    let left : routeReply (withLimit j low) work log ≡ negotiated (withLimit j low) work log =
-    reply-tested (withLimit j low) work log ∙ r log (negotiated (withLimit j low) work log) in
-    let right : routeReply (withLimit j high) work log ≡ negotiated (withLimit j high) work log =
-    reply-tested (withLimit j high) work log ∙ tested-alike j low high l h work log _ ∙ r log (negotiated (withLimit j high) work log) in
+    (λ (r : Runs (withLimit j low) work work′).
+    let left = low-runs j low high l h work log work′ log′ r in
+    let right = high-runs j low high l h work log work′ log′ r in
     record {
-      begins = rw (left, right) (raised-begins j low high more work log);
-      same = λ accepted. right ∙ raised-same j low high more (limit-least low l) work log (rw left at accepted) ∙ sym left;
+      begins = rw (left, right) (raised-begins j low high more work log work′ log′ (enough .log-long) (enough′ .log-long));
+      same =
+          λ accepted.
+          rw (left, right)
+          (raised-same j low high more work log work′ log′ (enough .log-long) (enough′ .log-long) (limit-least low l) (rw left at accepted));
       goes-on =
-          λ over limited less enough. rw right (raised-on j low high more work log over (rw left at limited) less enough);
+          λ over limited less.
+          rw right
+          (raised-on j low high more work log work′ log′ (enough .log-long) (enough′ .log-long) over (rw left at limited) less);
     })
-    (refused-or-runs (withLimit j low) work)
+    (refused-or-runs (withLimit j low) work work′ (enough-alike j work work′ (enough .work-long) (enough′ .work-long)))
+
+-- the same slices at any length
+pub raised-in-place :
+    (j : Job) (low high : ℕ) (work log : List ℕ) → limitSound low ≡ true → limitSound high ≡ true → low ≤ high
+    → RaisedInPlace j low high work log
+raised-in-place j low high work log l h more =
+    ⊎-elim
+    (λ (r : Refused (withLimit j low) work work).
+    record {
+      begins = refused-begins j low high l h work log work log r;
+      same = λ _. high-refused′ r ∙ sym (low-refused j low high l h work log work log r);
+    })
+    (λ (r : Runs (withLimit j low) work work).
+    let left = low-runs j low high l h work log work log r in
+    let right = high-runs j low high l h work log work log r in
+    record {
+      begins = rw (left, right) (placed-begins j low high more work log);
+      same = λ accepted. right ∙ placed-same j low high more (limit-least low l) work log (rw left at accepted) ∙ sym left;
+    })
+    (refused-or-runs (withLimit j low) work work refl)
+  where
+    high-refused′ : (r : Refused (withLimit j low) work work) → routeReply (withLimit j high) work log ≡ refusedReply (r .number ∷ r .numbers) (r .left) log
+    high-refused′ r =
+        reply-tested (withLimit j high) work log ∙ tested-alike j low high l h work log _ ∙ r .reply log (negotiated (withLimit j high) work log)

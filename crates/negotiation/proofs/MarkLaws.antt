@@ -1,8 +1,7 @@
 -- Marks and users of nodes that are passed one after the other: what one node does, and two lists after each other do what their join does.
 --     below-left, below-right, below-at         nodes of a part
 --     slice-more, slice-parts                   the part of a list that was passed
---     set-none, -one, -append                   marks that are set
---     cleared-none, -one, -append               marks that are cleared
+--     stored-none, -one, -append                entries that are set to a number
 --     dropped-none, -one, -kept, -append        users that go
 --     added-none, -one, -kept, -append          users that come
 --     can-drop-rest, -left, can-add-rest        what was asked for all holds for the rest
@@ -24,7 +23,7 @@ use Rattle.price.specs.Test.{choose, both, either}
 use Rattle.price.specs.Lists.{has}
 use Rattle.price.proofs.TestLaws.{either-way}
 use Rattle.price.proofs.ListLaws.{has-append, has-append-left, has-append-right}
-use Rattle.negotiation.specs.Steps.{AllBelow, MarksSet, MarksCleared, Dropped, Added, CanDrop, CanAddMarked}
+use Rattle.negotiation.specs.Steps.{AllBelow, Stored, Dropped, Added, CanDrop, CanAddMarked}
 
 -- ---- nodes of a part
 
@@ -58,53 +57,32 @@ module _ (from to k : ℕ) (log : List ℕ) (l : from ≤ k) (h : to ≤ length 
       subst (λ (xs : List ℕ). drop from xs ≡ slice from k log ++ slice k to log) (take-append-drop k (take to log))
       (rw short (drop-append-le from (take k log) (drop k (take to log)) (omega arith)))
 
--- ---- marks that are set or cleared
+-- ---- entries that are set to a number
 
 choose-again : (s t : Bool) (a m : ℕ) → choose t a (choose s a m) ≡ choose (either s t) a m
 choose-again true true a m = refl
 choose-again true false a m = refl
 choose-again false t a m = refl
 
-pub set-none : (n : ℕ) (marks : List ℕ) → MarksSet n [] marks marks
+pub stored-none : (a : ℕ) (old : List ℕ) → Stored a [] old old
 unfolding has
-set-none n marks = record { long = refl; at = λ v b. refl }
+stored-none a old = record { long = refl; at = λ v. refl }
 
-pub set-one : (n y : ℕ) (marks : List ℕ) → y < length marks → MarksSet n (y ∷ []) marks (set marks y 1)
+pub stored-one : (a y : ℕ) (old : List ℕ) → y < length old → Stored a (y ∷ []) old (set old y a)
 unfolding has
-set-one n y marks l = record {
-  long = length-set marks y 1;
-  at = λ v b.
+stored-one a y old l = record {
+  long = length-set old y a;
+  at = λ v.
       ⊎-elim
-      (λ (q : eqb v y ≡ true). let e : v ≡ y = eqb-true v y q in rw (q, e) (getD-set-same marks y 1 0 l))
-      (λ (q : eqb v y ≡ false). rw q (getD-set-other marks y v 1 0 (eqb-false v y q)))
+      (λ (q : eqb v y ≡ true). let e : v ≡ y = eqb-true v y q in rw (q, e) (getD-set-same old y a 0 l))
+      (λ (q : eqb v y ≡ false). rw q (getD-set-other old y v a 0 (eqb-false v y q)))
       (either-way (eqb v y));
 }
 
-pub set-append : {n : ℕ} {xs ys marks now later : List ℕ} → MarksSet n xs marks now → MarksSet n ys now later → MarksSet n (xs ++ ys) marks later
-set-append {n} {xs} {ys} {marks} s t = record {
+pub stored-append : {a : ℕ} {xs ys old now later : List ℕ} → Stored a xs old now → Stored a ys now later → Stored a (xs ++ ys) old later
+stored-append {a} {xs} {ys} {old} s t = record {
   long = t .long ∙ s .long;
-  at = λ v b. t .at v b ∙ rw (s .at v b, has-append v xs ys) (choose-again (has v xs) (has v ys) 1 (getD marks v 0));
-}
-
-pub cleared-none : (n : ℕ) (marks : List ℕ) → MarksCleared n [] marks marks
-unfolding has
-cleared-none n marks = record { long = refl; at = λ v b. refl }
-
-pub cleared-one : (n y : ℕ) (marks : List ℕ) → y < length marks → MarksCleared n (y ∷ []) marks (set marks y 0)
-unfolding has
-cleared-one n y marks l = record {
-  long = length-set marks y 0;
-  at = λ v b.
-      ⊎-elim
-      (λ (q : eqb v y ≡ true). let e : v ≡ y = eqb-true v y q in rw (q, e) (getD-set-same marks y 0 0 l))
-      (λ (q : eqb v y ≡ false). rw q (getD-set-other marks y v 0 0 (eqb-false v y q)))
-      (either-way (eqb v y));
-}
-
-pub cleared-append : {n : ℕ} {xs ys marks now later : List ℕ} → MarksCleared n xs marks now → MarksCleared n ys now later → MarksCleared n (xs ++ ys) marks later
-cleared-append {n} {xs} {ys} {marks} s t = record {
-  long = t .long ∙ s .long;
-  at = λ v b. t .at v b ∙ rw (s .at v b, has-append v xs ys) (choose-again (has v xs) (has v ys) 0 (getD marks v 0));
+  at = λ v. t .at v ∙ rw (s .at v, has-append v xs ys) (choose-again (has v xs) (has v ys) a (getD old v 0));
 }
 
 -- ---- users that go
@@ -114,7 +92,7 @@ sub-none u = omega arith
 
 pub dropped-none : (n : ℕ) (users marks : List ℕ) → Dropped n [] users marks users marks
 unfolding has
-dropped-none n users marks = record { users-long = refl; marks-set = set-none n marks; users-at = λ v b. sub-none (getD users v 0) }
+dropped-none n users marks = record { users-long = refl; marks-set = stored-none 1 marks; users-at = λ v b. sub-none (getD users v 0) }
 
 module _ (n y : ℕ) (users marks : List ℕ) (l : y < length marks) where
   -- a node that was not marked
@@ -122,7 +100,7 @@ module _ (n y : ℕ) (users marks : List ℕ) (l : y < length marks) where
   unfolding has
   dropped-one h z = record {
     users-long = length-set users y (getD users y 0 - 1);
-    marks-set = set-one n y marks l;
+    marks-set = stored-one 1 y marks l;
     users-at = λ v b.
         ⊎-elim
         (λ (q : eqb v y ≡ true).
@@ -139,7 +117,7 @@ module _ (n y : ℕ) (users marks : List ℕ) (l : y < length marks) where
   unfolding has
   dropped-kept z = record {
     users-long = refl;
-    marks-set = set-one n y marks l;
+    marks-set = stored-one 1 y marks l;
     users-at = λ v b.
         ⊎-elim
         (λ (q : eqb v y ≡ true).
@@ -159,10 +137,10 @@ drop-again false t m u = rw (← sub-none u)
 pub dropped-append : {n : ℕ} {xs ys users marks usersNow marksNow usersLater marksLater : List ℕ} → Dropped n xs users marks usersNow marksNow → Dropped n ys usersNow marksNow usersLater marksLater → Dropped n (xs ++ ys) users marks usersLater marksLater
 dropped-append {n} {xs} {ys} {users} {marks} s t = record {
   users-long = t .users-long ∙ s .users-long;
-  marks-set = set-append (s .marks-set) (t .marks-set);
+  marks-set = stored-append (s .marks-set) (t .marks-set);
   users-at = λ v b.
       t .users-at v b
-      ∙ rw (s .users-at v b, s .marks-set .at v b, has-append v xs ys)
+      ∙ rw (s .users-at v b, s .marks-set .at v, has-append v xs ys)
       (drop-again (has v xs) (has v ys) (getD marks v 0) (getD users v 0));
 }
 
@@ -173,7 +151,7 @@ add-none u = omega arith
 
 pub added-none : (n : ℕ) (users marks : List ℕ) → Added n [] users marks users marks
 unfolding has
-added-none n users marks = record { users-long = refl; marks-cleared = cleared-none n marks; users-at = λ v b. add-none (getD users v 0) }
+added-none n users marks = record { users-long = refl; marks-cleared = stored-none 0 marks; users-at = λ v b. add-none (getD users v 0) }
 
 module _ (n y : ℕ) (users marks : List ℕ) (l : y < length marks) where
   -- a node that was marked
@@ -181,7 +159,7 @@ module _ (n y : ℕ) (users marks : List ℕ) (l : y < length marks) where
   unfolding has
   added-one h z = record {
     users-long = length-set users y (getD users y 0 + 1);
-    marks-cleared = cleared-one n y marks l;
+    marks-cleared = stored-one 0 y marks l;
     users-at = λ v b.
         ⊎-elim
         (λ (q : eqb v y ≡ true).
@@ -198,7 +176,7 @@ module _ (n y : ℕ) (users marks : List ℕ) (l : y < length marks) where
   unfolding has
   added-kept z = record {
     users-long = refl;
-    marks-cleared = cleared-one n y marks l;
+    marks-cleared = stored-one 0 y marks l;
     users-at = λ v b.
         ⊎-elim
         (λ (q : eqb v y ≡ true).
@@ -218,10 +196,10 @@ add-again false t m u = rw (← add-none u)
 pub added-append : {n : ℕ} {xs ys users marks usersNow marksNow usersLater marksLater : List ℕ} → Added n xs users marks usersNow marksNow → Added n ys usersNow marksNow usersLater marksLater → Added n (xs ++ ys) users marks usersLater marksLater
 added-append {n} {xs} {ys} {users} {marks} s t = record {
   users-long = t .users-long ∙ s .users-long;
-  marks-cleared = cleared-append (s .marks-cleared) (t .marks-cleared);
+  marks-cleared = stored-append (s .marks-cleared) (t .marks-cleared);
   users-at = λ v b.
       t .users-at v b
-      ∙ rw (s .users-at v b, s .marks-cleared .at v b, has-append v xs ys)
+      ∙ rw (s .users-at v b, s .marks-cleared .at v, has-append v xs ys)
       (add-again (has v xs) (has v ys) (getD marks v 0) (getD users v 0));
 }
 
@@ -232,10 +210,10 @@ pub can-drop-rest : {n : ℕ} {xs users marks usersNow marksNow : List ℕ} (ys 
 can-drop-rest {n} {xs} {users} {marks} {usersNow} {marksNow} ys can s v b among z =
     ⊎-elim
     (λ (q : has v xs ≡ true).
-    let one : getD marksNow v 0 ≡ 1 = rw q at (s .marks-set .at v b) in
+    let one : getD marksNow v 0 ≡ 1 = rw q at (s .marks-set .at v) in
     absurd (omega arith))
     (λ (q : has v xs ≡ false).
-    let same : getD marksNow v 0 ≡ getD marks v 0 = rw q at (s .marks-set .at v b) in
+    let same : getD marksNow v 0 ≡ getD marks v 0 = rw q at (s .marks-set .at v) in
     let kept : getD usersNow v 0 ≡ getD users v 0 - 0 = rw q at (s .users-at v b) in
     omega (arith, can v b (has-append-right v xs ys among) (sym same ∙ z)))
     (either-way (has v xs))
@@ -248,10 +226,10 @@ pub can-add-rest : {n : ℕ} {xs users marks usersNow marksNow : List ℕ} → C
 can-add-rest {n} {xs} {users} {marks} {usersNow} {marksNow} can s v b o =
     ⊎-elim
     (λ (q : has v xs ≡ true).
-    let gone : getD marksNow v 0 ≡ 0 = rw q at (s .marks-cleared .at v b) in
+    let gone : getD marksNow v 0 ≡ 0 = rw q at (s .marks-cleared .at v) in
     absurd (omega arith))
     (λ (q : has v xs ≡ false).
-    let same : getD marksNow v 0 ≡ getD marks v 0 = rw q at (s .marks-cleared .at v b) in
+    let same : getD marksNow v 0 ≡ getD marks v 0 = rw q at (s .marks-cleared .at v) in
     let kept : getD usersNow v 0 ≡ getD users v 0 + 0 = rw q at (s .users-at v b) in
     omega (arith, can v b (sym same ∙ o)))
     (either-way (has v xs))
@@ -282,7 +260,10 @@ pub passed-more : {from to k : ℕ} {log : List ℕ} → k < to → Between from
 passed-more {from} {to} {k} {log} b w = slice-more from to k log (w .least) (w .short) b
 
 -- a node that is not marked when it is reached has a user
-pub node-can-drop : {from to k n : ℕ} {log users marks usersNow marksNow : List ℕ} → k < to → CanDrop n (slice from to log) users marks → AllBelow n (slice from to log) → Between from to k log → Dropped n (slice from k log) users marks usersNow marksNow → getD marksNow (getD log k 0) 0 ≡ 0 → 1 ≤ getD usersNow (getD log k 0) 0
+pub node-can-drop :
+    {from to k n : ℕ} {log users marks usersNow marksNow : List ℕ} → k < to → CanDrop n (slice from to log) users marks → AllBelow n (slice from to log)
+    → Between from to k log → Dropped n (slice from k log) users marks usersNow marksNow → getD marksNow (getD log k 0) 0 ≡ 0
+    → 1 ≤ getD usersNow (getD log k 0) 0
 unfolding has
 node-can-drop {from} {to} {k} {n} {log} {users} {marks} {usersNow} {marksNow} b can all w s z =
     let parts : slice from to log ≡ slice from k log ++ slice k to log = slice-parts from to k log (w .least) (w .short) (w .most) in

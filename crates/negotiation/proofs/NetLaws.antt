@@ -4,24 +4,25 @@ use mathlib.Core.Bool.{true, false, not}
 use mathlib.Core.List.{List, [], _∷_, _++_, append-nil}
 use mathlib.Core.Logic.{⊎-elim}
 use mathlib.Core.Path.{_≡_, refl, sym, _∙_, ap, subst}
-use Prim.Native.Nat.{ℕ, zero, suc, _+_, _*_, _≤_, _<_}
-use native.Mathlib.Nat.{le-trans, le-of-eq}
+use Prim.Native.Nat.{ℕ, zero, suc, _+_, _*_, _≤_, _<_, suc-le-suc}
+use native.Mathlib.Nat.{le-trans, le-of-eq, mul-le-mul-right}
 use native.Mathlib.Omega.{arith}
 use lib.Dec.{eqb}
 use lib.ListN.{length, getD, drop, length-append, length-replicate, getD-replicate}
 use lib.Seq.{append-snoc, length-slice}
 use borrow.Author.Tests.{eq-eqb, ltb-true}
-use Rattle.price.specs.Bounds.{factorMost, historyMost, historyGain, othersMost, limitMost, priceMost}
+use Rattle.price.specs.Bounds.{factorMost, historyMost, historyGain, othersMost, limitMost, priceMost, pathMost}
 use Rattle.price.specs.Test.{both}
-use Rattle.price.specs.Lists.{every, has, distinct, upTo}
-use Rattle.price.specs.Prices.{nextHistory}
+use Rattle.price.specs.Lists.{every, has, distinct, upTo, total}
 use Rattle.price.specs.Replies.{InBounds}
 use Rattle.price.proofs.TestLaws.{true≢false}
-use Rattle.price.proofs.ListLaws.{length-upTo, getD-upTo, has-at, has-place}
+use Rattle.price.proofs.ListLaws.{length-upTo, getD-upTo, has-at, has-place, total-most}
 use Rattle.price.proofs.BelowLaws.{count-most, count-less}
 use Rattle.price.proofs.PriceLaws as price
 use Rattle.price.proofs.PriceLaws.{price-pos, price-most, next-factor-most, history-grows, history-reach}
-use Rattle.search.specs.Paths.{Walk, CheapestPath, Fair}
+use Rattle.search.specs.Block as block
+use Rattle.search.specs.Block.{Block}
+use Rattle.search.specs.Paths.{Walk, pathCost, CheapestPath, Fair}
 use Rattle.search.specs.Turn.{Congestion, priceAt}
 use Rattle.search.proofs.BlockLaws.{graph-of, kind-most, capacity-least, capacity-most}
 use Rattle.search.proofs.DistanceLaws.{some-path}
@@ -29,8 +30,9 @@ use Rattle.search.proofs.DistinctLaws.{has-first, lacks, distinct-cons, distinc
 use Rattle.negotiation.specs.Job.{Job, nodes, nets, source, netSinks}
 use Rattle.negotiation.specs.Tables.{SoundJob, netsMost}
 use Rattle.negotiation.specs.Records.{Record, pathNodes}
-use Rattle.negotiation.specs.Machine.{State, treeAt, othersOf, usersOf, marksOf, congestionFor, netRecords, treeFrom, afterNets, iterate, moveOn, firstState, stateAfter}
+use Rattle.negotiation.specs.Machine.{State, treeAt, othersOf, usersOf, marksOf, congestionFor, netRecords, treeFrom, afterNets, iterate, movedHistory, moveOn, firstState, stateAfter}
 use Rattle.negotiation.specs.Outcome.{hasPath}
+use Rattle.negotiation.specs.Unreachable.{Reachable}
 use Rattle.negotiation.proofs.StateLaws.{nets-factor, nets-histories}
 use Rattle.negotiation.proofs.JobLaws.{nets-few, source-node, sinks-order, sinks-end, sink-node, source-no-sink, tuning-fits}
 use Rattle.negotiation.proofs.RecordLaws.{pathNodes-append}
@@ -75,10 +77,6 @@ users-few : (j : Job) → SoundJob j → (trees : List (List ℕ)) (v : ℕ) →
 unfolding usersOf
 users-few j sound trees v =
     le-trans (count-most (λ k. has v (treeAt trees k)) (nets j)) (nets-few j sound)
-
--- what histories move on to
-abbrev movedHistory : Job → State → ℕ → ℕ
-movedHistory j s v = nextHistory (j .terms .tuning) (getD (s .histories) v 0) (usersOf j (s .trees) v) (getD (j .block .capacities) v 0)
 
 grown-on : (j : Job) → SoundJob j → (s : State) (m : ℕ) → Grown j s m → Grown j (moveOn j s) (suc m)
 unfolding moveOn
@@ -172,6 +170,25 @@ pub record NetTurn (j : Job) (s : State) (i : ℕ) (earlier : List Record) (r : 
   pub path-short : length (r .path) ≤ nodes j
   pub path-nodes : (k : ℕ) → k < length (r .path) → getD (r .path) k 0 < nodes j
 
+-- a path of so many nodes as the block has at most costs less than the bound on a path's cost
+cost-below :
+    (b : Block) (price : ℕ → ℕ) → Fair b price → (path : List ℕ) → ((k : ℕ) → k < length path → getD path k 0 < block.nodes b)
+    → length path ≤ block.nodes b → pathCost price path < pathMost
+unfolding pathCost
+cost-below b price fair [] nodes few = omega arith
+cost-below b price fair (u ∷ path) nodes few =
+    let sum : total price path ≤ length path * fair .ceiling = total-most price (fair .ceiling) path (λ k l. fair .most (getD path k 0) (nodes (suc k) (suc-le-suc l))) in
+    let short : length path ≤ block.nodes b = omega arith in
+    le-trans (suc-le-suc (le-trans sum (mul-le-mul-right (fair .ceiling) short))) (fair .fits)
+
+-- so a turn's cost is
+pub turn-cost :
+    (j : Job) → SoundJob j → (s : State) → StateReady j s → (i : ℕ) → i < nets j → (earlier : List Record) (r : Record) → NetTurn j s i earlier r
+    → r .cost < pathMost
+turn-cost j sound s ready i hi earlier r t =
+    rw (t .cheapest .costs)
+    (cost-below (j .block) (priceAt (j .block) (congestionFor j s i)) (turn-fair j sound s ready i hi) (r .path) (t .path-nodes) (t .path-short))
+
 -- the tree of the source alone
 source-alone : (j : Job) → SoundJob j → (i : ℕ) → i < nets j → TreeNodes j (source j i ∷ [])
 source-alone j sound i hi v h = rw (only-entry v (source j i) h) (source-node j sound i hi)
@@ -181,18 +198,22 @@ pub first-ready : (j : Job) → SoundJob j → StateReady j (firstState j)
 unfolding afterNets stateAfter
 first-ready j sound = state-ready j sound 0 0 (omega arith)
 
--- a sink that the test before iteration 1 finds has a path from the source
-path-from : (j : Job) → SoundJob j → (i : ℕ) → i < nets j → (x : ℕ) → has x (netSinks j i) ≡ true → hasPath j i x ≡ true → (path : List ℕ) × Walk (j .block) (source j i) path x
+-- a node that the test before iteration 1 finds has a path from the source
+pub path-from : (j : Job) → SoundJob j → (i : ℕ) → i < nets j → (x : ℕ) → x < nodes j → hasPath j i x ≡ true → Reachable j i x
 unfolding hasPath
-path-from j sound i hi x h found =
-    let at = has-place x (netSinks j i) h in
-    let node : x < nodes j = rw (at .2) at (sink-node j sound i hi (at .0) (at .1)) in
+path-from j sound i hi x node found =
     let p =
     some-path (j .block) (priceAt (j .block) (congestionFor j (firstState j) i)) (marksOf j (source j i ∷ [])) (graph-of (j .block) (sound .block-sound))
     (turn-fair j sound (firstState j) (first-ready j sound) i hi) x node (ltb-true _ _ found) in
     let first : p .0 ≡ source j i =
     only-entry (p .0) (source j i) (sym (mark-is j (source j i ∷ []) (source-alone j sound i hi) (p .0)) ∙ p .3) in
     (p .1, subst (λ (u : ℕ). Walk (j .block) u (p .1) x) first (p .4))
+
+-- and so has a sink
+pub sink-path : (j : Job) → SoundJob j → (i : ℕ) → i < nets j → (x : ℕ) → has x (netSinks j i) ≡ true → hasPath j i x ≡ true → Reachable j i x
+sink-path j sound i hi x h found =
+    let at = has-place x (netSinks j i) h in
+    path-from j sound i hi x (rw (at .2) at (sink-node j sound i hi (at .0) (at .1))) found
 
 -- a net has a sink
 sinks-some : (j : Job) → SoundJob j → (i : ℕ) → i < nets j → 1 ≤ length (netSinks j i)
@@ -204,7 +225,7 @@ sinks-some j sound i hi =
 
 -- a record of the turns from a tree, by what stands before it
 
-no-split : (earlier later : List Record) (r : Record) → [] ≡ earlier ++ (r ∷ later) → ⊥
+pub no-split : (earlier later : List Record) (r : Record) → [] ≡ earlier ++ (r ∷ later) → ⊥
 no-split earlier later r e =
     let long : 0 ≡ length (earlier ++ (r ∷ later)) = ap length e in
     omega (arith, length-append earlier (r ∷ later))
@@ -297,15 +318,12 @@ module _ (j : Job) (sound : SoundJob j) (s : State) (ready : StateReady j s) (i 
       (turns-distinct j net-turns)
 
   module _ (all : (x : ℕ) → has x (netSinks j i) ≡ true → hasPath j i x ≡ true) where
-    -- every sink has a path from the source
-    source-path : (x : ℕ) → has x (netSinks j i) ≡ true → (path : List ℕ) × Walk (j .block) (source j i) path x
-    source-path x h = path-from j sound i hi x h (all x h)
-
     -- every sink is joined
     pub net-joins : (x : ℕ) → has x (netSinks j i) ≡ true → has x (treeFrom j i (netRecords j s i)) ≡ true
     net-joins x h =
         turns-join j (congestionFor j s i) i (graph-of (j .block) (sound .block-sound)) (turn-fair j sound s ready i hi) (sink-node j sound i hi)
-        net-turns (source-alone j sound i hi) (missing-most (source j i ∷ []) (netSinks j i)) (source j i) (has-first (source j i) []) source-path x h
+        net-turns (source-alone j sound i hi) (missing-most (source j i ∷ []) (netSinks j i)) (source j i) (has-first (source j i) [])
+        (λ y k. sink-path j sound i hi y k (all y k)) x h
 
     -- there is a record, and the source is on its path
     pub net-source : has (source j i) (pathNodes (netRecords j s i)) ≡ true

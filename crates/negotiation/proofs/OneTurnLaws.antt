@@ -22,7 +22,7 @@ use Rattle.search.proofs.PathToLaws.{path-short, path-nodes}
 use Rattle.search.proofs.TurnLaws.{joins-within, joins-path, joins-near}
 use Rattle.search.proofs.PathReplyLaws.{cleared-front, path-turn, joined-turn, stuck-turn, no-refusal}
 use Rattle.negotiation.specs.Records.{recordOf, words}
-use Rattle.negotiation.specs.Steps.{AllBelow, MarksSet, SameFrom, CanTurn, Skipped, Overflows, Logs}
+use Rattle.negotiation.specs.Steps.{AllBelow, Stored, SameFrom, CanTurn, Skipped, Overflows, TurnLogged}
 use Rattle.negotiation.specs.TariffSteps.{loggedTariff}
 use Rattle.negotiation.specs.declared.tariff.Tariff.{Tariff}
 
@@ -132,18 +132,19 @@ turn-full {work′ = work′} {place = place} {cost = cost} {count = count} j l 
 
 -- it fits
 pub turn-logs :
-    {n : ℕ} {t : Turn} {tariff tariff′ : Tariff} {net : ℕ} {sinks marks marks′ work work′ log log′ : List ℕ} {place cost count : ℕ} → Joined n t sinks marks work work′ place cost count → length marks ≡ n → tariff .words + (6 + count) ≤ length log
+    {n : ℕ} {t : Turn} {tariff tariff′ : Tariff} {net : ℕ} {sinks marks marks′ work work′ log log′ : List ℕ} {place cost count : ℕ}
+    → Joined n t sinks marks work work′ place cost count → tariff .words + (6 + count) ≤ length log
     → log′ ≡ take (tariff .words) log ++ (words (recordOf (tariff .iteration) net (getD sinks place 0) cost (take count work′)) ++ drop (tariff .words + (6 + count)) log)
-    → MarksSet (length marks) (take count work′) marks marks′
+    → Stored 1 (take count work′) marks marks′
     → tariff′ ≡ loggedTariff tariff (6 + count)
-    → Logs n t tariff net sinks log marks tariff′ log′ marks′
-turn-logs {work′ = work′} {place = place} {cost = cost} {count = count} j long room l m r = record {
+    → TurnLogged t tariff net sinks log marks tariff′ log′ marks′
+turn-logs {work′ = work′} {place = place} {cost = cost} {count = count} j room l m r = record {
   place = place;
   cost = cost;
   path = take count work′;
   is-turn = j .is-turn;
   room = omega (arith, j .path-long);
   log-is = rw (j .path-long) l;
-  marks-set = rw (← long) m;
+  marks-set = m;
   tariff-is = rw (j .path-long) r;
 }

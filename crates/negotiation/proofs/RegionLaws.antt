@@ -20,9 +20,9 @@ use borrow.Author.Tests.{eq-eqb, ne-eqb, ltb-true, ltb-false}
 use Rattle.price.specs.Test.{choose}
 use Rattle.price.proofs.TestLaws.{either-way, true≢false}
 use Rattle.negotiation.specs.Records.{Record, words, encode, decode, pathNodes}
-use Rattle.negotiation.specs.Steps.{AllBelow, MarksCleared, Dropped, Added, CanDrop, Whole, leading}
+use Rattle.negotiation.specs.Steps.{AllBelow, Stored, Dropped, Added, CanDrop, Whole, leading}
 use Rattle.negotiation.proofs.RecordLaws.{encode-append, pathNodes-append, words-length}
-use Rattle.negotiation.proofs.MarkLaws.{below-left, below-right, cleared-none, cleared-append, dropped-none, dropped-append, added-none, added-append, can-drop-left, can-drop-rest}
+use Rattle.negotiation.proofs.MarkLaws.{below-left, below-right, stored-none, stored-append, dropped-none, dropped-append, added-none, added-append, can-drop-left, can-drop-rest}
 
 -- ---- a part of a part
 
@@ -162,7 +162,7 @@ pub record Clearing (from until : ℕ) (log marks marksNow : List ℕ) (at : ℕ
   pub rest : List Record
   pub walk : Passing (length marks) from until log at passed rest
   pub all : decode (slice from until log) ≡ passed ++ rest
-  pub cleared : MarksCleared (length marks) (pathNodes passed) marks marksNow
+  pub cleared : Stored 0 (pathNodes passed) marks marksNow
 
 pub clearing-none : (from until : ℕ) (log marks : List ℕ) → from ≤ until → until ≤ length log → Whole (length marks) (slice from until log) → Clearing from until log marks marks from
 unfolding pathNodes
@@ -171,11 +171,11 @@ clearing-none from until log marks l h w = record {
   rest = decode (slice from until log);
   walk = passing-none (length marks) from until log l h w;
   all = refl;
-  cleared = cleared-none (length marks) marks;
+  cleared = stored-none 0 marks;
 }
 
 module _ {from until at : ℕ} {log marks marksNow : List ℕ} (s : Clearing from until log marks marksNow at) where
-  pub clearing-more : {marksLater : List ℕ} → at < until → MarksCleared (length marksNow) (slice (at + 6) (at + 6 + getD log (at + 5) 0) log) marksNow marksLater → Clearing from until log marks marksLater (at + 6 + getD log (at + 5) 0)
+  pub clearing-more : {marksLater : List ℕ} → at < until → Stored 0 (slice (at + 6) (at + 6 + getD log (at + 5) 0) log) marksNow marksLater → Clearing from until log marks marksLater (at + 6 + getD log (at + 5) 0)
   clearing-more l t =
       let next = passing-next (s .rest) l (s .walk) in
       record {
@@ -183,10 +183,10 @@ module _ {from until at : ℕ} {log marks marksNow : List ℕ} (s : Clearing fro
         rest = next .later;
         walk = record-passed (s .rest) l (s .walk);
         all = s .all ∙ ap (λ (rs : List Record). s .passed ++ rs) (next .is) ∙ records-more (s .passed) (next .later) (next .first);
-        cleared = rw (nodes-more (s .passed) (next .first)) (cleared-append (s .cleared) (rw (s .cleared .long, record-path (s .rest) l (s .walk)) at t));
+        cleared = rw (nodes-more (s .passed) (next .first)) (stored-append (s .cleared) (rw (record-path (s .rest) l (s .walk)) at t));
       }
 
-  pub clearing-all : until ≤ at → MarksCleared (length marks) (pathNodes (decode (slice from until log))) marks marksNow
+  pub clearing-all : until ≤ at → Stored 0 (pathNodes (decode (slice from until log))) marks marksNow
   clearing-all l = rw (s .all, passing-end (s .rest) l (s .walk), append-nil) (s .cleared)
 
 -- and those that were set have one user more
@@ -268,7 +268,10 @@ module _ {from until net at : ℕ} {log users marks usersNow marksNow : List ℕ
       rw (record-path (s .rest) l (s .walk))
       (can-drop-left usersNow marksNow (next .first .path) after (can-drop-rest (next .first .path ++ after) (rw nodes at can) (s .dropped)))
 
-  pub dropping-more : {usersLater marksLater : List ℕ} → at < until → getD log (at + 1) 0 ≡ net → Dropped (length marksNow) (slice (at + 6) (at + 6 + getD log (at + 5) 0) log) usersNow marksNow usersLater marksLater → Dropping from until net log users marks usersLater marksLater (at + 6 + getD log (at + 5) 0) (ltb (at + 6 + getD log (at + 5) 0) until)
+  pub dropping-more :
+      {usersLater marksLater : List ℕ} → at < until → getD log (at + 1) 0 ≡ net
+      → Dropped (length marksNow) (slice (at + 6) (at + 6 + getD log (at + 5) 0) log) usersNow marksNow usersLater marksLater
+      → Dropping from until net log users marks usersLater marksLater (at + 6 + getD log (at + 5) 0) (ltb (at + 6 + getD log (at + 5) 0) until)
   dropping-more l e t =
       let next = passing-next (s .rest) l (s .walk) in
       record {

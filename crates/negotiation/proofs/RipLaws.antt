@@ -14,7 +14,7 @@ use Rattle.price.specs.Test.{choose}
 use Rattle.price.specs.Lists.{has}
 use Rattle.price.proofs.TestLaws.{either-way, both-false-right}
 use Rattle.negotiation.specs.Records.{Record, encode, decode, pathNodes}
-use Rattle.negotiation.specs.Steps.{AllBelow, MarksCleared, Dropped, Added, CanDrop, CanAddMarked, Whole, leading, oldTree, RipReady, RippedUp, CountReady, Counted}
+use Rattle.negotiation.specs.Steps.{AllBelow, Stored, Dropped, Added, CanDrop, CanAddMarked, Whole, leading, oldTree, RipReady, RippedUp, CountReady, Counted}
 use Rattle.negotiation.proofs.RecordLaws.{decode-encode, encode-append, pathNodes-append}
 
 -- ---- the records of a net stand at the beginning
@@ -110,7 +110,7 @@ module _ {iteration net from at until : ℕ} {log users marks : List ℕ} (late 
       rw (getD-set-other users from v (getD users from 0 - 1) 0 (eqb-false v from q)) (old-used v l (rw q t)))
       (either-way (eqb v from))
 
-  module _ {users₂ marks₂ xs marks₃ : List ℕ} (d : Dropped (length (set marks from 1)) old (set users from (getD users from 0 - 1)) (set marks from 1) users₂ marks₂) (same : xs ≡ old) (m : MarksCleared (length marks₂) xs marks₂ marks₃) where
+  module _ {users₂ marks₂ xs marks₃ : List ℕ} (d : Dropped (length (set marks from 1)) old (set users from (getD users from 0 - 1)) (set marks from 1) users₂ marks₂) (same : xs ≡ old) (m : Stored 0 xs marks₂ marks₃) where
     long₂ : length marks₂ ≡ length marks
     long₂ = d .marks-set .long ∙ length-set marks from 1
 
@@ -123,8 +123,8 @@ module _ {iteration net from at until : ℕ} {log users marks : List ℕ} (late 
         (λ (q : eqb v from ≡ true). rw (eqb-true v from q) (getD-set-same marks₃ from 0 0 (omega (arith, r .from-node, long₃))))
         (λ (q : eqb v from ≡ false).
         let other = eqb-false v from q in
-        let cleared : getD marks₃ v 0 ≡ choose (has v old) 0 (getD marks₂ v 0) = m .at v (omega (arith, long₂)) ∙ rw same in
-        let marked : getD marks₂ v 0 ≡ choose (has v old) 1 (getD (set marks from 1) v 0) = d .marks-set .at v (omega (arith, length-set marks from 1)) in
+        let cleared : getD marks₃ v 0 ≡ choose (has v old) 0 (getD marks₂ v 0) = m .at v ∙ rw same in
+        let marked : getD marks₂ v 0 ≡ choose (has v old) 1 (getD (set marks from 1) v 0) = d .marks-set .at v in
         let before : getD (set marks from 1) v 0 ≡ 0 = getD-set-other marks from v 1 0 other ∙ r .no-marks v h in
         getD-set-other marks₃ from v 0 0 other ∙ cleared ∙
         ⊎-elim
@@ -173,7 +173,7 @@ module _ {from at until : ℕ} {log users marks : List ℕ} (r : CountReady (len
     other-clear : (v : ℕ) → v < length marks → eqb v from ≡ false → getD marks₁ v 0 ≡ 0
     unfolding has
     other-clear v h q =
-        a .marks-cleared .at v h ∙
+        a .marks-cleared .at v ∙
         ⊎-elim
         (λ (t : has v new ≡ true). rw t)
         (λ (t : has v new ≡ false). rw (t, r .marked v h, q, t))
@@ -198,7 +198,7 @@ module _ {from at until : ℕ} {log users marks : List ℕ} (r : CountReady (len
     source-out e =
         ⊎-elim
         (λ (t : has from new ≡ true).
-        let z : getD marks₁ from 0 ≡ 0 = a .marks-cleared .at from (r .from-node) ∙ rw t in
+        let z : getD marks₁ from 0 ≡ 0 = a .marks-cleared .at from ∙ rw t in
         absurd (omega arith))
         (λ t. t)
         (either-way (has from new))
@@ -207,7 +207,7 @@ module _ {from at until : ℕ} {log users marks : List ℕ} (r : CountReady (len
     source-in e =
         ⊎-elim
         (λ t. t)
-        (λ (t : has from new ≡ false). absurd (e (a .marks-cleared .at from (r .from-node) ∙ rw (t, source-mark))))
+        (λ (t : has from new ≡ false). absurd (e (a .marks-cleared .at from ∙ rw (t, source-mark))))
         (either-way (has from new))
 
     source-users : getD marks₁ from 0 ≡ 1 → getD users₁ from 0 ≡ getD users from 0
@@ -244,7 +244,7 @@ module _ {from at until : ℕ} {log users marks : List ℕ} (r : CountReady (len
       marks-long = a .marks-cleared .long;
       no-marks = λ v h.
           ⊎-elim
-          (λ (q : eqb v from ≡ true). rw (eqb-true v from q) (a .marks-cleared .at from (r .from-node) ∙ rw (source-in e)))
+          (λ (q : eqb v from ≡ true). rw (eqb-true v from q) (a .marks-cleared .at from ∙ rw (source-in e)))
           (λ (q : eqb v from ≡ false). other-clear v h q)
           (either-way (eqb v from));
       users-at = λ v h.

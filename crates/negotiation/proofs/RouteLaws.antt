@@ -7,7 +7,7 @@ use Prim.Native.Nat.{ℕ, _≤_, _<_}
 use native.Mathlib.Nat.{sub-zero}
 use native.Mathlib.Omega.{arith}
 use lib.ListN.{length, drop, replicate}
-use borrow.Author.Tests.{le-leb, lt-leb, lt-ltb, le-ltb}
+use borrow.Author.Tests.{lt-ltb, le-ltb}
 use Rattle.price.proofs.TestLaws.{le-or-lt}
 use Rattle.price.proofs.ListLaws.{drop-same}
 use Rattle.search.specs.Replies.{workNeeded, cleared}
@@ -21,50 +21,23 @@ use Rattle.negotiation.specs.declared.Outcome.the-variants.{BadTable, Sh
 use Rattle.negotiation.specs.declared.reach.Reach.{Reach}
 use Rattle.negotiation.specs.declared.reach.Reach.the-variants.{All, Missing}
 use Rattle.negotiation.proofs.JobLaws.{sound-job}
+use Rattle.negotiation.proofs.RefusalLaws.{route-table, route-work, route-unreachable, route-run}
 use Rattle.negotiation.proofs.DemandHolds.{demand-3}
 
 module _ (j : Job) (work log : List ℕ) where
-  pub route-table : 1 ≤ faultyJob j → routeReply j work log ≡ refusedReply (5 ∷ faultyJob j ∷ []) work log
-  unfolding routeReply
-  route-table h = rw (le-leb 1 (faultyJob j) h)
-
-  module _ (sound : faultyJob j < 1) where
-    pub route-work : length work < workNeeded (nodes j) → routeReply j work log ≡ refusedReply (6 ∷ workNeeded (nodes j) ∷ []) work log
-    unfolding routeReply
-    route-work h = rw (lt-leb 1 (faultyJob j) sound, lt-ltb (length work) (workNeeded (nodes j)) h)
-
-    module _ (enough : workNeeded (nodes j) ≤ length work) where
-      pub route-unreachable :
-          unreachableNet j < nets j
-          → routeReply j work log ≡ refusedReply (7 ∷ unreachableNet j ∷ unreachablePlace j ∷ []) (cleared (nodes j) [] work) log
-      unfolding routeReply
-      route-unreachable h =
-          rw
-          (lt-leb 1 (faultyJob j) sound, le-ltb (length work) (workNeeded (nodes j)) enough, lt-ltb (unreachableNet j) (nets j) h)
-
-      pub route-run : nets j ≤ unreachableNet j → routeReply j work log ≡ negotiated j work log
-      unfolding routeReply
-      route-run h =
-          rw
-          (lt-leb 1 (faultyJob j) sound, le-ltb (length work) (workNeeded (nodes j)) enough, le-ltb (unreachableNet j) (nets j) h)
-
-  -- demand 3 of an answer that is the reply
-  pub route-demand : (r : RouteReply) → r ≡ routeReply j work log → SoundJob j → workNeeded (nodes j) ≤ length work → Demand3 j r
-  route-demand r e sound enough = subst (Demand3 j) (sym e) (demand-3 j sound work log enough)
-
   -- what the contract says of an answer
   abbrev pub Answered : RouteReply → Type 0
-  Answered r = (r ≡ routeReply j work log) × (SoundJob j → workNeeded (nodes j) ≤ length work → Demand3 j r)
+  Answered r = (r ≡ routeReply j work log) × Demand3 j work log r
 
   answered : (r : RouteReply) → r ≡ routeReply j work log → Answered r
-  answered r e = (e, λ sound enough. route-demand r e sound enough)
+  answered r e = (e, subst (Demand3 j work log) (sym e) (demand-3 j work log))
 
   pub table-refused : (table : ℕ) (r : Routed) → table ≡ faultyJob j → 1 ≤ table → r ≡ refusedAnswer (BadTable table) → Answered (routed r work log)
   table-refused table r e h q =
       answered (routed r work log)
       (ap (λ (x : Routed). routed x work log) q
       ∙ subst (λ (k : ℕ). refusedReply (5 ∷ k ∷ []) work log ≡ routeReply j work log) (sym e)
-      (sym (route-table (subst (λ (k : ℕ). 1 ≤ k) e h))))
+      (sym (route-table j work log (subst (λ (k : ℕ). 1 ≤ k) e h))))
 
   module _ (table : ℕ) (is : table ≡ faultyJob j) (none : table < 1) where
     fine : faultyJob j < 1
@@ -75,7 +48,7 @@ module _ (j : Job) (work log : List ℕ) where
 
     pub work-refused : (r : Routed) → length work < workNeeded (nodes j) → r ≡ refusedAnswer (ShortWork (workNeeded (nodes j))) → Answered (routed r work log)
     work-refused r h q =
-        answered (routed r work log) (ap (λ (x : Routed). routed x work log) q ∙ sym (route-work fine h))
+        answered (routed r work log) (ap (λ (x : Routed). routed x work log) q ∙ sym (route-work j work log fine h))
 
     module _ (enough : workNeeded (nodes j) ≤ length work) (w : List ℕ) (kept : SameFrom (workNeeded (nodes j)) work w) (found : Reach) (tested : reachNumbers found ≡ missing j) where
       past : drop (workNeeded (nodes j)) w ≡ drop (workNeeded (nodes j)) work
@@ -130,9 +103,9 @@ module _ (j : Job) (work log : List ℕ) where
           ∙ subst (λ (x : List ℕ). refusedReply (7 ∷ net ∷ place ∷ []) x log ≡ routeReply j work log) (sym (e ∙ clean))
           (subst (λ (a : ℕ). refusedReply (7 ∷ a ∷ place ∷ []) (cleared (nodes j) [] work) log ≡ routeReply j work log) (sym (m .1))
           (subst (λ (p : ℕ). refusedReply (7 ∷ unreachableNet j ∷ p ∷ []) (cleared (nodes j) [] work) log ≡ routeReply j work log) (sym (m .2))
-          (sym (route-unreachable fine enough (m .0))))))
+          (sym (route-unreachable j work log fine enough (m .0))))))
 
       pub run-answered :
           (r : Routed) (w′ log′ : List ℕ) → found ≡ All → routed r w′ log′ ≡ negotiated j w log → Answered (routed r w′ log′)
       run-answered r w′ log′ f e =
-          answered (routed r w′ log′) (e ∙ run-same ∙ sym (route-run fine enough (is-none f)))
+          answered (routed r w′ log′) (e ∙ run-same ∙ sym (route-run j work log fine enough (is-none f)))

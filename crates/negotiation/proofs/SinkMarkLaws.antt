@@ -22,6 +22,7 @@ use Rattle.price.proofs.ListLaws.{every-all, every-none, every-at, has-at}
 use Rattle.search.proofs.DistinctLaws.{has-first, has-rest, lacks, distinct-cons, distinct-first, distinct-rest}
 use Rattle.negotiation.specs.Tables.{netSound}
 use Rattle.negotiation.specs.Steps.{Stored, sinksFree}
+use Rattle.negotiation.proofs.MarkLaws.{stored-none, stored-one, stored-append}
 
 -- ---- the first entries of a list
 
@@ -30,17 +31,6 @@ unfolding has
 has-last v [] x = either-false (eqb v x)
 has-last v (y ∷ ys) x =
     ⊎-elim (λ (q : eqb v y ≡ true). rw q) (λ (q : eqb v y ≡ false). rw q (has-last v ys x)) (either-way (eqb v y))
-
--- with one entry more: its own, and any other
-has-next : (xs : List ℕ) (i : ℕ) → i < length xs → has (getD xs i 0) (take (i + 1) xs) ≡ true
-has-next xs i h =
-    rw (add-one, take-suc xs i 0 h, has-last (getD xs i 0) (take i xs) (getD xs i 0), eq-eqb (getD xs i 0) (getD xs i 0) refl)
-    (either-true (has (getD xs i 0) (take i xs)))
-
-has-others : (v : ℕ) (xs : List ℕ) (i : ℕ) → i < length xs → (v ≡ getD xs i 0 → ⊥) → has v (take (i + 1) xs) ≡ has v (take i xs)
-has-others v xs i h other =
-    rw (add-one, take-suc xs i 0 h, has-last v (take i xs) (getD xs i 0), ne-eqb v (getD xs i 0) other)
-    (either-false (has v (take i xs)))
 
 distinct-last : (xs : List ℕ) (x : ℕ) → distinct xs ≡ true → has x xs ≡ false → distinct (xs ++ (x ∷ [])) ≡ true
 unfolding distinct has
@@ -71,24 +61,12 @@ distinct-none (x ∷ xs) (suc i) h e =
 
 -- ---- marks stored at places
 
-pub stored-none : (a : ℕ) (old : List ℕ) → Stored a [] old old
-unfolding has
-stored-none a old = record { long = refl; at = λ v. refl }
-
-pub stored-more : {a : ℕ} {old new : List ℕ} (xs : List ℕ) (i : ℕ) → i < length xs → getD xs i 0 < length old → Stored a (take i xs) old new → Stored a (take (i + 1) xs) old (set new (getD xs i 0) a)
+pub stored-more :
+    {a : ℕ} {old new : List ℕ} (xs : List ℕ) (i : ℕ) → i < length xs → getD xs i 0 < length old → Stored a (take i xs) old new
+    → Stored a (take (i + 1) xs) old (set new (getD xs i 0) a)
 stored-more {a} {old} {new} xs i h l s =
     let long : length new ≡ length old = s .long in
-    record {
-      long = length-set new (getD xs i 0) a ∙ s .long;
-      at = λ v.
-          ⊎-elim
-          (λ (q : eqb v (getD xs i 0) ≡ true).
-          rw (eqb-true v (getD xs i 0) q, getD-set-same new (getD xs i 0) a 0 (omega arith), has-next xs i h))
-          (λ (q : eqb v (getD xs i 0) ≡ false).
-          let other : v ≡ getD xs i 0 → ⊥ = eqb-false v (getD xs i 0) q in
-          rw (getD-set-other new (getD xs i 0) v a 0 other, has-others v xs i h other) (s .at v))
-          (either-way (eqb v (getD xs i 0)));
-    }
+    rw (add-one, take-suc xs i 0 h) (stored-append s (stored-one a (getD xs i 0) new (omega arith)))
 
 pub stored-all : {a : ℕ} {xs old new : List ℕ} (i : ℕ) → length xs ≤ i → Stored a (take i xs) old new → Stored a xs old new
 stored-all {xs = xs} i end s = rw (take-all i xs end) at s

@@ -7,31 +7,25 @@ use mathlib.Core.Path.{_≡_, sym, _∙_}
 use Prim.Native.Nat.{ℕ, _+_, _*_, _-_, _≤_, _<_}
 use native.Mathlib.Nat.{le-refl}
 use native.Mathlib.Omega.{arith}
-use lib.Dec.{eqb}
 use lib.ListN.{length, getD, take, drop}
 use lib.Seq.{length-take-le, length-front, take-at, length-slice}
 use borrow.Author.Count.{below-more}
-use borrow.Author.Tests.{ltb-true, lt-ltb, le-ltb, eqb-true, not-true, not-false}
-use Rattle.price.specs.Test.{choose}
-use Rattle.price.specs.Lists.{every, has, firstBelow}
-use Rattle.price.proofs.TestLaws.{either-way, le-or-lt, either-false}
-use Rattle.price.proofs.ListLaws.{every-all, every-none, getD-upTo, part-slice}
+use borrow.Author.Tests.{lt-ltb, le-ltb, not-true, not-false}
+use Rattle.price.specs.Lists.{every, firstBelow}
+use Rattle.price.proofs.TestLaws.{either-way, le-or-lt}
+use Rattle.price.proofs.ListLaws.{every-all, every-none, part-slice}
 use Rattle.price.proofs.BelowLaws.{firstBelow-below, firstBelow-holds, firstBelow-is, firstBelow-all}
 use Rattle.search.specs.Block.{Block, graphOf, row, hasEdge}
 use Rattle.search.specs.Paths.{Walk, stay, step}
-use Rattle.search.specs.Distance.{inTree}
-use Rattle.search.specs.Turn.{priceAt}
-use Rattle.search.proofs.BlockLaws.{graph-of}
 use Rattle.search.proofs.ReadyLaws.{sound-graph}
-use Rattle.search.proofs.DistanceLaws.{some-path}
 use Rattle.negotiation.specs.Job.{Job, nodes, nets, source, netSinks}
-use Rattle.negotiation.specs.Machine.{marksOf, congestionFor, firstState}
+use Rattle.negotiation.specs.Machine.{congestionFor, firstState}
 use Rattle.negotiation.specs.Tables.{SoundJob}
 use Rattle.negotiation.specs.Outcome.{hasPath, unreachableNet, unreachablePlace}
 use Rattle.negotiation.specs.Steps.{AllBelow, SameFrom, missing}
 use Rattle.negotiation.specs.Flood.{FloodReady, Flooded, FirstUnmarked}
 use Rattle.negotiation.proofs.JobLaws.{source-node, sinks-end, sink-node}
-use Rattle.negotiation.proofs.NetLaws.{first-ready, turn-fair}
+use Rattle.negotiation.proofs.NetLaws.{path-from}
 use Rattle.negotiation.proofs.DemandLaws.{walk-path}
 use Rattle.negotiation.proofs.FloodLaws.{same-from-trans, same-from-higher}
 
@@ -54,27 +48,6 @@ module _ (j : Job) where
   block-walk : {u v : ℕ} {path : List ℕ} → Walk (graph j) u path v → Walk (j .block) u path v
   unfolding hasEdge row
   block-walk w = walk-as (λ u v e. e) w
-
-  -- only the source is marked
-  source-mark : (i v : ℕ) → v < nodes j → getD (marksOf j (source j i ∷ [])) v 0 ≡ choose (eqb v (source j i)) 1 0
-  unfolding marksOf has
-  source-mark i v h =
-      getD-upTo (λ v. choose (has v (source j i ∷ [])) 1 0) (nodes j) v 0 h ∙ rw (either-false (eqb v (source j i)))
-
-  -- a node that has a path has a walk from the source
-  path-walk : SoundJob j → (i x : ℕ) → i < nets j → x < nodes j → hasPath j i x ≡ true → (path : List ℕ) × Walk (j .block) (source j i) path x
-  unfolding hasPath inTree
-  path-walk sound i x h node e =
-      let r =
-      some-path (j .block) (priceAt (j .block) (congestionFor j (firstState j) i)) (marksOf j (source j i ∷ [])) (graph-of (j .block) (sound .block-sound))
-      (turn-fair j sound (firstState j) (first-ready j sound) i h) x node (ltb-true _ _ e) in
-      ⊎-elim
-      (λ (q : eqb (r .0) (source j i) ≡ true). (r .1, rw (eqb-true (r .0) (source j i) q) at (r .4)))
-      (λ (q : eqb (r .0) (source j i) ≡ false).
-      let one : getD (marksOf j (source j i ∷ [])) (r .0) 0 ≡ 1 = eqb-true _ _ (r .3) in
-      let none : getD (marksOf j (source j i ∷ [])) (r .0) 0 ≡ 0 = rw q at (source-mark i (r .0) (r .2)) in
-      absurd (omega arith))
-      (either-way (eqb (r .0) (source j i)))
 
 -- ---- one net after the other
 
@@ -163,7 +136,7 @@ module _ (j : Job) (sound : SoundJob j) (i : ℕ) (h : i < nets j) where
       mark-none s node e =
           ⊎-elim
           (λ (q : hasPath j i s ≡ true).
-          let p = path-walk j sound i s h node q in
+          let p = path-from j sound i h s node q in
           let one = f .complete s (p .0) (graph-walk j (p .1)) in
           absurd (omega arith))
           (λ q. q)

@@ -1,19 +1,21 @@
--- Demand 3, whole, about a job, its log and its answer. Nothing here mentions the machine: trees and prices are read off the log as document 01's
--- section "Trees and prices read off the log" says.
+-- Demand 3, whole, as one statement about a call: its job, its log and its answer. Only its first clause mentions the machine: trees and
+-- prices are read off the log as document 01's section "Trees and prices read off the log" says.
 -- Assumes nothing.
 use mathlib.Core.Bool.{true, not}
 use mathlib.Core.List.{List, [], _∷_, _++_}
 use mathlib.Core.Path.{_≡_}
-use Prim.Native.Nat.{ℕ, zero, suc, _-_, _≤_, _<_, max}
+use Prim.Native.Nat.{ℕ, zero, suc, _+_, _-_, _^_, _≤_, _<_, max}
 use lib.Dec.{eqb, leb}
-use lib.ListN.{length, getD, take, drop}
+use lib.ListN.{length, getD, drop}
 use Rattle.price.specs.Test.{choose, both}
+use Rattle.price.specs.Bounds.{priceMost, pathMost}
 use Rattle.price.specs.Lists.{has, distinct, countBelow}
 use Rattle.price.specs.Prices.{priceOf, factorAt, nextHistory}
-use Rattle.search.specs.Paths.{Walk, CheapestPath}
+use Rattle.search.specs.Paths.{CheapestPath}
 use Rattle.negotiation.specs.Job.{Job, nodes, nets, source, netSinks}
-use Rattle.negotiation.specs.Records.{Record, encode, decode}
-use Rattle.negotiation.specs.Outcome.{RouteReply}
+use Rattle.negotiation.specs.Records.{Record, encode}
+use Rattle.negotiation.specs.Outcome.{RouteReply, wordsUsed, turnsLogged, routeReply}
+use Rattle.negotiation.specs.Unreachable.{AllReachable}
 
 -- ---- trees
 
@@ -65,14 +67,16 @@ priceRead j i t earlier v =
 
 -- ---- the demand
 
--- a logged turn: its path follows edges from a node of that net's tree before the turn to one of its sinks not yet joined, at the logged cost, and every
--- other path from any node of that tree to any of the net's sinks not yet joined costs at least as much
+-- a logged turn: "the logged path follows edges from a node of that net's tree before the turn to one of its sinks not yet joined. The logged
+-- cost is that path's cost, at prices worked out from the job and the log's earlier turns alone. At these prices every other path in the
+-- graph, from any node of that tree to any of the net's sinks not yet joined, costs at least as much."
 abbrev pub TurnHolds : Job → List Record → Record → Type 0
 TurnHolds j earlier r =
     CheapestPath (j .block) (priceRead j (r .net) (r .iteration) earlier) (λ v. has v (ownTree j (r .net) (r .iteration) earlier))
     (netSinks j (r .net)) (r .sink) (r .cost) (r .path)
 
--- the nodes in which branches of net i end, of its records of iteration t: "The branches of a final tree are the path steps of the records that it is read from."
+-- the nodes in which branches of net i end, of its records of iteration t: "The branches of a final tree are the path steps of the records
+-- that it is read from."
 unfoldable pub endsIn : ℕ → ℕ → List Record → List ℕ
 endsIn i t [] = []
 endsIn i t (r ∷ rs) = choose (both (eqb (r .net) i) (eqb (r .iteration) t)) (drop 1 (r .path) ++ endsIn i t rs) (endsIn i t rs)
@@ -84,14 +88,24 @@ pub record FinalTrees (j : Job) (rs : List Record) : Type 0 where
   pub none-twice : (i : ℕ) → i < nets j → distinct (source j i ∷ endsIn i (latest i rs) rs) ≡ true
   pub within-capacity : (v : ℕ) → v < nodes j → usersRead j rs v ≤ getD (j .block .capacities) v 0
 
--- every sink has a path from its source
-abbrev pub AllReachable : Job → Type 0
-AllReachable j = (i s : ℕ) → i < nets j → has s (netSinks j i) ≡ true → (path : List ℕ) × Walk (j .block) (source j i) path s
-
--- demand 3 of a job and the reply of a call: the records in the words used, which hold nothing else
-pub record Demand3 (j : Job) (r : RouteReply) : Type 0 where
-  pub nothing-else : encode (decode (take (r .used) (r .log))) ≡ take (r .used) (r .log)
-  pub every-turn : (earlier later : List Record) (t : Record) → decode (take (r .used) (r .log)) ≡ earlier ++ (t ∷ later) → TurnHolds j earlier t
-  pub final-trees : r .refusal ≡ [] → FinalTrees j (decode (take (r .used) (r .log)))
+-- Demand 3 of one call: a job, the work slice and the log that it is lent, and the reply. It is asked of jobs with sound tables and enough
+-- work memory; it holds of every call, since after refusals 5 and 6 no words are used.
+pub record Demand3 (j : Job) (work log : List ℕ) (r : RouteReply) : Type 0 where
+  -- "the outcome and the log are those of 01's negotiation"
+  pub as-negotiated : r ≡ routeReply j work log
+  -- "these words hold nothing else"
+  pub nothing-else : encode (turnsLogged r) ≡ wordsUsed r
+  -- "for every turn in that log, whatever the outcome"
+  pub every-turn : (earlier later : List Record) (t : Record) → turnsLogged r ≡ earlier ++ (t ∷ later) → TurnHolds j earlier t
+  -- "In every accepted job"
+  pub final-trees : r .refusal ≡ [] → FinalTrees j (turnsLogged r)
+  -- "No job is refused as unreachable if every sink has a path from its source."
   pub not-unreachable : AllReachable j → (net place : ℕ) → r .refusal ≡ 7 ∷ net ∷ place ∷ [] → ⊥
-  pub turns-counted : r .turns ≡ length (decode (take (r .used) (r .log)))
+  -- "Whatever the outcome, the reported turn count is the number of logged turns."
+  pub turns-counted : r .turns ≡ length (turnsLogged r)
+
+-- "The new bound on a path's cost still fits 64 bits, with 2.1's step of 2 too": every logged turn's cost is below `pathMost`, which fits
+-- 64 bits with one more price
+pub record CostsFit (r : RouteReply) : Type 0 where
+  pub below : (earlier later : List Record) (t : Record) → turnsLogged r ≡ earlier ++ (t ∷ later) → t .cost < pathMost
+  pub fits : pathMost + priceMost < 2 ^ 64

@@ -1,4 +1,5 @@
--- What the flood from a source does to its marks and its queue, place by place. Only contracts of private functions cite this file: no caller has to believe it.
+-- What the flood from a source does to its marks and its queue, place by place. Only contracts of private functions cite this file: no
+-- caller has to believe it.
 -- Assumes nothing.
 use mathlib.Core.Bool.{true}
 use mathlib.Core.List.{List}

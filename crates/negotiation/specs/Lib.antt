@@ -3,6 +3,7 @@ pub mod Tables
 pub mod Records
 pub mod Machine
 pub mod Outcome
+pub mod Unreachable
 pub mod Demand
 pub mod Longer
 pub mod TariffSteps

@@ -97,13 +97,18 @@ overfull j trees v = ltb (getD (j .block .capacities) v 0) (usersOf j trees v)
 unfoldable pub overCount : Job → List (List ℕ) → ℕ
 overCount j trees = countBelow (overfull j trees) (nodes j)
 
+-- a node's history after the iteration
+abbrev pub movedHistory : Job → State → ℕ → ℕ
+movedHistory j s v =
+    nextHistory (j .terms .tuning) (getD (s .histories) v 0) (usersOf j (s .trees) v) (getD (j .block .capacities) v 0)
+
 -- "else histories and factor move on": the state at the next iteration's start
 unfoldable pub moveOn : Job → State → State
 moveOn j s =
     record {
       iteration = s .iteration + 1;
       factor = nextFactor (j .terms .tuning) (s .iteration) (s .factor);
-      histories = upTo (λ v. nextHistory (j .terms .tuning) (getD (s .histories) v 0) (usersOf j (s .trees) v) (getD (j .block .capacities) v 0)) (nodes j);
+      histories = upTo (movedHistory j s) (nodes j);
       trees = s .trees;
     }
 

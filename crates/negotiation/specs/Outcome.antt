@@ -4,7 +4,7 @@ use mathlib.Core.Bool.{Bool, not}
 use mathlib.Core.List.{List, [], _∷_, _++_, map}
 use Prim.Native.Nat.{ℕ, _+_, _-_}
 use lib.Dec.{leb, ltb}
-use lib.ListN.{length, getD, drop}
+use lib.ListN.{length, getD, take, drop}
 use Rattle.price.specs.Test.{choose}
 use Rattle.price.specs.Lists.{every, firstBelow}
 use Rattle.search.specs.Distance.{far, distance}
@@ -12,7 +12,7 @@ use Rattle.search.specs.Turn.{priceAt}
 use Rattle.search.specs.Replies.{workNeeded, cleared}
 use Rattle.negotiation.specs.Job.{Job, nodes, nets, source, netSinks}
 use Rattle.negotiation.specs.Tables.{faultyJob}
-use Rattle.negotiation.specs.Records.{Record, encode, fitting}
+use Rattle.negotiation.specs.Records.{Record, encode, decode, fitting}
 use Rattle.negotiation.specs.Machine.{State, marksOf, congestionFor, firstState, recordsAfter, iterationAfter, settlesAt, overCount}
 use Rattle.negotiation.specs.declared.Routed.{Routed}
 use Rattle.negotiation.specs.declared.Outcome.{Outcome}
@@ -36,9 +36,13 @@ unfoldable pub iterationsMade : Job → State → ℕ → ℕ
 iterationsMade j s most =
     choose (ltb (firstBelow (settlesAt j s) most) most) (firstBelow (settlesAt j s) most + 1) most
 
+-- how many iterations the job's run makes under its own limit
+abbrev pub iterationsRun : Job → ℕ
+iterationsRun j = iterationsMade j (firstState j) (j .terms .limit)
+
 -- all turns of the run, in a log of any length
 unfoldable pub allRecords : Job → List Record
-allRecords j = recordsAfter j (firstState j) (iterationsMade j (firstState j) (j .terms .limit))
+allRecords j = recordsAfter j (firstState j) (iterationsRun j)
 
 -- the turns that are logged in so many words
 unfoldable pub loggedRecords : Job → ℕ → List Record
@@ -48,7 +52,8 @@ loggedRecords j room = fitting room (allRecords j)
 unfoldable pub cutIteration : Job → ℕ → ℕ
 cutIteration j room = getD (map (λ (r : Record). r .iteration) (allRecords j)) (length (loggedRecords j room)) 0
 
--- what a call answers and leaves: the refusal's numbers, none where the job is accepted; iteration, turns and words used; work slice and log
+-- what a call answers and leaves: the refusal's numbers, none where the job is accepted; iteration, turns and words used; work slice
+-- and log
 pub record RouteReply : Type 0 where
   pub refusal : List ℕ
   pub iteration : ℕ
@@ -56,6 +61,14 @@ pub record RouteReply : Type 0 where
   pub used : ℕ
   pub work : List ℕ
   pub log : List ℕ
+
+-- the log that a call made: the words used
+abbrev pub wordsUsed : RouteReply → List ℕ
+wordsUsed r = take (r .used) (r .log)
+
+-- "The logged turns are the records in the words used, in order"
+abbrev pub turnsLogged : RouteReply → List Record
+turnsLogged r = decode (wordsUsed r)
 
 -- 01's numbers for each case of the outcome, beside iteration and turns
 abbrev pub outcomeNumbers : Outcome → ℕ → ℕ → List ℕ
@@ -106,18 +119,18 @@ ranReply j numbers iteration rs work log =
 -- the run's end where every record fits: "nothing over capacity, accepted; else limit reached, refusal 9"
 unfoldable pub endNumbers : Job → List ℕ
 endNumbers j =
-    choose (settlesAt j (firstState j) (iterationsMade j (firstState j) (j .terms .limit) - 1))
+    choose (settlesAt j (firstState j) (iterationsRun j - 1))
     []
-    (9 ∷ j .terms .limit
-    ∷ overCount j (iterationAfter j (firstState j) (iterationsMade j (firstState j) (j .terms .limit) - 1) .state .trees)
-    ∷ [])
+    (9 ∷ j .terms .limit ∷ overCount j (iterationAfter j (firstState j) (iterationsRun j - 1) .state .trees) ∷ [])
 
 -- the reply of the negotiation itself
 unfoldable pub negotiated : Job → List ℕ → List ℕ → RouteReply
 negotiated j work log =
-    choose (ltb (length (loggedRecords j (length log))) (length (allRecords j)))
-    (ranReply j (8 ∷ cutIteration j (length log) ∷ length (loggedRecords j (length log)) ∷ []) (cutIteration j (length log)) (loggedRecords j (length log)) work log)
-    (ranReply j (endNumbers j) (iterationsMade j (firstState j) (j .terms .limit)) (allRecords j) work log)
+    let logged = loggedRecords j (length log) in
+    let cut = cutIteration j (length log) in
+    choose (ltb (length logged) (length (allRecords j)))
+    (ranReply j (8 ∷ cut ∷ length logged ∷ []) cut logged work log)
+    (ranReply j (endNumbers j) (iterationsRun j) (allRecords j) work log)
 
 -- "The router tests 5, 6, 7, then 8 and 9 as they arise"
 unfoldable pub routeReply : Job → List ℕ → List ℕ → RouteReply

@@ -2,11 +2,11 @@
 -- Assumes nothing.
 use mathlib.Core.List.{List, [], _∷_, _++_}
 use Prim.Native.Nat.{ℕ}
-use lib.ListN.{take, replicate}
+use lib.ListN.{replicate}
 use Rattle.price.specs.Samples.{Sample}
 use Rattle.search.specs.Block.{blockOf}
 use Rattle.negotiation.specs.Job.{Job, plainTerms}
-use Rattle.negotiation.specs.Outcome.{RouteReply, routeReply}
+use Rattle.negotiation.specs.Outcome.{RouteReply, wordsUsed, routeReply}
 
 -- job B, under a limit
 abbrev pub jobB : ℕ → Job
@@ -56,30 +56,61 @@ jobDiamond =
       terms = plainTerms 1;
     }
 
--- what a call with enough work memory and so long a log answers and logs: the refusal's numbers; iteration, turns, words used; the words used
+-- what a call with enough work memory and so long a log answers and logs: the refusal's numbers; iteration, turns, words used; these words
 abbrev pub answerOf : RouteReply → List ℕ
-answerOf r = r .refusal ++ (r .iteration ∷ r .turns ∷ r .used ∷ take (r .used) (r .log))
+answerOf r = r .refusal ++ (r .iteration ∷ r .turns ∷ r .used ∷ wordsUsed r)
 
 abbrev pub answer : Job → ℕ → List ℕ
 answer j room = answerOf (routeReply j (replicate 48 7) (replicate room 7))
 
 -- "Accepted, iteration 2, 4 turns, 36 words."
 abbrev pub settled : Sample
-settled = record { stated = 2 ∷ 4 ∷ 36 ∷ 1 ∷ 0 ∷ 4 ∷ 4000 ∷ 0 ∷ 3 ∷ 0 ∷ 2 ∷ 4 ∷ 1 ∷ 1 ∷ 5 ∷ 4000 ∷ 0 ∷ 3 ∷ 1 ∷ 2 ∷ 5 ∷ 2 ∷ 0 ∷ 4 ∷ 6000 ∷ 0 ∷ 3 ∷ 0 ∷ 3 ∷ 4 ∷ 2 ∷ 1 ∷ 5 ∷ 6000 ∷ 0 ∷ 3 ∷ 1 ∷ 2 ∷ 5 ∷ []; defined = answer (jobB 2) 40 }
+settled =
+    record {
+      stated =
+          2 ∷ 4 ∷ 36
+          ∷ 1 ∷ 0 ∷ 4 ∷ 4000 ∷ 0 ∷ 3 ∷ 0 ∷ 2 ∷ 4
+          ∷ 1 ∷ 1 ∷ 5 ∷ 4000 ∷ 0 ∷ 3 ∷ 1 ∷ 2 ∷ 5
+          ∷ 2 ∷ 0 ∷ 4 ∷ 6000 ∷ 0 ∷ 3 ∷ 0 ∷ 3 ∷ 4
+          ∷ 2 ∷ 1 ∷ 5 ∷ 6000 ∷ 0 ∷ 3 ∷ 1 ∷ 2 ∷ 5
+          ∷ [];
+      defined = answer (jobB 2) 40;
+    }
 
 -- "B with limit 1: 9,1,1; 18 words."
 abbrev pub limited : Sample
-limited = record { stated = 9 ∷ 1 ∷ 1 ∷ 1 ∷ 2 ∷ 18 ∷ 1 ∷ 0 ∷ 4 ∷ 4000 ∷ 0 ∷ 3 ∷ 0 ∷ 2 ∷ 4 ∷ 1 ∷ 1 ∷ 5 ∷ 4000 ∷ 0 ∷ 3 ∷ 1 ∷ 2 ∷ 5 ∷ []; defined = answer (jobB 1) 40 }
+limited =
+    record {
+      stated =
+          9 ∷ 1 ∷ 1 ∷ 1 ∷ 2 ∷ 18
+          ∷ 1 ∷ 0 ∷ 4 ∷ 4000 ∷ 0 ∷ 3 ∷ 0 ∷ 2 ∷ 4
+          ∷ 1 ∷ 1 ∷ 5 ∷ 4000 ∷ 0 ∷ 3 ∷ 1 ∷ 2 ∷ 5
+          ∷ [];
+      defined = answer (jobB 1) 40;
+    }
 
 -- "B with a 35-word log: 8,2,3; 27 words."
 abbrev pub filled : Sample
-filled = record { stated = 8 ∷ 2 ∷ 3 ∷ 2 ∷ 3 ∷ 27 ∷ 1 ∷ 0 ∷ 4 ∷ 4000 ∷ 0 ∷ 3 ∷ 0 ∷ 2 ∷ 4 ∷ 1 ∷ 1 ∷ 5 ∷ 4000 ∷ 0 ∷ 3 ∷ 1 ∷ 2 ∷ 5 ∷ 2 ∷ 0 ∷ 4 ∷ 6000 ∷ 0 ∷ 3 ∷ 0 ∷ 3 ∷ 4 ∷ []; defined = answer (jobB 2) 35 }
+filled =
+    record {
+      stated =
+          8 ∷ 2 ∷ 3 ∷ 2 ∷ 3 ∷ 27
+          ∷ 1 ∷ 0 ∷ 4 ∷ 4000 ∷ 0 ∷ 3 ∷ 0 ∷ 2 ∷ 4
+          ∷ 1 ∷ 1 ∷ 5 ∷ 4000 ∷ 0 ∷ 3 ∷ 1 ∷ 2 ∷ 5
+          ∷ 2 ∷ 0 ∷ 4 ∷ 6000 ∷ 0 ∷ 3 ∷ 0 ∷ 3 ∷ 4
+          ∷ [];
+      defined = answer (jobB 2) 35;
+    }
 
 -- "paths 0,1,3 (4000), 1,2 (2000)"
 abbrev pub nearestFirst : Sample
 nearestFirst =
     record {
-      stated = 1 ∷ 2 ∷ 17 ∷ 1 ∷ 0 ∷ 3 ∷ 4000 ∷ 0 ∷ 3 ∷ 0 ∷ 1 ∷ 3 ∷ 1 ∷ 0 ∷ 2 ∷ 2000 ∷ 0 ∷ 2 ∷ 1 ∷ 2 ∷ [];
+      stated =
+          1 ∷ 2 ∷ 17
+          ∷ 1 ∷ 0 ∷ 3 ∷ 4000 ∷ 0 ∷ 3 ∷ 0 ∷ 1 ∷ 3
+          ∷ 1 ∷ 0 ∷ 2 ∷ 2000 ∷ 0 ∷ 2 ∷ 1 ∷ 2
+          ∷ [];
       defined = answer jobC 40;
     }
 
@@ -90,7 +121,13 @@ cutOff = record { stated = 7 ∷ 0 ∷ 0 ∷ 0 ∷ 0 ∷ 0 ∷ []; defined = ans
 -- "path 0,1,3"
 abbrev pub lowestFirst : Sample
 lowestFirst =
-    record { stated = 1 ∷ 1 ∷ 9 ∷ 1 ∷ 0 ∷ 3 ∷ 4000 ∷ 0 ∷ 3 ∷ 0 ∷ 1 ∷ 3 ∷ []; defined = answer jobDiamond 40 }
+    record {
+      stated =
+          1 ∷ 1 ∷ 9
+          ∷ 1 ∷ 0 ∷ 3 ∷ 4000 ∷ 0 ∷ 3 ∷ 0 ∷ 1 ∷ 3
+          ∷ [];
+      defined = answer jobDiamond 40;
+    }
 
 unfoldable pub samples : List Sample
 samples = settled ∷ limited ∷ filled ∷ nearestFirst ∷ cutOff ∷ lowestFirst ∷ []

@@ -47,26 +47,16 @@ pub record Stored (a : ℕ) (xs old new : List ℕ) : Type 0 where
 unfoldable pub sinksFree : ℕ → List ℕ → List ℕ → Bool
 sinksFree n sinks marks = both (every (λ s. ltb s n) sinks) (both (distinct sinks) (every (λ s. eqb (getD marks s 0) 0) sinks))
 
--- the marks of these nodes are set, the others stay
-pub record MarksSet (n : ℕ) (xs marks marks′ : List ℕ) : Type 0 where
-  pub long : length marks′ ≡ length marks
-  pub at : (v : ℕ) → v < n → getD marks′ v 0 ≡ choose (has v xs) 1 (getD marks v 0)
-
--- the marks of these nodes are cleared, the others stay
-pub record MarksCleared (n : ℕ) (xs marks marks′ : List ℕ) : Type 0 where
-  pub long : length marks′ ≡ length marks
-  pub at : (v : ℕ) → v < n → getD marks′ v 0 ≡ choose (has v xs) 0 (getD marks v 0)
-
 -- each of these nodes that was not marked has one user less, and all are marked
 pub record Dropped (n : ℕ) (xs users marks users′ marks′ : List ℕ) : Type 0 where
   pub users-long : length users′ ≡ length users
-  pub marks-set : MarksSet n xs marks marks′
+  pub marks-set : Stored 1 xs marks marks′
   pub users-at : (v : ℕ) → v < n → getD users′ v 0 ≡ getD users v 0 - choose (both (has v xs) (eqb (getD marks v 0) 0)) 1 0
 
 -- each of these nodes that was marked has one user more, and none is marked
 pub record Added (n : ℕ) (xs users marks users′ marks′ : List ℕ) : Type 0 where
   pub users-long : length users′ ≡ length users
-  pub marks-cleared : MarksCleared n xs marks marks′
+  pub marks-cleared : Stored 0 xs marks marks′
   pub users-at : (v : ℕ) → v < n → getD users′ v 0 ≡ getD users v 0 + choose (both (has v xs) (eqb (getD marks v 0) 1)) 1 0
 
 -- nodes that are not marked have a user, so that one can go
@@ -188,21 +178,24 @@ pub record Overflows (t : Turn) (tariff : Tariff) (log log′ : List ℕ) : Type
   pub log-same : log′ ≡ log
 
 -- the turn is logged, and its path is marked
-pub record Logs (n : ℕ) (t : Turn) (tariff : Tariff) (net : ℕ) (sinks log marks : List ℕ) (tariff′ : Tariff) (log′ marks′ : List ℕ) : Type 0 where
+pub record TurnLogged (t : Turn) (tariff : Tariff) (net : ℕ) (sinks log marks : List ℕ) (tariff′ : Tariff) (log′ marks′ : List ℕ) : Type 0 where
   pub place : ℕ
   pub cost : ℕ
   pub path : List ℕ
   pub is-turn : t ≡ joins place cost path
   pub room : tariff .words + (6 + length path) ≤ length log
-  pub log-is : log′ ≡ take (tariff .words) log ++ (words (recordOf (tariff .iteration) net (getD sinks place 0) cost path) ++ drop (tariff .words + (6 + length path)) log)
-  pub marks-set : MarksSet n path marks marks′
+  pub log-is :
+      log′
+      ≡ take (tariff .words) log
+      ++ (words (recordOf (tariff .iteration) net (getD sinks place 0) cost path) ++ drop (tariff .words + (6 + length path)) log)
+  pub marks-set : Stored 1 path marks marks′
   pub tariff-is : tariff′ ≡ loggedTariff tariff (6 + length path)
 
 -- what a turn did, by cases
-abbrev pub TurnDone : (n : ℕ) (r : TurnMade) (t : Turn) (tariff : Tariff) (net : ℕ) (sinks log marks log′ marks′ : List ℕ) → Type 0
-TurnDone n Nothing t tariff net sinks log marks log′ marks′ = Skipped t log marks log′ marks′
-TurnDone n Full t tariff net sinks log marks log′ marks′ = Overflows t tariff log log′
-TurnDone n (Logged tariff′) t tariff net sinks log marks log′ marks′ = Logs n t tariff net sinks log marks tariff′ log′ marks′
+abbrev pub TurnDone : (r : TurnMade) (t : Turn) (tariff : Tariff) (net : ℕ) (sinks log marks log′ marks′ : List ℕ) → Type 0
+TurnDone Nothing t tariff net sinks log marks log′ marks′ = Skipped t log marks log′ marks′
+TurnDone Full t tariff net sinks log marks log′ marks′ = Overflows t tariff log log′
+TurnDone (Logged tariff′) t tariff net sinks log marks log′ marks′ = TurnLogged t tariff net sinks log marks tariff′ log′ marks′
 
 -- a turn can be made: nothing is refused, the words written are within the log, and no count overflows
 pub record CanTurn (b : Block) (tariff : Tariff) (net : ℕ) (sinks history users marks work log : List ℕ) : Type 0 where

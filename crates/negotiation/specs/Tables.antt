@@ -1,4 +1,5 @@
--- Document 01, "Tables and bounds", with the pins' kinds of request 2.5: the rules of tables 5 to 8, and the lowest table of all eight that breaks its rule. A table's length is part of its rule.
+-- Document 01, "Tables and bounds", with the pins' kinds of request 2.5: the rules of tables 5 to 8, and the lowest table of all eight that
+-- breaks its rule. A table's length is part of its rule.
 -- Assumes nothing.
 use mathlib.Core.Bool.{Bool, true, not}
 use mathlib.Core.List.{List}
@@ -83,7 +84,8 @@ faultyNets kinds sources firstSinks sinks terms =
 -- "lowest table that breaks its rule", 0 where none does
 unfoldable pub faultyJob : Job → ℕ
 faultyJob j =
-    choose (leb 1 (faultyTable (j .block))) (faultyTable (j .block)) (faultyNets (j .block .kinds) (j .sources) (j .firstSinks) (j .sinks) (j .terms))
+    choose (leb 1 (faultyTable (j .block))) (faultyTable (j .block))
+    (faultyNets (j .block .kinds) (j .sources) (j .firstSinks) (j .sinks) (j .terms))
 
 -- "Tables are sound when each numbered one has its length and keeps its rule."
 pub record SoundJob (j : Job) : Type 0 where

@@ -16,7 +16,8 @@ fn clear_marks(reached: &mut [u8])
     }
 }
 
-// Marks the targets of node u that are not marked yet. Each waits in the queue, which is the work slice up to `end`; the answer is its new end.
+// Marks the targets of node u that are not marked yet. Each waits in the queue, which is the work slice up to `end`; the answer is its new
+// end.
 fn flood_row(
     kind: &[u8],
     first_edge: &[u32],
@@ -27,7 +28,10 @@ fn flood_row(
     work: &mut [u64],
 ) -> usize
     requires { ⌜ FloodRoom (graphOf (now kind) (now «first_edge») (now «edge_target»)) u end (now reached) (now work) ⌝ }
-    ensures { λ r. ⌜ RowFlooded (graphOf (now (kind .entry)) (now («first_edge» .entry)) (now («edge_target» .entry))) u (rowStart (graphOf (now (kind .entry)) (now («first_edge» .entry)) (now («edge_target» .entry))) (u + 1)) end r (now (reached .entry)) (now (reached .exit)) (now (work .entry)) (now (work .exit)) ⌝ }
+    ensures { λ r. do
+      let graph = graphOf (now (kind .entry)) (now («first_edge» .entry)) (now («edge_target» .entry))
+      let to = rowStart graph (u + 1)
+      ⌜ RowFlooded graph u to end r (now (reached .entry)) (now (reached .exit)) (now (work .entry)) (now (work .exit)) ⌝ }
 {
     let to = first_edge[u + 1] as usize;
     let mut e = first_edge[u] as usize;
@@ -54,7 +58,9 @@ pub fn flood(
     work: &mut [u64],
 )
     requires { ⌜ FloodReady (graphOf (now kind) (now «first_edge») (now «edge_target»)) source (now reached) (now work) ⌝ }
-    ensures { λ _. ⌜ Flooded (graphOf (now (kind .entry)) (now («first_edge» .entry)) (now («edge_target» .entry))) source (now (reached .exit)) (now (work .entry)) (now (work .exit)) ⌝ }
+    ensures { λ _. do
+      let graph = graphOf (now (kind .entry)) (now («first_edge» .entry)) (now («edge_target» .entry))
+      ⌜ Flooded graph source (now (reached .exit)) (now (work .entry)) (now (work .exit)) ⌝ }
 {
     clear_marks(reached);
     reached[source] = 1;

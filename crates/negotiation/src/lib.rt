@@ -1,10 +1,6 @@
 // The negotiation: routes a job given as tables, and logs every turn.
 ghost use mathlib.Core.Path.{_≡_};
-ghost use Prim.Native.Nat.{_≤_};
-ghost use lib.ListN.{length};
-ghost use Rattle.search.specs.Replies.{workNeeded};
 ghost use Rattle.negotiation.specs.Job.{jobOf};
-ghost use Rattle.negotiation.specs.Tables.{SoundJob};
 ghost use Rattle.negotiation.specs.Outcome.{refusedAnswer, routed, routeReply};
 ghost use Rattle.negotiation.specs.Demand.{Demand3};
 
@@ -82,8 +78,14 @@ pub fn route(
     work: &mut [u64],
     log: &mut [u32],
 ) -> Routed
-    ensures answers { λ r. ⌜ routed r (now (work .exit)) (now (log .exit)) ≡ routeReply (jobOf (now (kind .entry)) (now (capacity .entry)) (now («first_edge» .entry)) (now («edge_target» .entry)) (now (source .entry)) (now («first_sink» .entry)) (now (sink .entry)) terms) (now (work .entry)) (now (log .entry)) ⌝ }
-    ensures demand { λ r. ⌜ (SoundJob (jobOf (now (kind .entry)) (now (capacity .entry)) (now («first_edge» .entry)) (now («edge_target» .entry)) (now (source .entry)) (now («first_sink» .entry)) (now (sink .entry)) terms) → workNeeded (length (now (kind .entry))) ≤ length (now (work .entry)) → Demand3 (jobOf (now (kind .entry)) (now (capacity .entry)) (now («first_edge» .entry)) (now («edge_target» .entry)) (now (source .entry)) (now («first_sink» .entry)) (now (sink .entry)) terms) (routed r (now (work .exit)) (now (log .exit)))) ⌝ }
+    ensures answers { λ r. do
+      let job = jobOf (now (kind .entry)) (now (capacity .entry)) (now («first_edge» .entry)) (now («edge_target» .entry))
+          (now (source .entry)) (now («first_sink» .entry)) (now (sink .entry)) terms
+      ⌜ routed r (now (work .exit)) (now (log .exit)) ≡ routeReply job (now (work .entry)) (now (log .entry)) ⌝ }
+    ensures demand { λ r. do
+      let job = jobOf (now (kind .entry)) (now (capacity .entry)) (now («first_edge» .entry)) (now («edge_target» .entry))
+          (now (source .entry)) (now («first_sink» .entry)) (now (sink .entry)) terms
+      ⌜ Demand3 job (now (work .entry)) (now (log .entry)) (routed r (now (work .exit)) (now (log .exit))) ⌝ }
 {
     let table = tables::faulty_job(
         kind,

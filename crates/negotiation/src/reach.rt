@@ -39,7 +39,8 @@ pub fn unreachable(
 ) -> Reach
     requires { ⌜ SoundWith (now kind) (now «first_edge») (now «edge_target») (now source) (now «first_sink») (now sink) ⌝ }
     requires { ⌜ 8 * length (now kind) ≤ length (now work) ⌝ }
-    ensures { λ r. ⌜ FirstMissing (now (kind .entry)) (now («first_edge» .entry)) (now («edge_target» .entry)) (now (source .entry)) (now («first_sink» .entry)) (now (sink .entry)) r ⌝ }
+    ensures { λ r. ⌜ FirstMissing (now (kind .entry)) (now («first_edge» .entry)) (now («edge_target» .entry)) (now (source .entry))
+        (now («first_sink» .entry)) (now (sink .entry)) r ⌝ }
     ensures { λ _. ⌜ SameFrom (8 * length (now (kind .entry))) (now (work .entry)) (now (work .exit)) ⌝ }
 {
     let n = kind.len();

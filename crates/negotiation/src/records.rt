@@ -10,7 +10,9 @@ ghost use Rattle.negotiation.specs.Steps.{AllBelow};
 fn copy_path(work: &[u64], count: usize, log: &mut [u32], at: usize)
     requires { ⌜ (count ≤ length (now work)) × (at + count ≤ length (now log)) ⌝ }
     requires { ⌜ AllBelow (2 ^ 32) (take count (now work)) ⌝ }
-    ensures { λ _. ⌜ now (log .exit) ≡ take at (now (log .entry)) ++ (take count (now (work .entry)) ++ drop (at + count) (now (log .entry))) ⌝ }
+    ensures { λ _. do
+      let old = now (log .entry)
+      ⌜ now (log .exit) ≡ take at old ++ (take count (now (work .entry)) ++ drop (at + count) old) ⌝ }
 {
     let mut k = 0;
     while k < count {
@@ -32,7 +34,10 @@ pub fn write_record(
 )
     requires { ⌜ (count ≤ length (now work)) × (at + (6 + count) ≤ length (now log)) × (count < 2 ^ 32) ⌝ }
     requires { ⌜ AllBelow (2 ^ 32) (take count (now work)) ⌝ }
-    ensures { λ _. ⌜ now (log .exit) ≡ take at (now (log .entry)) ++ (words (recordOf iteration net sink cost (take count (now (work .entry)))) ++ drop (at + (6 + count)) (now (log .entry))) ⌝ }
+    ensures { λ _. do
+      let old = now (log .entry)
+      let turn = recordOf iteration net sink cost (take count (now (work .entry)))
+      ⌜ now (log .exit) ≡ take at old ++ (words turn ++ drop (at + (6 + count)) old) ⌝ }
 {
     log[at] = iteration;
     log[at + 1] = net;

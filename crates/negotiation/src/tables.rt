@@ -165,9 +165,12 @@ fn faulty_nets(kind: &[u8], source: &[u16], first_sink: &[u32], sink: &[u16], te
     0
 }
 
-// The lowest of tables 1 to 4 that breaks its rule, 0 where none does: the cheapest path tests them first, and a work slice of one entry is too short for any job.
+// The lowest of tables 1 to 4 that breaks its rule, 0 where none does: the cheapest path tests them first, and a work slice of one entry is
+// too short for any job.
 fn faulty_block(kind: &[u8], capacity: &[u8], first_edge: &[u32], edge_target: &[u16]) -> u32
-    ensures { λ r. ⌜ r ≡ faultyTable (blockOf (now (kind .entry)) (now (capacity .entry)) (now («first_edge» .entry)) (now («edge_target» .entry))) ⌝ }
+    ensures { λ r. do
+      let block = blockOf (now (kind .entry)) (now (capacity .entry)) (now («first_edge» .entry)) (now («edge_target» .entry))
+      ⌜ r ≡ faultyTable block ⌝ }
 {
     let mut none = [0u64; 1];
     let history = [0u32; 1];
@@ -209,7 +212,10 @@ pub fn faulty_job(
     sink: &[u16],
     terms: Terms,
 ) -> u32
-    ensures { λ r. ⌜ r ≡ faultyJob (jobOf (now (kind .entry)) (now (capacity .entry)) (now («first_edge» .entry)) (now («edge_target» .entry)) (now (source .entry)) (now («first_sink» .entry)) (now (sink .entry)) terms) ⌝ }
+    ensures { λ r. do
+      let job = jobOf (now (kind .entry)) (now (capacity .entry)) (now («first_edge» .entry)) (now («edge_target» .entry))
+          (now (source .entry)) (now («first_sink» .entry)) (now (sink .entry)) terms
+      ⌜ r ≡ faultyJob job ⌝ }
 {
     let table = faulty_block(kind, capacity, first_edge, edge_target);
     if 1 <= table {

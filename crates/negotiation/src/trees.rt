@@ -5,12 +5,12 @@ ghost use Prim.Native.Nat.{_+_, _≤_, _<_};
 ghost use lib.ListN.{length, take};
 ghost use lib.Seq.{slice};
 ghost use Rattle.negotiation.specs.Records.{encode, decode, pathNodes};
-ghost use Rattle.negotiation.specs.Steps.{AllBelow, MarksSet, MarksCleared, Dropped, Added, CanDrop, CanAddMarked, Whole, leading};
+ghost use Rattle.negotiation.specs.Steps.{AllBelow, Stored, Dropped, Added, CanDrop, CanAddMarked, Whole, leading};
 
 // The path at the beginning of the work slice joins the tree.
 pub fn mark_path(work: &[u64], count: usize, in_tree: &mut [u8])
     requires { ⌜ (count ≤ length (now work)) × AllBelow (length (now «in_tree»)) (take count (now work)) ⌝ }
-    ensures { λ _. ⌜ MarksSet (length (now («in_tree» .entry))) (take count (now (work .entry))) (now («in_tree» .entry)) (now («in_tree» .exit)) ⌝ }
+    ensures { λ _. ⌜ Stored 1 (take count (now (work .entry))) (now («in_tree» .entry)) (now («in_tree» .exit)) ⌝ }
 {
     let mut k = 0;
     while k < count {
@@ -25,7 +25,10 @@ fn drop_path(log: &[u32], from: usize, to: usize, users: &mut [u16], in_tree: &m
     requires { ⌜ (from ≤ to) × (to ≤ length (now log)) × (length (now users) ≡ length (now «in_tree»)) ⌝ }
     requires { ⌜ AllBelow (length (now «in_tree»)) (slice from to (now log)) ⌝ }
     requires { ⌜ CanDrop (length (now «in_tree»)) (slice from to (now log)) (now users) (now «in_tree») ⌝ }
-    ensures { λ _. ⌜ Dropped (length (now («in_tree» .entry))) (slice from to (now (log .entry))) (now (users .entry)) (now («in_tree» .entry)) (now (users .exit)) (now («in_tree» .exit)) ⌝ }
+    ensures { λ _. do
+      let path = slice from to (now (log .entry))
+      let marks = now («in_tree» .entry)
+      ⌜ Dropped (length marks) path (now (users .entry)) marks (now (users .exit)) (now («in_tree» .exit)) ⌝ }
 {
     let mut k = from;
     while k < to {
@@ -43,7 +46,10 @@ fn add_path(log: &[u32], from: usize, to: usize, users: &mut [u16], in_tree: &mu
     requires { ⌜ (from ≤ to) × (to ≤ length (now log)) × (length (now users) ≡ length (now «in_tree»)) ⌝ }
     requires { ⌜ AllBelow (length (now «in_tree»)) (slice from to (now log)) ⌝ }
     requires { ⌜ CanAddMarked (length (now «in_tree»)) (now users) (now «in_tree») ⌝ }
-    ensures { λ _. ⌜ Added (length (now («in_tree» .entry))) (slice from to (now (log .entry))) (now (users .entry)) (now («in_tree» .entry)) (now (users .exit)) (now («in_tree» .exit)) ⌝ }
+    ensures { λ _. do
+      let path = slice from to (now (log .entry))
+      let marks = now («in_tree» .entry)
+      ⌜ Added (length marks) path (now (users .entry)) marks (now (users .exit)) (now («in_tree» .exit)) ⌝ }
 {
     let mut k = from;
     while k < to {
@@ -60,7 +66,7 @@ fn add_path(log: &[u32], from: usize, to: usize, users: &mut [u16], in_tree: &mu
 fn unmark_path(log: &[u32], from: usize, to: usize, in_tree: &mut [u8])
     requires { ⌜ (from ≤ to) × (to ≤ length (now log)) ⌝ }
     requires { ⌜ AllBelow (length (now «in_tree»)) (slice from to (now log)) ⌝ }
-    ensures { λ _. ⌜ MarksCleared (length (now («in_tree» .entry))) (slice from to (now (log .entry))) (now («in_tree» .entry)) (now («in_tree» .exit)) ⌝ }
+    ensures { λ _. ⌜ Stored 0 (slice from to (now (log .entry))) (now («in_tree» .entry)) (now («in_tree» .exit)) ⌝ }
 {
     let mut k = from;
     while k < to {
@@ -70,7 +76,8 @@ fn unmark_path(log: &[u32], from: usize, to: usize, in_tree: &mut [u8])
     }
 }
 
-// The records of a net at the beginning of the words from `from` to below `until` lose their users. The answer is where the next net's records begin.
+// The records of a net at the beginning of the words from `from` to below `until` lose their users. The answer is where the next net's
+// records begin.
 pub fn drop_records(
     log: &[u32],
     from: usize,
@@ -81,9 +88,14 @@ pub fn drop_records(
 ) -> usize
     requires { ⌜ (from ≤ until) × (until ≤ length (now log)) × (length (now users) ≡ length (now «in_tree»)) ⌝ }
     requires { ⌜ Whole (length (now «in_tree»)) (slice from until (now log)) ⌝ }
-    requires { ⌜ CanDrop (length (now «in_tree»)) (pathNodes (leading net (decode (slice from until (now log))))) (now users) (now «in_tree») ⌝ }
+    requires { do
+      let old = leading net (decode (slice from until (now log)))
+      ⌜ CanDrop (length (now «in_tree»)) (pathNodes old) (now users) (now «in_tree») ⌝ }
     ensures { λ r. ⌜ r ≡ from + length (encode (leading net (decode (slice from until (now (log .entry)))))) ⌝ }
-    ensures { λ _. ⌜ Dropped (length (now («in_tree» .entry))) (pathNodes (leading net (decode (slice from until (now (log .entry)))))) (now (users .entry)) (now («in_tree» .entry)) (now (users .exit)) (now («in_tree» .exit)) ⌝ }
+    ensures { λ _. do
+      let old = leading net (decode (slice from until (now (log .entry))))
+      let marks = now («in_tree» .entry)
+      ⌜ Dropped (length marks) (pathNodes old) (now (users .entry)) marks (now (users .exit)) (now («in_tree» .exit)) ⌝ }
 {
     let mut at = from;
     let mut go = at < until;
@@ -104,7 +116,9 @@ pub fn drop_records(
 pub fn unmark_records(log: &[u32], from: usize, until: usize, in_tree: &mut [u8])
     requires { ⌜ (from ≤ until) × (until ≤ length (now log)) ⌝ }
     requires { ⌜ Whole (length (now «in_tree»)) (slice from until (now log)) ⌝ }
-    ensures { λ _. ⌜ MarksCleared (length (now («in_tree» .entry))) (pathNodes (decode (slice from until (now (log .entry))))) (now («in_tree» .entry)) (now («in_tree» .exit)) ⌝ }
+    ensures { λ _. do
+      let passed = pathNodes (decode (slice from until (now (log .entry))))
+      ⌜ Stored 0 passed (now («in_tree» .entry)) (now («in_tree» .exit)) ⌝ }
 {
     let mut at = from;
     while at < until {
@@ -119,7 +133,10 @@ pub fn add_records(log: &[u32], from: usize, until: usize, users: &mut [u16], in
     requires { ⌜ (from ≤ until) × (until ≤ length (now log)) × (length (now users) ≡ length (now «in_tree»)) ⌝ }
     requires { ⌜ Whole (length (now «in_tree»)) (slice from until (now log)) ⌝ }
     requires { ⌜ CanAddMarked (length (now «in_tree»)) (now users) (now «in_tree») ⌝ }
-    ensures { λ _. ⌜ Added (length (now («in_tree» .entry))) (pathNodes (decode (slice from until (now (log .entry))))) (now (users .entry)) (now («in_tree» .entry)) (now (users .exit)) (now («in_tree» .exit)) ⌝ }
+    ensures { λ _. do
+      let passed = pathNodes (decode (slice from until (now (log .entry))))
+      let marks = now («in_tree» .entry)
+      ⌜ Added (length marks) passed (now (users .entry)) marks (now (users .exit)) (now («in_tree» .exit)) ⌝ }
 {
     let mut at = from;
     while at < until {

@@ -11,7 +11,8 @@ ghost use Rattle.negotiation.specs.Job.{jobOf};
 ghost use Rattle.negotiation.specs.Tables.{SoundJob};
 ghost use Rattle.negotiation.specs.Outcome.{negotiated, routed};
 ghost use Rattle.negotiation.specs.Records.{decode, pathNodes};
-ghost use Rattle.negotiation.specs.Steps.{SameFrom, leading, oldTree, oldNext, RipReady, RippedUp, CountReady, Counted, TurnDone, CanTurn};
+ghost use Rattle.negotiation.specs.Steps.{SameFrom, leading, oldTree, oldNext, RipReady, RippedUp};
+ghost use Rattle.negotiation.specs.Steps.{CountReady, Counted, TurnDone, CanTurn};
 use crate::Outcome;
 use crate::Routed;
 use crate::Terms;
@@ -36,7 +37,8 @@ pub enum TurnMade {
 // The tariff at the next iteration's start.
 fn next_iteration(t: Tariff, g: Tuning) -> Tariff
     requires { ⌜ t .iteration < 100 ⌝ }
-    ensures { λ r. ⌜ (r .iteration ≡ t .iteration + 1) × (r .factor ≡ nextFactor g (t .iteration) (t .factor)) × (r .turns ≡ t .turns) × (r .words ≡ t .words) ⌝ }
+    ensures { λ r. ⌜ (r .iteration ≡ t .iteration + 1) × (r .factor ≡ nextFactor g (t .iteration) (t .factor))
+        × (r .turns ≡ t .turns) × (r .words ≡ t .words) ⌝ }
 {
     tariff::iteration_started(tariff::iteration_ended(t, g))
 }
@@ -78,7 +80,10 @@ fn rip_up(
 ) -> usize
     requires { ⌜ RipReady (length (now «in_tree»)) iteration net from at until (now log) (now users) (now «in_tree») ⌝ }
     ensures { λ r. ⌜ r ≡ oldNext iteration at (leading net (decode (slice at until (now (log .entry))))) ⌝ }
-    ensures { λ _. ⌜ RippedUp (length (now («in_tree» .entry))) (oldTree iteration from (leading net (decode (slice at until (now (log .entry)))))) (now (users .entry)) (now («in_tree» .entry)) (now (users .exit)) (now («in_tree» .exit)) ⌝ }
+    ensures { λ _. do
+      let tree = oldTree iteration from (leading net (decode (slice at until (now (log .entry)))))
+      let marks = now («in_tree» .entry)
+      ⌜ RippedUp (length marks) tree (now (users .entry)) marks (now (users .exit)) (now («in_tree» .exit)) ⌝ }
 {
     if iteration <= 1 {
         return at;
@@ -101,7 +106,10 @@ fn count_tree(
     in_tree: &mut [u8],
 )
     requires { ⌜ CountReady (length (now «in_tree»)) from at until (now log) (now users) (now «in_tree») ⌝ }
-    ensures { λ _. ⌜ Counted (length (now («in_tree» .entry))) (from ∷ pathNodes (decode (slice at until (now (log .entry))))) (now (users .entry)) (now («in_tree» .entry)) (now (users .exit)) (now («in_tree» .exit)) ⌝ }
+    ensures { λ _. do
+      let tree = from ∷ pathNodes (decode (slice at until (now (log .entry))))
+      let marks = now («in_tree» .entry)
+      ⌜ Counted (length marks) tree (now (users .entry)) marks (now (users .exit)) (now («in_tree» .exit)) ⌝ }
 {
     trees::add_records(log, at, until, users, in_tree);
     if in_tree[from] == 1 {
@@ -125,8 +133,15 @@ fn one_turn(
     users: &[u16],
     in_tree: &mut [u8],
 ) -> TurnMade
-    requires { ⌜ CanTurn (blockOf (now kind) (now capacity) (now «first_edge») (now «edge_target»)) tariff net (now sinks) (now history) (now users) (now «in_tree») (now work) (now log) ⌝ }
-    ensures { λ r. ⌜ TurnDone (length (now (kind .entry))) r (turn (blockOf (now (kind .entry)) (now (capacity .entry)) (now («first_edge» .entry)) (now («edge_target» .entry))) (priceAt (blockOf (now (kind .entry)) (now (capacity .entry)) (now («first_edge» .entry)) (now («edge_target» .entry))) (congestionOf (tariff .factor) (now (history .entry)) (now (users .entry)))) (now («in_tree» .entry)) (now (sinks .entry))) tariff net (now (sinks .entry)) (now (log .entry)) (now («in_tree» .entry)) (now (log .exit)) (now («in_tree» .exit)) ⌝ }
+    requires { do
+      let block = blockOf (now kind) (now capacity) (now «first_edge») (now «edge_target»)
+      ⌜ CanTurn block tariff net (now sinks) (now history) (now users) (now «in_tree») (now work) (now log) ⌝ }
+    ensures { λ r. do
+      let block = blockOf (now (kind .entry)) (now (capacity .entry)) (now («first_edge» .entry)) (now («edge_target» .entry))
+      let price = priceAt block (congestionOf (tariff .factor) (now (history .entry)) (now (users .entry)))
+      let marks = now («in_tree» .entry)
+      let made = turn block price marks (now (sinks .entry))
+      ⌜ TurnDone r made tariff net (now (sinks .entry)) (now (log .entry)) marks (now (log .exit)) (now («in_tree» .exit)) ⌝ }
     ensures { λ _. ⌜ SameFrom (8 * length (now (kind .entry))) (now (work .entry)) (now (work .exit)) ⌝ }
 {
     let factor = tariff.factor;
@@ -162,8 +177,8 @@ fn one_turn(
     TurnMade::Logged(tariff::turn_logged(tariff, 6 + count))
 }
 
-// The negotiation: in each iteration every net in order drops its old tree and makes turns until its sinks are joined. Routing stops inside a net at
-// the first turn whose record does not fit.
+// The negotiation: in each iteration every net in order drops its old tree and makes turns until its sinks are joined. Routing stops inside
+// a net at the first turn whose record does not fit.
 pub fn negotiate(
     kind: &[u8],
     capacity: &[u8],
@@ -176,9 +191,13 @@ pub fn negotiate(
     work: &mut [u64],
     log: &mut [u32],
 ) -> Routed
-    requires { ⌜ SoundJob (jobOf (now kind) (now capacity) (now «first_edge») (now «edge_target») (now source) (now «first_sink») (now sink) terms) ⌝ }
+    requires { ⌜ SoundJob (jobOf (now kind) (now capacity) (now «first_edge») (now «edge_target»)
+        (now source) (now «first_sink») (now sink) terms) ⌝ }
     requires { ⌜ 8 * length (now kind) ≤ length (now work) ⌝ }
-    ensures { λ r. ⌜ routed r (now (work .exit)) (now (log .exit)) ≡ negotiated (jobOf (now (kind .entry)) (now (capacity .entry)) (now («first_edge» .entry)) (now («edge_target» .entry)) (now (source .entry)) (now («first_sink» .entry)) (now (sink .entry)) terms) (now (work .entry)) (now (log .entry)) ⌝ }
+    ensures { λ r. do
+      let job = jobOf (now (kind .entry)) (now (capacity .entry)) (now («first_edge» .entry)) (now («edge_target» .entry))
+          (now (source .entry)) (now («first_sink» .entry)) (now (sink .entry)) terms
+      ⌜ routed r (now (work .exit)) (now (log .exit)) ≡ negotiated job (now (work .entry)) (now (log .entry)) ⌝ }
 {
     let n = kind.len();
     let mut history = [1u32; 4096];

@@ -5,15 +5,22 @@ use mathlib.Core.Path.{sym}
 use native.Mathlib.Nat.{le-of-eq, le-trans}
 use native.Mathlib.Omega.{arith}
 use Rattle.search.proofs.BlockLaws.{kinds-few}
-use Rattle.negotiation.specs.Job.{jobOf}
+use Rattle.negotiation.specs.Job.{Job, jobOf}
 use Rattle.negotiation.specs.Tables.{SoundJob}
 use Rattle.negotiation.proofs.RouteLaws.{table-refused, tables-sound, work-refused, unreachable-refused, run-answered}
 use borrow.Author.Needs.{needs}
 use Rattle.negotiation.proofs.route.Statement.{statement}
 use Rattle.negotiation.proofs.route.Tie as tie
 
+-- the job that is lent
+abbrev job : tie.Else1 → Job
+job c =
+    let lent = c .before .before .before .before .before .before .before .before .before .before .before .args in
+    jobOf (lent .kind .now) (lent .capacity .now) (lent .first-edge .now) (lent .edge-target .now)
+    (lent .source .now) (lent .first-sink .now) (lent .sink .now) (lent .terms)
+
 -- no table is faulty
-sound : (c : tie.Else1) → SoundJob (jobOf (c .before .before .before .before .before .before .before .before .before .before .before .args .kind .now) (c .before .before .before .before .before .before .before .before .before .before .before .args .capacity .now) (c .before .before .before .before .before .before .before .before .before .before .before .args .first-edge .now) (c .before .before .before .before .before .before .before .before .before .before .before .args .edge-target .now) (c .before .before .before .before .before .before .before .before .before .before .before .args .source .now) (c .before .before .before .before .before .before .before .before .before .before .before .args .first-sink .now) (c .before .before .before .before .before .before .before .before .before .before .before .args .sink .now) (c .before .before .before .before .before .before .before .before .before .before .before .args .terms))
+sound : (c : tie.Else1) → SoundJob (job c)
 sound c = tables-sound _ [] [] _ (c .before .faulty-job .ensures) (c .if1 .left)
 
 faulty-job-requires : tie.Need-faulty-job-requires
@@ -50,15 +57,24 @@ enum-told : tie.Need-enum-told
 enum-told c = search needs
 
 negotiate-requires : tie.Need-negotiate-requires
-negotiate-requires c κs = (sound (c .before .before .before .before .before .before .before .before .before), le-trans (c .before .before .before .before .before .before .before .before .if2 .left) (le-of-eq (sym (c .before .before .before .before .before .before .unreachable .ensures .1 .long))))
+negotiate-requires c κs =
+    let reached = c .before .before .before .before .before .before in
+    let long-enough = reached .before .before in
+    let tested = long-enough .before in
+    (sound tested, le-trans (long-enough .if2 .left) (le-of-eq (sym (reached .unreachable .ensures .1 .long))))
 
 same-length : tie.Need-same-length
 same-length c = search needs
 
 returns-3 : tie.Need-returns-3
 returns-3 c =
-    unreachable-refused _ _ _ _ (c .before .before .before .before .before .before .before .before .before .before .before .before .before .before .faulty-job .ensures) (c .before .before .before .before .before .before .before .before .before .before .before .before .before .if1 .left) (c .before .before .before .before .before .before .before .before .before .before .before .before .if2 .left) _ (c .before .before .before .before .before .before .before .before .before .before .unreachable .ensures .1) _ (c .before .before .before .before .before .before .before .before .before .before .unreachable .ensures .0 _ _ (sound (c .before .before .before .before .before .before .before .before .before .before .before .before .before)))
-    _ _ _ _ (c .before .before .before .before .before .before .net .given .1) (c .refused3 .ensures) (c .before .before .before .clear .ensures)
+    let found = c .before .before .before .before .before .before in
+    let reached = found .before .before .before .before in
+    let long-enough = reached .before .before in
+    let tested = long-enough .before in
+    unreachable-refused _ _ _ _ (tested .before .faulty-job .ensures) (tested .if1 .left) (long-enough .if2 .left) _
+    (reached .unreachable .ensures .1) _ (reached .unreachable .ensures .0 _ _ (sound tested))
+    _ _ _ _ (found .net .given .1) (c .refused3 .ensures) (c .before .before .before .clear .ensures)
 
 same-length-2 : tie.Need-same-length-2
 same-length-2 c = search needs
@@ -68,8 +84,14 @@ same-length-3 c = search needs
 
 returns-4 : tie.Need-returns-4
 returns-4 c =
-    run-answered _ _ _ _ (c .before .before .before .before .before .before .before .before .before .before .before .before .before .before .before .faulty-job .ensures) (c .before .before .before .before .before .before .before .before .before .before .before .before .before .before .if1 .left) (c .before .before .before .before .before .before .before .before .before .before .before .before .before .if2 .left) _ (c .before .before .before .before .before .before .before .before .before .before .before .unreachable .ensures .1) _ (c .before .before .before .before .before .before .before .before .before .before .before .unreachable .ensures .0 _ _ (sound (c .before .before .before .before .before .before .before .before .before .before .before .before .before .before)))
-    (c .before .before .before .before .negotiate .result) _ _ (c .before .before .before .before .before .before .before .enum-told .given .1) (c .before .before .before .before .negotiate .ensures)
+    let ran = c .before .before .before .before in
+    let told = ran .before .before .before in
+    let reached = told .before .before .before .before in
+    let long-enough = reached .before .before in
+    let tested = long-enough .before in
+    run-answered _ _ _ _ (tested .before .faulty-job .ensures) (tested .if1 .left) (long-enough .if2 .left) _
+    (reached .unreachable .ensures .1) _ (reached .unreachable .ensures .0 _ _ (sound tested))
+    (ran .negotiate .result) _ _ (told .enum-told .given .1) (ran .negotiate .ensures)
 
 pub route-spec : {M : Type 1} → statement M
 route-spec =

@@ -4,7 +4,8 @@ use Prim.Native.Nat.{_-_}
 use native.Mathlib.Omega.{arith}
 use lib.ListN.{length, take}
 use Rattle.negotiation.specs.Steps.{Stored}
-use Rattle.negotiation.proofs.SinkMarkLaws.{stored-none, stored-more, stored-all}
+use Rattle.negotiation.proofs.MarkLaws.{stored-none}
+use Rattle.negotiation.proofs.SinkMarkLaws.{stored-more, stored-all}
 use Rattle.negotiation.proofs.tables.unmark_sinks.Statement.{statement}
 use Rattle.negotiation.proofs.tables.unmark_sinks.Tie as tie
 

@@ -5,13 +5,13 @@ use native.Mathlib.Omega.{arith}
 use lib.ListN.{length, getD}
 use lib.Seq.{slice}
 use denote.Ref.{now}
-use Rattle.negotiation.specs.Steps.{MarksSet}
-use Rattle.negotiation.proofs.MarkLaws.{Between, between-none, between-more, between-all, node-below, passed-more, set-none, set-one, set-append}
+use Rattle.negotiation.specs.Steps.{Stored}
+use Rattle.negotiation.proofs.MarkLaws.{Between, between-none, between-more, between-all, node-below, passed-more, stored-none, stored-one, stored-append}
 use Rattle.negotiation.proofs.trees.mark_path.Statement.{statement}
 use Rattle.negotiation.proofs.trees.mark_path.Tie as tie
 
 abbrev Inv-loop : tie.InvT-loop
-Inv-loop work count in-tree₀ k₀ in-tree k = Between 0 count k work × MarksSet (length in-tree₀) (slice 0 k work) in-tree₀ in-tree
+Inv-loop work count in-tree₀ k₀ in-tree k = Between 0 count k work × Stored 1 (slice 0 k work) in-tree₀ in-tree
 
 abbrev μ-loop : tie.MeasureT-loop
 μ-loop work count in-tree₀ k₀ in-tree k = count - k
@@ -22,7 +22,7 @@ node c =
     rw (inv .1 .long) (node-below (c .loop-test .taken) (c .before .before .pre .1) (inv .0))
 
 loop-holds : tie.Need-loop-holds Inv-loop μ-loop
-loop-holds c = (between-none _ _ _ (omega arith) (c .pre .0), set-none _ _)
+loop-holds c = (between-none _ _ _ (omega arith) (c .pre .0), stored-none _ _)
 
 mul-v : tie.Need-mul-v Inv-loop μ-loop
 mul-v c = omega arith
@@ -43,7 +43,7 @@ loop-again : tie.Need-loop-again Inv-loop μ-loop
 loop-again c =
     let inside = c .before in
     let inv = inside .before .loop .inv in
-    (between-more (inside .loop-test .taken) (inv .0), rw (passed-more (inside .loop-test .taken) (inv .0)) (set-append (inv .1) (set-one _ _ _ (node inside))))
+    (between-more (inside .loop-test .taken) (inv .0), rw (passed-more (inside .loop-test .taken) (inv .0)) (stored-append (inv .1) (stored-one _ _ _ (node inside))))
 
 same-length : tie.Need-same-length Inv-loop μ-loop
 same-length c = c .before .loop .inv .1 .long

@@ -5,13 +5,13 @@ use native.Mathlib.Omega.{arith}
 use lib.ListN.{length, getD}
 use lib.Seq.{slice, slice-empty}
 use denote.Ref.{now}
-use Rattle.negotiation.specs.Steps.{MarksCleared}
-use Rattle.negotiation.proofs.MarkLaws.{Between, between-none, between-more, between-all, node-below, passed-more, cleared-none, cleared-one, cleared-append}
+use Rattle.negotiation.specs.Steps.{Stored}
+use Rattle.negotiation.proofs.MarkLaws.{Between, between-none, between-more, between-all, node-below, passed-more, stored-none, stored-one, stored-append}
 use Rattle.negotiation.proofs.trees.unmark_path.Statement.{statement}
 use Rattle.negotiation.proofs.trees.unmark_path.Tie as tie
 
 abbrev Inv-loop : tie.InvT-loop
-Inv-loop log from to in-tree₀ k₀ in-tree k = Between from to k log × MarksCleared (length in-tree₀) (slice from k log) in-tree₀ in-tree
+Inv-loop log from to in-tree₀ k₀ in-tree k = Between from to k log × Stored 0 (slice from k log) in-tree₀ in-tree
 
 abbrev μ-loop : tie.MeasureT-loop
 μ-loop log from to in-tree₀ k₀ in-tree k = to - k
@@ -22,7 +22,7 @@ node c =
     rw (inv .1 .long) (node-below (c .loop-test .taken) (c .before .before .pre .1) (inv .0))
 
 loop-holds : tie.Need-loop-holds Inv-loop μ-loop
-loop-holds c = (between-none _ _ _ (c .pre .0 .0) (c .pre .0 .1), rw slice-empty (cleared-none _ _))
+loop-holds c = (between-none _ _ _ (c .pre .0 .0) (c .pre .0 .1), rw slice-empty (stored-none _ _))
 
 mul-v : tie.Need-mul-v Inv-loop μ-loop
 mul-v c = omega arith
@@ -46,7 +46,7 @@ loop-again : tie.Need-loop-again Inv-loop μ-loop
 loop-again c =
     let inside = c .before in
     let inv = inside .before .loop .inv in
-    (between-more (inside .loop-test .taken) (inv .0), rw (passed-more (inside .loop-test .taken) (inv .0)) (cleared-append (inv .1) (cleared-one _ _ _ (node inside))))
+    (between-more (inside .loop-test .taken) (inv .0), rw (passed-more (inside .loop-test .taken) (inv .0)) (stored-append (inv .1) (stored-one _ _ _ (node inside))))
 
 same-length : tie.Need-same-length Inv-loop μ-loop
 same-length c = c .before .loop .inv .1 .long

@@ -21,7 +21,11 @@ same-length-2 : tie.Need-same-length-2
 same-length-2 c = search needs
 
 returns : tie.Need-returns
-returns c = turn-other (c .before .before .before .before .before .before .before .before .before .before .before .before .before .before .before .before .pre) (c .before .before .before .cheapest-path .result) (λ place cost count e. miss (1 ∷ 2 ∷ 3 ∷ 4 ∷ []) 0 tt (rw e at (c .match .keys2))) (c .before .before .before .cheapest-path .ensures .0)
+returns c =
+    let called = c .before .before .before in
+    let entry = called .before .before .before .before .before .before .before .before .before .before .before .before .before in
+    turn-other (entry .pre) (called .cheapest-path .result)
+    (λ place cost count e. miss (1 ∷ 2 ∷ 3 ∷ 4 ∷ []) 0 tt (rw e at (c .match .keys2))) (called .cheapest-path .ensures .0)
 
 cast-count : tie.Need-cast-count
 cast-count c = search needs
@@ -40,8 +44,11 @@ same-length-4 c = search needs
 
 returns-2 : tie.Need-returns-2
 returns-2 c =
-    let j = turn-joined (c .before .before .before .before .before .before .before .before .before .before .before .before .before .before .before .before .before .before .before .pre) (c .before .before .answer .given .1) (c .before .before .before .before .before .before .cheapest-path .ensures .0) in
-    (turn-full j (c .if1 .taken) (c .before .before .before .before .before .before .before .before .before .before .before .before .before .before .before .before .before .before .before .pre .within), j .rest)
+    let answered = c .before .before in
+    let called = answered .before .before .before .before in
+    let entry = called .before .before .before .before .before .before .before .before .before .before .before .before .before in
+    let j = turn-joined (entry .pre) (answered .answer .given .1) (called .cheapest-path .ensures .0) in
+    (turn-full j (c .if1 .taken) (entry .pre .within), j .rest)
 
 cast-p : tie.Need-cast-p
 cast-p c = search needs
@@ -50,19 +57,30 @@ mul-write-record : tie.Need-mul-write-record
 mul-write-record c = search needs
 
 shared-slice-read-write-record : tie.Need-shared-slice-read-write-record
-shared-slice-read-write-record c = (turn-joined (c .before .before .before .before .before .before .before .before .before .before .before .before .before .before .before .before .before .before .before .before .before .pre) (c .before .before .before .before .answer .given .1) (c .before .before .before .before .before .before .before .before .cheapest-path .ensures .0)) .within
+shared-slice-read-write-record c =
+    let answered = c .before .before .before .before in
+    let called = answered .before .before .before .before in
+    let entry = called .before .before .before .before .before .before .before .before .before .before .before .before .before in
+    turn-joined (entry .pre) (answered .answer .given .1) (called .cheapest-path .ensures .0) .within
 
 cast-write-record : tie.Need-cast-write-record
 cast-write-record c = omega (arith, c .shared-slice-known8 .given (c .before .before .before .before .answer .given .0 .0))
 
 write-record-requires : tie.Need-write-record-requires
 write-record-requires c κs =
-    let j = turn-joined (c .before .before .before .before .before .before .before .before .before .before .before .before .before .before .before .before .before .before .before .before .before .before .pre) (c .before .before .before .before .before .answer .given .1) (c .before .before .before .before .before .before .before .before .before .cheapest-path .ensures .0) in
-    ((j .long, omega (arith, c .before .before .before .if1 .left, c .before .before .before .before .before .before .before .before .before .before .before .before .before .before .before .before .before .before .before .before .before .before .pre .within), omega (arith, j .few)), j .small)
+    let tested = c .before .before .before in
+    let answered = tested .before .before in
+    let called = answered .before .before .before .before in
+    let entry = called .before .before .before .before .before .before .before .before .before .before .before .before .before in
+    let j = turn-joined (entry .pre) (answered .answer .given .1) (called .cheapest-path .ensures .0) in
+    ((j .long, omega (arith, tested .if1 .left, entry .pre .within), omega (arith, j .few)), j .small)
 
 mark-path-requires : tie.Need-mark-path-requires
 mark-path-requires c κs =
-    let j = turn-joined (c .before .before .before .before .before .before .before .before .before .before .before .before .before .before .before .before .before .before .before .before .before .before .before .before .before .before .before .pre) (c .before .before .before .before .before .before .before .before .before .before .answer .given .1) (c .before .before .before .before .before .before .before .before .before .before .before .before .before .before .cheapest-path .ensures .0) in
+    let answered = c .before .before .before .before .before .before .before .before .before .before in
+    let called = answered .before .before .before .before in
+    let entry = called .before .before .before .before .before .before .before .before .before .before .before .before .before in
+    let j = turn-joined (entry .pre) (answered .answer .given .1) (called .cheapest-path .ensures .0) in
     (j .long, j .nodes-below)
 
 add-turn-logged : tie.Need-add-turn-logged
@@ -70,7 +88,12 @@ add-turn-logged c = search needs
 
 turn-logged-requires : tie.Need-turn-logged-requires
 turn-logged-requires c κs =
-    (omega (arith, c .before .before .before .before .before .before .before .before .before .before .before .if1 .left, c .before .before .before .before .before .before .before .before .before .before .before .before .before .before .before .before .before .before .before .before .before .before .before .before .before .before .before .before .before .before .pre .within, c .before .before .before .before .before .before .before .before .before .before .before .before .before .before .before .before .before .before .before .before .before .before .before .before .before .before .before .before .before .before .good .1 .1 .1 .1 .1 .1 .1 .1 .0 .1, c .before .before .before .before .before .before .before .before .before .before .before .before .before .before .before .before .before .before .before .before .before .before .before .before .before .before .before .before .before .before .pre .few-turns), omega (arith, c .before .before .before .before .before .before .before .before .before .before .before .if1 .left, c .before .before .before .before .before .before .before .before .before .before .before .before .before .before .before .before .before .before .before .before .before .before .before .before .before .before .before .before .before .before .pre .within, c .before .before .before .before .before .before .before .before .before .before .before .before .before .before .before .before .before .before .before .before .before .before .before .before .before .before .before .before .before .before .good .1 .1 .1 .1 .1 .1 .1 .1 .0 .1))
+    let tested = c .before .before .before .before .before .before .before .before .before .before .before in
+    let entry = tested .before .before .before .before .before .before .before .before .before .before .before .before .before .before .before .before .before .before .before in
+    let log-short = entry .good .1 .1 .1 .1 .1 .1 .1 .1 .0 .1 in (
+      omega (arith, tested .if1 .left, entry .pre .within, log-short, entry .pre .few-turns),
+      omega (arith, tested .if1 .left, entry .pre .within, log-short),
+    )
 
 same-length-5 : tie.Need-same-length-5
 same-length-5 c = search needs
@@ -83,10 +106,14 @@ same-length-7 c = search needs
 
 returns-3 : tie.Need-returns-3
 returns-3 c =
-    let j = turn-joined (c .before .before .before .before .before .before .before .before .before .before .before .before .before .before .before .before .before .before .before .before .before .before .before .before .before .before .before .before .before .before .before .pre) (c .before .before .before .before .before .before .before .before .before .before .before .before .before .before .answer .given .1) (c .before .before .before .before .before .before .before .before .before .before .before .before .before .before .before .before .before .before .cheapest-path .ensures .0) in (
-      turn-logs j (c .before .before .before .before .before .before .before .before .before .before .before .before .before .before .before .before .before .before .before .before .before .before .before .before .before .before .before .before .before .before .before .pre .marks-long) (omega (arith, c .before .before .before .before .before .before .before .before .before .before .before .before .if1 .left, c .before .before .before .before .before .before .before .before .before .before .before .before .before .before .before .before .before .before .before .before .before .before .before .before .before .before .before .before .before .before .before .pre .within)) (c .before .before .before .before .before .before .before .before .write-record .ensures) (c .before .before .before .mark-path .ensures) (c .turn-logged .ensures),
-      j .rest,
-    )
+    let marked = c .before .before .before in
+    let written = marked .before .before .before .before .before in
+    let tested = written .before .before .before .before in
+    let answered = tested .before .before in
+    let called = answered .before .before .before .before in
+    let entry = called .before .before .before .before .before .before .before .before .before .before .before .before .before in
+    let j = turn-joined (entry .pre) (answered .answer .given .1) (called .cheapest-path .ensures .0) in
+    (turn-logs j (omega (arith, tested .if1 .left, entry .pre .within)) (written .write-record .ensures) (marked .mark-path .ensures) (c .turn-logged .ensures), j .rest)
 
 pub one-turn-spec : {M : Type 1} → statement M
 one-turn-spec =

@@ -53,29 +53,44 @@ unmark-records-requires : tie.Need-unmark-records-requires
 unmark-records-requires c κs =
     let start = c .before .before .before .before .before .before .before .before .before .before .before .before .before in
     let called = c .before .before .before .before .before .drop-records in
-    let marks-long : length (called .last .1 .1 .1 .1 .1 .0) ≡ length (start .args .in-tree .now) = called .ensures .1 .marks-set .long ∙ length-set (start .args .in-tree .now) (start .args .from) 1 in
+    let marks = start .args .in-tree .now in
+    let marks-long : length (called .last .1 .1 .1 .1 .1 .0) ≡ length marks = called .ensures .1 .marks-set .long ∙ length-set marks (start .args .from) 1 in
     let ready = start .pre in
+    let at = start .args .at in
+    let log = start .args .log .now in
+    let old = leading (start .args .net) (decode (slice at (start .args .until) log)) in
     let within = front-within _ (start .args .net) _ _ _ (ready .order) (ready .within) (ready .whole) in
     rw (called .ensures .0) (
       (omega arith, omega arith),
-      subst (λ (n : ℕ). Whole n (slice (start .args .at) (start .args .at + length (encode (leading (start .args .net) (decode (slice (start .args .at) (start .args .until) (start .args .log .now)))))) (start .args .log .now))) (sym marks-long) (front-whole _ (start .args .net) _ _ _ (ready .order) (ready .within) (ready .whole)),
+      subst (λ (n : ℕ). Whole n (slice at (at + length (encode old)) log)) (sym marks-long)
+          (front-whole _ (start .args .net) _ _ _ (ready .order) (ready .within) (ready .whole)),
     )
 
 -- the marks stay as many
-marks-long : (c : tie.After-slice-known6) → length (c .before .before .unmark-records .last .1 .1 .1 .0) ≡ length (c .before .before .before .before .before .before .before .before .before .before .before .before .before .before .before .before .args .in-tree .now)
+marks-long :
+    (c : tie.After-slice-known6)
+    → length (c .before .before .unmark-records .last .1 .1 .1 .0) ≡ length (c .before .before .before .before .before .before .before .before .before .before .before .before .before .before .before .before .args .in-tree .now)
 marks-long c =
-    c .before .before .unmark-records .ensures .long ∙ c .before .before .before .before .before .before .before .before .drop-records .ensures .1 .marks-set .long ∙ length-set (c .before .before .before .before .before .before .before .before .before .before .before .before .before .before .before .before .args .in-tree .now) (c .before .before .before .before .before .before .before .before .before .before .before .before .before .before .before .before .args .from) 1
+    let dropped = c .before .before .before .before .before .before .before .before in
+    let start = dropped .before .before .before .before .before .before .before .before in
+    c .before .before .unmark-records .ensures .long ∙ dropped .drop-records .ensures .1 .marks-set .long
+    ∙ length-set (start .args .in-tree .now) (start .args .from) 1
 
 slice-write-in-tree-2 : tie.Need-slice-write-in-tree-2
-slice-write-in-tree-2 c = omega (arith, marks-long c, c .before .before .before .before .before .before .before .before .before .before .before .before .before .before .before .before .pre .from-node)
+slice-write-in-tree-2 c =
+    let start = c .before .before .before .before .before .before .before .before .before .before .before .before .before .before .before .before in
+    omega (arith, marks-long c, start .pre .from-node)
 
 same-length : tie.Need-same-length
 same-length c =
-    c .before .before .before .before .before .before .before .before .drop-records .ensures .1 .users-long ∙ length-set (c .before .before .before .before .before .before .before .before .before .before .before .before .before .before .before .before .args .users .now) (c .before .before .before .before .before .before .before .before .before .before .before .before .before .before .before .before .args .from) _
+    let dropped = c .before .before .before .before .before .before .before .before in
+    let start = dropped .before .before .before .before .before .before .before .before in
+    dropped .drop-records .ensures .1 .users-long ∙ length-set (start .args .users .now) (start .args .from) _
 
 same-length-2 : tie.Need-same-length-2
 same-length-2 c =
-    length-set (c .before .before .unmark-records .last .1 .1 .1 .0) (c .before .before .before .before .before .before .before .before .before .before .before .before .before .before .before .before .args .from) 0 ∙ marks-long c
+    let start = c .before .before .before .before .before .before .before .before .before .before .before .before .before .before .before .before in
+    length-set (c .before .before .unmark-records .last .1 .1 .1 .0) (start .args .from) 0 ∙ marks-long c
 
 returns-2 : tie.Need-returns-2
 returns-2 c =
