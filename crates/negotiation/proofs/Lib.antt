@@ -1,37 +1,80 @@
+-- The laws by subject, a line a file. Each file's head says what is in it; the folders beside hold one proof for each function of src/.
+--
+-- Tables and jobs
+--     JobLaws           a sound job, table by table: places, bounds, terms
+--     NetTableLaws      tables 5 to 8: what each test's answer says, the lowest table that breaks its rule
+--     SinkMarkLaws      the pass that marks a net's sinks
+-- Lists and records
+--     RecordLaws        records and their words: encode, decode, what fits a log
+--     FilterLaws        the records of a net and of an iteration
+--     MemberLaws        which entries a list has, and in what it lacks some
+--     RegionLaws        whole records in a part of the log, as the loops pass them
+--     MarkLaws          marks and users of nodes that are passed one after the other
+-- The test before iteration 1
+--     FloodLaws         the flood from a source
+--     TestedLaws        net after net, the first sink without a path
+-- The machine
+--     TreeLaws          a net's turns from its tree
+--     NetLaws           a net in an iteration: cheapest paths, costs, no node twice, every sink joined; paths from a source
+--     StateLaws         the machine's state, iteration by iteration
+--     IterationLaws     the records of an iteration
+--     EndLaws           how a run ends
+--     LimitLaws         a run under two limits
+-- Read off the log
+--     ReadLaws          trees, users and histories read off the log are the machine's
+--     DemandLaws        a logged turn, the final trees, which sinks have a path
+-- The reply
+--     RefusalLaws       refusal by refusal
+--     ReplyLogLaws      the log of a reply as the records whose words it holds
+--     RouteLaws         what `route` answers, as its contract says it
+-- Theorems
+--     DemandHolds       demand 3, and the bound on every logged cost
+--     UnreachableHolds  what refusal 7 means
+--     LongerHolds       request 2.6: two limits, two log lengths
+--     SamplesHold       the starred jobs
+-- The routing loops
+--     TariffLaws, StepLaws, StepWithLaws   the tariff's steps, by hand
+--     RipLaws           a net's old tree dropped, its new one counted
+--     OldLaws           where a net's old records stand in the log
+--     OneTurnLaws       one turn, as the search's contract gives it
+--     TurnStepLaws      a turn more of a net
+--     KeepLaws          what holds at the head of each loop
+--     KeepStart, KeepTurn, KeepEnd, KeepCalls   that it holds at first, after a turn, at an iteration's end, and what each call asks
+-- Assumes nothing.
+pub mod JobLaws
+pub mod NetTableLaws
+pub mod SinkMarkLaws
+pub mod RecordLaws
+pub mod FilterLaws
+pub mod MemberLaws
+pub mod RegionLaws
+pub mod MarkLaws
+pub mod FloodLaws
+pub mod TestedLaws
+pub mod TreeLaws
+pub mod NetLaws
+pub mod StateLaws
+pub mod IterationLaws
+pub mod EndLaws
+pub mod LimitLaws
+pub mod ReadLaws
+pub mod DemandLaws
+pub mod RefusalLaws
+pub mod ReplyLogLaws
+pub mod RouteLaws
+pub mod DemandHolds
+pub mod UnreachableHolds
+pub mod LongerHolds
+pub mod SamplesHold
 pub mod TariffLaws
 pub mod StepLaws
 pub mod StepWithLaws
-pub mod JobLaws
-pub mod SinkMarkLaws
-pub mod NetTableLaws
-pub mod RecordLaws
-pub mod MarkLaws
-pub mod RegionLaws
-pub mod MemberLaws
-pub mod TreeLaws
-pub mod StateLaws
-pub mod NetLaws
-pub mod FilterLaws
-pub mod IterationLaws
-pub mod ReadLaws
 pub mod RipLaws
-pub mod OneTurnLaws
-pub mod DemandLaws
-pub mod FloodLaws
-pub mod TestedLaws
-pub mod RefusalLaws
-pub mod DemandHolds
-pub mod UnreachableHolds
-pub mod SamplesHold
-pub mod KeepLaws
 pub mod OldLaws
-pub mod KeepStart
+pub mod OneTurnLaws
 pub mod TurnStepLaws
+pub mod KeepLaws
+pub mod KeepStart
 pub mod KeepTurn
-pub mod EndLaws
 pub mod KeepEnd
 pub mod KeepCalls
-pub mod RouteLaws
-pub mod LimitLaws
-pub mod ReplyLogLaws
-pub mod LongerHolds

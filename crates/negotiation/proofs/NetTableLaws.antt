@@ -207,9 +207,10 @@ module _ {table : ℕ} (j : Job) (e : table ≡ faultyTable (j .block)) where
   unfolding faultyJob
   faulty-by-block h = rw (← e, le-leb 1 table h)
 
-  pub faulty-by-nets : table < 1 → faultyJob j ≡ faultyNets (j .block .kinds) (j .sources) (j .firstSinks) (j .sinks) (j .terms)
+  pub faulty-by-nets :
+      {found : ℕ} → table < 1 → found ≡ faultyNets (j .block .kinds) (j .sources) (j .firstSinks) (j .sinks) (j .terms) → found ≡ faultyJob j
   unfolding faultyJob
-  faulty-by-nets h = rw (← e, lt-leb 1 table h)
+  faulty-by-nets h is = is ∙ rw (← e, lt-leb 1 table h)
 
   pub block-few : table < 1 → nodes j ≤ nodesMost
   block-few h =

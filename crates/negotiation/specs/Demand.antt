@@ -67,9 +67,9 @@ priceRead j i t earlier v =
 
 -- ---- the demand
 
--- a logged turn: "the logged path follows edges from a node of that net's tree before the turn to one of its sinks not yet joined. The logged
--- cost is that path's cost, at prices worked out from the job and the log's earlier turns alone. At these prices every other path in the
--- graph, from any node of that tree to any of the net's sinks not yet joined, costs at least as much."
+-- a logged turn: "the logged path follows edges from a node of that net's tree before the turn to one of its sinks not yet joined. The
+-- logged cost is that path's cost, at prices worked out from the job and the log's earlier turns alone. At these prices every other path in
+-- the graph, from any node of that tree to any of the net's sinks not yet joined, costs at least as much."
 abbrev pub TurnHolds : Job → List Record → Record → Type 0
 TurnHolds j earlier r =
     CheapestPath (j .block) (priceRead j (r .net) (r .iteration) earlier) (λ v. has v (ownTree j (r .net) (r .iteration) earlier))

@@ -1,5 +1,5 @@
--- Request 2.6: a job called again with another limit of iterations, or with a log of another length, and how the two answers and logs compare.
--- Each of the two calls is lent its own work slice and log.
+-- Request 2.6: a job called again with another limit of iterations, or with a log of another length, and how the two answers and logs
+-- compare. Each of the two calls is lent its own work slice and log.
 -- Assumes nothing.
 use mathlib.Core.Bool.{true}
 use mathlib.Core.List.{List, [], _∷_, _++_}

@@ -63,9 +63,13 @@ pub record Added (n : ℕ) (xs users marks users′ marks′ : List ℕ) : Type 
 abbrev pub CanDrop : ℕ → List ℕ → List ℕ → List ℕ → Type 0
 CanDrop n xs users marks = (v : ℕ) → v < n → has v xs ≡ true → getD marks v 0 ≡ 0 → 1 ≤ getD users v 0
 
+-- what the code counts users in: 16 bits
+abbrev pub usersMost : ℕ
+usersMost = 65535
+
 -- marked nodes have room for one user more
 abbrev pub CanAddMarked : ℕ → List ℕ → List ℕ → Type 0
-CanAddMarked n users marks = (v : ℕ) → v < n → getD marks v 0 ≡ 1 → getD users v 0 < 65535
+CanAddMarked n users marks = (v : ℕ) → v < n → getD marks v 0 ≡ 1 → getD users v 0 < usersMost
 
 -- the words are whole records, and their nodes are nodes
 pub record Whole (n : ℕ) (ws : List ℕ) : Type 0 where
@@ -151,7 +155,7 @@ pub record CountReady (n : ℕ) (from at until : ℕ) (log users marks : List �
   pub within : until ≤ length log
   pub whole : Whole n (slice at until log)
   pub marked : (v : ℕ) → v < n → getD marks v 0 ≡ choose (has v (from ∷ pathNodes (decode (slice at until log)))) 1 0
-  pub room : (v : ℕ) → v < n → getD users v 0 < 65535
+  pub room : (v : ℕ) → v < n → getD users v 0 < usersMost
 
 -- each node of the tree has one user more
 pub record Counted (n : ℕ) (tree users marks users′ marks′ : List ℕ) : Type 0 where
@@ -178,7 +182,8 @@ pub record Overflows (t : Turn) (tariff : Tariff) (log log′ : List ℕ) : Type
   pub log-same : log′ ≡ log
 
 -- the turn is logged, and its path is marked
-pub record TurnLogged (t : Turn) (tariff : Tariff) (net : ℕ) (sinks log marks : List ℕ) (tariff′ : Tariff) (log′ marks′ : List ℕ) : Type 0 where
+pub record TurnLogged (t : Turn) (tariff : Tariff) (net : ℕ) (sinks log marks : List ℕ) (tariff′ : Tariff) (log′ marks′ : List ℕ)
+    : Type 0 where
   pub place : ℕ
   pub cost : ℕ
   pub path : List ℕ

@@ -4,14 +4,14 @@ ghost use mathlib.Core.Path.{_≡_};
 ghost use Prim.Native.Nat.{ℕ, _≤_, _<_, _^_};
 ghost use lib.Dec.{ltb};
 ghost use lib.ListN.{length, getD};
-ghost use Rattle.price.specs.Bounds.{stepMost};
+ghost use Rattle.price.specs.Bounds.{nodesMost, stepMost};
 ghost use Rattle.price.specs.Lists.{upTo, countBelow};
 ghost use Rattle.price.specs.Prices.{nextHistory};
 use price::Tuning;
 
 // How many nodes have more users than their capacity.
 pub fn over_count(capacity: &[u8], users: &[u16]) -> u32
-    requires { ⌜ (length (now capacity) ≤ length (now users)) × (length (now capacity) ≤ 4096) ⌝ }
+    requires { ⌜ (length (now capacity) ≤ length (now users)) × (length (now capacity) ≤ nodesMost) ⌝ }
     ensures { λ r. do
       let over : (ℕ → Bool) = λ v. ltb (getD (now (capacity .entry)) v 0) (getD (now (users .entry)) v 0)
       ⌜ r ≡ countBelow over (length (now (capacity .entry))) ⌝ }

@@ -4,6 +4,9 @@ ghost use Rattle.negotiation.specs.Job.{plainTerms};
 ghost use Rattle.negotiation.specs.Tables.{termsSound};
 use crate::Terms;
 
+// The largest limit of iterations.
+const LIMIT_MOST: u32 = 100;
+
 // The terms of a job that asks for no tuning.
 pub fn plain_terms(limit: u32) -> Terms
     ensures { λ r. ⌜ r ≡ plainTerms limit ⌝ }
@@ -21,7 +24,7 @@ pub fn terms_sound(terms: Terms) -> bool
     if terms.limit < 1 {
         return false;
     }
-    if 100 < terms.limit {
+    if LIMIT_MOST < terms.limit {
         return false;
     }
     price::tuning_sound(terms.tuning)

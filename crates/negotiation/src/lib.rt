@@ -4,6 +4,9 @@ ghost use Rattle.negotiation.specs.Job.{jobOf};
 ghost use Rattle.negotiation.specs.Outcome.{refusedAnswer, routed, routeReply};
 ghost use Rattle.negotiation.specs.Demand.{Demand3};
 
+// The most nodes of a block: the router keeps a mark, a history and a count of users for each.
+const NODES_MOST: usize = 4096;
+
 // What a job asks beside its seven tables: the limit of iterations and the tuning of the tariff. A refusal counts it as table 8.
 pub struct Terms {
     pub limit: u32,

@@ -3,6 +3,7 @@ ghost use Prim.Native.Nat.{_*_, _≤_};
 ghost use lib.ListN.{length};
 ghost use Rattle.negotiation.specs.Steps.{AllBelow, SameFrom, SoundWith, FirstMissing};
 ghost use Rattle.negotiation.specs.Flood.{FirstUnmarked};
+use crate::NODES_MOST;
 use crate::flood;
 
 // What the test of all nets, or of one net, finds.
@@ -44,7 +45,7 @@ pub fn unreachable(
     ensures { λ _. ⌜ SameFrom (8 * length (now (kind .entry))) (now (work .entry)) (now (work .exit)) ⌝ }
 {
     let n = kind.len();
-    let mut reached = [0u8; 4096];
+    let mut reached = [0u8; NODES_MOST];
     let mut net = 0;
     while net < source.len() {
         let from = first_sink[net] as usize;

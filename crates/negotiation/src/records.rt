@@ -6,6 +6,9 @@ ghost use lib.ListN.{length, take, drop};
 ghost use Rattle.negotiation.specs.Records.{recordOf, words};
 ghost use Rattle.negotiation.specs.Steps.{AllBelow};
 
+// A cost is logged in two words of 32 bits.
+const HALF: u64 = 4294967296;
+
 // Copies the path at the beginning of the work slice to the log.
 fn copy_path(work: &[u64], count: usize, log: &mut [u32], at: usize)
     requires { ⌜ (count ≤ length (now work)) × (at + count ≤ length (now log)) ⌝ }
@@ -42,8 +45,8 @@ pub fn write_record(
     log[at] = iteration;
     log[at + 1] = net;
     log[at + 2] = sink;
-    log[at + 3] = (cost % 4294967296) as u32;
-    log[at + 4] = (cost / 4294967296) as u32;
+    log[at + 3] = (cost % HALF) as u32;
+    log[at + 4] = (cost / HALF) as u32;
     log[at + 5] = count as u32;
     copy_path(work, count, log, at + 6);
 }

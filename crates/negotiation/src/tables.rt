@@ -4,17 +4,24 @@ ghost use mathlib.Core.Path.{_≡_};
 ghost use Prim.Native.Nat.{ℕ, _≤_, _<_};
 ghost use lib.Dec.{ltb};
 ghost use lib.ListN.{length, getD};
+ghost use Rattle.price.specs.Bounds.{nodesMost};
 ghost use Rattle.price.specs.Lists.{neighbours};
 ghost use Rattle.search.specs.Block.{blockOf};
 ghost use Rattle.search.specs.Tables.{faultyTable};
 ghost use Rattle.negotiation.specs.Job.{jobOf};
 ghost use Rattle.negotiation.specs.Steps.{AllBelow, Stored, sinksFree};
-ghost use Rattle.negotiation.specs.Tables.{sourcesSound, firstSinksSound, netSound, sinksSound, faultyNets, faultyJob};
+ghost use Rattle.negotiation.specs.Tables.{netsMost, sourcesSound, firstSinksSound, netSound, sinksSound, faultyNets, faultyJob};
+use crate::NODES_MOST;
 use crate::Terms;
 use crate::job_terms;
 use crate::pins;
 use crate::pins::Pin;
 use search::PathAnswer;
+
+// The most nets, and sinks of all nets.
+const NETS_MOST: usize = 512;
+
+const SINKS_MOST: usize = 4096;
 
 fn sources_sound(n: usize, source: &[u16]) -> bool
     ensures { λ r. ⌜ r ≡ sourcesSound n (now (source .entry)) ⌝ }
@@ -22,7 +29,7 @@ fn sources_sound(n: usize, source: &[u16]) -> bool
     if source.len() < 1 {
         return false;
     }
-    if 512 < source.len() {
+    if NETS_MOST < source.len() {
         return false;
     }
     let mut i = 0;
@@ -50,7 +57,7 @@ fn rises(first_sink: &[u32]) -> bool
 }
 
 fn first_sinks_sound(nets: usize, places: usize, first_sink: &[u32]) -> bool
-    requires { ⌜ nets ≤ 512 ⌝ }
+    requires { ⌜ nets ≤ netsMost ⌝ }
     ensures { λ r. ⌜ r ≡ firstSinksSound nets places (now («first_sink» .entry)) ⌝ }
 {
     if first_sink.len() != nets + 1 {
@@ -117,15 +124,15 @@ fn net_sound(n: usize, from: u16, sinks: &[u16], seen: &mut [u8]) -> bool
 
 // Table 7, once tables 5 and 6 keep their rules.
 fn sinks_sound(n: usize, source: &[u16], first_sink: &[u32], sink: &[u16]) -> bool
-    requires { ⌜ n ≤ 4096 ⌝ }
+    requires { ⌜ n ≤ nodesMost ⌝ }
     requires { ⌜ sourcesSound n (now source) ≡ true ⌝ }
     requires { ⌜ firstSinksSound (length (now source)) (length (now sink)) (now «first_sink») ≡ true ⌝ }
     ensures { λ r. ⌜ r ≡ sinksSound n (now (source .entry)) (now («first_sink» .entry)) (now (sink .entry)) ⌝ }
 {
-    if 4096 < sink.len() {
+    if SINKS_MOST < sink.len() {
         return false;
     }
-    let mut seen = [0u8; 4096];
+    let mut seen = [0u8; NODES_MOST];
     let mut i = 0;
     while i < source.len() {
         let from = first_sink[i] as usize;
@@ -140,7 +147,7 @@ fn sinks_sound(n: usize, source: &[u16], first_sink: &[u32], sink: &[u16]) -> bo
 
 // The lowest of tables 5 to 8 that breaks its rule, 0 where none does.
 fn faulty_nets(kind: &[u8], source: &[u16], first_sink: &[u32], sink: &[u16], terms: Terms) -> u32
-    requires { ⌜ length (now kind) ≤ 4096 ⌝ }
+    requires { ⌜ length (now kind) ≤ nodesMost ⌝ }
     ensures { λ r. ⌜ r ≡ faultyNets (now (kind .entry)) (now (source .entry)) (now («first_sink» .entry)) (now (sink .entry)) terms ⌝ }
 {
     let n = kind.len();

@@ -4,6 +4,7 @@ ghost use mathlib.Core.Path.{_≡_};
 ghost use Prim.Native.Nat.{_+_, _*_, _≤_, _<_};
 ghost use lib.ListN.{length, drop, replicate};
 ghost use lib.Seq.{slice};
+ghost use Rattle.price.specs.Bounds.{limitMost};
 ghost use Rattle.price.specs.Prices.{nextFactor};
 ghost use Rattle.search.specs.Block.{blockOf};
 ghost use Rattle.search.specs.Turn.{congestionOf, priceAt, turn};
@@ -13,6 +14,7 @@ ghost use Rattle.negotiation.specs.Outcome.{negotiated, routed};
 ghost use Rattle.negotiation.specs.Records.{decode, pathNodes};
 ghost use Rattle.negotiation.specs.Steps.{SameFrom, leading, oldTree, oldNext, RipReady, RippedUp};
 ghost use Rattle.negotiation.specs.Steps.{CountReady, Counted, TurnDone, CanTurn};
+use crate::NODES_MOST;
 use crate::Outcome;
 use crate::Routed;
 use crate::Terms;
@@ -36,7 +38,7 @@ pub enum TurnMade {
 
 // The tariff at the next iteration's start.
 fn next_iteration(t: Tariff, g: Tuning) -> Tariff
-    requires { ⌜ t .iteration < 100 ⌝ }
+    requires { ⌜ t .iteration < limitMost ⌝ }
     ensures { λ r. ⌜ (r .iteration ≡ t .iteration + 1) × (r .factor ≡ nextFactor g (t .iteration) (t .factor))
         × (r .turns ≡ t .turns) × (r .words ≡ t .words) ⌝ }
 {
@@ -200,9 +202,9 @@ pub fn negotiate(
       ⌜ routed r (now (work .exit)) (now (log .exit)) ≡ negotiated job (now (work .entry)) (now (log .entry)) ⌝ }
 {
     let n = kind.len();
-    let mut history = [1u32; 4096];
-    let mut users = [0u16; 4096];
-    let mut in_tree = [0u8; 4096];
+    let mut history = [1u32; NODES_MOST];
+    let mut users = [0u16; NODES_MOST];
+    let mut in_tree = [0u8; NODES_MOST];
     let mut tariff = Tariff {
         iteration: 1,
         factor: 0,

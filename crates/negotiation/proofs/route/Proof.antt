@@ -72,7 +72,7 @@ returns-3 c =
     let reached = found .before .before .before .before in
     let long-enough = reached .before .before in
     let tested = long-enough .before in
-    unreachable-refused _ _ _ _ (tested .before .faulty-job .ensures) (tested .if1 .left) (long-enough .if2 .left) _
+    unreachable-refused (job tested) _ _ _ (tested .before .faulty-job .ensures) (tested .if1 .left) (long-enough .if2 .left) _
     (reached .unreachable .ensures .1) _ (reached .unreachable .ensures .0 _ _ (sound tested))
     _ _ _ _ (found .net .given .1) (c .refused3 .ensures) (c .before .before .before .clear .ensures)
 
@@ -89,9 +89,9 @@ returns-4 c =
     let reached = told .before .before .before .before in
     let long-enough = reached .before .before in
     let tested = long-enough .before in
-    run-answered _ _ _ _ (tested .before .faulty-job .ensures) (tested .if1 .left) (long-enough .if2 .left) _
+    run-answered (job tested) _ _ _ (tested .before .faulty-job .ensures) (tested .if1 .left) (long-enough .if2 .left) _
     (reached .unreachable .ensures .1) _ (reached .unreachable .ensures .0 _ _ (sound tested))
-    (ran .negotiate .result) _ _ (told .enum-told .given .1) (ran .negotiate .ensures)
+    (ran .negotiate .result) (ran .negotiate .last .1 .1 .1 .1 .1 .1 .1 .1 .0) (ran .negotiate .last .1 .1 .1 .1 .1 .1 .1 .1 .1 .0) (told .enum-told .given .1) (ran .negotiate .ensures)
 
 pub route-spec : {M : Type 1} → statement M
 route-spec =

@@ -47,13 +47,15 @@ module _ (l ws path : List ℕ) (at count : ℕ) (fits : at + length ws ≤ leng
 
 -- the six words of a record, and its path
 record-written :
-    (l path : List ℕ) (at count t i s k : ℕ) → at + (6 + count) ≤ length l → length path ≡ count
-    → take (at + 6) (set (set (set (set (set (set l at t) (at + 1) i) (at + 2) s) (at + 3) (k % 2 ^ 32)) (at + 4) (k / 2 ^ 32)) (at + 5) count)
+    {left : List ℕ} (l path : List ℕ) (at count t i s k : ℕ) → at + (6 + count) ≤ length l → length path ≡ count
+    → left
+    ≡ take (at + 6) (set (set (set (set (set (set l at t) (at + 1) i) (at + 2) s) (at + 3) (k % 2 ^ 32)) (at + 4) (k / 2 ^ 32)) (at + 5) count)
     ++ (path ++ drop (at + 6 + count) (set (set (set (set (set (set l at t) (at + 1) i) (at + 2) s) (at + 3) (k % 2 ^ 32)) (at + 4) (k / 2 ^ 32)) (at + 5) count))
-    ≡ take at l ++ (words (recordOf t i s k path) ++ drop (at + (6 + count)) l)
+    → left ≡ take at l ++ (words (recordOf t i s k path) ++ drop (at + (6 + count)) l)
 unfolding words
-record-written l path at count t i s k fits long =
-    rw (six l at t i s (k % 2 ^ 32) (k / 2 ^ 32) count, long)
+record-written l path at count t i s k fits long is =
+    is
+    ∙ rw (six l at t i s (k % 2 ^ 32) (k / 2 ^ 32) count, long)
     (written l (t ∷ i ∷ s ∷ k % 2 ^ 32 ∷ k / 2 ^ 32 ∷ count ∷ []) path at count (omega arith))
 
 mul-log : tie.Need-mul-log
@@ -128,8 +130,8 @@ same-length c = simp length-set at (c .before .before .copy-path .kept .1 .1 .0)
 returns : tie.Need-returns
 returns c =
     let args = c .before .before .before .before .before .before .args in
-    c .before .before .copy-path .ensures
-    ∙ record-written (args .log .now) (take (args .count) (args .work .now)) (args .at) (args .count) (args .iteration) (args .net) (args .sink) (args .cost) (omega arith) (length-take-le (args .count) (args .work .now) (omega arith))
+    record-written (args .log .now) (take (args .count) (args .work .now)) (args .at) (args .count) (args .iteration) (args .net) (args .sink) (args .cost)
+    (omega arith) (length-take-le (args .count) (args .work .now) (omega arith)) (c .before .before .copy-path .ensures)
 
 pub write-record-spec : {M : Type 1} → statement M
 write-record-spec =
