@@ -16,15 +16,17 @@ use Rattle.price.proofs.TestLaws.{either-way, le-or-lt}
 use Rattle.price.proofs.PriceLaws.{path-fits}
 use Rattle.search.specs.Replies.{workNeeded, cleared}
 use Rattle.negotiation.specs.Job.{Job, nodes, nets, netSinks}
-use Rattle.negotiation.specs.Tables.{SoundJob, faultyJob}
+use Rattle.negotiation.specs.Tables.{faultyJob}
 use Rattle.negotiation.specs.Records.{Record, encode}
 use Rattle.negotiation.specs.Machine.{State, firstState, settlesAt}
-use Rattle.negotiation.specs.Outcome.{RouteReply, turnsLogged, refusedReply, ranReply, hasPath, unreachableNet, unreachablePlace, iterationsMade, iterationsRun, allRecords, loggedRecords, endNumbers, negotiated, routeReply}
+use Rattle.negotiation.specs.Outcome.{RouteReply, turnsLogged, refusedReply, ranReply, unreachableNet, unreachablePlace, iterationsMade, iterationsRun, allRecords, loggedRecords, endNumbers, negotiated, routeReply}
 use Rattle.negotiation.specs.Unreachable.{AllReachable}
 use Rattle.negotiation.specs.Demand.{TurnHolds, FinalTrees, Demand3, CostsFit}
-use Rattle.negotiation.proofs.JobLaws.{sound-job, limit-some, limit-few}
+use Rattle.negotiation.proofs.JobLaws.{sound-job, Routable, routable-of}
 use Rattle.negotiation.proofs.RecordLaws.{fitting-begins}
 use Rattle.negotiation.proofs.NetLaws.{no-split}
+use Rattle.negotiation.proofs.RanLaws.{start}
+use Rattle.negotiation.proofs.MachineRan.{Reached}
 use Rattle.negotiation.proofs.DemandLaws.{all-reached, none-unreachable, turn-holds, turn-below, final-trees-hold}
 use Rattle.negotiation.proofs.RefusalLaws.{route-table, route-work, route-unreachable, route-run}
 use Rattle.negotiation.proofs.ReplyLogLaws.{LogHas, log-words, log-turns, refused-log, ran-log}
@@ -116,24 +118,24 @@ module _ (j : Job) (work log : List ℕ) where
         reached = λ all net place e. reached all (cc);
       }
 
-  module _ (sound : SoundJob j) (all : (i x : ℕ) → i < nets j → has x (netSinks j i) ≡ true → hasPath j i x ≡ true) where
+  module _ (sound : Routable j) (all : Reached j) where
     run-turn : (earlier later : List Record) (t : Record) → allRecords j ≡ earlier ++ (t ∷ later) → TurnHolds j earlier t × (t .cost < pathMost)
     unfolding allRecords
     run-turn earlier later t e =
-        let few = limit-few j sound in
+        let few = sound .limit-few in
         let most = made-most j (firstState j) (j .terms .limit) in
-        (turn-holds j sound all (iterationsRun j) (omega arith) earlier later t e, turn-below j sound all (iterationsRun j) (omega arith) earlier later t e)
+        (turn-holds j sound all start (iterationsRun j) (omega arith) earlier later t e, turn-below j sound all start (iterationsRun j) (omega arith) earlier later t e)
 
     run-final : endNumbers j ≡ [] → FinalTrees j (allRecords j)
     unfolding allRecords endNumbers
     run-final e =
-        let few = limit-few j sound in
+        let few = sound .limit-few in
         let made : ℕ = iterationsRun j in
         let most : made ≤ j .terms .limit = made-most j (firstState j) (j .terms .limit) in
-        let some : 1 ≤ made = made-some j (firstState j) (j .terms .limit) (limit-some j sound) in
+        let some : 1 ≤ made = made-some j (firstState j) (j .terms .limit) (sound .limit-some) in
         let last : made ≡ suc (made - 1) = omega arith in
         let settled : settlesAt j (firstState j) (made - 1) ≡ true = chosen-none _ _ _ e in
-        rw last (final-trees-hold j sound all (made - 1) (omega arith) settled)
+        rw last (final-trees-hold j sound all start (made - 1) (omega arith) settled)
 
     -- the records that fit are a beginning of all
     logged-turn : (room : ℕ) (earlier later : List Record) (t : Record) → loggedRecords j room ≡ earlier ++ (t ∷ later) → TurnHolds j earlier t × (t .cost < pathMost)
@@ -177,7 +179,7 @@ module _ (j : Job) (work log : List ℕ) where
       (λ (h : faultyJob j < 1).
       ⊎-elim
       (λ (enough : workNeeded (nodes j) ≤ length work).
-      let sound = sound-job j (omega arith) in
+      let sound = routable-of j (sound-job j (omega arith)) in
       ⊎-elim
       (λ (all : nets j ≤ unreachableNet j).
       subst (Held j work log) (sym (route-run j work log h enough all)) (run-held sound (all-reached j all)))

@@ -1,7 +1,7 @@
 -- What demand 3 rests on: where a logged turn stands in the run, prices read off the log, the final trees, and which sinks have a path.
 -- Assumes nothing.
 use mathlib.Core.Bool.{Bool, true, false, not}
-use mathlib.Core.List.{List, [], _∷_, _++_}
+use mathlib.Core.List.{List, [], _∷_, _++_, append-assoc}
 use mathlib.Core.Logic.{_⊎_, ⊎-elim, inl, inr}
 use mathlib.Core.Path.{_≡_, refl, sym, _∙_, ap}
 use Prim.Native.Nat.{ℕ, zero, suc, _+_, _-_, _≤_, _<_}
@@ -16,7 +16,7 @@ use Rattle.price.specs.Lists.{every, has, upTo, firstBelow, countBelow, total}
 use Rattle.price.specs.Prices.{priceOf}
 use Rattle.price.proofs.TestLaws.{either-way, true≢false}
 use Rattle.price.proofs.ListLaws.{every-at, every-all, has-at, has-place, getD-upTo}
-use Rattle.price.proofs.BelowLaws.{firstBelow-below, firstBelow-holds, count-same}
+use Rattle.price.proofs.BelowLaws.{firstBelow-below, firstBelow-holds}
 use Rattle.search.specs.Block.{Block}
 use Rattle.search.specs.Block as block
 use Rattle.search.specs.Tables.{Graph}
@@ -28,16 +28,17 @@ use Rattle.search.proofs.DistinctLaws.{has-first}
 use Rattle.search.proofs.WalkLaws.{step-cost}
 use Rattle.search.proofs.DistanceLaws.{path-near}
 use Rattle.negotiation.specs.Job.{Job, nodes, nets, source, netSinks}
-use Rattle.negotiation.specs.Tables.{SoundJob}
 use Rattle.negotiation.specs.Records.{Record}
-use Rattle.negotiation.specs.Machine.{State, othersOf, usersOf, marksOf, congestionFor, netRecords, treeFrom, afterNets, iterate, overfull, overCount, firstState, stateAfter, iterationAfter, recordsAfter, settlesAt}
+use Rattle.negotiation.specs.Machine.{State, Progress, othersOf, usersOf, marksOf, congestionFor, netRecords, treeFrom, due, afterNets, iterate, overfull, overCount, moveOn, firstState, stateAfter, iterationAfter, recordsAfter, settlesAt}
 use Rattle.negotiation.specs.Outcome.{hasPath, unreachableNet}
-use Rattle.negotiation.specs.Demand.{ownTree, othersRead, usersRead, historyRead, priceRead, TurnHolds, FinalTrees}
+use Rattle.negotiation.specs.Demand.{ownTree, othersRead, historyRead, priceRead, TurnHolds, FinalTrees}
 use Rattle.negotiation.specs.Unreachable.{AllReachable}
-use Rattle.negotiation.proofs.StateLaws.{nets-iteration, nets-factor, nets-histories, state-iteration, state-factor, final-tree}
-use Rattle.negotiation.proofs.JobLaws.{source-node}
-use Rattle.negotiation.proofs.NetLaws.{state-ready, first-ready, turn-fair, NetTurn, turn-cost, net-turn, net-distinct, net-joins}
-use Rattle.negotiation.proofs.ReadLaws.{recordsBefore, others-read, own-read, history-read, latest-read, tree-read, ends-read}
+use Rattle.negotiation.proofs.StateLaws.{route-if}
+use Rattle.negotiation.proofs.JobLaws.{Routable}
+use Rattle.negotiation.proofs.NetLaws.{first-ready, turn-fair, NetTurn, turn-cost, net-turn}
+use Rattle.negotiation.proofs.FilterLaws.{All, all-left, all-splits, Of}
+use Rattle.negotiation.proofs.RanLaws.{NetsRan, Ran, nets-iteration, nets-factor, ran-iteration, ran-factor, ran-users, ran-done, others-read, own-read, history-read}
+use Rattle.negotiation.proofs.MachineRan.{Reached, ran-ready, machine-nets, machine-ran}
 
 -- ---- lists and counts
 
@@ -94,7 +95,7 @@ module _ (b : Block) (g : Graph b) (p q : ℕ → ℕ) (same : (v : ℕ) → v <
 
 -- ---- where a logged turn stands in the run
 
--- among the records of the first nets of an iteration
+-- among the records of the first nets of an iteration from state s
 record NetSplit (j : Job) (s : State) (i : ℕ) (earlier : List Record) (t : Record) : Type 0 where
   net : ℕ
   below : net < i
@@ -103,42 +104,45 @@ record NetSplit (j : Job) (s : State) (i : ℕ) (earlier : List Record) (t : Rec
   is : netRecords j (afterNets j s net .state) net ≡ own ++ (t ∷ rest)
   before : earlier ≡ afterNets j s net .records ++ own
 
+later-net : {j : Job} {s : State} {i : ℕ} {earlier : List Record} {t : Record} → NetSplit j s i earlier t → NetSplit j s (suc i) earlier t
+later-net n = record { net = n .net; below = omega (arith, n .below); own = n .own; rest = n .rest; is = n .is; before = n .before }
+
+no-record : (earlier later : List Record) (t : Record) → [] ≡ earlier ++ (t ∷ later) → ⊥
+no-record [] later t e = let z : _≡_ {A = ℕ} 0 1 = cc in omega arith
+no-record (r ∷ rs) later t e = let z : _≡_ {A = ℕ} 0 1 = cc in omega arith
+
 net-split : (j : Job) (s : State) (i : ℕ) (earlier later : List Record) (t : Record) → afterNets j s i .records ≡ earlier ++ (t ∷ later) → NetSplit j s i earlier t
 unfolding afterNets
-net-split j s zero [] later t e = absurd (let z : _≡_ {A = ℕ} 0 1 = cc in omega arith)
-net-split j s zero (r ∷ rs) later t e = absurd (let z : _≡_ {A = ℕ} 0 1 = cc in omega arith)
+net-split j s zero earlier later t e = absurd (no-record earlier later t e)
 net-split j s (suc i) earlier later t e =
+    route-if (λ p. p .records ≡ earlier ++ (t ∷ later) → NetSplit j s (suc i) earlier t) (due j s i) j i (afterNets j s i)
+    (λ q.
     ⊎-elim
-    (λ r.
-    let n : NetSplit j s i earlier t = net-split j s i earlier (r .0) t (r .1) in
-    record { net = n .net; below = omega arith; own = n .own; rest = n .rest; is = n .is; before = n .before })
+    (λ r. later-net (net-split j s i earlier (r .0) t (r .1)))
     (λ r. record { net = i; below = omega arith; own = r .0; rest = later; is = r .1; before = r .2 })
-    (split-append (afterNets j s i .records) (netRecords j (afterNets j s i .state) i) earlier later t e)
+    (split-append (afterNets j s i .records) (netRecords j (afterNets j s i .state) i) earlier later t q))
+    (λ q. later-net (net-split j s i earlier later t q))
+    e
 
--- among the records of the first iterations
-record RunSplit (j : Job) (most : ℕ) (earlier : List Record) (t : Record) : Type 0 where
+-- among the records of the first iterations from state s
+record RunSplit (j : Job) (s : State) (most : ℕ) (earlier : List Record) (t : Record) : Type 0 where
   whole : ℕ
   below : whole < most
-  net : ℕ
-  net-below : net < nets j
-  own : List Record
-  rest : List Record
-  is : netRecords j (afterNets j (stateAfter j (firstState j) whole) net .state) net ≡ own ++ (t ∷ rest)
-  before : earlier ≡ recordsBefore j whole net own
+  here : List Record
+  at : NetSplit j (stateAfter j s whole) (nets j) here t
+  before : earlier ≡ recordsAfter j s whole ++ here
 
-run-split : (j : Job) (most : ℕ) (earlier later : List Record) (t : Record) → recordsAfter j (firstState j) most ≡ earlier ++ (t ∷ later) → RunSplit j most earlier t
+run-split : (j : Job) (s : State) (most : ℕ) (earlier later : List Record) (t : Record) → recordsAfter j s most ≡ earlier ++ (t ∷ later) → RunSplit j s most earlier t
 unfolding recordsAfter iterate
-run-split j zero [] later t e = absurd (let z : _≡_ {A = ℕ} 0 1 = cc in omega arith)
-run-split j zero (r ∷ rs) later t e = absurd (let z : _≡_ {A = ℕ} 0 1 = cc in omega arith)
-run-split j (suc m) earlier later t e =
+run-split j s zero earlier later t e = absurd (no-record earlier later t e)
+run-split j s (suc m) earlier later t e =
     ⊎-elim
     (λ r.
-    let n : RunSplit j m earlier t = run-split j m earlier (r .0) t (r .1) in
-    record { whole = n .whole; below = omega arith; net = n .net; net-below = n .net-below; own = n .own; rest = n .rest; is = n .is; before = n .before })
+    let n : RunSplit j s m earlier t = run-split j s m earlier (r .0) t (r .1) in
+    record { whole = n .whole; below = omega arith; here = n .here; at = n .at; before = n .before })
     (λ r.
-    let n : NetSplit j (stateAfter j (firstState j) m) (nets j) (r .0) t = net-split j (stateAfter j (firstState j) m) (nets j) (r .0) later t (r .1) in
-    record { whole = m; below = omega arith; net = n .net; net-below = n .below; own = n .own; rest = n .rest; is = n .is; before = r .2 ∙ ap (λ (l : List Record). recordsAfter j (firstState j) m ++ l) (n .before) })
-    (split-append (recordsAfter j (firstState j) m) (iterationAfter j (firstState j) m .records) earlier later t e)
+    record { whole = m; below = omega arith; here = r .0; at = net-split j (stateAfter j s m) (nets j) (r .0) later t (r .1); before = r .2 })
+    (split-append (recordsAfter j s m) (iterationAfter j s m .records) earlier later t e)
 
 -- ---- sinks and their paths
 
@@ -149,16 +153,16 @@ mark-in j tree v h e =
     rw (getD-upTo {A = ℕ} (λ x. choose (has x tree) 1 0) (nodes j) v 0 h, e) (eq-eqb 1 1 refl)
 
 -- a sink to which a path leads from its source has a path
-pub walk-path : (j : Job) → SoundJob j → (i x : ℕ) (path : List ℕ) → i < nets j → Walk (j .block) (source j i) path x → hasPath j i x ≡ true
+pub walk-path : (j : Job) → Routable j → (i x : ℕ) (path : List ℕ) → i < nets j → Walk (j .block) (source j i) path x → hasPath j i x ≡ true
 unfolding hasPath
 walk-path j sound i x path h w =
-    let at = source-node j sound i h in
+    let at = sound .source-node i h in
     lt-ltb _ _
     (path-near (j .block) (priceAt (j .block) (congestionFor j (firstState j) i)) (marksOf j (source j i ∷ [])) (graph-of (j .block) (sound .block-sound))
     (turn-fair j sound (firstState j) (first-ready j sound) i h) (source j i) x path at (mark-in j (source j i ∷ []) (source j i) at (has-first (source j i) [])) w)
 
 -- where the first net with an unreachable sink is none, every sink has a path
-pub all-reached : (j : Job) → nets j ≤ unreachableNet j → (i x : ℕ) → i < nets j → has x (netSinks j i) ≡ true → hasPath j i x ≡ true
+pub all-reached : (j : Job) → nets j ≤ unreachableNet j → Reached j
 unfolding unreachableNet
 all-reached j none i x h l =
     let reached : every (hasPath j i) (netSinks j i) ≡ true = not-false _ (firstBelow-below (λ k. not (every (hasPath j k) (netSinks j k))) (nets j) i (omega arith)) in
@@ -166,7 +170,7 @@ all-reached j none i x h l =
     rw (place .2) at (every-at (hasPath j i) (netSinks j i) reached (place .0) (place .1))
 
 -- where every sink has a path from its source, no net has an unreachable sink
-pub none-unreachable : (j : Job) → SoundJob j → AllReachable j → unreachableNet j < nets j → ⊥
+pub none-unreachable : (j : Job) → Routable j → AllReachable j → unreachableNet j < nets j → ⊥
 unfolding unreachableNet
 none-unreachable j sound all h =
     let i : ℕ = firstBelow (λ k. not (every (hasPath j k) (netSinks j k))) (nets j) in
@@ -193,51 +197,83 @@ tree-as :
     → CheapestPath b price (λ v. has v xs) sinks sink cost path → CheapestPath b price (λ v. has v ys) sinks sink cost path
 tree-as e c = rw e at c
 
-module _ (j : Job) (sound : SoundJob j) (all : (i x : ℕ) → i < nets j → has x (netSinks j i) ≡ true → hasPath j i x ≡ true) where
-  -- the price read off the log is the machine's
-  module _ (m : ℕ) (hm : m < limitMost) (i : ℕ) (hi : i < nets j) (e rest : List Record)
-      (is : netRecords j (afterNets j (stateAfter j (firstState j) m) i .state) i ≡ e ++ rest) where
-    price-same :
-        (v : ℕ) → v < nodes j
-        → priceAt (j .block) (congestionFor j (afterNets j (stateAfter j (firstState j) m) i .state) i) v ≡ priceRead j i (m + 1) (recordsBefore j m i e) v
+-- a turn of the machine's in a run: of net i, after its own records e and those before them in the run
+module _ (j : Job) (sound : Routable j) {m : ℕ} {rs : List Record} {s : State} (r : Ran j m rs s) (hm : m < limitMost)
+    {i : ℕ} {p : Progress} (n : NetsRan j s i p) (hi : i < nets j) where
+  -- the price read off the log is the state's
+  module _ (e : List Record) (own : All (Of i (m + 1)) e) where
+    abbrev before : List Record
+    before = (rs ++ p .records) ++ e
+
+    price-same : (v : ℕ) → v < nodes j → priceAt (j .block) (congestionFor j (p .state) i) v ≡ priceRead j i (m + 1) before v
     unfolding priceAt congestionFor priceRead
     price-same v h =
-        let s : State = stateAfter j (firstState j) m in
-        let others : getD (upTo (othersOf j (afterNets j s i .state .trees) i) (nodes j)) v 0 ≡ othersRead j i (recordsBefore j m i e) v =
-        getD-upTo (othersOf j (afterNets j s i .state .trees) i) (nodes j) v 0 h ∙ sym (others-read j sound all m hm i hi e rest is v) in
+        let others : getD (upTo (othersOf j (p .state .trees) i) (nodes j)) v 0 ≡ othersRead j i before v =
+        getD-upTo (othersOf j (p .state .trees) i) (nodes j) v 0 h ∙ sym (others-read j r n hi e own v) in
         let one : m + 1 - 1 ≡ m = omega arith in
-        let history : getD (afterNets j s i .state .histories) v 0 ≡ historyRead j (recordsBefore j m i e) (m + 1 - 1) v =
-        rw (nets-histories j s i, one) (sym (history-read j sound all m hm i hi e rest is v h)) in
-        same-price _ _ (nets-factor j s i ∙ state-factor j m) others history
+        let history : getD (p .state .histories) v 0 ≡ historyRead j before (m + 1 - 1) v = rw one (sym (history-read j r n hi e own v h)) in
+        same-price _ _ (nets-factor j n ∙ ran-factor j r) others history
 
     -- and so is the net's own tree
-    own-same : treeFrom j i e ≡ ownTree j i (m + 1) (recordsBefore j m i e)
+    own-same : treeFrom j i e ≡ ownTree j i (m + 1) before
     unfolding ownTree
-    own-same = rw (own-read j sound all m hm i hi e rest is)
+    own-same = rw (own-read j r n hi e own)
 
-  pub turn-holds : (most : ℕ) → most ≤ limitMost → (earlier later : List Record) (t : Record) → recordsAfter j (firstState j) most ≡ earlier ++ (t ∷ later) → TurnHolds j earlier t
-  turn-holds most few earlier later t e =
-      let r : RunSplit j most earlier t = run-split j most earlier later t e in
-      let m : ℕ = r .whole in
-      let i : ℕ = r .net in
-      let hm : m < limitMost = omega arith in
-      let s : State = afterNets j (stateAfter j (firstState j) m) i .state in
-      let turn : NetTurn j s i (r .own) t = net-turn j sound s (state-ready j sound m i hm) i (r .net-below) (r .own) (r .rest) t (r .is) in
-      turn-of j earlier (recordsBefore j m i (r .own)) t i (m + 1) (turn .net-is)
-      (turn .iteration-is ∙ nets-iteration j (stateAfter j (firstState j) m) i ∙ state-iteration j m)
-      (r .before)
-      (tree-as (own-same m hm i (r .net-below) (r .own) (t ∷ r .rest) (r .is))
-      (cheapest-same (j .block) (graph-of (j .block) (sound .block-sound)) _ _ (price-same m hm i (r .net-below) (r .own) (t ∷ r .rest) (r .is)) (turn .cheapest)))
+  -- the records of the same net before a turn are of it and of this iteration
+  own-all : (e rest : List Record) → netRecords j (p .state) i ≡ e ++ rest → All (Of i (m + 1)) e
+  own-all e rest is =
+      let at : p .state .iteration ≡ m + 1 = nets-iteration j n ∙ ran-iteration j r in
+      all-left (Of i (m + 1)) e rest
+      (rw is at
+      (all-splits (Of i (m + 1)) (netRecords j (p .state) i)
+      (λ earlier later q split.
+      let turn = net-turn j sound (p .state) (ran-ready j sound r n hm) i hi earlier later q split in
+      record { net-is = turn .net-is; iteration-is = turn .iteration-is ∙ at })))
 
-  -- and its cost is below the bound on a path's
-  pub turn-below :
-      (most : ℕ) → most ≤ limitMost → (earlier later : List Record) (t : Record) → recordsAfter j (firstState j) most ≡ earlier ++ (t ∷ later) → t .cost < pathMost
-  turn-below most few earlier later t e =
-      let r : RunSplit j most earlier t = run-split j most earlier later t e in
-      let s : State = afterNets j (stateAfter j (firstState j) (r .whole)) (r .net) .state in
-      let hm : r .whole < limitMost = omega (arith, r .below) in
-      let ready = state-ready j sound (r .whole) (r .net) hm in
-      turn-cost j sound s ready (r .net) (r .net-below) (r .own) t (net-turn j sound s ready (r .net) (r .net-below) (r .own) (r .rest) t (r .is))
+  pub turn-here :
+      (e rest : List Record) (t : Record) → netRecords j (p .state) i ≡ e ++ (t ∷ rest) → (earlier : List Record) → earlier ≡ (rs ++ p .records) ++ e
+      → TurnHolds j earlier t
+  turn-here e rest t is earlier stands =
+      let own : All (Of i (m + 1)) e = own-all e (t ∷ rest) is in
+      let turn : NetTurn j (p .state) i e t = net-turn j sound (p .state) (ran-ready j sound r n hm) i hi e rest t is in
+      turn-of j earlier ((rs ++ p .records) ++ e) t i (m + 1) (turn .net-is) (turn .iteration-is ∙ nets-iteration j n ∙ ran-iteration j r) stands
+      (tree-as (own-same e own)
+      (cheapest-same (j .block) (graph-of (j .block) (sound .block-sound)) _ _ (price-same e own) (turn .cheapest)))
+
+regrouped :
+    (rs earlier whole here nets own : List Record) → earlier ≡ whole ++ here → here ≡ nets ++ own → rs ++ earlier ≡ ((rs ++ whole) ++ nets) ++ own
+regrouped rs earlier whole here nets own e f = rw (e, f) (simp append-assoc)
+
+-- whatever run leads to a state, the turns that the machine makes from there hold
+pub turn-holds :
+    (j : Job) → Routable j → Reached j → {m : ℕ} {rs : List Record} {s : State} → Ran j m rs s → (most : ℕ) → m + most ≤ limitMost
+    → (earlier later : List Record) (t : Record) → recordsAfter j s most ≡ earlier ++ (t ∷ later) → TurnHolds j (rs ++ earlier) t
+turn-holds j sound all {m} {rs} {s} r most few earlier later t e =
+    let c : RunSplit j s most earlier t = run-split j s most earlier later t e in
+    let k : ℕ = c .whole in
+    let below : k < most = c .below in
+    let n : NetSplit j (stateAfter j s k) (nets j) (c .here) t = c .at in
+    let i : ℕ = n .net in
+    let net-below : i < nets j = n .below in
+    let hm : m + k < limitMost = omega arith in
+    let ran : Ran j (m + k) (rs ++ recordsAfter j s k) (stateAfter j s k) = machine-ran j sound all r k (omega arith) in
+    turn-here j sound ran hm (machine-nets j sound all ran hm i (omega arith)) net-below (n .own) (n .rest) t (n .is) (rs ++ earlier)
+    (regrouped rs earlier (recordsAfter j s k) (c .here) (afterNets j (stateAfter j s k) i .records) (n .own) (c .before) (n .before))
+
+-- and their costs are below the bound on a path's
+pub turn-below :
+    (j : Job) → Routable j → Reached j → {m : ℕ} {rs : List Record} {s : State} → Ran j m rs s → (most : ℕ) → m + most ≤ limitMost
+    → (earlier later : List Record) (t : Record) → recordsAfter j s most ≡ earlier ++ (t ∷ later) → t .cost < pathMost
+turn-below j sound all {m} {rs} {s} r most few earlier later t e =
+    let c : RunSplit j s most earlier t = run-split j s most earlier later t e in
+    let k : ℕ = c .whole in
+    let below : k < most = c .below in
+    let n : NetSplit j (stateAfter j s k) (nets j) (c .here) t = c .at in
+    let net-below : n .net < nets j = n .below in
+    let hm : m + k < limitMost = omega arith in
+    let ran : Ran j (m + k) (rs ++ recordsAfter j s k) (stateAfter j s k) = machine-ran j sound all r k (omega arith) in
+    let ready = ran-ready j sound ran (machine-nets j sound all ran hm (n .net) (omega arith)) hm in
+    turn-cost j sound _ ready (n .net) net-below (n .own) t (net-turn j sound _ ready (n .net) net-below (n .own) (n .rest) t (n .is))
 
 -- ---- the final trees
 
@@ -249,20 +285,15 @@ unfolding settlesAt overCount overfull
 settled-within j s m e v h =
     ltb-false _ _ (count-none (λ v. ltb (getD (j .block .capacities) v 0) (usersOf j (iterationAfter j s m .state .trees) v)) (nodes j) (eqb-true _ _ e) v h)
 
-module _ (j : Job) (sound : SoundJob j) (all : (i x : ℕ) → i < nets j → has x (netSinks j i) ≡ true → hasPath j i x ≡ true) (m : ℕ) (hm : m < limitMost) where
-  users-same : (v : ℕ) → usersRead j (recordsAfter j (firstState j) (suc m)) v ≡ usersOf j (iterationAfter j (firstState j) m .state .trees) v
-  unfolding usersRead usersOf
-  users-same v = count-same _ _ (nets j) (λ k h. tree-read j sound all m hm k h v)
-
-  -- the trees after an iteration that settles
-  pub final-trees-hold : settlesAt j (firstState j) m ≡ true → FinalTrees j (recordsAfter j (firstState j) (suc m))
-  final-trees-hold settled =
-      record {
-        no-sink-missed = λ i x h l.
-            rw (tree-read j sound all m hm i h x, final-tree j m i h)
-            (net-joins j sound (afterNets j (stateAfter j (firstState j) m) i .state) (state-ready j sound m i hm) i h (λ y k. all i y h k) x l);
-        none-twice = λ i h.
-            rw (latest-read j sound all m hm i h, ends-read j sound all m hm i h)
-            (net-distinct j sound (afterNets j (stateAfter j (firstState j) m) i .state) (state-ready j sound m i hm) i h);
-        within-capacity = λ v h. rw (users-same v) (settled-within j (firstState j) m settled v h);
-      }
+-- the trees after an iteration of the machine's that settles, whatever run leads there
+pub final-trees-hold :
+    (j : Job) → Routable j → Reached j → {m : ℕ} {rs : List Record} {s : State} → Ran j m rs s → (k : ℕ) → m + k < limitMost
+    → settlesAt j s k ≡ true → FinalTrees j (rs ++ recordsAfter j s (suc k))
+unfolding stateAfter moveOn
+final-trees-hold j sound all {m} {rs} {s} r k few settled =
+    let ran : Ran j (m + suc k) (rs ++ recordsAfter j s (suc k)) (stateAfter j s (suc k)) = machine-ran j sound all r (suc k) (omega arith) in
+    record {
+      no-sink-missed = λ i x h l. ran-done j ran (omega arith) i h .joined x l;
+      none-twice = λ i h. ran-done j ran (omega arith) i h .once;
+      within-capacity = λ v h. rw (ran-users j ran v) (settled-within j s k settled v h);
+    }

@@ -18,10 +18,11 @@ use Rattle.price.proofs.BelowLaws.{firstBelow-holds, firstBelow-is, firstBelow-
 use Rattle.search.specs.Replies.{cleared}
 use Rattle.negotiation.specs.Job.{Job, nodes, nets}
 use Rattle.negotiation.specs.Records.{Record, words, encode}
-use Rattle.negotiation.specs.Machine.{State, netRecords, afterNets, stateAfter, iterate, overCount, firstState, iterationAfter, recordsAfter, settlesAt}
+use Rattle.negotiation.specs.Machine.{State, netRecords, due, afterNets, stateAfter, iterate, overCount, firstState, iterationAfter, recordsAfter, settlesAt}
 use Rattle.negotiation.specs.Outcome.{negotiated, ranReply, logWith, routed, outcomeNumbers, iterationsMade, allRecords, loggedRecords, cutIteration, endNumbers}
 use Rattle.negotiation.specs.Steps.{SameFrom}
 use Rattle.negotiation.specs.declared.Routed.{Routed}
+use Rattle.negotiation.proofs.StateLaws.{route-if, routed-next}
 use Rattle.negotiation.proofs.RecordLaws.{fitting-all, fitting-cut}
 
 -- ---- how many iterations
@@ -93,25 +94,27 @@ module _ (j : Job) (s : State) where
       (λ (e : i ≡ suc n). ([], rw e (sym (append-nil (afterNets j s (suc n) .records)))))
       (λ (l : i < suc n).
       let more = nets-more n i (le-of-suc-le-suc l) in
-      let rs = netRecords j (afterNets j s n .state) n in (
+      let rs = netRecords j (afterNets j s n .state) n in
+      route-if (λ p. (later : List Record) × (p .records ≡ afterNets j s i .records ++ later)) (due j s n) j n (afterNets j s n) (
         more .0 ++ rs,
         ap (λ (l : List Record). l ++ rs) (more .1) ∙ append-assoc (afterNets j s i .records) (more .0) rs,
-      ))
+      )
+      more)
       (eq-or-lt-of-le h)
 
 -- a record of net i has its place among all
 pub all-split : (j : Job) (m i : ℕ) → m < j .terms .limit → ((k : ℕ) → k < m → settlesAt j (firstState j) k ≡ false) → i < nets j
-    → (made : List Record) (r : Record) (rest : List Record) → netRecords j (afterNets j (stateAfter j (firstState j) m) i .state) i ≡ made ++ (r ∷ rest)
+    → due j (stateAfter j (firstState j) m) i ≡ true → (made : List Record) (r : Record) (rest : List Record) → netRecords j (afterNets j (stateAfter j (firstState j) m) i .state) i ≡ made ++ (r ∷ rest)
     → (later : List Record)
     × (allRecords j ≡ ((recordsAfter j (firstState j) m ++ afterNets j (stateAfter j (firstState j) m) i .records) ++ made) ++ (r ∷ later))
-unfolding allRecords recordsAfter afterNets iterate
-all-split j m i below unsettled net made r rest is =
+unfolding allRecords recordsAfter iterate
+all-split j m i below unsettled net d made r rest is =
     let s = stateAfter j (firstState j) m in
     let after = records-more j (firstState j) (iterationsMade j (firstState j) (j .terms .limit)) (suc m) (made-least j m below unsettled) in
     let others = nets-more j s (nets j) (suc i) net in (
       rest ++ (others .0 ++ after .0),
       after .1
-          ∙ rw (others .1, is) (simp append-assoc),
+          ∙ rw (others .1, routed-next j s i d, is) (simp append-assoc),
     )
 
 -- ---- its reply

@@ -15,7 +15,7 @@ use Rattle.price.specs.Lists.{has}
 use Rattle.price.proofs.TestLaws.{either-way, true≢false, both-false-right}
 use Rattle.negotiation.specs.Records.{Record, pathNodes}
 use Rattle.negotiation.specs.Demand.{nodesIn, latest, upToIteration, endsIn}
-use Rattle.negotiation.proofs.NetLaws.{branchEnds}
+use Rattle.negotiation.proofs.RecordLaws.{branchEnds}
 
 -- ---- every record
 

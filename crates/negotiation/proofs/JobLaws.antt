@@ -1,4 +1,4 @@
--- Laws of sound jobs: what each rule of tables 5 to 8 says of a net.
+-- Laws of sound jobs: what each rule of tables 5 to 8 says of a net, and what of it routing rests on.
 -- Assumes nothing.
 use mathlib.Core.Bool.{Bool, true, false}
 use mathlib.Core.List.{List}
@@ -11,20 +11,21 @@ use native.Mathlib.Omega.{arith}
 use lib.Dec.{leb, ltb, eqb}
 use lib.ListN.{length, getD}
 use lib.Seq.{length-slice}
-use borrow.Author.Tests.{leb-true, leb-false, ltb-true, eqb-true, not-true}
+use borrow.Author.Tests.{le-leb, leb-true, leb-false, ltb-true, eqb-true, not-true}
 use Rattle.price.specs.Test.{choose, both}
 use Rattle.price.specs.Bounds.{limitMost}
 use Rattle.price.specs.Lists.{every, neighbours, has, distinct, upTo}
 use Rattle.price.proofs.TestLaws.{either-way, both-left, both-right}
 use Rattle.price.proofs.ListLaws.{every-at, neighbours-at, length-upTo, getD-upTo}
 use Rattle.price.proofs.TuningLaws.{TuningWithin, tuning-within}
-use Rattle.search.specs.Tables.{faultyTable}
+use Rattle.search.specs.Tables.{faultyTable, Sound}
 use Rattle.search.specs.Replies.{sinksMost}
 use Rattle.search.specs.Replies as search
 use Rattle.search.proofs.BlockLaws.{sound-of, faulty-of}
 use Rattle.search.proofs.TableLaws.{sinks-all}
 use Rattle.negotiation.specs.Job.{Job, nodes, nets, source, sinksBetween, netSinks}
 use Rattle.negotiation.specs.Tables.{sourcesSound, firstSinksSound, netSound, sinksSound, limitSound, termsSound, sourcePins, sinkPins, faultyNets, faultyJob, SoundJob, netsMost}
+use Rattle.negotiation.specs.Machine.{State, hasSinks, due}
 
 -- ---- the lowest faulty table
 
@@ -124,66 +125,82 @@ pub limit-least : (limit : ℕ) → limitSound limit ≡ true → 1 ≤ limit
 unfolding limitSound
 limit-least limit s = leb-true 1 limit (both-left _ _ s)
 
--- ---- a sound job
+-- ---- what routing rests on
+
+-- A sound job has it. So has a job of which some nets have no sinks: its table 6 never falls, where that of a sound job strictly rises.
+pub record Routable (j : Job) : Type 0 where
+  pub block-sound : Sound (j .block)
+  pub nets-few : nets j ≤ netsMost
+  pub source-node : (i : ℕ) → i < nets j → source j i < nodes j
+  pub firstSinks-long : length (j .firstSinks) ≡ nets j + 1
+  pub sinks-order : (i : ℕ) → i < nets j → getD (j .firstSinks) i 0 ≤ getD (j .firstSinks) (i + 1) 0
+  pub sinks-end : (i : ℕ) → i ≤ nets j → getD (j .firstSinks) i 0 ≤ length (j .sinks)
+  pub sinks-few : length (j .sinks) ≤ sinksMost
+  pub sink-node : (i : ℕ) → i < nets j → (k : ℕ) → k < length (netSinks j i) → getD (netSinks j i) k 0 < nodes j
+  pub source-no-sink : (i : ℕ) → i < nets j → has (source j i) (netSinks j i) ≡ false
+  pub limit-some : 1 ≤ j .terms .limit
+  pub limit-few : j .terms .limit ≤ limitMost
+  pub tuning-fits : TuningWithin (j .terms .tuning)
 
 module _ (j : Job) (s : SoundJob j) where
   pub nets-some : 1 ≤ nets j
   nets-some = sources-some _ _ (s .sources-sound)
 
-  pub nets-few : nets j ≤ netsMost
-  nets-few = sources-few _ _ (s .sources-sound)
-
-  pub limit-some : 1 ≤ j .terms .limit
-  unfolding termsSound
-  limit-some = limit-least (j .terms .limit) (both-left _ _ (s .terms-sound))
-
-  pub limit-few : j .terms .limit ≤ limitMost
-  unfolding termsSound limitSound
-  limit-few = leb-true _ _ (both-right (leb 1 (j .terms .limit)) _ (both-left _ _ (s .terms-sound)))
-
-  pub tuning-fits : TuningWithin (j .terms .tuning)
-  unfolding termsSound
-  tuning-fits = tuning-within _ (both-right (limitSound (j .terms .limit)) _ (s .terms-sound))
-
-  pub source-node : (i : ℕ) → i < nets j → source j i < nodes j
-  source-node i h = source-below _ _ (s .sources-sound) i h
-
-  pub firstSinks-long : length (j .firstSinks) ≡ nets j + 1
-  firstSinks-long = firsts-long _ _ _ (s .firstSinks-sound)
-
-  pub sinks-order : (i : ℕ) → i < nets j → getD (j .firstSinks) i 0 < getD (j .firstSinks) (i + 1) 0
-  sinks-order i h = firsts-order _ _ _ (s .firstSinks-sound) i h
-
-  pub sinks-end : (i : ℕ) → i ≤ nets j → getD (j .firstSinks) i 0 ≤ length (j .sinks)
-  sinks-end i h = firsts-most _ _ _ (s .firstSinks-sound) i h
-
-  pub sinks-few : length (j .sinks) ≤ sinksMost
-  unfolding sinksSound
-  sinks-few = leb-true _ _ (both-left _ _ (s .sinks-sound))
-
-  -- a net's sinks
+  -- the rule of table 7 for a net
   module _ (i : ℕ) (h : i < nets j) where
     sinks-rule : netSound (nodes j) (source j i) (netSinks j i) ≡ true
     unfolding netSinks
     sinks-rule = net-rule _ _ _ _ (s .sinks-sound) i h
 
-    pub sink-node : (k : ℕ) → k < length (netSinks j i) → getD (netSinks j i) k 0 < nodes j
+    nodes-of-sinks : (k : ℕ) → k < length (netSinks j i) → getD (netSinks j i) k 0 < nodes j
     unfolding netSound
-    sink-node k l = ltb-true _ _ (every-at (λ v. ltb v (nodes j)) (netSinks j i) (both-left _ _ sinks-rule) k l)
+    nodes-of-sinks k l = ltb-true _ _ (every-at (λ v. ltb v (nodes j)) (netSinks j i) (both-left _ _ sinks-rule) k l)
 
-    pub source-no-sink : has (source j i) (netSinks j i) ≡ false
+    no-source : has (source j i) (netSinks j i) ≡ false
     unfolding netSound
-    source-no-sink =
+    no-source =
         not-true _ (both-right (distinct (netSinks j i)) _ (both-right (every (λ v. ltb v (nodes j)) (netSinks j i)) _ sinks-rule))
 
-    -- a net has no more sinks than table 7 has entries
-    sinks-within : length (netSinks j i) ≤ length (j .sinks)
-    unfolding netSinks
-    sinks-within =
-        let end = sinks-end (i + 1) (omega arith) in
-        rw (length-slice (getD (j .firstSinks) i 0) (getD (j .firstSinks) (i + 1) 0) (j .sinks) end) (omega arith)
+  order : (i : ℕ) → i < nets j → getD (j .firstSinks) i 0 < getD (j .firstSinks) (i + 1) 0
+  order i h = firsts-order _ _ _ (s .firstSinks-sound) i h
 
-    -- as the search asks it of a list of sinks
-    pub sinks-searched : search.sinkListSound (nodes j) (netSinks j i) ≡ true
-    sinks-searched =
-        sinks-all _ _ (length (netSinks j i)) (le-trans sinks-within sinks-few) (omega arith) (λ k l. sink-node k l)
+  pub routable-of : Routable j
+  unfolding termsSound limitSound sinksSound
+  routable-of =
+      record {
+        block-sound = s .block-sound;
+        nets-few = sources-few _ _ (s .sources-sound);
+        source-node = λ i h. source-below _ _ (s .sources-sound) i h;
+        firstSinks-long = firsts-long _ _ _ (s .firstSinks-sound);
+        sinks-order = λ i h. let l = order i h in omega (arith, l);
+        sinks-end = λ i h. firsts-most _ _ _ (s .firstSinks-sound) i h;
+        sinks-few = leb-true _ _ (both-left _ _ (s .sinks-sound));
+        sink-node = nodes-of-sinks;
+        source-no-sink = no-source;
+        limit-some = limit-least (j .terms .limit) (both-left _ _ (s .terms-sound));
+        limit-few = leb-true _ _ (both-right (leb 1 (j .terms .limit)) _ (both-left _ _ (s .terms-sound)));
+        tuning-fits = tuning-within _ (both-right (limitSound (j .terms .limit)) _ (s .terms-sound));
+      }
+
+  -- every net of a sound job has sinks
+  pub all-due : (t : State) (i : ℕ) → i < nets j → due j t i ≡ true
+  unfolding due hasSinks netSinks
+  all-due t i h =
+      let rises = order i h in
+      let within : getD (j .firstSinks) (i + 1) 0 ≤ length (j .sinks) = routable-of .sinks-end (i + 1) (omega arith) in
+      le-leb 1 (length (netSinks j i)) (rw (length-slice (getD (j .firstSinks) i 0) (getD (j .firstSinks) (i + 1) 0) (j .sinks) within) (omega arith))
+
+-- ---- a net's sinks
+
+module _ (j : Job) (r : Routable j) (i : ℕ) (h : i < nets j) where
+  -- a net has no more sinks than table 7 has entries
+  sinks-within : length (netSinks j i) ≤ length (j .sinks)
+  unfolding netSinks
+  sinks-within =
+      let end = r .sinks-end (i + 1) (omega arith) in
+      rw (length-slice (getD (j .firstSinks) i 0) (getD (j .firstSinks) (i + 1) 0) (j .sinks) end) (omega arith)
+
+  -- as the search asks it of a list of sinks
+  pub sinks-searched : search.sinkListSound (nodes j) (netSinks j i) ≡ true
+  sinks-searched =
+      sinks-all _ _ (length (netSinks j i)) (le-trans sinks-within (r .sinks-few)) (omega arith) (r .sink-node i h)

@@ -21,7 +21,7 @@ use Rattle.negotiation.specs.declared.turns.TurnMade.{TurnMade}
 use Rattle.negotiation.specs.declared.turns.TurnMade.the-variants.{Nothing, Full, Logged}
 use Rattle.negotiation.specs.declared.Routed.{Routed}
 use Rattle.negotiation.specs.declared.Outcome.the-variants.{LogFull}
-use Rattle.negotiation.proofs.JobLaws.{sinks-end}
+use Rattle.negotiation.proofs.JobLaws.{routable-of}
 use Rattle.negotiation.proofs.KeepLaws.{AtNet, AtTurn, stateFor}
 use Rattle.negotiation.proofs.KeepStart.{keep-ready, keep-ripped}
 use Rattle.negotiation.proofs.KeepTurn.{keep-can, keep-turn, keep-skipped, keep-logged, keep-countable, keep-counted}
@@ -78,7 +78,7 @@ module _ (j : Job) (sound : SoundJob j) (i : ℕ) (hi : i < nets j) where
 
   pub sinks-count : getD (j .firstSinks) (i + 1) 0 - getD (j .firstSinks) i 0 ≡ length (netSinks j i)
   unfolding netSinks
-  sinks-count = sym (length-slice _ _ (j .sinks) (sinks-end j sound (i + 1) (omega arith)))
+  sinks-count = sym (length-slice _ _ (j .sinks) (routable-of j sound .sinks-end (i + 1) (omega arith)))
 
 -- a turn with that part
 module _ (j : Job) (sound : SoundJob j) (W L : List ℕ) (enough : 8 * nodes j ≤ length W) (m i left : ℕ) (t : Tariff)

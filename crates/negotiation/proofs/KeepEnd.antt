@@ -29,7 +29,7 @@ use Rattle.negotiation.specs.declared.Routed.{Routed}
 use Rattle.negotiation.specs.declared.Outcome.the-variants.{Accepted, LogFull, Limit}
 use Rattle.negotiation.proofs.StateLaws.{nets-iteration, nets-factor, nets-histories, state-iteration}
 use Rattle.negotiation.proofs.KeepLaws.{Under, AtNet, AtTurn, stateFor, newBefore, oldBefore}
-use Rattle.negotiation.proofs.JobLaws.{limit-few}
+use Rattle.negotiation.proofs.JobLaws.{routable-of, all-due}
 use Rattle.negotiation.proofs.RecordLaws.{words-length}
 use Rattle.negotiation.proofs.NetLaws.{state-ready}
 use Rattle.negotiation.proofs.TurnStepLaws.{log-length}
@@ -62,7 +62,7 @@ module _ (j : Job) (sound : SoundJob j) (work₀ log₀ : List ℕ) (enough : 8 
         let rs : List Record = newBefore j m i ++ at .made in
         let next : Record = recordOf (m + 1) i (getD (netSinks j i) (o .place) 0) (o .cost) (o .path) in
         let split =
-        all-split j m i (at .under .below) (at .under .unsettled) (at .net) (at .made) next
+        all-split j m i (at .under .below) (at .under .unsettled) (at .net) (all-due j sound (stateAfter j (firstState j) m) i (at .net)) (at .made) next
         (turnsOf j (m + 1) (congestionFor j (stateFor j m i) i) i left (treeFrom j i (at .made) ++ o .path))
         (turn-first (o .place) (o .cost) (o .path) (o .is-turn)) in
         let iteration-is : r .iteration ≡ m + 1 = a .iteration-is ∙ at .under .iteration-is in
@@ -136,8 +136,8 @@ module _ (j : Job) (sound : SoundJob j) (work₀ log₀ : List ℕ) (enough : 8 
     -- histories can grow
     pub keep-growable : (v : ℕ) → v < nodes j → getD (take (nodes j) history) v 0 < 2147483648
     keep-growable v h =
-        let few : j .terms .limit ≤ limitMost = limit-few j sound in
-        let most = state-ready j sound m 0 (omega (arith, at .under .below)) .history-most v h in
+        let few : j .terms .limit ≤ limitMost = routable-of j sound .limit-few in
+        let most = state-ready j (routable-of j sound) m 0 (omega (arith, at .under .below)) .history-most v h in
         let is : getD (take (nodes j) history) v 0 ≡ getD (stateFor j m 0 .histories) v 0 =
         getD-take (nodes j) history v 0 h ∙ at .under .history-is v h ∙ rw (nets-histories j (stateAfter j (firstState j) m) 0) in
         omega arith

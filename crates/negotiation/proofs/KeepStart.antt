@@ -25,7 +25,7 @@ use Rattle.negotiation.specs.Outcome.{logWith}
 use Rattle.negotiation.specs.Steps.{leading, oldTree, oldNext, RipReady, RippedUp}
 use Rattle.negotiation.specs.declared.tariff.Tariff.{Tariff}
 use Rattle.negotiation.proofs.StateLaws.{nets-iteration, state-iteration}
-use Rattle.negotiation.proofs.JobLaws.{limit-some, limit-few, source-node}
+use Rattle.negotiation.proofs.JobLaws.{routable-of}
 use Rattle.negotiation.proofs.RecordLaws.{encode-append}
 use Rattle.negotiation.proofs.OldLaws.{OldWords, old-words, old-before, old-next, old-tree, users-some, users-but, users-none}
 use Rattle.negotiation.proofs.KeepLaws.{AtNet, AtTurn, stateFor, newBefore, oldBefore}
@@ -82,7 +82,7 @@ module _ (j : Job) (sound : SoundJob j) (work₀ log₀ : List ℕ) where
       record {
         under =
             record {
-              below = limit-some j sound;
+              below = routable-of j sound .limit-some;
               unsettled = λ n l. absurd (not-suc-le-zero l);
               iteration-is = a;
               factor-is = b ∙ first-factor;
@@ -103,7 +103,7 @@ module _ (j : Job) (sound : SoundJob j) (work₀ log₀ : List ℕ) where
   module _ (m i : ℕ) (t : Tariff) (history users marks work log : List ℕ) (old start : ℕ)
       (at : AtNet j work₀ log₀ m i t history users marks work log old start) (hi : i < nets j) where
     few : m < limitMost
-    few = le-trans (at .under .below) (limit-few j sound)
+    few = le-trans (at .under .below) (routable-of j sound .limit-few)
 
     -- what the log says between net i's old records and this iteration's
     words : OldWords j m i (slice old start log)
@@ -112,7 +112,7 @@ module _ (j : Job) (sound : SoundJob j) (work₀ log₀ : List ℕ) where
         (old-words j sound m i few hi (afterNets j (stateAfter j (firstState j) m) i .records) log₀)
 
     tree-is : oldTree (t .iteration) (source j i) (leading i (decode (slice old start log))) ≡ treeAt (stateFor j m i .trees) i
-    tree-is = rw (words .leading-is, at .under .iteration-is) (sym (old-tree j m i hi))
+    tree-is = rw (words .leading-is, at .under .iteration-is) (sym (old-tree j sound m i hi))
 
     users-front : length (take (nodes j) users) ≡ nodes j
     users-front = length-take-le (nodes j) users (at .users-long)
@@ -132,7 +132,7 @@ module _ (j : Job) (sound : SoundJob j) (work₀ log₀ : List ℕ) where
         record {
           users-long = users-front;
           marks-long = marks-front;
-          from-node = source-node j sound i hi;
+          from-node = routable-of j sound .source-node i hi;
           order = rw (at .old-is, at .start-is) (old-before j sound m i few hi);
           within = log-within;
           whole = words .whole;
@@ -151,7 +151,7 @@ module _ (j : Job) (sound : SoundJob j) (work₀ log₀ : List ℕ) where
     unfolding pathNodes
     source-mark marks′ long none =
         one-mark j (marks′ ++ drop (nodes j) marks) (source j i)
-        (le-trans (source-node j sound i hi) (front-long (nodes j) marks′ marks (at .marks-long) long))
+        (le-trans (routable-of j sound .source-node i hi) (front-long (nodes j) marks′ marks (at .marks-long) long))
         (λ v l. front-at (nodes j) marks′ marks (at .marks-long) long v l ∙ none v l)
 
     -- once it is, and the source is marked, the net's turns begin
@@ -168,7 +168,7 @@ module _ (j : Job) (sound : SoundJob j) (work₀ log₀ : List ℕ) where
           rest-is = rw e first-turns;
           tallied = rw (append-nil (newBefore j m i)) (at .tallied);
           first-is = at .tallied .words-is;
-          old-is = rw (words .leading-is, at .under .iteration-is, at .old-is) (old-next j m i);
+          old-is = rw (words .leading-is, at .under .iteration-is, at .old-is) (old-next j sound m i hi);
           start-is = at .start-is;
           users-long = front-long (nodes j) users′ users (at .users-long) (r .users-long);
           marks-long = rw length-set (front-long (nodes j) marks′ marks (at .marks-long) (r .marks-long));

@@ -20,7 +20,7 @@ use Rattle.negotiation.specs.Machine.{State, othersOf, marksOf, congesti
 use Rattle.negotiation.specs.Steps.{AllBelow, SameFrom, CountReady, Counted, CanTurn, Skipped, TurnLogged}
 use Rattle.negotiation.specs.declared.tariff.Tariff.{Tariff}
 use Rattle.negotiation.proofs.StateLaws.{nets-factor, nets-histories, nets-trees, state-trees}
-use Rattle.negotiation.proofs.JobLaws.{nets-few, limit-few, source-node, sinks-searched}
+use Rattle.negotiation.proofs.JobLaws.{sinks-searched, routable-of, all-due}
 use Rattle.negotiation.proofs.RecordLaws.{records-few, decode-encode, encode-append}
 use Rattle.negotiation.proofs.NetLaws.{StateReady, state-ready, others-few, tree-more, net-turn}
 use Rattle.negotiation.proofs.FilterLaws.{all-splits}
@@ -44,9 +44,9 @@ module _ (j : Job) (sound : SoundJob j) (work₀ log₀ : List ℕ) (enough : 8 
   module _ (m i : ℕ) (t : Tariff) (history : List ℕ) (under : Under j m t history) where
     ready-state : StateReady j (stateFor j m i)
     ready-state =
-        let few : j .terms .limit ≤ limitMost = limit-few j sound in
+        let few : j .terms .limit ≤ limitMost = routable-of j sound .limit-few in
         let below : m < j .terms .limit = under .below in
-        state-ready j sound m i (omega arith)
+        state-ready j (routable-of j sound) m i (omega arith)
 
     factor-same : t .factor ≡ stateFor j m i .factor
     factor-same = under .factor-is ∙ sym (nets-factor j (stateAfter j (firstState j) m) i)
@@ -56,7 +56,7 @@ module _ (j : Job) (sound : SoundJob j) (work₀ log₀ : List ℕ) (enough : 8 
 
   -- fewer than 512 others have a node
   others-below : (trees : List (List ℕ)) (i v : ℕ) → i < nets j → othersOf j trees i v < netsMost
-  others-below trees i v h = le-trans (others-few j trees i v h) (nets-few j sound)
+  others-below trees i v h = le-trans (others-few j trees i v h) (routable-of j sound .nets-few)
 
   module _ (m i left : ℕ) (t : Tariff) (history users marks work log : List ℕ) (old start first : ℕ)
       (at : AtTurn j work₀ log₀ m i left t history users marks work log old start first) where
@@ -101,7 +101,7 @@ module _ (j : Job) (sound : SoundJob j) (work₀ log₀ : List ℕ) (enough : 8 
                 factor-most = rw (factor-same m i t history (at .under)) (state .factor-most);
               };
           marks-long = marks-long;
-          sinks-sound = sinks-searched j sound i (at .net);
+          sinks-sound = sinks-searched j (routable-of j sound) i (at .net);
           within = words-within;
           few-turns =
               let few = records-few (newBefore j m i ++ at .made) in
@@ -236,7 +236,7 @@ module _ (j : Job) (sound : SoundJob j) (work₀ log₀ : List ℕ) (enough : 8 
         paths-below (nodes j) (at .made)
         (all-splits (λ r. AllBelow (nodes j) (r .path)) (at .made)
         (λ earlier later r e.
-        net-turn j sound (stateFor j m i) (ready-state m i t history (at .under)) i (at .net) earlier later r (all-made ∙ e) .path-nodes))
+        net-turn j (routable-of j sound) (stateFor j m i) (ready-state m i t history (at .under)) i (at .net) earlier later r (all-made ∙ e) .path-nodes))
 
     -- the new tree can be counted
     pub keep-countable : CountReady (nodes j) (source j i) first (t .words) log (take (nodes j) users) (take (nodes j) marks)
@@ -245,7 +245,7 @@ module _ (j : Job) (sound : SoundJob j) (work₀ log₀ : List ℕ) (enough : 8 
         record {
           users-long = length-take-le n users (at .users-long);
           marks-long = length-take-le n marks (at .marks-long);
-          from-node = source-node j sound i (at .net);
+          from-node = routable-of j sound .source-node i (at .net);
           order =
               let words-are = at .tallied .words-is in
               let first-are = at .first-is in
@@ -278,11 +278,12 @@ module _ (j : Job) (sound : SoundJob j) (work₀ log₀ : List ℕ) (enough : 8 
         let marks-long : length marks′ ≡ n = k .marks-long ∙ length-take-le n marks (at .marks-long) in
         let trees-long = nets-trees j s i ∙ state-trees j m in
         let inside = at .net in
+        let here-due = all-due j sound s i inside in
         record {
           under = at .under;
           upto = omega arith;
           tallied =
-              rw (routed-records j s i, all-made, ← append-assoc (recordsAfter j (firstState j) m) (afterNets j s i .records) (at .made))
+              rw (routed-records j s i here-due, all-made, ← append-assoc (recordsAfter j (firstState j) m) (afterNets j s i .records) (at .made))
               (at .tallied);
           old-is = at .old-is;
           start-is = at .start-is;
@@ -292,7 +293,7 @@ module _ (j : Job) (sound : SoundJob j) (work₀ log₀ : List ℕ) (enough : 8 
               λ v h.
               front-at n users′ (drop n users) users-long v h
               ∙ k .users-at v h
-              ∙ rw (own-records, getD-take n users v 0 h, at .users-is v h, routed-trees j s i, all-made)
+              ∙ rw (own-records, getD-take n users v 0 h, at .users-is v h, routed-trees j s i here-due, all-made)
               (sym (users-with j (stateFor j m i .trees) i (treeFrom j i (at .made)) v (at .net) (omega arith)));
           no-marks = λ v h. front-at n marks′ (drop n marks) marks-long v h ∙ k .no-marks v h;
           work-same = at .work-same;

@@ -1,7 +1,7 @@
 -- The laws by subject, a line a file. Each file's head says what is in it; the folders beside hold one proof for each function of src/.
 --
 -- Tables and jobs
---     JobLaws           a sound job, table by table: places, bounds, terms
+--     JobLaws           a sound job, table by table: places, bounds, terms; what of it routing rests on
 --     NetTableLaws      tables 5 to 8: what each test's answer says, the lowest table that breaks its rule
 --     SinkMarkLaws      the pass that marks a net's sinks
 -- Lists and records
@@ -17,11 +17,11 @@
 --     TreeLaws          a net's turns from its tree
 --     NetLaws           a net in an iteration: cheapest paths, costs, no node twice, every sink joined; paths from a source
 --     StateLaws         the machine's state, iteration by iteration
---     IterationLaws     the records of an iteration
+--     MachineRan        the machine's run is a run: bounds of histories and factor, its turns owned net by net
 --     EndLaws           how a run ends
 --     LimitLaws         a run under two limits
 -- Read off the log
---     ReadLaws          trees, users and histories read off the log are the machine's
+--     RanLaws           runs of whole iterations, whoever made the turns: trees, users and histories read off their records are the state's
 --     DemandLaws        a logged turn, the final trees, which sinks have a path
 -- The reply
 --     RefusalLaws       refusal by refusal
@@ -54,10 +54,10 @@ pub mod TestedLaws
 pub mod TreeLaws
 pub mod NetLaws
 pub mod StateLaws
-pub mod IterationLaws
 pub mod EndLaws
 pub mod LimitLaws
-pub mod ReadLaws
+pub mod RanLaws
+pub mod MachineRan
 pub mod DemandLaws
 pub mod RefusalLaws
 pub mod ReplyLogLaws

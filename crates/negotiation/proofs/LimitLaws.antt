@@ -17,7 +17,7 @@ use Rattle.price.proofs.BelowLaws.{firstBelow-holds, firstBelow-below, firstBel
 use Rattle.search.specs.Turn.{Congestion, Turn, joins, stuck}
 use Rattle.negotiation.specs.Job.{Job, nets, source, netSinks}
 use Rattle.negotiation.specs.Records.{Record}
-use Rattle.negotiation.specs.Machine.{State, othersOf, usersOf, marksOf, congestionFor, turnOf, logTurn, turnsOf, netRecords, afterNets, iterate, overfull, overCount, moveOn, firstState, stateAfter, recordsAfter, settlesAt}
+use Rattle.negotiation.specs.Machine.{State, Progress, othersOf, usersOf, marksOf, congestionFor, turnOf, logTurn, turnsOf, netRecords, hasSinks, due, routeIf, afterNets, iterate, overfull, overCount, moveOn, firstState, stateAfter, recordsAfter, settlesAt}
 use Rattle.negotiation.specs.Outcome.{iterationsMade, allRecords, endNumbers}
 use Rattle.negotiation.specs.Longer.{withLimit}
 use Rattle.negotiation.proofs.EndLaws.{records-more}
@@ -40,10 +40,18 @@ module _ (j : Job) (limit : ℕ) where
   unfolding netRecords congestionFor othersOf netSinks
   net-alike s i = turns-alike (s .iteration) (congestionFor j s i) i (length (netSinks j i)) (source j i ∷ [])
 
+  due-alike : (s : State) (i : ℕ) → due (withLimit j limit) s i ≡ due j s i
+  unfolding due hasSinks netSinks
+  due-alike s i = refl
+
+  route-alike : (d : Bool) (i : ℕ) (p : Progress) → routeIf d (withLimit j limit) i p ≡ routeIf d j i p
+  route-alike true i p = rw (net-alike (p .state) i)
+  route-alike false i p = refl
+
   nets-alike : (s : State) (i : ℕ) → afterNets (withLimit j limit) s i ≡ afterNets j s i
   unfolding afterNets
   nets-alike s zero = refl
-  nets-alike s (suc i) = rw (nets-alike s i, net-alike (afterNets j s i .state) i)
+  nets-alike s (suc i) = rw (nets-alike s i, due-alike s i) (route-alike (due j s i) i (afterNets j s i))
 
   iterate-alike : (s : State) → iterate (withLimit j limit) s ≡ iterate j s
   unfolding iterate

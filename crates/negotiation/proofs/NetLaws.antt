@@ -9,7 +9,7 @@ use native.Mathlib.Nat.{le-trans, le-of-eq, mul-le-mul-right}
 use native.Mathlib.Omega.{arith}
 use lib.Dec.{eqb}
 use lib.ListN.{length, getD, drop, length-append, length-replicate, getD-replicate}
-use lib.Seq.{append-snoc, length-slice}
+use lib.Seq.{append-snoc}
 use borrow.Author.Tests.{eq-eqb, ltb-true}
 use Rattle.price.specs.Bounds.{factorMost, historyMost, historyGain, othersMost, limitMost, priceMost, pathMost}
 use Rattle.price.specs.Test.{both}
@@ -28,14 +28,14 @@ use Rattle.search.proofs.BlockLaws.{graph-of, kind-most, capacity-least, capaci
 use Rattle.search.proofs.DistanceLaws.{some-path}
 use Rattle.search.proofs.DistinctLaws.{has-first, lacks, distinct-cons, distinct-rest}
 use Rattle.negotiation.specs.Job.{Job, nodes, nets, source, netSinks}
-use Rattle.negotiation.specs.Tables.{SoundJob, netsMost}
+use Rattle.negotiation.specs.Tables.{netsMost}
 use Rattle.negotiation.specs.Records.{Record, pathNodes}
 use Rattle.negotiation.specs.Machine.{State, treeAt, othersOf, usersOf, marksOf, congestionFor, netRecords, treeFrom, afterNets, iterate, movedHistory, moveOn, firstState, stateAfter}
 use Rattle.negotiation.specs.Outcome.{hasPath}
 use Rattle.negotiation.specs.Unreachable.{Reachable}
 use Rattle.negotiation.proofs.StateLaws.{nets-factor, nets-histories}
-use Rattle.negotiation.proofs.JobLaws.{nets-few, source-node, sinks-order, sinks-end, sink-node, source-no-sink, tuning-fits}
-use Rattle.negotiation.proofs.RecordLaws.{pathNodes-append}
+use Rattle.negotiation.proofs.JobLaws.{Routable}
+use Rattle.negotiation.proofs.RecordLaws.{stepEnds, branchEnds, pathNodes-append}
 use Rattle.negotiation.proofs.MemberLaws.{no-entry, has-append-split, none-has, lacks-left, lacks-right, distinct-append, missing-most}
 use Rattle.negotiation.proofs.TreeLaws.{TreeNodes, mark-is, TreeTurn, Turns, none, stop, more, turns-are, turns-join, turns-source, only-entry}
 
@@ -47,38 +47,37 @@ pub record StateReady (j : Job) (s : State) : Type 0 where
   pub factor-most : s .factor ≤ factorMost
 
 -- the same after m whole iterations, with what the histories have grown by at most
-record Grown (j : Job) (s : State) (m : ℕ) : Type 0 where
-  long : length (s .histories) ≡ nodes j
-  least : (v : ℕ) → v < nodes j → 1 ≤ getD (s .histories) v 0
-  most : (v : ℕ) → v < nodes j → getD (s .histories) v 0 ≤ 1 + m * historyGain
-  factor-most : s .factor ≤ factorMost
+pub record Grown (j : Job) (s : State) (m : ℕ) : Type 0 where
+  pub long : length (s .histories) ≡ nodes j
+  pub least : (v : ℕ) → v < nodes j → 1 ≤ getD (s .histories) v 0
+  pub most : (v : ℕ) → v < nodes j → getD (s .histories) v 0 ≤ 1 + m * historyGain
+  pub factor-most : s .factor ≤ factorMost
+
+-- it hangs on histories and factor alone
+pub grown-same : (j : Job) (s t : State) (m : ℕ) → t .histories ≡ s .histories → t .factor ≡ s .factor → Grown j s m → Grown j t m
+grown-same j s t m hs f g =
+    record { long = rw hs (g .long); least = rw hs (g .least); most = rw hs (g .most); factor-most = rw f (g .factor-most) }
 
 grown-after : (j : Job) (s : State) (m i : ℕ) → Grown j s m → Grown j (afterNets j s i .state) m
-grown-after j s m i g =
-    record {
-      long = rw (nets-histories j s i) (g .long);
-      least = rw (nets-histories j s i) (g .least);
-      most = rw (nets-histories j s i) (g .most);
-      factor-most = rw (nets-factor j s i) (g .factor-most);
-    }
+grown-after j s m i g = grown-same j s (afterNets j s i .state) m (nets-histories j s i) (nets-factor j s i) g
 
-grown-first : (j : Job) → SoundJob j → Grown j (firstState j) 0
+pub grown-first : (j : Job) → Routable j → Grown j (firstState j) 0
 unfolding firstState
 grown-first j sound =
     record {
       long = length-replicate (nodes j) 1;
       least = λ v h. le-of-eq (sym (getD-replicate (nodes j) v 1 0 h));
       most = λ v h. le-of-eq (getD-replicate (nodes j) v 1 0 h);
-      factor-most = next-factor-most _ (tuning-fits j sound .few-first) 0 0;
+      factor-most = next-factor-most _ (sound .tuning-fits .few-first) 0 0;
     }
 
 -- a node has at most as many users as there are nets
-users-few : (j : Job) → SoundJob j → (trees : List (List ℕ)) (v : ℕ) → usersOf j trees v ≤ othersMost + 1
+users-few : (j : Job) → Routable j → (trees : List (List ℕ)) (v : ℕ) → usersOf j trees v ≤ othersMost + 1
 unfolding usersOf
 users-few j sound trees v =
-    le-trans (count-most (λ k. has v (treeAt trees k)) (nets j)) (nets-few j sound)
+    le-trans (count-most (λ k. has v (treeAt trees k)) (nets j)) (sound .nets-few)
 
-grown-on : (j : Job) → SoundJob j → (s : State) (m : ℕ) → Grown j s m → Grown j (moveOn j s) (suc m)
+pub grown-on : (j : Job) → Routable j → (s : State) (m : ℕ) → Grown j s m → Grown j (moveOn j s) (suc m)
 unfolding moveOn
 grown-on j sound s m g =
     record {
@@ -88,27 +87,31 @@ grown-on j sound s m g =
           λ v h.
           rw (getD-upTo (movedHistory j s) (nodes j) v 0 h)
           (let most : movedHistory j s v ≤ 1 + (m + 1) * historyGain =
-          history-grows _ m _ _ _ (tuning-fits j sound .few-step) (g .most v h) (users-few j sound (s .trees) v) (capacity-least (nodes j) (j .block .capacities) (sound .block-sound .capacities-sound) v h) in
+          history-grows _ m _ _ _ (sound .tuning-fits .few-step) (g .most v h) (users-few j sound (s .trees) v) (capacity-least (nodes j) (j .block .capacities) (sound .block-sound .capacities-sound) v h) in
           omega arith);
-      factor-most = next-factor-most _ (tuning-fits j sound .few-first) _ _;
+      factor-most = next-factor-most _ (sound .tuning-fits .few-first) _ _;
     }
 
-grown : (j : Job) → SoundJob j → (m : ℕ) → Grown j (stateAfter j (firstState j) m) m
+grown : (j : Job) → Routable j → (m : ℕ) → Grown j (stateAfter j (firstState j) m) m
 unfolding stateAfter iterate
 grown j sound zero = grown-first j sound
 grown j sound (suc m) =
     grown-on j sound _ m (grown-after j (stateAfter j (firstState j) m) m (nets j) (grown j sound m))
 
--- every state in which a net is routed keeps them
-pub state-ready : (j : Job) → SoundJob j → (m i : ℕ) → m < limitMost → StateReady j (afterNets j (stateAfter j (firstState j) m) i .state)
-state-ready j sound m i h =
-    let g = grown-after j (stateAfter j (firstState j) m) m i (grown j sound m) in
+-- below the largest limit it keeps the bounds
+pub grown-ready : (j : Job) (s : State) (m : ℕ) → m < limitMost → Grown j s m → StateReady j s
+grown-ready j s m h g =
     record {
       long = g .long;
       history-least = g .least;
       history-most = λ v l. history-reach m _ (g .most v l) h;
       factor-most = g .factor-most;
     }
+
+-- every state in which a net is routed keeps them
+pub state-ready : (j : Job) → Routable j → (m i : ℕ) → m < limitMost → StateReady j (afterNets j (stateAfter j (firstState j) m) i .state)
+state-ready j sound m i h =
+    grown-ready j (afterNets j (stateAfter j (firstState j) m) i .state) m h (grown-after j (stateAfter j (firstState j) m) m i (grown j sound m))
 
 -- fewer other nets have a node than there are nets
 pub others-few : (j : Job) (trees : List (List ℕ)) (i v : ℕ) → i < nets j → othersOf j trees i v < nets j
@@ -119,11 +122,11 @@ others-few j trees i v h =
     (count-most (λ k. true) (nets j))
 
 -- so the search can work with the prices of a turn
-module _ (j : Job) (sound : SoundJob j) (s : State) (ready : StateReady j s) (i : ℕ) (hi : i < nets j) where
+module _ (j : Job) (sound : Routable j) (s : State) (ready : StateReady j s) (i : ℕ) (hi : i < nets j) where
   turn-bounds : (v : ℕ) → v < nodes j → InBounds (getD (j .block .kinds) v 0) (s .factor) (othersOf j (s .trees) i v) (getD (j .block .capacities) v 0) (getD (s .histories) v 0)
   turn-bounds v h =
       let few : othersOf j (s .trees) i v < nets j = others-few j (s .trees) i v hi in
-      let most : nets j ≤ netsMost = nets-few j sound in
+      let most : nets j ≤ netsMost = sound .nets-few in
       record {
         kind-most = kind-most (j .block .kinds) (sound .block-sound .kinds-sound) v h;
         factor-most = ready .factor-most;
@@ -147,15 +150,6 @@ module _ (j : Job) (sound : SoundJob j) (s : State) (ready : StateReady j s) (i 
         pos = λ v h. price-pos _ _ _ _ _ (ready .history-least v h);
         most = λ v h. rw (others-at v h) (price-most (turn-bounds v h));
       }
-
--- the nodes in which a record's path steps end
-abbrev pub stepEnds : Record → List ℕ
-stepEnds r = drop 1 (r .path)
-
--- all of them, record after record
-unfoldable pub branchEnds : List Record → List ℕ
-branchEnds [] = []
-branchEnds (r ∷ rs) = stepEnds r ++ branchEnds rs
 
 -- a turn of net i in state s after its earlier ones of the same iteration
 pub record NetTurn (j : Job) (s : State) (i : ℕ) (earlier : List Record) (r : Record) : Type 0 where
@@ -183,23 +177,23 @@ cost-below b price fair (u ∷ path) nodes few =
 
 -- so a turn's cost is
 pub turn-cost :
-    (j : Job) → SoundJob j → (s : State) → StateReady j s → (i : ℕ) → i < nets j → (earlier : List Record) (r : Record) → NetTurn j s i earlier r
+    (j : Job) → Routable j → (s : State) → StateReady j s → (i : ℕ) → i < nets j → (earlier : List Record) (r : Record) → NetTurn j s i earlier r
     → r .cost < pathMost
 turn-cost j sound s ready i hi earlier r t =
     rw (t .cheapest .costs)
     (cost-below (j .block) (priceAt (j .block) (congestionFor j s i)) (turn-fair j sound s ready i hi) (r .path) (t .path-nodes) (t .path-short))
 
 -- the tree of the source alone
-source-alone : (j : Job) → SoundJob j → (i : ℕ) → i < nets j → TreeNodes j (source j i ∷ [])
-source-alone j sound i hi v h = rw (only-entry v (source j i) h) (source-node j sound i hi)
+source-alone : (j : Job) → Routable j → (i : ℕ) → i < nets j → TreeNodes j (source j i ∷ [])
+source-alone j sound i hi v h = rw (only-entry v (source j i) h) (sound .source-node i hi)
 
 -- the first state keeps its bounds
-pub first-ready : (j : Job) → SoundJob j → StateReady j (firstState j)
+pub first-ready : (j : Job) → Routable j → StateReady j (firstState j)
 unfolding afterNets stateAfter
 first-ready j sound = state-ready j sound 0 0 (omega arith)
 
 -- a node that the test before iteration 1 finds has a path from the source
-pub path-from : (j : Job) → SoundJob j → (i : ℕ) → i < nets j → (x : ℕ) → x < nodes j → hasPath j i x ≡ true → Reachable j i x
+pub path-from : (j : Job) → Routable j → (i : ℕ) → i < nets j → (x : ℕ) → x < nodes j → hasPath j i x ≡ true → Reachable j i x
 unfolding hasPath
 path-from j sound i hi x node found =
     let p =
@@ -210,18 +204,10 @@ path-from j sound i hi x node found =
     (p .1, subst (λ (u : ℕ). Walk (j .block) u (p .1) x) first (p .4))
 
 -- and so has a sink
-pub sink-path : (j : Job) → SoundJob j → (i : ℕ) → i < nets j → (x : ℕ) → has x (netSinks j i) ≡ true → hasPath j i x ≡ true → Reachable j i x
+pub sink-path : (j : Job) → Routable j → (i : ℕ) → i < nets j → (x : ℕ) → has x (netSinks j i) ≡ true → hasPath j i x ≡ true → Reachable j i x
 sink-path j sound i hi x h found =
     let at = has-place x (netSinks j i) h in
-    path-from j sound i hi x (rw (at .2) at (sink-node j sound i hi (at .0) (at .1))) found
-
--- a net has a sink
-sinks-some : (j : Job) → SoundJob j → (i : ℕ) → i < nets j → 1 ≤ length (netSinks j i)
-unfolding netSinks
-sinks-some j sound i hi =
-    let order : getD (j .firstSinks) i 0 < getD (j .firstSinks) (i + 1) 0 = sinks-order j sound i hi in
-    let within : getD (j .firstSinks) (i + 1) 0 ≤ length (j .sinks) = sinks-end j sound (i + 1) (omega arith) in
-    rw (length-slice (getD (j .firstSinks) i 0) (getD (j .firstSinks) (i + 1) 0) (j .sinks) within) (omega arith)
+    path-from j sound i hi x (rw (at .2) at (sound .sink-node i hi (at .0) (at .1))) found
 
 -- a record of the turns from a tree, by what stands before it
 
@@ -298,11 +284,11 @@ turns-distinct j {tree = tree} (more {r = r} {rs = rs} at of joined rest) =
     distinct-append (stepEnds r) (branchEnds rs) (ends-distinct (r .path) (joined .path-distinct)) (turns-distinct j rest)
     (λ v h. ends-within v (r .path) (lacks-right v tree (r .path) (turns-new j rest v h)))
 
-module _ (j : Job) (sound : SoundJob j) (s : State) (ready : StateReady j s) (i : ℕ) (hi : i < nets j) where
+module _ (j : Job) (sound : Routable j) (s : State) (ready : StateReady j s) (i : ℕ) (hi : i < nets j) where
   net-turns : Turns j (s .iteration) (congestionFor j s i) i (length (netSinks j i)) (source j i ∷ []) (netRecords j s i)
   unfolding netRecords
   net-turns =
-      turns-are j (congestionFor j s i) i (graph-of (j .block) (sound .block-sound)) (turn-fair j sound s ready i hi) (sink-node j sound i hi)
+      turns-are j (congestionFor j s i) i (graph-of (j .block) (sound .block-sound)) (turn-fair j sound s ready i hi) (sound .sink-node i hi)
       (s .iteration) (length (netSinks j i)) (source j i ∷ []) (source-alone j sound i hi)
 
   pub net-turn : (earlier later : List Record) (r : Record) → netRecords j s i ≡ earlier ++ (r ∷ later) → NetTurn j s i earlier r
@@ -321,15 +307,15 @@ module _ (j : Job) (sound : SoundJob j) (s : State) (ready : StateReady j s) (i 
     -- every sink is joined
     pub net-joins : (x : ℕ) → has x (netSinks j i) ≡ true → has x (treeFrom j i (netRecords j s i)) ≡ true
     net-joins x h =
-        turns-join j (congestionFor j s i) i (graph-of (j .block) (sound .block-sound)) (turn-fair j sound s ready i hi) (sink-node j sound i hi)
+        turns-join j (congestionFor j s i) i (graph-of (j .block) (sound .block-sound)) (turn-fair j sound s ready i hi) (sound .sink-node i hi)
         net-turns (source-alone j sound i hi) (missing-most (source j i ∷ []) (netSinks j i)) (source j i) (has-first (source j i) [])
         (λ y k. sink-path j sound i hi y k (all y k)) x h
 
-    -- there is a record, and the source is on its path
-    pub net-source : has (source j i) (pathNodes (netRecords j s i)) ≡ true
-    net-source =
+    -- where the net has sinks there is a record, and the source is on its path
+    pub net-source : 1 ≤ length (netSinks j i) → has (source j i) (pathNodes (netRecords j s i)) ≡ true
+    net-source some =
         let x : ℕ = getD (netSinks j i) 0 0 in
-        let h : has x (netSinks j i) ≡ true = has-at (netSinks j i) 0 (sinks-some j sound i hi) in
+        let h : has x (netSinks j i) ≡ true = has-at (netSinks j i) 0 some in
         turns-source j (congestionFor j s i) i (source j i) net-turns refl x
-        (λ e. true≢false (sym h ∙ ap (λ (v : ℕ). has v (netSinks j i)) e ∙ source-no-sink j sound i hi))
+        (λ e. true≢false (sym h ∙ ap (λ (v : ℕ). has v (netSinks j i)) e ∙ sound .source-no-sink i hi))
         (net-joins x h)

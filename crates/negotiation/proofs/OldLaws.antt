@@ -20,10 +20,11 @@ use Rattle.price.proofs.BelowLaws.{count-less, count-same}
 use Rattle.negotiation.specs.Job.{Job, nodes, nets, source}
 use Rattle.negotiation.specs.Tables.{SoundJob}
 use Rattle.negotiation.specs.Records.{Record, encode, decode}
-use Rattle.negotiation.specs.Machine.{State, treeAt, usersOf, othersOf, netRecords, afterNets, iterate, moveOn, firstState, stateAfter, recordsAfter}
+use Rattle.negotiation.specs.Machine.{State, Progress, treeAt, usersOf, othersOf, netRecords, due, afterNets, iterate, moveOn, firstState, stateAfter, recordsAfter}
 use Rattle.negotiation.specs.Outcome.{logWith}
 use Rattle.negotiation.specs.Steps.{AllBelow, Whole, leading, oldTree, oldNext}
-use Rattle.negotiation.proofs.StateLaws.{trees-old, final-tree}
+use Rattle.negotiation.proofs.StateLaws.{routed-next, trees-old, final-tree}
+use Rattle.negotiation.proofs.JobLaws.{routable-of, all-due}
 use Rattle.negotiation.proofs.RecordLaws.{decode-encode, encode-append}
 use Rattle.negotiation.proofs.FilterLaws.{All, all-append, all-map, all-splits}
 use Rattle.negotiation.proofs.NetLaws.{state-ready, net-turn}
@@ -110,25 +111,27 @@ record Rest (j : Job) (s : State) (i n : ℕ) : Type 0 where
   is : afterNets j s n .records ≡ afterNets j s i .records ++ (netRecords j (afterNets j s i .state) i ++ later)
   above : All (Above j i) later
 
-nets-rest : (j : Job) (s : State) → ((k : ℕ) → k < nets j → All (Owned j k) (netRecords j (afterNets j s k .state) k)) → (i n : ℕ) → i < n → n ≤ nets j → Rest j s i n
-unfolding afterNets
-nets-rest j s own i zero l h = absurd (not-suc-le-zero l)
-nets-rest j s own i (suc n) l h =
+nets-rest : (j : Job) (s : State) → ((k : ℕ) → k < nets j → due j s k ≡ true) → ((k : ℕ) → k < nets j → All (Owned j k) (netRecords j (afterNets j s k .state) k)) → (i n : ℕ) → i < n → n ≤ nets j → Rest j s i n
+nets-rest j s taken own i zero l h = absurd (not-suc-le-zero l)
+nets-rest j s taken own i (suc n) l h =
     ⊎-elim
     (λ (e : i ≡ n).
     rw e
     (record {
       later = [];
-      is = ap (λ (rs : List Record). afterNets j s n .records ++ rs) (sym (append-nil (netRecords j (afterNets j s n .state) n)));
+      is =
+          ap (λ (p : Progress). p .records) (routed-next j s n (taken n h))
+          ∙ ap (λ (rs : List Record). afterNets j s n .records ++ rs) (sym (append-nil (netRecords j (afterNets j s n .state) n)));
       above = tt;
     }))
     (λ (g : i < n).
-    let r : Rest j s i n = nets-rest j s own i n g (omega arith) in
+    let r : Rest j s i n = nets-rest j s taken own i n g (omega arith) in
     let here : List Record = netRecords j (afterNets j s n .state) n in
     record {
       later = r .later ++ here;
       is =
           rw (
+            routed-next j s n (taken n h),
             r .is,
             append-assoc (afterNets j s i .records) (netRecords j (afterNets j s i .state) i ++ r .later) here,
             append-assoc (netRecords j (afterNets j s i .state) i) (r .later) here,
@@ -158,14 +161,14 @@ module _ (j : Job) (sound : SoundJob j) where
   owned m h k l =
       all-splits (Owned j k) (netRecords j (stateFor j m k) k)
       (λ earlier later r e.
-      let turn = net-turn j sound (stateFor j m k) (state-ready j sound m k h) k l earlier later r e in
+      let turn = net-turn j (routable-of j sound) (stateFor j m k) (state-ready j (routable-of j sound) m k h) k l earlier later r e in
       record { net-is = turn .net-is; path-below = turn .path-nodes })
 
   split : (m i : ℕ) → m < limitMost → i < nets j → Split j m i
   unfolding recordsAfter oldBefore oldRecords iterate
   split zero i h l = record { later = []; is = refl; own = tt; above = tt }
   split (suc m) i h l =
-      let r : Rest j (stateAfter j (firstState j) m) i (nets j) = nets-rest j (stateAfter j (firstState j) m) (owned m (omega arith)) i (nets j) l (le-refl (nets j)) in
+      let r : Rest j (stateAfter j (firstState j) m) i (nets j) = nets-rest j (stateAfter j (firstState j) m) (all-due j sound (stateAfter j (firstState j) m)) (owned m (omega arith)) i (nets j) l (le-refl (nets j)) in
       record {
         later = r .later;
         is =
@@ -177,23 +180,23 @@ module _ (j : Job) (sound : SoundJob j) where
       }
 
 -- where the next net's old records begin
-pub old-more : (j : Job) (m i : ℕ) → oldBefore j m (i + 1) ≡ oldBefore j m i ++ oldRecords j m i
-unfolding oldBefore oldRecords afterNets
-old-more j zero i = refl
-old-more j (suc m) i =
-    rw add-one
+pub old-more : (j : Job) → SoundJob j → (m i : ℕ) → i < nets j → oldBefore j m (i + 1) ≡ oldBefore j m i ++ oldRecords j m i
+unfolding oldBefore oldRecords
+old-more j sound zero i h = refl
+old-more j sound (suc m) i h =
+    rw (add-one, routed-next j (stateAfter j (firstState j) m) i (all-due j sound (stateAfter j (firstState j) m) i h))
     (sym (append-assoc (recordsAfter j (firstState j) m) (afterNets j (stateAfter j (firstState j) m) i .records) (netRecords j (stateFor j m i) i)))
 
 -- the tree that net i has before it is routed
-start-tree : (j : Job) (m i : ℕ) → i < nets j → treeAt (stateAfter j (firstState j) m .trees) i ≡ oldTree (m + 1) (source j i) (oldRecords j m i)
+start-tree : (j : Job) → SoundJob j → (m i : ℕ) → i < nets j → treeAt (stateAfter j (firstState j) m .trees) i ≡ oldTree (m + 1) (source j i) (oldRecords j m i)
 unfolding oldRecords stateAfter firstState moveOn
-start-tree j zero i h = getD-replicate (nets j) i [] [] h
-start-tree j (suc m) i h =
+start-tree j sound zero i h = getD-replicate (nets j) i [] [] h
+start-tree j sound (suc m) i h =
     let e : leb (suc m + 1) 1 ≡ false = lt-leb (suc m + 1) 1 (omega arith) in
-    rw e (final-tree j m i h)
+    rw e (final-tree j m i h (all-due j sound (stateAfter j (firstState j) m) i h))
 
-pub old-tree : (j : Job) (m i : ℕ) → i < nets j → treeAt (stateFor j m i .trees) i ≡ oldTree (m + 1) (source j i) (oldRecords j m i)
-old-tree j m i h = trees-old j (stateAfter j (firstState j) m) i i (le-refl i) ∙ start-tree j m i h
+pub old-tree : (j : Job) → SoundJob j → (m i : ℕ) → i < nets j → treeAt (stateFor j m i .trees) i ≡ oldTree (m + 1) (source j i) (oldRecords j m i)
+old-tree j sound m i h = trees-old j (stateAfter j (firstState j) m) i i (le-refl i) ∙ start-tree j sound m i h
 
 -- ---- what the log says of net i's old tree
 
@@ -235,12 +238,12 @@ old-before j sound m i h l =
     rw (p .is, encode-append (oldBefore j m i) rest) (length-append (encode (oldBefore j m i)) (encode rest)) in
     omega arith
 
-pub old-next : (j : Job) (m i : ℕ) → oldNext (m + 1) (length (encode (oldBefore j m i))) (oldRecords j m i) ≡ length (encode (oldBefore j m (i + 1)))
+pub old-next : (j : Job) → SoundJob j → (m i : ℕ) → i < nets j → oldNext (m + 1) (length (encode (oldBefore j m i))) (oldRecords j m i) ≡ length (encode (oldBefore j m (i + 1)))
 unfolding oldBefore
-old-next j zero i = refl
-old-next j (suc m) i =
+old-next j sound zero i h = refl
+old-next j sound (suc m) i h =
     let e : leb (suc m + 1) 1 ≡ false = lt-leb (suc m + 1) 1 (omega arith) in
-    rw (e, old-more j (suc m) i, encode-append (oldBefore j (suc m) i) (oldRecords j (suc m) i))
+    rw (e, old-more j sound (suc m) i h, encode-append (oldBefore j (suc m) i) (oldRecords j (suc m) i))
     (sym (length-append (encode (oldBefore j (suc m) i)) (encode (oldRecords j (suc m) i))))
 
 -- ---- users

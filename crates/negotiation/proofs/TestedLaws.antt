@@ -20,11 +20,10 @@ use Rattle.search.specs.Paths.{Walk, stay, step}
 use Rattle.search.proofs.ReadyLaws.{sound-graph}
 use Rattle.negotiation.specs.Job.{Job, nodes, nets, source, netSinks}
 use Rattle.negotiation.specs.Machine.{congestionFor, firstState}
-use Rattle.negotiation.specs.Tables.{SoundJob}
 use Rattle.negotiation.specs.Outcome.{hasPath, unreachableNet, unreachablePlace}
 use Rattle.negotiation.specs.Steps.{AllBelow, SameFrom, missing}
 use Rattle.negotiation.specs.Flood.{FloodReady, Flooded, FirstUnmarked}
-use Rattle.negotiation.proofs.JobLaws.{source-node, sinks-end, sink-node}
+use Rattle.negotiation.proofs.JobLaws.{Routable}
 use Rattle.negotiation.proofs.NetLaws.{path-from}
 use Rattle.negotiation.proofs.DemandLaws.{walk-path}
 use Rattle.negotiation.proofs.FloodLaws.{same-from-trans, same-from-higher}
@@ -65,7 +64,7 @@ tested-all {j} {m} {net} h t =
     let none : unreachableNet j ≡ nets j = firstBelow-all _ (nets j) (λ i l. rw (t .passed i (omega arith))) in
     rw (none, le-ltb (nets j) (nets j) (le-refl _))
 
-module _ (j : Job) (sound : SoundJob j) (i : ℕ) (h : i < nets j) where
+module _ (j : Job) (sound : Routable j) (i : ℕ) (h : i < nets j) where
   -- its sinks, as the call is handed them
   abbrev from : ℕ
   from = getD (j .firstSinks) i 0
@@ -82,7 +81,7 @@ module _ (j : Job) (sound : SoundJob j) (i : ℕ) (h : i < nets j) where
 
   net-long : length (netSinks j i) ≡ to - from
   unfolding netSinks
-  net-long = length-slice from to (j .sinks) (sinks-end j sound (i + 1) (omega arith))
+  net-long = length-slice from to (j .sinks) (sound .sinks-end (i + 1) (omega arith))
 
   -- what the place of its first sink without a path says
   module _ (place : ℕ) (is : place ≡ firstBelow (λ (p : ℕ). not (hasPath j i (getD (netSinks j i) p 0))) (length (netSinks j i))) where
@@ -119,7 +118,7 @@ module _ (j : Job) (sound : SoundJob j) (i : ℕ) (h : i < nets j) where
     flood-asked =
         record {
           graph = sound-graph (j .block .kinds) (j .block .capacities) (j .block .firstEdges) (j .block .edgeTargets) (congestionFor j (firstState j) i) [] (sound .block-sound);
-          source-node = source-node j sound i h;
+          source-node = sound .source-node i h;
           marks-long = marks-wide;
           work-long = let l = t .same .long in omega arith;
         }
@@ -156,7 +155,7 @@ module _ (j : Job) (sound : SoundJob j) (i : ℕ) (h : i < nets j) where
 
       -- what is asked of the sinks
       pub sinks-asked : AllBelow (length (take (nodes j) (flooded ++ drop (nodes j) marks))) part
-      sinks-asked = rw (marks-are, f .long, net-part) (λ k l. sink-node j sound i h k l)
+      sinks-asked = rw (marks-are, f .long, net-part) (λ k l. sound .sink-node i h k l)
 
       module _ (place : ℕ) (is : FirstUnmarked (take (nodes j) (flooded ++ drop (nodes j) marks)) part place) where
         first-is : FirstUnmarked flooded (netSinks j i) place
@@ -165,7 +164,7 @@ module _ (j : Job) (sound : SoundJob j) (i : ℕ) (h : i < nets j) where
         before-path : (p : ℕ) → p < place → not (hasPath j i (getD (netSinks j i) p 0)) ≡ false
         before-path p l =
             let within = first-is .within in
-            rw (mark-path (getD (netSinks j i) p 0) (sink-node j sound i h p (omega arith)) (first-is .before p l))
+            rw (mark-path (getD (netSinks j i) p 0) (sound .sink-node i h p (omega arith)) (first-is .before p l))
 
         net-answer : place ≡ firstBelow (λ (p : ℕ). not (hasPath j i (getD (netSinks j i) p 0))) (length (netSinks j i))
         net-answer =
@@ -177,7 +176,7 @@ module _ (j : Job) (sound : SoundJob j) (i : ℕ) (h : i < nets j) where
             (λ (l : place < length (netSinks j i)).
             sym
             (firstBelow-is _ (length (netSinks j i)) place l
-            (rw (mark-none (getD (netSinks j i) place 0) (sink-node j sound i h place l) (first-is .here l)))
+            (rw (mark-none (getD (netSinks j i) place 0) (sound .sink-node i h place l) (first-is .here l)))
             before-path))
             (le-or-lt (length (netSinks j i)) place)
 

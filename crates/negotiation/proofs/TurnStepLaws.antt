@@ -22,11 +22,12 @@ use Rattle.search.specs.Turn.{Congestion, joins, stuck}
 use Rattle.search.specs.Replies.{nodeSound}
 use Rattle.negotiation.specs.Job.{Job, nodes, nets, netSinks}
 use Rattle.negotiation.specs.Records.{Record, recordOf, words, encode, pathNodes}
-use Rattle.negotiation.specs.Machine.{State, treeAt, usersOf, othersOf, marksOf, turnOf, turnsOf, netRecords, treeFrom, afterNets}
+use Rattle.negotiation.specs.Machine.{State, treeAt, usersOf, othersOf, marksOf, turnOf, turnsOf, netRecords, treeFrom, due, afterNets}
 use Rattle.negotiation.specs.Outcome.{logWith}
 use Rattle.negotiation.specs.Steps.{AllBelow}
 use Rattle.negotiation.specs.TariffSteps.{loggedTariff}
 use Rattle.negotiation.specs.declared.tariff.Tariff.{Tariff}
+use Rattle.negotiation.proofs.StateLaws.{routed-next}
 use Rattle.negotiation.proofs.RecordLaws.{words-length, encode-append}
 use Rattle.negotiation.proofs.MemberLaws.{lacks-append}
 use Rattle.negotiation.proofs.FilterLaws.{All}
@@ -208,14 +209,11 @@ users-with j trees i tree v h l =
           (either-way (eqb k i))),
     )
 
--- ---- a net is routed
+-- ---- a net that is due is routed
 
-pub routed-records : (j : Job) (s : State) (i : ℕ) → afterNets j s (i + 1) .records ≡ afterNets j s i .records ++ netRecords j (afterNets j s i .state) i
-unfolding afterNets
-routed-records j s i = rw add-one
+module _ (j : Job) (s : State) (i : ℕ) (d : due j s i ≡ true) where
+  pub routed-records : afterNets j s (i + 1) .records ≡ afterNets j s i .records ++ netRecords j (afterNets j s i .state) i
+  routed-records = rw (add-one, routed-next j s i d)
 
-pub routed-trees :
-    (j : Job) (s : State) (i : ℕ)
-    → afterNets j s (i + 1) .state .trees ≡ set (afterNets j s i .state .trees) i (treeFrom j i (netRecords j (afterNets j s i .state) i))
-unfolding afterNets
-routed-trees j s i = rw add-one
+  pub routed-trees : afterNets j s (i + 1) .state .trees ≡ set (afterNets j s i .state .trees) i (treeFrom j i (netRecords j (afterNets j s i .state) i))
+  routed-trees = rw (add-one, routed-next j s i d)

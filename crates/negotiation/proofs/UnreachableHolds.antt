@@ -17,19 +17,19 @@ use Rattle.negotiation.specs.Job.{Job, nodes, nets, netSinks}
 use Rattle.negotiation.specs.Tables.{SoundJob, faultyJob}
 use Rattle.negotiation.specs.Outcome.{RouteReply, hasPath, unreachableNet, unreachablePlace, negotiated, routeReply}
 use Rattle.negotiation.specs.Unreachable.{Reachable, FirstUnreachable, UnreachableRefused}
-use Rattle.negotiation.proofs.JobLaws.{sound-job, faulty-none, sink-node}
+use Rattle.negotiation.proofs.JobLaws.{Routable, routable-of, sound-job, faulty-none}
 use Rattle.negotiation.proofs.NetLaws.{path-from, sink-path}
 use Rattle.negotiation.proofs.DemandLaws.{walk-path}
 use Rattle.negotiation.proofs.RefusalLaws.{route-table, route-work, route-unreachable, route-run}
 use Rattle.negotiation.proofs.DemandHolds.{run-reached}
 
-module _ (j : Job) (sound : SoundJob j) where
+module _ (j : Job) (sound : Routable j) where
   -- the sink at a place of a net
   abbrev sinkAt : ℕ → ℕ → ℕ
   sinkAt i p = getD (netSinks j i) p 0
 
   reached : (i p : ℕ) → i < nets j → p < length (netSinks j i) → hasPath j i (sinkAt i p) ≡ true → Reachable j i (sinkAt i p)
-  reached i p h l found = path-from j sound i h (sinkAt i p) (sink-node j sound i h p l) found
+  reached i p h l found = path-from j sound i h (sinkAt i p) (sound .sink-node i h p l) found
 
   not-reached : (i p : ℕ) → i < nets j → hasPath j i (sinkAt i p) ≡ false → Reachable j i (sinkAt i p) → ⊥
   not-reached i p h lost w = true≢false (sym (walk-path j sound i (sinkAt i p) (w .0) h (w .1)) ∙ lost)
@@ -137,7 +137,7 @@ unreachable-refused j work log =
           let same = sym (refusal (route-unreachable j work log h enough some)) ∙ e in
           let at : unreachableNet j ≡ net = cc in
           let in-net : unreachablePlace j ≡ place = cc in
-          rw (← at, ← in-net) (first-unreachable j (sound-job j (omega arith)) some))
+          rw (← at, ← in-net) (first-unreachable j (routable-of j (sound-job j (omega arith))) some))
           (le-or-lt (nets j) (unreachableNet j)))
           (λ (short : length work < workNeeded (nodes j)).
           absurd (not-seven 6 net place _ (λ z. omega arith) (sym (refusal (route-work j work log h short)) ∙ e)))
@@ -145,9 +145,9 @@ unreachable-refused j work log =
           (le-or-lt 1 (faultyJob j));
       given = λ sound enough net place f.
           let none : faultyJob j < 1 = rw (faulty-none j sound) (omega arith) in
-          let some : unreachableNet j < nets j = rw (is-net j sound net place f) (f .net-below) in
+          let some : unreachableNet j < nets j = rw (is-net j (routable-of j sound) net place f) (f .net-below) in
           refusal (route-unreachable j work log none enough some)
-          ∙ rw (is-net j sound net place f, is-place j sound net place f);
+          ∙ rw (is-net j (routable-of j sound) net place f, is-place j (routable-of j sound) net place f);
     }
   where
     refusal : {a b : RouteReply} → a ≡ b → a .refusal ≡ b .refusal

@@ -1,9 +1,9 @@
 -- Document 01, "The negotiation, as a machine". Limit and log length only cut the run short that is defined here.
 -- Assumes nothing.
-use mathlib.Core.Bool.{Bool, not}
+use mathlib.Core.Bool.{Bool, true, false, not}
 use mathlib.Core.List.{List, [], _∷_, _++_}
 use Prim.Native.Nat.{ℕ, zero, suc, _+_}
-use lib.Dec.{eqb, ltb}
+use lib.Dec.{eqb, ltb, leb}
 use lib.ListN.{length, getD, set, replicate}
 use Rattle.price.specs.Test.{choose, both}
 use Rattle.price.specs.Lists.{has, upTo, countBelow}
@@ -80,10 +80,23 @@ withNet j i p rs =
 abbrev pub routeNet : Job → ℕ → Progress → Progress
 routeNet j i p = withNet j i p (netRecords j (p .state) i)
 
+-- a net has sinks
+unfoldable pub hasSinks : Job → ℕ → Bool
+hasSinks j i = leb 1 (length (netSinks j i))
+
+-- the nets that an iteration takes, by the state at its start: those with sinks, which in a sound job all nets are
+unfoldable pub due : Job → State → ℕ → Bool
+due j s i = hasSinks j i
+
+-- a net that is not due makes no turns and keeps its tree
+abbrev pub routeIf : Bool → Job → ℕ → Progress → Progress
+routeIf true j i p = routeNet j i p
+routeIf false j i p = p
+
 -- "An iteration takes nets in order; each drops its old tree, then makes turns"; the price of a turn counts no tree of the net itself
 unfoldable pub afterNets : Job → State → ℕ → Progress
 afterNets j s zero = record { records = []; state = s }
-afterNets j s (suc i) = routeNet j i (afterNets j s i)
+afterNets j s (suc i) = routeIf (due j s i) j i (afterNets j s i)
 
 -- a whole iteration
 unfoldable pub iterate : Job → State → Progress

@@ -5,7 +5,7 @@ use mathlib.Core.List.{List, [], _∷_, _++_, map, map-append, append-nil}
 use mathlib.Core.Logic.{⊎-elim}
 use mathlib.Core.Path.{_≡_, refl, sym, _∙_, ap}
 use Prim.Native.Nat.{ℕ, zero, suc, _+_, _*_, _-_, _≤_, _<_, zero-le, suc-le-suc}
-use native.Mathlib.Nat.{not-suc-le-zero, le-refl}
+use native.Mathlib.Nat.{not-suc-le-zero, le-refl, zero-add}
 use native.Mathlib.Omega.{arith}
 use lib.Dec.{eqb, ltb}
 use lib.ListN.{length, getD, take, drop, length-append, length-map}
@@ -19,19 +19,20 @@ use Rattle.search.specs.Paths.{Walk, stay, step}
 use Rattle.negotiation.specs.Job.{Job, nodes, nets, netSinks}
 use Rattle.negotiation.specs.Tables.{SoundJob}
 use Rattle.negotiation.specs.Records.{Record, encode, decode}
-use Rattle.negotiation.specs.Machine.{State, netRecords, treeFrom, afterNets, iterate, firstState, stateAfter, iterationAfter, recordsAfter}
-use Rattle.negotiation.specs.Outcome.{RouteReply, hasPath, unreachableNet, unreachablePlace, iterationsMade, allRecords, loggedRecords, cutIteration, logWith, negotiated, routeReply}
+use Rattle.negotiation.specs.Machine.{State, Progress, netRecords, treeFrom, due, afterNets, iterate, firstState, stateAfter, iterationAfter, recordsAfter}
+use Rattle.negotiation.specs.Outcome.{RouteReply, unreachableNet, unreachablePlace, iterationsMade, allRecords, loggedRecords, cutIteration, logWith, negotiated, routeReply}
 use Rattle.negotiation.specs.Demand.{latest}
-use Rattle.negotiation.proofs.JobLaws.{faulty-none, nets-some, limit-some, limit-few}
+use Rattle.negotiation.proofs.JobLaws.{faulty-none, nets-some, routable-of, all-due}
 use Rattle.negotiation.proofs.RecordLaws.{decode-encode}
 use Rattle.negotiation.proofs.NetLaws.{NetTurn, net-turn, state-ready}
 use Rattle.negotiation.proofs.FilterLaws.{All, all-append, all-map, all-splits, latest-le}
-use Rattle.negotiation.proofs.StateLaws.{nets-iteration, state-iteration}
-use Rattle.negotiation.proofs.ReadLaws.{latest-read}
+use Rattle.negotiation.proofs.StateLaws.{route-if, nets-iteration, state-iteration}
+use Rattle.negotiation.proofs.RanLaws.{Ran, start, ran-latest}
+use Rattle.negotiation.proofs.MachineRan.{Reached, machine-nets, machine-ran}
 use Rattle.negotiation.proofs.DemandHolds.{made-most}
 use Rattle.negotiation.proofs.DemandLaws.{all-reached}
 use Rattle.negotiation.proofs.EndLaws.{made-least, all-made}
-use Rattle.negotiation.proofs.RouteLaws.{route-unreachable, route-run}
+use Rattle.negotiation.proofs.RefusalLaws.{route-unreachable, route-run}
 use Rattle.text.specs.Routes.{Branch, steps, branchesIn, lastIteration, routeBranches, netBranches, treeBranches, ofNet}
 
 -- ---- branches of one net
@@ -158,13 +159,16 @@ module _ (j : Job) (sound : SoundJob j) (m : ℕ) (hm : m < limitMost) where
   unfolding afterNets
   nets-turned zero h = tt
   nets-turned (suc i) h =
-      let s : State = afterNets j (stateAfter j (firstState j) m) i .state in
-      all-append (Turned j (m + 1)) (afterNets j (stateAfter j (firstState j) m) i .records) (netRecords j s i)
-      (nets-turned i (omega arith))
+      let p : Progress = afterNets j (stateAfter j (firstState j) m) i in
+      let s : State = p .state in
+      let before = nets-turned i (omega arith) in
+      route-if (λ q. All (Turned j (m + 1)) (q .records)) (due j (stateAfter j (firstState j) m) i) j i p
+      (all-append (Turned j (m + 1)) (p .records) (netRecords j s i) before
       (all-splits (Turned j (m + 1)) (netRecords j s i)
       (λ earlier later r e.
       net-turned j s i (m + 1) earlier r h (nets-iteration j (stateAfter j (firstState j) m) i ∙ state-iteration j m)
-      (net-turn j sound s (state-ready j sound m i hm) i h earlier later r e)))
+      (net-turn j (routable-of j sound) s (state-ready j (routable-of j sound) m i hm) i h earlier later r e))))
+      before
 
   pub iteration-turned : All (Turned j (m + 1)) (iterationAfter j (firstState j) m .records)
   unfolding iterate
@@ -196,7 +200,7 @@ pub record Accepted (j : Job) (r : RouteReply) : Type 0 where
   pub whole : ℕ
   pub below : whole < limitMost
   pub words-are : take (r .used) (r .log) ≡ encode (recordsAfter j (firstState j) (suc whole))
-  pub reached : (i x : ℕ) → i < nets j → has x (netSinks j i) ≡ true → hasPath j i x ≡ true
+  pub reached : Reached j
 
 -- a run without a refusal logs all its records
 run-words : (j : Job) (work log : List ℕ) → negotiated j work log .refusal ≡ [] → take (negotiated j work log .used) (negotiated j work log .log) ≡ encode (allRecords j)
@@ -216,8 +220,8 @@ pub accepted :
     → Accepted j (routeReply j work log)
 accepted j work log sound enough e =
     let fine = faulty-none j sound in
-    let some = made-least j 0 (limit-some j sound) (λ k l. absurd (not-suc-le-zero l)) in
-    let few = limit-few j sound in
+    let some = made-least j 0 (routable-of j sound .limit-some) (λ k l. absurd (not-suc-le-zero l)) in
+    let few = routable-of j sound .limit-few in
     let most = made-most j (firstState j) (j .terms .limit) in
     let last : ℕ = iterationsMade j (firstState j) (j .terms .limit) - 1 in
     let made : iterationsMade j (firstState j) (j .terms .limit) ≡ last + 1 = omega arith in
@@ -243,6 +247,15 @@ some-last k m rs [] l e = let z : latest k rs ≡ m + 1 = rw append-nil at e in 
 some-last k m rs (s ∷ ss) l e = suc-le-suc zero-le
 
 module _ (j : Job) (sound : SoundJob j) (r : RouteReply) (a : Accepted j r) where
+  -- every net has records in the last iteration made
+  latest-last : (k : ℕ) → k < nets j → latest k (recordsAfter j (firstState j) (suc (a .whole))) ≡ a .whole + 1
+  unfolding recordsAfter iterate
+  latest-last k h =
+      let s : State = stateAfter j (firstState j) (a .whole) in
+      let ran : Ran j (a .whole) (recordsAfter j (firstState j) (a .whole)) s =
+      rw (zero-add (a .whole)) at (machine-ran j (routable-of j sound) (a .reached) start (a .whole) (omega (arith, a .below))) in
+      ran-latest j ran (machine-nets j (routable-of j sound) (a .reached) ran (a .below) (nets j) (le-refl (nets j))) k h (all-due j sound s k h)
+
   pub last-some : 1 ≤ length (iterationAfter j (firstState j) (a .whole) .records)
   unfolding recordsAfter
   last-some =
@@ -250,7 +263,7 @@ module _ (j : Job) (sound : SoundJob j) (r : RouteReply) (a : Accepted j r) wher
       (latest-le 0 (a .whole) (recordsAfter j (firstState j) (a .whole))
       (all-map (TurnedUpTo j (a .whole)) (λ q. q .iteration ≤ a .whole) (λ q b. omega (arith, b .t-most, b .turned .iteration-is))
       (recordsAfter j (firstState j) (a .whole)) (run-turned j sound (a .whole) (omega arith))))
-      (latest-read j sound (a .reached) (a .whole) (a .below) 0 (nets-some j sound))
+      (latest-last 0 (nets-some j sound))
 
   last-made : lastIteration (recordsAfter j (firstState j) (suc (a .whole))) ≡ a .whole + 1
   unfolding recordsAfter
@@ -267,7 +280,7 @@ module _ (j : Job) (sound : SoundJob j) (r : RouteReply) (a : Accepted j r) wher
   reply-final i h =
       rw records-are
       (of-latest i (recordsAfter j (firstState j) (suc (a .whole)))
-      (latest-read j sound (a .reached) (a .whole) (a .below) i h ∙ sym last-made))
+      (latest-last i h ∙ sym last-made))
 
   reply-nets : (i : ℕ) → nets j ≤ i → ofNet i (routeBranches (decode (take (r .used) (r .log)))) ≡ []
   unfolding routeBranches

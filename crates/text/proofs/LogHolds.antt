@@ -20,7 +20,7 @@ use Rattle.negotiation.specs.Tables.{SoundJob, netsMost}
 use Rattle.negotiation.specs.Records.{Record, words, encode}
 use Rattle.negotiation.specs.Machine.{firstState, iterationAfter, recordsAfter}
 use Rattle.negotiation.specs.Outcome.{RouteReply, routeReply}
-use Rattle.negotiation.proofs.JobLaws.{nets-few}
+use Rattle.negotiation.proofs.JobLaws.{routable-of}
 use Rattle.negotiation.proofs.RecordLaws.{words-length, records-few}
 use Rattle.negotiation.proofs.FilterLaws.{All, all-map}
 use Rattle.text.specs.Routes.{pathIn, pathSound, recordSound, soundUpTo, soundWords, logSound}
@@ -70,7 +70,7 @@ record Writable (r : Record) : Type 0 where
 writable : (j : Job) → SoundJob j → (m : ℕ) → m ≤ limitMost → (r : Record) → TurnedUpTo j m r → Writable r
 writable j sound m h r b =
     let few : nodes j ≤ nodesMost = kinds-few (j .block .kinds) (sound .block-sound .kinds-sound) in
-    let some : nets j ≤ netsMost = nets-few j sound in
+    let some : nets j ≤ netsMost = routable-of j sound .nets-few in
     record {
       iteration-least = omega (arith, b .t-least, b .turned .iteration-is);
       iteration-most = omega (arith, b .t-most, b .turned .iteration-is);

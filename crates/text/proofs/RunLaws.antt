@@ -23,7 +23,7 @@ use Rattle.negotiation.specs.declared.Routed.{Routed}
 use Rattle.negotiation.specs.declared.Terms.{Terms}
 use Rattle.negotiation.specs.declared.Outcome.{Outcome}
 use Rattle.negotiation.specs.declared.Outcome.the-variants.{Accepted}
-use Rattle.negotiation.proofs.JobLaws.{nets-few}
+use Rattle.negotiation.proofs.JobLaws.{routable-of}
 use Rattle.negotiation.proofs.JobLaws as job
 use Rattle.text.specs.JobText.{Part, part, stopped, readText}
 use Rattle.text.specs.ReadReplies.{Tables, shortTable, laid, tablesWith, ReadReply, notRead, termsNumbers, jobNumbers, laidReply, replyOf, readReply}
@@ -189,7 +189,7 @@ job-taken text t j at rest is long =
     let first-sinks-are : length (j .firstSinks) ≡ nets j + 1 = job.firsts-long (nets j) (length (j .sinks)) (j .firstSinks) (s .firstSinks-sound) in
     record {
       few-nodes = kinds-few (j .block .kinds) (s .block-sound .kinds-sound);
-      few-nets = nets-few j s;
+      few-nets = routable-of j s .nets-few;
       kinds-fit = laid-fits (j .block .kinds) (t .kinds) (nodes j) refl;
       capacities-fit = laid-fits (j .block .capacities) (t .capacities) (nodes j) capacities-are;
       first-edges-fit = laid-fits (j .block .firstEdges) (t .firstEdges) (nodes j + 1) first-edges-are;

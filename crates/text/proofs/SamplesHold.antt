@@ -13,7 +13,7 @@ use Rattle.search.specs.Replies.{cleared}
 use Rattle.negotiation.specs.Job.{netSinks}
 use Rattle.negotiation.specs.Tables.{sourcesSound, firstSinksSound, netSound, sinksSound, limitSound, termsSound, oneOf, pinsOf, faultyNets, faultyJob}
 use Rattle.negotiation.specs.Records.{words, encode, decodeUpTo, decode, fitting, pathNodes}
-use Rattle.negotiation.specs.Machine.{othersOf, usersOf, marksOf, congestionFor, turnOf, turnsOf, netRecords, afterNets, iterate, overfull, overCount, moveOn, firstState, stateAfter, recordsAfter, settlesAt}
+use Rattle.negotiation.specs.Machine.{othersOf, usersOf, marksOf, congestionFor, turnOf, turnsOf, netRecords, hasSinks, due, afterNets, iterate, overfull, overCount, moveOn, firstState, stateAfter, recordsAfter, settlesAt}
 use Rattle.negotiation.specs.Outcome.{hasPath, unreachableNet, unreachablePlace, iterationsMade, allRecords, loggedRecords, cutIteration, logWith, endNumbers, negotiated, routeReply}
 use Rattle.price.specs.Samples.{Sample, Hold}
 use Rattle.price.specs.Tuning.{tuningSound}
@@ -37,7 +37,7 @@ unfolding response refusalLine runReply routeRun
     sinkLine sinkOrdered sourceLine pinWithin edgeLine edgeOrdered edgeWithin rises nodeLine nodeWithin tuningLine tuningWithin headLine headWithin
     printLine printFields line fields begins field digitsAfter decimal digits isDigit lined decode decodeUpTo
     routeReply negotiated endNumbers logWith cutIteration loggedRecords allRecords iterationsMade unreachablePlace unreachableNet hasPath
-    settlesAt recordsAfter stateAfter firstState moveOn overCount overfull iterate afterNets netRecords turnsOf turnOf congestionFor marksOf usersOf othersOf
+    settlesAt recordsAfter stateAfter firstState moveOn overCount overfull iterate afterNets due hasSinks netRecords turnsOf turnOf congestionFor marksOf usersOf othersOf
     pathNodes fitting encode words faultyJob faultyNets pinsOf oneOf termsSound tuningSound limitSound sinksSound netSound firstSinksSound sourcesSound netSinks cleared
     turn joinAt openDistances pathTo back before openDistance priceAt distances rounds round nearer treeDistances inTree pathCost
     faultyTable edgeTargetsSound rowSound firstEdgesSound capacitiesSound kindsSound hasEdge row nextHistory nextFactor priceOf overuse baseCost

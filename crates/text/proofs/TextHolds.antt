@@ -21,7 +21,7 @@ use Rattle.search.proofs.TableLaws.{edges-all}
 use Rattle.negotiation.specs.Job.{Job, jobOf, nodes, nets, netSinks}
 use Rattle.negotiation.specs.declared.Terms.{Terms}
 use Rattle.negotiation.specs.Tables.{sourcesSound, firstSinksSound, sinksSound, limitSound, termsSound, sourcePins, sinkPins, SoundJob}
-use Rattle.negotiation.proofs.JobLaws.{nets-some, nets-few, limit-some, limit-few}
+use Rattle.negotiation.proofs.JobLaws.{nets-some, routable-of}
 use Rattle.text.specs.Lines.{letterF, letterP, begins, printLine}
 use Rattle.text.specs.JobText.{Part, part, andThen, Counts, headPart, NodeLists, nodeLists, nodeLines, EdgeLists, edgeLists, edgeLines, NetLists, netLists, netLines, firstPlaces, jobRead, readText}
 use Rattle.text.specs.Printed.{joined, nodeText, rowText, netText, tuningText, Written, printJob, Accepts, PrintedAs, Exactly}
@@ -191,9 +191,9 @@ module _ (j : Job) (s : SoundJob j) where
         few-nodes = kinds-few (j .block .kinds) (s .block-sound .kinds-sound);
         few-edges = edges-few;
         some-nets = nets-some j s;
-        few-nets = nets-few j s;
-        some-turns = limit-some j s;
-        few-turns = limit-few j s;
+        few-nets = routable-of j s .nets-few;
+        some-turns = routable-of j s .limit-some;
+        few-turns = routable-of j s .limit-few;
         tuned = both-right (limitSound (j .terms .limit)) (tuningSound (j .terms .tuning)) (s .terms-sound);
       }
 

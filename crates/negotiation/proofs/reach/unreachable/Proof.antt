@@ -11,7 +11,7 @@ use Rattle.search.proofs.BlockLaws.{kinds-few}
 use Rattle.negotiation.specs.Job.{Job, jobOf, nodes}
 use Rattle.negotiation.specs.Tables.{SoundJob}
 use Rattle.negotiation.specs.declared.Terms.{Terms}
-use Rattle.negotiation.proofs.JobLaws.{nets-few, firstSinks-long, sinks-order, sinks-end, sinks-few}
+use Rattle.negotiation.proofs.JobLaws.{Routable, routable-of}
 use Rattle.negotiation.proofs.FloodLaws.{same-from-refl}
 use Rattle.negotiation.proofs.TestedLaws.{Tested, tested-all, flood-asked, marks-fit, tested-same, sinks-asked, tested-found, tested-more}
 use Rattle.negotiation.proofs.reach.unreachable.Statement.{statement}
@@ -36,8 +36,11 @@ jobWith s capacities terms =
 abbrev job : tie.Start Inv-loop μ-loop → Job
 job s = jobWith s (s .pre .0 .capacities) (s .pre .0 .terms)
 
-sound : (s : tie.Start Inv-loop μ-loop) → SoundJob (job s)
-sound s = s .pre .0 .sound
+tables-sound : (s : tie.Start Inv-loop μ-loop) → SoundJob (job s)
+tables-sound s = s .pre .0 .sound
+
+sound : (s : tie.Start Inv-loop μ-loop) → Routable (job s)
+sound s = routable-of (job s) (tables-sound s)
 
 few : (s : tie.Start Inv-loop μ-loop) → nodes (job s) ≤ 4096
 few s = kinds-few (s .args .kind .now) (sound s .block-sound .kinds-sound)
@@ -48,7 +51,7 @@ start l = l .before .before .before .before .before .before .before .before
 
 -- what is tested where the loop's test is made, of the precondition's job
 tested : (l : tie.At-loop Inv-loop μ-loop) → Tested (job (start l)) 4096 (start l .args .work .now) (l .loop .work) (l .loop .reached) (l .loop .net)
-tested l = l .loop .inv _ _ (sound (start l))
+tested l = l .loop .inv _ _ (tables-sound (start l))
 
 -- the entry, from a turn
 abbrev entry : tie.In-loop Inv-loop μ-loop → tie.Start Inv-loop μ-loop
@@ -66,13 +69,13 @@ net t = t .before .loop .net
 
 -- a turn's sinks stand one after the other within table 7
 sinks-rise : (t : tie.In-loop Inv-loop μ-loop) → getD (entry t .args .first-sink .now) (net t) 0 ≤ getD (entry t .args .first-sink .now) (net t + 1) 0
-sinks-rise t = omega (arith, sinks-order (job (entry t)) (sound (entry t)) (net t) (t .loop-test .taken))
+sinks-rise t = omega (arith, sound (entry t) .sinks-order (net t) (t .loop-test .taken))
 
 sinks-within : (t : tie.In-loop Inv-loop μ-loop) → getD (entry t .args .first-sink .now) (net t + 1) 0 ≤ length (entry t .args .sink .now)
-sinks-within t = sinks-end (job (entry t)) (sound (entry t)) (net t + 1) (omega arith)
+sinks-within t = sound (entry t) .sinks-end (net t + 1) (omega arith)
 
 sinks-small : (t : tie.In-loop Inv-loop μ-loop) → getD (entry t .args .first-sink .now) (net t + 1) 0 ≤ 4096
-sinks-small t = omega (arith, sinks-within t, sinks-few (job (entry t)) (sound (entry t)))
+sinks-small t = omega (arith, sinks-within t, sound (entry t) .sinks-few)
 
 -- there is a mark for each node
 marks-enough : (t : tie.In-loop Inv-loop μ-loop) → length (entry t .args .kind .now) ≤ length (t .before .loop .reached)
@@ -91,7 +94,7 @@ mul-from : tie.Need-mul-from Inv-loop μ-loop
 mul-from c = omega arith
 
 shared-slice-read-from : tie.Need-shared-slice-read-from Inv-loop μ-loop
-shared-slice-read-from c = omega (arith, firstSinks-long (job (entry (c .before))) (sound (entry (c .before))))
+shared-slice-read-from c = omega (arith, sound (entry (c .before)) .firstSinks-long)
 
 cast-from : tie.Need-cast-from Inv-loop μ-loop
 cast-from c = omega (arith, c .shared-slice-known7 .given (c .before .before .loop .net))
@@ -100,10 +103,10 @@ add-to : tie.Need-add-to Inv-loop μ-loop
 add-to c = omega arith
 
 mul-to : tie.Need-mul-to Inv-loop μ-loop
-mul-to c = omega (arith, nets-few (job (entry (c .before))) (sound (entry (c .before))))
+mul-to c = omega (arith, sound (entry (c .before)) .nets-few)
 
 shared-slice-read-to : tie.Need-shared-slice-read-to Inv-loop μ-loop
-shared-slice-read-to c = omega (arith, firstSinks-long (job (entry (c .before .before))) (sound (entry (c .before .before))))
+shared-slice-read-to c = omega (arith, sound (entry (c .before .before)) .firstSinks-long)
 
 cast-to : tie.Need-cast-to Inv-loop μ-loop
 cast-to c = omega (arith, c .shared-slice-known8 .given (c .before .before .before .loop .net + 1))
@@ -166,7 +169,7 @@ sub-if1 c = sinks-rise (turn (flooded c))
 cast-t33 : tie.Need-cast-t33 Inv-loop μ-loop
 cast-t33 c =
     let t = turn (flooded (c .before)) in
-    omega (arith, nets-few (job (entry t)) (sound (entry t)), t .loop-test .taken)
+    omega (arith, sound (entry t) .nets-few, t .loop-test .taken)
 
 cast-t34 : tie.Need-cast-t34 Inv-loop μ-loop
 cast-t34 c = omega (arith, sinks-small (turn (flooded (c .before))), c .if1 .taken)
@@ -183,7 +186,7 @@ returns c =
     let t = turn f in
     let call = c .before .missing-sink in (
       λ capacities terms s.
-          tested-found (jobWith (entry t) capacities terms) s (net t) (t .loop-test .taken) (few (entry t)) (entry t .pre .1) (t .before .loop .inv capacities terms s) (f .flood .ensures) (call .result) (call .ensures) (c .if1 .taken),
+          tested-found (jobWith (entry t) capacities terms) (routable-of _ s) (net t) (t .loop-test .taken) (few (entry t)) (entry t .pre .1) (t .before .loop .inv capacities terms s) (f .flood .ensures) (call .result) (call .ensures) (c .if1 .taken),
       tested-same (job (entry t)) (sound (entry t)) (net t) (t .loop-test .taken) (few (entry t)) (entry t .pre .1) (tested (t .before)) (f .flood .ensures),
     )
 
@@ -198,7 +201,7 @@ loop-again c capacities terms s =
     let f = flooded (c .before) in
     let t = turn f in
     let call = c .before .missing-sink in
-    tested-more (jobWith (entry t) capacities terms) s (net t) (t .loop-test .taken) (few (entry t)) (entry t .pre .1) (t .before .loop .inv capacities terms s) (f .flood .ensures) (call .result) (call .ensures) (c .if1 .left)
+    tested-more (jobWith (entry t) capacities terms) (routable-of _ s) (net t) (t .loop-test .taken) (few (entry t)) (entry t .pre .1) (t .before .loop .inv capacities terms s) (f .flood .ensures) (call .result) (call .ensures) (c .if1 .left)
 
 same-length-2 : tie.Need-same-length-2 Inv-loop μ-loop
 same-length-2 c = tested (c .before) .same .long

@@ -16,7 +16,7 @@ use Rattle.negotiation.specs.Tables.{SoundJob}
 use Rattle.negotiation.specs.Records.{Record}
 use Rattle.negotiation.specs.Machine.{overCount, iterationAfter, firstState}
 use Rattle.negotiation.specs.declared.tariff.Tariff.{Tariff}
-use Rattle.negotiation.proofs.JobLaws.{nets-few, limit-few, tuning-fits, source-node, firstSinks-long, sinks-order, sinks-end, sinks-few}
+use Rattle.negotiation.proofs.JobLaws.{routable-of}
 use Rattle.negotiation.proofs.KeepLaws.{Tallied, AtNet, AtTurn}
 use Rattle.negotiation.proofs.TurnStepLaws.{log-length}
 use Rattle.negotiation.proofs.KeepEnd.{keep-over, keep-below, keep-growable, keep-accepted, keep-limit}
@@ -123,7 +123,7 @@ loop-holds : tie.Need-loop-holds Inv-loop2 μ-loop2 Inv-loop μ-loop Inv-iterati
 loop-holds c = λ W L m e at. at
 
 mul-s : tie.Need-mul-s Inv-loop2 μ-loop2 Inv-loop μ-loop Inv-iterations μ-iterations
-mul-s c = let f = nets-few _ (sound (c .before)) in let h = c .loop-test .taken in omega arith
+mul-s c = let f = routable-of _ (sound (c .before)) .nets-few in let h = c .loop-test .taken in omega arith
 
 shared-slice-read-s :
     tie.Need-shared-slice-read-s Inv-loop2 μ-loop2 Inv-loop μ-loop Inv-iterations μ-iterations
@@ -133,30 +133,30 @@ cast-s : tie.Need-cast-s Inv-loop2 μ-loop2 Inv-loop μ-loop Inv-iterations μ-i
 cast-s c = omega (arith, c .shared-slice-known8 .given (c .before .before .loop .net))
 
 mul-from : tie.Need-mul-from Inv-loop2 μ-loop2 Inv-loop μ-loop Inv-iterations μ-iterations
-mul-from c = let f = nets-few _ (sound (c .before .before)) in let h = c .before .loop-test .taken in omega arith
+mul-from c = let f = routable-of _ (sound (c .before .before)) .nets-few in let h = c .before .loop-test .taken in omega arith
 
 shared-slice-read-from :
     tie.Need-shared-slice-read-from Inv-loop2 μ-loop2 Inv-loop μ-loop Inv-iterations μ-iterations
-shared-slice-read-from c = let l = firstSinks-long _ (sound (c .before .before .before)) in let h = (c .before .before .loop-test .taken) in omega arith
+shared-slice-read-from c = let l = routable-of _ (sound (c .before .before .before)) .firstSinks-long in let h = (c .before .before .loop-test .taken) in omega arith
 
 cast-from : tie.Need-cast-from Inv-loop2 μ-loop2 Inv-loop μ-loop Inv-iterations μ-iterations
 cast-from c = omega (arith, c .shared-slice-known9 .given (c .before .before .before .loop .net))
 
 add-to : tie.Need-add-to Inv-loop2 μ-loop2 Inv-loop μ-loop Inv-iterations μ-iterations
-add-to c = let f = nets-few _ (sound (c .before .before .before)) in let h = (c .before .before .loop-test .taken) in omega arith
+add-to c = let f = routable-of _ (sound (c .before .before .before)) .nets-few in let h = (c .before .before .loop-test .taken) in omega arith
 
 mul-to : tie.Need-mul-to Inv-loop2 μ-loop2 Inv-loop μ-loop Inv-iterations μ-iterations
-mul-to c = let f = nets-few _ (sound (c .before .before .before)) in let h = (c .before .before .loop-test .taken) in omega arith
+mul-to c = let f = routable-of _ (sound (c .before .before .before)) .nets-few in let h = (c .before .before .loop-test .taken) in omega arith
 
 shared-slice-read-to :
     tie.Need-shared-slice-read-to Inv-loop2 μ-loop2 Inv-loop μ-loop Inv-iterations μ-iterations
-shared-slice-read-to c = let l = firstSinks-long _ (sound (c .before .before .before .before)) in let h = (c .before .before .before .loop-test .taken) in omega arith
+shared-slice-read-to c = let l = routable-of _ (sound (c .before .before .before .before)) .firstSinks-long in let h = (c .before .before .before .loop-test .taken) in omega arith
 
 cast-to : tie.Need-cast-to Inv-loop2 μ-loop2 Inv-loop μ-loop Inv-iterations μ-iterations
 cast-to c = omega (arith, c .shared-slice-known10 .given (c .before .before .before .before .loop .net + 1))
 
 cast-rip-up : tie.Need-cast-rip-up Inv-loop2 μ-loop2 Inv-loop μ-loop Inv-iterations μ-iterations
-cast-rip-up c = let f = nets-few _ (sound (c .before .before .before .before .before)) in let h = (c .before .before .before .before .loop-test .taken) in omega arith
+cast-rip-up c = let f = routable-of _ (sound (c .before .before .before .before .before)) .nets-few in let h = (c .before .before .before .before .loop-test .taken) in omega arith
 
 array-borrow-prefix-users :
     tie.Need-array-borrow-prefix-users
@@ -192,31 +192,31 @@ rip-up-requires c κs = call-rip-up _ (sound (c .before .before .before .before 
 
 array-write-in-tree :
     tie.Need-array-write-in-tree Inv-loop2 μ-loop2 Inv-loop μ-loop Inv-iterations μ-iterations
-array-write-in-tree c = let h = source-node _ (sound (c .before .before .before .before .before .before .before .before .before .before)) (c .before .before .before .before .before .before .before .before .before .before .loop .net) (c .before .before .before .before .before .before .before .before .before .loop-test .taken) in let f = (few-nodes (c .before .before .before .before .before .before .before .before .before .before)) in omega arith
+array-write-in-tree c = let h = routable-of _ (sound (c .before .before .before .before .before .before .before .before .before .before)) .source-node (c .before .before .before .before .before .before .before .before .before .before .loop .net) (c .before .before .before .before .before .before .before .before .before .loop-test .taken) in let f = (few-nodes (c .before .before .before .before .before .before .before .before .before .before)) in omega arith
 
 sub-left : tie.Need-sub-left Inv-loop2 μ-loop2 Inv-loop μ-loop Inv-iterations μ-iterations
-sub-left c = let h = sinks-order _ (sound (c .before .before .before .before .before .before .before .before .before .before)) (c .before .before .before .before .before .before .before .before .before .before .loop .net) (c .before .before .before .before .before .before .before .before .before .loop-test .taken) in omega arith
+sub-left c = let h = routable-of _ (sound (c .before .before .before .before .before .before .before .before .before .before)) .sinks-order (c .before .before .before .before .before .before .before .before .before .before .loop .net) (c .before .before .before .before .before .before .before .before .before .loop-test .taken) in omega arith
 
 loop2-holds : tie.Need-loop2-holds Inv-loop2 μ-loop2 Inv-loop μ-loop Inv-iterations μ-iterations
 loop2-holds c = λ W L m e at. at
 
 mul-one-turn : tie.Need-mul-one-turn Inv-loop2 μ-loop2 Inv-loop μ-loop Inv-iterations μ-iterations
-mul-one-turn c = let o = sinks-order _ (sound (c .before .before .before .before .before .before .before .before .before .before .before .before)) (c .before .before .before .before .before .before .before .before .before .before .before .before .loop .net) (c .before .before .before .before .before .before .before .before .before .before .before .loop-test .taken) in let k = (c .before .before .before .before .before .before .before .before .before .before .before .loop-test .taken) in let h = sinks-end _ (sound (c .before .before .before .before .before .before .before .before .before .before .before .before)) (c .before .before .before .before .before .before .before .before .before .before .before .before .loop .net + 1) (omega arith) in let f = sinks-few _ (sound (c .before .before .before .before .before .before .before .before .before .before .before .before)) in omega arith
+mul-one-turn c = let o = routable-of _ (sound (c .before .before .before .before .before .before .before .before .before .before .before .before)) .sinks-order (c .before .before .before .before .before .before .before .before .before .before .before .before .loop .net) (c .before .before .before .before .before .before .before .before .before .before .before .loop-test .taken) in let k = (c .before .before .before .before .before .before .before .before .before .before .before .loop-test .taken) in let h = routable-of _ (sound (c .before .before .before .before .before .before .before .before .before .before .before .before)) .sinks-end (c .before .before .before .before .before .before .before .before .before .before .before .before .loop .net + 1) (omega arith) in let f = routable-of _ (sound (c .before .before .before .before .before .before .before .before .before .before .before .before)) .sinks-few in omega arith
 
 sub-one-turn : tie.Need-sub-one-turn Inv-loop2 μ-loop2 Inv-loop μ-loop Inv-iterations μ-iterations
-sub-one-turn c = let h = sinks-order _ (sound (c .before .before .before .before .before .before .before .before .before .before .before .before)) (c .before .before .before .before .before .before .before .before .before .before .before .before .loop .net) (c .before .before .before .before .before .before .before .before .before .before .before .loop-test .taken) in omega arith
+sub-one-turn c = let h = routable-of _ (sound (c .before .before .before .before .before .before .before .before .before .before .before .before)) .sinks-order (c .before .before .before .before .before .before .before .before .before .before .before .before .loop .net) (c .before .before .before .before .before .before .before .before .before .before .before .loop-test .taken) in omega arith
 
 part-one-turn-start :
     tie.Need-part-one-turn-start Inv-loop2 μ-loop2 Inv-loop μ-loop Inv-iterations μ-iterations
-part-one-turn-start c = let h = sinks-order _ (sound (c .before .before .before .before .before .before .before .before .before .before .before .before)) (c .before .before .before .before .before .before .before .before .before .before .before .before .loop .net) (c .before .before .before .before .before .before .before .before .before .before .before .loop-test .taken) in omega arith
+part-one-turn-start c = let h = routable-of _ (sound (c .before .before .before .before .before .before .before .before .before .before .before .before)) .sinks-order (c .before .before .before .before .before .before .before .before .before .before .before .before .loop .net) (c .before .before .before .before .before .before .before .before .before .before .before .loop-test .taken) in omega arith
 
 part-one-turn-end :
     tie.Need-part-one-turn-end Inv-loop2 μ-loop2 Inv-loop μ-loop Inv-iterations μ-iterations
-part-one-turn-end c = sinks-end _ (sound (c .before .before .before .before .before .before .before .before .before .before .before .before)) (c .before .before .before .before .before .before .before .before .before .before .before .before .loop .net + 1) (let h = (c .before .before .before .before .before .before .before .before .before .before .before .loop-test .taken) in omega arith)
+part-one-turn-end c = routable-of _ (sound (c .before .before .before .before .before .before .before .before .before .before .before .before)) .sinks-end (c .before .before .before .before .before .before .before .before .before .before .before .before .loop .net + 1) (let h = (c .before .before .before .before .before .before .before .before .before .before .before .loop-test .taken) in omega arith)
 
 cast-one-turn :
     tie.Need-cast-one-turn Inv-loop2 μ-loop2 Inv-loop μ-loop Inv-iterations μ-iterations
-cast-one-turn c = let f = nets-few _ (sound (c .before .before .before .before .before .before .before .before .before .before .before .before .before)) in let h = (c .before .before .before .before .before .before .before .before .before .before .before .before .loop-test .taken) in omega arith
+cast-one-turn c = let f = routable-of _ (sound (c .before .before .before .before .before .before .before .before .before .before .before .before .before)) .nets-few in let h = (c .before .before .before .before .before .before .before .before .before .before .before .before .loop-test .taken) in omega arith
 
 array-share-prefix-history :
     tie.Need-array-share-prefix-history
@@ -337,7 +337,7 @@ count-tree-requires :
 count-tree-requires c κs = call-count-tree _ (sound (c .before .before .before .before .before .before .before .before .before .before .before .before .before .before .before)) _ _ (enough (c .before .before .before .before .before .before .before .before .before .before .before .before .before .before .before)) _ _ _ _ _ _ _ _ _ _ _ (end-of (c .before .before .before) _ _ _ (enough (c .before .before .before .before .before .before .before .before .before .before .before .before .before .before .before)) (c .before .before .before .before .before .before .before .before .before .before .before .before .before .before .before .before .iterations .inv .1))
 
 add-net : tie.Need-add-net Inv-loop2 μ-loop2 Inv-loop μ-loop Inv-iterations μ-iterations
-add-net c = let f = nets-few _ (sound (c .before .before .before .before .before .before .before .before .before .before .before .before .before .before .before .before .before .before)) in let h = (c .before .before .before .before .before .before .before .before .before .before .before .before .before .before .before .before .before .loop-test .taken) in omega arith
+add-net c = let f = routable-of _ (sound (c .before .before .before .before .before .before .before .before .before .before .before .before .before .before .before .before .before .before)) .nets-few in let h = (c .before .before .before .before .before .before .before .before .before .before .before .before .before .before .before .before .before .loop-test .taken) in omega arith
 
 loop-less : tie.Need-loop-less Inv-loop2 μ-loop2 Inv-loop μ-loop Inv-iterations μ-iterations
 loop-less c = let h = c .before .before .before .before .before .before .before .before .before .before .before .before .before .before .before .before .before .loop-test .taken in omega arith
@@ -466,11 +466,11 @@ grow-histories-requires c κs =
     let l = capacities-long _ _ ((sound (c .before .before .before .before .before .before .before .before .before)) .block-sound .capacities-sound) in
     let p = part-long _ _ (at .users-long) in
     let q = part-long _ _ (at .under .history-long) in
-    ((l ∙ p, l ∙ q), (λ v h. keep-growable _ (sound (c .before .before .before .before .before .before .before .before .before)) _ _ (enough (c .before .before .before .before .before .before .before .before .before)) _ _ _ _ _ _ _ _ _ at v (subst (λ k. v < k) (sym q) h), tuning-fits _ (sound (c .before .before .before .before .before .before .before .before .before)) .few-step))
+    ((l ∙ p, l ∙ q), (λ v h. keep-growable _ (sound (c .before .before .before .before .before .before .before .before .before)) _ _ (enough (c .before .before .before .before .before .before .before .before .before)) _ _ _ _ _ _ _ _ _ at v (subst (λ k. v < k) (sym q) h), routable-of _ (sound (c .before .before .before .before .before .before .before .before .before)) .tuning-fits .few-step))
 
 next-iteration-requires :
     tie.Need-next-iteration-requires Inv-loop2 μ-loop2 Inv-loop μ-loop Inv-iterations μ-iterations
-next-iteration-requires c κs = let b = keep-below _ (sound (c .before .before .before .before .before .before .before .before .before .before .before)) _ _ (enough (c .before .before .before .before .before .before .before .before .before .before .before)) _ _ _ _ _ _ _ _ _ (whole (c .before .before .before .before .before .before .before .before .before .before)) (c .before .before .before .before .if2 .left) in let l = limit-few _ (sound (c .before .before .before .before .before .before .before .before .before .before .before)) in omega arith
+next-iteration-requires c κs = let b = keep-below _ (sound (c .before .before .before .before .before .before .before .before .before .before .before)) _ _ (enough (c .before .before .before .before .before .before .before .before .before .before .before)) _ _ _ _ _ _ _ _ _ (whole (c .before .before .before .before .before .before .before .before .before .before)) (c .before .before .before .before .if2 .left) in let l = routable-of _ (sound (c .before .before .before .before .before .before .before .before .before .before .before)) .limit-few in omega arith
 
 iterations-less :
     tie.Need-iterations-less Inv-loop2 μ-loop2 Inv-loop μ-loop Inv-iterations μ-iterations
