@@ -1,4 +1,5 @@
-/* Routes a job text from standard input and prints its routes text, or the numbers of the refusal. See include/arvumnao.h.
+/* Routes a job text from standard input and prints its routes text. A refused job prints X and the refusal's numbers and
+ * ends with status 1. It lends what the program `router` lends, and prints the same. See include/arvumnao.h.
  *
  *     rt staticlib capi
  *     cc -Iinclude examples/route.c target/staticlib/libcapi.a -o target/route
@@ -9,43 +10,59 @@
 #include <inttypes.h>
 #include <stdio.h>
 
-enum { TEXT = 65536, NODES = 1024, EDGES = 8192, NETS = 512, SINKS = 4096, LOG = 16384, OUT = 16 };
+enum { TEXT = 65536, ROUTES = 65536, NODES = 1024, EDGES = 8192, NETS = 512, SINKS = 4096, LOG = 16384 };
 
-static uint8_t text[TEXT], kind[NODES], capacity[NODES], routes[TEXT];
+/* one byte more than a text may have, to see whether the input is longer */
+static uint8_t text[TEXT + 1], kind[NODES], capacity[NODES], routes[ROUTES];
 static uint32_t first_edge[NODES + 1], first_sink[NETS + 1], log_words[LOG];
 static uint16_t edge_target[EDGES], source[NETS], sink[SINKS];
-static uint64_t work[8 * NODES], out[OUT];
+static uint64_t work[ARVUMNAO_WORK(NODES)], out[ARVUMNAO_OUT];
 
 /* Prints the refusal in `out`, if there is one. */
 static int refused(void)
 {
-    if (out[0] == 0)
+    uint64_t number = out[ARVUMNAO_REFUSAL];
+    if (number == 0)
         return 0;
-    printf("X,%" PRIu64 ",%" PRIu64, out[0], out[1]);
-    if (out[0] >= 7 && out[0] <= 9)
-        printf(",%" PRIu64, out[2]);
+    printf("X,%" PRIu64 ",%" PRIu64, number, out[ARVUMNAO_REFUSAL_1]);
+    if (number >= ARVUMNAO_UNREACHABLE && number <= ARVUMNAO_LIMIT_REACHED)
+        printf(",%" PRIu64, out[ARVUMNAO_REFUSAL_2]);
     printf("\n");
     return 1;
 }
 
 int main(void)
 {
-    size_t bytes = fread(text, 1, TEXT, stdin);
+    size_t bytes = fread(text, 1, TEXT + 1, stdin);
+    if (ferror(stdin)) {
+        perror("standard input");
+        return 2;
+    }
+    if (bytes > TEXT) {
+        printf("X,%d,%d\n", ARVUMNAO_LONG_TEXT, TEXT);
+        return 1;
+    }
     arvumnao_read(text, bytes, kind, NODES, capacity, NODES, first_edge, NODES + 1, edge_target, EDGES,
-                  source, NETS, first_sink, NETS + 1, sink, SINKS, out, OUT);
+                  source, NETS, first_sink, NETS + 1, sink, SINKS, out, ARVUMNAO_OUT);
     if (refused())
         return 1;
-    size_t nodes = out[3], edges = out[4], nets = out[5], sinks = out[6];
-    uint32_t limit = (uint32_t)out[7], first = (uint32_t)out[8], up = (uint32_t)out[9];
-    uint32_t down = (uint32_t)out[10], step = (uint32_t)out[11];
+    size_t nodes = (size_t)out[ARVUMNAO_READ_NODES], edges = (size_t)out[ARVUMNAO_READ_EDGES];
+    size_t nets = (size_t)out[ARVUMNAO_READ_NETS], sinks = (size_t)out[ARVUMNAO_READ_SINKS];
+    uint32_t limit = (uint32_t)out[ARVUMNAO_READ_LIMIT], first = (uint32_t)out[ARVUMNAO_READ_FIRST];
+    uint32_t up = (uint32_t)out[ARVUMNAO_READ_UP], down = (uint32_t)out[ARVUMNAO_READ_DOWN];
+    uint32_t step = (uint32_t)out[ARVUMNAO_READ_STEP];
     arvumnao_route(kind, nodes, capacity, nodes, first_edge, nodes + 1, edge_target, edges, source, nets,
-                   first_sink, nets + 1, sink, sinks, limit, first, up, down, step, work, 8 * nodes,
-                   log_words, LOG, out, OUT);
+                   first_sink, nets + 1, sink, sinks, limit, first, up, down, step, work, ARVUMNAO_WORK(nodes),
+                   log_words, LOG, out, ARVUMNAO_OUT);
     if (refused())
         return 1;
-    arvumnao_write(log_words, out[5], routes, TEXT, out, OUT);
+    arvumnao_write(log_words, (size_t)out[ARVUMNAO_ROUTE_WORDS], routes, ROUTES, out, ARVUMNAO_OUT);
     if (refused())
         return 1;
-    fwrite(routes, 1, out[3], stdout);
+    size_t written = (size_t)out[ARVUMNAO_WRITE_BYTES];
+    if (fwrite(routes, 1, written, stdout) != written || fflush(stdout) != 0) {
+        perror("standard output");
+        return 2;
+    }
     return 0;
 }

@@ -1,15 +1,77 @@
 /* Arvumnao: a proved router for a programmable logic block. The calls of the static library libcapi.a.
  *
- * A slice is a pointer and a count of entries. Slices of one call must not overlap; an empty slice may have any pointer.
- * Every call takes `out`, a slice of 64-bit numbers. If it has fewer than 16 entries the call does nothing and returns 0. Otherwise the call returns 1, and
- *   out[0]           is the refusal's number, or 0 where nothing was refused,
- *   out[1], out[2]   are that refusal's further numbers, or 0,
- *   out[3] and on    are the call's own numbers,
- * the rest of the first 16 entries being 0. Entries past 16 stay as they are.
+ * docs/FORMAT.md describes the job text, the routes text, the log and every refusal; examples/route.c goes from a job
+ * text to its routes text. Here are first an example, then what holds for all calls, then the calls.
  *
- * Refusals: 1, 2, 3 line - 4 table too short - 5 table breaks its rule - 6 work entries needed - 7 net, place: no path - 8 iteration, turns: log full -
- * 9 iteration, nodes over capacity: limit reached - 10 word: unsound record - 11 bytes needed - 13 place of a number beyond its bounds.
- * A refusal changes no other slice, except: 7, 8 and 9 leave the first 8 x nodes work entries 0, and 8 and 9 leave the turns made in the log.
+ * An example, whole: it routes one net over one wire and prints R,1,1 and B,0,0,1 and B,0,1,2, a line each.
+ *
+ *     #include "arvumnao.h"
+ *     #include <stdio.h>
+ *     #include <stdlib.h>
+ *
+ *     int main(void)
+ *     {
+ *         static const uint8_t kind[] = {ARVUMNAO_SOURCE, ARVUMNAO_WIRE(1), ARVUMNAO_SINK}, capacity[] = {1, 1, 1};
+ *         static const uint32_t first_edge[] = {0, 1, 2, 2}, first_sink[] = {0, 1};
+ *         static const uint16_t edge_target[] = {1, 2}, source[] = {0}, sink[] = {2};
+ *         static uint64_t work[ARVUMNAO_WORK(3)], out[ARVUMNAO_OUT];
+ *         static uint32_t log[64];
+ *         arvumnao_route(kind, 3, capacity, 3, first_edge, 4, edge_target, 2, source, 1, first_sink, 2, sink, 1,
+ *                        ARVUMNAO_LIMIT_MOST, ARVUMNAO_PLAIN_TUNING, work, ARVUMNAO_WORK(3), log, 64, out, ARVUMNAO_OUT);
+ *         if (out[ARVUMNAO_REFUSAL] != 0)
+ *             return 1;
+ *         size_t words = (size_t)out[ARVUMNAO_ROUTE_WORDS];
+ *         // an empty buffer is always too short, so the writer answers with the bytes needed
+ *         arvumnao_write(log, words, NULL, 0, out, ARVUMNAO_OUT);
+ *         if (out[ARVUMNAO_REFUSAL] != ARVUMNAO_SHORT_BUFFER)
+ *             return 1;
+ *         size_t bytes = (size_t)out[ARVUMNAO_REFUSAL_1];
+ *         uint8_t *routes = malloc(bytes);
+ *         arvumnao_write(log, words, routes, bytes, out, ARVUMNAO_OUT);
+ *         fwrite(routes, 1, bytes, stdout);
+ *         free(routes);
+ *         return 0;
+ *     }
+ *
+ * Build it: rt staticlib capi && cc -Iinclude FILE.c target/staticlib/libcapi.a
+ *
+ * MEMORY. A slice is a pointer and a count of entries, aligned as C aligns its type. An empty slice may have
+ * any pointer, NULL too. A slice that a call may write to (one without const) must not overlap any other slice of
+ * that call. Slices are lent for the call alone: the library keeps no pointer, allocates nothing, has no state, and
+ * needs nothing of the C library but memcpy and memset. So calls may run at once in several threads, as long as no
+ * slice that one of them writes to is lent to another. A call takes at most ARVUMNAO_STACK bytes of stack.
+ *
+ * ANY INPUT. Each call may be lent slices of any length with anything in them: it ends, stays within them and
+ * refuses what is faulty. That, with what it answers and leaves in every slice, is proved of the code that is
+ * compiled. Slices that overlap, dangle or are counted wrong are out of its sight.
+ *
+ * OUT. Every call takes `out`, a slice of 64-bit numbers, which need not be cleared. If it has fewer than
+ * ARVUMNAO_OUT entries the call does nothing and returns 0. Otherwise it returns 1, fills the first ARVUMNAO_OUT
+ * entries and leaves those past them:
+ *   out[ARVUMNAO_REFUSAL]     0 where nothing was refused, else the refusal's number
+ *   out[ARVUMNAO_REFUSAL_1]   that refusal's first further number, else 0
+ *   out[ARVUMNAO_REFUSAL_2]   its second, else 0
+ *   the rest                  the call's own numbers, at the places defined with the call, and 0
+ * A refused call's own numbers are 0, but for those of arvumnao_route after ARVUMNAO_LOG_FULL and
+ * ARVUMNAO_LIMIT_REACHED. A refused call leaves every other slice as it was, but where its comment says more.
+ *
+ * TABLES. A job is seven tables, and terms that count as an eighth. Nodes and nets are numbered from 0: a node has
+ * an entry in table 1, a net in table 5.
+ *   1 kind         8 bits a node   1 to 4,096 nodes, ARVUMNAO_SOURCE to ARVUMNAO_KIND_MOST
+ *   2 capacity     8 bits a node   how many nets may use it at once, 1 to 255
+ *   3 first_edge   32 bits         nodes + 1 places in table 4, where each node's row begins: the first is 0, none
+ *                                  is below the one before, the last is table 4's length
+ *   4 edge_target  16 bits         at most 32,768 nodes, to which the row's node has a switch: rising within a row,
+ *                                  never the row's own node
+ *   5 source       16 bits a net   1 to 512 nets: a node of kind ARVUMNAO_SOURCE or ARVUMNAO_OUTPUT_PIN
+ *   6 first_sink   32 bits         nets + 1 places in table 7, where each net's sinks begin: the first is 0, each is
+ *                                  above the one before, the last is table 7's length
+ *   7 sink         16 bits a sink  at most 4,096 nodes of kind ARVUMNAO_SINK or ARVUMNAO_INPUT_PIN: within a net
+ *                                  none twice, none its source
+ *   8 the terms                    limit, 1 to 100 iterations; first, 0 to 1,000; down, 1 to 4; up, from down to 8;
+ *                                  step, 1 or 2
+ * A table of another length than it must have breaks its rule; one that disagrees with table 3 or 6 about the
+ * length of table 4 or 7 shows as a fault of table 3 or 6.
  */
 #ifndef ARVUMNAO_H
 #define ARVUMNAO_H
@@ -17,18 +79,85 @@
 #include <stddef.h>
 #include <stdint.h>
 
+/* The version of these declarations. The library itself carries none: header and library must be of one build.
+ * Until 1.0.0 the second number rises with every change to a call, a place in `out` or a refusal. */
+#define ARVUMNAO_VERSION "0.1.0"
+
+/* The most that a job has. */
+#define ARVUMNAO_NODES_MOST 4096
+#define ARVUMNAO_EDGES_MOST 32768
+#define ARVUMNAO_NETS_MOST 512
+#define ARVUMNAO_SINKS_MOST 4096
+#define ARVUMNAO_LIMIT_MOST 100
+
+/* The kinds of a node: with their base costs 20, 20, 20, 19 and 20 x length. A wire's length is 1 to 50 tiles. */
+#define ARVUMNAO_SOURCE 0
+#define ARVUMNAO_SINK 1
+#define ARVUMNAO_OUTPUT_PIN 2
+#define ARVUMNAO_INPUT_PIN 3
+#define ARVUMNAO_WIRE(length) (3 + (length))
+#define ARVUMNAO_KIND_MOST 53
+
+/* first, up, down, step of a job that asks for no tuning: four arguments. */
+#define ARVUMNAO_PLAIN_TUNING 50, 3, 2, 1
+
+/* The entries that `work` needs. What they hold before a call doesn't matter. */
+#define ARVUMNAO_WORK(nodes) (8 * (nodes))
+
+/* The words of a record whose path has so many nodes, 2 to 4,096. A job makes at most limit x sinks records. */
+#define ARVUMNAO_RECORD(path) (6 + (path))
+
+/* Bytes of stack, beyond its caller's, that every call makes do with. Measured on x86-64 Linux by tests/header/memory.c, with
+ * what memcpy and memset take: 113,143 in arvumnao_read, 29,663 in arvumnao_route, under 500 in the others. */
+#define ARVUMNAO_STACK 131072
+
+/* `out`: its length, and the places that every call has. */
+#define ARVUMNAO_OUT 16
+#define ARVUMNAO_REFUSAL 0
+#define ARVUMNAO_REFUSAL_1 1
+#define ARVUMNAO_REFUSAL_2 2
+
+/* The refusals, with their further numbers. Lines of a text and iterations are counted from 1, tables as above, all
+ * else from 0. docs/FORMAT.md says what to do about each. */
+#define ARVUMNAO_BAD_SHAPE 1     /* line: of wrong shape or missing, or text after the end */
+#define ARVUMNAO_BAD_VALUE 2     /* line: a value beyond its bounds */
+#define ARVUMNAO_BAD_ORDER 3     /* line: wrong order, number, pin or repetition, or the 4,097th sink */
+#define ARVUMNAO_SHORT_TABLE 4   /* table: the lowest that is too short for the job */
+#define ARVUMNAO_BAD_TABLE 5     /* table: the lowest that breaks its rule, 8 for the terms */
+#define ARVUMNAO_SHORT_WORK 6    /* entries that work needs */
+#define ARVUMNAO_UNREACHABLE 7   /* net, place: the first net with a sink that has no path from its source; the place
+                                    of the first such sink among that net's */
+#define ARVUMNAO_LOG_FULL 8      /* iteration, turns: after so many turns the next record, of that iteration, doesn't fit */
+#define ARVUMNAO_LIMIT_REACHED 9 /* iteration, nodes: after the last iteration so many nodes are over capacity */
+#define ARVUMNAO_BAD_RECORD 10   /* word: where the first unsound record begins; 0 if the log is empty */
+#define ARVUMNAO_SHORT_BUFFER 11 /* bytes that the routes text needs */
+#define ARVUMNAO_LONG_TEXT 12    /* 65536: by the program alone, of an input with more bytes; no call here gives it */
+#define ARVUMNAO_BAD_NUMBER 13   /* place: a number beyond its bounds */
+
 #ifdef __cplusplus
 extern "C" {
 #endif
 
-/* The price of a node: out[3]. Refusal 13, with the place from 0 of the first bad one of kind (0 to 53), factor (0 to 65,535), others (0 to 511), capacity (1 to 255)
- * and history (1 to 101,179). */
+/* The price of a node to a net: history x base cost x (100 + factor x excess), where excess is by how much others + 1
+ * passes the capacity, or 0.
+ *
+ * Bounds: kind 0 to 53, factor 0 to 65,535, others 0 to 511, capacity 1 to 255, history 1 to 101,179.
+ * Refusals: ARVUMNAO_BAD_NUMBER with the place, 0 to 4, of the first of these five that is beyond its bounds. */
+#define ARVUMNAO_PRICE_PRICE 3
 uint32_t arvumnao_price(uint32_t kind, uint32_t factor, uint32_t others, uint32_t capacity, uint32_t history,
                         uint64_t *out, size_t out_count);
 
-/* The distances of all nodes from the marked ones: the first `nodes` work entries, 2^64 - 1 where there is no path; the next 7 x nodes hold 0.
- * The work slice needs 8 entries a node. Refusals 5, 6, 13: the lowest node whose history (1 to 101,179), others (0 to 511) or tree mark (0 or 1) is bad, then the
- * node count for a bad factor. */
+/* The distance of each node from the marked ones: the least sum of prices on a path from any of them, the path's first
+ * node left out.
+ *
+ * factor    0 to 65,535.
+ * work      needs ARVUMNAO_WORK(nodes) entries. Afterwards the first `nodes` of them are the distances, 2^64 - 1 where
+ *           there is no path, the next 7 x nodes are 0, and those past them stay.
+ * history   an entry a node, 1 to 101,179. Further entries of this list and the next two are unread.
+ * others    how many other nets have the node, 0 to 511.
+ * in_tree   1 for a marked node, 0 for any other.
+ * Refusals, tested in this order: ARVUMNAO_BAD_TABLE (1 to 4); ARVUMNAO_SHORT_WORK; ARVUMNAO_BAD_NUMBER with the lowest node
+ * that has a bad entry, or none, in one of the three lists; ARVUMNAO_BAD_NUMBER with the node count for a bad factor. */
 uint32_t arvumnao_search(const uint8_t *kind, size_t kind_count, const uint8_t *capacity, size_t capacity_count,
                          const uint32_t *first_edge, size_t first_edge_count, const uint16_t *edge_target, size_t edge_target_count,
                          uint32_t factor, uint64_t *work, size_t work_count,
@@ -36,10 +165,22 @@ uint32_t arvumnao_search(const uint8_t *kind, size_t kind_count, const uint8_t *
                          const uint8_t *in_tree, size_t in_tree_count,
                          uint64_t *out, size_t out_count);
 
-/* Routes a job given as tables: iteration out[3], turns out[4], words used of the log out[5]. The work slice needs 8 entries a node.
- * The limit of iterations is 1 to 100. The tuning: the factor is `first` (0 to 1,000) in iteration 2 and then each time factor x up / down, rounded down, at most
- * 65,535, with down 1 to 4 and up from down to 8; history grows by step (1 or 2) x overuse. A job that asks for no tuning has first 50, up 3, down 2, step 1.
- * A source is of kind 0 or 2 and a sink of kind 1 or 3: others are 5 with table 5 or 7. Refusals 5, 6, 7, 8, 9: a bad limit or tuning is 5 with table 8. */
+/* Routes a job. Each table is lent in exactly its length.
+ *
+ * limit     the most iterations.
+ * first, up, down, step   the tariff: the congestion factor is 0 in iteration 1, `first` in iteration 2, and then each
+ *           time factor x up / down, rounded down, at most 65,535; a node's history is 1 at first and grows after each
+ *           iteration by step x the nets too many on it. ARVUMNAO_PLAIN_TUNING are those of a text without a P line.
+ * work      needs ARVUMNAO_WORK(nodes) entries. After acceptance and after refusals 7, 8 and 9 that many are 0, and those
+ *           past them stay.
+ * log       gets a record for each turn. After acceptance and after 8 and 9 the words used hold the records of the
+ *           turns made, and those past them stay. How many it needs isn't known before: lend more after
+ *           ARVUMNAO_LOG_FULL. The log of a run that was cut short by log or limit is the beginning of the longer run's.
+ * Refusals, tested in this order: ARVUMNAO_BAD_TABLE, ARVUMNAO_SHORT_WORK, ARVUMNAO_UNREACHABLE; then ARVUMNAO_LOG_FULL and
+ * ARVUMNAO_LIMIT_REACHED as they arise, for which the own numbers are told too. */
+#define ARVUMNAO_ROUTE_ITERATION 3
+#define ARVUMNAO_ROUTE_TURNS 4
+#define ARVUMNAO_ROUTE_WORDS 5
 uint32_t arvumnao_route(const uint8_t *kind, size_t kind_count, const uint8_t *capacity, size_t capacity_count,
                         const uint32_t *first_edge, size_t first_edge_count, const uint16_t *edge_target, size_t edge_target_count,
                         const uint16_t *source, size_t source_count, const uint32_t *first_sink, size_t first_sink_count,
@@ -48,15 +189,37 @@ uint32_t arvumnao_route(const uint8_t *kind, size_t kind_count, const uint8_t *c
                         uint64_t *work, size_t work_count, uint32_t *log, size_t log_count,
                         uint64_t *out, size_t out_count);
 
-/* Reads a job text into the seven tables, which may be longer than the job needs: nodes out[3], edges out[4], nets out[5], sinks out[6],
- * limit out[7], and the tuning: first out[8], up out[9], down out[10], step out[11], which are 50, 3, 2, 1 where the text has no P line. Refusals 1, 2, 3, 4. */
+/* Reads a job text into the seven tables, and tells how much of each it filled, and the terms.
+ *
+ * text      of any length: the program's bound of 65,536 bytes isn't this call's.
+ * tables    may be longer than the job needs; entries past what it has stay. Tables 3 and 6 need an entry more than there
+ *           are nodes and nets. ARVUMNAO_NODES_MOST and the like are enough for every job.
+ * Without a P line the tuning told is ARVUMNAO_PLAIN_TUNING.
+ * Refusals, tested in this order: the first faulty line by ARVUMNAO_BAD_SHAPE, else ARVUMNAO_BAD_VALUE, else
+ * ARVUMNAO_BAD_ORDER; then ARVUMNAO_SHORT_TABLE. */
+#define ARVUMNAO_READ_NODES 3
+#define ARVUMNAO_READ_EDGES 4
+#define ARVUMNAO_READ_NETS 5
+#define ARVUMNAO_READ_SINKS 6
+#define ARVUMNAO_READ_LIMIT 7
+#define ARVUMNAO_READ_FIRST 8
+#define ARVUMNAO_READ_UP 9
+#define ARVUMNAO_READ_DOWN 10
+#define ARVUMNAO_READ_STEP 11
 uint32_t arvumnao_read(const uint8_t *text, size_t text_count, uint8_t *kind, size_t kind_count, uint8_t *capacity, size_t capacity_count,
                        uint32_t *first_edge, size_t first_edge_count, uint16_t *edge_target, size_t edge_target_count,
                        uint16_t *source, size_t source_count, uint32_t *first_sink, size_t first_sink_count,
                        uint16_t *sink, size_t sink_count,
                        uint64_t *out, size_t out_count);
 
-/* Writes the routes text of a log, whose words used are the slice: bytes written out[3]. Refusals 10, 11. */
+/* Writes the routes text of a log.
+ *
+ * log       the words used of it, not the whole slice that was lent to arvumnao_route.
+ * buffer    gets the text, without a 0 at its end; bytes past it stay. To learn how long it must be, call with an empty
+ *           buffer: the answer is ARVUMNAO_SHORT_BUFFER with the bytes needed, or ARVUMNAO_BAD_RECORD.
+ * Refusals, tested in this order: ARVUMNAO_BAD_RECORD, ARVUMNAO_SHORT_BUFFER. The writer can't tell whether the run was
+ * accepted: the routes of one that wasn't leave nodes overfull or nets unrouted. */
+#define ARVUMNAO_WRITE_BYTES 3
 uint32_t arvumnao_write(const uint32_t *log, size_t log_count, uint8_t *buffer, size_t buffer_count,
                         uint64_t *out, size_t out_count);
 

@@ -47,7 +47,8 @@ pub fn all() -> Vec<Router> {
 #[cfg(all(feature = "proved", not(feature = "no-proved")))]
 fn proved(job: &Job, work: &mut [u64], log: &mut [u32]) -> Result {
     let [first, up, down, step] = job.tuning.numbers();
-    let answer = arvumnao::route(
+    let mut out = [0; arvumnao::raw::OUT];
+    arvumnao::raw::route(
         &job.kind,
         &job.capacity,
         &job.first_edge,
@@ -62,8 +63,10 @@ fn proved(job: &Job, work: &mut [u64], log: &mut [u32]) -> Result {
         step,
         work,
         log,
+        &mut out,
     );
-    Result { refusal: answer.refusal, numbers: answer.numbers }
+    let numbers: &[u64; 3] = arvumnao::raw::own(&out);
+    Result { refusal: arvumnao::raw::refusal(&out).to_vec(), numbers: numbers.to_vec() }
 }
 
 #[cfg(not(all(feature = "proved", not(feature = "no-proved"))))]

@@ -1,5 +1,7 @@
 //! Runs one call on both sides, on equal copies of all lent slices, and compares what comes back.
 
+#[cfg(feature = "library")]
+use arvumnao::raw;
 use job::Job;
 
 /// A call's refusal and own numbers, of either side.
@@ -78,64 +80,80 @@ macro_rules! guards {
 guards!(widen_all, widen);
 guards!(narrow_all, narrow);
 
-/// The calls of one side. Each gets the case's own slices.
-macro_rules! side {
-    ($name:ident, $side:ident) => {
-        fn $name(case: &mut Case) -> Answer {
-            widen_all(case);
-            let answer = match case {
-                Case::Price { kind, factor, others, capacity, history } => {
-                    $side::price(*kind, *factor, *others, *capacity, *history)
-                }
-                Case::Search { graph, factor, work, history, others, in_tree } => $side::search(
-                    &graph.kind,
-                    &graph.capacity,
-                    &graph.first_edge,
-                    &graph.edge_target,
-                    *factor,
-                    lend(work),
-                    history,
-                    others,
-                    in_tree,
-                ),
-                Case::Route { job, work, log } => $side::route(
-                    &job.kind,
-                    &job.capacity,
-                    &job.first_edge,
-                    &job.edge_target,
-                    &job.source,
-                    &job.first_sink,
-                    &job.sink,
-                    job.limit,
-                    job.tuning.first,
-                    job.tuning.up,
-                    job.tuning.down,
-                    job.tuning.step,
-                    lend(work),
-                    lend(log),
-                ),
-                Case::Read { text, tables } => $side::read(
-                    text,
-                    lend(&mut tables.kind),
-                    lend(&mut tables.capacity),
-                    lend(&mut tables.first_edge),
-                    lend(&mut tables.edge_target),
-                    lend(&mut tables.source),
-                    lend(&mut tables.first_sink),
-                    lend(&mut tables.sink),
-                ),
-                Case::Write { log, buffer } => $side::write(log, lend(buffer)),
-            };
-            narrow_all(case);
-            Answer { refusal: answer.refusal, numbers: answer.numbers }
+/// A case's call of one side, with the case's own slices; the library's takes `out` too.
+macro_rules! call {
+    ($side:ident, $case:ident $(, $out:ident)?) => {
+        match $case {
+            Case::Price { kind, factor, others, capacity, history } => {
+                $side::price(*kind, *factor, *others, *capacity, *history $(, $out)?)
+            }
+            Case::Search { graph, factor, work, history, others, in_tree } => $side::search(
+                &graph.kind,
+                &graph.capacity,
+                &graph.first_edge,
+                &graph.edge_target,
+                *factor,
+                lend(work),
+                history,
+                others,
+                in_tree,
+                $($out)?
+            ),
+            Case::Route { job, work, log } => $side::route(
+                &job.kind,
+                &job.capacity,
+                &job.first_edge,
+                &job.edge_target,
+                &job.source,
+                &job.first_sink,
+                &job.sink,
+                job.limit,
+                job.tuning.first,
+                job.tuning.up,
+                job.tuning.down,
+                job.tuning.step,
+                lend(work),
+                lend(log),
+                $($out)?
+            ),
+            Case::Read { text, tables } => $side::read(
+                text,
+                lend(&mut tables.kind),
+                lend(&mut tables.capacity),
+                lend(&mut tables.first_edge),
+                lend(&mut tables.edge_target),
+                lend(&mut tables.source),
+                lend(&mut tables.first_sink),
+                lend(&mut tables.sink),
+                $($out)?
+            ),
+            Case::Write { log, buffer } => $side::write(log, lend(buffer) $(, $out)?),
         }
     };
 }
 
-side!(run_plain, plain);
+fn run_plain(case: &mut Case) -> Answer {
+    widen_all(case);
+    let answer = call!(plain, case);
+    narrow_all(case);
+    Answer { refusal: answer.refusal, numbers: answer.numbers }
+}
+
+/// The library's call with an `out` of any length; what it returns.
+#[cfg(feature = "library")]
+fn raw_call(case: &mut Case, out: &mut [u64]) -> u32 {
+    widen_all(case);
+    let returned = call!(raw, case, out);
+    narrow_all(case);
+    returned
+}
 
 #[cfg(feature = "library")]
-side!(run_library, arvumnao);
+fn run_library(case: &mut Case) -> Answer {
+    let mut out = [0xa5a5; raw::OUT];
+    assert_eq!(raw_call(case, &mut out), 1, "the library did nothing though out has {} entries", raw::OUT);
+    Answer { refusal: raw::refusal(&out).to_vec(), numbers: out[raw::OWN..raw::OWN + own(case)].to_vec() }
+}
 
 #[cfg(not(feature = "library"))]
 fn run_library(case: &mut Case) -> Answer {
@@ -177,6 +195,8 @@ pub fn compare(case: &Case) -> Result<After, String> {
     }
     memory(case, &other)?;
     check(&other)?;
+    #[cfg(feature = "library")]
+    crate::wrapper::check(case, &other)?;
     Ok(other)
 }
 
@@ -306,14 +326,14 @@ pub fn compare_out(case: &Case, length: usize) -> Result<(), String> {
     let mut expected_out: Vec<u64> = (0..length as u64).map(|place| 0xa5a5_0000_0000_0000 + place).collect();
     let mut copy = case.clone();
     let mut out = expected_out.clone();
-    if length >= arvumnao::OUT {
+    if length >= raw::OUT {
         let answer = run_plain(&mut expected);
-        expected_out[..arvumnao::OUT].fill(0);
+        expected_out[..raw::OUT].fill(0);
         expected_out[..answer.refusal.len()].copy_from_slice(&answer.refusal);
-        expected_out[3..3 + own(case)].copy_from_slice(&answer.numbers);
+        expected_out[raw::OWN..raw::OWN + own(case)].copy_from_slice(&answer.numbers);
     }
-    let returned = raw(&mut copy, &mut out);
-    if returned != u32::from(length >= arvumnao::OUT) || out != expected_out || copy != expected {
+    let returned = raw_call(&mut copy, &mut out);
+    if returned != u32::from(length >= raw::OUT) || out != expected_out || copy != expected {
         return Err(format!(
             "with an out of {length}: returned {returned}, out {out:?}, expected {expected_out:?}, slices {}",
             if copy == expected { "equal" } else { "differ" },
@@ -327,60 +347,6 @@ pub fn compare_out(case: &Case, length: usize) -> Result<(), String> {
 pub fn compare_out(case: &Case, _length: usize) -> Result<(), String> {
     let _ = own(case);
     Ok(())
-}
-
-/// The raw call of a case.
-#[cfg(feature = "library")]
-fn raw(case: &mut Case, out: &mut [u64]) -> u32 {
-    widen_all(case);
-    let returned = match case {
-        Case::Price { kind, factor, others, capacity, history } => {
-            arvumnao::raw_price(*kind, *factor, *others, *capacity, *history, out)
-        }
-        Case::Search { graph, factor, work, history, others, in_tree } => arvumnao::raw_search(
-            &graph.kind,
-            &graph.capacity,
-            &graph.first_edge,
-            &graph.edge_target,
-            *factor,
-            lend(work),
-            history,
-            others,
-            in_tree,
-            out,
-        ),
-        Case::Route { job, work, log } => arvumnao::raw_route(
-            &job.kind,
-            &job.capacity,
-            &job.first_edge,
-            &job.edge_target,
-            &job.source,
-            &job.first_sink,
-            &job.sink,
-            job.limit,
-            job.tuning.first,
-            job.tuning.up,
-            job.tuning.down,
-            job.tuning.step,
-            lend(work),
-            lend(log),
-            out,
-        ),
-        Case::Read { text, tables } => arvumnao::raw_read(
-            text,
-            lend(&mut tables.kind),
-            lend(&mut tables.capacity),
-            lend(&mut tables.first_edge),
-            lend(&mut tables.edge_target),
-            lend(&mut tables.source),
-            lend(&mut tables.first_sink),
-            lend(&mut tables.sink),
-            out,
-        ),
-        Case::Write { log, buffer } => arvumnao::raw_write(log, lend(buffer), out),
-    };
-    narrow_all(case);
-    returned
 }
 
 /// Wrong answers put in on purpose, to test the shrinker.

@@ -11,6 +11,8 @@ mod logs;
 mod outcomes;
 mod run;
 mod shrink;
+#[cfg(feature = "library")]
+mod wrapper;
 
 use run::{Failure, Run};
 use std::process::ExitCode;

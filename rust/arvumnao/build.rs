@@ -3,7 +3,7 @@
 use std::env;
 use std::path::PathBuf;
 
-/// The directory named by ARVUMNAO_LIB_DIR, else target/staticlib two levels above the crate.
+/// The folder named by ARVUMNAO_LIB_DIR, else target/staticlib two levels above the package, where `rt staticlib capi` writes it.
 fn directory() -> PathBuf {
     match env::var_os("ARVUMNAO_LIB_DIR") {
         Some(named) if !named.is_empty() => PathBuf::from(named),

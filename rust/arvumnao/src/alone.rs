@@ -1,0 +1,138 @@
+//! Price and search called alone.
+
+use crate::job::Block;
+use crate::refusal::{Refusal, TableFault};
+use crate::{out, raw, Job};
+
+/// What the price of a node depends on.
+///
+/// ```
+/// use arvumnao::{kind, Use};
+///
+/// // one other net is on a wire of capacity 2, then two are
+/// let wire = Use { kind: kind::wire(1).into(), factor: 50, others: 1, capacity: 2, history: 1 };
+/// assert_eq!(wire.price()?, 2000);
+/// assert_eq!(Use { others: 2, ..wire }.price()?, 3000);
+///
+/// let refusal = Use { capacity: 0, ..wire }.price().unwrap_err();
+/// assert_eq!(refusal.to_string(), "capacity 0 is beyond 1 to 255");
+/// # Ok::<(), arvumnao::Refusal>(())
+/// ```
+#[derive(Clone, Copy, Debug, PartialEq, Eq)]
+pub struct Use {
+    /// The node's [kind](crate::kind), 0 to 53.
+    pub kind: u32,
+    /// The congestion factor of the iteration, 0 to 65,535.
+    pub factor: u32,
+    /// How many other nets have the node in their tree, 0 to 511.
+    pub others: u32,
+    /// The node's capacity, 1 to 255.
+    pub capacity: u32,
+    /// Its history, 1 to 101,179.
+    pub history: u32,
+}
+
+impl Use {
+    /// history × base cost × (100 + factor × the nets too many, were this net on the node too). Refused by [`Refusal::Number`].
+    pub fn price(self) -> Result<u64, Refusal> {
+        let Use { kind, factor, others, capacity, history } = self;
+        let told = out(|out| raw::price(kind, factor, others, capacity, history, out));
+        match *raw::refusal(&told) {
+            [] => {
+                let [price] = raw::own(&told);
+                Ok(*price)
+            }
+            [13, place] => Err(self.bad_number(place)),
+            ref numbers => Err(Refusal::unexpected(numbers)),
+        }
+    }
+
+    /// The refusal of the number at a place.
+    fn bad_number(self, place: u64) -> Refusal {
+        let numbers = [
+            ("kind", self.kind, "0 to 53"),
+            ("factor", self.factor, "0 to 65535"),
+            ("others", self.others, "0 to 511"),
+            ("capacity", self.capacity, "1 to 255"),
+            ("history", self.history, "1 to 101179"),
+        ];
+        let (name, value, bounds) = numbers[(place as usize).min(4)];
+        Refusal::Number { place, reason: format!("{name} {value} is beyond {bounds}") }
+    }
+}
+
+/// What a search alone starts from: the prices' numbers for each node, and the nodes of the tree. Entries past the block's nodes
+/// are unread.
+#[derive(Clone, Debug, Default, PartialEq, Eq)]
+pub struct Congestion {
+    /// The congestion factor, 0 to 65,535.
+    pub factor: u32,
+    /// Each node's history, 1 to 101,179.
+    pub history: Vec<u32>,
+    /// How many other nets have each node, 0 to 511.
+    pub others: Vec<u16>,
+    /// 1 for each node of the tree, 0 for the rest.
+    pub in_tree: Vec<u8>,
+}
+
+impl Block {
+    /// The distance of each node from the tree: the cost of a cheapest path, none where there is no path. Refused by
+    /// [`Refusal::Table`] and [`Refusal::Number`].
+    ///
+    /// ```
+    /// use arvumnao::{kind, Block, Congestion};
+    ///
+    /// let mut block = Block::default();
+    /// block.add(kind::SOURCE, 1, &[1]);
+    /// block.add(kind::wire(3), 1, &[]);
+    /// block.add(kind::SINK, 1, &[]);
+    /// let start = Congestion { factor: 0, history: vec![1; 3], others: vec![0; 3], in_tree: vec![1, 0, 0] };
+    /// assert_eq!(block.distances(&start)?, [Some(0), Some(6000), None]);
+    /// # Ok::<(), arvumnao::Refusal>(())
+    /// ```
+    pub fn distances(&self, start: &Congestion) -> Result<Vec<Option<u64>>, Refusal> {
+        let mut work = vec![0; 8 * self.kind.len()];
+        let told = out(|out| {
+            raw::search(
+                &self.kind,
+                &self.capacity,
+                &self.first_edge,
+                &self.edge_target,
+                start.factor,
+                &mut work,
+                &start.history,
+                &start.others,
+                &start.in_tree,
+                out,
+            )
+        });
+        match *raw::refusal(&told) {
+            [] => {}
+            [5, table] => {
+                let job = Job { block: self.clone(), ..Job::default() };
+                return Err(Refusal::Table(TableFault::find(&job, table as u32)));
+            }
+            [13, place] => return Err(self.bad_number(start, place)),
+            ref numbers => return Err(Refusal::unexpected(numbers)),
+        }
+        work.truncate(self.kind.len());
+        Ok(work.into_iter().map(|distance| (distance != u64::MAX).then_some(distance)).collect())
+    }
+
+    /// The refusal of a node's numbers, or of the factor.
+    fn bad_number(&self, start: &Congestion, place: u64) -> Refusal {
+        let node = place as usize;
+        let shown = |entry: Option<u32>| entry.map_or(String::from("missing"), |entry| entry.to_string());
+        let reason = if node >= self.kind.len() {
+            format!("factor {} is beyond 0 to 65535", start.factor)
+        } else {
+            format!(
+                "node {node}: history {}, of 1 to 101179, others {}, of 0 to 511, and tree mark {}, of 0 and 1: one of them is bad",
+                shown(start.history.get(node).copied()),
+                shown(start.others.get(node).copied().map(u32::from)),
+                shown(start.in_tree.get(node).copied().map(u32::from)),
+            )
+        };
+        Refusal::Number { place, reason }
+    }
+}

@@ -1,0 +1,255 @@
+//! A job: the block, its nets, and the terms on which they are routed.
+
+use crate::log::Log;
+use crate::refusal::{LineFault, Refusal, TableFault};
+use crate::{out, raw};
+
+/// The most nodes that a job has.
+pub const NODES: usize = 4_096;
+/// The most edges.
+pub const EDGES: usize = 32_768;
+/// The most nets.
+pub const NETS: usize = 512;
+/// The most sinks of all nets together.
+pub const SINKS: usize = 4_096;
+
+/// The words of the log that [`Job::route`] begins with.
+const LOG: usize = 16_384;
+
+/// The block: wires and pins are its nodes, switches its edges.
+#[derive(Clone, Debug, PartialEq, Eq)]
+pub struct Block {
+    /// Table 1: each node's [kind](crate::kind).
+    pub kind: Vec<u8>,
+    /// Table 2: by how many nets each node may be used at once, 1 to 255.
+    pub capacity: Vec<u8>,
+    /// Table 3: where each node's row in `edge_target` begins, and at last that table's length.
+    pub first_edge: Vec<u32>,
+    /// Table 4: to which nodes each node has a switch, row after row, each row rising.
+    pub edge_target: Vec<u16>,
+}
+
+/// The nets: each has a source and one or more sinks.
+#[derive(Clone, Debug, PartialEq, Eq)]
+pub struct Nets {
+    /// Table 5: each net's source node.
+    pub source: Vec<u16>,
+    /// Table 6: where each net's sinks in `sink` begin, and at last that table's length.
+    pub first_sink: Vec<u32>,
+    /// Table 7: the sink nodes, net after net.
+    pub sink: Vec<u16>,
+}
+
+/// On which terms a job is routed. Counted as table 8.
+///
+/// The default is as many iterations as there may be, and the tariff of a job text without a P line.
+#[derive(Clone, Copy, Debug, PartialEq, Eq)]
+pub struct Terms {
+    /// The most iterations, 1 to 100.
+    pub limit: u32,
+    /// The congestion factor in iteration 2, in hundredths, 0 to 1,000.
+    pub first: u32,
+    /// From iteration 3 on the factor grows by `up / down`: `down` to 8.
+    pub up: u32,
+    /// 1 to 4.
+    pub down: u32,
+    /// By how much a node's history grows for each net too many: 1 or 2.
+    pub step: u32,
+}
+
+/// A job: what is routed.
+///
+/// ```
+/// use arvumnao::{kind, Job, Terms};
+///
+/// let mut job = Job { terms: Terms { limit: 10, ..Terms::default() }, ..Job::default() };
+/// job.block.add(kind::SOURCE, 1, &[1]); // node 0, with a switch to node 1
+/// job.block.add(kind::wire(2), 1, &[2, 3]);
+/// job.block.add(kind::SINK, 1, &[]);
+/// job.block.add(kind::SINK, 1, &[]);
+/// job.nets.add(0, &[3, 2]);
+///
+/// let answer = job.route()?;
+/// assert_eq!(answer.log.routes()?, "R,1,2\nB,0,0,1\nB,0,1,3\nB,0,1,2\n");
+/// # Ok::<(), arvumnao::Refusal>(())
+/// ```
+#[derive(Clone, Debug, Default, PartialEq, Eq)]
+pub struct Job {
+    /// Tables 1 to 4.
+    pub block: Block,
+    /// Tables 5 to 7.
+    pub nets: Nets,
+    /// Limit and tuning.
+    pub terms: Terms,
+}
+
+/// A job that was accepted: no wire is overfull.
+#[derive(Clone, Debug, PartialEq, Eq)]
+pub struct Answer {
+    /// The iteration in which it settled.
+    pub iteration: u32,
+    /// The turns made, as many as the log has records.
+    pub turns: u64,
+    /// Every turn's path and cost.
+    pub log: Log,
+}
+
+impl Default for Block {
+    /// No nodes.
+    fn default() -> Block {
+        Block { kind: Vec::new(), capacity: Vec::new(), first_edge: vec![0], edge_target: Vec::new() }
+    }
+}
+
+impl Block {
+    /// Adds the next node with its switches, whose targets must rise.
+    pub fn add(&mut self, kind: u8, capacity: u8, targets: &[u16]) {
+        self.kind.push(kind);
+        self.capacity.push(capacity);
+        self.edge_target.extend(targets);
+        self.first_edge.push(self.edge_target.len() as u32);
+    }
+}
+
+impl Default for Nets {
+    /// No nets.
+    fn default() -> Nets {
+        Nets { source: Vec::new(), first_sink: vec![0], sink: Vec::new() }
+    }
+}
+
+impl Nets {
+    /// Adds the next net.
+    pub fn add(&mut self, source: u16, sinks: &[u16]) {
+        self.source.push(source);
+        self.sink.extend(sinks);
+        self.first_sink.push(self.sink.len() as u32);
+    }
+
+    /// A net's sinks; none where tables 6 and 7 don't have them.
+    pub fn sinks(&self, net: usize) -> &[u16] {
+        let place = |owner: usize| Some(*self.first_sink.get(owner)? as usize);
+        let row = place(net).zip(place(net + 1));
+        row.and_then(|(first, end)| self.sink.get(first..end)).unwrap_or(&[])
+    }
+}
+
+impl Default for Terms {
+    fn default() -> Terms {
+        Terms { limit: 100, first: 50, up: 3, down: 2, step: 1 }
+    }
+}
+
+impl Job {
+    /// Reads a job text. Refused by [`Refusal::Line`], which says what is wrong with which line.
+    ///
+    /// ```
+    /// let text = b"F,2,1,1,1\nN,0,0,1\nN,1,1,0\nE,0,1\nS,0,0\nT,0,1\n";
+    /// let refusal = arvumnao::Job::read(text).unwrap_err();
+    /// assert_eq!(refusal.to_string(), "line 3: capacity 0 is beyond 1 to 255: \"N,1,1,0\"");
+    /// assert_eq!(refusal.numbers(), [2, 3]);
+    /// ```
+    pub fn read(text: &[u8]) -> Result<Job, Refusal> {
+        let (mut kind, mut capacity) = (vec![0; NODES], vec![0; NODES]);
+        let (mut first_edge, mut edge_target) = (vec![0; NODES + 1], vec![0; EDGES]);
+        let (mut source, mut first_sink, mut sink) = (vec![0; NETS], vec![0; NETS + 1], vec![0; SINKS]);
+        let told = out(|out| {
+            raw::read(
+                text,
+                &mut kind,
+                &mut capacity,
+                &mut first_edge,
+                &mut edge_target,
+                &mut source,
+                &mut first_sink,
+                &mut sink,
+                out,
+            )
+        });
+        match *raw::refusal(&told) {
+            [] => {}
+            [number @ 1..=3, line] => return Err(Refusal::Line(LineFault::find(text, number, line))),
+            ref numbers => return Err(Refusal::unexpected(numbers)),
+        }
+        let &[nodes, edges, nets, sinks, limit, first, up, down, step] = raw::own::<9>(&told);
+        let (nodes, nets) = (nodes as usize, nets as usize);
+        kind.truncate(nodes);
+        capacity.truncate(nodes);
+        first_edge.truncate(nodes + 1);
+        edge_target.truncate(edges as usize);
+        source.truncate(nets);
+        first_sink.truncate(nets + 1);
+        sink.truncate(sinks as usize);
+        Ok(Job {
+            block: Block { kind, capacity, first_edge, edge_target },
+            nets: Nets { source, first_sink, sink },
+            terms: Terms {
+                limit: limit as u32,
+                first: first as u32,
+                up: up as u32,
+                down: down as u32,
+                step: step as u32,
+            },
+        })
+    }
+
+    /// Routes the job in a log as long as it needs. Refused by [`Refusal::Table`], [`Refusal::Unreachable`] or [`Refusal::Limit`].
+    ///
+    /// It begins with a log of 16,384 words and tries again with twice as many when one is full; the job's outcome and log are
+    /// those of any log that is long enough. A log needs at most limit × sinks × (nodes + 6) words.
+    pub fn route(&self) -> Result<Answer, Refusal> {
+        let mut words = LOG;
+        loop {
+            match self.route_in(words) {
+                Err(Refusal::LogFull { .. }) => words *= 2,
+                answer => return answer,
+            }
+        }
+    }
+
+    /// Routes the job in a log of so many words. Refused as [`Job::route`] is, and by [`Refusal::LogFull`].
+    pub fn route_in(&self, words: usize) -> Result<Answer, Refusal> {
+        let Job { block, nets, terms } = self;
+        let mut work = vec![0; 8 * block.kind.len()];
+        let mut log = vec![0; words];
+        let told = out(|out| {
+            raw::route(
+                &block.kind,
+                &block.capacity,
+                &block.first_edge,
+                &block.edge_target,
+                &nets.source,
+                &nets.first_sink,
+                &nets.sink,
+                terms.limit,
+                terms.first,
+                terms.up,
+                terms.down,
+                terms.step,
+                &mut work,
+                &mut log,
+                out,
+            )
+        });
+        let &[iteration, turns, used] = raw::own::<3>(&told);
+        log.truncate(used as usize);
+        let (iteration, log) = (iteration as u32, Log::of_run(log));
+        match *raw::refusal(&told) {
+            [] => Ok(Answer { iteration, turns, log }),
+            [5, table] => Err(Refusal::Table(TableFault::find(self, table as u32))),
+            [7, net, place] => Err(self.unreachable(net as u32, place as u32)),
+            [8, iteration, turns] => Err(Refusal::LogFull { iteration: iteration as u32, turns, log }),
+            [9, iteration, over] => {
+                Err(Refusal::Limit { iteration: iteration as u32, over: over as u32, turns, log })
+            }
+            ref numbers => Err(Refusal::unexpected(numbers)),
+        }
+    }
+
+    /// The refusal of a sink without a path.
+    fn unreachable(&self, net: u32, place: u32) -> Refusal {
+        let source = self.nets.source.get(net as usize).copied().unwrap_or_default();
+        let sink = self.nets.sinks(net as usize).get(place as usize).copied().unwrap_or_default();
+        Refusal::Unreachable { net, place, source, sink }
+    }
+}

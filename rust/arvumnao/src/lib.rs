@@ -1,0 +1,74 @@
+//! A router for a programmable logic block. It lets nets share wires at a price, raises the price where they crowd, and repeats
+//! until no wire is overfull. The code of the library that this crate calls is proved; the crate adds types, memory and sentences
+//! to it, and needs no other crate.
+//!
+//! From a job text to the routes text, and to the log of paths and costs:
+//!
+//! ```
+//! let text = "F,3,2,1,1\nN,0,0,1\nN,1,4,1\nN,2,1,1\nE,0,1\nE,1,2\nS,0,0\nT,0,2\n";
+//! let job = arvumnao::Job::read(text.as_bytes())?;
+//! let answer = job.route()?;
+//! assert_eq!(answer.log.routes()?, "R,1,1\nB,0,0,1\nB,0,1,2\n");
+//! for turn in &answer.log {
+//!     println!("{turn}"); // iteration 1, net 0: sink 2 joined at cost 4000 by 0 > 1 > 2
+//! }
+//! # Ok::<(), arvumnao::Refusal>(())
+//! ```
+//!
+//! A [`Job`] may also be put together from its tables, and is refused in a sentence that says what to change:
+//!
+//! ```
+//! let refusal = arvumnao::Job::read(b"F,3,2,1,1\nN,0,0,1\nN,1,54,1\n").unwrap_err();
+//! assert_eq!(refusal.to_string(), "line 3: kind 54 is beyond 0 to 53: \"N,1,54,1\"");
+//! ```
+//!
+//! A run that was stopped keeps its log, in the refusal:
+//!
+//! ```
+//! use arvumnao::{Job, Refusal};
+//!
+//! let mut job = Job::read(include_bytes!("../../../examples/job_b.txt"))?;
+//! job.terms.limit = 1;
+//! match job.route() {
+//!     Err(Refusal::Limit { over, log, .. }) => assert_eq!((over, log.records().count()), (1, 2)),
+//!     other => panic!("{other:?}"),
+//! }
+//! # Ok::<(), Refusal>(())
+//! ```
+//!
+//! `docs/FORMAT.md` describes the texts, the log and every refusal. [`raw`] has the library's calls themselves, for callers with
+//! memory of their own.
+//!
+//! Build the library first, by `rt staticlib capi`. It is looked for in `target/staticlib` two folders above this package, or in
+//! the folder that the environment variable `ARVUMNAO_LIB_DIR` names.
+//!
+//! Calls share nothing, so they may run at once in any number of threads. A call needs [`raw::STACK`] bytes of stack; Rust's
+//! threads have more, unless they are made with less.
+
+#![warn(missing_docs)]
+
+mod alone;
+mod job;
+pub mod kind;
+mod line;
+mod log;
+pub mod raw;
+mod refusal;
+mod table;
+
+pub use alone::{Congestion, Use};
+pub use job::{Answer, Block, Job, Nets, Terms, EDGES, NETS, NODES, SINKS};
+pub use log::{Log, Record, Records};
+pub use refusal::{LineFault, Refusal, TableFault};
+
+/// What a call tells in an `out` of its own.
+fn out(call: impl FnOnce(&mut [u64]) -> u32) -> [u64; raw::OUT] {
+    let mut out = [0; raw::OUT];
+    assert_eq!(call(&mut out), 1, "the library wants an out of another length: it is not of this version");
+    out
+}
+
+/// The examples of the README.
+#[cfg(doctest)]
+#[doc = include_str!("../../../README.md")]
+struct Readme;

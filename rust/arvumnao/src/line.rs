@@ -1,0 +1,246 @@
+//! Why the reader refused a line: the lines before it are sound, so they say what could have come there.
+
+use crate::job::{EDGES, NETS, NODES, SINKS};
+use crate::kind;
+use std::ops::RangeInclusive;
+
+/// The bytes of a line that are quoted.
+const QUOTED: usize = 80;
+
+/// The text's lines, each without its LF and whether it has one.
+fn lines(text: &[u8]) -> impl Iterator<Item = (&[u8], bool)> {
+    let whole = text.split_inclusive(|byte| *byte == b'\n');
+    whole.map(|line| line.strip_suffix(b"\n").map_or((line, false), |bytes| (bytes, true)))
+}
+
+/// The line of that number, from 1: its beginning if it is long, with bytes that don't print escaped. None where the text ends before it.
+pub(crate) fn quoted(text: &[u8], line: u64) -> Option<String> {
+    let (bytes, _) = lines(text).nth(usize::try_from(line.checked_sub(1)?).ok()?)?;
+    let dots = if bytes.len() > QUOTED { ".." } else { "" };
+    Some(format!("{}{dots}", bytes[..bytes.len().min(QUOTED)].escape_ascii()))
+}
+
+/// What is wrong with the line by that number, or nothing if it isn't the first faulty one.
+pub(crate) fn reason(text: &[u8], number: u64, line: u64) -> Option<String> {
+    let mut lines = lines(text);
+    let mut before = Before::default();
+    for _ in 1..line {
+        let (bytes, _) = lines.next()?;
+        before.take(*bytes.first()?, &numbers(bytes)?)?;
+    }
+    match number {
+        1 => before.shape(lines.next()),
+        2 => before.value(lines.next()?.0),
+        3 => before.order(lines.next()?.0),
+        _ => None,
+    }
+}
+
+/// The numbers of a line of sound shape.
+fn numbers(line: &[u8]) -> Option<Vec<u32>> {
+    let fields = line.get(1..)?.strip_prefix(b",")?;
+    fields.split(|byte| *byte == b',').map(|field| std::str::from_utf8(field).ok()?.parse().ok()).collect()
+}
+
+/// The names of a line's numbers.
+fn names(letter: u8) -> &'static [&'static str] {
+    match letter {
+        b'F' => &["nodes", "edges", "nets", "limit"],
+        b'P' => &["first", "up", "down", "step"],
+        b'N' => &["node", "kind", "capacity"],
+        b'E' => &["from", "to"],
+        b'S' | b'T' => &["net", "node"],
+        _ => &[],
+    }
+}
+
+/// What the lines before the faulty one give.
+#[derive(Default)]
+struct Before {
+    /// Nodes, edges, nets and limit; none before the F line.
+    counts: Option<[u32; 4]>,
+    tuned: bool,
+    kinds: Vec<u32>,
+    edges: usize,
+    last_edge: (u32, u32),
+    /// How many nets have begun, the source of the last and its sinks, and the sinks of all.
+    nets: u32,
+    source: u32,
+    sinks: Vec<u32>,
+    all_sinks: usize,
+}
+
+impl Before {
+    /// Takes a sound line.
+    fn take(&mut self, letter: u8, values: &[u32]) -> Option<()> {
+        match (letter, values) {
+            (b'F', &[nodes, edges, nets, limit]) => self.counts = Some([nodes, edges, nets, limit]),
+            (b'P', _) => self.tuned = true,
+            (b'N', &[_, kind, _]) => self.kinds.push(kind),
+            (b'E', &[from, to]) => {
+                self.edges += 1;
+                self.last_edge = (from, to);
+            }
+            (b'S', &[_, node]) => {
+                self.nets += 1;
+                self.source = node;
+                self.sinks.clear();
+            }
+            (b'T', &[_, node]) => {
+                self.sinks.push(node);
+                self.all_sinks += 1;
+            }
+            _ => return None,
+        }
+        Some(())
+    }
+
+    /// The letters that may come next, and the line that they begin in words.
+    fn due(&self) -> (&'static [u8], String) {
+        let Some([nodes, edges, nets, _]) = self.counts else { return (b"F", String::from("the F line")) };
+        let (node, last) = (self.kinds.len(), self.nets.saturating_sub(1));
+        if node == 0 && !self.tuned {
+            (b"PN", String::from("a P line or the N line of node 0"))
+        } else if node < nodes as usize {
+            (b"N", format!("the N line of node {node}"))
+        } else if self.edges < edges as usize {
+            (b"E", format!("E line {} of {edges}", self.edges + 1))
+        } else if self.nets == 0 {
+            (b"S", String::from("the S line of net 0"))
+        } else if self.sinks.is_empty() {
+            (b"T", format!("a T line of net {last}"))
+        } else if self.nets < nets {
+            (b"TS", format!("a T line of net {last} or the S line of net {}", self.nets))
+        } else {
+            (b"T", format!("a T line of net {last} or the end of the text"))
+        }
+    }
+
+    /// What is wrong with the shape of a line.
+    fn shape(&self, line: Option<(&[u8], bool)>) -> Option<String> {
+        let (letters, due) = self.due();
+        let Some((bytes, ended)) = line else {
+            return Some(format!("the text ends where {due} should come"));
+        };
+        let Some(letter) = bytes.first() else {
+            return Some(format!("an empty line where {due} should come"));
+        };
+        if !letters.contains(letter) {
+            return Some(format!("begins with {} where {due} should come", shown(*letter)));
+        }
+        let names = names(*letter);
+        let letter = char::from(*letter);
+        let Some(fields) = bytes[1..].strip_prefix(b",") else {
+            return Some(format!("the letter {letter} is not followed by a comma"));
+        };
+        let fields: Vec<&[u8]> = fields.split(|byte| *byte == b',').collect();
+        if let Some(fault) = fields.iter().zip(names).find_map(|(field, name)| digits(field, name)) {
+            return Some(fault);
+        }
+        if fields.len() != names.len() {
+            let (has, takes) = (fields.len(), names.len());
+            return Some(format!("has {has} numbers, where {letter} takes {takes}: {}", names.join(", ")));
+        }
+        (!ended).then(|| String::from("the last line is not ended by LF"))
+    }
+
+    /// Which value of a line is beyond its bounds.
+    fn value(&self, line: &[u8]) -> Option<String> {
+        let values = numbers(line)?;
+        let letter = *line.first()?;
+        let bounds = self.bounds(letter, &values)?;
+        let mut listed = names(letter).iter().zip(values).zip(bounds);
+        let ((name, value), bounds) = listed.find(|((_, value), bounds)| !bounds.contains(value))?;
+        Some(format!("{name} {value} is beyond {} to {}", bounds.start(), bounds.end()))
+    }
+
+    /// The bounds of a line's values.
+    fn bounds(&self, letter: u8, values: &[u32]) -> Option<Vec<RangeInclusive<u32>>> {
+        let [nodes, _, nets, _] = self.counts.unwrap_or_default();
+        let (node, net) = (0..=nodes.saturating_sub(1), 0..=nets.saturating_sub(1));
+        Some(match letter {
+            b'F' => vec![1..=NODES as u32, 0..=EDGES as u32, 1..=NETS as u32, 1..=100],
+            // where down is at fault itself, up has the least bound that there is
+            b'P' => vec![
+                0..=1_000,
+                *values.get(2).filter(|down| (1..=4).contains(*down)).unwrap_or(&1)..=8,
+                1..=4,
+                1..=2,
+            ],
+            b'N' => vec![node, 0..=kind::MOST.into(), 1..=255],
+            b'E' => vec![node.clone(), node],
+            b'S' | b'T' => vec![net, node],
+            _ => return None,
+        })
+    }
+
+    /// What is wrong with a line's order or number.
+    fn order(&self, line: &[u8]) -> Option<String> {
+        let values = numbers(line)?;
+        match (*line.first()?, &values[..]) {
+            (b'N', [node, ..]) => Some(format!("node {node} out of order: node {} is due", self.kinds.len())),
+            (b'E', &[from, to]) => self.edge(from, to),
+            (b'S', &[net, _]) if net != self.nets => {
+                Some(format!("net {net} out of order: net {} is due", self.nets))
+            }
+            (b'S', &[_, node]) => self.pin(node, "source", "0 or 2"),
+            (b'T', &[net, _]) if net + 1 != self.nets => Some(format!(
+                "net {net} is not that of the S line above, net {}",
+                self.nets.saturating_sub(1)
+            )),
+            (b'T', &[_, node]) if node == self.source => Some(format!("node {node} is the net's own source")),
+            (b'T', &[_, node]) if self.sinks.contains(&node) => {
+                Some(format!("node {node} is a sink of this net already"))
+            }
+            (b'T', _) if self.all_sinks >= SINKS => Some(format!("a job has at most {SINKS} sinks")),
+            (b'T', &[_, node]) => self.pin(node, "sink", "1 or 3"),
+            _ => None,
+        }
+    }
+
+    fn edge(&self, from: u32, to: u32) -> Option<String> {
+        let (last_from, last_to) = self.last_edge;
+        if from == to {
+            Some(format!("an edge from node {from} to itself"))
+        } else if (from, to) == self.last_edge {
+            Some(String::from("the edge of the line before again"))
+        } else if self.edges > 0 && (from, to) < self.last_edge {
+            Some(format!("edges must rise: the line before has {last_from} to {last_to}"))
+        } else {
+            None
+        }
+    }
+
+    /// A pin of a kind that doesn't serve.
+    fn pin(&self, node: u32, role: &str, kinds: &str) -> Option<String> {
+        let kind = *self.kinds.get(node as usize)?;
+        let name = kind::name(u8::try_from(kind).ok()?);
+        Some(format!("node {node} is {name}, of kind {kind}; a {role} must be of kind {kinds}"))
+    }
+}
+
+/// What is wrong with a number's digits.
+fn digits(field: &[u8], name: &str) -> Option<String> {
+    if field.contains(&b'\r') {
+        return Some(format!("a carriage return after {name}: lines end in LF alone"));
+    }
+    if let Some(byte) = field.iter().find(|byte| !byte.is_ascii_digit()) {
+        return Some(format!("{} in {name}, where only digits may stand", shown(*byte)));
+    }
+    match field {
+        [] => Some(format!("{name} has no digits")),
+        [b'0', _, ..] => Some(format!("{name} has a leading zero")),
+        _ if field.len() > 6 => Some(format!("{name} has more than 6 digits")),
+        _ => None,
+    }
+}
+
+/// A byte as a sentence shows it.
+fn shown(byte: u8) -> String {
+    match byte {
+        b'\r' => String::from("a carriage return"),
+        b' ' => String::from("a blank"),
+        _ if byte.is_ascii_graphic() => format!("'{}'", char::from(byte)),
+        _ => format!("byte {byte}"),
+    }
+}

@@ -1,0 +1,123 @@
+//! The log of a run: a record for each turn.
+
+use crate::refusal::Refusal;
+use crate::{out, raw};
+use std::fmt;
+
+/// A log: whole records, one after the other.
+#[derive(Clone, Debug, Default, PartialEq, Eq)]
+pub struct Log {
+    words: Vec<u32>,
+}
+
+/// A turn: in an iteration, a net's tree was joined to one of its sinks.
+///
+/// ```
+/// # let job = arvumnao::Job::read(include_bytes!("../../../examples/job_b.txt"))?;
+/// let answer = job.route()?;
+/// let turn = answer.log.records().last().unwrap();
+/// assert_eq!((turn.iteration, turn.net, turn.sink, turn.cost), (2, 1, 5, 6000));
+/// assert_eq!(turn.path, [1, 2, 5]);
+/// assert_eq!(turn.to_string(), "iteration 2, net 1: sink 5 joined at cost 6000 by 1 > 2 > 5");
+/// # Ok::<(), arvumnao::Refusal>(())
+/// ```
+#[derive(Clone, Copy, Debug, PartialEq, Eq)]
+pub struct Record<'l> {
+    /// The iteration, from 1.
+    pub iteration: u32,
+    /// The net.
+    pub net: u32,
+    /// The sink that the turn joined.
+    pub sink: u32,
+    /// The path's cost: the sum of its nodes' prices, the first node left out, which was in the tree.
+    pub cost: u64,
+    /// The path's nodes, from the tree to the sink.
+    pub path: &'l [u32],
+}
+
+/// The records of a log, in order.
+#[derive(Clone, Debug)]
+pub struct Records<'l> {
+    rest: &'l [u32],
+}
+
+impl Log {
+    /// The words that a run used, which are whole records.
+    pub(crate) fn of_run(words: Vec<u32>) -> Log {
+        Log { words }
+    }
+
+    /// A stored log. Refused by [`Refusal::Record`] unless it is one or more sound records.
+    pub fn from_words(words: &[u32]) -> Result<Log, Refusal> {
+        needed(words)?;
+        Ok(Log { words: words.to_vec() })
+    }
+
+    /// The log's words, for storing.
+    pub fn words(&self) -> &[u32] {
+        &self.words
+    }
+
+    /// The turns, in order.
+    pub fn records(&self) -> Records<'_> {
+        Records { rest: &self.words }
+    }
+
+    /// The routes text. Refused by [`Refusal::Record`] where the log is empty.
+    ///
+    /// The routes of a run that was refused are worth nothing: its wires are overfull, or nets are missing.
+    pub fn routes(&self) -> Result<String, Refusal> {
+        let mut buffer = vec![0; needed(&self.words)?];
+        let told = out(|out| raw::write(&self.words, &mut buffer, out));
+        match raw::refusal(&told) {
+            [] => {}
+            numbers => return Err(Refusal::unexpected(numbers)),
+        }
+        let [bytes] = raw::own(&told);
+        buffer.truncate(*bytes as usize);
+        Ok(buffer.into_iter().map(char::from).collect())
+    }
+}
+
+/// The bytes that the routes text of a log needs: asked with an empty buffer, which is always too short.
+fn needed(words: &[u32]) -> Result<usize, Refusal> {
+    let told = out(|out| raw::write(words, &mut [], out));
+    match *raw::refusal(&told) {
+        [11, needed] => Ok(needed as usize),
+        [10, word] => Err(Refusal::Record { word }),
+        ref numbers => Err(Refusal::unexpected(numbers)),
+    }
+}
+
+impl<'l> Iterator for Records<'l> {
+    type Item = Record<'l>;
+
+    fn next(&mut self) -> Option<Record<'l>> {
+        let &[iteration, net, sink, low, high, nodes, ref rest @ ..] = self.rest else { return None };
+        let path = rest.get(..nodes as usize)?;
+        self.rest = &rest[path.len()..];
+        let cost = u64::from(high) << 32 | u64::from(low);
+        Some(Record { iteration, net, sink, cost, path })
+    }
+}
+
+impl<'l> IntoIterator for &'l Log {
+    type Item = Record<'l>;
+    type IntoIter = Records<'l>;
+
+    fn into_iter(self) -> Records<'l> {
+        self.records()
+    }
+}
+
+impl fmt::Display for Record<'_> {
+    fn fmt(&self, f: &mut fmt::Formatter<'_>) -> fmt::Result {
+        let Record { iteration, net, sink, cost, path } = self;
+        let path: Vec<String> = path.iter().map(u32::to_string).collect();
+        write!(
+            f,
+            "iteration {iteration}, net {net}: sink {sink} joined at cost {cost} by {}",
+            path.join(" > ")
+        )
+    }
+}

@@ -1,0 +1,123 @@
+//! The library's calls as they are: every slice is lent by the caller, `out` too, and the numbers come back in it.
+//!
+//! Each call may be lent slices of any length with anything in them. It returns 1, or 0 where `out` has fewer than [`OUT`]
+//! entries; then it has done nothing. `include/arvumnao.h` says what each call tells and leaves.
+//!
+//! A call needs [`STACK`] bytes of stack.
+
+/// The entries of `out` that a call fills: the refusal's number and its two further numbers, then the call's own numbers.
+pub const OUT: usize = 16;
+
+/// The place in `out` of a call's first own number.
+pub const OWN: usize = 3;
+
+/// Bytes of stack that are enough for every call.
+pub const STACK: usize = 131_072;
+
+/// Declares a call of the library and a function that lends it slices: the parameters are written once. A slice goes as its
+/// pointer and its count.
+macro_rules! call {
+    ($(#[$doc:meta])* fn $name:ident = $symbol:ident($($parameters:tt)*)) => {
+        call!(@ [$(#[$doc])*] $name $symbol [] [] [] $($parameters)*);
+    };
+    (@ $doc:tt $name:ident $symbol:ident [$($rust:tt)*] [$($c:tt)*] [$($passed:tt)*] $lent:ident: &mut [$entry:ty], $($rest:tt)*) => {
+        call!(@ $doc $name $symbol [$($rust)* $lent: &mut [$entry],] [$($c)* $lent: *mut $entry, _: usize,]
+            [$($passed)* $lent.as_mut_ptr(), $lent.len(),] $($rest)*);
+    };
+    (@ $doc:tt $name:ident $symbol:ident [$($rust:tt)*] [$($c:tt)*] [$($passed:tt)*] $lent:ident: &[$entry:ty], $($rest:tt)*) => {
+        call!(@ $doc $name $symbol [$($rust)* $lent: &[$entry],] [$($c)* $lent: *const $entry, _: usize,]
+            [$($passed)* $lent.as_ptr(), $lent.len(),] $($rest)*);
+    };
+    (@ $doc:tt $name:ident $symbol:ident [$($rust:tt)*] [$($c:tt)*] [$($passed:tt)*] $number:ident: u32, $($rest:tt)*) => {
+        call!(@ $doc $name $symbol [$($rust)* $number: u32,] [$($c)* $number: u32,] [$($passed)* $number,] $($rest)*);
+    };
+    (@ [$($doc:tt)*] $name:ident $symbol:ident [$($rust:tt)*] [$($c:tt)*] [$($passed:tt)*]) => {
+        $($doc)*
+        #[allow(clippy::too_many_arguments)]
+        pub fn $name($($rust)*) -> u32 {
+            extern "C" {
+                fn $symbol($($c)*) -> u32;
+            }
+            // SAFETY: each pointer goes with the count of the slice it is taken from, the slices are lent for the whole call, those
+            // written to are lent mutably and so apart from all others, and the library keeps none of them.
+            unsafe { $symbol($($passed)*) }
+        }
+    };
+}
+
+call! {
+    /// The price of a node. Own number: the price.
+    fn price = arvumnao_price(kind: u32, factor: u32, others: u32, capacity: u32, history: u32, out: &mut [u64],)
+}
+
+call! {
+    /// The distances of all nodes from those marked. No own numbers.
+    fn search = arvumnao_search(
+        kind: &[u8],
+        capacity: &[u8],
+        first_edge: &[u32],
+        edge_target: &[u16],
+        factor: u32,
+        work: &mut [u64],
+        history: &[u32],
+        others: &[u16],
+        in_tree: &[u8],
+        out: &mut [u64],
+    )
+}
+
+call! {
+    /// Routes a job. Own numbers: iteration, turns, words used of the log.
+    fn route = arvumnao_route(
+        kind: &[u8],
+        capacity: &[u8],
+        first_edge: &[u32],
+        edge_target: &[u16],
+        source: &[u16],
+        first_sink: &[u32],
+        sink: &[u16],
+        limit: u32,
+        first: u32,
+        up: u32,
+        down: u32,
+        step: u32,
+        work: &mut [u64],
+        log: &mut [u32],
+        out: &mut [u64],
+    )
+}
+
+call! {
+    /// Reads a job text. Own numbers: nodes, edges, nets, sinks, limit, first, up, down, step.
+    fn read = arvumnao_read(
+        text: &[u8],
+        kind: &mut [u8],
+        capacity: &mut [u8],
+        first_edge: &mut [u32],
+        edge_target: &mut [u16],
+        source: &mut [u16],
+        first_sink: &mut [u32],
+        sink: &mut [u16],
+        out: &mut [u64],
+    )
+}
+
+call! {
+    /// Writes the routes text of a log. Own number: the bytes written.
+    fn write = arvumnao_write(log: &[u32], buffer: &mut [u8], out: &mut [u64],)
+}
+
+/// The refusal's numbers in `out`, as many as that refusal has; none where nothing was refused.
+pub fn refusal(out: &[u64; OUT]) -> &[u64] {
+    match out[0] {
+        0 => &[],
+        7..=9 => &out[..3],
+        _ => &out[..2],
+    }
+}
+
+/// The call's own numbers in `out`, the first so many of them.
+pub fn own<const COUNT: usize>(out: &[u64; OUT]) -> &[u64; COUNT] {
+    const { assert!(OWN + COUNT <= OUT, "no call has so many numbers") };
+    out[OWN..].first_chunk().expect("asserted above")
+}

@@ -1,0 +1,176 @@
+//! Why a call was refused, in numbers and in words.
+
+use crate::job::Job;
+use crate::log::Log;
+use crate::{line, table};
+use std::error::Error;
+use std::fmt;
+
+/// Why a call was refused. Its `Display` is a sentence that says what to change, [`Refusal::numbers`] are the numbers that the
+/// program prints after `X,`.
+///
+/// `docs/FORMAT.md` has the table of all refusals. Those that this crate's calls can't come to are left out: they lend tables, work memory
+/// and buffers that are long enough.
+#[derive(Clone, Debug, PartialEq, Eq)]
+#[non_exhaustive]
+pub enum Refusal {
+    /// 1, 2, 3: a line of a job text is faulty.
+    Line(LineFault),
+    /// 5: a table breaks its rule.
+    Table(TableFault),
+    /// 7: a sink has no path from its net's source.
+    Unreachable {
+        /// The net.
+        net: u32,
+        /// The sink's place among the net's sinks, from 0.
+        place: u32,
+        /// The net's source node.
+        source: u16,
+        /// The sink's node.
+        sink: u16,
+    },
+    /// 8: the log had no room for the next turn.
+    LogFull {
+        /// The iteration of the turn that didn't fit.
+        iteration: u32,
+        /// The turns made.
+        turns: u64,
+        /// Their records.
+        log: Log,
+    },
+    /// 9: the limit of iterations was reached with nodes over capacity.
+    Limit {
+        /// The last iteration, which is the limit.
+        iteration: u32,
+        /// How many nodes were over capacity after it.
+        over: u32,
+        /// The turns made.
+        turns: u64,
+        /// Their records.
+        log: Log,
+    },
+    /// 10: a stored log is empty or has an unsound record.
+    Record {
+        /// The place of that record's first word.
+        word: u64,
+    },
+    /// 13: a number given to the price or the search is beyond its bounds.
+    Number {
+        /// Its place among the price's five numbers, or the node in the search; the node count for the search's factor.
+        place: u64,
+        /// What is wrong with it.
+        reason: String,
+    },
+    /// A refusal that the call shouldn't come to: the library is of another version than this crate.
+    Unexpected(Vec<u64>),
+}
+
+/// What is wrong with a line of a job text.
+#[derive(Clone, Debug, PartialEq, Eq)]
+pub struct LineFault {
+    /// 1 for its shape, 2 for a value beyond its bounds, 3 for order or number.
+    pub number: u64,
+    /// The line, from 1.
+    pub line: u64,
+    /// The line itself without its LF, bytes that don't print escaped; none where the text ends before it.
+    pub quoted: Option<String>,
+    /// What is wrong with it. None only if the line is not the first faulty one.
+    pub reason: Option<String>,
+}
+
+/// What is wrong with a job's tables.
+#[derive(Clone, Debug, PartialEq, Eq)]
+pub struct TableFault {
+    /// The lowest table that breaks its rule, 1 to 7, or 8 for the terms.
+    pub table: u32,
+    /// The first entry that breaks it. None only if none does.
+    pub reason: Option<String>,
+}
+
+impl Refusal {
+    /// The refusal's number and its further numbers, as `docs/FORMAT.md` lists them.
+    pub fn numbers(&self) -> Vec<u64> {
+        match self {
+            Refusal::Line(fault) => vec![fault.number, fault.line],
+            Refusal::Table(fault) => vec![5, fault.table.into()],
+            Refusal::Unreachable { net, place, .. } => vec![7, (*net).into(), (*place).into()],
+            Refusal::LogFull { iteration, turns, .. } => vec![8, (*iteration).into(), *turns],
+            Refusal::Limit { iteration, over, .. } => vec![9, (*iteration).into(), (*over).into()],
+            Refusal::Record { word } => vec![10, *word],
+            Refusal::Number { place, .. } => vec![13, *place],
+            Refusal::Unexpected(numbers) => numbers.clone(),
+        }
+    }
+
+    /// A refusal that the call's slices leave no room for.
+    pub(crate) fn unexpected(numbers: &[u64]) -> Refusal {
+        Refusal::Unexpected(numbers.to_vec())
+    }
+}
+
+impl LineFault {
+    /// What is wrong with the line that the reader, or the program, refused by these two numbers.
+    pub fn find(text: &[u8], number: u64, line: u64) -> LineFault {
+        LineFault { number, line, quoted: line::quoted(text, line), reason: line::reason(text, number, line) }
+    }
+}
+
+impl TableFault {
+    /// What is wrong with the table that the router refused.
+    pub fn find(job: &Job, table: u32) -> TableFault {
+        TableFault { table, reason: table::reason(job, table) }
+    }
+}
+
+impl fmt::Display for LineFault {
+    fn fmt(&self, f: &mut fmt::Formatter<'_>) -> fmt::Result {
+        let general = match self.number {
+            1 => "wrong shape",
+            2 => "a value beyond its bounds",
+            _ => "wrong order or number",
+        };
+        write!(f, "line {}: {}", self.line, self.reason.as_deref().unwrap_or(general))?;
+        self.quoted.as_ref().map_or(Ok(()), |quoted| write!(f, ": \"{quoted}\""))
+    }
+}
+
+impl fmt::Display for TableFault {
+    fn fmt(&self, f: &mut fmt::Formatter<'_>) -> fmt::Result {
+        let (name, rule) = table::NAMES_AND_RULES[(self.table as usize).saturating_sub(1).min(7)];
+        match &self.reason {
+            Some(reason) => write!(f, "table {} ({name}): {reason}", self.table),
+            None => write!(f, "table {} ({name}) breaks its rule: {rule}", self.table),
+        }
+    }
+}
+
+impl fmt::Display for Refusal {
+    fn fmt(&self, f: &mut fmt::Formatter<'_>) -> fmt::Result {
+        match self {
+            Refusal::Line(fault) => fault.fmt(f),
+            Refusal::Table(fault) => fault.fmt(f),
+            Refusal::Unreachable { net, place, source, sink } => write!(
+                f,
+                "net {net}: no path leads from its source, node {source}, to sink {sink}, at place {place} of its sinks (from 0)"
+            ),
+            Refusal::LogFull { iteration, turns, .. } => write!(
+                f,
+                "the log is full after {turns} turns, in iteration {iteration}: a longer log lets the job go on"
+            ),
+            Refusal::Limit { iteration, over, .. } => write!(
+                f,
+                "not settled by iteration {iteration}, the limit: {over} node{} over capacity; raise the limit, tune the \
+                 tariff or give those nodes room",
+                if *over == 1 { " is" } else { "s are" }
+            ),
+            Refusal::Record { word: 0 } => write!(f, "the log is empty or its first record is unsound"),
+            Refusal::Record { word } => write!(f, "the log's record at word {word} is unsound"),
+            Refusal::Number { reason, .. } => f.write_str(reason),
+            Refusal::Unexpected(numbers) => {
+                write!(f, "refused by {numbers:?}: the library is not of this version")
+            }
+        }
+    }
+}
+
+impl Error for Refusal {}

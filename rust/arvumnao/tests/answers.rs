@@ -1,0 +1,97 @@
+//! Jobs that are accepted, and what a caller does with the answer.
+
+use arvumnao::{kind, raw, Job, Log, Terms};
+use std::thread;
+
+const JOB_B: &[u8] = include_bytes!("../../../examples/job_b.txt");
+
+#[test]
+fn job_b() {
+    let job = Job::read(JOB_B).unwrap();
+    assert_eq!(job.terms, Terms { limit: 2, ..Terms::default() });
+    assert_eq!((job.nets.sinks(0), job.nets.sinks(1), job.nets.sinks(2)), (&[4][..], &[5][..], &[][..]));
+    let answer = job.route().unwrap();
+    assert_eq!((answer.iteration, answer.turns, answer.log.words().len()), (2, 4, 36));
+    assert_eq!(answer.log.words()[18..27], [2, 0, 4, 6000, 0, 3, 0, 3, 4]);
+    assert_eq!(job.route_in(36).unwrap(), answer);
+}
+
+/// A chain of the longest wires between a source and a sink, for so many nets: the log is longer than the first that is tried.
+fn chains(nets: u16, length: u16) -> Job {
+    let mut job = Job { terms: Terms { limit: 1, ..Terms::default() }, ..Job::default() };
+    for net in 0..nets {
+        let first = net * (length + 2);
+        job.block.add(kind::OUTPUT_PIN, 1, &[first + 1]);
+        for node in first + 1..=first + length {
+            job.block.add(kind::wire(50), 1, &[node + 1]);
+        }
+        job.block.add(kind::INPUT_PIN, 1, &[]);
+        job.nets.add(first, &[first + length + 1]);
+    }
+    job
+}
+
+#[test]
+fn the_log_grows_as_the_job_needs() {
+    // a job of one net of 4,096 nodes, and each of its nodes in the path
+    let answer = chains(1, 4_094).route().unwrap();
+    assert_eq!(answer.log.words().len(), 6 + 4_096);
+    assert_eq!(answer.log.records().next().unwrap().cost, 4_094 * 100_000 + 1_900);
+
+    // 128 sinks, each of another source at the end of one wire row: 128 records of up to 1,025 nodes
+    let mut job = chains(1, 1_022);
+    for net in 1..128 {
+        job.block.capacity.fill(255);
+        job.block.kind[net] = kind::OUTPUT_PIN;
+        job.nets.add(net as u16, &[1_023]);
+    }
+    let answer = job.route().unwrap();
+    assert!(answer.log.words().len() > 4 * 16_384);
+    assert_eq!(answer.turns, 128);
+    assert_eq!(answer.log.records().count(), 128);
+    assert_eq!(job.route_in(answer.log.words().len()).unwrap(), answer);
+}
+
+/// A cost of more than 32 bits is put together from its two words.
+#[test]
+fn costs_over_32_bits() {
+    let words = [1, 0, 1, 7, 3, 2, 0, 1];
+    let log = Log::from_words(&words).unwrap();
+    assert_eq!(log.records().next().unwrap().cost, 3 << 32 | 7);
+}
+
+/// Calls share nothing: they run at once, in threads with little more stack than the library says.
+#[test]
+fn threads() {
+    let expected = Job::read(JOB_B).unwrap().route().unwrap();
+    let run = |_| {
+        let run = || Job::read(JOB_B).unwrap().route().unwrap();
+        thread::Builder::new().stack_size(raw::STACK + 65_536).spawn(run).unwrap()
+    };
+    let threads: Vec<_> = (0..8).map(run).collect();
+    threads.into_iter().for_each(|thread| assert_eq!(thread.join().unwrap(), expected));
+}
+
+/// A short `out` is told by the returned 0, and nothing is done.
+#[test]
+fn raw_calls() {
+    let mut out = [7; raw::OUT - 1];
+    assert_eq!((raw::price(4, 0, 0, 1, 1, &mut out), out), (0, [7; raw::OUT - 1]));
+    let mut out = [7; raw::OUT + 1];
+    assert_eq!(raw::price(4, 0, 0, 1, 1, &mut out), 1);
+    assert_eq!((out[raw::OWN], out[raw::OUT]), (2000, 7));
+}
+
+/// A job written by hand after docs/FORMAT.md, with a P line, nets of several sinks, pins and long wires. Its routes and costs
+/// were worked out by hand.
+#[test]
+fn a_job_by_hand() {
+    let job = Job::read(include_bytes!("../../../examples/job_tuned.txt")).unwrap();
+    let answer = job.route().unwrap();
+    let routes = "R,3,15\nB,0,0,5\nB,0,5,6\nB,0,5,7\nB,1,1,4\nB,1,4,9\nB,2,2,3\nB,2,3,8\nB,2,3,7\n";
+    assert_eq!(answer.log.routes().unwrap(), routes);
+    let costs: Vec<u64> = answer.log.records().map(|turn| turn.cost).collect();
+    assert_eq!(costs[..5], [3900, 2000, 102_000, 3900, 2000]);
+    assert_eq!(costs[5..10], [9900, 2000, 102_000, 9900, 2000]);
+    assert_eq!(costs[10..], [11_900, 2000, 102_000, 7900, 2000]);
+}

@@ -1,0 +1,78 @@
+//! The examples in the documents: each block of a job is read and routed, and the blocks after it must be its log, its routes text or its
+//! refusal.
+
+use arvumnao::{Job, Log, Refusal};
+
+/// The fenced blocks of a document: the word after the fence, and the lines.
+fn blocks(document: &str) -> Vec<(&str, String)> {
+    let mut blocks = Vec::new();
+    let mut open: Option<(&str, String)> = None;
+    for line in document.lines() {
+        match (line.strip_prefix("```"), &mut open) {
+            (Some(_), Some(_)) => blocks.extend(open.take()),
+            (Some(word), None) => open = Some((word, String::new())),
+            (None, Some((_, text))) => *text += &format!("{line}\n"),
+            (None, None) => {}
+        }
+    }
+    assert!(open.is_none(), "a block is not closed");
+    blocks
+}
+
+/// A log as the documents show it, a record a line.
+fn shown(log: &Log) -> String {
+    let record = |turn: arvumnao::Record| {
+        let (low, high) = (turn.cost as u32, (turn.cost >> 32) as u32);
+        let head = [turn.iteration, turn.net, turn.sink, low, high, turn.path.len() as u32];
+        let words: Vec<String> = head.iter().chain(turn.path).map(u32::to_string).collect();
+        words.join(",") + "\n"
+    };
+    log.records().map(record).collect()
+}
+
+/// The refusal as the program prints it.
+fn x_line(refusal: &Refusal) -> String {
+    refusal.numbers().iter().fold(String::from("X"), |line, number| format!("{line},{number}")) + "\n"
+}
+
+/// Tests a document's jobs, and counts the blocks that were compared.
+fn jobs(document: &str) -> usize {
+    let mut answer = None;
+    let mut compared = 0;
+    for (word, text) in blocks(document) {
+        let expected = match (word, &answer) {
+            ("job", _) => {
+                answer = Some(Job::read(text.as_bytes()).and_then(|job| job.route()));
+                continue;
+            }
+            ("log", Some(Ok(answer))) => shown(&answer.log),
+            ("routes", Some(Ok(answer))) => answer.log.routes().unwrap(),
+            ("refused", Some(Err(refusal))) => x_line(refusal),
+            ("sentence", Some(Err(refusal))) => format!("{refusal}\n"),
+            ("log" | "routes" | "refused" | "sentence", _) => panic!("{text}\nis not the answer {answer:?}"),
+            _ => continue,
+        };
+        assert_eq!(text, expected);
+        compared += 1;
+    }
+    compared
+}
+
+fn document(path: &str) -> String {
+    std::fs::read_to_string(format!("{}/../../{path}", env!("CARGO_MANIFEST_DIR"))).unwrap()
+}
+
+#[test]
+fn format() {
+    assert_eq!(jobs(&document("docs/FORMAT.md")), 6);
+}
+
+/// The jobs shown are the files named with them.
+#[test]
+fn job_b_is_the_example() {
+    let job_b = document("examples/job_b.txt");
+    for path in ["README.md", "docs/FORMAT.md"] {
+        let document = document(path);
+        assert!(blocks(&document).contains(&("job", job_b.clone())), "{path}");
+    }
+}

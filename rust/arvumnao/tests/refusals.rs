@@ -1,0 +1,273 @@
+//! Every refusal in its numbers and its sentence.
+
+use arvumnao::{kind, Block, Congestion, Job, Log, Refusal, Terms, Use};
+
+const JOB_B: &str = include_str!("../../../examples/job_b.txt");
+
+/// Job B with one line put in the place of another.
+fn changed(from: &str, to: &str) -> String {
+    let text = JOB_B.replace(from, to);
+    assert_ne!(text, JOB_B);
+    text
+}
+
+fn refused(text: &str, numbers: [u64; 2], sentence: &str) {
+    let refusal = Job::read(text.as_bytes()).unwrap_err();
+    assert_eq!((refusal.numbers(), refusal.to_string()), (numbers.to_vec(), String::from(sentence)));
+}
+
+#[test]
+fn shapes() {
+    refused("", [1, 1], "line 1: the text ends where the F line should come");
+    refused("F,6,6,2,2", [1, 1], "line 1: the last line is not ended by LF: \"F,6,6,2,2\"");
+    refused(
+        "F,6,6,2,2\n",
+        [1, 2],
+        "line 2: the text ends where a P line or the N line of node 0 should come",
+    );
+    refused(
+        &changed("N,2,4,1\n", "\n"),
+        [1, 4],
+        "line 4: an empty line where the N line of node 2 should come: \"\"",
+    );
+    refused(
+        &changed("E,1,2\n", "T,1,2\n"),
+        [1, 10],
+        "line 10: begins with 'T' where E line 3 of 6 should come: \"T,1,2\"",
+    );
+    refused(
+        &changed("T,0,4\nS,1,1\n", "S,1,1\n"),
+        [1, 15],
+        "line 15: begins with 'S' where a T line of net 0 should come: \"S,1,1\"",
+    );
+    refused(
+        &changed("T,1,5\n", "T,1,5\nS,2,0\n"),
+        [1, 18],
+        "line 18: begins with 'S' where a T line of net 1 or the end of the text should come: \"S,2,0\"",
+    );
+    refused(
+        &changed("S,1,1\nT,1,5\n", ""),
+        [1, 16],
+        "line 16: the text ends where a T line of net 0 or the S line of net 1 should come",
+    );
+    refused(
+        &changed("T,0,4\n", "T,0,4\r\n"),
+        [1, 15],
+        "line 15: a carriage return after node: lines end in LF alone: \"T,0,4\\r\"",
+    );
+    refused(
+        &changed("N,2,4,1\n", "N,2, 4,1\n"),
+        [1, 4],
+        "line 4: a blank in kind, where only digits may stand: \"N,2, 4,1\"",
+    );
+    refused(&changed("N,2,4,1\n", "N,2,04,1\n"), [1, 4], "line 4: kind has a leading zero: \"N,2,04,1\"");
+    refused(&changed("N,2,4,1\n", "N,2,,1\n"), [1, 4], "line 4: kind has no digits: \"N,2,,1\"");
+    refused(
+        &changed("N,2,4,1\n", "N,2,4,1000000\n"),
+        [1, 4],
+        "line 4: capacity has more than 6 digits: \"N,2,4,1000000\"",
+    );
+    refused(
+        &changed("N,2,4,1\n", "N,2,4\n"),
+        [1, 4],
+        "line 4: has 2 numbers, where N takes 3: node, kind, capacity: \"N,2,4\"",
+    );
+    refused(
+        &changed("N,2,4,1\n", "N2,4,1\n"),
+        [1, 4],
+        "line 4: the letter N is not followed by a comma: \"N2,4,1\"",
+    );
+}
+
+#[test]
+fn a_long_line_is_quoted_in_part() {
+    let text = "F,".repeat(50);
+    let refusal = Job::read(text.as_bytes()).unwrap_err();
+    let quoted = format!("\"{}..\"", "F,".repeat(40));
+    assert_eq!(refusal.to_string(), format!("line 1: 'F' in nodes, where only digits may stand: {quoted}"));
+}
+
+#[test]
+fn values() {
+    refused(
+        &changed("F,6,6,2,2\n", "F,6,6,2,101\n"),
+        [2, 1],
+        "line 1: limit 101 is beyond 1 to 100: \"F,6,6,2,101\"",
+    );
+    refused(
+        &changed("F,6,6,2,2\n", "F,4097,6,2,2\n"),
+        [2, 1],
+        "line 1: nodes 4097 is beyond 1 to 4096: \"F,4097,6,2,2\"",
+    );
+    refused(&changed("N,2,4,1\n", "N,2,4,0\n"), [2, 4], "line 4: capacity 0 is beyond 1 to 255: \"N,2,4,0\"");
+    refused(&changed("N,2,4,1\n", "N,2,54,1\n"), [2, 4], "line 4: kind 54 is beyond 0 to 53: \"N,2,54,1\"");
+    refused(&changed("E,1,2\n", "E,1,6\n"), [2, 10], "line 10: to 6 is beyond 0 to 5: \"E,1,6\"");
+    refused(&changed("S,1,1\n", "S,2,1\n"), [2, 16], "line 16: net 2 is beyond 0 to 1: \"S,2,1\"");
+    let tuned = |line: &str| changed("F,6,6,2,2\n", &format!("F,6,6,2,2\n{line}\n"));
+    refused(&tuned("P,50,2,3,1"), [2, 2], "line 2: up 2 is beyond 3 to 8: \"P,50,2,3,1\"");
+    refused(&tuned("P,50,3,5,1"), [2, 2], "line 2: down 5 is beyond 1 to 4: \"P,50,3,5,1\"");
+    refused(&tuned("P,50,3,2,3"), [2, 2], "line 2: step 3 is beyond 1 to 2: \"P,50,3,2,3\"");
+}
+
+#[test]
+fn orders() {
+    refused(
+        &changed("N,2,4,1\n", "N,3,4,1\n"),
+        [3, 4],
+        "line 4: node 3 out of order: node 2 is due: \"N,3,4,1\"",
+    );
+    refused(&changed("E,1,2\n", "E,1,1\n"), [3, 10], "line 10: an edge from node 1 to itself: \"E,1,1\"");
+    refused(&changed("E,0,3\n", "E,0,2\n"), [3, 9], "line 9: the edge of the line before again: \"E,0,2\"");
+    refused(
+        &changed("E,1,2\n", "E,0,1\n"),
+        [3, 10],
+        "line 10: edges must rise: the line before has 0 to 3: \"E,0,1\"",
+    );
+    refused(&changed("S,0,0\n", "S,1,0\n"), [3, 14], "line 14: net 1 out of order: net 0 is due: \"S,1,0\"");
+    refused(
+        &changed("S,0,0\n", "S,0,3\n"),
+        [3, 14],
+        "line 14: node 3 is a wire of length 2, of kind 5; a source must be of kind 0 or 2: \"S,0,3\"",
+    );
+    refused(
+        &changed("T,0,4\n", "T,1,4\n"),
+        [3, 15],
+        "line 15: net 1 is not that of the S line above, net 0: \"T,1,4\"",
+    );
+    refused(&changed("T,0,4\n", "T,0,0\n"), [3, 15], "line 15: node 0 is the net's own source: \"T,0,0\"");
+    refused(
+        &changed("T,0,4\n", "T,0,4\nT,0,4\n"),
+        [3, 16],
+        "line 16: node 4 is a sink of this net already: \"T,0,4\"",
+    );
+    refused(
+        &changed("T,0,4\n", "T,0,1\n"),
+        [3, 15],
+        "line 15: node 1 is a source, of kind 0; a sink must be of kind 1 or 3: \"T,0,1\"",
+    );
+}
+
+fn job_b() -> Job {
+    Job::read(JOB_B.as_bytes()).unwrap()
+}
+
+fn table_refused(change: impl Fn(&mut Job), table: u64, sentence: &str) {
+    let mut job = job_b();
+    change(&mut job);
+    let refusal = job.route().unwrap_err();
+    assert_eq!(
+        (refusal.numbers(), refusal.to_string()),
+        (vec![5, table], format!("table {table} {sentence}"))
+    );
+}
+
+#[test]
+fn tables() {
+    table_refused(|job| job.block.kind.clear(), 1, "(kind): has 0 entries, and may have 1 to 4096");
+    table_refused(|job| job.block.kind[2] = 54, 1, "(kind): entry 2: kind 54 is beyond 0 to 53");
+    table_refused(|job| job.block.capacity[5] = 0, 2, "(capacity): entry 5: capacity 0 is beyond 1 to 255");
+    table_refused(|job| job.block.capacity.push(1), 2, "(capacity): has 7 entries, and should have 6");
+    table_refused(|job| job.block.first_edge[2] = 1, 3, "(first_edge): entry 2: 1 comes after 2");
+    table_refused(
+        |job| job.block.edge_target.push(1),
+        3,
+        "(first_edge): ends with 6, and the table after it has 7 entries",
+    );
+    table_refused(
+        |job| job.block.edge_target[1] = 2,
+        4,
+        "(edge_target): row of node 0, entry 1: 2 comes after 2",
+    );
+    table_refused(
+        |job| job.block.edge_target[2] = 1,
+        4,
+        "(edge_target): row of node 1, entry 0: an edge to the node itself",
+    );
+    table_refused(
+        |job| job.nets.source[1] = 2,
+        5,
+        "(source): entry 1: node 2 is a wire of length 1, of kind 4; a source must be of kind 0 or 2",
+    );
+    table_refused(|job| job.nets.first_sink[1] = 0, 6, "(first_sink): entry 1: 0 comes after 0");
+    table_refused(|job| job.nets.sink[1] = 6, 7, "(sink): sinks of net 1, entry 0: 6 is not a node of 6");
+    table_refused(|job| job.terms.limit = 0, 8, "(terms): limit 0 is beyond 1 to 100");
+    table_refused(|job| job.terms = Terms { up: 1, ..job.terms }, 8, "(terms): up 1 is beyond 2 to 8");
+}
+
+#[test]
+fn runs() {
+    let mut job = job_b();
+    job.terms.limit = 1;
+    let refusal = job.route().unwrap_err();
+    assert_eq!(refusal.numbers(), [9, 1, 1]);
+    assert_eq!(
+        refusal.to_string(),
+        "not settled by iteration 1, the limit: 1 node is over capacity; raise the limit, tune the tariff or give those nodes room"
+    );
+    let Refusal::Limit { turns, log, .. } = refusal else { panic!() };
+    assert_eq!((turns, log.words().len()), (2, 18));
+
+    let refusal = job_b().route_in(35).unwrap_err();
+    assert_eq!(refusal.numbers(), [8, 2, 3]);
+    assert_eq!(
+        refusal.to_string(),
+        "the log is full after 3 turns, in iteration 2: a longer log lets the job go on"
+    );
+    let Refusal::LogFull { log, .. } = refusal else { panic!() };
+    assert_eq!(log.records().count(), 3);
+
+    let mut job = job_b();
+    job.nets.sink[1] = 4;
+    job.block.edge_target.remove(3);
+    job.block.first_edge[3..].iter_mut().for_each(|place| *place -= 1);
+    let refusal = job.route().unwrap_err();
+    assert_eq!(refusal.numbers(), [7, 1, 0]);
+    assert_eq!(
+        refusal.to_string(),
+        "net 1: no path leads from its source, node 1, to sink 4, at place 0 of its sinks (from 0)"
+    );
+}
+
+#[test]
+fn stored_logs() {
+    let answer = job_b().route().unwrap();
+    let mut words = answer.log.words().to_vec();
+    assert_eq!(Log::from_words(&words).unwrap(), answer.log);
+    words[9] = 0;
+    let refusal = Log::from_words(&words).unwrap_err();
+    assert_eq!(
+        (refusal.numbers(), refusal.to_string()),
+        (vec![10, 9], String::from("the log's record at word 9 is unsound"))
+    );
+    assert_eq!(Log::from_words(&[]).unwrap_err().numbers(), [10, 0]);
+    assert_eq!(Log::default().routes().unwrap_err().numbers(), [10, 0]);
+    assert_eq!(Log::default().records().count(), 0);
+}
+
+#[test]
+fn numbers_called_alone() {
+    let wire = Use { kind: 4, factor: 0, others: 0, capacity: 1, history: 1 };
+    let refusal = Use { factor: 65_536, history: 0, ..wire }.price().unwrap_err();
+    assert_eq!(
+        (refusal.numbers(), refusal.to_string()),
+        (vec![13, 1], String::from("factor 65536 is beyond 0 to 65535"))
+    );
+
+    let mut block = Block::default();
+    block.add(kind::SOURCE, 1, &[1]);
+    block.add(kind::SINK, 1, &[]);
+    let start = Congestion { factor: 65_536, history: vec![1, 1], others: vec![0], in_tree: vec![1, 0] };
+    let refusal = block.distances(&start).unwrap_err();
+    assert_eq!(refusal.numbers(), [13, 1]);
+    assert_eq!(
+        refusal.to_string(),
+        "node 1: history 1, of 1 to 101179, others missing, of 0 to 511, and tree mark 0, of 0 and 1: one of them is bad"
+    );
+    let refusal = block.distances(&Congestion { others: vec![0, 0], ..start }).unwrap_err();
+    assert_eq!(
+        (refusal.numbers(), refusal.to_string()),
+        (vec![13, 2], String::from("factor 65536 is beyond 0 to 65535"))
+    );
+    block.capacity[0] = 0;
+    assert_eq!(block.distances(&Congestion::default()).unwrap_err().numbers(), [5, 2]);
+}

@@ -1,0 +1,114 @@
+//! The wrapper's types beside the library's calls: it gives the same answers, and a reason for each refused line and table.
+
+use crate::compare::{After, Answer, Case};
+use arvumnao::{Block, Congestion, LineFault, Log, Nets, Refusal, TableFault, Terms, Use};
+use job::Job;
+
+/// What is wrong with the wrapper's word on a call that the library has answered.
+pub fn check(before: &Case, after: &After) -> Result<(), String> {
+    let Answer { refusal, numbers } = &after.answer;
+    let reason = match (before, &refusal[..]) {
+        (Case::Read { text, .. }, &[number @ 1..=3, line]) => LineFault::find(text, number, line).reason,
+        (Case::Search { graph: job, .. } | Case::Route { job, .. }, &[5, table]) => {
+            TableFault::find(&typed(job), table as u32).reason
+        }
+        _ => Some(String::new()),
+    };
+    if reason.is_none() {
+        return Err(format!("the wrapper has no reason for {refusal:?}"));
+    }
+    let Some(same) = same(before, &after.case, refusal, numbers) else { return Ok(()) };
+    same.then_some(()).ok_or_else(|| format!("the wrapper's answer is not {:?}", after.answer))
+}
+
+/// Whether the wrapper answers the same; nothing where it lends other lengths than the case does.
+fn same(before: &Case, after: &Case, refusal: &[u64], numbers: &[u64]) -> Option<bool> {
+    let lends_less = matches!(refusal.first(), Some(4 | 6 | 11));
+    match (before, after) {
+        _ if lends_less => None,
+        (&Case::Price { kind, factor, others, capacity, history }, _) => {
+            let price = Use { kind, factor, others, capacity, history }.price();
+            let expected = if refusal.is_empty() { numbers.to_vec() } else { Vec::new() };
+            Some(told(price.map(|price| vec![price])) == (refusal.to_vec(), expected))
+        }
+        (Case::Search { graph, factor, history, others, in_tree, .. }, Case::Search { work, .. }) => {
+            let lists = (history.clone(), others.clone(), in_tree.clone());
+            let start = Congestion { factor: *factor, history: lists.0, others: lists.1, in_tree: lists.2 };
+            let distances = typed(graph).block.distances(&start);
+            let wide = |far: Vec<Option<u64>>| far.into_iter().map(|one| one.unwrap_or(u64::MAX)).collect();
+            let expected = if refusal.is_empty() { work[..graph.kind.len()].to_vec() } else { Vec::new() };
+            Some(told(distances.map(wide)) == (refusal.to_vec(), expected))
+        }
+        (Case::Route { job, log: lent, .. }, Case::Route { log, .. }) => {
+            Some(routed(&typed(job), lent.len(), refusal, numbers, log))
+        }
+        (Case::Read { text, .. }, Case::Read { tables, .. }) => {
+            let read = arvumnao::Job::read(text);
+            let mut expected = tables.clone();
+            if refusal.is_empty() {
+                expected.take_numbers(numbers);
+            }
+            Some(match read {
+                Ok(read) => refusal.is_empty() && read == typed(&expected),
+                Err(other) => other.numbers() == refusal,
+            })
+        }
+        (Case::Write { log, .. }, Case::Write { buffer, .. }) => {
+            let routes = Log::from_words(log).and_then(|log| log.routes());
+            let bytes = if refusal.is_empty() { buffer[..numbers[0] as usize].to_vec() } else { Vec::new() };
+            let expected = (refusal.to_vec(), bytes.into_iter().map(u64::from).collect());
+            Some(told(routes.map(|text| text.bytes().map(u64::from).collect())) == expected)
+        }
+        _ => None,
+    }
+}
+
+/// An answer as the refusal's numbers and what was given.
+fn told(answer: Result<Vec<u64>, Refusal>) -> (Vec<u64>, Vec<u64>) {
+    match answer {
+        Ok(given) => (Vec::new(), given),
+        Err(refusal) => (refusal.numbers(), Vec::new()),
+    }
+}
+
+/// Whether the wrapper's run in a log of that length has this refusal, these numbers and the words used of this log.
+fn routed(job: &arvumnao::Job, length: usize, refusal: &[u64], numbers: &[u64], log: &[u32]) -> bool {
+    let answer = job.route_in(length);
+    let (other, run) = match &answer {
+        Ok(answer) => (Vec::new(), Some((u64::from(answer.iteration), answer.turns, &answer.log))),
+        Err(stopped) => (stopped.numbers(), run(stopped)),
+    };
+    let given = run.map_or((vec![0, 0, 0], &[][..]), |(iteration, turns, log)| {
+        (vec![iteration, turns, log.words().len() as u64], log.words())
+    });
+    let records = run.map_or(0, |(_, _, log)| log.records().count());
+    other == refusal
+        && given.0 == numbers
+        && given.1 == &log[..numbers[2] as usize]
+        && records as u64 == numbers[1]
+}
+
+/// Iteration, turns and log of a run that was stopped.
+fn run(refusal: &Refusal) -> Option<(u64, u64, &Log)> {
+    match refusal {
+        Refusal::LogFull { iteration, turns, log } | Refusal::Limit { iteration, turns, log, .. } => {
+            Some((u64::from(*iteration), *turns, log))
+        }
+        _ => None,
+    }
+}
+
+/// The job in the wrapper's types.
+fn typed(job: &Job) -> arvumnao::Job {
+    let [first, up, down, step] = job.tuning.numbers();
+    arvumnao::Job {
+        block: Block {
+            kind: job.kind.clone(),
+            capacity: job.capacity.clone(),
+            first_edge: job.first_edge.clone(),
+            edge_target: job.edge_target.clone(),
+        },
+        nets: Nets { source: job.source.clone(), first_sink: job.first_sink.clone(), sink: job.sink.clone() },
+        terms: Terms { limit: job.limit, first, up, down, step },
+    }
+}

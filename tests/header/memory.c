@@ -1,0 +1,151 @@
+/* What the header says about memory. Empty slices may have no pointer. And the stack: each call runs, on the largest job
+ * there is, in a thread whose stack was painted; what is no longer painted afterwards was used. Prints the bytes. */
+#include "arvumnao.h"
+
+#include <pthread.h>
+#include <stdio.h>
+#include <stdlib.h>
+#include <string.h>
+
+enum {
+    NODES = ARVUMNAO_NODES_MOST,
+    NETS = ARVUMNAO_NETS_MOST,
+    SINKS = ARVUMNAO_SINKS_MOST,
+    ROW = 8, /* edges a node */
+    EDGES = ROW * NODES - ROW * (ROW + 1) / 2,
+    LOG = 1 << 22,
+    BYTES = 1 << 20,
+    PAINTED = 1 << 20,
+    PAINT = 0xA5
+};
+
+static uint8_t text[BYTES], kind[NODES], capacity[NODES], routes[16 * BYTES], in_tree[NODES];
+static uint32_t first_edge[NODES + 1], first_sink[NETS + 1], log_words[LOG], history[NODES];
+static uint16_t edge_target[EDGES], source[NETS], sink[SINKS], others[NODES];
+static uint64_t work[ARVUMNAO_WORK(NODES)], out[ARVUMNAO_OUT];
+static size_t bytes, words;
+
+/* Each node has switches to the next few; 512 sources, then 512 sinks, then wires; every source has 8 of the sinks. */
+static void make_text(void)
+{
+    char *at = (char *)text;
+    at += sprintf(at, "F,%d,%d,%d,1\n", NODES, EDGES, NETS);
+    for (int v = 0; v < NODES; v++)
+        at += sprintf(at, "N,%d,%d,1\n", v, v < NETS ? 0 : v < 2 * NETS ? 1 : 4 + v % 50);
+    for (int v = 0; v < NODES; v++)
+        for (int to = v + 1; to <= v + ROW && to < NODES; to++)
+            at += sprintf(at, "E,%d,%d\n", v, to);
+    for (int net = 0; net < NETS; net++) {
+        at += sprintf(at, "S,%d,%d\n", net, net);
+        for (int place = 0; place < SINKS / NETS; place++)
+            at += sprintf(at, "T,%d,%d\n", net, NETS + (net + 61 * place) % NETS);
+    }
+    bytes = (size_t)(at - (char *)text);
+}
+
+static void call_read(void)
+{
+    arvumnao_read(text, bytes, kind, NODES, capacity, NODES, first_edge, NODES + 1, edge_target, EDGES,
+                  source, NETS, first_sink, NETS + 1, sink, SINKS, out, ARVUMNAO_OUT);
+}
+
+static void call_route(void)
+{
+    arvumnao_route(kind, NODES, capacity, NODES, first_edge, NODES + 1, edge_target, EDGES, source, NETS,
+                   first_sink, NETS + 1, sink, SINKS, 1, 50, 3, 2, 1, work, ARVUMNAO_WORK(NODES),
+                   log_words, LOG, out, ARVUMNAO_OUT);
+}
+
+static void call_write(void)
+{
+    arvumnao_write(log_words, words, routes, sizeof routes, out, ARVUMNAO_OUT);
+}
+
+static void call_search(void)
+{
+    arvumnao_search(kind, NODES, capacity, NODES, first_edge, NODES + 1, edge_target, EDGES, 65535,
+                    work, ARVUMNAO_WORK(NODES), history, NODES, others, NODES, in_tree, NODES, out, ARVUMNAO_OUT);
+}
+
+static void call_price(void)
+{
+    arvumnao_price(53, 65535, 511, 1, 101179, out, ARVUMNAO_OUT);
+}
+
+static void expect(const char *what, int held)
+{
+    if (held)
+        return;
+    printf("not so: %s\n", what);
+    exit(1);
+}
+
+struct run {
+    void (*call)(void);
+    uintptr_t top;
+};
+
+static void *begin(void *at)
+{
+    struct run *run = at;
+    volatile uint8_t local = 0;
+    run->top = (uintptr_t)&local;
+    run->call();
+    return NULL;
+}
+
+static void measure(const char *name, void (*call)(void), uint64_t refusal)
+{
+    uint8_t *stack = aligned_alloc(4096, PAINTED);
+    pthread_attr_t attributes;
+    pthread_t thread;
+    struct run run = { call, 0 };
+    size_t unused = 0;
+    memset(stack, PAINT, PAINTED);
+    pthread_attr_init(&attributes);
+    if (pthread_attr_setstack(&attributes, stack, PAINTED) || pthread_create(&thread, &attributes, begin, &run)
+        || pthread_join(thread, NULL))
+        exit(2);
+    while (stack[unused] == PAINT)
+        unused++;
+    size_t used = (size_t)(run.top - (uintptr_t)(stack + unused));
+    printf("%-6s %6zu bytes of stack\n", name, used);
+    expect("within ARVUMNAO_STACK", used <= ARVUMNAO_STACK);
+    expect("the answer", out[0] == refusal);
+    pthread_attr_destroy(&attributes);
+    free(stack);
+}
+
+/* Every slice but `out` empty, and then `out` too. */
+static void empty(void)
+{
+    arvumnao_search(NULL, 0, NULL, 0, NULL, 0, NULL, 0, 0, NULL, 0, NULL, 0, NULL, 0, NULL, 0, out, ARVUMNAO_OUT);
+    expect("search of nothing", out[0] == ARVUMNAO_BAD_TABLE && out[1] == 1);
+    arvumnao_route(NULL, 0, NULL, 0, NULL, 0, NULL, 0, NULL, 0, NULL, 0, NULL, 0, 1, ARVUMNAO_PLAIN_TUNING, NULL, 0,
+                   NULL, 0, out, ARVUMNAO_OUT);
+    expect("route of nothing", out[0] == ARVUMNAO_BAD_TABLE && out[1] == 1);
+    arvumnao_read(NULL, 0, NULL, 0, NULL, 0, NULL, 0, NULL, 0, NULL, 0, NULL, 0, NULL, 0, out, ARVUMNAO_OUT);
+    expect("read of nothing", out[0] == ARVUMNAO_BAD_SHAPE && out[1] == 1);
+    arvumnao_read(text, bytes, NULL, 0, NULL, 0, NULL, 0, NULL, 0, NULL, 0, NULL, 0, NULL, 0, out, ARVUMNAO_OUT);
+    expect("read into nothing", out[0] == ARVUMNAO_SHORT_TABLE && out[1] == 1);
+    arvumnao_write(NULL, 0, NULL, 0, out, ARVUMNAO_OUT);
+    expect("write of nothing", out[0] == ARVUMNAO_BAD_RECORD && out[1] == 0);
+    expect("price without out", arvumnao_price(0, 0, 0, 1, 1, NULL, 0) == 0);
+    expect("write without out", arvumnao_write(NULL, 0, NULL, 0, NULL, 0) == 0);
+}
+
+int main(void)
+{
+    make_text();
+    empty();
+    for (int v = 0; v < NODES; v++)
+        history[v] = 101179, others[v] = 511, in_tree[v] = v == 0;
+    measure("read", call_read, 0);
+    /* in one iteration, nets that meet on the last sources don't settle */
+    measure("route", call_route, ARVUMNAO_LIMIT_REACHED);
+    words = (size_t)out[5];
+    measure("write", call_write, 0);
+    measure("search", call_search, 0);
+    measure("price", call_price, 0);
+    return 0;
+}
