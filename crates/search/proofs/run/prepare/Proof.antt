@@ -17,7 +17,7 @@ fill-distances-requires : tie.Need-fill-distances-requires
 fill-distances-requires c κs =
     let filled = c .before .before .before in
     let start = filled .before .before .before .before .before .before .before .before in
-    (ready-marks _ _ [] [] _ _ (start .pre .0), omega (arith, start .pre .1, filled .fill-prices .ensures .same .long))
+    (omega (arith, ready-marks _ _ [] [] _ _ (start .pre .0)), omega (arith, start .pre .1, filled .fill-prices .ensures .same .long))
 
 mul-clear : tie.Need-mul-clear
 mul-clear c = search needs
