@@ -19,7 +19,7 @@ use Rattle.negotiation.specs.Job.{Job, nodes, nets, netSinks}
 use Rattle.negotiation.specs.Tables.{faultyJob}
 use Rattle.negotiation.specs.Records.{Record, encode}
 use Rattle.negotiation.specs.Machine.{State, firstState, settlesAt}
-use Rattle.negotiation.specs.Outcome.{RouteReply, turnsLogged, refusedReply, ranReply, unreachableNet, unreachablePlace, iterationsMade, iterationsRun, allRecords, loggedRecords, endNumbers, negotiated, routeReply}
+use Rattle.negotiation.specs.Outcome.{RouteReply, turnsLogged, refusedReply, unreachableNet, iterationsMade, iterationsRun, allRecords, loggedRecords, endNumbers, negotiated, routeReply}
 use Rattle.negotiation.specs.Unreachable.{AllReachable}
 use Rattle.negotiation.specs.Demand.{TurnHolds, FinalTrees, Demand3, CostsFit}
 use Rattle.negotiation.proofs.JobLaws.{sound-job, Routable, routable-of}

@@ -17,7 +17,7 @@ use Rattle.negotiation.specs.Tables.{limitSound, termsSound, faultyNets,
 use Rattle.negotiation.specs.Records.{Record, encode, fitting}
 use Rattle.negotiation.specs.Machine.{othersOf, marksOf, congestionFor, firstState, recordsAfter}
 use Rattle.negotiation.specs.Outcome.{RouteReply, hasPath, unreachableNet, unreachablePlace, iterationsMade, iterationsRun, allRecords, endNumbers, refusedReply, ranReply, negotiated, routeReply}
-use Rattle.negotiation.specs.Longer.{withLimit, LongEnough, Begins, SameLog, LimitRaised, LimitsCompared, RaisedInPlace, LogLengthened, LogsCompared}
+use Rattle.negotiation.specs.Longer.{withLimit, Begins, SameLog, LimitsCompared, RaisedInPlace, LogLengthened, LogsCompared}
 use Rattle.negotiation.proofs.JobLaws.{limit-least}
 use Rattle.negotiation.proofs.RecordLaws.{fitting-begins, fitting-less, fitting-append}
 use Rattle.negotiation.proofs.EndLaws.{whole-reply}

@@ -17,7 +17,7 @@ use borrow.Author.Count.{below-none, below-more}
 use borrow.Author.Tests.{lt-ltb, le-ltb, eq-eqb, ne-eqb, eqb-true, eqb-false, ltb-true}
 use Rattle.price.specs.Test.{choose, either}
 use Rattle.price.specs.Lists.{every, has, distinct}
-use Rattle.price.proofs.TestLaws.{either-way, true≢false, both-true, both-left, both-false-left, both-false-right, either-true, either-false}
+use Rattle.price.proofs.TestLaws.{either-way, true≢false, both-true, both-left, both-false-left, both-false-right, either-false}
 use Rattle.price.proofs.ListLaws.{every-all, every-none, every-at, has-at}
 use Rattle.search.proofs.DistinctLaws.{has-first, has-rest, lacks, distinct-cons, distinct-first, distinct-rest}
 use Rattle.negotiation.specs.Tables.{netSound}

@@ -3,19 +3,19 @@
 use mathlib.Core.Bool.{true, false, not}
 use mathlib.Core.List.{List, [], _∷_}
 use mathlib.Core.Logic.{⊎-elim}
-use mathlib.Core.Path.{_≡_, sym, _∙_, ap, subst}
+use mathlib.Core.Path.{_≡_, sym, _∙_, ap}
 use Prim.Native.Nat.{ℕ, _≤_, _<_}
 use native.Mathlib.Omega.{arith}
 use lib.ListN.{length, getD}
 use borrow.Author.Tests.{not-true, not-false}
-use Rattle.price.specs.Lists.{every, has, firstBelow}
+use Rattle.price.specs.Lists.{every, firstBelow}
 use Rattle.price.proofs.TestLaws.{either-way, le-or-lt, true≢false}
 use Rattle.price.proofs.ListLaws.{every-at, every-all, every-none, has-at, has-place}
-use Rattle.price.proofs.BelowLaws.{firstBelow-le, firstBelow-below, firstBelow-holds, firstBelow-is}
+use Rattle.price.proofs.BelowLaws.{firstBelow-below, firstBelow-holds, firstBelow-is}
 use Rattle.search.specs.Replies.{workNeeded}
 use Rattle.negotiation.specs.Job.{Job, nodes, nets, netSinks}
 use Rattle.negotiation.specs.Tables.{SoundJob, faultyJob}
-use Rattle.negotiation.specs.Outcome.{RouteReply, hasPath, unreachableNet, unreachablePlace, negotiated, routeReply}
+use Rattle.negotiation.specs.Outcome.{RouteReply, hasPath, unreachableNet, unreachablePlace}
 use Rattle.negotiation.specs.Unreachable.{Reachable, FirstUnreachable, UnreachableRefused}
 use Rattle.negotiation.proofs.JobLaws.{Routable, routable-of, sound-job, faulty-none}
 use Rattle.negotiation.proofs.NetLaws.{path-from, sink-path}
