@@ -27,6 +27,8 @@
  *             return 1;
  *         size_t bytes = (size_t)out[ARVUMNAO_REFUSAL_1];
  *         uint8_t *routes = malloc(bytes);
+ *         if (routes == NULL)
+ *             return 1;
  *         arvumnao_write(log, words, routes, bytes, out, ARVUMNAO_OUT);
  *         fwrite(routes, 1, bytes, stdout);
  *         free(routes);
@@ -42,8 +44,8 @@
  * slice that one of them writes to is lent to another. A call takes at most ARVUMNAO_STACK bytes of stack.
  *
  * ANY INPUT. Each call may be lent slices of any length with anything in them: it ends, stays within them and
- * refuses what is faulty. That, with what it answers and leaves in every slice, is proved of the code that is
- * compiled. Slices that overlap, dangle or are counted wrong are out of its sight.
+ * refuses what is faulty. That, with what it answers and leaves in every slice, is proved of its source; that the built
+ * code does the same is tested. Slices that overlap, dangle or are counted wrong are out of its sight.
  *
  * OUT. Every call takes `out`, a slice of 64-bit numbers, which need not be cleared. If it has fewer than
  * ARVUMNAO_OUT entries the call does nothing and returns 0. Otherwise it returns 1, fills the first ARVUMNAO_OUT
@@ -70,8 +72,8 @@
  *                                  none twice, none its source
  *   8 the terms                    limit, 1 to 100 iterations; first, 0 to 1,000; down, 1 to 4; up, from down to 8;
  *                                  step, 1 or 2
- * A table of another length than it must have breaks its rule; one that disagrees with table 3 or 6 about the
- * length of table 4 or 7 shows as a fault of table 3 or 6.
+ * A table of another length than it must have breaks its rule; where table 3 or 6 doesn't end with the length of table
+ * 4 or 7, it is table 3 or 6 that does.
  */
 #ifndef ARVUMNAO_H
 #define ARVUMNAO_H
@@ -90,7 +92,7 @@
 #define ARVUMNAO_SINKS_MOST 4096
 #define ARVUMNAO_LIMIT_MOST 100
 
-/* The kinds of a node: with their base costs 20, 20, 20, 19 and 20 x length. A wire's length is 1 to 50 tiles. */
+/* The kinds of a node. Their base costs are 20, 20, 20, 19, and 20 x length for a wire, which is 1 to 50 tiles long. */
 #define ARVUMNAO_SOURCE 0
 #define ARVUMNAO_SINK 1
 #define ARVUMNAO_OUTPUT_PIN 2

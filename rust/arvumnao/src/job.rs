@@ -150,19 +150,18 @@ impl Job {
     /// assert_eq!(refusal.numbers(), [2, 3]);
     /// ```
     pub fn read(text: &[u8]) -> Result<Job, Refusal> {
-        let (mut kind, mut capacity) = (vec![0; NODES], vec![0; NODES]);
-        let (mut first_edge, mut edge_target) = (vec![0; NODES + 1], vec![0; EDGES]);
-        let (mut source, mut first_sink, mut sink) = (vec![0; NETS], vec![0; NETS + 1], vec![0; SINKS]);
+        let mut job = Job::longest();
+        let Job { block, nets, .. } = &mut job;
         let told = out(|out| {
             raw::read(
                 text,
-                &mut kind,
-                &mut capacity,
-                &mut first_edge,
-                &mut edge_target,
-                &mut source,
-                &mut first_sink,
-                &mut sink,
+                &mut block.kind,
+                &mut block.capacity,
+                &mut block.first_edge,
+                &mut block.edge_target,
+                &mut nets.source,
+                &mut nets.first_sink,
+                &mut nets.sink,
                 out,
             )
         });
@@ -171,26 +170,31 @@ impl Job {
             [number @ 1..=3, line] => return Err(Refusal::Line(LineFault::find(text, number, line))),
             ref numbers => return Err(Refusal::unexpected(numbers)),
         }
-        let &[nodes, edges, nets, sinks, limit, first, up, down, step] = raw::own::<9>(&told);
-        let (nodes, nets) = (nodes as usize, nets as usize);
-        kind.truncate(nodes);
-        capacity.truncate(nodes);
-        first_edge.truncate(nodes + 1);
-        edge_target.truncate(edges as usize);
-        source.truncate(nets);
-        first_sink.truncate(nets + 1);
-        sink.truncate(sinks as usize);
-        Ok(Job {
-            block: Block { kind, capacity, first_edge, edge_target },
-            nets: Nets { source, first_sink, sink },
-            terms: Terms {
-                limit: limit as u32,
-                first: first as u32,
-                up: up as u32,
-                down: down as u32,
-                step: step as u32,
-            },
-        })
+        job.cut(raw::own(&told));
+        Ok(job)
+    }
+
+    /// Tables that are long enough for every job.
+    fn longest() -> Job {
+        let (kind, capacity) = (vec![0; NODES], vec![0; NODES]);
+        let (first_edge, edge_target) = (vec![0; NODES + 1], vec![0; EDGES]);
+        let (source, first_sink, sink) = (vec![0; NETS], vec![0; NETS + 1], vec![0; SINKS]);
+        let block = Block { kind, capacity, first_edge, edge_target };
+        Job { block, nets: Nets { source, first_sink, sink }, terms: Terms::default() }
+    }
+
+    /// Cuts the tables to what the reader filled, and takes the terms that it read.
+    fn cut(&mut self, numbers: &[u64; 9]) {
+        let [nodes, edges, nets, sinks, ..] = numbers.map(|number| number as usize);
+        self.block.kind.truncate(nodes);
+        self.block.capacity.truncate(nodes);
+        self.block.first_edge.truncate(nodes + 1);
+        self.block.edge_target.truncate(edges);
+        self.nets.source.truncate(nets);
+        self.nets.first_sink.truncate(nets + 1);
+        self.nets.sink.truncate(sinks);
+        let [.., limit, first, up, down, step] = numbers.map(|number| number as u32);
+        self.terms = Terms { limit, first, up, down, step };
     }
 
     /// Routes the job in a log as long as it needs. Refused by [`Refusal::Table`], [`Refusal::Unreachable`] or [`Refusal::Limit`].

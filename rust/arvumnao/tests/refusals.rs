@@ -17,7 +17,7 @@ fn refused(text: &str, numbers: [u64; 2], sentence: &str) {
 }
 
 #[test]
-fn shapes() {
+fn lines_that_are_due() {
     refused("", [1, 1], "line 1: the text ends where the F line should come");
     refused("F,6,6,2,2", [1, 1], "line 1: the last line is not ended by LF: \"F,6,6,2,2\"");
     refused(
@@ -50,6 +50,10 @@ fn shapes() {
         [1, 16],
         "line 16: the text ends where a T line of net 0 or the S line of net 1 should come",
     );
+}
+
+#[test]
+fn digits_and_commas() {
     refused(
         &changed("T,0,4\n", "T,0,4\r\n"),
         [1, 15],

@@ -21,46 +21,47 @@ pub fn check(before: &Case, after: &After) -> Result<(), String> {
     same.then_some(()).ok_or_else(|| format!("the wrapper's answer is not {:?}", after.answer))
 }
 
-/// Whether the wrapper answers the same; nothing where it lends other lengths than the case does.
+/// Whether the wrapper answers the same; nothing where it lends more than the case does.
 fn same(before: &Case, after: &Case, refusal: &[u64], numbers: &[u64]) -> Option<bool> {
-    let lends_less = matches!(refusal.first(), Some(4 | 6 | 11));
-    match (before, after) {
-        _ if lends_less => None,
+    if matches!(refusal.first(), Some(4 | 6 | 11)) {
+        return None;
+    }
+    let accepted = |given: Vec<u64>| (refusal.to_vec(), if refusal.is_empty() { given } else { Vec::new() });
+    Some(match (before, after) {
         (&Case::Price { kind, factor, others, capacity, history }, _) => {
             let price = Use { kind, factor, others, capacity, history }.price();
-            let expected = if refusal.is_empty() { numbers.to_vec() } else { Vec::new() };
-            Some(told(price.map(|price| vec![price])) == (refusal.to_vec(), expected))
+            told(price.map(|price| vec![price])) == accepted(numbers.to_vec())
         }
-        (Case::Search { graph, factor, history, others, in_tree, .. }, Case::Search { work, .. }) => {
-            let lists = (history.clone(), others.clone(), in_tree.clone());
-            let start = Congestion { factor: *factor, history: lists.0, others: lists.1, in_tree: lists.2 };
-            let distances = typed(graph).block.distances(&start);
-            let wide = |far: Vec<Option<u64>>| far.into_iter().map(|one| one.unwrap_or(u64::MAX)).collect();
-            let expected = if refusal.is_empty() { work[..graph.kind.len()].to_vec() } else { Vec::new() };
-            Some(told(distances.map(wide)) == (refusal.to_vec(), expected))
+        (Case::Search { graph, .. }, Case::Search { work, .. }) => {
+            told(distances(before)) == accepted(work.iter().take(graph.kind.len()).copied().collect())
         }
         (Case::Route { job, log: lent, .. }, Case::Route { log, .. }) => {
-            Some(routed(&typed(job), lent.len(), refusal, numbers, log))
+            routed(&typed(job), lent.len(), refusal, numbers, log)
         }
-        (Case::Read { text, .. }, Case::Read { tables, .. }) => {
-            let read = arvumnao::Job::read(text);
-            let mut expected = tables.clone();
-            if refusal.is_empty() {
+        (Case::Read { text, .. }, Case::Read { tables, .. }) => match arvumnao::Job::read(text) {
+            Ok(read) => {
+                let mut expected = tables.clone();
                 expected.take_numbers(numbers);
+                refusal.is_empty() && read == typed(&expected)
             }
-            Some(match read {
-                Ok(read) => refusal.is_empty() && read == typed(&expected),
-                Err(other) => other.numbers() == refusal,
-            })
-        }
+            Err(other) => other.numbers() == refusal,
+        },
         (Case::Write { log, .. }, Case::Write { buffer, .. }) => {
             let routes = Log::from_words(log).and_then(|log| log.routes());
-            let bytes = if refusal.is_empty() { buffer[..numbers[0] as usize].to_vec() } else { Vec::new() };
-            let expected = (refusal.to_vec(), bytes.into_iter().map(u64::from).collect());
-            Some(told(routes.map(|text| text.bytes().map(u64::from).collect())) == expected)
+            let bytes = buffer.iter().take(numbers[0] as usize).copied().map(u64::from);
+            told(routes.map(|text| text.bytes().map(u64::from).collect())) == accepted(bytes.collect())
         }
-        _ => None,
-    }
+        _ => return None,
+    })
+}
+
+/// The distances of a search by the wrapper.
+fn distances(case: &Case) -> Result<Vec<u64>, Refusal> {
+    let Case::Search { graph, factor, history, others, in_tree, .. } = case else { return Ok(Vec::new()) };
+    let lists = (history.clone(), others.clone(), in_tree.clone());
+    let start = Congestion { factor: *factor, history: lists.0, others: lists.1, in_tree: lists.2 };
+    let distances = typed(graph).block.distances(&start)?;
+    Ok(distances.into_iter().map(|distance| distance.unwrap_or(u64::MAX)).collect())
 }
 
 /// An answer as the refusal's numbers and what was given.
