@@ -8,7 +8,7 @@ use Rattle.price.specs.Test.{choose}
 use Rattle.price.specs.Replies as p
 use Rattle.search.specs.Block.{Block}
 use Rattle.search.specs.Turn.{Congestion}
-use Rattle.search.specs.Replies.{searchReply}
+use Rattle.search.specs.Replies.{SearchReply, searchReply}
 use Rattle.negotiation.specs.Job.{Job}
 use Rattle.negotiation.specs.declared.Terms.{Terms}
 use Rattle.negotiation.specs.Outcome.{RouteReply, routeReply}
@@ -19,9 +19,10 @@ use Rattle.text.specs.Routes.{WriteReply, writeReply}
 abbrev pub padded : ℕ → List ℕ → List ℕ
 padded k xs = take k (xs ++ replicate k 0)
 
--- at 0 the refusal's number or 0, at 1 and 2 its further numbers or 0, from 3 on the call's own numbers, 0 up to 16; entries past 16 stay
-abbrev pub told : List ℕ → List ℕ → List ℕ → List ℕ
-told refusal numbers out = padded 3 refusal ++ (padded 13 numbers ++ drop 16 out)
+-- `out` with a call's numbers: at 0 the refusal's number or 0, at 1 and 2 its further numbers or 0, from 3 on the call's own numbers,
+-- 0 up to 16; entries past 16 stay
+abbrev pub outWith : List ℕ → List ℕ → List ℕ → List ℕ
+outWith refusal numbers out = padded 3 refusal ++ (padded 13 numbers ++ drop 16 out)
 
 -- what a call returns, with `out` afterwards
 pub record Call : Type 0 where
@@ -34,10 +35,12 @@ callOf returned out = record { returned = returned; out = out }
 -- In each of the five a call whose `out` has fewer than 16 entries does nothing and returns 0.
 
 -- price: 3 price
+abbrev pub priceCallWith : p.Reply → List ℕ → Call
+priceCallWith r out = callOf 1 (outWith (r .refusal) (r .price ∷ []) out)
+
 unfoldable pub priceCall : ℕ → ℕ → ℕ → ℕ → ℕ → List ℕ → Call
 priceCall kind factor others capacity history out =
-    choose (ltb (length out) 16) (callOf 0 out)
-    (callOf 1 (told (p.priceReply kind factor others capacity history .refusal) (p.priceReply kind factor others capacity history .price ∷ []) out))
+    choose (ltb (length out) 16) (callOf 0 out) (priceCallWith (p.priceReply kind factor others capacity history) out)
 
 -- search, with the work slice afterwards
 pub record SearchCall : Type 0 where
@@ -47,10 +50,12 @@ pub record SearchCall : Type 0 where
 abbrev pub searchDone : Call → List ℕ → SearchCall
 searchDone call work = record { call = call; work = work }
 
+abbrev pub searchCallWith : SearchReply → List ℕ → SearchCall
+searchCallWith r out = searchDone (callOf 1 (outWith (r .refusal) [] out)) (r .work)
+
 unfoldable pub searchCall : Block → Congestion → List ℕ → List ℕ → List ℕ → SearchCall
 searchCall b c marks work out =
-    choose (ltb (length out) 16) (searchDone (callOf 0 out) work)
-    (searchDone (callOf 1 (told (searchReply b c marks work .refusal) [] out)) (searchReply b c marks work .work))
+    choose (ltb (length out) 16) (searchDone (callOf 0 out) work) (searchCallWith (searchReply b c marks work) out)
 
 -- the limit of iterations, and the factor in iteration 2, its growth and the history's step
 abbrev pub termsOf : ℕ → ℕ → ℕ → ℕ → ℕ → Terms
@@ -66,12 +71,12 @@ pub record RouteCall : Type 0 where
 abbrev pub routeDone : Call → List ℕ → List ℕ → RouteCall
 routeDone call work log = record { call = call; work = work; log = log }
 
-abbrev pub routeTold : RouteReply → List ℕ → RouteCall
-routeTold r out = routeDone (callOf 1 (told (r .refusal) (r .iteration ∷ r .turns ∷ r .used ∷ []) out)) (r .work) (r .log)
+abbrev pub routeCallWith : RouteReply → List ℕ → RouteCall
+routeCallWith r out = routeDone (callOf 1 (outWith (r .refusal) (r .iteration ∷ r .turns ∷ r .used ∷ []) out)) (r .work) (r .log)
 
 unfoldable pub routeCall : Job → List ℕ → List ℕ → List ℕ → RouteCall
 routeCall j work log out =
-    choose (ltb (length out) 16) (routeDone (callOf 0 out) work log) (routeTold (routeReply j work log) out)
+    choose (ltb (length out) 16) (routeDone (callOf 0 out) work log) (routeCallWith (routeReply j work log) out)
 
 -- read: 3 nodes, 4 edges, 5 nets, 6 sinks, 7 limit, 8 first, 9 up, 10 down, 11 step
 pub record ReadCall : Type 0 where
@@ -81,11 +86,11 @@ pub record ReadCall : Type 0 where
 abbrev pub readDone : Call → Tables → ReadCall
 readDone call tables = record { call = call; tables = tables }
 
-abbrev pub tablesTold : ReadReply → List ℕ → ReadCall
-tablesTold r out = readDone (callOf 1 (told (r .refusal) (r .numbers) out)) (r .tables)
+abbrev pub readCallWith : ReadReply → List ℕ → ReadCall
+readCallWith r out = readDone (callOf 1 (outWith (r .refusal) (r .numbers) out)) (r .tables)
 
 unfoldable pub readCall : List ℕ → Tables → List ℕ → ReadCall
-readCall text t out = choose (ltb (length out) 16) (readDone (callOf 0 out) t) (tablesTold (readReply text t) out)
+readCall text t out = choose (ltb (length out) 16) (readDone (callOf 0 out) t) (readCallWith (readReply text t) out)
 
 -- write: 3 bytes
 pub record WriteCall : Type 0 where
@@ -95,9 +100,9 @@ pub record WriteCall : Type 0 where
 abbrev pub writeDone : Call → List ℕ → WriteCall
 writeDone call buffer = record { call = call; buffer = buffer }
 
-abbrev pub bufferTold : WriteReply → List ℕ → WriteCall
-bufferTold r out = writeDone (callOf 1 (told (r .refusal) (r .bytes ∷ []) out)) (r .buffer)
+abbrev pub writeCallWith : WriteReply → List ℕ → WriteCall
+writeCallWith r out = writeDone (callOf 1 (outWith (r .refusal) (r .bytes ∷ []) out)) (r .buffer)
 
 unfoldable pub writeCall : List ℕ → List ℕ → List ℕ → WriteCall
 writeCall log buffer out =
-    choose (ltb (length out) 16) (writeDone (callOf 0 out) buffer) (bufferTold (writeReply log buffer) out)
+    choose (ltb (length out) 16) (writeDone (callOf 0 out) buffer) (writeCallWith (writeReply log buffer) out)

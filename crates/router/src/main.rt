@@ -15,7 +15,7 @@ fn main() {
     let mut log = [0u32; 16384];
     let mut routes = [0u8; 65536];
     let got = io::read_full(STDIN_FILENO, &mut input);
-    let bytes = text::respond(
+    let bytes = flow::respond(
         &input[..got],
         &mut kind,
         &mut capacity,

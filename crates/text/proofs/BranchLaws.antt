@@ -17,9 +17,9 @@ use borrow.Author.Tests.{lt-ltb, le-ltb, eq-eqb, ne-eqb}
 use Rattle.price.proofs.TestLaws.{either-way}
 use Rattle.negotiation.specs.Records.{decode}
 use Rattle.text.specs.Lines.{letterR, letterB, printLine}
-use Rattle.text.specs.Routes.{recordSound, soundWords, Branch, steps, branchesIn, branchText, held, routeBranches, routesText, notWritten, textReply, writeReply}
+use Rattle.text.specs.Routes.{recordSound, soundWords, Branch, steps, branchesIn, branchText, capped, routeBranches, routesText, notWritten, textReply, writeReply}
 use Rattle.text.specs.WriteSteps.{Put, unsound, logChecked}
-use Rattle.text.specs.ReadReplies.{laid}
+use Rattle.text.specs.ReadReplies.{writtenOver}
 use Rattle.text.proofs.PlacedLaws.{put-length, put-then, placed-start}
 use Rattle.text.proofs.LogLaws.{soundAfter, sound-stop, nextAt, sound-at, long-at, fits-at, most-at, decode-at, decode-none, Found, found-none}
 use Rattle.text.proofs.StepTextLaws.{letter-any, WrittenSoFar, so-far-none, so-far-length, so-far-room, so-far-more, so-far-all, part}
@@ -99,21 +99,21 @@ module _ {log : List ℕ} {at : ℕ} (p : Rest log at) (l : at < length log) whe
 -- the bytes of the branches before a place are counted
 pub record Counting (log : List ℕ) (iteration bytes at : ℕ) : Type 0 where
   pub rest : Rest log at
-  pub held-all : held (bytes + length (textFrom iteration log at)) ≡ held (length (branchText (branchesIn iteration (decode log))))
-  pub small : bytes ≡ held bytes
+  pub capped-all : capped (bytes + length (textFrom iteration log at)) ≡ capped (length (branchText (branchesIn iteration (decode log))))
+  pub small : bytes ≡ capped bytes
 
 pub counting-none : (log : List ℕ) (iteration : ℕ) → soundWords log ≡ length log → Counting log iteration 0 0
 counting-none log iteration e =
-    record { rest = rest-none log e; held-all = rw (zero-add (length (textFrom iteration log 0))); small = omega arith }
+    record { rest = rest-none log e; capped-all = rw (zero-add (length (textFrom iteration log 0))); small = omega arith }
 
 module _ {log : List ℕ} {iteration bytes at : ℕ} (p : Counting log iteration bytes at) where
-  pub counting-met : {sum count : ℕ} → at < length log → getD log at 0 ≡ iteration → count ≡ length (recordText log at) → sum ≡ held (bytes + count) → Counting log iteration sum (nextAt log at)
+  pub counting-met : {sum count : ℕ} → at < length log → getD log at 0 ≡ iteration → count ≡ length (recordText log at) → sum ≡ capped (bytes + count) → Counting log iteration sum (nextAt log at)
   counting-met {sum} {count} l e c s =
       let met = ap length (text-met (p .rest) l iteration e) in
       let long = length-append (recordText log at) (textFrom iteration log (nextAt log at)) in
       record {
         rest = rest-next (p .rest) l;
-        held-all = omega (arith, p .held-all);
+        capped-all = omega (arith, p .capped-all);
         small = omega arith;
       }
 
@@ -121,12 +121,12 @@ module _ {log : List ℕ} {iteration bytes at : ℕ} (p : Counting log iteration
   counting-passed l e =
       record {
         rest = rest-next (p .rest) l;
-        held-all = rw (← text-passed (p .rest) l iteration e) (p .held-all);
+        capped-all = rw (← text-passed (p .rest) l iteration e) (p .capped-all);
         small = p .small;
       }
 
-  pub counting-all : length log ≤ at → bytes ≡ held (length (branchText (branchesIn iteration (decode log))))
-  counting-all l = omega (arith, p .small, p .held-all, ap length (text-none iteration log at l))
+  pub counting-all : length log ≤ at → bytes ≡ capped (length (branchText (branchesIn iteration (decode log))))
+  counting-all l = omega (arith, p .small, p .capped-all, ap length (text-none iteration log at l))
 
 -- the text of the branches before a place is written
 pub record PuttingBranches (iteration : ℕ) (log : List ℕ) (start : ℕ) (before after : List ℕ) (next at : ℕ) : Type 0 where
@@ -174,8 +174,8 @@ bodyText iteration log = branchText (branchesIn iteration (decode log))
 
 module _ (iteration turns : ℕ) (log : List ℕ) where
   pub needed-sum :
-      {a b r : ℕ} → a ≡ length (printLine 0 (iteration ∷ turns ∷ [])) → b ≡ held (length (bodyText iteration log)) → r ≡ held (a + b) →
-      r ≡ held (length (headLine iteration turns) + length (bodyText iteration log))
+      {a b r : ℕ} → a ≡ length (printLine 0 (iteration ∷ turns ∷ [])) → b ≡ capped (length (bodyText iteration log)) → r ≡ capped (a + b) →
+      r ≡ capped (length (headLine iteration turns) + length (bodyText iteration log))
   needed-sum d e f = omega (arith, letter-any 0 letterR (iteration ∷ turns ∷ []))
 
 module _ {log : List ℕ} {iteration turns : ℕ} (f : Found log iteration turns) where
@@ -187,11 +187,11 @@ module _ {log : List ℕ} {iteration turns : ℕ} (f : Found log iteration turns
   text-length = ap length text-is ∙ length-append (headLine iteration turns) (bodyText iteration log)
 
   module _ (buffer : List ℕ) where
-    pub write-short : {needed : ℕ} → needed ≡ held (length (headLine iteration turns) + length (bodyText iteration log)) → length buffer < needed → notWritten (11 ∷ needed ∷ []) buffer ≡ writeReply log buffer
+    pub write-short : {needed : ℕ} → needed ≡ capped (length (headLine iteration turns) + length (bodyText iteration log)) → length buffer < needed → notWritten (11 ∷ needed ∷ []) buffer ≡ writeReply log buffer
     unfolding writeReply textReply
     write-short {needed} e l =
         let long = text-length in
-        let is : held (length (routesText (decode log))) ≡ needed = omega arith in
+        let is : capped (length (routesText (decode log))) ≡ needed = omega arith in
         rw (f .is-sound, lt-ltb (length buffer) (length (routesText (decode log))) (omega arith), is)
 
     module _ (fits : length (headLine iteration turns) + length (bodyText iteration log) ≤ length buffer) where
@@ -206,7 +206,7 @@ module _ {log : List ℕ} {iteration turns : ℕ} (f : Found log iteration turns
           let long = text-length in
           let whole = put-then p q (omega arith) in
           let count : bytes ≡ length (routesText (decode log)) = omega (arith, p .next-is, q .next-is) in
-          let same : after ≡ laid (routesText (decode log)) buffer =
+          let same : after ≡ writtenOver (routesText (decode log)) buffer =
           whole .written ∙ placed-start (headLine iteration turns ++ bodyText iteration log) buffer ∙ rw text-is in
           rw (f .is-sound, le-ltb (length buffer) (length (routesText (decode log))) (omega arith), ← count, ← same)
 

@@ -43,7 +43,9 @@ abbrev branchOf : List ℕ → Branch
 branchOf fs = record { net = getD fs 0 0; from = getD fs 1 0; to = getD fs 2 0 }
 
 -- a text that begins with a line lists its branch first, then those of what follows
-pub first-listed : {bytes rest : List ℕ} {b : Branch} {cs : List Branch} → line letterB 3 bytes ≡ taken (b .net ∷ b .from ∷ b .to ∷ []) rest → BranchLines bytes cs → (ds : List Branch) × BranchLines rest ds × (cs ≡ b ∷ ds)
+pub first-listed :
+    {bytes rest : List ℕ} {b : Branch} {cs : List Branch} → line letterB 3 bytes ≡ taken (b .net ∷ b .from ∷ b .to ∷ []) rest → BranchLines bytes cs
+    → (ds : List Branch) × BranchLines rest ds × (cs ≡ b ∷ ds)
 first-listed {rest = rest} {b = b} e ended = absurd (none-read b rest e)
 first-listed {rest = rest} {b = b} e (next {rest = rest′} {b = c} {bs = ds} e′ q) =
     let same : taken (c .net ∷ c .from ∷ c .to ∷ []) rest′ ≡ taken (b .net ∷ b .from ∷ b .to ∷ []) rest = sym e′ ∙ e in

@@ -22,12 +22,12 @@ use Rattle.price.proofs.TestLaws.{either-way, both-left, both-right}
 use Rattle.price.proofs.ListLaws.{total-append}
 use Rattle.text.specs.Lines.{letterE, taken, line}
 use Rattle.text.specs.JobText.{values, refused, lastOf, rises, edgeWithin, edgeOrdered, edgeLine, part, stopped, edgeLists, edgeLines, firstPlaces}
-use Rattle.text.specs.Steps.{After, twoAt, edgeAt, EdgePlace, edgeTables}
-use Rattle.text.specs.declared.fields.Two.{Two}
-use Rattle.text.specs.declared.fields.Two.the-variants as w
+use Rattle.text.specs.Steps.{After, fieldsAt, edgeAt, EdgePlace, edgeTables}
+use Rattle.text.specs.declared.fields.LineFields.{LineFields}
+use Rattle.text.specs.declared.fields.LineFields.the-variants as lf
 use Rattle.text.specs.declared.edges.EdgeLine.{EdgeLine}
 use Rattle.text.specs.declared.edges.EdgeLine.the-variants as el
-use Rattle.text.proofs.JudgedLaws.{two-malformed, two-taken, judged-beyond, judged-wrong, judged-taken, judged-values}
+use Rattle.text.proofs.JudgedLaws.{line-malformed, line-taken, judged-beyond, judged-wrong, judged-taken, judged-values}
 use Rattle.text.proofs.LastLaws.{last-more}
 
 -- ---- the order of edges
@@ -88,14 +88,14 @@ module _ (count lastFrom lastTo a b : ℕ) where
   unfolding edgeOrdered
   edge-order d q e = rw (ne-eqb a b d) (sym e ∙ q)
 
-module _ (n count lastFrom lastTo at : ℕ) (text : List ℕ) {r : Two} (read : twoAt text r ≡ line letterE 2 (drop at text)) where
-  pub edge-shape : r ≡ w.Fault → refused 1 ≡ edgeLine n count lastFrom lastTo (drop at text)
+module _ (n count lastFrom lastTo at : ℕ) (text : List ℕ) {r : LineFields} (read : fieldsAt 2 text r ≡ line letterE 2 (drop at text)) where
+  pub edge-shape : r ≡ lf.Fault → refused 1 ≡ edgeLine n count lastFrom lastTo (drop at text)
   unfolding edgeLine
-  edge-shape e = rw (two-malformed text read e)
+  edge-shape e = rw (line-malformed 2 text read e)
 
-  module _ {a b next : ℕ} (e : r ≡ w.Fields a b next) where
+  module _ {a b c d next : ℕ} (e : r ≡ lf.Fields a b c d next) where
     shape : line letterE 2 (drop at text) ≡ taken (a ∷ b ∷ []) (drop next text)
-    shape = two-taken text read e
+    shape = line-taken 2 text read e
 
     pub edge-beyond : edgeWithin n (a ∷ b ∷ []) ≡ false → refused 2 ≡ edgeLine n count lastFrom lastTo (drop at text)
     unfolding edgeLine
@@ -175,7 +175,10 @@ before-more froms from u =
     total-append (λ from. choose (ltb from u) 1 0) froms (from ∷ []) ∙ rw (add-zero (choose (ltb from u) 1 0))
 
 -- the rows after the last edge's are filled with the number of edges
-rows-filled : (froms table : List ℕ) (row to : ℕ) → row ≤ to → to + 1 ≤ length table → ((u : ℕ) → row < u → before froms u ≡ length froms) → take (row + 1) table ≡ upTo (before froms) (row + 1) → take (to + 1) (filled table (row + 1) (to + 1) (length froms)) ≡ upTo (before froms) (to + 1)
+rows-filled :
+    (froms table : List ℕ) (row to : ℕ) → row ≤ to → to + 1 ≤ length table → ((u : ℕ) → row < u → before froms u ≡ length froms)
+    → take (row + 1) table ≡ upTo (before froms) (row + 1)
+    → take (to + 1) (filled table (row + 1) (to + 1) (length froms)) ≡ upTo (before froms) (to + 1)
 rows-filled froms table row to l h above e =
     let d : row + 1 + (to + 1 - (row + 1)) ≡ to + 1 = omega arith in
     take-filled table (row + 1) (to + 1) (length froms) (omega arith) h
@@ -186,11 +189,17 @@ rows-filled froms table row to l h above e =
 -- ---- between two E lines
 
 -- a line that is read, and one that is refused
-edge-step : (n k count lastFrom lastTo line : ℕ) (froms targets bs : List ℕ) {a b : ℕ} {rest : List ℕ} → length targets ≡ count → lastOf froms ≡ lastFrom → lastOf targets ≡ lastTo → values (a ∷ b ∷ []) rest ≡ edgeLine n count lastFrom lastTo bs → edgeLines n (suc k) (edgeLists froms targets) line bs ≡ edgeLines n k (edgeLists (froms ++ (a ∷ [])) (targets ++ (b ∷ []))) (line + 1) rest
+edge-step :
+    (n k count lastFrom lastTo line : ℕ) (froms targets bs : List ℕ) {a b : ℕ} {rest : List ℕ} → length targets ≡ count → lastOf froms ≡ lastFrom
+    → lastOf targets ≡ lastTo → values (a ∷ b ∷ []) rest ≡ edgeLine n count lastFrom lastTo bs
+    → edgeLines n (suc k) (edgeLists froms targets) line bs ≡ edgeLines n k (edgeLists (froms ++ (a ∷ [])) (targets ++ (b ∷ []))) (line + 1) rest
 unfolding edgeLines
 edge-step n k count lastFrom lastTo line froms targets bs long f t e = rw (f, t, long, ← e)
 
-edge-stop : (n k count lastFrom lastTo line : ℕ) (froms targets bs : List ℕ) {m : ℕ} → length targets ≡ count → lastOf froms ≡ lastFrom → lastOf targets ≡ lastTo → refused m ≡ edgeLine n count lastFrom lastTo bs → edgeLines n (suc k) (edgeLists froms targets) line bs ≡ stopped m line
+edge-stop :
+    (n k count lastFrom lastTo line : ℕ) (froms targets bs : List ℕ) {m : ℕ} → length targets ≡ count → lastOf froms ≡ lastFrom
+    → lastOf targets ≡ lastTo → refused m ≡ edgeLine n count lastFrom lastTo bs
+    → edgeLines n (suc k) (edgeLists froms targets) line bs ≡ stopped m line
 unfolding edgeLines
 edge-stop n k count lastFrom lastTo line froms targets bs long f t e = rw (f, t, long, ← e)
 
@@ -210,7 +219,9 @@ pub record EdgesRead (text : List ℕ) (from first nodes edges : ℕ) (firsts₀
   pub rows : take (row + 1) firsts ≡ upTo (before froms) (row + 1)
   pub rest-is : edgeLines nodes edges (edgeLists [] []) first (drop from text) ≡ edgeLines nodes (edges - k) (edgeLists froms (take k targets)) line (drop at text)
 
-pub edges-none : (text : List ℕ) (from first nodes edges : ℕ) (firsts targets : List ℕ) → from ≤ length text → first ≤ from + 1 → nodes + 1 ≤ length firsts → EdgesRead text from first nodes edges (set firsts 0 0) targets (set firsts 0 0) targets from first 0 0 0
+pub edges-none :
+    (text : List ℕ) (from first nodes edges : ℕ) (firsts targets : List ℕ) → from ≤ length text → first ≤ from + 1 → nodes + 1 ≤ length firsts
+    → EdgesRead text from first nodes edges (set firsts 0 0) targets (set firsts 0 0) targets from first 0 0 0
 unfolding total upTo
 edges-none text from first nodes edges firsts targets a l h =
     let all : edges - 0 ≡ edges = omega arith in
@@ -253,7 +264,10 @@ module _ {text : List ℕ} {from first nodes edges : ℕ} {firsts₀ targets₀ 
         let low : row ≤ u = rises-least k row target u v first-row (edge-rising nodes k row target (drop at text) (sym (ap (edgeAt text) e) ∙ told)) in
         (omega arith, omega (arith, s .firsts-same, room .0, place .1))
 
-    pub edges-more : {r : EdgeLine} {u v next : ℕ} {firsts′ : List ℕ} → r ≡ el.Edge u v next → edgeAt text r ≡ edgeLine nodes k row target (drop at text) → EdgePlace nodes at text r → firsts′ ≡ filled firsts (row + 1) (u + 1) k → EdgesRead text from first nodes edges firsts₀ targets₀ firsts′ (set targets k v) next (line + 1) u v (k + 1)
+    pub edges-more :
+        {r : EdgeLine} {u v next : ℕ} {firsts′ : List ℕ} → r ≡ el.Edge u v next → edgeAt text r ≡ edgeLine nodes k row target (drop at text)
+        → EdgePlace nodes at text r → firsts′ ≡ filled firsts (row + 1) (u + 1) k
+        → EdgesRead text from first nodes edges firsts₀ targets₀ firsts′ (set targets k v) next (line + 1) u v (k + 1)
     edges-more {r} {u} {v} {next} {firsts′} e told p filling =
         let place : After (at + 1) text next × (u < nodes) × (v < nodes) = subst (λ (x : EdgeLine). EdgePlace nodes at text x) e p in
         let wide : (row + 1 ≤ u + 1) × (u + 1 ≤ length firsts) = edges-rows e told p in
@@ -282,7 +296,9 @@ module _ {text : List ℕ} {from first nodes edges : ℕ} {firsts₀ targets₀ 
               (edge-step nodes (edges - (k + 1)) k row target line (s .froms) (take k targets) (drop at text) targets-read (s .last-from) (s .last-to) (sym (ap (edgeAt text) e) ∙ told));
         }
 
-    pub edges-stop : {r : EdgeLine} {m : ℕ} → r ≡ el.Refused m → edgeAt text r ≡ edgeLine nodes k row target (drop at text) → stopped m line ≡ edgeTables nodes (edgeLines nodes edges (edgeLists [] []) first (drop from text))
+    pub edges-stop :
+        {r : EdgeLine} {m : ℕ} → r ≡ el.Refused m → edgeAt text r ≡ edgeLine nodes k row target (drop at text)
+        → stopped m line ≡ edgeTables nodes (edgeLines nodes edges (edgeLists [] []) first (drop from text))
     edges-stop {r} {m} e told =
         let stop : edgeLines nodes edges (edgeLists [] []) first (drop from text) ≡ stopped m line =
         s .rest-is ∙ rw left (edge-stop nodes (edges - (k + 1)) k row target line (s .froms) (take k targets) (drop at text) targets-read (s .last-from) (s .last-to) (sym (ap (edgeAt text) e) ∙ told)) in
@@ -296,7 +312,10 @@ module _ {text : List ℕ} {from first nodes edges : ℕ} {firsts₀ targets₀ 
   edges-end-long filling = rw filling (length-filled firsts (row + 1) (nodes + 1) edges (edges-last-rows .0) (edges-last-rows .1) ∙ s .firsts-same)
 
   -- the tables after the last line
-  pub edges-end : {firsts′ : List ℕ} → edges ≤ k → firsts′ ≡ filled firsts (row + 1) (nodes + 1) edges → part (record { firstEdges = take (nodes + 1) firsts′; edgeTargets = take edges targets }) line (drop at text) ≡ edgeTables nodes (edgeLines nodes edges (edgeLists [] []) first (drop from text))
+  pub edges-end :
+      {firsts′ : List ℕ} → edges ≤ k → firsts′ ≡ filled firsts (row + 1) (nodes + 1) edges
+      → part (record { firstEdges = take (nodes + 1) firsts′; edgeTargets = take edges targets }) line (drop at text)
+      ≡ edgeTables nodes (edgeLines nodes edges (edgeLists [] []) first (drop from text))
   unfolding edgeLines firstPlaces
   edges-end {firsts′} l filling =
       let all : k ≡ edges = omega (arith, s .read) in

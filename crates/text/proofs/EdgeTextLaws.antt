@@ -150,7 +150,10 @@ pairs-read n (suc k) l l' at at' bs rest e =
     (pairs-read n k _ l' (at + 1) at' (g .1) rest (g .3))
 
 -- the printed pairs are read again
-pairs-again : (n : ℕ) → n ≤ 4096 → (fs ts : List ℕ) (l : EdgeLists) (at : ℕ) (rest : List ℕ) → Rising n (length (l .targets)) (lastOf (l .froms)) (lastOf (l .targets)) fs ts → edgeLines n (length ts) l at (pairText fs ts ++ rest) ≡ part (edgeLists (l .froms ++ fs) (l .targets ++ ts)) (at + length ts) rest
+pairs-again :
+    (n : ℕ) → n ≤ 4096 → (fs ts : List ℕ) (l : EdgeLists) (at : ℕ) (rest : List ℕ)
+    → Rising n (length (l .targets)) (lastOf (l .froms)) (lastOf (l .targets)) fs ts
+    → edgeLines n (length ts) l at (pairText fs ts ++ rest) ≡ part (edgeLists (l .froms ++ fs) (l .targets ++ ts)) (at + length ts) rest
 unfolding edgeLines pairText
 pairs-again n few [] [] l at rest r = rw (append-nil (l .froms), append-nil (l .targets), add-zero at)
 pairs-again n few [] (t ∷ ts) l at rest r = absurd (omega (arith, r .same))
@@ -183,7 +186,9 @@ edges-read n k l' at at' bs rest e =
     let r = pairs-read n k (edgeLists [] []) l' at at' bs rest e in
     rw (r .lists-are) (rising-read n k (r .froms-more) (r .targets-more) bs rest (r .rising) (r .long) (r .text))
 
-pub edges-printed : (n : ℕ) (first targets : List ℕ) (at : ℕ) (rest : List ℕ) → n ≤ 4096 → firstEdgesSound n (length targets) first ≡ true → ((u : ℕ) → u < n → rowSound n u (rowOf first targets u) ≡ true) → EdgesPrinted n first targets at rest
+pub edges-printed :
+    (n : ℕ) (first targets : List ℕ) (at : ℕ) (rest : List ℕ) → n ≤ 4096 → firstEdgesSound n (length targets) first ≡ true
+    → ((u : ℕ) → u < n → rowSound n u (rowOf first targets u) ≡ true) → EdgesPrinted n first targets at rest
 edges-printed n first targets at rest few sound rows =
     let filed : Filed n first (keysOf first n) = keysOf-filed n (length targets) first sound in
     let same : length (keysOf first n) ≡ length targets = keysOf-long n (length targets) first sound in

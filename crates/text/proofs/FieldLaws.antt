@@ -3,9 +3,10 @@
 --     digit-                a byte that is a digit or none
 --     Digits, digits-       the loop over the further digits of a number
 --     field-, comma-        one field
---     Comma, Taken          a field that was read, and the fields of a line with its LF
---     fields-, taken-here   the fields of a line, one by one
---     -read, -fault         what the answers of the functions of `fields` say
+--     rest-                 what is left of a line's fields after one of them
+--     FieldRead, field-     a field of a line, as its answer says it
+--     fault-on, no-end      a line that is malformed
+--     four-read             the fields of a line with its LF
 -- Assumes nothing.
 use mathlib.Core.Bool.{Bool, true, false}
 use mathlib.Core.List.{List, [], _∷_}
@@ -15,23 +16,17 @@ use Prim.Native.Nat.{ℕ, zero, suc, _+_, _*_, _-_, _^_, _≤_, _<_}
 use native.Mathlib.Nat.{pow-succ', pow-le-pow-right, mul-assoc, mul-le-mul-left, mul-le-mul-right, le-trans}
 use native.Mathlib.Numerals.{add-one, sub-one}
 use native.Mathlib.Omega.{arith}
-use lib.Dec.{leb, eqb}
-use lib.ListN.{length, getD, drop, drop-of-length-le}
+use lib.Dec.{leb, ltb, eqb}
+use lib.ListN.{length, getD, take, drop, drop-of-length-le}
 use lib.Seq.{drop-cons, drop-drop}
-use borrow.Author.Tests.{le-leb, lt-leb, eq-eqb, ne-eqb, leb-true}
+use borrow.Author.Tests.{le-leb, lt-leb, lt-ltb, le-ltb, eq-eqb, ne-eqb, leb-true}
 use Rattle.price.specs.Test.{choose}
 use Rattle.price.proofs.TestLaws.{both-left, both-right, le-or-lt, true≢false}
 use Rattle.text.specs.Decimal.{isDigit}
-use Rattle.text.specs.Lines.{lf, comma, Field, number, fault, digitsAfter, field, Fields, taken, malformed, afterField, fields, begins}
-use Rattle.text.specs.Steps.{commaField, After, fieldAt, FieldPlace, twoAt, TwoPlace, threeAt, ThreePlace, fourAt, FourPlace}
+use Rattle.text.specs.Lines.{lf, comma, Field, number, fault, digitsAfter, field, Fields, taken, malformed, withValue, afterField, fields, begins}
+use Rattle.text.specs.Steps.{commaField, After, fieldAt, FieldPlace, fieldOf, FieldOn}
 use Rattle.text.specs.declared.fields.Field as fieldType
 use Rattle.text.specs.declared.fields.Field.the-variants as f
-use Rattle.text.specs.declared.fields.Two as twoType
-use Rattle.text.specs.declared.fields.Two.the-variants as w
-use Rattle.text.specs.declared.fields.Three as threeType
-use Rattle.text.specs.declared.fields.Three.the-variants as h
-use Rattle.text.specs.declared.fields.Four as fourType
-use Rattle.text.specs.declared.fields.Four.the-variants as q
 
 -- ---- the byte at a place
 
@@ -185,18 +180,6 @@ field-onward at text r p e = (p .0 ∙ sym e, place-earlier at text r (p .1))
 
 -- ---- the fields of a line
 
--- a field after a comma, from a place to the next
-pub record Comma (at : ℕ) (text : List ℕ) (value next : ℕ) : Type 0 where
-  pub is : commaField (drop at text) ≡ number value (drop next text)
-  pub on : at ≤ next
-  pub within : next ≤ length text
-
--- so many fields with the LF after them, from a place to the next
-pub record Taken (k at : ℕ) (text vs : List ℕ) (next : ℕ) : Type 0 where
-  pub is : fields k (drop at text) ≡ taken vs (drop next text)
-  pub on : at ≤ next
-  pub within : next ≤ length text
-
 -- the fault of a byte that is no comma, before or after the choice
 comma-or-fault : (t : Bool) (g : Field) (next : List ℕ → Fields) → choose t (afterField g next) malformed ≡ afterField (choose t g fault) next
 comma-or-fault true g next = refl
@@ -208,12 +191,49 @@ unfolding fields commaField
 fields-suc k [] = refl
 fields-suc k (b ∷ bs) = comma-or-fault (eqb b comma) (field bs) (λ rest. fields k rest)
 
-pub fields-malformed : (k : ℕ) {at value next : ℕ} {text : List ℕ} → Comma at text value next → fields k (drop next text) ≡ malformed → fields (suc k) (drop at text) ≡ malformed
-fields-malformed k {at} {text = text} c e = fields-suc k (drop at text) ∙ rw (c .is, e)
+-- the others with this one before them, where the line has it
+abbrev withDue : Bool → ℕ → Fields → Fields
+withDue true v others = withValue v others
+withDue false v others = others
 
-pub fields-taken : {k at value one next : ℕ} {text vs : List ℕ} → Comma at text value one → Taken k one text vs next → Taken (suc k) at text (value ∷ vs) next
-fields-taken {k} {at} {text = text} c t =
-    record { is = fields-suc k (drop at text) ∙ rw (c .is, t .is); on = omega arith; within = t .within }
+due-malformed : (t : Bool) (v : ℕ) → withDue t v malformed ≡ malformed
+due-malformed true v = refl
+due-malformed false v = refl
+
+-- a field that was read: what is left of the line goes on after it
+rest-read :
+    (k count v : ℕ) (bs rest : List ℕ) → fieldOf k count bs ≡ number v rest
+    → fields (count - k) bs ≡ withDue (ltb k count) v (fields (count - (k + 1)) rest)
+unfolding fieldOf
+rest-read k count v bs rest is =
+    ⊎-elim
+    (λ (past : count ≤ k).
+    let none : ltb k count ≡ false = le-ltb k count past in
+    let here : number 0 bs ≡ number v rest = rw none at is in
+    let same : bs ≡ rest = cc in
+    let left : count - k ≡ 0 = omega arith in
+    let less : count - (k + 1) ≡ 0 = omega arith in
+    rw (none, left, less, same))
+    (λ (due : k < count).
+    let some : ltb k count ≡ true = lt-ltb k count due in
+    let here : commaField bs ≡ number v rest = rw some at is in
+    let left : count - k ≡ suc (count - (k + 1)) = omega arith in
+    rw (some, left) (fields-suc (count - (k + 1)) bs ∙ rw here))
+    (le-or-lt count k)
+
+rest-fault : (k count : ℕ) (bs : List ℕ) → fieldOf k count bs ≡ fault → fields (count - k) bs ≡ malformed
+unfolding fieldOf
+rest-fault k count bs is =
+    ⊎-elim
+    (λ (past : count ≤ k).
+    let here : number 0 bs ≡ fault = rw (le-ltb k count past) at is in
+    let z : _≡_ {A = ℕ} 0 1 = cc in
+    absurd (omega arith))
+    (λ (due : k < count).
+    let here : commaField bs ≡ fault = rw (lt-ltb k count due) at is in
+    let left : count - k ≡ suc (count - (k + 1)) = omega arith in
+    rw left (fields-suc (count - (k + 1)) bs ∙ rw here))
+    (le-or-lt count k)
 
 pub fields-no-end : (bs : List ℕ) → begins lf bs ≡ false → fields 0 bs ≡ malformed
 unfolding begins fields
@@ -225,45 +245,74 @@ unfolding begins fields
 fields-nil [] e = absurd (true≢false (sym e))
 fields-nil (b ∷ bs) e = rw e
 
-pub fields-end : (at : ℕ) (text : List ℕ) → begins lf (drop at text) ≡ true → Taken 0 at text [] (at + 1)
-fields-end at text e =
-    let inside : at < length text = begins-within lf at text e in
-    record { is = fields-nil (drop at text) e ∙ ap (taken []) (drop-drop 1 at text); on = omega arith; within = omega arith }
+-- field k of so many, where the line has it and where it hasn't
+module _ (k count : ℕ) (bs : List ℕ) where
+  pub field-none : count ≤ k → number 0 bs ≡ fieldOf k count bs
+  unfolding fieldOf
+  field-none past = rw (le-ltb k count past)
 
--- what fields that were taken say of the answer
-pub taken-here : {k at : ℕ} {text vs : List ℕ} {next : ℕ} → Taken k at text vs next → (taken vs (drop next text) ≡ fields k (drop at text)) × After at text next
-taken-here t = (sym (t .is), (t .on, t .within))
+  pub field-due : {x : Field} → k < count → x ≡ commaField bs → x ≡ fieldOf k count bs
+  unfolding fieldOf
+  field-due due e = rw (lt-ltb k count due) e
 
--- ---- what the answers of the functions of `fields` say
+pub field-on : (at : ℕ) (text : List ℕ) (r : fieldType.Field) → FieldPlace at text r → FieldOn at r
+field-on at text (f.Number value next) p = p .0
+field-on at text f.Fault p = tt
 
-pub comma-read : {r : fieldType.Field} {value next at : ℕ} {text : List ℕ} → r ≡ f.Number value next → (fieldAt text r ≡ commaField (drop at text)) × FieldPlace at text r → Comma at text value next
-comma-read {at = at} {text = text} e p =
-    let after : After at text _ = subst (FieldPlace at text) e (p .1) in
-    record { is = sym (p .0) ∙ ap (fieldAt text) e; on = after .0; within = after .1 }
+-- field k was read, from a place to the next
+pub record FieldRead (count k at : ℕ) (text : List ℕ) (value next : ℕ) : Type 0 where
+  pub is : fieldOf k count (drop at text) ≡ number value (drop next text)
+  pub on : at ≤ next
 
-pub comma-fault : (k : ℕ) {r : fieldType.Field} (text bs : List ℕ) → r ≡ f.Fault → fieldAt text r ≡ commaField bs → fields (suc k) bs ≡ malformed
-comma-fault k text bs e is = fields-suc k bs ∙ rw (sym is ∙ ap (fieldAt text) e)
+pub field-read :
+    {r : fieldType.Field} {k count value next at : ℕ} {text : List ℕ} → r ≡ f.Number value next
+    → (fieldAt text r ≡ fieldOf k count (drop at text)) × FieldOn at r → FieldRead count k at text value next
+field-read {at = at} {text = text} e p =
+    record { is = sym (p .0) ∙ ap (fieldAt text) e; on = subst (FieldOn at) e (p .1) }
 
-pub two-read : {r : twoType.Two} {a b next at : ℕ} {text : List ℕ} → r ≡ w.Fields a b next → (twoAt text r ≡ fields 2 (drop at text)) × TwoPlace at text r → Taken 2 at text (a ∷ b ∷ []) next
-two-read {at = at} {text = text} e p =
-    let after : After at text _ = subst (TwoPlace at text) e (p .1) in
-    record { is = sym (p .0) ∙ ap (twoAt text) e; on = after .0; within = after .1 }
+pub field-missing :
+    {r : fieldType.Field} (k count : ℕ) (text bs : List ℕ) → r ≡ f.Fault → fieldAt text r ≡ fieldOf k count bs
+    → fields (count - k) bs ≡ malformed
+field-missing k count text bs e is = rest-fault k count bs (sym is ∙ ap (fieldAt text) e)
 
-pub two-fault : {r : twoType.Two} (text bs : List ℕ) → r ≡ w.Fault → twoAt text r ≡ fields 2 bs → fields 2 bs ≡ malformed
-two-fault text bs e is = sym is ∙ ap (twoAt text) e
+-- a fault further on is a fault of the whole line
+pub fault-on :
+    {count k at value next : ℕ} {text : List ℕ} → FieldRead count k at text value next
+    → fields (count - (k + 1)) (drop next text) ≡ malformed → fields (count - k) (drop at text) ≡ malformed
+fault-on {count} {k} {at} {value} {next} {text} one e =
+    rest-read k count value (drop at text) (drop next text) (one .is) ∙ rw e (due-malformed (ltb k count) value)
 
-pub three-read : {r : threeType.Three} {a b c next at : ℕ} {text : List ℕ} → r ≡ h.Fields a b c next → (threeAt text r ≡ fields 3 (drop at text)) × ThreePlace at text r → Taken 3 at text (a ∷ b ∷ c ∷ []) next
-three-read {at = at} {text = text} e p =
-    let after : After at text _ = subst (ThreePlace at text) e (p .1) in
-    record { is = sym (p .0) ∙ ap (threeAt text) e; on = after .0; within = after .1 }
+-- before the first field all are left
+pub all-fields : (count : ℕ) (bs : List ℕ) → fields count bs ≡ fields (count - 0) bs
+all-fields count bs = let same : count - 0 ≡ count = omega arith in rw same
 
-pub three-fault : {r : threeType.Three} (text bs : List ℕ) → r ≡ h.Fault → threeAt text r ≡ fields 3 bs → fields 3 bs ≡ malformed
-three-fault text bs e is = sym is ∙ ap (threeAt text) e
+-- without an LF the line is malformed
+pub no-end : (count at : ℕ) (text : List ℕ) → count ≤ 4 → begins lf (drop at text) ≡ false → fields (count - 4) (drop at text) ≡ malformed
+no-end count at text few e = let none : count - 4 ≡ 0 = omega arith in rw none (fields-no-end (drop at text) e)
 
-pub four-read : {r : fourType.Four} {a b c d next at : ℕ} {text : List ℕ} → r ≡ q.Fields a b c d next → (fourAt text r ≡ fields 4 (drop at text)) × FourPlace at text r → Taken 4 at text (a ∷ b ∷ c ∷ d ∷ []) next
-four-read {at = at} {text = text} e p =
-    let after : After at text _ = subst (FourPlace at text) e (p .1) in
-    record { is = sym (p .0) ∙ ap (fourAt text) e; on = after .0; within = after .1 }
+-- so many of four values
+first-few :
+    (count a b c d : ℕ) (rest : List ℕ) → count ≤ 4
+    → withDue (ltb 0 count) a (withDue (ltb 1 count) b (withDue (ltb 2 count) c (withDue (ltb 3 count) d (taken [] rest))))
+    ≡ taken (take count (a ∷ b ∷ c ∷ d ∷ [])) rest
+first-few zero a b c d rest few = refl
+first-few (suc zero) a b c d rest few = refl
+first-few (suc (suc zero)) a b c d rest few = refl
+first-few (suc (suc (suc zero))) a b c d rest few = refl
+first-few (suc (suc (suc (suc zero)))) a b c d rest few = refl
+first-few (suc (suc (suc (suc (suc k))))) a b c d rest few = absurd (omega arith)
 
-pub four-fault : {r : fourType.Four} (text bs : List ℕ) → r ≡ q.Fault → fourAt text r ≡ fields 4 bs → fields 4 bs ≡ malformed
-four-fault text bs e is = sym is ∙ ap (fourAt text) e
+-- four fields and the LF after them
+pub four-read :
+    {count at one two three four a b c d : ℕ} {text : List ℕ} → FieldRead count 0 at text a one → FieldRead count 1 one text b two
+    → FieldRead count 2 two text c three → FieldRead count 3 three text d four → count ≤ 4 → begins lf (drop four text) ≡ true
+    → taken (take count (a ∷ b ∷ c ∷ d ∷ [])) (drop (four + 1) text) ≡ fields count (drop at text)
+four-read {count} {at} {one} {two} {three} {four} {a} {b} {c} {d} {text} p q r s few e =
+    let none : count - 4 ≡ 0 = omega arith in
+    let end : fields (count - 4) (drop four text) ≡ taken [] (drop (four + 1) text) =
+    rw none (fields-nil (drop four text) e ∙ ap (taken []) (drop-drop 1 four text)) in
+    let last = rest-read 3 count d (drop three text) (drop four text) (s .is) ∙ ap (withDue (ltb 3 count) d) end in
+    let third = rest-read 2 count c (drop two text) (drop three text) (r .is) ∙ ap (withDue (ltb 2 count) c) last in
+    let second = rest-read 1 count b (drop one text) (drop two text) (q .is) ∙ ap (withDue (ltb 1 count) b) third in
+    let first = rest-read 0 count a (drop at text) (drop one text) (p .is) ∙ ap (withDue (ltb 0 count) a) second in
+    sym (all-fields count (drop at text) ∙ first ∙ first-few count a b c d (drop (four + 1) text) few)

@@ -1,32 +1,34 @@
 -- The first line: the bounds of its counts, what it gives by them, and the lines before the nodes.
 --     head-nodes-low to head-limit, head-bounds   the bounds, one by one and where all are kept
---     head-other, -malformed, -beyond, -read      1, 2, or the values
+--     head-malformed, -beyond, -read              1, 2, or the values
 --     head-tuned, -untuned, -refused              the line with the tuning after it, or the refusal
---     head-counts, head-place, tuned-place        the counts and places of what was read
+--     head-counts, head-limit-sound, head-place, tuned-place   the counts, the limit and places of what was read
 -- Assumes nothing.
 use mathlib.Core.Bool.{true, false}
 use mathlib.Core.List.{List, [], _∷_}
-use mathlib.Core.Path.{_≡_, _∙_, sym, ap}
+use mathlib.Core.Path.{_≡_, refl, _∙_, sym, ap}
 use Prim.Native.Nat.{ℕ, _+_, _≤_, _<_}
 use lib.Dec.{leb}
-use lib.ListN.{length, drop}
+use lib.ListN.{length, getD, drop}
 use borrow.Author.Tests.{le-leb, lt-leb, leb-true}
 use Rattle.price.specs.Test.{both}
 use Rattle.price.specs.Bounds.{nodesMost, limitMost}
 use Rattle.price.specs.declared.Tuning.{Tuning}
 use Rattle.price.proofs.TestLaws.{both-left, both-right}
 use Rattle.search.specs.Tables.{edgesMost}
-use Rattle.negotiation.specs.Tables.{netsMost}
-use Rattle.text.specs.Lines.{letterF, malformed, fields, begins, line}
-use Rattle.text.specs.JobText.{values, refused, part, stopped, between, headWithin, headLine, tuningPart, countsOf, headPart}
-use Rattle.text.specs.Steps.{headAt, HeadPlace, tunedAt, TunedPlace}
+use Rattle.negotiation.specs.Tables.{netsMost, limitSound}
+use Rattle.negotiation.specs.declared.Terms.{Terms}
+use Rattle.text.specs.Lines.{letterF, line}
+use Rattle.text.specs.JobText.{values, refused, Part, part, stopped, andThen, Counts, between, headWithin, headLine, tuningPart, countsOf, headPart}
+use Rattle.text.specs.Steps.{fieldsAt, headAt, HeadPlace, withLimit, tunedAt, TunedPlace}
 use Rattle.text.specs.ReadSteps.{CountsWithin}
+use Rattle.text.specs.declared.fields.LineFields.{LineFields}
+use Rattle.text.specs.declared.fields.LineFields.the-variants as lf
 use Rattle.text.specs.declared.head.Head.{Head}
 use Rattle.text.specs.declared.head.Head.the-variants as hd
 use Rattle.text.specs.declared.tuning.Tuned.{Tuned}
 use Rattle.text.specs.declared.tuning.Tuned.the-variants as tu
-use Rattle.text.proofs.FieldLaws.{Taken}
-use Rattle.text.proofs.JudgedLaws.{line-begins, line-other, judged-values}
+use Rattle.text.proofs.JudgedLaws.{line-malformed, line-taken, judged-beyond, judged-taken, judged-values}
 
 module _ (n e t l : ℕ) where
   pub head-nodes-low : n < 1 → headWithin (n ∷ e ∷ t ∷ l ∷ []) ≡ false
@@ -75,22 +77,39 @@ head-bounds n edges nets limit e =
       nets-most = leb-true nets netsMost (both-right (leb 1 nets) (leb nets netsMost) (both-left (between 1 netsMost nets) limits last));
     }
 
-pub head-other : (bs : List ℕ) → begins letterF bs ≡ false → headLine bs ≡ refused 1
-unfolding headLine
-head-other bs b = rw (line-other letterF 4 bs b)
+-- the limit keeps its bounds too
+head-limited : (n edges nets limit : ℕ) → headWithin (n ∷ edges ∷ nets ∷ limit ∷ []) ≡ true → limitSound limit ≡ true
+unfolding headWithin limitSound
+head-limited n edges nets limit e =
+    let limits = between 1 limitMost limit in
+    let rest = both (leb edges edgesMost) (both (between 1 netsMost nets) limits) in
+    let after = both-right (between 1 nodesMost n) rest e in
+    both-right (between 1 netsMost nets) limits (both-right (leb edges edgesMost) (both (between 1 netsMost nets) limits) after)
 
-module _ (bs : List ℕ) (b : begins letterF bs ≡ true) where
-  pub head-malformed : fields 4 (drop 1 bs) ≡ malformed → headLine bs ≡ refused 1
+module _ (text : List ℕ) {r : LineFields} (read : fieldsAt 4 text r ≡ line letterF 4 text) where
+  pub head-malformed : r ≡ lf.Fault → refused 1 ≡ headLine text
   unfolding headLine
-  head-malformed e = rw (line-begins letterF 4 bs b ∙ e)
+  head-malformed e = rw (line-malformed 4 text read e)
 
-  pub head-beyond : {vs : List ℕ} {next : ℕ} → Taken 4 1 bs vs next → headWithin vs ≡ false → headLine bs ≡ refused 2
-  unfolding headLine
-  head-beyond t e = rw (line-begins letterF 4 bs b ∙ t .is, e)
+  module _ {a b c d next : ℕ} (e : r ≡ lf.Fields a b c d next) where
+    pub head-beyond : headWithin (a ∷ b ∷ c ∷ d ∷ []) ≡ false → refused 2 ≡ headLine text
+    unfolding headLine
+    head-beyond w = sym (judged-beyond headWithin (λ vs. true) (line-taken 4 text read e) w)
 
-  pub head-read : {vs : List ℕ} {next : ℕ} → Taken 4 1 bs vs next → headWithin vs ≡ true → headLine bs ≡ values vs (drop next bs)
-  unfolding headLine
-  head-read t e = rw (line-begins letterF 4 bs b ∙ t .is, e)
+    pub head-read : headWithin (a ∷ b ∷ c ∷ d ∷ []) ≡ true → values (a ∷ b ∷ c ∷ d ∷ []) (drop next text) ≡ headLine text
+    unfolding headLine
+    head-read w = sym (judged-taken headWithin (λ vs. true) (line-taken 4 text read e) w refl)
+
+-- the counts of the first line, with these terms
+abbrev countsWith : List ℕ → Terms → Counts
+countsWith vs t = record { nodes = getD vs 0 0; edges = getD vs 1 0; nets = getD vs 2 0; terms = t }
+
+-- the limit may be put to the tuning before or after the counts are
+counts-through :
+    (vs : List ℕ) (p : Part Tuning) → andThen p (λ g at more. part (countsOf vs g) at more)
+    ≡ andThen (withLimit (getD vs 3 0) p) (λ t at more. part (countsWith vs t) at more)
+counts-through vs (part g at more) = refl
+counts-through vs (stopped k at) = refl
 
 -- the first line as it was read, and the lines before the nodes
 module _ (text : List ℕ) (x : Head) (read : headAt text x ≡ headLine text) where
@@ -99,25 +118,35 @@ module _ (text : List ℕ) (x : Head) (read : headAt text x ≡ headLine text) w
   head-refused is = rw (← read, is)
 
   module _ {n edges nets limit next : ℕ} (is : x ≡ hd.Counts n edges nets limit next) where
-    pub head-counts : CountsWithin n edges nets
+    bounds : headWithin (n ∷ edges ∷ nets ∷ limit ∷ []) ≡ true
     unfolding headLine
-    head-counts =
-        head-bounds n edges nets limit
-        (judged-values headWithin (λ vs. true) (line letterF 4 text) (n ∷ edges ∷ nets ∷ limit ∷ []) (drop next text) (sym read ∙ ap (headAt text) is) .bounds)
+    bounds =
+        judged-values headWithin (λ vs. true) (line letterF 4 text) (n ∷ edges ∷ nets ∷ limit ∷ []) (drop next text)
+        (sym read ∙ ap (headAt text) is) .bounds
 
-    module _ (y : Tuned) (tuned : tunedAt text y ≡ tuningPart 2 (drop next text)) where
-      pub head-tuned : {g : Tuning} {at line : ℕ} → y ≡ tu.Read g at line → part (countsOf (n ∷ edges ∷ nets ∷ limit ∷ []) g) line (drop at text) ≡ headPart text
+    pub head-counts : CountsWithin n edges nets
+    head-counts = head-bounds n edges nets limit bounds
+
+    pub head-limit-sound : limitSound limit ≡ true
+    head-limit-sound = head-limited n edges nets limit bounds
+
+    module _ (y : Tuned) (tuned : tunedAt text y ≡ withLimit limit (tuningPart 2 (drop next text))) where
+      pub head-tuned :
+          {t : Terms} {at line : ℕ} → y ≡ tu.Read t at line
+          → part (countsWith (n ∷ edges ∷ nets ∷ limit ∷ []) t) line (drop at text) ≡ headPart text
       unfolding headPart
-      head-tuned known = rw (← read, is, ← tuned, known)
+      head-tuned known =
+          rw (← read, is, counts-through (n ∷ edges ∷ nets ∷ limit ∷ []) (tuningPart 2 (drop next text)), ← tuned, known)
 
       pub head-untuned : {k line : ℕ} → y ≡ tu.Stopped k line → stopped k line ≡ headPart text
       unfolding headPart
-      head-untuned known = rw (← read, is, ← tuned, known)
+      head-untuned known =
+          rw (← read, is, counts-through (n ∷ edges ∷ nets ∷ limit ∷ []) (tuningPart 2 (drop next text)), ← tuned, known)
 
 -- where the first line ends
 pub head-place : (text : List ℕ) (x : Head) {n edges nets limit next : ℕ} → x ≡ hd.Counts n edges nets limit next → HeadPlace text x → (1 ≤ next) × (next ≤ length text)
 head-place text x is place = rw is at place
 
 -- where the tuning ends
-pub tuned-place : (text : List ℕ) (y : Tuned) {g : Tuning} {at line : ℕ} → y ≡ tu.Read g at line → TunedPlace text y → (at ≤ length text) × (line ≤ at + 1)
+pub tuned-place : (text : List ℕ) (y : Tuned) {t : Terms} {at line : ℕ} → y ≡ tu.Read t at line → TunedPlace text y → (at ≤ length text) × (line ≤ at + 1)
 tuned-place text y is place = rw is at place

@@ -1,6 +1,6 @@
 -- A line at a place of the text, and its three judgements: 1, 2 or 3, or the values.
 --     line-begins, line-other, line-is       a line by the byte that it begins with
---     two-taken, two-malformed, two-place    two fields, as their answer tells them
+--     line-taken, line-malformed, line-place the fields of a line, as their answer says them
 --     judged-beyond, -wrong, -taken          fields that are tested
 --     judged-values                          values that are given passed both tests
 -- Assumes nothing.
@@ -10,14 +10,14 @@ use mathlib.Core.Logic.{⊎-elim}
 use mathlib.Core.Path.{_≡_, refl, sym, _∙_, ap, subst}
 use Prim.Native.Nat.{ℕ, _+_}
 use native.Mathlib.Omega.{arith}
-use lib.ListN.{drop}
+use lib.ListN.{take, drop}
 use lib.Seq.{drop-drop}
 use Rattle.price.proofs.TestLaws.{either-way, true≢false}
 use Rattle.text.specs.Lines.{Fields, taken, malformed, fields, line, begins}
 use Rattle.text.specs.JobText.{values, refused, judged}
-use Rattle.text.specs.Steps.{After, twoAt, TwoPlace}
-use Rattle.text.specs.declared.fields.Two.{Two}
-use Rattle.text.specs.declared.fields.Two.the-variants as w
+use Rattle.text.specs.Steps.{After, fieldsAt, FieldsPlace}
+use Rattle.text.specs.declared.fields.LineFields.{LineFields}
+use Rattle.text.specs.declared.fields.LineFields.the-variants as lf
 
 -- ---- a line at a place of the text
 
@@ -36,18 +36,18 @@ pub line-is : (letter k at : ℕ) (text : List ℕ) {f : Fields} → begins lett
 line-is letter k at text b e =
     line-begins letter k (drop at text) b ∙ ap (λ (bs : List ℕ). fields k bs) (drop-drop 1 at text) ∙ sym e
 
--- ---- two fields
+-- ---- the fields of a line, as their answer says them
 
-module _ (text : List ℕ) {r : Two} {fs : Fields} (read : twoAt text r ≡ fs) where
-  pub two-malformed : r ≡ w.Fault → fs ≡ malformed
-  two-malformed e = sym read ∙ ap (twoAt text) e
+module _ (count : ℕ) (text : List ℕ) {r : LineFields} {fs : Fields} (read : fieldsAt count text r ≡ fs) where
+  pub line-malformed : r ≡ lf.Fault → fs ≡ malformed
+  line-malformed e = sym read ∙ ap (fieldsAt count text) e
 
-  pub two-taken : {f s next : ℕ} → r ≡ w.Fields f s next → fs ≡ taken (f ∷ s ∷ []) (drop next text)
-  two-taken e = sym read ∙ ap (twoAt text) e
+  pub line-taken : {a b c d next : ℕ} → r ≡ lf.Fields a b c d next → fs ≡ taken (take count (a ∷ b ∷ c ∷ d ∷ [])) (drop next text)
+  line-taken e = sym read ∙ ap (fieldsAt count text) e
 
 -- the place after them
-pub two-place : (at : ℕ) (text : List ℕ) {r : Two} {f s next : ℕ} → r ≡ w.Fields f s next → TwoPlace at text r → After at text next
-two-place at text e p = subst (λ (x : Two). TwoPlace at text x) e p
+pub line-place : (at : ℕ) (text : List ℕ) {r : LineFields} {a b c d next : ℕ} → r ≡ lf.Fields a b c d next → FieldsPlace at text r → After at text next
+line-place at text e p = subst (λ (x : LineFields). FieldsPlace at text x) e p
 
 -- ---- 1, 2 or 3, or the values
 

@@ -1,3 +1,48 @@
+-- Laws by subject.
+-- What the crate shows of its definitions:
+--     TextHolds         a text is taken for a job exactly where it is a printed form of this sound job
+--     LogHolds          an accepted job's log is never refused by 10
+--     BranchHolds       the branches of an accepted job's routes are those of its nets' final trees
+--     ListedHolds       the B lines list exactly the path steps of the last iteration's records
+-- A line at a place of the text, for the functions that read it:
+--     FieldLaws         a byte, a number, a field, the fields of a line
+--     SideLaws          two clauses of a contract in a walk by hand
+--     JudgedLaws        a line's letter, and its judgement by 1, 2 or 3
+--     HeadLineLaws      the F line, and the lines before the nodes
+--     TuningLineLaws    the P line
+--     NodeLineLaws      an N line, and the loop over them
+--     EdgeLineLaws      an E line, and the loop over them
+--     NetLineLaws       an S or a T line
+--     NetStepLaws       what such a line does to tables and stamps
+--     NetLoopLaws       the loop over these lines
+-- The whole text, for the functions that read it:
+--     ReaderLaws        stage after stage is the whole text
+--     CopyLaws          copying the first entries of a table
+--     ReadJobLaws       row 4, and the tables afterwards
+-- What is read against what is printed, for TextHolds:
+--     LastLaws          a list with one entry more
+--     DecimalLaws       a number's digits, printed and counted
+--     PrintLaws         a field and a line
+--     HeadTextLaws      the F line
+--     TuningTextLaws    the P line
+--     NodeTextLaws      the N lines
+--     FirstPlaceLaws    first places of rows
+--     EdgeRisingLaws    rising edges and sound rows
+--     EdgeTextLaws      the E lines
+--     NetTextLaws       the nets read so far
+--     NetReadLaws       nets that are read are sound and printed so
+--     NetPrintLaws      nets that are printed are read so
+-- Logs and routes:
+--     RecordTestLaws    the tests of a path and of a record
+--     LogLaws           going from record to record
+--     ShortRecordLaws   numbers of a sound record are short enough for a field
+--     StepListLaws      path steps as a list
+--     PlacedLaws        bytes placed in a buffer
+--     StepTextLaws      the lines of one path
+--     BranchLaws        the lines of one iteration, and the routes text
+--     BranchLineLaws    B lines read again
+--     RefusalLineLaws   the X line
+-- Assumes nothing.
 pub mod LastLaws
 pub mod FieldLaws
 pub mod SideLaws
@@ -36,6 +81,3 @@ pub mod ShortRecordLaws
 pub mod ListedHolds
 pub mod TextHolds
 pub mod RefusalLineLaws
-pub mod RunLaws
-pub mod ResponseLaws
-pub mod SamplesHold

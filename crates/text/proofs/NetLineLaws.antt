@@ -8,7 +8,7 @@
 --     sink-few                                  before a sink that is read there were not too many
 --     pin-reading, pin-refused, pin-place       a line as its answer tells it
 -- Assumes nothing.
-use mathlib.Core.Bool.{true, false, not}
+use mathlib.Core.Bool.{Bool, true, false, not}
 use mathlib.Core.List.{List, [], _∷_}
 use mathlib.Core.Logic.{⊎-elim}
 use mathlib.Core.Path.{_≡_, refl, sym, _∙_, ap}
@@ -22,15 +22,15 @@ use Rattle.price.specs.Test.{choose, both}
 use Rattle.price.specs.Lists.{has}
 use Rattle.price.proofs.TestLaws.{either-way, both-right, both-true, both-false-right}
 use Rattle.search.specs.Replies.{sinksMost}
-use Rattle.negotiation.specs.Tables.{oneOf}
+use Rattle.negotiation.specs.Tables.{sinkKind}
 use Rattle.text.specs.Lines.{letterS, letterT, taken, line}
 use Rattle.text.specs.JobText.{Reading, values, refused, pinWithin, sourceLine, sinkOrdered, sinkLine, ofKind}
-use Rattle.text.specs.Steps.{After, twoAt, pinAt, PinPlace, Marked}
-use Rattle.text.specs.declared.fields.Two as twoType
-use Rattle.text.specs.declared.fields.Two.the-variants as w
+use Rattle.text.specs.Steps.{After, fieldsAt, pinAt, PinPlace, Marked}
+use Rattle.text.specs.declared.fields.LineFields.{LineFields}
+use Rattle.text.specs.declared.fields.LineFields.the-variants as lf
 use Rattle.text.specs.declared.nets.PinLine.{PinLine}
 use Rattle.text.specs.declared.nets.PinLine.the-variants as pl
-use Rattle.text.proofs.JudgedLaws.{two-malformed, two-taken, judged-beyond, judged-wrong, judged-taken, judged-values}
+use Rattle.text.proofs.JudgedLaws.{line-malformed, line-taken, judged-beyond, judged-wrong, judged-taken, judged-values}
 
 -- ---- the tests of a pin
 
@@ -49,14 +49,14 @@ module _ (n nets f s : ℕ) where
 
 -- ---- the S line
 
-module _ (n nets i at : ℕ) (text : List ℕ) (r : twoType.Two) (e : twoAt text r ≡ line letterS 2 (drop at text)) where
-  pub source-fault : r ≡ w.Fault → refused 1 ≡ sourceLine n nets i (drop at text)
+module _ (n nets i at : ℕ) (text : List ℕ) (r : LineFields) (e : fieldsAt 2 text r ≡ line letterS 2 (drop at text)) where
+  pub source-fault : r ≡ lf.Fault → refused 1 ≡ sourceLine n nets i (drop at text)
   unfolding sourceLine
-  source-fault q = rw (two-malformed text e q)
+  source-fault q = rw (line-malformed 2 text e q)
 
-  module _ {f s next : ℕ} (q : r ≡ w.Fields f s next) where
+  module _ {f s c d next : ℕ} (q : r ≡ lf.Fields f s c d next) where
     source-fields : line letterS 2 (drop at text) ≡ taken (f ∷ s ∷ []) (drop next text)
-    source-fields = two-taken text e q
+    source-fields = line-taken 2 text e q
 
     pub source-net : nets ≤ f → refused 2 ≡ sourceLine n nets i (drop at text)
     unfolding sourceLine
@@ -98,14 +98,14 @@ module _ (i : ℕ) (pins : List ℕ) (count f s : ℕ) where
   unfolding sinkOrdered
   in-order h g l = rw (eq-eqb f i h, g, lt-ltb count sinksMost l)
 
-module _ (n nets i at count : ℕ) (text : List ℕ) (r : twoType.Two) (e : twoAt text r ≡ line letterT 2 (drop at text)) where
-  pub sink-fault : (pins : List ℕ) → r ≡ w.Fault → refused 1 ≡ sinkLine n nets i pins count (drop at text)
+module _ (n nets i at count : ℕ) (text : List ℕ) (r : LineFields) (e : fieldsAt 2 text r ≡ line letterT 2 (drop at text)) where
+  pub sink-fault : (pins : List ℕ) → r ≡ lf.Fault → refused 1 ≡ sinkLine n nets i pins count (drop at text)
   unfolding sinkLine
-  sink-fault pins q = rw (two-malformed text e q)
+  sink-fault pins q = rw (line-malformed 2 text e q)
 
-  module _ {f s next : ℕ} (q : r ≡ w.Fields f s next) where
+  module _ {f s c d next : ℕ} (q : r ≡ lf.Fields f s c d next) where
     sink-fields : line letterT 2 (drop at text) ≡ taken (f ∷ s ∷ []) (drop next text)
-    sink-fields = two-taken text e q
+    sink-fields = line-taken 2 text e q
 
     pub sink-net : (pins : List ℕ) → nets ≤ f → refused 2 ≡ sinkLine n nets i pins count (drop at text)
     unfolding sinkLine
@@ -130,7 +130,9 @@ module _ (n nets i at count : ℕ) (text : List ℕ) (r : twoType.Two) (e : twoA
       pub sink-many : (pins : List ℕ) → sinksMost ≤ count → refused 3 ≡ sinkLine n nets i pins count (drop at text)
       sink-many pins h = sink-wrong pins (too-many i pins count f s h)
 
-      pub sink-pin : (stamp : ℕ) (seen pins : List ℕ) → Marked n stamp seen pins → f ≡ i → (getD seen s 0 ≡ stamp → ⊥) → count < sinksMost → values (i ∷ s ∷ []) (drop next text) ≡ sinkLine n nets i pins count (drop at text)
+      pub sink-pin :
+          (stamp : ℕ) (seen pins : List ℕ) → Marked n stamp seen pins → f ≡ i → (getD seen s 0 ≡ stamp → ⊥) → count < sinksMost
+          → values (i ∷ s ∷ []) (drop next text) ≡ sinkLine n nets i pins count (drop at text)
       unfolding sinkLine
       sink-pin stamp seen pins m h g l =
           ap (λ (x : ℕ). values (x ∷ s ∷ []) (drop next text)) (sym h)
@@ -139,29 +141,29 @@ module _ (n nets i at count : ℕ) (text : List ℕ) (r : twoType.Two) (e : twoA
 
 -- ---- the pin's kind
 
-module _ (a b : ℕ) (kinds : List ℕ) where
-  pub of-refused : {k : ℕ} {r : Reading (List ℕ)} → refused k ≡ r → refused k ≡ ofKind a b kinds r
-  of-refused e = ap (ofKind a b kinds) e
+module _ (test : ℕ → Bool) (kinds : List ℕ) where
+  pub of-refused : {k : ℕ} {r : Reading (List ℕ)} → refused k ≡ r → refused k ≡ ofKind test kinds r
+  of-refused e = ap (ofKind test kinds) e
 
   module _ {vs rest : List ℕ} {r : Reading (List ℕ)} (e : values vs rest ≡ r) where
-    pub of-none : oneOf a b (getD kinds (getD vs 1 0) 0) ≡ false → refused 3 ≡ ofKind a b kinds r
+    pub of-none : test (getD kinds (getD vs 1 0) 0) ≡ false → refused 3 ≡ ofKind test kinds r
     of-none h = rw (← e, h)
 
-    pub of-one : oneOf a b (getD kinds (getD vs 1 0) 0) ≡ true → values vs rest ≡ ofKind a b kinds r
+    pub of-one : test (getD kinds (getD vs 1 0) 0) ≡ true → values vs rest ≡ ofKind test kinds r
     of-one h = rw (← e, h)
 
-  -- a line that is read was taken, and its pin is of one of the kinds
-  pub of-values : (r : Reading (List ℕ)) (vs rest : List ℕ) → ofKind a b kinds r ≡ values vs rest → (r ≡ values vs rest) × (oneOf a b (getD kinds (getD vs 1 0) 0) ≡ true)
+  -- a line that is read was taken, and its pin is of such a kind
+  pub of-values : (r : Reading (List ℕ)) (vs rest : List ℕ) → ofKind test kinds r ≡ values vs rest → (r ≡ values vs rest) × (test (getD kinds (getD vs 1 0) 0) ≡ true)
   of-values (values us left) vs rest e =
       ⊎-elim
-      (λ (q : oneOf a b (getD kinds (getD us 1 0) 0) ≡ true).
+      (λ (q : test (getD kinds (getD us 1 0) 0) ≡ true).
       let same : values us left ≡ values vs rest = rw q at e in
       let these : us ≡ vs = cc in
       (same, rw these at q))
-      (λ (q : oneOf a b (getD kinds (getD us 1 0) 0) ≡ false).
+      (λ (q : test (getD kinds (getD us 1 0) 0) ≡ false).
       let none : refused 3 ≡ values vs rest = rw q at e in
       absurd (let z : _≡_ {A = ℕ} 0 1 = cc in omega arith))
-      (either-way (oneOf a b (getD kinds (getD us 1 0) 0)))
+      (either-way (test (getD kinds (getD us 1 0) 0)))
   of-values (refused k) vs rest e = absurd (let z : _≡_ {A = ℕ} 0 1 = cc in omega arith)
 
 -- ---- what a line that is read tells
@@ -199,10 +201,10 @@ module _ (stamp : ℕ) (seen : List ℕ) where
       (either-way (eqb (getD seen n 0) stamp)))
       (eq-or-lt-of-le (le-of-suc-le-suc l))
 
-pub sink-few : (kinds : List ℕ) (n nets i : ℕ) (pins : List ℕ) (count : ℕ) (bs : List ℕ) {vs rest : List ℕ} → ofKind 1 3 kinds (sinkLine n nets i pins count bs) ≡ values vs rest → count < sinksMost
+pub sink-few : (kinds : List ℕ) (n nets i : ℕ) (pins : List ℕ) (count : ℕ) (bs : List ℕ) {vs rest : List ℕ} → ofKind sinkKind kinds (sinkLine n nets i pins count bs) ≡ values vs rest → count < sinksMost
 unfolding sinkLine sinkOrdered
 sink-few kinds n nets i pins count bs {vs} {rest} e =
-    let told = judged-values (pinWithin n nets) (sinkOrdered i pins count) (line letterT 2 bs) vs rest (of-values 1 3 kinds (sinkLine n nets i pins count bs) vs rest e .0) in
+    let told = judged-values (pinWithin n nets) (sinkOrdered i pins count) (line letterT 2 bs) vs rest (of-values sinkKind kinds (sinkLine n nets i pins count bs) vs rest e .0) in
     ltb-true count sinksMost
     (both-right (not (has (getD vs 1 0) pins)) (ltb count sinksMost)
     (both-right (eqb (getD vs 0 0) i) (both (not (has (getD vs 1 0) pins)) (ltb count sinksMost)) (told .order)))

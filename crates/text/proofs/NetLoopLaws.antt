@@ -42,7 +42,12 @@ pub record Going (kinds : List ℕ) (n nets : ℕ) (text : List ℕ) (whole : Pa
   pub same : netLines left kinds n nets (netsAt c sources firstSinks sinks) (c .line) (drop (c .at) text) ≡ whole
   pub kept : NetKept n nets text c sources firstSinks sinks seen
 
-pub going-first : (kinds : List ℕ) (n nets : ℕ) (text : List ℕ) (from line : ℕ) (sources firstSinks sinks : List ℕ) → (from ≤ length text) × (line ≤ from + 1) × (n ≤ 4096) × (nets ≤ 512) → (nets ≤ length sources) × (nets + 1 ≤ length firstSinks) × (sinksMost ≤ length sinks) → Going kinds n nets text (netLines (length (drop from text)) kinds n nets (netLists [] [] []) line (drop from text)) (record { at = from; line = line; nets = 0; sinks = 0; first = 0 }) sources firstSinks sinks (replicate 4096 0)
+pub going-first :
+    (kinds : List ℕ) (n nets : ℕ) (text : List ℕ) (from line : ℕ) (sources firstSinks sinks : List ℕ)
+    → (from ≤ length text) × (line ≤ from + 1) × (n ≤ 4096) × (nets ≤ 512)
+    → (nets ≤ length sources) × (nets + 1 ≤ length firstSinks) × (sinksMost ≤ length sinks)
+    → Going kinds n nets text (netLines (length (drop from text)) kinds n nets (netLists [] [] []) line (drop from text))
+    (record { at = from; line = line; nets = 0; sinks = 0; first = 0 }) sources firstSinks sinks (replicate 4096 0)
 going-first kinds n nets text from line sources firstSinks sinks b r = record {
   left = length (drop from text);
   enough = omega arith;
@@ -72,7 +77,10 @@ module _ {kinds : List ℕ} {n nets : ℕ} {text : List ℕ} {whole : Part NetLi
     left-more : g .left ≡ suc (g .left - 1)
     left-more = omega (arith, length-drop (c .at) text, g .enough)
 
-    pub going-more : (step : NetStep) {next : NetCursor} (sources' firstSinks' sinks' seen' : List ℕ) → step ≡ ns.On next → netLineAt text step sources' firstSinks' sinks' ≡ netLine kinds n nets (netsAt c sources firstSinks sinks) (drop (c .at) text) → KeptAfter n nets text c step sources' firstSinks' sinks' seen' → Going kinds n nets text whole next sources' firstSinks' sinks' seen'
+    pub going-more :
+        (step : NetStep) {next : NetCursor} (sources' firstSinks' sinks' seen' : List ℕ) → step ≡ ns.On next
+        → netLineAt text step sources' firstSinks' sinks' ≡ netLine kinds n nets (netsAt c sources firstSinks sinks) (drop (c .at) text)
+        → KeptAfter n nets text c step sources' firstSinks' sinks' seen' → Going kinds n nets text whole next sources' firstSinks' sinks' seen'
     going-more step {next} sources' firstSinks' sinks' seen' q e a =
         let e' : values (netsAt next sources' firstSinks' sinks') (drop (next .at) text) ≡ netLine kinds n nets (netsAt c sources firstSinks sinks) (drop (c .at) text) = rw q at e in
         let a' : KeptAfter n nets text c (ns.On next) sources' firstSinks' sinks' seen' = rw q at a in
@@ -83,12 +91,17 @@ module _ {kinds : List ℕ} {n nets : ℕ} {text : List ℕ} {whole : Part NetLi
           kept = a' .2;
         }
 
-    pub going-later : (step : NetStep) {next : NetCursor} (sources' firstSinks' sinks' seen' : List ℕ) → step ≡ ns.On next → KeptAfter n nets text c step sources' firstSinks' sinks' seen' → length text - next .at < length text - c .at
+    pub going-later :
+        (step : NetStep) {next : NetCursor} (sources' firstSinks' sinks' seen' : List ℕ) → step ≡ ns.On next
+        → KeptAfter n nets text c step sources' firstSinks' sinks' seen' → length text - next .at < length text - c .at
     going-later step {next} sources' firstSinks' sinks' seen' q a =
         let a' : KeptAfter n nets text c (ns.On next) sources' firstSinks' sinks' seen' = rw q at a in
         omega (arith, a' .0)
 
-    pub going-stops : (step : NetStep) {number : ℕ} (sources' firstSinks' sinks' : List ℕ) → step ≡ ns.Stopped number → netLineAt text step sources' firstSinks' sinks' ≡ netLine kinds n nets (netsAt c sources firstSinks sinks) (drop (c .at) text) → stopped number (c .line) ≡ whole
+    pub going-stops :
+        (step : NetStep) {number : ℕ} (sources' firstSinks' sinks' : List ℕ) → step ≡ ns.Stopped number
+        → netLineAt text step sources' firstSinks' sinks' ≡ netLine kinds n nets (netsAt c sources firstSinks sinks) (drop (c .at) text)
+        → stopped number (c .line) ≡ whole
     going-stops step {number} sources' firstSinks' sinks' q e =
         let e' : refused number ≡ netLine kinds n nets (netsAt c sources firstSinks sinks) (drop (c .at) text) = rw q at e in
         sym (lines-stop (g .left - 1) kinds n nets (c .line) (netsAt c sources firstSinks sinks) (drop-cons text (c .at) 0 inside) (sym e')) ∙ rw (← left-more) (g .same)

@@ -263,7 +263,9 @@ module _
   last-end (suc k) m p at r = rw (r .text, r .whole, r .lists)
 
   -- no text has more lines than bytes
-  read-on : (k m p at : ℕ) → Stand ss fs m p → length (textAt ss fs ts m p) ≤ k → (at2 : ℕ) × (netLines k kinds n (length ss) (listsAt ss fs ts m p) at (textAt ss fs ts m p) ≡ part (netLists ss (take (length ss) fs) ts) at2 [])
+  read-on :
+      (k m p at : ℕ) → Stand ss fs m p → length (textAt ss fs ts m p) ≤ k
+      → (at2 : ℕ) × (netLines k kinds n (length ss) (listsAt ss fs ts m p) at (textAt ss fs ts m p) ≡ part (netLists ss (take (length ss) fs) ts) at2 [])
   read-on zero m p at st short =
       ⊎-elim
       (λ (r : Next kinds n ss fs ts m p).

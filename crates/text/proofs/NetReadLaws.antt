@@ -16,7 +16,9 @@ use Rattle.search.specs.Replies.{sinksMost}
 use Rattle.negotiation.specs.Tables.{netsMost, sourcesSound, firstSinksSound, sinksSound, oneOf, sourceKind, sinkKind, pinsOf, sourcePins, sinkPins}
 use Rattle.negotiation.proofs.NetTableLaws.{sources-all, nets-all}
 use Rattle.text.specs.Lines.{letterS, letterT, printLine}
-use Rattle.text.specs.JobText.{Reading, values, refused, lastOf, pinWithin, sourceLine, sinkOrdered, sinkLine, part, stopped, NetLists, netLists, sinksNow, sourceDue, sinkDue, complete, netEnd, withSource, withSink, nextSource, nextSink, taking, netLine, netLines}
+use Rattle.text.specs.JobText.{Reading, values, refused, lastOf, pinWithin, sourceLine, sinkOrdered, sinkLine, part, stopped, NetLists}
+use Rattle.text.specs.JobText.{netLists, sinksNow, sourceDue, sinkDue, complete, netEnd, withSource, withSink, nextSource, nextSink, taking}
+use Rattle.text.specs.JobText.{netLine, netLines}
 use Rattle.text.specs.Printed.{joined}
 use Rattle.text.proofs.LastLaws.{every-more}
 use Rattle.text.proofs.NetLineLaws.{of-values}
@@ -67,7 +69,7 @@ module _ (kinds : List ℕ) (n nets : ℕ) (l : NetLists) where
   unfolding nextSource sourceLine pinWithin
   sourced bs next rest due e =
       let k = taking-values (withSource l) (nextSource kinds n nets l bs) next rest e in
-      let o = of-values 0 2 kinds (sourceLine n nets (length (l .sources)) bs) (k .given) rest (k .is) in
+      let o = of-values sourceKind kinds (sourceLine n nets (length (l .sources)) bs) (k .given) rest (k .is) in
       let j = judged-line (pinWithin n nets) (λ vs. eqb (getD vs 0 0) (length (l .sources))) letterS 2 bs (k .given) rest (o .0) in
       record {
         s = getD (k .given) 1 0;
@@ -82,7 +84,7 @@ module _ (kinds : List ℕ) (n nets : ℕ) (l : NetLists) where
   unfolding nextSink sinkLine sinkOrdered pinWithin
   sunk bs next rest due e =
       let k = taking-values (withSink l) (nextSink kinds n nets l bs) next rest e in
-      let o = of-values 1 3 kinds (sinkLine n nets (length (l .sources) - 1) (lastOf (l .sources) ∷ sinksNow l) (length (l .sinks)) bs) (k .given) rest (k .is) in
+      let o = of-values sinkKind kinds (sinkLine n nets (length (l .sources) - 1) (lastOf (l .sources) ∷ sinksNow l) (length (l .sinks)) bs) (k .given) rest (k .is) in
       let j = judged-line (pinWithin n nets) (sinkOrdered (length (l .sources) - 1) (lastOf (l .sources) ∷ sinksNow l) (length (l .sinks))) letterT 2 bs (k .given) rest (o .0) in
       let others = both-right (eqb (getD (k .given) 0 0) (length (l .sources) - 1)) _ (j .order) in
       record {
@@ -146,7 +148,10 @@ record Ended (kinds : List ℕ) (n nets : ℕ) (before bs : List ℕ) (l : NetLi
   text : written nets (l .sources) (l .firstSinks) (l .sinks) ≡ before ++ bs
 
 -- at the end of the text
-ended : (kinds : List ℕ) (n nets m : ℕ) (l l2 : NetLists) (at at2 : ℕ) (rest : List ℕ) → Good n nets m (l .sources) (l .firstSinks) (l .sinks) → Pinned kinds (l .sources) (l .sinks) → netEnd nets l at ≡ part l2 at2 rest → Ended kinds n nets (written m (l .sources) (l .firstSinks) (l .sinks)) [] l2 rest
+ended :
+    (kinds : List ℕ) (n nets m : ℕ) (l l2 : NetLists) (at at2 : ℕ) (rest : List ℕ) → Good n nets m (l .sources) (l .firstSinks) (l .sinks)
+    → Pinned kinds (l .sources) (l .sinks) → netEnd nets l at ≡ part l2 at2 rest
+    → Ended kinds n nets (written m (l .sources) (l .firstSinks) (l .sinks)) [] l2 rest
 unfolding netEnd complete
 ended kinds n nets m l l2 at at2 rest g q e =
     ⊎-elim
@@ -169,7 +174,9 @@ ended kinds n nets m l l2 at at2 rest g q e =
     (either-way (complete nets l))
 
 -- one line before them
-more-text : {kinds : List ℕ} {n nets : ℕ} {before now rest bs left : List ℕ} {l : NetLists} (this : List ℕ) → now ≡ before ++ this → bs ≡ this ++ rest → Ended kinds n nets now rest l left → Ended kinds n nets before bs l left
+more-text :
+    {kinds : List ℕ} {n nets : ℕ} {before now rest bs left : List ℕ} {l : NetLists} (this : List ℕ) → now ≡ before ++ this → bs ≡ this ++ rest
+    → Ended kinds n nets now rest l left → Ended kinds n nets before bs l left
 more-text {before = before} {rest = rest} this p q r =
     record { end = r .end; good = r .good; pinned = r .pinned; last = r .last; text = r .text ∙ rw (p, q) (append-assoc before this rest) }
 
@@ -183,7 +190,10 @@ source-ready nets m l count long due i e =
     (λ (q : eqb (length (l .sources)) 0 ≡ false). now-some l i (long ∙ sym e) (rw q at second))
     (either-way (eqb (length (l .sources)) 0))
 
-nets-on : (kinds : List ℕ) (n nets k m : ℕ) (l l2 : NetLists) (at at2 : ℕ) (bs rest : List ℕ) → Good n nets m (l .sources) (l .firstSinks) (l .sinks) → Pinned kinds (l .sources) (l .sinks) → netLines k kinds n nets l at bs ≡ part l2 at2 rest → Ended kinds n nets (written m (l .sources) (l .firstSinks) (l .sinks)) bs l2 rest
+nets-on :
+    (kinds : List ℕ) (n nets k m : ℕ) (l l2 : NetLists) (at at2 : ℕ) (bs rest : List ℕ) → Good n nets m (l .sources) (l .firstSinks) (l .sinks)
+    → Pinned kinds (l .sources) (l .sinks) → netLines k kinds n nets l at bs ≡ part l2 at2 rest
+    → Ended kinds n nets (written m (l .sources) (l .firstSinks) (l .sinks)) bs l2 rest
 unfolding netLines sourceDue sinkDue
 nets-on kinds n nets zero m l l2 at at2 [] rest g q e = ended kinds n nets m l l2 at at2 rest g q e
 nets-on kinds n nets zero m l l2 at at2 (b ∷ bs) rest g q e = absurd (let z : _≡_ {A = ℕ} 0 1 = cc in omega arith)

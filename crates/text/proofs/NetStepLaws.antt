@@ -21,6 +21,7 @@ use Rattle.price.proofs.TestLaws.{either-false, either-way, le-or-lt, both-left
 use Rattle.price.proofs.ListLaws.{has-append, has-append-right}
 use Rattle.search.specs.Replies.{sinksMost}
 use Rattle.text.specs.Lines.{letterS, letterT}
+use Rattle.negotiation.specs.Tables.{sourceKind, sinkKind}
 use Rattle.text.specs.JobText.{values, refused, NetLists, lastOf, sinksNow, sourceDue, sinkDue, withSource, withSink, taking, sourceLine, sinkLine, ofKind, nextSource, nextSink, netLine}
 use Rattle.text.specs.Steps.{Marked, netsAt, NetKept, SourceAdded, SinkAdded, netLineAt, KeptAfter}
 use Rattle.text.specs.declared.nets.NetCursor.{NetCursor}
@@ -137,13 +138,21 @@ module _ {n nets : ℕ} {text : List ℕ} {c : NetCursor} {sources firstSinks si
     here = drop-cons text (c .at) 0 inside
 
     -- an S line
-    source-line-is : getD text (c .at) 0 ≡ letterS → sourceDue nets (netsAt c sources firstSinks sinks) ≡ true → netLine kinds n nets (netsAt c sources firstSinks sinks) (drop (c .at) text) ≡ taking (withSource (netsAt c sources firstSinks sinks)) (ofKind 0 2 kinds (sourceLine n nets (c .nets) (drop (c .at) text)))
+    source-line-is :
+        getD text (c .at) 0 ≡ letterS → sourceDue nets (netsAt c sources firstSinks sinks) ≡ true
+        → netLine kinds n nets (netsAt c sources firstSinks sinks) (drop (c .at) text)
+        ≡ taking (withSource (netsAt c sources firstSinks sinks)) (ofKind sourceKind kinds (sourceLine n nets (c .nets) (drop (c .at) text)))
     unfolding nextSource
     source-line-is e d =
         line-source kinds n nets (netsAt c sources firstSinks sinks) here e d
-        ∙ ap (λ (i : ℕ). taking (withSource (netsAt c sources firstSinks sinks)) (ofKind 0 2 kinds (sourceLine n nets i (drop (c .at) text)))) sources-now
+        ∙ ap (λ (i : ℕ). taking (withSource (netsAt c sources firstSinks sinks)) (ofKind sourceKind kinds (sourceLine n nets i (drop (c .at) text)))) sources-now
 
-    pub source-step : (step : NetStep) (sources' firstSinks' seen' : List ℕ) → getD text (c .at) 0 ≡ letterS → sourceDue nets (netsAt c sources firstSinks sinks) ≡ true → c .nets < nets → SourceAdded n nets text c step sources firstSinks seen sources' firstSinks' seen' (ofKind 0 2 kinds (sourceLine n nets (c .nets) (drop (c .at) text))) → (netLineAt text step sources' firstSinks' sinks ≡ netLine kinds n nets (netsAt c sources firstSinks sinks) (drop (c .at) text)) × KeptAfter n nets text c step sources' firstSinks' sinks seen'
+    pub source-step :
+        (step : NetStep) (sources' firstSinks' seen' : List ℕ) → getD text (c .at) 0 ≡ letterS
+        → sourceDue nets (netsAt c sources firstSinks sinks) ≡ true → c .nets < nets
+        → SourceAdded n nets text c step sources firstSinks seen sources' firstSinks' seen' (ofKind sourceKind kinds (sourceLine n nets (c .nets) (drop (c .at) text)))
+        → (netLineAt text step sources' firstSinks' sinks ≡ netLine kinds n nets (netsAt c sources firstSinks sinks) (drop (c .at) text)) × KeptAfter
+        n nets text c step sources' firstSinks' sinks seen'
     unfolding sinksNow
     source-step (ns.Stopped number) sources' firstSinks' seen' e d b a = (sym (source-line-is e d ∙ ap (taking (withSource (netsAt c sources firstSinks sinks))) a), tt)
     source-step (ns.On next) sources' firstSinks' seen' e d b a =
@@ -194,13 +203,22 @@ module _ {n nets : ℕ} {text : List ℕ} {c : NetCursor} {sources firstSinks si
     one-sink-more node = rw (← k .first-is) (drop-append-le (c .first) (take (c .sinks) sinks) (node ∷ []) (omega (arith, all-sinks-now)))
 
     -- a T line
-    sink-line-is : (getD text (c .at) 0 ≡ letterS → ⊥) → getD text (c .at) 0 ≡ letterT → 1 ≤ c .nets → netLine kinds n nets (netsAt c sources firstSinks sinks) (drop (c .at) text) ≡ taking (withSink (netsAt c sources firstSinks sinks)) (ofKind 1 3 kinds (sinkLine n nets (c .nets - 1) (lastOf (take (c .nets) sources) ∷ sinksNow (netsAt c sources firstSinks sinks)) (c .sinks) (drop (c .at) text)))
+    sink-line-is :
+        (getD text (c .at) 0 ≡ letterS → ⊥) → getD text (c .at) 0 ≡ letterT → 1 ≤ c .nets
+        → netLine kinds n nets (netsAt c sources firstSinks sinks) (drop (c .at) text)
+        ≡ taking (withSink (netsAt c sources firstSinks sinks))
+        (ofKind sinkKind kinds (sinkLine n nets (c .nets - 1) (lastOf (take (c .nets) sources) ∷ sinksNow (netsAt c sources firstSinks sinks)) (c .sinks) (drop (c .at) text)))
     unfolding nextSink sinkDue
     sink-line-is f e h =
         line-sink kinds n nets (netsAt c sources firstSinks sinks) here f e (le-leb 1 (length (take (c .nets) sources)) (omega (arith, sources-now)))
         ∙ rw (sources-now, all-sinks-now)
 
-    pub sink-step : (step : NetStep) (sinks' seen' : List ℕ) → (getD text (c .at) 0 ≡ letterS → ⊥) → getD text (c .at) 0 ≡ letterT → 1 ≤ c .nets → ((pins : List ℕ) → Marked n (c .nets) seen pins → SinkAdded n nets text c step sinks seen sinks' seen' (ofKind 1 3 kinds (sinkLine n nets (c .nets - 1) pins (c .sinks) (drop (c .at) text)))) → (netLineAt text step sources firstSinks sinks' ≡ netLine kinds n nets (netsAt c sources firstSinks sinks) (drop (c .at) text)) × KeptAfter n nets text c step sources firstSinks sinks' seen'
+    pub sink-step :
+        (step : NetStep) (sinks' seen' : List ℕ) → (getD text (c .at) 0 ≡ letterS → ⊥) → getD text (c .at) 0 ≡ letterT → 1 ≤ c .nets
+        →
+        ((pins : List ℕ) → Marked n (c .nets) seen pins → SinkAdded n nets text c step sinks seen sinks' seen' (ofKind sinkKind kinds (sinkLine n nets (c .nets - 1) pins (c .sinks) (drop (c .at) text))))
+        → (netLineAt text step sources firstSinks sinks' ≡ netLine kinds n nets (netsAt c sources firstSinks sinks) (drop (c .at) text)) × KeptAfter n
+        nets text c step sources firstSinks sinks' seen'
     sink-step (ns.Stopped number) sinks' seen' f e h added =
         let a = added (lastOf (take (c .nets) sources) ∷ sinksNow (netsAt c sources firstSinks sinks)) (k .marked h) in
         (sym (sink-line-is f e h ∙ ap (taking (withSink (netsAt c sources firstSinks sinks))) a), tt)

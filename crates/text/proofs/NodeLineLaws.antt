@@ -14,12 +14,12 @@ use lib.Seq.{length-take-le, take-suc-set}
 use borrow.Author.Tests.{lt-ltb, le-ltb, le-leb, lt-leb, eq-eqb, ne-eqb}
 use Rattle.text.specs.Lines.{letterN, taken, fields, line, begins}
 use Rattle.text.specs.JobText.{values, refused, nodeWithin, nodeLine, part, stopped, nodeLists, nodeLines}
-use Rattle.text.specs.Steps.{After, threeAt, ThreePlace, nodeAt, NodePlace}
-use Rattle.text.specs.declared.fields.Three.{Three}
-use Rattle.text.specs.declared.fields.Three.the-variants as h
+use Rattle.text.specs.Steps.{After, fieldsAt, nodeAt, NodePlace}
+use Rattle.text.specs.declared.fields.LineFields.{LineFields}
+use Rattle.text.specs.declared.fields.LineFields.the-variants as lf
 use Rattle.text.specs.declared.nodes.NodeLine.{NodeLine}
 use Rattle.text.specs.declared.nodes.NodeLine.the-variants as nl
-use Rattle.text.proofs.JudgedLaws.{line-other, line-is, judged-beyond, judged-wrong, judged-taken}
+use Rattle.text.proofs.JudgedLaws.{line-malformed, line-taken, judged-beyond, judged-wrong, judged-taken}
 
 -- ---- an N line
 
@@ -44,18 +44,14 @@ module _ (n a b c : ℕ) where
   unfolding nodeWithin
   node-within l k m t = rw (lt-ltb a n l, le-leb b 53 k, le-leb 1 c m, le-leb c 255 t)
 
-pub node-other : (n v at : ℕ) (text : List ℕ) → begins letterN (drop at text) ≡ false → refused 1 ≡ nodeLine n v (drop at text)
-unfolding nodeLine
-node-other n v at text b = rw (line-other letterN 3 (drop at text) b)
-
-module _ (n v at : ℕ) (text : List ℕ) {r : Three} (letter : begins letterN (drop at text) ≡ true) (read : threeAt text r ≡ fields 3 (drop (at + 1) text)) where
-  pub node-shape : r ≡ h.Fault → refused 1 ≡ nodeLine n v (drop at text)
+module _ (n v at : ℕ) (text : List ℕ) {r : LineFields} (read : fieldsAt 3 text r ≡ line letterN 3 (drop at text)) where
+  pub node-shape : r ≡ lf.Fault → refused 1 ≡ nodeLine n v (drop at text)
   unfolding nodeLine
-  node-shape e = rw (line-is letterN 3 at text letter (sym (ap (threeAt text) e) ∙ read))
+  node-shape e = rw (line-malformed 3 text read e)
 
-  module _ {a b c next : ℕ} (e : r ≡ h.Fields a b c next) where
+  module _ {a b c d next : ℕ} (e : r ≡ lf.Fields a b c d next) where
     shape : line letterN 3 (drop at text) ≡ taken (a ∷ b ∷ c ∷ []) (drop next text)
-    shape = line-is letterN 3 at text letter (sym (ap (threeAt text) e) ∙ read)
+    shape = line-taken 3 text read e
 
     pub node-beyond : nodeWithin n (a ∷ b ∷ c ∷ []) ≡ false → refused 2 ≡ nodeLine n v (drop at text)
     unfolding nodeLine
@@ -71,14 +67,12 @@ module _ (n v at : ℕ) (text : List ℕ) {r : Three} (letter : begins letterN (
         ap (λ (x : ℕ). values (x ∷ b ∷ c ∷ []) (drop next text)) (sym o)
         ∙ sym (judged-taken (nodeWithin n) (λ vs. eqb (getD vs 0 0) v) shape w (eq-eqb a v o))
 
--- the place after the line
-pub three-place : (at : ℕ) (text : List ℕ) {r : Three} {a b c next : ℕ} → r ≡ h.Fields a b c next → ThreePlace at text r → After at text next
-three-place at text e p = subst (λ (x : Three). ThreePlace at text x) e p
-
 -- ---- between two N lines
 
 -- a line that is read, and one that is refused
-node-step : (n k v line : ℕ) (kinds capacities bs : List ℕ) {a b c : ℕ} {rest : List ℕ} → length kinds ≡ v → values (a ∷ b ∷ c ∷ []) rest ≡ nodeLine n v bs → nodeLines n (suc k) (nodeLists kinds capacities) line bs ≡ nodeLines n k (nodeLists (kinds ++ (b ∷ [])) (capacities ++ (c ∷ []))) (line + 1) rest
+node-step :
+    (n k v line : ℕ) (kinds capacities bs : List ℕ) {a b c : ℕ} {rest : List ℕ} → length kinds ≡ v → values (a ∷ b ∷ c ∷ []) rest ≡ nodeLine n v bs
+    → nodeLines n (suc k) (nodeLists kinds capacities) line bs ≡ nodeLines n k (nodeLists (kinds ++ (b ∷ [])) (capacities ++ (c ∷ []))) (line + 1) rest
 unfolding nodeLines
 node-step n k v line kinds capacities bs long e = rw (long, ← e)
 
@@ -108,7 +102,9 @@ module _ {text : List ℕ} {from first nodes : ℕ} {kinds₀ capacities₀ kind
     left : nodes - v ≡ suc (nodes - (v + 1))
     left = omega arith
 
-    pub nodes-more : {r : NodeLine} {k c next : ℕ} → r ≡ nl.Node k c next → nodeAt v text r ≡ nodeLine nodes v (drop at text) → NodePlace at text r → NodesRead text from first nodes kinds₀ capacities₀ (set kinds v k) (set capacities v c) next (line + 1) (v + 1)
+    pub nodes-more :
+        {r : NodeLine} {k c next : ℕ} → r ≡ nl.Node k c next → nodeAt v text r ≡ nodeLine nodes v (drop at text) → NodePlace at text r
+        → NodesRead text from first nodes kinds₀ capacities₀ (set kinds v k) (set capacities v c) next (line + 1) (v + 1)
     nodes-more {r} {k} {c} {next} e told p =
         let place : After (at + 1) text next = subst (λ (x : NodeLine). NodePlace at text x) e p in
         record {

@@ -10,7 +10,7 @@ use lib.ListN.{length, take, drop, set, getD, length-append, length-take, length
 use lib.Seq.{length-take-le, take-at, drop-append-add, drop-drop, take-suc, append-snoc, set-at, set-split}
 use Rattle.text.specs.Decimal.{decimal}
 use Rattle.text.specs.Lines.{lf, comma, printFields, printLine}
-use Rattle.text.specs.ReadReplies.{laid}
+use Rattle.text.specs.ReadReplies.{writtenOver}
 use Rattle.text.specs.WriteSteps.{placed, Put}
 use Rattle.text.proofs.DecimalLaws.{Parted, parted-start, parted-next, parted-end, parted-long}
 
@@ -46,8 +46,8 @@ unfolding placed
 placed-length at xs buffer fits =
     simp (length-append, length-take, length-drop) (omega arith)
 
-pub placed-start : (xs buffer : List ℕ) → placed 0 xs buffer ≡ laid xs buffer
-unfolding placed laid
+pub placed-start : (xs buffer : List ℕ) → placed 0 xs buffer ≡ writtenOver xs buffer
+unfolding placed writtenOver
 placed-start xs buffer = rw zero-add
 
 -- no bytes change nothing

@@ -231,7 +231,9 @@ module _ (within ordered : List ℕ → Bool) where
       let t = printed-line letter k bs vs rest (r .is) in
       record { long = t .0; text = t .1; bounds = r .bounds; order = r .order }
 
-  pub line-judged : (letter : ℕ) (vs rest : List ℕ) → every (λ v. ltb v (10 ^ 6)) vs ≡ true → within vs ≡ true → ordered vs ≡ true → judged within ordered (line letter (length vs) (printLine letter vs ++ rest)) ≡ values vs rest
+  pub line-judged :
+      (letter : ℕ) (vs rest : List ℕ) → every (λ v. ltb v (10 ^ 6)) vs ≡ true → within vs ≡ true → ordered vs ≡ true
+      → judged within ordered (line letter (length vs) (printLine letter vs ++ rest)) ≡ values vs rest
   line-judged letter vs rest small p q = rw (line-printed letter vs rest small, p, q)
 
 -- two values
@@ -252,11 +254,15 @@ four-of (a ∷ b ∷ c ∷ d ∷ x ∷ xs) e = absurd (omega arith)
 -- ---- what comes after
 
 -- a part that begins with a line: what the line gave, and what came after it
-pub onward-part : {A B : Type 0} (r : Reading A) (l : ℕ) (next : A → List ℕ → Part B) (x : B) (at : ℕ) (rest : List ℕ) → onward r l next ≡ part x at rest → (given : A) × (mid : List ℕ) × (r ≡ values given mid) × (next given mid ≡ part x at rest)
+pub onward-part :
+    {A B : Type 0} (r : Reading A) (l : ℕ) (next : A → List ℕ → Part B) (x : B) (at : ℕ) (rest : List ℕ) → onward r l next ≡ part x at rest
+    → (given : A) × (mid : List ℕ) × (r ≡ values given mid) × (next given mid ≡ part x at rest)
 onward-part (values given mid) l next x at rest e = (given, mid, refl, e)
 onward-part (refused k) l next x at rest e = let z : _≡_ {A = ℕ} 0 1 = cc in absurd (omega arith)
 
 -- two parts one after the other: what the first gave, and what came after it
-pub then-part : {A B : Type 0} (p : Part A) (next : A → ℕ → List ℕ → Part B) (x : B) (at : ℕ) (rest : List ℕ) → andThen p next ≡ part x at rest → (given : A) × (l : ℕ) × (mid : List ℕ) × (p ≡ part given l mid) × (next given l mid ≡ part x at rest)
+pub then-part :
+    {A B : Type 0} (p : Part A) (next : A → ℕ → List ℕ → Part B) (x : B) (at : ℕ) (rest : List ℕ) → andThen p next ≡ part x at rest
+    → (given : A) × (l : ℕ) × (mid : List ℕ) × (p ≡ part given l mid) × (next given l mid ≡ part x at rest)
 then-part (part given l mid) next x at rest e = (given, l, mid, refl, e)
 then-part (stopped k l) next x at rest e = let z : _≡_ {A = ℕ} 0 1 = cc in absurd (omega arith)

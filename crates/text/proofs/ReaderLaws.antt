@@ -23,7 +23,11 @@ use Rattle.text.specs.declared.nets.NetsRead.the-variants as nr
 use Rattle.text.specs.declared.reader.JobLines.{JobLines}
 
 -- the nets as they stand in the tables, with the entry after the last net's
-with-nets : (n edges nets : ℕ) (r : NetsRead) (firstEdges edgeTargets sources firstSinks sinks : List ℕ) → NetsEnd nets r firstSinks → nets + 1 ≤ length firstSinks → sinksMost ≤ length sinks → edgesNetsAt n edges nets r firstEdges edgeTargets sources firstSinks sinks ≡ withNets (take (n + 1) firstEdges) (take edges edgeTargets) (netsReadAt nets r sources firstSinks sinks)
+with-nets :
+    (n edges nets : ℕ) (r : NetsRead) (firstEdges edgeTargets sources firstSinks sinks : List ℕ) → NetsEnd nets r firstSinks
+    → nets + 1 ≤ length firstSinks → sinksMost ≤ length sinks
+    → edgesNetsAt n edges nets r firstEdges edgeTargets sources firstSinks sinks
+    ≡ withNets (take (n + 1) firstEdges) (take edges edgeTargets) (netsReadAt nets r sources firstSinks sinks)
 with-nets n edges nets (nr.Read count line) firstEdges edgeTargets sources firstSinks sinks end long room =
     let one : take (nets + 1) firstSinks ≡ take nets firstSinks ++ (count ∷ []) =
     rw (add-one, take-suc firstSinks nets 0 (omega arith), end .1) refl in
@@ -31,7 +35,13 @@ with-nets n edges nets (nr.Read count line) firstEdges edgeTargets sources first
 with-nets n edges nets (nr.Stopped k line) firstEdges edgeTargets sources firstSinks sinks end long room = refl
 
 -- edges, then nets
-pub edges-nets : (kinds : List ℕ) (n edges nets line at next : ℕ) (text bs : List ℕ) (x : Lines) (r : NetsRead) (firstEdges edgeTargets sources firstSinks sinks : List ℕ) → x ≡ ls.Read at next → edgesAt text x (take (n + 1) firstEdges) (take edges edgeTargets) ≡ edgeTables n (edgeLines n edges (edgeLists [] []) line bs) → netsReadAt nets r sources firstSinks sinks ≡ netLines (length (drop at text)) kinds n nets (netLists [] [] []) next (drop at text) → NetsEnd nets r firstSinks → nets + 1 ≤ length firstSinks → sinksMost ≤ length sinks → edgesNetsAt n edges nets r firstEdges edgeTargets sources firstSinks sinks ≡ bodyAfterNodes kinds n edges nets line bs
+pub edges-nets :
+    (kinds : List ℕ) (n edges nets line at next : ℕ) (text bs : List ℕ) (x : Lines) (r : NetsRead) (firstEdges edgeTargets sources firstSinks sinks : List ℕ)
+    → x ≡ ls.Read at next
+    → edgesAt text x (take (n + 1) firstEdges) (take edges edgeTargets) ≡ edgeTables n (edgeLines n edges (edgeLists [] []) line bs)
+    → netsReadAt nets r sources firstSinks sinks ≡ netLines (length (drop at text)) kinds n nets (netLists [] [] []) next (drop at text)
+    → NetsEnd nets r firstSinks → nets + 1 ≤ length firstSinks → sinksMost ≤ length sinks
+    → edgesNetsAt n edges nets r firstEdges edgeTargets sources firstSinks sinks ≡ bodyAfterNodes kinds n edges nets line bs
 unfolding bodyAfterNodes
 edges-nets kinds n edges nets line at next text bs x r firstEdges edgeTargets sources firstSinks sinks is read nets-are end long room =
     with-nets n edges nets r firstEdges edgeTargets sources firstSinks sinks end long room
@@ -39,17 +49,27 @@ edges-nets kinds n edges nets line at next text bs x r firstEdges edgeTargets so
     ∙ ap (netsAfter kinds n nets) (ap (λ (y : Lines). edgesAt text y (take (n + 1) firstEdges) (take edges edgeTargets)) (sym is) ∙ read)
 
 -- a faulty E line
-pub edges-stop : (kinds : List ℕ) (n edges nets line k at : ℕ) (text bs : List ℕ) (x : Lines) (firstEdges edgeTargets : List ℕ) → x ≡ ls.Stopped k at → edgesAt text x firstEdges edgeTargets ≡ edgeTables n (edgeLines n edges (edgeLists [] []) line bs) → stopped k at ≡ bodyAfterNodes kinds n edges nets line bs
+pub edges-stop :
+    (kinds : List ℕ) (n edges nets line k at : ℕ) (text bs : List ℕ) (x : Lines) (firstEdges edgeTargets : List ℕ) → x ≡ ls.Stopped k at
+    → edgesAt text x firstEdges edgeTargets ≡ edgeTables n (edgeLines n edges (edgeLists [] []) line bs)
+    → stopped k at ≡ bodyAfterNodes kinds n edges nets line bs
 unfolding bodyAfterNodes
 edges-stop kinds n edges nets line k at text bs x firstEdges edgeTargets is read =
     ap (netsAfter kinds n nets) (ap (λ (y : Lines). edgesAt text y firstEdges edgeTargets) (sym is) ∙ read)
 
-with-wires : (n edges nets : ℕ) (r : NetsRead) (kinds capacities firstEdges edgeTargets sources firstSinks sinks : List ℕ) → bodyAt n edges nets r kinds capacities firstEdges edgeTargets sources firstSinks sinks ≡ withWires (take n kinds) (take n capacities) (edgesNetsAt n edges nets r firstEdges edgeTargets sources firstSinks sinks)
+with-wires :
+    (n edges nets : ℕ) (r : NetsRead) (kinds capacities firstEdges edgeTargets sources firstSinks sinks : List ℕ)
+    → bodyAt n edges nets r kinds capacities firstEdges edgeTargets sources firstSinks sinks
+    ≡ withWires (take n kinds) (take n capacities) (edgesNetsAt n edges nets r firstEdges edgeTargets sources firstSinks sinks)
 with-wires n edges nets (nr.Read count line) kinds capacities firstEdges edgeTargets sources firstSinks sinks = refl
 with-wires n edges nets (nr.Stopped k line) kinds capacities firstEdges edgeTargets sources firstSinks sinks = refl
 
 -- nodes, then edges and nets
-pub nodes-wires : (n edges nets line at next : ℕ) (text bs : List ℕ) (x : Lines) (r : NetsRead) (kinds capacities firstEdges edgeTargets sources firstSinks sinks : List ℕ) → x ≡ ls.Read at next → nodesAt text x (take n kinds) (take n capacities) ≡ nodeLines n n (nodeLists [] []) line bs → edgesNetsAt n edges nets r firstEdges edgeTargets sources firstSinks sinks ≡ bodyAfterNodes (take n kinds) n edges nets next (drop at text) → bodyAt n edges nets r kinds capacities firstEdges edgeTargets sources firstSinks sinks ≡ bodyAfterHead n edges nets line bs
+pub nodes-wires :
+    (n edges nets line at next : ℕ) (text bs : List ℕ) (x : Lines) (r : NetsRead) (kinds capacities firstEdges edgeTargets sources firstSinks sinks : List ℕ)
+    → x ≡ ls.Read at next → nodesAt text x (take n kinds) (take n capacities) ≡ nodeLines n n (nodeLists [] []) line bs
+    → edgesNetsAt n edges nets r firstEdges edgeTargets sources firstSinks sinks ≡ bodyAfterNodes (take n kinds) n edges nets next (drop at text)
+    → bodyAt n edges nets r kinds capacities firstEdges edgeTargets sources firstSinks sinks ≡ bodyAfterHead n edges nets line bs
 unfolding bodyAfterHead
 nodes-wires n edges nets line at next text bs x r kinds capacities firstEdges edgeTargets sources firstSinks sinks is read wires =
     with-wires n edges nets r kinds capacities firstEdges edgeTargets sources firstSinks sinks
@@ -57,7 +77,9 @@ nodes-wires n edges nets line at next text bs x r kinds capacities firstEdges ed
     ∙ ap (wiresAfter n edges nets) (ap (λ (y : Lines). nodesAt text y (take n kinds) (take n capacities)) (sym is) ∙ read)
 
 -- a faulty N line
-pub nodes-stop : (n edges nets line k at : ℕ) (text bs : List ℕ) (x : Lines) (kinds capacities : List ℕ) → x ≡ ls.Stopped k at → nodesAt text x kinds capacities ≡ nodeLines n n (nodeLists [] []) line bs → stopped k at ≡ bodyAfterHead n edges nets line bs
+pub nodes-stop :
+    (n edges nets line k at : ℕ) (text bs : List ℕ) (x : Lines) (kinds capacities : List ℕ) → x ≡ ls.Stopped k at
+    → nodesAt text x kinds capacities ≡ nodeLines n n (nodeLists [] []) line bs → stopped k at ≡ bodyAfterHead n edges nets line bs
 unfolding bodyAfterHead
 nodes-stop n edges nets line k at text bs x kinds capacities is read =
     ap (wiresAfter n edges nets) (ap (λ (y : Lines). nodesAt text y kinds capacities) (sym is) ∙ read)
@@ -70,34 +92,54 @@ jobAfter terms (stopped k at) = stopped k at
 
 -- one stage after the other is the whole text, once the lines before the nodes are read
 module _ (c : Counts) where
-  last-stage : (ns : NodeLists) (es : EdgeLists) (x : Part NetLists) → jobAfter (c .terms) (withWires (ns .kinds) (ns .capacities) (withNets (firstPlaces (c .nodes) (es .froms)) (es .targets) x)) ≡ andThen x (λ ts at rest. part (jobRead c ns es ts) at rest)
+  last-stage :
+      (ns : NodeLists) (es : EdgeLists) (x : Part NetLists)
+      → jobAfter (c .terms) (withWires (ns .kinds) (ns .capacities) (withNets (firstPlaces (c .nodes) (es .froms)) (es .targets) x))
+      ≡ andThen x (λ ts at rest. part (jobRead c ns es ts) at rest)
   unfolding jobRead
   last-stage ns es (part ts at rest) = refl
   last-stage ns es (stopped k at) = refl
 
-  edge-stage : (ns : NodeLists) (x : Part EdgeLists) → jobAfter (c .terms) (withWires (ns .kinds) (ns .capacities) (netsAfter (ns .kinds) (c .nodes) (c .nets) (edgeTables (c .nodes) x))) ≡ andThen x (λ es at rest. andThen (netLines (length rest) (ns .kinds) (c .nodes) (c .nets) (netLists [] [] []) at rest) (λ ts at2 rest2. part (jobRead c ns es ts) at2 rest2))
+  edge-stage :
+      (ns : NodeLists) (x : Part EdgeLists)
+      → jobAfter (c .terms) (withWires (ns .kinds) (ns .capacities) (netsAfter (ns .kinds) (c .nodes) (c .nets) (edgeTables (c .nodes) x)))
+      ≡ andThen x
+      (λ es at rest. andThen (netLines (length rest) (ns .kinds) (c .nodes) (c .nets) (netLists [] [] []) at rest) (λ ts at2 rest2. part (jobRead c ns es ts) at2 rest2))
   edge-stage ns (part es at rest) = last-stage ns es (netLines (length rest) (ns .kinds) (c .nodes) (c .nets) (netLists [] [] []) at rest)
   edge-stage ns (stopped k at) = refl
 
-  node-stage : (x : Part NodeLists) → jobAfter (c .terms) (wiresAfter (c .nodes) (c .edges) (c .nets) x) ≡ andThen x (λ ns at rest. andThen (edgeLines (c .nodes) (c .edges) (edgeLists [] []) at rest) (λ es at2 rest2. andThen (netLines (length rest2) (ns .kinds) (c .nodes) (c .nets) (netLists [] [] []) at2 rest2) (λ ts at3 rest3. part (jobRead c ns es ts) at3 rest3)))
+  node-stage :
+      (x : Part NodeLists)
+      → jobAfter (c .terms) (wiresAfter (c .nodes) (c .edges) (c .nets) x)
+      ≡ andThen x
+      (λ ns at rest. andThen (edgeLines (c .nodes) (c .edges) (edgeLists [] []) at rest) (λ es at2 rest2. andThen (netLines (length rest2) (ns .kinds) (c .nodes) (c .nets) (netLists [] [] []) at2 rest2) (λ ts at3 rest3. part (jobRead c ns es ts) at3 rest3)))
   unfolding bodyAfterNodes
   node-stage (part ns at rest) = edge-stage ns (edgeLines (c .nodes) (c .edges) (edgeLists [] []) at rest)
   node-stage (stopped k at) = refl
 
 -- the lines before the nodes, then those from the nodes on
 module _ (n edges nets : ℕ) (terms : Terms) (at line : ℕ) (text : List ℕ) (x : HeadRead) (kinds capacities firstEdges edgeTargets sources firstSinks sinks : List ℕ) (is : x ≡ hr.Counts n edges nets terms at line) (read : headReadAt text x ≡ headPart text) where
-  text-body : (r : NetsRead) → bodyAt n edges nets r kinds capacities firstEdges edgeTargets sources firstSinks sinks ≡ bodyAfterHead n edges nets line (drop at text) → jobAfter terms (bodyAt n edges nets r kinds capacities firstEdges edgeTargets sources firstSinks sinks) ≡ readText text
+  text-body :
+      (r : NetsRead)
+      → bodyAt n edges nets r kinds capacities firstEdges edgeTargets sources firstSinks sinks ≡ bodyAfterHead n edges nets line (drop at text)
+      → jobAfter terms (bodyAt n edges nets r kinds capacities firstEdges edgeTargets sources firstSinks sinks) ≡ readText text
   unfolding readText bodyAfterHead
   text-body r body =
       ap (jobAfter terms) body
       ∙ node-stage (record { nodes = n; edges = edges; nets = nets; terms = terms }) (nodeLines n n (nodeLists [] []) line (drop at text))
       ∙ rw (← read, is)
 
-  job-body : (r : NetsRead) → jobAt (jobLines n edges nets terms r) kinds capacities firstEdges edgeTargets sources firstSinks sinks ≡ jobAfter terms (bodyAt n edges nets r kinds capacities firstEdges edgeTargets sources firstSinks sinks)
+  job-body :
+      (r : NetsRead)
+      → jobAt (jobLines n edges nets terms r) kinds capacities firstEdges edgeTargets sources firstSinks sinks
+      ≡ jobAfter terms (bodyAt n edges nets r kinds capacities firstEdges edgeTargets sources firstSinks sinks)
   job-body (nr.Read count end) = refl
   job-body (nr.Stopped k end) = refl
 
-  pub text-read : (r : NetsRead) (j : JobLines) → j ≡ jobLines n edges nets terms r → bodyAt n edges nets r kinds capacities firstEdges edgeTargets sources firstSinks sinks ≡ bodyAfterHead n edges nets line (drop at text) → jobAt j kinds capacities firstEdges edgeTargets sources firstSinks sinks ≡ readText text
+  pub text-read :
+      (r : NetsRead) (j : JobLines) → j ≡ jobLines n edges nets terms r
+      → bodyAt n edges nets r kinds capacities firstEdges edgeTargets sources firstSinks sinks ≡ bodyAfterHead n edges nets line (drop at text)
+      → jobAt j kinds capacities firstEdges edgeTargets sources firstSinks sinks ≡ readText text
   text-read r j e body =
       ap (λ (y : JobLines). jobAt y kinds capacities firstEdges edgeTargets sources firstSinks sinks) e ∙ job-body r ∙ text-body r body
 
@@ -120,5 +162,7 @@ pub read-place : (text : List ℕ) (x : Lines) (at line : ℕ) → x ≡ ls.Read
 read-place text x at line is place = rw is at place
 
 -- the counts, and where the nodes begin
-pub body-place : (text : List ℕ) (x : HeadRead) (n edges nets : ℕ) (terms : Terms) (at line : ℕ) → x ≡ hr.Counts n edges nets terms at line → HeadReadPlace text x → CountsWithin n edges nets × (at ≤ length text) × (line ≤ at + 1)
+pub body-place :
+    (text : List ℕ) (x : HeadRead) (n edges nets : ℕ) (terms : Terms) (at line : ℕ) → x ≡ hr.Counts n edges nets terms at line → HeadReadPlace text x
+    → CountsWithin n edges nets × (at ≤ length text) × (line ≤ at + 1)
 body-place text x n edges nets terms at line is place = rw is at place

@@ -7,7 +7,7 @@ use native.Mathlib.Nat.{zero-add}
 use lib.ListN.{length}
 use borrow.Author.Tests.{lt-ltb, le-ltb}
 use Rattle.text.specs.Lines.{letterX, printLine}
-use Rattle.text.specs.RunReplies.{lineTold, refusalLine}
+use Rattle.text.specs.Refusals.{lineReplyOf, refusalLine}
 use Rattle.text.specs.WriteSteps.{Put}
 use Rattle.text.proofs.PlacedLaws.{placed-start}
 
@@ -15,13 +15,13 @@ pub line-room : (numbers : List ℕ) (room : ℕ) → length (printLine 0 number
 unfolding printLine
 line-room numbers room h = rw zero-add h
 
-pub line-short : (numbers buffer : List ℕ) → length buffer < length (printLine 0 numbers) → lineTold 0 buffer ≡ refusalLine numbers buffer
+pub line-short : (numbers buffer : List ℕ) → length buffer < length (printLine 0 numbers) → lineReplyOf 0 buffer ≡ refusalLine numbers buffer
 unfolding refusalLine printLine
 line-short numbers buffer h = rw (lt-ltb (length buffer) (length (printLine letterX numbers)) h)
 
 pub line-put :
     (numbers before after : List ℕ) (next : ℕ) → length (printLine 0 numbers) ≤ length before
-    → Put 0 (printLine letterX numbers) before after next → lineTold next after ≡ refusalLine numbers before
+    → Put 0 (printLine letterX numbers) before after next → lineReplyOf next after ≡ refusalLine numbers before
 unfolding refusalLine printLine
 line-put numbers before after next h f =
     rw (

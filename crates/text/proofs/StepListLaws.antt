@@ -52,7 +52,9 @@ steps-are r = steps-numbered (r .net) (r .path)
 
 module _ (t : ℕ) where
   -- a record that has the iteration, and one that has another
-  branches-with : (r : Record) (rs : List Record) → branchesIn t rs ≡ stepsOf t rs → (d : Dec (r .iteration ≡ t)) → branchesIn t (r ∷ rs) ≡ flatMap pathSteps (ite {C = List Record} d (r ∷ recordsOf t rs) (recordsOf t rs))
+  branches-with :
+      (r : Record) (rs : List Record) → branchesIn t rs ≡ stepsOf t rs → (d : Dec (r .iteration ≡ t))
+      → branchesIn t (r ∷ rs) ≡ flatMap pathSteps (ite {C = List Record} d (r ∷ recordsOf t rs) (recordsOf t rs))
   unfolding branchesIn stepsOf flatMap
   branches-with r rs e (yes q) = rw (eq-eqb (r .iteration) t q, steps-are r, e)
   branches-with r rs e (no q) = rw (ne-eqb (r .iteration) t q) e

@@ -56,7 +56,9 @@ module _ {start next : ℕ} {whole before after : List ℕ} (fits : start + leng
       let place = w .put .next-is in
       omega (arith, length-append piece rest)
 
-  pub so-far-more : {later : List ℕ} {further : ℕ} (piece rest : List ℕ) → WrittenSoFar start whole (piece ++ rest) before after next → Put next piece after later further → WrittenSoFar start whole rest before later further
+  pub so-far-more :
+      {later : List ℕ} {further : ℕ} (piece rest : List ℕ) → WrittenSoFar start whole (piece ++ rest) before after next
+      → Put next piece after later further → WrittenSoFar start whole rest before later further
   so-far-more piece rest w p =
       let short = done-short w in
       let long = length-append piece rest in

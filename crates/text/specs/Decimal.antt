@@ -6,12 +6,15 @@ use Prim.Native.Nat.{ℕ, zero, suc, _+_, _/_, _%_}
 use lib.Dec.{leb, ltb}
 use Rattle.price.specs.Test.{choose, both}
 
--- the byte of the digit 0; those of 1 to 9 follow it
+-- ASCII codes of the digits 0 and 9; those between follow each other
 abbrev pub zeroByte : ℕ
 zeroByte = 48
 
+abbrev pub nineByte : ℕ
+nineByte = 57
+
 unfoldable pub isDigit : ℕ → Bool
-isDigit b = both (leb zeroByte b) (leb b 57)
+isDigit b = both (leb zeroByte b) (leb b nineByte)
 
 -- the digits of a number that has at most so many
 unfoldable pub digits : ℕ → ℕ → List ℕ

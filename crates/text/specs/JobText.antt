@@ -1,4 +1,5 @@
--- Document 01, "Job text" and rows 1 to 3 of "Numbers for a stopped call", with the P line of request 2.1 and the pins' kinds of 2.5: what a text gives, line by line, or the first faulty line.
+-- Document 01, "Job text" and rows 1 to 3 of "Numbers for a stopped call", with the P line of request 2.1 and the pins' kinds of 2.5:
+-- what a text gives, line by line, or the first faulty line.
 -- Assumes nothing.
 use mathlib.Core.Bool.{Bool, true, not}
 use mathlib.Core.List.{List, [], _∷_, _++_}
@@ -12,7 +13,7 @@ use Rattle.price.specs.Tuning.{plain, tuningSound}
 use Rattle.price.specs.declared.Tuning.{Tuning}
 use Rattle.search.specs.Tables.{edgesMost}
 use Rattle.search.specs.Replies.{sinksMost}
-use Rattle.negotiation.specs.Tables.{netsMost, oneOf}
+use Rattle.negotiation.specs.Tables.{netsMost, sourceKind, sinkKind}
 use Rattle.negotiation.specs.Job.{Job, jobOf}
 use Rattle.negotiation.specs.declared.Terms.{Terms}
 use Rattle.text.specs.Lines.{letterF, letterP, letterN, letterE, letterS, letterT, begins, Fields, taken, malformed, line}
@@ -84,7 +85,8 @@ pinWithin n nets vs = both (ltb (getD vs 0 0) nets) (ltb (getD vs 1 0) n)
 unfoldable pub sourceLine : ℕ → ℕ → ℕ → List ℕ → Reading (List ℕ)
 sourceLine n nets i bs = judged (pinWithin n nets) (λ vs. eqb (getD vs 0 0) i) (line letterS 2 bs)
 
--- a sink of net i, whose source and sinks so far are `pins`, after so many sinks of all nets: "repeated sink, sink = source; a 4,097th sink"
+-- a sink of net i, whose source and sinks so far are `pins`, after so many sinks of all nets:
+-- "repeated sink, sink = source; a 4,097th sink"
 unfoldable pub sinkOrdered : ℕ → List ℕ → ℕ → List ℕ → Bool
 sinkOrdered i pins count vs = both (eqb (getD vs 0 0) i) (both (not (has (getD vs 1 0) pins)) (ltb count sinksMost))
 
@@ -194,19 +196,19 @@ withSource l vs =
 abbrev pub withSink : NetLists → List ℕ → NetLists
 withSink l vs = netLists (l .sources) (l .firstSinks) (l .sinks ++ (getD vs 1 0 ∷ []))
 
--- request 2.5: a pin that is of neither of these kinds is "refusal 3 at the S or T line"
-abbrev pub ofKind : ℕ → ℕ → List ℕ → Reading (List ℕ) → Reading (List ℕ)
-ofKind a b kinds (values vs rest) = choose (oneOf a b (getD kinds (getD vs 1 0) 0)) (values vs rest) (refused 3)
-ofKind a b kinds (refused k) = refused k
+-- request 2.5: a pin whose kind does not pass the test is "refusal 3 at the S or T line"
+abbrev pub ofKind : (ℕ → Bool) → List ℕ → Reading (List ℕ) → Reading (List ℕ)
+ofKind test kinds (values vs rest) = choose (test (getD kinds (getD vs 1 0) 0)) (values vs rest) (refused 3)
+ofKind test kinds (refused k) = refused k
 
 -- the S line that is due: "A source must now be of kind 0 or 2"
 unfoldable pub nextSource : List ℕ → ℕ → ℕ → NetLists → List ℕ → Reading (List ℕ)
-nextSource kinds n nets l bs = ofKind 0 2 kinds (sourceLine n nets (length (l .sources)) bs)
+nextSource kinds n nets l bs = ofKind sourceKind kinds (sourceLine n nets (length (l .sources)) bs)
 
 -- a T line of the last net: "a sink of kind 1 or 3"
 unfoldable pub nextSink : List ℕ → ℕ → ℕ → NetLists → List ℕ → Reading (List ℕ)
 nextSink kinds n nets l bs =
-    ofKind 1 3 kinds (sinkLine n nets (length (l .sources) - 1) (lastOf (l .sources) ∷ sinksNow l) (length (l .sinks)) bs)
+    ofKind sinkKind kinds (sinkLine n nets (length (l .sources) - 1) (lastOf (l .sources) ∷ sinksNow l) (length (l .sinks)) bs)
 
 -- the lists with what a line gives
 abbrev pub taking : {A B : Type 0} → (A → B) → Reading A → Reading B

@@ -8,5 +8,4 @@ pub mod Routes
 pub mod Listed
 pub mod ReadSteps
 pub mod WriteSteps
-pub mod RunReplies
-pub mod Samples
+pub mod Refusals

@@ -1,4 +1,5 @@
--- Document 01, "Routes text", from the reader's side: which branches its B lines list, by the records of the log and the places of their paths.
+-- Document 01, "Routes text", from the reader's side: which branches its B lines list, by the records of the log
+-- and the places of their paths.
 -- Assumes nothing.
 use mathlib.Core.List.{List, [], _∷_, _++_, filter, flatMap, List·Memᴰ}
 use mathlib.Core.Path.{_≡_}
@@ -13,7 +14,9 @@ use Rattle.text.specs.Routes.{Branch}
 -- "`B,net,from,to`": the lines of a text, read one after the other to its end as a job text's are, give these branches
 pub data BranchLines : List ℕ → List Branch → Type 0 where
   ended : BranchLines [] []
-  next : {bytes rest : List ℕ} {b : Branch} {bs : List Branch} → line letterB 3 bytes ≡ taken (b .net ∷ b .from ∷ b .to ∷ []) rest → BranchLines rest bs → BranchLines bytes (b ∷ bs)
+  next :
+      {bytes rest : List ℕ} {b : Branch} {bs : List Branch}
+      → line letterB 3 bytes ≡ taken (b .net ∷ b .from ∷ b .to ∷ []) rest → BranchLines rest bs → BranchLines bytes (b ∷ bs)
 
 -- step k of a record's path, from its node k to its node k + 1
 unfoldable pub stepAt : Record → ℕ → Branch
@@ -31,8 +34,8 @@ recordsOf t rs = filter (λ (r : Record). ℕ-discrete (r .iteration) t) rs
 unfoldable pub stepsOf : ℕ → List Record → List Branch
 stepsOf t rs = flatMap pathSteps (recordsOf t rs)
 
--- "`R,iteration,turns` from the last record and the record count, then `B,net,from,to` for each path step of records with that iteration". The R line is said by its
--- bytes: a record count may have more digits than a field that is read
+-- "`R,iteration,turns` from the last record and the record count, then `B,net,from,to` for each path step of records with that iteration".
+-- The R line is said by its bytes: a record count may have more digits than a field that is read
 pub record Listed (log text : List ℕ) : Type 0 where
   pub earlier : List Record
   pub last : Record

@@ -33,34 +33,41 @@ tablesOf kinds capacities firstEdges edgeTargets sources firstSinks sinks =
       sinks = sinks;
     }
 
--- row 4: "lowest table too short for the job", 0 where each is long enough
+-- row 4: "lowest table too short for the job", 0 where each is long enough; by the job's counts and the tables' lengths
+unfoldable pub lowestShort : (n edges nets count kinds capacities firstEdges edgeTargets sources firstSinks sinks : ℕ) → ℕ
+lowestShort n edges nets count kinds capacities firstEdges edgeTargets sources firstSinks sinks =
+    choose (ltb kinds n) 1
+    (choose (ltb capacities n) 2
+    (choose (ltb firstEdges (n + 1)) 3
+    (choose (ltb edgeTargets edges) 4
+    (choose (ltb sources nets) 5
+    (choose (ltb firstSinks (nets + 1)) 6
+    (choose (ltb sinks count) 7 0))))))
+
 unfoldable pub shortTable : Job → Tables → ℕ
 shortTable j t =
-    choose (ltb (length (t .kinds)) (nodes j)) 1
-    (choose (ltb (length (t .capacities)) (nodes j)) 2
-    (choose (ltb (length (t .firstEdges)) (nodes j + 1)) 3
-    (choose (ltb (length (t .edgeTargets)) (length (j .block .edgeTargets))) 4
-    (choose (ltb (length (t .sources)) (nets j)) 5
-    (choose (ltb (length (t .firstSinks)) (nets j + 1)) 6
-    (choose (ltb (length (t .sinks)) (length (j .sinks))) 7 0))))))
+    lowestShort (nodes j) (length (j .block .edgeTargets)) (nets j) (length (j .sinks))
+    (length (t .kinds)) (length (t .capacities)) (length (t .firstEdges)) (length (t .edgeTargets))
+    (length (t .sources)) (length (t .firstSinks)) (length (t .sinks))
 
 -- "entries beyond the counts stay"
-unfoldable pub laid : List ℕ → List ℕ → List ℕ
-laid new old = new ++ drop (length new) old
+unfoldable pub writtenOver : List ℕ → List ℕ → List ℕ
+writtenOver new old = new ++ drop (length new) old
 
 unfoldable pub tablesWith : Job → Tables → Tables
 tablesWith j t =
-    tablesOf (laid (j .block .kinds) (t .kinds)) (laid (j .block .capacities) (t .capacities))
-    (laid (j .block .firstEdges) (t .firstEdges)) (laid (j .block .edgeTargets) (t .edgeTargets))
-    (laid (j .sources) (t .sources)) (laid (j .firstSinks) (t .firstSinks)) (laid (j .sinks) (t .sinks))
+    tablesOf (writtenOver (j .block .kinds) (t .kinds)) (writtenOver (j .block .capacities) (t .capacities))
+    (writtenOver (j .block .firstEdges) (t .firstEdges)) (writtenOver (j .block .edgeTargets) (t .edgeTargets))
+    (writtenOver (j .sources) (t .sources)) (writtenOver (j .firstSinks) (t .firstSinks)) (writtenOver (j .sinks) (t .sinks))
 
--- the refusal's numbers, none where the text is taken; nodes, edges, nets, sinks, limit and the four of the tuning, none after a refusal; and the tables afterwards
+-- the refusal's numbers, none where the text is taken; nodes, edges, nets, sinks, limit and the four of the tuning, none after a refusal;
+-- and the tables afterwards
 pub record ReadReply : Type 0 where
   pub refusal : List ℕ
   pub numbers : List ℕ
   pub tables : Tables
 
--- "on any refusal every table is untouched"
+-- rows 1 to 4: every table is left "untouched"
 abbrev pub notRead : List ℕ → Tables → ReadReply
 notRead refusal t = record { refusal = refusal; numbers = []; tables = t }
 
@@ -73,21 +80,29 @@ unfoldable pub jobNumbers : Job → List ℕ
 jobNumbers j = nodes j ∷ length (j .block .edgeTargets) ∷ nets j ∷ length (j .sinks) ∷ termsNumbers (j .terms)
 
 -- the reply for a job that was read: "4 follows a sound text"
-unfoldable pub laidReply : Job → Tables → ReadReply
-laidReply j t =
+unfoldable pub storedReply : Job → Tables → ReadReply
+storedReply j t =
     choose (leb 1 (shortTable j t)) (notRead (4 ∷ shortTable j t ∷ []) t)
     (record { refusal = []; numbers = jobNumbers j; tables = tablesWith j t })
 
-abbrev pub replyOf : Part Job → Tables → ReadReply
-replyOf (stopped k at) t = notRead (k ∷ at ∷ []) t
-replyOf (part j at rest) t = laidReply j t
+abbrev pub replyTo : Part Job → Tables → ReadReply
+replyTo (stopped k at) t = notRead (k ∷ at ∷ []) t
+replyTo (part j at rest) t = storedReply j t
 
 unfoldable pub readReply : List ℕ → Tables → ReadReply
-readReply text t = replyOf (readText text) t
+readReply text t = replyTo (readText text) t
 
--- 01's numbers for each case of the answer, with the tables at the call's end
-abbrev pub readTold : ReadAnswer → Tables → ReadReply
-readTold (a.Job nodes edges nets sinks terms) t =
-    record { refusal = []; numbers = nodes ∷ edges ∷ nets ∷ sinks ∷ termsNumbers terms; tables = t }
-readTold (a.BadLine number at) t = notRead (number ∷ at ∷ []) t
-readTold (a.ShortTable table) t = notRead (4 ∷ table ∷ []) t
+-- 01's numbers for each case of the answer
+abbrev pub readRefusal : ReadAnswer → List ℕ
+readRefusal (a.Job nodes edges nets sinks terms) = []
+readRefusal (a.BadLine number at) = number ∷ at ∷ []
+readRefusal (a.ShortTable table) = 4 ∷ table ∷ []
+
+abbrev pub readNumbers : ReadAnswer → List ℕ
+readNumbers (a.Job nodes edges nets sinks terms) = nodes ∷ edges ∷ nets ∷ sinks ∷ termsNumbers terms
+readNumbers (a.BadLine number at) = []
+readNumbers (a.ShortTable table) = []
+
+-- the answer with the tables at the call's end
+abbrev pub readReplyOf : ReadAnswer → Tables → ReadReply
+readReplyOf r t = record { refusal = readRefusal r; numbers = readNumbers r; tables = t }

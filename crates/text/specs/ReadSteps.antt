@@ -3,16 +3,15 @@
 use mathlib.Core.List.{List, [], _∷_, _++_}
 use mathlib.Core.Path.{_≡_}
 use Prim.Native.Nat.{ℕ, _+_, _≤_}
-use lib.Dec.{ltb}
 use lib.ListN.{length, take, drop}
-use Rattle.price.specs.Test.{choose}
 use Rattle.price.specs.Bounds.{nodesMost}
 use Rattle.search.specs.Tables.{edgesMost}
 use Rattle.search.specs.Replies.{sinksMost}
 use Rattle.negotiation.specs.Tables.{netsMost}
 use Rattle.negotiation.specs.Job.{Job, jobOf}
 use Rattle.negotiation.specs.declared.Terms.{Terms}
-use Rattle.text.specs.JobText.{Part, part, stopped, Counts, NodeLists, nodeLists, nodeLines, edgeLists, edgeLines, NetLists, netLists, netLines}
+use Rattle.text.specs.JobText.{Part, part, stopped, Counts, NodeLists, nodeLists, nodeLines}
+use Rattle.text.specs.JobText.{edgeLists, edgeLines, NetLists, netLists, netLines}
 use Rattle.text.specs.ReadReplies.{Tables, tablesOf}
 use Rattle.text.specs.Steps.{EdgeTables, edgeTables}
 use Rattle.text.specs.declared.head.HeadRead.{HeadRead}
@@ -80,9 +79,12 @@ netsAfter kinds n nets (stopped k at) = stopped k at
 unfoldable pub bodyAfterNodes : List ℕ → ℕ → ℕ → ℕ → ℕ → List ℕ → Part WireTables
 bodyAfterNodes kinds n edges nets at bs = netsAfter kinds n nets (edgeTables n (edgeLines n edges (edgeLists [] []) at bs))
 
-abbrev pub edgesNetsAt : ℕ → ℕ → ℕ → NetsRead → List ℕ → List ℕ → List ℕ → List ℕ → List ℕ → Part WireTables
+abbrev pub edgesNetsAt :
+    (n edges nets : ℕ) → NetsRead → (firstEdges edgeTargets sources firstSinks sinks : List ℕ) → Part WireTables
 edgesNetsAt n edges nets (nr.Read count line) firstEdges edgeTargets sources firstSinks sinks =
-    part (wireTables (take (n + 1) firstEdges) (take edges edgeTargets) (take nets sources) (take (nets + 1) firstSinks) (take count sinks)) line []
+    part
+    (wireTables (take (n + 1) firstEdges) (take edges edgeTargets) (take nets sources) (take (nets + 1) firstSinks) (take count sinks))
+    line []
 edgesNetsAt n edges nets (nr.Stopped k line) firstEdges edgeTargets sources firstSinks sinks = stopped k line
 
 -- edges and nets after the nodes
@@ -99,15 +101,21 @@ wiresAfter n edges nets (stopped k at) = stopped k at
 unfoldable pub bodyAfterHead : ℕ → ℕ → ℕ → ℕ → List ℕ → Part Tables
 bodyAfterHead n edges nets at bs = wiresAfter n edges nets (nodeLines n n (nodeLists [] []) at bs)
 
-abbrev pub bodyAt : ℕ → ℕ → ℕ → NetsRead → List ℕ → List ℕ → List ℕ → List ℕ → List ℕ → List ℕ → List ℕ → Part Tables
+abbrev pub bodyAt :
+    (n edges nets : ℕ) → NetsRead → (kinds capacities firstEdges edgeTargets sources firstSinks sinks : List ℕ) → Part Tables
 bodyAt n edges nets (nr.Read count line) kinds capacities firstEdges edgeTargets sources firstSinks sinks =
-    part (tablesOf (take n kinds) (take n capacities) (take (n + 1) firstEdges) (take edges edgeTargets) (take nets sources) (take (nets + 1) firstSinks) (take count sinks)) line []
+    part
+    (tablesOf (take n kinds) (take n capacities) (take (n + 1) firstEdges) (take edges edgeTargets)
+    (take nets sources) (take (nets + 1) firstSinks) (take count sinks))
+    line []
 bodyAt n edges nets (nr.Stopped k line) kinds capacities firstEdges edgeTargets sources firstSinks sinks = stopped k line
 
 -- the job that stands in tables that have room for any
-abbrev pub jobTaken : ℕ → ℕ → ℕ → ℕ → Terms → List ℕ → List ℕ → List ℕ → List ℕ → List ℕ → List ℕ → List ℕ → Job
+abbrev pub jobTaken :
+    (n edges nets count : ℕ) → Terms → (kinds capacities firstEdges edgeTargets sources firstSinks sinks : List ℕ) → Job
 jobTaken n edges nets count terms kinds capacities firstEdges edgeTargets sources firstSinks sinks =
-    jobOf (take n kinds) (take n capacities) (take (n + 1) firstEdges) (take edges edgeTargets) (take nets sources) (take (nets + 1) firstSinks) (take count sinks) terms
+    jobOf (take n kinds) (take n capacities) (take (n + 1) firstEdges) (take edges edgeTargets)
+    (take nets sources) (take (nets + 1) firstSinks) (take count sinks) terms
 
 -- the first line's counts and what the lines after it gave, as one answer
 abbrev pub jobLines : ℕ → ℕ → ℕ → Terms → NetsRead → JobLines
@@ -132,14 +140,3 @@ pub record Fits (count : ℕ) (from to : List ℕ) : Type 0 where
 -- the first entries of a list are copied over those of another
 abbrev pub Over : ℕ → List ℕ → List ℕ → List ℕ → Type 0
 Over count from before after = after ≡ take count from ++ drop count before
-
--- row 4, by the tables' lengths
-unfoldable pub shortest : ℕ → ℕ → ℕ → ℕ → ℕ → ℕ → ℕ → ℕ → ℕ → ℕ → ℕ → ℕ
-shortest n edges nets count kinds capacities firstEdges edgeTargets sources firstSinks sinks =
-    choose (ltb kinds n) 1
-    (choose (ltb capacities n) 2
-    (choose (ltb firstEdges (n + 1)) 3
-    (choose (ltb edgeTargets edges) 4
-    (choose (ltb sources nets) 5
-    (choose (ltb firstSinks (nets + 1)) 6
-    (choose (ltb sinks count) 7 0))))))

@@ -1,4 +1,5 @@
--- Document 01, "Routes text" and rows 10 and 11 of "Numbers for a stopped call": sound logs, branches, and what the writer answers and leaves.
+-- Document 01, "Routes text" and rows 10 and 11 of "Numbers for a stopped call": sound logs, branches,
+-- and what the writer answers and leaves.
 -- Assumes nothing.
 use mathlib.Core.Bool.{Bool, not}
 use mathlib.Core.List.{List, [], _∷_, _++_, map}
@@ -13,7 +14,7 @@ use Rattle.negotiation.specs.Records.{Record, decode}
 use Rattle.negotiation.specs.Demand.{latest}
 use Rattle.text.specs.Lines.{letterR, letterB, printLine}
 use Rattle.text.specs.JobText.{between}
-use Rattle.text.specs.ReadReplies.{laid}
+use Rattle.text.specs.ReadReplies.{writtenOver}
 use Rattle.text.specs.declared.WriteAnswer.{WriteAnswer}
 use Rattle.text.specs.declared.WriteAnswer.the-variants as a
 
@@ -111,8 +112,8 @@ pub record WriteReply : Type 0 where
   pub buffer : List ℕ
 
 -- a 64-bit number: a count that needs more stands at the largest
-abbrev pub held : ℕ → ℕ
-held n = min n (2 ^ 64 - 1)
+abbrev pub capped : ℕ → ℕ
+capped n = min n (2 ^ 64 - 1)
 
 abbrev pub notWritten : List ℕ → List ℕ → WriteReply
 notWritten refusal buffer = record { refusal = refusal; bytes = 0; buffer = buffer }
@@ -120,15 +121,24 @@ notWritten refusal buffer = record { refusal = refusal; bytes = 0; buffer = buff
 -- "the writer 10, 11": "0 if empty", and "bytes needed"
 unfoldable pub textReply : List ℕ → List ℕ → WriteReply
 textReply text buffer =
-    choose (ltb (length buffer) (length text)) (notWritten (11 ∷ held (length text) ∷ []) buffer)
-    (record { refusal = []; bytes = length text; buffer = laid text buffer })
+    choose (ltb (length buffer) (length text)) (notWritten (11 ∷ capped (length text) ∷ []) buffer)
+    (record { refusal = []; bytes = length text; buffer = writtenOver text buffer })
 
 unfoldable pub writeReply : List ℕ → List ℕ → WriteReply
 writeReply log buffer =
     choose (not (logSound log)) (notWritten (10 ∷ soundWords log ∷ []) buffer) (textReply (routesText (decode log)) buffer)
 
--- 01's numbers for each case of the answer, with the buffer at the call's end
-abbrev pub writeTold : WriteAnswer → List ℕ → WriteReply
-writeTold (a.Written bytes) buffer = record { refusal = []; bytes = bytes; buffer = buffer }
-writeTold (a.Unsound word) buffer = notWritten (10 ∷ word ∷ []) buffer
-writeTold (a.ShortBuffer needed) buffer = notWritten (11 ∷ needed ∷ []) buffer
+-- 01's numbers for each case of the answer
+abbrev pub writeRefusal : WriteAnswer → List ℕ
+writeRefusal (a.Written bytes) = []
+writeRefusal (a.Unsound word) = 10 ∷ word ∷ []
+writeRefusal (a.ShortBuffer needed) = 11 ∷ needed ∷ []
+
+abbrev pub writtenBytes : WriteAnswer → ℕ
+writtenBytes (a.Written bytes) = bytes
+writtenBytes (a.Unsound word) = 0
+writtenBytes (a.ShortBuffer needed) = 0
+
+-- the answer with the buffer at the call's end
+abbrev pub writeReplyOf : WriteAnswer → List ℕ → WriteReply
+writeReplyOf r buffer = record { refusal = writeRefusal r; bytes = writtenBytes r; buffer = buffer }

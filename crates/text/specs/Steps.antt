@@ -3,22 +3,20 @@
 use mathlib.Core.List.{List, [], _∷_}
 use mathlib.Core.Path.{_≡_}
 use Prim.Native.Nat.{ℕ, _+_, _-_, _≤_, _<_}
-use lib.Dec.{eqb}
+use lib.Dec.{ltb, eqb}
 use lib.ListN.{length, getD, take, drop, set}
 use Rattle.price.specs.Test.{choose}
 use Rattle.price.specs.Lists.{has}
 use Rattle.price.specs.declared.Tuning.{Tuning}
 use Rattle.search.specs.Replies.{sinksMost}
+use Rattle.negotiation.specs.declared.Terms.{Terms}
 use Rattle.text.specs.Lines.{Field, number, fault, Fields, taken, malformed, field, comma}
-use Rattle.text.specs.JobText.{Reading, values, refused, Part, part, stopped, NodeLists, nodeLists, EdgeLists, NetLists, netLists, lastOf, sinksNow, firstPlaces}
+use Rattle.text.specs.JobText.{Reading, values, refused, tuningOf, Part, part, stopped, NodeLists, nodeLists, EdgeLists}
+use Rattle.text.specs.JobText.{NetLists, netLists, lastOf, sinksNow, firstPlaces}
 use Rattle.text.specs.declared.fields.Field as fieldType
 use Rattle.text.specs.declared.fields.Field.the-variants as f
-use Rattle.text.specs.declared.fields.Two as twoType
-use Rattle.text.specs.declared.fields.Two.the-variants as w
-use Rattle.text.specs.declared.fields.Three as threeType
-use Rattle.text.specs.declared.fields.Three.the-variants as h
-use Rattle.text.specs.declared.fields.Four as fourType
-use Rattle.text.specs.declared.fields.Four.the-variants as q
+use Rattle.text.specs.declared.fields.LineFields.{LineFields}
+use Rattle.text.specs.declared.fields.LineFields.the-variants as lf
 use Rattle.text.specs.declared.head.Head.{Head}
 use Rattle.text.specs.declared.head.Head.the-variants as hd
 use Rattle.text.specs.declared.tuning.TuningLine.{TuningLine}
@@ -58,29 +56,23 @@ abbrev pub FieldPlace : ℕ → List ℕ → fieldType.Field → Type 0
 FieldPlace at text (f.Number value next) = After at text next
 FieldPlace at text f.Fault = Unit {0}
 
-abbrev pub twoAt : List ℕ → twoType.Two → Fields
-twoAt text (w.Fields first second next) = taken (first ∷ second ∷ []) (drop next text)
-twoAt text w.Fault = malformed
+-- field k of a line of so many; a line without it goes no further
+unfoldable pub fieldOf : ℕ → ℕ → List ℕ → Field
+fieldOf k count bs = choose (ltb k count) (commaField bs) (number 0 bs)
 
-abbrev pub TwoPlace : ℕ → List ℕ → twoType.Two → Type 0
-TwoPlace at text (w.Fields first second next) = After at text next
-TwoPlace at text w.Fault = Unit {0}
+abbrev pub FieldOn : ℕ → fieldType.Field → Type 0
+FieldOn at (f.Number value next) = at ≤ next
+FieldOn at f.Fault = Unit {0}
 
-abbrev pub threeAt : List ℕ → threeType.Three → Fields
-threeAt text (h.Fields first second third next) = taken (first ∷ second ∷ third ∷ []) (drop next text)
-threeAt text h.Fault = malformed
+-- a line's fields by their count
+abbrev pub fieldsAt : ℕ → List ℕ → LineFields → Fields
+fieldsAt count text (lf.Fields first second third fourth next) =
+    taken (take count (first ∷ second ∷ third ∷ fourth ∷ [])) (drop next text)
+fieldsAt count text lf.Fault = malformed
 
-abbrev pub ThreePlace : ℕ → List ℕ → threeType.Three → Type 0
-ThreePlace at text (h.Fields first second third next) = After at text next
-ThreePlace at text h.Fault = Unit {0}
-
-abbrev pub fourAt : List ℕ → fourType.Four → Fields
-fourAt text (q.Fields first second third fourth next) = taken (first ∷ second ∷ third ∷ fourth ∷ []) (drop next text)
-fourAt text q.Fault = malformed
-
-abbrev pub FourPlace : ℕ → List ℕ → fourType.Four → Type 0
-FourPlace at text (q.Fields first second third fourth next) = After at text next
-FourPlace at text q.Fault = Unit {0}
+abbrev pub FieldsPlace : ℕ → List ℕ → LineFields → Type 0
+FieldsPlace at text (lf.Fields first second third fourth next) = After at text next
+FieldsPlace at text lf.Fault = Unit {0}
 
 -- ---- lines
 
@@ -93,22 +85,30 @@ abbrev pub HeadPlace : List ℕ → Head → Type 0
 HeadPlace text (hd.Counts nodes edges nets limit next) = After 1 text next
 HeadPlace text (hd.Refused k) = Unit {0}
 
+-- the terms of a limit and of a P line's values
+abbrev pub termsWith : ℕ → List ℕ → Terms
+termsWith limit vs = record { limit = limit; tuning = tuningOf vs }
+
 -- the P line
-abbrev pub tuningAt : List ℕ → TuningLine → Reading Tuning
-tuningAt text (tl.Given g next) = values g (drop next text)
+abbrev pub tuningAt : List ℕ → TuningLine → Reading Terms
+tuningAt text (tl.Given t next) = values t (drop next text)
 tuningAt text (tl.Refused k) = refused k
 
 abbrev pub TuningPlace : ℕ → List ℕ → TuningLine → Type 0
-TuningPlace at text (tl.Given g next) = After (at + 1) text next
+TuningPlace at text (tl.Given t next) = After (at + 1) text next
 TuningPlace at text (tl.Refused k) = Unit {0}
 
--- the tuning, whether its line is there or not
-abbrev pub tunedAt : List ℕ → Tuned → Part Tuning
-tunedAt text (tu.Read g at line) = part g line (drop at text)
+-- the terms, whether the line is there or not
+abbrev pub withLimit : ℕ → Part Tuning → Part Terms
+withLimit limit (part g at rest) = part (record { limit = limit; tuning = g }) at rest
+withLimit limit (stopped k at) = stopped k at
+
+abbrev pub tunedAt : List ℕ → Tuned → Part Terms
+tunedAt text (tu.Read t at line) = part t line (drop at text)
 tunedAt text (tu.Stopped k line) = stopped k line
 
 abbrev pub TunedPlace : List ℕ → Tuned → Type 0
-TunedPlace text (tu.Read g at line) = (at ≤ length text) × (line ≤ at + 1)
+TunedPlace text (tu.Read t at line) = (at ≤ length text) × (line ≤ at + 1)
 TunedPlace text (tu.Stopped k line) = Unit {0}
 
 abbrev pub LinesPlace : List ℕ → Lines → Type 0
@@ -190,15 +190,19 @@ pub record NetKept (n nets : ℕ) (text : List ℕ) (c : NetCursor) (sources fir
   pub marked : 1 ≤ c .nets → Marked n (c .nets) seen (lastOf (take (c .nets) sources) ∷ sinksNow (netsAt c sources firstSinks sinks))
 
 -- what an S line does to the tables
-abbrev pub SourceAdded : (n nets : ℕ) (text : List ℕ) (c : NetCursor) → NetStep → List ℕ → List ℕ → List ℕ → List ℕ → List ℕ → List ℕ → Reading (List ℕ) → Type 0
+abbrev pub SourceAdded :
+    (n nets : ℕ) (text : List ℕ) (c : NetCursor) → NetStep → (sources firstSinks seen sources' firstSinks' seen' : List ℕ)
+    → Reading (List ℕ) → Type 0
 SourceAdded n nets text c (ns.On d) sources firstSinks seen sources' firstSinks' seen' r =
     (node : ℕ) × (r ≡ values (c .nets ∷ node ∷ []) (drop (d .at) text)) × (node < n) × After (c .at + 1) text (d .at)
     × (d .line ≡ c .line + 1) × (d .nets ≡ c .nets + 1) × (d .sinks ≡ c .sinks) × (d .first ≡ c .sinks)
-    × (sources' ≡ set sources (c .nets) node) × (firstSinks' ≡ set firstSinks (c .nets) (c .sinks)) × (seen' ≡ set seen node (c .nets + 1))
+    × (sources' ≡ set sources (c .nets) node) × (firstSinks' ≡ set firstSinks (c .nets) (c .sinks))
+    × (seen' ≡ set seen node (c .nets + 1))
 SourceAdded n nets text c (ns.Stopped k) sources firstSinks seen sources' firstSinks' seen' r = r ≡ refused k
 
 -- what a T line does to the tables
-abbrev pub SinkAdded : (n nets : ℕ) (text : List ℕ) (c : NetCursor) → NetStep → List ℕ → List ℕ → List ℕ → List ℕ → Reading (List ℕ) → Type 0
+abbrev pub SinkAdded :
+    (n nets : ℕ) (text : List ℕ) (c : NetCursor) → NetStep → (sinks seen sinks' seen' : List ℕ) → Reading (List ℕ) → Type 0
 SinkAdded n nets text c (ns.On d) sinks seen sinks' seen' r =
     (node : ℕ) × (r ≡ values ((c .nets - 1) ∷ node ∷ []) (drop (d .at) text)) × (node < n) × After (c .at + 1) text (d .at)
     × (d .line ≡ c .line + 1) × (d .nets ≡ c .nets) × (d .sinks ≡ c .sinks + 1) × (d .first ≡ c .first)
@@ -210,7 +214,8 @@ abbrev pub netLineAt : List ℕ → NetStep → List ℕ → List ℕ → List �
 netLineAt text (ns.On d) sources firstSinks sinks = values (netsAt d sources firstSinks sinks) (drop (d .at) text)
 netLineAt text (ns.Stopped k) sources firstSinks sinks = refused k
 
-abbrev pub KeptAfter : (n nets : ℕ) (text : List ℕ) (c : NetCursor) → NetStep → List ℕ → List ℕ → List ℕ → List ℕ → Type 0
+abbrev pub KeptAfter :
+    (n nets : ℕ) (text : List ℕ) (c : NetCursor) → NetStep → (sources firstSinks sinks seen : List ℕ) → Type 0
 KeptAfter n nets text c (ns.On d) sources firstSinks sinks seen =
     (c .at < d .at) × (d .line ≡ c .line + 1) × NetKept n nets text d sources firstSinks sinks seen
 KeptAfter n nets text c (ns.Stopped k) sources firstSinks sinks seen = Unit {0}

@@ -1,15 +1,12 @@
 -- What the contracts of the writer's private functions say.
 -- Assumes nothing.
-use mathlib.Core.List.{List, [], _∷_, _++_}
+use mathlib.Core.List.{List, _++_}
 use mathlib.Core.Path.{_≡_}
 use Prim.Native.Nat.{ℕ, _+_}
 use lib.ListN.{length, take, drop}
 use Rattle.price.specs.Test.{choose}
 use Rattle.negotiation.specs.Records.{decode}
 use Rattle.text.specs.Routes.{logSound, soundWords, lastIteration}
-use Rattle.text.specs.RunReplies.{LineReply, lineTold, refusalLine}
-use Rattle.text.specs.declared.RunAnswer.{RunAnswer}
-use Rattle.text.specs.declared.RunAnswer.the-variants as a
 use Rattle.text.specs.declared.log_check.LogCheck.{LogCheck}
 use Rattle.text.specs.declared.log_check.LogCheck.the-variants as k
 
@@ -33,9 +30,3 @@ logChecked ws = choose (logSound ws) (sound (lastIteration (decode ws)) (length 
 abbrev pub checkedAt : LogCheck → Checked
 checkedAt (k.Sound iteration turns) = sound iteration turns
 checkedAt (k.Unsound word) = unsound word
-
--- what an answer leaves in the routes buffer: the routes text that stands there, or the line of the refusal
-abbrev pub shownOf : RunAnswer → List ℕ → LineReply
-shownOf (a.Written bytes) buffer = lineTold bytes buffer
-shownOf (a.One number value) buffer = refusalLine (number ∷ value ∷ []) buffer
-shownOf (a.Two number first second) buffer = refusalLine (number ∷ first ∷ second ∷ []) buffer

@@ -3,16 +3,17 @@ ghost use mathlib.Core.Path.{_≡_};
 ghost use Prim.Native.Nat.{_+_, _-_, _≤_};
 ghost use lib.ListN.{length, take, drop};
 ghost use Rattle.negotiation.specs.Records.{decode};
-ghost use Rattle.text.specs.Routes.{soundWords, steps, branchesIn, branchText, held};
+ghost use Rattle.text.specs.Routes.{soundWords, steps, branchesIn, branchText, capped};
 ghost use Rattle.text.specs.WriteSteps.{Put};
+use crate::bounds;
 use crate::decimal;
 
 // The sum, or 2^64 − 1 where that is less.
-pub fn held_sum(a: u64, b: u64) -> u64
-    ensures { λ r. ⌜ r ≡ held (a + b) ⌝ }
+pub fn capped_sum(a: u64, b: u64) -> u64
+    ensures { λ r. ⌜ r ≡ capped (a + b) ⌝ }
 {
-    if 18446744073709551615 - a < b {
-        return 18446744073709551615;
+    if bounds::BYTES_MOST - a < b {
+        return bounds::BYTES_MOST;
     }
     a + b
 }
@@ -42,7 +43,9 @@ fn put_steps(
 ) -> usize
     requires { ⌜ (from ≤ to) × (to ≤ length (now log)) ⌝ }
     requires { ⌜ start + length (branchText (steps net (take (to - from) (drop from (now log))))) ≤ length (now buffer) ⌝ }
-    ensures { λ r. ⌜ Put start (branchText (steps net (take (to - from) (drop from (now (log .entry)))))) (now (buffer .entry)) (now (buffer .exit)) r ⌝ }
+    ensures { λ r. do
+      let bytes = branchText (steps net (take (to - from) (drop from (now (log .entry)))))
+      ⌜ Put start bytes (now (buffer .entry)) (now (buffer .exit)) r ⌝ }
 {
     let mut at = start;
     let mut k = from + 1;
@@ -63,7 +66,7 @@ fn put_steps(
 // The bytes that the branches of an iteration take.
 pub fn branches_length(log: &[u32], iteration: u32) -> u64
     requires { ⌜ soundWords (now log) ≡ length (now log) ⌝ }
-    ensures { λ r. ⌜ r ≡ held (length (branchText (branchesIn iteration (decode (now (log .entry)))))) ⌝ }
+    ensures { λ r. ⌜ r ≡ capped (length (branchText (branchesIn iteration (decode (now (log .entry)))))) ⌝ }
 {
     let mut bytes = 0;
     let mut at = 0;
@@ -71,7 +74,7 @@ pub fn branches_length(log: &[u32], iteration: u32) -> u64
         let path = at + 6;
         let end = path + log[at + 5] as usize;
         if log[at] == iteration {
-            bytes = held_sum(bytes, steps_length(log, path, end, log[at + 1]));
+            bytes = capped_sum(bytes, steps_length(log, path, end, log[at + 1]));
         }
         at = end;
     }
@@ -82,7 +85,9 @@ pub fn branches_length(log: &[u32], iteration: u32) -> u64
 pub fn put_branches(log: &[u32], iteration: u32, buffer: &mut [u8], start: usize) -> usize
     requires { ⌜ soundWords (now log) ≡ length (now log) ⌝ }
     requires { ⌜ start + length (branchText (branchesIn iteration (decode (now log)))) ≤ length (now buffer) ⌝ }
-    ensures { λ r. ⌜ Put start (branchText (branchesIn iteration (decode (now (log .entry))))) (now (buffer .entry)) (now (buffer .exit)) r ⌝ }
+    ensures { λ r. do
+      let bytes = branchText (branchesIn iteration (decode (now (log .entry))))
+      ⌜ Put start bytes (now (buffer .entry)) (now (buffer .exit)) r ⌝ }
 {
     let mut next = start;
     let mut at = 0;

@@ -52,8 +52,12 @@ pub fn copy_block(
     first_edge: &mut [u32],
     edge_target: &mut [u16],
 )
-    requires { ⌜ Fits nodes (now kinds) (now kind) × Fits nodes (now capacities) (now capacity) × Fits (nodes + 1) (now «first_edges») (now «first_edge») × Fits edges (now «edge_targets») (now «edge_target») ⌝ }
-    ensures { λ _. ⌜ Over nodes (now (kinds .entry)) (now (kind .entry)) (now (kind .exit)) × Over nodes (now (capacities .entry)) (now (capacity .entry)) (now (capacity .exit)) × Over (nodes + 1) (now («first_edges» .entry)) (now («first_edge» .entry)) (now («first_edge» .exit)) × Over edges (now («edge_targets» .entry)) (now («edge_target» .entry)) (now («edge_target» .exit)) ⌝ }
+    requires { ⌜ Fits nodes (now kinds) (now kind) × Fits nodes (now capacities) (now capacity)
+        × Fits (nodes + 1) (now «first_edges») (now «first_edge») × Fits edges (now «edge_targets») (now «edge_target») ⌝ }
+    ensures { λ _. ⌜ Over nodes (now (kinds .entry)) (now (kind .entry)) (now (kind .exit))
+        × Over nodes (now (capacities .entry)) (now (capacity .entry)) (now (capacity .exit))
+        × Over (nodes + 1) (now («first_edges» .entry)) (now («first_edge» .entry)) (now («first_edge» .exit))
+        × Over edges (now («edge_targets» .entry)) (now («edge_target» .entry)) (now («edge_target» .exit)) ⌝ }
 {
     copy_bytes(kinds, nodes, kind);
     copy_bytes(capacities, nodes, capacity);
@@ -72,8 +76,11 @@ pub fn copy_nets(
     first_sink: &mut [u32],
     sink: &mut [u16],
 )
-    requires { ⌜ Fits nets (now sources) (now source) × Fits (nets + 1) (now «first_sinks») (now «first_sink») × Fits count (now sinks) (now sink) ⌝ }
-    ensures { λ _. ⌜ Over nets (now (sources .entry)) (now (source .entry)) (now (source .exit)) × Over (nets + 1) (now («first_sinks» .entry)) (now («first_sink» .entry)) (now («first_sink» .exit)) × Over count (now (sinks .entry)) (now (sink .entry)) (now (sink .exit)) ⌝ }
+    requires { ⌜ Fits nets (now sources) (now source) × Fits (nets + 1) (now «first_sinks») (now «first_sink»)
+        × Fits count (now sinks) (now sink) ⌝ }
+    ensures { λ _. ⌜ Over nets (now (sources .entry)) (now (source .entry)) (now (source .exit))
+        × Over (nets + 1) (now («first_sinks» .entry)) (now («first_sink» .entry)) (now («first_sink» .exit))
+        × Over count (now (sinks .entry)) (now (sink .entry)) (now (sink .exit)) ⌝ }
 {
     copy_halves(sources, nets, source);
     copy_words(first_sinks, nets + 1, first_sink);

@@ -7,6 +7,9 @@ ghost use Rattle.text.specs.Decimal.{decimal};
 ghost use Rattle.text.specs.Lines.{comma, printLine};
 ghost use Rattle.text.specs.WriteSteps.{Put};
 
+// The byte that ends a line.
+pub const LF: u8 = 10;
+
 // How many digits a number has.
 pub fn digit_count(n: u64) -> usize
     ensures { λ r. ⌜ (r ≡ length (decimal n)) × (1 ≤ r) × (r ≤ 20) ⌝ }
@@ -66,7 +69,7 @@ pub fn three_length(first: u64, second: u64, third: u64) -> usize
     digit_count(first) + digit_count(second) + digit_count(third) + 5
 }
 
-// Writes a line of two fields. 10 is LF.
+// Writes a line of two fields.
 pub fn put_two(buffer: &mut [u8], at: usize, letter: u8, first: u64, second: u64) -> usize
     requires { ⌜ at + length (printLine letter (first ∷ second ∷ [])) ≤ length (now buffer) ⌝ }
     ensures { λ r. ⌜ Put at (printLine letter (first ∷ second ∷ [])) (now (buffer .entry)) (now (buffer .exit)) r ⌝ }
@@ -74,7 +77,7 @@ pub fn put_two(buffer: &mut [u8], at: usize, letter: u8, first: u64, second: u64
     let one = put_byte(buffer, at, letter);
     let two = put_field(buffer, one, first);
     let three = put_field(buffer, two, second);
-    put_byte(buffer, three, 10)
+    put_byte(buffer, three, LF)
 }
 
 pub fn put_three(
@@ -92,5 +95,5 @@ pub fn put_three(
     let two = put_field(buffer, one, first);
     let three = put_field(buffer, two, second);
     let four = put_field(buffer, three, third);
-    put_byte(buffer, four, 10)
+    put_byte(buffer, four, LF)
 }

@@ -6,7 +6,7 @@ ghost use lib.ListN.{length, take, drop, replicate};
 ghost use Rattle.text.specs.JobText.{edgeLine, edgeLists, edgeLines, rises};
 ghost use Rattle.text.specs.Steps.{edgeAt, EdgePlace, edgesAt, edgeTables, LinesPlace};
 use crate::fields;
-use crate::fields::Two;
+use crate::fields::LineFields;
 use crate::head::Lines;
 
 pub enum EdgeLine {
@@ -43,11 +43,13 @@ fn edge_line(
     ensures { λ r. ⌜ edgeAt (now (text .entry)) r ≡ edgeLine nodes count «last_from» «last_to» (drop at (now (text .entry))) ⌝ }
     ensures { λ r. ⌜ EdgePlace nodes at (now (text .entry)) r ⌝ }
 {
-    let Two::Fields {
+    let LineFields::Fields {
         first,
         second,
+        third: _,
+        fourth: _,
         next,
-    } = fields::two_line(text, at, b'E')
+    } = fields::line_fields(text, at, b'E', 2)
     else {
         return EdgeLine::Refused(1);
     };
@@ -73,7 +75,8 @@ fn edge_line(
 // Writes the value to the entries from one place up to another.
 fn fill(table: &mut [u32], from: usize, to: usize, value: u32)
     requires { ⌜ (from ≤ to) × (to ≤ length (now table)) ⌝ }
-    ensures { λ _. ⌜ now (table .exit) ≡ take from (now (table .entry)) ++ (replicate (to - from) value ++ drop to (now (table .entry))) ⌝ }
+    ensures { λ _. ⌜ now (table .exit)
+        ≡ take from (now (table .entry)) ++ (replicate (to - from) value ++ drop to (now (table .entry))) ⌝ }
 {
     let mut u = from;
     while u < to {
@@ -94,7 +97,10 @@ pub fn read_edges(
 ) -> Lines
     requires { ⌜ (from ≤ length (now text)) × («first_line» ≤ from + 1) × (nodes ≤ 4096) × (edges ≤ 32768) ⌝ }
     requires { ⌜ (nodes + 1 ≤ length (now «first_edge»)) × (edges ≤ length (now «edge_target»)) ⌝ }
-    ensures { λ r. ⌜ edgesAt (now (text .entry)) r (take (nodes + 1) (now («first_edge» .exit))) (take edges (now («edge_target» .exit))) ≡ edgeTables nodes (edgeLines nodes edges (edgeLists [] []) «first_line» (drop from (now (text .entry)))) ⌝ }
+    ensures { λ r. do
+      let lines = edgeLines nodes edges (edgeLists [] []) «first_line» (drop from (now (text .entry)))
+      ⌜ edgesAt (now (text .entry)) r (take (nodes + 1) (now («first_edge» .exit))) (take edges (now («edge_target» .exit)))
+          ≡ edgeTables nodes lines ⌝ }
     ensures { λ r. ⌜ LinesPlace (now (text .entry)) r ⌝ }
 {
     let mut at = from;

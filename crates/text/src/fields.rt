@@ -4,34 +4,16 @@ ghost use Prim.Native.Nat.{_+_, _≤_, _<_};
 ghost use lib.ListN.{length, drop};
 ghost use Rattle.text.specs.Decimal.{isDigit};
 ghost use Rattle.text.specs.Lines.{digitsAfter, field, fields, line, begins};
-ghost use Rattle.text.specs.Steps.{commaField, fieldAt, FieldPlace, twoAt, TwoPlace, threeAt, ThreePlace, fourAt, FourPlace};
+ghost use Rattle.text.specs.Steps.{commaField, fieldAt, FieldPlace, fieldOf, FieldOn, fieldsAt, FieldsPlace};
+use crate::decimal::LF;
 
 pub enum Field {
     Number { value: u32, next: usize },
     Fault,
 }
 
-// Two fields and the LF after them.
-pub enum Two {
-    Fields {
-        first: u32,
-        second: u32,
-        next: usize,
-    },
-    Fault,
-}
-
-pub enum Three {
-    Fields {
-        first: u32,
-        second: u32,
-        third: u32,
-        next: usize,
-    },
-    Fault,
-}
-
-pub enum Four {
+// The values of a line's fields, 0 past their count, and the place after its LF.
+pub enum LineFields {
     Fields {
         first: u32,
         second: u32,
@@ -48,8 +30,8 @@ pub struct JobReader<'a> {
     pub at: usize,
 }
 
-// This byte stands at this place.
-pub fn stands(text: &[u8], at: usize, byte: u8) -> bool
+// The byte at this place is this one.
+pub fn byte_is(text: &[u8], at: usize, byte: u8) -> bool
     ensures { λ r. ⌜ r ≡ begins byte (drop at (now (text .entry))) ⌝ }
 {
     if text.len() <= at {
@@ -121,142 +103,106 @@ fn number(text: &[u8], at: usize) -> Field
     further_digits(text, at + 1, (b - b'0') as u32)
 }
 
-// A field after a comma, at a place of the text.
-fn field_at(text: &[u8], at: usize) -> Field
+// A field after a comma.
+fn comma_field(text: &[u8], at: usize) -> Field
     ensures { λ r. ⌜ fieldAt (now (text .entry)) r ≡ commaField (drop at (now (text .entry))) ⌝ }
     ensures { λ r. ⌜ FieldPlace at (now (text .entry)) r ⌝ }
 {
-    if !stands(text, at, b',') {
+    if !byte_is(text, at, b',') {
         return Field::Fault;
     }
     number(text, at + 1)
 }
 
-// A reader at the start of a text.
-fn start<'a>(text: &'a [u8]) -> JobReader<'a>
-    ensures { λ r. ⌜ (r .text ≡ text .entry) × (r .at ≡ 0) ⌝ }
+// Field k of a line of so many. A line without it gives 0 and goes no further.
+fn field_of(text: &[u8], at: usize, k: usize, count: usize) -> Field
+    ensures { λ r. ⌜ fieldAt (now (text .entry)) r ≡ fieldOf k count (drop at (now (text .entry))) ⌝ }
+    ensures { λ r. ⌜ FieldOn at r ⌝ }
 {
-    JobReader { text, at: 0 }
-}
-
-// The field after a comma where the reader is.
-fn read_field<'a>(r: JobReader<'a>) -> Field
-    ensures { λ f. ⌜ fieldAt (now (r .entry .text)) f ≡ commaField (drop (r .entry .at) (now (r .entry .text))) ⌝ }
-    ensures { λ f. ⌜ FieldPlace (r .entry .at) (now (r .entry .text)) f ⌝ }
-{
-    field_at(r.text, r.at)
-}
-
-// The same text at another place.
-fn moved<'a>(r: JobReader<'a>, next: usize) -> JobReader<'a>
-    ensures { λ q. ⌜ (q .text ≡ r .entry .text) × (q .at ≡ next) ⌝ }
-{
-    JobReader {
-        text: r.text,
-        at: next,
+    if count <= k {
+        return Field::Number { value: 0, next: at };
     }
+    comma_field(text, at)
 }
 
-// A field after a comma.
-pub fn comma_field(text: &[u8], at: usize) -> Field
-    ensures { λ r. ⌜ fieldAt (now (text .entry)) r ≡ commaField (drop at (now (text .entry))) ⌝ }
-    ensures { λ r. ⌜ FieldPlace at (now (text .entry)) r ⌝ }
-{
-    read_field(moved(start(text), at))
-}
-
-// Two fields, then 10, which is LF.
-fn two_fields(text: &[u8], at: usize) -> Two
-    ensures { λ r. ⌜ twoAt (now (text .entry)) r ≡ fields 2 (drop at (now (text .entry))) ⌝ }
-    ensures { λ r. ⌜ TwoPlace at (now (text .entry)) r ⌝ }
+// The fields of a line and its LF, at a place of the text.
+fn fields_at(text: &[u8], at: usize, count: usize) -> LineFields
+    ensures { λ r. ⌜ (count ≤ 4 → fieldsAt count (now (text .entry)) r ≡ fields count (drop at (now (text .entry)))) ⌝ }
+    ensures { λ r. ⌜ FieldsPlace at (now (text .entry)) r ⌝ }
 {
     let Field::Number {
         value: first,
         next: one,
-    } = comma_field(text, at)
+    } = field_of(text, at, 0, count)
     else {
-        return Two::Fault;
+        return LineFields::Fault;
     };
     let Field::Number {
         value: second,
         next: two,
-    } = comma_field(text, one)
+    } = field_of(text, one, 1, count)
     else {
-        return Two::Fault;
+        return LineFields::Fault;
     };
-    if !stands(text, two, 10) {
-        return Two::Fault;
-    }
-    Two::Fields {
-        first: first,
-        second: second,
-        next: two + 1,
-    }
-}
-
-pub fn three_fields(text: &[u8], at: usize) -> Three
-    ensures { λ r. ⌜ threeAt (now (text .entry)) r ≡ fields 3 (drop at (now (text .entry))) ⌝ }
-    ensures { λ r. ⌜ ThreePlace at (now (text .entry)) r ⌝ }
-{
     let Field::Number {
-        value: first,
-        next: one,
-    } = comma_field(text, at)
+        value: third,
+        next: three,
+    } = field_of(text, two, 2, count)
     else {
-        return Three::Fault;
+        return LineFields::Fault;
     };
-    let Two::Fields {
-        first: second,
-        second: third,
-        next: end,
-    } = two_fields(text, one)
-    else {
-        return Three::Fault;
-    };
-    Three::Fields {
-        first: first,
-        second: second,
-        third: third,
-        next: end,
-    }
-}
-
-pub fn four_fields(text: &[u8], at: usize) -> Four
-    ensures { λ r. ⌜ fourAt (now (text .entry)) r ≡ fields 4 (drop at (now (text .entry))) ⌝ }
-    ensures { λ r. ⌜ FourPlace at (now (text .entry)) r ⌝ }
-{
     let Field::Number {
-        value: first,
-        next: one,
-    } = comma_field(text, at)
+        value: fourth,
+        next: four,
+    } = field_of(text, three, 3, count)
     else {
-        return Four::Fault;
+        return LineFields::Fault;
     };
-    let Three::Fields {
-        first: second,
-        second: third,
-        third: fourth,
-        next: end,
-    } = three_fields(text, one)
-    else {
-        return Four::Fault;
-    };
-    Four::Fields {
+    if !byte_is(text, four, LF) {
+        return LineFields::Fault;
+    }
+    LineFields::Fields {
         first: first,
         second: second,
         third: third,
         fourth: fourth,
-        next: end,
+        next: four + 1,
     }
 }
 
-// A line with this letter and two fields.
-pub fn two_line(text: &[u8], at: usize, letter: u8) -> Two
-    ensures { λ r. ⌜ twoAt (now (text .entry)) r ≡ line letter 2 (drop at (now (text .entry))) ⌝ }
-    ensures { λ r. ⌜ TwoPlace (at + 1) (now (text .entry)) r ⌝ }
+// A reader that has come to a place of a text.
+fn reader_at<'a>(text: &'a [u8], at: usize) -> JobReader<'a>
+    ensures { λ r. ⌜ (r .text ≡ text .entry) × (r .at ≡ at) ⌝ }
 {
-    if !stands(text, at, letter) {
-        return Two::Fault;
+    JobReader { text, at }
+}
+
+// The fields of the line that the reader has come to.
+fn read_fields<'a>(r: JobReader<'a>, count: usize) -> LineFields
+    ensures { λ f. do
+      let bytes = drop (r .entry .at) (now (r .entry .text))
+      ⌜ (count ≤ 4 → fieldsAt count (now (r .entry .text)) f ≡ fields count bytes) ⌝ }
+    ensures { λ f. ⌜ FieldsPlace (r .entry .at) (now (r .entry .text)) f ⌝ }
+{
+    fields_at(r.text, r.at, count)
+}
+
+// The fields of a line, which a reader carries.
+fn fields_from(text: &[u8], at: usize, count: usize) -> LineFields
+    ensures { λ r. ⌜ (count ≤ 4 → fieldsAt count (now (text .entry)) r ≡ fields count (drop at (now (text .entry)))) ⌝ }
+    ensures { λ r. ⌜ FieldsPlace at (now (text .entry)) r ⌝ }
+{
+    read_fields(reader_at(text, at), count)
+}
+
+// A line with this letter and so many fields, four at most.
+pub fn line_fields(text: &[u8], at: usize, letter: u8, count: usize) -> LineFields
+    requires { ⌜ count ≤ 4 ⌝ }
+    ensures { λ r. ⌜ fieldsAt count (now (text .entry)) r ≡ line letter count (drop at (now (text .entry))) ⌝ }
+    ensures { λ r. ⌜ FieldsPlace (at + 1) (now (text .entry)) r ⌝ }
+{
+    if !byte_is(text, at, letter) {
+        return LineFields::Fault;
     }
-    two_fields(text, at + 1)
+    fields_from(text, at + 1, count)
 }

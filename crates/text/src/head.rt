@@ -4,8 +4,9 @@ ghost use mathlib.Core.List.{[], _∷_};
 ghost use Rattle.text.specs.JobText.{headWithin, headLine, headPart};
 ghost use Rattle.text.specs.Steps.{headAt, HeadPlace};
 ghost use Rattle.text.specs.ReadSteps.{headReadAt, HeadReadPlace};
+use crate::bounds;
 use crate::fields;
-use crate::fields::Four;
+use crate::fields::LineFields;
 use crate::tuning;
 use crate::tuning::Tuned;
 use negotiation::Terms;
@@ -27,7 +28,8 @@ pub enum Head {
     Refused(u32),
 }
 
-// The counts and the terms of the lines before the nodes, with the place and number of the line after these; or the refusal's number and its line.
+// The counts and the terms of the lines before the nodes, with the place and number of the line after these;
+// or the refusal's number and its line.
 pub enum HeadRead {
     Counts {
         nodes: usize,
@@ -50,38 +52,35 @@ fn head_within(nodes: u32, edges: u32, nets: u32, limit: u32) -> bool
     if nodes < 1 {
         return false;
     }
-    if 4096 < nodes {
+    if bounds::NODES_MOST < nodes {
         return false;
     }
-    if 32768 < edges {
+    if bounds::EDGES_MOST < edges {
         return false;
     }
     if nets < 1 {
         return false;
     }
-    if 512 < nets {
+    if bounds::NETS_MOST < nets {
         return false;
     }
     if limit < 1 {
         return false;
     }
-    limit <= 100
+    limit <= bounds::LIMIT_MOST
 }
 
 fn head_line(text: &[u8]) -> Head
     ensures { λ r. ⌜ headAt (now (text .entry)) r ≡ headLine (now (text .entry)) ⌝ }
     ensures { λ r. ⌜ HeadPlace (now (text .entry)) r ⌝ }
 {
-    if !fields::stands(text, 0, b'F') {
-        return Head::Refused(1);
-    }
-    let Four::Fields {
+    let LineFields::Fields {
         first,
         second,
         third,
         fourth,
         next,
-    } = fields::four_fields(text, 1)
+    } = fields::line_fields(text, 0, b'F', 4)
     else {
         return Head::Refused(1);
     };
@@ -109,15 +108,12 @@ pub fn read_head(text: &[u8]) -> HeadRead
             nets,
             limit,
             next,
-        } => match tuning::read_tuning(text, next, 2) {
-            Tuned::Read { tuning, at, line } => HeadRead::Counts {
+        } => match tuning::read_tuning(text, next, 2, limit) {
+            Tuned::Read { terms, at, line } => HeadRead::Counts {
                 nodes: nodes as usize,
                 edges: edges as usize,
                 nets: nets as usize,
-                terms: Terms {
-                    limit: limit,
-                    tuning: tuning,
-                },
+                terms: terms,
                 at: at,
                 line: line,
             },

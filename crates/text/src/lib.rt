@@ -1,9 +1,9 @@
-// The job text before the router and the routes text after it, and the whole way between them.
+// The job text before the router, and the routes text or the line of a refusal after it.
 ghost use mathlib.Core.Path.{_≡_};
-ghost use Rattle.text.specs.ReadReplies.{tablesOf, laidReply, readReply, readTold};
+ghost use Rattle.text.specs.ReadReplies.{tablesOf, lowestShort, storedReply, readReply, readReplyOf};
 ghost use Prim.Native.Nat.{_≤_};
-ghost use Rattle.text.specs.ReadSteps.{RoomForAll, CountsWithin, jobTaken, shortest};
-ghost use Rattle.text.specs.Routes.{writeReply, writeTold};
+ghost use Rattle.text.specs.ReadSteps.{RoomForAll, CountsWithin, jobTaken};
+ghost use Rattle.text.specs.Routes.{writeReply, writeReplyOf};
 
 // What the reader answers.
 pub enum ReadAnswer {
@@ -34,23 +34,7 @@ pub enum WriteAnswer {
     ShortBuffer(u64),
 }
 
-// What a run from job text to routes text answers.
-pub enum RunAnswer {
-    // So many bytes of the routes text are written.
-    Written(usize),
-    // A refusal with one number beside its own.
-    One {
-        number: u32,
-        value: u64,
-    },
-    // A refusal with two.
-    Two {
-        number: u32,
-        first: u64,
-        second: u64,
-    },
-}
-
+mod bounds;
 mod branches;
 mod copy;
 mod decimal;
@@ -61,14 +45,14 @@ mod log_check;
 mod nets;
 mod nodes;
 mod reader;
-mod runs;
+mod refusals;
 mod tuning;
 
 use log_check::LogCheck;
 use negotiation::Terms;
 use reader::JobLines;
-pub use runs::respond;
-pub use runs::run;
+pub use refusals::write_refusal;
+pub use refusals::write_refusal_of_two;
 
 // The lowest table that is shorter than the job needs, 0 where each is long enough.
 fn short_table(
@@ -85,7 +69,8 @@ fn short_table(
     sink: usize,
 ) -> u32
     requires { ⌜ (nodes ≤ 4096) × (nets ≤ 512) ⌝ }
-    ensures { λ r. ⌜ r ≡ shortest nodes edges nets sinks kind capacity «first_edge» «edge_target» source «first_sink» sink ⌝ }
+    ensures { λ r. ⌜ r
+        ≡ lowestShort nodes edges nets sinks kind capacity «first_edge» «edge_target» source «first_sink» sink ⌝ }
 {
     if kind < nodes {
         return 1;
@@ -112,7 +97,7 @@ fn short_table(
 }
 
 // Lays the job that was read over the tables that were lent, or names the lowest that is too short for it.
-fn lay_job(
+fn store_job(
     nodes: usize,
     edges: usize,
     nets: usize,
@@ -133,9 +118,17 @@ fn lay_job(
     first_sink: &mut [u32],
     sink: &mut [u16],
 ) -> ReadAnswer
-    requires { ⌜ RoomForAll (now kinds) (now capacities) (now «first_edges») (now «edge_targets») (now sources) (now «first_sinks») (now sinks) ⌝ }
+    requires { ⌜ RoomForAll (now kinds) (now capacities) (now «first_edges») (now «edge_targets»)
+        (now sources) (now «first_sinks») (now sinks) ⌝ }
     requires { ⌜ CountsWithin nodes edges nets × (count ≤ 4096) ⌝ }
-    ensures { λ r. ⌜ readTold r (tablesOf (now (kind .exit)) (now (capacity .exit)) (now («first_edge» .exit)) (now («edge_target» .exit)) (now (source .exit)) (now («first_sink» .exit)) (now (sink .exit))) ≡ laidReply (jobTaken nodes edges nets count terms (now (kinds .entry)) (now (capacities .entry)) (now («first_edges» .entry)) (now («edge_targets» .entry)) (now (sources .entry)) (now («first_sinks» .entry)) (now (sinks .entry))) (tablesOf (now (kind .entry)) (now (capacity .entry)) (now («first_edge» .entry)) (now («edge_target» .entry)) (now (source .entry)) (now («first_sink» .entry)) (now (sink .entry))) ⌝ }
+    ensures { λ r. do
+      let job = jobTaken nodes edges nets count terms (now (kinds .entry)) (now (capacities .entry)) (now («first_edges» .entry))
+          (now («edge_targets» .entry)) (now (sources .entry)) (now («first_sinks» .entry)) (now (sinks .entry))
+      let tables = tablesOf (now (kind .entry)) (now (capacity .entry)) (now («first_edge» .entry)) (now («edge_target» .entry))
+          (now (source .entry)) (now («first_sink» .entry)) (now (sink .entry))
+      let left = tablesOf (now (kind .exit)) (now (capacity .exit)) (now («first_edge» .exit)) (now («edge_target» .exit))
+          (now (source .exit)) (now («first_sink» .exit)) (now (sink .exit))
+      ⌜ readReplyOf r left ≡ storedReply job tables ⌝ }
 {
     let table = short_table(
         nodes,
@@ -195,7 +188,12 @@ pub fn read_job(
     first_sink: &mut [u32],
     sink: &mut [u16],
 ) -> ReadAnswer
-    ensures answers { λ r. ⌜ readTold r (tablesOf (now (kind .exit)) (now (capacity .exit)) (now («first_edge» .exit)) (now («edge_target» .exit)) (now (source .exit)) (now («first_sink» .exit)) (now (sink .exit))) ≡ readReply (now (text .entry)) (tablesOf (now (kind .entry)) (now (capacity .entry)) (now («first_edge» .entry)) (now («edge_target» .entry)) (now (source .entry)) (now («first_sink» .entry)) (now (sink .entry))) ⌝ }
+    ensures answers { λ r. do
+      let tables = tablesOf (now (kind .entry)) (now (capacity .entry)) (now («first_edge» .entry)) (now («edge_target» .entry))
+          (now (source .entry)) (now («first_sink» .entry)) (now (sink .entry))
+      let left = tablesOf (now (kind .exit)) (now (capacity .exit)) (now («first_edge» .exit)) (now («edge_target» .exit))
+          (now (source .exit)) (now («first_sink» .exit)) (now (sink .exit))
+      ⌜ readReplyOf r left ≡ readReply (now (text .entry)) tables ⌝ }
 {
     let mut kinds = [0u8; 4096];
     let mut capacities = [0u8; 4096];
@@ -221,7 +219,7 @@ pub fn read_job(
             sinks,
             terms,
             line: _,
-        } => lay_job(
+        } => store_job(
             nodes,
             edges,
             nets,
@@ -251,12 +249,15 @@ pub fn read_job(
 
 // Writes the routes text of a log: its last record's iteration with the turn count, and that iteration's branches.
 pub fn write_routes(log: &[u32], buffer: &mut [u8]) -> WriteAnswer
-    ensures answers { λ r. ⌜ writeTold r (now (buffer .exit)) ≡ writeReply (now (log .entry)) (now (buffer .entry)) ⌝ }
+    ensures answers { λ r. ⌜ writeReplyOf r (now (buffer .exit)) ≡ writeReply (now (log .entry)) (now (buffer .entry)) ⌝ }
 {
     match log_check::check_log(log) {
         LogCheck::Sound { iteration, turns } => {
             let head = decimal::two_length(iteration as u64, turns as u64);
-            let needed = branches::held_sum(head as u64, branches::branches_length(log, iteration));
+            let needed = branches::capped_sum(
+                head as u64,
+                branches::branches_length(log, iteration),
+            );
             if (buffer.len() as u64) < needed {
                 return WriteAnswer::ShortBuffer(needed);
             }

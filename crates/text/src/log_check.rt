@@ -7,6 +7,7 @@ ghost use Rattle.price.specs.Bounds.{nodesMost};
 ghost use Rattle.price.specs.Lists.{every};
 ghost use Rattle.text.specs.Routes.{pathSound, recordSound};
 ghost use Rattle.text.specs.WriteSteps.{logChecked, checkedAt};
+use crate::bounds;
 
 pub enum LogCheck {
     // The last record's iteration, and how many records there are.
@@ -22,7 +23,7 @@ fn nodes_sound(log: &[u32], from: usize, to: usize) -> bool
 {
     let mut k = from;
     while k < to {
-        if 4096 <= log[k] {
+        if bounds::NODES_MOST <= log[k] {
             return false;
         }
         k += 1;
@@ -38,7 +39,7 @@ fn path_sound(log: &[u32], at: usize, n: u32, sink: u32) -> bool
     if n < 2 {
         return false;
     }
-    if 4096 < n {
+    if bounds::NODES_MOST < n {
         return false;
     }
     if log.len() - at < 6 + n as usize {
@@ -64,13 +65,13 @@ fn record_sound(log: &[u32], at: usize, last: u32) -> bool
     if iteration < 1 {
         return false;
     }
-    if 100 < iteration {
+    if bounds::LIMIT_MOST < iteration {
         return false;
     }
     if iteration < last {
         return false;
     }
-    if 512 <= log[at + 1] {
+    if bounds::NETS_MOST <= log[at + 1] {
         return false;
     }
     path_sound(log, at, log[at + 5], log[at + 2])

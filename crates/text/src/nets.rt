@@ -5,10 +5,13 @@ ghost use Prim.Native.Nat.{ℕ, _+_, _-_, _≤_, _<_};
 ghost use lib.Dec.{ltb, eqb};
 ghost use lib.ListN.{length, drop};
 ghost use Rattle.price.specs.Test.{both, either};
+ghost use Rattle.negotiation.specs.Tables.{sourceKind, sinkKind};
 ghost use Rattle.text.specs.JobText.{sourceLine, sinkLine, ofKind, netLists, netLine, netLines};
-ghost use Rattle.text.specs.Steps.{pinAt, PinPlace, Marked, netsAt, NetKept, SourceAdded, SinkAdded, netLineAt, KeptAfter, netsReadAt, NetsEnd};
+ghost use Rattle.text.specs.Steps.{pinAt, PinPlace, Marked, netsAt, NetKept, SourceAdded, SinkAdded};
+ghost use Rattle.text.specs.Steps.{netLineAt, KeptAfter, netsReadAt, NetsEnd};
+use crate::bounds;
 use crate::fields;
-use crate::fields::Two;
+use crate::fields::LineFields;
 
 pub enum PinLine {
     Pin { node: u16, next: usize },
@@ -38,14 +41,18 @@ pub enum NetsRead {
 // The S line of net i.
 fn source_line(text: &[u8], at: usize, kind: &[u8], nodes: usize, nets: usize, i: usize) -> PinLine
     requires { ⌜ (nodes ≤ 4096) × (nodes ≤ length (now kind)) ⌝ }
-    ensures { λ r. ⌜ pinAt i (now (text .entry)) r ≡ ofKind 0 2 (now (kind .entry)) (sourceLine nodes nets i (drop at (now (text .entry)))) ⌝ }
+    ensures { λ r. do
+      let read = sourceLine nodes nets i (drop at (now (text .entry)))
+      ⌜ pinAt i (now (text .entry)) r ≡ ofKind sourceKind (now (kind .entry)) read ⌝ }
     ensures { λ r. ⌜ PinPlace nodes at (now (text .entry)) r ⌝ }
 {
-    let Two::Fields {
+    let LineFields::Fields {
         first,
         second,
+        third: _,
+        fourth: _,
         next,
-    } = fields::two_line(text, at, b'S')
+    } = fields::line_fields(text, at, b'S', 2)
     else {
         return PinLine::Refused(1);
     };
@@ -58,7 +65,7 @@ fn source_line(text: &[u8], at: usize, kind: &[u8], nodes: usize, nets: usize, i
     if first as usize != i {
         return PinLine::Refused(3);
     }
-    if !negotiation::one_of(kind[second as usize], 0, 2) {
+    if !negotiation::source_kind(kind[second as usize]) {
         return PinLine::Refused(3);
     }
     PinLine::Pin {
@@ -80,14 +87,18 @@ fn sink_line(
     stamp: u16,
 ) -> PinLine
     requires { ⌜ (nodes ≤ 4096) × (nodes ≤ length (now seen)) × (nodes ≤ length (now kind)) ⌝ }
-    ensures { λ r. ⌜ ((pins : List ℕ) → Marked nodes stamp (now (seen .entry)) pins → pinAt i (now (text .entry)) r ≡ ofKind 1 3 (now (kind .entry)) (sinkLine nodes nets i pins count (drop at (now (text .entry))))) ⌝ }
+    ensures { λ r. ⌜ ((pins : List ℕ) → Marked nodes stamp (now (seen .entry)) pins
+        → pinAt i (now (text .entry)) r
+        ≡ ofKind sinkKind (now (kind .entry)) (sinkLine nodes nets i pins count (drop at (now (text .entry))))) ⌝ }
     ensures { λ r. ⌜ PinPlace nodes at (now (text .entry)) r ⌝ }
 {
-    let Two::Fields {
+    let LineFields::Fields {
         first,
         second,
+        third: _,
+        fourth: _,
         next,
-    } = fields::two_line(text, at, b'T')
+    } = fields::line_fields(text, at, b'T', 2)
     else {
         return PinLine::Refused(1);
     };
@@ -103,10 +114,10 @@ fn sink_line(
     if seen[second as usize] == stamp {
         return PinLine::Refused(3);
     }
-    if 4096 <= count {
+    if bounds::SINKS_MOST <= count {
         return PinLine::Refused(3);
     }
-    if !negotiation::one_of(kind[second as usize], 1, 3) {
+    if !negotiation::sink_kind(kind[second as usize]) {
         return PinLine::Refused(3);
     }
     PinLine::Pin {
@@ -126,9 +137,14 @@ fn add_source(
     first_sink: &mut [u32],
     seen: &mut [u16],
 ) -> NetStep
-    requires { ⌜ (c .at ≤ length (now text)) × (c .line ≤ c .at + 1) × (nodes ≤ 4096) × (nets ≤ 512) × (c .sinks ≤ 4096) ⌝ }
-    requires { ⌜ (c .nets < nets) × (nets ≤ length (now source)) × (nets ≤ length (now «first_sink»)) × (nodes ≤ length (now seen)) × (nodes ≤ length (now kind)) ⌝ }
-    ensures { λ r. ⌜ SourceAdded nodes nets (now (text .entry)) c r (now (source .entry)) (now («first_sink» .entry)) (now (seen .entry)) (now (source .exit)) (now («first_sink» .exit)) (now (seen .exit)) (ofKind 0 2 (now (kind .entry)) (sourceLine nodes nets (c .nets) (drop (c .at) (now (text .entry))))) ⌝ }
+    requires { ⌜ (c .at ≤ length (now text)) × (c .line ≤ c .at + 1) × (nodes ≤ 4096) × (nets ≤ 512)
+        × (c .sinks ≤ 4096) ⌝ }
+    requires { ⌜ (c .nets < nets) × (nets ≤ length (now source)) × (nets ≤ length (now «first_sink»))
+        × (nodes ≤ length (now seen)) × (nodes ≤ length (now kind)) ⌝ }
+    ensures { λ r. do
+      let read = ofKind sourceKind (now (kind .entry)) (sourceLine nodes nets (c .nets) (drop (c .at) (now (text .entry))))
+      ⌜ SourceAdded nodes nets (now (text .entry)) c r (now (source .entry)) (now («first_sink» .entry)) (now (seen .entry))
+          (now (source .exit)) (now («first_sink» .exit)) (now (seen .exit)) read ⌝ }
 {
     let at = c.at;
     let net = c.nets;
@@ -161,8 +177,11 @@ fn add_sink(
     seen: &mut [u16],
 ) -> NetStep
     requires { ⌜ (c .at ≤ length (now text)) × (c .line ≤ c .at + 1) × (nodes ≤ 4096) × (nets ≤ 512) ⌝ }
-    requires { ⌜ (1 ≤ c .nets) × (c .nets ≤ nets) × (4096 ≤ length (now sink)) × (nodes ≤ length (now seen)) × (nodes ≤ length (now kind)) ⌝ }
-    ensures { λ r. ⌜ ((pins : List ℕ) → Marked nodes (c .nets) (now (seen .entry)) pins → SinkAdded nodes nets (now (text .entry)) c r (now (sink .entry)) (now (seen .entry)) (now (sink .exit)) (now (seen .exit)) (ofKind 1 3 (now (kind .entry)) (sinkLine nodes nets (c .nets - 1) pins (c .sinks) (drop (c .at) (now (text .entry)))))) ⌝ }
+    requires { ⌜ (1 ≤ c .nets) × (c .nets ≤ nets) × (4096 ≤ length (now sink)) × (nodes ≤ length (now seen))
+        × (nodes ≤ length (now kind)) ⌝ }
+    ensures { λ r. ⌜ ((pins : List ℕ) → Marked nodes (c .nets) (now (seen .entry)) pins
+        → SinkAdded nodes nets (now (text .entry)) c r (now (sink .entry)) (now (seen .entry)) (now (sink .exit)) (now (seen .exit))
+        (ofKind sinkKind (now (kind .entry)) (sinkLine nodes nets (c .nets - 1) pins (c .sinks) (drop (c .at) (now (text .entry)))))) ⌝ }
 {
     let at = c.at;
     let net = c.nets;
@@ -205,9 +224,14 @@ fn net_line(
     sink: &mut [u16],
     seen: &mut [u16],
 ) -> NetStep
-    requires { ⌜ NetKept nodes nets (now text) c (now source) (now «first_sink») (now sink) (now seen) × (c .at < length (now text)) × (nodes ≤ length (now kind)) ⌝ }
-    ensures { λ r. ⌜ netLineAt (now (text .entry)) r (now (source .exit)) (now («first_sink» .exit)) (now (sink .exit)) ≡ netLine (now (kind .entry)) nodes nets (netsAt c (now (source .entry)) (now («first_sink» .entry)) (now (sink .entry))) (drop (c .at) (now (text .entry))) ⌝ }
-    ensures { λ r. ⌜ KeptAfter nodes nets (now (text .entry)) c r (now (source .exit)) (now («first_sink» .exit)) (now (sink .exit)) (now (seen .exit)) ⌝ }
+    requires { ⌜ NetKept nodes nets (now text) c (now source) (now «first_sink») (now sink) (now seen)
+        × (c .at < length (now text)) × (nodes ≤ length (now kind)) ⌝ }
+    ensures { λ r. do
+      let before = netsAt c (now (source .entry)) (now («first_sink» .entry)) (now (sink .entry))
+      ⌜ netLineAt (now (text .entry)) r (now (source .exit)) (now («first_sink» .exit)) (now (sink .exit))
+          ≡ netLine (now (kind .entry)) nodes nets before (drop (c .at) (now (text .entry))) ⌝ }
+    ensures { λ r. ⌜ KeptAfter nodes nets (now (text .entry)) c r
+        (now (source .exit)) (now («first_sink» .exit)) (now (sink .exit)) (now (seen .exit)) ⌝ }
 {
     let at = c.at;
     let b = text[at];
@@ -250,9 +274,13 @@ pub fn read_nets(
     first_sink: &mut [u32],
     sink: &mut [u16],
 ) -> NetsRead
-    requires { ⌜ (from ≤ length (now text)) × («first_line» ≤ from + 1) × (nodes ≤ 4096) × (nets ≤ 512) × (nodes ≤ length (now kind)) ⌝ }
+    requires { ⌜ (from ≤ length (now text)) × («first_line» ≤ from + 1) × (nodes ≤ 4096) × (nets ≤ 512)
+        × (nodes ≤ length (now kind)) ⌝ }
     requires { ⌜ (nets ≤ length (now source)) × (nets + 1 ≤ length (now «first_sink»)) × (4096 ≤ length (now sink)) ⌝ }
-    ensures { λ r. ⌜ netsReadAt nets r (now (source .exit)) (now («first_sink» .exit)) (now (sink .exit)) ≡ netLines (length (drop from (now (text .entry)))) (now (kind .entry)) nodes nets (netLists [] [] []) «first_line» (drop from (now (text .entry))) ⌝ }
+    ensures { λ r. do
+      let bytes = drop from (now (text .entry))
+      ⌜ netsReadAt nets r (now (source .exit)) (now («first_sink» .exit)) (now (sink .exit))
+          ≡ netLines (length bytes) (now (kind .entry)) nodes nets (netLists [] [] []) «first_line» bytes ⌝ }
     ensures { λ r. ⌜ NetsEnd nets r (now («first_sink» .exit)) ⌝ }
 {
     let mut seen = [0u16; 4096];

@@ -5,8 +5,9 @@ ghost use Prim.Native.Nat.{_+_, _≤_};
 ghost use lib.ListN.{length, take, drop};
 ghost use Rattle.text.specs.JobText.{nodeLine, nodeLists, nodeLines};
 ghost use Rattle.text.specs.Steps.{nodeAt, NodePlace, nodesAt, LinesPlace};
+use crate::bounds;
 use crate::fields;
-use crate::fields::Three;
+use crate::fields::LineFields;
 use crate::head::Lines;
 
 pub enum NodeLine {
@@ -20,28 +21,26 @@ fn node_line(text: &[u8], at: usize, nodes: usize, v: usize) -> NodeLine
     ensures { λ r. ⌜ nodeAt v (now (text .entry)) r ≡ nodeLine nodes v (drop at (now (text .entry))) ⌝ }
     ensures { λ r. ⌜ NodePlace at (now (text .entry)) r ⌝ }
 {
-    if !fields::stands(text, at, b'N') {
-        return NodeLine::Refused(1);
-    }
-    let Three::Fields {
+    let LineFields::Fields {
         first,
         second,
         third,
+        fourth: _,
         next,
-    } = fields::three_fields(text, at + 1)
+    } = fields::line_fields(text, at, b'N', 3)
     else {
         return NodeLine::Refused(1);
     };
     if nodes <= first as usize {
         return NodeLine::Refused(2);
     }
-    if 53 < second {
+    if bounds::KIND_MOST < second {
         return NodeLine::Refused(2);
     }
     if third < 1 {
         return NodeLine::Refused(2);
     }
-    if 255 < third {
+    if bounds::CAPACITY_MOST < third {
         return NodeLine::Refused(2);
     }
     if first as usize != v {
@@ -65,7 +64,8 @@ pub fn read_nodes(
 ) -> Lines
     requires { ⌜ (from ≤ length (now text)) × («first_line» ≤ from + 1) × (nodes ≤ 4096) ⌝ }
     requires { ⌜ (nodes ≤ length (now kind)) × (nodes ≤ length (now capacity)) ⌝ }
-    ensures { λ r. ⌜ nodesAt (now (text .entry)) r (take nodes (now (kind .exit))) (take nodes (now (capacity .exit))) ≡ nodeLines nodes nodes (nodeLists [] []) «first_line» (drop from (now (text .entry))) ⌝ }
+    ensures { λ r. ⌜ nodesAt (now (text .entry)) r (take nodes (now (kind .exit))) (take nodes (now (capacity .exit)))
+        ≡ nodeLines nodes nodes (nodeLists [] []) «first_line» (drop from (now (text .entry))) ⌝ }
     ensures { λ r. ⌜ LinesPlace (now (text .entry)) r ⌝ }
 {
     let mut at = from;

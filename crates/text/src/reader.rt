@@ -4,7 +4,8 @@ ghost use Prim.Native.Nat.{_+_, _≤_};
 ghost use lib.ListN.{length, drop};
 ghost use Rattle.text.specs.JobText.{readText};
 ghost use Rattle.text.specs.Steps.{NetsEnd};
-ghost use Rattle.text.specs.ReadSteps.{EdgeRoom, NetTablesRoom, RoomForAll, CountsWithin, bodyAfterNodes, edgesNetsAt, bodyAfterHead, bodyAt, jobLines, jobAt, JobPlace};
+ghost use Rattle.text.specs.ReadSteps.{EdgeRoom, NetTablesRoom, RoomForAll, CountsWithin};
+ghost use Rattle.text.specs.ReadSteps.{bodyAfterNodes, edgesNetsAt, bodyAfterHead, bodyAt, jobLines, jobAt, JobPlace};
 use crate::edges;
 use crate::head;
 use crate::head::HeadRead;
@@ -45,9 +46,12 @@ fn read_edges_nets(
     first_sink: &mut [u32],
     sink: &mut [u16],
 ) -> NetsRead
-    requires { ⌜ CountsWithin nodes edges nets × (from ≤ length (now text)) × (line ≤ from + 1) × (nodes ≤ length (now kind)) ⌝ }
+    requires { ⌜ CountsWithin nodes edges nets × (from ≤ length (now text)) × (line ≤ from + 1)
+        × (nodes ≤ length (now kind)) ⌝ }
     requires { ⌜ EdgeRoom (now «first_edge») (now «edge_target») × NetTablesRoom (now source) (now «first_sink») (now sink) ⌝ }
-    ensures { λ r. ⌜ edgesNetsAt nodes edges nets r (now («first_edge» .exit)) (now («edge_target» .exit)) (now (source .exit)) (now («first_sink» .exit)) (now (sink .exit)) ≡ bodyAfterNodes (now (kind .entry)) nodes edges nets line (drop from (now (text .entry))) ⌝ }
+    ensures { λ r. ⌜ edgesNetsAt nodes edges nets r (now («first_edge» .exit)) (now («edge_target» .exit))
+        (now (source .exit)) (now («first_sink» .exit)) (now (sink .exit))
+        ≡ bodyAfterNodes (now (kind .entry)) nodes edges nets line (drop from (now (text .entry))) ⌝ }
     ensures { λ r. ⌜ NetsEnd nets r (now («first_sink» .exit)) ⌝ }
 {
     match edges::read_edges(text, from, line, nodes, edges, first_edge, edge_target) {
@@ -85,9 +89,12 @@ fn read_body(
     first_sink: &mut [u32],
     sink: &mut [u16],
 ) -> NetsRead
-    requires { ⌜ RoomForAll (now kind) (now capacity) (now «first_edge») (now «edge_target») (now source) (now «first_sink») (now sink) ⌝ }
+    requires { ⌜ RoomForAll (now kind) (now capacity) (now «first_edge») (now «edge_target»)
+        (now source) (now «first_sink») (now sink) ⌝ }
     requires { ⌜ CountsWithin nodes edges nets × (from ≤ length (now text)) × (line ≤ from + 1) ⌝ }
-    ensures { λ r. ⌜ bodyAt nodes edges nets r (now (kind .exit)) (now (capacity .exit)) (now («first_edge» .exit)) (now («edge_target» .exit)) (now (source .exit)) (now («first_sink» .exit)) (now (sink .exit)) ≡ bodyAfterHead nodes edges nets line (drop from (now (text .entry))) ⌝ }
+    ensures { λ r. ⌜ bodyAt nodes edges nets r (now (kind .exit)) (now (capacity .exit)) (now («first_edge» .exit))
+        (now («edge_target» .exit)) (now (source .exit)) (now («first_sink» .exit)) (now (sink .exit))
+        ≡ bodyAfterHead nodes edges nets line (drop from (now (text .entry))) ⌝ }
     ensures { λ r. ⌜ NetsEnd nets r (now («first_sink» .exit)) ⌝ }
 {
     match nodes::read_nodes(text, from, line, nodes, kind, capacity) {
@@ -143,8 +150,10 @@ pub fn read_lines(
     first_sink: &mut [u32],
     sink: &mut [u16],
 ) -> JobLines
-    requires { ⌜ RoomForAll (now kind) (now capacity) (now «first_edge») (now «edge_target») (now source) (now «first_sink») (now sink) ⌝ }
-    ensures { λ r. ⌜ jobAt r (now (kind .exit)) (now (capacity .exit)) (now («first_edge» .exit)) (now («edge_target» .exit)) (now (source .exit)) (now («first_sink» .exit)) (now (sink .exit)) ≡ readText (now (text .entry)) ⌝ }
+    requires { ⌜ RoomForAll (now kind) (now capacity) (now «first_edge») (now «edge_target»)
+        (now source) (now «first_sink») (now sink) ⌝ }
+    ensures { λ r. ⌜ jobAt r (now (kind .exit)) (now (capacity .exit)) (now («first_edge» .exit)) (now («edge_target» .exit))
+        (now (source .exit)) (now («first_sink» .exit)) (now (sink .exit)) ≡ readText (now (text .entry)) ⌝ }
     ensures { λ r. ⌜ JobPlace r ⌝ }
 {
     match head::read_head(text) {

@@ -14,7 +14,7 @@ pub fn respond(label: &[u8], input: &[u8], work: &mut [u64], log: &mut [u32], ro
     let mut sink = [7u16; 2];
     show::put(label);
     show::put(b":");
-    let bytes = text::respond(
+    let bytes = flow::respond(
         input,
         &mut kind,
         &mut capacity,

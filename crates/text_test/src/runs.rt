@@ -1,7 +1,7 @@
 // Runs from a job text to its routes text. After the seven tables come the work slice, the log and the routes buffer.
 use crate::build;
 use crate::show;
-use text::RunAnswer;
+use flow::RunAnswer;
 
 fn answer(a: RunAnswer) {
     match a {
@@ -37,7 +37,7 @@ fn run(label: &[u8], job: &[u8], work: &mut [u64], log: &mut [u32], routes: &mut
     let mut sink = [7u16; 2];
     show::put(label);
     show::put(b": ");
-    answer(text::run(
+    answer(flow::run(
         job,
         &mut kind,
         &mut capacity,

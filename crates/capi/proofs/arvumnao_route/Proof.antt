@@ -1,7 +1,9 @@
--- `capi::arvumnao_route` meets its contract: a short `out` is left, else the router's answer is told.
+-- `capi::arvumnao_route` meets its contract: a short `out` is left, else the router's answer is written.
 -- Assumes nothing.
 use borrow.Author.Needs.{needs}
-use Rattle.capi.proofs.CallLaws.{route-short, route-told}
+use Rattle.negotiation.specs.Job.{jobOf}
+use Rattle.capi.specs.Calls.{termsOf}
+use Rattle.capi.proofs.CallLaws.{route-short, route-called}
 use Rattle.capi.proofs.arvumnao_route.Statement.{statement}
 use Rattle.capi.proofs.arvumnao_route.Tie as tie
 
@@ -14,8 +16,8 @@ terms-of-requires c κs = search needs
 route-requires : tie.Need-route-requires
 route-requires c κs = search needs
 
-tell-routed-requires : tie.Need-tell-routed-requires
-tell-routed-requires c κs = search needs
+put-routed-requires : tie.Need-put-routed-requires
+put-routed-requires c κs = search needs
 
 same-length : tie.Need-same-length
 same-length c = search needs
@@ -30,8 +32,12 @@ returns-2 : tie.Need-returns-2
 returns-2 c =
     let asked = c .before .before .before .before .before .before .before .before in
     let made = asked .before .before .before in
+    let a = made .before .before .before .before .before .before .before .before .before .before .before .before .args in
+    let terms = termsOf (a .limit) (a .first) (a .up) (a .down) (a .step) in
+    let job =
+    jobOf (a .kind .now) (a .capacity .now) (a .first-edge .now) (a .edge-target .now) (a .source .now) (a .first-sink .now) (a .sink .now) terms in
     let answers = rw (made .terms-of .ensures) at (asked .route .ensures .0) in
-    route-told _ _ _ _ _ _ _ (asked .route .result) (made .before .if1 .left) answers (c .before .before .tell-routed .ensures)
+    route-called job _ _ _ _ _ _ (asked .route .result) (made .before .if1 .left) answers (c .before .before .put-routed .ensures)
 
 pub arvumnao-route-spec : {M : Type 1} → statement M
 arvumnao-route-spec =
@@ -40,7 +46,7 @@ arvumnao-route-spec =
     returns
     terms-of-requires
     route-requires
-    tell-routed-requires
+    put-routed-requires
     same-length
     same-length-2
     same-length-3

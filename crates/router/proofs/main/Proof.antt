@@ -3,7 +3,7 @@
 use mathlib.Core.Path.{sym}
 use borrow.Author.Needs.{needs}
 use lib.Seq.{length-take-le}
-use Rattle.text.proofs.ResponseLaws.{bytes-fit}
+use Rattle.flow.proofs.ResponseLaws.{bytes-fit}
 use Rattle.router.proofs.main.Statement.{statement}
 use Rattle.router.proofs.main.Tie as tie
 

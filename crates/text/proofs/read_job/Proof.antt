@@ -1,9 +1,8 @@
--- `text::read_job` meets its contract: all lines are read into tables of its own, and the job is laid over those that were lent.
+-- `text::read_job` meets its contract: all lines are read into tables of its own, and the job is written over those that were lent.
 -- Assumes nothing.
-use mathlib.Core.Path.{_∙_}
 use native.Mathlib.Omega.{arith}
 use borrow.Author.Needs.{needs}
-use Rattle.text.specs.ReadReplies.{tablesOf}
+use Rattle.text.specs.ReadReplies.{tablesOf, readReplyOf}
 use Rattle.text.proofs.ReadJobLaws.{job-read, job-stopped, job-counts}
 use Rattle.text.proofs.read_job.Statement.{statement}
 use Rattle.text.proofs.read_job.Tie as tie
@@ -35,29 +34,29 @@ read-lines-requires c κs = search needs
 enum-known-nodes : tie.Need-enum-known-nodes
 enum-known-nodes c = search needs
 
-slice-aggregate-lay-job : tie.Need-slice-aggregate-lay-job
-slice-aggregate-lay-job c = search needs
+slice-aggregate-store-job : tie.Need-slice-aggregate-store-job
+slice-aggregate-store-job c = search needs
 
-slice-aggregate-lay-job-2 : tie.Need-slice-aggregate-lay-job-2
-slice-aggregate-lay-job-2 c = search needs
+slice-aggregate-store-job-2 : tie.Need-slice-aggregate-store-job-2
+slice-aggregate-store-job-2 c = search needs
 
-slice-aggregate-lay-job-3 : tie.Need-slice-aggregate-lay-job-3
-slice-aggregate-lay-job-3 c = search needs
+slice-aggregate-store-job-3 : tie.Need-slice-aggregate-store-job-3
+slice-aggregate-store-job-3 c = search needs
 
-slice-aggregate-lay-job-4 : tie.Need-slice-aggregate-lay-job-4
-slice-aggregate-lay-job-4 c = search needs
+slice-aggregate-store-job-4 : tie.Need-slice-aggregate-store-job-4
+slice-aggregate-store-job-4 c = search needs
 
-slice-aggregate-lay-job-5 : tie.Need-slice-aggregate-lay-job-5
-slice-aggregate-lay-job-5 c = search needs
+slice-aggregate-store-job-5 : tie.Need-slice-aggregate-store-job-5
+slice-aggregate-store-job-5 c = search needs
 
-slice-aggregate-lay-job-6 : tie.Need-slice-aggregate-lay-job-6
-slice-aggregate-lay-job-6 c = search needs
+slice-aggregate-store-job-6 : tie.Need-slice-aggregate-store-job-6
+slice-aggregate-store-job-6 c = search needs
 
-slice-aggregate-lay-job-7 : tie.Need-slice-aggregate-lay-job-7
-slice-aggregate-lay-job-7 c = search needs
+slice-aggregate-store-job-7 : tie.Need-slice-aggregate-store-job-7
+slice-aggregate-store-job-7 c = search needs
 
-lay-job-requires : tie.Need-lay-job-requires
-lay-job-requires c κs = let lines = c .before .before .before .before .before .before .before .before .before .before .before .before .before .before .before .before .before .before .before .before .before .before .before .before .read-lines in
+store-job-requires : tie.Need-store-job-requires
+store-job-requires c κs = let lines = c .before .before .before .before .before .before .before .before .before .before .before .before .before .before .before .before .before .before .before .before .before .before .before .before .read-lines in
     let k = lines .kept .1 in
     let counts = job-counts (lines .result) _ _ _ _ _ _ (c .before .before .before .before .before .before .before .before .before .before .before .before .before .before .before .nodes .given .1) (lines .ensures .1) in (
       record {
@@ -72,46 +71,62 @@ lay-job-requires c κs = let lines = c .before .before .before .before .before .
 enum-known-number : tie.Need-enum-known-number
 enum-known-number c = search needs
 
--- the call of `lay_job` before the return, which leaves the lengths of the tables as they were
-abbrev over : tie.After-slice-known14 → tie.After-lay-job
+-- the call of `store_job` before the return, which leaves the lengths of the tables as they were
+abbrev over : tie.After-slice-known14 → tie.After-store-job
 over c = c .before .before .before .before .before .before .before .before .before .before .before .before .before .before
 
 same-length : tie.Need-same-length
-same-length c = over c .lay-job .kept .1 .1 .1 .1 .1 .1 .1 .1 .1 .1 .1 .1 .0
+same-length c = over c .store-job .kept .1 .1 .1 .1 .1 .1 .1 .1 .1 .1 .1 .1 .0
 
 same-length-2 : tie.Need-same-length-2
-same-length-2 c = over c .lay-job .kept .1 .1 .1 .1 .1 .1 .1 .1 .1 .1 .1 .1 .1 .0
+same-length-2 c = over c .store-job .kept .1 .1 .1 .1 .1 .1 .1 .1 .1 .1 .1 .1 .1 .0
 
 same-length-3 : tie.Need-same-length-3
-same-length-3 c = over c .lay-job .kept .1 .1 .1 .1 .1 .1 .1 .1 .1 .1 .1 .1 .1 .1 .0
+same-length-3 c = over c .store-job .kept .1 .1 .1 .1 .1 .1 .1 .1 .1 .1 .1 .1 .1 .1 .0
 
 same-length-4 : tie.Need-same-length-4
-same-length-4 c = over c .lay-job .kept .1 .1 .1 .1 .1 .1 .1 .1 .1 .1 .1 .1 .1 .1 .1 .0
+same-length-4 c = over c .store-job .kept .1 .1 .1 .1 .1 .1 .1 .1 .1 .1 .1 .1 .1 .1 .1 .0
 
 same-length-5 : tie.Need-same-length-5
-same-length-5 c = over c .lay-job .kept .1 .1 .1 .1 .1 .1 .1 .1 .1 .1 .1 .1 .1 .1 .1 .1 .0
+same-length-5 c = over c .store-job .kept .1 .1 .1 .1 .1 .1 .1 .1 .1 .1 .1 .1 .1 .1 .1 .1 .0
 
 same-length-6 : tie.Need-same-length-6
-same-length-6 c = over c .lay-job .kept .1 .1 .1 .1 .1 .1 .1 .1 .1 .1 .1 .1 .1 .1 .1 .1 .1 .0
+same-length-6 c = over c .store-job .kept .1 .1 .1 .1 .1 .1 .1 .1 .1 .1 .1 .1 .1 .1 .1 .1 .1 .0
 
 same-length-7 : tie.Need-same-length-7
-same-length-7 c = over c .lay-job .kept .1 .1 .1 .1 .1 .1 .1 .1 .1 .1 .1 .1 .1 .1 .1 .1 .1 .1 .0
+same-length-7 c = over c .store-job .kept .1 .1 .1 .1 .1 .1 .1 .1 .1 .1 .1 .1 .1 .1 .1 .1 .1 .1 .0
+
+-- the reading of all lines, before the job is stored
+abbrev lines-read : tie.After-store-job → tie.After-read-lines
+lines-read c = c .before .before .before .before .before .before .before .before .before .before .before .before .before .before .before .before .before .before .before .before .before .before .before .before .before
+
+-- the function's entry
+abbrev entry : tie.After-read-lines → tie.Start
+entry c = c .before .before .before .before .before .before .before .before .before .before .before .before .before .before .before .before
 
 returns : tie.Need-returns
-returns c = let lines = c .before .before .before .before .before .before .before .before .before .before .before .before .before .before .before .before .before .before .before .before .before .before .before .before .before .before .before .before .before .before .before .before .before .before .before .before .before .before .before .read-lines in
+returns c =
+    let lines = lines-read (over c) .read-lines in
     let l = lines .last .1 in
-    let a = c .before .before .before .before .before .before .before .before .before .before .before .before .before .before .before .before .before .before .before .before .before .before .before .before .before .before .before .before .before .before .before .before .before .before .before .before .before .before .before .before .before .before .before .before .before .before .before .before .before .before .before .before .before .before .before .args in
-    let known = c .before .before .before .before .before .before .before .before .before .before .before .before .before .before .before .before .before .before .before .before .before .before .before .before .before .before .before .before .before .before .nodes .given in
+    let a = entry (lines-read (over c)) .args in
+    let known = over c .before .before .before .before .before .before .before .before .before .before .before .before .before .before .before .before .nodes .given in
     let counts = known .0 in
-    over c .lay-job .ensures
-    ∙ job-read (a .text .now) (lines .result) (counts .0) (counts .1 .0) (counts .1 .1 .0) (counts .1 .1 .1 .0) (counts .1 .1 .1 .1 .0) (counts .1 .1 .1 .1 .1 .0) (l .0) (l .1 .0) (l .1 .1 .0) (l .1 .1 .1 .0) (l .1 .1 .1 .1 .0) (l .1 .1 .1 .1 .1 .0) (l .1 .1 .1 .1 .1 .1 .0)
+    let left = over c .store-job .last .1 .1 .1 .1 .1 .1 .1 .1 .1 .1 .1 .1 in
+    job-read (a .text .now) (lines .result) (counts .0) (counts .1 .0) (counts .1 .1 .0) (counts .1 .1 .1 .0) (counts .1 .1 .1 .1 .0) (counts .1 .1 .1 .1 .1 .0)
+    (l .0) (l .1 .0) (l .1 .1 .0) (l .1 .1 .1 .0) (l .1 .1 .1 .1 .0) (l .1 .1 .1 .1 .1 .0) (l .1 .1 .1 .1 .1 .1 .0)
     (tablesOf (a .kind .now) (a .capacity .now) (a .first-edge .now) (a .edge-target .now) (a .source .now) (a .first-sink .now) (a .sink .now))
-    (known .1) (lines .ensures .0)
+    (readReplyOf (over c .store-job .result) (tablesOf (left .0) (left .1 .0) (left .1 .1 .0) (left .1 .1 .1 .0) (left .1 .1 .1 .1 .0) (left .1 .1 .1 .1 .1 .0) (left .1 .1 .1 .1 .1 .1 .0)))
+    (known .1) (lines .ensures .0) (over c .store-job .ensures)
 
 returns-2 : tie.Need-returns-2
-returns-2 c = let lines = c .before .before .before .before .before .before .before .before .before .before .read-lines in
+returns-2 c =
+    let read = c .before .before .before .before .before .before .before .before .before .before in
+    let lines = read .read-lines in
     let l = lines .last .1 in
-    job-stopped _ (lines .result) _ _ (l .0) (l .1 .0) (l .1 .1 .0) (l .1 .1 .1 .0) (l .1 .1 .1 .1 .0) (l .1 .1 .1 .1 .1 .0) (l .1 .1 .1 .1 .1 .1 .0) _ (c .before .number .given .1) (lines .ensures .0)
+    let a = entry read .args in
+    let tables = tablesOf (a .kind .now) (a .capacity .now) (a .first-edge .now) (a .edge-target .now) (a .source .now) (a .first-sink .now) (a .sink .now) in
+    job-stopped (a .text .now) (lines .result) _ _ (l .0) (l .1 .0) (l .1 .1 .0) (l .1 .1 .1 .0) (l .1 .1 .1 .1 .0) (l .1 .1 .1 .1 .1 .0) (l .1 .1 .1 .1 .1 .1 .0)
+    tables (c .before .number .given .1) (lines .ensures .0)
 
 pub read-job-spec : {M : Type 1} → statement M
 read-job-spec =
@@ -126,14 +141,14 @@ read-job-spec =
     slice-aggregate-read-lines-7
     read-lines-requires
     enum-known-nodes
-    slice-aggregate-lay-job
-    slice-aggregate-lay-job-2
-    slice-aggregate-lay-job-3
-    slice-aggregate-lay-job-4
-    slice-aggregate-lay-job-5
-    slice-aggregate-lay-job-6
-    slice-aggregate-lay-job-7
-    lay-job-requires
+    slice-aggregate-store-job
+    slice-aggregate-store-job-2
+    slice-aggregate-store-job-3
+    slice-aggregate-store-job-4
+    slice-aggregate-store-job-5
+    slice-aggregate-store-job-6
+    slice-aggregate-store-job-7
+    store-job-requires
     enum-known-number
     same-length
     same-length-2

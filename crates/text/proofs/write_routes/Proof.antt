@@ -5,7 +5,7 @@ use Prim.Native.Nat.{_+_, _≤_}
 use native.Mathlib.Omega.{arith}
 use lib.ListN.{length}
 use borrow.Author.Needs.{needs}
-use Rattle.text.specs.Routes.{held}
+use Rattle.text.specs.Routes.{capped}
 use Rattle.text.specs.WriteSteps.{checkedAt}
 use Rattle.text.proofs.LogLaws.{Found, found, found-all}
 use Rattle.text.proofs.BranchLaws.{headLine, bodyText, needed-sum, write-short, put-body, write-done, write-unsound}
@@ -20,14 +20,14 @@ met c =
 
 -- the bytes of its text, as far as 64 bits hold them
 needed :
-    (c : tie.After-held-sum) →
-    c .held-sum .result
-    ≡ held
+    (c : tie.After-capped-sum) →
+    c .capped-sum .result
+    ≡ capped
     (length (headLine (c .before .before .before .before .iteration .given .0 .0) (c .before .before .before .before .iteration .given .0 .1 .0))
     + length (bodyText (c .before .before .before .before .iteration .given .0 .0) (c .before .before .before .before .before .before .before .before .before .args .log .now)))
 needed c =
     needed-sum (c .before .before .before .before .iteration .given .0 .0) (c .before .before .before .before .iteration .given .0 .1 .0) (c .before .before .before .before .before .before .before .before .before .args .log .now)
-    (c .before .before .two-length .ensures .0) (c .before .branches-length .ensures) (c .held-sum .ensures)
+    (c .before .before .two-length .ensures .0) (c .before .branches-length .ensures) (c .capped-sum .ensures)
 
 -- the buffer has room for it
 fits :
@@ -52,8 +52,8 @@ two-length-requires c κs = search needs
 branches-length-requires : tie.Need-branches-length-requires
 branches-length-requires c κs = found-all _ (met (c .before .before) .is-sound)
 
-held-sum-requires : tie.Need-held-sum-requires
-held-sum-requires c κs = search needs
+capped-sum-requires : tie.Need-capped-sum-requires
+capped-sum-requires c κs = search needs
 
 returns : tie.Need-returns
 returns c = write-short (met (c .before .before .before .before .before)) _ (needed (c .before)) (c .if1 .taken)
@@ -66,7 +66,10 @@ put-two-requires c κs = omega (arith, fits (c .before))
 
 put-branches-requires : tie.Need-put-branches-requires
 put-branches-requires c κs =
-    (found-all _ (met (c .before .before .before .before .before .before .before .before .before .before) .is-sound), put-body (met (c .before .before .before .before .before .before .before .before .before .before)) _ (fits (c .before .before .before .before .before)) (c .before .before .before .put-two .ensures))
+    let after-put-two = c .before .before .before in
+    let there = after-put-two .before .before in
+    let there-2 = there .before .before .before .before .before in
+    (found-all _ (met (there-2) .is-sound), put-body (met (there-2)) _ (fits (there)) (after-put-two .put-two .ensures))
 
 enum-known-word : tie.Need-enum-known-word
 enum-known-word c = search needs
@@ -76,7 +79,10 @@ same-length c = search needs
 
 returns-2 : tie.Need-returns-2
 returns-2 c =
-    write-done (met (c .before .before .before .before .before .before .before .before .before .before .before .before .before)) _ (fits (c .before .before .before .before .before .before .before .before)) (c .before .before .before .before .before .before .put-two .ensures) (c .before .before .put-branches .ensures)
+    let after-put-two = c .before .before .before .before .before .before in
+    let there = after-put-two .before .before in
+    let there-2 = there .before .before .before .before .before in
+    write-done (met (there-2)) _ (fits (there)) (after-put-two .put-two .ensures) (c .before .before .put-branches .ensures)
 
 returns-3 : tie.Need-returns-3
 returns-3 c = write-unsound _ _ (ap checkedAt (sym (c .before .word .given .1)) ∙ c .before .before .before .check-log .ensures)
@@ -90,7 +96,7 @@ write-routes-spec =
     cast-two-length
     two-length-requires
     branches-length-requires
-    held-sum-requires
+    capped-sum-requires
     returns
     cast-put-two
     put-two-requires

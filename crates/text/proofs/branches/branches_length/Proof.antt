@@ -62,8 +62,8 @@ steps-length-requires c κs =
     let most = rest-most (d .before .loop .inv .rest) (d .loop-test .taken) in
     (omega arith, omega arith, omega arith)
 
-held-sum-requires : tie.Need-held-sum-requires Inv-loop μ-loop
-held-sum-requires c κs = search needs
+capped-sum-requires : tie.Need-capped-sum-requires Inv-loop μ-loop
+capped-sum-requires c κs = search needs
 
 loop-less : tie.Need-loop-less Inv-loop μ-loop
 loop-less c = omega (arith, next (c .before .before .before .before .before .before))
@@ -71,7 +71,7 @@ loop-less c = omega (arith, next (c .before .before .before .before .before .bef
 loop-again : tie.Need-loop-again Inv-loop μ-loop
 loop-again c =
     counting-met (c .before .before .before .before .before .before .before .loop .inv)
-    (search needs) (search needs) (c .before .steps-length .ensures) (c .held-sum .ensures)
+    (search needs) (search needs) (c .before .steps-length .ensures) (c .capped-sum .ensures)
 
 loop-less-2 : tie.Need-loop-less-2 Inv-loop μ-loop
 loop-less-2 c = omega (arith, next (c .before .before .before))
@@ -101,7 +101,7 @@ branches-length-spec =
     mul-steps-length
     shared-slice-read-steps-length
     steps-length-requires
-    held-sum-requires
+    capped-sum-requires
     loop-less
     loop-again
     loop-less-2

@@ -5,20 +5,20 @@ use Prim.Native.Nat.{ℕ}
 use denote.Ref.{now}
 use borrow.Author.Needs.{needs}
 use borrow.Author.Tests.{not-true, not-false}
-use Rattle.text.proofs.JudgedLaws.{two-place}
+use Rattle.text.proofs.JudgedLaws.{line-place}
 use Rattle.text.proofs.EdgeLineLaws.{edge-beyond-from, edge-beyond-to, edge-within, edge-loop, edge-order, edge-shape, edge-beyond, edge-wrong, edge-taken}
 use Rattle.text.proofs.edges.edge_line.Statement.{statement}
 use Rattle.text.proofs.edges.edge_line.Tie as tie
 
 -- where the line is read
-abbrev at-of : tie.After-two-line → ℕ
+abbrev at-of : tie.After-line-fields → ℕ
 at-of d = d .before .before .args .at
 
-abbrev text-of : tie.After-two-line → List ℕ
+abbrev text-of : tie.After-line-fields → List ℕ
 text-of d = now (d .before .before .args .text)
 
-two-line-requires : tie.Need-two-line-requires
-two-line-requires c κs = search needs
+line-fields-requires : tie.Need-line-fields-requires
+line-fields-requires c κs = search needs
 
 enum-known-first : tie.Need-enum-known-first
 enum-known-first c = search needs
@@ -29,7 +29,7 @@ enum-told c = search needs
 returns : tie.Need-returns
 returns c =
     let d = c .before .before in
-    (edge-shape _ _ _ _ (at-of d) (text-of d) (d .two-line .ensures .0) (c .enum-told .given .1), tt)
+    (edge-shape _ _ _ _ (at-of d) (text-of d) (d .line-fields .ensures .0) (c .enum-told .given .1), tt)
 
 cast-if1 : tie.Need-cast-if1
 cast-if1 c = search needs
@@ -37,7 +37,7 @@ cast-if1 c = search needs
 returns-2 : tie.Need-returns-2
 returns-2 c =
     let d = c .before .before .before .before in (
-      edge-beyond _ _ _ _ (at-of d) (text-of d) (d .two-line .ensures .0) (c .before .before .first .given .1)
+      edge-beyond _ _ _ _ (at-of d) (text-of d) (d .line-fields .ensures .0) (c .before .before .first .given .1)
           (edge-beyond-from _ _ _ (c .if1 .taken)),
       tt,
     )
@@ -48,7 +48,7 @@ cast-if2 c = search needs
 returns-3 : tie.Need-returns-3
 returns-3 c =
     let d = c .before .before .before .before .before in (
-      edge-beyond _ _ _ _ (at-of d) (text-of d) (d .two-line .ensures .0) (c .before .before .before .first .given .1)
+      edge-beyond _ _ _ _ (at-of d) (text-of d) (d .line-fields .ensures .0) (c .before .before .before .first .given .1)
           (edge-beyond-to _ _ _ (c .before .if1 .left) (c .if2 .taken)),
       tt,
     )
@@ -56,7 +56,7 @@ returns-3 c =
 returns-4 : tie.Need-returns-4
 returns-4 c =
     let d = c .before .before .before .before .before .before in (
-      edge-wrong _ _ _ _ (at-of d) (text-of d) (d .two-line .ensures .0) (c .before .before .before .before .first .given .1)
+      edge-wrong _ _ _ _ (at-of d) (text-of d) (d .line-fields .ensures .0) (c .before .before .before .before .first .given .1)
           (edge-within _ _ _ (c .before .before .if1 .left) (c .before .if2 .left)) (edge-loop _ _ _ _ _ (c .if3 .taken)),
       tt,
     )
@@ -73,7 +73,7 @@ edge-rises-requires c κs = search needs
 returns-5 : tie.Need-returns-5
 returns-5 c =
     let d = c .before .before .before .before .before .before .before .before in (
-      edge-wrong _ _ _ _ (at-of d) (text-of d) (d .two-line .ensures .0) (c .before .before .before .before .before .before .first .given .1)
+      edge-wrong _ _ _ _ (at-of d) (text-of d) (d .line-fields .ensures .0) (c .before .before .before .before .before .before .first .given .1)
           (edge-within _ _ _ (c .before .before .before .before .if1 .left) (c .before .before .before .if2 .left))
           (edge-order _ _ _ _ _ (c .before .before .if3 .left) (not-true _ (c .if4 .taken)) (c .before .edge-rises .ensures)),
       tt,
@@ -88,17 +88,17 @@ cast-t16 c = search needs
 returns-6 : tie.Need-returns-6
 returns-6 c =
     let d = c .before .before .before .before .before .before .before .before in (
-      edge-taken _ _ _ _ (at-of d) (text-of d) (d .two-line .ensures .0) (c .before .before .before .before .before .before .first .given .1)
+      edge-taken _ _ _ _ (at-of d) (text-of d) (d .line-fields .ensures .0) (c .before .before .before .before .before .before .first .given .1)
           (edge-within _ _ _ (c .before .before .before .before .if1 .left) (c .before .before .before .if2 .left))
           (edge-order _ _ _ _ _ (c .before .before .if3 .left) (not-false _ (c .if4 .left)) (c .before .edge-rises .ensures)),
-      (two-place _ (text-of d) (c .before .before .before .before .before .before .first .given .1) (d .two-line .ensures .1), c .before .before .before .before .if1 .left, c .before .before .before .if2 .left),
+      (line-place _ (text-of d) (c .before .before .before .before .before .before .first .given .1) (d .line-fields .ensures .1), c .before .before .before .before .if1 .left, c .before .before .before .if2 .left),
     )
 
 pub edge-line-spec : {M : Type 1} → statement M
 edge-line-spec =
     tie.close
     (tie.spec
-    two-line-requires
+    line-fields-requires
     enum-known-first
     enum-told
     returns

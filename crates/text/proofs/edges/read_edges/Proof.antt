@@ -24,7 +24,10 @@ loop-holds : tie.Need-loop-holds Inv-loop μ-loop
 loop-holds c = edges-none _ _ _ _ _ (c .before .before .before .args .first-edge .now) _ (c .before .before .before .pre .0 .0) (c .before .before .before .pre .0 .1) (c .before .before .before .pre .1 .0)
 
 -- the tables' room, as the loop begins
-room : (c : tie.At-loop Inv-loop μ-loop) → (c .before .before .before .before .args .nodes + 1 ≤ length (set (c .before .before .before .before .args .first-edge .now) 0 0)) × (c .before .before .before .before .args .edges ≤ length (c .before .before .before .before .args .edge-target .now))
+room :
+    (c : tie.At-loop Inv-loop μ-loop)
+    → (c .before .before .before .before .args .nodes + 1 ≤ length (set (c .before .before .before .before .args .first-edge .now) 0 0)) ×
+    (c .before .before .before .before .args .edges ≤ length (c .before .before .before .before .args .edge-target .now))
 room c = (rw length-set (c .before .before .before .before .pre .1 .0), c .before .before .before .before .pre .1 .1)
 
 edge-line-requires : tie.Need-edge-line-requires Inv-loop μ-loop
@@ -47,7 +50,10 @@ cast-fill-2 c = search needs
 
 fill-requires : tie.Need-fill-requires Inv-loop μ-loop
 fill-requires c κs =
-    edges-rows (room (c .before .before .before .before .before .before)) (c .before .before .before .before .before .before .loop .inv) (c .before .before .before .before .before .loop-test .taken) (c .before .before .u .given .1) (c .before .before .before .before .edge-line .ensures .0) (c .before .before .before .before .edge-line .ensures .1)
+    let after-edge-line = c .before .before .before .before in
+    let there = after-edge-line .before in
+    let head = there .before in
+    edges-rows (room (head)) (head .loop .inv) (there .loop-test .taken) (c .before .before .u .given .1) (after-edge-line .edge-line .ensures .0) (after-edge-line .edge-line .ensures .1)
 
 mul-edge-target : tie.Need-mul-edge-target Inv-loop μ-loop
 mul-edge-target c = search needs
@@ -72,7 +78,11 @@ loop-less c = search needs
 
 loop-again : tie.Need-loop-again Inv-loop μ-loop
 loop-again c =
-    edges-more (room (c .before .before .before .before .before .before .before .before .before)) (c .before .before .before .before .before .before .before .before .before .loop .inv) (c .before .before .before .before .before .before .before .before .loop-test .taken) (c .before .before .before .before .before .u .given .1) (c .before .before .before .before .before .before .before .edge-line .ensures .0) (c .before .before .before .before .before .before .before .edge-line .ensures .1) (c .before .before .fill .ensures)
+    let known-u = c .before .before .before .before .before in
+    let after-edge-line = known-u .before .before in
+    let there = after-edge-line .before in
+    let head = there .before in
+    edges-more (room (head)) (head .loop .inv) (there .loop-test .taken) (known-u .u .given .1) (after-edge-line .edge-line .ensures .0) (after-edge-line .edge-line .ensures .1) (c .before .before .fill .ensures)
 
 enum-known-number : tie.Need-enum-known-number Inv-loop μ-loop
 enum-known-number c = search needs
@@ -107,7 +117,9 @@ same-length-4 c = c .before .before .before .before .before .loop .inv .targets-
 
 returns-2 : tie.Need-returns-2 Inv-loop μ-loop
 returns-2 c =
-    (edges-end (room (c .before .before .before .before .before)) (c .before .before .before .before .before .loop .inv) (c .before .before .before .before .loop-test .left) (c .before .before .fill2 .ensures), (c .before .before .before .before .before .loop .inv .at-most, c .before .before .before .before .before .loop .inv .line-most))
+    let there = c .before .before .before .before in
+    let head = there .before in
+    (edges-end (room (head)) (head .loop .inv) (there .loop-test .left) (c .before .before .fill2 .ensures), (head .loop .inv .at-most, head .loop .inv .line-most))
 
 pub read-edges-spec : {M : Type 1} → statement M
 read-edges-spec =

@@ -45,7 +45,9 @@ further-digits-requires : tie.Need-further-digits-requires
 further-digits-requires c κs = (search needs, omega (arith, digit-most _ (digit c)))
 
 returns-4 : tie.Need-returns-4
-returns-4 c = field-onward (c .before .before .before .before .before .before .before .args .at) (c .before .before .before .before .before .before .before .args .text .now) (c .further-digits .result) (c .further-digits .ensures) (field-digits (c .before .before .before .before .before .before .before .args .at) (c .before .before .before .before .before .before .before .args .text .now) (search needs) (search needs) (digit (c .before)))
+returns-4 c =
+    let entry = c .before .before .before .before .before .before .before in
+    field-onward (entry .args .at) (entry .args .text .now) (c .further-digits .result) (c .further-digits .ensures) (field-digits (entry .args .at) (entry .args .text .now) (search needs) (search needs) (digit (c .before)))
 
 pub number-spec : {M : Type 1} → statement M
 number-spec =

@@ -2,7 +2,7 @@
 -- Assumes nothing.
 use native.Mathlib.Omega.{arith}
 use borrow.Author.Needs.{needs}
-use Rattle.text.proofs.HeadLineLaws.{head-refused, head-counts, head-tuned, head-untuned, head-place, tuned-place}
+use Rattle.text.proofs.HeadLineLaws.{head-refused, head-counts, head-limit-sound, head-tuned, head-untuned, head-place, tuned-place}
 use Rattle.text.proofs.head.read_head.Statement.{statement}
 use Rattle.text.proofs.head.read_head.Tie as tie
 
@@ -16,10 +16,11 @@ read-tuning-requires : tie.Need-read-tuning-requires
 read-tuning-requires c κs =
     let head = c .before .before .before .head-line in
     let place = head-place (c .before .before .before .before .before .args .text .now) (head .result) (c .before .nodes .given .1) (head .ensures .1) in
-    (place .1, omega (arith, place .0))
+    let sound = head-limit-sound (c .before .before .before .before .before .args .text .now) (head .result) (head .ensures .0) (c .before .nodes .given .1) in
+    (place .1, omega (arith, place .0), sound)
 
-enum-known-tuning : tie.Need-enum-known-tuning
-enum-known-tuning c = search needs
+enum-known-terms : tie.Need-enum-known-terms
+enum-known-terms c = search needs
 
 cast-t17 : tie.Need-cast-t17
 cast-t17 c = search needs
@@ -42,8 +43,8 @@ returns c =
     let counted = c .before .before .before .before .before in
     let head = counted .before .before .head-line in
     let text = counted .before .before .before .before .args .text .now in
-    let place = tuned-place text (tuned .result) (c .before .tuning .given .1) (tuned .ensures .1) in (
-      head-tuned text (head .result) (head .ensures .0) (counted .nodes .given .1) (tuned .result) (tuned .ensures .0) (c .before .tuning .given .1),
+    let place = tuned-place text (tuned .result) (c .before .terms .given .1) (tuned .ensures .1) in (
+      head-tuned text (head .result) (head .ensures .0) (counted .nodes .given .1) (tuned .result) (tuned .ensures .0) (c .before .terms .given .1),
       (head-counts text (head .result) (head .ensures .0) (counted .nodes .given .1), place .0, place .1),
     )
 
@@ -64,7 +65,7 @@ read-head-spec =
     head-line-requires
     enum-known-nodes
     read-tuning-requires
-    enum-known-tuning
+    enum-known-terms
     cast-t17
     cast-t18
     cast-t19

@@ -1,13 +1,26 @@
 -- `text::nets::add_sink` meets its contract: the line that is read stands in the table, and its node bears the stamp.
 -- Assumes nothing.
+use mathlib.Core.List.{List}
 use mathlib.Core.Path.{refl}
-use Prim.Native.Nat.{_-_, _<_}
+use Prim.Native.Nat.{ℕ, _-_, _<_}
 use native.Mathlib.Omega.{arith}
+use lib.ListN.{drop}
 use borrow.Author.Needs.{needs}
 use Rattle.search.specs.Replies.{sinksMost}
+use Rattle.negotiation.specs.Tables.{sinkKind}
+use Rattle.text.specs.JobText.{Reading, sinkLine, ofKind}
 use Rattle.text.proofs.NetLineLaws.{bearing, bearing-marked, sink-few, pin-reading, pin-refused, pin-place}
 use Rattle.text.proofs.nets.add_sink.Statement.{statement}
 use Rattle.text.proofs.nets.add_sink.Tie as tie
+
+-- the entry, and the line that is read there
+abbrev entry : tie.After-sink-line → tie.Start
+entry c = c .before .before .before .before .before .before
+
+abbrev reading : tie.Start → List ℕ → Reading (List ℕ)
+reading s pins =
+    let a = s .args in
+    ofKind sinkKind (a .kind .now) (sinkLine (a .nodes) (a .nets) (a .c .nets - 1) pins (a .c .sinks) (drop (a .c .at) (a .text .now)))
 
 sub-sink-line : tie.Need-sub-sink-line
 sub-sink-line c = search needs
@@ -22,12 +35,14 @@ enum-known-node : tie.Need-enum-known-node
 enum-known-node c = search needs
 
 -- a sink that is read was not one too many
-few : (c : tie.After-known-told) → c .before .before .before .before .before .before .before .before .before .args .c .sinks < sinksMost
+few : (c : tie.After-known-told) → entry (c .before .before .before) .args .c .sinks < sinksMost
 few c =
-    let a = c .before .before .before .before .before .before .before .before .before .args in
+    let read = c .before .before .before in
+    let a = entry read .args in
     let pins = bearing (a .nodes) (a .c .nets) (a .seen .now) in
-    sink-few (a .kind .now) (a .nodes) (a .nets) (a .c .nets - 1) pins (a .c .sinks) _
-    (pin-reading (a .c .nets - 1) (a .text .now) (c .before .before .before .sink-line .ensures .0 pins (bearing-marked (a .c .nets) (a .seen .now) (a .nodes))) (c .before .node .given .1))
+    let marked = bearing-marked (a .c .nets) (a .seen .now) (a .nodes) in
+    sink-few (a .kind .now) (a .nodes) (a .nets) (a .c .nets - 1) pins (a .c .sinks) (drop (a .c .at) (a .text .now))
+    (pin-reading (a .c .nets - 1) (a .text .now) {r = reading (entry read) pins} (read .sink-line .ensures .0 pins marked) (c .before .node .given .1))
 
 mul-sink : tie.Need-mul-sink
 mul-sink c = omega (arith, few c)
@@ -46,8 +61,9 @@ mul-seen c = search needs
 
 slice-write-seen : tie.Need-slice-write-seen
 slice-write-seen c =
-    let a = c .before .before .before .before .before .before .before .before .before .args in
-    omega (arith, (pin-place (a .nodes) (a .c .at) (a .text .now) (c .before .node .given .1) (c .before .before .before .sink-line .ensures .1)) .1)
+    let read = c .before .before .before in
+    let a = entry read .args in
+    omega (arith, (pin-place (a .nodes) (a .c .at) (a .text .now) (c .before .node .given .1) (read .sink-line .ensures .1)) .1)
 
 add-t20 : tie.Need-add-t20
 add-t20 c = search needs
@@ -66,17 +82,31 @@ same-length-2 c = search needs
 
 returns : tie.Need-returns
 returns c =
-    let a = c .before .before .before .before .before .before .before .before .before .before .args in
-    let place = pin-place (a .nodes) (a .c .at) (a .text .now) (c .before .before .node .given .1) (c .before .before .before .before .sink-line .ensures .1) in
-    λ pins m. (_, pin-reading (a .c .nets - 1) (a .text .now) (c .before .before .before .before .sink-line .ensures .0 pins m) (c .before .before .node .given .1), place .1, place .0, refl, refl, refl, refl, refl, refl)
+    let read = c .before .before .before .before in
+    let a = entry read .args in
+    let is = c .before .before .node .given .1 in
+    let place = pin-place (a .nodes) (a .c .at) (a .text .now) is (read .sink-line .ensures .1) in
+    λ pins m. (
+      _,
+      pin-reading (a .c .nets - 1) (a .text .now) {r = reading (entry read) pins} (read .sink-line .ensures .0 pins m) is,
+      place .1,
+      place .0,
+      refl,
+      refl,
+      refl,
+      refl,
+      refl,
+      refl,
+    )
 
 same-length-3 : tie.Need-same-length-3
 same-length-3 c = search needs
 
 returns-2 : tie.Need-returns-2
 returns-2 c =
-    let a = c .before .before .before .before .before .before .before .before .before .args in
-    λ pins m. pin-refused (a .c .nets - 1) (a .text .now) (c .before .before .before .sink-line .ensures .0 pins m) (c .before .number .given .1)
+    let read = c .before .before .before in
+    let a = entry read .args in
+    λ pins m. pin-refused (a .c .nets - 1) (a .text .now) {r = reading (entry read) pins} (read .sink-line .ensures .0 pins m) (c .before .number .given .1)
 
 pub add-sink-spec : {M : Type 1} → statement M
 add-sink-spec =

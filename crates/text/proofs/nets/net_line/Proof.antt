@@ -30,11 +30,16 @@ same-length-3 c = search needs
 
 returns : tie.Need-returns
 returns c =
-    let a = c .before .before .before .before .before .before .before .before .before .before .before .before .before .before .before .before .before .before .before .before .args in
-    let kept = c .before .before .before .before .before .before .before .before .before .before .before .before .before .before .before .before .before .before .before .before .pre in
-    let due = c .before .before .before .before .before .before .before .before .before .before .before .source-due .ensures in
-    let below = due-below (a .c .nets) (a .nets) (a .c .first) (a .c .sinks) due (c .before .before .before .before .before .before .before .before .before .before .if2 .taken) in
-    source-step (kept .0) _ (kept .1) (c .before .before .before .before .before .before .add-source .result) _ _ _ (c .before .before .before .before .before .before .before .before .before .before .before .before .if1 .taken) (due-is (kept .0) ∙ sym due ∙ c .before .before .before .before .before .before .before .before .before .before .if2 .taken) below (c .before .before .before .before .before .before .add-source .ensures)
+    let after-add-source = c .before .before .before .before .before .before in
+    let past-if2 = after-add-source .before .before .before .before in
+    let after-source-due = past-if2 .before in
+    let past-if1 = after-source-due .before in
+    let entry = past-if1 .before .before .before .before .before .before .before .before in
+    let a = entry .args in
+    let kept = entry .pre in
+    let due = after-source-due .source-due .ensures in
+    let below = due-below (a .c .nets) (a .nets) (a .c .first) (a .c .sinks) due (past-if2 .if2 .taken) in
+    source-step (kept .0) _ (kept .1) (after-add-source .add-source .result) _ _ _ (past-if1 .if1 .taken) (due-is (kept .0) ∙ sym due ∙ past-if2 .if2 .taken) below (after-add-source .add-source .ensures)
 
 returns-2 : tie.Need-returns-2
 returns-2 c =
@@ -52,8 +57,13 @@ same-length-5 c = search needs
 
 returns-3 : tie.Need-returns-3
 returns-3 c =
-    let kept = c .before .before .before .before .before .before .before .before .before .before .before .before .before .before .before .before .before .before .pre in
-    sink-step (kept .0) _ (kept .1) (c .before .before .before .before .add-sink .result) _ _ (c .before .before .before .before .before .before .before .before .before .before .if1 .left) (c .before .before .before .before .before .before .before .before .before .if3 .taken) (c .before .before .before .before .before .before .before .if4 .taken) (c .before .before .before .before .add-sink .ensures)
+    let after-add-sink = c .before .before .before .before in
+    let past-if4 = after-add-sink .before .before .before in
+    let past-if3 = past-if4 .before .before in
+    let past-if1 = past-if3 .before in
+    let entry = past-if1 .before .before .before .before .before .before .before .before in
+    let kept = entry .pre in
+    sink-step (kept .0) _ (kept .1) (after-add-sink .add-sink .result) _ _ (past-if1 .if1 .left) (past-if3 .if3 .taken) (past-if4 .if4 .taken) (after-add-sink .add-sink .ensures)
 
 returns-4 : tie.Need-returns-4
 returns-4 c =

@@ -37,14 +37,25 @@ enum-known-next c = search needs
 
 loop-less : tie.Need-loop-less Inv-loop μ-loop
 loop-less c =
-    let call = c .before .before .before .before .before .before .before .before .before .before .net-line in
-    going-later (c .before .before .before .before .before .before .before .before .before .before .before .before .before .before .before .before .before .loop .inv .0) (c .before .before .before .before .before .before .before .before .before .before .before .before .before .before .before .if1 .taken) (call .result) _ _ _ _ (c .before .next .given .1) (call .ensures .1)
+    let there = c .before .before .before .before .before .before .before .before .before .before in
+    let past-if1 = there .before .before .before .before .before in
+    let head = past-if1 .before .before in
+    let call = there .net-line in
+    going-later (head .loop .inv .0) (past-if1 .if1 .taken) (call .result) _ _ _ _ (c .before .next .given .1) (call .ensures .1)
 
 loop-again : tie.Need-loop-again Inv-loop μ-loop
 loop-again c =
-    let call = c .before .before .before .before .before .before .before .before .before .before .net-line in
-    let inv = c .before .before .before .before .before .before .before .before .before .before .before .before .before .before .before .before .before .loop .inv in
-    (going-more (inv .0) (c .before .before .before .before .before .before .before .before .before .before .before .before .before .before .before .if1 .taken) (call .result) _ _ _ _ (c .before .next .given .1) (call .ensures .0) (call .ensures .1), call .kept .1 .1 .1 .1 .1 .0 ∙ inv .1, call .kept .1 .1 .1 .1 .1 .1 .0 ∙ inv .2, call .kept .1 .1 .1 .1 .1 .1 .1 .0 ∙ inv .3, call .kept .1 .1 .1 .1 .1 .1 .1 .1 .0 ∙ inv .4)
+    let there = c .before .before .before .before .before .before .before .before .before .before in
+    let past-if1 = there .before .before .before .before .before in
+    let head = past-if1 .before .before in
+    let call = there .net-line in
+    let inv = head .loop .inv in (
+      going-more (inv .0) (past-if1 .if1 .taken) (call .result) _ _ _ _ (c .before .next .given .1) (call .ensures .0) (call .ensures .1),
+      call .kept .1 .1 .1 .1 .1 .0 ∙ inv .1,
+      call .kept .1 .1 .1 .1 .1 .1 .0 ∙ inv .2,
+      call .kept .1 .1 .1 .1 .1 .1 .1 .0 ∙ inv .3,
+      call .kept .1 .1 .1 .1 .1 .1 .1 .1 .0 ∙ inv .4,
+    )
 
 enum-known-number : tie.Need-enum-known-number Inv-loop μ-loop
 enum-known-number c = search needs
@@ -60,8 +71,11 @@ same-length-3 c = search needs
 
 returns : tie.Need-returns Inv-loop μ-loop
 returns c =
-    let call = c .before .before .before .before .before .before .before .before .before .before .net-line in
-    (going-stops (c .before .before .before .before .before .before .before .before .before .before .before .before .before .before .before .before .before .loop .inv .0) (c .before .before .before .before .before .before .before .before .before .before .before .before .before .before .before .if1 .taken) (call .result) _ _ _ (c .before .number .given .1) (call .ensures .0), tt)
+    let there = c .before .before .before .before .before .before .before .before .before .before in
+    let past-if1 = there .before .before .before .before .before in
+    let head = past-if1 .before .before in
+    let call = there .net-line in
+    (going-stops (head .loop .inv .0) (past-if1 .if1 .taken) (call .result) _ _ _ (c .before .number .given .1) (call .ensures .0), tt)
 
 same-length-4 : tie.Need-same-length-4 Inv-loop μ-loop
 same-length-4 c = search needs
@@ -107,8 +121,12 @@ same-length-12 c = search needs
 
 returns-4 : tie.Need-returns-4 Inv-loop μ-loop
 returns-4 c =
-    let inv = c .before .before .before .before .before .before .before .loop .inv in
-    (going-done (inv .0) (c .before .before .before .before .before .if1 .left) (c .before .before .before .if2 .left) (c .before .if3 .left), (inv .0 .kept .sinks-read, getD-set-same (c .before .before .before .before .before .before .before .loop .first-sink) (c .before .before .before .before .before .before .before .before .before .before .before .before .before .args .nets) (c .before .before .before .before .before .before .before .loop .c .sinks) 0 (omega (arith, inv .0 .kept .room .firsts-long))))
+    let past-if2 = c .before .before .before in
+    let past-if1 = past-if2 .before .before in
+    let head = past-if1 .before .before in
+    let entry = head .before .before .before .before .before .before in
+    let inv = head .loop .inv in
+    (going-done (inv .0) (past-if1 .if1 .left) (past-if2 .if2 .left) (c .before .if3 .left), (inv .0 .kept .sinks-read, getD-set-same (head .loop .first-sink) (entry .args .nets) (head .loop .c .sinks) 0 (omega (arith, inv .0 .kept .room .firsts-long))))
 
 pub read-nets-spec : {M : Type 1} → statement M
 read-nets-spec =

@@ -3,13 +3,14 @@
 use Prim.Native.Nat.{_+_}
 use borrow.Author.Needs.{needs}
 use Rattle.search.proofs.KeptLaws.{refused, passed}
-use Rattle.text.proofs.JudgedLaws.{two-place}
+use Rattle.negotiation.specs.Tables.{sourceKind}
+use Rattle.text.proofs.JudgedLaws.{line-place}
 use Rattle.text.proofs.NetLineLaws.{source-fault, source-net, source-node, source-order, source-pin, of-refused, of-none, of-one}
 use Rattle.text.proofs.nets.source_line.Statement.{statement}
 use Rattle.text.proofs.nets.source_line.Tie as tie
 
-two-line-requires : tie.Need-two-line-requires
-two-line-requires c κs = search needs
+line-fields-requires : tie.Need-line-fields-requires
+line-fields-requires c κs = search needs
 
 enum-known-first : tie.Need-enum-known-first
 enum-known-first c = search needs
@@ -20,7 +21,7 @@ enum-told c = search needs
 returns : tie.Need-returns
 returns c =
     let a = c .before .before .before .before .before .args in
-    (of-refused 0 2 (a .kind .now) (source-fault _ _ _ (a .at) (a .text .now) _ (c .before .before .two-line .ensures .0) (c .enum-told .given .1)), tt)
+    (of-refused sourceKind (a .kind .now) (source-fault _ _ _ (a .at) (a .text .now) _ (c .before .before .line-fields .ensures .0) (c .enum-told .given .1)), tt)
 
 cast-if1 : tie.Need-cast-if1
 cast-if1 c = search needs
@@ -28,7 +29,7 @@ cast-if1 c = search needs
 returns-2 : tie.Need-returns-2
 returns-2 c =
     let a = c .before .before .before .before .before .before .before .args in
-    (of-refused 0 2 (a .kind .now) (source-net _ _ _ (a .at) (a .text .now) _ (c .before .before .before .before .two-line .ensures .0) (c .before .before .first .given .1) (c .if1 .taken)), tt)
+    (of-refused sourceKind (a .kind .now) (source-net _ _ _ (a .at) (a .text .now) _ (c .before .before .before .before .line-fields .ensures .0) (c .before .before .first .given .1) (c .if1 .taken)), tt)
 
 cast-if2 : tie.Need-cast-if2
 cast-if2 c = search needs
@@ -36,7 +37,7 @@ cast-if2 c = search needs
 returns-3 : tie.Need-returns-3
 returns-3 c =
     let a = c .before .before .before .before .before .before .before .before .args in
-    (of-refused 0 2 (a .kind .now) (source-node _ _ _ (a .at) (a .text .now) _ (c .before .before .before .before .before .two-line .ensures .0) (c .before .before .before .first .given .1) (c .if2 .taken)), tt)
+    (of-refused sourceKind (a .kind .now) (source-node _ _ _ (a .at) (a .text .now) _ (c .before .before .before .before .before .line-fields .ensures .0) (c .before .before .before .first .given .1) (c .if2 .taken)), tt)
 
 cast-if3 : tie.Need-cast-if3
 cast-if3 c = search needs
@@ -44,37 +45,54 @@ cast-if3 c = search needs
 returns-4 : tie.Need-returns-4
 returns-4 c =
     let a = c .before .before .before .before .before .before .before .before .before .args in
-    (of-refused 0 2 (a .kind .now) (source-order _ _ _ (a .at) (a .text .now) _ (c .before .before .before .before .before .before .two-line .ensures .0) (c .before .before .before .before .first .given .1) (c .before .before .if1 .left) (c .before .if2 .left) (c .if3 .taken)), tt)
+    (of-refused sourceKind (a .kind .now) (source-order _ _ _ (a .at) (a .text .now) _ (c .before .before .before .before .before .before .line-fields .ensures .0) (c .before .before .before .before .first .given .1) (c .before .before .if1 .left) (c .before .if2 .left) (c .if3 .taken)), tt)
 
-cast-one-of : tie.Need-cast-one-of
-cast-one-of c = search needs
+cast-source-kind : tie.Need-cast-source-kind
+cast-source-kind c = search needs
 
-shared-slice-read-one-of : tie.Need-shared-slice-read-one-of
-shared-slice-read-one-of c = search needs
+shared-slice-read-source-kind : tie.Need-shared-slice-read-source-kind
+shared-slice-read-source-kind c = search needs
 
-one-of-requires : tie.Need-one-of-requires
-one-of-requires c κs = search needs
+source-kind-requires : tie.Need-source-kind-requires
+source-kind-requires c κs = search needs
 
 returns-5 : tie.Need-returns-5
 returns-5 c =
-    let b = c .before .before .before in
-    let a = b .before .before .before .before .before .before .before .before .before .args in
-    (of-none 0 2 (a .kind .now) (source-pin _ _ _ (a .at) (a .text .now) _ (b .before .before .before .before .before .before .two-line .ensures .0) (b .before .before .before .before .first .given .1) (b .before .before .if1 .left) (b .before .if2 .left) (b .if3 .left)) (refused (c .before .one-of .ensures) (c .if4 .taken)), tt)
+    let past-if3 = c .before .before .before in
+    let past-if2 = past-if3 .before in
+    let past-if1 = past-if2 .before in
+    let known-first = past-if1 .before .before in
+    let after-line-fields = known-first .before .before in
+    let entry = after-line-fields .before .before .before in
+    let a = entry .args in
+    (of-none sourceKind (a .kind .now) (source-pin _ _ _ (a .at) (a .text .now) _ (after-line-fields .line-fields .ensures .0) (known-first .first .given .1) (past-if1 .if1 .left) (past-if2 .if2 .left) (past-if3 .if3 .left)) (refused (c .before .source-kind .ensures) (c .if4 .taken)), tt)
 
 cast-t16 : tie.Need-cast-t16
 cast-t16 c = search needs
 
 returns-6 : tie.Need-returns-6
 returns-6 c =
-    let b = c .before .before .before in
-    let a = b .before .before .before .before .before .before .before .before .before .args in
-    (of-one 0 2 (a .kind .now) (source-pin _ _ _ (a .at) (a .text .now) _ (b .before .before .before .before .before .before .two-line .ensures .0) (b .before .before .before .before .first .given .1) (b .before .before .if1 .left) (b .before .if2 .left) (b .if3 .left)) (passed (c .before .one-of .ensures) (c .if4 .left)), (two-place (a .at + 1) (a .text .now) (b .before .before .before .before .first .given .1) (b .before .before .before .before .before .before .two-line .ensures .1), b .before .if2 .left))
+    let past-if3 = c .before .before .before in
+    let past-if2 = past-if3 .before in
+    let past-if1 = past-if2 .before in
+    let known-first = past-if1 .before .before in
+    let after-line-fields = known-first .before .before in
+    let entry = after-line-fields .before .before .before in
+    let a = entry .args in (
+      of-one sourceKind (a .kind .now) (source-pin _ _ _ (a .at) (a .text .now) _ (after-line-fields .line-fields .ensures .0) (known-first .first .given .1) (past-if1 .if1 .left)
+          (past-if2 .if2 .left) (past-if3 .if3 .left)) (passed (c .before .source-kind .ensures) (c .if4 .left)),
+      (
+        line-place (a .at + 1) (a .text .now) (known-first .first .given .1)
+            (after-line-fields .line-fields .ensures .1),
+        past-if2 .if2 .left,
+      ),
+    )
 
 pub source-line-spec : {M : Type 1} → statement M
 source-line-spec =
     tie.close
     (tie.spec
-    two-line-requires
+    line-fields-requires
     enum-known-first
     enum-told
     returns
@@ -84,9 +102,9 @@ source-line-spec =
     returns-3
     cast-if3
     returns-4
-    cast-one-of
-    shared-slice-read-one-of
-    one-of-requires
+    cast-source-kind
+    shared-slice-read-source-kind
+    source-kind-requires
     returns-5
     cast-t16
     returns-6)

@@ -40,7 +40,11 @@ loop-less c = search needs
 
 loop-again : tie.Need-loop-again Inv-loop μ-loop
 loop-again c =
-    nodes-more (c .before .before .before .before .before .before .before .before .before .pre .1) (c .before .before .before .before .before .loop .inv) (c .before .before .before .before .loop-test .taken) (c .before .k .given .1) (c .before .before .before .node-line .ensures .0) (c .before .before .before .node-line .ensures .1)
+    let after-node-line = c .before .before .before in
+    let there = after-node-line .before in
+    let head = there .before in
+    let entry = head .before .before .before .before in
+    nodes-more (entry .pre .1) (head .loop .inv) (there .loop-test .taken) (c .before .k .given .1) (after-node-line .node-line .ensures .0) (after-node-line .node-line .ensures .1)
 
 enum-known-number : tie.Need-enum-known-number Inv-loop μ-loop
 enum-known-number c = search needs

@@ -3,7 +3,7 @@
 use mathlib.Core.Path.{sym}
 use Prim.Native.Nat.{_≤_}
 use native.Mathlib.Omega.{arith}
-use lib.ListN.{length}
+use lib.ListN.{length, drop}
 use lib.Seq.{length-take-le}
 use borrow.Author.Needs.{needs}
 use Rattle.text.proofs.ReaderLaws.{nodes-wires, nodes-stop, read-place}
@@ -16,11 +16,18 @@ read-nodes-requires c κs = search needs
 enum-known-at : tie.Need-enum-known-at
 enum-known-at c = search needs
 
+-- the entry, and the call of `read_nodes`
+abbrev entry : tie.After-read-nodes → tie.Start
+entry c = c .before .before .before .before .before .before .before .before .before .before .before
+
+abbrev listed : tie.After-known-told → tie.After-read-nodes
+listed c = c .before .before .before .before .before .before .before
+
 -- the table of kinds, as the nodes leave it, has an entry for each of them
-kinds-fit : (c : tie.After-known-told) → c .before .before .before .before .before .before .before .before .before .before .before .before .before .before .before .before .before .before .args .nodes ≤ length (c .before .before .before .before .before .before .before .read-nodes .last .1 .1 .1 .1 .0)
+kinds-fit : (c : tie.After-known-told) → entry (listed c) .args .nodes ≤ length (listed c .read-nodes .last .1 .1 .1 .1 .0)
 kinds-fit c =
-    let pre = c .before .before .before .before .before .before .before .before .before .before .before .before .before .before .before .before .before .before .pre in
-    omega (arith, c .before .before .before .before .before .before .before .read-nodes .kept .1 .1 .1 .1 .0, pre .0 .kinds-long, pre .1 .0 .nodes-most)
+    let pre = entry (listed c) .pre in
+    omega (arith, listed c .read-nodes .kept .1 .1 .1 .1 .0, pre .0 .kinds-long, pre .1 .0 .nodes-most)
 
 slice-reshare-prefix-read-edges-nets : tie.Need-slice-reshare-prefix-read-edges-nets
 slice-reshare-prefix-read-edges-nets c = kinds-fit c
@@ -29,10 +36,13 @@ slice-aggregate-read-edges-nets : tie.Need-slice-aggregate-read-edges-nets
 slice-aggregate-read-edges-nets c = sym (length-take-le _ _ (kinds-fit (c .before)))
 
 read-edges-nets-requires : tie.Need-read-edges-nets-requires
-read-edges-nets-requires c κs = let nodes = c .before .before .before .before .before .before .before .before .before .before .before .before .before .read-nodes in
-    let start = c .before .before .before .before .before .before .before .before .before .before .before .before .before .before .before .before .before .before .before .before .before .before .before .before in
-    let place = read-place (start .args .text .now) (nodes .result) _ _ (c .before .before .before .before .before .before .before .at .given .1) (nodes .ensures .1) in
-    ((start .pre .1 .0, place .0, place .1, omega (arith, length-take-le (start .args .nodes) (nodes .last .1 .1 .1 .1 .0) (kinds-fit (c .before .before .before .before .before .before)))), (start .pre .0 .edge-room, start .pre .0 .net-room))
+read-edges-nets-requires c κs =
+    let known = c .before .before .before .before .before .before in
+    let nodes = listed known .read-nodes in
+    let start = entry (listed known) in
+    let place = read-place (start .args .text .now) (nodes .result) _ _ (known .before .at .given .1) (nodes .ensures .1) in
+    let long = length-take-le (start .args .nodes) (nodes .last .1 .1 .1 .1 .0) (kinds-fit known) in
+    ((start .pre .1 .0, place .0, place .1, omega (arith, long)), (start .pre .0 .edge-room, start .pre .0 .net-room))
 
 enum-known-number : tie.Need-enum-known-number
 enum-known-number c = search needs
@@ -69,9 +79,15 @@ same-length-7 : tie.Need-same-length-7
 same-length-7 c = wired c .read-edges-nets .kept .1 .1 .1 .1 .1 .1 .1 .1 .1 .1 .1 .0
 
 returns : tie.Need-returns
-returns c = let nodes = c .before .before .before .before .before .before .before .before .before .before .before .before .before .before .before .before .before .before .before .before .before .before .before .before .read-nodes in
-    let wires = c .before .before .before .before .before .before .before .before .before .before .read-edges-nets in (
-      nodes-wires _ _ _ _ _ _ _ _ (nodes .result) (wires .result) (nodes .last .1 .1 .1 .1 .0) (nodes .last .1 .1 .1 .1 .1 .0) (wires .last .1 .1 .1 .1 .1 .1 .1 .0) (wires .last .1 .1 .1 .1 .1 .1 .1 .1 .0) (wires .last .1 .1 .1 .1 .1 .1 .1 .1 .1 .0) (wires .last .1 .1 .1 .1 .1 .1 .1 .1 .1 .1 .0) (wires .last .1 .1 .1 .1 .1 .1 .1 .1 .1 .1 .1 .0) (c .before .before .before .before .before .before .before .before .before .before .before .before .before .before .before .before .before .before .at .given .1) (nodes .ensures .0) (wires .ensures .0),
+returns c =
+    let a = entry (noded c) .args in
+    let nodes = noded c .read-nodes in
+    let wires = wired c .read-edges-nets in
+    let n = nodes .last .1 .1 .1 .1 in
+    let w = wires .last .1 .1 .1 .1 .1 .1 .1 in
+    let known = c .before .before .before .before .before .before .before .before .before .before .before .before .before .before .before .before .before .before .at .given in (
+      nodes-wires (a .nodes) (a .edges) (a .nets) (a .line) (known .0 .0) (known .0 .1 .0) (a .text .now) (drop (a .from) (a .text .now)) (nodes .result) (wires .result)
+          (n .0) (n .1 .0) (w .0) (w .1 .0) (w .1 .1 .0) (w .1 .1 .1 .0) (w .1 .1 .1 .1 .0) (known .1) (nodes .ensures .0) (wires .ensures .0),
       wires .ensures .1,
     )
 

@@ -38,10 +38,17 @@ same-length-5 : tie.Need-same-length-5
 same-length-5 c = search needs
 
 returns : tie.Need-returns
-returns c = let edges = c .before .before .before .before .before .before .before .before .before .before .before .before .before .before .before .before .before .read-edges in
-    let nets = c .before .before .before .before .before .before .read-nets in
-    let pre = c .before .before .before .before .before .before .before .before .before .before .before .before .before .before .before .before .before .before .before .before .before .before .before .before .before .before .before .pre in (
-      edges-nets _ _ _ _ _ _ _ _ _ (edges .result) (nets .result) (edges .last .1 .1 .1 .1 .1 .0) (edges .last .1 .1 .1 .1 .1 .1 .0) (nets .last .1 .1 .1 .1 .1 .1 .0) (nets .last .1 .1 .1 .1 .1 .1 .1 .0) (nets .last .1 .1 .1 .1 .1 .1 .1 .1 .0) (c .before .before .before .before .before .before .before .before .before .before .before .at .given .1) (edges .ensures .0) (nets .ensures .0) (nets .ensures .1) (omega (arith, nets .kept .1 .1 .1 .1 .1 .1 .1 .0, pre .1 .1 .firsts-long, pre .0 .0 .nets-most)) (omega (arith, nets .kept .1 .1 .1 .1 .1 .1 .1 .1 .0, pre .1 .1 .sinks-long)),
+returns c =
+    let there = c .before .before .before .before .before .before in
+    let known-at = there .before .before .before .before .before in
+    let there-2 = known-at .before .before .before .before .before .before in
+    let entry = there-2 .before .before .before .before .before .before .before .before .before .before in
+    let edges = there-2 .read-edges in
+    let nets = there .read-nets in
+    let pre = entry .pre in (
+      edges-nets _ _ _ _ _ _ _ _ _ (edges .result) (nets .result) (edges .last .1 .1 .1 .1 .1 .0) (edges .last .1 .1 .1 .1 .1 .1 .0) (nets .last .1 .1 .1 .1 .1 .1 .0)
+          (nets .last .1 .1 .1 .1 .1 .1 .1 .0) (nets .last .1 .1 .1 .1 .1 .1 .1 .1 .0) (known-at .at .given .1) (edges .ensures .0) (nets .ensures .0) (nets .ensures .1)
+          (omega (arith, nets .kept .1 .1 .1 .1 .1 .1 .1 .0, pre .1 .1 .firsts-long, pre .0 .0 .nets-most)) (omega (arith, nets .kept .1 .1 .1 .1 .1 .1 .1 .1 .0, pre .1 .1 .sinks-long)),
       nets .ensures .1,
     )
 

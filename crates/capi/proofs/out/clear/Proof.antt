@@ -1,0 +1,63 @@
+-- `out::clear` meets its contract. The loop's invariant: entries below k hold 0, the others are as they were.
+-- Assumes nothing.
+use mathlib.Core.List.{_++_}
+use mathlib.Core.Path.{_≡_, refl, _∙_, subst}
+use Prim.Native.Nat.{ℕ, _-_, _≤_}
+use native.Mathlib.Omega.{arith}
+use lib.ListN.{length, drop, replicate, length-set}
+use borrow.Author.Needs.{needs}
+use borrow.Author.Fill.{fill-more}
+use Rattle.capi.proofs.out.clear.Statement.{statement}
+use Rattle.capi.proofs.out.clear.Tie as tie
+
+abbrev Inv-loop : tie.InvT-loop
+Inv-loop out₀ k₀ out k =
+    (k ≤ 16) × (16 ≤ length out₀) × (length out ≡ length out₀) × (out ≡ replicate k 0 ++ drop k out₀)
+
+abbrev μ-loop : tie.MeasureT-loop
+μ-loop out₀ k₀ out k = 16 - k
+
+loop-holds : tie.Need-loop-holds Inv-loop μ-loop
+loop-holds c = (omega arith, c .pre, refl, refl)
+
+mul-out : tie.Need-mul-out Inv-loop μ-loop
+mul-out c = search needs
+
+slice-write-out : tie.Need-slice-write-out Inv-loop μ-loop
+slice-write-out c = omega arith
+
+add-k : tie.Need-add-k Inv-loop μ-loop
+add-k c = omega arith
+
+loop-less : tie.Need-loop-less Inv-loop μ-loop
+loop-less c = omega arith
+
+loop-again : tie.Need-loop-again Inv-loop μ-loop
+loop-again c =
+    let out = c .before .before .args .out .now in
+    let k = c .before .loop .k in
+    (omega arith, c .before .loop .inv .1, length-set (c .before .loop .out) k 0 ∙ c .before .loop .inv .2, rw (c .before .loop .inv .3) (fill-more k 0 out (omega arith)))
+
+same-length : tie.Need-same-length Inv-loop μ-loop
+same-length c = c .before .loop .inv .2
+
+returns : tie.Need-returns Inv-loop μ-loop
+returns c =
+    let out = c .before .before .args .out .now in
+    let e : c .before .loop .k ≡ 16 = omega arith in
+    subst (λ (k : ℕ). c .before .loop .out ≡ replicate k 0 ++ drop k out) e (c .before .loop .inv .3)
+
+pub clear-spec : {M : Type 1} → statement M
+clear-spec =
+    tie.close
+    (tie.spec
+    Inv-loop
+    μ-loop
+    loop-holds
+    mul-out
+    slice-write-out
+    add-k
+    loop-less
+    loop-again
+    same-length
+    returns)

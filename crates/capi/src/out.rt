@@ -1,0 +1,163 @@
+// `out`, in which each call tells its numbers: a function for each kind of answer.
+ghost use mathlib.Core.List.{[], _∷_, _++_};
+ghost use mathlib.Core.Path.{_≡_};
+ghost use Prim.Native.Nat.{_≤_};
+ghost use lib.ListN.{length, drop, replicate};
+ghost use Rattle.price.specs.Replies.{priceReplyOf};
+ghost use Rattle.search.specs.Replies.{searchRefusal};
+ghost use Rattle.negotiation.specs.Outcome.{outcomeNumbers};
+ghost use Rattle.text.specs.ReadReplies.{termsNumbers, readRefusal, readNumbers};
+ghost use Rattle.text.specs.Routes.{writeRefusal, writtenBytes};
+ghost use Rattle.capi.specs.Calls.{callOf, outWith};
+use negotiation::Outcome;
+use negotiation::Routed;
+use negotiation::Terms;
+use price::PriceAnswer;
+use search::SearchAnswer;
+use text::ReadAnswer;
+use text::WriteAnswer;
+
+// The entries of `out` that a call writes.
+pub const OUT_ENTRIES: usize = 16;
+
+// The first 16 entries hold 0.
+fn clear(out: &mut [u64])
+    requires { ⌜ 16 ≤ length (now out) ⌝ }
+    ensures { λ _. ⌜ now (out .exit) ≡ replicate 16 0 ++ drop 16 (now (out .entry)) ⌝ }
+{
+    let mut k = 0;
+    while k < OUT_ENTRIES {
+        out[k] = 0;
+        k += 1;
+    }
+}
+
+// Writes a refusal's three numbers and up to three of the call's own, and answers 1.
+fn put_numbers(out: &mut [u64], number: u64, first: u64, second: u64, a: u64, b: u64, c: u64) -> u32
+    requires { ⌜ 16 ≤ length (now out) ⌝ }
+    ensures { λ r. do
+      let after = outWith (number ∷ first ∷ second ∷ []) (a ∷ b ∷ c ∷ []) (now (out .entry))
+      ⌜ callOf r (now (out .exit)) ≡ callOf 1 after ⌝ }
+{
+    clear(out);
+    out[0] = number;
+    out[1] = first;
+    out[2] = second;
+    out[3] = a;
+    out[4] = b;
+    out[5] = c;
+    1
+}
+
+// Writes the numbers of a price.
+pub fn put_price(answer: PriceAnswer, out: &mut [u64]) -> u32
+    requires { ⌜ 16 ≤ length (now out) ⌝ }
+    ensures { λ r. do
+      let after = outWith (priceReplyOf answer .refusal) (priceReplyOf answer .price ∷ []) (now (out .entry))
+      ⌜ callOf r (now (out .exit)) ≡ callOf 1 after ⌝ }
+{
+    match answer {
+        PriceAnswer::Price(p) => put_numbers(out, 0, 0, 0, p, 0, 0),
+        PriceAnswer::Refused(place) => put_numbers(out, 13, place as u64, 0, 0, 0, 0),
+    }
+}
+
+// Writes the numbers of a search.
+pub fn put_search(answer: SearchAnswer, out: &mut [u64]) -> u32
+    requires { ⌜ 16 ≤ length (now out) ⌝ }
+    ensures { λ r. ⌜ callOf r (now (out .exit)) ≡ callOf 1 (outWith (searchRefusal answer) [] (now (out .entry))) ⌝ }
+{
+    match answer {
+        SearchAnswer::Done => put_numbers(out, 0, 0, 0, 0, 0, 0),
+        SearchAnswer::BadTable(table) => put_numbers(out, 5, table as u64, 0, 0, 0, 0),
+        SearchAnswer::ShortWork(needed) => put_numbers(out, 6, needed, 0, 0, 0, 0),
+        SearchAnswer::BadNumber(place) => put_numbers(out, 13, place as u64, 0, 0, 0, 0),
+    }
+}
+
+// Writes the numbers of a routing.
+pub fn put_routed(r: Routed, out: &mut [u64]) -> u32
+    requires { ⌜ 16 ≤ length (now out) ⌝ }
+    ensures { λ n. do
+      let refusal = outcomeNumbers (r .outcome) (r .iteration) (r .turns)
+      let after = outWith refusal (r .iteration ∷ r .turns ∷ r .words ∷ []) (now (out .entry))
+      ⌜ callOf n (now (out .exit)) ≡ callOf 1 after ⌝ }
+{
+    let i = r.iteration as u64;
+    let turns = r.turns;
+    let words = r.words;
+    let outcome = r.outcome;
+    match outcome {
+        Outcome::Accepted => put_numbers(out, 0, 0, 0, i, turns, words),
+        Outcome::Unreachable { net, place } => {
+            put_numbers(out, 7, net as u64, place as u64, i, turns, words)
+        }
+        Outcome::LogFull => put_numbers(out, 8, i, turns, i, turns, words),
+        Outcome::Limit(over) => put_numbers(out, 9, i, over as u64, i, turns, words),
+        Outcome::BadTable(table) => put_numbers(out, 5, table as u64, 0, i, turns, words),
+        Outcome::ShortWork(needed) => put_numbers(out, 6, needed, 0, i, turns, words),
+    }
+}
+
+// Writes the counts of a job that was read and its terms, and answers 1.
+fn put_job(
+    out: &mut [u64],
+    nodes: usize,
+    edges: usize,
+    nets: usize,
+    sinks: usize,
+    terms: Terms,
+) -> u32
+    requires { ⌜ 16 ≤ length (now out) ⌝ }
+    ensures { λ r. do
+      let numbers = nodes ∷ edges ∷ nets ∷ sinks ∷ termsNumbers terms
+      ⌜ callOf r (now (out .exit)) ≡ callOf 1 (outWith [] numbers (now (out .entry))) ⌝ }
+{
+    clear(out);
+    out[3] = nodes as u64;
+    out[4] = edges as u64;
+    out[5] = nets as u64;
+    out[6] = sinks as u64;
+    out[7] = terms.limit as u64;
+    out[8] = terms.tuning.first as u64;
+    out[9] = terms.tuning.up as u64;
+    out[10] = terms.tuning.down as u64;
+    out[11] = terms.tuning.step as u64;
+    1
+}
+
+// Writes the numbers of a reading.
+pub fn put_read(answer: ReadAnswer, out: &mut [u64]) -> u32
+    requires { ⌜ 16 ≤ length (now out) ⌝ }
+    ensures { λ r. do
+      let after = outWith (readRefusal answer) (readNumbers answer) (now (out .entry))
+      ⌜ callOf r (now (out .exit)) ≡ callOf 1 after ⌝ }
+{
+    match answer {
+        ReadAnswer::Job {
+            nodes,
+            edges,
+            nets,
+            sinks,
+            terms,
+        } => put_job(out, nodes, edges, nets, sinks, terms),
+        ReadAnswer::BadLine { number, line } => {
+            put_numbers(out, number as u64, line as u64, 0, 0, 0, 0)
+        }
+        ReadAnswer::ShortTable(table) => put_numbers(out, 4, table as u64, 0, 0, 0, 0),
+    }
+}
+
+// Writes the numbers of a writing.
+pub fn put_written(answer: WriteAnswer, out: &mut [u64]) -> u32
+    requires { ⌜ 16 ≤ length (now out) ⌝ }
+    ensures { λ r. do
+      let after = outWith (writeRefusal answer) (writtenBytes answer ∷ []) (now (out .entry))
+      ⌜ callOf r (now (out .exit)) ≡ callOf 1 after ⌝ }
+{
+    match answer {
+        WriteAnswer::Written(bytes) => put_numbers(out, 0, 0, 0, bytes as u64, 0, 0),
+        WriteAnswer::Unsound(word) => put_numbers(out, 10, word as u64, 0, 0, 0, 0),
+        WriteAnswer::ShortBuffer(needed) => put_numbers(out, 11, needed, 0, 0, 0, 0),
+    }
+}

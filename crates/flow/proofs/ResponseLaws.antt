@@ -1,0 +1,81 @@
+-- What a run answers never counts more bytes than the routes buffer has.
+-- Assumes nothing.
+use mathlib.Core.Bool.{true, false}
+use mathlib.Core.List.{List, [], _∷_}
+use mathlib.Core.Logic.{⊎-elim}
+use mathlib.Core.Path.{_≡_}
+use Prim.Native.Nat.{ℕ, _≤_, zero-le}
+use native.Mathlib.Omega.{arith}
+use lib.Dec.{leb, ltb}
+use lib.ListN.{length, take, drop, length-append}
+use Rattle.price.proofs.TestLaws.{either-way}
+use Rattle.negotiation.specs.Job.{Job}
+use Rattle.negotiation.specs.Records.{decode}
+use Rattle.negotiation.specs.Outcome.{RouteReply, routeReply}
+use Rattle.text.specs.Lines.{letterX, printLine}
+use Rattle.text.specs.JobText.{Part, part, stopped, readText}
+use Rattle.text.specs.ReadReplies.{Tables, shortTable, tablesWith, writtenOver}
+use Rattle.text.specs.Routes.{routesText, logSound, textReply, writeReply}
+use Rattle.text.specs.Refusals.{refusalLine}
+use Rattle.flow.specs.RunReplies.{Lent, RunReply, afterRoute, routeRun, runOf, runReply, inputMost, lineResponse, answered, responseOf, response}
+
+-- what was written over a list lies within it
+pub over-long : (new old : List ℕ) → length new ≤ length (writtenOver new old)
+unfolding writtenOver
+over-long new old = let long = length-append new (drop (length new) old) in omega arith
+
+text-fits : (text buffer : List ℕ) → textReply text buffer .bytes ≤ length (textReply text buffer .buffer)
+unfolding textReply
+text-fits text buffer =
+    ⊎-elim
+    (λ (e : ltb (length buffer) (length text) ≡ true). rw e zero-le)
+    (λ (e : ltb (length buffer) (length text) ≡ false). rw e (over-long text buffer))
+    (either-way (ltb (length buffer) (length text)))
+
+write-fits : (log buffer : List ℕ) → writeReply log buffer .bytes ≤ length (writeReply log buffer .buffer)
+unfolding writeReply
+write-fits log buffer =
+    ⊎-elim
+    (λ (e : logSound log ≡ true). rw e (text-fits (routesText (decode log)) buffer))
+    (λ (e : logSound log ≡ false). rw e zero-le)
+    (either-way (logSound log))
+
+after-fits : (refusal : List ℕ) (t : Tables) (r : RouteReply) (routes : List ℕ) → afterRoute refusal t r routes .bytes ≤ length (afterRoute refusal t r routes .lent .routes)
+after-fits [] t r routes = write-fits (take (r .used) (r .log)) routes
+after-fits (k ∷ ks) t r routes = zero-le
+
+run-of-fits : (p : Part Job) (l : Lent) → runOf p l .bytes ≤ length (runOf p l .lent .routes)
+unfolding routeRun
+run-of-fits (stopped k at) l = zero-le
+run-of-fits (part j at rest) l =
+    ⊎-elim
+    (λ (e : leb 1 (shortTable j (l .tables)) ≡ true). rw e zero-le)
+    (λ (e : leb 1 (shortTable j (l .tables)) ≡ false).
+    rw e
+    (after-fits (routeReply j (l .work) (l .log) .refusal) (tablesWith j (l .tables)) (routeReply j (l .work) (l .log)) (l .routes)))
+    (either-way (leb 1 (shortTable j (l .tables))))
+
+line-fits : (numbers : List ℕ) (l : Lent) → lineResponse (refusalLine numbers (l .routes)) l .bytes ≤ length (lineResponse (refusalLine numbers (l .routes)) l .lent .routes)
+unfolding refusalLine
+line-fits numbers l =
+    ⊎-elim
+    (λ (e : ltb (length (l .routes)) (length (printLine letterX numbers)) ≡ true). rw e zero-le)
+    (λ (e : ltb (length (l .routes)) (length (printLine letterX numbers)) ≡ false). rw e (over-long (printLine letterX numbers) (l .routes)))
+    (either-way (ltb (length (l .routes)) (length (printLine letterX numbers))))
+
+answer-fits : (refusal : List ℕ) (r : RunReply) → r .bytes ≤ length (r .lent .routes) → answered refusal r .bytes ≤ length (answered refusal r .lent .routes)
+answer-fits [] r h = h
+answer-fits (k ∷ ks) r h = line-fits (k ∷ ks) (r .lent)
+
+pub response-fits : (input : List ℕ) (l : Lent) → response input l .bytes ≤ length (response input l .lent .routes)
+unfolding response runReply
+response-fits input l =
+    ⊎-elim
+    (λ (e : ltb inputMost (length input) ≡ true). rw e (line-fits (12 ∷ inputMost ∷ []) l))
+    (λ (e : ltb inputMost (length input) ≡ false).
+    rw e (answer-fits (runOf (readText input) l .refusal) (runOf (readText input) l) (run-of-fits (readText input) l)))
+    (either-way (ltb inputMost (length input)))
+
+-- the same for an answer that is the response
+pub bytes-fit : (input : List ℕ) (l after : Lent) (bytes : ℕ) → responseOf bytes after ≡ response input l → bytes ≤ length (after .routes)
+bytes-fit input l after bytes e = rw (← e) at (response-fits input l)

@@ -1,0 +1,262 @@
+-- From a job text to its routes text: the words used fit the log, the counts mark out the job in the tables, and each answer is the reply.
+-- Assumes nothing.
+use mathlib.Core.Bool.{true, false}
+use mathlib.Core.List.{List, [], _∷_}
+use mathlib.Core.Logic.{⊎-elim}
+use mathlib.Core.Path.{_≡_, refl, sym, _∙_, ap, subst}
+use Prim.Native.Nat.{ℕ, _+_, _≤_, _<_, zero-le}
+use native.Mathlib.Omega.{arith}
+use lib.Dec.{leb, ltb}
+use lib.ListN.{length, getD, take, drop, length-append}
+use lib.Seq.{take-at}
+use borrow.Author.Tests.{lt-ltb, le-ltb}
+use Rattle.price.specs.Bounds.{nodesMost}
+use Rattle.price.proofs.TestLaws.{either-way}
+use Rattle.search.specs.Replies.{workNeeded}
+use Rattle.search.proofs.BlockLaws.{kinds-few, capacities-long}
+use Rattle.search.proofs.BlockLaws as block
+use Rattle.negotiation.specs.Tables.{netsMost, faultyJob, SoundJob}
+use Rattle.negotiation.specs.Job.{Job, jobOf, nodes, nets}
+use Rattle.negotiation.specs.Records.{Record, encode}
+use Rattle.negotiation.specs.Outcome.{RouteReply, outcomeNumbers, routed, logWith, loggedRecords, allRecords, unreachableNet, negotiated, routeReply}
+use Rattle.negotiation.specs.declared.Routed.{Routed}
+use Rattle.negotiation.specs.declared.Terms.{Terms}
+use Rattle.negotiation.specs.declared.Outcome.{Outcome}
+use Rattle.negotiation.specs.declared.Outcome.the-variants.{Accepted}
+use Rattle.negotiation.proofs.JobLaws.{routable-of}
+use Rattle.negotiation.proofs.JobLaws as job
+use Rattle.text.specs.JobText.{Part, part, stopped, readText}
+use Rattle.text.specs.ReadReplies.{Tables, shortTable, writtenOver, tablesWith, ReadReply, notRead, termsNumbers, jobNumbers, storedReply, replyTo, readReply}
+use Rattle.text.specs.Routes.{WriteReply, writeReply}
+use Rattle.flow.specs.RunReplies.{Lent, lentOf, RunReply, runReplyWith, afterWrite, afterRoute, routeRun, runOf, runReply, writtenReplyOf, runReplyOf, inputMost, responseOf, lineResponse, answered, response}
+use Rattle.text.specs.Refusals.{LineReply, lineReplyOf, refusalLine}
+use Rattle.flow.specs.Steps.{answerLine}
+use Rattle.flow.specs.declared.RunAnswer.{RunAnswer}
+use Rattle.flow.specs.declared.RunAnswer.the-variants as ra
+use Rattle.text.proofs.TextHolds.{accepted-printed}
+use Rattle.flow.proofs.ResponseLaws.{over-long}
+
+-- ---- the router's reply
+
+-- records that stand at the beginning of the log
+ran-fits : (rs : List Record) (log : List ℕ) → length (encode rs) ≤ length (logWith rs log)
+unfolding logWith
+ran-fits rs log = let long = length-append (encode rs) (drop (length (encode rs)) log) in omega arith
+
+-- the words used are words of the log
+used-fits : (j : Job) (work log : List ℕ) → routeReply j work log .used ≤ length (routeReply j work log .log)
+unfolding routeReply negotiated
+used-fits j work log =
+    ⊎-elim
+    (λ (t : leb 1 (faultyJob j) ≡ true). rw t zero-le)
+    (λ (t : leb 1 (faultyJob j) ≡ false).
+    ⊎-elim
+    (λ (u : ltb (length work) (workNeeded (nodes j)) ≡ true). rw (t, u) zero-le)
+    (λ (u : ltb (length work) (workNeeded (nodes j)) ≡ false).
+    ⊎-elim
+    (λ (v : ltb (unreachableNet j) (nets j) ≡ true). rw (t, u, v) zero-le)
+    (λ (v : ltb (unreachableNet j) (nets j) ≡ false).
+    ⊎-elim
+    (λ (w : ltb (length (loggedRecords j (length log))) (length (allRecords j)) ≡ true).
+    rw (t, u, v, w) (ran-fits (loggedRecords j (length log)) log))
+    (λ (w : ltb (length (loggedRecords j (length log))) (length (allRecords j)) ≡ false).
+    rw (t, u, v, w) (ran-fits (allRecords j) log))
+    (either-way (ltb (length (loggedRecords j (length log))) (length (allRecords j)))))
+    (either-way (ltb (unreachableNet j) (nets j))))
+    (either-way (ltb (length work) (workNeeded (nodes j)))))
+    (either-way (leb 1 (faultyJob j)))
+
+module _ (j : Job) (work log : List ℕ) (r : Routed) (work′ log′ : List ℕ) (is : routed r work′ log′ ≡ routeReply j work log) where
+  pub words-fit : r .words ≤ length log′
+  words-fit = subst (λ (x : RouteReply). x .used ≤ length (x .log)) (sym is) (used-fits j work log)
+
+  -- an accepted job's routes are written
+  pub run-accepted :
+      (routes : List ℕ) (a : RunAnswer) (routes′ : List ℕ) → r .outcome ≡ Accepted
+      → writtenReplyOf a routes′ ≡ writeReply (take (r .words) log′) routes
+      → (t : Tables) → runReplyOf a (lentOf t work′ log′ routes′) ≡ routeRun j t work log routes
+  unfolding routeRun
+  run-accepted routes a routes′ out wrote t =
+      subst (λ (x : RouteReply). runReplyOf a (lentOf t work′ log′ routes′) ≡ afterRoute (x .refusal) t x routes) is
+      (subst
+      (λ (o : Outcome). runReplyOf a (lentOf t work′ log′ routes′) ≡ afterRoute (outcomeNumbers o (r .iteration) (r .turns)) t (routed r work′ log′) routes)
+      (sym out)
+      (ap (λ (w : WriteReply). afterWrite t (routed r work′ log′) w) wrote))
+
+  -- a refused one has none
+  pub run-refused :
+      (routes : List ℕ) (k : ℕ) (ks : List ℕ) (o : Outcome) → r .outcome ≡ o → outcomeNumbers o (r .iteration) (r .turns) ≡ k ∷ ks
+      → (t : Tables) → runReplyWith (k ∷ ks) 0 (lentOf t work′ log′ routes) ≡ routeRun j t work log routes
+  unfolding routeRun
+  run-refused routes k ks o out numbers t =
+      subst (λ (x : RouteReply). runReplyWith (k ∷ ks) 0 (lentOf t work′ log′ routes) ≡ afterRoute (x .refusal) t x routes) is
+      (subst
+      (λ (l : List ℕ). runReplyWith (k ∷ ks) 0 (lentOf t work′ log′ routes) ≡ afterRoute l t (routed r work′ log′) routes)
+      (sym (ap (λ (x : Outcome). outcomeNumbers x (r .iteration) (r .turns)) out ∙ numbers))
+      refl)
+
+-- ---- the run
+
+-- a text that is refused
+refused-of :
+    (p : Part Job) (k : ℕ) (ks : List ℕ) (t t′ : Tables) (work log routes : List ℕ) → notRead (k ∷ ks) t′ ≡ replyTo p t
+    → runReplyWith (k ∷ ks) 0 (lentOf t′ work log routes) ≡ runOf p (lentOf t work log routes)
+unfolding storedReply
+refused-of (stopped n at) k ks t t′ work log routes e =
+    ap (λ (x : ReadReply). runReplyWith (x .refusal) 0 (lentOf (x .tables) work log routes)) e
+refused-of (part j at rest) k ks t t′ work log routes e =
+    ⊎-elim
+    (λ (h : leb 1 (shortTable j t) ≡ true).
+    let short : notRead (k ∷ ks) t′ ≡ notRead (4 ∷ shortTable j t ∷ []) t = rw h at e in
+    rw h (ap (λ (x : ReadReply). runReplyWith (x .refusal) 0 (lentOf (x .tables) work log routes)) short))
+    (λ (h : leb 1 (shortTable j t) ≡ false).
+    let none : (k ∷ ks) ≡ [] = ap (λ (x : ReadReply). x .refusal) (rw h at e) in
+    let z : _≡_ {A = ℕ} 0 1 = cc in
+    absurd (omega arith))
+    (either-way (leb 1 (shortTable j t)))
+
+pub read-refused :
+    (text : List ℕ) (k : ℕ) (ks : List ℕ) (t t′ : Tables) (work log routes : List ℕ) → notRead (k ∷ ks) t′ ≡ readReply text t
+    → runReplyWith (k ∷ ks) 0 (lentOf t′ work log routes) ≡ runReply text (lentOf t work log routes)
+unfolding readReply runReply
+read-refused text k ks t t′ work log routes e = refused-of (readText text) k ks t t′ work log routes e
+
+-- the reply for a text that is taken
+abbrev readTaken : List ℕ → Tables → ReadReply
+readTaken numbers t = record { refusal = []; numbers = numbers; tables = t }
+
+taken-of :
+    (p : Part Job) (numbers : List ℕ) (t t′ : Tables) → readTaken numbers t′ ≡ replyTo p t
+    → (j : Job) × (at : ℕ) × (rest : List ℕ) × (p ≡ part j at rest) × (leb 1 (shortTable j t) ≡ false) × (jobNumbers j ≡ numbers) × (tablesWith j t ≡ t′)
+unfolding storedReply
+taken-of (stopped k at) numbers t t′ e =
+    let none : [] ≡ (k ∷ at ∷ []) = ap (λ (x : ReadReply). x .refusal) e in
+    let z : _≡_ {A = ℕ} 0 1 = cc in
+    absurd (omega arith)
+taken-of (part j at rest) numbers t t′ e =
+    ⊎-elim
+    (λ (h : leb 1 (shortTable j t) ≡ true).
+    let none : [] ≡ (4 ∷ shortTable j t ∷ []) = ap (λ (x : ReadReply). x .refusal) (rw h at e) in
+    let z : _≡_ {A = ℕ} 0 1 = cc in
+    absurd (omega arith))
+    (λ (h : leb 1 (shortTable j t) ≡ false).
+    let same : readTaken numbers t′ ≡ readTaken (jobNumbers j) (tablesWith j t) = rw h at e in (
+      j,
+      at,
+      rest,
+      refl,
+      h,
+      sym (ap (λ (x : ReadReply). x .numbers) same),
+      sym (ap (λ (x : ReadReply). x .tables) same),
+    ))
+    (either-way (leb 1 (shortTable j t)))
+
+-- what the counts mark out in the tables afterwards: each part is within its table, and together they are the job that is run
+pub record Taken (text : List ℕ) (n edges m count : ℕ) (terms : Terms) (t t′ : Tables) : Type 0 where
+  pub few-nodes : n ≤ nodesMost
+  pub few-nets : m ≤ netsMost
+  pub kinds-fit : n ≤ length (t′ .kinds)
+  pub capacities-fit : n ≤ length (t′ .capacities)
+  pub first-edges-fit : n + 1 ≤ length (t′ .firstEdges)
+  pub edge-targets-fit : edges ≤ length (t′ .edgeTargets)
+  pub sources-fit : m ≤ length (t′ .sources)
+  pub first-sinks-fit : m + 1 ≤ length (t′ .firstSinks)
+  pub sinks-fit : count ≤ length (t′ .sinks)
+  pub runs :
+      (work log routes : List ℕ)
+      → routeRun
+      (jobOf (take n (t′ .kinds)) (take n (t′ .capacities)) (take (n + 1) (t′ .firstEdges)) (take edges (t′ .edgeTargets))
+      (take m (t′ .sources)) (take (m + 1) (t′ .firstSinks)) (take count (t′ .sinks)) terms)
+      t′ work log routes
+      ≡ runReply text (lentOf t work log routes)
+
+module _ (new old : List ℕ) (n : ℕ) (long : length new ≡ n) where
+  over-fits : n ≤ length (writtenOver new old)
+  over-fits = let all = over-long new old in omega arith
+
+  over-part : take n (writtenOver new old) ≡ new
+  unfolding writtenOver
+  over-part = take-at new (drop (length new) old) n long
+
+job-taken :
+    (text : List ℕ) (t : Tables) (j : Job) (at : ℕ) (rest : List ℕ) → readText text ≡ part j at rest → leb 1 (shortTable j t) ≡ false
+    → Taken text (nodes j) (length (j .block .edgeTargets)) (nets j) (length (j .sinks)) (j .terms) t (tablesWith j t)
+unfolding tablesWith runReply
+job-taken text t j at rest is long =
+    let s : SoundJob j = accepted-printed text j at rest is .0 in
+    let capacities-are : length (j .block .capacities) ≡ nodes j = capacities-long (nodes j) (j .block .capacities) (s .block-sound .capacities-sound) in
+    let first-edges-are : length (j .block .firstEdges) ≡ nodes j + 1 =
+    block.firsts-long (nodes j) (length (j .block .edgeTargets)) (j .block .firstEdges) (s .block-sound .firstEdges-sound) in
+    let first-sinks-are : length (j .firstSinks) ≡ nets j + 1 = job.firsts-long (nets j) (length (j .sinks)) (j .firstSinks) (s .firstSinks-sound) in
+    record {
+      few-nodes = kinds-few (j .block .kinds) (s .block-sound .kinds-sound);
+      few-nets = routable-of j s .nets-few;
+      kinds-fit = over-fits (j .block .kinds) (t .kinds) (nodes j) refl;
+      capacities-fit = over-fits (j .block .capacities) (t .capacities) (nodes j) capacities-are;
+      first-edges-fit = over-fits (j .block .firstEdges) (t .firstEdges) (nodes j + 1) first-edges-are;
+      edge-targets-fit = over-fits (j .block .edgeTargets) (t .edgeTargets) (length (j .block .edgeTargets)) refl;
+      sources-fit = over-fits (j .sources) (t .sources) (nets j) refl;
+      first-sinks-fit = over-fits (j .firstSinks) (t .firstSinks) (nets j + 1) first-sinks-are;
+      sinks-fit = over-fits (j .sinks) (t .sinks) (length (j .sinks)) refl;
+      runs = λ work log routes.
+          rw (
+            is,
+            long,
+            over-part (j .block .kinds) (t .kinds) (nodes j) refl,
+            over-part (j .block .capacities) (t .capacities) (nodes j) capacities-are,
+            over-part (j .block .firstEdges) (t .firstEdges) (nodes j + 1) first-edges-are,
+            over-part (j .block .edgeTargets) (t .edgeTargets) (length (j .block .edgeTargets)) refl,
+            over-part (j .sources) (t .sources) (nets j) refl,
+            over-part (j .firstSinks) (t .firstSinks) (nets j + 1) first-sinks-are,
+            over-part (j .sinks) (t .sinks) (length (j .sinks)) refl,
+          );
+    }
+
+-- the terms among the numbers of a job
+abbrev termsIn : List ℕ → Terms
+termsIn xs =
+    record { limit = getD xs 4 0; tuning = record { first = getD xs 5 0; up = getD xs 6 0; down = getD xs 7 0; step = getD xs 8 0 } }
+
+pub read-taken :
+    (text : List ℕ) (n edges m count : ℕ) (terms : Terms) (t t′ : Tables)
+    → readTaken (n ∷ edges ∷ m ∷ count ∷ termsNumbers terms) t′ ≡ readReply text t → Taken text n edges m count terms t t′
+unfolding readReply jobNumbers
+read-taken text n edges m count terms t t′ e =
+    let got = taken-of (readText text) (n ∷ edges ∷ m ∷ count ∷ termsNumbers terms) t t′ e in
+    let j : Job = got .0 in
+    subst (λ (x : Tables). Taken text n edges m count terms t x) (got .6)
+    (subst
+    (λ (x : List ℕ). Taken text (getD x 0 0) (getD x 1 0) (getD x 2 0) (getD x 3 0) (termsIn x) t (tablesWith j t))
+    (got .5)
+    (job-taken text t j (got .1) (got .2) (got .3) (got .4)))
+
+-- ---- the response
+
+-- an input that is too long
+pub too-long :
+    (input : List ℕ) (t : Tables) (work log routes : List ℕ) (bytes : ℕ) (routes′ : List ℕ) → inputMost < length input
+    → lineReplyOf bytes routes′ ≡ refusalLine (12 ∷ inputMost ∷ []) routes
+    → responseOf bytes (lentOf t work log routes′) ≡ response input (lentOf t work log routes)
+unfolding response
+too-long input t work log routes bytes routes′ h e =
+    rw (lt-ltb inputMost (length input) h) (ap (λ (x : LineReply). lineResponse x (lentOf t work log routes)) e)
+
+module _ (input : List ℕ) (l : Lent) (short : length input ≤ inputMost) where
+  responded : (r : RunReply) → r ≡ runReply input l → answered (r .refusal) r ≡ response input l
+  unfolding response
+  responded r e = rw (le-ltb inputMost (length input) short) (ap (λ (x : RunReply). answered (x .refusal) x) e)
+
+  -- the routes text, or the line of the refusal
+  pub shown-out :
+      (r : RunAnswer) (t : Tables) (work log routes : List ℕ) (bytes : ℕ) (routes′ : List ℕ)
+      → runReplyOf r (lentOf t work log routes) ≡ runReply input l → lineReplyOf bytes routes′ ≡ answerLine r routes
+      → responseOf bytes (lentOf t work log routes′) ≡ response input l
+  shown-out (ra.Written b) t work log routes bytes routes′ e shown =
+      ap (λ (x : LineReply). lineResponse x (lentOf t work log routes)) shown
+      ∙ responded (runReplyWith [] b (lentOf t work log routes)) e
+  shown-out (ra.One k v) t work log routes bytes routes′ e shown =
+      ap (λ (x : LineReply). lineResponse x (lentOf t work log routes)) shown
+      ∙ responded (runReplyWith (k ∷ v ∷ []) 0 (lentOf t work log routes)) e
+  shown-out (ra.Two k v w) t work log routes bytes routes′ e shown =
+      ap (λ (x : LineReply). lineResponse x (lentOf t work log routes)) shown
+      ∙ responded (runReplyWith (k ∷ v ∷ w ∷ []) 0 (lentOf t work log routes)) e

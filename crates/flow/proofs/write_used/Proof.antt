@@ -1,0 +1,56 @@
+-- `flow::write_used` meets its contract: each answer of the writer is the run's.
+-- Assumes nothing.
+use mathlib.Core.Path.{sym}
+use lib.Seq.{length-take-le}
+use borrow.Author.Needs.{needs}
+use Rattle.flow.proofs.write_used.Statement.{statement}
+use Rattle.flow.proofs.write_used.Tie as tie
+
+slice-aggregate-write-routes : tie.Need-slice-aggregate-write-routes
+slice-aggregate-write-routes c = sym (length-take-le _ _ (c .before .before .before .pre))
+
+write-routes-requires : tie.Need-write-routes-requires
+write-routes-requires c κs = search needs
+
+enum-known-bytes : tie.Need-enum-known-bytes
+enum-known-bytes c = search needs
+
+enum-known-word : tie.Need-enum-known-word
+enum-known-word c = search needs
+
+enum-known-needed : tie.Need-enum-known-needed
+enum-known-needed c = search needs
+
+same-length : tie.Need-same-length
+same-length c = search needs
+
+returns : tie.Need-returns
+returns c = rw (c .before .bytes .given .1) at (c .before .before .before .before .before .write-routes .ensures)
+
+same-length-2 : tie.Need-same-length-2
+same-length-2 c = search needs
+
+returns-2 : tie.Need-returns-2
+returns-2 c = rw (c .before .word .given .1) at (c .before .before .before .before .before .write-routes .ensures)
+
+same-length-3 : tie.Need-same-length-3
+same-length-3 c = search needs
+
+returns-3 : tie.Need-returns-3
+returns-3 c = rw (c .before .needed .given .1) at (c .before .before .before .before .before .write-routes .ensures)
+
+pub write-used-spec : {M : Type 1} → statement M
+write-used-spec =
+    tie.close
+    (tie.spec
+    slice-aggregate-write-routes
+    write-routes-requires
+    enum-known-bytes
+    enum-known-word
+    enum-known-needed
+    same-length
+    returns
+    same-length-2
+    returns-2
+    same-length-3
+    returns-3)

@@ -1,0 +1,3 @@
+pub mod RunReplies
+pub mod Steps
+pub mod Samples

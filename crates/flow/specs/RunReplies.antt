@@ -1,0 +1,104 @@
+-- Document 01: the whole way from a job text to its routes text over lent buffers, and what the program prints.
+-- Assumes nothing.
+use mathlib.Core.List.{List, [], _∷_}
+use Prim.Native.Nat.{ℕ}
+use lib.Dec.{leb, ltb}
+use lib.ListN.{length, take}
+use Rattle.price.specs.Test.{choose}
+use Rattle.negotiation.specs.Job.{Job}
+use Rattle.negotiation.specs.Outcome.{RouteReply, routeReply}
+use Rattle.text.specs.JobText.{Part, part, stopped, readText}
+use Rattle.text.specs.ReadReplies.{Tables, shortTable, tablesWith}
+use Rattle.text.specs.Routes.{WriteReply, writeReply}
+use Rattle.text.specs.Refusals.{LineReply, refusalLine}
+use Rattle.flow.specs.declared.RunAnswer.{RunAnswer}
+use Rattle.flow.specs.declared.RunAnswer.the-variants as a
+
+-- everything that a run is lent beside the job text
+pub record Lent : Type 0 where
+  pub tables : Tables
+  pub work : List ℕ
+  pub log : List ℕ
+  pub routes : List ℕ
+
+abbrev pub lentOf : Tables → List ℕ → List ℕ → List ℕ → Lent
+lentOf tables work log routes = record { tables = tables; work = work; log = log; routes = routes }
+
+-- the refusal's numbers, none where the routes are written; the bytes written; and what was lent, afterwards
+pub record RunReply : Type 0 where
+  pub refusal : List ℕ
+  pub bytes : ℕ
+  pub lent : Lent
+
+abbrev pub runReplyWith : List ℕ → ℕ → Lent → RunReply
+runReplyWith refusal bytes lent = record { refusal = refusal; bytes = bytes; lent = lent }
+
+-- the routes are written from the words used
+abbrev pub afterWrite : Tables → RouteReply → WriteReply → RunReply
+afterWrite t r w = runReplyWith (w .refusal) (w .bytes) (lentOf t (r .work) (r .log) (w .buffer))
+
+-- a job that isn't accepted has no routes
+abbrev pub afterRoute : List ℕ → Tables → RouteReply → List ℕ → RunReply
+afterRoute [] t r routes = afterWrite t r (writeReply (take (r .used) (r .log)) routes)
+afterRoute (k ∷ ks) t r routes = runReplyWith (k ∷ ks) 0 (lentOf t (r .work) (r .log) routes)
+
+unfoldable pub routeRun : Job → Tables → List ℕ → List ℕ → List ℕ → RunReply
+routeRun j t work log routes = afterRoute (routeReply j work log .refusal) t (routeReply j work log) routes
+
+-- a text that is refused leaves all that was lent as it was
+abbrev pub runOf : Part Job → Lent → RunReply
+runOf (stopped k at) l = runReplyWith (k ∷ at ∷ []) 0 l
+runOf (part j at rest) l =
+    choose (leb 1 (shortTable j (l .tables))) (runReplyWith (4 ∷ shortTable j (l .tables) ∷ []) 0 l)
+    (routeRun j (tablesWith j (l .tables)) (l .work) (l .log) (l .routes))
+
+unfoldable pub runReply : List ℕ → Lent → RunReply
+runReply text l = runOf (readText text) l
+
+-- 01's numbers for each case of the answer
+abbrev pub runNumbers : RunAnswer → List ℕ
+runNumbers (a.Written bytes) = []
+runNumbers (a.One number value) = number ∷ value ∷ []
+runNumbers (a.Two number first second) = number ∷ first ∷ second ∷ []
+
+abbrev pub runBytes : RunAnswer → ℕ
+runBytes (a.Written bytes) = bytes
+runBytes (a.One number value) = 0
+runBytes (a.Two number first second) = 0
+
+-- the answer with the routes buffer at the call's end, where only the writer was called
+abbrev pub writtenReplyOf : RunAnswer → List ℕ → WriteReply
+writtenReplyOf r buffer = record { refusal = runNumbers r; bytes = runBytes r; buffer = buffer }
+
+-- the answer with what was lent at the call's end
+abbrev pub runReplyOf : RunAnswer → Lent → RunReply
+runReplyOf r l = runReplyWith (runNumbers r) (runBytes r) l
+
+-- ---- the program
+
+-- "It lends 65,536 bytes each for job, routes, log and work"
+abbrev pub inputMost : ℕ
+inputMost = 65536
+
+-- the bytes to print, and what was lent afterwards
+pub record Response : Type 0 where
+  pub bytes : ℕ
+  pub lent : Lent
+
+abbrev pub responseOf : ℕ → Lent → Response
+responseOf bytes lent = record { bytes = bytes; lent = lent }
+
+abbrev pub lineResponse : LineReply → Lent → Response
+lineResponse x l = responseOf (x .bytes) (lentOf (l .tables) (l .work) (l .log) (x .buffer))
+
+-- the routes text is in the buffer already, or the line of the refusal is put there: what a run leaves "untouched" by rows 1 to 6,
+-- 10 and 11 is still as it was but for that line, which has to be somewhere to be printed
+abbrev pub answered : List ℕ → RunReply → Response
+answered [] r = responseOf (r .bytes) (r .lent)
+answered (k ∷ ks) r = lineResponse (refusalLine (k ∷ ks) (r .lent .routes)) (r .lent)
+
+-- "12, 65536 .. more input bytes": "only the X line printed"
+unfoldable pub response : List ℕ → Lent → Response
+response input l =
+    choose (ltb inputMost (length input)) (lineResponse (refusalLine (12 ∷ inputMost ∷ []) (l .routes)) l)
+    (answered (runReply input l .refusal) (runReply input l))

@@ -1,0 +1,239 @@
+// The whole way from a job text to its routes text, and what the program prints.
+ghost use mathlib.Core.Path.{_≡_};
+ghost use Prim.Native.Nat.{_≤_};
+ghost use lib.ListN.{length, take};
+ghost use Rattle.negotiation.specs.Job.{jobOf};
+ghost use Rattle.text.specs.ReadReplies.{Tables, tablesOf};
+ghost use Rattle.text.specs.Refusals.{lineReplyOf};
+ghost use Rattle.text.specs.Routes.{writeReply};
+ghost use Rattle.flow.specs.RunReplies.{lentOf, routeRun, runReply, runReplyOf, writtenReplyOf, responseOf, response};
+ghost use Rattle.flow.specs.Steps.{answerLine};
+use negotiation::Outcome;
+use negotiation::Terms;
+use text::ReadAnswer;
+use text::WriteAnswer;
+
+// What a run from job text to routes text answers.
+pub enum RunAnswer {
+    // So many bytes of the routes text are written.
+    Written(usize),
+    // A refusal with one number beside its own.
+    One {
+        number: u32,
+        value: u64,
+    },
+    // A refusal with two.
+    Two {
+        number: u32,
+        first: u64,
+        second: u64,
+    },
+}
+
+// The program takes no more input bytes than these.
+const INPUT_MOST: usize = 65536;
+
+// Writes the routes from the words used.
+fn write_used(log: &[u32], words: usize, routes: &mut [u8]) -> RunAnswer
+    requires { ⌜ words ≤ length (now log) ⌝ }
+    ensures { λ r. ⌜ writtenReplyOf r (now (routes .exit)) ≡ writeReply (take words (now (log .entry))) (now (routes .entry)) ⌝ }
+{
+    match text::write_routes(&log[..words], routes) {
+        WriteAnswer::Written(bytes) => RunAnswer::Written(bytes),
+        WriteAnswer::Unsound(word) => RunAnswer::One {
+            number: 10,
+            value: word as u64,
+        },
+        WriteAnswer::ShortBuffer(needed) => RunAnswer::One {
+            number: 11,
+            value: needed,
+        },
+    }
+}
+
+// Routes a job given as tables, and writes its routes where it is accepted.
+fn route_job(
+    kind: &[u8],
+    capacity: &[u8],
+    first_edge: &[u32],
+    edge_target: &[u16],
+    source: &[u16],
+    first_sink: &[u32],
+    sink: &[u16],
+    terms: Terms,
+    work: &mut [u64],
+    log: &mut [u32],
+    routes: &mut [u8],
+) -> RunAnswer
+    ensures { λ r. do
+      let job = jobOf (now (kind .entry)) (now (capacity .entry)) (now («first_edge» .entry)) (now («edge_target» .entry))
+          (now (source .entry)) (now («first_sink» .entry)) (now (sink .entry)) terms
+      ⌜ ((t : Tables) → runReplyOf r (lentOf t (now (work .exit)) (now (log .exit)) (now (routes .exit)))
+          ≡ routeRun job t (now (work .entry)) (now (log .entry)) (now (routes .entry))) ⌝ }
+{
+    let r = negotiation::route(
+        kind,
+        capacity,
+        first_edge,
+        edge_target,
+        source,
+        first_sink,
+        sink,
+        terms,
+        work,
+        log,
+    );
+    let words = r.words as usize;
+    let outcome = r.outcome;
+    match outcome {
+        Outcome::Accepted => write_used(log, words, routes),
+        Outcome::Unreachable { net, place } => RunAnswer::Two {
+            number: 7,
+            first: net as u64,
+            second: place as u64,
+        },
+        Outcome::LogFull => RunAnswer::Two {
+            number: 8,
+            first: r.iteration as u64,
+            second: r.turns,
+        },
+        Outcome::Limit(over) => RunAnswer::Two {
+            number: 9,
+            first: r.iteration as u64,
+            second: over as u64,
+        },
+        Outcome::BadTable(table) => RunAnswer::One {
+            number: 5,
+            value: table as u64,
+        },
+        Outcome::ShortWork(needed) => RunAnswer::One {
+            number: 6,
+            value: needed,
+        },
+    }
+}
+
+// Reads a job text, routes the job and writes its routes text. The tables, the work slice and the log are lent for it.
+pub fn run(
+    text: &[u8],
+    kind: &mut [u8],
+    capacity: &mut [u8],
+    first_edge: &mut [u32],
+    edge_target: &mut [u16],
+    source: &mut [u16],
+    first_sink: &mut [u32],
+    sink: &mut [u16],
+    work: &mut [u64],
+    log: &mut [u32],
+    routes: &mut [u8],
+) -> RunAnswer
+    ensures answers { λ r. do
+      let tables = tablesOf (now (kind .entry)) (now (capacity .entry)) (now («first_edge» .entry)) (now («edge_target» .entry))
+          (now (source .entry)) (now («first_sink» .entry)) (now (sink .entry))
+      let left = tablesOf (now (kind .exit)) (now (capacity .exit)) (now («first_edge» .exit)) (now («edge_target» .exit))
+          (now (source .exit)) (now («first_sink» .exit)) (now (sink .exit))
+      let lent = lentOf tables (now (work .entry)) (now (log .entry)) (now (routes .entry))
+      let after = lentOf left (now (work .exit)) (now (log .exit)) (now (routes .exit))
+      ⌜ runReplyOf r after ≡ runReply (now (text .entry)) lent ⌝ }
+{
+    match text::read_job(
+        text,
+        kind,
+        capacity,
+        first_edge,
+        edge_target,
+        source,
+        first_sink,
+        sink,
+    ) {
+        ReadAnswer::Job {
+            nodes,
+            edges,
+            nets,
+            sinks,
+            terms,
+        } => {
+            let places = nodes + 1;
+            let firsts = nets + 1;
+            route_job(
+                &kind[..nodes],
+                &capacity[..nodes],
+                &first_edge[..places],
+                &edge_target[..edges],
+                &source[..nets],
+                &first_sink[..firsts],
+                &sink[..sinks],
+                terms,
+                work,
+                log,
+                routes,
+            )
+        }
+        ReadAnswer::BadLine { number, line } => RunAnswer::One {
+            number: number,
+            value: line as u64,
+        },
+        ReadAnswer::ShortTable(table) => RunAnswer::One {
+            number: 4,
+            value: table as u64,
+        },
+    }
+}
+
+// What an answer leaves in the routes buffer: the routes text that is there already, or the line of the refusal.
+fn put_answer(answer: RunAnswer, routes: &mut [u8]) -> usize
+    ensures { λ r. ⌜ lineReplyOf r (now (routes .exit)) ≡ answerLine answer (now (routes .entry)) ⌝ }
+{
+    match answer {
+        RunAnswer::Written(bytes) => bytes,
+        RunAnswer::One { number, value } => text::write_refusal(number, value, routes),
+        RunAnswer::Two {
+            number,
+            first,
+            second,
+        } => text::write_refusal_of_two(number, first, second, routes),
+    }
+}
+
+// What the program prints for its input: the routes text, or the line of the refusal, at the start of the routes buffer.
+// The answer is how many bytes these are.
+pub fn respond(
+    input: &[u8],
+    kind: &mut [u8],
+    capacity: &mut [u8],
+    first_edge: &mut [u32],
+    edge_target: &mut [u16],
+    source: &mut [u16],
+    first_sink: &mut [u32],
+    sink: &mut [u16],
+    work: &mut [u64],
+    log: &mut [u32],
+    routes: &mut [u8],
+) -> usize
+    ensures answers { λ r. do
+      let tables = tablesOf (now (kind .entry)) (now (capacity .entry)) (now («first_edge» .entry)) (now («edge_target» .entry))
+          (now (source .entry)) (now («first_sink» .entry)) (now (sink .entry))
+      let left = tablesOf (now (kind .exit)) (now (capacity .exit)) (now («first_edge» .exit)) (now («edge_target» .exit))
+          (now (source .exit)) (now («first_sink» .exit)) (now (sink .exit))
+      let lent = lentOf tables (now (work .entry)) (now (log .entry)) (now (routes .entry))
+      let after = lentOf left (now (work .exit)) (now (log .exit)) (now (routes .exit))
+      ⌜ responseOf r after ≡ response (now (input .entry)) lent ⌝ }
+{
+    if INPUT_MOST < input.len() {
+        return text::write_refusal(12, INPUT_MOST as u64, routes);
+    }
+    let answer = run(
+        input,
+        kind,
+        capacity,
+        first_edge,
+        edge_target,
+        source,
+        first_sink,
+        sink,
+        work,
+        log,
+        routes,
+    );
+    put_answer(answer, routes)
+}
