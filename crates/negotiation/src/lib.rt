@@ -50,7 +50,6 @@ mod turns;
 
 pub use job_terms::plain_terms;
 pub use job_terms::terms_sound;
-pub use pins::one_of;
 pub use pins::sink_kind;
 pub use pins::source_kind;
 use price::Tuning;

@@ -1,23 +1,13 @@
 // The kinds that a net's pins, its source and its sinks, may have.
 ghost use mathlib.Core.Path.{_≡_};
 ghost use lib.ListN.{getD};
-ghost use Rattle.negotiation.specs.Tables.{oneOf, sourceKind, sinkKind, pinsOf};
+ghost use Rattle.negotiation.specs.Tables.{sourceKind, sinkKind, pinsOf};
 ghost use Rattle.negotiation.specs.Steps.{pinKind};
 
 // Which pins of the nets a table has.
 pub enum Pin {
     Source,
     Sink,
-}
-
-// The kind is one of these two.
-pub fn one_of(kind: u8, one: u8, other: u8) -> bool
-    ensures { λ r. ⌜ r ≡ oneOf one other kind ⌝ }
-{
-    if kind == one {
-        return true;
-    }
-    kind == other
 }
 
 // A source is of kind 0 or 2.
