@@ -25,7 +25,8 @@ use Rattle.search.specs.Distance.{inTree}
 use Rattle.search.specs.Turn.{priceAt}
 use Rattle.search.proofs.BlockLaws.{graph-of, edge-to}
 use Rattle.search.proofs.DistinctLaws.{has-first}
-use Rattle.search.proofs.WalkLaws.{step-cost}
+use Rattle.search.proofs.WalkLaws.{WalkEnd, step-cost, last-step}
+use Rattle.search.proofs.EdgeLaws.{shaped}
 use Rattle.search.proofs.DistanceLaws.{path-near}
 use Rattle.negotiation.specs.Job.{Job, nodes, nets, source, netSinks}
 use Rattle.negotiation.specs.Records.{Record}
@@ -157,9 +158,14 @@ pub walk-path : (j : Job) → Routable j → (i x : ℕ) (path : List ℕ) → i
 unfolding hasPath
 walk-path j sound i x path h w =
     let at = sound .source-node i h in
+    let node : x < nodes j =
+    ⊎-elim
+    (λ (q : (source j i ≡ x) × (pathCost (λ (v : ℕ). 0) path ≡ 0)). rw (q .0) at at)
+    (λ (s : WalkEnd (j .block) (λ (v : ℕ). 0) (source j i) path x). edge-to (j .block) (graph-of (j .block) (sound .block-sound)) (s .before) x (s .edge))
+    (last-step (λ (v : ℕ). 0) w) in
     lt-ltb _ _
-    (path-near (j .block) (priceAt (j .block) (congestionFor j (firstState j) i)) (marksOf j (source j i ∷ [])) (graph-of (j .block) (sound .block-sound))
-    (turn-fair j sound (firstState j) (first-ready j sound) i h) (source j i) x path at (mark-in j (source j i ∷ []) (source j i) at (has-first (source j i) [])) w)
+    (path-near (j .block) (priceAt (j .block) (congestionFor j (firstState j) i)) (marksOf j (source j i ∷ [])) (shaped (j .block) (sound .block-sound))
+    (turn-fair j sound (firstState j) (first-ready j sound) i h) (source j i) x path node (mark-in j (source j i ∷ []) (source j i) at (has-first (source j i) [])) w)
 
 -- where the first net with an unreachable sink is none, every sink has a path
 pub all-reached : (j : Job) → nets j ≤ unreachableNet j → Reached j

@@ -4,8 +4,8 @@ use mathlib.Core.Bool.{true, false, not}
 use mathlib.Core.List.{List, [], _∷_, _++_, append-nil}
 use mathlib.Core.Logic.{⊎-elim}
 use mathlib.Core.Path.{_≡_, refl, sym, _∙_, ap, subst}
-use Prim.Native.Nat.{ℕ, zero, suc, _+_, _*_, _≤_, _<_, suc-le-suc}
-use native.Mathlib.Nat.{le-trans, le-of-eq, mul-le-mul-right}
+use Prim.Native.Nat.{ℕ, zero, suc, _+_, _*_, _≤_, _<_}
+use native.Mathlib.Nat.{le-trans, le-of-eq}
 use native.Mathlib.Omega.{arith}
 use lib.Dec.{eqb}
 use lib.ListN.{length, getD, drop, length-append, length-replicate, getD-replicate}
@@ -13,18 +13,18 @@ use lib.Seq.{append-snoc}
 use borrow.Author.Tests.{eq-eqb, ltb-true}
 use Rattle.price.specs.Bounds.{factorMost, historyMost, historyGain, othersMost, limitMost, priceMost, pathMost}
 use Rattle.price.specs.Test.{both}
-use Rattle.price.specs.Lists.{every, has, distinct, upTo, total}
+use Rattle.price.specs.Lists.{every, has, distinct, upTo}
 use Rattle.price.specs.Replies.{InBounds}
 use Rattle.price.proofs.TestLaws.{true≢false}
-use Rattle.price.proofs.ListLaws.{length-upTo, getD-upTo, has-at, has-place, total-most}
+use Rattle.price.proofs.ListLaws.{length-upTo, getD-upTo, has-at, has-place}
 use Rattle.price.proofs.BelowLaws.{count-most, count-less}
 use Rattle.price.proofs.PriceLaws as price
 use Rattle.price.proofs.PriceLaws.{price-pos, price-most, next-factor-most, history-grows, history-reach}
-use Rattle.search.specs.Block as block
-use Rattle.search.specs.Block.{Block}
-use Rattle.search.specs.Paths.{Walk, pathCost, CheapestPath, Fair}
+use Rattle.search.specs.Paths.{Walk, CheapestPath, Fair}
 use Rattle.search.specs.Turn.{Congestion, priceAt}
 use Rattle.search.proofs.BlockLaws.{graph-of, kind-most, capacity-least, capacity-most}
+use Rattle.search.proofs.WalkLaws.{cost-most}
+use Rattle.search.proofs.EdgeLaws.{shaped}
 use Rattle.search.proofs.DistanceLaws.{some-path}
 use Rattle.search.proofs.DistinctLaws.{has-first, lacks, distinct-cons, distinct-rest}
 use Rattle.negotiation.specs.Job.{Job, nodes, nets, source, netSinks}
@@ -164,24 +164,13 @@ pub record NetTurn (j : Job) (s : State) (i : ℕ) (earlier : List Record) (r : 
   pub path-short : length (r .path) ≤ nodes j
   pub path-nodes : (k : ℕ) → k < length (r .path) → getD (r .path) k 0 < nodes j
 
--- a path of so many nodes as the block has at most costs less than the bound on a path's cost
-cost-below :
-    (b : Block) (price : ℕ → ℕ) → Fair b price → (path : List ℕ) → ((k : ℕ) → k < length path → getD path k 0 < block.nodes b)
-    → length path ≤ block.nodes b → pathCost price path < pathMost
-unfolding pathCost
-cost-below b price fair [] nodes few = omega arith
-cost-below b price fair (u ∷ path) nodes few =
-    let sum : total price path ≤ length path * fair .ceiling = total-most price (fair .ceiling) path (λ k l. fair .most (getD path k 0) (nodes (suc k) (suc-le-suc l))) in
-    let short : length path ≤ block.nodes b = omega arith in
-    le-trans (suc-le-suc (le-trans sum (mul-le-mul-right (fair .ceiling) short))) (fair .fits)
-
 -- so a turn's cost is
 pub turn-cost :
     (j : Job) → Routable j → (s : State) → StateReady j s → (i : ℕ) → i < nets j → (earlier : List Record) (r : Record) → NetTurn j s i earlier r
     → r .cost < pathMost
 turn-cost j sound s ready i hi earlier r t =
     rw (t .cheapest .costs)
-    (cost-below (j .block) (priceAt (j .block) (congestionFor j s i)) (turn-fair j sound s ready i hi) (r .path) (t .path-nodes) (t .path-short))
+    (cost-most (priceAt (j .block) (congestionFor j s i)) (turn-fair j sound s ready i hi) (r .path) (t .path-nodes) (t .path-short))
 
 -- the tree of the source alone
 source-alone : (j : Job) → Routable j → (i : ℕ) → i < nets j → TreeNodes j (source j i ∷ [])
@@ -197,7 +186,7 @@ pub path-from : (j : Job) → Routable j → (i : ℕ) → i < nets j → (x : �
 unfolding hasPath
 path-from j sound i hi x node found =
     let p =
-    some-path (j .block) (priceAt (j .block) (congestionFor j (firstState j) i)) (marksOf j (source j i ∷ [])) (graph-of (j .block) (sound .block-sound))
+    some-path (j .block) (priceAt (j .block) (congestionFor j (firstState j) i)) (marksOf j (source j i ∷ [])) (shaped (j .block) (sound .block-sound))
     (turn-fair j sound (firstState j) (first-ready j sound) i hi) x node (ltb-true _ _ found) in
     let first : p .0 ≡ source j i =
     only-entry (p .0) (source j i) (sym (mark-is j (source j i ∷ []) (source-alone j sound i hi) (p .0)) ∙ p .3) in
@@ -288,7 +277,7 @@ module _ (j : Job) (sound : Routable j) (s : State) (ready : StateReady j s) (i 
   net-turns : Turns j (s .iteration) (congestionFor j s i) i (length (netSinks j i)) (source j i ∷ []) (netRecords j s i)
   unfolding netRecords
   net-turns =
-      turns-are j (congestionFor j s i) i (graph-of (j .block) (sound .block-sound)) (turn-fair j sound s ready i hi) (sound .sink-node i hi)
+      turns-are j (congestionFor j s i) i (shaped (j .block) (sound .block-sound)) (turn-fair j sound s ready i hi) (sound .sink-node i hi)
       (s .iteration) (length (netSinks j i)) (source j i ∷ []) (source-alone j sound i hi)
 
   pub net-turn : (earlier later : List Record) (r : Record) → netRecords j s i ≡ earlier ++ (r ∷ later) → NetTurn j s i earlier r
@@ -307,7 +296,7 @@ module _ (j : Job) (sound : Routable j) (s : State) (ready : StateReady j s) (i 
     -- every sink is joined
     pub net-joins : (x : ℕ) → has x (netSinks j i) ≡ true → has x (treeFrom j i (netRecords j s i)) ≡ true
     net-joins x h =
-        turns-join j (congestionFor j s i) i (graph-of (j .block) (sound .block-sound)) (turn-fair j sound s ready i hi) (sound .sink-node i hi)
+        turns-join j (congestionFor j s i) i (shaped (j .block) (sound .block-sound)) (turn-fair j sound s ready i hi) (sound .sink-node i hi)
         net-turns (source-alone j sound i hi) (missing-most (source j i ∷ []) (netSinks j i)) (source j i) (has-first (source j i) [])
         (λ y k. sink-path j sound i hi y k (all y k)) x h
 

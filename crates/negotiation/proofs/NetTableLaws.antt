@@ -20,13 +20,14 @@ use Rattle.price.specs.Test.{choose, both}
 use Rattle.price.specs.Bounds.{nodesMost, limitMost}
 use Rattle.price.specs.Tuning.{tuningSound}
 use Rattle.price.specs.Lists.{every, neighbours, upTo}
-use Rattle.price.proofs.TestLaws.{le-or-lt, both-true, both-false-right}
+use Rattle.price.proofs.TestLaws.{either-way, le-or-lt, both-true, both-false-right}
 use Rattle.price.proofs.ListLaws.{every-all, every-none, neighbours-all, neighbours-none, length-upTo, getD-upTo, part-slice}
 use Rattle.search.specs.Block.{Block}
 use Rattle.search.specs.Block as block
 use Rattle.search.specs.Tables.{faultyTable}
 use Rattle.search.specs.Turn.{congestionOf}
-use Rattle.search.specs.Replies.{sinksMost, faultyWithSinks, pathReplyOf, pathReply}
+use Rattle.search.specs.Replies.{sinksMost, faultyWithSinks, fitting, pathReplyOf, pathReply}
+use Rattle.search.proofs.JoinLaws.{fitted}
 use Rattle.search.specs.Replies as search
 use Rattle.search.specs.declared.PathAnswer.{PathAnswer}
 use Rattle.search.proofs.BlockLaws.{sound-of, kinds-some, kinds-few}
@@ -226,17 +227,26 @@ tableNamed (k ∷ ks) = choose (eqb k 5) (getD ks 0 0) 0
 
 -- with no sinks and one entry of work memory every call is refused, for a table or for the work slice
 module _ (b : Block) (factor : ℕ) (histories others marks work : List ℕ) (short : length work ≡ 1) where
+  -- one entry is too few for any job
+  unfit : fitting b (congestionOf factor histories others) marks [] work ≡ false
+  unfit =
+      ⊎-elim
+      (λ (q : fitting b (congestionOf factor histories others) marks [] work ≡ true).
+      absurd (let f = fitted b (congestionOf factor histories others) marks [] work q in let some = f .some in let enough = f .enough in omega arith))
+      (λ q. q)
+      (either-way (fitting b (congestionOf factor histories others) marks [] work))
+
   refused-table : 1 ≤ faultyTable b → pathReply b (congestionOf factor histories others) marks [] work .refusal ≡ 5 ∷ faultyTable b ∷ []
   unfolding pathReply faultyWithSinks
   refused-table h =
-      rw (le-leb 1 (faultyTable b) h, refusal-table (faultyTable b) (block.nodes b) factor (length work) histories others marks h)
+      rw (unfit, le-leb 1 (faultyTable b) h, refusal-table (faultyTable b) (block.nodes b) factor (length work) histories others marks h)
 
   refused-work : faultyTable b < 1 → pathReply b (congestionOf factor histories others) marks [] work .refusal ≡ 6 ∷ 8 * block.nodes b ∷ []
   unfolding pathReply faultyWithSinks search.sinkListSound every
   refused-work h =
       let none : faultyTable b ≡ 0 = omega arith in
       let some : 1 ≤ block.nodes b = kinds-some (b .kinds) (sound-of b none .kinds-sound) in
-      rw (lt-leb 1 (faultyTable b) h, refusal-work 0 (block.nodes b) factor (length work) histories others marks (omega arith) (omega arith))
+      rw (unfit, lt-leb 1 (faultyTable b) h, refusal-work 0 (block.nodes b) factor (length work) histories others marks (omega arith) (omega arith))
 
   pub named : {r told : PathAnswer} (left : List ℕ) → pathReplyOf r left ≡ pathReply b (congestionOf factor histories others) marks [] work → r ≡ told → tableNamed (pathReplyOf told left .refusal) ≡ faultyTable b
   named left e t =

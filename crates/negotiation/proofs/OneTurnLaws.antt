@@ -9,18 +9,17 @@ use lib.Seq.{getD-append-add, getD-drop}
 use Rattle.price.specs.Bounds.{nodesMost}
 use Rattle.search.specs.Block as block
 use Rattle.search.specs.Block.{Block}
-use Rattle.search.specs.Tables.{Graph}
 use Rattle.search.specs.Paths.{Fair}
 use Rattle.search.specs.Turn.{Congestion, congestionOf, priceAt, Turn, joins, turn}
-use Rattle.search.specs.Replies.{PathReply, cleared, turnReply, pathReply, pathReplyOf}
+use Rattle.search.specs.Replies.{PathReply, readOff, turnReply, pathReply, pathReplyOf}
 use Rattle.search.specs.declared.PathAnswer.{PathAnswer}
 use Rattle.search.specs.declared.PathAnswer.the-variants.{Joins, Stuck, BadTable, ShortWork, BadNumber}
-use Rattle.search.proofs.BlockLaws.{graph-of}
+use Rattle.search.proofs.EdgeLaws.{Shaped, shaped}
 use Rattle.search.proofs.PathTestLaws.{sinks-nodes}
 use Rattle.search.proofs.ReadyLaws.{ready-fair}
 use Rattle.search.proofs.PathToLaws.{path-short, path-nodes}
 use Rattle.search.proofs.TurnLaws.{joins-within, joins-path, joins-near}
-use Rattle.search.proofs.PathReplyLaws.{cleared-front, path-turn, joined-turn, stuck-turn, no-refusal}
+use Rattle.search.proofs.PathReplyLaws.{read-front, path-turn, joined-turn, stuck-turn, no-refusal}
 use Rattle.negotiation.specs.Records.{recordOf, words}
 use Rattle.negotiation.specs.Steps.{AllBelow, Stored, SameFrom, CanTurn, Skipped, Overflows, TurnLogged}
 use Rattle.negotiation.specs.TariffSteps.{loggedTariff}
@@ -35,16 +34,16 @@ getD-past xs ys k l =
     subst (λ (j : ℕ). getD (xs ++ ys) j 0 ≡ getD ys (k - length xs) 0) e (getD-append-add xs ys (k - length xs) 0)
 
 -- it stays from 8 n on
-cleared-rest : (n : ℕ) (first work : List ℕ) → length first ≤ 8 * n → 8 * n ≤ length work → SameFrom (8 * n) work (cleared n first work)
-unfolding cleared
-cleared-rest n first work s l =
-    let zeros : List ℕ = replicate (8 * n - length first) 0 in
-    let zeros-long : length zeros ≡ 8 * n - length first = length-replicate (8 * n - length first) 0 in
+read-rest : (n : ℕ) (path work : List ℕ) → length path ≤ n → 8 * n ≤ length work → SameFrom (8 * n) work (readOff n path work)
+unfolding readOff
+read-rest n path work s l =
+    let zeros : List ℕ = replicate (3 * n - length path) 0 in
+    let zeros-long : length zeros ≡ 3 * n - length path = length-replicate (3 * n - length path) 0 in
     record {
-      long = omega (arith, length-append first (zeros ++ drop (8 * n) work), length-append zeros (drop (8 * n) work), length-drop (8 * n) work);
+      long = omega (arith, length-append path (zeros ++ drop (3 * n) work), length-append zeros (drop (3 * n) work), length-drop (3 * n) work);
       high = λ k h.
-          let place : 8 * n + (k - length first - length zeros) ≡ k = omega arith in
-          getD-past first (zeros ++ drop (8 * n) work) k (omega arith) ∙ getD-past zeros (drop (8 * n) work) (k - length first) (omega arith) ∙ getD-drop (8 * n) work (k - length first - length zeros) 0 ∙ ap (λ (j : ℕ). getD work j 0) place;
+          let place : 3 * n + (k - length path - length zeros) ≡ k = omega arith in
+          getD-past path (zeros ++ drop (3 * n) work) k (omega arith) ∙ getD-past zeros (drop (3 * n) work) (k - length path) (omega arith) ∙ getD-drop (3 * n) work (k - length path - length zeros) 0 ∙ ap (λ (j : ℕ). getD work j 0) place;
     }
 
 -- ---- what the search answers
@@ -82,7 +81,7 @@ module _ {b : Block} {tariff : Tariff} {net : ℕ} {sinks history users marks wo
       let j = joined-turn b prices marks sinks work (block.nodes b) work′ made place cost count e′ in
       let path : List ℕ = j .0 in
       let price = priceAt b prices in
-      let graph : Graph b = graph-of b (t .ready .sound) in
+      let graph : Shaped b = shaped b (t .ready .sound) in
       let few : block.nodes b ≤ nodesMost = graph .few in
       let all-nodes = sinks-nodes (block.nodes b) sinks (t .sinks-sound) in
       let within : place < length sinks = joins-within b price marks graph fair sinks all-nodes place cost path (j .1) in
@@ -91,8 +90,8 @@ module _ {b : Block} {tariff : Tariff} {net : ℕ} {sinks history users marks wo
       let node : getD sinks place 0 < block.nodes b = all-nodes place within in
       let short : length path ≤ block.nodes b = rw found (path-short b price marks graph fair (getD sinks place 0) node near) in
       let below : AllBelow (block.nodes b) path = rw found (path-nodes b price marks graph fair (getD sinks place 0) node near) in
-      let begins : take count work′ ≡ path = cleared-front (block.nodes b) path work (j .2) (j .3) in
-      let rest : SameFrom (8 * block.nodes b) work work′ = rw (j .3) (cleared-rest (block.nodes b) path work (omega arith) (t .ready .enough)) in
+      let begins : take count work′ ≡ path = read-front (block.nodes b) path work (j .2) (j .3) in
+      let rest : SameFrom (8 * block.nodes b) work work′ = rw (j .3) (read-rest (block.nodes b) path work short (t .ready .enough)) in
       record {
         is-turn = rw begins (j .1);
         within = within;
@@ -107,7 +106,7 @@ module _ {b : Block} {tariff : Tariff} {net : ℕ} {sinks history users marks wo
   turn-stuck : {work′ : List ℕ} → pathReplyOf Stuck work′ ≡ pathReply b prices marks sinks work → Skipped made log marks log marks × SameFrom (8 * block.nodes b) work work′
   turn-stuck {work′} e =
       let s = stuck-turn b prices marks sinks work (block.nodes b) work′ made (reply e) in
-      (record { is-stuck = s .0; log-same = refl; marks-same = refl }, rw (s .1) (cleared-rest (block.nodes b) [] work (omega arith) (t .ready .enough)))
+      (record { is-stuck = s .0; log-same = refl; marks-same = refl }, rw (s .1) (read-rest (block.nodes b) [] work (omega arith) (t .ready .enough)))
 
   -- any other answer is that no sink is left to be joined
   pub turn-other : {work′ : List ℕ} (r : PathAnswer) → ((place cost count : ℕ) → r ≡ Joins place cost count → ⊥) → pathReplyOf r work′ ≡ pathReply b prices marks sinks work → Skipped made log marks log marks × SameFrom (8 * block.nodes b) work work′

@@ -13,11 +13,11 @@ use Rattle.price.specs.Lists.{every, has, distinct, upTo}
 use Rattle.price.proofs.TestLaws.{either-way, le-or-lt}
 use Rattle.price.proofs.ListLaws.{has-at, has-place, length-upTo, getD-upTo, has-append-left, has-append-right}
 use Rattle.search.specs.Block.{Block}
-use Rattle.search.specs.Tables.{Graph}
 use Rattle.search.specs.Paths.{Walk, stay, step, CheapestPath, Fair}
 use Rattle.search.specs.Distance.{far, inTree, distance}
 use Rattle.search.specs.Turn.{Congestion, Turn, joins, stuck, priceAt, pathTo, turn}
 use Rattle.search.proofs.DistinctLaws.{has-cons, has-first, lacks}
+use Rattle.search.proofs.EdgeLaws.{Shaped}
 use Rattle.search.proofs.PathToLaws.{path-walk, path-distinct, path-one-tree-node, path-short, path-nodes}
 use Rattle.search.proofs.TurnLaws.{joins-within, joins-path, joins-near, joins-cheapest, stuck-no-path}
 use Rattle.negotiation.specs.Job.{Job, nodes, netSinks}
@@ -97,7 +97,7 @@ same-tree {sink = sink} same p =
       cheapest = λ t s other m l o w. p .cheapest t s other (same t ∙ m) l (same s ∙ o) w;
     }
 
-module _ (j : Job) (c : Congestion) (i : ℕ) (g : Graph (j .block)) (fair : Fair (j .block) (priceAt (j .block) c)) (all-nodes : (k : ℕ) → k < length (netSinks j i) → getD (netSinks j i) k 0 < nodes j) where
+module _ (j : Job) (c : Congestion) (i : ℕ) (g : Shaped (j .block)) (fair : Fair (j .block) (priceAt (j .block) c)) (all-nodes : (k : ℕ) → k < length (netSinks j i) → getD (netSinks j i) k 0 < nodes j) where
   -- a turn that joins
   module _ (tree : List ℕ) (all : TreeNodes j tree) (place cost : ℕ) (path : List ℕ) (is : turnOf j c i tree ≡ joins place cost path) where
     abbrev price : ℕ → ℕ

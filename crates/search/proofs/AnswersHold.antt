@@ -1,6 +1,7 @@
 -- What the answers are in terms of paths alone: a search that isn't refused leaves least costs, and a turn joins by a cheapest path or has none.
 -- It follows from what the replies are, whatever the code does.
 -- Assumes nothing.
+use mathlib.Core.Bool.{true, false}
 use mathlib.Core.List.{List, [], _∷_, _++_}
 use mathlib.Core.Path.{_≡_, refl, sym, _∙_, ap}
 use Prim.Native.Nat.{ℕ, zero, suc, _*_, _-_, _<_}
@@ -8,34 +9,31 @@ use native.Mathlib.Nat.{not-suc-le-zero, le-of-suc-le-suc}
 use native.Mathlib.Omega.{arith}
 use lib.ListN.{length, getD, take, drop, replicate, List·getD-append}
 use Rattle.search.specs.Block.{Block, blockOf, nodes}
-use Rattle.search.specs.Tables.{faultyTable, Sound, Graph}
+use Rattle.search.specs.Tables.{faultyTable, Sound}
 use Rattle.search.specs.Paths.{CheapestPath, NoPath, Fair}
 use Rattle.search.specs.Distance.{far, LeastCost, inTree, distances, distance}
 use Rattle.search.specs.Turn.{Congestion, priceAt, turn}
-use Rattle.search.specs.Replies.{cleared, refusalOf, faultyWithSinks, SearchReply, searchUnlessRefused, searchReply, searchReplyOf, LeavesLeastCosts, PathReply, turnReply, pathUnlessRefused, pathReply, pathReplyOf, JoinsCheapest}
+use Rattle.search.specs.Held.{heldPrice}
+use Rattle.search.specs.Replies.{cleared, refusalOf, faultyWithSinks, SearchReply, searchUnlessRefused, searchReply, searchReplyOf, LeavesLeastCosts}
+use Rattle.search.specs.Replies.{PathReply, turnReply, fitting, pathDue, pathReply, pathRefusal, pathNumbers, pathReplyOf, JoinsCheapest}
 use Rattle.search.specs.declared.SearchAnswer.{SearchAnswer}
 use Rattle.search.specs.declared.SearchAnswer.the-variants as s
 use Rattle.search.specs.declared.PathAnswer.{PathAnswer}
 use Rattle.search.specs.declared.PathAnswer.the-variants as p
+use Rattle.price.proofs.TestLaws.{true≢false}
 use Rattle.search.proofs.BlockLaws.{graph-of, sound-of}
+use Rattle.search.proofs.EdgeLaws.{Shaped, shape-of}
 use Rattle.search.proofs.ReadyLaws.{refusal-none, passed-ready, ready-block-fair}
 use Rattle.search.proofs.DistanceLaws.{length-distances, distance-least}
 use Rattle.search.proofs.TurnLaws.{joins-cheapest, stuck-no-path}
 use Rattle.search.proofs.PathTestLaws.{sinks-nodes, path-ready}
-use Rattle.search.proofs.PathReplyLaws.{joined-turn, stuck-turn, cleared-front}
+use Rattle.search.proofs.PathReplyLaws.{joined-turn, stuck-turn, read-front, fitting-sound, path-turn}
 
 -- a reply without a refusal is what is done where nothing is refused
 search-unrefused : (ns done work : List ℕ) {x : SearchReply} → x ≡ searchUnlessRefused ns done work → x .refusal ≡ [] → (ns ≡ []) × (x .work ≡ done)
 search-unrefused [] done work e none = (refl, ap (λ (r : SearchReply). r .work) e)
 search-unrefused (k ∷ ks) done work e none =
     let numbers : k ∷ ks ≡ [] = sym (ap (λ (r : SearchReply). r .refusal) e) ∙ none in
-    let z : _≡_ {A = ℕ} 0 1 = cc in
-    absurd (omega arith)
-
-path-unrefused : (ns : List ℕ) (done : PathReply) (work : List ℕ) {x : PathReply} → x ≡ pathUnlessRefused ns done work → x .refusal ≡ [] → (ns ≡ []) × (x ≡ done)
-path-unrefused [] done work e none = (refl, e)
-path-unrefused (k ∷ ks) done work e none =
-    let numbers : k ∷ ks ≡ [] = sym (ap (λ (r : PathReply). r .refusal) e) ∙ none in
     let z : _≡_ {A = ℕ} 0 1 = cc in
     absurd (omega arith)
 
@@ -67,7 +65,7 @@ module _ (ks cs fs ts : List ℕ) (c : Congestion) (marks work : List ℕ) where
       let l : v < length ds = omega arith in
       let here : getD w′ v 0 ≡ distance block price marks v =
       ap (λ (xs : List ℕ). getD xs v 0) end ∙ List·getD-append ds (replicate (8 * nodes block - length ds) 0 ++ drop (8 * nodes block) work) 0 v l ∙ within-entry ds 0 far v l in
-      rw here (distance-least block price marks (graph-of block sound) fair v h)
+      rw here (distance-least block price marks (shape-of block (graph-of block sound)) fair v h)
 
   pub search-least : (r : SearchAnswer) (w′ : List ℕ) → searchReplyOf r w′ ≡ searchReply block c marks work → LeavesLeastCosts block price marks r w′
   unfolding searchReply
@@ -88,8 +86,8 @@ module _ (ks cs fs ts : List ℕ) (c : Congestion) (marks work : List ℕ) where
       sound : Sound block
       sound = path-ready ks cs fs ts sinks refl c marks work refl none .1 .0
 
-      graph : Graph block
-      graph = graph-of block sound
+      graph : Shaped block
+      graph = shape-of block (graph-of block sound)
 
       fair : Fair block price
       fair = ready-block-fair ks cs fs ts c marks (path-ready ks cs fs ts sinks refl c marks work refl none .0)
@@ -101,7 +99,7 @@ module _ (ks cs fs ts : List ℕ) (c : Congestion) (marks work : List ℕ) where
           → CheapestPath block price (inTree marks) sinks (getD sinks place 0) cost (take n w′)
       joined-cheapest place cost n w′ e =
           let j = joined-turn block c marks sinks work (nodes block) w′ (turn block price marks sinks) place cost n e in
-          let begins : take n w′ ≡ j .0 = cleared-front (nodes block) (j .0) work (j .2) (j .3) in
+          let begins : take n w′ ≡ j .0 = read-front (nodes block) (j .0) work (j .2) (j .3) in
           rw begins (joins-cheapest block price marks graph fair sinks all-nodes place cost (j .0) (j .1))
 
       stuck-none : (w′ : List ℕ) → pathReplyOf p.Stuck w′ ≡ turnReply (nodes block) work (turn block price marks sinks) → NoPath block (inTree marks) sinks
@@ -109,23 +107,37 @@ module _ (ks cs fs ts : List ℕ) (c : Congestion) (marks work : List ℕ) where
           stuck-no-path block price marks graph fair sinks all-nodes
           (stuck-turn block c marks sinks work (nodes block) w′ (turn block price marks sinks) e .0)
 
-    abbrev due : List ℕ
-    due = refusalOf (faultyWithSinks block sinks) (nodes block) c marks (length work)
+      -- the turn is the reply
+      reply : {x : PathReply} → x ≡ pathReply block c marks sinks work → x ≡ turnReply (nodes block) work (turn block price marks sinks)
+      reply e =
+          let r = path-ready ks cs fs ts sinks refl c marks work refl none in
+          e ∙ path-turn block c marks sinks work sound (r .1 .1 .1) (r .1 .1 .0) (r .0 .nodes-sound) (r .0 .factor-most)
 
-    abbrev made : PathReply
-    made = turnReply (nodes block) work (turn block price marks sinks)
+      pub path-cheapest : (r : PathAnswer) (w′ : List ℕ) → pathReplyOf r w′ ≡ pathReply block c marks sinks work → JoinsCheapest block price marks sinks r w′
+      path-cheapest (p.Joins place cost n) w′ e = joined-cheapest place cost n w′ (reply e)
+      path-cheapest p.Stuck w′ e = stuck-none w′ (reply e)
+      path-cheapest (p.BadTable table) w′ e = tt
+      path-cheapest (p.ShortWork needed) w′ e = tt
+      path-cheapest (p.BadNumber place) w′ e = tt
 
-    pub path-cheapest : (r : PathAnswer) (w′ : List ℕ) → pathReplyOf r w′ ≡ pathReply block c marks sinks work → JoinsCheapest block price marks sinks r w′
+      -- and every length is right
+      pub due-fitting : fitting block c marks sinks work ≡ true
+      due-fitting =
+          let r = path-ready ks cs fs ts sinks refl c marks work refl none in
+          fitting-sound block c marks sinks work sound (r .1 .1 .1) (r .1 .1 .0) (r .0 .nodes-sound) (r .0 .factor-most)
+
+    -- where every length is right the turn is the reply
+    pub path-turned :
+        (r : PathAnswer) (w′ : List ℕ) → fitting block c marks sinks work ≡ true → pathReplyOf r w′ ≡ turnReply (length ks) work (turn block (heldPrice ks cs c) marks sinks)
+        → (pathReplyOf r w′ ≡ pathReply block c marks sinks work) × (pathDue block c marks sinks work ≡ [] → JoinsCheapest block price marks sinks r w′)
     unfolding pathReply
-    path-cheapest (p.Joins place cost n) w′ e =
-        let u = path-unrefused due made work e refl in
-        joined-cheapest (u .0) place cost n w′ (u .1)
-    path-cheapest p.Stuck w′ e =
-        let u = path-unrefused due made work e refl in
-        stuck-none (u .0) w′ (u .1)
-    path-cheapest (p.BadTable table) w′ e = tt
-    path-cheapest (p.ShortWork needed) w′ e = tt
-    path-cheapest (p.BadNumber place) w′ e = tt
+    path-turned r w′ t e =
+        let is : pathReplyOf r w′ ≡ pathReply block c marks sinks work = rw t e in
+        (is, λ none. path-cheapest none r w′ is)
 
-    pub path-both : (r : PathAnswer) (w′ : List ℕ) → pathReplyOf r w′ ≡ pathReply block c marks sinks work → (pathReplyOf r w′ ≡ pathReply block c marks sinks work) × JoinsCheapest block price marks sinks r w′
-    path-both r w′ e = (e, path-cheapest r w′ e)
+    -- where one is wrong what is due is the reply, and something is
+    pub path-refused :
+        (r : PathAnswer) → fitting block c marks sinks work ≡ false → pathRefusal r ≡ pathDue block c marks sinks work → pathNumbers r ≡ []
+        → (pathReplyOf r work ≡ pathReply block c marks sinks work) × (pathDue block c marks sinks work ≡ [] → JoinsCheapest block price marks sinks r work)
+    unfolding pathReply
+    path-refused r t e n = (rw (t, e, n), λ none. absurd (true≢false (sym (due-fitting none) ∙ t)))

@@ -14,11 +14,10 @@ use Rattle.price.specs.Lists.{firstBelow}
 use Rattle.price.proofs.TestLaws.{true≢false, both-true, both-left, both-right, le-or-lt}
 use Rattle.price.proofs.BelowLaws.{firstBelow-below, firstBelow-holds}
 use Rattle.search.specs.Block.{Block, nodes, hasEdge}
-use Rattle.search.specs.Tables.{Graph}
 use Rattle.search.specs.Paths.{Fair}
 use Rattle.search.specs.Distance.{far, inTree, distances, distance}
 use Rattle.search.specs.Turn.{before}
-use Rattle.search.proofs.BlockLaws.{edge-from}
+use Rattle.search.proofs.EdgeLaws.{Shaped, edge-node}
 use Rattle.search.proofs.DistanceLaws.{distance-over}
 
 -- the test by which the node before v is found
@@ -29,7 +28,7 @@ leadsTo b price marks v u =
 leads : (b : Block) (price : ℕ → ℕ) (marks : List ℕ) (u v : ℕ) → hasEdge b u v ≡ true → distance b price marks u + price v ≡ distance b price marks v → leadsTo b price marks v u ≡ true
 leads b price marks u v e s = both-true e (eq-eqb _ _ s)
 
-module _ (b : Block) (price : ℕ → ℕ) (marks : List ℕ) (g : Graph b) (fair : Fair b price) where
+module _ (b : Block) (price : ℕ → ℕ) (marks : List ℕ) (g : Shaped b) (fair : Fair b price) where
   -- the node before v
   module _ (v : ℕ) (node : v < nodes b) (out : inTree marks v ≡ false) (near : distance b price marks v < far) where
     pub before-node : before b price (distances b price marks) v < nodes b
@@ -40,7 +39,7 @@ module _ (b : Block) (price : ℕ → ℕ) (marks : List ℕ) (g : Graph b) (fai
         ⊎-elim
         (λ (q : nodes b ≤ firstBelow (leadsTo b price marks v) (nodes b)).
         let lower : leadsTo b price marks v u ≡ false =
-        firstBelow-below (leadsTo b price marks v) (nodes b) u (le-trans (edge-from b g u v (over .1)) q) in
+        firstBelow-below (leadsTo b price marks v) (nodes b) u (le-trans (edge-node b g u v (over .1)) q) in
         absurd (true≢false (sym (leads b price marks u v (over .1) (sym (over .2))) ∙ lower)))
         (λ q. q)
         (le-or-lt (nodes b) (firstBelow (leadsTo b price marks v) (nodes b)))

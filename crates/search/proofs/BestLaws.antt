@@ -1,14 +1,12 @@
--- The least distance that a goal has so far: what keeps it, and where a shorter way to a goal makes it less. And a number at most every goal's price.
+-- The least distance that a goal has so far: what keeps it, and where a shorter way to a goal makes it less.
 -- Assumes nothing.
 use mathlib.Core.List.{List}
 use mathlib.Core.Logic.{⊎-elim, inl, inr}
 use mathlib.Core.Path.{_≡_, sym, _∙_, subst}
 use Prim.Native.Nat.{ℕ, _+_, _*_, _≤_, _<_}
-use native.Mathlib.Nat.{eq-or-lt-of-le}
 use native.Mathlib.Omega.{arith}
-use lib.ListN.{length, getD, set}
-use Rattle.search.specs.Paths.{anyPriceMost}
-use Rattle.search.specs.Layout.{distAt, priceIn, goalAt, Shortened, Cheapest}
+use lib.ListN.{getD, set}
+use Rattle.search.specs.Layout.{distAt, goalAt, Shortened}
 use Rattle.search.specs.Frontier.{BestGoal}
 use Rattle.search.proofs.StoreLaws.{stored-other}
 use Rattle.search.proofs.QueueLaws.{same-or-not}
@@ -82,26 +80,3 @@ module _ {n u v d best : ℕ} {w w′ : List ℕ} (h : v < n) (t : Shortened n u
           let low = none (subst (λ (j : ℕ). goalAt n w′ j ≡ 1) e (goal-same x hx ∙ g)) in
           let at : distAt w v ≡ best = subst (λ (j : ℕ). distAt w j ≡ best) e is in
           omega arith
-
--- ---- a number at most the price of each goal, place by place of the list
-
-pub cheapest-none : (n : ℕ) (sinks w : List ℕ) → Cheapest n sinks w 0 anyPriceMost
-cheapest-none n sinks w = record { most = omega arith; least = λ j l g. absurd (omega arith) }
-
-module _ {n : ℕ} {sinks w : List ℕ} {i step : ℕ} (c : Cheapest n sinks w i step) where
-  pub cheapest-more : {next : ℕ} → next ≤ step → (goalAt n w (getD sinks i 0) ≡ 1 → next ≤ priceIn n w (getD sinks i 0)) → Cheapest n sinks w (i + 1) next
-  cheapest-more {next} le here =
-      record {
-        most = omega (arith, c .most);
-        least = λ j l g.
-            ⊎-elim
-            (λ (e : j ≡ i). new j e g)
-            (λ (q : j < i). let low = c .least j q g in omega arith)
-            (eq-or-lt-of-le (omega arith));
-      }
-    where
-      new : (j : ℕ) → j ≡ i → goalAt n w (getD sinks j 0) ≡ 1 → next ≤ priceIn n w (getD sinks j 0)
-      new j e = subst (λ (k : ℕ). goalAt n w (getD sinks k 0) ≡ 1 → next ≤ priceIn n w (getD sinks k 0)) (sym e) here
-
-  pub cheapest-all : length sinks ≤ i → Cheapest n sinks w (length sinks) step
-  cheapest-all l = record { most = c .most; least = λ j h g. c .least j (omega arith) g }

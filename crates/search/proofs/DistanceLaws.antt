@@ -5,7 +5,7 @@ use mathlib.Core.Bool.{true, false}
 use mathlib.Core.List.{List, [], _∷_, _++_}
 use mathlib.Core.Logic.{⊎-elim}
 use mathlib.Core.Path.{_≡_, sym, _∙_}
-use Prim.Native.Nat.{ℕ, zero, suc, _+_, _*_, _≤_, _<_, zero-le}
+use Prim.Native.Nat.{ℕ, zero, suc, _+_, _≤_, _<_, zero-le}
 use native.Mathlib.Nat.{le-refl, le-trans, le-antisymm, le-of-eq, le-dest, lt-irrefl, add-zero, suc-add, add-suc, zero-add}
 use native.Mathlib.Omega.{arith}
 use lib.ListN.{length, getD, List·getD-eq-default}
@@ -16,10 +16,9 @@ use Rattle.price.proofs.TestLaws.{either-way, true≢false, le-or-lt}
 use Rattle.price.proofs.ListLaws.{length-upTo, getD-upTo}
 use Rattle.price.proofs.EntryLaws.{least-top, least-le, least-is}
 use Rattle.search.specs.Block.{Block, nodes, hasEdge}
-use Rattle.search.specs.Tables.{Graph}
 use Rattle.search.specs.Paths.{Walk, stay, step, pathCost, Fair}
 use Rattle.search.specs.Distance.{far, LeastCost, reached, unreached, inTree, treeDistances, nearer, round, rounds, distances, distance}
-use Rattle.search.proofs.BlockLaws.{edge-from, edge-to}
+use Rattle.search.proofs.EdgeLaws.{Shaped, edge-node}
 use Rattle.search.proofs.WalkLaws.{stay-cost, step-cost, snoc, snoc-cost, last-step, WalkEnd, walk-start, shorten}
 
 -- a node's distance after k rounds
@@ -132,14 +131,14 @@ module _ (b : Block) (price : ℕ → ℕ) (marks : List ℕ) where
 
   -- rounds as many as a walk has nodes go along it
   after-walk :
-      Graph b → (j : ℕ) {u v : ℕ} {path : List ℕ} → u < nodes b → Walk b u path v
+      Shaped b → (j : ℕ) {u v : ℕ} {path : List ℕ} → v < nodes b → Walk b u path v
       → after b price marks (length path + j) v ≤ after b price marks j u + pathCost price path
   after-walk g j h (stay u) =
       rw (suc-add, zero-add, stay-cost price u, add-zero) (after-keeps j u h)
   after-walk g j {v = v} h (step {u = u} {w = x} {path = path} e w) =
-      let hx : x < nodes b = edge-to b g u x e in
-      let here : after b price marks (suc j) x ≤ after b price marks j u + price x = after-step j u x h hx e in
-      let on : after b price marks (length path + suc j) v ≤ after b price marks (suc j) x + pathCost price path = after-walk g (suc j) hx w in
+      let hx : x < nodes b = walk-start g h w in
+      let here : after b price marks (suc j) x ≤ after b price marks j u + price x = after-step j u x (edge-node b g u x e) hx e in
+      let on : after b price marks (length path + suc j) v ≤ after b price marks (suc j) x + pathCost price path = after-walk g (suc j) h w in
       let whole : pathCost price (u ∷ path) ≡ price x + pathCost price path = step-cost price u w in
       rw (suc-add, ← add-suc) (omega arith)
 
@@ -155,19 +154,19 @@ module _ (b : Block) (price : ℕ → ℕ) (marks : List ℕ) where
   unfolding distances
   distance-tree v h t = after-tree (nodes b) v h t
 
-  module _ (g : Graph b) (fair : Fair b price) where
+  module _ (g : Shaped b) (fair : Fair b price) where
     -- no walk from the tree costs less that has at most as many nodes as there are rounds
-    short-walk : (t v : ℕ) (path : List ℕ) → t < nodes b → inTree marks t ≡ true → Walk b t path v → length path ≤ nodes b → distance b price marks v ≤ pathCost price path
+    short-walk : (t v : ℕ) (path : List ℕ) → v < nodes b → inTree marks t ≡ true → Walk b t path v → length path ≤ nodes b → distance b price marks v ≤ pathCost price path
     unfolding distances
     short-walk t v path h m w few =
         let r = le-dest few in
         let along : after b price marks (length path + r .0) v ≤ after b price marks (r .0) t + pathCost price path = after-walk g (r .0) h w in
         let whole : length path + r .0 ≡ nodes b = r .1 in
-        let start : after b price marks (r .0) t ≡ 0 = after-tree (r .0) t h m in
+        let start : after b price marks (r .0) t ≡ 0 = after-tree (r .0) t (walk-start g h w) m in
         rw (whole, start, zero-add) at along
 
     -- (a) no path from the tree costs less, also one that passes a node twice
-    pub no-path-cheaper : (t v : ℕ) (path : List ℕ) → t < nodes b → inTree marks t ≡ true → Walk b t path v → distance b price marks v ≤ pathCost price path
+    pub no-path-cheaper : (t v : ℕ) (path : List ℕ) → v < nodes b → inTree marks t ≡ true → Walk b t path v → distance b price marks v ≤ pathCost price path
     no-path-cheaper t v path h m w =
         let s = shorten g price fair h w in
         le-trans (short-walk t v (s .path′) h m (s .walk) (s .few)) (s .less)
@@ -195,19 +194,19 @@ module _ (b : Block) (price : ℕ → ℕ) (marks : List ℕ) where
         (λ (q : far ≤ d). le-trans (distance-top v) q)
         (λ (q : d < far).
         let r = some q in
-        le-trans (no-path-cheaper (r .0) v (r .1) (r .2) (r .3) (r .4)) (le-of-eq (r .5)))
+        le-trans (no-path-cheaper (r .0) v (r .1) h (r .3) (r .4)) (le-of-eq (r .5)))
         (le-or-lt far d))
 
     -- it is at most the largest price for each node
     pub distance-most : (v : ℕ) → v < nodes b → distance b price marks v < far → distance b price marks v < pathMost
     distance-most v h l =
         let r = some-path v h l in
-        let s = shorten g price fair (r .2) (r .4) in
-        let less = short-walk (r .0) v (s .path′) (r .2) (r .3) (s .walk) (s .few) in
+        let s = shorten g price fair h (r .4) in
+        let less = short-walk (r .0) v (s .path′) h (r .3) (s .walk) (s .few) in
         omega (arith, s .most)
 
     -- a node to which any path leads from the tree has a distance
-    pub path-near : (t v : ℕ) (path : List ℕ) → t < nodes b → inTree marks t ≡ true → Walk b t path v → distance b price marks v < far
+    pub path-near : (t v : ℕ) (path : List ℕ) → v < nodes b → inTree marks t ≡ true → Walk b t path v → distance b price marks v < far
     path-near t v path h m w =
         let s = shorten g price fair h w in
         let less = short-walk t v (s .path′) h m (s .walk) (s .few) in
@@ -219,20 +218,20 @@ module _ (b : Block) (price : ℕ → ℕ) (marks : List ℕ) where
         ⊎-elim
         (λ (q : far ≤ distance b price marks v).
         unreached (le-antisymm (distance-top v) q)
-        (λ t path m w. let near = path-near t v path (walk-start g h w) m w in omega arith))
+        (λ t path m w. let near = path-near t v path h m w in omega arith))
         (λ (q : distance b price marks v < far).
         let r = some-path v h q in
-        reached (r .0) (r .1) (r .3) (r .4) (r .5) q (λ t other m w. no-path-cheaper t v other (walk-start g h w) m w))
+        reached (r .0) (r .1) (r .3) (r .4) (r .5) q (λ t other m w. no-path-cheaper t v other h m w))
         (le-or-lt far (distance b price marks v))
 
     -- no edge leads to a shorter way
-    pub distance-step : (u v : ℕ) → hasEdge b u v ≡ true → distance b price marks v ≤ distance b price marks u + price v
-    distance-step u v e =
+    pub distance-step : (u v : ℕ) → v < nodes b → hasEdge b u v ≡ true → distance b price marks v ≤ distance b price marks u + price v
+    distance-step u v h e =
         ⊎-elim
         (λ (q : far ≤ distance b price marks u). omega (arith, distance-top v))
         (λ (q : distance b price marks u < far).
-        let r = some-path u (edge-from b g u v e) q in
-        let less : distance b price marks v ≤ pathCost price (r .1 ++ (v ∷ [])) = no-path-cheaper (r .0) v (r .1 ++ (v ∷ [])) (r .2) (r .3) (snoc (r .4) e) in
+        let r = some-path u (edge-node b g u v e) q in
+        let less : distance b price marks v ≤ pathCost price (r .1 ++ (v ∷ [])) = no-path-cheaper (r .0) v (r .1 ++ (v ∷ [])) h (r .3) (snoc (r .4) e) in
         omega (arith, snoc-cost price v (r .4), r .5))
         (le-or-lt far (distance b price marks u))
 
@@ -248,8 +247,8 @@ module _ (b : Block) (price : ℕ → ℕ) (marks : List ℕ) where
         let m : inTree marks t ≡ true = r .3 in
         absurd (true≢false (sym (rw e at m) ∙ o)))
         (λ (s : WalkEnd b price t path v).
-        let less : distance b price marks (s .before) ≤ pathCost price (s .front) = no-path-cheaper t (s .before) (s .front) (r .2) (r .3) (s .walk) in
-        let most : distance b price marks v ≤ distance b price marks (s .before) + price v = distance-step (s .before) v (s .edge) in
+        let less : distance b price marks (s .before) ≤ pathCost price (s .front) = no-path-cheaper t (s .before) (s .front) (edge-node b g (s .before) v (s .edge)) (r .3) (s .walk) in
+        let most : distance b price marks v ≤ distance b price marks (s .before) + price v = distance-step (s .before) v h (s .edge) in
         let cost : pathCost price path ≡ pathCost price (s .front) + price v = s .cost in
         let is : pathCost price path ≡ distance b price marks v = r .5 in
         (s .before, s .edge, omega arith))

@@ -17,6 +17,7 @@ use Rattle.search.specs.Turn.{before}
 use Rattle.search.specs.Layout.{distAt, entryAt, predAt}
 use Rattle.search.specs.Frontier.{Open, Settled, Seen, Reached, Waiting}
 use Rattle.search.proofs.BlockLaws.{edge-from, edge-place}
+use Rattle.search.proofs.EdgeLaws.{shape-of}
 use Rattle.search.proofs.DistanceLaws.{distance-top, distance-tree, distance-step, distance-over}
 use Rattle.search.proofs.BeforeLaws.{before-edge, before-sum, before-lowest}
 
@@ -39,7 +40,7 @@ module _ (b : Block) (price : ℕ → ℕ) (marks w : List ℕ) (g : Graph b) (f
       let pos = fair .pos v h in
       let sum : distAt w v ≡ distAt w p + price v = r .sum in
       let low : distance b price marks p ≤ distAt w p = nearer p (omega arith) (r .pred-settled .node) in
-      let edge = distance-step b price marks g fair p v (r .pred-edge) in
+      let edge = distance-step b price marks (shape-of b g) fair p v h (r .pred-edge) in
       omega arith)
       (le-or-lt far (distAt w v)))
       (either-way (inTree marks v))
@@ -59,7 +60,7 @@ module _ (b : Block) (price : ℕ → ℕ) (marks w : List ℕ) (g : Graph b) (f
       (λ (t : inTree marks v ≡ false).
       ⊎-elim
       (λ (top : far ≤ distance b price marks v). omega (arith, f .bounded v h))
-      (λ (near : distance b price marks v < far). over (distance-over b price marks g fair v h t near))
+      (λ (near : distance b price marks v < far). over (distance-over b price marks (shape-of b g) fair v h t near))
       (le-or-lt far (distance b price marks v)))
       (either-way (inTree marks v))
     where
@@ -128,5 +129,5 @@ module _ (b : Block) (price : ℕ → ℕ) (marks w : List ℕ) (g : Graph b) (f
     pub pred-exact : predAt (nodes b) w v ≡ before b price (distances b price marks) v
     pred-exact =
         le-antisymm
-        (pred-lowest (before b price (distances b price marks) v) (before-edge b price marks g fair v h out near) (before-sum b price marks g fair v h out near))
-        (before-lowest b price marks g fair v h out near (predAt (nodes b) w v) (made .pred-edge) pred-final)
+        (pred-lowest (before b price (distances b price marks) v) (before-edge b price marks (shape-of b g) fair v h out near) (before-sum b price marks (shape-of b g) fair v h out near))
+        (before-lowest b price marks (shape-of b g) fair v h out near (predAt (nodes b) w v) (made .pred-edge) pred-final)

@@ -3,34 +3,28 @@
 --     cleared-length, -low, -zero, -high        a part that has been cleared, place by place
 --     answered-price, answered-refused                  what the price's answer says
 --     first-tree, first-other                   the first distance of a node
---     Pricing, Starting, Marking                the loops that fill a part, a node a turn
+--     Pricing, Starting                         the loops that fill a part, a node a turn
 -- Assumes nothing.
-use mathlib.Core.Bool.{Bool, true, false}
 use mathlib.Core.List.{List, [], _∷_, _++_, append-assoc}
-use mathlib.Core.Logic.{⊎-elim}
 use mathlib.Core.Path.{_≡_, refl, sym, _∙_, ap, subst}
 use Prim.Native.Nat.{ℕ, suc, _+_, _-_, _*_, _≤_, _<_}
 use native.Mathlib.Nat.{not-suc-le-zero}
 use native.Mathlib.Numerals.{add-one}
 use native.Mathlib.Omega.{arith}
-use lib.Dec.{eqb}
 use lib.ListN.{length, getD, set, take, drop, replicate, length-append, length-take, length-drop, length-set, length-replicate, getD-replicate, replicate-append-replicate, take-append-drop, List·getD-append}
-use lib.Seq.{length-take-le, take-all, take-suc, drop-cons, getD-append-add, getD-set-same, getD-set-other, getD-take, getD-drop, set-at}
+use lib.Seq.{length-take-le, drop-cons, getD-append-add, getD-set-same, getD-set-other, getD-take, getD-drop, set-at}
 use borrow.Author.Count.{below-more}
-use borrow.Author.Tests.{eq-eqb, ne-eqb, eqb-true, eqb-false}
-use Rattle.price.specs.Test.{choose, both, either}
-use Rattle.price.specs.Lists.{has}
+use borrow.Author.Tests.{eq-eqb, ne-eqb}
+use Rattle.price.specs.Test.{choose}
 use Rattle.price.specs.Replies.{PriceReply, priced, priceReplyOf, priceReply}
 use Rattle.price.specs.declared.PriceAnswer.{PriceAnswer}
 use Rattle.price.specs.declared.PriceAnswer.the-variants.{Price, Refused}
 use Rattle.price.proofs.ReplyLaws.{reply-priced}
-use Rattle.price.proofs.TestLaws.{either-way, both-false-right, either-true, either-false}
-use Rattle.price.proofs.ListLaws.{has-append}
 use Rattle.search.specs.Block.{blockOf}
 use Rattle.search.specs.Turn.{congestionOf, priceAt}
 use Rattle.search.specs.Frontier.{PriceReady}
 use Rattle.search.specs.Distance.{far, inTree}
-use Rattle.search.specs.Layout.{distAt, leafAt, priceIn, goalAt, SameBut, Started, Priced, Marked}
+use Rattle.search.specs.Layout.{distAt, leafAt, priceIn, SameBut, Started, Priced}
 use Rattle.search.proofs.StoreLaws.{same-none, same-store}
 
 -- ---- a part that is being cleared
@@ -179,64 +173,4 @@ starting-all l s = record {
   dist = λ v b. s .dist v (omega arith);
   leaf = λ v b. s .leaf v (omega arith);
   high = s .high;
-}
-
--- ---- the loop that marks goals
-
--- one entry more
-has-more : (x : ℕ) (xs : List ℕ) (i : ℕ) → i < length xs → has x (take (i + 1) xs) ≡ either (has x (take i xs)) (eqb x (getD xs i 0))
-unfolding has
-has-more x xs i l =
-    rw (add-one, take-suc xs i 0 l, has-append x (take i xs) (getD xs i 0 ∷ []), either-false (eqb x (getD xs i 0)))
-
--- the sinks at places below i that no tree node is are marked
-pub record Marking (n : ℕ) (marks sinks w w′ : List ℕ) (i : ℕ) : Type 0 where
-  pub upto : i ≤ length sinks
-  pub same : SameBut (5 * n) (6 * n) w w′
-  pub goals : (v : ℕ) → v < n → goalAt n w′ v ≡ choose (both (has v (take i sinks)) (eqb (getD marks v 0) 0)) 1 (goalAt n w v)
-
-pub marking-none : (n : ℕ) (marks sinks w : List ℕ) → Marking n marks sinks w w 0
-unfolding has
-marking-none n marks sinks w = record { upto = omega arith; same = same-none (5 * n) (6 * n) w; goals = λ v b. refl }
-
-module _ {n : ℕ} {marks sinks w w′ : List ℕ} {i : ℕ} (l : i < length sinks) where
-  -- a sink outside the tree is marked
-  pub marking-more : 8 * n ≤ length w → getD sinks i 0 < n → getD marks (getD sinks i 0) 0 ≡ 0 → Marking n marks sinks w w′ i → Marking n marks sinks w (set w′ (5 * n + getD sinks i 0) 1) (i + 1)
-  marking-more h b z s = record {
-    upto = omega arith;
-    same = same-store (5 * n) (6 * n) w w′ (5 * n + getD sinks i 0) 1 (omega arith) (omega arith) (s .same);
-    goals = λ v u.
-        ⊎-elim
-        (λ (q : eqb v (getD sinks i 0) ≡ true).
-        let e : v ≡ getD sinks i 0 = eqb-true v (getD sinks i 0) q in
-        let m : eqb (getD marks v 0) 0 ≡ true = eq-eqb (getD marks v 0) 0 (rw e z) in
-        rw (has-more v sinks i l, q, either-true (has v (take i sinks)), m, e)
-        (getD-set-same w′ (5 * n + getD sinks i 0) 1 0 (omega (arith, s .same .long))))
-        (λ (q : eqb v (getD sinks i 0) ≡ false).
-        rw (has-more v sinks i l, q, either-false (has v (take i sinks)))
-        (getD-set-other w′ (5 * n + getD sinks i 0) (5 * n + v) 1 0 (λ e. eqb-false v (getD sinks i 0) q (omega arith)) ∙ s .goals v u))
-        (either-way (eqb v (getD sinks i 0)));
-  }
-
-  -- a sink in the tree is not
-  pub marking-kept : (getD marks (getD sinks i 0) 0 ≡ 0 → ⊥) → Marking n marks sinks w w′ i → Marking n marks sinks w w′ (i + 1)
-  marking-kept z s = record {
-    upto = omega arith;
-    same = s .same;
-    goals = λ v b.
-        s .goals v b ∙ ap (λ (t : Bool). choose t 1 (goalAt n w v)) (
-        ⊎-elim
-        (λ (q : eqb v (getD sinks i 0) ≡ true).
-        let e : v ≡ getD sinks i 0 = eqb-true v (getD sinks i 0) q in
-        let m : eqb (getD marks v 0) 0 ≡ false = ne-eqb (getD marks v 0) 0 (rw e z) in
-        both-false-right (has v (take i sinks)) (eqb (getD marks v 0) 0) m ∙ sym (both-false-right (has v (take (i + 1) sinks)) (eqb (getD marks v 0) 0) m))
-        (λ (q : eqb v (getD sinks i 0) ≡ false).
-        rw (has-more v sinks i l, q, either-false (has v (take i sinks))))
-        (either-way (eqb v (getD sinks i 0))));
-  }
-
-pub marking-all : {n : ℕ} {marks sinks w w′ : List ℕ} {i : ℕ} → length sinks ≤ i → Marking n marks sinks w w′ i → Marked n marks sinks w w′
-marking-all {n} {marks} {sinks} {w} {w′} {i} l s = record {
-  same = s .same;
-  goals = λ v b. rw (take-all i sinks l) at (s .goals v b);
 }

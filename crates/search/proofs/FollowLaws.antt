@@ -7,7 +7,7 @@ use mathlib.Core.Bool.{true, false}
 use mathlib.Core.List.{List, [], _∷_}
 use mathlib.Core.Logic.{⊎-elim}
 use mathlib.Core.Path.{_≡_, refl, sym, _∙_, ap}
-use Prim.Native.Nat.{ℕ, zero, suc, _+_, _-_, _*_, _≤_, _<_}
+use Prim.Native.Nat.{ℕ, zero, suc, _+_, _-_, _≤_, _<_}
 use native.Mathlib.Nat.{not-suc-le-zero, le-of-suc-le-suc, eq-or-lt-of-le}
 use native.Mathlib.Omega.{arith}
 use lib.Dec.{leb}
@@ -15,9 +15,11 @@ use lib.ListN.{length, getD, set, take, drop, length-set}
 use lib.Seq.{getD-set-same, drop-set-lt, take-set-lt, slice, slice-cons, slice-empty, length-slice}
 use borrow.Author.Tests.{eq-eqb, ne-eqb, le-leb, lt-leb, leb-true}
 use Rattle.price.specs.Test.{choose}
-use Rattle.price.proofs.TestLaws.{either-way, le-or-lt}
+use Rattle.price.proofs.TestLaws.{either-way}
 use Rattle.search.specs.Distance.{inTree}
-use Rattle.search.specs.Layout.{distAt, predAt, SameBut, trail, Leads, pathIn}
+use Rattle.search.specs.Layout.{SameBut}
+use Rattle.search.specs.Labels.{labelAt, fromAt}
+use Rattle.search.specs.Follow.{trail, Leads, pathIn}
 use Rattle.search.proofs.StoreLaws.{same-none, same-store}
 
 -- ---- the path that predecessors have
@@ -30,7 +32,7 @@ module _ (n : ℕ) (marks w : List ℕ) where
   trail-tree (suc k) v path t = rw t
 
   -- before any other node comes its predecessor
-  pub trail-on : (fuel v : ℕ) (path : List ℕ) → inTree marks v ≡ false → 0 < fuel → trail n marks w fuel v path ≡ trail n marks w (fuel - 1) (predAt n w v) (v ∷ path)
+  pub trail-on : (fuel v : ℕ) (path : List ℕ) → inTree marks v ≡ false → 0 < fuel → trail n marks w fuel v path ≡ trail n marks w (fuel - 1) (fromAt n w v) (v ∷ path)
   unfolding trail
   trail-on zero v path t h = absurd (not-suc-le-zero h)
   trail-on (suc k) v path t h =
@@ -43,7 +45,7 @@ module _ (n : ℕ) (marks w : List ℕ) where
   trail-least (suc k) v path =
       ⊎-elim
       (λ (q : inTree marks v ≡ true). rw q (omega arith))
-      (λ (q : inTree marks v ≡ false). rw q (omega (arith, trail-least k (predAt n w v) (v ∷ path))))
+      (λ (q : inTree marks v ≡ false). rw q (omega (arith, trail-least k (fromAt n w v) (v ∷ path))))
       (either-way (inTree marks v))
 
   -- a trail that adds one node adds v alone
@@ -53,37 +55,32 @@ module _ (n : ℕ) (marks w : List ℕ) where
   trail-end (suc k) v path e =
       ⊎-elim
       (λ (q : inTree marks v ≡ true). rw q)
-      (λ (q : inTree marks v ≡ false). absurd (omega (arith, trail-least k (predAt n w v) (v ∷ path), rw q at e)))
+      (λ (q : inTree marks v ≡ false). absurd (omega (arith, trail-least k (fromAt n w v) (v ∷ path), rw q at e)))
       (either-way (inTree marks v))
 
--- a node whose mark is 0 is not in the tree
-pub out-of-tree : (marks : List ℕ) (v : ℕ) → getD marks v 0 ≡ 0 → inTree marks v ≡ false
+-- a node is in the tree where its mark is 1
+pub out-of-tree : (marks : List ℕ) (v : ℕ) → (getD marks v 0 ≡ 1 → ⊥) → inTree marks v ≡ false
 unfolding inTree
-out-of-tree marks v e = ne-eqb (getD marks v 0) 1 (λ q. omega arith)
+out-of-tree marks v e = ne-eqb (getD marks v 0) 1 e
 
-pub in-the-tree : (marks : List ℕ) (v : ℕ) → getD marks v 0 ≤ 1 → (getD marks v 0 ≡ 0 → ⊥) → inTree marks v ≡ true
+pub in-the-tree : (marks : List ℕ) (v : ℕ) → getD marks v 0 ≡ 1 → inTree marks v ≡ true
 unfolding inTree
-in-the-tree marks v h e =
-    eq-eqb (getD marks v 0) 1
-    (⊎-elim
-    (λ (l : getD marks v 0 ≤ 0). absurd (e (omega arith)))
-    (λ (l : 0 < getD marks v 0). omega arith)
-    (le-or-lt (getD marks v 0) 0))
+in-the-tree marks v e = eq-eqb (getD marks v 0) 1 e
 
 -- v is the next node of the path to the sink, after which the nodes `built` come
 pub record OnTrail (n : ℕ) (marks w : List ℕ) (sink v : ℕ) (built : List ℕ) : Type 0 where
   pub node : v < n
-  pub near : distAt w v ≤ distAt w sink
+  pub near : labelAt w v ≤ labelAt w sink
   pub fuel : ℕ
-  pub enough : distAt w v ≤ fuel
+  pub enough : labelAt w v ≤ fuel
   pub rest : pathIn n marks w sink ≡ trail n marks w fuel v built
 
 pub at-sink : (n : ℕ) (marks w : List ℕ) (sink : ℕ) → sink < n → OnTrail n marks w sink sink []
-at-sink n marks w sink l = record { node = l; near = omega arith; fuel = distAt w sink; enough = omega arith; rest = refl }
+at-sink n marks w sink l = record { node = l; near = omega arith; fuel = labelAt w sink; enough = omega arith; rest = refl }
 
-pub at-pred : {n : ℕ} {marks w : List ℕ} {sink v : ℕ} {built : List ℕ} → Leads n (distAt w sink) marks w → inTree marks v ≡ false → OnTrail n marks w sink v built → OnTrail n marks w sink (predAt n w v) (v ∷ built)
+pub at-pred : {n : ℕ} {marks w : List ℕ} {sink v : ℕ} {built : List ℕ} → Leads n (labelAt w sink) marks w → inTree marks v ≡ false → OnTrail n marks w sink v built → OnTrail n marks w sink (fromAt n w v) (v ∷ built)
 at-pred {n} {marks} {w} {sink} {v} {built} leads t s =
-    let nearer : distAt w (predAt n w v) < distAt w v = leads .pred-nearer v (s .node) (s .near) t in
+    let nearer : labelAt w (fromAt n w v) < labelAt w v = leads .pred-nearer v (s .node) (s .near) t in
     record {
       node = leads .pred-node v (s .node) (s .near) t;
       near = omega (arith, s .near);
@@ -140,32 +137,32 @@ above-more (suc n) w d v b l =
 
 -- v is node number `count` of the path, counted from its end; each is nearer than the one before, so they are no more than the nodes at least as far as v
 pub record Following (n : ℕ) (marks w : List ℕ) (sink v count : ℕ) : Type 0 where
-  pub few : count ≤ above n w (distAt w v)
+  pub few : count ≤ above n w (labelAt w v)
   pub built : List ℕ
   pub counted : length built + 1 ≡ count
   pub on : OnTrail n marks w sink v built
 
 pub follow-none : (n : ℕ) (marks w : List ℕ) (sink : ℕ) → sink < n → Following n marks w sink sink 1
-follow-none n marks w sink l = record { few = omega (arith, above-more n w (suc (distAt w sink)) sink l (omega arith)); built = []; counted = refl; on = at-sink n marks w sink l }
+follow-none n marks w sink l = record { few = omega (arith, above-more n w (suc (labelAt w sink)) sink l (omega arith)); built = []; counted = refl; on = at-sink n marks w sink l }
 
 pub follow-few : {n : ℕ} {marks w : List ℕ} {sink v count : ℕ} → Following n marks w sink v count → count ≤ n
-follow-few {n} {marks} {w} {sink} {v} s = omega (arith, s .few, above-most n w (distAt w v))
+follow-few {n} {marks} {w} {sink} {v} s = omega (arith, s .few, above-most n w (labelAt w v))
 
-module _ {n : ℕ} {marks w : List ℕ} {sink v count : ℕ} (leads : Leads n (distAt w sink) marks w) where
-  pub follow-nearer : getD marks v 0 ≡ 0 → Following n marks w sink v count → distAt w (predAt n w v) < distAt w v
+module _ {n : ℕ} {marks w : List ℕ} {sink v count : ℕ} (leads : Leads n (labelAt w sink) marks w) where
+  pub follow-nearer : (getD marks v 0 ≡ 1 → ⊥) → Following n marks w sink v count → labelAt w (fromAt n w v) < labelAt w v
   follow-nearer z s = leads .pred-nearer v (s .on .node) (s .on .near) (out-of-tree marks v z)
 
-  pub follow-on : getD marks v 0 ≡ 0 → Following n marks w sink v count → Following n marks w sink (predAt n w v) (count + 1)
+  pub follow-on : (getD marks v 0 ≡ 1 → ⊥) → Following n marks w sink v count → Following n marks w sink (fromAt n w v) (count + 1)
   follow-on z s = record {
-    few = omega (arith, s .few, above-more n w (distAt w v) (predAt n w v) (leads .pred-node v (s .on .node) (s .on .near) (out-of-tree marks v z)) (follow-nearer z s));
+    few = omega (arith, s .few, above-more n w (labelAt w v) (fromAt n w v) (leads .pred-node v (s .on .node) (s .on .near) (out-of-tree marks v z)) (follow-nearer z s));
     built = v ∷ s .built;
     counted = omega (arith, s .counted);
     on = at-pred leads (out-of-tree marks v z) (s .on);
   }
 
-  pub follow-end : (getD marks v 0 ≡ 0 → ⊥) → Following n marks w sink v count → count ≡ length (pathIn n marks w sink)
+  pub follow-end : getD marks v 0 ≡ 1 → Following n marks w sink v count → count ≡ length (pathIn n marks w sink)
   follow-end z s =
-      let t : inTree marks v ≡ true = in-the-tree marks v (leads .marks-bit v (s .on .node)) z in
+      let t : inTree marks v ≡ true = in-the-tree marks v z in
       let e : pathIn n marks w sink ≡ v ∷ s .built = s .on .rest ∙ trail-tree n marks w (s .on .fuel) v (s .built) t in
       omega (arith, s .counted, ap length e)
 
@@ -185,13 +182,13 @@ pub record Writing (n : ℕ) (marks w : List ℕ) (sink count : ℕ) (w′ : Lis
 
 pub writing-none : (n : ℕ) (marks w : List ℕ) (sink count : ℕ) → sink < n → count ≡ length (pathIn n marks w sink) → Writing n marks w sink count w sink count
 writing-none n marks w sink count l e = record {
-  least = omega (arith, trail-least n marks w (distAt w sink) sink []);
+  least = omega (arith, trail-least n marks w (labelAt w sink) sink []);
   most = omega arith;
   same = same-none 0 n w;
   on = rw (slice-empty count w) (at-sink n marks w sink l);
 }
 
-module _ {n : ℕ} {marks w : List ℕ} {sink count : ℕ} {w′ : List ℕ} {v i : ℕ} (leads : Leads n (distAt w sink) marks w) (whole : count ≡ length (pathIn n marks w sink)) (room : count ≤ n) (s : Writing n marks w sink count w′ v i) where
+module _ {n : ℕ} {marks w : List ℕ} {sink count : ℕ} {w′ : List ℕ} {v i : ℕ} (leads : Leads n (labelAt w sink) marks w) (whole : count ≡ length (pathIn n marks w sink)) (room : count ≤ n) (s : Writing n marks w sink count w′ v i) where
   written : length (slice i count w′) ≡ count - i
   written = length-slice i count w′ (omega (arith, leads .long, s .same .long))
 
@@ -205,10 +202,10 @@ module _ {n : ℕ} {marks w : List ℕ} {sink count : ℕ} {w′ : List ℕ} {v 
       (λ t. t)
       (either-way (inTree marks v))
 
-  pub writing-more : 1 < i → Writing n marks w sink count (set w′ (i - 1) v) (predAt n (set w′ (i - 1) v) v) (i - 1)
+  pub writing-more : 1 < i → Writing n marks w sink count (set w′ (i - 1) v) (fromAt n (set w′ (i - 1) v) v) (i - 1)
   writing-more l =
       let same : SameBut 0 n w (set w′ (i - 1) v) = same-store 0 n w w′ (i - 1) v (omega arith) (omega (arith, s .most)) (s .same) in
-      let before : predAt n (set w′ (i - 1) v) v ≡ predAt n w v = same .high (4 * n + v) (omega arith) in
+      let before : fromAt n (set w′ (i - 1) v) v ≡ fromAt n w v = same .high (n + v) (omega arith) in
       let part : slice (i - 1) count (set w′ (i - 1) v) ≡ v ∷ slice i count w′ = slice-store w′ (i - 1) i count v (omega arith) (omega (arith, s .most)) (omega (arith, leads .long, s .same .long)) in
       record {
         least = omega arith;

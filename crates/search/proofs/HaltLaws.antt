@@ -1,218 +1,197 @@
--- What a search that has stopped says of the turn: the least distance of a goal is that of the nearest sink that is still to be joined, or none of them has a path.
+-- What labels that have stopped spreading say of the turn: the least label of a goal is the distance of the nearest sink that is still to be joined, or none of them has a path.
 -- Assumes nothing.
 use mathlib.Core.Bool.{true, false}
 use mathlib.Core.List.{List, _++_}
-use mathlib.Core.Logic.{_≢_, ⊎-elim}
+use mathlib.Core.Logic.{_⊎_, ⊎-elim}
 use mathlib.Core.Path.{_≡_, sym, _∙_}
 use Prim.Native.Nat.{ℕ, _+_, _-_, _*_, _≤_, _<_}
 use native.Mathlib.Nat.{le-antisymm}
 use native.Mathlib.Omega.{arith}
-use lib.Dec.{eqb}
-use lib.ListN.{length, getD, take, drop, replicate}
-use borrow.Author.Tests.{eq-eqb, ne-eqb, eqb-true, eqb-false}
-use Rattle.price.specs.Test.{choose, both}
-use Rattle.price.specs.Lists.{has}
-use Rattle.price.proofs.TestLaws.{either-way, both-left, both-right, le-or-lt}
-use Rattle.price.proofs.ListLaws.{has-at, has-place}
+use lib.ListN.{length, getD, take, drop, replicate, List·getD-eq-default}
+use Rattle.price.proofs.TestLaws.{either-way, le-or-lt}
 use Rattle.search.specs.Block.{Block, nodes}
-use Rattle.search.specs.Tables.{Graph}
-use Rattle.search.specs.Paths.{Fair}
-use Rattle.search.specs.Distance.{far, inTree, distance}
+use Rattle.search.specs.Distance.{far, inTree, distances, distance}
 use Rattle.search.specs.Turn.{joins, stuck, pathTo, turn}
-use Rattle.search.specs.Replies.{cleared, sinksMost, turnReply, pathReplyOf}
-use Rattle.search.specs.Layout.{distAt, entryAt, priceIn, goalAt, Cheapest, Leads, pathIn}
-use Rattle.search.specs.Frontier.{Reached, Waiting, BestGoal, LastStep, Stopped}
-use Rattle.search.specs.Ready.{Found, Read}
+use Rattle.search.specs.Paths.{Fair}
+use Rattle.search.specs.Replies.{sinksMost, readOff, turnReply, pathReplyOf}
+use Rattle.search.specs.Labels.{goal, labelAt}
+use Rattle.search.specs.Spread.{Came, Spread}
+use Rattle.search.specs.Follow.{Leads, pathIn, Found, Read}
 use Rattle.search.specs.declared.PathAnswer.{PathAnswer}
 use Rattle.search.specs.declared.PathAnswer.the-variants.{Stuck}
-use Rattle.search.proofs.DistanceLaws.{distance-top}
+use Rattle.search.proofs.EdgeLaws.{Shaped}
+use Rattle.search.proofs.DistanceLaws.{length-distances, distance-top}
 use Rattle.search.proofs.PathToLaws.{path-short, trail-is}
 use Rattle.search.proofs.TurnLaws.{turn-is, stuck-is}
-use Rattle.search.proofs.Exactness.{exact, exact-near, pred-exact}
+use Rattle.search.proofs.SpreadExact.{exact, exact-label, pred-exact}
 
--- ---- goals
+-- a listed node outside the tree
+abbrev pub OpenAt : (n : ℕ) (marks sinks : List ℕ) (j : ℕ) → Type 0
+OpenAt n marks sinks j = (j < length sinks) × (getD sinks j 0 < n) × (inTree marks (getD sinks j 0) ≡ false)
 
--- each goal is a listed sink outside the tree
-module _ (n : ℕ) (marks sinks w : List ℕ) (goals : (v : ℕ) → v < n → goalAt n w v ≡ choose (both (has v sinks) (eqb (getD marks v 0) 0)) 1 0) where
-  goal-sink : (v : ℕ) → v < n → goalAt n w v ≡ 1 → (has v sinks ≡ true) × (getD marks v 0 ≡ 0)
-  goal-sink v h g =
-      ⊎-elim
-      (λ (q : both (has v sinks) (eqb (getD marks v 0) 0) ≡ true).
-      (both-left (has v sinks) _ q, eqb-true _ _ (both-right (has v sinks) _ q)))
-      (λ (q : both (has v sinks) (eqb (getD marks v 0) 0) ≡ false).
-      let none : goalAt n w v ≡ 0 = goals v h ∙ rw q in
-      absurd (omega arith))
-      (either-way (both (has v sinks) (eqb (getD marks v 0) 0)))
-
-  pub goal-out : (v : ℕ) → v < n → goalAt n w v ≡ 1 → inTree marks v ≡ false
-  unfolding inTree
-  goal-out v h g = ne-eqb (getD marks v 0) 1 (let clear = goal-sink v h g .1 in omega arith)
-
-  -- so what is at most the price of each goal of the list is at most the price of every goal
-  pub goal-step : {step : ℕ} → Cheapest n sinks w (length sinks) step → LastStep n step w
-  goal-step {step} c =
-      record {
-        most = c .most;
-        goals = λ v h g.
-            let at = has-place v sinks (goal-sink v h g .0) in
-            rw (at .2) at (c .least (at .0) (at .1) (rw (at .2) g));
-      }
-
--- ---- the search has stopped
-
--- the search from the tree has stopped; its goals are the listed sinks outside the tree, and past 8 n the work slice is as it was
+-- labels have spread from the tree and stopped; `best` is the least one of a listed node outside the tree, and past 3 n the work slice is as it was
 pub record Halted (b : Block) (price : ℕ → ℕ) (marks sinks w₀ w : List ℕ) (best : ℕ) : Type 0 where
-  pub sound : Graph b
+  pub shaped : Shaped b
   pub fair : Fair b price
   pub marks-long : nodes b ≤ length marks
-  pub marks-bit : (v : ℕ) → v < nodes b → getD marks v 0 ≤ 1
   pub sinks-few : length sinks ≤ sinksMost
-  pub sinks-nodes : (i : ℕ) → i < length sinks → getD sinks i 0 < nodes b
-  pub waiting : Waiting b price marks w
-  pub best-goal : BestGoal (nodes b) best w
-  pub stopped : Stopped (nodes b) w best
-  pub goals : (v : ℕ) → v < nodes b → goalAt (nodes b) w v ≡ choose (both (has v sinks) (eqb (getD marks v 0) 0)) 1 0
-  pub kept : drop (8 * nodes b) w ≡ drop (8 * nodes b) w₀
+  pub count : ℕ
+  pub level : ℕ
+  pub step : ℕ
+  pub spread : Spread b price w count level (nodes b) 0
+  pub zero-in : (v : ℕ) → v < nodes b → inTree marks v ≡ true → labelAt w v ≡ 0
+  pub pos-out : (v : ℕ) → v < nodes b → inTree marks v ≡ false → 0 < labelAt w v
+  pub most : best ≤ far
+  pub least : (j : ℕ) → OpenAt (nodes b) marks sinks j → labelAt w (getD sinks j 0) < goal → best ≤ labelAt w (getD sinks j 0)
+  pub some : (best ≡ far) ⊎ ((j : ℕ) × OpenAt (nodes b) marks sinks j × (labelAt w (getD sinks j 0) ≡ best) × (best < goal))
+  pub stopped : (level ≡ far) ⊎ (best < level + step)
+  pub last : (j : ℕ) → OpenAt (nodes b) marks sinks j → step ≤ price (getD sinks j 0)
+  pub kept : drop (3 * nodes b) w ≡ drop (3 * nodes b) w₀
 
 module _ {b : Block} {price : ℕ → ℕ} {marks sinks w₀ w : List ℕ} {best : ℕ} (s : Halted b price marks sinks w₀ w best) where
-  -- a listed sink outside the tree is a goal
-  sink-goal : (j : ℕ) → j < length sinks → inTree marks (getD sinks j 0) ≡ false → goalAt (nodes b) w (getD sinks j 0) ≡ 1
-  unfolding inTree
-  sink-goal j l out =
-      let v : ℕ = getD sinks j 0 in
-      let h : v < nodes b = s .sinks-nodes j l in
-      let low : getD marks v 0 ≤ 1 = s .marks-bit v h in
-      let other : getD marks v 0 ≢ 1 = eqb-false (getD marks v 0) 1 out in
-      let clear : getD marks v 0 ≡ 0 = omega arith in
-      s .goals v h ∙ rw (has-at sinks j l, eq-eqb (getD marks v 0) 0 clear)
-
-  -- a goal that is at most `best` far is had over a node nearer than the level
-  goal-close : (v d : ℕ) → v < nodes b → goalAt (nodes b) w v ≡ 1 → d ≤ best → d < entryAt (nodes b) w 1 + price v
-  goal-close v d h g le =
+  -- an open sink that is at most `best` far is had over a node nearer than the level
+  sink-close : (j d : ℕ) → OpenAt (nodes b) marks sinks j → d ≤ best → d < far → d < s .level + price (getD sinks j 0)
+  sink-close j d o le near =
       ⊎-elim
-      (λ (e : entryAt (nodes b) w 1 ≡ far). omega (arith, s .best-goal .most, s .fair .pos v h))
-      (λ (m : (best < far) × ((v : ℕ) → v < nodes b → goalAt (nodes b) w v ≡ 1 → best < entryAt (nodes b) w 1 + priceIn (nodes b) w v)).
-      omega (arith, m .1 v h g, s .waiting .prices v h))
+      (λ (e : s .level ≡ far). omega arith)
+      (λ (m : best < s .level + s .step). omega (arith, s .last j o))
       (s .stopped)
+
+  -- what is no node has no distance
+  beyond : (v : ℕ) → nodes b ≤ v → distance b price marks v ≡ far
+  beyond v h = List·getD-eq-default (distances b price marks) far (rw (length-distances b price marks) h)
 
   -- so no unjoined sink is nearer than `best`
   sink-above : (j : ℕ) → j < length sinks → inTree marks (getD sinks j 0) ≡ false → best ≤ distance b price marks (getD sinks j 0)
   sink-above j l out =
       let v : ℕ = getD sinks j 0 in
-      let h : v < nodes b = s .sinks-nodes j l in
-      let g = sink-goal j l out in
+      ⊎-elim
+      (λ (h : nodes b ≤ getD sinks j 0). rw (beyond (getD sinks j 0) h) (s .most))
+      (λ (h : getD sinks j 0 < nodes b).
       ⊎-elim
       (λ q. q)
-      (λ (q : distance b price marks v < best).
-      let final = exact b price marks w (s .sound) (s .fair) (s .waiting) v h (goal-close v (distance b price marks v) h g (omega arith)) in
-      absurd (omega (arith, s .best-goal .least v h g)))
-      (le-or-lt best (distance b price marks v))
+      (λ (q : distance b price marks (getD sinks j 0) < best).
+      let o : OpenAt (nodes b) marks sinks j = (l, h, out) in
+      let near : distance b price marks (getD sinks j 0) < far = let m = s .most in omega arith in
+      let final = exact marks (s .shaped) (s .fair) (s .spread) (s .zero-in) (s .pos-out) (getD sinks j 0) h near (sink-close j (distance b price marks (getD sinks j 0)) o (omega arith) near) in
+      let is : labelAt w (getD sinks j 0) ≡ distance b price marks (getD sinks j 0) = final .1 in
+      absurd (omega (arith, s .least j o (final .0))))
+      (le-or-lt best (distance b price marks (getD sinks j 0))))
+      (le-or-lt (nodes b) (getD sinks j 0))
 
-  -- no goal has a distance: no unjoined sink has a path
+  -- no goal has a label: no unjoined sink has a path
   module _ (none : best ≡ far) where
     turn-stuck : turn b price marks sinks ≡ stuck
     turn-stuck =
-        stuck-is b price marks (s .sound) (s .fair) sinks (s .sinks-nodes)
+        stuck-is b price marks (s .shaped) (s .fair) sinks
         (λ j l out. le-antisymm (distance-top b price marks (getD sinks j 0)) (rw none at (sink-above j l out)))
 
-    pub halted-stuck : {w′ : List ℕ} → w′ ≡ take 0 w ++ (replicate (8 * nodes b - 0) 0 ++ drop (8 * nodes b) w) → pathReplyOf Stuck w′ ≡ turnReply (nodes b) w₀ (turn b price marks sinks)
-    unfolding cleared
+    pub halted-stuck : {w′ : List ℕ} → w′ ≡ take 0 w ++ (replicate (3 * nodes b - 0) 0 ++ drop (3 * nodes b) w) → pathReplyOf Stuck w′ ≡ turnReply (nodes b) w₀ (turn b price marks sinks)
+    unfolding readOff
     halted-stuck e = rw (turn-stuck, e, s .kept)
 
-  -- some goal has a distance
+  -- some goal has a label
   module _ (some : best ≡ far → ⊥) where
-    -- a place of the list at which the nearest stands
-    record Goal : Type 0 where
-      place : ℕ
-      within : place < length sinks
-      goal : goalAt (nodes b) w (getD sinks place 0) ≡ 1
-      dist : distAt w (getD sinks place 0) ≡ best
+    near : best < goal
+    near = ⊎-elim (λ e. absurd (some e)) (λ (g : (j : ℕ) × OpenAt (nodes b) marks sinks j × (labelAt w (getD sinks j 0) ≡ best) × (best < goal)). g .3) (s .some)
 
-    some-goal : Goal
-    some-goal =
+    pos : 0 < best
+    pos =
         ⊎-elim
         (λ e. absurd (some e))
-        (λ g.
-        let at = has-place (g .0) sinks (goal-sink (nodes b) marks sinks w (s .goals) (g .0) (g .1) (g .2) .0) in
-        record {
-          place = at .0;
-          within = at .1;
-          goal = rw (at .2) (g .2);
-          dist = rw (at .2) (g .3);
-        })
-        (s .best-goal .some)
+        (λ (g : (j : ℕ) × OpenAt (nodes b) marks sinks j × (labelAt w (getD sinks j 0) ≡ best) × (best < goal)).
+        let p = s .pos-out (getD sinks (g .0) 0) (g .1 .1) (g .1 .2) in
+        let e = g .2 in
+        omega arith)
+        (s .some)
 
-    near : best < far
-    near = let other : best ≢ far = some in omega (arith, s .best-goal .most)
+    -- a listed node of label `best` is an open sink
+    open-at : (j : ℕ) → j < length sinks → getD sinks j 0 < nodes b → labelAt w (getD sinks j 0) ≡ best → OpenAt (nodes b) marks sinks j
+    open-at j l h e = (
+      l,
+      h,
+      ⊎-elim
+          (λ (t : inTree marks (getD sinks j 0) ≡ true). absurd (let z = s .zero-in (getD sinks j 0) h t in let p = pos in omega arith))
+          (λ t. t)
+          (either-way (inTree marks (getD sinks j 0))),
+    )
 
-    -- a goal that is so far: its distance is final
-    module _ (v : ℕ) (h : v < nodes b) (goal : goalAt (nodes b) w v ≡ 1) (e : distAt w v ≡ best) where
-      goal-final : distAt w v ≡ distance b price marks v
-      goal-final =
-          exact-near b price marks w (s .sound) (s .fair) (s .waiting) v h (goal-close v (distAt w v) h goal (omega arith))
+    -- its label is its distance, and predecessors lead from it to the tree by the turn's path
+    module _ (j : ℕ) (o : OpenAt (nodes b) marks sinks j) (e : labelAt w (getD sinks j 0) ≡ best) where
+      sink-final : labelAt w (getD sinks j 0) ≡ distance b price marks (getD sinks j 0)
+      sink-final =
+          let n = near in
+          exact-label marks (s .shaped) (s .fair) (s .spread) (s .zero-in) (s .pos-out) (getD sinks j 0) (o .1) (omega arith)
+          (sink-close j (labelAt w (getD sinks j 0)) o (omega arith) (omega arith))
 
-      -- and predecessors lead from it to the tree, by the turn's path
-      path-in : pathIn (nodes b) marks w v ≡ pathTo b price marks v
+      path-in : pathIn (nodes b) marks w (getD sinks j 0) ≡ pathTo b price marks (getD sinks j 0)
       path-in =
-          let final = goal-final in
-          trail-is b price marks (s .sound) (s .fair) v h (omega (arith, near)) w (distAt w v) (entryAt (nodes b) w 1) (omega arith)
-          (goal-close v (distance b price marks v) h goal (omega arith))
-          (λ x hx out close le. pred-exact b price marks w (s .sound) (s .fair) (s .waiting) x hx out close le)
+          let final = sink-final in
+          let n = near in
+          trail-is b price marks (s .shaped) (s .fair) (getD sinks j 0) (o .1) (omega arith) w (labelAt w (getD sinks j 0)) (s .level) (omega arith)
+          (sink-close j (distance b price marks (getD sinks j 0)) o (omega arith) (omega arith))
+          (λ x hx out close le. pred-exact marks (s .shaped) (s .fair) (s .spread) (s .zero-in) (s .pos-out) x hx out close le)
 
-      path-fits : length (pathIn (nodes b) marks w v) ≤ nodes b
-      path-fits = rw path-in (path-short b price marks (s .sound) (s .fair) v h (omega (arith, goal-final, near)))
+      path-fits : length (pathIn (nodes b) marks w (getD sinks j 0)) ≤ nodes b
+      path-fits =
+          let final = sink-final in
+          let n = near in
+          rw path-in (path-short b price marks (s .shaped) (s .fair) (getD sinks j 0) (o .1) (omega arith))
 
     path-leads : Leads (nodes b) best marks w
     path-leads =
-        let reached : (v : ℕ) → v < nodes b → distAt w v ≤ best → inTree marks v ≡ false → Reached b price w v =
-        λ v h le out. s .waiting .reached v h out (omega (arith, near)) in
+        let n = near in
+        let came : (v : ℕ) → v < nodes b → labelAt w v ≤ best → inTree marks v ≡ false → Came b price w (s .level) v =
+        λ v h le out. s .spread .came v h (s .pos-out v h out) (omega arith) in
         record {
-          long = s .waiting .long;
+          few = s .shaped .few;
+          long = s .spread .heap .long;
           marks-long = s .marks-long;
-          marks-bit = s .marks-bit;
-          pred-node = λ v h le out. reached v h le out .pred-settled .node;
-          pred-nearer = λ v h le out. omega (arith, reached v h le out .sum, s .fair .pos v h);
+          pred-node = λ v h le out. came v h le out .node;
+          pred-nearer = λ v h le out. omega (arith, came v h le out .sum, s .fair .pos v h);
         }
 
     pub halted-found : Found (nodes b) marks sinks w best
     halted-found =
-        let g = some-goal in
+        ⊎-elim
+        (λ e. absurd (some e))
+        (λ (g : (j : ℕ) × OpenAt (nodes b) marks sinks j × (labelAt w (getD sinks j 0) ≡ best) × (best < goal)).
         record {
-          few = s .sound .few;
           sinks-few = s .sinks-few;
-          sinks-nodes = s .sinks-nodes;
-          some-place = g .place;
-          within = g .within;
-          goal = g .goal;
-          dist = g .dist;
+          some-place = g .0;
+          within = g .1 .0;
+          node = g .1 .1;
+          label = g .2;
           leads = path-leads;
-          short = path-fits;
-        }
+          short = λ j l h e. path-fits j (open-at j l h e) e;
+        })
+        (s .some)
 
     -- what is read off is the turn
     module _ {r : PathAnswer} {w′ : List ℕ} (d : Read (nodes b) marks sinks w best r w′) where
-      sink-node : getD sinks (d .place) 0 < nodes b
-      sink-node = s .sinks-nodes (d .place) (d .within)
+      read-open : OpenAt (nodes b) marks sinks (d .place)
+      read-open = open-at (d .place) (d .within) (d .first .node (d .within)) (d .first .label (d .within))
 
-      sink-first : goalAt (nodes b) w (getD sinks (d .place) 0) ≡ 1
-      sink-first = d .first .goal (d .within)
-
-      sink-dist : distAt w (getD sinks (d .place) 0) ≡ best
-      sink-dist = d .first .dist (d .within)
+      read-label : labelAt w (getD sinks (d .place) 0) ≡ best
+      read-label = d .first .label (d .within)
 
       turn-joins : turn b price marks sinks ≡ joins (d .place) best (pathTo b price marks (getD sinks (d .place) 0))
       turn-joins =
-          turn-is b price marks (s .sound) (s .fair) sinks (s .sinks-nodes) (d .place) best (d .within) near
-          (goal-out (nodes b) marks sinks w (s .goals) (getD sinks (d .place) 0) sink-node sink-first)
-          (sym (goal-final (getD sinks (d .place) 0) sink-node sink-first sink-dist) ∙ sink-dist)
+          let n = near in
+          let o = read-open in
+          turn-is b price marks (s .shaped) (s .fair) sinks (d .place) best (d .within) (o .1) (omega arith) (o .2)
+          (sym (sink-final (d .place) o read-label) ∙ read-label)
           sink-above
           (λ j l out e.
           let within : j < length sinks = omega (arith, d .within) in
-          let h = s .sinks-nodes j within in
-          let goal = sink-goal j within out in
-          d .first .earlier j l goal
-          (exact b price marks w (s .sound) (s .fair) (s .waiting) (getD sinks j 0) h (goal-close (getD sinks j 0) (distance b price marks (getD sinks j 0)) h goal (omega arith)) ∙ e))
+          ⊎-elim
+          (λ (h : nodes b ≤ getD sinks j 0). let z = beyond (getD sinks j 0) h in omega arith)
+          (λ (h : getD sinks j 0 < nodes b).
+          let final = exact marks (s .shaped) (s .fair) (s .spread) (s .zero-in) (s .pos-out) (getD sinks j 0) h (omega arith)
+          (sink-close j (distance b price marks (getD sinks j 0)) (within, h, out) (omega arith) (omega arith)) in
+          d .first .earlier j l h (final .1 ∙ e))
+          (le-or-lt (nodes b) (getD sinks j 0)))
 
       pub halted-joins : pathReplyOf r w′ ≡ turnReply (nodes b) w₀ (turn b price marks sinks)
-      unfolding cleared
-      halted-joins = rw (d .answer, turn-joins, ← path-in (getD sinks (d .place) 0) sink-node sink-first sink-dist, d .work, s .kept)
+      unfolding readOff
+      halted-joins = rw (d .answer, turn-joins, ← path-in (d .place) read-open read-label, d .work, s .kept)

@@ -1,95 +1,223 @@
--- A turn, step by step: prepared, its goals marked, the queue built, the search stopped; and what the turn answers then.
+-- A turn, step by step: the lists have their lengths, tree and goals are marked, the labels have spread and stopped; and what the turn answers then.
 -- Assumes nothing.
-use mathlib.Core.Bool.{true}
-use mathlib.Core.List.{List, [], _++_}
-use mathlib.Core.Path.{_≡_, _∙_}
+use mathlib.Core.Bool.{true, false}
+use mathlib.Core.List.{List, _++_}
+use mathlib.Core.Logic.{_⊎_, ⊎-elim, inl, inr}
+use mathlib.Core.Path.{_≡_, sym, _∙_}
 use Prim.Native.Nat.{ℕ, _+_, _-_, _*_, _≤_, _<_}
 use native.Mathlib.Omega.{arith}
-use lib.Dec.{eqb}
+use lib.Dec.{leb, eqb}
 use lib.ListN.{length, getD, take, drop, replicate}
-use Rattle.price.specs.Test.{choose, both}
-use Rattle.price.specs.Lists.{has}
+use borrow.Author.Tests.{leb-true, eqb-true, le-leb}
+use Rattle.price.specs.Bounds.{nodesMost}
+use Rattle.price.proofs.TestLaws.{either-way, both-left, both-right}
+use Rattle.price.proofs.BelowLaws.{count-same}
 use Rattle.price.proofs.ListLaws.{drop-same}
-use Rattle.search.specs.Block.{blockOf, graphOf}
-use Rattle.search.specs.Tables.{Sound}
+use Rattle.search.specs.Block.{Block, nodes, blockOf, graphOf}
+use Rattle.search.specs.Tables.{edgesMost}
 use Rattle.search.specs.Distance.{far, inTree}
-use Rattle.search.specs.Turn.{Congestion, priceAt, turn}
-use Rattle.search.specs.Replies.{sinkListSound, turnReply, pathReplyOf}
-use Rattle.search.specs.Layout.{distAt, leafAt, priceIn, goalAt, Heap, SameBut, Marked, Cheapest}
-use Rattle.search.specs.Frontier.{BestGoal, LastStep, InProgress, Ran}
-use Rattle.search.specs.Ready.{Ready, Prepared, Read}
+use Rattle.search.specs.Turn.{Congestion, turn}
+use Rattle.search.specs.Held.{heldPrice, Lent}
+use Rattle.search.specs.Replies.{workNeeded, fittingLengths, fitting, turnReply, pathReplyOf}
+use Rattle.search.specs.Labels.{goal, labelAt, waitAt, keyAt}
+use Rattle.search.specs.Spread.{bare, bareCount, Spread, RunReady, Ran}
+use Rattle.search.specs.Follow.{Fitted, TreeMarked, GoalsMarked, LeastGoal, Read}
 use Rattle.search.specs.declared.PathAnswer.{PathAnswer}
 use Rattle.search.specs.declared.PathAnswer.the-variants.{Stuck}
 use Rattle.search.proofs.GraphLaws.{turn-same}
-use Rattle.search.proofs.ReadyLaws.{sound-graph, ready-fair, ready-marks, ready-bit}
-use Rattle.search.proofs.SearchLaws.{waiting-from, stands-from, best-from}
-use Rattle.search.proofs.PathTestLaws.{sinks-few, sinks-nodes}
-use Rattle.search.proofs.HaltLaws.{goal-out, goal-step, Halted, halted-stuck, halted-joins}
+use Rattle.search.proofs.SpreadRun.{fair-held}
+use Rattle.search.proofs.HaltLaws.{OpenAt, Halted, halted-stuck, halted-joins}
 
--- the search of a turn has stopped
-abbrev pub Joining : (ks cs fs ts : List ℕ) (c : Congestion) (marks sinks w₀ w : List ℕ) (best : ℕ) → Type 0
-Joining ks cs fs ts c marks sinks w₀ w best = Halted (graphOf ks fs ts) (priceAt (blockOf ks cs fs ts) c) marks sinks w₀ w best
+-- a test of all lengths that holds says each
+pub fitted : (b : Block) (c : Congestion) (marks sinks work : List ℕ) → fitting b c marks sinks work ≡ true → Fitted b c marks sinks work
+unfolding fittingLengths
+fitted b c marks sinks work t₀ =
+    let t₁ = both-right (leb 1 (nodes b)) _ t₀ in
+    let t₂ = both-right (leb (nodes b) nodesMost) _ t₁ in
+    let t₃ = both-right (eqb (length (b .capacities)) (nodes b)) _ t₂ in
+    let t₄ = both-right (eqb (length (b .firstEdges)) (nodes b + 1)) _ t₃ in
+    let t₅ = both-right (leb (length (b .edgeTargets)) edgesMost) _ t₄ in
+    let t₆ = both-right (leb (workNeeded (nodes b)) (length work)) _ t₅ in
+    let t₇ = both-right (leb (nodes b) (length (c .histories))) _ t₆ in
+    let t₈ = both-right (leb (nodes b) (length (c .others))) _ t₇ in
+    record {
+      some = leb-true _ _ (both-left _ _ t₀);
+      few = leb-true _ _ (both-left _ _ t₁);
+      capacities-long = eqb-true _ _ (both-left _ _ t₂);
+      firsts-long = eqb-true _ _ (both-left _ _ t₃);
+      targets-few = leb-true _ _ (both-left _ _ t₄);
+      enough = leb-true _ _ (both-left _ _ t₅);
+      histories-long = leb-true _ _ (both-left _ _ t₆);
+      others-long = leb-true _ _ (both-left _ _ t₇);
+      marks-long = leb-true _ _ (both-left _ _ t₈);
+      sinks-few = leb-true _ _ (both-right (leb (nodes b) (length marks)) _ t₈);
+    }
 
-module _ (ks cs fs ts : List ℕ) (c : Congestion) {marks sinks w₀ w₁ w₂ w₃ : List ℕ}
-    (ready : Ready ks cs c marks) (sound : Sound (blockOf ks cs fs ts)) (long : 8 * length ks ≤ length w₀)
-    (prepared : Prepared (length ks) (priceAt (blockOf ks cs [] []) c) marks w₀ w₁) (marked : Marked (length ks) marks sinks w₁ w₂)
-    (heap : Heap (length ks) w₃) (built : SameBut (length ks + 1) (2 * length ks) w₂ w₃) where
-  built-long : length w₃ ≡ length w₀
-  built-long = built .long ∙ marked .same .long ∙ prepared .long
+pub fitted-lent : (ks cs fs ts : List ℕ) {c : Congestion} {marks sinks work : List ℕ} → Fitted (blockOf ks cs fs ts) c marks sinks work → Lent ks cs c
+fitted-lent ks cs fs ts f = record { few = f .few; capacities-long = f .capacities-long; histories-long = f .histories-long; others-long = f .others-long }
 
-  built-enough : 8 * length ks ≤ length w₃
-  built-enough = rw built-long long
+-- the work slice has room for labels, predecessors and waiting nodes
+pub fitted-room : (ks cs fs ts : List ℕ) {c : Congestion} {marks sinks work : List ℕ} → Fitted (blockOf ks cs fs ts) c marks sinks work → 3 * length ks ≤ length work
+fitted-room ks cs fs ts {work = work} f = let e : 8 * length ks ≤ length work = f .enough in omega arith
 
-  built-price : (v : ℕ) → v < length ks → priceIn (length ks) w₃ v ≡ priceAt (blockOf ks cs [] []) c v
-  built-price v h =
-      built .high (3 * length ks + v) (omega arith) ∙ marked .same .low (3 * length ks + v) (omega arith) ∙ prepared .prices v h
+-- ---- tree and goals are marked
 
-  built-dist : (v : ℕ) → v < length ks → distAt w₃ v ≡ choose (inTree marks v) 0 far
-  built-dist v h = built .low v (omega arith) ∙ marked .same .low v (omega arith) ∙ prepared .dist v h
+module _ {n : ℕ} {marks sinks w₀ w₁ w₂ : List ℕ} {count : ℕ} (t : TreeMarked n marks w₀ w₁ count) (g : GoalsMarked n sinks w₁ w₂ (length sinks)) where
+  marked-in : (v : ℕ) → v < n → inTree marks v ≡ true → labelAt w₂ v ≡ 0
+  marked-in v h m =
+      let z : labelAt w₁ v ≡ 0 = t .labels v h ∙ rw m in
+      ⊎-elim
+      (λ (q : labelAt w₂ v ≡ labelAt w₁ v). q ∙ z)
+      (λ (q : (labelAt w₁ v ≡ far) × (labelAt w₂ v ≡ goal) × ((j : ℕ) × (j < length sinks) × (getD sinks j 0 ≡ v))). absurd (let f = q .0 in omega arith))
+      (g .only v h)
 
-  built-leaf : (v : ℕ) → v < length ks → leafAt (length ks) w₃ v ≡ choose (inTree marks v) 0 far
-  built-leaf v h =
-      built .high (2 * length ks + v) (omega arith) ∙ marked .same .low (2 * length ks + v) (omega arith) ∙ prepared .leaf v h
+  marked-out : (v : ℕ) → v < n → inTree marks v ≡ false → labelAt w₁ v ≡ far
+  marked-out v h m = t .labels v h ∙ rw m
 
-  built-goal : (v : ℕ) → v < length ks → goalAt (length ks) w₃ v ≡ choose (both (has v sinks) (eqb (getD marks v 0) 0)) 1 0
-  built-goal v h = built .high (5 * length ks + v) (omega arith) ∙ marked .goals v h ∙ rw (prepared .no-goals v h)
+  -- outside the tree there is no label
+  marked-bare : (v : ℕ) → v < n → inTree marks v ≡ false → goal ≤ labelAt w₂ v
+  marked-bare v h m =
+      let f = marked-out v h m in
+      ⊎-elim
+      (λ (q : labelAt w₂ v ≡ labelAt w₁ v). omega arith)
+      (λ (q : (labelAt w₁ v ≡ far) × (labelAt w₂ v ≡ goal) × ((j : ℕ) × (j < length sinks) × (getD sinks j 0 ≡ v))). let e = q .1 in omega arith)
+      (g .only v h)
 
-  built-kept : (j : ℕ) → 8 * length ks ≤ j → getD w₃ j 0 ≡ getD w₀ j 0
-  built-kept j l = built .high j (omega arith) ∙ marked .same .high j (omega arith) ∙ prepared .high j (omega arith)
+  marked-low : (v : ℕ) → v < n → labelAt w₂ v < goal → (inTree marks v ≡ true) × (labelAt w₂ v ≡ 0)
+  marked-low v h l =
+      ⊎-elim
+      (λ (m : inTree marks v ≡ true). (m, marked-in v h m))
+      (λ (m : inTree marks v ≡ false). absurd (let f = marked-bare v h m in omega arith))
+      (either-way (inTree marks v))
 
-  pub join-in-progress : InProgress (graphOf ks fs ts) w₃
-  join-in-progress = stands-from ks cs fs ts c marks w₃ sound ready built-enough heap built-price built-dist built-leaf
+  -- the goals are the listed nodes outside the tree
+  marked-goal : (j : ℕ) → OpenAt n marks sinks j → labelAt w₂ (getD sinks j 0) ≡ goal
+  marked-goal j o = g .there j (o .0) (o .1) (marked-out (getD sinks j 0) (o .1) (o .2))
 
-  pub join-goals : {step : ℕ} → Cheapest (length ks) sinks w₃ (length sinks) step → BestGoal (length ks) far w₃ × LastStep (length ks) step w₃
-  join-goals cheapest = (
-    best-from ks cs fs ts c marks w₃ sound ready built-enough heap built-price built-dist built-leaf (goal-out (length ks) marks sinks w₃ built-goal),
-    goal-step (length ks) marks sinks w₃ built-goal cheapest,
-  )
+  goal-listed : (v : ℕ) → v < n → labelAt w₂ v ≡ goal → (j : ℕ) × OpenAt n marks sinks j × (getD sinks j 0 ≡ v)
+  goal-listed v h e =
+      let out : inTree marks v ≡ false =
+      ⊎-elim
+      (λ (m : inTree marks v ≡ true). absurd (let z = marked-in v h m in omega arith))
+      (λ m. m)
+      (either-way (inTree marks v)) in
+      let f = marked-out v h out in
+      ⊎-elim
+      (λ (q : labelAt w₂ v ≡ labelAt w₁ v). absurd (omega arith))
+      (λ (q : (labelAt w₁ v ≡ far) × (labelAt w₂ v ≡ goal) × ((j : ℕ) × (j < length sinks) × (getD sinks j 0 ≡ v))).
+      (q .2 .0, (q .2 .1, rw (q .2 .2) h, rw (q .2 .2) out), q .2 .2))
+      (g .only v h)
 
-  pub join-halts : sinkListSound (length ks) sinks ≡ true → {w₄ : List ℕ} {best : ℕ} → Ran (graphOf ks fs ts) w₃ w₄ best → Joining ks cs fs ts c marks sinks w₀ w₄ best
-  join-halts rule {w₄} {best} ran =
-      record {
-        sound = sound-graph ks cs fs ts c marks sound;
-        fair = ready-fair ks cs fs ts c marks ready;
-        marks-long = ready-marks ks cs fs ts c marks ready;
-        marks-bit = ready-bit ks cs fs ts c marks ready;
-        sinks-few = sinks-few (length ks) sinks rule;
-        sinks-nodes = sinks-nodes (length ks) sinks rule;
-        waiting =
-            ran .waiting (priceAt (blockOf ks cs fs ts) c) marks (ready-fair ks cs fs ts c marks ready)
-            (waiting-from ks cs fs ts c marks w₃ sound ready built-enough heap built-price built-dist built-leaf);
-        best-goal = ran .best-goal;
-        stopped = ran .stopped;
-        goals = λ v h. ran .high (5 * length ks + v) (omega arith) ∙ built-goal v h;
-        kept =
-            drop-same (8 * length ks) w₀ w₄ (ran .long ∙ built-long)
-            (λ j l. ran .high j (omega arith) ∙ built-kept j l);
-      }
+  marked-wait : (i : ℕ) → waitAt n w₂ i ≡ waitAt n w₁ i
+  marked-wait i = g .same .high (2 * n + i) (omega arith)
+
+  marked-key : (i : ℕ) → i < count → keyAt n w₂ i ≡ 0
+  marked-key i l =
+      rw (marked-wait i)
+      (let z = t .zero i l in
+      ⊎-elim
+      (λ (q : labelAt w₂ (waitAt n w₁ i) ≡ labelAt w₁ (waitAt n w₁ i)). q ∙ z)
+      (λ (q : (labelAt w₁ (waitAt n w₁ i) ≡ far) × (labelAt w₂ (waitAt n w₁ i) ≡ goal) × ((j : ℕ) × (j < length sinks) × (getD sinks j 0 ≡ waitAt n w₁ i))). absurd (let f = q .0 in omega arith))
+      (g .only (waitAt n w₁ i) (t .nodes i l)))
+
+  bare-same : (x : ℕ) → x < n → bare w₂ x ≡ bare w₁ x
+  bare-same x h =
+      ⊎-elim
+      (λ (q : labelAt w₂ x ≡ labelAt w₁ x). rw q)
+      (λ (q : (labelAt w₁ x ≡ far) × (labelAt w₂ x ≡ goal) × ((j : ℕ) × (j < length sinks) × (getD sinks j 0 ≡ x))).
+      le-leb goal (labelAt w₂ x) (let e = q .1 in omega arith) ∙ sym (le-leb goal (labelAt w₁ x) (let e = q .0 in omega arith)))
+      (g .only x h)
+
+  marked-long : length w₂ ≡ length w₀
+  marked-long = g .same .long ∙ t .long
+
+-- nothing has spread yet
+marked-spread :
+    (b : Block) (price : ℕ → ℕ) {marks sinks w₀ w₁ w₂ : List ℕ} {count : ℕ} → TreeMarked (nodes b) marks w₀ w₁ count → GoalsMarked (nodes b) sinks w₁ w₂ (length sinks)
+    → 3 * nodes b ≤ length w₀ → Spread b price w₂ count 0 (nodes b) 0
+marked-spread b price {marks} {sinks} {w₀} {w₁} {w₂} {count} t g long =
+    let same : bareCount (nodes b) w₂ ≡ bareCount (nodes b) w₁ = count-same (bare w₂) (bare w₁) (nodes b) (bare-same t g) in
+    let room = t .room in
+    record {
+      heap = record {
+        long = rw (marked-long t g) long;
+        few = omega arith;
+        ordered = λ i c a e l. rw (marked-key t g i (omega arith), marked-key t g c l) (omega arith);
+        nodes = λ i l. rw (marked-wait t g i) (t .nodes i l);
+      };
+      room = rw same room;
+      waits-label = λ i l. rw (marked-key t g i l) (omega arith);
+      waits-far = λ i l. omega arith;
+      bound = λ v h l. let z = marked-low t g v h l .1 in omega arith;
+      came = λ v h p l. absurd (let z = marked-low t g v h l .1 in omega arith);
+      done = λ u h l.
+          let z = marked-low t g u h l in
+          let q = t .waits u h (t .labels u h ∙ rw (z .0)) in
+          inl (q .0, q .1, marked-wait t g (q .0) ∙ q .2);
+    }
+
+-- ---- the labels have spread
+
+module _ (ks cs fs ts : List ℕ) (c : Congestion) {marks sinks w₀ w₁ w₂ : List ℕ} {count step : ℕ} (f : Fitted (blockOf ks cs fs ts) c marks sinks w₀)
+    (t : TreeMarked (length ks) marks w₀ w₁ count) (g : GoalsMarked (length ks) sinks w₁ w₂ (length sinks))
+    (m : LeastGoal (length ks) (heldPrice ks cs c) sinks w₂ (length sinks) step) where
+  pub join-ready : RunReady (graphOf ks fs ts) (heldPrice ks cs c) w₂ count step
+  join-ready = record {
+    firsts-long = f .firsts-long;
+    spread = marked-spread (graphOf ks fs ts) (heldPrice ks cs c) t g (let e = f .enough in omega arith);
+    small = m .most;
+  }
+
+  pub join-halts : {w₃ : List ℕ} {best : ℕ} → Ran (graphOf ks fs ts) (heldPrice ks cs c) step w₂ w₃ best → Halted (graphOf ks fs ts) (heldPrice ks cs c) marks sinks w₀ w₃ best
+  join-halts {w₃} {best} r = record {
+    shaped = record { few = f .few; firsts-long = f .firsts-long };
+    fair = fair-held (graphOf ks fs ts) ks cs c (f .few);
+    marks-long = f .marks-long;
+    sinks-few = f .sinks-few;
+    count = r .count;
+    level = r .level;
+    step = step;
+    spread = r .spread;
+    zero-in = λ v h i. let z = marked-in t g v h i in r .onward .kept v h (omega arith) ∙ z;
+    pos-out = λ v h o. r .onward .pos v h (marked-bare t g v h o);
+    most = r .onward .less;
+    least = λ j o l. r .onward .least (getD sinks j 0) (o .1) (marked-goal t g j o) l;
+    some =
+        ⊎-elim
+        inl
+        (λ (q : (v : ℕ) × (v < length ks) × (labelAt w₂ v ≡ goal) × (labelAt w₃ v ≡ best) × (best < goal)).
+        let p = goal-listed t g (q .0) (q .1) (q .2) in
+        inr (p .0, p .1, rw (p .2) (q .3), q .4))
+        (r .onward .some);
+    stopped = r .stopped;
+    last = λ j o. m .least j (o .0) (o .1) (marked-goal t g j o);
+    kept =
+        drop-same (3 * length ks) w₀ w₃ (r .onward .long ∙ marked-long t g)
+        (λ j l. r .onward .high j l ∙ g .same .high j (omega arith) ∙ t .high j l);
+  }
+
+-- it keeps its length
+module _ (ks cs fs ts : List ℕ) {c : Congestion} {marks sinks w₀ w₁ : List ℕ} {count : ℕ} (f : Fitted (blockOf ks cs fs ts) c marks sinks w₀)
+    (t : TreeMarked (length ks) marks w₀ w₁ count) where
+  pub tree-room : length ks ≤ length w₁
+  tree-room = let r = fitted-room ks cs fs ts f in let l = t .long in omega arith
+
+  module _ {w₂ : List ℕ} (g : GoalsMarked (length ks) sinks w₁ w₂ (length sinks)) where
+    pub goals-room : length ks ≤ length w₂
+    goals-room = let r = tree-room in let l = g .same .long in omega arith
+
+    pub run-room : {b : Block} {price : ℕ → ℕ} {step best : ℕ} {w₃ : List ℕ} → Ran b price step w₂ w₃ best → (0 ≤ 3 * length ks) × (3 * length ks ≤ length w₃)
+    run-room r =
+        let room = fitted-room ks cs fs ts f in
+        let l = t .long in
+        let m = g .same .long in
+        let n = r .onward .long in
+        (omega arith, omega arith)
 
 -- what the turn answers then
-module _ (ks cs fs ts : List ℕ) (c : Congestion) (marks sinks w₀ w : List ℕ) (best : ℕ) (s : Joining ks cs fs ts c marks sinks w₀ w best) where
-  pub join-stuck : best ≡ far → {w′ : List ℕ} → w′ ≡ take 0 w ++ (replicate (8 * length ks - 0) 0 ++ drop (8 * length ks) w) → pathReplyOf Stuck w′ ≡ turnReply (length ks) w₀ (turn (blockOf ks cs fs ts) (priceAt (blockOf ks cs fs ts) c) marks sinks)
-  join-stuck none e = rw (← turn-same ks cs fs ts (priceAt (blockOf ks cs fs ts) c) marks sinks) (halted-stuck s none e)
+module _ (ks cs fs ts : List ℕ) (c : Congestion) {marks sinks w₀ w : List ℕ} {best : ℕ} (s : Halted (graphOf ks fs ts) (heldPrice ks cs c) marks sinks w₀ w best) where
+  pub join-stuck : best ≡ far → {w′ : List ℕ} → w′ ≡ take 0 w ++ (replicate (3 * length ks - 0) 0 ++ drop (3 * length ks) w) → pathReplyOf Stuck w′ ≡ turnReply (length ks) w₀ (turn (blockOf ks cs fs ts) (heldPrice ks cs c) marks sinks)
+  join-stuck none e = rw (← turn-same ks cs fs ts (heldPrice ks cs c) marks sinks) (halted-stuck s none e)
 
-  pub join-joins : (best ≡ far → ⊥) → {r : PathAnswer} {w′ : List ℕ} → Read (length ks) marks sinks w best r w′ → pathReplyOf r w′ ≡ turnReply (length ks) w₀ (turn (blockOf ks cs fs ts) (priceAt (blockOf ks cs fs ts) c) marks sinks)
-  join-joins some d = rw (← turn-same ks cs fs ts (priceAt (blockOf ks cs fs ts) c) marks sinks) (halted-joins s some d)
+  pub join-joins : (best ≡ far → ⊥) → {r : PathAnswer} {w′ : List ℕ} → Read (length ks) marks sinks w best r w′ → pathReplyOf r w′ ≡ turnReply (length ks) w₀ (turn (blockOf ks cs fs ts) (heldPrice ks cs c) marks sinks)
+  join-joins some d = rw (← turn-same ks cs fs ts (heldPrice ks cs c) marks sinks) (halted-joins s some d)

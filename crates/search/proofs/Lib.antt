@@ -2,6 +2,8 @@
 --
 -- Tables 1 to 4, the list of sinks, row 13
 --     BlockLaws       what each rule of a table says at an entry; edges by their places in table 4
+--     EdgeLaws        edges where tables 3 and 4 have their lengths but may break their rules
+--     HeldLaws        numbers held within bounds, and the price over them
 --     KeptLaws        a function's answer and the test that it computes; a flag that is kept over a list
 --     TableLaws       how the tests of the tables decide
 --     RowLaws         a row of table 4 keeps its rule, by the places of the table
@@ -19,17 +21,17 @@
 --     NearestLaws     the unjoined sinks' distances, the least of them and its place
 --     TurnLaws        theorem: a turn joins by a cheapest path, and where it is stuck there is none
 --     GraphLaws       distances and turns without capacities are the same
+--     PriceSameLaws   prices that are the same on nodes make the same turn
 --
 -- The work slice
 --     StoreLaws       a store at one place of a list
 --     FillLaws        loops that clear or fill a part
---     FollowLaws      loops that follow predecessors
 --     QueueLaws       the tournament tree
 --     LevelLaws       its least entry as the level of the search
 --
--- The running search (Dijkstra)
+-- The running search (Dijkstra), as the search called alone has it
 --     Exactness       which distances and predecessors are final
---     BestLaws        the least distance of a goal so far, and a number at most every goal's price
+--     BestLaws        the least distance of a goal so far
 --     FrontierSteps   the frontier at the start, after a settling, after a row
 --     WayLaws         a new way to a node, as an edge gives it
 --     WaySteps        the frontier after a new way
@@ -37,24 +39,36 @@
 --     RowSteps        a row, edge by edge
 --     RunLaws         a run of settlings, and where it stops
 --
+-- A turn: labels and a binary heap
+--     HeapLaws        a node rises to its place in the heap, and one sinks
+--     SpreadSteps     what holds while labels spread, after an edge
+--     RelaxLaws       an edge, as its code has it
+--     SpreadRun       a row, and one node after the other
+--     SpreadExact     which labels and predecessors are final
+--     TurnMarkLaws    loops that mark the tree and the goals, and look for a label
+--     FollowLaws      loops that follow predecessors
+--     FoundLaws       the path is read off the work slice
+--     HaltLaws        what labels that have stopped say of the turn
+--     JoinLaws        a turn, step by step
+--
 -- A whole call
 --     ReadyLaws       what tests that refuse nothing have shown: fair prices, marks, a sound graph
 --     SearchLaws      a search: prepared, run, read
 --     SearchTestLaws  the tests before a search, and its reply
---     PathTestLaws    the tests before a turn, and its reply
---     FoundLaws       the path is read off the work slice
---     HaltLaws        what a stopped search says of the turn
---     JoinLaws        a turn, step by step
+--     PathTestLaws    what the tests before a turn refuse, and what they have shown
+--     FitLaws         how the test of all lengths decides
 --     PathReplyLaws   the answer of a turn by its cases, for the crate above
 --     AnswersHold     theorem: what the answers are in terms of paths alone
 -- Assumes nothing.
 pub mod BlockLaws
+pub mod EdgeLaws
 pub mod KeptLaws
 pub mod TableLaws
 pub mod RowLaws
 pub mod RisingRowLaws
 pub mod NumberLaws
 pub mod PassLaws
+pub mod HeldLaws
 pub mod DistinctLaws
 pub mod WalkLaws
 pub mod DistanceLaws
@@ -64,9 +78,9 @@ pub mod PathToLaws
 pub mod NearestLaws
 pub mod TurnLaws
 pub mod GraphLaws
+pub mod PriceSameLaws
 pub mod StoreLaws
 pub mod FillLaws
-pub mod FollowLaws
 pub mod QueueLaws
 pub mod LevelLaws
 pub mod Exactness
@@ -77,12 +91,20 @@ pub mod WaySteps
 pub mod RelaxSteps
 pub mod RowSteps
 pub mod RunLaws
+pub mod HeapLaws
+pub mod SpreadSteps
+pub mod RelaxLaws
+pub mod SpreadRun
+pub mod SpreadExact
+pub mod TurnMarkLaws
+pub mod FollowLaws
+pub mod FoundLaws
+pub mod HaltLaws
+pub mod JoinLaws
 pub mod ReadyLaws
 pub mod SearchLaws
 pub mod SearchTestLaws
 pub mod PathTestLaws
-pub mod FoundLaws
-pub mod HaltLaws
-pub mod JoinLaws
+pub mod FitLaws
 pub mod PathReplyLaws
 pub mod AnswersHold

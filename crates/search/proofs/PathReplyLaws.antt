@@ -1,49 +1,78 @@
--- What the cheapest path answers where nothing is refused: the turn, by its cases. For the crate above.
+-- What the cheapest path answers where nothing is due: the turn, by its cases. For the crate above.
 -- Assumes nothing.
 use mathlib.Core.Bool.{true}
 use mathlib.Core.List.{List, [], _∷_, _++_}
 use mathlib.Core.Path.{_≡_, refl, sym, _∙_, ap}
-use Prim.Native.Nat.{ℕ, _*_, _-_, _≤_, _<_}
+use Prim.Native.Nat.{ℕ, _+_, _*_, _-_, _≤_, _<_}
 use native.Mathlib.Omega.{arith}
+use lib.Dec.{leb}
 use lib.ListN.{length, take, drop, replicate}
 use lib.Seq.{take-at}
-use borrow.Author.Tests.{le-ltb}
+use borrow.Author.Tests.{le-leb, eq-eqb}
 use Rattle.price.specs.Bounds.{factorMost}
-use Rattle.price.proofs.BelowLaws.{firstBelow-all}
+use Rattle.price.proofs.TestLaws.{both-left}
 use Rattle.search.specs.Block.{Block, nodes}
-use Rattle.search.specs.Tables.{Sound}
+use Rattle.search.specs.Tables.{edgesMost, edgeTargetsSound, Sound}
 use Rattle.search.specs.Turn.{Congestion, priceAt, Turn, joins, stuck, turn}
-use Rattle.search.specs.Replies.{nodeSound, badNode, refusalOf, sinkListSound, faultyWithSinks, PathReply, cleared, turnReply, pathReply, pathReplyOf}
+use Rattle.search.specs.Held.{heldPrice}
+use Rattle.search.specs.Replies.{nodeSound, sinkListSound, PathReply, readOff, fittingLengths, fitting, turnReply, pathReply, pathReplyOf}
+use Rattle.search.specs.Ready.{Ready}
 use Rattle.search.specs.declared.PathAnswer.{PathAnswer}
 use Rattle.search.specs.declared.PathAnswer.the-variants.{Joins, Stuck}
-use Rattle.search.proofs.BlockLaws.{faulty-of}
+use Rattle.search.proofs.BlockLaws.{graph-of, capacities-long, firstEdges-long}
+use Rattle.search.proofs.EdgeLaws.{shape-of}
+use Rattle.search.proofs.ReadyLaws.{ready-price, ready-long}
+use Rattle.search.proofs.PathTestLaws.{sinks-few}
+use Rattle.search.proofs.HeldLaws.{held-is}
+use Rattle.search.proofs.PriceSameLaws.{turn-price}
+use Rattle.search.proofs.SpreadRun.{fair-held}
 
 -- what is left at the beginning of the work slice is read back
-pub cleared-front : (n : ℕ) {count : ℕ} (first work : List ℕ) {work′ : List ℕ} → count ≡ length first → work′ ≡ cleared n first work → take count work′ ≡ first
-unfolding cleared
-cleared-front n {count} first work c e = rw e (take-at first (replicate (8 * n - length first) 0 ++ drop (8 * n) work) count (sym c))
+pub read-front : (n : ℕ) {count : ℕ} (path work : List ℕ) {work′ : List ℕ} → count ≡ length path → work′ ≡ readOff n path work → take count work′ ≡ path
+unfolding readOff
+read-front n {count} path work c e = rw e (take-at path (replicate (3 * n - length path) 0 ++ drop (3 * n) work) count (sym c))
 
 module _ (b : Block) (c : Congestion) (marks sinks work : List ℕ) where
-  pub path-turn :
-      Sound b → sinkListSound (nodes b) sinks ≡ true → 8 * nodes b ≤ length work → ((v : ℕ) → v < nodes b → nodeSound c marks v ≡ true) → c .factor ≤ factorMost
-      → pathReply b c marks sinks work ≡ turnReply (nodes b) work (turn b (priceAt b c) marks sinks)
-  unfolding pathReply refusalOf faultyWithSinks badNode
-  path-turn s t l n f =
-      let bad : badNode (nodes b) c marks ≡ nodes b = firstBelow-all _ (nodes b) (λ v h. rw (n v h)) in
-      rw (
-        faulty-of b s,
-        t,
-        le-ltb (length work) (8 * nodes b) l,
-        bad,
-        le-ltb (nodes b) (nodes b) (omega arith),
-        le-ltb factorMost (c .factor) f,
-      )
+  -- where tables, sinks and numbers keep their rules
+  module _ (s : Sound b) (t : sinkListSound (nodes b) sinks ≡ true) (l : 8 * nodes b ≤ length work)
+      (n : (v : ℕ) → v < nodes b → nodeSound c marks v ≡ true) (f : c .factor ≤ factorMost) where
+    ready : Ready (b .kinds) (b .capacities) c marks
+    ready = record { kinds-sound = s .kinds-sound; capacities-sound = s .capacities-sound; nodes-sound = n; factor-most = f }
+
+    -- every length is right
+    pub fitting-sound : fitting b c marks sinks work ≡ true
+    unfolding fittingLengths edgeTargetsSound
+    fitting-sound =
+        let g = graph-of b s in
+        let long = ready-long (b .kinds) (b .capacities) (b .firstEdges) (b .edgeTargets) c marks ready (g .some) in
+        rw (
+          le-leb 1 (nodes b) (g .some),
+          le-leb (nodes b) 4096 (g .few),
+          eq-eqb (length (b .capacities)) (nodes b) (capacities-long (nodes b) (b .capacities) (s .capacities-sound)),
+          eq-eqb (length (b .firstEdges)) (nodes b + 1) (firstEdges-long b g),
+          both-left (leb (length (b .edgeTargets)) edgesMost) _ (s .edgeTargets-sound),
+          le-leb (8 * nodes b) (length work) l,
+          le-leb (nodes b) (length (c .histories)) (long .0),
+          le-leb (nodes b) (length (c .others)) (long .1),
+          le-leb (nodes b) (length marks) (long .2),
+          le-leb (length sinks) 4096 (sinks-few (nodes b) sinks t),
+        )
+
+    -- a held price is the price
+    price-held : (v : ℕ) → v < nodes b → heldPrice (b .kinds) (b .capacities) c v ≡ priceAt b c v
+    price-held v h = held-is b c v (ready-price (b .kinds) (b .capacities) (b .firstEdges) (b .edgeTargets) c marks ready v h .bounds)
+
+    pub path-turn : pathReply b c marks sinks work ≡ turnReply (nodes b) work (turn b (priceAt b c) marks sinks)
+    unfolding pathReply
+    path-turn =
+        let g = graph-of b s in
+        rw (fitting-sound, turn-price b (heldPrice (b .kinds) (b .capacities) c) (priceAt b c) price-held marks (shape-of b g) (fair-held b (b .kinds) (b .capacities) c (g .few)) sinks)
 
   module _ (n : ℕ) (w′ : List ℕ) (t : Turn) where
-    pub joined-turn : (place cost count : ℕ) → pathReplyOf (Joins place cost count) w′ ≡ turnReply n work t → (path : List ℕ) × (t ≡ joins place cost path) × (count ≡ length path) × (w′ ≡ cleared n path work)
+    pub joined-turn : (place cost count : ℕ) → pathReplyOf (Joins place cost count) w′ ≡ turnReply n work t → (path : List ℕ) × (t ≡ joins place cost path) × (count ≡ length path) × (w′ ≡ readOff n path work)
     joined-turn place cost count e = go t e
       where
-        go : (t : Turn) → pathReplyOf (Joins place cost count) w′ ≡ turnReply n work t → (path : List ℕ) × (t ≡ joins place cost path) × (count ≡ length path) × (w′ ≡ cleared n path work)
+        go : (t : Turn) → pathReplyOf (Joins place cost count) w′ ≡ turnReply n work t → (path : List ℕ) × (t ≡ joins place cost path) × (count ≡ length path) × (w′ ≡ readOff n path work)
         go (joins p k path) e =
             let numbers : (place ∷ cost ∷ count ∷ []) ≡ (p ∷ k ∷ length path ∷ []) = ap (λ (r : PathReply). r .joined) e in
             let a : place ≡ p = cc in
@@ -55,10 +84,10 @@ module _ (b : Block) (c : Congestion) (marks sinks work : List ℕ) where
             let z : _≡_ {A = ℕ} 0 1 = cc in
             absurd (omega arith)
 
-    pub stuck-turn : pathReplyOf Stuck w′ ≡ turnReply n work t → (t ≡ stuck) × (w′ ≡ cleared n [] work)
+    pub stuck-turn : pathReplyOf Stuck w′ ≡ turnReply n work t → (t ≡ stuck) × (w′ ≡ readOff n [] work)
     stuck-turn e = go t e
       where
-        go : (t : Turn) → pathReplyOf Stuck w′ ≡ turnReply n work t → (t ≡ stuck) × (w′ ≡ cleared n [] work)
+        go : (t : Turn) → pathReplyOf Stuck w′ ≡ turnReply n work t → (t ≡ stuck) × (w′ ≡ readOff n [] work)
         go (joins p k path) e =
             let numbers : [] ≡ (p ∷ k ∷ length path ∷ []) = ap (λ (r : PathReply). r .joined) e in
             let z : _≡_ {A = ℕ} 0 1 = cc in

@@ -1,9 +1,9 @@
--- What the tests before a turn have shown, where they refuse nothing: the tables and the list of sinks keep their rules, and the turn is the reply.
+-- What the tests before a turn refuse, and what they have shown where they refuse nothing: the tables, the list of sinks and the numbers keep their rules.
 -- Assumes nothing.
 use mathlib.Core.Bool.{true, false}
-use mathlib.Core.List.{List, [], _∷_}
+use mathlib.Core.List.{List, []}
 use mathlib.Core.Logic.{⊎-elim}
-use mathlib.Core.Path.{_≡_, sym, _∙_}
+use mathlib.Core.Path.{_≡_, sym, _∙_, ap}
 use Prim.Native.Nat.{ℕ, _*_, _≤_, _<_}
 use native.Mathlib.Omega.{arith}
 use lib.Dec.{leb, ltb}
@@ -15,9 +15,10 @@ use Rattle.price.proofs.TestLaws.{either-way, both-left, both-right}
 use Rattle.price.proofs.ListLaws.{every-at}
 use Rattle.search.specs.Block.{Block, blockOf, nodes}
 use Rattle.search.specs.Tables.{faultyTable, Sound}
-use Rattle.search.specs.Turn.{Congestion, priceAt, turn}
-use Rattle.search.specs.Replies.{refusalOf, sinksMost, sinkListSound, faultyWithSinks, PathReply, turnReply, pathReply}
+use Rattle.search.specs.Turn.{Congestion}
+use Rattle.search.specs.Replies.{refusalOf, searchRefusal, sinksMost, sinkListSound, faultyWithSinks}
 use Rattle.search.specs.Ready.{Ready}
+use Rattle.search.specs.declared.SearchAnswer.{SearchAnswer}
 use Rattle.search.proofs.BlockLaws.{sound-of, kinds-few}
 use Rattle.search.proofs.ReadyLaws.{Passed, refusal-none, passed-ready}
 
@@ -58,15 +59,16 @@ module _ (ks cs fs ts sinks : List ℕ) {table : ℕ} (found : table ≡ faultyW
   pub path-few : table ≡ 0 → length ks ≤ nodesMost
   path-few e = kinds-few ks (sound-of (blockOf ks cs fs ts) (no-fault (blockOf ks cs fs ts) sinks (sym found ∙ e) .0) .kinds-sound)
 
+  -- what is refused is due
+  pub refused-is :
+      (c : Congestion) (marks : List ℕ) (entries : ℕ) {r answer : SearchAnswer} → searchRefusal r ≡ refusalOf table (length ks) c marks entries → r ≡ answer
+      → searchRefusal answer ≡ refusalOf (faultyWithSinks (blockOf ks cs fs ts) sinks) (length ks) c marks entries
+  refused-is c marks entries {r} {answer} e is = ap searchRefusal (sym is) ∙ e ∙ ap (λ (t : ℕ). refusalOf t (length ks) c marks entries) found
+
   -- with the numbers of the first refusal that is due
   module _ (c : Congestion) (marks work : List ℕ) {numbers : List ℕ} (checked : numbers ≡ refusalOf table (length ks) c marks (length work)) where
     due : refusalOf (faultyWithSinks (blockOf ks cs fs ts) sinks) (length ks) c marks (length work) ≡ numbers
     due = rw found at (sym checked)
-
-    -- a refusal leaves the work slice as it was
-    pub path-refused : {k : ℕ} {more : List ℕ} → numbers ≡ k ∷ more → _≡_ {A = PathReply} (record { refusal = k ∷ more; joined = []; work = work }) (pathReply (blockOf ks cs fs ts) c marks sinks work)
-    unfolding pathReply
-    path-refused e = rw (due ∙ e)
 
     module _ (fine : numbers ≡ []) where
       passed : Passed (faultyWithSinks (blockOf ks cs fs ts) sinks) (length ks) c marks (length work)
@@ -75,13 +77,9 @@ module _ (ks cs fs ts sinks : List ℕ) {table : ℕ} (found : table ≡ faultyW
       sound-tables : Sound (blockOf ks cs fs ts)
       sound-tables = sound-of (blockOf ks cs fs ts) (no-fault (blockOf ks cs fs ts) sinks (passed .table-sound) .0)
 
-      -- where nothing is refused the turn can be taken, and it is the reply
+      -- where nothing is refused every rule is kept
       pub path-ready : Ready ks cs c marks × (Sound (blockOf ks cs fs ts) × ((8 * length ks ≤ length work) × (sinkListSound (length ks) sinks ≡ true)))
       path-ready = (
         passed-ready ks cs fs ts c marks sound-tables passed,
         (sound-tables, (passed .work-long, no-fault (blockOf ks cs fs ts) sinks (passed .table-sound) .1)),
       )
-
-      pub path-taken : {x : PathReply} → x ≡ turnReply (length ks) work (turn (blockOf ks cs fs ts) (priceAt (blockOf ks cs fs ts) c) marks sinks) → x ≡ pathReply (blockOf ks cs fs ts) c marks sinks work
-      unfolding pathReply
-      path-taken e = rw (due ∙ fine) e

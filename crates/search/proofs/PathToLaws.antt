@@ -12,11 +12,12 @@ use lib.ListN.{length, getD, drop}
 use Rattle.price.specs.Lists.{every, distinct}
 use Rattle.price.proofs.TestLaws.{either-way}
 use Rattle.search.specs.Block.{Block, nodes}
-use Rattle.search.specs.Tables.{Graph}
 use Rattle.search.specs.Paths.{Walk, pathCost, Fair}
 use Rattle.search.specs.Distance.{far, inTree, distances, distance}
 use Rattle.search.specs.Turn.{before, back, pathTo}
-use Rattle.search.specs.Layout.{predAt, trail}
+use Rattle.search.specs.Labels.{fromAt}
+use Rattle.search.specs.Follow.{trail}
+use Rattle.search.proofs.EdgeLaws.{Shaped}
 use Rattle.search.proofs.DistanceLaws.{distance-tree}
 use Rattle.search.proofs.PathLaws.{Onward, done, on, onward-walk, onward-cost, onward-out, onward-all, onward-distinct, onward-short}
 use Rattle.search.proofs.BeforeLaws.{before-node, before-edge, before-sum, before-near}
@@ -30,7 +31,7 @@ record Ended (b : Block) (price : ℕ → ℕ) (marks : List ℕ) (s : ℕ) (pat
   onward : Onward b price marks start rest s
   is : path ≡ start ∷ rest
 
-module _ (b : Block) (price : ℕ → ℕ) (marks : List ℕ) (g : Graph b) (fair : Fair b price) where
+module _ (b : Block) (price : ℕ → ℕ) (marks : List ℕ) (g : Shaped b) (fair : Fair b price) where
   -- the path to s is built backwards: v stands in front of `path`, and k steps are left, as many as `path` lacks of all nodes.
   -- They never run out, since the path's nodes are distinct.
   module _ (s : ℕ) where
@@ -52,7 +53,7 @@ module _ (b : Block) (price : ℕ → ℕ) (marks : List ℕ) (g : Graph b) (fai
     -- The node before one that is had over a node nearer than `level` is nearer than `level`.
     trail-back :
         (w : List ℕ) (level : ℕ)
-        → ((x : ℕ) → x < nodes b → inTree marks x ≡ false → distance b price marks x < far → distance b price marks x < level + price x → predAt (nodes b) w x ≡ before b price (distances b price marks) x)
+        → ((x : ℕ) → x < nodes b → inTree marks x ≡ false → distance b price marks x < far → distance b price marks x < level + price x → fromAt (nodes b) w x ≡ before b price (distances b price marks) x)
         → (k fuel v : ℕ) (path : List ℕ) → v < nodes b → distance b price marks v < far → distance b price marks v < level + price v → distance b price marks v ≤ fuel → Onward b price marks v path s → length path + k ≡ nodes b
         → trail (nodes b) marks w fuel v path ≡ back b price marks (distances b price marks) k v path
     unfolding trail back
@@ -108,7 +109,7 @@ module _ (b : Block) (price : ℕ → ℕ) (marks : List ℕ) (g : Graph b) (fai
     -- a trail along the nodes before is that path
     pub trail-is :
         (w : List ℕ) (fuel level : ℕ) → distance b price marks v ≤ fuel → distance b price marks v < level + price v
-        → ((x : ℕ) → x < nodes b → inTree marks x ≡ false → distance b price marks x < far → distance b price marks x < level + price x → predAt (nodes b) w x ≡ before b price (distances b price marks) x)
+        → ((x : ℕ) → x < nodes b → inTree marks x ≡ false → distance b price marks x < far → distance b price marks x < level + price x → fromAt (nodes b) w x ≡ before b price (distances b price marks) x)
         → trail (nodes b) marks w fuel v [] ≡ pathTo b price marks v
     unfolding pathTo
     trail-is w fuel level enough close same =

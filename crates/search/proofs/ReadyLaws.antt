@@ -4,7 +4,7 @@ use mathlib.Core.Bool.{Bool, true, false}
 use mathlib.Core.List.{List, [], _∷_}
 use mathlib.Core.Logic.{⊎-elim}
 use mathlib.Core.Path.{_≡_, refl}
-use Prim.Native.Nat.{ℕ, _*_, _≤_, _<_}
+use Prim.Native.Nat.{ℕ, _-_, _*_, _≤_, _<_}
 use native.Mathlib.Omega.{arith}
 use lib.Dec.{leb, ltb}
 use lib.ListN.{length, getD}
@@ -108,6 +108,12 @@ module _ (ks cs fs ts : List ℕ) (c : Congestion) (marks : List ℕ) where
   module _ (r : Ready ks cs c marks) where
     ready-node : (v : ℕ) → v < length ks → NodeSound c marks v
     ready-node v h = node-has c marks v (r .nodes-sound v h)
+
+    -- each list has an entry for every node
+    pub ready-long : 1 ≤ length ks → (length ks ≤ length (c .histories)) × (length ks ≤ length (c .others)) × (length ks ≤ length marks)
+    ready-long some =
+        let node = ready-node (length ks - 1) (omega arith) in
+        (omega (arith, node .has-history), omega (arith, node .has-others), omega (arith, node .has-mark))
 
     pub ready-price : (v : ℕ) → v < length ks → PriceReady ks cs (c .histories) (c .others) (c .factor) v
     ready-price v h =

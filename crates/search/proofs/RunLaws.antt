@@ -19,6 +19,7 @@ use Rattle.search.specs.Paths.{Fair}
 use Rattle.search.specs.Distance.{far, distance}
 use Rattle.search.specs.Layout.{distAt, entryAt, leafAt, TakenOut}
 use Rattle.search.specs.Frontier.{Open, Settled, Waiting, BestGoal, LastStep, Stopped, InProgress, Ran, RowReady, Looked, RowDone, unsettled}
+use Rattle.search.proofs.EdgeLaws.{shape-of}
 use Rattle.search.proofs.DistanceLaws.{distance-most}
 use Rattle.search.proofs.Exactness.{exact-near}
 use Rattle.search.proofs.BestLaws.{best-same}
@@ -81,7 +82,7 @@ module _ (b : Block) (step best : ℕ) (w₀ w : List ℕ) (u : ℕ) (run : Runn
       let pos = s .fair .pos u node in
       let d : distAt w u ≡ distance b (s .price) (s .marks) u =
       exact-near b (s .price) (s .marks) w (s .sound) (s .fair) (s .waiting) u node (omega (arith, at-level)) in
-      let m = distance-most b (s .price) (s .marks) (s .sound) (s .fair) u node (omega (arith, at-level)) in
+      let m = distance-most b (s .price) (s .marks) (shape-of b (s .sound)) (s .fair) u node (omega (arith, at-level)) in
       omega (arith, at-level)
 
   -- and a last step more does not wrap

@@ -16,26 +16,25 @@ use Rattle.price.proofs.TestLaws.{either-way}
 use Rattle.price.proofs.ListLaws.{has-at, has-place}
 use Rattle.price.proofs.EntryLaws.{least-top, least-le, placeOf-is}
 use Rattle.search.specs.Block.{Block, nodes}
-use Rattle.search.specs.Tables.{Graph}
 use Rattle.search.specs.Paths.{Walk, pathCost, CheapestPath, NoPath, Fair}
 use Rattle.search.specs.Distance.{far, inTree, distance}
 use Rattle.search.specs.Turn.{joins, stuck, pathTo, openDistances, joinAt, nearestDistance, nearestPlace, turn}
-use Rattle.search.proofs.WalkLaws.{walk-start}
+use Rattle.search.proofs.EdgeLaws.{Shaped}
 use Rattle.search.proofs.DistanceLaws.{no-path-cheaper, path-near}
 use Rattle.search.proofs.PathToLaws.{path-walk, path-cost}
 use Rattle.search.proofs.NearestLaws.{Nearest, open-long, open-out, open-in, open-least, open-above, turn-far, turn-near, nearest}
 
-module _ (b : Block) (price : ℕ → ℕ) (marks : List ℕ) (g : Graph b) (fair : Fair b price) where
+module _ (b : Block) (price : ℕ → ℕ) (marks : List ℕ) (g : Shaped b) (fair : Fair b price) where
   -- the turn of a list of sinks
-  module _ (sinks : List ℕ) (all-nodes : (i : ℕ) → i < length sinks → getD sinks i 0 < nodes b) where
+  module _ (sinks : List ℕ) where
     -- the first unjoined sink of least distance is joined, by its path
     pub turn-is :
-        (place d : ℕ) → place < length sinks → d < far → inTree marks (getD sinks place 0) ≡ false → distance b price marks (getD sinks place 0) ≡ d
+        (place d : ℕ) → place < length sinks → getD sinks place 0 < nodes b → d < far → inTree marks (getD sinks place 0) ≡ false → distance b price marks (getD sinks place 0) ≡ d
         → ((j : ℕ) → j < length sinks → inTree marks (getD sinks j 0) ≡ false → d ≤ distance b price marks (getD sinks j 0))
         → ((j : ℕ) → j < place → inTree marks (getD sinks j 0) ≡ false → distance b price marks (getD sinks j 0) ≡ d → ⊥)
         → turn b price marks sinks ≡ joins place d (pathTo b price marks (getD sinks place 0))
     unfolding joinAt
-    turn-is place d within near out here low first =
+    turn-is place d within node near out here low first =
         let os : List ℕ = openDistances b price marks sinks in
         let length-os : length os ≡ length sinks = open-long b price marks sinks in
         let at : getD os place 0 ≡ d = open-out b price marks sinks place within out ∙ here in
@@ -50,7 +49,7 @@ module _ (b : Block) (price : ℕ → ℕ) (marks : List ℕ) (g : Graph b) (fai
         let this : nearestPlace b price marks sinks ≡ place =
         rw lowest (placeOf-is d os place (omega arith) at earlier) in
         turn-near b price marks sinks (λ e. omega arith)
-        ∙ rw (this, path-cost b price marks g fair (getD sinks place 0) (all-nodes place within) (omega arith), here)
+        ∙ rw (this, path-cost b price marks g fair (getD sinks place 0) node (omega arith), here)
 
     pub stuck-is :
         ((j : ℕ) → j < length sinks → inTree marks (getD sinks j 0) ≡ false → distance b price marks (getD sinks j 0) ≡ far)
@@ -60,6 +59,8 @@ module _ (b : Block) (price : ℕ → ℕ) (marks : List ℕ) (g : Graph b) (fai
         (le-antisymm (least-top far (openDistances b price marks sinks))
         (open-above b price marks sinks far (omega arith) (λ j l o. omega (arith, none j l o))))
 
+  -- the turn of a list of nodes
+  module _ (sinks : List ℕ) (all-nodes : (i : ℕ) → i < length sinks → getD sinks i 0 < nodes b) where
     -- a listed sink is a node
     listed-node : (s : ℕ) → has s sinks ≡ true → s < nodes b
     listed-node s l = let at = has-place s sinks l in rw (at .2) at (all-nodes (at .0) (at .1))
@@ -107,14 +108,14 @@ module _ (b : Block) (price : ℕ → ℕ) (marks : List ℕ) (g : Graph b) (fai
             sink-listed = has-at sinks place joins-within;
             sink-open = joins-nearest .0 .out;
             costs = joins-nearest .1;
-            cheapest = λ t s other m l o w. le-trans (joins-least s l o) (no-path-cheaper b price marks g fair t s other (walk-start g (listed-node s l) w) m w);
+            cheapest = λ t s other m l o w. le-trans (joins-least s l o) (no-path-cheaper b price marks g fair t s other (listed-node s l) m w);
           }
 
     -- a stuck turn leaves no path from the tree to an unjoined sink
     pub stuck-no-path : turn b price marks sinks ≡ stuck → NoPath b (inTree marks) sinks
     unfolding joinAt
     stuck-no-path is t s path m l o w =
-        let close = path-near b price marks g fair t s path (walk-start g (listed-node s l) w) m w in
+        let close = path-near b price marks g fair t s path (listed-node s l) m w in
         ⊎-elim
         (λ (q : eqb (nearestDistance b price marks sinks) far ≡ true).
         let none : nearestDistance b price marks sinks ≡ far = eqb-true _ _ q in

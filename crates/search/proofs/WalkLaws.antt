@@ -13,9 +13,8 @@ use Rattle.price.specs.Lists.{has, distinct, total}
 use Rattle.price.proofs.TestLaws.{either-way, true≢false}
 use Rattle.price.proofs.ListLaws.{total-append, total-most}
 use Rattle.search.specs.Block.{Block, nodes, hasEdge}
-use Rattle.search.specs.Tables.{Graph}
 use Rattle.search.specs.Paths.{Walk, stay, step, pathCost, Fair}
-use Rattle.search.proofs.BlockLaws.{edge-from, edge-to}
+use Rattle.search.proofs.EdgeLaws.{Shaped, edge-node}
 use Rattle.search.proofs.DistinctLaws.{has-cons, distinct-cons, distinct-rest, distinct-short}
 
 -- a walk that stays costs nothing
@@ -149,21 +148,21 @@ module _ {b : Block} where
       record { path′ = u ∷ r .path′; walk = step e (r .walk); once = distinct-cons u (r .path′) h (r .once); less = cons-less price u (r .path′) path (r .less) })
       (either-way (has u (r .path′)))
 
-  module _ (g : Graph b) where
+  module _ (g : Shaped b) where
     -- a walk to a node starts at a node
     pub walk-start : {u v : ℕ} {path : List ℕ} → v < nodes b → Walk b u path v → u < nodes b
     walk-start h (stay u) = h
-    walk-start h (step {u = u} {w = x} e w) = edge-from b g u x e
+    walk-start h (step {u = u} {w = x} e w) = edge-node b g u x e
 
-    -- a walk from a node passes only nodes
-    pub walk-nodes : {u v : ℕ} {path : List ℕ} → u < nodes b → Walk b u path v → (i : ℕ) → i < length path → getD path i 0 < nodes b
+    -- and passes only nodes
+    pub walk-nodes : {u v : ℕ} {path : List ℕ} → v < nodes b → Walk b u path v → (i : ℕ) → i < length path → getD path i 0 < nodes b
     walk-nodes h (stay u) zero l = h
     walk-nodes h (stay u) (suc i) l = absurd (not-suc-le-zero (le-of-suc-le-suc l))
-    walk-nodes h (step e w) zero l = h
-    walk-nodes h (step {u = u} {w = x} e w) (suc i) l = walk-nodes (edge-to b g u x e) w i (le-of-suc-le-suc l)
+    walk-nodes h (step {u = u} {w = x} e w) zero l = edge-node b g u x e
+    walk-nodes h (step e w) (suc i) l = walk-nodes h w i (le-of-suc-le-suc l)
 
     -- a walk with no node twice has at most as many nodes as the block
-    pub shorten : (price : ℕ → ℕ) → Fair b price → {u v : ℕ} {path : List ℕ} → u < nodes b → Walk b u path v → Short b price u path v
+    pub shorten : (price : ℕ → ℕ) → Fair b price → {u v : ℕ} {path : List ℕ} → v < nodes b → Walk b u path v → Short b price u path v
     shorten price fair {u} {v} {path} h w =
         let r = once price w in
         let ns = walk-nodes h (r .walk) in

@@ -2,15 +2,11 @@
 -- Of n nodes: distances from 0, the queue's entries from n, prices from 3 n, predecessors from 4 n, goal marks from 5 n.
 -- The queue is a tournament tree: entry i is the least of entries 2 i and 2 i + 1, and node v's leaf is entry n + v.
 -- Assumes nothing.
-use mathlib.Core.Bool.{false}
-use mathlib.Core.List.{List, [], _∷_}
+use mathlib.Core.List.{List}
 use mathlib.Core.Path.{_≡_}
-use Prim.Native.Nat.{ℕ, zero, suc, _+_, _*_, _≤_, _<_, min}
-use lib.Dec.{eqb}
+use Prim.Native.Nat.{ℕ, _+_, _*_, _≤_, _<_, min}
 use lib.ListN.{length, getD, set}
-use Rattle.price.specs.Test.{choose, both}
-use Rattle.price.specs.Lists.{has}
-use Rattle.search.specs.Paths.{anyPriceMost}
+use Rattle.price.specs.Test.{choose}
 use Rattle.search.specs.Distance.{far, inTree}
 
 abbrev pub distAt : List ℕ → ℕ → ℕ
@@ -89,37 +85,3 @@ pub record Started (n : ℕ) (marks w w′ : List ℕ) : Type 0 where
 pub record Priced (n : ℕ) (price : ℕ → ℕ) (w w′ : List ℕ) : Type 0 where
   pub same : SameBut (3 * n) (4 * n) w w′
   pub prices : (v : ℕ) → v < n → priceIn n w′ v ≡ price v
-
--- the sinks that no tree node is are marked as goals
-pub record Marked (n : ℕ) (marks sinks w w′ : List ℕ) : Type 0 where
-  pub same : SameBut (5 * n) (6 * n) w w′
-  pub goals : (v : ℕ) → v < n → goalAt n w′ v ≡ choose (both (has v sinks) (eqb (getD marks v 0) 0)) 1 (goalAt n w v)
-
--- a number at most the price of each goal at a place of the list below `upto`
-pub record Cheapest (n : ℕ) (sinks w : List ℕ) (upto step : ℕ) : Type 0 where
-  pub most : step ≤ anyPriceMost
-  pub least : (j : ℕ) → j < upto → goalAt n w (getD sinks j 0) ≡ 1 → step ≤ priceIn n w (getD sinks j 0)
-
--- the first place of the list at which a goal of distance d stands
-pub record FirstAt (n d : ℕ) (sinks w : List ℕ) (place : ℕ) : Type 0 where
-  pub within : place ≤ length sinks
-  pub earlier : (j : ℕ) → j < place → goalAt n w (getD sinks j 0) ≡ 1 → distAt w (getD sinks j 0) ≡ d → ⊥
-  pub goal : place < length sinks → goalAt n w (getD sinks place 0) ≡ 1
-  pub dist : place < length sinks → distAt w (getD sinks place 0) ≡ d
-
--- from v back along predecessors to a marked node, in front of the part of the path that is there
-unfoldable pub trail : ℕ → List ℕ → List ℕ → ℕ → ℕ → List ℕ → List ℕ
-trail n marks w zero v path = v ∷ path
-trail n marks w (suc k) v path = choose (inTree marks v) (v ∷ path) (trail n marks w k (predAt n w v) (v ∷ path))
-
--- from a node that is at most `level` far, predecessors lead to nearer nodes
-pub record Leads (n level : ℕ) (marks w : List ℕ) : Type 0 where
-  pub long : 8 * n ≤ length w
-  pub marks-long : n ≤ length marks
-  pub marks-bit : (v : ℕ) → v < n → getD marks v 0 ≤ 1
-  pub pred-node : (v : ℕ) → v < n → distAt w v ≤ level → inTree marks v ≡ false → predAt n w v < n
-  pub pred-nearer : (v : ℕ) → v < n → distAt w v ≤ level → inTree marks v ≡ false → distAt w (predAt n w v) < distAt w v
-
--- the path from the tree to the sink, as the predecessors have it
-abbrev pub pathIn : ℕ → List ℕ → List ℕ → ℕ → List ℕ
-pathIn n marks w sink = trail n marks w (distAt w sink) sink []

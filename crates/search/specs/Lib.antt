@@ -3,7 +3,11 @@ pub mod Tables
 pub mod Paths
 pub mod Distance
 pub mod Turn
+pub mod Held
 pub mod Replies
 pub mod Layout
 pub mod Frontier
 pub mod Ready
+pub mod Labels
+pub mod Spread
+pub mod Follow

@@ -2,17 +2,18 @@
 -- Assumes nothing.
 use mathlib.Core.Bool.{Bool, not}
 use mathlib.Core.List.{List, [], _∷_, _++_}
-use Prim.Native.Nat.{ℕ, _*_, _-_, _<_}
-use lib.Dec.{leb, ltb}
+use Prim.Native.Nat.{ℕ, _+_, _*_, _-_, _<_}
+use lib.Dec.{leb, ltb, eqb}
 use lib.ListN.{length, getD, take, drop, replicate}
 use Rattle.price.specs.Test.{choose, both}
-use Rattle.price.specs.Bounds.{factorMost, othersMost, historyMost}
+use Rattle.price.specs.Bounds.{factorMost, othersMost, historyMost, nodesMost}
 use Rattle.price.specs.Lists.{every, firstBelow}
 use Rattle.search.specs.Block.{Block, nodes}
-use Rattle.search.specs.Tables.{faultyTable}
+use Rattle.search.specs.Tables.{edgesMost, faultyTable}
 use Rattle.search.specs.Paths.{CheapestPath, NoPath}
 use Rattle.search.specs.Distance.{LeastCost, inTree, distances}
 use Rattle.search.specs.Turn.{Congestion, priceAt, Turn, joins, stuck, turn}
+use Rattle.search.specs.Held.{heldPrice}
 use Rattle.search.specs.declared.SearchAnswer.{SearchAnswer}
 use Rattle.search.specs.declared.SearchAnswer.the-variants as s
 use Rattle.search.specs.declared.PathAnswer.{PathAnswer}
@@ -127,20 +128,44 @@ abbrev pub turnPath : Turn → List ℕ
 turnPath (joins place cost path) = path
 turnPath stuck = []
 
--- the path stands at the beginning of the work slice, from tree to sink, and the rest of its first 8 × nodes entries hold 0
+-- the path stands at the beginning of the work slice, from tree to sink; the rest of its first 3 × nodes entries hold 0, and those past
+-- them stay
+unfoldable pub readOff : ℕ → List ℕ → List ℕ → List ℕ
+readOff n path work = path ++ (replicate (3 * n - length path) 0 ++ drop (3 * n) work)
+
 abbrev pub turnReply : ℕ → List ℕ → Turn → PathReply
-turnReply n work t = record { refusal = []; joined = turnNumbers t; work = cleared n (turnPath t) work }
+turnReply n work t = record { refusal = []; joined = turnNumbers t; work = readOff n (turnPath t) work }
 
--- the turn unless something is refused; a refusal leaves the work slice as it was
-abbrev pub pathUnlessRefused : List ℕ → PathReply → List ℕ → PathReply
-pathUnlessRefused [] done work = done
-pathUnlessRefused (k ∷ ks) done work = record { refusal = k ∷ ks; joined = []; work = work }
+-- every list has the length that its rule asks: tables 1 to 4, the work slice, the lists of the nodes, and the sinks
+unfoldable pub fittingLengths : ℕ → ℕ → ℕ → ℕ → ℕ → ℕ → ℕ → ℕ → ℕ → Bool
+fittingLengths n capacities firstEdges edgeTargets work histories others marks sinks =
+    both (leb 1 n)
+    (both (leb n nodesMost)
+    (both (eqb capacities n)
+    (both (eqb firstEdges (n + 1))
+    (both (leb edgeTargets edgesMost)
+    (both (leb (workNeeded n) work)
+    (both (leb n histories)
+    (both (leb n others)
+    (both (leb n marks) (leb sinks sinksMost)))))))))
 
+abbrev pub fitting : Block → Congestion → List ℕ → List ℕ → List ℕ → Bool
+fitting b c marks sinks work =
+    fittingLengths (nodes b) (length (b .capacities)) (length (b .firstEdges)) (length (b .edgeTargets)) (length work)
+    (length (c .histories)) (length (c .others)) (length marks) (length sinks)
+
+-- what the search and the rule of the sinks refuse; none where they refuse nothing
+abbrev pub pathDue : Block → Congestion → List ℕ → List ℕ → List ℕ → List ℕ
+pathDue b c marks sinks work = refusalOf (faultyWithSinks b sinks) (nodes b) c marks (length work)
+
+-- Where every length is right, the turn, whatever the entries are: a number that prices a node is read within its bounds, a target or a
+-- sink that is no node is passed over, a row ends where table 4 does, and a node is in the tree where its mark is 1. Where a length is
+-- wrong, what is due; then something is.
 unfoldable pub pathReply : Block → Congestion → List ℕ → List ℕ → List ℕ → PathReply
 pathReply b c marks sinks work =
-    pathUnlessRefused (refusalOf (faultyWithSinks b sinks) (nodes b) c marks (length work))
-    (turnReply (nodes b) work (turn b (priceAt b c) marks sinks))
-    work
+    choose (fitting b c marks sinks work)
+    (turnReply (nodes b) work (turn b (heldPrice (b .kinds) (b .capacities) c) marks sinks))
+    (record { refusal = pathDue b c marks sinks work; joined = []; work = work })
 
 -- 01's numbers for each case of the answer
 abbrev pub pathRefusal : PathAnswer → List ℕ

@@ -1,9 +1,12 @@
 // The search: tests of tables 1 to 4, distances from a tree, and the cheapest path of one turn.
+ghost use mathlib.Core.List.{[]};
 ghost use mathlib.Core.Path.{_≡_};
+ghost use lib.ListN.{length};
 ghost use Rattle.search.specs.Block.{blockOf};
 ghost use Rattle.search.specs.Turn.{congestionOf, priceAt};
 ghost use Rattle.search.specs.Replies.{searchReplyOf, searchReply, LeavesLeastCosts};
-ghost use Rattle.search.specs.Replies.{faultyWithSinks, pathReplyOf, pathReply, JoinsCheapest};
+ghost use Rattle.search.specs.Replies.{refusalOf, faultyWithSinks, fittingLengths, pathDue};
+ghost use Rattle.search.specs.Replies.{pathRefusal, pathNumbers, pathReplyOf, pathReply, JoinsCheapest};
 
 // What a call of the search answers: the distances stand in the work slice, or one of 01's refusals.
 pub enum SearchAnswer {
@@ -30,11 +33,13 @@ pub enum PathAnswer {
 }
 
 mod distances;
+mod heap;
+mod labels;
 mod numbers;
-mod path;
 mod queue;
 mod run;
 mod tables;
+mod turn;
 
 // The tests of tables 1 to 4, then the work slice, then the numbers that price a turn; where none fails the distances of all nodes
 // from the marked ones stand at the beginning of the work slice.
@@ -110,7 +115,81 @@ fn faulty_with_sinks(
     7
 }
 
-// One turn: the cheapest path from the marked nodes to the nearest unmarked sink, after the tests of the search and of the sinks.
+// What is refused where a length is wrong.
+fn refused(
+    kind: &[u8],
+    capacity: &[u8],
+    first_edge: &[u32],
+    edge_target: &[u16],
+    factor: u32,
+    entries: usize,
+    history: &[u32],
+    others: &[u16],
+    in_tree: &[u8],
+    sinks: &[u16],
+) -> PathAnswer
+    ensures { λ r. do
+      let block = blockOf (now (kind .entry)) (now (capacity .entry)) (now («first_edge» .entry)) (now («edge_target» .entry))
+      let congestion = congestionOf factor (now (history .entry)) (now (others .entry))
+      let table = faultyWithSinks block (now (sinks .entry))
+      let due = refusalOf table (length (now (kind .entry))) congestion (now («in_tree» .entry)) entries
+      ⌜ (pathRefusal r ≡ due) × (pathNumbers r ≡ []) ⌝ }
+{
+    let table = faulty_with_sinks(kind, capacity, first_edge, edge_target, sinks);
+    match numbers::first_refusal(table, kind.len(), factor, entries, history, others, in_tree) {
+        SearchAnswer::BadTable(t) => PathAnswer::BadTable(t),
+        SearchAnswer::ShortWork(needed) => PathAnswer::ShortWork(needed),
+        SearchAnswer::BadNumber(place) => PathAnswer::BadNumber(place),
+        SearchAnswer::Done => PathAnswer::Stuck,
+    }
+}
+
+// Every list has the length that its rule asks.
+fn fits(
+    n: usize,
+    capacity: usize,
+    first_edge: usize,
+    edge_target: usize,
+    work: usize,
+    history: usize,
+    others: usize,
+    in_tree: usize,
+    sinks: usize,
+) -> bool
+    ensures { λ r. ⌜ r ≡ fittingLengths n capacity «first_edge» «edge_target» work history others «in_tree» sinks ⌝ }
+{
+    if n < 1 {
+        return false;
+    }
+    if tables::NODES_MOST < n {
+        return false;
+    }
+    if capacity != n {
+        return false;
+    }
+    if first_edge != n + 1 {
+        return false;
+    }
+    if tables::EDGES_MOST < edge_target {
+        return false;
+    }
+    if work < 8 * n {
+        return false;
+    }
+    if history < n {
+        return false;
+    }
+    if others < n {
+        return false;
+    }
+    if in_tree < n {
+        return false;
+    }
+    sinks <= tables::SINKS_MOST
+}
+
+// One turn: the cheapest path from the marked nodes to the nearest unmarked sink. Only lengths are compared: every number is read within
+// its bounds, so that the call costs what it visits. Where a length is wrong the tests of the search and of the sinks say what is refused.
 pub fn cheapest_path(
     kind: &[u8],
     capacity: &[u8],
@@ -131,22 +210,21 @@ pub fn cheapest_path(
     ensures cheapest { λ r. do
       let block = blockOf (now (kind .entry)) (now (capacity .entry)) (now («first_edge» .entry)) (now («edge_target» .entry))
       let congestion = congestionOf factor (now (history .entry)) (now (others .entry))
-      ⌜ JoinsCheapest block (priceAt block congestion) (now («in_tree» .entry)) (now (sinks .entry)) r (now (work .exit)) ⌝ }
+      let due = pathDue block congestion (now («in_tree» .entry)) (now (sinks .entry)) (now (work .entry))
+      ⌜ (due ≡ [] → JoinsCheapest block (priceAt block congestion) (now («in_tree» .entry)) (now (sinks .entry)) r (now (work .exit))) ⌝ }
 {
-    let table = faulty_with_sinks(kind, capacity, first_edge, edge_target, sinks);
-    match numbers::first_refusal(
-        table,
+    if fits(
         kind.len(),
-        factor,
+        capacity.len(),
+        first_edge.len(),
+        edge_target.len(),
         work.len(),
-        history,
-        others,
-        in_tree,
+        history.len(),
+        others.len(),
+        in_tree.len(),
+        sinks.len(),
     ) {
-        SearchAnswer::BadTable(t) => PathAnswer::BadTable(t),
-        SearchAnswer::ShortWork(needed) => PathAnswer::ShortWork(needed),
-        SearchAnswer::BadNumber(place) => PathAnswer::BadNumber(place),
-        SearchAnswer::Done => run::join(
+        return turn::join(
             kind,
             capacity,
             first_edge,
@@ -157,6 +235,18 @@ pub fn cheapest_path(
             others,
             in_tree,
             sinks,
-        ),
+        );
     }
+    refused(
+        kind,
+        capacity,
+        first_edge,
+        edge_target,
+        factor,
+        work.len(),
+        history,
+        others,
+        in_tree,
+        sinks,
+    )
 }

@@ -1,18 +1,15 @@
-// A whole search, once nothing is refused: prepared, run, read off and cleared.
+// A whole search, once nothing is refused: prepared, run and cleared.
 ghost use mathlib.Core.List.{[]};
 ghost use mathlib.Core.Path.{_≡_};
 ghost use Prim.Native.Nat.{_*_, _≤_};
 ghost use lib.ListN.{length};
-ghost use mathlib.Core.Bool.{true};
 ghost use Rattle.search.specs.Block.{blockOf};
 ghost use Rattle.search.specs.Tables.{Sound};
 ghost use Rattle.search.specs.Distance.{distances as distancesOf};
-ghost use Rattle.search.specs.Turn.{congestionOf, priceAt, turn};
-ghost use Rattle.search.specs.Replies.{cleared, sinkListSound, turnReply, pathReplyOf};
-ghost use Rattle.search.specs.Ready.{Ready, Prepared, Found, Read};
-use crate::PathAnswer;
+ghost use Rattle.search.specs.Turn.{congestionOf, priceAt};
+ghost use Rattle.search.specs.Replies.{cleared};
+ghost use Rattle.search.specs.Ready.{Ready, Prepared};
 use crate::distances;
-use crate::path;
 use crate::queue;
 
 // Prices, first distances and no goals.
@@ -65,57 +62,4 @@ pub fn distances_from_tree(
     queue::build(work, n);
     distances::settle_all(kind, first_edge, edge_target, work, 0);
     distances::clear(work, n, 8 * n);
-}
-
-// Leaves the path to the goal of least distance at the beginning of the work slice, once the search has stopped at that distance.
-fn read_path(sinks: &[u16], in_tree: &[u8], work: &mut [u64], n: usize, cost: u64) -> PathAnswer
-    requires { ⌜ Found n (now «in_tree») (now sinks) (now work) cost ⌝ }
-    ensures { λ r. ⌜ Read n (now («in_tree» .entry)) (now (sinks .entry)) (now (work .entry)) cost r (now (work .exit)) ⌝ }
-{
-    let place = path::first_at(sinks, work, n, cost);
-    let sink = sinks[place] as usize;
-    let count = path::path_length(in_tree, work, n, sink);
-    path::write_path(in_tree, work, n, sink, count);
-    distances::clear(work, count, 8 * n);
-    PathAnswer::Joins {
-        place: place as u32,
-        cost: cost,
-        length: count as u32,
-    }
-}
-
-// One turn: joins the nearest sink that is still to be joined.
-pub fn join(
-    kind: &[u8],
-    capacity: &[u8],
-    first_edge: &[u32],
-    edge_target: &[u16],
-    factor: u32,
-    work: &mut [u64],
-    history: &[u32],
-    others: &[u16],
-    in_tree: &[u8],
-    sinks: &[u16],
-) -> PathAnswer
-    requires { ⌜ Ready (now kind) (now capacity) (congestionOf factor (now history) (now others)) (now «in_tree») ⌝ }
-    requires { ⌜ Sound (blockOf (now kind) (now capacity) (now «first_edge») (now «edge_target»)) ⌝ }
-    requires { ⌜ 8 * length (now kind) ≤ length (now work) ⌝ }
-    requires { ⌜ sinkListSound (length (now kind)) (now sinks) ≡ true ⌝ }
-    ensures { λ r. do
-      let block = blockOf (now (kind .entry)) (now (capacity .entry)) (now («first_edge» .entry)) (now («edge_target» .entry))
-      let congestion = congestionOf factor (now (history .entry)) (now (others .entry))
-      let made = turn block (priceAt block congestion) (now («in_tree» .entry)) (now (sinks .entry))
-      ⌜ pathReplyOf r (now (work .exit)) ≡ turnReply (length (now (kind .entry))) (now (work .entry)) made ⌝ }
-{
-    let n = kind.len();
-    prepare(kind, capacity, history, others, factor, in_tree, work);
-    path::mark_goals(sinks, in_tree, work, n);
-    queue::build(work, n);
-    let last_step = path::least_price(sinks, work, n);
-    let cost = distances::settle_all(kind, first_edge, edge_target, work, last_step);
-    if cost == distances::FAR {
-        distances::clear(work, 0, 8 * n);
-        return PathAnswer::Stuck;
-    }
-    read_path(sinks, in_tree, work, n, cost)
 }

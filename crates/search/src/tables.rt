@@ -15,11 +15,11 @@ ghost use Rattle.search.specs.Replies.{sinkListSound};
 // The bounds of tables 1, 4 and 7.
 const KIND_MOST: u8 = 53;
 
-const NODES_MOST: usize = 4096;
+pub const NODES_MOST: usize = 4096;
 
-const EDGES_MOST: usize = 32768;
+pub const EDGES_MOST: usize = 32768;
 
-const SINKS_MOST: usize = 4096;
+pub const SINKS_MOST: usize = 4096;
 
 fn kinds_sound(kind: &[u8]) -> bool
     ensures { λ r. ⌜ r ≡ kindsSound (now (kind .entry)) ⌝ }

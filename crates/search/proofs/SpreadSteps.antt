@@ -1,0 +1,577 @@
+-- Looking at an edge keeps what holds while labels spread.
+--     label-heap                      a label on a bare node leaves the heap in order
+--     pass-more                       one more place of a row is passed
+--     spread-lower, spread-label      a lower predecessor; a first label
+--     onward-none, onward-trans       what stays from step to step
+--     relax-step                      what looking at one edge does, whole
+-- Assumes nothing.
+use mathlib.Core.Bool.{true, false}
+use mathlib.Core.List.{List}
+use mathlib.Core.Logic.{_⊎_, ⊎-elim, inl, inr}
+use mathlib.Core.Path.{_≡_, refl, sym, _∙_}
+use Prim.Native.Nat.{ℕ, _+_, _*_, _≤_, _<_}
+use native.Mathlib.Nat.{le-refl, le-trans}
+use native.Mathlib.Omega.{arith}
+use lib.ListN.{length, getD, set, length-set}
+use borrow.Author.Tests.{le-leb, lt-leb, leb-true}
+use Rattle.price.specs.Bounds.{priceMost, pathMost, nodesMost}
+use Rattle.price.proofs.TestLaws.{le-or-lt, true≢false}
+use Rattle.price.proofs.BelowLaws.{count-less, count-same}
+use Rattle.price.proofs.PriceLaws.{path-most}
+use Rattle.search.specs.Block.{Block, nodes, rowStart, hasEdge}
+use Rattle.search.specs.Labels.{goal, labelAt, fromAt, waitAt, keyAt, Waits, Heaped}
+use Rattle.search.specs.Spread.{bare, bareCount, Came, Passed, Looked, Spread, Onward, labelled, Labelled, ends, waits, GoalMet, lowered, stays, Relaxed, beyond, labels, lowers, tree, LabelReady}
+use Rattle.search.proofs.StoreLaws.{store-here, store-other}
+use Rattle.search.proofs.QueueLaws.{same-or-not}
+
+-- ---- a label on a bare node
+
+module _ {n count u v : ℕ} {firsts w : List ℕ} (r : LabelReady n firsts w count u v) (d : ℕ) where
+  labelled-long : length (labelled n w u v d) ≡ length w
+  labelled-long = length-set (set w v d) (n + v) u ∙ length-set w v d
+
+  labelled-other : (j : ℕ) → (j ≡ v → ⊥) → (j ≡ n + v → ⊥) → getD (labelled n w u v d) j 0 ≡ getD w j 0
+  labelled-other j a b = store-other (set w v d) (n + v) u j b ∙ store-other w v d j a
+
+  labelled-here : labelAt (labelled n w u v d) v ≡ d
+  labelled-here = store-other (set w v d) (n + v) u v (λ e. omega (arith, r .v-node)) ∙ store-here w v d (omega (arith, r .heap .long, r .v-node))
+
+  labelled-from : fromAt n (labelled n w u v d) v ≡ u
+  labelled-from = store-here (set w v d) (n + v) u (rw (length-set w v d) (omega (arith, r .heap .long, r .v-node)))
+
+  -- a waiting node has a label, so that it is not v
+  waits-other : (i : ℕ) → i < count → waitAt n w i ≡ v → ⊥
+  waits-other i l e =
+      let low : labelAt w (waitAt n w i) < goal = r .labels-low i l in
+      let low′ : labelAt w v < goal = rw e at low in
+      omega (arith, r .v-bare)
+
+  labelled-wait : (i : ℕ) → waitAt n (labelled n w u v d) i ≡ waitAt n w i
+  labelled-wait i = labelled-other (2 * n + i) (λ e. omega (arith, r .v-node)) (λ e. omega (arith, r .v-node))
+
+  labelled-key : (i : ℕ) → i < count → keyAt n (labelled n w u v d) i ≡ keyAt n w i
+  labelled-key i l =
+      rw (labelled-wait i)
+      (labelled-other (waitAt n w i) (waits-other i l) (λ e. let node : waitAt n w i < n = r .heap .nodes i l in omega arith))
+
+  labelled-heap : Heaped n count (labelled n w u v d)
+  labelled-heap = record {
+    long = rw labelled-long (r .heap .long);
+    few = r .heap .few;
+    ordered = λ i c a b l.
+        let li : i < count = omega arith in
+        rw (labelled-key i li, labelled-key c l) (r .heap .ordered i c a b l);
+    nodes = λ i l. rw (labelled-wait i) (r .heap .nodes i l);
+  }
+
+  pub label-heap : Heaped n count (labelled n w u v d) × ((count < n) × (v < n) × (n < 65536) × (labelAt (labelled n w u v d) v ≡ d))
+  label-heap = (labelled-heap, (r .more, r .v-node, omega (arith, r .few), labelled-here))
+
+-- what a first label leaves: v has label d from u and nothing else has changed, but that v may wait
+record Fresh (n : ℕ) (firsts : List ℕ) (u v d : ℕ) (w w′ : List ℕ) (count count′ : ℕ) : Type 0 where
+  long : length w′ ≡ length w
+  high : (j : ℕ) → 3 * n ≤ j → getD w′ j 0 ≡ getD w j 0
+  label-here : labelAt w′ v ≡ d
+  label-other : (x : ℕ) → x < n → (x ≡ v → ⊥) → labelAt w′ x ≡ labelAt w x
+  from-here : fromAt n w′ v ≡ u
+  from-other : (x : ℕ) → x < n → (x ≡ v → ⊥) → fromAt n w′ x ≡ fromAt n w x
+  heap : Heaped n count′ w′
+  most : count′ ≤ count + 1
+  all : (i : ℕ) → i < count′ → (waitAt n w′ i ≡ v) ⊎ Waits n count w (waitAt n w′ i)
+  kept : (x : ℕ) → Waits n count w x → Waits n count′ w′ x
+  out : Waits n count′ w′ v ⊎ (getD firsts (v + 1) 0 ≤ getD firsts v 0)
+
+module _ {n count u v : ℕ} {firsts w : List ℕ} (r : LabelReady n firsts w count u v) (d : ℕ) where
+  fresh-of : {w′ : List ℕ} {count′ : ℕ} → Labelled n firsts u v d w w′ count count′ → Fresh n firsts u v d w w′ count count′
+  fresh-of (ends empty e ec) = rw (e, ec) (record {
+    long = labelled-long r d;
+    high = λ j l. labelled-other r d j (λ q. omega (arith, r .v-node)) (λ q. omega (arith, r .v-node));
+    label-here = labelled-here r d;
+    label-other = λ x h q. labelled-other r d x q (λ p. omega arith);
+    from-here = labelled-from r d;
+    from-other = λ x h q. labelled-other r d (n + x) (λ p. omega (arith, r .v-node)) (λ p. q (omega arith));
+    heap = labelled-heap r d;
+    most = omega arith;
+    all = λ i l. inr (i, l, sym (labelled-wait r d i));
+    kept = λ x q. (q .0, q .1, labelled-wait r d (q .0) ∙ q .2);
+    out = inr empty;
+  })
+  fresh-of {w′} (waits a ec) = rw ec (record {
+    long = a .same .long ∙ labelled-long r d;
+    high = λ j l. a .same .high j l ∙ labelled-other r d j (λ q. omega (arith, r .v-node)) (λ q. omega (arith, r .v-node));
+    label-here = a .same .low v (omega (arith, r .v-node)) ∙ labelled-here r d;
+    label-other = λ x h q. a .same .low x (omega arith) ∙ labelled-other r d x q (λ p. omega arith);
+    from-here = a .same .low (n + v) (omega (arith, r .v-node)) ∙ labelled-from r d;
+    from-other = λ x h q. a .same .low (n + x) (omega arith) ∙ labelled-other r d (n + x) (λ p. omega (arith, r .v-node)) (λ p. q (omega arith));
+    heap = record {
+      long = rw (a .same .long, labelled-long r d) (r .heap .long);
+      few = omega (arith, r .more);
+      ordered = a .ordered;
+      nodes = λ i l.
+          ⊎-elim
+          (λ (q : waitAt n w′ i ≡ v). rw q (r .v-node))
+          (λ (q : Waits n count (labelled n w u v d) (waitAt n w′ i)). rw (q .2) at (labelled-heap r d .nodes (q .0) (q .1)))
+          (a .all i l);
+    };
+    most = omega arith;
+    all = λ i l.
+        ⊎-elim
+        (λ (q : waitAt n w′ i ≡ v). inl q)
+        (λ (q : Waits n count (labelled n w u v d) (waitAt n w′ i)). inr (q .0, q .1, sym (labelled-wait r d (q .0)) ∙ q .2))
+        (a .all i l);
+    kept = λ x q. a .kept x (q .0, q .1, labelled-wait r d (q .0) ∙ q .2);
+    out = inl (a .new);
+  })
+
+-- ---- what stays from step to step
+
+pub onward-none : (n : ℕ) (w : List ℕ) (best : ℕ) → Onward n w w best best
+onward-none n w best = record {
+  long = refl;
+  high = λ j l. refl;
+  kept = λ v h l. refl;
+  still = λ v h l m. refl;
+  pos = λ v h l. omega arith;
+  less = le-refl best;
+  least = λ v h e l. absurd (omega arith);
+  some = inl refl;
+}
+
+pub onward-trans : {n : ℕ} {w w₁ w₂ : List ℕ} {best best₁ best₂ : ℕ} → Onward n w w₁ best best₁ → Onward n w₁ w₂ best₁ best₂ → Onward n w w₂ best best₂
+onward-trans {n} {w} {w₁} {w₂} {best} {best₁} {best₂} a c =
+    let bare-then : (v : ℕ) → v < n → goal ≤ labelAt w₂ v → goal ≤ labelAt w₁ v =
+    λ v h l.
+    ⊎-elim (λ q. q) (λ (q : labelAt w₁ v < goal). absurd (let e = c .kept v h q in omega arith)) (le-or-lt goal (labelAt w₁ v)) in
+    let bare-first : (v : ℕ) → v < n → goal ≤ labelAt w₁ v → goal ≤ labelAt w v =
+    λ v h l.
+    ⊎-elim (λ q. q) (λ (q : labelAt w v < goal). absurd (let e = a .kept v h q in omega arith)) (le-or-lt goal (labelAt w v)) in
+    record {
+      long = c .long ∙ a .long;
+      high = λ j l. c .high j l ∙ a .high j l;
+      kept = λ v h l. let e = a .kept v h l in c .kept v h (omega arith) ∙ e;
+      still = λ v h l m. let l₁ = bare-then v h m in c .still v h l₁ m ∙ a .still v h l l₁;
+      pos = λ v h l.
+          ⊎-elim
+          (λ (q : goal ≤ labelAt w₁ v). c .pos v h q)
+          (λ (q : labelAt w₁ v < goal). let e = c .kept v h q in let p = a .pos v h l in omega arith)
+          (le-or-lt goal (labelAt w₁ v));
+      less = le-trans (c .less) (a .less);
+      least = λ v h e l.
+          ⊎-elim
+          (λ (q : goal ≤ labelAt w₁ v).
+          let same : labelAt w₁ v ≡ labelAt w v = a .still v h (omega arith) q in
+          c .least v h (same ∙ e) l)
+          (λ (q : labelAt w₁ v < goal).
+          let same : labelAt w₂ v ≡ labelAt w₁ v = c .kept v h q in
+          let first : best₁ ≤ labelAt w₁ v = a .least v h e q in
+          let less = c .less in
+          omega arith)
+          (le-or-lt goal (labelAt w₁ v));
+      some =
+          ⊎-elim
+          (λ (q : best₂ ≡ best₁).
+          ⊎-elim
+          (λ (p : best₁ ≡ best). inl (q ∙ p))
+          (λ (p : (v : ℕ) × (v < n) × (labelAt w v ≡ goal) × (labelAt w₁ v ≡ best₁) × (best₁ < goal)).
+          let low : labelAt w₁ (p .0) < goal = let e = p .3 in let l = p .4 in omega arith in
+          inr (p .0, p .1, p .2, c .kept (p .0) (p .1) low ∙ p .3 ∙ sym q, let l = p .4 in omega arith))
+          (a .some))
+          (λ (p : (v : ℕ) × (v < n) × (labelAt w₁ v ≡ goal) × (labelAt w₂ v ≡ best₂) × (best₂ < goal)).
+          let g : goal ≤ labelAt w₁ (p .0) = let e = p .2 in omega arith in
+          let same : labelAt w₁ (p .0) ≡ labelAt w (p .0) = a .still (p .0) (p .1) (bare-first (p .0) (p .1) g) g in
+          inr (p .0, p .1, sym same ∙ p .2, p .3, p .4))
+          (c .some);
+    }
+
+-- ---- the steps
+
+-- prices above 0 and at most the largest under row 13's bounds
+pub record Low (b : Block) (price : ℕ → ℕ) : Type 0 where
+  pub pos : (v : ℕ) → v < nodes b → 0 < price v
+  pub most : (v : ℕ) → v < nodes b → price v ≤ priceMost
+
+-- a bare node counts
+pub bare-some : (n : ℕ) (w : List ℕ) (v : ℕ) → v < n → goal ≤ labelAt w v → 0 < bareCount n w
+bare-some n w v h l =
+    let m = count-less (bare w) (λ (x : ℕ). false) n v (λ x k p. absurd (true≢false (sym p))) h (le-leb goal (labelAt w v) l) refl in
+    omega arith
+
+-- a node has got a first label
+bare-fewer : (n : ℕ) (w w′ : List ℕ) (v : ℕ) → v < n → goal ≤ labelAt w v → labelAt w′ v < goal → ((x : ℕ) → x < n → (x ≡ v → ⊥) → labelAt w′ x ≡ labelAt w x) → bareCount n w′ < bareCount n w
+bare-fewer n w w′ v h l m same =
+    count-less (bare w) (bare w′) n v
+    (λ x k p.
+    ⊎-elim
+    (λ (e : x ≡ v).
+    let now : goal ≤ labelAt w′ x = leb-true goal (labelAt w′ x) p in
+    let then : goal ≤ labelAt w′ v = rw e at now in
+    absurd (omega arith))
+    (λ (q : x ≡ v → ⊥). le-leb goal (labelAt w x) (rw (same x k q) at (leb-true goal (labelAt w′ x) p)))
+    (same-or-not x v))
+    h (le-leb goal (labelAt w v) l) (lt-leb goal (labelAt w′ v) m)
+
+-- what looking at one edge of u, of label d, does
+pub record Stepped (b : Block) (price : ℕ → ℕ) (d u place : ℕ) (w w′ : List ℕ) (count count′ best best′ : ℕ) : Type 0 where
+  pub spread : Spread b price w′ count′ d u place
+  pub here : labelAt w′ u ≡ d
+  pub onward : Onward (nodes b) w w′ best best′
+  pub fewer : 2 * bareCount (nodes b) w′ + count′ ≤ 2 * bareCount (nodes b) w + count
+
+-- one more place of the row is passed
+passed :
+    {b : Block} {price : ℕ → ℕ} {w : List ℕ} {count d u place : ℕ} → Spread b price w count d u place
+    → (getD (b .edgeTargets) place 0 < nodes b → Looked (nodes b) price w u (getD (b .edgeTargets) place 0)) → Spread b price w count d u (place + 1)
+passed {b} {price} {w} {count} {d} {u} {place} s look = record {
+  heap = s .heap;
+  room = s .room;
+  waits-label = s .waits-label;
+  waits-far = s .waits-far;
+  bound = s .bound;
+  came = s .came;
+  done = λ x h l.
+      ⊎-elim
+      inl
+      (λ (f : (k : ℕ) → Passed b u place x k → getD (b .edgeTargets) k 0 < nodes b → Looked (nodes b) price w x (getD (b .edgeTargets) k 0)).
+      inr
+      (λ k p t.
+      ⊎-elim
+      (λ (e : k ≡ place).
+      ⊎-elim
+      (λ (ex : x ≡ u). rw (ex, e) (look (rw e at t)))
+      (λ (dx : x ≡ u → ⊥). f k (record { from = p .from; below = p .below; within = p .within; seen = λ q. absurd (dx q) }) t)
+      (same-or-not x u))
+      (λ (dk : k ≡ place → ⊥).
+      f k (record { from = p .from; below = p .below; within = p .within; seen = λ q. let z : k < place + 1 = p .seen q in omega arith }) t)
+      (same-or-not k place)))
+      (s .done x h l);
+}
+
+pass-on :
+    {b : Block} {price : ℕ → ℕ} {w : List ℕ} {count d u place : ℕ} → Spread b price w count d u place → labelAt w u ≡ d
+    → (v : ℕ) → getD (b .edgeTargets) place 0 ≡ v → Looked (nodes b) price w u v → Spread b price w count d u (place + 1)
+pass-on {b} {price} {w} {count} {d} {u} {place} s here v at look = passed s (λ t. rw at look)
+
+module _ {b : Block} {price : ℕ → ℕ} (fair : Low b price) {w : List ℕ} {count d u place : ℕ}
+    (s : Spread b price w count d u place) (few : nodes b ≤ nodesMost) (node : u < nodes b) (here : labelAt w u ≡ d) (low : d < goal) where
+  -- a label is far below `goal`
+  pub spread-low : d < pathMost
+  spread-low =
+      let m : labelAt w u + bareCount (nodes b) w * priceMost ≤ nodes b * priceMost = s .bound u node (omega arith) in
+      let top : nodes b * priceMost < pathMost = path-most (nodes b) few in
+      omega arith
+
+  look-tree : (v : ℕ) → labelAt w v ≡ 0 → Looked (nodes b) price w u v
+  look-tree v e = record { labelled = omega arith; near = omega arith; lowest = λ p q. absurd (omega arith) }
+
+  look-kept :
+      (v : ℕ) → v < nodes b → 0 < labelAt w v → labelAt w v < goal → (labelAt w (fromAt (nodes b) w v) ≡ d → fromAt (nodes b) w v ≤ u)
+      → Looked (nodes b) price w u v
+  look-kept v h p l lowest =
+      let c = s .came v h p l in
+      let sum : labelAt w v ≡ labelAt w (fromAt (nodes b) w v) + price v = c .sum in
+      let near : labelAt w (fromAt (nodes b) w v) ≤ d = c .near in
+      record { labelled = l; near = omega arith; lowest = λ q e. lowest (e ∙ here) }
+
+  kept-step : {best : ℕ} → (getD (b .edgeTargets) place 0 < nodes b → Looked (nodes b) price w u (getD (b .edgeTargets) place 0)) → Stepped b price d u (place + 1) w w count count best best
+  kept-step {best} look = record { spread = passed s look; here = here; onward = onward-none (nodes b) w best; fewer = le-refl _ }
+
+  -- a lower predecessor of v
+  module _ (v : ℕ) (h : v < nodes b) (pos : 0 < labelAt w v) (l : labelAt w v < goal) (edge : hasEdge b u v ≡ true)
+      (less : u < fromAt (nodes b) w v) (same : labelAt w (fromAt (nodes b) w v) ≡ d) where
+    low-label : (x : ℕ) → x < nodes b → labelAt (set w (nodes b + v) u) x ≡ labelAt w x
+    low-label x k = store-other w (nodes b + v) u x (λ e. omega arith)
+
+    low-wait : (i : ℕ) → waitAt (nodes b) (set w (nodes b + v) u) i ≡ waitAt (nodes b) w i
+    low-wait i = store-other w (nodes b + v) u (2 * nodes b + i) (λ e. omega arith)
+
+    low-key : (i : ℕ) → i < count → keyAt (nodes b) (set w (nodes b + v) u) i ≡ keyAt (nodes b) w i
+    low-key i k = rw (low-wait i) (low-label (waitAt (nodes b) w i) (s .heap .nodes i k))
+
+    low-bare : bareCount (nodes b) (set w (nodes b + v) u) ≡ bareCount (nodes b) w
+    low-bare = count-same (bare (set w (nodes b + v) u)) (bare w) (nodes b) (λ x k. rw (low-label x k))
+
+    low-here : fromAt (nodes b) (set w (nodes b + v) u) v ≡ u
+    low-here = store-here w (nodes b + v) u (omega (arith, s .heap .long))
+
+    low-other : (x : ℕ) → (x ≡ v → ⊥) → fromAt (nodes b) (set w (nodes b + v) u) x ≡ fromAt (nodes b) w x
+    low-other x q = store-other w (nodes b + v) u (nodes b + x) (λ e. q (omega arith))
+
+    -- v has its label over u too
+    low-came : Came b price (set w (nodes b + v) u) d v
+    low-came =
+        let sum : labelAt w v ≡ labelAt w (fromAt (nodes b) w v) + price v = s .came v h pos l .sum in
+        let lu : labelAt (set w (nodes b + v) u) u ≡ labelAt w u = low-label u node in
+        let lv : labelAt (set w (nodes b + v) u) v ≡ labelAt w v = low-label v h in
+        record { node = rw low-here node; near = rw low-here (omega arith); edge = rw low-here edge; sum = rw low-here (omega arith) }
+
+    low-came-other : (x : ℕ) → x < nodes b → (x ≡ v → ⊥) → Came b price w d x → Came b price (set w (nodes b + v) u) d x
+    low-came-other x k q c =
+        let f : fromAt (nodes b) (set w (nodes b + v) u) x ≡ fromAt (nodes b) w x = low-other x q in
+        let lf : labelAt (set w (nodes b + v) u) (fromAt (nodes b) w x) ≡ labelAt w (fromAt (nodes b) w x) = low-label (fromAt (nodes b) w x) (c .node) in
+        record { node = rw f (c .node); near = rw (f, lf) (c .near); edge = rw f (c .edge); sum = rw (f, lf, low-label x k) (c .sum) }
+
+    -- what was looked at still is
+    low-looked : (x y : ℕ) → x < nodes b → y < nodes b → Looked (nodes b) price w x y → Looked (nodes b) price (set w (nodes b + v) u) x y
+    low-looked x y kx ky f =
+        let lx : labelAt (set w (nodes b + v) u) x ≡ labelAt w x = low-label x kx in
+        let ly : labelAt (set w (nodes b + v) u) y ≡ labelAt w y = low-label y ky in
+        record {
+          labelled = rw ly (f .labelled);
+          near = rw (ly, lx) (f .near);
+          lowest = λ p e.
+              let p′ : 0 < labelAt w y = rw ly at p in
+              ⊎-elim
+              (λ (q : y ≡ v).
+              let lu : labelAt (set w (nodes b + v) u) u ≡ labelAt w u = low-label u node in
+              let at : fromAt (nodes b) (set w (nodes b + v) u) y ≡ u = rw q low-here in
+              let e′ : labelAt (set w (nodes b + v) u) u ≡ labelAt (set w (nodes b + v) u) x = rw at at e in
+              let old : labelAt w (fromAt (nodes b) w v) ≡ labelAt w x = omega arith in
+              let lowest : fromAt (nodes b) w y ≤ x = f .lowest p′ (rw q old) in
+              let lowest′ : fromAt (nodes b) w v ≤ x = rw q at lowest in
+              rw at (omega arith))
+              (λ (q : y ≡ v → ⊥).
+              let at : fromAt (nodes b) (set w (nodes b + v) u) y ≡ fromAt (nodes b) w y = low-other y q in
+              let c = s .came y ky p′ (f .labelled) in
+              let lf : labelAt (set w (nodes b + v) u) (fromAt (nodes b) w y) ≡ labelAt w (fromAt (nodes b) w y) = low-label (fromAt (nodes b) w y) (c .node) in
+              let e′ : labelAt (set w (nodes b + v) u) (fromAt (nodes b) w y) ≡ labelAt (set w (nodes b + v) u) x = rw at at e in
+              rw at (f .lowest p′ (omega arith)))
+              (same-or-not y v);
+        }
+
+    spread-lower : Spread b price (set w (nodes b + v) u) count d u place
+    spread-lower = record {
+      heap = record {
+        long = rw (length-set w (nodes b + v) u) (s .heap .long);
+        few = s .heap .few;
+        ordered = λ i c a e k. let li : i < count = omega arith in rw (low-key i li, low-key c k) (s .heap .ordered i c a e k);
+        nodes = λ i k. rw (low-wait i) (s .heap .nodes i k);
+      };
+      room = rw low-bare (s .room);
+      waits-label = λ i k. rw (low-key i k) (s .waits-label i k);
+      waits-far = λ i k. rw (low-key i k) (s .waits-far i k);
+      bound = λ x k m. rw (low-label x k, low-bare) (s .bound x k (rw (low-label x k) at m));
+      came = λ x k p m.
+          ⊎-elim
+          (λ (q : x ≡ v). rw q low-came)
+          (λ (q : x ≡ v → ⊥). low-came-other x k q (s .came x k (rw (low-label x k) at p) (rw (low-label x k) at m)))
+          (same-or-not x v);
+      done = λ x k m.
+          ⊎-elim
+          (λ (q : Waits (nodes b) count w x). inl (q .0, q .1, low-wait (q .0) ∙ q .2))
+          (λ (f : (j : ℕ) → Passed b u place x j → getD (b .edgeTargets) j 0 < nodes b → Looked (nodes b) price w x (getD (b .edgeTargets) j 0)).
+          inr (λ j p t. low-looked x (getD (b .edgeTargets) j 0) k t (f j p t)))
+          (s .done x k (rw (low-label x k) at m));
+    }
+
+    lower-onward : (best : ℕ) → Onward (nodes b) w (set w (nodes b + v) u) best best
+    lower-onward best = record {
+      long = length-set w (nodes b + v) u;
+      high = λ j k. store-other w (nodes b + v) u j (λ e. omega arith);
+      kept = λ x k m. low-label x k;
+      still = λ x k m m′. low-label x k;
+      pos = λ x k m. rw (low-label x k) (omega arith);
+      less = le-refl best;
+      least = λ x k e m. absurd (let z : labelAt (set w (nodes b + v) u) x ≡ labelAt w x = low-label x k in omega arith);
+      some = inl refl;
+    }
+
+    lower-looked : Looked (nodes b) price (set w (nodes b + v) u) u v
+    lower-looked =
+        let c = s .came v h pos l in
+        let sum : labelAt w v ≡ labelAt w (fromAt (nodes b) w v) + price v = c .sum in
+        let lu : labelAt (set w (nodes b + v) u) u ≡ labelAt w u = low-label u node in
+        let lv : labelAt (set w (nodes b + v) u) v ≡ labelAt w v = low-label v h in
+        record { labelled = rw lv l; near = omega arith; lowest = λ p e. rw low-here (le-refl u) }
+
+  -- a first label on v
+  module _ {firsts w′ : List ℕ} {v count′ : ℕ} (r : LabelReady (nodes b) firsts w count u v) (rows : firsts ≡ b .firstEdges) (edge : hasEdge b u v ≡ true)
+      (f : Fresh (nodes b) firsts u v (d + price v) w w′ count count′) where
+    v-node : v < nodes b
+    v-node = r .v-node
+
+    new-low : d + price v < goal
+    new-low = let k = spread-low in let m = fair .most v v-node in omega arith
+
+    -- a node with a label is not v
+    not-v : (x : ℕ) → labelAt w x < goal → x ≡ v → ⊥
+    not-v x m e = let z : labelAt w v < goal = rw e at m in omega (arith, r .v-bare)
+
+    new-u : labelAt w′ u ≡ d
+    new-u = f .label-other u node (not-v u (omega arith)) ∙ here
+
+    new-bare : bareCount (nodes b) w′ < bareCount (nodes b) w
+    new-bare = bare-fewer (nodes b) w w′ v v-node (r .v-bare) (rw (f .label-here) new-low) (f .label-other)
+
+    -- the label of a waiting node
+    new-key : (i : ℕ) → i < count′ → (keyAt (nodes b) w′ i ≡ d + price v) ⊎ ((j : ℕ) × (j < count) × (keyAt (nodes b) w′ i ≡ keyAt (nodes b) w j))
+    new-key i k =
+        ⊎-elim
+        (λ (q : waitAt (nodes b) w′ i ≡ v). inl (rw q (f .label-here)))
+        (λ (q : Waits (nodes b) count w (waitAt (nodes b) w′ i)).
+        let j : ℕ = q .0 in
+        let at : waitAt (nodes b) w (q .0) ≡ waitAt (nodes b) w′ i = q .2 in
+        let other : waitAt (nodes b) w (q .0) ≡ v → ⊥ = not-v (waitAt (nodes b) w (q .0)) (s .waits-label (q .0) (q .1)) in
+        inr (j, q .1, rw (← at) (f .label-other (waitAt (nodes b) w (q .0)) (s .heap .nodes (q .0) (q .1)) other)))
+        (f .all i k)
+
+    new-came : Came b price w′ d v
+    new-came =
+        let here′ = f .label-here in
+        let lu = new-u in
+        record { node = rw (f .from-here) node; near = rw (f .from-here) (omega arith); edge = rw (f .from-here) edge; sum = rw (f .from-here) (omega arith) }
+
+    old-from : (x : ℕ) → x < nodes b → (c : Came b price w d x) → labelAt w x < goal → labelAt w′ (fromAt (nodes b) w x) ≡ labelAt w (fromAt (nodes b) w x)
+    old-from x k c m =
+        let sum : labelAt w x ≡ labelAt w (fromAt (nodes b) w x) + price x = c .sum in
+        f .label-other (fromAt (nodes b) w x) (c .node) (not-v (fromAt (nodes b) w x) (omega arith))
+
+    old-came : (x : ℕ) → x < nodes b → (x ≡ v → ⊥) → 0 < labelAt w x → labelAt w x < goal → Came b price w′ d x
+    old-came x k q p m =
+        let c = s .came x k p m in
+        let at : fromAt (nodes b) w′ x ≡ fromAt (nodes b) w x = f .from-other x k q in
+        let lf : labelAt w′ (fromAt (nodes b) w x) ≡ labelAt w (fromAt (nodes b) w x) = old-from x k c m in
+        record { node = rw at (c .node); near = rw (at, lf) (c .near); edge = rw at (c .edge); sum = rw (at, lf, f .label-other x k q) (c .sum) }
+
+    old-looked : (x y : ℕ) → x < nodes b → (x ≡ v → ⊥) → y < nodes b → Looked (nodes b) price w x y → Looked (nodes b) price w′ x y
+    old-looked x y kx qx ky l =
+        let qy : y ≡ v → ⊥ = not-v y (l .labelled) in
+        let lx : labelAt w′ x ≡ labelAt w x = f .label-other x kx qx in
+        let ly : labelAt w′ y ≡ labelAt w y = f .label-other y ky qy in
+        record {
+          labelled = rw ly (l .labelled);
+          near = rw (ly, lx) (l .near);
+          lowest = λ p e.
+              let p′ : 0 < labelAt w y = rw ly at p in
+              let c = s .came y ky p′ (l .labelled) in
+              let at : fromAt (nodes b) w′ y ≡ fromAt (nodes b) w y = f .from-other y ky qy in
+              let lf : labelAt w′ (fromAt (nodes b) w y) ≡ labelAt w (fromAt (nodes b) w y) = old-from y ky c (l .labelled) in
+              let e′ : labelAt w′ (fromAt (nodes b) w y) ≡ labelAt w′ x = rw at at e in
+              rw at (l .lowest p′ (omega arith));
+        }
+
+    spread-label : Spread b price w′ count′ d u place
+    spread-label =
+        let fewer : bareCount (nodes b) w′ < bareCount (nodes b) w = new-bare in
+        record {
+          heap = f .heap;
+          room = omega (arith, s .room, f .most);
+          waits-label = λ i k.
+              ⊎-elim
+              (λ (q : keyAt (nodes b) w′ i ≡ d + price v). rw q new-low)
+              (λ (q : (j : ℕ) × (j < count) × (keyAt (nodes b) w′ i ≡ keyAt (nodes b) w j)). rw (q .2) (s .waits-label (q .0) (q .1)))
+              (new-key i k);
+          waits-far = λ i k.
+              ⊎-elim
+              (λ (q : keyAt (nodes b) w′ i ≡ d + price v). rw q (omega arith))
+              (λ (q : (j : ℕ) × (j < count) × (keyAt (nodes b) w′ i ≡ keyAt (nodes b) w j)). rw (q .2) (s .waits-far (q .0) (q .1)))
+              (new-key i k);
+          bound = λ x k m.
+              ⊎-elim
+              (λ (q : x ≡ v).
+              let bu : labelAt w u + bareCount (nodes b) w * priceMost ≤ nodes b * priceMost = s .bound u node (omega arith) in
+              let most : price v ≤ priceMost = fair .most v v-node in
+              let is : labelAt w′ x ≡ d + price v = rw q (f .label-here) in
+              omega arith)
+              (λ (q : x ≡ v → ⊥).
+              let is : labelAt w′ x ≡ labelAt w x = f .label-other x k q in
+              let bx : labelAt w x + bareCount (nodes b) w * priceMost ≤ nodes b * priceMost = s .bound x k (omega arith) in
+              omega arith)
+              (same-or-not x v);
+          came = λ x k p m.
+              ⊎-elim
+              (λ (q : x ≡ v). rw q new-came)
+              (λ (q : x ≡ v → ⊥). old-came x k q (rw (f .label-other x k q) at p) (rw (f .label-other x k q) at m))
+              (same-or-not x v);
+          done = λ x k m.
+              ⊎-elim
+              (λ (q : x ≡ v).
+              rw q
+              (⊎-elim
+              inl
+              (λ (empty : getD firsts (v + 1) 0 ≤ getD firsts v 0).
+              inr (λ j p t. absurd (let a : rowStart b v ≤ j = p .from in let z : j < rowStart b (v + 1) = p .below in let e : getD (b .firstEdges) (v + 1) 0 ≤ getD (b .firstEdges) v 0 = rw rows at empty in omega arith)))
+              (f .out)))
+              (λ (q : x ≡ v → ⊥).
+              ⊎-elim
+              (λ (p : Waits (nodes b) count w x). inl (f .kept x p))
+              (λ (g : (j : ℕ) → Passed b u place x j → getD (b .edgeTargets) j 0 < nodes b → Looked (nodes b) price w x (getD (b .edgeTargets) j 0)).
+              inr (λ j p t. old-looked x (getD (b .edgeTargets) j 0) k q t (g j p t)))
+              (s .done x k (rw (f .label-other x k q) at m)))
+              (same-or-not x v);
+        }
+
+    label-looked : Looked (nodes b) price w′ u v
+    label-looked =
+        let is = f .label-here in
+        let lu = new-u in
+        record { labelled = rw is new-low; near = omega arith; lowest = λ p e. rw (f .from-here) (le-refl u) }
+
+    label-onward : {best best′ : ℕ} → GoalMet (labelAt w v) (d + price v) best best′ → Onward (nodes b) w w′ best best′
+    label-onward {best} {best′} g = record {
+      long = f .long;
+      high = f .high;
+      kept = λ x k m. f .label-other x k (not-v x m);
+      still = λ x k m m′.
+          f .label-other x k (λ q. let z : labelAt w′ x ≡ d + price v = rw q (f .label-here) in let n = new-low in omega arith);
+      pos = λ x k m.
+          ⊎-elim
+          (λ (q : x ≡ v). let z : labelAt w′ x ≡ d + price v = rw q (f .label-here) in let p = fair .pos v v-node in omega arith)
+          (λ (q : x ≡ v → ⊥). rw (f .label-other x k q) (omega arith))
+          (same-or-not x v);
+      less = g .less;
+      least = λ x k e m.
+          ⊎-elim
+          (λ (q : x ≡ v).
+          let z : labelAt w′ x ≡ d + price v = rw q (f .label-here) in
+          let met : best′ ≤ d + price v = g .least (rw q at e) in
+          omega arith)
+          (λ (q : x ≡ v → ⊥). absurd (let z : labelAt w′ x ≡ labelAt w x = f .label-other x k q in omega arith))
+          (same-or-not x v);
+      some =
+          ⊎-elim
+          inl
+          (λ (q : (labelAt w v ≡ goal) × (best′ ≡ d + price v)).
+          inr (v, v-node, q .0, f .label-here ∙ sym (q .1), rw (q .1) new-low))
+          (g .some);
+    }
+
+  -- ready to label
+  pub label-ready : length (b .firstEdges) ≡ nodes b + 1 → (v : ℕ) → v < nodes b → goal ≤ labelAt w v → LabelReady (nodes b) (b .firstEdges) w count u v
+  label-ready long v h l = record {
+    few = few;
+    firsts-long = long;
+    heap = s .heap;
+    labels-low = s .waits-label;
+    more = let m = bare-some (nodes b) w v h l in let k = s .room in omega arith;
+    u-node = node;
+    v-node = h;
+    v-bare = l;
+  }
+
+  -- looking at the edge at `place`
+  pub relax-at :
+      length (b .firstEdges) ≡ nodes b + 1 → (v : ℕ) → getD (b .edgeTargets) place 0 ≡ v → hasEdge b u v ≡ true
+      → {w′ : List ℕ} {count′ best best′ : ℕ} → Relaxed (nodes b) (b .firstEdges) price u v d w w′ count count′ best best′
+      → Stepped b price d u (place + 1) w w′ count count′ best best′
+  relax-at long v at edge (beyond far-off e ec eb) = rw (e, ec, eb) (kept-step (λ t. absurd (let z : v < nodes b = rw at at t in omega arith)))
+  relax-at long v at edge (tree h z e ec eb) = rw (e, ec, eb) (kept-step (λ t. rw at (look-tree v z)))
+  relax-at long v at edge (lowers h pos l (stays lowest e) ec eb) = rw (e, ec, eb) (kept-step (λ t. rw at (look-kept v h pos l lowest)))
+  relax-at long v at edge {w′} {count′} {best} {best′} (lowers h pos l (lowered less same e) ec eb) =
+      rw (e, ec, eb)
+      (let next : Spread b price (set w (nodes b + v) u) count d u place = spread-lower v h pos l edge less same in
+      let lu : labelAt (set w (nodes b + v) u) u ≡ d = low-label v h pos l edge less same u node ∙ here in
+      record {
+        spread = pass-on next lu v at (lower-looked v h pos l edge less same);
+        here = lu;
+        onward = lower-onward v h pos l edge less same best;
+        fewer = rw (low-bare v h pos l edge less same) (le-refl _);
+      })
+  relax-at long v at edge {w′} {count′} {best} {best′} (labels h l made met) =
+      let r = label-ready long v h l in
+      let f = fresh-of r (d + price v) made in
+      record {
+        spread = pass-on (spread-label r refl edge f) (new-u r refl edge f) v at (label-looked r refl edge f);
+        here = new-u r refl edge f;
+        onward = label-onward r refl edge f met;
+        fewer = let m = new-bare r refl edge f in let k = f .most in omega arith;
+      }

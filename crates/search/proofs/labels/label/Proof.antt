@@ -1,0 +1,91 @@
+-- `search::labels::label` meets its contract: two stores and, where v has a row, a place in the heap.
+-- Assumes nothing.
+use mathlib.Core.Path.{refl, _∙_}
+use native.Mathlib.Omega.{arith}
+use lib.ListN.{length-set}
+use Rattle.search.specs.Spread.{ends, waits}
+use Rattle.search.proofs.SpreadSteps.{label-heap}
+use borrow.Author.Needs.{needs}
+use Rattle.search.proofs.labels.label.Statement.{statement}
+use Rattle.search.proofs.labels.label.Tie as tie
+
+mul-met : tie.Need-mul-met
+mul-met c = search needs
+
+slice-read-met : tie.Need-slice-read-met
+slice-read-met c = search needs
+
+met-requires : tie.Need-met-requires
+met-requires c κs = search needs
+
+mul-work : tie.Need-mul-work
+mul-work c = search needs
+
+slice-write-work : tie.Need-slice-write-work
+slice-write-work c = search needs
+
+add-work : tie.Need-add-work
+add-work c = search needs
+
+mul-work-2 : tie.Need-mul-work-2
+mul-work-2 c = search needs
+
+slice-write-work-2 : tie.Need-slice-write-work-2
+slice-write-work-2 c = simp length-set (omega arith)
+
+add-if1 : tie.Need-add-if1
+add-if1 c = search needs
+
+mul-if1 : tie.Need-mul-if1
+mul-if1 c = search needs
+
+shared-slice-read-if1 : tie.Need-shared-slice-read-if1
+shared-slice-read-if1 c = search needs
+
+mul-if1-2 : tie.Need-mul-if1-2
+mul-if1-2 c = search needs
+
+shared-slice-read-if1-2 : tie.Need-shared-slice-read-if1-2
+shared-slice-read-if1-2 c = search needs
+
+same-length : tie.Need-same-length
+same-length c = search needs
+
+returns : tie.Need-returns
+returns c = (ends (c .if1 .taken) refl refl, c .before .before .before .met .ensures)
+
+add-requires : tie.Need-add-requires
+add-requires c κs = label-heap (c .before .before .before .before .before .before .before .before .pre) (c .before .before .before .before .before .before .before .before .args .d)
+
+add-t10 : tie.Need-add-t10
+add-t10 c = search needs
+
+same-length-2 : tie.Need-same-length-2
+same-length-2 c = c .before .before .add .ensures .same .long ∙ simp length-set
+
+returns-2 : tie.Need-returns-2
+returns-2 c = (waits (c .before .before .add .ensures) refl, c .before .before .before .before .before .before .before .met .ensures)
+
+pub label-spec : {M : Type 1} → statement M
+label-spec =
+    tie.close
+    (tie.spec
+    mul-met
+    slice-read-met
+    met-requires
+    mul-work
+    slice-write-work
+    add-work
+    mul-work-2
+    slice-write-work-2
+    add-if1
+    mul-if1
+    shared-slice-read-if1
+    mul-if1-2
+    shared-slice-read-if1-2
+    same-length
+    returns
+    add-requires
+    add-t10
+    same-length-2
+    returns-2)

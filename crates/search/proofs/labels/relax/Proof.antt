@@ -1,0 +1,73 @@
+-- `search::labels::relax` meets its contract: each return is one of the four things that looking at an edge can do.
+-- Assumes nothing.
+use native.Mathlib.Omega.{arith}
+use mathlib.Core.Path.{refl}
+use Rattle.search.specs.Spread.{beyond, lowers, tree}
+use Rattle.search.proofs.RelaxLaws.{relax-label, relax-labels}
+use borrow.Author.Needs.{needs}
+use Rattle.search.proofs.labels.relax.Statement.{statement}
+use Rattle.search.proofs.labels.relax.Tie as tie
+
+returns : tie.Need-returns
+returns c = beyond (c .if1 .taken) refl refl refl
+
+mul-old : tie.Need-mul-old
+mul-old c = search needs
+
+slice-read-old : tie.Need-slice-read-old
+slice-read-old c = search needs
+
+held-price-requires : tie.Need-held-price-requires
+held-price-requires c κs = (c .before .before .before .before .before .before .before .before .before .pre .lent, c .before .before .if1 .left)
+
+add-label : tie.Need-add-label
+add-label c = let p = c .before .held-price .ensures .1 in let r = c .before .before .before .before .before .before .before .before .before .before .before .pre .near in omega arith
+
+label-requires : tie.Need-label-requires
+label-requires c κs = relax-label (c .before .before .before .before .before .before .before .before .before .before .before .pre) (c .before .before .before .before .if1 .left) (c .before .before .if2 .taken)
+
+same-length : tie.Need-same-length
+same-length c = search needs
+
+returns-2 : tie.Need-returns-2
+returns-2 c =
+    let at-label = c .before .before in
+    let at-held-price = at-label .before .before in
+    let at-if2 = at-held-price .before in
+    let at-if1 = at-if2 .before .before in
+    relax-labels (at-held-price .held-price .ensures .0) (at-if1 .if1 .left) (at-if2 .if2 .taken) (at-label .label .ensures .0) (at-label .label .ensures .1)
+
+lower-requires : tie.Need-lower-requires
+lower-requires c κs =
+    let at-if3 = c .before in
+    let at-if2 = at-if3 .before in
+    let at-if1 = at-if2 .before .before in
+    let start = at-if1 .before .before .before .before .before .before .before in
+    let r = start .pre in
+    (r .u-node, at-if1 .if1 .left, r .lent .few, r .heap .long, r .from-node (at-if1 .if1 .left) (at-if3 .if3 .taken) (at-if2 .if2 .left))
+
+same-length-2 : tie.Need-same-length-2
+same-length-2 c = search needs
+
+returns-3 : tie.Need-returns-3
+returns-3 c = lowers (c .before .before .before .before .before .before .before .if1 .left) (c .before .before .before .before .if3 .taken) (c .before .before .before .before .before .if2 .left) (c .before .before .lower .ensures) refl refl
+
+returns-4 : tie.Need-returns-4
+returns-4 c = let z = c .if3 .left in tree (c .before .before .before .if1 .left) (omega arith) refl refl refl
+
+pub relax-spec : {M : Type 1} → statement M
+relax-spec =
+    tie.close
+    (tie.spec
+    returns
+    mul-old
+    slice-read-old
+    held-price-requires
+    add-label
+    label-requires
+    same-length
+    returns-2
+    lower-requires
+    same-length-2
+    returns-3
+    returns-4)

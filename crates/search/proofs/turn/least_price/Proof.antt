@@ -1,0 +1,79 @@
+-- `search::turn::least_price` meets its contract. The invariant: `least` is at most the price of each goal listed before place i. The measure is what is left of the list.
+-- Assumes nothing.
+use mathlib.Core.Logic.{⊎-elim}
+use Prim.Native.Nat.{_-_}
+use native.Mathlib.Omega.{arith}
+use lib.ListN.{length}
+use Rattle.search.specs.Turn.{congestionOf}
+use Rattle.search.specs.Held.{heldPrice}
+use Rattle.search.specs.Follow.{LeastGoal}
+use Rattle.search.proofs.TurnMarkLaws.{least-none, least-more, least-all}
+use borrow.Author.Needs.{needs}
+use Rattle.search.proofs.turn.least_price.Statement.{statement}
+use Rattle.search.proofs.turn.least_price.Tie as tie
+
+abbrev Inv-loop : tie.InvT-loop
+Inv-loop kind capacity history others factor sinks work n least₀ i₀ least i = LeastGoal (length kind) (heldPrice kind capacity (congestionOf factor history others)) sinks work i least
+
+abbrev μ-loop : tie.MeasureT-loop
+μ-loop kind capacity history others factor sinks work n least₀ i₀ least i = length sinks - i
+
+loop-holds : tie.Need-loop-holds Inv-loop μ-loop
+loop-holds c = least-none _ _ _ _
+
+mul-s : tie.Need-mul-s Inv-loop μ-loop
+mul-s c = search needs
+
+shared-slice-read-s : tie.Need-shared-slice-read-s Inv-loop μ-loop
+shared-slice-read-s c = search needs
+
+cast-s : tie.Need-cast-s Inv-loop μ-loop
+cast-s c = omega (arith, c .shared-slice-known7 .given (c .before .before .loop .i))
+
+mul-if2 : tie.Need-mul-if2 Inv-loop μ-loop
+mul-if2 c = let t = c .if1 .taken in let p = c .before .before .before .before .before .before .before .before .before .before .pre .0 .few in omega arith
+
+shared-slice-read-if2 : tie.Need-shared-slice-read-if2 Inv-loop μ-loop
+shared-slice-read-if2 c = let t = c .before .if1 .taken in let p = c .before .before .before .before .before .before .before .before .before .before .before .pre .1 in omega arith
+
+held-price-requires : tie.Need-held-price-requires Inv-loop μ-loop
+held-price-requires c κs = (c .before .before .before .before .before .before .before .before .before .before .before .before .pre .0, c .before .before .if1 .taken)
+
+add-i : tie.Need-add-i Inv-loop μ-loop
+add-i c = let t = c .before .before .loop-test .taken in omega arith
+
+loop-less : tie.Need-loop-less Inv-loop μ-loop
+loop-less c = let t = c .before .before .loop-test .taken in omega arith
+
+loop-again : tie.Need-loop-again Inv-loop μ-loop
+loop-again c =
+    let i = c .before .before .before .loop .inv in
+    ⊎-elim
+    (λ w. rw (w .5) (least-more i (let l = w .4 .taken in omega arith) (λ h g. let e = w .3 .ensures .0 in omega arith)))
+    (⊎-elim
+    (λ w. rw (w .5) (least-more i (omega arith) (λ h g. let e = w .3 .ensures .0 in let l = w .4 .left in omega arith)))
+    (⊎-elim
+    (λ w. rw (w .3) (least-more i (omega arith) (λ h g. absurd (w .2 .left g))))
+    (λ w. rw (w .1) (least-more i (omega arith) (λ h g. let l = w .0 .left in absurd (omega arith))))))
+    (c .if1 .came)
+
+returns : tie.Need-returns Inv-loop μ-loop
+returns c = least-all (c .before .loop .inv) (c .loop-test .left)
+
+pub least-price-spec : {M : Type 1} → statement M
+least-price-spec =
+    tie.close
+    (tie.spec
+    Inv-loop
+    μ-loop
+    loop-holds
+    mul-s
+    shared-slice-read-s
+    cast-s
+    mul-if2
+    shared-slice-read-if2
+    held-price-requires
+    add-i
+    loop-less
+    loop-again
+    returns)

@@ -1,0 +1,29 @@
+-- How the cheapest path reads the entries of lists that have the right lengths but may break a rule: every number that prices a node
+-- within its bounds.
+-- Assumes nothing.
+use mathlib.Core.List.{List}
+use mathlib.Core.Path.{_≡_}
+use Prim.Native.Nat.{ℕ, _≤_}
+use lib.Dec.{ltb}
+use lib.ListN.{length, getD}
+use Rattle.price.specs.Test.{choose}
+use Rattle.price.specs.Bounds.{kindMost, factorMost, othersMost, capacityMost, historyMost, nodesMost}
+use Rattle.price.specs.Prices.{priceOf}
+use Rattle.search.specs.Turn.{Congestion}
+
+-- x, but at least `low` and at most `high`
+unfoldable pub held : ℕ → ℕ → ℕ → ℕ
+held low high x = choose (ltb x low) low (choose (ltb high x) high x)
+
+-- the price of a node, each of the five numbers held within the bounds of row 13; where they keep them it is the price
+unfoldable pub heldPrice : List ℕ → List ℕ → Congestion → ℕ → ℕ
+heldPrice kinds capacities c v =
+    priceOf (held 0 kindMost (getD kinds v 0)) (held 0 factorMost (c .factor)) (held 0 othersMost (getD (c .others) v 0))
+    (held 1 capacityMost (getD capacities v 0)) (held 1 historyMost (getD (c .histories) v 0))
+
+-- every list has an entry for each node, and there are few enough nodes
+pub record Lent (kinds capacities : List ℕ) (c : Congestion) : Type 0 where
+  pub few : length kinds ≤ nodesMost
+  pub capacities-long : length capacities ≡ length kinds
+  pub histories-long : length kinds ≤ length (c .histories)
+  pub others-long : length kinds ≤ length (c .others)

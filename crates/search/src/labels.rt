@@ -1,0 +1,270 @@
+// Labels spread from the tree along the edges, the nearest node first (Dijkstra). A step costs the price of the node that it leads to, so
+// the first label that a node gets is its distance; only a lower predecessor as near as the first one can still come.
+// Every number is read within its bounds: this is defined for all tables, and costs what it visits.
+// The work slice of n nodes: labels from 0, predecessors from n, the waiting nodes from 2n.
+ghost use mathlib.Core.Path.{_≡_};
+ghost use Prim.Native.Nat.{_+_, _*_, _≤_, _<_, min};
+ghost use lib.ListN.{length, getD};
+ghost use Rattle.price.specs.Bounds.{priceMost};
+ghost use Rattle.search.specs.Block.{graphOf};
+ghost use Rattle.search.specs.Turn.{congestionOf};
+ghost use Rattle.search.specs.Held.{held as heldAt, heldPrice, Lent};
+ghost use Rattle.search.specs.Labels.{labelAt, fromAt};
+ghost use Rattle.search.specs.Spread.{Labelled, GoalMet, Lowered, Relaxed, LabelReady, RelaxReady};
+ghost use Rattle.search.specs.Spread.{SettleReady, Settled, RunReady, Ran};
+use crate::distances;
+use crate::heap;
+use price::PriceAnswer;
+
+// No label yet on a goal; elsewhere it is FAR. Every label is below both.
+pub const GOAL: u64 = 18446744073709551614;
+
+// How far the labels have spread: the least label of a goal, FAR where none has one, and how many nodes wait.
+pub struct Reach {
+    pub best: u64,
+    pub count: usize,
+}
+
+// x, but at least `low` and at most `high`.
+fn held(low: u32, high: u32, x: u32) -> u32
+    ensures { λ r. ⌜ r ≡ heldAt low high x ⌝ }
+{
+    if x < low {
+        return low;
+    }
+    if high < x { high } else { x }
+}
+
+// The price of node v, each number read within its bounds.
+pub fn held_price(
+    kind: &[u8],
+    capacity: &[u8],
+    history: &[u32],
+    others: &[u16],
+    factor: u32,
+    v: usize,
+) -> u64
+    requires { ⌜ Lent (now kind) (now capacity) (congestionOf factor (now history) (now others)) ⌝ }
+    requires { ⌜ v < length (now kind) ⌝ }
+    ensures { λ r. do
+      let c = congestionOf factor (now (history .entry)) (now (others .entry))
+      ⌜ (r ≡ heldPrice (now (kind .entry)) (now (capacity .entry)) c v) × (r ≤ priceMost) ⌝ }
+{
+    let k = held(0, price::KIND_MOST, kind[v] as u32);
+    let f = held(0, price::FACTOR_MOST, factor);
+    let o = held(0, price::OTHERS_MOST, others[v] as u32);
+    let c = held(1, price::CAPACITY_MOST, capacity[v] as u32);
+    let h = held(1, price::HISTORY_MOST, history[v]);
+    let PriceAnswer::Price(p) = price::price(k, f, o, c, h) else {
+        return 0;
+    };
+    p
+}
+
+// The least label of a goal, after a node that had `old` got label d.
+fn met(old: u64, d: u64, best: u64) -> u64
+    ensures { λ r. ⌜ GoalMet old d best r ⌝ }
+{
+    if old != GOAL {
+        return best;
+    }
+    if d < best { d } else { best }
+}
+
+// Node v gets its label, d, from u. It waits, unless it has no edges.
+fn label(
+    first_edge: &[u32],
+    work: &mut [u64],
+    n: usize,
+    u: usize,
+    v: usize,
+    d: u64,
+    r: Reach,
+) -> Reach
+    requires { ⌜ LabelReady n (now «first_edge») (now work) (r .count) u v ⌝ }
+    ensures { λ s. ⌜ Labelled n (now («first_edge» .entry)) u v d (now (work .entry)) (now (work .exit)) (r .count) (s .count) ⌝ }
+    ensures { λ s. ⌜ GoalMet (labelAt (now (work .entry)) v) d (r .best) (s .best) ⌝ }
+{
+    let best = met(work[v], d, r.best);
+    work[v] = d;
+    work[n + v] = u as u64;
+    let count = r.count;
+    if first_edge[v + 1] <= first_edge[v] {
+        return Reach {
+            best: best,
+            count: count,
+        };
+    }
+    heap::add(work, n, count, v, d);
+    Reach {
+        best: best,
+        count: count + 1,
+    }
+}
+
+// Node v has its label already, from its predecessor; u, of label d, takes that one's place where it is as near and lower.
+fn lower(work: &mut [u64], n: usize, u: usize, v: usize, d: u64)
+    requires { ⌜ (u < n) × (v < n) × (n ≤ 4096) × (3 * n ≤ length (now work)) × (fromAt n (now work) v < n) ⌝ }
+    ensures { λ _. ⌜ Lowered n u v d (now (work .entry)) (now (work .exit)) ⌝ }
+{
+    let w = work[n + v];
+    if (u as u64) < w {
+        if work[w as usize] == d {
+            work[n + v] = u as u64;
+        }
+    }
+}
+
+// Looks at the edge from u, of label d, to v.
+fn relax(
+    kind: &[u8],
+    capacity: &[u8],
+    history: &[u32],
+    others: &[u16],
+    factor: u32,
+    first_edge: &[u32],
+    work: &mut [u64],
+    u: usize,
+    v: usize,
+    d: u64,
+    r: Reach,
+) -> Reach
+    requires { do
+      let c = congestionOf factor (now history) (now others)
+      ⌜ RelaxReady (now kind) (now capacity) c (now «first_edge») (now work) (r .count) u v d ⌝ }
+    ensures { λ s. do
+      let c = congestionOf factor (now (history .entry)) (now (others .entry))
+      let price = heldPrice (now (kind .entry)) (now (capacity .entry)) c
+      let n = length (now (kind .entry))
+      let firsts = now («first_edge» .entry)
+      ⌜ Relaxed n firsts price u v d (now (work .entry)) (now (work .exit)) (r .count) (s .count) (r .best) (s .best) ⌝ }
+{
+    let n = kind.len();
+    if n <= v {
+        return r;
+    }
+    let old = work[v];
+    if GOAL <= old {
+        let p = held_price(kind, capacity, history, others, factor, v);
+        return label(first_edge, work, n, u, v, d + p, r);
+    }
+    if 0 < old {
+        lower(work, n, u, v, d);
+    }
+    r
+}
+
+// Where the row of node u begins in table 4, its end at most.
+fn row_place(first_edge: &[u32], edges: usize, u: usize) -> usize
+    requires { ⌜ u < length (now «first_edge») ⌝ }
+    ensures { λ r. ⌜ r ≡ min (getD (now («first_edge» .entry)) u 0) edges ⌝ }
+{
+    let e = first_edge[u] as usize;
+    if edges < e { edges } else { e }
+}
+
+// Settles node u: looks at every edge of its row, as far as table 4 has it.
+fn settle(
+    kind: &[u8],
+    capacity: &[u8],
+    history: &[u32],
+    others: &[u16],
+    factor: u32,
+    first_edge: &[u32],
+    edge_target: &[u16],
+    work: &mut [u64],
+    u: usize,
+    start: Reach,
+) -> Reach
+    requires { ⌜ Lent (now kind) (now capacity) (congestionOf factor (now history) (now others)) ⌝ }
+    requires { do
+      let b = graphOf (now kind) (now «first_edge») (now «edge_target»)
+      let price = heldPrice (now kind) (now capacity) (congestionOf factor (now history) (now others))
+      ⌜ SettleReady b price (now work) (start .count) u ⌝ }
+    ensures { λ r. do
+      let b = graphOf (now (kind .entry)) (now («first_edge» .entry)) (now («edge_target» .entry))
+      let c = congestionOf factor (now (history .entry)) (now (others .entry))
+      let price = heldPrice (now (kind .entry)) (now (capacity .entry)) c
+      let level = labelAt (now (work .entry)) u
+      ⌜ Settled b price level (now (work .entry)) (now (work .exit)) (start .count) (r .count) (start .best) (r .best) ⌝ }
+{
+    let d = work[u];
+    let to = row_place(first_edge, edge_target.len(), u + 1);
+    let mut e = row_place(first_edge, edge_target.len(), u);
+    let mut r = start;
+    while e < to {
+        let v = edge_target[e] as usize;
+        r = relax(
+            kind,
+            capacity,
+            history,
+            others,
+            factor,
+            first_edge,
+            work,
+            u,
+            v,
+            d,
+            r,
+        );
+        e += 1;
+    }
+    r
+}
+
+// Settles the nearest waiting node again and again, until none waits or none leads to a goal as near as the nearest so far. Answers the
+// label of that goal, FAR where no goal has one. `last_step` is at most the price of every goal; `waits` nodes wait, the tree's.
+pub fn settle_all(
+    kind: &[u8],
+    capacity: &[u8],
+    history: &[u32],
+    others: &[u16],
+    factor: u32,
+    first_edge: &[u32],
+    edge_target: &[u16],
+    work: &mut [u64],
+    waits: usize,
+    last_step: u64,
+) -> u64
+    requires { ⌜ Lent (now kind) (now capacity) (congestionOf factor (now history) (now others)) ⌝ }
+    requires { do
+      let b = graphOf (now kind) (now «first_edge») (now «edge_target»)
+      let price = heldPrice (now kind) (now capacity) (congestionOf factor (now history) (now others))
+      ⌜ RunReady b price (now work) waits «last_step» ⌝ }
+    ensures { λ best. do
+      let b = graphOf (now (kind .entry)) (now («first_edge» .entry)) (now («edge_target» .entry))
+      let c = congestionOf factor (now (history .entry)) (now (others .entry))
+      let price = heldPrice (now (kind .entry)) (now (capacity .entry)) c
+      ⌜ Ran b price «last_step» (now (work .entry)) (now (work .exit)) best ⌝ }
+{
+    let n = kind.len();
+    let mut r = Reach {
+        best: distances::FAR,
+        count: waits,
+    };
+    while 0 < r.count {
+        let u = work[2 * n] as usize;
+        if r.best < work[u] + last_step {
+            return r.best;
+        }
+        let rest = r.count - 1;
+        heap::take(work, n, rest);
+        let best = r.best;
+        r = settle(
+            kind,
+            capacity,
+            history,
+            others,
+            factor,
+            first_edge,
+            edge_target,
+            work,
+            u,
+            Reach {
+                best: best,
+                count: rest,
+            },
+        );
+    }
+    r.best
+}

@@ -1,0 +1,201 @@
+// One turn of a net: labels spread from its tree until its nearest sink is reached, and the path is read off.
+ghost use mathlib.Core.Path.{_≡_};
+ghost use Prim.Native.Nat.{_*_, _≤_, _<_};
+ghost use lib.ListN.{length, take};
+ghost use Rattle.search.specs.Block.{blockOf};
+ghost use Rattle.search.specs.Turn.{congestionOf, turn};
+ghost use Rattle.search.specs.Held.{heldPrice, Lent};
+ghost use Rattle.search.specs.Replies.{turnReply, pathReplyOf};
+ghost use Rattle.search.specs.Layout.{SameBut};
+ghost use Rattle.search.specs.Labels.{labelAt};
+ghost use Rattle.search.specs.Follow.{Fitted, TreeMarked, GoalsMarked, LeastGoal, FirstAt, Leads, pathIn, Found, Read};
+use crate::PathAnswer;
+use crate::distances;
+use crate::labels;
+
+// Above every price.
+const ANY_PRICE_MOST: u64 = 1000000000000000000;
+
+// Tree nodes have label 0 and wait, the others have none: how many wait.
+fn mark_tree(in_tree: &[u8], work: &mut [u64], n: usize) -> usize
+    requires { ⌜ (n ≤ 4096) × (n ≤ length (now «in_tree»)) × (3 * n ≤ length (now work)) ⌝ }
+    ensures { λ count. ⌜ TreeMarked n (now («in_tree» .entry)) (now (work .entry)) (now (work .exit)) count ⌝ }
+{
+    let mut count = 0;
+    let mut v = 0;
+    while v < n {
+        if in_tree[v] == 1 {
+            work[v] = 0;
+            work[2 * n + count] = v as u64;
+            count += 1;
+        } else {
+            work[v] = distances::FAR;
+        }
+        v += 1;
+    }
+    count
+}
+
+// Listed nodes without a label are goals.
+fn mark_goals(sinks: &[u16], work: &mut [u64], n: usize)
+    requires { ⌜ (n ≤ 4096) × (n ≤ length (now work)) ⌝ }
+    ensures { λ _. ⌜ GoalsMarked n (now (sinks .entry)) (now (work .entry)) (now (work .exit)) (length (now (sinks .entry))) ⌝ }
+{
+    let mut i = 0;
+    while i < sinks.len() {
+        let s = sinks[i] as usize;
+        if s < n {
+            if work[s] == distances::FAR {
+                work[s] = labels::GOAL;
+            }
+        }
+        i += 1;
+    }
+}
+
+// At most the price of every goal. The first value is above every price.
+fn least_price(
+    kind: &[u8],
+    capacity: &[u8],
+    history: &[u32],
+    others: &[u16],
+    factor: u32,
+    sinks: &[u16],
+    work: &[u64],
+) -> u64
+    requires { ⌜ Lent (now kind) (now capacity) (congestionOf factor (now history) (now others)) ⌝ }
+    requires { ⌜ length (now kind) ≤ length (now work) ⌝ }
+    ensures { λ r. do
+      let c = congestionOf factor (now (history .entry)) (now (others .entry))
+      let price = heldPrice (now (kind .entry)) (now (capacity .entry)) c
+      let list = now (sinks .entry)
+      ⌜ LeastGoal (length (now (kind .entry))) price list (now (work .entry)) (length list) r ⌝ }
+{
+    let n = kind.len();
+    let mut least = ANY_PRICE_MOST;
+    let mut i = 0;
+    while i < sinks.len() {
+        let s = sinks[i] as usize;
+        if s < n {
+            if work[s] == labels::GOAL {
+                let p = labels::held_price(kind, capacity, history, others, factor, s);
+                least = if p < least { p } else { least };
+            }
+        }
+        i += 1;
+    }
+    least
+}
+
+// The first listed node of this label.
+fn first_at(sinks: &[u16], work: &[u64], n: usize, d: u64) -> usize
+    requires { ⌜ (n ≤ 4096) × (n ≤ length (now work)) ⌝ }
+    ensures { λ r. ⌜ FirstAt n d (now (sinks .entry)) (now (work .entry)) r ⌝ }
+{
+    let mut place = 0;
+    while place < sinks.len() {
+        let s = sinks[place] as usize;
+        if s < n {
+            if work[s] == d {
+                return place;
+            }
+        }
+        place += 1;
+    }
+    place
+}
+
+// How many nodes the path from the tree to the sink has.
+fn path_length(in_tree: &[u8], work: &[u64], n: usize, sink: usize) -> usize
+    requires { ⌜ (sink < n) × Leads n (labelAt (now work) sink) (now «in_tree») (now work) ⌝ }
+    ensures { λ r. ⌜ r ≡ length (pathIn n (now («in_tree» .entry)) (now (work .entry)) sink) ⌝ }
+{
+    let mut v = sink;
+    let mut count = 1;
+    while in_tree[v] != 1 {
+        v = work[n + v] as usize;
+        count += 1;
+    }
+    count
+}
+
+// Writes the path from the tree to the sink to the beginning of the work slice.
+fn write_path(in_tree: &[u8], work: &mut [u64], n: usize, sink: usize, count: usize)
+    requires { ⌜ (sink < n) × Leads n (labelAt (now work) sink) (now «in_tree») (now work) ⌝ }
+    requires { ⌜ (count ≡ length (pathIn n (now «in_tree») (now work) sink)) × (count ≤ n) ⌝ }
+    ensures { λ _. do
+      let path = pathIn n (now («in_tree» .entry)) (now (work .entry)) sink
+      ⌜ (take count (now (work .exit)) ≡ path) × SameBut 0 n (now (work .entry)) (now (work .exit)) ⌝ }
+{
+    let mut v = sink as u64;
+    let mut i = count;
+    while 1 < i {
+        i -= 1;
+        let at = v as usize;
+        work[i] = v;
+        v = work[n + at];
+    }
+    work[0] = v;
+}
+
+// Leaves the path to the first listed node of this label at the beginning of the work slice.
+fn read_path(sinks: &[u16], in_tree: &[u8], work: &mut [u64], n: usize, cost: u64) -> PathAnswer
+    requires { ⌜ Found n (now «in_tree») (now sinks) (now work) cost ⌝ }
+    ensures { λ r. ⌜ Read n (now («in_tree» .entry)) (now (sinks .entry)) (now (work .entry)) cost r (now (work .exit)) ⌝ }
+{
+    let place = first_at(sinks, work, n, cost);
+    let sink = sinks[place] as usize;
+    let count = path_length(in_tree, work, n, sink);
+    write_path(in_tree, work, n, sink, count);
+    distances::clear(work, count, 3 * n);
+    PathAnswer::Joins {
+        place: place as u32,
+        cost: cost,
+        length: count as u32,
+    }
+}
+
+// One turn: joins the nearest sink that is still to be joined, where every list has its length.
+pub fn join(
+    kind: &[u8],
+    capacity: &[u8],
+    first_edge: &[u32],
+    edge_target: &[u16],
+    factor: u32,
+    work: &mut [u64],
+    history: &[u32],
+    others: &[u16],
+    in_tree: &[u8],
+    sinks: &[u16],
+) -> PathAnswer
+    requires { do
+      let b = blockOf (now kind) (now capacity) (now «first_edge») (now «edge_target»)
+      ⌜ Fitted b (congestionOf factor (now history) (now others)) (now «in_tree») (now sinks) (now work) ⌝ }
+    ensures { λ r. do
+      let b = blockOf (now (kind .entry)) (now (capacity .entry)) (now («first_edge» .entry)) (now («edge_target» .entry))
+      let price = heldPrice (now (kind .entry)) (now (capacity .entry)) (congestionOf factor (now (history .entry)) (now (others .entry)))
+      let made = turn b price (now («in_tree» .entry)) (now (sinks .entry))
+      ⌜ pathReplyOf r (now (work .exit)) ≡ turnReply (length (now (kind .entry))) (now (work .entry)) made ⌝ }
+{
+    let n = kind.len();
+    let waits = mark_tree(in_tree, work, n);
+    mark_goals(sinks, work, n);
+    let last_step = least_price(kind, capacity, history, others, factor, sinks, work);
+    let cost = labels::settle_all(
+        kind,
+        capacity,
+        history,
+        others,
+        factor,
+        first_edge,
+        edge_target,
+        work,
+        waits,
+        last_step,
+    );
+    if cost == distances::FAR {
+        distances::clear(work, 0, 3 * n);
+        return PathAnswer::Stuck;
+    }
+    read_path(sinks, in_tree, work, n, cost)
+}
