@@ -1,19 +1,71 @@
-// The router on small jobs, a line each: its name, the answer, then the whole log and the whole work slice after the call, which held 7 before it.
+// The router, a line for each case of the file stdin, which docs/CASES.md describes: the answer, then the whole work slice and the whole log afterwards.
 // The expected lines stand in the file stdout.
-mod job_b;
-mod nets;
-mod pins;
-mod refusals;
-mod samples;
-mod show;
-mod terms;
-mod tuned;
-
+use cases::lines;
+use cases::read;
+use cases::show;
+use negotiation::Outcome;
+use negotiation::Routed;
 use negotiation::Terms;
+use price::Tuning;
 
-// Routes the job and prints its line.
+fn one_number(row: u64, value: u64) {
+    show::refused(row);
+    show::value(value);
+}
+
+fn two_numbers(row: u64, first: u64, second: u64) {
+    one_number(row, first);
+    show::value(second);
+}
+
+// The refusal's numbers, if there is one.
+fn outcome(r: Routed) {
+    let outcome = r.outcome;
+    match outcome {
+        Outcome::Accepted => {}
+        Outcome::Unreachable { net, place } => {
+            two_numbers(7, net as u64, place as u64);
+        }
+        Outcome::LogFull => {
+            two_numbers(8, r.iteration as u64, r.turns);
+        }
+        Outcome::Limit(over) => {
+            two_numbers(9, r.iteration as u64, over as u64);
+        }
+        Outcome::BadTable(table) => {
+            one_number(5, table as u64);
+        }
+        Outcome::ShortWork(needed) => {
+            one_number(6, needed);
+        }
+    }
+}
+
+// The outcome, the iteration, the turns and the words of log.
+fn answer(r: Routed) {
+    outcome(r);
+    show::answered();
+    show::entry(r.iteration as u64);
+    show::entry(r.turns);
+    show::entry(r.words);
+}
+
+// The limit and the tuning, as the numbers of line 1 have them.
+fn terms(n: [u32; 7]) -> Terms {
+    let tuning = Tuning {
+        first: n[1],
+        up: n[2],
+        down: n[3],
+        step: n[4],
+    };
+    Terms {
+        limit: n[0],
+        tuning: tuning,
+    }
+}
+
+// Calls the router and prints the answer, the work slice and the log.
 fn line(
-    name: &[u8],
     kind: &[u8],
     capacity: &[u8],
     first_edge: &[u32],
@@ -25,7 +77,7 @@ fn line(
     work: &mut [u64],
     log: &mut [u32],
 ) {
-    let r = negotiation::route(
+    answer(negotiation::route(
         kind,
         capacity,
         first_edge,
@@ -36,16 +88,107 @@ fn line(
         terms,
         work,
         log,
+    ));
+    show::entries(work);
+    show::words(log);
+}
+
+// The work slice and the log, as long as the case says, and the call.
+fn memory(
+    kind: &[u8],
+    capacity: &[u8],
+    first_edge: &[u32],
+    edge_target: &[u16],
+    source: &[u16],
+    first_sink: &[u32],
+    sink: &[u16],
+    n: [u32; 7],
+) {
+    let mut work = [7u64; 128];
+    let mut log = [7u32; 256];
+    let entries = read::of_entries(n[5], &work);
+    let words = read::of_words(n[6], &log);
+    line(
+        kind,
+        capacity,
+        first_edge,
+        edge_target,
+        source,
+        first_sink,
+        sink,
+        terms(n),
+        &mut work[..entries],
+        &mut log[..words],
     );
-    show::answer(name, r);
-    show::memory(log, work);
+}
+
+// The tables of the nets, and the rest of the case.
+fn nets(
+    case: &[u8],
+    kind: &[u8],
+    capacity: &[u8],
+    first_edge: &[u32],
+    edge_target: &[u16],
+    n: [u32; 7],
+) {
+    let mut source = [0u16; 64];
+    let mut first_sink = [0u32; 64];
+    let mut sink = [0u16; 64];
+    let sources = read::halves(case, 6, &mut source);
+    let places = read::words(case, 7, &mut first_sink);
+    let sinks = read::halves(case, 8, &mut sink);
+    memory(
+        kind,
+        capacity,
+        first_edge,
+        edge_target,
+        &source[..sources],
+        &first_sink[..places],
+        &sink[..sinks],
+        n,
+    );
+}
+
+// The tables of the block, and the rest of the case.
+fn block(case: &[u8], n: [u32; 7]) {
+    let mut kind = [0u8; 64];
+    let mut capacity = [0u8; 64];
+    let mut first_edge = [0u32; 64];
+    let mut edge_target = [0u16; 64];
+    let kinds = read::bytes(case, 2, &mut kind);
+    let capacities = read::bytes(case, 3, &mut capacity);
+    let places = read::words(case, 4, &mut first_edge);
+    let edges = read::halves(case, 5, &mut edge_target);
+    nets(
+        case,
+        &kind[..kinds],
+        &capacity[..capacities],
+        &first_edge[..places],
+        &edge_target[..edges],
+        n,
+    );
+}
+
+fn one(case: &[u8]) {
+    let mut n = [0u32; 7];
+    show::name(case);
+    let count = read::words(case, 1, &mut n);
+    read::exactly(count, 7);
+    read::end(case, 9);
+    block(case, n);
+    show::line_end();
+}
+
+fn all(file: &[u8]) {
+    let mut at = lines::first_case(file, 0);
+    while at < file.len() {
+        one(&file[at..]);
+        at = lines::next_case(file, at);
+    }
 }
 
 fn main() {
-    job_b::all();
-    samples::all();
-    nets::all();
-    refusals::all();
-    pins::all();
-    tuned::all();
+    let mut file = [0u8; 131072];
+    let size = read::file(&mut file);
+    all(&file[..size]);
 }

@@ -1,69 +1,33 @@
-// Searches and single turns on small graphs and each refusal, a line each: label, call, answer and the whole work slice afterwards. The expected lines
-// stand in the file stdout.
-use libc::STDOUT_FILENO;
+// The search and the cheapest path, a line each for every case of the file stdin, which docs/CASES.md describes: the answer and the whole work slice afterwards.
+// The expected lines stand in the file stdout.
+use cases::lines;
+use cases::read;
+use cases::show;
 use search::PathAnswer;
 use search::SearchAnswer;
 
-mod dense;
-mod graphs;
-mod refusals;
-
-fn put(text: &[u8]) {
-    io::write_all(STDOUT_FILENO, text);
-}
-
-fn number(n: u64) {
-    io::print_decimal(STDOUT_FILENO, n);
-}
-
-fn field(n: u64) {
-    put(b" ");
-    number(n);
-}
-
-// An entry of the work slice; `far` is 2^64 - 1.
-fn entry(x: u64) {
-    if x == 18446744073709551615 {
-        put(b" far");
-    } else {
-        field(x);
-    }
-}
-
-// Every entry of the work slice, and the line's end.
-fn show(work: &[u64]) {
-    put(b":");
-    let mut i = 0;
-    while i < work.len() {
-        entry(work[i]);
-        i += 1;
-    }
-    put(b"\n");
-}
-
 fn refused(row: u64, value: u64) {
-    put(b"X,");
-    number(row);
-    put(b",");
-    number(value);
+    show::refused(row);
+    show::value(value);
 }
 
 fn joined(place: u32, cost: u64, length: u32) {
-    put(b"joins");
-    field(place as u64);
-    field(cost);
-    field(length as u64);
+    show::answered();
+    show::entry(place as u64);
+    show::entry(cost);
+    show::entry(length as u64);
 }
 
 fn search_answer(answer: SearchAnswer) {
     match answer {
-        SearchAnswer::Done => put(b"done"),
+        SearchAnswer::Done => show::answered(),
         SearchAnswer::BadTable(table) => refused(5, table as u64),
         SearchAnswer::ShortWork(needed) => refused(6, needed),
         SearchAnswer::BadNumber(place) => refused(13, place as u64),
     }
 }
 
+// Where no sink is joined, `=` has no number after it.
 fn path_answer(answer: PathAnswer) {
     match answer {
         PathAnswer::Joins {
@@ -71,7 +35,7 @@ fn path_answer(answer: PathAnswer) {
             cost,
             length,
         } => joined(place, cost, length),
-        PathAnswer::Stuck => put(b"stuck"),
+        PathAnswer::Stuck => show::answered(),
         PathAnswer::BadTable(table) => refused(5, table as u64),
         PathAnswer::ShortWork(needed) => refused(6, needed),
         PathAnswer::BadNumber(place) => refused(13, place as u64),
@@ -80,19 +44,19 @@ fn path_answer(answer: PathAnswer) {
 
 // Calls the search and prints its line.
 fn search_line(
-    label: &[u8],
+    case: &[u8],
     kind: &[u8],
     capacity: &[u8],
     first_edge: &[u32],
     edge_target: &[u16],
     factor: u32,
-    work: &mut [u64],
     history: &[u32],
     others: &[u16],
     in_tree: &[u8],
+    work: &mut [u64],
 ) {
-    put(label);
-    put(b" search: ");
+    show::name(case);
+    show::call(b"search");
     search_answer(search::search(
         kind,
         capacity,
@@ -104,25 +68,26 @@ fn search_line(
         others,
         in_tree,
     ));
-    show(work);
+    show::entries(work);
+    show::line_end();
 }
 
 // Calls the cheapest path and prints its line.
 fn path_line(
-    label: &[u8],
+    case: &[u8],
     kind: &[u8],
     capacity: &[u8],
     first_edge: &[u32],
     edge_target: &[u16],
     factor: u32,
-    work: &mut [u64],
     history: &[u32],
     others: &[u16],
     in_tree: &[u8],
     sinks: &[u16],
+    work: &mut [u64],
 ) {
-    put(label);
-    put(b" path: ");
+    show::name(case);
+    show::call(b"path");
     path_answer(search::cheapest_path(
         kind,
         capacity,
@@ -135,53 +100,171 @@ fn path_line(
         in_tree,
         sinks,
     ));
-    show(work);
+    show::entries(work);
+    show::line_end();
 }
 
-// One line for the search and one for the cheapest path, on a work slice each.
-fn lines(
-    label: &[u8],
+// The search, on the work slice as the case has it.
+fn search_case(
+    case: &[u8],
     kind: &[u8],
     capacity: &[u8],
     first_edge: &[u32],
     edge_target: &[u16],
     factor: u32,
-    work: &mut [u64],
     history: &[u32],
     others: &[u16],
     in_tree: &[u8],
-    sinks: &[u16],
-    path_work: &mut [u64],
 ) {
+    let mut work = [0u64; 128];
+    let size = read::entries(case, 10, &mut work);
     search_line(
-        label,
+        case,
         kind,
         capacity,
         first_edge,
         edge_target,
         factor,
-        work,
         history,
         others,
         in_tree,
-    );
-    path_line(
-        label,
-        kind,
-        capacity,
-        first_edge,
-        edge_target,
-        factor,
-        path_work,
-        history,
-        others,
-        in_tree,
-        sinks,
+        &mut work[..size],
     );
 }
 
+// The cheapest path to the case's sinks, on the work slice as the case has it.
+fn path_case(
+    case: &[u8],
+    kind: &[u8],
+    capacity: &[u8],
+    first_edge: &[u32],
+    edge_target: &[u16],
+    factor: u32,
+    history: &[u32],
+    others: &[u16],
+    in_tree: &[u8],
+) {
+    let mut sinks = [0u16; 4097];
+    let mut work = [0u64; 128];
+    let listed = read::halves(case, 9, &mut sinks);
+    let size = read::entries(case, 10, &mut work);
+    path_line(
+        case,
+        kind,
+        capacity,
+        first_edge,
+        edge_target,
+        factor,
+        history,
+        others,
+        in_tree,
+        &sinks[..listed],
+        &mut work[..size],
+    );
+}
+
+// Both calls.
+fn both(
+    case: &[u8],
+    kind: &[u8],
+    capacity: &[u8],
+    first_edge: &[u32],
+    edge_target: &[u16],
+    factor: u32,
+    history: &[u32],
+    others: &[u16],
+    in_tree: &[u8],
+) {
+    search_case(
+        case,
+        kind,
+        capacity,
+        first_edge,
+        edge_target,
+        factor,
+        history,
+        others,
+        in_tree,
+    );
+    path_case(
+        case,
+        kind,
+        capacity,
+        first_edge,
+        edge_target,
+        factor,
+        history,
+        others,
+        in_tree,
+    );
+}
+
+// The lists of the nodes, and then the calls.
+fn lists(
+    case: &[u8],
+    kind: &[u8],
+    capacity: &[u8],
+    first_edge: &[u32],
+    edge_target: &[u16],
+    factor: u32,
+) {
+    let mut history = [0u32; 256];
+    let mut others = [0u16; 256];
+    let mut in_tree = [0u8; 256];
+    let histories = read::words(case, 6, &mut history);
+    let uses = read::halves(case, 7, &mut others);
+    let marks = read::bytes(case, 8, &mut in_tree);
+    both(
+        case,
+        kind,
+        capacity,
+        first_edge,
+        edge_target,
+        factor,
+        &history[..histories],
+        &others[..uses],
+        &in_tree[..marks],
+    );
+}
+
+// The tables, and then the rest of the case.
+fn tables(case: &[u8], factor: u32) {
+    let mut kind = [0u8; 4097];
+    let mut capacity = [0u8; 4097];
+    let mut first_edge = [0u32; 4098];
+    let mut edge_target = [0u16; 32769];
+    let kinds = read::bytes(case, 2, &mut kind);
+    let capacities = read::bytes(case, 3, &mut capacity);
+    let places = read::words(case, 4, &mut first_edge);
+    let edges = read::halves(case, 5, &mut edge_target);
+    lists(
+        case,
+        &kind[..kinds],
+        &capacity[..capacities],
+        &first_edge[..places],
+        &edge_target[..edges],
+        factor,
+    );
+}
+
+fn one(case: &[u8]) {
+    let mut n = [0u32; 1];
+    let count = read::words(case, 1, &mut n);
+    read::exactly(count, 1);
+    read::end(case, 11);
+    tables(case, n[0]);
+}
+
+fn all(file: &[u8]) {
+    let mut at = lines::first_case(file, 0);
+    while at < file.len() {
+        one(&file[at..]);
+        at = lines::next_case(file, at);
+    }
+}
+
 fn main() {
-    graphs::all();
-    refusals::all();
-    dense::all();
+    let mut file = [0u8; 131072];
+    let size = read::file(&mut file);
+    all(&file[..size]);
 }

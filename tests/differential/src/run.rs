@@ -170,18 +170,27 @@ impl Run {
         self.writes(&job)
     }
 
-    /// A text of 4,096 or 4,097 sinks.
+    /// A text of 4,096 or 4,097 sinks, then without its last LF, and with no node as its last sink.
     fn sinks_text(&mut self) -> Result<(), Failure> {
         let sinks = self.rng.within(4_096, 4_097);
         let job = jobs::many_sinks(&mut self.rng, sinks);
-        let tables = Job::unread([4_200; 7]);
-        let after = self.case(Case::Read { text: texts::text(&job), tables })?;
+        let text = texts::text(&job);
+        let after = self.sinks_read(&text)?;
         match after.answer.refusal.first() {
             None if sinks == 4_096 => self.outcomes.count("text of 4,096 sinks accepted"),
             Some(3) if sinks == 4_097 => self.outcomes.count("text of 4,097 sinks 3"),
             _ => {}
         }
+        let open = &text[..text.len() - 1];
+        self.sinks_read(open)?;
+        let node = open.iter().rposition(|&b| b == b',').map_or(0, |comma| comma + 1);
+        self.sinks_read(&[&open[..node], b"4095\n"].concat())?;
         Ok(())
+    }
+
+    /// Reads a text into tables that are long enough for it.
+    fn sinks_read(&mut self, text: &[u8]) -> Result<After, Failure> {
+        self.case(Case::Read { text: text.to_vec(), tables: Job::unread([4_200; 7]) })
     }
 
     /// Sound and changed texts of a job.

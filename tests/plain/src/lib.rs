@@ -10,7 +10,7 @@ mod writer;
 pub use price::{price, Tuning};
 pub use reader::read;
 pub use route::route;
-pub use search::search;
+pub use search::{cheapest_path, search};
 pub use writer::write;
 
 /// What a call returns: the refusal's numbers (none if there is none) and the call's own numbers.

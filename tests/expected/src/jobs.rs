@@ -1,0 +1,214 @@
+//! The router, the reader, the writer, and the whole way from a job text to what the program prints.
+
+use crate::cases::{Case, Fault};
+use crate::show::{answer, line, numbers, refusal, slice, text};
+use plain::Answer;
+
+/// What every lent slice holds before a call that writes it.
+const BEFORE: u8 = 7;
+
+/// A slice of so many entries before the call.
+fn lent<T: From<u8> + Clone>(length: u32) -> Vec<T> {
+    vec![T::from(BEFORE); length as usize]
+}
+
+pub fn route(case: &mut Case) -> Result<(), Fault> {
+    let [limit, first, up, down, step, entries, words] = case.numbers("route")?;
+    let tables = Tables::of(case)?;
+    let mut work: Vec<u64> = lent(entries);
+    let mut log: Vec<u32> = lent(words);
+    let got = tables.route(limit, [first, up, down, step], &mut work, &mut log);
+    line(case, &[refusal(&got), numbers(&got.numbers), slice(&work), slice(&log)]);
+    Ok(())
+}
+
+pub fn read(case: &mut Case) -> Result<(), Fault> {
+    let mut tables = Tables::before(case.numbers("read")?);
+    let job = case.text("job")?;
+    let got = tables.read(&job);
+    line(case, &[answer(&got), tables.show()]);
+    Ok(())
+}
+
+pub fn write(case: &mut Case) -> Result<(), Fault> {
+    let [bytes] = case.numbers("write")?;
+    let log: Vec<u32> = case.list("log")?;
+    let mut routes: Vec<u8> = lent(bytes);
+    let got = plain::write(&log, &mut routes);
+    line(case, &[answer(&got), text(&routes)]);
+    Ok(())
+}
+
+/// What a run is lent.
+struct Lent {
+    job: Vec<u8>,
+    tables: Tables,
+    work: Vec<u64>,
+    log: Vec<u32>,
+    routes: Vec<u8>,
+}
+
+impl Lent {
+    fn of(case: &mut Case, call: &str) -> Result<Lent, Fault> {
+        let [kinds, capacities, rows, edges, sources, nets, sinks, entries, words, bytes] =
+            case.numbers(call)?;
+        Ok(Lent {
+            job: case.text("job")?,
+            tables: Tables::before([kinds, capacities, rows, edges, sources, nets, sinks]),
+            work: lent(entries),
+            log: lent(words),
+            routes: lent(bytes),
+        })
+    }
+
+    /// Everything lent but the job text.
+    fn show(&self) -> String {
+        self.tables.show() + &slice(&self.work) + &slice(&self.log) + &text(&self.routes)
+    }
+
+    /// From the job text to its routes text; the first refusal ends it.
+    fn run(&mut self) -> Answer {
+        let read = self.tables.read(&self.job);
+        if !read.refusal.is_empty() {
+            return read;
+        }
+        let [nodes, edges, nets, sinks, limit, first, up, down, step] = read.numbers[..] else {
+            panic!("the reader has nine numbers");
+        };
+        let job = self.tables.cut([nodes, edges, nets, sinks].map(|count| count as usize));
+        let tuning = [first, up, down, step].map(|number| number as u32);
+        let routed = job.route(limit as u32, tuning, &mut self.work, &mut self.log);
+        if !routed.refusal.is_empty() {
+            return routed;
+        }
+        plain::write(&self.log[..routed.numbers[2] as usize], &mut self.routes)
+    }
+
+    /// The program's answer to this input: how many bytes of the routes buffer it prints.
+    fn respond(&mut self) -> usize {
+        let refused = if self.job.len() > 65_536 {
+            vec![12, 65_536]
+        } else {
+            let got = self.run();
+            if got.refusal.is_empty() {
+                return got.numbers[0] as usize;
+            }
+            got.refusal
+        };
+        let numbers: Vec<String> = refused.iter().map(u64::to_string).collect();
+        let line = format!("X,{}\n", numbers.join(","));
+        let Some(start) = self.routes.get_mut(..line.len()) else {
+            return 0;
+        };
+        start.copy_from_slice(line.as_bytes());
+        line.len()
+    }
+}
+
+pub fn run(case: &mut Case) -> Result<(), Fault> {
+    let mut lent = Lent::of(case, "run")?;
+    let got = lent.run();
+    line(case, &[answer(&got), lent.show()]);
+    Ok(())
+}
+
+pub fn respond(case: &mut Case) -> Result<(), Fault> {
+    let mut lent = Lent::of(case, "respond")?;
+    let bytes = lent.respond();
+    line(case, &[numbers(&[bytes as u64]), lent.show()]);
+    Ok(())
+}
+
+/// The seven tables.
+struct Tables {
+    kind: Vec<u8>,
+    capacity: Vec<u8>,
+    first_edge: Vec<u32>,
+    edge_target: Vec<u16>,
+    source: Vec<u16>,
+    first_sink: Vec<u32>,
+    sink: Vec<u16>,
+}
+
+impl Tables {
+    fn of(case: &mut Case) -> Result<Tables, Fault> {
+        Ok(Tables {
+            kind: case.list("kind")?,
+            capacity: case.list("capacity")?,
+            first_edge: case.list("first_edge")?,
+            edge_target: case.list("edge_target")?,
+            source: case.list("source")?,
+            first_sink: case.list("first_sink")?,
+            sink: case.list("sink")?,
+        })
+    }
+
+    /// Tables of these lengths before they are read into.
+    fn before(lengths: [u32; 7]) -> Tables {
+        Tables {
+            kind: lent(lengths[0]),
+            capacity: lent(lengths[1]),
+            first_edge: lent(lengths[2]),
+            edge_target: lent(lengths[3]),
+            source: lent(lengths[4]),
+            first_sink: lent(lengths[5]),
+            sink: lent(lengths[6]),
+        }
+    }
+
+    /// What a job of so many nodes, edges, nets and sinks has of them.
+    fn cut(&self, [nodes, edges, nets, sinks]: [usize; 4]) -> Tables {
+        Tables {
+            kind: self.kind[..nodes].to_vec(),
+            capacity: self.capacity[..nodes].to_vec(),
+            first_edge: self.first_edge[..=nodes].to_vec(),
+            edge_target: self.edge_target[..edges].to_vec(),
+            source: self.source[..nets].to_vec(),
+            first_sink: self.first_sink[..=nets].to_vec(),
+            sink: self.sink[..sinks].to_vec(),
+        }
+    }
+
+    fn show(&self) -> String {
+        slice(&self.kind)
+            + &slice(&self.capacity)
+            + &slice(&self.first_edge)
+            + &slice(&self.edge_target)
+            + &slice(&self.source)
+            + &slice(&self.first_sink)
+            + &slice(&self.sink)
+    }
+
+    fn read(&mut self, job: &[u8]) -> Answer {
+        plain::read(
+            job,
+            &mut self.kind,
+            &mut self.capacity,
+            &mut self.first_edge,
+            &mut self.edge_target,
+            &mut self.source,
+            &mut self.first_sink,
+            &mut self.sink,
+        )
+    }
+
+    fn route(&self, limit: u32, tuning: [u32; 4], work: &mut [u64], log: &mut [u32]) -> Answer {
+        let [first, up, down, step] = tuning;
+        plain::route(
+            &self.kind,
+            &self.capacity,
+            &self.first_edge,
+            &self.edge_target,
+            &self.source,
+            &self.first_sink,
+            &self.sink,
+            limit,
+            first,
+            up,
+            down,
+            step,
+            work,
+            log,
+        )
+    }
+}
