@@ -1,6 +1,6 @@
-// The entries of a case's line. After the line's name stands a list of numbers, each after a blank: `4` is an entry, `7*50` fifty of them, and `2-5` is 2 3 4 5.
-// Or there stands a text after one blank: `/` is an LF, `<0>` the byte 0, `<7*40>` forty bytes 7, any other byte itself. What has another form, or does not
-// fit, is printed as malformed.
+// The entries of a case's line. After the line's name stands a list of numbers, each after a blank: `4` is an entry, `7*50` fifty of
+// them, and `2-5` is 2 3 4 5. Or there stands a text after one blank: `/` is an LF, `<0>` the byte 0, `<7*40>` forty bytes 7, any other
+// byte itself. What has another form, or does not fit, is printed as malformed.
 ghost use Prim.Native.Nat.{_≤_};
 ghost use Rattle.io.specs.Counts.{Counts};
 use crate::lines;

@@ -1,5 +1,5 @@
-// Printing. A line has the case's name, the answer and every lent slice after the call: `X,` and a refusal's numbers, `=` and a call's own numbers, and ` |`
-// before the entries of a slice.
+// Printing. A line has the case's name, the answer and every lent slice after the call: `X,` and a refusal's numbers, `=` and a call's
+// own numbers, and ` |` before the entries of a slice.
 use libc::STDOUT_FILENO;
 
 fn letter(b: u8) {
@@ -80,55 +80,57 @@ fn word(n: u32) {
     entry(n as u64);
 }
 
-pub fn bytes(table: &[u8]) {
+// The first so many entries of a table or buffer. So for each width.
+pub fn bytes(table: &[u8], count: usize) {
     bar();
     let mut k = 0;
-    while k < table.len() {
+    while k < count {
+        if table.len() <= k {
+            malformed();
+            return;
+        }
         byte(table[k]);
         k += 1;
     }
 }
 
-pub fn halves(table: &[u16]) {
+pub fn halves(table: &[u16], count: usize) {
     bar();
     let mut k = 0;
-    while k < table.len() {
+    while k < count {
+        if table.len() <= k {
+            malformed();
+            return;
+        }
         half(table[k]);
         k += 1;
     }
 }
 
-pub fn words(table: &[u32]) {
+pub fn words(table: &[u32], count: usize) {
     bar();
     let mut k = 0;
-    while k < table.len() {
+    while k < count {
+        if table.len() <= k {
+            malformed();
+            return;
+        }
         word(table[k]);
         k += 1;
     }
 }
 
-pub fn entries(table: &[u64]) {
+pub fn entries(table: &[u64], count: usize) {
     bar();
     let mut k = 0;
-    while k < table.len() {
+    while k < count {
+        if table.len() <= k {
+            malformed();
+            return;
+        }
         entry(table[k]);
         k += 1;
     }
-}
-
-// Tables 1 to 4.
-pub fn block(kind: &[u8], capacity: &[u8], first_edge: &[u32], edge_target: &[u16]) {
-    bytes(kind);
-    bytes(capacity);
-    words(first_edge);
-    halves(edge_target);
-}
-
-// Tables 5 to 7.
-pub fn nets(source: &[u16], first_sink: &[u32], sink: &[u16]) {
-    halves(source);
-    words(first_sink);
-    halves(sink);
 }
 
 // A byte that a routes text may have stands for itself.
@@ -163,12 +165,16 @@ fn text_byte(b: u8) {
     }
 }
 
-// A text buffer after a bar, byte by byte.
-pub fn text(buffer: &[u8]) {
+// The first so many bytes of a text buffer.
+pub fn text(buffer: &[u8], count: usize) {
     bar();
     letter(b' ');
     let mut k = 0;
-    while k < buffer.len() {
+    while k < count {
+        if buffer.len() <= k {
+            malformed();
+            return;
+        }
         text_byte(buffer[k]);
         k += 1;
     }

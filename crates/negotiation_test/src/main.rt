@@ -1,5 +1,5 @@
-// The router, a line for each case of the file stdin, which docs/CASES.md describes: the answer, then the whole work slice and the whole log afterwards.
-// The expected lines stand in the file stdout.
+// The router, a line for each case of the file stdin, which docs/CASES.md describes: the answer, then the whole work slice and the whole
+// log afterwards. The expected lines stand in the file stdout.
 use cases::lines;
 use cases::read;
 use cases::show;
@@ -89,8 +89,8 @@ fn line(
         work,
         log,
     ));
-    show::entries(work);
-    show::words(log);
+    show::entries(work, work.len());
+    show::words(log, log.len());
 }
 
 // The work slice and the log, as long as the case says, and the call.

@@ -1,4 +1,5 @@
-// Prices, factors, histories and tunings, a line for each case of the file stdin, which docs/CASES.md describes. The expected lines stand in the file stdout.
+// Prices, factors, histories and tunings, a line for each case of the file stdin, which docs/CASES.md describes. The expected lines stand
+// in the file stdout.
 use cases::lines;
 use cases::read;
 use cases::show;

@@ -1,5 +1,5 @@
-// The search and the cheapest path, a line each for every case of the file stdin, which docs/CASES.md describes: the answer and the whole work slice afterwards.
-// The expected lines stand in the file stdout.
+// The search and the cheapest path, a line each for every case of the file stdin, which docs/CASES.md describes: the answer and the whole
+// work slice afterwards. The expected lines stand in the file stdout.
 use cases::lines;
 use cases::read;
 use cases::show;
@@ -68,7 +68,7 @@ fn search_line(
         others,
         in_tree,
     ));
-    show::entries(work);
+    show::entries(work, work.len());
     show::line_end();
 }
 
@@ -100,7 +100,7 @@ fn path_line(
         in_tree,
         sinks,
     ));
-    show::entries(work);
+    show::entries(work, work.len());
     show::line_end();
 }
 

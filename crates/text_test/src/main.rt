@@ -1,5 +1,5 @@
-// The reader and the writer, a line for each case of the file stdin, which docs/CASES.md describes: the answer, then every table, or the whole routes buffer,
-// afterwards. The expected lines stand in the file stdout.
+// The reader and the writer, a line for each case of the file stdin, which docs/CASES.md describes: the answer, then every table, or the
+// whole routes buffer, afterwards. The expected lines stand in the file stdout.
 use cases::lines;
 use cases::read;
 use cases::show;
@@ -57,93 +57,83 @@ fn write_answer(a: WriteAnswer) {
     }
 }
 
-// Calls the reader and prints the answer and the tables.
-fn read_line(
-    job: &[u8],
-    kind: &mut [u8],
-    capacity: &mut [u8],
-    first_edge: &mut [u32],
-    edge_target: &mut [u16],
-    source: &mut [u16],
-    first_sink: &mut [u32],
-    sink: &mut [u16],
-) {
-    read_answer(text::read_job(
-        job,
-        kind,
-        capacity,
-        first_edge,
-        edge_target,
-        source,
-        first_sink,
-        sink,
-    ));
-    show::block(kind, capacity, first_edge, edge_target);
-    show::nets(source, first_sink, sink);
+fn length(count: u32) -> usize {
+    count as usize
 }
 
-// The tables of the nets, as long as the case says, and the call.
-fn read_nets(
-    job: &[u8],
-    kind: &mut [u8],
-    capacity: &mut [u8],
-    first_edge: &mut [u32],
-    edge_target: &mut [u16],
+// What the case lends of each table.
+fn tables(
+    kind: &[u8; 16],
+    capacity: &[u8; 16],
+    first_edge: &[u32; 16],
+    edge_target: &[u16; 16],
+    source: &[u16; 16],
+    first_sink: &[u32; 16],
+    sink: &[u16; 16],
     n: [u32; 7],
 ) {
-    let mut source = [7u16; 64];
-    let mut first_sink = [7u32; 64];
-    let mut sink = [7u16; 64];
-    let sources = read::of_halves(n[4], &source);
-    let places = read::of_words(n[5], &first_sink);
-    let sinks = read::of_halves(n[6], &sink);
-    read_line(
-        job,
-        kind,
-        capacity,
-        first_edge,
-        edge_target,
-        &mut source[..sources],
-        &mut first_sink[..places],
-        &mut sink[..sinks],
-    );
+    show::bytes(kind, length(n[0]));
+    show::bytes(capacity, length(n[1]));
+    show::words(first_edge, length(n[2]));
+    show::halves(edge_target, length(n[3]));
+    show::halves(source, length(n[4]));
+    show::words(first_sink, length(n[5]));
+    show::halves(sink, length(n[6]));
 }
 
-// The tables of the block, and the rest of the case.
-fn read_block(job: &[u8], n: [u32; 7]) {
-    let mut kind = [7u8; 64];
-    let mut capacity = [7u8; 64];
-    let mut first_edge = [7u32; 64];
-    let mut edge_target = [7u16; 64];
+// A job text into tables of 7s, as long as the case says.
+fn read_tables(job: &[u8], n: [u32; 7]) {
+    let mut kind = [7u8; 16];
+    let mut capacity = [7u8; 16];
+    let mut first_edge = [7u32; 16];
+    let mut edge_target = [7u16; 16];
+    let mut source = [7u16; 16];
+    let mut first_sink = [7u32; 16];
+    let mut sink = [7u16; 16];
     let kinds = read::of_bytes(n[0], &kind);
     let capacities = read::of_bytes(n[1], &capacity);
-    let places = read::of_words(n[2], &first_edge);
+    let rows = read::of_words(n[2], &first_edge);
     let edges = read::of_halves(n[3], &edge_target);
-    read_nets(
+    let sources = read::of_halves(n[4], &source);
+    let nets = read::of_words(n[5], &first_sink);
+    let sinks = read::of_halves(n[6], &sink);
+    read_answer(text::read_job(
         job,
         &mut kind[..kinds],
         &mut capacity[..capacities],
-        &mut first_edge[..places],
+        &mut first_edge[..rows],
         &mut edge_target[..edges],
+        &mut source[..sources],
+        &mut first_sink[..nets],
+        &mut sink[..sinks],
+    ));
+    tables(
+        &kind,
+        &capacity,
+        &first_edge,
+        &edge_target,
+        &source,
+        &first_sink,
+        &sink,
         n,
     );
 }
 
-// A job text into tables of 7s.
+// The reader on the job text of line 2.
 fn read_case(case: &[u8], count: usize, n: [u32; 7]) {
     let mut job = [0u8; 1024];
     read::exactly(count, 7);
     let size = read::text(case, 2, &mut job);
-    read_block(&job[..size], n);
+    read_tables(&job[..size], n);
 }
 
 // Calls the writer and prints the answer and the routes buffer.
 fn write_line(log: &[u32], routes: &mut [u8]) {
     write_answer(text::write_routes(log, routes));
-    show::text(routes);
+    show::text(routes, routes.len());
 }
 
-// A log into a routes buffer of 7s.
+// The writer on the log of line 2, with a routes buffer of 7s.
 fn write_case(case: &[u8], count: usize, n: [u32; 7]) {
     let mut log = [0u32; 4200];
     let mut routes = [7u8; 64];

@@ -39,6 +39,9 @@ pub fn write(case: &mut Case) -> Result<(), Fault> {
     Ok(())
 }
 
+/// The tables of `flow_test`: for six nodes, seven edges, two nets and two sinks.
+const FLOW_TABLES: [u32; 7] = [6, 6, 7, 7, 2, 3, 2];
+
 /// What a run is lent.
 struct Lent {
     job: Vec<u8>,
@@ -50,11 +53,10 @@ struct Lent {
 
 impl Lent {
     fn of(case: &mut Case, call: &str) -> Result<Lent, Fault> {
-        let [kinds, capacities, rows, edges, sources, nets, sinks, entries, words, bytes] =
-            case.numbers(call)?;
+        let [entries, words, bytes] = case.numbers(call)?;
         Ok(Lent {
             job: case.text("job")?,
-            tables: Tables::before([kinds, capacities, rows, edges, sources, nets, sinks]),
+            tables: Tables::before(FLOW_TABLES),
             work: lent(entries),
             log: lent(words),
             routes: lent(bytes),

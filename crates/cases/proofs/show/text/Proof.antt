@@ -1,16 +1,15 @@
--- `cases::show::text` reads only bytes that the buffer has, and ends. The measure is what is left of it.
+-- `cases::show::text` reads only entries that the slice has, and ends: the measure is how many are left to print.
 -- Assumes nothing.
-use Prim.Native.Nat.{_≤_, _-_}
+use Prim.Native.Nat.{_-_}
 use borrow.Author.Needs.{needs}
-use lib.ListN.{length}
 use Rattle.cases.proofs.show.text.Statement.{statement}
 use Rattle.cases.proofs.show.text.Tie as tie
 
 abbrev Inv-loop : tie.InvT-loop
-Inv-loop buffer k₀ k = k ≤ length buffer
+Inv-loop buffer count k₀ k = Unit
 
 abbrev μ-loop : tie.MeasureT-loop
-μ-loop buffer k₀ k = length buffer - k
+μ-loop buffer count k₀ k = count - k
 
 bar-requires : tie.Need-bar-requires Inv-loop μ-loop
 bar-requires c κs = search needs
@@ -20,6 +19,12 @@ letter-requires c κs = search needs
 
 loop-holds : tie.Need-loop-holds Inv-loop μ-loop
 loop-holds c = search needs
+
+malformed-requires : tie.Need-malformed-requires Inv-loop μ-loop
+malformed-requires c κs = search needs
+
+returns : tie.Need-returns Inv-loop μ-loop
+returns c = search needs
 
 shared-slice-read-text-byte : tie.Need-shared-slice-read-text-byte Inv-loop μ-loop
 shared-slice-read-text-byte c = search needs
@@ -36,8 +41,8 @@ loop-less c = search needs
 loop-again : tie.Need-loop-again Inv-loop μ-loop
 loop-again c = search needs
 
-returns : tie.Need-returns Inv-loop μ-loop
-returns c = search needs
+returns-2 : tie.Need-returns-2 Inv-loop μ-loop
+returns-2 c = search needs
 
 pub text-spec : {M : Type 1} → statement M
 text-spec =
@@ -48,9 +53,11 @@ text-spec =
     bar-requires
     letter-requires
     loop-holds
+    malformed-requires
+    returns
     shared-slice-read-text-byte
     text-byte-requires
     add-k
     loop-less
     loop-again
-    returns)
+    returns-2)
