@@ -1,7 +1,8 @@
 //! Distances from a tree, the cheapest path back to it, and both as calls.
 
 use crate::price::{factor_is_good, history_is_good, others_is_good, price_of};
-use crate::tables::{Graph, MAX_SINKS};
+use crate::price::{MAX_FACTOR, MAX_HISTORY, MAX_KIND, MAX_OTHERS};
+use crate::tables::{Graph, MAX_EDGES, MAX_NODES, MAX_SINKS};
 use crate::Answer;
 use std::collections::BTreeSet;
 
@@ -138,9 +139,65 @@ fn sinks_are_sound(nodes: usize, sinks: &[u16]) -> bool {
     sinks.len() <= MAX_SINKS && sinks.iter().all(|&s| (s as usize) < nodes)
 }
 
-/// One turn alone: tests 5 (the sinks as table 7), 6, 13, then leaves the path and zeros in the work slice. Its numbers are
-/// the joined sink's place, the cost and the path's length, or none if no unjoined sink has a path.
-#[allow(clippy::too_many_arguments)]
+/// Tables 1 to 4 as one turn reads them, whatever their entries are: every number within its bounds.
+struct Read {
+    kind: Vec<u8>,
+    capacity: Vec<u8>,
+    first_edge: Vec<u32>,
+    edge_target: Vec<u16>,
+}
+
+impl Read {
+    /// A row ends where table 4 does, and a target that is no node is passed over.
+    fn new(graph: &Graph) -> Read {
+        let nodes = graph.nodes();
+        let mut read = Read {
+            kind: graph.kind.iter().map(|&k| k.min(MAX_KIND as u8)).collect(),
+            capacity: graph.capacity.iter().map(|&c| c.max(1)).collect(),
+            first_edge: vec![0],
+            edge_target: Vec::new(),
+        };
+        for row in graph.first_edge.windows(2) {
+            let end = (row[1] as usize).min(graph.edge_target.len());
+            let targets = graph.edge_target.get(row[0] as usize..end).unwrap_or(&[]);
+            read.edge_target.extend(targets.iter().filter(|&&v| (v as usize) < nodes));
+            read.first_edge.push(read.edge_target.len() as u32);
+        }
+        read
+    }
+
+    fn graph(&self) -> Graph<'_> {
+        Graph {
+            kind: &self.kind,
+            capacity: &self.capacity,
+            first_edge: &self.first_edge,
+            edge_target: &self.edge_target,
+        }
+    }
+}
+
+/// Every list that a turn is lent has the length that its rule asks.
+fn lengths_are_right(
+    graph: &Graph,
+    work: &[u64],
+    history: &[u32],
+    others: &[u16],
+    in_tree: &[u8],
+    sinks: &[u16],
+) -> bool {
+    let nodes = graph.nodes();
+    (1..=MAX_NODES).contains(&nodes)
+        && graph.capacity.len() == nodes
+        && graph.first_edge.len() == nodes + 1
+        && graph.edge_target.len() <= MAX_EDGES
+        && work.len() >= 8 * nodes
+        && [history.len(), others.len(), in_tree.len()].iter().all(|&long| long >= nodes)
+        && sinks.len() <= MAX_SINKS
+}
+
+/// One turn alone. Where a length is wrong it tests 5 (the sinks as table 7), 6, 13, as the search does. Otherwise it reads every
+/// number within its bounds, passes over sinks that are no nodes, and leaves the path and zeros in 3 × nodes entries of the work slice.
+/// Its numbers are the joined sink's place, the cost and the path's length, or none if no unjoined sink has a path.
 pub fn cheapest_path(
     kind: &[u8],
     capacity: &[u8],
@@ -153,24 +210,28 @@ pub fn cheapest_path(
     in_tree: &[u8],
     sinks: &[u16],
 ) -> Answer {
-    let graph = Graph { kind, capacity, first_edge, edge_target };
-    let nodes = graph.nodes();
-    if let Some(table) = graph.broken() {
-        return Answer::refused(&[5, table], 0);
+    let lent = Graph { kind, capacity, first_edge, edge_target };
+    let nodes = lent.nodes();
+    if !lengths_are_right(&lent, work, history, others, in_tree, sinks) {
+        if let Some(table) = lent.broken() {
+            return Answer::refused(&[5, table], 0);
+        }
+        if !sinks_are_sound(nodes, sinks) {
+            return Answer::refused(&[5, 7], 0);
+        }
+        let refusal = refusal(nodes, work, factor, history, others, in_tree);
+        return Answer::refused(&refusal.expect("a wrong length is refused"), 0);
     }
-    if !sinks_are_sound(nodes, sinks) {
-        return Answer::refused(&[5, 7], 0);
-    }
-    if let Some(refusal) = refusal(nodes, work, factor, history, others, in_tree) {
-        return Answer::refused(&refusal, 0);
-    }
-    let others: Vec<u32> = others.iter().map(|&o| o as u32).collect();
-    let prices = prices(&graph, factor, history, &others);
+    let read = Read::new(&lent);
+    let graph = read.graph();
+    let others: Vec<u32> = others.iter().map(|&o| (o as u32).min(MAX_OTHERS)).collect();
+    let history: Vec<u32> = history.iter().map(|&h| h.clamp(1, MAX_HISTORY)).collect();
+    let prices = prices(&graph, factor.min(MAX_FACTOR), &history, &others);
     let tree = marked(nodes, in_tree);
     let distance = distances(&graph, &prices, &tree);
-    work[..8 * nodes].fill(0);
+    work[..3 * nodes].fill(0);
     let open = sinks.iter().map(|&s| s as usize).enumerate();
-    let open = open.filter(|(_, s)| !tree.contains(s) && distance[*s] != NO_PATH);
+    let open = open.filter(|(_, s)| *s < nodes && !tree.contains(s) && distance[*s] != NO_PATH);
     let Some((place, sink)) = open.min_by_key(|(_, s)| distance[*s]) else {
         return Answer::good(&[]);
     };
