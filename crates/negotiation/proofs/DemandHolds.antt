@@ -76,7 +76,7 @@ run-reached j work log net place =
 -- ---- from what holds of some records
 
 -- what demand 3 and the bound say of a reply whose words used are those of some records
-record Held (j : Job) (work log : List ℕ) (r : RouteReply) : Type 0 where
+record Facts (j : Job) (work log : List ℕ) (r : RouteReply) : Type 0 where
   records : List Record
   words : LogHas r records
   turns : r .turns ≡ length records
@@ -84,7 +84,7 @@ record Held (j : Job) (work log : List ℕ) (r : RouteReply) : Type 0 where
   final : r .refusal ≡ [] → FinalTrees j records
   reached : AllReachable j → (net place : ℕ) → r .refusal ≡ 7 ∷ net ∷ place ∷ [] → ⊥
 
-module _ (j : Job) (work log : List ℕ) (r : RouteReply) (h : Held j work log r) where
+module _ (j : Job) (work log : List ℕ) (r : RouteReply) (h : Facts j work log r) where
   is : turnsLogged r ≡ h .records
   is = log-turns r (h .records) (h .words)
 
@@ -106,9 +106,9 @@ module _ (j : Job) (work log : List ℕ) (r : RouteReply) (h : Held j work log r
 
 module _ (j : Job) (work log : List ℕ) where
   -- a refusal before any turn leaves no record
-  refused-held :
-      (number : ℕ) (numbers left : List ℕ) → (AllReachable j → number ≡ 7 → ⊥) → Held j work log (refusedReply (number ∷ numbers) left log)
-  refused-held number numbers left reached =
+  refused-facts :
+      (number : ℕ) (numbers left : List ℕ) → (AllReachable j → number ≡ 7 → ⊥) → Facts j work log (refusedReply (number ∷ numbers) left log)
+  refused-facts number numbers left reached =
       record {
         records = [];
         words = refused-log (number ∷ numbers) left log;
@@ -145,9 +145,9 @@ module _ (j : Job) (work log : List ℕ) where
         run-turn earlier (later ++ whole .0) t
         (whole .1 ∙ ap (λ (l : List Record). l ++ whole .0) e ∙ append-assoc earlier (t ∷ later) (whole .0))
 
-    run-held : Held j work log (negotiated j work log)
+    run-facts : Facts j work log (negotiated j work log)
     unfolding negotiated
-    run-held =
+    run-facts =
         ⊎-elim
         (λ (q : ltb (length (loggedRecords j (length log))) (length (allRecords j)) ≡ true).
         rw q
@@ -171,29 +171,29 @@ module _ (j : Job) (work log : List ℕ) where
         }))
         (either-way (ltb (length (loggedRecords j (length log))) (length (allRecords j))))
 
-  held : Held j work log (routeReply j work log)
-  held =
+  reply-facts : Facts j work log (routeReply j work log)
+  reply-facts =
       ⊎-elim
       (λ (h : 1 ≤ faultyJob j).
-      subst (Held j work log) (sym (route-table j work log h)) (refused-held 5 _ work (λ _ z. omega arith)))
+      subst (Facts j work log) (sym (route-table j work log h)) (refused-facts 5 _ work (λ _ z. omega arith)))
       (λ (h : faultyJob j < 1).
       ⊎-elim
       (λ (enough : workNeeded (nodes j) ≤ length work).
       let sound = routable-of j (sound-job j (omega arith)) in
       ⊎-elim
       (λ (all : nets j ≤ unreachableNet j).
-      subst (Held j work log) (sym (route-run j work log h enough all)) (run-held sound (all-reached j all)))
+      subst (Facts j work log) (sym (route-run j work log h enough all)) (run-facts sound (all-reached j all)))
       (λ (some : unreachableNet j < nets j).
-      subst (Held j work log) (sym (route-unreachable j work log h enough some))
-      (refused-held 7 _ (cleared (nodes j) [] work) (λ all _. none-unreachable j sound all some)))
+      subst (Facts j work log) (sym (route-unreachable j work log h enough some))
+      (refused-facts 7 _ (cleared (nodes j) [] work) (λ all _. none-unreachable j sound all some)))
       (le-or-lt (nets j) (unreachableNet j)))
       (λ (short : length work < workNeeded (nodes j)).
-      subst (Held j work log) (sym (route-work j work log h short)) (refused-held 6 _ work (λ _ z. omega arith)))
+      subst (Facts j work log) (sym (route-work j work log h short)) (refused-facts 6 _ work (λ _ z. omega arith)))
       (le-or-lt (workNeeded (nodes j)) (length work)))
       (le-or-lt 1 (faultyJob j))
 
   pub demand-3 : Demand3 j work log (routeReply j work log)
-  demand-3 = demand-of j work log (routeReply j work log) held refl
+  demand-3 = demand-of j work log (routeReply j work log) reply-facts refl
 
   pub costs-fit : CostsFit (routeReply j work log)
-  costs-fit = costs-of j work log (routeReply j work log) held
+  costs-fit = costs-of j work log (routeReply j work log) reply-facts

@@ -1,6 +1,6 @@
 -- How a pass over tables 5 to 8 decides their rules: by the entry that breaks one, or by every entry passed.
 --     sources-, stays-at, always-rises, firsts-     tables 5 and 6
---     net-told, Passing, passing-, nets-            table 7
+--     net-answer, Passing, passing-, nets-            table 7
 --     kind-, pin-bad, pins-all                      the pins' kinds
 --     faulty-, block-few                            the lowest faulty table
 --     named                                         tables 1 to 4, by what the cheapest path refuses
@@ -112,10 +112,10 @@ module _ (n : ℕ) (ss fs ts : List ℕ) where
       rw (getD-upTo (λ i. i) (length ss) k 0 net) (all k (omega arith))))
 
 -- the answer for a net, of the part of table 7 that is lent
-pub net-told :
+pub net-answer :
     {r : Bool} (n : ℕ) (ss fs ts : List ℕ) (i : ℕ) → r ≡ netSound n (getD ss i 0) (take (getD fs (i + 1) 0 - getD fs i 0) (drop (getD fs i 0) ts))
     → r ≡ netSound n (getD ss i 0) (sinksBetween fs ts i)
-net-told n ss fs ts i e = e ∙ ap (netSound n (getD ss i 0)) (part-slice (getD fs i 0) (getD fs (i + 1) 0) ts)
+net-answer n ss fs ts i e = e ∙ ap (netSound n (getD ss i 0)) (part-slice (getD fs i 0) (getD fs (i + 1) 0) ts)
 
 -- the nets below place i keep the rule, and no mark is left
 pub record Passing (n : ℕ) (ss fs ts seen : List ℕ) (i : ℕ) : Type 0 where

@@ -6,7 +6,7 @@ use native.Mathlib.Omega.{arith}
 use lib.ListN.{length}
 use Rattle.search.proofs.KeptLaws.{refused, passed}
 use Rattle.negotiation.proofs.JobLaws.{source-below, firsts-long, firsts-order, firsts-most}
-use Rattle.negotiation.proofs.NetTableLaws.{Passing, passing-none, passing-more, net-told, nets-many, nets-bad, nets-all}
+use Rattle.negotiation.proofs.NetTableLaws.{Passing, passing-none, passing-more, net-answer, nets-many, nets-bad, nets-all}
 use Rattle.negotiation.proofs.tables.sinks_sound.Statement.{statement}
 use Rattle.negotiation.proofs.tables.sinks_sound.Tie as tie
 
@@ -73,7 +73,7 @@ net-sound-requires c κs =
 returns-2 : tie.Need-returns-2 Inv-loop μ-loop
 returns-2 c =
     let s = c .before .before .before .before .before .before .before .before .before .before .before .before .before .before in
-    let told = net-told (s .args .n) (s .args .source .now) (s .args .first-sink .now) (s .args .sink .now) (c .before .before .before .before .before .before .before .before .before .loop .i) (c .before .before .net-sound .ensures .0) in
+    let told = net-answer (s .args .n) (s .args .source .now) (s .args .first-sink .now) (s .args .sink .now) (c .before .before .before .before .before .before .before .before .before .loop .i) (c .before .before .net-sound .ensures .0) in
     sym (nets-bad _ _ _ _ (c .before .before .before .before .before .before .before .before .before .loop .i) (c .before .before .before .before .before .before .before .before .loop-test .taken) (refused told (c .if2 .taken)))
 
 add-i : tie.Need-add-i Inv-loop μ-loop
@@ -86,7 +86,7 @@ loop-again : tie.Need-loop-again Inv-loop μ-loop
 loop-again c =
     let s = c .before .before .before .before .before .before .before .before .before .before .before .before .before .before in
     let tested = c .before .before .net-sound in
-    let told = net-told (s .args .n) (s .args .source .now) (s .args .first-sink .now) (s .args .sink .now) (c .before .before .before .before .before .before .before .before .before .loop .i) (tested .ensures .0) in
+    let told = net-answer (s .args .n) (s .args .source .now) (s .args .first-sink .now) (s .args .sink .now) (c .before .before .before .before .before .before .before .before .before .loop .i) (tested .ensures .0) in
     let sound = passed told (c .if2 .left) in
     passing-more (c .before .before .before .before .before .before .before .before .before .loop .i) (c .before .before .before .before .before .before .before .before .before .loop .inv) sound (tested .ensures .1 (told ∙ sound)) (tested .kept .1 .1 .1 .0)
 
