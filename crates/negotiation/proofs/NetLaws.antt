@@ -164,7 +164,7 @@ pub record NetTurn (j : Job) (s : State) (i : ℕ) (earlier : List Record) (r : 
   pub path-short : length (r .path) ≤ nodes j
   pub path-nodes : (k : ℕ) → k < length (r .path) → getD (r .path) k 0 < nodes j
 
--- so a turn's cost is
+-- a turn's cost is below the bound on a path's
 pub turn-cost :
     (j : Job) → Routable j → (s : State) → StateReady j s → (i : ℕ) → i < nets j → (earlier : List Record) (r : Record) → NetTurn j s i earlier r
     → r .cost < pathMost
