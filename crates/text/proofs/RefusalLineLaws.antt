@@ -11,9 +11,9 @@ use Rattle.text.specs.Refusals.{lineReplyOf, refusalLine}
 use Rattle.text.specs.WriteSteps.{Put}
 use Rattle.text.proofs.PlacedLaws.{placed-start}
 
-pub line-room : (numbers : List ℕ) (room : ℕ) → length (printLine 0 numbers) ≤ room → 0 + length (printLine letterX numbers) ≤ room
+pub line-room : (letter : ℕ) (numbers : List ℕ) (room : ℕ) → length (printLine 0 numbers) ≤ room → 0 + length (printLine letter numbers) ≤ room
 unfolding printLine
-line-room numbers room h = rw zero-add h
+line-room letter numbers room h = rw zero-add h
 
 pub line-short : (numbers buffer : List ℕ) → length buffer < length (printLine 0 numbers) → lineReplyOf 0 buffer ≡ refusalLine numbers buffer
 unfolding refusalLine printLine

@@ -12,7 +12,7 @@ returns : tie.Need-returns
 returns c = line-short _ _ (search needs)
 
 put-two-requires : tie.Need-put-two-requires
-put-two-requires c κs = line-room _ _ (search needs)
+put-two-requires c κs = line-room _ _ _ (search needs)
 
 same-length : tie.Need-same-length
 same-length c = search needs

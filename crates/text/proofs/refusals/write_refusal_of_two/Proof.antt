@@ -12,7 +12,7 @@ returns : tie.Need-returns
 returns c = line-short _ _ (search needs)
 
 put-three-requires : tie.Need-put-three-requires
-put-three-requires c κs = line-room _ _ (search needs)
+put-three-requires c κs = line-room _ _ _ (search needs)
 
 same-length : tie.Need-same-length
 same-length c = search needs
