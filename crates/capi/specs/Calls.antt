@@ -35,7 +35,7 @@ callOf returned out = record { returned = returned; out = out }
 -- In each of the five a call whose `out` has fewer than 16 entries does nothing and returns 0.
 
 -- price: 3 price
-abbrev pub priceCallWith : p.Reply → List ℕ → Call
+abbrev pub priceCallWith : p.PriceReply → List ℕ → Call
 priceCallWith r out = callOf 1 (outWith (r .refusal) (r .price ∷ []) out)
 
 unfoldable pub priceCall : ℕ → ℕ → ℕ → ℕ → ℕ → List ℕ → Call

@@ -16,7 +16,7 @@ use Rattle.text.specs.Lines.{letterX, printLine}
 use Rattle.text.specs.JobText.{Part, part, stopped, readText}
 use Rattle.text.specs.ReadReplies.{Tables, shortTable, tablesWith, writtenOver}
 use Rattle.text.specs.Routes.{routesText, logSound, textReply, writeReply}
-use Rattle.text.specs.Refusals.{refusalLine}
+use Rattle.flow.specs.Refusals.{refusalLine}
 use Rattle.flow.specs.RunReplies.{Lent, RunReply, afterRoute, routeRun, runOf, runReply, inputMost, lineResponse, answered, responseOf, response}
 
 -- what was written over a list lies within it

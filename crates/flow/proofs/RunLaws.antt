@@ -29,7 +29,7 @@ use Rattle.text.specs.JobText.{Part, part, stopped, readText}
 use Rattle.text.specs.ReadReplies.{Tables, shortTable, writtenOver, tablesWith, ReadReply, notRead, termsNumbers, jobNumbers, storedReply, replyTo, readReply}
 use Rattle.text.specs.Routes.{WriteReply, writeReply}
 use Rattle.flow.specs.RunReplies.{Lent, lentOf, RunReply, runReplyWith, afterWrite, afterRoute, routeRun, runOf, runReply, writtenReplyOf, runReplyOf, inputMost, responseOf, lineResponse, answered, response}
-use Rattle.text.specs.Refusals.{LineReply, lineReplyOf, refusalLine}
+use Rattle.flow.specs.Refusals.{LineReply, lineReplyOf, refusalLine}
 use Rattle.flow.specs.Steps.{answerLine}
 use Rattle.flow.specs.declared.RunAnswer.{RunAnswer}
 use Rattle.flow.specs.declared.RunAnswer.the-variants as ra

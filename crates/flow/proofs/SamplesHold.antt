@@ -28,7 +28,7 @@ use Rattle.text.specs.JobText.{pinWithin, sourceLine, sinkOrdered, sinkLine, tu
 use Rattle.text.specs.JobText.{complete, netEnd, nextSource, nextSink, netLine, netLines, firstPlaces, jobRead, readText}
 use Rattle.text.specs.ReadReplies.{lowestShort, shortTable, writtenOver, tablesWith}
 use Rattle.text.specs.Routes.{pathSound, recordSound, soundUpTo, soundWords, logSound, steps, branchesIn, lastIteration, routeBranches, branchText, routesText, textReply, writeReply}
-use Rattle.text.specs.Refusals.{refusalLine}
+use Rattle.flow.specs.Refusals.{refusalLine}
 use Rattle.flow.specs.RunReplies.{routeRun, runReply, response}
 use Rattle.flow.specs.Samples.{lined, linesB, shown, routed, limited, filled, texts, samples}
 

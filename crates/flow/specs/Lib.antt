@@ -1,3 +1,4 @@
+pub mod Refusals
 pub mod RunReplies
 pub mod Steps
 pub mod Samples

@@ -10,7 +10,7 @@ use Rattle.negotiation.specs.Outcome.{RouteReply, routeReply}
 use Rattle.text.specs.JobText.{Part, part, stopped, readText}
 use Rattle.text.specs.ReadReplies.{Tables, shortTable, tablesWith}
 use Rattle.text.specs.Routes.{WriteReply, writeReply}
-use Rattle.text.specs.Refusals.{LineReply, refusalLine}
+use Rattle.flow.specs.Refusals.{LineReply, refusalLine}
 use Rattle.flow.specs.declared.RunAnswer.{RunAnswer}
 use Rattle.flow.specs.declared.RunAnswer.the-variants as a
 

@@ -2,7 +2,7 @@
 -- Assumes nothing.
 use mathlib.Core.List.{List, [], _∷_}
 use Prim.Native.Nat.{ℕ}
-use Rattle.text.specs.Refusals.{LineReply, lineReplyOf, refusalLine}
+use Rattle.flow.specs.Refusals.{LineReply, lineReplyOf, refusalLine}
 use Rattle.flow.specs.declared.RunAnswer.{RunAnswer}
 use Rattle.flow.specs.declared.RunAnswer.the-variants as a
 

@@ -4,10 +4,13 @@ ghost use Prim.Native.Nat.{_≤_};
 ghost use lib.ListN.{length, take};
 ghost use Rattle.negotiation.specs.Job.{jobOf};
 ghost use Rattle.text.specs.ReadReplies.{Tables, tablesOf};
-ghost use Rattle.text.specs.Refusals.{lineReplyOf};
+ghost use Rattle.flow.specs.Refusals.{lineReplyOf};
 ghost use Rattle.text.specs.Routes.{writeReply};
 ghost use Rattle.flow.specs.RunReplies.{lentOf, routeRun, runReply, runReplyOf, writtenReplyOf, responseOf, response};
 ghost use Rattle.flow.specs.Steps.{answerLine};
+
+mod refusals;
+
 use negotiation::Outcome;
 use negotiation::Terms;
 use text::ReadAnswer;
@@ -186,12 +189,12 @@ fn put_answer(answer: RunAnswer, routes: &mut [u8]) -> usize
 {
     match answer {
         RunAnswer::Written(bytes) => bytes,
-        RunAnswer::One { number, value } => text::write_refusal(number, value, routes),
+        RunAnswer::One { number, value } => refusals::write_refusal(number, value, routes),
         RunAnswer::Two {
             number,
             first,
             second,
-        } => text::write_refusal_of_two(number, first, second, routes),
+        } => refusals::write_refusal_of_two(number, first, second, routes),
     }
 }
 
@@ -220,7 +223,7 @@ pub fn respond(
       ⌜ responseOf r after ≡ response (now (input .entry)) lent ⌝ }
 {
     if INPUT_MOST < input.len() {
-        return text::write_refusal(12, INPUT_MOST as u64, routes);
+        return refusals::write_refusal(12, INPUT_MOST as u64, routes);
     }
     let answer = run(
         input,

@@ -57,7 +57,7 @@ decimal-next n h l =
     digits-enough 19 20 (n / 10) (omega arith) (omega arith) (omega arith) (omega arith) in
     digits-more 19 n h ∙ rw e
 
-digits-few : (k n : ℕ) → length (digits k n) ≤ k
+pub digits-few : (k n : ℕ) → length (digits k n) ≤ k
 unfolding digits
 digits-few zero n = omega arith
 digits-few (suc k) n =

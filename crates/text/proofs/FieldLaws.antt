@@ -88,7 +88,7 @@ small-step value d (suc k) l more s =
     rw sub-one (le-trans grown before)
 
 -- how the digits go on
-after-none : (left value : ℕ) → digitsAfter left value [] ≡ number value []
+pub after-none : (left value : ℕ) → digitsAfter left value [] ≡ number value []
 unfolding digitsAfter
 after-none zero value = refl
 after-none (suc k) value = refl

@@ -41,7 +41,6 @@
 --     StepTextLaws      the lines of one path
 --     BranchLaws        the lines of one iteration, and the routes text
 --     BranchLineLaws    B lines read again
---     RefusalLineLaws   the X line
 -- Assumes nothing.
 pub mod LastLaws
 pub mod FieldLaws
@@ -59,6 +58,7 @@ pub mod ReaderLaws
 pub mod ReadJobLaws
 pub mod DecimalLaws
 pub mod PlacedLaws
+pub mod LineReplyLaws
 pub mod PrintLaws
 pub mod TuningTextLaws
 pub mod HeadTextLaws
@@ -80,4 +80,3 @@ pub mod StepListLaws
 pub mod ShortRecordLaws
 pub mod ListedHolds
 pub mod TextHolds
-pub mod RefusalLineLaws

@@ -40,7 +40,7 @@ abbrev pub ends : List ℕ → List ℕ → List ℕ
 ends fs ts = fs ++ (length ts ∷ [])
 
 -- one text more, and texts that agree
-joined-last : (f : ℕ → List ℕ) (a k j : ℕ) → a + k ≡ j → joined f a (suc k) ≡ joined f a k ++ f j
+pub joined-last : (f : ℕ → List ℕ) (a k j : ℕ) → a + k ≡ j → joined f a (suc k) ≡ joined f a k ++ f j
 unfolding joined
 joined-last f a zero j e =
     let here : a ≡ j = omega arith in
@@ -48,13 +48,13 @@ joined-last f a zero j e =
 joined-last f a (suc k) j e =
     rw (joined-last f (suc a) k j (omega arith)) (sym (append-assoc (f a) (joined f (suc a) k) (f j)))
 
-joined-same : (f g : ℕ → List ℕ) (a k j : ℕ) → a + k ≡ j → ((i : ℕ) → i < j → f i ≡ g i) → joined f a k ≡ joined g a k
+pub joined-same : (f g : ℕ → List ℕ) (a k j : ℕ) → a + k ≡ j → ((i : ℕ) → i < j → f i ≡ g i) → joined f a k ≡ joined g a k
 unfolding joined
 joined-same f g a zero j e same = refl
 joined-same f g a (suc k) j e same =
     rw (same a (omega arith), joined-same f g (suc a) k j (omega arith) same)
 
-eachLine-last : (letter i : ℕ) (xs : List ℕ) (t : ℕ) → eachLine letter i (xs ++ (t ∷ [])) ≡ eachLine letter i xs ++ printLine letter (i ∷ t ∷ [])
+pub eachLine-last : (letter i : ℕ) (xs : List ℕ) (t : ℕ) → eachLine letter i (xs ++ (t ∷ [])) ≡ eachLine letter i xs ++ printLine letter (i ∷ t ∷ [])
 unfolding eachLine
 eachLine-last letter i [] t = append-nil (printLine letter (i ∷ t ∷ []))
 eachLine-last letter i (x ∷ xs) t =

@@ -8,4 +8,4 @@ pub mod Routes
 pub mod Listed
 pub mod ReadSteps
 pub mod WriteSteps
-pub mod Refusals
+pub mod LineReplies

@@ -39,7 +39,7 @@ fn put_number(buffer: &mut [u8], at: usize, n: u64) -> usize
     at + count
 }
 
-fn put_byte(buffer: &mut [u8], at: usize, byte: u8) -> usize
+pub fn put_byte(buffer: &mut [u8], at: usize, byte: u8) -> usize
     requires { ⌜ at + 1 ≤ length (now buffer) ⌝ }
     ensures { λ r. ⌜ Put at (byte ∷ []) (now (buffer .entry)) (now (buffer .exit)) r ⌝ }
 {
@@ -48,7 +48,7 @@ fn put_byte(buffer: &mut [u8], at: usize, byte: u8) -> usize
 }
 
 // Writes a comma and a number.
-fn put_field(buffer: &mut [u8], at: usize, n: u64) -> usize
+pub fn put_field(buffer: &mut [u8], at: usize, n: u64) -> usize
     requires { ⌜ at + (1 + length (decimal n)) ≤ length (now buffer) ⌝ }
     ensures { λ r. ⌜ Put at (comma ∷ decimal n) (now (buffer .entry)) (now (buffer .exit)) r ⌝ }
 {

@@ -44,15 +44,15 @@ mod head;
 mod log_check;
 mod nets;
 mod nodes;
+mod printing;
 mod reader;
-mod refusals;
 mod tuning;
 
+pub use fields::byte_is;
 use log_check::LogCheck;
 use negotiation::Terms;
+pub use printing::print_line;
 use reader::JobLines;
-pub use refusals::write_refusal;
-pub use refusals::write_refusal_of_two;
 
 // The lowest table that is shorter than the job needs, 0 where each is long enough.
 fn short_table(

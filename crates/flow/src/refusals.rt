@@ -1,27 +1,20 @@
 // The line of a refusal.
 ghost use mathlib.Core.List.{[], _∷_};
 ghost use mathlib.Core.Path.{_≡_};
-ghost use Rattle.text.specs.Refusals.{lineReplyOf, refusalLine};
-use crate::decimal;
+ghost use Rattle.flow.specs.Refusals.{lineReplyOf, refusalLine};
 
 // Writes the line of a refusal with one number beside its own at the buffer's start, where there is room for it: the bytes written.
 pub fn write_refusal(number: u32, value: u64, buffer: &mut [u8]) -> usize
-    ensures answers { λ r. ⌜ lineReplyOf r (now (buffer .exit)) ≡ refusalLine (number ∷ value ∷ []) (now (buffer .entry)) ⌝ }
+    ensures { λ r. ⌜ lineReplyOf r (now (buffer .exit)) ≡ refusalLine (number ∷ value ∷ []) (now (buffer .entry)) ⌝ }
 {
-    if buffer.len() < decimal::two_length(number as u64, value) {
-        return 0;
-    }
-    decimal::put_two(buffer, 0, b'X', number as u64, value)
+    text::print_line(b'X', &[number as u64, value], buffer, 0)
 }
 
 // The same with two numbers beside its own.
 pub fn write_refusal_of_two(number: u32, first: u64, second: u64, buffer: &mut [u8]) -> usize
-    ensures answers { λ r. do
+    ensures { λ r. do
       let numbers = number ∷ first ∷ second ∷ []
       ⌜ lineReplyOf r (now (buffer .exit)) ≡ refusalLine numbers (now (buffer .entry)) ⌝ }
 {
-    if buffer.len() < decimal::three_length(number as u64, first, second) {
-        return 0;
-    }
-    decimal::put_three(buffer, 0, b'X', number as u64, first, second)
+    text::print_line(b'X', &[number as u64, first, second], buffer, 0)
 }

@@ -1,0 +1,71 @@
+-- `printing::print_line` meets its contract: the line is measured first, and written where it fits.
+-- Assumes nothing.
+use Prim.Native.Nat.{_+_, _≤_}
+use native.Mathlib.Omega.{arith}
+use lib.ListN.{length}
+use borrow.Author.Needs.{needs}
+use Rattle.text.specs.Lines.{printLine}
+use Rattle.text.proofs.PlacedLaws.{put-room, put-letter-then}
+use Rattle.text.proofs.LineReplyLaws.{line-size, line-short, line-stands}
+use Rattle.text.proofs.printing.print_line.Statement.{statement}
+use Rattle.text.proofs.printing.print_line.Tie as tie
+
+-- the line fits
+fits : (c : tie.Else2) → c .before .before .before .before .before .args .at + length (printLine (c .before .before .before .before .before .args .letter) (c .before .before .before .before .before .args .fields .now)) ≤ length (c .before .before .before .before .before .args .buffer .now)
+fits c =
+    let a = c .before .before .before .before .before .args in
+    let size = line-size (a .letter) (a .fields .now) in
+    let counted = line-size 0 (a .fields .now) in
+    let good = c .before .before .before .before .before .good in
+    omega (arith, c .if2 .left)
+
+returns : tie.Need-returns
+returns c = line-short _ _ _ _ (search needs)
+
+sub-if2 : tie.Need-sub-if2
+sub-if2 c = search needs
+
+line-length-requires : tie.Need-line-length-requires
+line-length-requires c κs = search needs
+
+returns-2 : tie.Need-returns-2
+returns-2 c =
+    let a = c .before .before .before .before .before .args in
+    let size = line-size (a .letter) (a .fields .now) in
+    let counted = line-size 0 (a .fields .now) in
+    line-short _ _ _ _ (search needs)
+
+put-byte-requires : tie.Need-put-byte-requires
+put-byte-requires c κs =
+    let a = c .before .before .before .before .before .before .args in
+    let size = line-size (a .letter) (a .fields .now) in
+    let room = fits (c .before) in
+    search needs
+
+put-fields-requires : tie.Need-put-fields-requires
+put-fields-requires c κs =
+    let d = c .before .before .before .before .before in
+    let a = d .before .before .before .before .before .args in
+    let size = line-size (a .letter) (a .fields .now) in
+    put-room (c .before .before .before .put-byte .ensures) _ (omega (arith, fits d))
+
+same-length : tie.Need-same-length
+same-length c = search needs
+
+returns-3 : tie.Need-returns-3
+returns-3 c =
+    let d = c .before .before .before .before .before .before .before .before in
+    line-stands _ _ _ _ (fits d) (put-letter-then _ (c .before .before .before .before .before .before .put-byte .ensures) (fits d) (λ room. c .before .before .put-fields .ensures))
+
+pub print-line-spec : {M : Type 1} → statement M
+print-line-spec =
+    tie.close
+    (tie.spec
+    returns
+    sub-if2
+    line-length-requires
+    returns-2
+    put-byte-requires
+    put-fields-requires
+    same-length
+    returns-3)

@@ -1,0 +1,23 @@
+-- Printing one line from a place of a buffer on: the next place, and the buffer afterwards.
+-- Assumes nothing.
+use mathlib.Core.List.{List}
+use Prim.Native.Nat.{ℕ, _+_}
+use lib.Dec.{leb}
+use lib.ListN.{length}
+use Rattle.price.specs.Test.{choose}
+use Rattle.text.specs.Lines.{printLine}
+use Rattle.text.specs.WriteSteps.{placed}
+
+pub record PlaceReply : Type 0 where
+  pub next : ℕ
+  pub buffer : List ℕ
+
+abbrev pub placeTold : ℕ → List ℕ → PlaceReply
+placeTold next buffer = record { next = next; buffer = buffer }
+
+-- the line stands there where it fits, and nothing is written where it does not
+unfoldable pub lineReply : ℕ → List ℕ → ℕ → List ℕ → PlaceReply
+lineReply letter values at buffer =
+    choose (leb (at + length (printLine letter values)) (length buffer))
+    (placeTold (at + length (printLine letter values)) (placed at (printLine letter values) buffer))
+    (placeTold at buffer)
