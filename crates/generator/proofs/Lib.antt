@@ -1,0 +1,10 @@
+pub mod DrawLaws
+pub mod JoinLaws
+pub mod NodeLaws
+pub mod TargetLaws
+pub mod RowLaws
+pub mod LoadLaws
+pub mod AskLaws
+pub mod LoadTextLaws
+pub mod LoadHolds
+pub mod AnswerLaws

@@ -1,0 +1,67 @@
+-- Every load is sound, the reader takes its text for it and gives its tables back, and the text fits the router's buffer.
+-- Assumes nothing.
+use mathlib.Core.Bool.{false}
+use mathlib.Core.Path.{_≡_, refl}
+use Prim.Native.Nat.{ℕ, _+_, _≤_}
+use native.Mathlib.Omega.{arith}
+use lib.ListN.{length}
+use borrow.Author.Tests.{le-ltb}
+use Rattle.price.proofs.ListLaws.{length-upTo}
+use Rattle.negotiation.specs.Job.{Job, nodes, nets}
+use Rattle.text.specs.Printed.{Accepts, PrintedAs}
+use Rattle.text.specs.ReadReplies.{Tables, lowestShort, shortTable, storedReply, readReply}
+use Rattle.text.proofs.TextHolds.{reader-exact}
+use Rattle.generator.specs.Load.{rowsFrom, netsFrom, loadSink, loadJob, loadText}
+use Rattle.generator.specs.Taken.{LoadTaken}
+use Rattle.generator.proofs.RowLaws.{rows-few}
+use Rattle.generator.proofs.LoadLaws.{node-count, net-count, load-sound}
+use Rattle.generator.proofs.LoadTextLaws.{load-size}
+
+-- tables that have these lengths at least are long enough
+long-enough :
+    (j : Job) (t : Tables) → nodes j ≤ length (t .kinds) → nodes j ≤ length (t .capacities) → nodes j + 1 ≤ length (t .firstEdges)
+    → length (j .block .edgeTargets) ≤ length (t .edgeTargets) → nets j ≤ length (t .sources) → nets j + 1 ≤ length (t .firstSinks)
+    → length (j .sinks) ≤ length (t .sinks) → shortTable j t ≡ 0
+unfolding shortTable lowestShort
+long-enough j t a b c d e f g =
+    rw (
+      le-ltb (length (t .kinds)) (nodes j) a,
+      le-ltb (length (t .capacities)) (nodes j) b,
+      le-ltb (length (t .firstEdges)) (nodes j + 1) c,
+      le-ltb (length (t .edgeTargets)) (length (j .block .edgeTargets)) d,
+      le-ltb (length (t .sources)) (nets j) e,
+      le-ltb (length (t .firstSinks)) (nets j + 1) f,
+      le-ltb (length (t .sinks)) (length (j .sinks)) g,
+    )
+
+module _ (seed n count : ℕ) (least : 8 ≤ n) (most : n ≤ 256) (some : 1 ≤ count) (few : count ≤ 64) where
+  printed : PrintedAs (loadText seed n count) (loadJob seed n count)
+  unfolding loadText loadJob
+  printed = record { written = false; may = refl; is = refl }
+
+  taken : Accepts (loadText seed n count) (loadJob seed n count)
+  taken = reader-exact (loadText seed n count) (loadJob seed n count) .all-printed (load-sound seed n count least most some few) printed
+
+  edges-few : length (loadJob seed n count .block .edgeTargets) ≤ 768
+  unfolding loadJob
+  edges-few = omega (arith, rows-few (rowsFrom seed n) n n)
+
+  sinks-few : length (loadJob seed n count .sinks) ≤ 64
+  unfolding loadJob
+  sinks-few = omega (arith, length-upTo (loadSink (netsFrom seed n) n) count)
+
+  pub load-taken : LoadTaken seed n count
+  unfolding readReply storedReply
+  load-taken =
+      let size = load-size seed n count least most some few in
+      let nodes-are = node-count seed n count in
+      let nets-are = net-count seed n count in
+      record {
+        sound = load-sound seed n count least most some few;
+        accepted = taken;
+        given-back = λ t e. rw (taken .1, e);
+        enough = λ t r.
+            long-enough (loadJob seed n count) t (omega (arith, r .kinds)) (omega (arith, r .capacities)) (omega (arith, r .first-edges))
+            (omega (arith, r .edge-targets, edges-few)) (omega (arith, r .sources)) (omega (arith, r .first-sinks)) (omega (arith, r .sinks, sinks-few));
+        fits = omega arith;
+      }

@@ -1,0 +1,18 @@
+-- `draws::wrapping_mul` meets its contract: the product fits 64 bits.
+-- Assumes nothing.
+use Rattle.generator.proofs.DrawLaws.{wide}
+use borrow.Author.Needs.{needs}
+use Rattle.generator.proofs.draws.wrapping_mul.Statement.{statement}
+use Rattle.generator.proofs.draws.wrapping_mul.Tie as tie
+
+mul-result : tie.Need-mul-result
+mul-result c = record { fits = wide (c .args .a) (c .args .b) (c .fits .a .fits) (c .fits .b .fits) }
+
+cast-result : tie.Need-cast-result
+cast-result c = search needs
+
+returns : tie.Need-returns
+returns c = search needs
+
+pub wrapping-mul-spec : {M : Type 1} → statement M
+wrapping-mul-spec = tie.close (tie.spec mul-result cast-result returns)

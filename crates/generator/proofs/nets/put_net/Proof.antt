@@ -1,0 +1,46 @@
+-- `nets::put_net` meets its contract: one line behind the other.
+-- Assumes nothing.
+use borrow.Author.Needs.{needs}
+use mathlib.Core.List.{List, [], _∷_, _++_}
+use Prim.Native.Nat.{ℕ, _+_, _≤_}
+use lib.ListN.{length}
+use Rattle.text.specs.Lines.{letterS, letterT, printLine}
+use Rattle.text.proofs.LineReplyLaws.{line-put}
+use Rattle.generator.proofs.JoinLaws.{part-first, part-rest, part-both}
+use Rattle.generator.proofs.nets.put_net.Statement.{statement}
+use Rattle.generator.proofs.nets.put_net.Tie as tie
+
+slice-aggregate-print-line : tie.Need-slice-aggregate-print-line
+slice-aggregate-print-line c = search needs
+
+print-line-requires : tie.Need-print-line-requires
+print-line-requires c κs = search needs
+
+slice-aggregate-print-line-2 : tie.Need-slice-aggregate-print-line-2
+slice-aggregate-print-line-2 c = search needs
+
+print-line-requires-2 : tie.Need-print-line-requires-2
+print-line-requires-2 c κs = search needs
+
+same-length : tie.Need-same-length
+same-length c = search needs
+
+returns : tie.Need-returns
+returns c =
+    let a = c .before .before .before .before .before .before .before .before .before .before .before .args in
+    let from : List ℕ = printLine letterS (a .net ∷ a .source ∷ []) in
+    let to : List ℕ = printLine letterT (a .net ∷ a .sink ∷ []) in
+    let fits : a .start + length (from ++ to) ≤ length (a .buffer .now) = c .before .before .before .before .before .before .before .before .before .before .before .pre in
+    let one = line-put 83 _ (c .before .before .before .before .before .before .before .print-line .ensures) (part-first (a .start) from to (a .buffer .now) fits) in
+    part-both from to fits one (line-put 84 _ (c .before .before .print-line2 .ensures) (part-rest from to fits one))
+
+pub put-net-spec : {M : Type 1} → statement M
+put-net-spec =
+    tie.close
+    (tie.spec
+    slice-aggregate-print-line
+    print-line-requires
+    slice-aggregate-print-line-2
+    print-line-requires-2
+    same-length
+    returns)

@@ -1,0 +1,45 @@
+-- `nodes::put_nodes` meets its contract: the lines of three parts, one behind the other.
+-- Assumes nothing.
+use borrow.Author.Needs.{needs}
+use Rattle.generator.proofs.NodeLaws.{sources-room, wires-room, sinks-room, nodes-put}
+use Rattle.generator.proofs.nodes.put_nodes.Statement.{statement}
+use Rattle.generator.proofs.nodes.put_nodes.Tie as tie
+
+put-pins-requires : tie.Need-put-pins-requires
+put-pins-requires c κs = (search needs, sources-room _ _ _ (c .before .before .args .buffer .now) (c .before .before .pre))
+
+sub-put-wires : tie.Need-sub-put-wires
+sub-put-wires c = search needs
+
+put-wires-requires : tie.Need-put-wires-requires
+put-wires-requires c κs = (search needs, wires-room _ _ _ _ (c .before .before .before .before .before .before .pre) (c .before .before .before .put-pins .ensures))
+
+sub-put-pins : tie.Need-sub-put-pins
+sub-put-pins c = search needs
+
+put-pins-requires-2 : tie.Need-put-pins-requires-2
+put-pins-requires-2 c κs = (
+  search needs,
+  sinks-room _ _ _ _ (c .before .before .before .before .before .before .before .before .before .before .pre)
+      (c .before .before .before .before .before .before .before .put-pins .ensures) (c .before .before .before .put-wires .ensures),
+)
+
+same-length : tie.Need-same-length
+same-length c = search needs
+
+returns : tie.Need-returns
+returns c =
+    nodes-put _ _ _ _ (c .before .before .before .before .before .before .before .before .before .before .before .before .before .pre)
+    (c .before .before .before .before .before .before .before .before .before .before .put-pins .ensures) (c .before .before .before .before .before .before .put-wires .ensures) (c .before .before .put-pins2 .ensures)
+
+pub put-nodes-spec : {M : Type 1} → statement M
+put-nodes-spec =
+    tie.close
+    (tie.spec
+    put-pins-requires
+    sub-put-wires
+    put-wires-requires
+    sub-put-pins
+    put-pins-requires-2
+    same-length
+    returns)

@@ -1,0 +1,5 @@
+pub mod Draws
+pub mod Load
+pub mod Ask
+pub mod Taken
+pub mod Steps

@@ -1,0 +1,13 @@
+// The program: a line `seed,nodes,nets` from standard input, the job's text or the line of its refusal to standard output.
+use libc::STDIN_FILENO;
+use libc::STDOUT_FILENO;
+
+// 32 bytes are enough of any input: a seed of 10 digits, two numbers of 6 and the commas after the first two come to 24 bytes, and the two
+// bytes after those tell whether the line ends in LF with nothing behind it. Whatever follows can't change the answer.
+fn main() {
+    let mut input = [0u8; 32];
+    let mut text = [0u8; 16384];
+    let got = io::read_full(STDIN_FILENO, &mut input);
+    let bytes = generator::load_text(&input[..got], &mut text);
+    io::write_all(STDOUT_FILENO, &text[..bytes]);
+}
