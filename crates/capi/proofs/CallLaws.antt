@@ -12,8 +12,8 @@ use Rattle.search.specs.Turn.{Congestion}
 use Rattle.search.specs.Replies.{searchRefusal, searchReply, searchReplyOf}
 use Rattle.search.specs.declared.SearchAnswer.{SearchAnswer}
 use Rattle.negotiation.specs.Job.{Job}
-use Rattle.negotiation.specs.Outcome.{outcomeNumbers, routed, routeReply}
-use Rattle.negotiation.specs.declared.Routed.{Routed}
+use Rattle.negotiation.specs.Outcome.{routeRefusal, routeReplyOf, routeReply}
+use Rattle.negotiation.specs.declared.RouteAnswer.{RouteAnswer}
 use Rattle.text.specs.ReadReplies.{Tables, readRefusal, readNumbers, readReplyOf, readReply}
 use Rattle.text.specs.Routes.{writeRefusal, writtenBytes, writeReplyOf, writeReply}
 use Rattle.text.specs.declared.ReadAnswer.{ReadAnswer}
@@ -69,8 +69,8 @@ module _ (j : Job) (work log out : List ℕ) where
   route-short h = rw (lt-ltb (length out) 16 h)
 
   pub route-called :
-      (left logged : List ℕ) (call : Call) (r : Routed) → 16 ≤ length out → routed r left logged ≡ routeReply j work log
-      → call ≡ callOf 1 (outWith (outcomeNumbers (r .outcome) (r .iteration) (r .turns)) (r .iteration ∷ r .turns ∷ r .words ∷ []) out)
+      (left logged : List ℕ) (call : Call) (r : RouteAnswer) → 16 ≤ length out → routeReplyOf r left logged ≡ routeReply j work log
+      → call ≡ callOf 1 (outWith (routeRefusal (r .outcome) (r .iteration) (r .turns)) (r .iteration ∷ r .turns ∷ r .used ∷ []) out)
       → routeDone call left logged ≡ routeCall j work log out
   unfolding routeCall
   route-called left logged call r h answers put = rw (le-ltb (length out) 16 h, ← answers, put)

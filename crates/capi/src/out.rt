@@ -5,12 +5,12 @@ ghost use Prim.Native.Nat.{_≤_};
 ghost use lib.ListN.{length, drop, replicate};
 ghost use Rattle.price.specs.Replies.{priceReplyOf};
 ghost use Rattle.search.specs.Replies.{searchRefusal};
-ghost use Rattle.negotiation.specs.Outcome.{outcomeNumbers};
+ghost use Rattle.negotiation.specs.Outcome.{routeRefusal};
 ghost use Rattle.text.specs.ReadReplies.{termsNumbers, readRefusal, readNumbers};
 ghost use Rattle.text.specs.Routes.{writeRefusal, writtenBytes};
 ghost use Rattle.capi.specs.Calls.{callOf, outWith};
 use negotiation::Outcome;
-use negotiation::Routed;
+use negotiation::RouteAnswer;
 use negotiation::Terms;
 use price::PriceAnswer;
 use search::SearchAnswer;
@@ -76,26 +76,26 @@ pub fn put_search(answer: SearchAnswer, out: &mut [u64]) -> u32
 }
 
 // Writes the numbers of a routing.
-pub fn put_routed(r: Routed, out: &mut [u64]) -> u32
+pub fn put_routed(r: RouteAnswer, out: &mut [u64]) -> u32
     requires { ⌜ 16 ≤ length (now out) ⌝ }
     ensures { λ n. do
-      let refusal = outcomeNumbers (r .outcome) (r .iteration) (r .turns)
-      let after = outWith refusal (r .iteration ∷ r .turns ∷ r .words ∷ []) (now (out .entry))
+      let refusal = routeRefusal (r .outcome) (r .iteration) (r .turns)
+      let after = outWith refusal (r .iteration ∷ r .turns ∷ r .used ∷ []) (now (out .entry))
       ⌜ callOf n (now (out .exit)) ≡ callOf 1 after ⌝ }
 {
     let i = r.iteration as u64;
     let turns = r.turns;
-    let words = r.words;
+    let used = r.used;
     let outcome = r.outcome;
     match outcome {
-        Outcome::Accepted => put_numbers(out, 0, 0, 0, i, turns, words),
+        Outcome::Accepted => put_numbers(out, 0, 0, 0, i, turns, used),
         Outcome::Unreachable { net, place } => {
-            put_numbers(out, 7, net as u64, place as u64, i, turns, words)
+            put_numbers(out, 7, net as u64, place as u64, i, turns, used)
         }
-        Outcome::LogFull => put_numbers(out, 8, i, turns, i, turns, words),
-        Outcome::Limit(over) => put_numbers(out, 9, i, over as u64, i, turns, words),
-        Outcome::BadTable(table) => put_numbers(out, 5, table as u64, 0, i, turns, words),
-        Outcome::ShortWork(needed) => put_numbers(out, 6, needed, 0, i, turns, words),
+        Outcome::LogFull => put_numbers(out, 8, i, turns, i, turns, used),
+        Outcome::Limit(over) => put_numbers(out, 9, i, over as u64, i, turns, used),
+        Outcome::BadTable(table) => put_numbers(out, 5, table as u64, 0, i, turns, used),
+        Outcome::ShortWork(needed) => put_numbers(out, 6, needed, 0, i, turns, used),
     }
 }
 

@@ -18,8 +18,8 @@ use Rattle.search.proofs.BlockLaws as block
 use Rattle.negotiation.specs.Tables.{netsMost, faultyJob, SoundJob}
 use Rattle.negotiation.specs.Job.{Job, jobOf, nodes, nets}
 use Rattle.negotiation.specs.Records.{Record, encode}
-use Rattle.negotiation.specs.Outcome.{RouteReply, outcomeNumbers, routed, logWith, loggedRecords, allRecords, unreachableNet, negotiated, routeReply}
-use Rattle.negotiation.specs.declared.Routed.{Routed}
+use Rattle.negotiation.specs.Outcome.{RouteReply, routeRefusal, routeReplyOf, logWith, loggedRecords, allRecords, unreachableNet, negotiated, routeReply}
+use Rattle.negotiation.specs.declared.RouteAnswer.{RouteAnswer}
 use Rattle.negotiation.specs.declared.Terms.{Terms}
 use Rattle.negotiation.specs.declared.Outcome.{Outcome}
 use Rattle.negotiation.specs.declared.Outcome.the-variants.{Accepted}
@@ -66,33 +66,33 @@ used-fits j work log =
     (either-way (ltb (length work) (workNeeded (nodes j)))))
     (either-way (leb 1 (faultyJob j)))
 
-module _ (j : Job) (work log : List ℕ) (r : Routed) (work′ log′ : List ℕ) (is : routed r work′ log′ ≡ routeReply j work log) where
-  pub words-fit : r .words ≤ length log′
+module _ (j : Job) (work log : List ℕ) (r : RouteAnswer) (work′ log′ : List ℕ) (is : routeReplyOf r work′ log′ ≡ routeReply j work log) where
+  pub words-fit : r .used ≤ length log′
   words-fit = subst (λ (x : RouteReply). x .used ≤ length (x .log)) (sym is) (used-fits j work log)
 
   -- an accepted job's routes are written
   pub run-accepted :
       (routes : List ℕ) (a : RunAnswer) (routes′ : List ℕ) → r .outcome ≡ Accepted
-      → writtenReplyOf a routes′ ≡ writeReply (take (r .words) log′) routes
+      → writtenReplyOf a routes′ ≡ writeReply (take (r .used) log′) routes
       → (t : Tables) → runReplyOf a (lentOf t work′ log′ routes′) ≡ routeRun j t work log routes
   unfolding routeRun
   run-accepted routes a routes′ out wrote t =
       subst (λ (x : RouteReply). runReplyOf a (lentOf t work′ log′ routes′) ≡ afterRoute (x .refusal) t x routes) is
       (subst
-      (λ (o : Outcome). runReplyOf a (lentOf t work′ log′ routes′) ≡ afterRoute (outcomeNumbers o (r .iteration) (r .turns)) t (routed r work′ log′) routes)
+      (λ (o : Outcome). runReplyOf a (lentOf t work′ log′ routes′) ≡ afterRoute (routeRefusal o (r .iteration) (r .turns)) t (routeReplyOf r work′ log′) routes)
       (sym out)
-      (ap (λ (w : WriteReply). afterWrite t (routed r work′ log′) w) wrote))
+      (ap (λ (w : WriteReply). afterWrite t (routeReplyOf r work′ log′) w) wrote))
 
   -- a refused one has none
   pub run-refused :
-      (routes : List ℕ) (k : ℕ) (ks : List ℕ) (o : Outcome) → r .outcome ≡ o → outcomeNumbers o (r .iteration) (r .turns) ≡ k ∷ ks
+      (routes : List ℕ) (k : ℕ) (ks : List ℕ) (o : Outcome) → r .outcome ≡ o → routeRefusal o (r .iteration) (r .turns) ≡ k ∷ ks
       → (t : Tables) → runReplyWith (k ∷ ks) 0 (lentOf t work′ log′ routes) ≡ routeRun j t work log routes
   unfolding routeRun
   run-refused routes k ks o out numbers t =
       subst (λ (x : RouteReply). runReplyWith (k ∷ ks) 0 (lentOf t work′ log′ routes) ≡ afterRoute (x .refusal) t x routes) is
       (subst
-      (λ (l : List ℕ). runReplyWith (k ∷ ks) 0 (lentOf t work′ log′ routes) ≡ afterRoute l t (routed r work′ log′) routes)
-      (sym (ap (λ (x : Outcome). outcomeNumbers x (r .iteration) (r .turns)) out ∙ numbers))
+      (λ (l : List ℕ). runReplyWith (k ∷ ks) 0 (lentOf t work′ log′ routes) ≡ afterRoute l t (routeReplyOf r work′ log′) routes)
+      (sym (ap (λ (x : Outcome). routeRefusal x (r .iteration) (r .turns)) out ∙ numbers))
       refl)
 
 -- ---- the run

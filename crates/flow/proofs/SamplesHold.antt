@@ -2,21 +2,8 @@
 -- Assumes nothing.
 use mathlib.Core.List.{List, [], _∷_, _++_}
 use mathlib.Core.Path.{_≡_, refl}
-use Rattle.price.specs.Lists.{every, neighbours, has, distinct, upTo, firstBelow, countBelow, least, placeOf, total}
-use Rattle.price.specs.Prices.{baseCost, overuse, priceOf, nextFactor, nextHistory}
-use Rattle.search.specs.Block.{row, hasEdge}
-use Rattle.search.specs.Tables.{kindsSound, capacitiesSound, firstEdgesSound, rowSound, edgeTargetsSound, faultyTable}
-use Rattle.search.specs.Paths.{pathCost}
-use Rattle.search.specs.Distance.{inTree, treeDistances, nearer, round, rounds, distances}
-use Rattle.search.specs.Turn.{priceAt, openDistance, before, back, pathTo, openDistances, joinAt, turn}
-use Rattle.search.specs.Replies.{cleared}
-use Rattle.negotiation.specs.Job.{netSinks}
-use Rattle.negotiation.specs.Tables.{sourcesSound, firstSinksSound, netSound, sinksSound, limitSound, termsSound, oneOf, pinsOf, faultyNets, faultyJob}
-use Rattle.negotiation.specs.Records.{words, encode, decodeUpTo, decode, fitting, pathNodes}
-use Rattle.negotiation.specs.Machine.{othersOf, usersOf, marksOf, congestionFor, turnOf, turnsOf, netRecords, hasSinks, due, afterNets, iterate, overfull, overCount, moveOn, firstState, stateAfter, recordsAfter, settlesAt}
-use Rattle.negotiation.specs.Outcome.{hasPath, unreachableNet, unreachablePlace, iterationsMade, allRecords, loggedRecords, cutIteration, logWith, endNumbers, negotiated, routeReply}
+use Rattle.negotiation.specs.Records.{decodeUpTo, decode}
 use Rattle.price.specs.Samples.{Sample, Hold}
-use Rattle.price.specs.Tuning.{tuningSound}
 use Rattle.price.specs.Samples as p
 use Rattle.price.proofs.SamplesHold as p-hold
 use Rattle.negotiation.specs.Samples as n
@@ -32,19 +19,14 @@ use Rattle.flow.specs.Refusals.{refusalLine}
 use Rattle.flow.specs.RunReplies.{routeRun, runReply, response}
 use Rattle.flow.specs.Samples.{lined, linesB, shown, routed, limited, filled, texts, samples}
 
--- all that a closed text computes with
+-- all that a closed text computes with: the lines and routes, and what a closed job does
 computing : Unit {0}
 unfolding response refusalLine runReply routeRun
     writeReply textReply routesText branchText routeBranches lastIteration branchesIn steps logSound soundWords soundUpTo recordSound pathSound
     tablesWith writtenOver shortTable lowestShort readText jobRead firstPlaces netLines netLine nextSink nextSource netEnd complete sinkDue sourceDue sinksNow edgeLines nodeLines headPart tuningPart
     sinkLine sinkOrdered sourceLine pinWithin edgeLine edgeOrdered edgeWithin rises nodeLine nodeWithin tuningLine tuningWithin headLine headWithin
     printLine printFields line fields begins field digitsAfter decimal digits isDigit lined decode decodeUpTo
-    routeReply negotiated endNumbers logWith cutIteration loggedRecords allRecords iterationsMade unreachablePlace unreachableNet hasPath
-    settlesAt recordsAfter stateAfter firstState moveOn overCount overfull iterate afterNets due hasSinks netRecords turnsOf turnOf congestionFor marksOf usersOf othersOf
-    pathNodes fitting encode words faultyJob faultyNets pinsOf oneOf termsSound tuningSound limitSound sinksSound netSound firstSinksSound sourcesSound netSinks cleared
-    turn joinAt openDistances pathTo back before openDistance priceAt distances rounds round nearer treeDistances inTree pathCost
-    faultyTable edgeTargetsSound rowSound firstEdgesSound capacitiesSound kindsSound hasEdge row nextHistory nextFactor priceOf overuse baseCost
-    total placeOf least countBelow firstBelow upTo distinct has neighbours every
+    n-hold.computing
 computing = tt
 
 routed-holds : shown (lined (linesB 50)) 36 ≡ routed .stated

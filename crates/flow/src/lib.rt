@@ -86,7 +86,7 @@ fn route_job(
         work,
         log,
     );
-    let words = r.words as usize;
+    let words = r.used as usize;
     let outcome = r.outcome;
     match outcome {
         Outcome::Accepted => write_used(log, words, routes),

@@ -19,9 +19,9 @@ use Rattle.search.specs.Replies.{cleared}
 use Rattle.negotiation.specs.Job.{Job, nodes, nets}
 use Rattle.negotiation.specs.Records.{Record, words, encode}
 use Rattle.negotiation.specs.Machine.{State, netRecords, due, afterNets, stateAfter, iterate, overCount, firstState, iterationAfter, recordsAfter, settlesAt}
-use Rattle.negotiation.specs.Outcome.{negotiated, ranReply, logWith, routed, outcomeNumbers, iterationsMade, allRecords, loggedRecords, cutIteration, endNumbers}
+use Rattle.negotiation.specs.Outcome.{negotiated, ranReply, logWith, routeReplyOf, routeRefusal, iterationsMade, allRecords, loggedRecords, cutIteration, endNumbers}
 use Rattle.negotiation.specs.Steps.{SameFrom}
-use Rattle.negotiation.specs.declared.Routed.{Routed}
+use Rattle.negotiation.specs.declared.RouteAnswer.{RouteAnswer}
 use Rattle.negotiation.proofs.StateLaws.{route-if, routed-next}
 use Rattle.negotiation.proofs.RecordLaws.{fitting-all, fitting-cut}
 
@@ -161,9 +161,9 @@ cleared-same n work₀ work same =
     rw (none, drop-same (8 * n) work₀ work (same .long) (same .high))
 
 -- an answer is a run's reply where its numbers, the work slice and the log are
-pub reply-same : (j : Job) (r : Routed) (iteration : ℕ) (numbers : List ℕ) (rs : List Record) (work₀ work log₀ log : List ℕ)
-    → outcomeNumbers (r .outcome) (r .iteration) (r .turns) ≡ numbers → r .iteration ≡ iteration → r .turns ≡ length rs → r .words ≡ length (encode rs)
+pub reply-same : (j : Job) (r : RouteAnswer) (iteration : ℕ) (numbers : List ℕ) (rs : List Record) (work₀ work log₀ log : List ℕ)
+    → routeRefusal (r .outcome) (r .iteration) (r .turns) ≡ numbers → r .iteration ≡ iteration → r .turns ≡ length rs → r .used ≡ length (encode rs)
     → SameFrom (8 * nodes j) work₀ work → log ≡ logWith rs log₀
-    → routed r (replicate (8 * nodes j) 0 ++ drop (8 * nodes j) work) log ≡ ranReply j numbers iteration rs work₀ log₀
+    → routeReplyOf r (replicate (8 * nodes j) 0 ++ drop (8 * nodes j) work) log ≡ ranReply j numbers iteration rs work₀ log₀
 reply-same j r iteration numbers rs work₀ work log₀ log a b c d same e =
     rw (a, b, c, d, e, cleared-same (nodes j) work₀ work same)

@@ -14,12 +14,12 @@ use Rattle.negotiation.specs.Job.{Job, nodes, nets, source, netSinks}
 use Rattle.negotiation.specs.Tables.{SoundJob}
 use Rattle.negotiation.specs.Records.{decode, pathNodes}
 use Rattle.negotiation.specs.Machine.{turnOf, congestionFor, treeFrom, overCount, firstState, iterationAfter}
-use Rattle.negotiation.specs.Outcome.{negotiated, routed}
+use Rattle.negotiation.specs.Outcome.{negotiated, routeReplyOf}
 use Rattle.negotiation.specs.Steps.{SameFrom, leading, oldTree, oldNext, RipReady, RippedUp, CountReady, Counted, CanTurn, Overflows, TurnDone}
 use Rattle.negotiation.specs.declared.tariff.Tariff.{Tariff}
 use Rattle.negotiation.specs.declared.turns.TurnMade.{TurnMade}
 use Rattle.negotiation.specs.declared.turns.TurnMade.the-variants.{Nothing, Full, Logged}
-use Rattle.negotiation.specs.declared.Routed.{Routed}
+use Rattle.negotiation.specs.declared.RouteAnswer.{RouteAnswer}
 use Rattle.negotiation.specs.declared.Outcome.the-variants.{LogFull}
 use Rattle.negotiation.proofs.JobLaws.{routable-of}
 use Rattle.negotiation.proofs.KeepLaws.{AtNet, AtTurn, stateFor}
@@ -136,10 +136,10 @@ module _ (j : Job) (sound : SoundJob j) (W L : List ℕ) (enough : 8 * nodes j �
         e listed)
 
     pub after-full :
-        made ≡ Full → (w : List ℕ) → w ≡ replicate (8 * nodes j) 0 ++ drop (8 * nodes j) work′ → (r : Routed) → r .outcome ≡ LogFull → Answers r t
-        → routed r w log′ ≡ negotiated j W L
+        made ≡ Full → (w : List ℕ) → w ≡ replicate (8 * nodes j) 0 ++ drop (8 * nodes j) work′ → (r : RouteAnswer) → r .outcome ≡ LogFull → Answers r t
+        → routeReplyOf r w log′ ≡ negotiated j W L
     after-full e w q r o a =
-        subst (λ (x : List ℕ). routed r x log′ ≡ negotiated j W L) (sym q)
+        subst (λ (x : List ℕ). routeReplyOf r x log′ ≡ negotiated j W L) (sym q)
         (keep-full j sound W L enough m i (left - 1) t history users marks work log old start first at-more log′ work′ (overflows e) kept r o a)
 
 -- the histories that grew are lent back

@@ -22,10 +22,10 @@ use Rattle.negotiation.specs.Job.{Job, nodes, nets, netSinks}
 use Rattle.negotiation.specs.Tables.{SoundJob}
 use Rattle.negotiation.specs.Records.{Record, recordOf, words, encode}
 use Rattle.negotiation.specs.Machine.{usersOf, congestionFor, turnOf, turnsOf, netRecords, treeFrom, afterNets, overCount, firstState, stateAfter, iterationAfter, recordsAfter, settlesAt, iterate, moveOn, overfull}
-use Rattle.negotiation.specs.Outcome.{negotiated, routed, ranReply, outcomeNumbers, iterationsMade, endNumbers}
+use Rattle.negotiation.specs.Outcome.{negotiated, routeReplyOf, ranReply, routeRefusal, iterationsMade, endNumbers}
 use Rattle.negotiation.specs.Steps.{SameFrom, Overflows}
 use Rattle.negotiation.specs.declared.tariff.Tariff.{Tariff}
-use Rattle.negotiation.specs.declared.Routed.{Routed}
+use Rattle.negotiation.specs.declared.RouteAnswer.{RouteAnswer}
 use Rattle.negotiation.specs.declared.Outcome.the-variants.{Accepted, LogFull, Limit}
 use Rattle.negotiation.proofs.StateLaws.{nets-iteration, nets-factor, nets-histories, state-iteration}
 use Rattle.negotiation.proofs.KeepLaws.{Under, AtNet, AtTurn, stateFor, newBefore, oldBefore}
@@ -36,10 +36,10 @@ use Rattle.negotiation.proofs.TurnStepLaws.{log-length}
 use Rattle.negotiation.proofs.EndLaws.{made-settled, unsettled-more, made-limit, all-split, full-reply, whole-reply, end-settled, end-limit, all-made, reply-same}
 
 -- the answer's numbers beside its outcome
-pub record Answers (r : Routed) (t : Tariff) : Type 0 where
+pub record Answers (r : RouteAnswer) (t : Tariff) : Type 0 where
   pub iteration-is : r .iteration ≡ t .iteration
   pub turns-is : r .turns ≡ t .turns
-  pub words-is : r .words ≡ t .words
+  pub words-is : r .used ≡ t .words
 
 module _ (j : Job) (sound : SoundJob j) (work₀ log₀ : List ℕ) (enough : 8 * nodes j ≤ length work₀) where
   -- the first turn whose record does not fit
@@ -56,8 +56,8 @@ module _ (j : Job) (sound : SoundJob j) (work₀ log₀ : List ℕ) (enough : 8 
 
     pub keep-full :
         (log′ work′ : List ℕ) → Overflows (turnOf j (congestionFor j (stateFor j m i) i) i (treeFrom j i (at .made))) t log log′
-        → SameFrom (8 * nodes j) work work′ → (r : Routed) → r .outcome ≡ LogFull → Answers r t
-        → routed r (replicate (8 * nodes j) 0 ++ drop (8 * nodes j) work′) log′ ≡ negotiated j work₀ log₀
+        → SameFrom (8 * nodes j) work work′ → (r : RouteAnswer) → r .outcome ≡ LogFull → Answers r t
+        → routeReplyOf r (replicate (8 * nodes j) 0 ++ drop (8 * nodes j) work′) log′ ≡ negotiated j work₀ log₀
     keep-full log′ work′ o kept r is a =
         let rs : List Record = newBefore j m i ++ at .made in
         let next : Record = recordOf (m + 1) i (getD (netSinks j i) (o .place) 0) (o .cost) (o .path) in
@@ -110,24 +110,24 @@ module _ (j : Job) (sound : SoundJob j) (work₀ log₀ : List ℕ) (enough : 8 
           whole-reply j work₀ log₀ (newBefore j m (nets j)) (all-made j m made ∙ records-here) (at .tallied .fits) ∙ rw (ends, made)
 
       last-same :
-          (r : Routed) → Answers r t → outcomeNumbers (r .outcome) (r .iteration) (r .turns) ≡ numbers
-          → routed r (replicate (8 * nodes j) 0 ++ drop (8 * nodes j) work) log ≡ negotiated j work₀ log₀
+          (r : RouteAnswer) → Answers r t → routeRefusal (r .outcome) (r .iteration) (r .turns) ≡ numbers
+          → routeReplyOf r (replicate (8 * nodes j) 0 ++ drop (8 * nodes j) work) log ≡ negotiated j work₀ log₀
       last-same r a is =
           reply-same j r (m + 1) numbers (newBefore j m (nets j)) work₀ work log₀ log is (a .iteration-is ∙ at .under .iteration-is)
           (a .turns-is ∙ at .tallied .turns-is) (a .words-is ∙ at .tallied .words-is) (at .work-same) (at .tallied .log-is)
           ∙ sym last-reply
 
     pub keep-accepted :
-        overCount j (iterationAfter j (firstState j) m .state .trees) ≡ 0 → (r : Routed) → r .outcome ≡ Accepted → Answers r t
-        → routed r (replicate (8 * nodes j) 0 ++ drop (8 * nodes j) work) log ≡ negotiated j work₀ log₀
+        overCount j (iterationAfter j (firstState j) m .state .trees) ≡ 0 → (r : RouteAnswer) → r .outcome ≡ Accepted → Answers r t
+        → routeReplyOf r (replicate (8 * nodes j) 0 ++ drop (8 * nodes j) work) log ≡ negotiated j work₀ log₀
     keep-accepted none r is a =
         let made = made-settled j m (at .under .below) (at .under .unsettled) (settled none) in
         last-same made [] (end-settled j m made (settled none)) r a (rw is)
 
     pub keep-limit :
         (over : ℕ) → over ≡ overCount j (iterationAfter j (firstState j) m .state .trees) → (over ≡ 0 → ⊥) → t .iteration ≡ j .terms .limit
-        → (r : Routed) → r .outcome ≡ Limit over → Answers r t
-        → routed r (replicate (8 * nodes j) 0 ++ drop (8 * nodes j) work) log ≡ negotiated j work₀ log₀
+        → (r : RouteAnswer) → r .outcome ≡ Limit over → Answers r t
+        → routeReplyOf r (replicate (8 * nodes j) 0 ++ drop (8 * nodes j) work) log ≡ negotiated j work₀ log₀
     keep-limit over e some last r is a =
         let open-still = unsettled (λ z. some (e ∙ z)) in
         let made = made-limit j m (at .under .below) (at .under .unsettled) open-still (sym (at .under .iteration-is) ∙ last) in

@@ -13,10 +13,10 @@ use Rattle.price.proofs.ListLaws.{drop-same}
 use Rattle.search.specs.Replies.{workNeeded, cleared}
 use Rattle.negotiation.specs.Job.{Job, nodes, nets}
 use Rattle.negotiation.specs.Tables.{SoundJob, faultyJob}
-use Rattle.negotiation.specs.Outcome.{RouteReply, unreachableNet, unreachablePlace, negotiated, refusedAnswer, refusedReply, routed, routeReply}
+use Rattle.negotiation.specs.Outcome.{RouteReply, unreachableNet, unreachablePlace, negotiated, refusedAnswer, refusedReply, routeReplyOf, routeReply}
 use Rattle.negotiation.specs.Demand.{Demand3}
 use Rattle.negotiation.specs.Steps.{SameFrom, missing, reachNumbers}
-use Rattle.negotiation.specs.declared.Routed.{Routed}
+use Rattle.negotiation.specs.declared.RouteAnswer.{RouteAnswer}
 use Rattle.negotiation.specs.declared.Outcome.the-variants.{BadTable, ShortWork, Unreachable}
 use Rattle.negotiation.specs.declared.reach.Reach.{Reach}
 use Rattle.negotiation.specs.declared.reach.Reach.the-variants.{All, Missing}
@@ -32,10 +32,10 @@ module _ (j : Job) (work log : List ℕ) where
   answered : (r : RouteReply) → r ≡ routeReply j work log → Answered r
   answered r e = (e, subst (Demand3 j work log) (sym e) (demand-3 j work log))
 
-  pub table-refused : (table : ℕ) (r : Routed) → table ≡ faultyJob j → 1 ≤ table → r ≡ refusedAnswer (BadTable table) → Answered (routed r work log)
+  pub table-refused : (table : ℕ) (r : RouteAnswer) → table ≡ faultyJob j → 1 ≤ table → r ≡ refusedAnswer (BadTable table) → Answered (routeReplyOf r work log)
   table-refused table r e h q =
-      answered (routed r work log)
-      (ap (λ (x : Routed). routed x work log) q
+      answered (routeReplyOf r work log)
+      (ap (λ (x : RouteAnswer). routeReplyOf x work log) q
       ∙ subst (λ (k : ℕ). refusedReply (5 ∷ k ∷ []) work log ≡ routeReply j work log) (sym e)
       (sym (route-table j work log (subst (λ (k : ℕ). 1 ≤ k) e h))))
 
@@ -46,9 +46,9 @@ module _ (j : Job) (work log : List ℕ) where
     pub tables-sound : SoundJob j
     tables-sound = sound-job j (let f = fine in omega arith)
 
-    pub work-refused : (r : Routed) → length work < workNeeded (nodes j) → r ≡ refusedAnswer (ShortWork (workNeeded (nodes j))) → Answered (routed r work log)
+    pub work-refused : (r : RouteAnswer) → length work < workNeeded (nodes j) → r ≡ refusedAnswer (ShortWork (workNeeded (nodes j))) → Answered (routeReplyOf r work log)
     work-refused r h q =
-        answered (routed r work log) (ap (λ (x : Routed). routed x work log) q ∙ sym (route-work j work log fine h))
+        answered (routeReplyOf r work log) (ap (λ (x : RouteAnswer). routeReplyOf x work log) q ∙ sym (route-work j work log fine h))
 
     module _ (enough : workNeeded (nodes j) ≤ length work) (w : List ℕ) (kept : SameFrom (workNeeded (nodes j)) work w) (found : Reach) (tested : reachNumbers found ≡ missing j) where
       past : drop (workNeeded (nodes j)) w ≡ drop (workNeeded (nodes j)) work
@@ -93,19 +93,19 @@ module _ (j : Job) (work log : List ℕ) where
       run-same = rw cleared-same
 
       pub unreachable-refused :
-          (net place : ℕ) (r : Routed) (w′ : List ℕ) → found ≡ Missing net place → r ≡ refusedAnswer (Unreachable net place)
+          (net place : ℕ) (r : RouteAnswer) (w′ : List ℕ) → found ≡ Missing net place → r ≡ refusedAnswer (Unreachable net place)
           → w′ ≡ replicate (workNeeded (nodes j)) 0 ++ drop (workNeeded (nodes j)) w
-          → Answered (routed r w′ log)
+          → Answered (routeReplyOf r w′ log)
       unreachable-refused net place r w′ f q e =
           let m = is-missing net place f in
-          answered (routed r w′ log)
-          (ap (λ (x : Routed). routed x w′ log) q
+          answered (routeReplyOf r w′ log)
+          (ap (λ (x : RouteAnswer). routeReplyOf x w′ log) q
           ∙ subst (λ (x : List ℕ). refusedReply (7 ∷ net ∷ place ∷ []) x log ≡ routeReply j work log) (sym (e ∙ clean))
           (subst (λ (a : ℕ). refusedReply (7 ∷ a ∷ place ∷ []) (cleared (nodes j) [] work) log ≡ routeReply j work log) (sym (m .1))
           (subst (λ (p : ℕ). refusedReply (7 ∷ unreachableNet j ∷ p ∷ []) (cleared (nodes j) [] work) log ≡ routeReply j work log) (sym (m .2))
           (sym (route-unreachable j work log fine enough (m .0))))))
 
       pub run-answered :
-          (r : Routed) (w′ log′ : List ℕ) → found ≡ All → routed r w′ log′ ≡ negotiated j w log → Answered (routed r w′ log′)
+          (r : RouteAnswer) (w′ log′ : List ℕ) → found ≡ All → routeReplyOf r w′ log′ ≡ negotiated j w log → Answered (routeReplyOf r w′ log′)
       run-answered r w′ log′ f e =
-          answered (routed r w′ log′) (e ∙ run-same ∙ sym (route-run j work log fine enough (is-none f)))
+          answered (routeReplyOf r w′ log′) (e ∙ run-same ∙ sym (route-run j work log fine enough (is-none f)))

@@ -19,7 +19,7 @@ use Rattle.negotiation.specs.Outcome.{hasPath, unreachableNet, unreachab
 use Rattle.negotiation.specs.Samples.{answer, jobB, jobC, jobCut, jobDiamond, settled, limited, filled, nearestFirst, cutOff, lowestFirst, samples}
 
 -- all that a closed job computes with
-computing : Unit {0}
+unfoldable pub computing : Unit {0}
 unfolding routeReply negotiated endNumbers logWith cutIteration loggedRecords allRecords iterationsMade unreachablePlace unreachableNet hasPath
     settlesAt recordsAfter stateAfter firstState moveOn overCount overfull iterate afterNets due hasSinks netRecords turnsOf turnOf congestionFor marksOf usersOf othersOf
     pathNodes fitting encode words faultyJob faultyNets pinsOf oneOf termsSound tuningSound limitSound sinksSound netSound firstSinksSound sourcesSound netSinks cleared

@@ -14,7 +14,7 @@ use Rattle.negotiation.specs.Job.{Job, nodes, nets, source, netSinks}
 use Rattle.negotiation.specs.Tables.{faultyJob}
 use Rattle.negotiation.specs.Records.{Record, encode, decode, fitting}
 use Rattle.negotiation.specs.Machine.{State, marksOf, congestionFor, firstState, recordsAfter, iterationAfter, settlesAt, overCount}
-use Rattle.negotiation.specs.declared.Routed.{Routed}
+use Rattle.negotiation.specs.declared.RouteAnswer.{RouteAnswer}
 use Rattle.negotiation.specs.declared.Outcome.{Outcome}
 use Rattle.negotiation.specs.declared.Outcome.the-variants as o
 
@@ -71,29 +71,29 @@ abbrev pub turnsLogged : RouteReply → List Record
 turnsLogged r = decode (wordsUsed r)
 
 -- 01's numbers for each case of the outcome, beside iteration and turns
-abbrev pub outcomeNumbers : Outcome → ℕ → ℕ → List ℕ
-outcomeNumbers o.Accepted iteration turns = []
-outcomeNumbers (o.Unreachable net place) iteration turns = 7 ∷ net ∷ place ∷ []
-outcomeNumbers o.LogFull iteration turns = 8 ∷ iteration ∷ turns ∷ []
-outcomeNumbers (o.Limit over) iteration turns = 9 ∷ iteration ∷ over ∷ []
-outcomeNumbers (o.BadTable table) iteration turns = 5 ∷ table ∷ []
-outcomeNumbers (o.ShortWork needed) iteration turns = 6 ∷ needed ∷ []
+abbrev pub routeRefusal : Outcome → ℕ → ℕ → List ℕ
+routeRefusal o.Accepted iteration turns = []
+routeRefusal (o.Unreachable net place) iteration turns = 7 ∷ net ∷ place ∷ []
+routeRefusal o.LogFull iteration turns = 8 ∷ iteration ∷ turns ∷ []
+routeRefusal (o.Limit over) iteration turns = 9 ∷ iteration ∷ over ∷ []
+routeRefusal (o.BadTable table) iteration turns = 5 ∷ table ∷ []
+routeRefusal (o.ShortWork needed) iteration turns = 6 ∷ needed ∷ []
 
 -- the answer with work slice and log at the call's end, as one value
-abbrev pub routed : Routed → List ℕ → List ℕ → RouteReply
-routed r work log =
+abbrev pub routeReplyOf : RouteAnswer → List ℕ → List ℕ → RouteReply
+routeReplyOf r work log =
     record {
-      refusal = outcomeNumbers (r .outcome) (r .iteration) (r .turns);
+      refusal = routeRefusal (r .outcome) (r .iteration) (r .turns);
       iteration = r .iteration;
       turns = r .turns;
-      used = r .words;
+      used = r .used;
       work = work;
       log = log;
     }
 
 -- the answer of a call that is refused before any turn
-abbrev pub refusedAnswer : Outcome → Routed
-refusedAnswer outcome = record { outcome = outcome; iteration = 0; turns = 0; words = 0 }
+abbrev pub refusedAnswer : Outcome → RouteAnswer
+refusedAnswer outcome = record { outcome = outcome; iteration = 0; turns = 0; used = 0 }
 
 -- "After any refusal but 8 and 9 all three are 0, and memory not named is untouched."
 abbrev pub refusedReply : List ℕ → List ℕ → List ℕ → RouteReply

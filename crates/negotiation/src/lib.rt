@@ -1,7 +1,7 @@
 // The negotiation: routes a job given as tables, and logs every turn.
 ghost use mathlib.Core.Path.{_≡_};
 ghost use Rattle.negotiation.specs.Job.{jobOf};
-ghost use Rattle.negotiation.specs.Outcome.{refusedAnswer, routed, routeReply};
+ghost use Rattle.negotiation.specs.Outcome.{refusedAnswer, routeReplyOf, routeReply};
 ghost use Rattle.negotiation.specs.Demand.{Demand3};
 
 // The most nodes of a block: the router keeps a mark, a history and a count of users for each.
@@ -30,11 +30,11 @@ pub enum Outcome {
 }
 
 // The answer: how the run ended, beside iteration, turns made and words used.
-pub struct Routed {
+pub struct RouteAnswer {
     pub outcome: Outcome,
     pub iteration: u32,
     pub turns: u64,
-    pub words: u64,
+    pub used: u64,
 }
 
 mod congestion;
@@ -56,14 +56,14 @@ use price::Tuning;
 use reach::Reach;
 
 // The answer of a call that is refused before any turn.
-fn refused(outcome: Outcome) -> Routed
+fn refused(outcome: Outcome) -> RouteAnswer
     ensures { λ r. ⌜ r ≡ refusedAnswer outcome ⌝ }
 {
-    Routed {
+    RouteAnswer {
         outcome: outcome,
         iteration: 0,
         turns: 0,
-        words: 0,
+        used: 0,
     }
 }
 
@@ -79,15 +79,15 @@ pub fn route(
     terms: Terms,
     work: &mut [u64],
     log: &mut [u32],
-) -> Routed
+) -> RouteAnswer
     ensures answers { λ r. do
       let job = jobOf (now (kind .entry)) (now (capacity .entry)) (now («first_edge» .entry)) (now («edge_target» .entry))
           (now (source .entry)) (now («first_sink» .entry)) (now (sink .entry)) terms
-      ⌜ routed r (now (work .exit)) (now (log .exit)) ≡ routeReply job (now (work .entry)) (now (log .entry)) ⌝ }
+      ⌜ routeReplyOf r (now (work .exit)) (now (log .exit)) ≡ routeReply job (now (work .entry)) (now (log .entry)) ⌝ }
     ensures demand { λ r. do
       let job = jobOf (now (kind .entry)) (now (capacity .entry)) (now («first_edge» .entry)) (now («edge_target» .entry))
           (now (source .entry)) (now («first_sink» .entry)) (now (sink .entry)) terms
-      ⌜ Demand3 job (now (work .entry)) (now (log .entry)) (routed r (now (work .exit)) (now (log .exit))) ⌝ }
+      ⌜ Demand3 job (now (work .entry)) (now (log .entry)) (routeReplyOf r (now (work .exit)) (now (log .exit))) ⌝ }
 {
     let table = tables::faulty_job(
         kind,

@@ -10,13 +10,13 @@ ghost use Rattle.search.specs.Block.{blockOf};
 ghost use Rattle.search.specs.Turn.{congestionOf, priceAt, turn};
 ghost use Rattle.negotiation.specs.Job.{jobOf};
 ghost use Rattle.negotiation.specs.Tables.{SoundJob};
-ghost use Rattle.negotiation.specs.Outcome.{negotiated, routed};
+ghost use Rattle.negotiation.specs.Outcome.{negotiated, routeReplyOf};
 ghost use Rattle.negotiation.specs.Records.{decode, pathNodes};
 ghost use Rattle.negotiation.specs.Steps.{SameFrom, leading, oldTree, oldNext, RipReady, RippedUp};
 ghost use Rattle.negotiation.specs.Steps.{CountReady, Counted, TurnDone, CanTurn};
 use crate::NODES_MOST;
 use crate::Outcome;
-use crate::Routed;
+use crate::RouteAnswer;
 use crate::Terms;
 use crate::congestion;
 use crate::records;
@@ -46,14 +46,14 @@ fn next_iteration(t: Tariff, g: Tuning) -> Tariff
 }
 
 // The answer at the end of a run.
-fn answer(outcome: Outcome, t: Tariff) -> Routed
-    ensures { λ r. ⌜ (r .outcome ≡ outcome) × (r .iteration ≡ t .iteration) × (r .turns ≡ t .turns) × (r .words ≡ t .words) ⌝ }
+fn answer(outcome: Outcome, t: Tariff) -> RouteAnswer
+    ensures { λ r. ⌜ (r .outcome ≡ outcome) × (r .iteration ≡ t .iteration) × (r .turns ≡ t .turns) × (r .used ≡ t .words) ⌝ }
 {
-    Routed {
+    RouteAnswer {
         outcome: outcome,
         iteration: t.iteration,
         turns: t.turns,
-        words: t.words as u64,
+        used: t.words as u64,
     }
 }
 
@@ -192,14 +192,14 @@ pub fn negotiate(
     terms: Terms,
     work: &mut [u64],
     log: &mut [u32],
-) -> Routed
+) -> RouteAnswer
     requires { ⌜ SoundJob (jobOf (now kind) (now capacity) (now «first_edge») (now «edge_target»)
         (now source) (now «first_sink») (now sink) terms) ⌝ }
     requires { ⌜ 8 * length (now kind) ≤ length (now work) ⌝ }
     ensures { λ r. do
       let job = jobOf (now (kind .entry)) (now (capacity .entry)) (now («first_edge» .entry)) (now («edge_target» .entry))
           (now (source .entry)) (now («first_sink» .entry)) (now (sink .entry)) terms
-      ⌜ routed r (now (work .exit)) (now (log .exit)) ≡ negotiated job (now (work .entry)) (now (log .entry)) ⌝ }
+      ⌜ routeReplyOf r (now (work .exit)) (now (log .exit)) ≡ negotiated job (now (work .entry)) (now (log .entry)) ⌝ }
 {
     let n = kind.len();
     let mut history = [1u32; NODES_MOST];

@@ -4,7 +4,7 @@ use cases::lines;
 use cases::read;
 use cases::show;
 use negotiation::Outcome;
-use negotiation::Routed;
+use negotiation::RouteAnswer;
 use negotiation::Terms;
 use price::Tuning;
 
@@ -19,7 +19,7 @@ fn two_numbers(row: u64, first: u64, second: u64) {
 }
 
 // The refusal's numbers, if there is one.
-fn outcome(r: Routed) {
+fn outcome(r: RouteAnswer) {
     let outcome = r.outcome;
     match outcome {
         Outcome::Accepted => {}
@@ -42,12 +42,12 @@ fn outcome(r: Routed) {
 }
 
 // The outcome, the iteration, the turns and the words of log.
-fn answer(r: Routed) {
+fn answer(r: RouteAnswer) {
     outcome(r);
     show::answered();
     show::entry(r.iteration as u64);
     show::entry(r.turns);
-    show::entry(r.words);
+    show::entry(r.used);
 }
 
 // The limit and the tuning, as the numbers of line 1 have them.
