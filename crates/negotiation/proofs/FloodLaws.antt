@@ -19,8 +19,8 @@ use Rattle.search.specs.Tables.{Graph}
 use Rattle.search.specs.Paths.{Walk, stay, step}
 use Rattle.search.proofs.BlockLaws.{target-node, edge-at, edge-place, edge-from}
 use Rattle.search.proofs.WalkLaws.{snoc}
-use Rattle.negotiation.specs.Steps.{SameFrom}
-use Rattle.negotiation.specs.Flood.{FloodReady, markedCount, Queue, RowFlooded, Flooded}
+use Rattle.negotiation.specs.Steps.{AllBelow, SameFrom}
+use Rattle.negotiation.specs.Flood.{FloodReady, markedCount, Queue, RowFlooded, Flooded, FirstUnmarked}
 
 -- ---- entries from a place on
 
@@ -193,8 +193,8 @@ pub record Flooding (b : Block) (source next end : ℕ) (marks before work : Lis
   pub same : SameFrom (nodes b) before work
 
 -- the source alone
-source-alone : {b : Block} {source : ℕ} {marks work : List ℕ} → FloodReady b source marks work → Flooding b source 0 1 (set (replicate (length marks) 0) source 1) (set work 0 source) (set work 0 source)
-source-alone {b} {source} {marks} {work} r =
+source-alone : {b : Block} {source : ℕ} {sinks marks work : List ℕ} → FloodReady b source sinks marks work → Flooding b source 0 1 (set (replicate (length marks) 0) source 1) (set work 0 source) (set work 0 source)
+source-alone {b} {source} {sinks} {marks} {work} r =
     let q : Queue b 0 (replicate (length marks) 0) work = queue-none b (length marks) work (r .marks-long) (r .work-long) in
     let l : source < length marks = let long = r .marks-long in let node = r .source-node in omega arith in
     let free = unmarked (length marks) source l in
@@ -209,7 +209,7 @@ source-alone {b} {source} {marks} {work} r =
       same = same-from-refl _ _;
     }
 
-pub flood-start : {b : Block} {source : ℕ} {marks cleared work : List ℕ} → FloodReady b source marks work → cleared ≡ replicate (length marks) 0 → Flooding b source 0 1 (set cleared source 1) (set work 0 source) (set work 0 source)
+pub flood-start : {b : Block} {source : ℕ} {sinks marks cleared work : List ℕ} → FloodReady b source sinks marks work → cleared ≡ replicate (length marks) 0 → Flooding b source 0 1 (set cleared source 1) (set work 0 source) (set work 0 source)
 flood-start r e = rw e (source-alone r)
 
 module _ {b : Block} (g : Graph b) {source next end : ℕ} {marks before work : List ℕ} (f : Flooding b source next end marks before work) where
@@ -244,6 +244,50 @@ module _ {b : Block} (g : Graph b) {source next end : ℕ} {marks before work : 
           same = same-from-trans (f .same) (r .same);
         }
 
+  -- what is flooded so far, where that is enough
+  flood-so-far : {sinks first : List ℕ} → SameFrom (nodes b) first before
+      → ((p : ℕ) → p < length sinks → getD marks (getD sinks p 0) 0 ≡ 1) ⊎ ((v : ℕ) (path : List ℕ) → Walk b source path v → getD marks v 0 ≡ 1)
+      → Flooded b source sinks marks first work
+  flood-so-far s enough =
+      record {
+        long = f .queue .marks-long;
+        bits = f .queue .bits;
+        sound = λ v h m.
+            let p = f .queue .stands v h m in
+            rw (p .2) at (f .walked (p .0) (p .1));
+        complete = enough;
+        same = same-from-trans s (f .same);
+      }
+
+  -- every sink is marked
+  pub flood-enough : {sinks first : List ℕ} → SameFrom (nodes b) first before → ((p : ℕ) → p < length sinks → getD marks (getD sinks p 0) 0 ≡ 1) → Flooded b source sinks marks first work
+  flood-enough s all = flood-so-far s (inl all)
+
+  -- the sinks passed so far are marked, and so are those passed now
+  pub sinks-more :
+      {sinks : List ℕ} → AllBelow (nodes b) sinks → {missing place : ℕ} → ((p : ℕ) → p < missing → getD marks (getD sinks p 0) 0 ≡ 1)
+      → FirstUnmarked marks sinks missing place → (p : ℕ) → p < place → getD marks (getD sinks p 0) 0 ≡ 1
+  sinks-more {sinks} nodes-below {missing} {place} passed r p l =
+      ⊎-elim
+      (λ (h : missing ≤ p).
+      let within = r .within in
+      let bit = f .queue .bits (getD sinks p 0) (nodes-below p (omega arith)) in
+      let some = r .before p l h in
+      omega arith)
+      (λ (h : p < missing). passed p h)
+      (le-or-lt missing p)
+
+  -- so nothing is missing where they are all the sinks
+  pub flood-stop :
+      {sinks first : List ℕ} → SameFrom (nodes b) first before → AllBelow (nodes b) sinks → {missing place : ℕ}
+      → ((p : ℕ) → p < missing → getD marks (getD sinks p 0) 0 ≡ 1) → FirstUnmarked marks sinks missing place → place ≡ length sinks
+      → Flooded b source sinks marks first work
+  flood-stop s nodes-below passed r e = flood-enough s (λ p l. sinks-more nodes-below passed r p (rw e l))
+
+  -- each sink has a mark
+  pub sinks-marked : (sinks : List ℕ) → AllBelow (nodes b) sinks → AllBelow (length marks) sinks
+  sinks-marked sinks nodes-below = rw (f .queue .marks-long) nodes-below
+
   -- the last row is flooded
   module _ (l : end ≤ next) where
     walk-marked : {u v : ℕ} {path : List ℕ} → getD marks u 0 ≡ 1 → Walk b u path v → getD marks v 0 ≡ 1
@@ -253,14 +297,5 @@ module _ {b : Block} (g : Graph b) {source next end : ℕ} {marks before work : 
         let h : p .0 < end = p .1 in
         walk-marked (f .done (p .0) (omega arith) w (rw (p .2) e)) r
 
-    pub flood-whole : {first : List ℕ} → SameFrom (nodes b) first before → Flooded b source marks first work
-    flood-whole s =
-        record {
-          long = f .queue .marks-long;
-          bits = f .queue .bits;
-          sound = λ v h m.
-              let p = f .queue .stands v h m in
-              rw (p .2) at (f .walked (p .0) (p .1));
-          complete = λ v path w. walk-marked (f .start) w;
-          same = same-from-trans s (f .same);
-        }
+    pub flood-whole : {sinks first : List ℕ} → SameFrom (nodes b) first before → Flooded b source sinks marks first work
+    flood-whole s = flood-so-far s (inr (λ v path w. walk-marked (f .start) w))

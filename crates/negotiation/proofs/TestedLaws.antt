@@ -114,32 +114,39 @@ module _ (j : Job) (sound : Routable j) (i : ℕ) (h : i < nets j) where
     marks-wide = length-take-le (nodes j) marks (let l = t .marks-long in omega arith)
 
     -- what the flood asks
-    pub flood-asked : FloodReady (graph j) (source j i) (take (nodes j) marks) work
+    pub flood-asked : FloodReady (graph j) (source j i) part (take (nodes j) marks) work
     flood-asked =
         record {
           graph = sound-graph (j .block .kinds) (j .block .capacities) (j .block .firstEdges) (j .block .edgeTargets) (congestionFor j (firstState j) i) [] (sound .block-sound);
           source-node = sound .source-node i h;
+          sinks-nodes = rw net-part (λ k l. sound .sink-node i h k l);
           marks-long = marks-wide;
           work-long = let l = t .same .long in omega arith;
         }
 
     -- what it leaves
-    module _ {flooded w : List ℕ} (f : Flooded (graph j) (source j i) flooded work w) where
+    module _ {flooded w : List ℕ} (f : Flooded (graph j) (source j i) part flooded work w) where
       mark-path : (s : ℕ) → s < nodes j → 0 < getD flooded s 0 → hasPath j i s ≡ true
       mark-path s node l =
           let bit = f .bits s node in
           let p = f .sound s node (omega arith) in
           walk-path j sound i s (p .0) h (block-walk j (p .1))
 
-      mark-none : (s : ℕ) → s < nodes j → getD flooded s 0 ≡ 0 → hasPath j i s ≡ false
-      mark-none s node e =
+      mark-none : (k : ℕ) → k < length (netSinks j i) → getD flooded (getD (netSinks j i) k 0) 0 ≡ 0 → hasPath j i (getD (netSinks j i) k 0) ≡ false
+      mark-none k l e =
+          let s : ℕ = getD (netSinks j i) k 0 in
           ⊎-elim
-          (λ (q : hasPath j i s ≡ true).
-          let p = path-from j sound i h s node q in
-          let one = f .complete s (p .0) (graph-walk j (p .1)) in
-          absurd (omega arith))
+          (λ (q : hasPath j i (getD (netSinks j i) k 0) ≡ true).
+          let p = path-from j sound i h s (sound .sink-node i h k l) q in
+          ⊎-elim
+          (λ (all : (n : ℕ) → n < length part → getD flooded (getD part n 0) 0 ≡ 1).
+          let marked : (n : ℕ) → n < length (netSinks j i) → getD flooded (getD (netSinks j i) n 0) 0 ≡ 1 = rw net-part at all in
+          absurd (let one = marked k l in omega arith))
+          (λ (whole : (v : ℕ) (path : List ℕ) → Walk (graph j) (source j i) path v → getD flooded v 0 ≡ 1).
+          absurd (let one = whole (getD (netSinks j i) k 0) (p .0) (graph-walk j (p .1)) in omega arith))
+          (f .complete))
           (λ q. q)
-          (either-way (hasPath j i s))
+          (either-way (hasPath j i (getD (netSinks j i) k 0)))
 
       marks-are : take (nodes j) (flooded ++ drop (nodes j) marks) ≡ flooded
       marks-are = take-at flooded (drop (nodes j) marks) (nodes j) (f .long)
@@ -157,14 +164,14 @@ module _ (j : Job) (sound : Routable j) (i : ℕ) (h : i < nets j) where
       pub sinks-asked : AllBelow (length (take (nodes j) (flooded ++ drop (nodes j) marks))) part
       sinks-asked = rw (marks-are, f .long, net-part) (λ k l. sound .sink-node i h k l)
 
-      module _ (place : ℕ) (is : FirstUnmarked (take (nodes j) (flooded ++ drop (nodes j) marks)) part place) where
-        first-is : FirstUnmarked flooded (netSinks j i) place
+      module _ (place : ℕ) (is : FirstUnmarked (take (nodes j) (flooded ++ drop (nodes j) marks)) part 0 place) where
+        first-is : FirstUnmarked flooded (netSinks j i) 0 place
         first-is = rw (marks-are, net-part) at is
 
         before-path : (p : ℕ) → p < place → not (hasPath j i (getD (netSinks j i) p 0)) ≡ false
         before-path p l =
             let within = first-is .within in
-            rw (mark-path (getD (netSinks j i) p 0) (sound .sink-node i h p (omega arith)) (first-is .before p l))
+            rw (mark-path (getD (netSinks j i) p 0) (sound .sink-node i h p (omega arith)) (first-is .before p l (omega arith)))
 
         net-answer : place ≡ firstBelow (λ (p : ℕ). not (hasPath j i (getD (netSinks j i) p 0))) (length (netSinks j i))
         net-answer =
@@ -176,7 +183,7 @@ module _ (j : Job) (sound : Routable j) (i : ℕ) (h : i < nets j) where
             (λ (l : place < length (netSinks j i)).
             sym
             (firstBelow-is _ (length (netSinks j i)) place l
-            (rw (mark-none (getD (netSinks j i) place 0) (sound .sink-node i h place l) (first-is .here l)))
+            (rw (mark-none place l (first-is .here l)))
             before-path))
             (le-or-lt (length (netSinks j i)) place)
 

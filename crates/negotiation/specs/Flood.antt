@@ -3,6 +3,7 @@
 -- Assumes nothing.
 use mathlib.Core.Bool.{true}
 use mathlib.Core.List.{List}
+use mathlib.Core.Logic.{_⊎_}
 use mathlib.Core.Path.{_≡_}
 use Prim.Native.Nat.{ℕ, _≤_, _<_}
 use lib.Dec.{eqb}
@@ -11,12 +12,13 @@ use Rattle.price.specs.Lists.{countBelow}
 use Rattle.search.specs.Block.{Block, nodes, rowStart, hasEdge}
 use Rattle.search.specs.Tables.{Graph}
 use Rattle.search.specs.Paths.{Walk}
-use Rattle.negotiation.specs.Steps.{SameFrom}
+use Rattle.negotiation.specs.Steps.{AllBelow, SameFrom}
 
--- the graph keeps its rules, and each node has a mark and room in the queue
-pub record FloodReady (b : Block) (source : ℕ) (marks work : List ℕ) : Type 0 where
+-- the graph keeps its rules, source and sinks are nodes, and each node has a mark and room in the queue
+pub record FloodReady (b : Block) (source : ℕ) (sinks marks work : List ℕ) : Type 0 where
   pub graph : Graph b
   pub source-node : source < nodes b
+  pub sinks-nodes : AllBelow (nodes b) sinks
   pub marks-long : length marks ≡ nodes b
   pub work-long : nodes b ≤ length work
 
@@ -49,16 +51,18 @@ pub record RowFlooded (b : Block) (u e end last : ℕ) (marks marks′ work work
   pub targets : (k : ℕ) → k < e → rowStart b u ≤ k → getD marks′ (getD (b .edgeTargets) k 0) 0 ≡ 1
   pub same : SameFrom (nodes b) work work′
 
--- the marked nodes are those to which a path leads from the source
-pub record Flooded (b : Block) (source : ℕ) (marks work work′ : List ℕ) : Type 0 where
+-- a path leads from the source to each marked node; every sink is marked, or every node to which a path leads is
+pub record Flooded (b : Block) (source : ℕ) (sinks marks work work′ : List ℕ) : Type 0 where
   pub long : length marks ≡ nodes b
   pub bits : (v : ℕ) → v < nodes b → getD marks v 0 ≤ 1
   pub sound : (v : ℕ) → v < nodes b → getD marks v 0 ≡ 1 → (path : List ℕ) × Walk b source path v
-  pub complete : (v : ℕ) (path : List ℕ) → Walk b source path v → getD marks v 0 ≡ 1
+  pub complete :
+      ((p : ℕ) → p < length sinks → getD marks (getD sinks p 0) 0 ≡ 1)
+      ⊎ ((v : ℕ) (path : List ℕ) → Walk b source path v → getD marks v 0 ≡ 1)
   pub same : SameFrom (nodes b) work work′
 
--- the first place whose sink is not marked, or how many sinks there are
-pub record FirstUnmarked (marks sinks : List ℕ) (place : ℕ) : Type 0 where
+-- the first place from `from` on whose sink is not marked, or how many sinks there are
+pub record FirstUnmarked (marks sinks : List ℕ) (from place : ℕ) : Type 0 where
   pub within : place ≤ length sinks
-  pub before : (p : ℕ) → p < place → 0 < getD marks (getD sinks p 0) 0
+  pub before : (p : ℕ) → p < place → from ≤ p → 0 < getD marks (getD sinks p 0) 0
   pub here : place < length sinks → getD marks (getD sinks place 0) 0 ≡ 0

@@ -1,9 +1,10 @@
-// Which nodes have a path from a source: a flood over the edges, each node once.
+// Which sinks have a path from a source: a flood over the edges, each node once, until every sink is reached.
 ghost use mathlib.Core.Path.{_≡_};
-ghost use Prim.Native.Nat.{_+_};
+ghost use Prim.Native.Nat.{_+_, _≤_};
 ghost use lib.ListN.{length, replicate};
 ghost use Rattle.search.specs.Block.{graphOf, rowStart};
-ghost use Rattle.negotiation.specs.Flood.{FloodReady, FloodRoom, RowFlooded, Flooded};
+ghost use Rattle.negotiation.specs.Steps.{AllBelow};
+ghost use Rattle.negotiation.specs.Flood.{FloodReady, FloodRoom, RowFlooded, Flooded, FirstUnmarked};
 
 // Takes every mark away.
 fn clear_marks(reached: &mut [u8])
@@ -48,26 +49,52 @@ fn flood_row(
     last
 }
 
-// Marks the nodes that have a path from the source, and no other. The work slice holds the queue.
+// The first place from `from` on whose sink is not marked, or how many sinks there are.
+pub fn missing_sink(reached: &[u8], sinks: &[u16], from: usize) -> usize
+    requires { ⌜ AllBelow (length (now reached)) (now sinks) ⌝ }
+    requires { ⌜ from ≤ length (now sinks) ⌝ }
+    ensures { λ r. ⌜ FirstUnmarked (now (reached .entry)) (now (sinks .entry)) from r ⌝ }
+{
+    let mut place = from;
+    while place < sinks.len() {
+        let s = sinks[place] as usize;
+        if reached[s] == 0 {
+            return place;
+        }
+        place += 1;
+    }
+    place
+}
+
+// Marks nodes that have a path from the source, and no other, until every sink is marked or there is no other such node. The work slice
+// holds the queue.
 pub fn flood(
     kind: &[u8],
     first_edge: &[u32],
     edge_target: &[u16],
     source: usize,
+    sinks: &[u16],
     reached: &mut [u8],
     work: &mut [u64],
 )
-    requires { ⌜ FloodReady (graphOf (now kind) (now «first_edge») (now «edge_target»)) source (now reached) (now work) ⌝ }
+    requires { do
+      let graph = graphOf (now kind) (now «first_edge») (now «edge_target»)
+      ⌜ FloodReady graph source (now sinks) (now reached) (now work) ⌝ }
     ensures { λ _. do
       let graph = graphOf (now (kind .entry)) (now («first_edge» .entry)) (now («edge_target» .entry))
-      ⌜ Flooded graph source (now (reached .exit)) (now (work .entry)) (now (work .exit)) ⌝ }
+      ⌜ Flooded graph source (now (sinks .entry)) (now (reached .exit)) (now (work .entry)) (now (work .exit)) ⌝ }
 {
     clear_marks(reached);
     reached[source] = 1;
     work[0] = source as u64;
+    let mut missing = 0;
     let mut next = 0;
     let mut end = 1;
     while next < end {
+        missing = missing_sink(reached, sinks, missing);
+        if missing == sinks.len() {
+            return;
+        }
         let u = work[next] as usize;
         end = flood_row(kind, first_edge, edge_target, u, end, reached, work);
         next += 1;

@@ -1,8 +1,7 @@
 // Whether every sink has a path from its source, before iteration 1.
 ghost use Prim.Native.Nat.{_*_, _≤_};
 ghost use lib.ListN.{length};
-ghost use Rattle.negotiation.specs.Steps.{AllBelow, SameFrom, SoundWith, FirstMissing};
-ghost use Rattle.negotiation.specs.Flood.{FirstUnmarked};
+ghost use Rattle.negotiation.specs.Steps.{SameFrom, SoundWith, FirstMissing};
 use crate::NODES_MOST;
 use crate::flood;
 
@@ -10,22 +9,6 @@ use crate::flood;
 pub enum Reach {
     All,
     Missing { net: u32, place: u32 },
-}
-
-// The place of the first sink that is not marked, or how many sinks there are.
-fn missing_sink(reached: &[u8], sinks: &[u16]) -> usize
-    requires { ⌜ AllBelow (length (now reached)) (now sinks) ⌝ }
-    ensures { λ r. ⌜ FirstUnmarked (now (reached .entry)) (now (sinks .entry)) r ⌝ }
-{
-    let mut place = 0;
-    while place < sinks.len() {
-        let s = sinks[place] as usize;
-        if reached[s] == 0 {
-            return place;
-        }
-        place += 1;
-    }
-    place
 }
 
 // The first net, and the place of its first sink, without a path.
@@ -51,8 +34,16 @@ pub fn unreachable(
         let from = first_sink[net] as usize;
         let to = first_sink[net + 1] as usize;
         let s = source[net] as usize;
-        flood::flood(kind, first_edge, edge_target, s, &mut reached[..n], work);
-        let place = missing_sink(&reached[..n], &sink[from..to]);
+        flood::flood(
+            kind,
+            first_edge,
+            edge_target,
+            s,
+            &sink[from..to],
+            &mut reached[..n],
+            work,
+        );
+        let place = flood::missing_sink(&reached[..n], &sink[from..to], 0);
         if place < to - from {
             return Reach::Missing {
                 net: net as u32,

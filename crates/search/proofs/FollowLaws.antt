@@ -19,7 +19,7 @@ use Rattle.price.proofs.TestLaws.{either-way}
 use Rattle.search.specs.Distance.{inTree}
 use Rattle.search.specs.Layout.{SameBut}
 use Rattle.search.specs.Labels.{labelAt, fromAt}
-use Rattle.search.specs.Follow.{trail, Leads, pathIn}
+use Rattle.search.specs.TurnWork.{trail, Leads, pathIn}
 use Rattle.search.proofs.StoreLaws.{same-none, same-store}
 
 -- ---- the path that predecessors have

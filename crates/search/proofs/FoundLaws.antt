@@ -11,7 +11,7 @@ use Rattle.price.proofs.ListLaws.{drop-same}
 use Rattle.search.specs.Layout.{SameBut}
 use Rattle.search.specs.Labels.{labelAt}
 use Rattle.search.specs.Replies.{readOff}
-use Rattle.search.specs.Follow.{FirstAt, Leads, pathIn, Found, Read}
+use Rattle.search.specs.TurnWork.{FirstAt, Leads, pathIn, Found, Read}
 use Rattle.search.specs.declared.PathAnswer.{PathAnswer}
 use Rattle.search.specs.declared.PathAnswer.the-variants.{Joins}
 

@@ -16,7 +16,7 @@ use Rattle.search.specs.Paths.{Fair}
 use Rattle.search.specs.Replies.{sinksMost, readOff, turnReply, pathReplyOf}
 use Rattle.search.specs.Labels.{goal, labelAt}
 use Rattle.search.specs.Spread.{Came, Spread}
-use Rattle.search.specs.Follow.{Leads, pathIn, Found, Read}
+use Rattle.search.specs.TurnWork.{Leads, pathIn, Found, Read}
 use Rattle.search.specs.declared.PathAnswer.{PathAnswer}
 use Rattle.search.specs.declared.PathAnswer.the-variants.{Stuck}
 use Rattle.search.proofs.EdgeLaws.{Shaped}

@@ -21,7 +21,7 @@ use Rattle.search.specs.Held.{heldPrice, Lent}
 use Rattle.search.specs.Replies.{workNeeded, fittingLengths, fitting, turnReply, pathReplyOf}
 use Rattle.search.specs.Labels.{goal, labelAt, waitAt, keyAt}
 use Rattle.search.specs.Spread.{bare, bareCount, Spread, RunReady, Ran}
-use Rattle.search.specs.Follow.{Fitted, TreeMarked, GoalsMarked, LeastGoal, Read}
+use Rattle.search.specs.TurnWork.{Fitted, TreeMarked, GoalsMarked, LeastGoal, Read}
 use Rattle.search.specs.declared.PathAnswer.{PathAnswer}
 use Rattle.search.specs.declared.PathAnswer.the-variants.{Stuck}
 use Rattle.search.proofs.GraphLaws.{turn-same}

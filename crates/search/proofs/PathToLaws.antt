@@ -16,7 +16,7 @@ use Rattle.search.specs.Paths.{Walk, pathCost, Fair}
 use Rattle.search.specs.Distance.{far, inTree, distances, distance}
 use Rattle.search.specs.Turn.{before, back, pathTo}
 use Rattle.search.specs.Labels.{fromAt}
-use Rattle.search.specs.Follow.{trail}
+use Rattle.search.specs.TurnWork.{trail}
 use Rattle.search.proofs.EdgeLaws.{Shaped}
 use Rattle.search.proofs.DistanceLaws.{distance-tree}
 use Rattle.search.proofs.PathLaws.{Onward, done, on, onward-walk, onward-cost, onward-out, onward-all, onward-distinct, onward-short}

@@ -16,7 +16,7 @@ use Rattle.search.specs.Distance.{far, inTree}
 use Rattle.search.specs.Paths.{anyPriceMost}
 use Rattle.search.specs.Labels.{goal, labelAt, waitAt, Waits}
 use Rattle.search.specs.Spread.{bare, bareCount}
-use Rattle.search.specs.Follow.{TreeMarked, GoalsMarked, LeastGoal}
+use Rattle.search.specs.TurnWork.{TreeMarked, GoalsMarked, LeastGoal}
 use Rattle.search.proofs.StoreLaws.{store-here, store-other, same-none, same-store}
 use Rattle.search.proofs.QueueLaws.{same-or-not}
 use Rattle.search.proofs.FillLaws.{first-tree, first-other}

@@ -10,4 +10,4 @@ pub mod Frontier
 pub mod Ready
 pub mod Labels
 pub mod Spread
-pub mod Follow
+pub mod TurnWork

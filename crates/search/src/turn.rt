@@ -8,7 +8,7 @@ ghost use Rattle.search.specs.Held.{heldPrice, Lent};
 ghost use Rattle.search.specs.Replies.{turnReply, pathReplyOf};
 ghost use Rattle.search.specs.Layout.{SameBut};
 ghost use Rattle.search.specs.Labels.{labelAt};
-ghost use Rattle.search.specs.Follow.{Fitted, TreeMarked, GoalsMarked, LeastGoal, FirstAt, Leads, pathIn, Found, Read};
+ghost use Rattle.search.specs.TurnWork.{Fitted, TreeMarked, GoalsMarked, LeastGoal, FirstAt, Leads, pathIn, Found, Read};
 use crate::PathAnswer;
 use crate::distances;
 use crate::labels;

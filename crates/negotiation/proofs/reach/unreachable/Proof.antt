@@ -59,7 +59,7 @@ entry t = start (t .before)
 
 -- the turn, from where its net's graph is flooded, and from where its sinks are looked at
 abbrev turn : tie.After-flood Inv-loop μ-loop → tie.In-loop Inv-loop μ-loop
-turn f = f .before .before .before .before .before .before
+turn f = f .before .before .before .before .before .before .before
 
 abbrev flooded : tie.After-missing-sink Inv-loop μ-loop → tie.After-flood Inv-loop μ-loop
 flooded m = m .before .before .before .before .before .before
@@ -120,15 +120,27 @@ shared-slice-read-s c = omega arith
 cast-s : tie.Need-cast-s Inv-loop μ-loop
 cast-s c = omega (arith, c .shared-slice-known9 .given (c .before .before .before .before .loop .net))
 
+mul-flood : tie.Need-mul-flood Inv-loop μ-loop
+mul-flood c = let t = c .before .before .before in omega (arith, sinks-rise t, sinks-small t)
+
+sub-flood : tie.Need-sub-flood Inv-loop μ-loop
+sub-flood c = sinks-rise (c .before .before .before)
+
+part-flood-start : tie.Need-part-flood-start Inv-loop μ-loop
+part-flood-start c = sinks-rise (c .before .before .before)
+
+part-flood-end : tie.Need-part-flood-end Inv-loop μ-loop
+part-flood-end c = sinks-within (c .before .before .before)
+
 array-borrow-prefix-reached : tie.Need-array-borrow-prefix-reached Inv-loop μ-loop
-array-borrow-prefix-reached c = marks-enough (c .before .before .before)
+array-borrow-prefix-reached c = marks-enough (c .before .before .before .before)
 
 slice-aggregate-flood : tie.Need-slice-aggregate-flood Inv-loop μ-loop
-slice-aggregate-flood c = sym (length-take-le _ _ (marks-enough (c .before .before .before .before)))
+slice-aggregate-flood c = sym (length-take-le _ _ (marks-enough (c .before .before .before .before .before)))
 
 flood-requires : tie.Need-flood-requires Inv-loop μ-loop
 flood-requires c κs =
-    let t = c .before .before .before .before .before in
+    let t = c .before .before .before .before .before .before in
     flood-asked (job (entry t)) (sound (entry t)) (net t) (t .loop-test .taken) (few (entry t)) (entry t .pre .1) (tested (t .before))
 
 array-share-prefix-reached : tie.Need-array-share-prefix-reached Inv-loop μ-loop
@@ -161,18 +173,18 @@ missing-sink-requires : tie.Need-missing-sink-requires Inv-loop μ-loop
 missing-sink-requires c κs =
     let f = c .before .before .before .before .before in
     let t = turn f in
-    sinks-asked (job (entry t)) (sound (entry t)) (net t) (t .loop-test .taken) (few (entry t)) (entry t .pre .1) (tested (t .before)) (f .flood .ensures)
+    (sinks-asked (job (entry t)) (sound (entry t)) (net t) (t .loop-test .taken) (few (entry t)) (entry t .pre .1) (tested (t .before)) (f .flood .ensures), omega arith)
 
 sub-if1 : tie.Need-sub-if1 Inv-loop μ-loop
 sub-if1 c = sinks-rise (turn (flooded c))
 
-cast-t33 : tie.Need-cast-t33 Inv-loop μ-loop
-cast-t33 c =
+cast-t36 : tie.Need-cast-t36 Inv-loop μ-loop
+cast-t36 c =
     let t = turn (flooded (c .before)) in
     omega (arith, sound (entry t) .nets-few, t .loop-test .taken)
 
-cast-t34 : tie.Need-cast-t34 Inv-loop μ-loop
-cast-t34 c = omega (arith, sinks-small (turn (flooded (c .before))), c .if1 .taken)
+cast-t37 : tie.Need-cast-t37 Inv-loop μ-loop
+cast-t37 c = omega (arith, sinks-small (turn (flooded (c .before))), c .if1 .taken)
 
 same-length : tie.Need-same-length Inv-loop μ-loop
 same-length c =
@@ -227,6 +239,10 @@ unreachable-spec =
     mul-s
     shared-slice-read-s
     cast-s
+    mul-flood
+    sub-flood
+    part-flood-start
+    part-flood-end
     array-borrow-prefix-reached
     slice-aggregate-flood
     flood-requires
@@ -238,8 +254,8 @@ unreachable-spec =
     part-missing-sink-end
     missing-sink-requires
     sub-if1
-    cast-t33
-    cast-t34
+    cast-t36
+    cast-t37
     same-length
     returns
     add-net

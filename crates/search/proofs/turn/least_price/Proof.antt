@@ -6,7 +6,7 @@ use native.Mathlib.Omega.{arith}
 use lib.ListN.{length}
 use Rattle.search.specs.Turn.{congestionOf}
 use Rattle.search.specs.Held.{heldPrice}
-use Rattle.search.specs.Follow.{LeastGoal}
+use Rattle.search.specs.TurnWork.{LeastGoal}
 use Rattle.search.proofs.TurnMarkLaws.{least-none, least-more, least-all}
 use borrow.Author.Needs.{needs}
 use Rattle.search.proofs.turn.least_price.Statement.{statement}

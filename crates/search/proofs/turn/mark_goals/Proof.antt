@@ -4,7 +4,7 @@ use mathlib.Core.Logic.{⊎-elim}
 use Prim.Native.Nat.{_-_, _≤_}
 use native.Mathlib.Omega.{arith}
 use lib.ListN.{length}
-use Rattle.search.specs.Follow.{GoalsMarked}
+use Rattle.search.specs.TurnWork.{GoalsMarked}
 use Rattle.search.proofs.TurnMarkLaws.{goals-none, goals-store, goals-other, goals-beyond, goals-all}
 use borrow.Author.Needs.{needs}
 use Rattle.search.proofs.turn.mark_goals.Statement.{statement}

@@ -1,20 +1,20 @@
--- `negotiation::reach::missing_sink` meets its contract: every sink that the loop has passed is marked.
+-- `negotiation::flood::missing_sink` meets its contract: every sink that the loop has passed is marked.
 -- Assumes nothing.
 use Prim.Native.Nat.{ℕ, _-_, _≤_, _<_}
 use native.Mathlib.Omega.{arith}
 use lib.ListN.{length, getD}
-use borrow.Author.Count.{below-none, below-more}
-use Rattle.negotiation.proofs.reach.missing_sink.Statement.{statement}
-use Rattle.negotiation.proofs.reach.missing_sink.Tie as tie
+use borrow.Author.Count.{below-more}
+use Rattle.negotiation.proofs.flood.missing_sink.Statement.{statement}
+use Rattle.negotiation.proofs.flood.missing_sink.Tie as tie
 
 abbrev Inv-loop : tie.InvT-loop
-Inv-loop reached sinks place₀ place = (place ≤ length sinks) × ((p : ℕ) → p < place → 0 < getD reached (getD sinks p 0) 0)
+Inv-loop reached sinks from place₀ place = (place ≤ length sinks) × ((p : ℕ) → p < place → from ≤ p → 0 < getD reached (getD sinks p 0) 0)
 
 abbrev μ-loop : tie.MeasureT-loop
-μ-loop reached sinks place₀ place = length sinks - place
+μ-loop reached sinks from place₀ place = length sinks - place
 
 loop-holds : tie.Need-loop-holds Inv-loop μ-loop
-loop-holds c = (omega arith, below-none _)
+loop-holds c = (c .pre .1, λ p l h. absurd (omega arith))
 
 mul-s : tie.Need-mul-s Inv-loop μ-loop
 mul-s c = omega arith
@@ -26,12 +26,10 @@ cast-s : tie.Need-cast-s Inv-loop μ-loop
 cast-s c = omega (arith, c .shared-slice-known .given (c .before .before .loop .place))
 
 shared-slice-read-if1 : tie.Need-shared-slice-read-if1 Inv-loop μ-loop
-shared-slice-read-if1 c = c .before .before .before .before .pre (c .before .before .before .loop .place) (c .before .before .loop-test .taken)
+shared-slice-read-if1 c = c .before .before .before .before .pre .0 (c .before .before .before .loop .place) (c .before .before .loop-test .taken)
 
 returns : tie.Need-returns Inv-loop μ-loop
-returns c =
-    let inv = c .before .before .before .before .loop .inv in
-    record { within = inv .0; before = inv .1; here = λ h. c .if1 .taken }
+returns c = let inv = c .before .before .before .before .loop .inv in record { within = inv .0; before = inv .1; here = λ h. c .if1 .taken }
 
 add-place : tie.Need-add-place Inv-loop μ-loop
 add-place c = omega arith
@@ -40,7 +38,7 @@ loop-less : tie.Need-loop-less Inv-loop μ-loop
 loop-less c = omega arith
 
 loop-again : tie.Need-loop-again Inv-loop μ-loop
-loop-again c = (omega arith, below-more _ _ (c .before .before .before .before .loop .inv .1) (omega (arith, c .if1 .left)))
+loop-again c = (omega arith, below-more _ _ (c .before .before .before .before .loop .inv .1) (λ h. omega (arith, c .if1 .left)))
 
 returns-2 : tie.Need-returns-2 Inv-loop μ-loop
 returns-2 c = record { within = c .before .loop .inv .0; before = c .before .loop .inv .1; here = λ h. absurd (omega arith) }
