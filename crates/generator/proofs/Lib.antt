@@ -5,6 +5,7 @@ pub mod TargetLaws
 pub mod RowLaws
 pub mod LoadLaws
 pub mod AskLaws
+pub mod InputLaws
 pub mod LoadTextLaws
 pub mod LoadHolds
 pub mod AnswerLaws
