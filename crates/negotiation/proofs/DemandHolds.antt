@@ -22,7 +22,8 @@ use Rattle.negotiation.specs.Machine.{State, firstState, settlesAt}
 use Rattle.negotiation.specs.Outcome.{RouteReply, turnsLogged, refusedReply, unreachableNet, iterationsMade, iterationsRun, allRecords, loggedRecords, endNumbers, negotiated, routeReply}
 use Rattle.negotiation.specs.Unreachable.{AllReachable}
 use Rattle.negotiation.specs.Demand.{TurnHolds, FinalTrees, Demand3, CostsFit}
-use Rattle.negotiation.proofs.JobLaws.{sound-job, Routable, routable-of}
+use Rattle.negotiation.specs.Routable.{Routable}
+use Rattle.negotiation.proofs.JobLaws.{sound-job, routable-of}
 use Rattle.negotiation.proofs.RecordLaws.{fitting-begins}
 use Rattle.negotiation.proofs.NetLaws.{no-split}
 use Rattle.negotiation.proofs.RanLaws.{start}

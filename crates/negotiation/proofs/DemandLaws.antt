@@ -35,7 +35,7 @@ use Rattle.negotiation.specs.Outcome.{hasPath, unreachableNet}
 use Rattle.negotiation.specs.Demand.{ownTree, othersRead, historyRead, priceRead, TurnHolds, FinalTrees}
 use Rattle.negotiation.specs.Unreachable.{AllReachable}
 use Rattle.negotiation.proofs.StateLaws.{route-if}
-use Rattle.negotiation.proofs.JobLaws.{Routable}
+use Rattle.negotiation.specs.Routable.{Routable}
 use Rattle.negotiation.proofs.NetLaws.{first-ready, turn-fair, NetTurn, turn-cost, net-turn}
 use Rattle.negotiation.proofs.FilterLaws.{All, all-left, all-splits, Of}
 use Rattle.negotiation.proofs.RanLaws.{NetsRan, Ran, nets-iteration, nets-factor, ran-iteration, ran-factor, ran-users, ran-done, others-read, own-read, history-read}

@@ -13,7 +13,6 @@ use lib.ListN.{length, getD}
 use lib.Seq.{length-slice}
 use borrow.Author.Tests.{le-leb, leb-true, leb-false, ltb-true, eqb-true, not-true}
 use Rattle.price.specs.Test.{choose, both}
-use Rattle.price.specs.Bounds.{limitMost}
 use Rattle.price.specs.Lists.{every, neighbours, has, distinct, upTo}
 use Rattle.price.proofs.TestLaws.{either-way, both-left, both-right}
 use Rattle.price.proofs.ListLaws.{every-at, neighbours-at, length-upTo, getD-upTo}
@@ -25,6 +24,7 @@ use Rattle.search.proofs.BlockLaws.{sound-of, faulty-of}
 use Rattle.search.proofs.TableLaws.{sinks-all}
 use Rattle.negotiation.specs.Job.{Job, nodes, nets, source, sinksBetween, netSinks}
 use Rattle.negotiation.specs.Tables.{sourcesSound, firstSinksSound, netSound, sinksSound, limitSound, termsSound, sourcePins, sinkPins, faultyNets, faultyJob, SoundJob, netsMost}
+use Rattle.negotiation.specs.Routable.{Routable}
 use Rattle.negotiation.specs.Machine.{State, hasSinks, due}
 
 -- ---- the lowest faulty table
@@ -127,21 +127,6 @@ limit-least limit s = leb-true 1 limit (both-left _ _ s)
 
 -- ---- what routing rests on
 
--- A sound job has it. So has a job of which some nets have no sinks: its table 6 never falls, where that of a sound job strictly rises.
-pub record Routable (j : Job) : Type 0 where
-  pub block-sound : Sound (j .block)
-  pub nets-few : nets j ≤ netsMost
-  pub source-node : (i : ℕ) → i < nets j → source j i < nodes j
-  pub firstSinks-long : length (j .firstSinks) ≡ nets j + 1
-  pub sinks-order : (i : ℕ) → i < nets j → getD (j .firstSinks) i 0 ≤ getD (j .firstSinks) (i + 1) 0
-  pub sinks-end : (i : ℕ) → i ≤ nets j → getD (j .firstSinks) i 0 ≤ length (j .sinks)
-  pub sinks-few : length (j .sinks) ≤ sinksMost
-  pub sink-node : (i : ℕ) → i < nets j → (k : ℕ) → k < length (netSinks j i) → getD (netSinks j i) k 0 < nodes j
-  pub source-no-sink : (i : ℕ) → i < nets j → has (source j i) (netSinks j i) ≡ false
-  pub limit-some : 1 ≤ j .terms .limit
-  pub limit-few : j .terms .limit ≤ limitMost
-  pub tuning-fits : TuningWithin (j .terms .tuning)
-
 module _ (j : Job) (s : SoundJob j) where
   pub nets-some : 1 ≤ nets j
   nets-some = sources-some _ _ (s .sources-sound)
@@ -179,7 +164,7 @@ module _ (j : Job) (s : SoundJob j) where
         source-no-sink = no-source;
         limit-some = limit-least (j .terms .limit) (both-left _ _ (s .terms-sound));
         limit-few = leb-true _ _ (both-right (leb 1 (j .terms .limit)) _ (both-left _ _ (s .terms-sound)));
-        tuning-fits = tuning-within _ (both-right (limitSound (j .terms .limit)) _ (s .terms-sound));
+        tuning-sound = both-right (limitSound (j .terms .limit)) _ (s .terms-sound);
       }
 
   -- every net of a sound job has sinks
@@ -189,6 +174,10 @@ module _ (j : Job) (s : SoundJob j) where
       let rises = order i h in
       let within : getD (j .firstSinks) (i + 1) 0 ≤ length (j .sinks) = routable-of .sinks-end (i + 1) (omega arith) in
       le-leb 1 (length (netSinks j i)) (rw (length-slice (getD (j .firstSinks) i 0) (getD (j .firstSinks) (i + 1) 0) (j .sinks) within) (omega arith))
+
+-- the tuning's bounds
+pub tuning-fits : (j : Job) → Routable j → TuningWithin (j .terms .tuning)
+tuning-fits j r = tuning-within (j .terms .tuning) (r .tuning-sound)
 
 -- ---- a net's sinks
 

@@ -16,7 +16,7 @@ use Rattle.negotiation.specs.Job.{Job, nets, netSinks}
 use Rattle.negotiation.specs.Records.{Record}
 use Rattle.negotiation.specs.Machine.{State, Progress, netRecords, hasSinks, due, routeNet, afterNets, iterate, firstState, stateAfter, recordsAfter}
 use Rattle.negotiation.specs.Outcome.{hasPath}
-use Rattle.negotiation.proofs.JobLaws.{Routable}
+use Rattle.negotiation.specs.Routable.{Routable}
 use Rattle.negotiation.proofs.StateLaws.{nets-iteration}
 use Rattle.negotiation.proofs.NetLaws.{StateReady, Grown, grown-same, grown-first, grown-on, grown-ready, net-turn, net-joins, net-source, net-distinct}
 use Rattle.negotiation.proofs.FilterLaws.{All, all-splits, Of}

@@ -34,7 +34,8 @@ use Rattle.negotiation.specs.Machine.{State, treeAt, othersOf, usersOf, 
 use Rattle.negotiation.specs.Outcome.{hasPath}
 use Rattle.negotiation.specs.Unreachable.{Reachable}
 use Rattle.negotiation.proofs.StateLaws.{nets-factor, nets-histories}
-use Rattle.negotiation.proofs.JobLaws.{Routable}
+use Rattle.negotiation.specs.Routable.{Routable}
+use Rattle.negotiation.proofs.JobLaws.{tuning-fits}
 use Rattle.negotiation.proofs.RecordLaws.{stepEnds, branchEnds, pathNodes-append}
 use Rattle.negotiation.proofs.MemberLaws.{no-entry, has-append-split, none-has, lacks-left, lacks-right, distinct-append, missing-most}
 use Rattle.negotiation.proofs.TreeLaws.{TreeNodes, mark-is, TreeTurn, Turns, none, stop, more, turns-are, turns-join, turns-source, only-entry}
@@ -68,7 +69,7 @@ grown-first j sound =
       long = length-replicate (nodes j) 1;
       least = λ v h. le-of-eq (sym (getD-replicate (nodes j) v 1 0 h));
       most = λ v h. le-of-eq (getD-replicate (nodes j) v 1 0 h);
-      factor-most = next-factor-most _ (sound .tuning-fits .few-first) 0 0;
+      factor-most = next-factor-most _ (tuning-fits j sound .few-first) 0 0;
     }
 
 -- a node has at most as many users as there are nets
@@ -87,9 +88,9 @@ grown-on j sound s m g =
           λ v h.
           rw (getD-upTo (movedHistory j s) (nodes j) v 0 h)
           (let most : movedHistory j s v ≤ 1 + (m + 1) * historyGain =
-          history-grows _ m _ _ _ (sound .tuning-fits .few-step) (g .most v h) (users-few j sound (s .trees) v) (capacity-least (nodes j) (j .block .capacities) (sound .block-sound .capacities-sound) v h) in
+          history-grows _ m _ _ _ (tuning-fits j sound .few-step) (g .most v h) (users-few j sound (s .trees) v) (capacity-least (nodes j) (j .block .capacities) (sound .block-sound .capacities-sound) v h) in
           omega arith);
-      factor-most = next-factor-most _ (sound .tuning-fits .few-first) _ _;
+      factor-most = next-factor-most _ (tuning-fits j sound .few-first) _ _;
     }
 
 grown : (j : Job) → Routable j → (m : ℕ) → Grown j (stateAfter j (firstState j) m) m

@@ -23,7 +23,7 @@ use Rattle.negotiation.specs.Machine.{congestionFor, firstState}
 use Rattle.negotiation.specs.Outcome.{hasPath, unreachableNet, unreachablePlace}
 use Rattle.negotiation.specs.Steps.{AllBelow, SameFrom, missing}
 use Rattle.negotiation.specs.Flood.{FloodReady, Flooded, FirstUnmarked}
-use Rattle.negotiation.proofs.JobLaws.{Routable}
+use Rattle.negotiation.specs.Routable.{Routable}
 use Rattle.negotiation.proofs.NetLaws.{path-from}
 use Rattle.negotiation.proofs.DemandLaws.{walk-path}
 use Rattle.negotiation.proofs.FloodLaws.{same-from-trans, same-from-higher}

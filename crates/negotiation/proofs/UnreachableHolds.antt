@@ -17,7 +17,8 @@ use Rattle.negotiation.specs.Job.{Job, nodes, nets, netSinks}
 use Rattle.negotiation.specs.Tables.{SoundJob, faultyJob}
 use Rattle.negotiation.specs.Outcome.{RouteReply, hasPath, unreachableNet, unreachablePlace}
 use Rattle.negotiation.specs.Unreachable.{Reachable, FirstUnreachable, UnreachableRefused}
-use Rattle.negotiation.proofs.JobLaws.{Routable, routable-of, sound-job, faulty-none}
+use Rattle.negotiation.specs.Routable.{Routable}
+use Rattle.negotiation.proofs.JobLaws.{routable-of, sound-job, faulty-none}
 use Rattle.negotiation.proofs.NetLaws.{path-from, sink-path}
 use Rattle.negotiation.proofs.DemandLaws.{walk-path}
 use Rattle.negotiation.proofs.RefusalLaws.{route-table, route-work, route-unreachable, route-run}

@@ -1,6 +1,7 @@
 pub mod Job
 pub mod Tables
 pub mod Records
+pub mod Routable
 pub mod Machine
 pub mod Outcome
 pub mod Unreachable

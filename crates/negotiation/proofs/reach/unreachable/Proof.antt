@@ -11,7 +11,8 @@ use Rattle.search.proofs.BlockLaws.{kinds-few}
 use Rattle.negotiation.specs.Job.{Job, jobOf, nodes}
 use Rattle.negotiation.specs.Tables.{SoundJob}
 use Rattle.negotiation.specs.declared.Terms.{Terms}
-use Rattle.negotiation.proofs.JobLaws.{Routable, routable-of}
+use Rattle.negotiation.specs.Routable.{Routable}
+use Rattle.negotiation.proofs.JobLaws.{routable-of}
 use Rattle.negotiation.proofs.FloodLaws.{same-from-refl}
 use Rattle.negotiation.proofs.TestedLaws.{Tested, tested-all, flood-asked, marks-fit, tested-same, sinks-asked, tested-found, tested-more}
 use Rattle.negotiation.proofs.reach.unreachable.Statement.{statement}

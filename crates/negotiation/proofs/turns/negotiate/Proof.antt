@@ -16,7 +16,7 @@ use Rattle.negotiation.specs.Tables.{SoundJob}
 use Rattle.negotiation.specs.Records.{Record}
 use Rattle.negotiation.specs.Machine.{overCount, iterationAfter, firstState}
 use Rattle.negotiation.specs.declared.tariff.Tariff.{Tariff}
-use Rattle.negotiation.proofs.JobLaws.{routable-of}
+use Rattle.negotiation.proofs.JobLaws.{routable-of, tuning-fits}
 use Rattle.negotiation.proofs.KeepLaws.{Tallied, AtNet, AtTurn}
 use Rattle.negotiation.proofs.TurnStepLaws.{log-length}
 use Rattle.negotiation.proofs.KeepEnd.{keep-over, keep-below, keep-growable, keep-accepted, keep-limit}
@@ -466,7 +466,7 @@ grow-histories-requires c κs =
     let l = capacities-long _ _ ((sound (c .before .before .before .before .before .before .before .before .before)) .block-sound .capacities-sound) in
     let p = part-long _ _ (at .users-long) in
     let q = part-long _ _ (at .under .history-long) in
-    ((l ∙ p, l ∙ q), (λ v h. keep-growable _ (sound (c .before .before .before .before .before .before .before .before .before)) _ _ (enough (c .before .before .before .before .before .before .before .before .before)) _ _ _ _ _ _ _ _ _ at v (subst (λ k. v < k) (sym q) h), routable-of _ (sound (c .before .before .before .before .before .before .before .before .before)) .tuning-fits .few-step))
+    ((l ∙ p, l ∙ q), (λ v h. keep-growable _ (sound (c .before .before .before .before .before .before .before .before .before)) _ _ (enough (c .before .before .before .before .before .before .before .before .before)) _ _ _ _ _ _ _ _ _ at v (subst (λ k. v < k) (sym q) h), tuning-fits _ (routable-of _ (sound (c .before .before .before .before .before .before .before .before .before))) .few-step))
 
 next-iteration-requires :
     tie.Need-next-iteration-requires Inv-loop2 μ-loop2 Inv-loop μ-loop Inv-iterations μ-iterations
