@@ -1,180 +1,229 @@
--- The run begins, and a net drops its old tree.
+-- The run begins, an iteration marks the nets that are due, and such a net drops its old tree.
 -- Assumes nothing.
-use mathlib.Core.Bool.{true, false}
+use mathlib.Core.Bool.{Bool, true, false}
 use mathlib.Core.List.{List, [], _∷_, _++_, append-nil}
-use mathlib.Core.Logic.{⊎-elim}
+use mathlib.Core.Logic.{⊎-elim, inl, inr}
 use mathlib.Core.Path.{_≡_, refl, sym, _∙_, ap}
-use Prim.Native.Nat.{ℕ, _+_, _≤_, _<_, zero-le}
+use Prim.Native.Nat.{ℕ, _+_, _-_, _*_, _≤_, _<_, zero-le}
 use native.Mathlib.Nat.{not-suc-le-zero, le-trans}
 use native.Mathlib.Omega.{arith}
-use lib.Dec.{eqb}
-use lib.ListN.{length, getD, take, drop, set, length-append, length-set, getD-replicate, List·getD-append}
-use lib.Seq.{slice, length-take-le, length-front, getD-take, getD-set-same, getD-set-other}
-use borrow.Author.Tests.{eqb-true, eqb-false}
-use Rattle.price.specs.Bounds.{limitMost}
+use lib.Dec.{eqb, leb, ltb}
+use lib.ListN.{length, getD, take, set, replicate, length-set, length-replicate, getD-replicate}
+use lib.Seq.{slice, length-slice, length-take-le, getD-take, ext-getD, getD-set-same, getD-set-other}
+use borrow.Author.Tests.{le-leb, lt-leb, ltb-true, ltb-false, eqb-true, eqb-false}
 use Rattle.price.specs.Test.{choose}
-use Rattle.price.specs.Lists.{has}
+use Rattle.price.specs.Lists.{has, upTo}
 use Rattle.price.specs.Prices.{nextFactor}
-use Rattle.price.proofs.TestLaws.{either-way}
-use Rattle.price.proofs.ListLaws.{getD-upTo}
+use Rattle.price.proofs.TestLaws.{either-way, true≢false}
+use Rattle.price.proofs.ListLaws.{length-upTo, getD-upTo}
 use Rattle.negotiation.specs.Job.{Job, nodes, nets, source, netSinks}
-use Rattle.negotiation.specs.Tables.{SoundJob}
-use Rattle.negotiation.specs.Records.{Record, encode, decode, pathNodes}
-use Rattle.negotiation.specs.Machine.{treeAt, usersOf, marksOf, congestionFor, turnsOf, netRecords, treeFrom, afterNets, firstState, stateAfter, recordsAfter}
+use Rattle.negotiation.specs.Routable.{Routable}
+use Rattle.negotiation.specs.Records.{encode, decode, pathNodes}
+use Rattle.negotiation.specs.Machine.{State, treeAt, usersOf, othersOf, marksOf, congestionFor, turnsOf, netRecords, treeFrom, hasSinks, due, afterNets, firstState, stateAfter, recordsAfter}
 use Rattle.negotiation.specs.Outcome.{logWith}
-use Rattle.negotiation.specs.Steps.{leading, oldTree, oldNext, RipReady, RippedUp}
+use Rattle.negotiation.specs.Steps.{NoMarks, RippedUp, BeginReady, Begun, Idle, Starts}
 use Rattle.negotiation.specs.declared.tariff.Tariff.{Tariff}
 use Rattle.negotiation.proofs.StateLaws.{nets-iteration, state-iteration}
-use Rattle.negotiation.proofs.JobLaws.{routable-of}
-use Rattle.negotiation.proofs.RecordLaws.{encode-append}
-use Rattle.negotiation.proofs.OldLaws.{OldWords, old-words, old-before, old-next, old-tree, users-some, users-but, users-none}
-use Rattle.negotiation.proofs.KeepLaws.{AtNet, AtTurn, stateFor, newBefore, oldBefore}
+use Rattle.negotiation.proofs.UserLaws.{users-but, users-none}
+use Rattle.negotiation.proofs.KeepLaws.{startOf, reached, dueMarks, Places, Tallied, Kept, AtIteration, AtNet, AtTurn, AtIdle, AtTurns}
+use Rattle.negotiation.proofs.KeepPlaces.{first-places, can-rip, tree-read}
+
+-- ---- lists by their entries
+
+-- a list with these entries is the list of them
+pub up-to-is : (f : ℕ → ℕ) (n : ℕ) (xs : List ℕ) → length xs ≡ n → ((v : ℕ) → v < n → getD xs v 0 ≡ f v) → xs ≡ upTo f n
+up-to-is f n xs long at =
+    ext-getD 0 xs (upTo f n) (long ∙ sym (length-upTo f n))
+    (λ v h. let l : v < n = rw long at h in at v l ∙ sym (getD-upTo f n v 0 l))
+
+-- a beginning of one number over and over
+pub take-replicate : (n most x : ℕ) → n ≤ most → take n (replicate most x) ≡ replicate n x
+take-replicate n most x h =
+    let long : length (take n (replicate most x)) ≡ n = length-take-le n (replicate most x) (rw length-replicate h) in
+    ext-getD 0 (take n (replicate most x)) (replicate n x) (long ∙ sym (length-replicate n x))
+    (λ v l.
+    let b : v < n = rw long at l in
+    getD-take n (replicate most x) v 0 b ∙ getD-replicate most v x 0 (le-trans b h) ∙ sym (getD-replicate n v x 0 b))
 
 -- a mark at one node alone is the mark of the tree of that node
-one-mark :
-    (j : Job) (marks : List ℕ) (s : ℕ) → s < length marks → ((v : ℕ) → v < nodes j → getD marks v 0 ≡ 0)
-    → (v : ℕ) → v < nodes j → getD (set marks s 1) v 0 ≡ getD (marksOf j (s ∷ [])) v 0
+one-mark : (j : Job) (marks : List ℕ) (s : ℕ) → length marks ≡ nodes j → s < nodes j → NoMarks (nodes j) marks → set marks s 1 ≡ marksOf j (s ∷ [])
 unfolding marksOf has
-one-mark j marks s l none v h =
-    rw (getD-upTo {A = ℕ} (λ x. choose (has x (s ∷ [])) 1 0) (nodes j) v 0 h)
-    (⊎-elim
-    (λ (q : eqb v s ≡ true). rw (q, eqb-true v s q) (getD-set-same marks s 1 0 l))
+one-mark j marks s long l none =
+    up-to-is (λ v. choose (has v (s ∷ [])) 1 0) (nodes j) (set marks s 1) (length-set marks s 1 ∙ long)
+    (λ v h.
+    ⊎-elim
+    (λ (q : eqb v s ≡ true). rw (q, eqb-true v s q) (getD-set-same marks s 1 0 (rw long l)))
     (λ (q : eqb v s ≡ false). rw q (getD-set-other marks s v 1 0 (eqb-false v s q) ∙ none v h))
     (either-way (eqb v s)))
 
--- the words of the first records are within the log
-log-long : (rs ss : List Record) (log : List ℕ) → length (encode rs) ≤ length (logWith (rs ++ ss) log)
-unfolding logWith
-log-long rs ss log =
-    omega (
-      arith,
-      length-append (encode (rs ++ ss)) (drop (length (encode (rs ++ ss))) log),
-      length-append (encode rs) (encode ss),
-      ap length (encode-append rs ss),
-    )
+-- ---- the run begins
 
--- a front of n entries, put before the rest
-front-at : (n : ℕ) (xs old : List ℕ) → n ≤ length old → length xs ≡ length (take n old) → (v : ℕ) → v < n → getD (xs ++ drop n old) v 0 ≡ getD xs v 0
-front-at n xs old h l v k =
-    let whole : length (take n old) ≡ n = length-take-le n old h in
-    List·getD-append xs (drop n old) 0 v (omega arith)
+no-users : (j : Job) (users : List ℕ) → users ≡ replicate (nodes j) 0 → users ≡ upTo (usersOf j (firstState j .trees)) (nodes j)
+no-users j users e =
+    up-to-is (usersOf j (firstState j .trees)) (nodes j) users (ap length e ∙ length-replicate (nodes j) 0)
+    (λ v h. ap (λ (l : List ℕ). getD l v 0) e ∙ getD-replicate (nodes j) v 0 0 h ∙ sym (users-none j v))
 
-front-long : (n : ℕ) (xs old : List ℕ) → n ≤ length old → length xs ≡ length (take n old) → n ≤ length (xs ++ drop n old)
-front-long n xs old h l = omega (arith, length-front old xs n l)
-
-module _ (j : Job) (sound : SoundJob j) (work₀ log₀ : List ℕ) where
+module _ (j : Job) where
   first-factor : 0 ≡ firstState j .factor
   unfolding firstState nextFactor
   first-factor = refl
 
-  first-history : (v : ℕ) → v < nodes j → 1 ≡ getD (firstState j .histories) v 0
+  first-histories : replicate (nodes j) 1 ≡ firstState j .histories
   unfolding firstState
-  first-history v l = sym (getD-replicate (nodes j) v 1 0 l)
+  first-histories = refl
 
-  -- before the first net of iteration 1
+  first-trees : firstState j .trees ≡ replicate (nets j) []
+  unfolding firstState
+  first-trees = refl
+
+module _ (j : Job) (sound : Routable j) where
   pub keep-start :
-      (t : Tariff) (history users marks : List ℕ) → t .iteration ≡ 1 → t .factor ≡ 0 → t .turns ≡ 0 → t .words ≡ 0
-      → nodes j ≤ length history → nodes j ≤ length users → nodes j ≤ length marks
-      → ((v : ℕ) → v < nodes j → getD history v 0 ≡ 1) → ((v : ℕ) → v < nodes j → getD users v 0 ≡ 0) → ((v : ℕ) → v < nodes j → getD marks v 0 ≡ 0)
-      → AtNet j work₀ log₀ 0 0 t history users marks work₀ log₀ 0 0
-  unfolding recordsAfter stateAfter afterNets oldBefore encode logWith
-  keep-start t history users marks a b c d hl ul ml h u k =
+      {work₀ log₀ : List ℕ} {t : Tariff} {history users marks from to dues : List ℕ} → Starts j t history users marks from to dues
+      → AtIteration j work₀ log₀ 0 t history users marks from to dues work₀ log₀
+  unfolding recordsAfter stateAfter afterNets encode logWith
+  keep-start {users = users} {from = from} {to = to} s =
       record {
         under =
             record {
-              below = routable-of j sound .limit-some;
+              below = sound .limit-some;
               unsettled = λ n l. absurd (not-suc-le-zero l);
-              iteration-is = a;
-              factor-is = b ∙ first-factor;
-              history-long = hl;
-              history-is = λ v l. h v l ∙ first-history v l;
+              iteration-is = s .iteration-is;
+              factor-is = s .factor-is ∙ first-factor j;
             };
-        upto = zero-le;
-        tallied = record { turns-is = c; words-is = d; log-is = refl; fits = zero-le };
-        old-is = refl;
-        start-is = refl;
-        users-long = ul;
-        marks-long = ml;
-        users-is = λ v l. u v l ∙ sym (users-none j v);
-        no-marks = k;
+        kept =
+            record {
+              history-is = s .history-is ∙ first-histories j;
+              users-is = no-users j users (s .users-is);
+              no-marks = s .no-marks;
+              places = first-places j (reached j 0 0) from to refl (first-trees j) (s .from-is) (s .to-is);
+            };
+        due-long = s .due-long;
+        tallied = record { turns-is = s .turns-is; words-is = s .words-is; log-is = refl; fits = zero-le };
         work-same = record { long = refl; high = λ n l. refl };
       }
 
-  module _ (m i : ℕ) (t : Tariff) (history users marks work log : List ℕ) (old start : ℕ)
-      (at : AtNet j work₀ log₀ m i t history users marks work log old start) (hi : i < nets j) where
-    few : m < limitMost
-    few = le-trans (at .under .below) (routable-of j sound .limit-few)
+  -- ---- an iteration begins
 
-    -- what the log says between net i's old records and this iteration's
-    words : OldWords j m i (slice old start log)
-    words =
-        rw (at .old-is, at .start-is, at .tallied .log-is)
-        (old-words j sound m i few hi (afterNets j (stateAfter j (firstState j) m) i .records) log₀)
+  -- a net with sinks has more than none in table 7
+  due-is : (s : State) (i : ℕ) → i < nets j → due j s i ≡ ltb (getD (j .firstSinks) i 0) (getD (j .firstSinks) (i + 1) 0)
+  unfolding due hasSinks netSinks
+  due-is s i h =
+      let a : ℕ = getD (j .firstSinks) i 0 in
+      let b : ℕ = getD (j .firstSinks) (i + 1) 0 in
+      let long : length (slice a b (j .sinks)) ≡ b - a = length-slice a b (j .sinks) (sound .sinks-end (i + 1) (omega arith)) in
+      ⊎-elim
+      (λ (q : ltb a b ≡ true). let l = ltb-true a b q in rw q (le-leb 1 (length (slice a b (j .sinks))) (omega arith)))
+      (λ (q : ltb a b ≡ false). let l = ltb-false a b q in rw q (lt-leb 1 (length (slice a b (j .sinks))) (omega arith)))
+      (either-way (ltb a b))
 
-    tree-is : oldTree (t .iteration) (source j i) (leading i (decode (slice old start log))) ≡ treeAt (stateFor j m i .trees) i
-    tree-is = rw (words .leading-is, at .under .iteration-is) (sym (old-tree j sound m i hi))
+  pub keep-due :
+      {work₀ log₀ : List ℕ} {m : ℕ} {t : Tariff} {history users marks from to dues work log : List ℕ} → AtIteration j work₀ log₀ m t history users marks from to dues work log
+      → (dues′ : List ℕ) → dues′ ≡ upTo (λ k. choose (ltb (getD (j .firstSinks) k 0) (getD (j .firstSinks) (k + 1) 0)) 1 0) (length dues)
+      → AtNet j work₀ log₀ m 0 t history users marks from to dues′ work log
+  keep-due {m} {dues = dues} at dues′ e =
+      let mark : (ℕ → ℕ) = λ k. choose (ltb (getD (j .firstSinks) k 0) (getD (j .firstSinks) (k + 1) 0)) 1 0 in
+      let is : dues′ ≡ upTo mark (nets j) = rw (at .due-long) at e in
+      record {
+        under = at .under;
+        upto = zero-le;
+        kept = at .kept;
+        due-is =
+            up-to-is (λ k. choose (due j (startOf j m) k) 1 0) (nets j) dues′ (ap length is ∙ length-upTo mark (nets j))
+            (λ k h. ap (λ (l : List ℕ). getD l k 0) is ∙ getD-upTo mark (nets j) k 0 h ∙ rw (due-is (startOf j m) k h));
+        tallied = at .tallied;
+        work-same = at .work-same;
+      }
 
-    users-front : length (take (nodes j) users) ≡ nodes j
-    users-front = length-take-le (nodes j) users (at .users-long)
+  -- ---- a net begins
 
-    marks-front : length (take (nodes j) marks) ≡ nodes j
-    marks-front = length-take-le (nodes j) marks (at .marks-long)
+  module _ {work₀ log₀ : List ℕ} {m i : ℕ} {t : Tariff} {history users marks from to dues work log : List ℕ}
+      (at : AtNet j work₀ log₀ m i t history users marks from to dues work log) (hi : i < nets j) where
+    marks-long : length marks ≡ nodes j
+    marks-long = ap length (at .kept .no-marks) ∙ length-replicate (nodes j) 0
 
-    users-at : (v : ℕ) → v < nodes j → getD (take (nodes j) users) v 0 ≡ usersOf j (stateFor j m i .trees) v
-    users-at v l = getD-take (nodes j) users v 0 l ∙ at .users-is v l
-
-    log-within : start ≤ length log
-    log-within = rw (at .start-is, at .tallied .log-is) (log-long (recordsAfter j (firstState j) m) (afterNets j (stateAfter j (firstState j) m) i .records) log₀)
-
-    -- the old tree can be dropped
-    pub keep-ready : RipReady (nodes j) (t .iteration) i (source j i) old start log (take (nodes j) users) (take (nodes j) marks)
+    pub keep-ready : BeginReady log (j .sources) (j .firstSinks) i dues from to users marks
     keep-ready =
+        let due-long : length dues ≡ nets j = ap length (at .due-is) ∙ length-upTo (λ k. choose (due j (startOf j m) k) 1 0) (nets j) in
+        let from-long = at .kept .places .from-long in
+        let to-long = at .kept .places .to-long in
+        let firsts-long = sound .firstSinks-long in
         record {
-          users-long = users-front;
-          marks-long = marks-front;
-          from-node = routable-of j sound .source-node i hi;
-          order = rw (at .old-is, at .start-is) (old-before j sound m i few hi);
-          within = log-within;
-          whole = words .whole;
-          no-marks = λ v l. getD-take (nodes j) marks v 0 l ∙ at .no-marks v l;
-          used = λ v l e. rw (users-at v l) (users-some j (stateFor j m i .trees) i v hi (rw tree-is at e));
+          source-listed = hi;
+          source-node = rw marks-long (sound .source-node i hi);
+          sinks-listed = omega arith;
+          sinks-order = sound .sinks-order i hi;
+          due-listed = omega arith;
+          from-listed = omega arith;
+          to-listed = omega arith;
+          old = can-rip (at .kept .places .words i hi) (at .tallied) (reached j m i .state .trees) i hi refl (at .kept .users-is) (at .kept .no-marks);
         }
 
+    -- its mark tells whether it is due
+    pub due-mark : getD dues i 0 ≡ choose (due j (startOf j m) i) 1 0
+    due-mark = ap (λ (l : List ℕ). getD l i 0) (at .due-is) ∙ getD-upTo {A = ℕ} (λ k. choose (due j (startOf j m) k) 1 0) (nets j) i 0 hi
+
     -- all turns are left
-    first-turns : netRecords j (stateFor j m i) i ≡ turnsOf j (m + 1) (congestionFor j (stateFor j m i) i) i (length (netSinks j i)) (treeFrom j i [])
+    first-turns :
+        netRecords j (reached j m i .state) i ≡ turnsOf j (m + 1) (congestionFor j (reached j m i .state) i) i (length (netSinks j i)) (treeFrom j i [])
     unfolding netRecords pathNodes
-    first-turns = rw (nets-iteration j (stateAfter j (firstState j) m) i, state-iteration j m)
+    first-turns = rw (nets-iteration j (startOf j m) i, state-iteration j m)
 
-    source-mark :
-        (marks′ : List ℕ) → length marks′ ≡ length (take (nodes j) marks) → ((v : ℕ) → v < nodes j → getD marks′ v 0 ≡ 0)
-        → (v : ℕ) → v < nodes j → getD (set (marks′ ++ drop (nodes j) marks) (source j i) 1) v 0 ≡ getD (marksOf j (treeFrom j i [])) v 0
+    sinks-count : getD (j .firstSinks) (i + 1) 0 - getD (j .firstSinks) i 0 ≡ length (netSinks j i)
+    unfolding netSinks
+    sinks-count = sym (length-slice (getD (j .firstSinks) i 0) (getD (j .firstSinks) (i + 1) 0) (j .sinks) (sound .sinks-end (i + 1) (omega arith)))
+
+    -- the others are left of the users
+    others-left :
+        {bare users′ : List ℕ} → RippedUp (length marks) (pathNodes (decode (slice (getD from i 0) (getD to i 0) log))) users marks users′ bare
+        → users′ ≡ upTo (othersOf j (reached j m i .state .trees) i) (nodes j)
+    others-left {users′ = users′} r =
+        let trees : List (List ℕ) = reached j m i .state .trees in
+        let users-long : length users ≡ nodes j = ap length (at .kept .users-is) ∙ length-upTo (usersOf j trees) (nodes j) in
+        up-to-is (othersOf j trees i) (nodes j) users′ (r .users-long ∙ users-long)
+        (λ v h.
+        let is : getD users v 0 ≡ usersOf j trees v = ap (λ (l : List ℕ). getD l v 0) (at .kept .users-is) ∙ getD-upTo (usersOf j trees) (nodes j) v 0 h in
+        r .users-at v (rw marks-long h)
+        ∙ rw (is, tree-read (at .kept .places .words i hi) (at .tallied) v) (users-but j trees i v hi))
+
+    source-marked : {left : ℕ} {users′ marks′ : List ℕ} → Begun log (j .sources) (j .firstSinks) i from to users marks left users′ marks′ → marks′ ≡ marksOf j (treeFrom j i [])
     unfolding pathNodes
-    source-mark marks′ long none =
-        one-mark j (marks′ ++ drop (nodes j) marks) (source j i)
-        (le-trans (routable-of j sound .source-node i hi) (front-long (nodes j) marks′ marks (at .marks-long) long))
-        (λ v l. front-at (nodes j) marks′ marks (at .marks-long) long v l ∙ none v l)
+    source-marked b =
+        b .marks-is
+        ∙ one-mark j (b .bare) (source j i) (b .ripped .marks-long ∙ marks-long) (sound .source-node i hi) (rw marks-long at (b .ripped .no-marks))
 
-    -- once it is, and the source is marked, the net's turns begin
-    pub keep-ripped :
-        (users′ marks′ : List ℕ) (left : ℕ) → left ≡ length (netSinks j i)
-        → RippedUp (nodes j) (oldTree (t .iteration) (source j i) (leading i (decode (slice old start log)))) (take (nodes j) users) (take (nodes j) marks) users′ marks′
-        → AtTurn j work₀ log₀ m i left t history (users′ ++ drop (nodes j) users) (set (marks′ ++ drop (nodes j) marks) (source j i) 1) work log
-        (oldNext (t .iteration) old (leading i (decode (slice old start log)))) start (t .words)
-    keep-ripped users′ marks′ left e r =
+    begun :
+        {left : ℕ} {users′ marks′ : List ℕ} → due j (startOf j m) i ≡ true → Begun log (j .sources) (j .firstSinks) i from to users marks left users′ marks′
+        → AtTurn j work₀ log₀ m i left t history users′ marks′ from to dues work log (t .words)
+    begun q b =
         record {
           under = at .under;
           net = hi;
+          taken = q;
           made = [];
-          rest-is = rw e first-turns;
-          tallied = rw (append-nil (newBefore j m i)) (at .tallied);
+          rest-is = rw (b .left-is, sinks-count) first-turns;
+          tallied = rw (append-nil (reached j m i .records)) (at .tallied);
           first-is = at .tallied .words-is;
-          old-is = rw (words .leading-is, at .under .iteration-is, at .old-is) (old-next j sound m i hi);
-          start-is = at .start-is;
-          users-long = front-long (nodes j) users′ users (at .users-long) (r .users-long);
-          marks-long = rw length-set (front-long (nodes j) marks′ marks (at .marks-long) (r .marks-long));
-          users-is = λ v l.
-              front-at (nodes j) users′ users (at .users-long) (r .users-long) v l ∙ r .users-at v l
-              ∙ rw (users-at v l, tree-is) (users-but j (stateFor j m i .trees) i v hi);
-          marks-is = source-mark marks′ (r .marks-long) (r .no-marks);
+          history-is = at .kept .history-is;
+          users-is = others-left (b .ripped);
+          marks-is = source-marked b;
+          places = at .kept .places;
+          due-is = at .due-is;
           work-same = at .work-same;
         }
+
+    idle :
+        {left : ℕ} {users′ marks′ : List ℕ} → due j (startOf j m) i ≡ false → Idle left users marks users′ marks′
+        → AtIdle j work₀ log₀ m i left t history users′ marks′ from to dues work log
+    idle q e = record { net = hi; not-taken = q; none-left = e .none-left; at = rw (e .users-same, e .marks-same) at }
+
+    pub keep-begun :
+        {left : ℕ} {users′ marks′ : List ℕ} → (getD dues i 0 ≡ 0 → Idle left users marks users′ marks′)
+        → ((getD dues i 0 ≡ 0 → ⊥) → Begun log (j .sources) (j .firstSinks) i from to users marks left users′ marks′)
+        → AtTurns j work₀ log₀ m i left t history users′ marks′ from to dues work log (t .words)
+    keep-begun without with-turns =
+        ⊎-elim
+        (λ (q : due j (startOf j m) i ≡ true).
+        let one : getD dues i 0 ≡ 1 = due-mark ∙ rw q in
+        inr (begun q (with-turns (λ z. let n : 0 ≡ 1 = sym z ∙ one in omega arith))))
+        (λ (q : due j (startOf j m) i ≡ false). inl (idle q (without (due-mark ∙ rw q))))
+        (either-way (due j (startOf j m) i))

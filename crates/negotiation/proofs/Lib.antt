@@ -10,6 +10,7 @@
 --     MemberLaws        which entries a list has, and in what it lacks some
 --     RegionLaws        whole records in a part of the log, as the loops pass them
 --     MarkLaws          marks and users of nodes that are passed one after the other
+--     FilledLaws        a list that a loop fills front to back
 -- The test before iteration 1
 --     FloodLaws         the flood from a source
 --     TestedLaws        net after net, the first sink without a path
@@ -35,11 +36,13 @@
 -- The routing loops
 --     TariffLaws, StepLaws, StepWithLaws   the tariff's steps, by hand
 --     RipLaws           a net's old tree dropped, its new one counted
---     OldLaws           where a net's old records stand in the log
+--     UserLaws          who uses a node: counts of nets by their trees
 --     OneTurnLaws       one turn, as the search's contract gives it
 --     TurnStepLaws      a turn more of a net
 --     KeepLaws          what holds at the head of each loop
---     KeepStart, KeepTurn, KeepEnd, KeepCalls   that it holds at first, after a turn, at an iteration's end, and what each call asks
+--     KeepPlaces        where each net's tree stands in the log
+--     KeepStart, KeepTurn, KeepNet, KeepEnd   that it holds at first, after a turn, a net and an iteration, and what each call asks
+--     KeepLengths       the lists keep their lengths
 -- Assumes nothing.
 pub mod JobLaws
 pub mod NetTableLaws
@@ -49,6 +52,7 @@ pub mod FilterLaws
 pub mod MemberLaws
 pub mod RegionLaws
 pub mod MarkLaws
+pub mod FilledLaws
 pub mod FloodLaws
 pub mod TestedLaws
 pub mod TreeLaws
@@ -70,11 +74,13 @@ pub mod TariffLaws
 pub mod StepLaws
 pub mod StepWithLaws
 pub mod RipLaws
-pub mod OldLaws
+pub mod UserLaws
 pub mod OneTurnLaws
 pub mod TurnStepLaws
 pub mod KeepLaws
+pub mod KeepPlaces
 pub mod KeepStart
 pub mod KeepTurn
+pub mod KeepNet
 pub mod KeepEnd
-pub mod KeepCalls
+pub mod KeepLengths

@@ -1,28 +1,20 @@
 -- Whole records in a part of the log: where the words of the next one stand, and what is passed and left when a loop goes from record to record.
 --     Ahead, ahead                              the words of the record at a place
 --     Passing, passing-none, -next, -end        records that were passed, and those that are left
---     leading-more, -other, -none               the first records of a net
 --     record-fits, -path, -nodes, -passed       the record at a place, as the code reads it
---     Clearing, Adding, Dropping                the loops that go from record to record
---     less-on, less-off                         the last loop ends
+--     Walking, walking-none, -more, -all, -can  the loops that go from record to record
 -- Assumes nothing.
-use mathlib.Core.Bool.{Bool, true, false}
 use mathlib.Core.List.{List, [], _∷_, _++_, append-assoc, append-nil}
-use mathlib.Core.Logic.{⊎-elim}
 use mathlib.Core.Path.{_≡_, refl, sym, _∙_, ap}
 use Prim.Native.Nat.{ℕ, _+_, _-_, _≤_, _<_}
 use native.Mathlib.Nat.{add-assoc}
 use native.Mathlib.Omega.{arith}
-use lib.Dec.{ltb}
 use lib.ListN.{length, getD, take, length-append}
 use lib.Seq.{length-take-le, take-take, take-add, take-at, drop-at, drop-drop, getD-take, getD-drop, slice, length-slice}
-use borrow.Author.Tests.{eq-eqb, ne-eqb, ltb-true, ltb-false}
-use Rattle.price.specs.Test.{choose}
-use Rattle.price.proofs.TestLaws.{either-way, true≢false}
 use Rattle.negotiation.specs.Records.{Record, words, encode, decode, pathNodes}
-use Rattle.negotiation.specs.Steps.{AllBelow, Stored, Dropped, Added, CanDrop, Whole, leading}
+use Rattle.negotiation.specs.Steps.{AllBelow, Dropped, CanDrop, Whole}
 use Rattle.negotiation.proofs.RecordLaws.{encode-append, pathNodes-append, words-length}
-use Rattle.negotiation.proofs.MarkLaws.{below-left, below-right, stored-none, stored-append, dropped-none, dropped-append, added-none, added-append, can-drop-left, can-drop-rest}
+use Rattle.negotiation.proofs.MarkLaws.{below-left, below-right, can-drop-left, can-drop-rest}
 
 -- ---- a part of a part
 
@@ -38,7 +30,6 @@ module _ (at until : ℕ) (log : List ℕ) where
 -- ---- the words of the record at a place
 
 pub record Ahead (at until : ℕ) (log : List ℕ) (r : Record) (rest : List Record) : Type 0 where
-  pub net-at : getD log (at + 1) 0 ≡ r .net
   pub long-at : getD log (at + 5) 0 ≡ length (r .path)
   pub fits : at + 6 + length (r .path) ≤ until
   pub path-at : slice (at + 6) (at + 6 + length (r .path)) log ≡ r .path
@@ -51,7 +42,6 @@ ahead {at} {until} {log} r rest l h e =
     let long : length (words r) ≡ 6 + length (r .path) = words-length r in
     let all : length (slice at until log) ≡ length (words r) + length (encode rest) = ap length e ∙ length-append (words r) (encode rest) in
     record {
-      net-at = getD-part at until log 1 (omega arith) ∙ rw e;
       long-at = getD-part at until log 5 (omega arith) ∙ rw e;
       fits = omega arith;
       path-at = rw (add-assoc at 6 (length (r .path))) (part-of at until log 6 (6 + length (r .path)) (omega arith) h ∙ rw (e, take-at (words r) (encode rest) (6 + length (r .path)) long));
@@ -125,20 +115,6 @@ nodes-more passed r = pathNodes-append passed (r ∷ []) ∙ rw append-nil
 pub records-more : (passed later : List Record) (r : Record) → passed ++ (r ∷ later) ≡ passed ++ (r ∷ []) ++ later
 records-more passed later r = sym (append-assoc passed (r ∷ []) later)
 
--- ---- the first records of a net
-
-pub leading-more : (i : ℕ) (r : Record) (rs : List Record) → r .net ≡ i → leading i (r ∷ rs) ≡ r ∷ leading i rs
-unfolding leading
-leading-more i r rs e = rw (eq-eqb (r .net) i e)
-
-pub leading-other : (i : ℕ) (r : Record) (rs : List Record) → (r .net ≡ i → ⊥) → leading i (r ∷ rs) ≡ []
-unfolding leading
-leading-other i r rs e = rw (ne-eqb (r .net) i e)
-
-pub leading-none : (i : ℕ) → leading i [] ≡ []
-unfolding leading
-leading-none i = refl
-
 -- ---- the record at a place, as the code reads it
 
 module _ {n from until at : ℕ} {log : List ℕ} {passed : List Record} (rest : List Record) (l : at < until) (p : Passing n from until log at passed rest) where
@@ -154,167 +130,59 @@ module _ {n from until at : ℕ} {log : List ℕ} {passed : List Record} (rest :
   pub record-passed : Passing n from until log (at + 6 + getD log (at + 5) 0) (passed ++ (passing-next rest l p .first ∷ [])) (passing-next rest l p .later)
   record-passed = let next = passing-next rest l p in rw (next .words-at .long-at) (next .moved)
 
--- ---- the loops over all records
+-- ---- the loops that go from record to record
 
--- the marks of the nodes of the records that were passed are cleared
-pub record Clearing (from until : ℕ) (log marks marksNow : List ℕ) (at : ℕ) : Type 0 where
+-- records were passed, and what the loop does is done for their nodes
+pub record Walking (n from until : ℕ) (log : List ℕ) (at : ℕ) (Done : List ℕ → Type 0) : Type 0 where
   pub passed : List Record
   pub rest : List Record
-  pub walk : Passing (length marks) from until log at passed rest
+  pub walk : Passing n from until log at passed rest
   pub all : decode (slice from until log) ≡ passed ++ rest
-  pub cleared : Stored 0 (pathNodes passed) marks marksNow
+  pub done : Done (pathNodes passed)
 
-pub clearing-none : (from until : ℕ) (log marks : List ℕ) → from ≤ until → until ≤ length log → Whole (length marks) (slice from until log) → Clearing from until log marks marks from
+pub walking-none : {Done : List ℕ → Type 0} (n from until : ℕ) (log : List ℕ) → from ≤ until → until ≤ length log → Whole n (slice from until log) → Done [] → Walking n from until log from Done
 unfolding pathNodes
-clearing-none from until log marks l h w = record {
+walking-none n from until log l h w d = record {
   passed = [];
   rest = decode (slice from until log);
-  walk = passing-none (length marks) from until log l h w;
+  walk = passing-none n from until log l h w;
   all = refl;
-  cleared = stored-none 0 marks;
+  done = d;
 }
 
-module _ {from until at : ℕ} {log marks marksNow : List ℕ} (s : Clearing from until log marks marksNow at) where
-  pub clearing-more : {marksLater : List ℕ} → at < until → Stored 0 (slice (at + 6) (at + 6 + getD log (at + 5) 0) log) marksNow marksLater → Clearing from until log marks marksLater (at + 6 + getD log (at + 5) 0)
-  clearing-more l t =
-      let next = passing-next (s .rest) l (s .walk) in
-      record {
-        passed = s .passed ++ (next .first ∷ []);
-        rest = next .later;
-        walk = record-passed (s .rest) l (s .walk);
-        all = s .all ∙ ap (λ (rs : List Record). s .passed ++ rs) (next .is) ∙ records-more (s .passed) (next .later) (next .first);
-        cleared = rw (nodes-more (s .passed) (next .first)) (stored-append (s .cleared) (rw (record-path (s .rest) l (s .walk)) at t));
-      }
-
-  pub clearing-all : until ≤ at → Stored 0 (pathNodes (decode (slice from until log))) marks marksNow
-  clearing-all l = rw (s .all, passing-end (s .rest) l (s .walk), append-nil) (s .cleared)
-
--- and those that were set have one user more
-pub record Adding (from until : ℕ) (log users marks usersNow marksNow : List ℕ) (at : ℕ) : Type 0 where
-  pub passed : List Record
-  pub rest : List Record
-  pub walk : Passing (length marks) from until log at passed rest
-  pub all : decode (slice from until log) ≡ passed ++ rest
-  pub added : Added (length marks) (pathNodes passed) users marks usersNow marksNow
-
-pub adding-none : (from until : ℕ) (log users marks : List ℕ) → from ≤ until → until ≤ length log → Whole (length marks) (slice from until log) → Adding from until log users marks users marks from
-unfolding pathNodes
-adding-none from until log users marks l h w = record {
-  passed = [];
-  rest = decode (slice from until log);
-  walk = passing-none (length marks) from until log l h w;
-  all = refl;
-  added = added-none (length marks) users marks;
-}
-
-module _ {from until at : ℕ} {log users marks usersNow marksNow : List ℕ} (s : Adding from until log users marks usersNow marksNow at) where
-  pub adding-more : {usersLater marksLater : List ℕ} → at < until → Added (length marksNow) (slice (at + 6) (at + 6 + getD log (at + 5) 0) log) usersNow marksNow usersLater marksLater → Adding from until log users marks usersLater marksLater (at + 6 + getD log (at + 5) 0)
-  adding-more l t =
-      let next = passing-next (s .rest) l (s .walk) in
-      record {
-        passed = s .passed ++ (next .first ∷ []);
-        rest = next .later;
-        walk = record-passed (s .rest) l (s .walk);
-        all = s .all ∙ ap (λ (rs : List Record). s .passed ++ rs) (next .is) ∙ records-more (s .passed) (next .later) (next .first);
-        added = rw (nodes-more (s .passed) (next .first)) (added-append (s .added) (rw (s .added .marks-cleared .long, record-path (s .rest) l (s .walk)) at t));
-      }
-
-  pub adding-all : until ≤ at → Added (length marks) (pathNodes (decode (slice from until log))) users marks usersNow marksNow
-  adding-all l = rw (s .all, passing-end (s .rest) l (s .walk), append-nil) (s .added)
-
--- ---- the loop over the first records of a net
-
--- the nodes of the records that were passed have one user less; the loop goes on while places are left, and stops where no more of the net's records lead
-pub record Dropping (from until net : ℕ) (log users marks usersNow marksNow : List ℕ) (at : ℕ) (go : Bool) : Type 0 where
-  pub passed : List Record
-  pub rest : List Record
-  pub walk : Passing (length marks) from until log at passed rest
-  pub lead : leading net (decode (slice from until log)) ≡ passed ++ leading net rest
-  pub dropped : Dropped (length marks) (pathNodes passed) users marks usersNow marksNow
-  pub on : go ≡ true → at < until
-  pub off : go ≡ false → leading net rest ≡ []
-
--- where no place is left, none of the net's records leads
-leading-end : {n from until at : ℕ} {log : List ℕ} {passed : List Record} (net : ℕ) (rest : List Record) → Passing n from until log at passed rest → ltb at until ≡ false → leading net rest ≡ []
-leading-end {n} {from} {until} {at} net rest p t = rw (passing-end rest (ltb-false at until t) p) (leading-none net)
-
-pub dropping-none : (from until net : ℕ) (log users marks : List ℕ) → from ≤ until → until ≤ length log → Whole (length marks) (slice from until log) → Dropping from until net log users marks users marks from (ltb from until)
-unfolding pathNodes
-dropping-none from until net log users marks l h w =
-    let walk : Passing (length marks) from until log from [] (decode (slice from until log)) = passing-none (length marks) from until log l h w in
-    record {
-      passed = [];
-      rest = decode (slice from until log);
-      walk = walk;
-      lead = refl;
-      dropped = dropped-none (length marks) users marks;
-      on = ltb-true from until;
-      off = leading-end net (decode (slice from until log)) walk;
-    }
-
-module _ {from until net at : ℕ} {log users marks usersNow marksNow : List ℕ} {go : Bool} (s : Dropping from until net log users marks usersNow marksNow at go) where
-  -- a record of the net leads
-  lead-first : (l : at < until) → getD log (at + 1) 0 ≡ net → leading net (s .rest) ≡ passing-next (s .rest) l (s .walk) .first ∷ leading net (passing-next (s .rest) l (s .walk) .later)
-  lead-first l e =
-      let next = passing-next (s .rest) l (s .walk) in
-      ap (leading net) (next .is) ∙ leading-more net (next .first) (next .later) (sym (next .words-at .net-at) ∙ e)
-
-  pub dropping-can : (l : at < until) → getD log (at + 1) 0 ≡ net → CanDrop (length marks) (pathNodes (leading net (decode (slice from until log)))) users marks → CanDrop (length marks) (slice (at + 6) (at + 6 + getD log (at + 5) 0) log) usersNow marksNow
+module _ {n from until at : ℕ} {log : List ℕ} {Done : List ℕ → Type 0} (s : Walking n from until log at Done) where
+  -- the nodes of all records: those of the records that were passed, of the next one, and others
+  walking-nodes : (l : at < until) → pathNodes (decode (slice from until log)) ≡ pathNodes (s .passed) ++ (slice (at + 6) (at + 6 + getD log (at + 5) 0) log ++ pathNodes (passing-next (s .rest) l (s .walk) .later))
   unfolding pathNodes
-  dropping-can l e can =
+  walking-nodes l =
       let next = passing-next (s .rest) l (s .walk) in
-      let after = pathNodes (leading net (next .later)) in
-      let nodes : pathNodes (leading net (decode (slice from until log))) ≡ pathNodes (s .passed) ++ (next .first .path ++ after) = rw (s .lead, lead-first l e) (pathNodes-append (s .passed) (next .first ∷ leading net (next .later))) in
-      rw (record-path (s .rest) l (s .walk))
-      (can-drop-left usersNow marksNow (next .first .path) after (can-drop-rest (next .first .path ++ after) (rw nodes at can) (s .dropped)))
+      ap pathNodes (s .all ∙ ap (λ (rs : List Record). s .passed ++ rs) (next .is))
+      ∙ pathNodes-append (s .passed) (next .first ∷ next .later)
+      ∙ ap (λ (xs : List ℕ). pathNodes (s .passed) ++ (xs ++ pathNodes (next .later))) (sym (record-path (s .rest) l (s .walk)))
 
-  pub dropping-more :
-      {usersLater marksLater : List ℕ} → at < until → getD log (at + 1) 0 ≡ net
-      → Dropped (length marksNow) (slice (at + 6) (at + 6 + getD log (at + 5) 0) log) usersNow marksNow usersLater marksLater
-      → Dropping from until net log users marks usersLater marksLater (at + 6 + getD log (at + 5) 0) (ltb (at + 6 + getD log (at + 5) 0) until)
-  dropping-more l e t =
+  -- a record more, for whose nodes it is done too
+  pub walking-more :
+      {Later : List ℕ → Type 0} → at < until → ((xs : List ℕ) → Done xs → Later (xs ++ slice (at + 6) (at + 6 + getD log (at + 5) 0) log))
+      → Walking n from until log (at + 6 + getD log (at + 5) 0) Later
+  walking-more l more =
       let next = passing-next (s .rest) l (s .walk) in
       record {
         passed = s .passed ++ (next .first ∷ []);
         rest = next .later;
         walk = record-passed (s .rest) l (s .walk);
-        lead = s .lead ∙ rw (lead-first l e) (records-more (s .passed) (leading net (next .later)) (next .first));
-        dropped = rw (nodes-more (s .passed) (next .first)) (dropped-append (s .dropped) (rw (s .dropped .marks-set .long, record-path (s .rest) l (s .walk)) at t));
-        on = ltb-true (at + 6 + getD log (at + 5) 0) until;
-        off = leading-end net (next .later) (record-passed (s .rest) l (s .walk));
+        all = s .all ∙ ap (λ (rs : List Record). s .passed ++ rs) (next .is) ∙ records-more (s .passed) (next .later) (next .first);
+        done = rw (nodes-more (s .passed) (next .first), ← record-path (s .rest) l (s .walk)) (more (pathNodes (s .passed)) (s .done));
       }
 
-  -- a record of another net ends it
-  pub dropping-other : at < until → (getD log (at + 1) 0 ≡ net → ⊥) → Dropping from until net log users marks usersNow marksNow at false
-  dropping-other l e =
-      let next = passing-next (s .rest) l (s .walk) in
-      record {
-        passed = s .passed;
-        rest = s .rest;
-        walk = s .walk;
-        lead = s .lead;
-        dropped = s .dropped;
-        on = λ t. absurd (true≢false (sym t));
-        off = λ t. ap (leading net) (next .is) ∙ leading-other net (next .first) (next .later) (λ q. e (next .words-at .net-at ∙ q));
-      }
+  pub walking-all : until ≤ at → Done (pathNodes (decode (slice from until log)))
+  walking-all l = rw (s .all, passing-end (s .rest) l (s .walk), append-nil) (s .done)
 
-  passed-all : go ≡ false → leading net (decode (slice from until log)) ≡ s .passed
-  passed-all t = s .lead ∙ rw (s .off t) (append-nil (s .passed))
-
-  pub dropping-place : go ≡ false → at ≡ from + length (encode (leading net (decode (slice from until log))))
-  dropping-place t = rw (passed-all t) (s .walk .here)
-
-  pub dropping-all : go ≡ false → Dropped (length marks) (pathNodes (leading net (decode (slice from until log)))) users marks usersNow marksNow
-  dropping-all t = rw (passed-all t) (s .dropped)
-
--- what is left of the part, nothing where the loop stops, falls
-module _ (at until : ℕ) {go : Bool} (t : go ≡ true) (l : at < until) where
-  pub less-on : (end : ℕ) → at < end → choose (ltb end until) (until - end) 0 < choose go (until - at) 0
-  less-on end h =
-      ⊎-elim
-      (λ (q : ltb end until ≡ true). rw (q, t) (omega (arith, ltb-true end until q)))
-      (λ (q : ltb end until ≡ false). rw (q, t) (omega arith))
-      (either-way (ltb end until))
-
-  pub less-off : 0 < choose go (until - at) 0
-  less-off = rw t (omega arith)
+-- the nodes of the next record can be dropped, where those of all could
+pub walking-can :
+    {from until at : ℕ} {log users marks usersNow marksNow : List ℕ} (s : Walking (length marks) from until log at (λ xs. Dropped (length marks) xs users marks usersNow marksNow))
+    → at < until → CanDrop (length marks) (pathNodes (decode (slice from until log))) users marks
+    → CanDrop (length marks) (slice (at + 6) (at + 6 + getD log (at + 5) 0) log) usersNow marksNow
+walking-can {from} {until} {at} {log} {users} {marks} {usersNow} {marksNow} s l can =
+    let here = slice (at + 6) (at + 6 + getD log (at + 5) 0) log in
+    let after = pathNodes (passing-next (s .rest) l (s .walk) .later) in
+    can-drop-left usersNow marksNow here after (can-drop-rest (here ++ after) (rw (walking-nodes s l) at can) (s .done))

@@ -24,6 +24,18 @@ use Rattle.negotiation.proofs.JobLaws.{sound-job}
 use Rattle.negotiation.proofs.RefusalLaws.{route-table, route-work, route-unreachable, route-run}
 use Rattle.negotiation.proofs.DemandHolds.{demand-3}
 
+-- the test before iteration 1 finds no sink without a path
+pub none-missing : (j : Job) (found : Reach) → reachNumbers found ≡ missing j → found ≡ All → nets j ≤ unreachableNet j
+none-missing j found tested f =
+    let e : [] ≡ missing j = subst (λ (x : Reach). reachNumbers x ≡ missing j) f tested in
+    ⊎-elim
+    (λ (l : nets j ≤ unreachableNet j). l)
+    (λ (l : unreachableNet j < nets j).
+    let q : missing j ≡ unreachableNet j ∷ unreachablePlace j ∷ [] = rw (lt-ltb (unreachableNet j) (nets j) l) in
+    let z : _≡_ {A = ℕ} 0 1 = cc in
+    absurd (omega arith))
+    (le-or-lt (nets j) (unreachableNet j))
+
 module _ (j : Job) (work log : List ℕ) where
   -- what the contract says of an answer
   abbrev pub Answered : RouteReply → Type 0
@@ -59,7 +71,7 @@ module _ (j : Job) (work log : List ℕ) where
       unfolding cleared
       clean = rw past (ap (λ (k : ℕ). replicate k 0 ++ drop (workNeeded (nodes j)) work) (sym (sub-zero (workNeeded (nodes j)))))
 
-      -- some sink is missing, or none
+      -- which sink is missing
       is-missing : (net place : ℕ) → found ≡ Missing net place → (unreachableNet j < nets j) × (net ≡ unreachableNet j) × (place ≡ unreachablePlace j)
       is-missing net place f =
           let e : (net ∷ place ∷ []) ≡ missing j = subst (λ (x : Reach). reachNumbers x ≡ missing j) f tested in
@@ -71,17 +83,6 @@ module _ (j : Job) (work log : List ℕ) where
           (λ (l : unreachableNet j < nets j).
           let q : missing j ≡ unreachableNet j ∷ unreachablePlace j ∷ [] = rw (lt-ltb (unreachableNet j) (nets j) l) in
           (l, (cc), (cc)))
-          (le-or-lt (nets j) (unreachableNet j))
-
-      is-none : found ≡ All → nets j ≤ unreachableNet j
-      is-none f =
-          let e : [] ≡ missing j = subst (λ (x : Reach). reachNumbers x ≡ missing j) f tested in
-          ⊎-elim
-          (λ (l : nets j ≤ unreachableNet j). l)
-          (λ (l : unreachableNet j < nets j).
-          let q : missing j ≡ unreachableNet j ∷ unreachablePlace j ∷ [] = rw (lt-ltb (unreachableNet j) (nets j) l) in
-          let z : _≡_ {A = ℕ} 0 1 = cc in
-          absurd (omega arith))
           (le-or-lt (nets j) (unreachableNet j))
 
       cleared-same : cleared (nodes j) [] w ≡ cleared (nodes j) [] work
@@ -108,4 +109,4 @@ module _ (j : Job) (work log : List ℕ) where
       pub run-answered :
           (r : RouteAnswer) (w′ log′ : List ℕ) → found ≡ All → routeReplyOf r w′ log′ ≡ negotiated j w log → Answered (routeReplyOf r w′ log′)
       run-answered r w′ log′ f e =
-          answered (routeReplyOf r w′ log′) (e ∙ run-same ∙ sym (route-run j work log fine enough (is-none f)))
+          answered (routeReplyOf r w′ log′) (e ∙ run-same ∙ sym (route-run j work log fine enough (none-missing j found tested f)))

@@ -1,51 +1,34 @@
--- Lists, log, counts and trees across one turn of a net, and across the count of its new tree.
+-- Lists, log and trees across one turn of a net.
 -- Assumes nothing.
-use mathlib.Core.Bool.{Bool, true, false, not}
+use mathlib.Core.Bool.{true, false}
 use mathlib.Core.List.{List, [], _∷_, _++_, append-assoc, append-nil}
 use mathlib.Core.Logic.{⊎-elim}
 use mathlib.Core.Path.{_≡_, refl, sym, _∙_}
 use Prim.Native.Nat.{ℕ, zero, suc, _+_, _-_, _≤_, _<_}
-use native.Mathlib.Nat.{not-suc-le-zero, le-of-suc-le-suc, eq-or-lt-of-le}
+use native.Mathlib.Nat.{not-suc-le-zero}
 use native.Mathlib.Numerals.{add-one}
 use native.Mathlib.Omega.{arith}
-use lib.Dec.{eqb}
 use lib.ListN.{length, getD, take, drop, set, length-append, length-drop, List·getD-append}
-use lib.Seq.{slice, length-take-le, getD-take, ext-getD, take-append-seam, drop-append-seam, drop-append-add, drop-drop, getD-append-add, getD-set-same, getD-set-other}
-use borrow.Author.Tests.{eq-eqb, ne-eqb, eqb-false, lt-ltb, le-leb}
+use lib.Seq.{slice, take-append-seam, drop-append-seam, drop-append-add, drop-drop, getD-append-add}
+use borrow.Author.Tests.{lt-ltb, le-leb}
 use Rattle.price.specs.Bounds.{historyMost, othersMost}
-use Rattle.price.specs.Test.{choose, both}
-use Rattle.price.specs.Lists.{has, countBelow}
+use Rattle.price.specs.Test.{choose}
+use Rattle.price.specs.Lists.{has}
 use Rattle.price.proofs.TestLaws.{either-way, le-or-lt, both-true}
 use Rattle.price.proofs.ListLaws.{has-append-left, has-append-right, getD-upTo}
-use Rattle.price.proofs.BelowLaws.{count-same}
 use Rattle.search.specs.Turn.{Congestion, joins, stuck}
 use Rattle.search.specs.Replies.{nodeSound}
-use Rattle.negotiation.specs.Job.{Job, nodes, nets, netSinks}
+use Rattle.negotiation.specs.Job.{Job, nodes, netSinks}
 use Rattle.negotiation.specs.Records.{Record, recordOf, words, encode, pathNodes}
-use Rattle.negotiation.specs.Machine.{State, treeAt, usersOf, othersOf, marksOf, turnOf, turnsOf, netRecords, treeFrom, due, afterNets}
+use Rattle.negotiation.specs.Machine.{State, marksOf, turnOf, turnsOf, due, afterNets}
 use Rattle.negotiation.specs.Outcome.{logWith}
 use Rattle.negotiation.specs.Steps.{AllBelow}
 use Rattle.negotiation.specs.TariffSteps.{loggedTariff}
 use Rattle.negotiation.specs.declared.tariff.Tariff.{Tariff}
-use Rattle.negotiation.proofs.StateLaws.{routed-next}
 use Rattle.negotiation.proofs.RecordLaws.{words-length, encode-append}
 use Rattle.negotiation.proofs.MemberLaws.{lacks-append}
 use Rattle.negotiation.proofs.FilterLaws.{All}
 use Rattle.negotiation.proofs.KeepLaws.{Tallied}
-
--- ---- the first n entries
-
-pub front-is : (n : ℕ) (xs ys : List ℕ) → n ≤ length xs → length ys ≡ n → ((v : ℕ) → v < n → getD xs v 0 ≡ getD ys v 0) → take n xs ≡ ys
-front-is n xs ys long short same =
-    let l : length (take n xs) ≡ n = length-take-le n xs long in
-    ext-getD 0 (take n xs) ys (l ∙ sym short)
-    (λ v h. let b : v < n = rw l at h in getD-take n xs v 0 b ∙ same v b)
-
-pub front-at : (n : ℕ) (xs rest : List ℕ) → length xs ≡ n → (v : ℕ) → v < n → getD (xs ++ rest) v 0 ≡ getD xs v 0
-front-at n xs rest long v h = List·getD-append xs rest 0 v (rw long h)
-
-pub front-long : (n : ℕ) (xs rest : List ℕ) → length xs ≡ n → n ≤ length (xs ++ rest)
-front-long n xs rest long = omega (arith, length-append xs rest)
 
 -- ---- what the search asks of a node
 
@@ -176,44 +159,8 @@ unfolding pathNodes
 paths-below n [] h k l = absurd (not-suc-le-zero l)
 paths-below n (r ∷ rs) h k l = below-append n (r .path) (pathNodes rs) (h .0) (paths-below n rs (h .1)) k l
 
--- ---- users
+-- ---- a net that is not due keeps all as it is
 
--- all that pass, but for one, and that one
-count-with : (t : ℕ → Bool) (n i : ℕ) → i < n → countBelow t n ≡ countBelow (λ k. both (not (eqb k i)) (t k)) n + choose (t i) 1 0
-unfolding countBelow
-count-with t zero i h = absurd (not-suc-le-zero h)
-count-with t (suc n) i h =
-    ⊎-elim
-    (λ (e : i ≡ n).
-    let same : countBelow t n ≡ countBelow (λ k. both (not (eqb k n)) (t k)) n =
-    count-same t (λ k. both (not (eqb k n)) (t k)) n (λ k l. rw (ne-eqb k n (λ q. omega arith))) in
-    rw (e, eq-eqb n n refl) (omega arith))
-    (λ (l : i < n).
-    let rest = count-with t n i l in
-    rw (ne-eqb n i (λ q. omega arith)) (omega arith))
-    (eq-or-lt-of-le (le-of-suc-le-suc h))
-
--- a net's new tree is counted beside the others'
-pub users-with :
-    (j : Job) (trees : List (List ℕ)) (i : ℕ) (tree : List ℕ) (v : ℕ) → i < nets j → i < length trees
-    → usersOf j (set trees i tree) v ≡ othersOf j trees i v + choose (has v tree) 1 0
-unfolding usersOf othersOf
-users-with j trees i tree v h l =
-    count-with (λ k. has v (treeAt (set trees i tree) k)) (nets j) i h
-    ∙ rw (
-      getD-set-same trees i tree [] l,
-      count-same (λ k. both (not (eqb k i)) (has v (treeAt (set trees i tree) k))) (λ k. both (not (eqb k i)) (has v (treeAt trees k))) (nets j)
-          (λ k b. ⊎-elim
-          (λ (q : eqb k i ≡ true). rw q)
-          (λ (q : eqb k i ≡ false). rw (q, getD-set-other trees i k tree [] (eqb-false k i q)))
-          (either-way (eqb k i))),
-    )
-
--- ---- a net that is due is routed
-
-module _ (j : Job) (s : State) (i : ℕ) (d : due j s i ≡ true) where
-  pub routed-records : afterNets j s (i + 1) .records ≡ afterNets j s i .records ++ netRecords j (afterNets j s i .state) i
-  routed-records = rw (add-one, routed-next j s i d)
-
-  pub routed-trees : afterNets j s (i + 1) .state .trees ≡ set (afterNets j s i .state .trees) i (treeFrom j i (netRecords j (afterNets j s i .state) i))
-  routed-trees = rw (add-one, routed-next j s i d)
+pub idle-next : (j : Job) (s : State) (i : ℕ) → due j s i ≡ false → afterNets j s (i + 1) ≡ afterNets j s i
+unfolding afterNets
+idle-next j s i d = rw (add-one, d)

@@ -4,8 +4,8 @@ use mathlib.Core.Bool.{Bool, true}
 use mathlib.Core.List.{List, [], _∷_, _++_}
 use mathlib.Core.Path.{_≡_}
 use Prim.Native.Nat.{ℕ, _+_, _*_, _-_, _≤_, _<_}
-use lib.Dec.{eqb, leb, ltb}
-use lib.ListN.{length, getD, take, drop}
+use lib.Dec.{eqb, ltb}
+use lib.ListN.{length, getD, take, drop, set, replicate}
 use lib.Seq.{slice}
 use Rattle.price.specs.Test.{choose, both}
 use Rattle.price.specs.Lists.{every, has, distinct}
@@ -15,8 +15,9 @@ use Rattle.search.specs.Block.{Block}
 use Rattle.search.specs.Tables.{Sound}
 use Rattle.search.specs.Turn.{Congestion, congestionOf, Turn, joins, stuck}
 use Rattle.search.specs.Replies.{nodeSound, sinkListSound}
-use Rattle.negotiation.specs.Job.{Job, nets, jobOf}
-use Rattle.negotiation.specs.Tables.{SoundJob, sourceKind, sinkKind}
+use Rattle.negotiation.specs.Job.{Job, nodes, nets, jobOf}
+use Rattle.negotiation.specs.Tables.{sourceKind, sinkKind}
+use Rattle.negotiation.specs.Routable.{Routable}
 use Rattle.negotiation.specs.Outcome.{unreachableNet, unreachablePlace}
 use Rattle.negotiation.specs.TariffSteps.{loggedTariff}
 use Rattle.negotiation.specs.declared.Terms.{Terms}
@@ -27,7 +28,7 @@ use Rattle.negotiation.specs.declared.turns.TurnMade.{TurnMade}
 use Rattle.negotiation.specs.declared.turns.TurnMade.the-variants.{Nothing, Full, Logged}
 use Rattle.negotiation.specs.declared.reach.Reach.{Reach}
 use Rattle.negotiation.specs.declared.reach.Reach.the-variants.{All, Missing}
-use Rattle.negotiation.specs.Records.{Record, recordOf, words, encode, decode, pathNodes}
+use Rattle.negotiation.specs.Records.{recordOf, words, encode, decode, pathNodes}
 
 -- the test of a pin's kind
 abbrev pub pinKind : Pin → ℕ → Bool
@@ -76,11 +77,6 @@ pub record Whole (n : ℕ) (ws : List ℕ) : Type 0 where
   pub whole : encode (decode ws) ≡ ws
   pub nodes-below : AllBelow n (pathNodes (decode ws))
 
--- the records of net i at the beginning
-unfoldable pub leading : ℕ → List Record → List Record
-leading i [] = []
-leading i (r ∷ rs) = choose (eqb (r .net) i) (r ∷ leading i rs) []
-
 -- entries from a place on stay
 pub record SameFrom (lo : ℕ) (old new : List ℕ) : Type 0 where
   pub long : length new ≡ length old
@@ -101,43 +97,35 @@ abbrev pub reachNumbers : Reach → List ℕ
 reachNumbers All = []
 reachNumbers (Missing net place) = net ∷ place ∷ []
 
--- a capacity table and terms with which these tables are a sound job
-pub record SoundWith (kinds firstEdges edgeTargets sources firstSinks sinks : List ℕ) : Type 0 where
+-- a capacity table and terms with which a job of these tables can be routed
+pub record RoutableWith (kinds firstEdges edgeTargets sources firstSinks sinks : List ℕ) : Type 0 where
   pub capacities : List ℕ
   pub terms : Terms
-  pub sound : SoundJob (jobOf kinds capacities firstEdges edgeTargets sources firstSinks sinks terms)
+  pub routable : Routable (jobOf kinds capacities firstEdges edgeTargets sources firstSinks sinks terms)
 
--- the test answers for every capacity table and terms with which these tables are a sound job: whether a path is there depends on neither
+-- the test answers for every capacity table and terms with which a job of these tables can be routed: whether a path is there depends on
+-- neither
 abbrev pub FirstMissing : (kinds firstEdges edgeTargets sources firstSinks sinks : List ℕ) → Reach → Type 0
 FirstMissing kinds firstEdges edgeTargets sources firstSinks sinks found =
     (capacities : List ℕ) (terms : Terms)
-    → SoundJob (jobOf kinds capacities firstEdges edgeTargets sources firstSinks sinks terms)
+    → Routable (jobOf kinds capacities firstEdges edgeTargets sources firstSinks sinks terms)
     → reachNumbers found ≡ missing (jobOf kinds capacities firstEdges edgeTargets sources firstSinks sinks terms)
 
 -- ---- a net's old and new tree
-
--- the tree that a net drops: none in iteration 1, else its source and the nodes of its old records
-abbrev pub oldTree : ℕ → ℕ → List Record → List ℕ
-oldTree iteration from rs = choose (leb iteration 1) [] (from ∷ pathNodes rs)
-
--- where the next net's old records begin
-abbrev pub oldNext : ℕ → ℕ → List Record → ℕ
-oldNext iteration at rs = choose (leb iteration 1) at (at + length (encode rs))
 
 -- no node is marked
 abbrev pub NoMarks : ℕ → List ℕ → Type 0
 NoMarks n marks = (v : ℕ) → v < n → getD marks v 0 ≡ 0
 
--- a net's old records stand in the log, and each node of its old tree has a user
-pub record RipReady (n : ℕ) (iteration net from at until : ℕ) (log users marks : List ℕ) : Type 0 where
+-- a net's tree stands in the log between two places, and each node of it has a user
+pub record RipReady (n from to : ℕ) (log users marks : List ℕ) : Type 0 where
   pub users-long : length users ≡ n
   pub marks-long : length marks ≡ n
-  pub from-node : from < n
-  pub order : at ≤ until
-  pub within : until ≤ length log
-  pub whole : Whole n (slice at until log)
+  pub order : from ≤ to
+  pub within : to ≤ length log
+  pub whole : Whole n (slice from to log)
   pub no-marks : NoMarks n marks
-  pub used : (v : ℕ) → v < n → has v (oldTree iteration from (leading net (decode (slice at until log)))) ≡ true → 1 ≤ getD users v 0
+  pub used : (v : ℕ) → v < n → has v (pathNodes (decode (slice from to log))) ≡ true → 1 ≤ getD users v 0
 
 -- each node of the old tree has one user less
 pub record RippedUp (n : ℕ) (tree users marks users′ marks′ : List ℕ) : Type 0 where
@@ -146,15 +134,14 @@ pub record RippedUp (n : ℕ) (tree users marks users′ marks′ : List ℕ) : 
   pub no-marks : NoMarks n marks′
   pub users-at : (v : ℕ) → v < n → getD users′ v 0 ≡ getD users v 0 - choose (has v tree) 1 0
 
--- the tree of source and records is marked, and there is room for one user more
-pub record CountReady (n : ℕ) (from at until : ℕ) (log users marks : List ℕ) : Type 0 where
+-- the nodes of the records between two places are marked, and there is room for one user more
+pub record CountReady (n from to : ℕ) (log users marks : List ℕ) : Type 0 where
   pub users-long : length users ≡ n
   pub marks-long : length marks ≡ n
-  pub from-node : from < n
-  pub order : at ≤ until
-  pub within : until ≤ length log
-  pub whole : Whole n (slice at until log)
-  pub marked : (v : ℕ) → v < n → getD marks v 0 ≡ choose (has v (from ∷ pathNodes (decode (slice at until log)))) 1 0
+  pub order : from ≤ to
+  pub within : to ≤ length log
+  pub whole : Whole n (slice from to log)
+  pub marked : (v : ℕ) → v < n → getD marks v 0 ≡ choose (has v (pathNodes (decode (slice from to log)))) 1 0
   pub room : (v : ℕ) → v < n → getD users v 0 < usersMost
 
 -- each node of the tree has one user more
@@ -163,6 +150,53 @@ pub record Counted (n : ℕ) (tree users marks users′ marks′ : List ℕ) : T
   pub marks-long : length marks′ ≡ length marks
   pub no-marks : NoMarks n marks′
   pub users-at : (v : ℕ) → v < n → getD users′ v 0 ≡ getD users v 0 + choose (has v tree) 1 0
+
+-- ---- a net in an iteration
+
+-- net i has its place in each list, and its tree stands in the log
+pub record BeginReady (log sources firstSinks : List ℕ) (i : ℕ) (dues from to users marks : List ℕ) : Type 0 where
+  pub source-listed : i < length sources
+  pub source-node : getD sources i 0 < length marks
+  pub sinks-listed : i + 1 < length firstSinks
+  pub sinks-order : getD firstSinks i 0 ≤ getD firstSinks (i + 1) 0
+  pub due-listed : i < length dues
+  pub from-listed : i < length from
+  pub to-listed : i < length to
+  pub old : RipReady (length marks) (getD from i 0) (getD to i 0) log users marks
+
+-- a net that is due has dropped its old tree, and its source is marked
+pub record Begun (log sources firstSinks : List ℕ) (i : ℕ) (from to users marks : List ℕ) (left : ℕ) (users′ marks′ : List ℕ)
+    : Type 0 where
+  pub left-is : left ≡ getD firstSinks (i + 1) 0 - getD firstSinks i 0
+  pub bare : List ℕ
+  pub ripped : RippedUp (length marks) (pathNodes (decode (slice (getD from i 0) (getD to i 0) log))) users marks users′ bare
+  pub marks-is : marks′ ≡ set bare (getD sources i 0) 1
+
+-- a net that is not due leaves all as it is
+pub record Idle (left : ℕ) (users marks users′ marks′ : List ℕ) : Type 0 where
+  pub none-left : left ≡ 0
+  pub users-same : users′ ≡ users
+  pub marks-same : marks′ ≡ marks
+
+-- net i has its place in each list; if it is due, its new tree can be counted
+pub record EndReady (log : List ℕ) (i first until : ℕ) (dues users marks from to : List ℕ) : Type 0 where
+  pub due-listed : i < length dues
+  pub from-listed : i < length from
+  pub to-listed : i < length to
+  pub countable : (getD dues i 0 ≡ 0 → ⊥) → CountReady (length marks) first until log users marks
+
+-- a net that is due counts its new tree, and keeps where it stands
+pub record Ended (log : List ℕ) (i first until : ℕ) (users marks from to users′ marks′ from′ to′ : List ℕ) : Type 0 where
+  pub counted : Counted (length marks) (pathNodes (decode (slice first until log))) users marks users′ marks′
+  pub from-is : from′ ≡ set from i first
+  pub to-is : to′ ≡ set to i until
+
+-- one that is not leaves all as it is
+pub record Passed (users marks from to users′ marks′ from′ to′ : List ℕ) : Type 0 where
+  pub users-same : users′ ≡ users
+  pub marks-same : marks′ ≡ marks
+  pub from-same : from′ ≡ from
+  pub to-same : to′ ≡ to
 
 -- ---- one turn
 
@@ -209,3 +243,18 @@ pub record CanTurn (b : Block) (tariff : Tariff) (net : ℕ) (sinks history user
   pub sinks-sound : sinkListSound (block.nodes b) sinks ≡ true
   pub within : tariff .words ≤ length log
   pub few-turns : tariff .turns ≤ tariff .words
+
+-- ---- a run
+
+-- the lists and the tariff of a run that begins: history 1, no users, no tree
+pub record Starts (j : Job) (t : Tariff) (history users marks from to dues : List ℕ) : Type 0 where
+  pub iteration-is : t .iteration ≡ 1
+  pub factor-is : t .factor ≡ 0
+  pub turns-is : t .turns ≡ 0
+  pub words-is : t .words ≡ 0
+  pub history-is : history ≡ replicate (nodes j) 1
+  pub users-is : users ≡ replicate (nodes j) 0
+  pub no-marks : marks ≡ replicate (nodes j) 0
+  pub from-is : from ≡ replicate (nets j) 0
+  pub to-is : to ≡ replicate (nets j) 0
+  pub due-long : length dues ≡ nets j

@@ -7,6 +7,9 @@ ghost use Rattle.negotiation.specs.Demand.{Demand3};
 // The most nodes of a block: the router keeps a mark, a history and a count of users for each.
 const NODES_MOST: usize = 4096;
 
+// The most nets.
+const NETS_MOST: usize = 512;
+
 // What a job asks beside its seven tables: the limit of iterations and the tuning of the tariff. A refusal counts it as table 8.
 pub struct Terms {
     pub limit: u32,
@@ -38,8 +41,10 @@ pub struct RouteAnswer {
 }
 
 mod congestion;
+mod due;
 mod flood;
 mod job_terms;
+mod nets;
 mod pins;
 mod reach;
 mod records;

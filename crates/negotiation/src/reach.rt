@@ -1,7 +1,7 @@
 // Whether every sink has a path from its source, before iteration 1.
 ghost use Prim.Native.Nat.{_*_, _≤_};
 ghost use lib.ListN.{length};
-ghost use Rattle.negotiation.specs.Steps.{SameFrom, SoundWith, FirstMissing};
+ghost use Rattle.negotiation.specs.Steps.{SameFrom, RoutableWith, FirstMissing};
 use crate::NODES_MOST;
 use crate::flood;
 
@@ -21,7 +21,7 @@ pub fn unreachable(
     sink: &[u16],
     work: &mut [u64],
 ) -> Reach
-    requires { ⌜ SoundWith (now kind) (now «first_edge») (now «edge_target») (now source) (now «first_sink») (now sink) ⌝ }
+    requires { ⌜ RoutableWith (now kind) (now «first_edge») (now «edge_target») (now source) (now «first_sink») (now sink) ⌝ }
     requires { ⌜ 8 * length (now kind) ≤ length (now work) ⌝ }
     ensures { λ r. ⌜ FirstMissing (now (kind .entry)) (now («first_edge» .entry)) (now («edge_target» .entry)) (now (source .entry))
         (now («first_sink» .entry)) (now (sink .entry)) r ⌝ }

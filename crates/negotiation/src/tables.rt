@@ -11,6 +11,7 @@ ghost use Rattle.search.specs.Tables.{faultyTable};
 ghost use Rattle.negotiation.specs.Job.{jobOf};
 ghost use Rattle.negotiation.specs.Steps.{AllBelow, Stored, sinksFree};
 ghost use Rattle.negotiation.specs.Tables.{netsMost, sourcesSound, firstSinksSound, netSound, sinksSound, faultyNets, faultyJob};
+use crate::NETS_MOST;
 use crate::NODES_MOST;
 use crate::Terms;
 use crate::job_terms;
@@ -18,9 +19,7 @@ use crate::pins;
 use crate::pins::Pin;
 use search::PathAnswer;
 
-// The most nets, and sinks of all nets.
-const NETS_MOST: usize = 512;
-
+// The most sinks of all nets.
 const SINKS_MOST: usize = 4096;
 
 fn sources_sound(n: usize, source: &[u16]) -> bool

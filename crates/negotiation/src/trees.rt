@@ -1,11 +1,11 @@
 // Route trees as the router keeps them: a mark for each node of the net that is routed, and for every node how many nets have it.
 // A net's old tree is read off the log.
 ghost use mathlib.Core.Path.{_≡_};
-ghost use Prim.Native.Nat.{_+_, _≤_, _<_};
+ghost use Prim.Native.Nat.{_≤_};
 ghost use lib.ListN.{length, take};
 ghost use lib.Seq.{slice};
-ghost use Rattle.negotiation.specs.Records.{encode, decode, pathNodes};
-ghost use Rattle.negotiation.specs.Steps.{AllBelow, Stored, Dropped, Added, CanDrop, CanAddMarked, Whole, leading};
+ghost use Rattle.negotiation.specs.Records.{decode, pathNodes};
+ghost use Rattle.negotiation.specs.Steps.{AllBelow, Stored, Dropped, Added, CanDrop, CanAddMarked, Whole};
 
 // The path at the beginning of the work slice joins the tree.
 pub fn mark_path(work: &[u64], count: usize, in_tree: &mut [u8])
@@ -76,40 +76,24 @@ fn unmark_path(log: &[u32], from: usize, to: usize, in_tree: &mut [u8])
     }
 }
 
-// The records of a net at the beginning of the words from `from` to below `until` lose their users. The answer is where the next net's
-// records begin.
-pub fn drop_records(
-    log: &[u32],
-    from: usize,
-    until: usize,
-    net: u32,
-    users: &mut [u16],
-    in_tree: &mut [u8],
-) -> usize
+// The nodes of the records from `from` to below `until` lose a user each, once, and are marked.
+pub fn drop_records(log: &[u32], from: usize, until: usize, users: &mut [u16], in_tree: &mut [u8])
     requires { ⌜ (from ≤ until) × (until ≤ length (now log)) × (length (now users) ≡ length (now «in_tree»)) ⌝ }
     requires { ⌜ Whole (length (now «in_tree»)) (slice from until (now log)) ⌝ }
     requires { do
-      let old = leading net (decode (slice from until (now log)))
-      ⌜ CanDrop (length (now «in_tree»)) (pathNodes old) (now users) (now «in_tree») ⌝ }
-    ensures { λ r. ⌜ r ≡ from + length (encode (leading net (decode (slice from until (now (log .entry)))))) ⌝ }
+      let old = pathNodes (decode (slice from until (now log)))
+      ⌜ CanDrop (length (now «in_tree»)) old (now users) (now «in_tree») ⌝ }
     ensures { λ _. do
-      let old = leading net (decode (slice from until (now (log .entry))))
+      let old = pathNodes (decode (slice from until (now (log .entry))))
       let marks = now («in_tree» .entry)
-      ⌜ Dropped (length marks) (pathNodes old) (now (users .entry)) marks (now (users .exit)) (now («in_tree» .exit)) ⌝ }
+      ⌜ Dropped (length marks) old (now (users .entry)) marks (now (users .exit)) (now («in_tree» .exit)) ⌝ }
 {
     let mut at = from;
-    let mut go = at < until;
-    while go {
-        if log[at + 1] == net {
-            let end = at + 6 + log[at + 5] as usize;
-            drop_path(log, at + 6, end, users, in_tree);
-            at = end;
-            go = at < until;
-        } else {
-            go = false;
-        }
+    while at < until {
+        let end = at + 6 + log[at + 5] as usize;
+        drop_path(log, at + 6, end, users, in_tree);
+        at = end;
     }
-    at
 }
 
 // The nodes of the records from `from` to below `until` lose their mark.

@@ -1,24 +1,24 @@
 // The negotiation itself: sinks within nets within iterations.
-ghost use mathlib.Core.List.{_∷_, _++_};
+ghost use mathlib.Core.List.{_++_};
 ghost use mathlib.Core.Path.{_≡_};
 ghost use Prim.Native.Nat.{_+_, _*_, _≤_, _<_};
 ghost use lib.ListN.{length, drop, replicate};
-ghost use lib.Seq.{slice};
 ghost use Rattle.price.specs.Bounds.{limitMost};
 ghost use Rattle.price.specs.Prices.{nextFactor};
 ghost use Rattle.search.specs.Block.{blockOf};
 ghost use Rattle.search.specs.Turn.{congestionOf, priceAt, turn};
-ghost use Rattle.negotiation.specs.Job.{jobOf};
-ghost use Rattle.negotiation.specs.Tables.{SoundJob};
-ghost use Rattle.negotiation.specs.Outcome.{negotiated, routeReplyOf};
-ghost use Rattle.negotiation.specs.Records.{decode, pathNodes};
-ghost use Rattle.negotiation.specs.Steps.{SameFrom, leading, oldTree, oldNext, RipReady, RippedUp};
-ghost use Rattle.negotiation.specs.Steps.{CountReady, Counted, TurnDone, CanTurn};
+ghost use Rattle.negotiation.specs.Job.{jobOf, nodes, nets};
+ghost use Rattle.negotiation.specs.Routable.{Routable};
+ghost use Rattle.negotiation.specs.Outcome.{unreachableNet, negotiated, routeReplyOf};
+ghost use Rattle.negotiation.specs.Steps.{SameFrom, TurnDone, CanTurn, Starts};
+use crate::NETS_MOST;
 use crate::NODES_MOST;
 use crate::Outcome;
 use crate::RouteAnswer;
 use crate::Terms;
 use crate::congestion;
+use crate::due;
+use crate::nets;
 use crate::records;
 use crate::tariff;
 use crate::tariff::Tariff;
@@ -66,57 +66,6 @@ pub fn clear(work: &mut [u64], to: usize)
     while k < to {
         work[k] = 0;
         k += 1;
-    }
-}
-
-// The net's old tree is dropped: its nodes lose a user each. The answer is where the next net's old records begin.
-fn rip_up(
-    log: &[u32],
-    at: usize,
-    until: usize,
-    iteration: u32,
-    net: u32,
-    from: usize,
-    users: &mut [u16],
-    in_tree: &mut [u8],
-) -> usize
-    requires { ⌜ RipReady (length (now «in_tree»)) iteration net from at until (now log) (now users) (now «in_tree») ⌝ }
-    ensures { λ r. ⌜ r ≡ oldNext iteration at (leading net (decode (slice at until (now (log .entry))))) ⌝ }
-    ensures { λ _. do
-      let tree = oldTree iteration from (leading net (decode (slice at until (now (log .entry)))))
-      let marks = now («in_tree» .entry)
-      ⌜ RippedUp (length marks) tree (now (users .entry)) marks (now (users .exit)) (now («in_tree» .exit)) ⌝ }
-{
-    if iteration <= 1 {
-        return at;
-    }
-    in_tree[from] = 1;
-    users[from] -= 1;
-    let next = trees::drop_records(log, at, until, net, users, in_tree);
-    trees::unmark_records(log, at, next, in_tree);
-    in_tree[from] = 0;
-    next
-}
-
-// The net's new tree counts: its nodes gain a user each, and lose their mark.
-fn count_tree(
-    log: &[u32],
-    at: usize,
-    until: usize,
-    from: usize,
-    users: &mut [u16],
-    in_tree: &mut [u8],
-)
-    requires { ⌜ CountReady (length (now «in_tree»)) from at until (now log) (now users) (now «in_tree») ⌝ }
-    ensures { λ _. do
-      let tree = from ∷ pathNodes (decode (slice at until (now (log .entry))))
-      let marks = now («in_tree» .entry)
-      ⌜ Counted (length marks) tree (now (users .entry)) marks (now (users .exit)) (now («in_tree» .exit)) ⌝ }
-{
-    trees::add_records(log, at, until, users, in_tree);
-    if in_tree[from] == 1 {
-        in_tree[from] = 0;
-        users[from] += 1;
     }
 }
 
@@ -179,9 +128,9 @@ fn one_turn(
     TurnMade::Logged(tariff::turn_logged(tariff, 6 + count))
 }
 
-// The negotiation: in each iteration every net in order drops its old tree and makes turns until its sinks are joined. Routing stops inside
-// a net at the first turn whose record does not fit.
-pub fn negotiate(
+// The iterations: in each every net that is due, in order, drops its old tree and makes turns until its sinks are joined. Routing stops
+// inside a net at the first turn whose record does not fit.
+fn go_on(
     kind: &[u8],
     capacity: &[u8],
     first_edge: &[u32],
@@ -190,49 +139,47 @@ pub fn negotiate(
     first_sink: &[u32],
     sink: &[u16],
     terms: Terms,
+    begun: Tariff,
+    history: &mut [u32],
+    users: &mut [u16],
+    in_tree: &mut [u8],
+    tree_from: &mut [usize],
+    tree_to: &mut [usize],
+    due: &mut [u8],
     work: &mut [u64],
     log: &mut [u32],
 ) -> RouteAnswer
-    requires { ⌜ SoundJob (jobOf (now kind) (now capacity) (now «first_edge») (now «edge_target»)
-        (now source) (now «first_sink») (now sink) terms) ⌝ }
-    requires { ⌜ 8 * length (now kind) ≤ length (now work) ⌝ }
+    requires { do
+      let job = jobOf (now kind) (now capacity) (now «first_edge») (now «edge_target») (now source) (now «first_sink») (now sink) terms
+      ⌜ Routable job × (nets job ≤ unreachableNet job) × (8 * nodes job ≤ length (now work)) ⌝ }
+    requires { do
+      let job = jobOf (now kind) (now capacity) (now «first_edge») (now «edge_target») (now source) (now «first_sink») (now sink) terms
+      ⌜ Starts job begun (now history) (now users) (now «in_tree») (now «tree_from») (now «tree_to») (now due) ⌝ }
     ensures { λ r. do
       let job = jobOf (now (kind .entry)) (now (capacity .entry)) (now («first_edge» .entry)) (now («edge_target» .entry))
           (now (source .entry)) (now («first_sink» .entry)) (now (sink .entry)) terms
       ⌜ routeReplyOf r (now (work .exit)) (now (log .exit)) ≡ negotiated job (now (work .entry)) (now (log .entry)) ⌝ }
 {
     let n = kind.len();
-    let mut history = [1u32; NODES_MOST];
-    let mut users = [0u16; NODES_MOST];
-    let mut in_tree = [0u8; NODES_MOST];
-    let mut tariff = Tariff {
-        iteration: 1,
-        factor: 0,
-        turns: 0,
-        words: 0,
-    };
-    let mut old = 0;
+    let mut tariff = begun;
     'iterations: loop {
-        let start = tariff.words;
+        due::mark_due(first_sink, due);
         let mut net = 0;
         while net < source.len() {
-            let s = source[net] as usize;
             let from = first_sink[net] as usize;
             let to = first_sink[net + 1] as usize;
-            let iteration = tariff.iteration;
-            old = rip_up(
-                log,
-                old,
-                start,
-                iteration,
-                net as u32,
-                s,
-                &mut users[..n],
-                &mut in_tree[..n],
-            );
             let first = tariff.words;
-            in_tree[s] = 1;
-            let mut left = to - from;
+            let mut left = nets::begin_net(
+                log,
+                source,
+                first_sink,
+                net,
+                due,
+                tree_from,
+                tree_to,
+                users,
+                in_tree,
+            );
             while 0 < left {
                 match one_turn(
                     kind,
@@ -244,9 +191,9 @@ pub fn negotiate(
                     tariff,
                     work,
                     log,
-                    &history[..n],
-                    &users[..n],
-                    &mut in_tree[..n],
+                    history,
+                    users,
+                    in_tree,
                 ) {
                     TurnMade::Nothing => {}
                     TurnMade::Full => {
@@ -259,10 +206,20 @@ pub fn negotiate(
                 left -= 1;
             }
             let until = tariff.words;
-            count_tree(log, first, until, s, &mut users[..n], &mut in_tree[..n]);
+            nets::end_net(
+                log,
+                net,
+                first,
+                until,
+                due,
+                users,
+                in_tree,
+                tree_from,
+                tree_to,
+            );
             net += 1;
         }
-        let over = congestion::over_count(capacity, &users[..n]);
+        let over = congestion::over_count(capacity, users);
         if over == 0 {
             clear(work, 8 * n);
             return answer(Outcome::Accepted, tariff);
@@ -271,10 +228,65 @@ pub fn negotiate(
             clear(work, 8 * n);
             return answer(Outcome::Limit(over), tariff);
         }
-        congestion::grow_histories(terms.tuning, capacity, &users[..n], &mut history[..n]);
+        congestion::grow_histories(terms.tuning, capacity, users, history);
         tariff = next_iteration(tariff, terms.tuning);
-        old = start;
     }
     clear(work, 8 * n);
     answer(Outcome::LogFull, tariff)
+}
+
+// The negotiation: the lists of a run that begins, and its iterations.
+pub fn negotiate(
+    kind: &[u8],
+    capacity: &[u8],
+    first_edge: &[u32],
+    edge_target: &[u16],
+    source: &[u16],
+    first_sink: &[u32],
+    sink: &[u16],
+    terms: Terms,
+    work: &mut [u64],
+    log: &mut [u32],
+) -> RouteAnswer
+    requires { do
+      let job = jobOf (now kind) (now capacity) (now «first_edge») (now «edge_target») (now source) (now «first_sink») (now sink) terms
+      ⌜ Routable job × (nets job ≤ unreachableNet job) × (8 * nodes job ≤ length (now work)) ⌝ }
+    ensures { λ r. do
+      let job = jobOf (now (kind .entry)) (now (capacity .entry)) (now («first_edge» .entry)) (now («edge_target» .entry))
+          (now (source .entry)) (now («first_sink» .entry)) (now (sink .entry)) terms
+      ⌜ routeReplyOf r (now (work .exit)) (now (log .exit)) ≡ negotiated job (now (work .entry)) (now (log .entry)) ⌝ }
+{
+    let n = kind.len();
+    let nets = source.len();
+    let mut history = [1u32; NODES_MOST];
+    let mut users = [0u16; NODES_MOST];
+    let mut in_tree = [0u8; NODES_MOST];
+    let mut tree_from = [0usize; NETS_MOST];
+    let mut tree_to = [0usize; NETS_MOST];
+    let mut due = [0u8; NETS_MOST];
+    let begun = Tariff {
+        iteration: 1,
+        factor: 0,
+        turns: 0,
+        words: 0,
+    };
+    go_on(
+        kind,
+        capacity,
+        first_edge,
+        edge_target,
+        source,
+        first_sink,
+        sink,
+        terms,
+        begun,
+        &mut history[..n],
+        &mut users[..n],
+        &mut in_tree[..n],
+        &mut tree_from[..nets],
+        &mut tree_to[..nets],
+        &mut due[..nets],
+        work,
+        log,
+    )
 }

@@ -7,7 +7,9 @@ use native.Mathlib.Omega.{arith}
 use Rattle.search.proofs.BlockLaws.{kinds-few}
 use Rattle.negotiation.specs.Job.{Job, jobOf}
 use Rattle.negotiation.specs.Tables.{SoundJob}
-use Rattle.negotiation.proofs.RouteLaws.{table-refused, tables-sound, work-refused, unreachable-refused, run-answered}
+use Rattle.negotiation.specs.Routable.{Routable}
+use Rattle.negotiation.proofs.JobLaws.{routable-of}
+use Rattle.negotiation.proofs.RouteLaws.{table-refused, tables-sound, work-refused, unreachable-refused, none-missing, run-answered}
 use borrow.Author.Needs.{needs}
 use Rattle.negotiation.proofs.route.Statement.{statement}
 use Rattle.negotiation.proofs.route.Tie as tie
@@ -22,6 +24,9 @@ job c =
 -- no table is faulty
 sound : (c : tie.Else1) → SoundJob (job c)
 sound c = tables-sound _ [] [] _ (c .before .faulty-job .ensures) (c .if1 .left)
+
+routable : (c : tie.Else1) → Routable (job c)
+routable c = routable-of (job c) (sound c)
 
 faulty-job-requires : tie.Need-faulty-job-requires
 faulty-job-requires c κs = search needs
@@ -42,7 +47,7 @@ returns-2 : tie.Need-returns-2
 returns-2 c = work-refused _ _ _ _ (c .before .before .before .faulty-job .ensures) (c .before .before .if1 .left) _ (c .before .if2 .taken) (c .refused2 .ensures)
 
 unreachable-requires : tie.Need-unreachable-requires
-unreachable-requires c κs = (record { capacities = _; terms = _; sound = sound (c .before .before) }, c .before .if2 .left)
+unreachable-requires c κs = (record { capacities = _; terms = _; routable = routable (c .before .before) }, c .before .if2 .left)
 
 enum-known-net : tie.Need-enum-known-net
 enum-known-net c = search needs
@@ -58,10 +63,14 @@ enum-told c = search needs
 
 negotiate-requires : tie.Need-negotiate-requires
 negotiate-requires c κs =
-    let reached = c .before .before .before .before .before .before in
+    let told = c .before .before in
+    let reached = told .before .before .before .before in
     let long-enough = reached .before .before in
-    let tested = long-enough .before in
-    (sound tested, le-trans (long-enough .if2 .left) (le-of-eq (sym (reached .unreachable .ensures .1 .long))))
+    let tested = long-enough .before in (
+      routable tested,
+      none-missing (job tested) _ (reached .unreachable .ensures .0 _ _ (routable tested)) (told .enum-told .given .1),
+      le-trans (long-enough .if2 .left) (le-of-eq (sym (reached .unreachable .ensures .1 .long))),
+    )
 
 same-length : tie.Need-same-length
 same-length c = search needs
@@ -73,7 +82,7 @@ returns-3 c =
     let long-enough = reached .before .before in
     let tested = long-enough .before in
     unreachable-refused (job tested) _ _ _ (tested .before .faulty-job .ensures) (tested .if1 .left) (long-enough .if2 .left) _
-    (reached .unreachable .ensures .1) _ (reached .unreachable .ensures .0 _ _ (sound tested))
+    (reached .unreachable .ensures .1) _ (reached .unreachable .ensures .0 _ _ (routable tested))
     _ _ _ _ (found .net .given .1) (c .refused3 .ensures) (c .before .before .before .clear .ensures)
 
 same-length-2 : tie.Need-same-length-2
@@ -90,7 +99,7 @@ returns-4 c =
     let long-enough = reached .before .before in
     let tested = long-enough .before in
     run-answered (job tested) _ _ _ (tested .before .faulty-job .ensures) (tested .if1 .left) (long-enough .if2 .left) _
-    (reached .unreachable .ensures .1) _ (reached .unreachable .ensures .0 _ _ (sound tested))
+    (reached .unreachable .ensures .1) _ (reached .unreachable .ensures .0 _ _ (routable tested))
     (ran .negotiate .result) (ran .negotiate .last .1 .1 .1 .1 .1 .1 .1 .1 .0) (ran .negotiate .last .1 .1 .1 .1 .1 .1 .1 .1 .1 .0) (told .enum-told .given .1) (ran .negotiate .ensures)
 
 pub route-spec : {M : Type 1} → statement M

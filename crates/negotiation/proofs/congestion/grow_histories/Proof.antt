@@ -1,41 +1,18 @@
 -- `negotiation::congestion::grow_histories` meets its contract: after the turns up to v the histories below v have grown, the others stand.
 -- Assumes nothing.
-use mathlib.Core.List.{List, _++_, append-nil}
-use mathlib.Core.Path.{_≡_, refl, sym, _∙_}
-use Prim.Native.Nat.{ℕ, suc, _+_, _-_, _^_, _≤_, _<_}
+use mathlib.Core.List.{List, _++_}
+use mathlib.Core.Path.{_≡_, refl, _∙_}
+use Prim.Native.Nat.{ℕ, _-_, _^_, _≤_, _<_}
 use native.Mathlib.Nat.{mul-le-mul}
-use native.Mathlib.Numerals.{add-one}
 use native.Mathlib.Omega.{arith}
-use lib.ListN.{length, getD, set, drop, length-set}
-use lib.Seq.{drop-cons, drop-length, append-snoc, getD-at, set-at}
+use lib.ListN.{length, getD, drop, length-set}
 use Rattle.price.specs.Bounds.{stepMost}
 use Rattle.price.specs.Lists.{upTo}
 use Rattle.price.specs.Prices.{nextHistory}
 use Rattle.price.specs.declared.Tuning.{Tuning}
-use Rattle.price.proofs.ListLaws.{length-upTo, upTo-more}
+use Rattle.negotiation.proofs.FilledLaws.{filled-none, filled-at, filled-more, filled-all}
 use Rattle.negotiation.proofs.congestion.grow_histories.Statement.{statement}
 use Rattle.negotiation.proofs.congestion.grow_histories.Tie as tie
-
--- a list whose first v entries are replaced by f's
-module _ (f : ℕ → ℕ) (hs : List ℕ) where
-  grown-none : hs ≡ upTo f 0 ++ drop 0 hs
-  unfolding upTo
-  grown-none = refl
-
-  -- the next one still stands
-  grown-at : (v : ℕ) → v < length hs → getD (upTo f v ++ drop v hs) v 0 ≡ getD hs v 0
-  grown-at v h =
-      rw (drop-cons hs v 0 h) (getD-at (upTo f v) (getD hs v 0) (drop (suc v) hs) 0 v (length-upTo f v))
-
-  grown-more : (v : ℕ) → v < length hs → set (upTo f v ++ drop v hs) v (f v) ≡ upTo f (v + 1) ++ drop (v + 1) hs
-  grown-more v h =
-      rw (upTo-more f v, drop-cons hs v 0 h, add-one)
-      (set-at (upTo f v) (getD hs v 0) (drop (suc v) hs) (f v) v (length-upTo f v) ∙ sym (append-snoc (upTo f v) (f v) (drop (suc v) hs)))
-
-  grown-all : (v : ℕ) → length hs ≤ v → v ≤ length hs → upTo f v ++ drop v hs ≡ upTo f (length hs)
-  grown-all v l h =
-      let e : v ≡ length hs = omega arith in
-      rw (e, drop-length) (append-nil (upTo f (length hs)))
 
 -- what a node's history becomes
 abbrev next : Tuning → List ℕ → List ℕ → List ℕ → ℕ → ℕ
@@ -43,7 +20,7 @@ next g cs us hs v = nextHistory g (getD hs v 0) (getD us v 0) (getD cs v 0)
 
 -- the history that is read is the first one
 grown-read : (g : Tuning) (cs us hs now : List ℕ) (v r : ℕ) → v < length hs → now ≡ upTo (next g cs us hs) v ++ drop v hs → r ≡ nextHistory g (getD now v 0) (getD us v 0) (getD cs v 0) → r ≡ next g cs us hs v
-grown-read g cs us hs now v r h e n = n ∙ rw (e, grown-at (next g cs us hs) hs v h)
+grown-read g cs us hs now v r h e n = n ∙ rw (e, filled-at (next g cs us hs) hs v h)
 
 -- a history below 2 ^ 31 does not outgrow 32 bits
 history-fits : (g : Tuning) (h u c : ℕ) → g .step ≤ stepMost → h < 2 ^ 31 → u < 2 ^ 16 → nextHistory g h u c < 2 ^ 32
@@ -69,7 +46,7 @@ abbrev entry : tie.In-loop Inv-loop μ-loop → tie.Start Inv-loop μ-loop
 entry t = t .before .before .before .before .before
 
 loop-holds : tie.Need-loop-holds Inv-loop μ-loop
-loop-holds c = (omega arith, refl, grown-none (becomes (c .before .before .before)) _)
+loop-holds c = (omega arith, refl, filled-none (becomes (c .before .before .before)) _)
 
 mul-next-history : tie.Need-mul-next-history Inv-loop μ-loop
 mul-next-history c = omega arith
@@ -129,7 +106,7 @@ loop-again c =
     let turn = c .before .before .before .before in (
       omega arith,
       simp length-set (turn .before .loop .inv .1),
-      rw (turn .before .loop .inv .2, grows c) (grown-more (becomes (entry turn)) (entry turn .args .history .now) (turn .before .loop .v) (omega arith)),
+      rw (turn .before .loop .inv .2, grows c) (filled-more (becomes (entry turn)) (entry turn .args .history .now) (turn .before .loop .v) (omega arith)),
     )
 
 same-length : tie.Need-same-length Inv-loop μ-loop
@@ -139,7 +116,7 @@ returns : tie.Need-returns Inv-loop μ-loop
 returns c =
     let start = c .before .before .before .before .before in
     c .before .loop .inv .2
-    ∙ grown-all (becomes start) (start .args .history .now) (c .before .loop .v) (omega arith) (omega arith)
+    ∙ filled-all (becomes start) (start .args .history .now) (c .before .loop .v) (omega arith) (omega arith)
 
 pub grow-histories-spec : {M : Type 1} → statement M
 grow-histories-spec =

@@ -9,10 +9,8 @@ use lib.Seq.{length-take-le}
 use borrow.Author.Count.{below-none}
 use Rattle.search.proofs.BlockLaws.{kinds-few}
 use Rattle.negotiation.specs.Job.{Job, jobOf, nodes}
-use Rattle.negotiation.specs.Tables.{SoundJob}
 use Rattle.negotiation.specs.declared.Terms.{Terms}
 use Rattle.negotiation.specs.Routable.{Routable}
-use Rattle.negotiation.proofs.JobLaws.{routable-of}
 use Rattle.negotiation.proofs.FloodLaws.{same-from-refl}
 use Rattle.negotiation.proofs.TestedLaws.{Tested, tested-all, flood-asked, marks-fit, tested-same, sinks-asked, tested-found, tested-more}
 use Rattle.negotiation.proofs.reach.unreachable.Statement.{statement}
@@ -21,7 +19,7 @@ use Rattle.negotiation.proofs.reach.unreachable.Tie as tie
 abbrev Inv-loop : tie.InvT-loop
 Inv-loop kind first-edge edge-target source first-sink sink work₀ n reached₀ net₀ work reached net =
     (capacities : List ℕ) (terms : Terms)
-    → SoundJob (jobOf kind capacities first-edge edge-target source first-sink sink terms)
+    → Routable (jobOf kind capacities first-edge edge-target source first-sink sink terms)
     → Tested (jobOf kind capacities first-edge edge-target source first-sink sink terms) 4096 work₀ work reached net
 
 abbrev μ-loop : tie.MeasureT-loop
@@ -33,15 +31,12 @@ abbrev jobWith : tie.Start Inv-loop μ-loop → List ℕ → Terms → Job
 jobWith s capacities terms =
     jobOf (s .args .kind .now) capacities (s .args .first-edge .now) (s .args .edge-target .now) (s .args .source .now) (s .args .first-sink .now) (s .args .sink .now) terms
 
--- with those of the precondition it is sound
+-- with those of the precondition it can be routed
 abbrev job : tie.Start Inv-loop μ-loop → Job
 job s = jobWith s (s .pre .0 .capacities) (s .pre .0 .terms)
 
-tables-sound : (s : tie.Start Inv-loop μ-loop) → SoundJob (job s)
-tables-sound s = s .pre .0 .sound
-
 sound : (s : tie.Start Inv-loop μ-loop) → Routable (job s)
-sound s = routable-of (job s) (tables-sound s)
+sound s = s .pre .0 .routable
 
 few : (s : tie.Start Inv-loop μ-loop) → nodes (job s) ≤ 4096
 few s = kinds-few (s .args .kind .now) (sound s .block-sound .kinds-sound)
@@ -52,7 +47,7 @@ start l = l .before .before .before .before .before .before .before .before
 
 -- what is tested where the loop's test is made, of the precondition's job
 tested : (l : tie.At-loop Inv-loop μ-loop) → Tested (job (start l)) 4096 (start l .args .work .now) (l .loop .work) (l .loop .reached) (l .loop .net)
-tested l = l .loop .inv _ _ (tables-sound (start l))
+tested l = l .loop .inv _ _ (sound (start l))
 
 -- the entry, from a turn
 abbrev entry : tie.In-loop Inv-loop μ-loop → tie.Start Inv-loop μ-loop
@@ -199,7 +194,7 @@ returns c =
     let t = turn f in
     let call = c .before .missing-sink in (
       λ capacities terms s.
-          tested-found (jobWith (entry t) capacities terms) (routable-of _ s) (net t) (t .loop-test .taken) (few (entry t)) (entry t .pre .1) (t .before .loop .inv capacities terms s) (f .flood .ensures) (call .result) (call .ensures) (c .if1 .taken),
+          tested-found (jobWith (entry t) capacities terms) s (net t) (t .loop-test .taken) (few (entry t)) (entry t .pre .1) (t .before .loop .inv capacities terms s) (f .flood .ensures) (call .result) (call .ensures) (c .if1 .taken),
       tested-same (job (entry t)) (sound (entry t)) (net t) (t .loop-test .taken) (few (entry t)) (entry t .pre .1) (tested (t .before)) (f .flood .ensures),
     )
 
@@ -214,7 +209,7 @@ loop-again c capacities terms s =
     let f = flooded (c .before) in
     let t = turn f in
     let call = c .before .missing-sink in
-    tested-more (jobWith (entry t) capacities terms) (routable-of _ s) (net t) (t .loop-test .taken) (few (entry t)) (entry t .pre .1) (t .before .loop .inv capacities terms s) (f .flood .ensures) (call .result) (call .ensures) (c .if1 .left)
+    tested-more (jobWith (entry t) capacities terms) s (net t) (t .loop-test .taken) (few (entry t)) (entry t .pre .1) (t .before .loop .inv capacities terms s) (f .flood .ensures) (call .result) (call .ensures) (c .if1 .left)
 
 same-length-2 : tie.Need-same-length-2 Inv-loop μ-loop
 same-length-2 c = tested (c .before) .same .long

@@ -4,15 +4,16 @@
 use mathlib.Core.Path.{sym, _∙_}
 use Prim.Native.Nat.{_+_, _-_, _≤_}
 use native.Mathlib.Omega.{arith}
-use lib.ListN.{getD}
+use lib.ListN.{length, getD}
 use denote.Ref.{now}
-use Rattle.negotiation.proofs.MarkLaws.{can-add-rest}
-use Rattle.negotiation.proofs.RegionLaws.{Adding, adding-none, adding-more, adding-all, record-fits, record-nodes}
+use Rattle.negotiation.specs.Steps.{Added}
+use Rattle.negotiation.proofs.MarkLaws.{added-none, added-append, can-add-rest}
+use Rattle.negotiation.proofs.RegionLaws.{Walking, walking-none, walking-more, walking-all, record-fits, record-nodes}
 use Rattle.negotiation.proofs.trees.add_records.Statement.{statement}
 use Rattle.negotiation.proofs.trees.add_records.Tie as tie
 
 abbrev Inv-loop : tie.InvT-loop
-Inv-loop log from until users₀ in-tree₀ at₀ users in-tree at = Adding from until log users₀ in-tree₀ users in-tree at
+Inv-loop log from until users₀ in-tree₀ at₀ users in-tree at = Walking (length in-tree₀) from until log at (λ xs. Added (length in-tree₀) xs users₀ in-tree₀ users in-tree)
 
 abbrev μ-loop : tie.MeasureT-loop
 μ-loop log from until users₀ in-tree₀ at₀ users in-tree at = until - at
@@ -22,7 +23,7 @@ fits : (c : tie.In-loop Inv-loop μ-loop) → c .before .loop .at + 6 + getD (no
 fits c = let inv = c .before .loop .inv in record-fits (inv .rest) (c .loop-test .taken) (inv .walk)
 
 loop-holds : tie.Need-loop-holds Inv-loop μ-loop
-loop-holds c = let pre = c .before .before .before .pre in adding-none _ _ _ _ _ (pre .0 .0) (pre .0 .1) (pre .1 .0)
+loop-holds c = let pre = c .before .before .before .pre in walking-none _ _ _ _ (pre .0 .0) (pre .0 .1) (pre .1 .0) (added-none _ _ _)
 
 add-end : tie.Need-add-end Inv-loop μ-loop
 add-end c = omega (arith, fits c)
@@ -50,10 +51,10 @@ add-path-requires c κs =
     let inside = c .before .before .before in
     let inv = inside .before .loop .inv in
     let pre = inside .before .before .before .before .before .pre in (
-      (omega arith, omega (arith, fits inside), inv .added .users-long ∙ pre .0 .2 ∙ sym (inv .added .marks-cleared .long)),
+      (omega arith, omega (arith, fits inside), inv .done .users-long ∙ pre .0 .2 ∙ sym (inv .done .marks-cleared .long)),
       (
-        rw (inv .added .marks-cleared .long) (record-nodes (inv .rest) (inside .loop-test .taken) (inv .walk)),
-        rw (inv .added .marks-cleared .long) (can-add-rest (pre .1 .1) (inv .added)),
+        rw (inv .done .marks-cleared .long) (record-nodes (inv .rest) (inside .loop-test .taken) (inv .walk)),
+        rw (inv .done .marks-cleared .long) (can-add-rest (pre .1 .1) (inv .done)),
       ),
     )
 
@@ -64,16 +65,17 @@ loop-again : tie.Need-loop-again Inv-loop μ-loop
 loop-again c =
     let called = c .before .before .before .before in
     let inside = called .before .before .before .before in
-    adding-more (inside .before .loop .inv) (inside .loop-test .taken) (called .add-path .ensures)
+    let inv = inside .before .loop .inv in
+    walking-more inv (inside .loop-test .taken) (λ xs done. added-append done (rw (inv .done .marks-cleared .long) at (called .add-path .ensures)))
 
 same-length : tie.Need-same-length Inv-loop μ-loop
-same-length c = c .before .loop .inv .added .users-long
+same-length c = c .before .loop .inv .done .users-long
 
 same-length-2 : tie.Need-same-length-2 Inv-loop μ-loop
-same-length-2 c = c .before .loop .inv .added .marks-cleared .long
+same-length-2 c = c .before .loop .inv .done .marks-cleared .long
 
 returns : tie.Need-returns Inv-loop μ-loop
-returns c = adding-all (c .before .loop .inv) (c .loop-test .left)
+returns c = walking-all (c .before .loop .inv) (c .loop-test .left)
 
 pub add-records-spec : {M : Type 1} → statement M
 add-records-spec =

@@ -2,14 +2,16 @@
 -- Assumes nothing.
 use Prim.Native.Nat.{_+_, _-_, _≤_}
 use native.Mathlib.Omega.{arith}
-use lib.ListN.{getD}
+use lib.ListN.{length, getD}
 use denote.Ref.{now}
-use Rattle.negotiation.proofs.RegionLaws.{Clearing, clearing-none, clearing-more, clearing-all, record-fits, record-nodes}
+use Rattle.negotiation.specs.Steps.{Stored}
+use Rattle.negotiation.proofs.MarkLaws.{stored-none, stored-append}
+use Rattle.negotiation.proofs.RegionLaws.{Walking, walking-none, walking-more, walking-all, record-fits, record-nodes}
 use Rattle.negotiation.proofs.trees.unmark_records.Statement.{statement}
 use Rattle.negotiation.proofs.trees.unmark_records.Tie as tie
 
 abbrev Inv-loop : tie.InvT-loop
-Inv-loop log from until in-tree₀ at₀ in-tree at = Clearing from until log in-tree₀ in-tree at
+Inv-loop log from until in-tree₀ at₀ in-tree at = Walking (length in-tree₀) from until log at (λ xs. Stored 0 xs in-tree₀ in-tree)
 
 abbrev μ-loop : tie.MeasureT-loop
 μ-loop log from until in-tree₀ at₀ in-tree at = until - at
@@ -19,7 +21,7 @@ fits : (c : tie.In-loop Inv-loop μ-loop) → c .before .loop .at + 6 + getD (no
 fits c = let inv = c .before .loop .inv in record-fits (inv .rest) (c .loop-test .taken) (inv .walk)
 
 loop-holds : tie.Need-loop-holds Inv-loop μ-loop
-loop-holds c = let pre = c .before .before .pre in clearing-none _ _ _ _ (pre .0 .0) (pre .0 .1) (pre .1)
+loop-holds c = let pre = c .before .before .pre in walking-none _ _ _ _ (pre .0 .0) (pre .0 .1) (pre .1) (stored-none 0 _)
 
 add-end : tie.Need-add-end Inv-loop μ-loop
 add-end c = omega (arith, fits c)
@@ -46,7 +48,7 @@ unmark-path-requires : tie.Need-unmark-path-requires Inv-loop μ-loop
 unmark-path-requires c κs =
     let inside = c .before .before in
     let inv = inside .before .loop .inv in
-    ((omega arith, omega (arith, fits inside)), rw (inv .cleared .long) (record-nodes (inv .rest) (inside .loop-test .taken) (inv .walk)))
+    ((omega arith, omega (arith, fits inside)), rw (inv .done .long) (record-nodes (inv .rest) (inside .loop-test .taken) (inv .walk)))
 
 loop-less : tie.Need-loop-less Inv-loop μ-loop
 loop-less c = omega (arith, fits (c .before .before .before .before .before))
@@ -54,13 +56,13 @@ loop-less c = omega (arith, fits (c .before .before .before .before .before))
 loop-again : tie.Need-loop-again Inv-loop μ-loop
 loop-again c =
     let inside = c .before .before .before .before .before in
-    clearing-more (inside .before .loop .inv) (inside .loop-test .taken) (c .before .before .unmark-path .ensures)
+    walking-more (inside .before .loop .inv) (inside .loop-test .taken) (λ xs done. stored-append done (c .before .before .unmark-path .ensures))
 
 same-length : tie.Need-same-length Inv-loop μ-loop
-same-length c = c .before .loop .inv .cleared .long
+same-length c = c .before .loop .inv .done .long
 
 returns : tie.Need-returns Inv-loop μ-loop
-returns c = clearing-all (c .before .loop .inv) (c .loop-test .left)
+returns c = walking-all (c .before .loop .inv) (c .loop-test .left)
 
 pub unmark-records-spec : {M : Type 1} → statement M
 unmark-records-spec =

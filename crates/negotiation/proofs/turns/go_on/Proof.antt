@@ -1,0 +1,696 @@
+-- `negotiation::turns::go_on` meets its contract. At the head of each loop the lists and the tariff are the machine's (`KeepLaws`); within an iteration
+-- that is said from any such place at the iteration's start. The measures: iterations up to the limit, nets left, turns left.
+-- Assumes nothing.
+use mathlib.Core.List.{List}
+use mathlib.Core.Logic.{⊎-elim}
+use mathlib.Core.Path.{_≡_, _∙_, ap, sym, subst}
+use Prim.Native.Nat.{ℕ, _+_, _-_, _*_, _≤_, _<_}
+use native.Mathlib.Nat.{le-of-eq, le-trans}
+use native.Mathlib.Omega.{arith}
+use lib.Dec.{ltb}
+use lib.ListN.{length, getD, take, drop}
+use Rattle.price.specs.Lists.{countBelow}
+use Rattle.search.proofs.BlockLaws.{kinds-few, capacities-long}
+use Rattle.negotiation.specs.Job.{Job, jobOf, nodes, netSinks}
+use Rattle.negotiation.specs.Routable.{Routable}
+use Rattle.negotiation.specs.Machine.{overCount, iterationAfter, firstState}
+use Rattle.negotiation.specs.Steps.{Starts}
+use Rattle.negotiation.proofs.JobLaws.{tuning-fits}
+use Rattle.negotiation.proofs.MachineRan.{Reached}
+use Rattle.negotiation.proofs.DemandLaws.{all-reached}
+use Rattle.negotiation.proofs.KeepLaws.{AtIteration, AtNet, AtTurns}
+use Rattle.negotiation.proofs.KeepStart.{keep-start, keep-due, keep-ready, keep-begun}
+use Rattle.negotiation.proofs.KeepTurn.{sinks-part, call-turn, after-nothing, after-logged}
+use Rattle.negotiation.proofs.KeepNet.{keep-end-ready, keep-ended}
+use Rattle.negotiation.proofs.KeepEnd.{Answers, after-full, all-routed, keep-over, keep-accepted, keep-limit, keep-growable, keep-below, keep-next}
+use Rattle.negotiation.proofs.KeepLengths.{Long, net-long, turn-long, start-long}
+use Rattle.negotiation.proofs.turns.go_on.Statement.{statement}
+use Rattle.negotiation.proofs.turns.go_on.Tie as tie
+
+abbrev Inv-loop2 : tie.InvT-loop2
+Inv-loop2 kind capacity first-edge edge-target source first-sink sink terms history users in-tree₀ tree-from tree-to due work₀ log₀ n tariff₀ net from to first left₀ in-tree work log tariff left =
+    (W L : List ℕ) (m : ℕ) → 8 * length kind ≤ length W
+    → AtTurns (jobOf kind capacity first-edge edge-target source first-sink sink terms) W L m net left₀ tariff₀ history users in-tree₀ tree-from tree-to due work₀ log₀ first
+    → AtTurns (jobOf kind capacity first-edge edge-target source first-sink sink terms) W L m net left tariff history users in-tree tree-from tree-to due work log first
+
+abbrev μ-loop2 : tie.MeasureT-loop2
+μ-loop2 kind capacity first-edge edge-target source first-sink sink terms history users in-tree₀ tree-from tree-to due work₀ log₀ n tariff₀ net from to first left₀ in-tree work log tariff left =
+    left
+
+abbrev Inv-loop : tie.InvT-loop
+Inv-loop kind capacity first-edge edge-target source first-sink sink terms history users₀ in-tree₀ tree-from₀ tree-to₀ due work₀ log₀ n tariff₀ net₀ users in-tree tree-from tree-to work log tariff net =
+    (W L : List ℕ) (m : ℕ) → 8 * length kind ≤ length W
+    → AtNet (jobOf kind capacity first-edge edge-target source first-sink sink terms) W L m 0 tariff₀ history users₀ in-tree₀ tree-from₀ tree-to₀ due work₀ log₀
+    → AtNet (jobOf kind capacity first-edge edge-target source first-sink sink terms) W L m net tariff history users in-tree tree-from tree-to due work log
+
+abbrev μ-loop : tie.MeasureT-loop
+μ-loop kind capacity first-edge edge-target source first-sink sink terms history users₀ in-tree₀ tree-from₀ tree-to₀ due work₀ log₀ n tariff₀ net₀ users in-tree tree-from tree-to work log tariff net =
+    length source - net
+
+abbrev Inv-iterations : tie.InvT-iterations
+Inv-iterations kind capacity first-edge edge-target source first-sink sink terms history₀ users₀ in-tree₀ tree-from₀ tree-to₀ due₀ work₀ log₀ n tariff₀ history users in-tree tree-from tree-to due work log tariff =
+    (m : ℕ) × AtIteration (jobOf kind capacity first-edge edge-target source first-sink sink terms) work₀ log₀ m tariff history users in-tree tree-from tree-to due work log
+
+abbrev μ-iterations : tie.MeasureT-iterations
+μ-iterations kind capacity first-edge edge-target source first-sink sink terms history₀ users₀ in-tree₀ tree-from₀ tree-to₀ due₀ work₀ log₀ n tariff₀ history users in-tree tree-from tree-to due work log tariff =
+    terms .limit - tariff .iteration
+
+-- ---- the entry and the loops' heads
+
+abbrev Entry : Type 0
+Entry = tie.Start Inv-loop2 μ-loop2 Inv-loop μ-loop Inv-iterations μ-iterations
+
+module _ (e : Entry) where
+  abbrev job : Job
+  job =
+      jobOf (e .args .kind .now) (e .args .capacity .now) (e .args .first-edge .now) (e .args .edge-target .now) (e .args .source .now) (e .args .first-sink .now)
+      (e .args .sink .now) (e .args .terms)
+
+  routable : Routable job
+  routable = e .pre .0 .0
+
+  reachable : Reached job
+  reachable = all-reached job (e .pre .0 .1)
+
+  enough : 8 * nodes job ≤ length (e .args .work .now)
+  enough = e .pre .0 .2
+
+  starts :
+      Starts job (e .args .begun) (e .args .history .now) (e .args .users .now) (e .args .in-tree .now) (e .args .tree-from .now) (e .args .tree-to .now)
+      (e .args .due .now)
+  starts = e .pre .1
+
+  few-nodes : nodes job ≤ 4096
+  few-nodes = kinds-few _ (routable .block-sound .kinds-sound)
+
+  entry-long :
+      Long job (e .args .work .now) (e .args .log .now) (e .args .history .now) (e .args .users .now) (e .args .in-tree .now) (e .args .tree-from .now)
+      (e .args .tree-to .now) (e .args .due .now) (e .args .work .now) (e .args .log .now)
+  entry-long = start-long (e .args .work .now) (e .args .log .now) starts
+
+abbrev Iteration : Type 0
+Iteration = tie.At-iterations Inv-loop2 μ-loop2 Inv-loop μ-loop Inv-iterations μ-iterations
+
+abbrev entry : Iteration → Entry
+entry c = c .before .before .before .before .before .before .before .before .before .before .before .before .before .before .before .before
+
+abbrev Net : Type 0
+Net = tie.At-loop Inv-loop2 μ-loop2 Inv-loop μ-loop Inv-iterations μ-iterations
+
+abbrev iteration : Net → Iteration
+iteration c = c .before .before .before .before .before
+
+-- at the head of the loop over nets, from any such place at the iteration's start
+module _ (c : Net) where
+  abbrev net-entry : Entry
+  net-entry = entry (iteration c)
+
+  abbrev dues : List ℕ
+  dues = c .before .before .before .mark-due .last .1 .0
+
+  abbrev NetStart : List ℕ → List ℕ → ℕ → Type 0
+  NetStart W L m =
+      AtNet (job net-entry) W L m 0 (iteration c .iterations .tariff) (iteration c .iterations .history) (iteration c .iterations .users)
+      (iteration c .iterations .in-tree) (iteration c .iterations .tree-from) (iteration c .iterations .tree-to) dues (iteration c .iterations .work)
+      (iteration c .iterations .log)
+
+  abbrev NetHere : List ℕ → List ℕ → ℕ → Type 0
+  NetHere W L m =
+      AtNet (job net-entry) W L m (c .loop .net) (c .loop .tariff) (iteration c .iterations .history) (c .loop .users) (c .loop .in-tree) (c .loop .tree-from)
+      (c .loop .tree-to) dues (c .loop .work) (c .loop .log)
+
+  net-from : (W L : List ℕ) (m : ℕ) → 8 * nodes (job net-entry) ≤ length W → NetStart W L m → NetHere W L m
+  net-from W L m e o = c .loop .inv W L m e o
+
+  net-at : NetHere (net-entry .args .work .now) (net-entry .args .log .now) (iteration c .iterations .inv .0)
+  net-at =
+      net-from _ _ _ (enough net-entry)
+      (keep-due _ (routable net-entry) (iteration c .iterations .inv .1) _ (c .before .before .before .mark-due .ensures))
+
+  net-lengths :
+      Long (job net-entry) (net-entry .args .work .now) (net-entry .args .log .now) (iteration c .iterations .history) (c .loop .users) (c .loop .in-tree)
+      (c .loop .tree-from) (c .loop .tree-to) dues (c .loop .work) (c .loop .log)
+  net-lengths = net-long _ (routable net-entry) net-at
+
+abbrev Turn : Type 0
+Turn = tie.At-loop2 Inv-loop2 μ-loop2 Inv-loop μ-loop Inv-iterations μ-iterations
+
+abbrev net : Turn → Net
+net c = c .before .before .before .before .before .before .before .before .before .before .before .before .before .before .before
+
+-- at the head of the loop over turns
+module _ (c : Turn) where
+  abbrev turn-entry : Entry
+  turn-entry = net-entry (net c)
+
+  abbrev lent-users : List ℕ
+  lent-users = c .before .before .before .before .before .begin-net .last .1 .1 .1 .1 .1 .1 .1 .0
+
+  abbrev TurnHere : List ℕ → List ℕ → ℕ → Type 0
+  TurnHere W L m =
+      AtTurns (job turn-entry) W L m (net c .loop .net) (c .loop2 .left) (c .loop2 .tariff) (iteration (net c) .iterations .history) lent-users (c .loop2 .in-tree)
+      (net c .loop .tree-from) (net c .loop .tree-to) (dues (net c)) (c .loop2 .work) (c .loop2 .log) (net c .loop .tariff .words)
+
+  turn-from : (W L : List ℕ) (m : ℕ) → 8 * nodes (job turn-entry) ≤ length W → NetStart (net c) W L m → TurnHere W L m
+  turn-from W L m e o =
+      c .loop2 .inv W L m e
+      (keep-begun _ (routable turn-entry) (net-from (net c) W L m e o) (c .before .before .before .before .before .before .before .before .before .before .before .before .before .before .loop-test .taken)
+      (c .before .before .before .before .before .begin-net .ensures .0) (c .before .before .before .before .before .begin-net .ensures .1))
+
+  turn-at : TurnHere (turn-entry .args .work .now) (turn-entry .args .log .now) (iteration (net c) .iterations .inv .0)
+  turn-at =
+      turn-from _ _ _ (enough turn-entry)
+      (keep-due _ (routable turn-entry) (iteration (net c) .iterations .inv .1) _ (net c .before .before .before .mark-due .ensures))
+
+  turn-lengths :
+      Long (job turn-entry) (turn-entry .args .work .now) (turn-entry .args .log .now) (iteration (net c) .iterations .history) lent-users (c .loop2 .in-tree)
+      (net c .loop .tree-from) (net c .loop .tree-to) (dues (net c)) (c .loop2 .work) (c .loop2 .log)
+  turn-lengths = turn-long _ (routable turn-entry) (enough turn-entry) turn-at
+
+  net-below : net c .loop .net < length (turn-entry .args .source .now)
+  net-below = c .before .before .before .before .before .before .before .before .before .before .before .before .before .before .loop-test .taken
+
+  -- the part of table 7 that the turn is lent
+  own-sinks :
+      take (getD (job turn-entry .firstSinks) (net c .loop .net + 1) 0 - getD (job turn-entry .firstSinks) (net c .loop .net) 0)
+      (drop (getD (job turn-entry .firstSinks) (net c .loop .net) 0) (job turn-entry .sinks)) ≡ netSinks (job turn-entry) (net c .loop .net)
+  own-sinks = sinks-part (job turn-entry) (net c .loop .net)
+
+-- past the last net
+module _ (c : tie.After-loop Inv-loop2 μ-loop2 Inv-loop μ-loop Inv-iterations μ-iterations) where
+  abbrev last : Net
+  last = c .before
+
+  whole :
+      AtNet (job (net-entry last)) (net-entry last .args .work .now) (net-entry last .args .log .now) (iteration last .iterations .inv .0) (length (net-entry last .args .source .now))
+      (last .loop .tariff) (iteration last .iterations .history) (last .loop .users) (last .loop .in-tree) (last .loop .tree-from) (last .loop .tree-to) (dues last)
+      (last .loop .work) (last .loop .log)
+  whole = all-routed _ (net-at last) (c .loop-test .left)
+
+  -- the nodes over capacity at the iteration's end
+  abbrev over : ℕ
+  over = overCount (job (net-entry last)) (iterationAfter (job (net-entry last)) (firstState (job (net-entry last))) (iteration last .iterations .inv .0) .state .trees)
+
+-- counted
+module _ (c : tie.After-over-count Inv-loop2 μ-loop2 Inv-loop μ-loop Inv-iterations μ-iterations) where
+  over-is : c .over-count .result ≡ over (c .before .before)
+  over-is =
+      c .over-count .ensures
+      ∙ subst
+      (λ (k : ℕ). countBelow (λ (v : ℕ). ltb (getD (net-entry (c .before .before .before) .args .capacity .now) v 0) (getD (c .before .before .before .loop .users) v 0)) k ≡ over (c .before .before))
+      (sym (capacities-long _ _ (routable (net-entry (c .before .before .before)) .block-sound .capacities-sound)))
+      (keep-over _ (routable (net-entry (c .before .before .before))) (whole (c .before .before)))
+
+iterations-holds :
+    tie.Need-iterations-holds Inv-loop2 μ-loop2 Inv-loop μ-loop Inv-iterations μ-iterations
+iterations-holds c =
+    let e : Entry = c .before .before .before .before .before .before .before .before .before .before .before .before .before .before .before in
+    (0, keep-start _ (routable e) (starts e))
+
+mark-due-requires :
+    tie.Need-mark-due-requires Inv-loop2 μ-loop2 Inv-loop μ-loop Inv-iterations μ-iterations
+mark-due-requires c κs = routable (entry (c .before)) .firstSinks-long ∙ ap (λ k. k + 1) (sym (c .before .iterations .inv .1 .due-long))
+
+loop-holds :
+    tie.Need-loop-holds Inv-loop2 μ-loop2 Inv-loop μ-loop Inv-iterations μ-iterations
+loop-holds c = λ W L m e at. at
+
+mul-from :
+    tie.Need-mul-from Inv-loop2 μ-loop2 Inv-loop μ-loop Inv-iterations μ-iterations
+mul-from c = let f = routable (net-entry (c .before)) .nets-few in let h = c .loop-test .taken in omega arith
+
+shared-slice-read-from :
+    tie.Need-shared-slice-read-from Inv-loop2 μ-loop2 Inv-loop μ-loop Inv-iterations μ-iterations
+shared-slice-read-from c = let l = routable (net-entry (c .before .before)) .firstSinks-long in let h = c .before .loop-test .taken in omega arith
+
+cast-from :
+    tie.Need-cast-from Inv-loop2 μ-loop2 Inv-loop μ-loop Inv-iterations μ-iterations
+cast-from c = omega (arith, c .shared-slice-known8 .given (c .before .before .loop .net))
+
+add-to :
+    tie.Need-add-to Inv-loop2 μ-loop2 Inv-loop μ-loop Inv-iterations μ-iterations
+add-to c = let f = routable (net-entry (c .before .before)) .nets-few in let h = c .before .loop-test .taken in omega arith
+
+mul-to :
+    tie.Need-mul-to Inv-loop2 μ-loop2 Inv-loop μ-loop Inv-iterations μ-iterations
+mul-to c = let f = routable (net-entry (c .before .before)) .nets-few in let h = c .before .loop-test .taken in omega arith
+
+shared-slice-read-to :
+    tie.Need-shared-slice-read-to Inv-loop2 μ-loop2 Inv-loop μ-loop Inv-iterations μ-iterations
+shared-slice-read-to c = let l = routable (net-entry (c .before .before .before)) .firstSinks-long in let h = c .before .before .loop-test .taken in omega arith
+
+cast-to :
+    tie.Need-cast-to Inv-loop2 μ-loop2 Inv-loop μ-loop Inv-iterations μ-iterations
+cast-to c = omega (arith, c .shared-slice-known9 .given (c .before .before .before .loop .net + 1))
+
+begin-net-requires :
+    tie.Need-begin-net-requires Inv-loop2 μ-loop2 Inv-loop μ-loop Inv-iterations μ-iterations
+begin-net-requires c κs =
+    let at : Net = c .before .before .before .before .before .before .before .before .before in
+    keep-ready _ (routable (net-entry at)) (net-at at) (c .before .before .before .before .before .before .before .before .loop-test .taken)
+
+loop2-holds :
+    tie.Need-loop2-holds Inv-loop2 μ-loop2 Inv-loop μ-loop Inv-iterations μ-iterations
+loop2-holds c = λ W L m e at. at
+
+mul-one-turn :
+    tie.Need-mul-one-turn Inv-loop2 μ-loop2 Inv-loop μ-loop Inv-iterations μ-iterations
+mul-one-turn c =
+    let at : Turn = c .before in
+    let o = routable (turn-entry at) .sinks-order (net at .loop .net) (net-below at) in
+    let k = net-below at in
+    let h = routable (turn-entry at) .sinks-end (net at .loop .net + 1) (omega arith) in
+    let f = routable (turn-entry at) .sinks-few in
+    omega arith
+
+sub-one-turn :
+    tie.Need-sub-one-turn Inv-loop2 μ-loop2 Inv-loop μ-loop Inv-iterations μ-iterations
+sub-one-turn c =
+    let at : Turn = c .before in
+    let h = routable (turn-entry at) .sinks-order (net at .loop .net) (net-below at) in
+    omega arith
+
+part-one-turn-start :
+    tie.Need-part-one-turn-start Inv-loop2 μ-loop2 Inv-loop μ-loop Inv-iterations μ-iterations
+part-one-turn-start c =
+    let at : Turn = c .before in
+    let h = routable (turn-entry at) .sinks-order (net at .loop .net) (net-below at) in
+    omega arith
+
+part-one-turn-end :
+    tie.Need-part-one-turn-end Inv-loop2 μ-loop2 Inv-loop μ-loop Inv-iterations μ-iterations
+part-one-turn-end c =
+    let at : Turn = c .before in
+    routable (turn-entry at) .sinks-end (net at .loop .net + 1) (let h = net-below at in omega arith)
+
+cast-one-turn :
+    tie.Need-cast-one-turn Inv-loop2 μ-loop2 Inv-loop μ-loop Inv-iterations μ-iterations
+cast-one-turn c =
+    let at : Turn = c .before .before in
+    let f = routable (turn-entry at) .nets-few in
+    let h = net-below at in
+    omega arith
+
+one-turn-requires :
+    tie.Need-one-turn-requires Inv-loop2 μ-loop2 Inv-loop μ-loop Inv-iterations μ-iterations
+one-turn-requires c κs =
+    let at : Turn = c .before .before .before .before .before .before .before in
+    call-turn _ (routable (turn-entry at)) (enough (turn-entry at)) (turn-at at) (c .before .before .before .before .before .before .loop2-test .taken) _ (own-sinks at)
+
+enum-told :
+    tie.Need-enum-told Inv-loop2 μ-loop2 Inv-loop μ-loop Inv-iterations μ-iterations
+enum-told c = c .match .keys1
+
+enum-told-2 :
+    tie.Need-enum-told-2 Inv-loop2 μ-loop2 Inv-loop μ-loop Inv-iterations μ-iterations
+enum-told-2 c = c .match .keys2
+
+enum-known-t :
+    tie.Need-enum-known-t Inv-loop2 μ-loop2 Inv-loop μ-loop Inv-iterations μ-iterations
+enum-known-t c = c .match .keys3
+
+sub-left :
+    tie.Need-sub-left Inv-loop2 μ-loop2 Inv-loop μ-loop Inv-iterations μ-iterations
+sub-left c = c .before .before .before .before .before .before .before .before .before .before .before .before .before .before .loop2-test .taken
+
+loop2-less :
+    tie.Need-loop2-less Inv-loop2 μ-loop2 Inv-loop μ-loop Inv-iterations μ-iterations
+loop2-less c = let h = c .before .before .before .before .before .before .before .before .before .before .before .before .before .before .loop2-test .taken in omega arith
+
+loop2-again :
+    tie.Need-loop2-again Inv-loop2 μ-loop2 Inv-loop μ-loop Inv-iterations μ-iterations
+loop2-again c = λ W L m e o.
+    let at : Turn = c .before .before .before .before .before .before .before .before .before .before .before .before .before .before .before in
+    ⊎-elim
+    (λ w.
+    after-nothing _ (routable (turn-entry at)) e (at .loop2 .inv W L m e o) (c .before .before .before .before .before .before .before .before .before .before .before .before .before .before .loop2-test .taken) _ (own-sinks at) _ _ _
+    (c .before .before .before .before .before .before .before .one-turn .ensures .1) _ (c .before .before .before .before .before .before .before .one-turn .ensures .0) (w .1 .given .1) _ (w .2))
+    (λ w.
+    after-logged _ (routable (turn-entry at)) e (at .loop2 .inv W L m e o) (c .before .before .before .before .before .before .before .before .before .before .before .before .before .before .loop2-test .taken) _ (own-sinks at) _ _ _
+    (c .before .before .before .before .before .before .before .one-turn .ensures .1) _ (c .before .before .before .before .before .before .before .one-turn .ensures .0) _ (w .1 .given .1) _ (w .3))
+    (c .match .came)
+
+end-net-requires :
+    tie.Need-end-net-requires Inv-loop2 μ-loop2 Inv-loop μ-loop Inv-iterations μ-iterations
+end-net-requires c κs =
+    let at : Turn = c .before .before .before .before .before .before .before in
+    keep-end-ready _ (routable (turn-entry at)) (reachable (turn-entry at)) (enough (turn-entry at)) (c .before .before .before .before .before .before .loop2-test .left) (turn-at at)
+
+add-net :
+    tie.Need-add-net Inv-loop2 μ-loop2 Inv-loop μ-loop Inv-iterations μ-iterations
+add-net c =
+    let at : Turn = c .before .before .before .before .before .before .before .before .before .before .before .before .before .before .before .before in
+    let f = routable (turn-entry at) .nets-few in
+    let h = net-below at in
+    omega arith
+
+loop-less :
+    tie.Need-loop-less Inv-loop2 μ-loop2 Inv-loop μ-loop Inv-iterations μ-iterations
+loop-less c = let h = net-below (c .before .before .before .before .before .before .before .before .before .before .before .before .before .before .before .before) in omega arith
+
+loop-again :
+    tie.Need-loop-again Inv-loop2 μ-loop2 Inv-loop μ-loop Inv-iterations μ-iterations
+loop-again c = λ W L m e o.
+    let at : Turn = c .before .before .before .before .before .before .before .before .before .before .before .before .before .before .before .before in
+    keep-ended _ (routable (turn-entry at)) (reachable (turn-entry at)) e (c .before .before .before .before .before .before .before .before .before .before .before .before .before .before .before .loop2-test .left) (turn-from at W L m e o)
+    (c .before .before .before .before .before .before .before .before .end-net .ensures .0) (c .before .before .before .before .before .before .before .before .end-net .ensures .1)
+
+over-count-requires :
+    tie.Need-over-count-requires Inv-loop2 μ-loop2 Inv-loop μ-loop Inv-iterations μ-iterations
+over-count-requires c κs =
+    let at : Net = c .before .before in
+    let r = routable (net-entry at) in
+    let l = capacities-long _ _ (r .block-sound .capacities-sound) in
+    (le-of-eq (l ∙ sym (net-lengths at .users-long)), le-trans (le-of-eq l) (few-nodes (net-entry at)))
+
+mul-clear :
+    tie.Need-mul-clear Inv-loop2 μ-loop2 Inv-loop μ-loop Inv-iterations μ-iterations
+mul-clear c = let f = few-nodes (net-entry (c .before .before .before .before .before)) in omega arith
+
+clear-requires :
+    tie.Need-clear-requires Inv-loop2 μ-loop2 Inv-loop μ-loop Inv-iterations μ-iterations
+clear-requires c κs =
+    let at : Net = c .before .before .before .before .before in
+    let e = enough (net-entry at) in
+    let l = net-lengths at .work-long in
+    omega arith
+
+answer-requires :
+    tie.Need-answer-requires Inv-loop2 μ-loop2 Inv-loop μ-loop Inv-iterations μ-iterations
+answer-requires c κs = tt
+
+same-length :
+    tie.Need-same-length Inv-loop2 μ-loop2 Inv-loop μ-loop Inv-iterations μ-iterations
+same-length c =
+    let at : Net = c .before .before .before .before .before .before .before .before .before in
+    net-lengths at .history-long ∙ sym (entry-long (net-entry at) .history-long)
+
+same-length-2 :
+    tie.Need-same-length-2 Inv-loop2 μ-loop2 Inv-loop μ-loop Inv-iterations μ-iterations
+same-length-2 c =
+    let at : Net = c .before .before .before .before .before .before .before .before .before in
+    net-lengths at .users-long ∙ sym (entry-long (net-entry at) .users-long)
+
+same-length-3 :
+    tie.Need-same-length-3 Inv-loop2 μ-loop2 Inv-loop μ-loop Inv-iterations μ-iterations
+same-length-3 c =
+    let at : Net = c .before .before .before .before .before .before .before .before .before in
+    net-lengths at .marks-long ∙ sym (entry-long (net-entry at) .marks-long)
+
+same-length-4 :
+    tie.Need-same-length-4 Inv-loop2 μ-loop2 Inv-loop μ-loop Inv-iterations μ-iterations
+same-length-4 c =
+    let at : Net = c .before .before .before .before .before .before .before .before .before in
+    net-lengths at .from-long ∙ sym (entry-long (net-entry at) .from-long)
+
+same-length-5 :
+    tie.Need-same-length-5 Inv-loop2 μ-loop2 Inv-loop μ-loop Inv-iterations μ-iterations
+same-length-5 c =
+    let at : Net = c .before .before .before .before .before .before .before .before .before in
+    net-lengths at .to-long ∙ sym (entry-long (net-entry at) .to-long)
+
+same-length-6 :
+    tie.Need-same-length-6 Inv-loop2 μ-loop2 Inv-loop μ-loop Inv-iterations μ-iterations
+same-length-6 c =
+    let at : Net = c .before .before .before .before .before .before .before .before .before in
+    net-lengths at .due-long ∙ sym (entry-long (net-entry at) .due-long)
+
+same-length-7 :
+    tie.Need-same-length-7 Inv-loop2 μ-loop2 Inv-loop μ-loop Inv-iterations μ-iterations
+same-length-7 c = c .before .before .before .clear .kept .0 ∙ net-lengths (c .before .before .before .before .before .before .before .before .before) .work-long
+
+same-length-8 :
+    tie.Need-same-length-8 Inv-loop2 μ-loop2 Inv-loop μ-loop Inv-iterations μ-iterations
+same-length-8 c = net-lengths (c .before .before .before .before .before .before .before .before .before) .log-long
+
+returns :
+    tie.Need-returns Inv-loop2 μ-loop2 Inv-loop μ-loop Inv-iterations μ-iterations
+returns c =
+    let at : Net = c .before .before .before .before .before .before .before .before .before in
+    rw (c .before .before .before .clear .ensures)
+    (keep-accepted _ (routable (net-entry at)) (whole (c .before .before .before .before .before .before .before .before)) (sym (over-is (c .before .before .before .before .before .before)) ∙ c .before .before .before .before .before .if1 .taken) (c .answer .result) (c .answer .ensures .0)
+    (record { iteration-is = c .answer .ensures .1; turns-is = c .answer .ensures .2; words-is = c .answer .ensures .3 }))
+
+mul-clear-2 :
+    tie.Need-mul-clear-2 Inv-loop2 μ-loop2 Inv-loop μ-loop Inv-iterations μ-iterations
+mul-clear-2 c = let f = few-nodes (net-entry (c .before .before .before .before .before .before .before .before)) in omega arith
+
+clear-requires-2 :
+    tie.Need-clear-requires-2 Inv-loop2 μ-loop2 Inv-loop μ-loop Inv-iterations μ-iterations
+clear-requires-2 c κs =
+    let at : Net = c .before .before .before .before .before .before .before .before in
+    let e = enough (net-entry at) in
+    let l = net-lengths at .work-long in
+    omega arith
+
+answer-requires-2 :
+    tie.Need-answer-requires-2 Inv-loop2 μ-loop2 Inv-loop μ-loop Inv-iterations μ-iterations
+answer-requires-2 c κs = tt
+
+same-length-9 :
+    tie.Need-same-length-9 Inv-loop2 μ-loop2 Inv-loop μ-loop Inv-iterations μ-iterations
+same-length-9 c =
+    let at : Net = c .before .before .before .before .before .before .before .before .before .before .before .before in
+    net-lengths at .history-long ∙ sym (entry-long (net-entry at) .history-long)
+
+same-length-10 :
+    tie.Need-same-length-10 Inv-loop2 μ-loop2 Inv-loop μ-loop Inv-iterations μ-iterations
+same-length-10 c =
+    let at : Net = c .before .before .before .before .before .before .before .before .before .before .before .before in
+    net-lengths at .users-long ∙ sym (entry-long (net-entry at) .users-long)
+
+same-length-11 :
+    tie.Need-same-length-11 Inv-loop2 μ-loop2 Inv-loop μ-loop Inv-iterations μ-iterations
+same-length-11 c =
+    let at : Net = c .before .before .before .before .before .before .before .before .before .before .before .before in
+    net-lengths at .marks-long ∙ sym (entry-long (net-entry at) .marks-long)
+
+same-length-12 :
+    tie.Need-same-length-12 Inv-loop2 μ-loop2 Inv-loop μ-loop Inv-iterations μ-iterations
+same-length-12 c =
+    let at : Net = c .before .before .before .before .before .before .before .before .before .before .before .before in
+    net-lengths at .from-long ∙ sym (entry-long (net-entry at) .from-long)
+
+same-length-13 :
+    tie.Need-same-length-13 Inv-loop2 μ-loop2 Inv-loop μ-loop Inv-iterations μ-iterations
+same-length-13 c =
+    let at : Net = c .before .before .before .before .before .before .before .before .before .before .before .before in
+    net-lengths at .to-long ∙ sym (entry-long (net-entry at) .to-long)
+
+same-length-14 :
+    tie.Need-same-length-14 Inv-loop2 μ-loop2 Inv-loop μ-loop Inv-iterations μ-iterations
+same-length-14 c =
+    let at : Net = c .before .before .before .before .before .before .before .before .before .before .before .before in
+    net-lengths at .due-long ∙ sym (entry-long (net-entry at) .due-long)
+
+same-length-15 :
+    tie.Need-same-length-15 Inv-loop2 μ-loop2 Inv-loop μ-loop Inv-iterations μ-iterations
+same-length-15 c = c .before .before .before .clear2 .kept .0 ∙ net-lengths (c .before .before .before .before .before .before .before .before .before .before .before .before) .work-long
+
+same-length-16 :
+    tie.Need-same-length-16 Inv-loop2 μ-loop2 Inv-loop μ-loop Inv-iterations μ-iterations
+same-length-16 c = net-lengths (c .before .before .before .before .before .before .before .before .before .before .before .before) .log-long
+
+returns-2 :
+    tie.Need-returns-2 Inv-loop2 μ-loop2 Inv-loop μ-loop Inv-iterations μ-iterations
+returns-2 c =
+    let at : Net = c .before .before .before .before .before .before .before .before .before .before .before .before in
+    rw (c .before .before .before .clear2 .ensures)
+    (keep-limit _ (routable (net-entry at)) (whole (c .before .before .before .before .before .before .before .before .before .before .before)) _
+    (over-is (c .before .before .before .before .before .before .before .before .before)) (c .before .before .before .before .before .before .before .before .if1 .left) (c .before .before .before .before .before .if2 .taken)
+    (c .answer2 .result) (c .answer2 .ensures .0)
+    (record { iteration-is = c .answer2 .ensures .1; turns-is = c .answer2 .ensures .2; words-is = c .answer2 .ensures .3 }))
+
+grow-histories-requires :
+    tie.Need-grow-histories-requires Inv-loop2 μ-loop2 Inv-loop μ-loop Inv-iterations μ-iterations
+grow-histories-requires c κs =
+    let at : Net = c .before .before .before .before .before .before .before .before .before in
+    let r = routable (net-entry at) in
+    let l = capacities-long _ _ (r .block-sound .capacities-sound) in
+    let long = net-lengths at in
+    let h = long .history-long in
+    ((l ∙ sym (long .users-long), l ∙ sym h), (λ v b. keep-growable _ r (whole (c .before .before .before .before .before .before .before .before)) v (subst (λ k. v < k) h b), tuning-fits _ r .few-step))
+
+next-iteration-requires :
+    tie.Need-next-iteration-requires Inv-loop2 μ-loop2 Inv-loop μ-loop Inv-iterations μ-iterations
+next-iteration-requires c κs =
+    let at : Net = c .before .before .before .before .before .before .before .before .before .before .before .before in
+    let b = keep-below _ (routable (net-entry at)) (whole (c .before .before .before .before .before .before .before .before .before .before .before)) (c .before .before .before .before .before .if2 .left) in
+    let l = routable (net-entry at) .limit-few in
+    omega arith
+
+iterations-less :
+    tie.Need-iterations-less Inv-loop2 μ-loop2 Inv-loop μ-loop Inv-iterations μ-iterations
+iterations-less c =
+    let at : Net = c .before .before .before .before .before .before .before .before .before .before .before .before .before in
+    let b = keep-below _ (routable (net-entry at)) (whole (c .before .before .before .before .before .before .before .before .before .before .before .before)) (c .before .before .before .before .before .before .if2 .left) in
+    let e = c .next-iteration .ensures .0 in
+    let a = net-at at .under .iteration-is in
+    let h = iteration at .iterations .inv .1 .under .iteration-is in
+    omega arith
+
+iterations-again :
+    tie.Need-iterations-again Inv-loop2 μ-loop2 Inv-loop μ-loop Inv-iterations μ-iterations
+iterations-again c =
+    let at : Net = c .before .before .before .before .before .before .before .before .before .before .before .before .before in
+    let e = c .next-iteration .ensures in (
+      _,
+      keep-next _ (routable (net-entry at)) (whole (c .before .before .before .before .before .before .before .before .before .before .before .before))
+          (λ z. c .before .before .before .before .before .before .before .before .before .if1 .left (over-is (c .before .before .before .before .before .before .before .before .before .before) ∙ z)) (c .before .before .before .before .before .before .if2 .left)
+          (e .0) (e .1) (e .2) (e .3) (c .before .before .before .grow-histories .ensures),
+    )
+
+mul-clear-3 :
+    tie.Need-mul-clear-3 Inv-loop2 μ-loop2 Inv-loop μ-loop Inv-iterations μ-iterations
+mul-clear-3 c = let f = few-nodes (turn-entry (c .before .before .before .before .before .before .before .before .before .before .before .before .before .before .before .before .before)) in omega arith
+
+clear-requires-3 :
+    tie.Need-clear-requires-3 Inv-loop2 μ-loop2 Inv-loop μ-loop Inv-iterations μ-iterations
+clear-requires-3 c κs =
+    let at : Turn = c .before .before .before .before .before .before .before .before .before .before .before .before .before .before .before .before .before in
+    let e = enough (turn-entry at) in
+    let a = c .before .before .before .before .before .before .before .before .before .one-turn .ensures .1 .long in
+    let l = turn-lengths at .work-long in
+    omega arith
+
+answer-requires-3 :
+    tie.Need-answer-requires-3 Inv-loop2 μ-loop2 Inv-loop μ-loop Inv-iterations μ-iterations
+answer-requires-3 c κs = tt
+
+same-length-17 :
+    tie.Need-same-length-17 Inv-loop2 μ-loop2 Inv-loop μ-loop Inv-iterations μ-iterations
+same-length-17 c =
+    let at : Turn = c .before .before .before .before .before .before .before .before .before .before .before .before .before .before .before .before .before .before .before .before .before in
+    turn-lengths at .history-long ∙ sym (entry-long (turn-entry at) .history-long)
+
+same-length-18 :
+    tie.Need-same-length-18 Inv-loop2 μ-loop2 Inv-loop μ-loop Inv-iterations μ-iterations
+same-length-18 c =
+    let at : Turn = c .before .before .before .before .before .before .before .before .before .before .before .before .before .before .before .before .before .before .before .before .before in
+    turn-lengths at .users-long ∙ sym (entry-long (turn-entry at) .users-long)
+
+same-length-19 :
+    tie.Need-same-length-19 Inv-loop2 μ-loop2 Inv-loop μ-loop Inv-iterations μ-iterations
+same-length-19 c =
+    let at : Turn = c .before .before .before .before .before .before .before .before .before .before .before .before .before .before .before .before .before .before .before .before .before in
+    c .before .before .before .before .before .before .before .before .before .before .before .before .before .one-turn .kept .1 .1 .1 .1 .1 .1 .1 .1 .1 .1 .1 .0 ∙ turn-lengths at .marks-long ∙ sym (entry-long (turn-entry at) .marks-long)
+
+same-length-20 :
+    tie.Need-same-length-20 Inv-loop2 μ-loop2 Inv-loop μ-loop Inv-iterations μ-iterations
+same-length-20 c =
+    let at : Turn = c .before .before .before .before .before .before .before .before .before .before .before .before .before .before .before .before .before .before .before .before .before in
+    turn-lengths at .from-long ∙ sym (entry-long (turn-entry at) .from-long)
+
+same-length-21 :
+    tie.Need-same-length-21 Inv-loop2 μ-loop2 Inv-loop μ-loop Inv-iterations μ-iterations
+same-length-21 c =
+    let at : Turn = c .before .before .before .before .before .before .before .before .before .before .before .before .before .before .before .before .before .before .before .before .before in
+    turn-lengths at .to-long ∙ sym (entry-long (turn-entry at) .to-long)
+
+same-length-22 :
+    tie.Need-same-length-22 Inv-loop2 μ-loop2 Inv-loop μ-loop Inv-iterations μ-iterations
+same-length-22 c =
+    let at : Turn = c .before .before .before .before .before .before .before .before .before .before .before .before .before .before .before .before .before .before .before .before .before in
+    turn-lengths at .due-long ∙ sym (entry-long (turn-entry at) .due-long)
+
+same-length-23 :
+    tie.Need-same-length-23 Inv-loop2 μ-loop2 Inv-loop μ-loop Inv-iterations μ-iterations
+same-length-23 c =
+    let at : Turn = c .before .before .before .before .before .before .before .before .before .before .before .before .before .before .before .before .before .before .before .before .before in
+    c .before .before .before .clear3 .kept .0 ∙ c .before .before .before .before .before .before .before .before .before .before .before .before .before .one-turn .ensures .1 .long ∙ turn-lengths at .work-long
+
+same-length-24 :
+    tie.Need-same-length-24 Inv-loop2 μ-loop2 Inv-loop μ-loop Inv-iterations μ-iterations
+same-length-24 c =
+    let at : Turn = c .before .before .before .before .before .before .before .before .before .before .before .before .before .before .before .before .before .before .before .before .before in
+    c .before .before .before .before .before .before .before .before .before .before .before .before .before .one-turn .kept .1 .1 .1 .1 .1 .1 .1 .1 .0 ∙ turn-lengths at .log-long
+
+returns-3 :
+    tie.Need-returns-3 Inv-loop2 μ-loop2 Inv-loop μ-loop Inv-iterations μ-iterations
+returns-3 c =
+    let at : Turn = c .before .before .before .before .before .before .before .before .before .before .before .before .before .before .before .before .before .before .before .before .before in
+    after-full _ (routable (turn-entry at)) (enough (turn-entry at)) (turn-at at) (c .before .before .before .before .before .before .before .before .before .before .before .before .before .before .before .before .before .before .before .before .loop2-test .taken) _ (own-sinks at) _ _ _
+    (c .before .before .before .before .before .before .before .before .before .before .before .before .before .one-turn .ensures .1) _
+    (c .before .before .before .before .before .before .before .before .before .before .before .before .before .one-turn .ensures .0) (c .before .before .before .before .before .enum-told2 .given .1) _ (c .before .before .before .clear3 .ensures)
+    (c .answer3 .result) (c .answer3 .ensures .0)
+    (record { iteration-is = c .answer3 .ensures .1; turns-is = c .answer3 .ensures .2; words-is = c .answer3 .ensures .3 })
+
+pub go-on-spec : {M : Type 1} → statement M
+go-on-spec =
+    tie.close
+    (tie.spec
+    Inv-loop2
+    μ-loop2
+    Inv-loop
+    μ-loop
+    Inv-iterations
+    μ-iterations
+    iterations-holds
+    mark-due-requires
+    loop-holds
+    mul-from
+    shared-slice-read-from
+    cast-from
+    add-to
+    mul-to
+    shared-slice-read-to
+    cast-to
+    begin-net-requires
+    loop2-holds
+    mul-one-turn
+    sub-one-turn
+    part-one-turn-start
+    part-one-turn-end
+    cast-one-turn
+    one-turn-requires
+    enum-told
+    enum-told-2
+    enum-known-t
+    sub-left
+    loop2-less
+    loop2-again
+    end-net-requires
+    add-net
+    loop-less
+    loop-again
+    over-count-requires
+    mul-clear
+    clear-requires
+    answer-requires
+    same-length
+    same-length-2
+    same-length-3
+    same-length-4
+    same-length-5
+    same-length-6
+    same-length-7
+    same-length-8
+    returns
+    mul-clear-2
+    clear-requires-2
+    answer-requires-2
+    same-length-9
+    same-length-10
+    same-length-11
+    same-length-12
+    same-length-13
+    same-length-14
+    same-length-15
+    same-length-16
+    returns-2
+    grow-histories-requires
+    next-iteration-requires
+    iterations-less
+    iterations-again
+    mul-clear-3
+    clear-requires-3
+    answer-requires-3
+    same-length-17
+    same-length-18
+    same-length-19
+    same-length-20
+    same-length-21
+    same-length-22
+    same-length-23
+    same-length-24
+    returns-3)
