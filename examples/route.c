@@ -56,7 +56,7 @@ int main(void)
                    log_words, LOG, out, ARVUMNAO_OUT);
     if (refused())
         return 1;
-    arvumnao_write(log_words, (size_t)out[ARVUMNAO_ROUTE_WORDS], routes, ROUTES, out, ARVUMNAO_OUT);
+    arvumnao_write(source, nets, log_words, (size_t)out[ARVUMNAO_ROUTE_WORDS], routes, ROUTES, out, ARVUMNAO_OUT);
     if (refused())
         return 1;
     size_t written = (size_t)out[ARVUMNAO_WRITE_BYTES];

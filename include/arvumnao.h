@@ -22,14 +22,14 @@
  *             return 1;
  *         size_t words = (size_t)out[ARVUMNAO_ROUTE_WORDS];
  *         // an empty buffer is always too short, so the writer answers with the bytes needed
- *         arvumnao_write(log, words, NULL, 0, out, ARVUMNAO_OUT);
+ *         arvumnao_write(source, 1, log, words, NULL, 0, out, ARVUMNAO_OUT);
  *         if (out[ARVUMNAO_REFUSAL] != ARVUMNAO_SHORT_BUFFER)
  *             return 1;
  *         size_t bytes = (size_t)out[ARVUMNAO_REFUSAL_1];
  *         uint8_t *routes = malloc(bytes);
  *         if (routes == NULL)
  *             return 1;
- *         arvumnao_write(log, words, routes, bytes, out, ARVUMNAO_OUT);
+ *         arvumnao_write(source, 1, log, words, routes, bytes, out, ARVUMNAO_OUT);
  *         fwrite(routes, 1, bytes, stdout);
  *         free(routes);
  *         return 0;
@@ -74,6 +74,9 @@
  *                                  step, 1 or 2
  * A table of another length than it must have breaks its rule; where table 3 or 6 doesn't end with the length of table
  * 4 or 7, it is table 3 or 6 that does.
+ *
+ * NETS OF ONE SOURCE are joined into the first of them: it is routed, under its own number, to the sinks of all of them in
+ * listed order, each once; the others make no turns.
  */
 #ifndef ARVUMNAO_H
 #define ARVUMNAO_H
@@ -83,7 +86,7 @@
 
 /* The version of these declarations. The library itself carries none: header and library must be of one build.
  * Until 1.0.0 the second number rises with every change to a call, a place in `out` or a refusal. */
-#define ARVUMNAO_VERSION "0.1.0"
+#define ARVUMNAO_VERSION "0.2.0"
 
 /* The most that a job has. */
 #define ARVUMNAO_NODES_MOST 4096
@@ -110,7 +113,8 @@
 #define ARVUMNAO_RECORD(path) (6 + (path))
 
 /* Bytes of stack, beyond its caller's, that every call makes do with. Measured on x86-64 Linux by tests/header/memory.c, with
- * what memcpy and memset take: 113,143 in arvumnao_read, 29,663 in arvumnao_route, under 500 in the others. */
+ * what memcpy and memset take: 110,087 in arvumnao_read, 48,551 in arvumnao_route, 1,223 in arvumnao_write, under 500 in the
+ * others. */
 #define ARVUMNAO_STACK 131072
 
 /* `out`: its length, and the places that every call has. */
@@ -128,7 +132,7 @@
 #define ARVUMNAO_BAD_TABLE 5     /* table: the lowest that breaks its rule, 8 for the terms */
 #define ARVUMNAO_SHORT_WORK 6    /* entries that work needs */
 #define ARVUMNAO_UNREACHABLE 7   /* net, place: the first net with a sink that has no path from its source; the place
-                                    of the first such sink among that net's */
+                                    of the first such sink among that net's, joined as above */
 #define ARVUMNAO_LOG_FULL 8      /* iteration, turns: after so many turns the next record, of that iteration, doesn't fit */
 #define ARVUMNAO_LIMIT_REACHED 9 /* iteration, nodes: after the last iteration so many nodes are over capacity */
 #define ARVUMNAO_BAD_RECORD 10   /* word: where the first unsound record begins; 0 if the log is empty */
@@ -214,16 +218,18 @@ uint32_t arvumnao_read(const uint8_t *text, size_t text_count, uint8_t *kind, si
                        uint16_t *sink, size_t sink_count,
                        uint64_t *out, size_t out_count);
 
-/* Writes the routes text of a log.
+/* Writes the routes text of a log: an R line, B lines, and a J line for each net that was joined into another.
  *
- * log       the words used of it, not the whole slice that was lent to arvumnao_route.
+ * source    table 5 of the job that was routed. Here its rule is 1 to 512 entries, each below 4,096: the writer knows no kinds.
+ * log       the words used of it, not the whole slice that was lent to arvumnao_route. A record whose net is not in table 5,
+ *           or is not the first net of its source, is unsound.
  * buffer    gets the text, without a 0 at its end; bytes past it stay. To learn how long it must be, call with an empty
- *           buffer: the answer is ARVUMNAO_SHORT_BUFFER with the bytes needed, or ARVUMNAO_BAD_RECORD.
- * Refusals, tested in this order: ARVUMNAO_BAD_RECORD, ARVUMNAO_SHORT_BUFFER. The writer can't tell whether the run was
- * accepted: the routes of one that wasn't leave nodes overfull or nets unrouted. */
+ *           buffer: the answer is ARVUMNAO_SHORT_BUFFER with the bytes needed, or one of the other refusals.
+ * Refusals, tested in this order: ARVUMNAO_BAD_TABLE with 5, ARVUMNAO_BAD_RECORD, ARVUMNAO_SHORT_BUFFER. The writer can't tell
+ * whether the run was accepted: the routes of one that wasn't leave nodes overfull or nets unrouted. */
 #define ARVUMNAO_WRITE_BYTES 3
-uint32_t arvumnao_write(const uint32_t *log, size_t log_count, uint8_t *buffer, size_t buffer_count,
-                        uint64_t *out, size_t out_count);
+uint32_t arvumnao_write(const uint16_t *source, size_t source_count, const uint32_t *log, size_t log_count,
+                        uint8_t *buffer, size_t buffer_count, uint64_t *out, size_t out_count);
 
 #ifdef __cplusplus
 }

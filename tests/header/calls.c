@@ -113,7 +113,8 @@ static void search(void)
 }
 
 /* Two nets that share wire 2 and never settle. It costs history x 20 x (100 + factor), with histories 1, 3, 5, 7 by a step of 2 and
- * factors 0, 100, 233, 543 by 7 / 3; the sinks cost 2,000 and 1,900. One net alone takes both sinks and settles. */
+ * factors 0, 100, 233, 543 by 7 / 3; the sinks cost 2,000 and 1,900. One net alone takes both sinks and settles, and so do two
+ * of one source. */
 static void route(void)
 {
     const uint8_t kind[] = { 0, 2, 4, 1, 3 };
@@ -123,6 +124,7 @@ static void route(void)
     const uint16_t source[] = { 0, 1 };
     const uint32_t first_sink[] = { 0, 1, 2 };
     const uint16_t sink[] = { 3, 4 };
+    const uint16_t one_source[] = { 0, 0 };
     const uint32_t one_net[] = { 0, 2 };
     const uint64_t ended[] = { 4, 8, 72 }, begun[] = { 1, 0, 0 }, settled[] = { 1, 2, 17 };
     const uint32_t expected[73] = {
@@ -155,6 +157,11 @@ static void route(void)
                    4, 100, 7, 3, 2, work, 41, log, 73, out, OUT);
     EXPECT(refused(5, 1, 0));
     arvumnao_route(kind, 5, capacity, 5, first_edge, 6, edge_target, 4, source, 1, one_net, 2, sink, 2,
+                   4, 100, 7, 3, 2, work, 41, log, 73, out, OUT);
+    EXPECT(told(0, 0, 0, settled, 3));
+    EXPECT(memcmp(log, joined, sizeof joined) == 0);
+    memset(log, 9, sizeof log);
+    arvumnao_route(kind, 5, capacity, 5, first_edge, 6, edge_target, 4, one_source, 2, first_sink, 3, sink, 2,
                    4, 100, 7, 3, 2, work, 41, log, 73, out, OUT);
     EXPECT(told(0, 0, 0, settled, 3));
     EXPECT(memcmp(log, joined, sizeof joined) == 0);
@@ -214,25 +221,30 @@ static void read_text(void)
     EXPECT(read_job(7, 8, 9, 10, 4, 5, 3) == 1 && refused(2, 2, 0));
 }
 
-/* The routes of job B's log. */
+/* The routes of job B's log, with a third net that was joined into the second. */
 static void write_routes(void)
 {
+    const uint16_t source[] = { 0, 1, 1, 4096 };
     const uint32_t log[] = {
         1, 0, 4, 4000, 0, 3, 0, 2, 4, 1, 1, 5, 4000, 0, 3, 1, 2, 5,
         2, 0, 4, 6000, 0, 3, 0, 3, 4, 2, 1, 5, 6000, 0, 3, 1, 2, 5,
     };
-    const char routes[] = "R,2,4\nB,0,0,3\nB,0,3,4\nB,1,1,2\nB,1,2,5\n";
+    const char routes[] = "R,2,4\nB,0,0,3\nB,0,3,4\nB,1,1,2\nB,1,2,5\nJ,2,1\n";
     const uint64_t bytes = sizeof routes - 1;
     uint8_t buffer[50];
     memset(buffer, OLD, sizeof buffer);
     lend_out();
-    EXPECT(arvumnao_write(log, COUNT(log), buffer, COUNT(buffer), out, OUT) == 1);
+    EXPECT(arvumnao_write(source, 3, log, COUNT(log), buffer, COUNT(buffer), out, OUT) == 1);
     EXPECT(told(0, 0, 0, &bytes, 1));
     EXPECT(memcmp(buffer, routes, bytes) == 0 && buffer[bytes] == OLD);
-    arvumnao_write(log, 35, buffer, COUNT(buffer), out, OUT);
+    arvumnao_write(source, 4, log, 35, buffer, COUNT(buffer), out, OUT);
+    EXPECT(refused(5, 5, 0));
+    arvumnao_write(source, 3, log, 35, buffer, COUNT(buffer), out, OUT);
     EXPECT(refused(10, 27, 0));
-    arvumnao_write(log, COUNT(log), buffer, 37, out, OUT);
-    EXPECT(refused(11, 38, 0));
+    arvumnao_write(source, 1, log, COUNT(log), buffer, COUNT(buffer), out, OUT);
+    EXPECT(refused(10, 9, 0));
+    arvumnao_write(source, 3, log, COUNT(log), buffer, 43, out, OUT);
+    EXPECT(refused(11, 44, 0));
 }
 
 int main(void)

@@ -58,7 +58,7 @@ static void call_route(void)
 
 static void call_write(void)
 {
-    arvumnao_write(log_words, words, routes, sizeof routes, out, ARVUMNAO_OUT);
+    arvumnao_write(source, NETS, log_words, words, routes, sizeof routes, out, ARVUMNAO_OUT);
 }
 
 static void call_search(void)
@@ -128,10 +128,12 @@ static void empty(void)
     expect("read of nothing", out[0] == ARVUMNAO_BAD_SHAPE && out[1] == 1);
     arvumnao_read(text, bytes, NULL, 0, NULL, 0, NULL, 0, NULL, 0, NULL, 0, NULL, 0, NULL, 0, out, ARVUMNAO_OUT);
     expect("read into nothing", out[0] == ARVUMNAO_SHORT_TABLE && out[1] == 1);
-    arvumnao_write(NULL, 0, NULL, 0, out, ARVUMNAO_OUT);
-    expect("write of nothing", out[0] == ARVUMNAO_BAD_RECORD && out[1] == 0);
+    arvumnao_write(NULL, 0, NULL, 0, NULL, 0, out, ARVUMNAO_OUT);
+    expect("write of nothing", out[0] == ARVUMNAO_BAD_TABLE && out[1] == 5);
+    arvumnao_write(source, 1, NULL, 0, NULL, 0, out, ARVUMNAO_OUT);
+    expect("write of an empty log", out[0] == ARVUMNAO_BAD_RECORD && out[1] == 0);
     expect("price without out", arvumnao_price(0, 0, 0, 1, 1, NULL, 0) == 0);
-    expect("write without out", arvumnao_write(NULL, 0, NULL, 0, NULL, 0) == 0);
+    expect("write without out", arvumnao_write(NULL, 0, NULL, 0, NULL, 0, NULL, 0) == 0);
 }
 
 int main(void)

@@ -90,13 +90,13 @@ module _ (text : List ℕ) (t : Tables) (out : List ℕ) where
 
 -- ---- the writer
 
-module _ (log buffer out : List ℕ) where
-  pub write-short : length out < 16 → writeDone (callOf 0 out) buffer ≡ writeCall log buffer out
+module _ (sources log buffer out : List ℕ) where
+  pub write-short : length out < 16 → writeDone (callOf 0 out) buffer ≡ writeCall sources log buffer out
   unfolding writeCall
   write-short h = rw (lt-ltb (length out) 16 h)
 
   pub write-called :
-      (left : List ℕ) (call : Call) (r : WriteAnswer) → 16 ≤ length out → writeReplyOf r left ≡ writeReply log buffer
-      → call ≡ callOf 1 (outWith (writeRefusal r) (writtenBytes r ∷ []) out) → writeDone call left ≡ writeCall log buffer out
+      (left : List ℕ) (call : Call) (r : WriteAnswer) → 16 ≤ length out → writeReplyOf r left ≡ writeReply sources log buffer
+      → call ≡ callOf 1 (outWith (writeRefusal r) (writtenBytes r ∷ []) out) → writeDone call left ≡ writeCall sources log buffer out
   unfolding writeCall
   write-called left call r h answers put = rw (le-ltb (length out) 16 h, ← answers, put)

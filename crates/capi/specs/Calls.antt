@@ -103,6 +103,6 @@ writeDone call buffer = record { call = call; buffer = buffer }
 abbrev pub writeCallWith : WriteReply → List ℕ → WriteCall
 writeCallWith r out = writeDone (callOf 1 (outWith (r .refusal) (r .bytes ∷ []) out)) (r .buffer)
 
-unfoldable pub writeCall : List ℕ → List ℕ → List ℕ → WriteCall
-writeCall log buffer out =
-    choose (ltb (length out) 16) (writeDone (callOf 0 out) buffer) (writeCallWith (writeReply log buffer) out)
+unfoldable pub writeCall : List ℕ → List ℕ → List ℕ → List ℕ → WriteCall
+writeCall sources log buffer out =
+    choose (ltb (length out) 16) (writeDone (callOf 0 out) buffer) (writeCallWith (writeReply sources log buffer) out)

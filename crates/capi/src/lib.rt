@@ -164,15 +164,20 @@ pub extern "C" fn arvumnao_read(
     out::put_read(answer, out)
 }
 
-// Writes the routes text of a log.
+// Writes the routes text of a log, whose nets are those of table 5.
 #[no_mangle]
-pub extern "C" fn arvumnao_write(log: &[u32], buffer: &mut [u8], out: &mut [u64]) -> u32
+pub extern "C" fn arvumnao_write(
+    source: &[u16],
+    log: &[u32],
+    buffer: &mut [u8],
+    out: &mut [u64],
+) -> u32
     ensures { λ r. do
       let done = writeDone (callOf r (now (out .exit))) (now (buffer .exit))
-      ⌜ done ≡ writeCall (now (log .entry)) (now (buffer .entry)) (now (out .entry)) ⌝ }
+      ⌜ done ≡ writeCall (now (source .entry)) (now (log .entry)) (now (buffer .entry)) (now (out .entry)) ⌝ }
 {
     if out.len() < OUT_ENTRIES {
         return 0;
     }
-    out::put_written(text::write_routes(log, buffer), out)
+    out::put_written(text::write_routes(source, log, buffer), out)
 }

@@ -157,6 +157,7 @@ pub fn put_written(answer: WriteAnswer, out: &mut [u64]) -> u32
 {
     match answer {
         WriteAnswer::Written(bytes) => put_numbers(out, 0, 0, 0, bytes as u64, 0, 0),
+        WriteAnswer::BadTable(table) => put_numbers(out, 5, table as u64, 0, 0, 0, 0),
         WriteAnswer::Unsound(word) => put_numbers(out, 10, word as u64, 0, 0, 0, 0),
         WriteAnswer::ShortBuffer(needed) => put_numbers(out, 11, needed, 0, 0, 0, 0),
     }

@@ -8,14 +8,16 @@ use Prim.Native.Nat.{ℕ, _≤_, zero-le}
 use native.Mathlib.Omega.{arith}
 use lib.Dec.{leb, ltb}
 use lib.ListN.{length, take, drop, length-append}
+use Rattle.price.specs.Bounds.{nodesMost}
 use Rattle.price.proofs.TestLaws.{either-way}
 use Rattle.negotiation.specs.Job.{Job}
 use Rattle.negotiation.specs.Records.{decode}
+use Rattle.negotiation.specs.Tables.{sourcesSound}
 use Rattle.negotiation.specs.Outcome.{RouteReply, routeReply}
 use Rattle.text.specs.Lines.{letterX, printLine}
 use Rattle.text.specs.JobText.{Part, part, stopped, readText}
 use Rattle.text.specs.ReadReplies.{Tables, shortTable, tablesWith, writtenOver}
-use Rattle.text.specs.Routes.{routesText, logSound, textReply, writeReply}
+use Rattle.text.specs.Routes.{routesText, logSound, netWritable, textReply, writeReply}
 use Rattle.flow.specs.Refusals.{refusalLine}
 use Rattle.flow.specs.RunReplies.{Lent, RunReply, afterRoute, routeRun, runOf, runReply, inputMost, lineResponse, answered, responseOf, response}
 
@@ -32,17 +34,23 @@ text-fits text buffer =
     (λ (e : ltb (length buffer) (length text) ≡ false). rw e (over-long text buffer))
     (either-way (ltb (length buffer) (length text)))
 
-write-fits : (log buffer : List ℕ) → writeReply log buffer .bytes ≤ length (writeReply log buffer .buffer)
+write-fits : (sources log buffer : List ℕ) → writeReply sources log buffer .bytes ≤ length (writeReply sources log buffer .buffer)
 unfolding writeReply
-write-fits log buffer =
+write-fits sources log buffer =
     ⊎-elim
-    (λ (e : logSound log ≡ true). rw e (text-fits (routesText (decode log)) buffer))
-    (λ (e : logSound log ≡ false). rw e zero-le)
-    (either-way (logSound log))
+    (λ (t : sourcesSound nodesMost sources ≡ true).
+    ⊎-elim
+    (λ (e : logSound (netWritable sources) log ≡ true). rw (t, e) (text-fits (routesText sources (decode log)) buffer))
+    (λ (e : logSound (netWritable sources) log ≡ false). rw (t, e) zero-le)
+    (either-way (logSound (netWritable sources) log)))
+    (λ (t : sourcesSound nodesMost sources ≡ false). rw t zero-le)
+    (either-way (sourcesSound nodesMost sources))
 
-after-fits : (refusal : List ℕ) (t : Tables) (r : RouteReply) (routes : List ℕ) → afterRoute refusal t r routes .bytes ≤ length (afterRoute refusal t r routes .lent .routes)
-after-fits [] t r routes = write-fits (take (r .used) (r .log)) routes
-after-fits (k ∷ ks) t r routes = zero-le
+after-fits :
+    (refusal sources : List ℕ) (t : Tables) (r : RouteReply) (routes : List ℕ)
+    → afterRoute refusal sources t r routes .bytes ≤ length (afterRoute refusal sources t r routes .lent .routes)
+after-fits [] sources t r routes = write-fits sources (take (r .used) (r .log)) routes
+after-fits (k ∷ ks) sources t r routes = zero-le
 
 run-of-fits : (p : Part Job) (l : Lent) → runOf p l .bytes ≤ length (runOf p l .lent .routes)
 unfolding routeRun
@@ -52,7 +60,7 @@ run-of-fits (part j at rest) l =
     (λ (e : leb 1 (shortTable j (l .tables)) ≡ true). rw e zero-le)
     (λ (e : leb 1 (shortTable j (l .tables)) ≡ false).
     rw e
-    (after-fits (routeReply j (l .work) (l .log) .refusal) (tablesWith j (l .tables)) (routeReply j (l .work) (l .log)) (l .routes)))
+    (after-fits (routeReply j (l .work) (l .log) .refusal) (j .sources) (tablesWith j (l .tables)) (routeReply j (l .work) (l .log)) (l .routes)))
     (either-way (leb 1 (shortTable j (l .tables))))
 
 line-fits : (numbers : List ℕ) (l : Lent) → lineResponse (refusalLine numbers (l .routes)) l .bytes ≤ length (lineResponse (refusalLine numbers (l .routes)) l .lent .routes)

@@ -17,6 +17,7 @@ use Rattle.search.proofs.BlockLaws.{kinds-few, capacities-long}
 use Rattle.search.proofs.BlockLaws as block
 use Rattle.negotiation.specs.Tables.{netsMost, faultyJob, SoundJob}
 use Rattle.negotiation.specs.Job.{Job, jobOf, nodes, nets}
+use Rattle.negotiation.specs.Join.{joined}
 use Rattle.negotiation.specs.Records.{Record, encode}
 use Rattle.negotiation.specs.Outcome.{RouteReply, routeRefusal, routeReplyOf, logWith, loggedRecords, allRecords, unreachableNet, negotiated, routeReply}
 use Rattle.negotiation.specs.declared.RouteAnswer.{RouteAnswer}
@@ -43,9 +44,17 @@ ran-fits : (rs : List Record) (log : List ℕ) → length (encode rs) ≤ length
 unfolding logWith
 ran-fits rs log = let long = length-append (encode rs) (drop (length (encode rs)) log) in omega arith
 
--- the words used are words of the log
+-- the words that a run uses are words of the log
+run-fits : (j : Job) (work log : List ℕ) → negotiated j work log .used ≤ length (negotiated j work log .log)
+unfolding negotiated
+run-fits j work log =
+    ⊎-elim
+    (λ (w : ltb (length (loggedRecords j (length log))) (length (allRecords j)) ≡ true). rw w (ran-fits (loggedRecords j (length log)) log))
+    (λ (w : ltb (length (loggedRecords j (length log))) (length (allRecords j)) ≡ false). rw w (ran-fits (allRecords j) log))
+    (either-way (ltb (length (loggedRecords j (length log))) (length (allRecords j))))
+
 used-fits : (j : Job) (work log : List ℕ) → routeReply j work log .used ≤ length (routeReply j work log .log)
-unfolding routeReply negotiated
+unfolding routeReply
 used-fits j work log =
     ⊎-elim
     (λ (t : leb 1 (faultyJob j) ≡ true). rw t zero-le)
@@ -54,15 +63,9 @@ used-fits j work log =
     (λ (u : ltb (length work) (workNeeded (nodes j)) ≡ true). rw (t, u) zero-le)
     (λ (u : ltb (length work) (workNeeded (nodes j)) ≡ false).
     ⊎-elim
-    (λ (v : ltb (unreachableNet j) (nets j) ≡ true). rw (t, u, v) zero-le)
-    (λ (v : ltb (unreachableNet j) (nets j) ≡ false).
-    ⊎-elim
-    (λ (w : ltb (length (loggedRecords j (length log))) (length (allRecords j)) ≡ true).
-    rw (t, u, v, w) (ran-fits (loggedRecords j (length log)) log))
-    (λ (w : ltb (length (loggedRecords j (length log))) (length (allRecords j)) ≡ false).
-    rw (t, u, v, w) (ran-fits (allRecords j) log))
-    (either-way (ltb (length (loggedRecords j (length log))) (length (allRecords j)))))
-    (either-way (ltb (unreachableNet j) (nets j))))
+    (λ (v : ltb (unreachableNet (joined j)) (nets j) ≡ true). rw (t, u, v) zero-le)
+    (λ (v : ltb (unreachableNet (joined j)) (nets j) ≡ false). rw (t, u, v) (run-fits (joined j) work log))
+    (either-way (ltb (unreachableNet (joined j)) (nets j))))
     (either-way (ltb (length work) (workNeeded (nodes j)))))
     (either-way (leb 1 (faultyJob j)))
 
@@ -73,13 +76,13 @@ module _ (j : Job) (work log : List ℕ) (r : RouteAnswer) (work′ log′ : Lis
   -- an accepted job's routes are written
   pub run-accepted :
       (routes : List ℕ) (a : RunAnswer) (routes′ : List ℕ) → r .outcome ≡ Accepted
-      → writtenReplyOf a routes′ ≡ writeReply (take (r .used) log′) routes
+      → writtenReplyOf a routes′ ≡ writeReply (j .sources) (take (r .used) log′) routes
       → (t : Tables) → runReplyOf a (lentOf t work′ log′ routes′) ≡ routeRun j t work log routes
   unfolding routeRun
   run-accepted routes a routes′ out wrote t =
-      subst (λ (x : RouteReply). runReplyOf a (lentOf t work′ log′ routes′) ≡ afterRoute (x .refusal) t x routes) is
+      subst (λ (x : RouteReply). runReplyOf a (lentOf t work′ log′ routes′) ≡ afterRoute (x .refusal) (j .sources) t x routes) is
       (subst
-      (λ (o : Outcome). runReplyOf a (lentOf t work′ log′ routes′) ≡ afterRoute (routeRefusal o (r .iteration) (r .turns)) t (routeReplyOf r work′ log′) routes)
+      (λ (o : Outcome). runReplyOf a (lentOf t work′ log′ routes′) ≡ afterRoute (routeRefusal o (r .iteration) (r .turns)) (j .sources) t (routeReplyOf r work′ log′) routes)
       (sym out)
       (ap (λ (w : WriteReply). afterWrite t (routeReplyOf r work′ log′) w) wrote))
 
@@ -89,9 +92,9 @@ module _ (j : Job) (work log : List ℕ) (r : RouteAnswer) (work′ log′ : Lis
       → (t : Tables) → runReplyWith (k ∷ ks) 0 (lentOf t work′ log′ routes) ≡ routeRun j t work log routes
   unfolding routeRun
   run-refused routes k ks o out numbers t =
-      subst (λ (x : RouteReply). runReplyWith (k ∷ ks) 0 (lentOf t work′ log′ routes) ≡ afterRoute (x .refusal) t x routes) is
+      subst (λ (x : RouteReply). runReplyWith (k ∷ ks) 0 (lentOf t work′ log′ routes) ≡ afterRoute (x .refusal) (j .sources) t x routes) is
       (subst
-      (λ (l : List ℕ). runReplyWith (k ∷ ks) 0 (lentOf t work′ log′ routes) ≡ afterRoute l t (routeReplyOf r work′ log′) routes)
+      (λ (l : List ℕ). runReplyWith (k ∷ ks) 0 (lentOf t work′ log′ routes) ≡ afterRoute l (j .sources) t (routeReplyOf r work′ log′) routes)
       (sym (ap (λ (x : Outcome). routeRefusal x (r .iteration) (r .turns)) out ∙ numbers))
       refl)
 

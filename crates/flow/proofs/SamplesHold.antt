@@ -3,6 +3,7 @@
 use mathlib.Core.List.{List, [], _∷_, _++_}
 use mathlib.Core.Path.{_≡_, refl}
 use Rattle.negotiation.specs.Records.{decodeUpTo, decode}
+use Rattle.negotiation.specs.Join.{firstOf, leads}
 use Rattle.price.specs.Samples.{Sample, Hold}
 use Rattle.price.specs.Samples as p
 use Rattle.price.proofs.SamplesHold as p-hold
@@ -14,7 +15,7 @@ use Rattle.text.specs.JobText.{headWithin, headLine, tuningWithin, tuningLine, 
 use Rattle.text.specs.JobText.{pinWithin, sourceLine, sinkOrdered, sinkLine, tuningPart, headPart, nodeLines, edgeLines, sinksNow, sourceDue, sinkDue}
 use Rattle.text.specs.JobText.{complete, netEnd, nextSource, nextSink, netLine, netLines, firstPlaces, jobRead, readText}
 use Rattle.text.specs.ReadReplies.{lowestShort, shortTable, writtenOver, tablesWith}
-use Rattle.text.specs.Routes.{pathSound, recordSound, soundUpTo, soundWords, logSound, steps, branchesIn, lastIteration, routeBranches, branchText, routesText, textReply, writeReply}
+use Rattle.text.specs.Routes.{pathSound, recordSound, soundUpTo, soundWords, logSound, netWritable, steps, branchesIn, lastIteration, routeBranches, branchText, joinsBefore, routeJoins, joinText, routesText, textReply, writeReply}
 use Rattle.flow.specs.Refusals.{refusalLine}
 use Rattle.flow.specs.RunReplies.{routeRun, runReply, response}
 use Rattle.flow.specs.Samples.{lined, linesB, shown, routed, limited, filled, texts, samples}
@@ -22,7 +23,7 @@ use Rattle.flow.specs.Samples.{lined, linesB, shown, routed, limited, fi
 -- all that a closed text computes with: the lines and routes, and what a closed job does
 computing : Unit {0}
 unfolding response refusalLine runReply routeRun
-    writeReply textReply routesText branchText routeBranches lastIteration branchesIn steps logSound soundWords soundUpTo recordSound pathSound
+    writeReply textReply routesText joinText routeJoins joinsBefore branchText routeBranches lastIteration branchesIn steps netWritable leads firstOf logSound soundWords soundUpTo recordSound pathSound
     tablesWith writtenOver shortTable lowestShort readText jobRead firstPlaces netLines netLine nextSink nextSource netEnd complete sinkDue sourceDue sinksNow edgeLines nodeLines headPart tuningPart
     sinkLine sinkOrdered sourceLine pinWithin edgeLine edgeOrdered edgeWithin rises nodeLine nodeWithin tuningLine tuningWithin headLine headWithin
     printLine printFields line fields begins field digitsAfter decimal digits isDigit lined decode decodeUpTo

@@ -38,12 +38,12 @@ abbrev pub afterWrite : Tables → RouteReply → WriteReply → RunReply
 afterWrite t r w = runReplyWith (w .refusal) (w .bytes) (lentOf t (r .work) (r .log) (w .buffer))
 
 -- a job that isn't accepted has no routes
-abbrev pub afterRoute : List ℕ → Tables → RouteReply → List ℕ → RunReply
-afterRoute [] t r routes = afterWrite t r (writeReply (take (r .used) (r .log)) routes)
-afterRoute (k ∷ ks) t r routes = runReplyWith (k ∷ ks) 0 (lentOf t (r .work) (r .log) routes)
+abbrev pub afterRoute : List ℕ → List ℕ → Tables → RouteReply → List ℕ → RunReply
+afterRoute [] sources t r routes = afterWrite t r (writeReply sources (take (r .used) (r .log)) routes)
+afterRoute (k ∷ ks) sources t r routes = runReplyWith (k ∷ ks) 0 (lentOf t (r .work) (r .log) routes)
 
 unfoldable pub routeRun : Job → Tables → List ℕ → List ℕ → List ℕ → RunReply
-routeRun j t work log routes = afterRoute (routeReply j work log .refusal) t (routeReply j work log) routes
+routeRun j t work log routes = afterRoute (routeReply j work log .refusal) (j .sources) t (routeReply j work log) routes
 
 -- a text that is refused leaves all that was lent as it was
 abbrev pub runOf : Part Job → Lent → RunReply

@@ -37,12 +37,17 @@ pub enum RunAnswer {
 const INPUT_MOST: usize = 65536;
 
 // Writes the routes from the words used.
-fn write_used(log: &[u32], words: usize, routes: &mut [u8]) -> RunAnswer
+fn write_used(source: &[u16], log: &[u32], words: usize, routes: &mut [u8]) -> RunAnswer
     requires { ⌜ words ≤ length (now log) ⌝ }
-    ensures { λ r. ⌜ writtenReplyOf r (now (routes .exit)) ≡ writeReply (take words (now (log .entry))) (now (routes .entry)) ⌝ }
+    ensures { λ r. ⌜ writtenReplyOf r (now (routes .exit))
+        ≡ writeReply (now (source .entry)) (take words (now (log .entry))) (now (routes .entry)) ⌝ }
 {
-    match text::write_routes(&log[..words], routes) {
+    match text::write_routes(source, &log[..words], routes) {
         WriteAnswer::Written(bytes) => RunAnswer::Written(bytes),
+        WriteAnswer::BadTable(table) => RunAnswer::One {
+            number: 5,
+            value: table as u64,
+        },
         WriteAnswer::Unsound(word) => RunAnswer::One {
             number: 10,
             value: word as u64,
@@ -89,7 +94,7 @@ fn route_job(
     let words = r.used as usize;
     let outcome = r.outcome;
     match outcome {
-        Outcome::Accepted => write_used(log, words, routes),
+        Outcome::Accepted => write_used(source, log, words, routes),
         Outcome::Unreachable { net, place } => RunAnswer::Two {
             number: 7,
             first: net as u64,

@@ -17,7 +17,7 @@ use Rattle.price.specs.Bounds.{kindMost, capacityMost, nodesMost}
 use Rattle.price.specs.Lists.{every, neighbours, has, distinct, upTo}
 use Rattle.price.specs.Tuning.{tuningSound}
 use Rattle.price.proofs.TestLaws.{either-way, both-true, both-left, both-right}
-use Rattle.price.proofs.ListLaws.{every-all, neighbours-all, getD-upTo, length-upTo}
+use Rattle.price.proofs.ListLaws.{every-all, neighbours-all, rises-last, getD-upTo, length-upTo}
 use Rattle.search.specs.Block.{row, rowStart}
 use Rattle.search.specs.Block as block
 use Rattle.search.specs.Tables.{edgesMost, kindsSound, capacitiesSound, firstEdgesSound, rowSound, edgeTargetsSound}
@@ -36,13 +36,6 @@ every-append : (t : ℕ → Bool) (xs ys : List ℕ) → every t xs ≡ true →
 unfolding every
 every-append t [] ys p q = q
 every-append t (x ∷ xs) ys p q = both-true (both-left (t x) _ p) (every-append t xs ys (both-right (t x) _ p) q)
-
--- a number above all others may come last
-rises-last : (xs : List ℕ) (n : ℕ) → neighbours ltb xs ≡ true → every (λ x. ltb x n) xs ≡ true → neighbours ltb (xs ++ (n ∷ [])) ≡ true
-unfolding neighbours every
-rises-last [] n r b = refl
-rises-last (x ∷ []) n r b = both-true (both-left (ltb x n) _ b) refl
-rises-last (x ∷ y ∷ ys) n r b = both-true (both-left (ltb x y) _ r) (rises-last (y ∷ ys) n (both-right (ltb x y) _ r) (both-right (ltb x n) _ b))
 
 -- what a list of numbers that pass has
 module _ (t : ℕ → Bool) where

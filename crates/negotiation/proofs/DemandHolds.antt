@@ -23,7 +23,9 @@ use Rattle.negotiation.specs.Outcome.{RouteReply, turnsLogged, refusedRe
 use Rattle.negotiation.specs.Unreachable.{AllReachable}
 use Rattle.negotiation.specs.Demand.{TurnHolds, FinalTrees, Demand3, CostsFit}
 use Rattle.negotiation.specs.Routable.{Routable}
-use Rattle.negotiation.proofs.JobLaws.{sound-job, routable-of}
+use Rattle.negotiation.specs.Join.{joined}
+use Rattle.negotiation.proofs.JobLaws.{sound-job}
+use Rattle.negotiation.proofs.JoinedHolds.{joined-routable, joined-reachable}
 use Rattle.negotiation.proofs.RecordLaws.{fitting-begins}
 use Rattle.negotiation.proofs.NetLaws.{no-split}
 use Rattle.negotiation.proofs.RanLaws.{start}
@@ -81,8 +83,8 @@ record Facts (j : Job) (work log : List ℕ) (r : RouteReply) : Type 0 where
   records : List Record
   words : LogHas r records
   turns : r .turns ≡ length records
-  each : (earlier later : List Record) (t : Record) → records ≡ earlier ++ (t ∷ later) → TurnHolds j earlier t × (t .cost < pathMost)
-  final : r .refusal ≡ [] → FinalTrees j records
+  each : (earlier later : List Record) (t : Record) → records ≡ earlier ++ (t ∷ later) → TurnHolds (joined j) earlier t × (t .cost < pathMost)
+  final : r .refusal ≡ [] → FinalTrees (joined j) records
   reached : AllReachable j → (net place : ℕ) → r .refusal ≡ 7 ∷ net ∷ place ∷ [] → ⊥
 
 module _ (j : Job) (work log : List ℕ) (r : RouteReply) (h : Facts j work log r) where
@@ -103,6 +105,35 @@ module _ (j : Job) (work log : List ℕ) (r : RouteReply) (h : Facts j work log 
   costs-of : CostsFit r
   costs-of = record { below = λ earlier later t e. h .each earlier later t (sym is ∙ e) .1; fits = path-fits }
 
+-- ---- a run of joined nets
+
+module _ (j : Job) (sound : Routable j) (all : Reached j) where
+  run-turn : (earlier later : List Record) (t : Record) → allRecords j ≡ earlier ++ (t ∷ later) → TurnHolds j earlier t × (t .cost < pathMost)
+  unfolding allRecords
+  run-turn earlier later t e =
+      let few = sound .limit-few in
+      let most = made-most j (firstState j) (j .terms .limit) in
+      (turn-holds j sound all start (iterationsRun j) (omega arith) earlier later t e, turn-below j sound all start (iterationsRun j) (omega arith) earlier later t e)
+
+  run-final : endNumbers j ≡ [] → FinalTrees j (allRecords j)
+  unfolding allRecords endNumbers
+  run-final e =
+      let few = sound .limit-few in
+      let made : ℕ = iterationsRun j in
+      let most : made ≤ j .terms .limit = made-most j (firstState j) (j .terms .limit) in
+      let some : 1 ≤ made = made-some j (firstState j) (j .terms .limit) (sound .limit-some) in
+      let last : made ≡ suc (made - 1) = omega arith in
+      let settled : settlesAt j (firstState j) (made - 1) ≡ true = chosen-none _ _ _ e in
+      rw last (final-trees-hold j sound all start (made - 1) (omega arith) settled)
+
+  -- the records that fit are a beginning of all
+  logged-turn : (room : ℕ) (earlier later : List Record) (t : Record) → loggedRecords j room ≡ earlier ++ (t ∷ later) → TurnHolds j earlier t × (t .cost < pathMost)
+  unfolding loggedRecords
+  logged-turn room earlier later t e =
+      let whole = fitting-begins room (allRecords j) in
+      run-turn earlier (later ++ whole .0) t
+      (whole .1 ∙ ap (λ (l : List Record). l ++ whole .0) e ∙ append-assoc earlier (t ∷ later) (whole .0))
+
 -- ---- each case of the reply
 
 module _ (j : Job) (work log : List ℕ) where
@@ -119,58 +150,31 @@ module _ (j : Job) (work log : List ℕ) where
         reached = λ all net place e. reached all (cc);
       }
 
-  module _ (sound : Routable j) (all : Reached j) where
-    run-turn : (earlier later : List Record) (t : Record) → allRecords j ≡ earlier ++ (t ∷ later) → TurnHolds j earlier t × (t .cost < pathMost)
-    unfolding allRecords
-    run-turn earlier later t e =
-        let few = sound .limit-few in
-        let most = made-most j (firstState j) (j .terms .limit) in
-        (turn-holds j sound all start (iterationsRun j) (omega arith) earlier later t e, turn-below j sound all start (iterationsRun j) (omega arith) earlier later t e)
-
-    run-final : endNumbers j ≡ [] → FinalTrees j (allRecords j)
-    unfolding allRecords endNumbers
-    run-final e =
-        let few = sound .limit-few in
-        let made : ℕ = iterationsRun j in
-        let most : made ≤ j .terms .limit = made-most j (firstState j) (j .terms .limit) in
-        let some : 1 ≤ made = made-some j (firstState j) (j .terms .limit) (sound .limit-some) in
-        let last : made ≡ suc (made - 1) = omega arith in
-        let settled : settlesAt j (firstState j) (made - 1) ≡ true = chosen-none _ _ _ e in
-        rw last (final-trees-hold j sound all start (made - 1) (omega arith) settled)
-
-    -- the records that fit are a beginning of all
-    logged-turn : (room : ℕ) (earlier later : List Record) (t : Record) → loggedRecords j room ≡ earlier ++ (t ∷ later) → TurnHolds j earlier t × (t .cost < pathMost)
-    unfolding loggedRecords
-    logged-turn room earlier later t e =
-        let whole = fitting-begins room (allRecords j) in
-        run-turn earlier (later ++ whole .0) t
-        (whole .1 ∙ ap (λ (l : List Record). l ++ whole .0) e ∙ append-assoc earlier (t ∷ later) (whole .0))
-
-    run-facts : Facts j work log (negotiated j work log)
-    unfolding negotiated
-    run-facts =
-        ⊎-elim
-        (λ (q : ltb (length (loggedRecords j (length log))) (length (allRecords j)) ≡ true).
-        rw q
-        (record {
-          records = loggedRecords j (length log);
-          words = ran-log j _ _ (loggedRecords j (length log)) work log;
-          turns = refl;
-          each = logged-turn (length log);
-          final = λ e. absurd (let z : _≡_ {A = ℕ} 0 1 = cc in omega arith);
-          reached = λ _ net place e. let z : _≡_ {A = ℕ} 8 7 = cc in omega arith;
-        }))
-        (λ (q : ltb (length (loggedRecords j (length log))) (length (allRecords j)) ≡ false).
-        rw q
-        (record {
-          records = allRecords j;
-          words = ran-log j (endNumbers j) _ (allRecords j) work log;
-          turns = refl;
-          each = run-turn;
-          final = run-final;
-          reached = λ _. end-reached j;
-        }))
-        (either-way (ltb (length (loggedRecords j (length log))) (length (allRecords j))))
+  run-facts : Routable (joined j) → Reached (joined j) → Facts j work log (negotiated (joined j) work log)
+  unfolding negotiated
+  run-facts sound all =
+      ⊎-elim
+      (λ (q : ltb (length (loggedRecords (joined j) (length log))) (length (allRecords (joined j))) ≡ true).
+      rw q
+      (record {
+        records = loggedRecords (joined j) (length log);
+        words = ran-log (joined j) _ _ (loggedRecords (joined j) (length log)) work log;
+        turns = refl;
+        each = logged-turn (joined j) sound all (length log);
+        final = λ e. absurd (let z : _≡_ {A = ℕ} 0 1 = cc in omega arith);
+        reached = λ _ net place e. let z : _≡_ {A = ℕ} 8 7 = cc in omega arith;
+      }))
+      (λ (q : ltb (length (loggedRecords (joined j) (length log))) (length (allRecords (joined j))) ≡ false).
+      rw q
+      (record {
+        records = allRecords (joined j);
+        words = ran-log (joined j) (endNumbers (joined j)) _ (allRecords (joined j)) work log;
+        turns = refl;
+        each = run-turn (joined j) sound all;
+        final = run-final (joined j) sound all;
+        reached = λ _. end-reached (joined j);
+      }))
+      (either-way (ltb (length (loggedRecords (joined j) (length log))) (length (allRecords (joined j)))))
 
   reply-facts : Facts j work log (routeReply j work log)
   reply-facts =
@@ -180,14 +184,15 @@ module _ (j : Job) (work log : List ℕ) where
       (λ (h : faultyJob j < 1).
       ⊎-elim
       (λ (enough : workNeeded (nodes j) ≤ length work).
-      let sound = routable-of j (sound-job j (omega arith)) in
+      let sound = sound-job j (omega arith) in
+      let routable = joined-routable j sound in
       ⊎-elim
-      (λ (all : nets j ≤ unreachableNet j).
-      subst (Facts j work log) (sym (route-run j work log h enough all)) (run-facts sound (all-reached j all)))
-      (λ (some : unreachableNet j < nets j).
+      (λ (all : nets j ≤ unreachableNet (joined j)).
+      subst (Facts j work log) (sym (route-run j work log h enough all)) (run-facts routable (all-reached (joined j) all)))
+      (λ (some : unreachableNet (joined j) < nets j).
       subst (Facts j work log) (sym (route-unreachable j work log h enough some))
-      (refused-facts 7 _ (cleared (nodes j) [] work) (λ all _. none-unreachable j sound all some)))
-      (le-or-lt (nets j) (unreachableNet j)))
+      (refused-facts 7 _ (cleared (nodes j) [] work) (λ all _. none-unreachable (joined j) routable (joined-reachable j sound all) some)))
+      (le-or-lt (nets j) (unreachableNet (joined j))))
       (λ (short : length work < workNeeded (nodes j)).
       subst (Facts j work log) (sym (route-work j work log h short)) (refused-facts 6 _ work (λ _ z. omega arith)))
       (le-or-lt (workNeeded (nodes j)) (length work)))

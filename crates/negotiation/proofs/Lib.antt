@@ -4,6 +4,11 @@
 --     JobLaws           a sound job, table by table: places, bounds, terms; what of it routing rests on
 --     NetTableLaws      tables 5 to 8: what each test's answer says, the lowest table that breaks its rule
 --     SinkMarkLaws      the pass that marks a net's sinks
+-- Joined nets
+--     TakingLaws        places that are taken in turn, but for a sink seen already
+--     JoinLaws          the first net of a source, the places that a joined net takes, no place twice
+--     JoinStepLaws      a net's places, and the entries at places, as the loops take them
+--     JoiningLaws       the loops over the nets, and the tables that they make
 -- Lists and records
 --     RecordLaws        records and their words: encode, decode, what fits a log
 --     FilterLaws        the records of a net and of an iteration
@@ -31,6 +36,7 @@
 -- Theorems
 --     DemandHolds       demand 3, and the bound on every logged cost
 --     UnreachableHolds  what refusal 7 means
+--     JoinedHolds       request 2.3: joined nets; the joined job can be routed
 --     LongerHolds       request 2.6: two limits, two log lengths
 --     SamplesHold       the starred jobs
 -- The routing loops
@@ -47,6 +53,10 @@
 pub mod JobLaws
 pub mod NetTableLaws
 pub mod SinkMarkLaws
+pub mod TakingLaws
+pub mod JoinLaws
+pub mod JoinStepLaws
+pub mod JoiningLaws
 pub mod RecordLaws
 pub mod FilterLaws
 pub mod MemberLaws
@@ -68,6 +78,7 @@ pub mod ReplyLogLaws
 pub mod RouteLaws
 pub mod DemandHolds
 pub mod UnreachableHolds
+pub mod JoinedHolds
 pub mod LongerHolds
 pub mod SamplesHold
 pub mod TariffLaws

@@ -14,25 +14,19 @@ use Rattle.price.proofs.TestLaws.{either-way}
 use Rattle.search.specs.Replies.{workNeeded, cleared}
 use Rattle.negotiation.specs.Job.{Job, nodes, nets, netSinks}
 use Rattle.negotiation.specs.Tables.{limitSound, termsSound, faultyNets, faultyJob}
+use Rattle.negotiation.specs.Join.{joined}
 use Rattle.negotiation.specs.Records.{Record, encode, fitting}
 use Rattle.negotiation.specs.Machine.{othersOf, marksOf, congestionFor, firstState, recordsAfter}
-use Rattle.negotiation.specs.Outcome.{RouteReply, hasPath, unreachableNet, unreachablePlace, iterationsMade, iterationsRun, allRecords, endNumbers, refusedReply, ranReply, negotiated, routeReply}
+use Rattle.negotiation.specs.Outcome.{RouteReply, hasPath, unreachableNet, unreachablePlace, iterationsMade, iterationsRun, allRecords, endNumbers, refusedReply, ranReply, negotiated, reachedReply, tested, routeReply}
 use Rattle.negotiation.specs.Longer.{withLimit, Begins, SameLog, LimitsCompared, RaisedInPlace, LogLengthened, LogsCompared}
 use Rattle.negotiation.proofs.JobLaws.{limit-least}
+use Rattle.negotiation.proofs.JoiningLaws.{places-same}
 use Rattle.negotiation.proofs.RecordLaws.{fitting-begins, fitting-less, fitting-append}
 use Rattle.negotiation.proofs.EndLaws.{whole-reply}
 use Rattle.negotiation.proofs.LimitLaws.{first-alike, made-alike, all-alike, made-same, made-again, not-accepted, end-settles, settled-end, end-unsettled, raised-records}
 use Rattle.negotiation.proofs.ReplyLogLaws.{LogHas, log-words, log-turns, log-begins, refused-log, ran-log, run-log, full-or-fits, run-same}
 
 -- ---- the refusals before any turn
-
--- the reply where a run that is begun replies so
-abbrev tested : Job → List ℕ → List ℕ → RouteReply → RouteReply
-tested j work log run =
-    choose (leb 1 (faultyJob j)) (refusedReply (5 ∷ faultyJob j ∷ []) work log)
-    (choose (ltb (length work) (workNeeded (nodes j))) (refusedReply (6 ∷ workNeeded (nodes j) ∷ []) work log)
-    (choose (ltb (unreachableNet j) (nets j))
-    (refusedReply (7 ∷ unreachableNet j ∷ unreachablePlace j ∷ []) (cleared (nodes j) [] work) log) run))
 
 -- both work slices are long enough, or neither is
 abbrev Alike : Job → List ℕ → List ℕ → Type 0
@@ -86,20 +80,20 @@ refused-or-runs j work work′ alike =
     }))
     (λ (u : ltb (length work) (workNeeded (nodes j)) ≡ false).
     ⊎-elim
-    (λ (v : ltb (unreachableNet j) (nets j) ≡ true).
+    (λ (v : ltb (unreachableNet (joined j)) (nets j) ≡ true).
     inl
     (record {
       number = 7;
-      numbers = unreachableNet j ∷ unreachablePlace j ∷ [];
+      numbers = unreachableNet (joined j) ∷ unreachablePlace (joined j) ∷ [];
       left = cleared (nodes j) [] work;
       left′ = cleared (nodes j) [] work′;
       number-most = omega arith;
       reply = λ log run. rw (t, u, v);
       reply′ = λ log run. rw (t, sym alike ∙ u, v);
     }))
-    (λ (v : ltb (unreachableNet j) (nets j) ≡ false).
+    (λ (v : ltb (unreachableNet (joined j)) (nets j) ≡ false).
     inr (record { reply = λ log run. rw (t, u, v); reply′ = λ log run. rw (t, sym alike ∙ u, v) }))
-    (either-way (ltb (unreachableNet j) (nets j))))
+    (either-way (ltb (unreachableNet (joined j)) (nets j))))
     (either-way (ltb (length work) (workNeeded (nodes j)))))
     (either-way (leb 1 (faultyJob j)))
 
@@ -107,15 +101,31 @@ refused-or-runs j work work′ alike =
 refused-same : (numbers left left′ log log′ : List ℕ) → SameLog (refusedReply numbers left log) (refusedReply numbers left′ log′)
 refused-same numbers left left′ log log′ = record { refusal = refl; iteration = refl; turns = refl; used = refl; words = refl }
 
-reply-tested : (j : Job) (work log : List ℕ) → routeReply j work log ≡ tested j work log (negotiated j work log)
+reply-tested : (j : Job) (work log : List ℕ) → routeReply j work log ≡ tested j work log (negotiated (joined j) work log)
 unfolding routeReply
 reply-tested j work log = refl
 
--- of the tests only that of table 8 reads the limit
+-- joining does not read the limit
+joined-limit : (j : Job) (limit : ℕ) → joined (withLimit j limit) ≡ withLimit (joined j) limit
+joined-limit j limit = simp (places-same (withLimit j limit) j refl refl refl)
+
+-- of the tests of tables only that of table 8 reads it
+faulty-alike : (j : Job) (low high : ℕ) → limitSound low ≡ true → limitSound high ≡ true → faultyJob (withLimit j high) ≡ faultyJob (withLimit j low)
+unfolding faultyJob faultyNets termsSound
+faulty-alike j low high l h = rw (l, h)
+
+-- nor do paths
+reached-alike : (j : Job) (low high : ℕ) (work log : List ℕ) (run : RouteReply) → reachedReply (withLimit j high) work log run ≡ reachedReply (withLimit j low) work log run
+unfolding unreachableNet unreachablePlace hasPath congestionFor othersOf firstState marksOf netSinks
+reached-alike j low high work log run = refl
+
 tested-alike : (j : Job) (low high : ℕ) → limitSound low ≡ true → limitSound high ≡ true → (work log : List ℕ) (run : RouteReply)
     → tested (withLimit j high) work log run ≡ tested (withLimit j low) work log run
-unfolding faultyJob faultyNets termsSound unreachableNet unreachablePlace hasPath congestionFor othersOf firstState marksOf netSinks
-tested-alike j low high l h work log run = rw (l, h)
+tested-alike j low high l h work log run =
+    let seven : reachedReply (joined (withLimit j high)) work log run ≡ reachedReply (joined (withLimit j low)) work log run =
+    ap (λ (k : Job). reachedReply k work log run) (joined-limit j high) ∙ reached-alike (joined j) low high work log run
+    ∙ sym (ap (λ (k : Job). reachedReply k work log run) (joined-limit j low)) in
+    rw (faulty-alike j low high l h, seven)
 
 -- ---- a longer log
 
@@ -148,21 +158,21 @@ unfolding fitting
 log-lengthened j work short work′ long enough enough′ more =
     ⊎-elim
     (λ (r : Refused j work work′).
-    let left = reply-tested j work short ∙ r .reply short (negotiated j work short) in
-    let right = reply-tested j work′ long ∙ r .reply′ long (negotiated j work′ long) in
+    let left = reply-tested j work short ∙ r .reply short (negotiated (joined j) work short) in
+    let right = reply-tested j work′ long ∙ r .reply′ long (negotiated (joined j) work′ long) in
     lengthened j work short work′ long more []
     (rw left (refused-log (r .number ∷ r .numbers) (r .left) short)) (rw right (refused-log (r .number ∷ r .numbers) (r .left′) long))
     (λ _. rw (left, right) (refused-same (r .number ∷ r .numbers) (r .left) (r .left′) short long)))
     (λ (r : Runs j work work′).
-    let left = reply-tested j work short ∙ r .reply short (negotiated j work short) in
-    let right = reply-tested j work′ long ∙ r .reply′ long (negotiated j work′ long) in
-    lengthened j work short work′ long more (allRecords j) (rw left (run-log j work short)) (rw right (run-log j work′ long))
+    let left = reply-tested j work short ∙ r .reply short (negotiated (joined j) work short) in
+    let right = reply-tested j work′ long ∙ r .reply′ long (negotiated (joined j) work′ long) in
+    lengthened j work short work′ long more (allRecords (joined j)) (rw left (run-log (joined j) work short)) (rw right (run-log (joined j) work′ long))
     (λ unfilled.
     rw (left, right)
     (⊎-elim
     (λ full. absurd (unfilled (full .0) (full .1) (ap (λ (r : RouteReply). r .refusal) left ∙ full .2)))
-    (λ (fits : length (encode (allRecords j)) ≤ length short). run-same j work short work′ long fits (omega arith))
-    (full-or-fits j work short))))
+    (λ (fits : length (encode (allRecords (joined j))) ≤ length short). run-same (joined j) work short work′ long fits (omega arith))
+    (full-or-fits (joined j) work short))))
     (refused-or-runs j work work′ (enough-alike j work work′ enough enough′))
 
 -- ---- a larger limit
@@ -247,18 +257,21 @@ module _ (j : Job) (low high : ℕ) (more : low ≤ high) where
 -- both replies under two allowed limits: refused alike, or the runs'
 module _ (j : Job) (low high : ℕ) (l : limitSound low ≡ true) (h : limitSound high ≡ true) (work log work′ log′ : List ℕ) where
   low-refused : (r : Refused (withLimit j low) work work′) → routeReply (withLimit j low) work log ≡ refusedReply (r .number ∷ r .numbers) (r .left) log
-  low-refused r = reply-tested (withLimit j low) work log ∙ r .reply log (negotiated (withLimit j low) work log)
+  low-refused r = reply-tested (withLimit j low) work log ∙ r .reply log (negotiated (joined (withLimit j low)) work log)
 
   high-refused : (r : Refused (withLimit j low) work work′) → routeReply (withLimit j high) work′ log′ ≡ refusedReply (r .number ∷ r .numbers) (r .left′) log′
   high-refused r =
-      reply-tested (withLimit j high) work′ log′ ∙ tested-alike j low high l h work′ log′ _ ∙ r .reply′ log′ (negotiated (withLimit j high) work′ log′)
+      reply-tested (withLimit j high) work′ log′ ∙ tested-alike j low high l h work′ log′ _ ∙ r .reply′ log′ (negotiated (joined (withLimit j high)) work′ log′)
 
-  low-runs : Runs (withLimit j low) work work′ → routeReply (withLimit j low) work log ≡ negotiated (withLimit j low) work log
-  low-runs r = reply-tested (withLimit j low) work log ∙ r .reply log (negotiated (withLimit j low) work log)
+  low-runs : Runs (withLimit j low) work work′ → routeReply (withLimit j low) work log ≡ negotiated (withLimit (joined j) low) work log
+  low-runs r =
+      reply-tested (withLimit j low) work log ∙ r .reply log (negotiated (joined (withLimit j low)) work log)
+      ∙ ap (λ (k : Job). negotiated k work log) (joined-limit j low)
 
-  high-runs : Runs (withLimit j low) work work′ → routeReply (withLimit j high) work′ log′ ≡ negotiated (withLimit j high) work′ log′
+  high-runs : Runs (withLimit j low) work work′ → routeReply (withLimit j high) work′ log′ ≡ negotiated (withLimit (joined j) high) work′ log′
   high-runs r =
-      reply-tested (withLimit j high) work′ log′ ∙ tested-alike j low high l h work′ log′ _ ∙ r .reply′ log′ (negotiated (withLimit j high) work′ log′)
+      reply-tested (withLimit j high) work′ log′ ∙ tested-alike j low high l h work′ log′ _ ∙ r .reply′ log′ (negotiated (joined (withLimit j high)) work′ log′)
+      ∙ ap (λ (k : Job). negotiated k work′ log′) (joined-limit j high)
 
   refused-begins : (r : Refused (withLimit j low) work work′) → Begins (routeReply (withLimit j low) work log) (routeReply (withLimit j high) work′ log′)
   refused-begins r =
@@ -283,16 +296,18 @@ limit-raised j low high work log work′ log′ l h more enough enough′ =
     (λ (r : Runs (withLimit j low) work work′).
     let left = low-runs j low high l h work log work′ log′ r in
     let right = high-runs j low high l h work log work′ log′ r in
+    let fits = rw (joined-limit j low) at (enough .log-long) in
+    let fits′ = rw (joined-limit j high) at (enough′ .log-long) in
     record {
-      begins = rw (left, right) (raised-begins j low high more work log work′ log′ (enough .log-long) (enough′ .log-long));
+      begins = rw (left, right) (raised-begins (joined j) low high more work log work′ log′ fits fits′);
       same =
           λ accepted.
           rw (left, right)
-          (raised-same j low high more work log work′ log′ (enough .log-long) (enough′ .log-long) (limit-least low l) (rw left at accepted));
+          (raised-same (joined j) low high more work log work′ log′ fits fits′ (limit-least low l) (rw left at accepted));
       goes-on =
           λ over limited less.
           rw right
-          (raised-on j low high more work log work′ log′ (enough .log-long) (enough′ .log-long) over (rw left at limited) less);
+          (raised-on (joined j) low high more work log work′ log′ fits fits′ over (rw left at limited) less);
     })
     (refused-or-runs (withLimit j low) work work′ (enough-alike j work work′ (enough .work-long) (enough′ .work-long)))
 
@@ -311,11 +326,11 @@ raised-in-place j low high work log l h more =
     let left = low-runs j low high l h work log work log r in
     let right = high-runs j low high l h work log work log r in
     record {
-      begins = rw (left, right) (placed-begins j low high more work log);
-      same = λ accepted. right ∙ placed-same j low high more (limit-least low l) work log (rw left at accepted) ∙ sym left;
+      begins = rw (left, right) (placed-begins (joined j) low high more work log);
+      same = λ accepted. right ∙ placed-same (joined j) low high more (limit-least low l) work log (rw left at accepted) ∙ sym left;
     })
     (refused-or-runs (withLimit j low) work work refl)
   where
     high-refused′ : (r : Refused (withLimit j low) work work) → routeReply (withLimit j high) work log ≡ refusedReply (r .number ∷ r .numbers) (r .left) log
     high-refused′ r =
-        reply-tested (withLimit j high) work log ∙ tested-alike j low high l h work log _ ∙ r .reply log (negotiated (withLimit j high) work log)
+        reply-tested (withLimit j high) work log ∙ tested-alike j low high l h work log _ ∙ r .reply log (negotiated (joined (withLimit j high)) work log)

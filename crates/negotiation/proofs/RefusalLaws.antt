@@ -8,7 +8,8 @@ use borrow.Author.Tests.{le-leb, lt-leb, lt-ltb, le-ltb}
 use Rattle.search.specs.Replies.{workNeeded, cleared}
 use Rattle.negotiation.specs.Job.{Job, nodes, nets}
 use Rattle.negotiation.specs.Tables.{faultyJob}
-use Rattle.negotiation.specs.Outcome.{unreachableNet, unreachablePlace, negotiated, refusedReply, routeReply}
+use Rattle.negotiation.specs.Join.{joined}
+use Rattle.negotiation.specs.Outcome.{unreachableNet, unreachablePlace, negotiated, refusedReply, reachedReply, routeReply}
 
 module _ (j : Job) (work log : List ℕ) where
   pub route-table : 1 ≤ faultyJob j → routeReply j work log ≡ refusedReply (5 ∷ faultyJob j ∷ []) work log
@@ -22,15 +23,20 @@ module _ (j : Job) (work log : List ℕ) where
 
     module _ (enough : workNeeded (nodes j) ≤ length work) where
       pub route-unreachable :
-          unreachableNet j < nets j
-          → routeReply j work log ≡ refusedReply (7 ∷ unreachableNet j ∷ unreachablePlace j ∷ []) (cleared (nodes j) [] work) log
+          unreachableNet (joined j) < nets j
+          → routeReply j work log ≡ refusedReply (7 ∷ unreachableNet (joined j) ∷ unreachablePlace (joined j) ∷ []) (cleared (nodes j) [] work) log
       unfolding routeReply
       route-unreachable h =
           rw
-          (lt-leb 1 (faultyJob j) sound, le-ltb (length work) (workNeeded (nodes j)) enough, lt-ltb (unreachableNet j) (nets j) h)
+          (lt-leb 1 (faultyJob j) sound, le-ltb (length work) (workNeeded (nodes j)) enough, lt-ltb (unreachableNet (joined j)) (nets j) h)
 
-      pub route-run : nets j ≤ unreachableNet j → routeReply j work log ≡ negotiated j work log
+      -- what stays is the reply of the joined nets
+      pub route-joined : routeReply j work log ≡ reachedReply (joined j) work log (negotiated (joined j) work log)
+      unfolding routeReply
+      route-joined = rw (lt-leb 1 (faultyJob j) sound, le-ltb (length work) (workNeeded (nodes j)) enough)
+
+      pub route-run : nets j ≤ unreachableNet (joined j) → routeReply j work log ≡ negotiated (joined j) work log
       unfolding routeReply
       route-run h =
           rw
-          (lt-leb 1 (faultyJob j) sound, le-ltb (length work) (workNeeded (nodes j)) enough, le-ltb (unreachableNet j) (nets j) h)
+          (lt-leb 1 (faultyJob j) sound, le-ltb (length work) (workNeeded (nodes j)) enough, le-ltb (unreachableNet (joined j)) (nets j) h)

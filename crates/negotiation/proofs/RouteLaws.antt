@@ -13,7 +13,8 @@ use Rattle.price.proofs.ListLaws.{drop-same}
 use Rattle.search.specs.Replies.{workNeeded, cleared}
 use Rattle.negotiation.specs.Job.{Job, nodes, nets}
 use Rattle.negotiation.specs.Tables.{SoundJob, faultyJob}
-use Rattle.negotiation.specs.Outcome.{RouteReply, unreachableNet, unreachablePlace, negotiated, refusedAnswer, refusedReply, routeReplyOf, routeReply}
+use Rattle.negotiation.specs.Join.{joined}
+use Rattle.negotiation.specs.Outcome.{RouteReply, unreachableNet, unreachablePlace, negotiated, refusedAnswer, refusedReply, routeReplyOf, reachedReply, routeReply}
 use Rattle.negotiation.specs.Demand.{Demand3}
 use Rattle.negotiation.specs.Steps.{SameFrom, missing, reachNumbers}
 use Rattle.negotiation.specs.declared.RouteAnswer.{RouteAnswer}
@@ -21,20 +22,73 @@ use Rattle.negotiation.specs.declared.Outcome.the-variants.{BadTable, Sh
 use Rattle.negotiation.specs.declared.reach.Reach.{Reach}
 use Rattle.negotiation.specs.declared.reach.Reach.the-variants.{All, Missing}
 use Rattle.negotiation.proofs.JobLaws.{sound-job}
-use Rattle.negotiation.proofs.RefusalLaws.{route-table, route-work, route-unreachable, route-run}
+use Rattle.negotiation.proofs.RefusalLaws.{route-table, route-work, route-joined}
 use Rattle.negotiation.proofs.DemandHolds.{demand-3}
 
--- the test before iteration 1 finds no sink without a path
-pub none-missing : (j : Job) (found : Reach) → reachNumbers found ≡ missing j → found ≡ All → nets j ≤ unreachableNet j
-none-missing j found tested f =
-    let e : [] ≡ missing j = subst (λ (x : Reach). reachNumbers x ≡ missing j) f tested in
-    ⊎-elim
-    (λ (l : nets j ≤ unreachableNet j). l)
-    (λ (l : unreachableNet j < nets j).
-    let q : missing j ≡ unreachableNet j ∷ unreachablePlace j ∷ [] = rw (lt-ltb (unreachableNet j) (nets j) l) in
-    let z : _≡_ {A = ℕ} 0 1 = cc in
-    absurd (omega arith))
-    (le-or-lt (nets j) (unreachableNet j))
+-- ---- a job of joined nets: refusal 7, then the run
+
+module _ (j : Job) (work log : List ℕ) where
+  -- what is answered and left
+  abbrev pub Reaches : RouteReply → Type 0
+  Reaches r = r ≡ reachedReply j work log (negotiated j work log)
+
+  module _ (found : Reach) (test : reachNumbers found ≡ missing j) where
+    -- the test before iteration 1 finds no sink without a path
+    pub none-missing : found ≡ All → nets j ≤ unreachableNet j
+    none-missing f =
+        let e : [] ≡ missing j = subst (λ (x : Reach). reachNumbers x ≡ missing j) f test in
+        ⊎-elim
+        (λ (l : nets j ≤ unreachableNet j). l)
+        (λ (l : unreachableNet j < nets j).
+        let q : missing j ≡ unreachableNet j ∷ unreachablePlace j ∷ [] = rw (lt-ltb (unreachableNet j) (nets j) l) in
+        let z : _≡_ {A = ℕ} 0 1 = cc in
+        absurd (omega arith))
+        (le-or-lt (nets j) (unreachableNet j))
+
+    -- which sink is missing
+    is-missing : (net place : ℕ) → found ≡ Missing net place → (unreachableNet j < nets j) × (net ≡ unreachableNet j) × (place ≡ unreachablePlace j)
+    is-missing net place f =
+        let e : (net ∷ place ∷ []) ≡ missing j = subst (λ (x : Reach). reachNumbers x ≡ missing j) f test in
+        ⊎-elim
+        (λ (l : nets j ≤ unreachableNet j).
+        let q : missing j ≡ [] = rw (le-ltb (unreachableNet j) (nets j) l) in
+        let z : _≡_ {A = ℕ} 0 1 = cc in
+        absurd (omega arith))
+        (λ (l : unreachableNet j < nets j).
+        let q : missing j ≡ unreachableNet j ∷ unreachablePlace j ∷ [] = rw (lt-ltb (unreachableNet j) (nets j) l) in
+        (l, (cc), (cc)))
+        (le-or-lt (nets j) (unreachableNet j))
+
+    module _ (w : List ℕ) (kept : SameFrom (workNeeded (nodes j)) work w) where
+      past : drop (workNeeded (nodes j)) w ≡ drop (workNeeded (nodes j)) work
+      past = drop-same (workNeeded (nodes j)) work w (kept .long) (kept .high)
+
+      -- what is cleared is the same
+      clean : replicate (workNeeded (nodes j)) 0 ++ drop (workNeeded (nodes j)) w ≡ cleared (nodes j) [] work
+      unfolding cleared
+      clean = rw past (ap (λ (k : ℕ). replicate k 0 ++ drop (workNeeded (nodes j)) work) (sym (sub-zero (workNeeded (nodes j)))))
+
+      cleared-same : cleared (nodes j) [] w ≡ cleared (nodes j) [] work
+      unfolding cleared
+      cleared-same = rw past
+
+      run-same : negotiated j w log ≡ negotiated j work log
+      unfolding negotiated
+      run-same = rw cleared-same
+
+      pub unreachable-refused :
+          (net place : ℕ) (r : RouteAnswer) (w′ : List ℕ) → found ≡ Missing net place → r ≡ refusedAnswer (Unreachable net place)
+          → w′ ≡ replicate (workNeeded (nodes j)) 0 ++ drop (workNeeded (nodes j)) w
+          → Reaches (routeReplyOf r w′ log)
+      unreachable-refused net place r w′ f q e =
+          let m = is-missing net place f in
+          rw (q, e ∙ clean, lt-ltb (unreachableNet j) (nets j) (m .0), m .1, m .2)
+
+      pub run-answered :
+          (r : RouteAnswer) (w′ log′ : List ℕ) → found ≡ All → routeReplyOf r w′ log′ ≡ negotiated j w log → Reaches (routeReplyOf r w′ log′)
+      run-answered r w′ log′ f e = e ∙ run-same ∙ rw (le-ltb (unreachableNet j) (nets j) (none-missing f))
+
+-- ---- a job as it is given
 
 module _ (j : Job) (work log : List ℕ) where
   -- what the contract says of an answer
@@ -62,51 +116,8 @@ module _ (j : Job) (work log : List ℕ) where
     work-refused r h q =
         answered (routeReplyOf r work log) (ap (λ (x : RouteAnswer). routeReplyOf x work log) q ∙ sym (route-work j work log fine h))
 
-    module _ (enough : workNeeded (nodes j) ≤ length work) (w : List ℕ) (kept : SameFrom (workNeeded (nodes j)) work w) (found : Reach) (tested : reachNumbers found ≡ missing j) where
-      past : drop (workNeeded (nodes j)) w ≡ drop (workNeeded (nodes j)) work
-      past = drop-same (workNeeded (nodes j)) work w (kept .long) (kept .high)
-
-      -- what is cleared is the same
-      clean : replicate (workNeeded (nodes j)) 0 ++ drop (workNeeded (nodes j)) w ≡ cleared (nodes j) [] work
-      unfolding cleared
-      clean = rw past (ap (λ (k : ℕ). replicate k 0 ++ drop (workNeeded (nodes j)) work) (sym (sub-zero (workNeeded (nodes j)))))
-
-      -- which sink is missing
-      is-missing : (net place : ℕ) → found ≡ Missing net place → (unreachableNet j < nets j) × (net ≡ unreachableNet j) × (place ≡ unreachablePlace j)
-      is-missing net place f =
-          let e : (net ∷ place ∷ []) ≡ missing j = subst (λ (x : Reach). reachNumbers x ≡ missing j) f tested in
-          ⊎-elim
-          (λ (l : nets j ≤ unreachableNet j).
-          let q : missing j ≡ [] = rw (le-ltb (unreachableNet j) (nets j) l) in
-          let z : _≡_ {A = ℕ} 0 1 = cc in
-          absurd (omega arith))
-          (λ (l : unreachableNet j < nets j).
-          let q : missing j ≡ unreachableNet j ∷ unreachablePlace j ∷ [] = rw (lt-ltb (unreachableNet j) (nets j) l) in
-          (l, (cc), (cc)))
-          (le-or-lt (nets j) (unreachableNet j))
-
-      cleared-same : cleared (nodes j) [] w ≡ cleared (nodes j) [] work
-      unfolding cleared
-      cleared-same = rw past
-
-      run-same : negotiated j w log ≡ negotiated j work log
-      unfolding negotiated
-      run-same = rw cleared-same
-
-      pub unreachable-refused :
-          (net place : ℕ) (r : RouteAnswer) (w′ : List ℕ) → found ≡ Missing net place → r ≡ refusedAnswer (Unreachable net place)
-          → w′ ≡ replicate (workNeeded (nodes j)) 0 ++ drop (workNeeded (nodes j)) w
-          → Answered (routeReplyOf r w′ log)
-      unreachable-refused net place r w′ f q e =
-          let m = is-missing net place f in
-          answered (routeReplyOf r w′ log)
-          (ap (λ (x : RouteAnswer). routeReplyOf x w′ log) q
-          ∙ subst (λ (x : List ℕ). refusedReply (7 ∷ net ∷ place ∷ []) x log ≡ routeReply j work log) (sym (e ∙ clean))
-          (subst (λ (a : ℕ). refusedReply (7 ∷ a ∷ place ∷ []) (cleared (nodes j) [] work) log ≡ routeReply j work log) (sym (m .1))
-          (subst (λ (p : ℕ). refusedReply (7 ∷ unreachableNet j ∷ p ∷ []) (cleared (nodes j) [] work) log ≡ routeReply j work log) (sym (m .2))
-          (sym (route-unreachable j work log fine enough (m .0))))))
-
-      pub run-answered :
-          (r : RouteAnswer) (w′ log′ : List ℕ) → found ≡ All → routeReplyOf r w′ log′ ≡ negotiated j w log → Answered (routeReplyOf r w′ log′)
-      run-answered r w′ log′ f e =
-          answered (routeReplyOf r w′ log′) (e ∙ run-same ∙ sym (route-run j work log fine enough (none-missing j found tested f)))
+    -- the answer of the joined nets, which are a job of their own in the code
+    pub joined-answered :
+        workNeeded (nodes j) ≤ length work → (k : Job) → k ≡ joined j → (r : RouteReply) → Reaches k work log r → Answered r
+    joined-answered enough k e r reached =
+        answered r (subst (λ (x : Job). Reaches x work log r) e reached ∙ sym (route-joined j work log fine enough))

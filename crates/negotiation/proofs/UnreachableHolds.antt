@@ -18,7 +18,9 @@ use Rattle.negotiation.specs.Tables.{SoundJob, faultyJob}
 use Rattle.negotiation.specs.Outcome.{RouteReply, hasPath, unreachableNet, unreachablePlace}
 use Rattle.negotiation.specs.Unreachable.{Reachable, FirstUnreachable, UnreachableRefused}
 use Rattle.negotiation.specs.Routable.{Routable}
-use Rattle.negotiation.proofs.JobLaws.{routable-of, sound-job, faulty-none}
+use Rattle.negotiation.specs.Join.{joined}
+use Rattle.negotiation.proofs.JobLaws.{sound-job, faulty-none}
+use Rattle.negotiation.proofs.JoinedHolds.{joined-routable}
 use Rattle.negotiation.proofs.NetLaws.{path-from, sink-path}
 use Rattle.negotiation.proofs.DemandLaws.{walk-path}
 use Rattle.negotiation.proofs.RefusalLaws.{route-table, route-work, route-unreachable, route-run}
@@ -132,23 +134,23 @@ unreachable-refused j work log =
           ⊎-elim
           (λ (enough : workNeeded (nodes j) ≤ length work).
           ⊎-elim
-          (λ (all : nets j ≤ unreachableNet j).
-          absurd (run-reached j work log net place (sym (refusal (route-run j work log h enough all)) ∙ e)))
-          (λ (some : unreachableNet j < nets j).
+          (λ (all : nets j ≤ unreachableNet (joined j)).
+          absurd (run-reached (joined j) work log net place (sym (refusal (route-run j work log h enough all)) ∙ e)))
+          (λ (some : unreachableNet (joined j) < nets j).
           let same = sym (refusal (route-unreachable j work log h enough some)) ∙ e in
-          let at : unreachableNet j ≡ net = cc in
-          let in-net : unreachablePlace j ≡ place = cc in
-          rw (← at, ← in-net) (first-unreachable j (routable-of j (sound-job j (omega arith))) some))
-          (le-or-lt (nets j) (unreachableNet j)))
+          let at : unreachableNet (joined j) ≡ net = cc in
+          let in-net : unreachablePlace (joined j) ≡ place = cc in
+          rw (← at, ← in-net) (first-unreachable (joined j) (joined-routable j (sound-job j (omega arith))) some))
+          (le-or-lt (nets j) (unreachableNet (joined j))))
           (λ (short : length work < workNeeded (nodes j)).
           absurd (not-seven 6 net place _ (λ z. omega arith) (sym (refusal (route-work j work log h short)) ∙ e)))
           (le-or-lt (workNeeded (nodes j)) (length work)))
           (le-or-lt 1 (faultyJob j));
       given = λ sound enough net place f.
           let none : faultyJob j < 1 = rw (faulty-none j sound) (omega arith) in
-          let some : unreachableNet j < nets j = rw (is-net j (routable-of j sound) net place f) (f .net-below) in
+          let some : unreachableNet (joined j) < nets j = rw (is-net (joined j) (joined-routable j sound) net place f) (f .net-below) in
           refusal (route-unreachable j work log none enough some)
-          ∙ rw (is-net j (routable-of j sound) net place f, is-place j (routable-of j sound) net place f);
+          ∙ rw (is-net (joined j) (joined-routable j sound) net place f, is-place (joined j) (joined-routable j sound) net place f);
     }
   where
     refusal : {a b : RouteReply} → a ≡ b → a .refusal ≡ b .refusal

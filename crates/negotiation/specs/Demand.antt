@@ -13,6 +13,7 @@ use Rattle.price.specs.Lists.{has, distinct, countBelow}
 use Rattle.price.specs.Prices.{priceOf, factorAt, nextHistory}
 use Rattle.search.specs.Paths.{CheapestPath}
 use Rattle.negotiation.specs.Job.{Job, nodes, nets, source, netSinks}
+use Rattle.negotiation.specs.Join.{joined}
 use Rattle.negotiation.specs.Records.{Record, encode}
 use Rattle.negotiation.specs.Outcome.{RouteReply, wordsUsed, turnsLogged, routeReply}
 use Rattle.negotiation.specs.Unreachable.{AllReachable}
@@ -89,16 +90,17 @@ pub record FinalTrees (j : Job) (rs : List Record) : Type 0 where
   pub within-capacity : (v : ℕ) → v < nodes j → usersRead j rs v ≤ getD (j .block .capacities) v 0
 
 -- Demand 3 of one call: a job, the work slice and the log that it is lent, and the reply. It is asked of jobs with sound tables and enough
--- work memory; it holds of every call, since after refusals 5 and 6 no words are used.
+-- work memory; it holds of every call, since after refusals 5 and 6 no words are used. Request 2.3: "Negotiation and all of demand 3 are
+-- those of joined nets".
 pub record Demand3 (j : Job) (work log : List ℕ) (r : RouteReply) : Type 0 where
   -- "the outcome and the log are those of 01's negotiation"
   pub as-negotiated : r ≡ routeReply j work log
   -- "these words hold nothing else"
   pub nothing-else : encode (turnsLogged r) ≡ wordsUsed r
   -- "for every turn in that log, whatever the outcome"
-  pub every-turn : (earlier later : List Record) (t : Record) → turnsLogged r ≡ earlier ++ (t ∷ later) → TurnHolds j earlier t
+  pub every-turn : (earlier later : List Record) (t : Record) → turnsLogged r ≡ earlier ++ (t ∷ later) → TurnHolds (joined j) earlier t
   -- "In every accepted job"
-  pub final-trees : r .refusal ≡ [] → FinalTrees j (turnsLogged r)
+  pub final-trees : r .refusal ≡ [] → FinalTrees (joined j) (turnsLogged r)
   -- "No job is refused as unreachable if every sink has a path from its source."
   pub not-unreachable : AllReachable j → (net place : ℕ) → r .refusal ≡ 7 ∷ net ∷ place ∷ [] → ⊥
   -- "Whatever the outcome, the reported turn count is the number of logged turns."

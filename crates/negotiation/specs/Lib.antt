@@ -2,6 +2,8 @@ pub mod Job
 pub mod Tables
 pub mod Records
 pub mod Routable
+pub mod Join
+pub mod JoinedNets
 pub mod Machine
 pub mod Outcome
 pub mod Unreachable
@@ -9,5 +11,6 @@ pub mod Demand
 pub mod Longer
 pub mod TariffSteps
 pub mod Steps
+pub mod JoinSteps
 pub mod Flood
 pub mod Samples

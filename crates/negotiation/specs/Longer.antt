@@ -9,6 +9,7 @@ use lib.ListN.{length, take}
 use Rattle.search.specs.Replies.{workNeeded}
 use Rattle.negotiation.specs.Job.{Job, nodes}
 use Rattle.negotiation.specs.Tables.{limitSound}
+use Rattle.negotiation.specs.Join.{joined}
 use Rattle.negotiation.specs.Records.{Record, encode, fitting}
 use Rattle.negotiation.specs.Outcome.{RouteReply, wordsUsed, turnsLogged, allRecords, routeReply}
 
@@ -23,10 +24,10 @@ withLimit j limit =
       terms = record { limit = limit; tuning = j .terms .tuning };
     }
 
--- "work and log long enough": 8 × nodes entries, and the words of all turns
+-- "work and log long enough": 8 × nodes entries, and the words of all turns of its joined nets
 pub record LongEnough (j : Job) (work log : List ℕ) : Type 0 where
   pub work-long : workNeeded (nodes j) ≤ length work
-  pub log-long : length (encode (allRecords j)) ≤ length log
+  pub log-long : length (encode (allRecords (joined j))) ≤ length log
 
 -- "is the beginning of": of the words used, and of the turns that they hold
 pub record Begins (a b : RouteReply) : Type 0 where

@@ -12,6 +12,7 @@ use Rattle.search.specs.Turn.{priceAt}
 use Rattle.search.specs.Replies.{workNeeded, cleared}
 use Rattle.negotiation.specs.Job.{Job, nodes, nets, source, netSinks}
 use Rattle.negotiation.specs.Tables.{faultyJob}
+use Rattle.negotiation.specs.Join.{joined}
 use Rattle.negotiation.specs.Records.{Record, encode, decode, fitting}
 use Rattle.negotiation.specs.Machine.{State, marksOf, congestionFor, firstState, recordsAfter, iterationAfter, settlesAt, overCount}
 use Rattle.negotiation.specs.declared.RouteAnswer.{RouteAnswer}
@@ -132,11 +133,21 @@ negotiated j work log =
     (ranReply j (8 ∷ cut ∷ length logged ∷ []) cut logged work log)
     (ranReply j (endNumbers j) (iterationsRun j) (allRecords j) work log)
 
--- "The router tests 5, 6, 7, then 8 and 9 as they arise"
-unfoldable pub routeReply : Job → List ℕ → List ℕ → RouteReply
-routeReply j work log =
+-- the reply of a job of joined nets where a run that is begun replies so: by request 2.3, "7 gives the first net's number and the place
+-- among its joined sinks"
+abbrev pub reachedReply : Job → List ℕ → List ℕ → RouteReply → RouteReply
+reachedReply j work log run =
+    choose (ltb (unreachableNet j) (nets j))
+    (refusedReply (7 ∷ unreachableNet j ∷ unreachablePlace j ∷ []) (cleared (nodes j) [] work) log)
+    run
+
+-- the same of a job as it is given, whose tables are tested with its nets as listed
+abbrev pub tested : Job → List ℕ → List ℕ → RouteReply → RouteReply
+tested j work log run =
     choose (leb 1 (faultyJob j)) (refusedReply (5 ∷ faultyJob j ∷ []) work log)
     (choose (ltb (length work) (workNeeded (nodes j))) (refusedReply (6 ∷ workNeeded (nodes j) ∷ []) work log)
-    (choose (ltb (unreachableNet j) (nets j))
-    (refusedReply (7 ∷ unreachableNet j ∷ unreachablePlace j ∷ []) (cleared (nodes j) [] work) log)
-    (negotiated j work log)))
+    (reachedReply (joined j) work log run))
+
+-- "The router tests 5, 6, 7, then 8 and 9 as they arise", and by request 2.3 "Negotiation and all of demand 3 are those of joined nets"
+unfoldable pub routeReply : Job → List ℕ → List ℕ → RouteReply
+routeReply j work log = tested j work log (negotiated (joined j) work log)

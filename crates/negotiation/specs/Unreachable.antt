@@ -10,6 +10,7 @@ use Rattle.search.specs.Paths.{Walk}
 use Rattle.search.specs.Replies.{workNeeded}
 use Rattle.negotiation.specs.Job.{Job, nodes, nets, source, netSinks}
 use Rattle.negotiation.specs.Tables.{SoundJob}
+use Rattle.negotiation.specs.Join.{joined}
 use Rattle.negotiation.specs.Outcome.{routeReply}
 
 -- a path from net i's source to a node
@@ -28,9 +29,10 @@ pub record FirstUnreachable (j : Job) (net place : ℕ) : Type 0 where
   pub sinks-before : (p : ℕ) → p < place → Reachable j net (getD (netSinks j net) p 0)
   pub nets-before : (i s : ℕ) → i < net → has s (netSinks j i) ≡ true → Reachable j i s
 
--- what refusal 7 means, and that every job with sound tables and enough work memory of which this is so is refused by it
+-- what refusal 7 means, and that every job with sound tables and enough work memory of which this is so is refused by it. Request 2.3: "7
+-- gives the first net's number and the place among its joined sinks"
 pub record UnreachableRefused (j : Job) (work log : List ℕ) : Type 0 where
-  pub means : (net place : ℕ) → routeReply j work log .refusal ≡ 7 ∷ net ∷ place ∷ [] → FirstUnreachable j net place
+  pub means : (net place : ℕ) → routeReply j work log .refusal ≡ 7 ∷ net ∷ place ∷ [] → FirstUnreachable (joined j) net place
   pub given :
-      SoundJob j → workNeeded (nodes j) ≤ length work → (net place : ℕ) → FirstUnreachable j net place
+      SoundJob j → workNeeded (nodes j) ≤ length work → (net place : ℕ) → FirstUnreachable (joined j) net place
       → routeReply j work log .refusal ≡ 7 ∷ net ∷ place ∷ []

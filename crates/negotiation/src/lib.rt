@@ -1,14 +1,22 @@
 // The negotiation: routes a job given as tables, and logs every turn.
 ghost use mathlib.Core.Path.{_≡_};
-ghost use Rattle.negotiation.specs.Job.{jobOf};
-ghost use Rattle.negotiation.specs.Outcome.{refusedAnswer, routeReplyOf, routeReply};
+ghost use Prim.Native.Nat.{_*_, _≤_};
+ghost use lib.ListN.{length};
+ghost use Rattle.negotiation.specs.Job.{jobOf, nodes};
+ghost use Rattle.negotiation.specs.Routable.{Routable};
+ghost use Rattle.negotiation.specs.Outcome.{refusedAnswer, routeReplyOf, negotiated, reachedReply, routeReply};
 ghost use Rattle.negotiation.specs.Demand.{Demand3};
 
 // The most nodes of a block: the router keeps a mark, a history and a count of users for each.
 const NODES_MOST: usize = 4096;
 
-// The most nets.
+// The most nets, and sinks of all nets.
 const NETS_MOST: usize = 512;
+
+const SINKS_MOST: usize = 4096;
+
+// The most entries of table 6: one more than nets.
+const FIRST_SINKS_MOST: usize = 513;
 
 // What a job asks beside its seven tables: the limit of iterations and the tuning of the tariff. A refusal counts it as table 8.
 pub struct Terms {
@@ -44,6 +52,7 @@ mod congestion;
 mod due;
 mod flood;
 mod job_terms;
+mod join;
 mod nets;
 mod pins;
 mod reach;
@@ -55,10 +64,12 @@ mod turns;
 
 pub use job_terms::plain_terms;
 pub use job_terms::terms_sound;
+pub use join::first_of;
 pub use pins::sink_kind;
 pub use pins::source_kind;
 use price::Tuning;
 use reach::Reach;
+pub use tables::sources_sound;
 
 // The answer of a call that is refused before any turn.
 fn refused(outcome: Outcome) -> RouteAnswer
@@ -72,7 +83,60 @@ fn refused(outcome: Outcome) -> RouteAnswer
     }
 }
 
-// Routes a job given as tables: refusals 5, 6 and 7, then the negotiation, whose turns stand in the log.
+// Routes a job of joined nets: refusal 7, then the negotiation.
+fn route_joined(
+    kind: &[u8],
+    capacity: &[u8],
+    first_edge: &[u32],
+    edge_target: &[u16],
+    source: &[u16],
+    first_sink: &[u32],
+    sink: &[u16],
+    terms: Terms,
+    work: &mut [u64],
+    log: &mut [u32],
+) -> RouteAnswer
+    requires { do
+      let job = jobOf (now kind) (now capacity) (now «first_edge») (now «edge_target») (now source) (now «first_sink») (now sink) terms
+      ⌜ Routable job × (8 * nodes job ≤ length (now work)) ⌝ }
+    ensures { λ r. do
+      let job = jobOf (now (kind .entry)) (now (capacity .entry)) (now («first_edge» .entry)) (now («edge_target» .entry))
+          (now (source .entry)) (now («first_sink» .entry)) (now (sink .entry)) terms
+      let run = negotiated job (now (work .entry)) (now (log .entry))
+      ⌜ routeReplyOf r (now (work .exit)) (now (log .exit)) ≡ reachedReply job (now (work .entry)) (now (log .entry)) run ⌝ }
+{
+    match reach::unreachable(
+        kind,
+        first_edge,
+        edge_target,
+        source,
+        first_sink,
+        sink,
+        work,
+    ) {
+        Reach::Missing { net, place } => {
+            turns::clear(work, 8 * kind.len());
+            refused(Outcome::Unreachable {
+                net: net,
+                place: place,
+            })
+        }
+        Reach::All => turns::negotiate(
+            kind,
+            capacity,
+            first_edge,
+            edge_target,
+            source,
+            first_sink,
+            sink,
+            terms,
+            work,
+            log,
+        ),
+    }
+}
+
+// Routes a job given as tables: refusals 5 and 6; then nets of one source are joined, and the joined nets are routed.
 pub fn route(
     kind: &[u8],
     capacity: &[u8],
@@ -111,33 +175,20 @@ pub fn route(
     if work.len() < needed {
         return refused(Outcome::ShortWork(needed as u64));
     }
-    match reach::unreachable(
+    let mut firsts = [0u32; FIRST_SINKS_MOST];
+    let mut sinks = [0u16; SINKS_MOST];
+    let ends = source.len() + 1;
+    let count = join::joined_tables(source, first_sink, sink, &mut firsts, &mut sinks);
+    route_joined(
         kind,
+        capacity,
         first_edge,
         edge_target,
         source,
-        first_sink,
-        sink,
+        &firsts[..ends],
+        &sinks[..count],
+        terms,
         work,
-    ) {
-        Reach::Missing { net, place } => {
-            turns::clear(work, needed);
-            refused(Outcome::Unreachable {
-                net: net,
-                place: place,
-            })
-        }
-        Reach::All => turns::negotiate(
-            kind,
-            capacity,
-            first_edge,
-            edge_target,
-            source,
-            first_sink,
-            sink,
-            terms,
-            work,
-            log,
-        ),
-    }
+        log,
+    )
 }

@@ -13,16 +13,15 @@ ghost use Rattle.negotiation.specs.Steps.{AllBelow, Stored, sinksFree};
 ghost use Rattle.negotiation.specs.Tables.{netsMost, sourcesSound, firstSinksSound, netSound, sinksSound, faultyNets, faultyJob};
 use crate::NETS_MOST;
 use crate::NODES_MOST;
+use crate::SINKS_MOST;
 use crate::Terms;
 use crate::job_terms;
 use crate::pins;
 use crate::pins::Pin;
 use search::PathAnswer;
 
-// The most sinks of all nets.
-const SINKS_MOST: usize = 4096;
-
-fn sources_sound(n: usize, source: &[u16]) -> bool
+// Table 5: 1 to 512 nets, each source below n.
+pub fn sources_sound(n: usize, source: &[u16]) -> bool
     ensures { λ r. ⌜ r ≡ sourcesSound n (now (source .entry)) ⌝ }
 {
     if source.len() < 1 {

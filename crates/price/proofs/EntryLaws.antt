@@ -56,6 +56,13 @@ placeOf-is x (y ∷ ys) (suc i) l e none =
     rw (ne-eqb x y (λ q. none 0 (suc-le-suc zero-le) (sym q)))
     (ap suc (placeOf-is x ys i (le-of-suc-le-suc l) e (λ j h. none (suc j) (suc-le-suc h))))
 
+-- x stands nowhere
+pub placeOf-none : (x : ℕ) (xs : List ℕ) → ((j : ℕ) → j < length xs → getD xs j 0 ≡ x → ⊥) → placeOf x xs ≡ length xs
+unfolding placeOf
+placeOf-none x [] none = refl
+placeOf-none x (y ∷ ys) none =
+    rw (ne-eqb x y (λ q. none 0 (suc-le-suc zero-le) (sym q))) (ap suc (placeOf-none x ys (λ j h. none (suc j) (suc-le-suc h))))
+
 pub placeOf-at : (x : ℕ) (xs : List ℕ) → placeOf x xs < length xs → getD xs (placeOf x xs) 0 ≡ x
 unfolding placeOf
 placeOf-at x [] l = absurd (not-suc-le-zero l)
@@ -65,13 +72,17 @@ placeOf-at x (y ∷ ys) l =
     (λ q. rw q (placeOf-at x ys (le-of-suc-le-suc (rw q at l))))
     (either-way (eqb x y))
 
+-- the place is the lowest at which x stands
+pub placeOf-most : (x : ℕ) (xs : List ℕ) (i : ℕ) → i < length xs → getD xs i 0 ≡ x → placeOf x xs ≤ i
+unfolding placeOf
+placeOf-most x [] i l e = absurd (not-suc-le-zero l)
+placeOf-most x (y ∷ ys) zero l e = rw (eq-eqb x y (sym e)) zero-le
+placeOf-most x (y ∷ ys) (suc i) l e =
+    ⊎-elim
+    (λ q. rw q zero-le)
+    (λ q. rw q (suc-le-suc (placeOf-most x ys i (le-of-suc-le-suc l) e)))
+    (either-way (eqb x y))
+
 -- where x stands anywhere, its place is within the list
 pub placeOf-lt : (x : ℕ) (xs : List ℕ) (i : ℕ) → i < length xs → getD xs i 0 ≡ x → placeOf x xs < length xs
-unfolding placeOf
-placeOf-lt x [] i l e = absurd (not-suc-le-zero l)
-placeOf-lt x (y ∷ ys) zero l e = rw (eq-eqb x y (sym e)) (suc-le-suc zero-le)
-placeOf-lt x (y ∷ ys) (suc i) l e =
-    ⊎-elim
-    (λ q. rw q (suc-le-suc zero-le))
-    (λ q. rw q (suc-le-suc (placeOf-lt x ys i (le-of-suc-le-suc l) e)))
-    (either-way (eqb x y))
+placeOf-lt x xs i l e = le-trans (suc-le-suc (placeOf-most x xs i l e)) l

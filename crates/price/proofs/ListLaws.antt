@@ -8,7 +8,7 @@ use Prim.Native.Nat.{ℕ, zero, suc, _+_, _-_, _*_, _≤_, _<_, zero-le, suc-le-
 use native.Mathlib.Nat.{zero-add, add-assoc, not-suc-le-zero, le-of-suc-le-suc, eq-or-lt-of-le, suc-mul}
 use native.Mathlib.Numerals.{add-one}
 use native.Mathlib.Omega.{arith}
-use lib.Dec.{eqb}
+use lib.Dec.{eqb, ltb}
 use lib.ListN.{length, getD, take, drop, length-append, length-drop, List·getD-append}
 use lib.Seq.{getD-at, getD-drop, slice, take-nil, ext-getD}
 use borrow.Author.Tests.{eq-eqb, eqb-true}
@@ -59,6 +59,13 @@ neighbours-none t (x ∷ []) i l e = absurd (not-suc-le-zero (le-of-suc-le-suc l
 neighbours-none t (x ∷ y ∷ ys) zero l e = both-false-left (t x y) (neighbours t (y ∷ ys)) e
 neighbours-none t (x ∷ y ∷ ys) (suc i) l e =
     both-false-right (t x y) (neighbours t (y ∷ ys)) (neighbours-none t (y ∷ ys) i (le-of-suc-le-suc l) e)
+
+-- a number above all entries may come last
+pub rises-last : (xs : List ℕ) (n : ℕ) → neighbours ltb xs ≡ true → every (λ x. ltb x n) xs ≡ true → neighbours ltb (xs ++ (n ∷ [])) ≡ true
+unfolding neighbours every
+rises-last [] n r b = refl
+rises-last (x ∷ []) n r b = both-true (both-left (ltb x n) _ b) refl
+rises-last (x ∷ y ∷ ys) n r b = both-true (both-left (ltb x y) _ r) (rises-last (y ∷ ys) n (both-right (ltb x y) _ r) (both-right (ltb x n) _ b))
 
 -- ---- membership
 

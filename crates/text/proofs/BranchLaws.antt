@@ -1,11 +1,10 @@
--- The records of one iteration and their branches: counting the text's bytes, writing it, and the routes text.
+-- The records of one iteration and their branches: counting the text's bytes, and writing it.
 --     Rest, rest-                      the records from a place on
 --     textFrom, recordText             their text
 --     Counting, counting-              counting its bytes
 --     PuttingBranches, branches-       writing it
---     needed-sum, write-               the routes text
 -- Assumes nothing.
-use mathlib.Core.Bool.{true, false}
+use mathlib.Core.Bool.{Bool, true, false}
 use mathlib.Core.List.{List, [], _∷_, _++_, append-assoc}
 use mathlib.Core.Logic.{⊎-elim}
 use mathlib.Core.Path.{_≡_, refl, sym, _∙_, ap}
@@ -13,16 +12,14 @@ use Prim.Native.Nat.{ℕ, _+_, _-_, _≤_, _<_}
 use native.Mathlib.Nat.{zero-add}
 use native.Mathlib.Omega.{arith}
 use lib.ListN.{length, getD, take, drop, length-append, length-drop, drop-of-length-le}
-use borrow.Author.Tests.{lt-ltb, le-ltb, eq-eqb, ne-eqb}
+use borrow.Author.Tests.{eq-eqb, ne-eqb}
 use Rattle.price.proofs.TestLaws.{either-way}
 use Rattle.negotiation.specs.Records.{decode}
-use Rattle.text.specs.Lines.{letterR, letterB, printLine}
-use Rattle.text.specs.Routes.{recordSound, soundWords, Branch, steps, branchesIn, branchText, capped, routeBranches, routesText, notWritten, textReply, writeReply}
-use Rattle.text.specs.WriteSteps.{Put, unsound, logChecked}
-use Rattle.text.specs.ReadReplies.{writtenOver}
-use Rattle.text.proofs.PlacedLaws.{put-length, put-then, placed-start}
-use Rattle.text.proofs.LogLaws.{soundAfter, sound-stop, nextAt, sound-at, long-at, fits-at, most-at, decode-at, decode-none, Found, found-none}
-use Rattle.text.proofs.StepTextLaws.{letter-any, WrittenSoFar, so-far-none, so-far-length, so-far-room, so-far-more, so-far-all, part}
+use Rattle.text.specs.Lines.{letterB, printLine}
+use Rattle.text.specs.Routes.{recordSound, soundWords, Branch, steps, branchesIn, branchText, capped}
+use Rattle.text.specs.WriteSteps.{Put, AllSound}
+use Rattle.text.proofs.LogLaws.{soundAfter, sound-stop, nextAt, sound-at, long-at, fits-at, most-at, decode-at, decode-none}
+use Rattle.text.proofs.StepTextLaws.{WrittenSoFar, so-far-none, so-far-length, so-far-room, so-far-more, so-far-all, part}
 
 -- ---- text of branches
 
@@ -34,15 +31,16 @@ text-append (b ∷ bs) cs =
 
 -- ---- the records from a place on
 
--- they are sound
+-- they are sound, by some test of the nets
 pub record Rest (log : List ℕ) (at : ℕ) : Type 0 where
   pub within : at ≤ length log
+  pub net : ℕ → Bool
   pub last : ℕ
-  pub all-sound : soundAfter last (drop at log) ≡ length (drop at log)
+  pub all-sound : soundAfter net last (drop at log) ≡ length (drop at log)
 
-rest-none : (log : List ℕ) → soundWords log ≡ length log → Rest log 0
+rest-none : (log : List ℕ) → AllSound log → Rest log 0
 unfolding soundWords
-rest-none log e = record { within = omega arith; last = 0; all-sound = e }
+rest-none log e = record { within = omega arith; net = e .net; last = 0; all-sound = e .all-sound }
 
 -- the text of their branches
 abbrev pub textFrom : ℕ → List ℕ → ℕ → List ℕ
@@ -57,34 +55,35 @@ unfolding branchesIn branchText
 text-none iteration log at l = rw (drop-of-length-le log l, decode-none)
 
 module _ {log : List ℕ} {at : ℕ} (p : Rest log at) (l : at < length log) where
-  sound-here : recordSound (p .last) (drop at log) ≡ true
+  sound-here : recordSound (p .net) (p .last) (drop at log) ≡ true
   sound-here =
       let long = length-drop at log in
       ⊎-elim
       (λ t. t)
-      (λ (t : recordSound (p .last) (drop at log) ≡ false). absurd (omega (arith, sound-stop (p .last) (drop at log) t, p .all-sound)))
-      (either-way (recordSound (p .last) (drop at log)))
+      (λ (t : recordSound (p .net) (p .last) (drop at log) ≡ false). absurd (omega (arith, sound-stop (p .net) (p .last) (drop at log) t, p .all-sound)))
+      (either-way (recordSound (p .net) (p .last) (drop at log)))
 
   pub rest-fits : nextAt log at ≤ length log
-  rest-fits = fits-at log at (p .last) sound-here (p .within)
+  rest-fits = fits-at log at (p .net) (p .last) sound-here (p .within)
 
   pub rest-most : getD log (at + 5) 0 ≤ 4096
-  rest-most = most-at log at (p .last) sound-here
+  rest-most = most-at log at (p .net) (p .last) sound-here
 
   rest-next : Rest log (nextAt log at)
   rest-next =
       record {
         within = rest-fits;
+        net = p .net;
         last = getD log at 0;
         all-sound =
-            omega (arith, sound-at log at (p .last) sound-here, p .all-sound, length-drop at log, length-drop (nextAt log at) log, rest-fits);
+            omega (arith, sound-at log at (p .net) (p .last) sound-here, p .all-sound, length-drop at log, length-drop (nextAt log at) log, rest-fits);
       }
 
   module _ (iteration : ℕ) where
     text-met : getD log at 0 ≡ iteration → textFrom iteration log at ≡ recordText log at ++ textFrom iteration log (nextAt log at)
     unfolding branchesIn
     text-met e =
-        let long = long-at log at (p .last) sound-here in
+        let long = long-at log at (p .net) (p .last) sound-here in
         let count : nextAt log at - (at + 6) ≡ getD log (at + 5) 0 = omega arith in
         rw (decode-at log at (omega arith), eq-eqb (getD log at 0) iteration e, count)
         (text-append (steps (getD log (at + 1) 0) (take (getD log (at + 5) 0) (drop (at + 6) log)))
@@ -93,7 +92,7 @@ module _ {log : List ℕ} {at : ℕ} (p : Rest log at) (l : at < length log) whe
     text-passed : (getD log at 0 ≡ iteration → ⊥) → textFrom iteration log at ≡ textFrom iteration log (nextAt log at)
     unfolding branchesIn
     text-passed e =
-        let long = long-at log at (p .last) sound-here in
+        let long = long-at log at (p .net) (p .last) sound-here in
         rw (decode-at log at (omega arith), ne-eqb (getD log at 0) iteration e)
 
 -- the bytes of the branches before a place are counted
@@ -102,7 +101,7 @@ pub record Counting (log : List ℕ) (iteration bytes at : ℕ) : Type 0 where
   pub capped-all : capped (bytes + length (textFrom iteration log at)) ≡ capped (length (branchText (branchesIn iteration (decode log))))
   pub small : bytes ≡ capped bytes
 
-pub counting-none : (log : List ℕ) (iteration : ℕ) → soundWords log ≡ length log → Counting log iteration 0 0
+pub counting-none : (log : List ℕ) (iteration : ℕ) → AllSound log → Counting log iteration 0 0
 counting-none log iteration e =
     record { rest = rest-none log e; capped-all = rw (zero-add (length (textFrom iteration log 0))); small = omega arith }
 
@@ -133,7 +132,7 @@ pub record PuttingBranches (iteration : ℕ) (log : List ℕ) (start : ℕ) (bef
   pub rest : Rest log at
   pub writing : WrittenSoFar start (branchText (branchesIn iteration (decode log))) (textFrom iteration log at) before after next
 
-pub branches-none : (iteration : ℕ) (log : List ℕ) (start : ℕ) (before : List ℕ) → soundWords log ≡ length log → PuttingBranches iteration log start before before start 0
+pub branches-none : (iteration : ℕ) (log : List ℕ) (start : ℕ) (before : List ℕ) → AllSound log → PuttingBranches iteration log start before before start 0
 branches-none iteration log start before e =
     record { rest = rest-none log e; writing = so-far-none start (branchText (branchesIn iteration (decode log))) before }
 
@@ -162,56 +161,3 @@ module _ {iteration start next at : ℕ} {log before after : List ℕ} (room : s
             rest = rest-next (p .rest) l;
             writing = so-far-more room (recordText log at) (textFrom iteration log (nextAt log at)) branches-due q;
           }
-
--- ---- the routes text
-
--- its first line, by what the log's test found
-abbrev pub headLine : ℕ → ℕ → List ℕ
-headLine iteration turns = printLine letterR (iteration ∷ turns ∷ [])
-
-abbrev pub bodyText : ℕ → List ℕ → List ℕ
-bodyText iteration log = branchText (branchesIn iteration (decode log))
-
-module _ (iteration turns : ℕ) (log : List ℕ) where
-  pub needed-sum :
-      {a b r : ℕ} → a ≡ length (printLine 0 (iteration ∷ turns ∷ [])) → b ≡ capped (length (bodyText iteration log)) → r ≡ capped (a + b) →
-      r ≡ capped (length (headLine iteration turns) + length (bodyText iteration log))
-  needed-sum d e f = omega (arith, letter-any 0 letterR (iteration ∷ turns ∷ []))
-
-module _ {log : List ℕ} {iteration turns : ℕ} (f : Found log iteration turns) where
-  text-is : routesText (decode log) ≡ headLine iteration turns ++ bodyText iteration log
-  unfolding routesText routeBranches
-  text-is = rw (← f .iteration-is, ← f .turns-are)
-
-  text-length : length (routesText (decode log)) ≡ length (headLine iteration turns) + length (bodyText iteration log)
-  text-length = ap length text-is ∙ length-append (headLine iteration turns) (bodyText iteration log)
-
-  module _ (buffer : List ℕ) where
-    pub write-short : {needed : ℕ} → needed ≡ capped (length (headLine iteration turns) + length (bodyText iteration log)) → length buffer < needed → notWritten (11 ∷ needed ∷ []) buffer ≡ writeReply log buffer
-    unfolding writeReply textReply
-    write-short {needed} e l =
-        let long = text-length in
-        let is : capped (length (routesText (decode log))) ≡ needed = omega arith in
-        rw (f .is-sound, lt-ltb (length buffer) (length (routesText (decode log))) (omega arith), is)
-
-    module _ (fits : length (headLine iteration turns) + length (bodyText iteration log) ≤ length buffer) where
-      pub put-body : {middle : List ℕ} {at : ℕ} → Put 0 (headLine iteration turns) buffer middle at → at + length (bodyText iteration log) ≤ length middle
-      put-body p = omega (arith, p .next-is, put-length p (omega arith))
-
-      pub write-done :
-          {middle after : List ℕ} {at bytes : ℕ} → Put 0 (headLine iteration turns) buffer middle at → Put at (bodyText iteration log) middle after bytes →
-          record { refusal = []; bytes = bytes; buffer = after } ≡ writeReply log buffer
-      unfolding writeReply textReply
-      write-done {middle} {after} {at} {bytes} p q =
-          let long = text-length in
-          let whole = put-then p q (omega arith) in
-          let count : bytes ≡ length (routesText (decode log)) = omega (arith, p .next-is, q .next-is) in
-          let same : after ≡ writtenOver (routesText (decode log)) buffer =
-          whole .written ∙ placed-start (headLine iteration turns ++ bodyText iteration log) buffer ∙ rw text-is in
-          rw (f .is-sound, le-ltb (length buffer) (length (routesText (decode log))) (omega arith), ← count, ← same)
-
-pub write-unsound : {word : ℕ} (log buffer : List ℕ) → unsound word ≡ logChecked log → notWritten (10 ∷ word ∷ []) buffer ≡ writeReply log buffer
-unfolding writeReply
-write-unsound log buffer e =
-    let n = found-none log e in
-    rw (n .0, n .1)

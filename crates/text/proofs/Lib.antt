@@ -3,7 +3,7 @@
 --     TextHolds         a text is taken for a job exactly where it is a printed form of this sound job
 --     LogHolds          an accepted job's log is never refused by 10
 --     BranchHolds       the branches of an accepted job's routes are those of its nets' final trees
---     ListedHolds       the B lines list exactly the path steps of the last iteration's records
+--     ListedHolds       the B lines list exactly the path steps of the last iteration's records, the J lines the nets joined into another
 -- A line at a place of the text, for the functions that read it:
 --     FieldLaws         a byte, a number, a field, the fields of a line
 --     SideLaws          two clauses of a contract in a walk by hand
@@ -37,10 +37,13 @@
 --     LogLaws           going from record to record
 --     ShortRecordLaws   numbers of a sound record are short enough for a field
 --     StepListLaws      path steps as a list
+--     JoinListLaws      joined nets as a list
 --     PlacedLaws        bytes placed in a buffer
 --     StepTextLaws      the lines of one path
---     BranchLaws        the lines of one iteration, and the routes text
---     BranchLineLaws    B lines read again
+--     BranchLaws        the lines of one iteration
+--     JoinTextLaws      the marks of first nets, and the J lines
+--     RouteTextLaws     the parts of the routes text, and the writer's answers
+--     RouteLineLaws     B and J lines read again
 -- Assumes nothing.
 pub mod LastLaws
 pub mod FieldLaws
@@ -73,10 +76,13 @@ pub mod RecordTestLaws
 pub mod LogLaws
 pub mod StepTextLaws
 pub mod BranchLaws
+pub mod JoinTextLaws
+pub mod RouteTextLaws
 pub mod BranchHolds
 pub mod LogHolds
-pub mod BranchLineLaws
+pub mod RouteLineLaws
 pub mod StepListLaws
 pub mod ShortRecordLaws
+pub mod JoinListLaws
 pub mod ListedHolds
 pub mod TextHolds

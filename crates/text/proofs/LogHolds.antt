@@ -1,6 +1,6 @@
 -- The writer never refuses an accepted job's log by 10: its records are whole and sound, and their iterations never fall.
 -- Assumes nothing.
-use mathlib.Core.Bool.{true, false}
+use mathlib.Core.Bool.{Bool, true, false}
 use mathlib.Core.List.{List, [], _∷_, _++_}
 use mathlib.Core.Path.{_≡_, refl, sym, _∙_}
 use Prim.Native.Nat.{ℕ, zero, suc, _+_, _*_, _-_, _≤_, _<_}
@@ -16,15 +16,17 @@ use Rattle.price.proofs.TestLaws.{both-true}
 use Rattle.price.proofs.ListLaws.{every-all}
 use Rattle.search.proofs.BlockLaws.{kinds-few}
 use Rattle.negotiation.specs.Job.{Job, nodes, nets}
-use Rattle.negotiation.specs.Tables.{SoundJob, netsMost}
+use Rattle.negotiation.specs.Tables.{SoundJob}
+use Rattle.negotiation.specs.Routable.{Routable}
 use Rattle.negotiation.specs.Records.{Record, words, encode}
-use Rattle.negotiation.specs.Machine.{firstState, iterationAfter, recordsAfter}
+use Rattle.negotiation.specs.Machine.{hasSinks, firstState, iterationAfter, recordsAfter}
+use Rattle.negotiation.specs.Join.{joined}
 use Rattle.negotiation.specs.Outcome.{RouteReply, routeReply}
-use Rattle.negotiation.proofs.JobLaws.{routable-of}
+use Rattle.negotiation.proofs.JoinedHolds.{joined-routable}
 use Rattle.negotiation.proofs.RecordLaws.{words-length, records-few}
 use Rattle.negotiation.proofs.FilterLaws.{All, all-map}
-use Rattle.text.specs.Routes.{pathIn, pathSound, recordSound, soundUpTo, soundWords, logSound}
-use Rattle.text.proofs.BranchHolds.{Turned, TurnedUpTo, iteration-turned, run-turned, Accepted, accepted, last-some}
+use Rattle.text.specs.Routes.{pathIn, pathSound, recordSound, soundUpTo, soundWords, logSound, netWritable}
+use Rattle.text.proofs.BranchHolds.{Turned, TurnedUpTo, iteration-turned, run-turned, Accepted, accepted, SomeSinks, joined-some, joined-passes, last-some}
 
 -- ---- iterations that never fall
 
@@ -44,37 +46,40 @@ rising-append :
 rising-append t last [] ss l up most same = rising-same t last ss l same
 rising-append t last (r ∷ rs) ss l up most same = (up .0, rising-append t (r .iteration) rs ss (most .0) (up .1) (most .1) same)
 
-run-rising : (j : Job) → SoundJob j → (m : ℕ) → m ≤ limitMost → Rising 0 (recordsAfter j (firstState j) m)
+run-rising : (j : Job) → Routable j → (m : ℕ) → m ≤ limitMost → Rising 0 (recordsAfter j (firstState j) m)
 unfolding recordsAfter
-run-rising j sound zero h = tt
-run-rising j sound (suc m) h =
+run-rising j rests zero h = tt
+run-rising j rests (suc m) h =
     rising-append (m + 1) 0 (recordsAfter j (firstState j) m) (iterationAfter j (firstState j) m .records) (omega arith)
-    (run-rising j sound m (omega arith))
+    (run-rising j rests m (omega arith))
     (all-map (TurnedUpTo j m) (λ r. r .iteration ≤ m + 1) (λ r b. omega (arith, b .t-most, b .turned .iteration-is))
-    (recordsAfter j (firstState j) m) (run-turned j sound m (omega arith)))
+    (recordsAfter j (firstState j) m) (run-turned j rests m (omega arith)))
     (all-map (Turned j (m + 1)) (λ r. r .iteration ≡ m + 1) (λ r b. b .iteration-is) (iterationAfter j (firstState j) m .records)
-    (iteration-turned j sound m h))
+    (iteration-turned j rests m h))
 
 -- ---- sound records
 
--- what the writer asks of a record, besides its iteration's place
-record Writable (r : Record) : Type 0 where
+-- what the writer asks of a record, besides its iteration's place, by a test of its net
+record Writable (net : ℕ → Bool) (r : Record) : Type 0 where
   iteration-least : 1 ≤ r .iteration
   iteration-most : r .iteration ≤ limitMost
-  net-below : r .net < netsMost
+  net-passes : net (r .net) ≡ true
   path-long : 2 ≤ length (r .path)
   path-short : length (r .path) ≤ nodesMost
   path-nodes : (k : ℕ) → k < length (r .path) → getD (r .path) k 0 < nodesMost
   path-end : getD (r .path) (length (r .path) - 1) 0 ≡ r .sink
 
-writable : (j : Job) → SoundJob j → (m : ℕ) → m ≤ limitMost → (r : Record) → TurnedUpTo j m r → Writable r
-writable j sound m h r b =
-    let few : nodes j ≤ nodesMost = kinds-few (j .block .kinds) (sound .block-sound .kinds-sound) in
-    let some : nets j ≤ netsMost = routable-of j sound .nets-few in
+-- every net that makes turns passes the test
+abbrev pub Passes : (ℕ → Bool) → Job → Type 0
+Passes net j = (i : ℕ) → i < nets j → hasSinks j i ≡ true → net i ≡ true
+
+writable : (net : ℕ → Bool) (j : Job) → Routable j → Passes net j → (m : ℕ) → m ≤ limitMost → (r : Record) → TurnedUpTo j m r → Writable net r
+writable net j rests passes m h r b =
+    let few : nodes j ≤ nodesMost = kinds-few (j .block .kinds) (rests .block-sound .kinds-sound) in
     record {
       iteration-least = omega (arith, b .t-least, b .turned .iteration-is);
       iteration-most = omega (arith, b .t-most, b .turned .iteration-is);
-      net-below = omega (arith, b .turned .net-below);
+      net-passes = passes (r .net) (b .turned .net-below) (b .turned .has-sinks);
       path-long = b .turned .path-long;
       path-short = omega (arith, b .turned .path-short);
       path-nodes = λ k l. omega (arith, b .turned .path-nodes k l);
@@ -82,7 +87,7 @@ writable j sound m h r b =
     }
 
 -- a record's words, with any after them
-module _ (r : Record) (ws : List ℕ) where
+module _ (net : ℕ → Bool) (r : Record) (ws : List ℕ) where
   long : length (words r ++ ws) ≡ 6 + length (r .path) + length ws
   long = omega (arith, length-append (words r) ws, words-length r)
 
@@ -101,7 +106,7 @@ module _ (r : Record) (ws : List ℕ) where
       rw (place, ← getD-drop 6 (words r ++ ws) (length (r .path) - 1) 0)
       (List·getD-append (r .path) ws 0 (length (r .path) - 1) (omega arith))
 
-  record-sound : (last : ℕ) → Writable r → last ≤ r .iteration → recordSound last (words r ++ ws) ≡ true
+  record-sound : (last : ℕ) → Writable net r → last ≤ r .iteration → recordSound net last (words r ++ ws) ≡ true
   unfolding recordSound pathSound words
   record-sound last w up =
       let whole = long in
@@ -111,7 +116,7 @@ module _ (r : Record) (ws : List ℕ) where
       both-true (le-leb 6 (length (words r ++ ws)) (omega arith))
       (both-true
       (both-true (both-true (le-leb 1 (r .iteration) (w .iteration-least)) (le-leb (r .iteration) limitMost (w .iteration-most))) (le-leb last (r .iteration) up))
-      (both-true (lt-ltb (r .net) netsMost (w .net-below))
+      (both-true (w .net-passes)
       (both-true
       (both-true
       (both-true (le-leb 2 (length (r .path)) (w .path-long)) (le-leb (length (r .path)) nodesMost (w .path-short)))
@@ -121,41 +126,48 @@ module _ (r : Record) (ws : List ℕ) where
 
 -- ---- sound logs
 
-none-sound : (last : ℕ) → recordSound last [] ≡ false
-unfolding recordSound
-none-sound last = rw (lt-leb 6 0 (omega arith))
+module _ (net : ℕ → Bool) where
+  none-sound : (last : ℕ) → recordSound net last [] ≡ false
+  unfolding recordSound
+  none-sound last = rw (lt-leb 6 0 (omega arith))
 
--- with as many steps as there are records all words are sound
-all-sound : (k last : ℕ) (rs : List Record) → length rs ≤ k → Rising last rs → All Writable rs → soundUpTo k last (encode rs) ≡ length (encode rs)
-unfolding soundUpTo encode words
-all-sound zero last [] h up all = refl
-all-sound (suc k) last [] h up all = rw (none-sound last)
-all-sound zero last (r ∷ rs) h up all = absurd (not-suc-le-zero h)
-all-sound (suc k) last (r ∷ rs) h up all =
-    rw (record-sound r (encode rs) last (all .0) (up .0), past-there r (encode rs), all-sound k (r .iteration) rs (le-of-suc-le-suc h) (up .1) (all .1))
-    (sym (long r (encode rs)))
+  -- with as many steps as there are records all words are sound
+  all-sound : (k last : ℕ) (rs : List Record) → length rs ≤ k → Rising last rs → All (Writable net) rs → soundUpTo net k last (encode rs) ≡ length (encode rs)
+  unfolding soundUpTo encode words
+  all-sound zero last [] h up all = refl
+  all-sound (suc k) last [] h up all = rw (none-sound last)
+  all-sound zero last (r ∷ rs) h up all = absurd (not-suc-le-zero h)
+  all-sound (suc k) last (r ∷ rs) h up all =
+      rw (
+        record-sound net r (encode rs) last (all .0) (up .0),
+        past-there net r (encode rs),
+        all-sound k (r .iteration) rs (le-of-suc-le-suc h) (up .1) (all .1),
+      )
+      (sym (long net r (encode rs)))
 
-log-sound : (rs : List Record) → 1 ≤ length rs → Rising 0 rs → All Writable rs → logSound (encode rs) ≡ true
-unfolding logSound soundWords
-log-sound rs some up all =
-    let few = records-few rs in
-    both-true (le-leb 1 (length (encode rs)) (omega arith))
-    (eq-eqb (soundUpTo (length (encode rs)) 0 (encode rs)) (length (encode rs)) (all-sound (length (encode rs)) 0 rs few up all))
+  log-sound : (rs : List Record) → 1 ≤ length rs → Rising 0 rs → All (Writable net) rs → logSound net (encode rs) ≡ true
+  unfolding logSound soundWords
+  log-sound rs some up all =
+      let few = records-few rs in
+      both-true (le-leb 1 (length (encode rs)) (omega arith))
+      (eq-eqb (soundUpTo net (length (encode rs)) 0 (encode rs)) (length (encode rs)) (all-sound (length (encode rs)) 0 rs few up all))
 
-reply-sound : (j : Job) → SoundJob j → (r : RouteReply) → Accepted j r → logSound (take (r .used) (r .log)) ≡ true
-unfolding recordsAfter
-reply-sound j sound r a =
-    let m : ℕ = a .whole in
-    let rs : List Record = recordsAfter j (firstState j) (suc m) in
-    let last = last-some j sound r a in
-    let some : 1 ≤ length rs =
-    omega (arith, length-append (recordsAfter j (firstState j) m) (iterationAfter j (firstState j) m .records)) in
-    rw (a .words-are)
-    (log-sound rs some (run-rising j sound (suc m) (a .below))
-    (all-map (TurnedUpTo j (suc m)) Writable (λ q b. writable j sound (suc m) (a .below) q b) rs (run-turned j sound (suc m) (a .below))))
+  pub reply-sound : (j : Job) → Routable j → SomeSinks j → Passes net j → (r : RouteReply) → Accepted j r → logSound net (take (r .used) (r .log)) ≡ true
+  unfolding recordsAfter
+  reply-sound j rests one passes r a =
+      let m : ℕ = a .whole in
+      let rs : List Record = recordsAfter j (firstState j) (suc m) in
+      let last = last-some j rests one r a in
+      let some : 1 ≤ length rs =
+      omega (arith, length-append (recordsAfter j (firstState j) m) (iterationAfter j (firstState j) m .records)) in
+      rw (a .words-are)
+      (log-sound rs some (run-rising j rests (suc m) (a .below))
+      (all-map (TurnedUpTo j (suc m)) (Writable net) (λ q b. writable net j rests passes (suc m) (a .below) q b) rs (run-turned j rests (suc m) (a .below))))
 
 -- the writer takes an accepted job's log
 pub accepted-sound :
     (j : Job) (work log : List ℕ) → SoundJob j → 8 * nodes j ≤ length work → routeReply j work log .refusal ≡ []
-    → logSound (take (routeReply j work log .used) (routeReply j work log .log)) ≡ true
-accepted-sound j work log sound enough e = reply-sound j sound (routeReply j work log) (accepted j work log sound enough e)
+    → logSound (netWritable (j .sources)) (take (routeReply j work log .used) (routeReply j work log .log)) ≡ true
+accepted-sound j work log sound enough e =
+    reply-sound (netWritable (j .sources)) (joined j) (joined-routable j sound) (joined-some j sound) (joined-passes j) (routeReply j work log)
+    (accepted j work log sound enough e)

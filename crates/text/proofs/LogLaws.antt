@@ -1,6 +1,6 @@
 -- Sound logs: going from record to record to the log's end, and what the test of a log says.
 -- Assumes nothing.
-use mathlib.Core.Bool.{true, false}
+use mathlib.Core.Bool.{Bool, true, false}
 use mathlib.Core.List.{List, [], _∷_, map}
 use mathlib.Core.Logic.{⊎-elim}
 use mathlib.Core.Path.{_≡_, refl, sym, _∙_, ap}
@@ -14,49 +14,49 @@ use borrow.Author.Tests.{le-leb, lt-leb, eq-eqb, ne-eqb, eqb-true}
 use Rattle.price.proofs.TestLaws.{either-way, both-right, le-or-lt}
 use Rattle.negotiation.specs.Records.{Record, recordOf, decodeUpTo, decode}
 use Rattle.text.specs.Routes.{pathIn, recordSound, soundUpTo, soundWords, logSound, lastIteration}
-use Rattle.text.specs.WriteSteps.{sound, unsound, logChecked}
+use Rattle.text.specs.WriteSteps.{sound, unsound, logChecked, Found}
 use Rattle.text.proofs.RecordTestLaws.{recordLength, sound-most, sound-fits}
 
 -- ---- sound words, record by record
 
-unsound-short : (last : ℕ) (ws : List ℕ) → length ws < 6 → recordSound last ws ≡ false
+unsound-short : (net : ℕ → Bool) (last : ℕ) (ws : List ℕ) → length ws < 6 → recordSound net last ws ≡ false
 unfolding recordSound
-unsound-short last ws h = rw (lt-leb 6 (length ws) h)
+unsound-short net last ws h = rw (lt-leb 6 (length ws) h)
 
 -- more steps than words change nothing
-sound-enough : (k m last : ℕ) (ws : List ℕ) → length ws ≤ k → length ws ≤ m → soundUpTo k last ws ≡ soundUpTo m last ws
+sound-enough : (net : ℕ → Bool) (k m last : ℕ) (ws : List ℕ) → length ws ≤ k → length ws ≤ m → soundUpTo net k last ws ≡ soundUpTo net m last ws
 unfolding soundUpTo
-sound-enough zero zero last ws h g = refl
-sound-enough zero (suc m) last ws h g = rw (unsound-short last ws (omega arith))
-sound-enough (suc k) zero last ws h g = rw (unsound-short last ws (omega arith))
-sound-enough (suc k) (suc m) last ws h g =
+sound-enough net zero zero last ws h g = refl
+sound-enough net zero (suc m) last ws h g = rw (unsound-short net last ws (omega arith))
+sound-enough net (suc k) zero last ws h g = rw (unsound-short net last ws (omega arith))
+sound-enough net (suc k) (suc m) last ws h g =
     ⊎-elim
-    (λ (t : recordSound last ws ≡ true).
+    (λ (t : recordSound net last ws ≡ true).
     let short = length-drop (recordLength ws) ws in
     rw t
     (ap (λ (x : ℕ). recordLength ws + x)
-    (sound-enough k m (getD ws 0 0) (drop (recordLength ws) ws) (omega arith) (omega arith))))
-    (λ (t : recordSound last ws ≡ false). rw t)
-    (either-way (recordSound last ws))
+    (sound-enough net k m (getD ws 0 0) (drop (recordLength ws) ws) (omega arith) (omega arith))))
+    (λ (t : recordSound net last ws ≡ false). rw t)
+    (either-way (recordSound net last ws))
 
 -- the words of sound records from here on
-abbrev pub soundAfter : ℕ → List ℕ → ℕ
-soundAfter last ws = soundUpTo (length ws) last ws
+abbrev pub soundAfter : (ℕ → Bool) → ℕ → List ℕ → ℕ
+soundAfter net last ws = soundUpTo net (length ws) last ws
 
-module _ (last : ℕ) (ws : List ℕ) where
-  one-more : soundAfter last ws ≡ soundUpTo (suc (length ws)) last ws
-  one-more = sound-enough (length ws) (suc (length ws)) last ws (omega arith) (omega arith)
+module _ (net : ℕ → Bool) (last : ℕ) (ws : List ℕ) where
+  one-more : soundAfter net last ws ≡ soundUpTo net (suc (length ws)) last ws
+  one-more = sound-enough net (length ws) (suc (length ws)) last ws (omega arith) (omega arith)
 
-  pub sound-next : recordSound last ws ≡ true → soundAfter last ws ≡ recordLength ws + soundAfter (getD ws 0 0) (drop (recordLength ws) ws)
+  pub sound-next : recordSound net last ws ≡ true → soundAfter net last ws ≡ recordLength ws + soundAfter net (getD ws 0 0) (drop (recordLength ws) ws)
   unfolding soundUpTo
   sound-next t =
       let short = length-drop (recordLength ws) ws in
       one-more
       ∙ rw t
       (ap (λ (x : ℕ). recordLength ws + x)
-      (sound-enough (length ws) (length (drop (recordLength ws) ws)) (getD ws 0 0) (drop (recordLength ws) ws) (omega arith) (omega arith)))
+      (sound-enough net (length ws) (length (drop (recordLength ws) ws)) (getD ws 0 0) (drop (recordLength ws) ws) (omega arith) (omega arith)))
 
-  pub sound-stop : recordSound last ws ≡ false → soundAfter last ws ≡ 0
+  pub sound-stop : recordSound net last ws ≡ false → soundAfter net last ws ≡ 0
   unfolding soundUpTo
   sound-stop t = one-more ∙ rw t
 
@@ -150,15 +150,15 @@ module _ (log : List ℕ) (at : ℕ) where
         drop-drop 6 at log,
       )
 
-  module _ (last : ℕ) (t : recordSound last (drop at log) ≡ true) where
-    pub sound-at : soundAfter last (drop at log) ≡ 6 + getD log (at + 5) 0 + soundAfter (getD log at 0) (drop (nextAt log at) log)
-    sound-at = sound-next last (drop at log) t ∙ rw (after-at, first-at, getD-drop at log 5 0)
+  module _ (net : ℕ → Bool) (last : ℕ) (t : recordSound net last (drop at log) ≡ true) where
+    pub sound-at : soundAfter net last (drop at log) ≡ 6 + getD log (at + 5) 0 + soundAfter net (getD log at 0) (drop (nextAt log at) log)
+    sound-at = sound-next net last (drop at log) t ∙ rw (after-at, first-at, getD-drop at log 5 0)
 
     pub most-at : getD log (at + 5) 0 ≤ 4096
-    most-at = rw (getD-drop at log 5 0) at (sound-most last (drop at log) t)
+    most-at = rw (getD-drop at log 5 0) at (sound-most net last (drop at log) t)
 
     pub long-at : 6 + getD log (at + 5) 0 ≤ length (drop at log)
-    long-at = rw (getD-drop at log 5 0) at (sound-fits last (drop at log) t)
+    long-at = rw (getD-drop at log 5 0) at (sound-fits net last (drop at log) t)
 
     pub fits-at : at ≤ length log → nextAt log at ≤ length log
     fits-at l =
@@ -186,65 +186,65 @@ last-is (r ∷ rs) =
 -- ---- from record to record
 
 -- the records before a place are sound: so many, the last of this iteration
-pub record Checking (log : List ℕ) (at iteration turns : ℕ) : Type 0 where
+pub record Checking (net : ℕ → Bool) (log : List ℕ) (at iteration turns : ℕ) : Type 0 where
   pub within : at ≤ length log
-  pub sound-so-far : soundWords log ≡ at + soundAfter iteration (drop at log)
+  pub sound-so-far : soundWords net log ≡ at + soundAfter net iteration (drop at log)
   pub counted : turns + length (decode (drop at log)) ≡ length (decode log)
   pub last-met : lastOr iteration (decode (drop at log)) ≡ lastOr 0 (decode log)
   pub few : turns ≤ at
   pub begun : turns ≡ 0 → at ≡ 0
 
-pub checking-none : (log : List ℕ) → Checking log 0 0 0
+pub checking-none : (net : ℕ → Bool) (log : List ℕ) → Checking net log 0 0 0
 unfolding soundWords
-checking-none log =
+checking-none net log =
     record {
       within = omega arith;
-      sound-so-far = sym (zero-add (soundAfter 0 log));
+      sound-so-far = sym (zero-add (soundAfter net 0 log));
       counted = zero-add (length (decode log));
       last-met = refl;
       few = omega arith;
       begun = λ e. refl;
     }
 
-module _ {log : List ℕ} {at iteration turns : ℕ} (p : Checking log at iteration turns) where
-  pub checking-fits : recordSound iteration (drop at log) ≡ true → nextAt log at ≤ length log
-  checking-fits t = fits-at log at iteration t (p .within)
+module _ {net : ℕ → Bool} {log : List ℕ} {at iteration turns : ℕ} (p : Checking net log at iteration turns) where
+  pub checking-fits : recordSound net iteration (drop at log) ≡ true → nextAt log at ≤ length log
+  checking-fits t = fits-at log at net iteration t (p .within)
 
-  pub checking-next : recordSound iteration (drop at log) ≡ true → Checking log (nextAt log at) (getD log at 0) (turns + 1)
+  pub checking-next : recordSound net iteration (drop at log) ≡ true → Checking net log (nextAt log at) (getD log at 0) (turns + 1)
   unfolding lastOr
   checking-next t =
-      let long = long-at log at iteration t in
+      let long = long-at log at net iteration t in
       let one : decode (drop at log) ≡ recordAt log at ∷ decode (drop (nextAt log at) log) = decode-at log at (omega arith) in
       record {
         within = checking-fits t;
-        sound-so-far = omega (arith, sound-at log at iteration t, p .sound-so-far);
+        sound-so-far = omega (arith, sound-at log at net iteration t, p .sound-so-far);
         counted = omega (arith, rw one at (p .counted));
         last-met = rw one at (p .last-met);
         few = omega arith;
         begun = λ e. absurd (omega arith);
       }
 
-  pub checked-unsound : at < length log → recordSound iteration (drop at log) ≡ false → unsound at ≡ logChecked log
+  pub checked-unsound : at < length log → recordSound net iteration (drop at log) ≡ false → unsound at ≡ logChecked net log
   unfolding logChecked logSound
   checked-unsound l t =
-      let stop : soundWords log ≡ at = p .sound-so-far ∙ rw (sound-stop iteration (drop at log) t) (add-zero at) in
+      let stop : soundWords net log ≡ at = p .sound-so-far ∙ rw (sound-stop net iteration (drop at log) t) (add-zero at) in
       rw (stop, le-leb 1 (length log) (omega arith), ne-eqb at (length log) (λ e. omega arith))
 
   module _ (l : length log ≤ at) where
     none-left : drop at log ≡ []
     none-left = drop-of-length-le log l
 
-    all-sound : soundWords log ≡ at
+    all-sound : soundWords net log ≡ at
     unfolding soundUpTo
     all-sound = p .sound-so-far ∙ rw none-left (add-zero at)
 
-    pub checked-none : turns ≡ 0 → unsound 0 ≡ logChecked log
+    pub checked-none : turns ≡ 0 → unsound 0 ≡ logChecked net log
     unfolding logChecked logSound
     checked-none e =
         let start = p .begun e in
         rw (all-sound, start, lt-leb 1 (length log) (omega arith))
 
-    pub checked-sound : (turns ≡ 0 → ⊥) → sound iteration turns ≡ logChecked log
+    pub checked-sound : (turns ≡ 0 → ⊥) → sound iteration turns ≡ logChecked net log
     unfolding logChecked logSound lastOr
     checked-sound e =
         let some : 1 ≤ turns = omega arith in
@@ -254,38 +254,33 @@ module _ {log : List ℕ} {at iteration turns : ℕ} (p : Checking log at iterat
 
 -- ---- what the test of a log says
 
-pub record Found (log : List ℕ) (iteration turns : ℕ) : Type 0 where
-  pub is-sound : logSound log ≡ true
-  pub iteration-is : iteration ≡ lastIteration (decode log)
-  pub turns-are : turns ≡ length (decode log)
+module _ (net : ℕ → Bool) (log : List ℕ) where
+  pub found-all : logSound net log ≡ true → soundWords net log ≡ length log
+  unfolding logSound
+  found-all t = eqb-true (soundWords net log) (length log) (both-right (leb 1 (length log)) (eqb (soundWords net log) (length log)) t)
 
-module _ (log : List ℕ) where
-  pub found : {iteration turns : ℕ} → sound iteration turns ≡ logChecked log → Found log iteration turns
+  pub found : {iteration turns : ℕ} → sound iteration turns ≡ logChecked net log → (logSound net log ≡ true) × Found log iteration turns
   unfolding logChecked
   found {iteration} {turns} e =
       ⊎-elim
-      (λ (t : logSound log ≡ true).
+      (λ (t : logSound net log ≡ true).
       let same : sound iteration turns ≡ sound (lastIteration (decode log)) (length (decode log)) = rw t at e in
-      record { is-sound = t; iteration-is = cc; turns-are = cc })
-      (λ (t : logSound log ≡ false).
-      let same : sound iteration turns ≡ unsound (soundWords log) = rw t at e in
+      (t, record { words-sound = record { net = net; all-sound = found-all t }; iteration-is = cc; turns-are = cc }))
+      (λ (t : logSound net log ≡ false).
+      let same : sound iteration turns ≡ unsound (soundWords net log) = rw t at e in
       let z : _≡_ {A = ℕ} 0 1 = cc in
       absurd (omega arith))
-      (either-way (logSound log))
+      (either-way (logSound net log))
 
-  pub found-all : logSound log ≡ true → soundWords log ≡ length log
-  unfolding logSound
-  found-all t = eqb-true (soundWords log) (length log) (both-right (leb 1 (length log)) (eqb (soundWords log) (length log)) t)
-
-  pub found-none : {word : ℕ} → unsound word ≡ logChecked log → (logSound log ≡ false) × (word ≡ soundWords log)
+  pub found-none : {word : ℕ} → unsound word ≡ logChecked net log → (logSound net log ≡ false) × (word ≡ soundWords net log)
   unfolding logChecked
   found-none {word} e =
       ⊎-elim
-      (λ (t : logSound log ≡ true).
+      (λ (t : logSound net log ≡ true).
       let same : unsound word ≡ sound (lastIteration (decode log)) (length (decode log)) = rw t at e in
       let z : _≡_ {A = ℕ} 0 1 = cc in
       absurd (omega arith))
-      (λ (t : logSound log ≡ false).
-      let same : unsound word ≡ unsound (soundWords log) = rw t at e in
+      (λ (t : logSound net log ≡ false).
+      let same : unsound word ≡ unsound (soundWords net log) = rw t at e in
       (t, cc))
-      (either-way (logSound log))
+      (either-way (logSound net log))

@@ -8,7 +8,7 @@ use Prim.Native.Nat.{ℕ, _+_, _-_, _≤_, _<_}
 use native.Mathlib.Nat.{add-zero, eq-or-lt-of-le}
 use native.Mathlib.Omega.{arith}
 use lib.Dec.{leb, ltb, eqb}
-use lib.ListN.{length, getD, take, drop, length-drop}
+use lib.ListN.{length, getD, take, drop, length-drop, List·getD-eq-default}
 use lib.Seq.{getD-take, getD-drop, drop-drop, length-take-le}
 use borrow.Author.Tests.{le-leb, lt-leb, lt-ltb, le-ltb, leb-true}
 use Rattle.price.specs.Test.{both}
@@ -16,9 +16,9 @@ use Rattle.price.specs.Bounds.{nodesMost, limitMost}
 use Rattle.price.specs.Lists.{every}
 use Rattle.price.proofs.TestLaws.{both-left, both-right}
 use Rattle.price.proofs.ListLaws.{every-all, every-none}
-use Rattle.negotiation.specs.Tables.{netsMost}
 use Rattle.text.specs.JobText.{between}
 use Rattle.text.specs.Routes.{pathIn, pathSound, recordSound}
+use Rattle.text.specs.WriteSteps.{named}
 
 -- ---- the tests of a path
 
@@ -109,13 +109,18 @@ module _ (log : List ℕ) (at n sink : ℕ) where
 
 -- ---- the tests of a record
 
-module _ (last : ℕ) (log : List ℕ) (at : ℕ) where
+-- a net beyond the marks has none
+pub named-none : (marks : List ℕ) (i : ℕ) → length marks ≤ i → named marks i ≡ false
+unfolding named
+named-none marks i l = rw (List·getD-eq-default marks 0 l)
+
+module _ (net : ℕ → Bool) (last : ℕ) (log : List ℕ) (at : ℕ) where
   -- the first record of the words from a place on, read there
   record-reads :
-      recordSound last (drop at log)
+      recordSound net last (drop at log)
       ≡ both (leb 6 (length log - at))
       (both (both (between 1 limitMost (getD log at 0)) (leb last (getD log at 0)))
-      (both (ltb (getD log (at + 1) 0) netsMost) (pathSound (getD log (at + 5) 0) (getD log (at + 2) 0) (drop at log))))
+      (both (net (getD log (at + 1) 0)) (pathSound (getD log (at + 5) 0) (getD log (at + 2) 0) (drop at log))))
   unfolding recordSound
   record-reads =
       rw (
@@ -127,18 +132,18 @@ module _ (last : ℕ) (log : List ℕ) (at : ℕ) where
         add-zero at,
       )
 
-  pub record-cut : length log - at < 6 → recordSound last (drop at log) ≡ false
+  pub record-cut : length log - at < 6 → recordSound net last (drop at log) ≡ false
   record-cut h = record-reads ∙ rw (lt-leb 6 (length log - at) h)
 
   module _ (whole : 6 ≤ length log - at) where
-    pub record-none : getD log at 0 < 1 → recordSound last (drop at log) ≡ false
+    pub record-none : getD log at 0 < 1 → recordSound net last (drop at log) ≡ false
     record-none h = record-reads ∙ rw (le-leb 6 (length log - at) whole, lt-leb 1 (getD log at 0) h)
 
-    pub record-late : 1 ≤ getD log at 0 → 100 < getD log at 0 → recordSound last (drop at log) ≡ false
+    pub record-late : 1 ≤ getD log at 0 → 100 < getD log at 0 → recordSound net last (drop at log) ≡ false
     record-late l h =
         record-reads ∙ rw (le-leb 6 (length log - at) whole, le-leb 1 (getD log at 0) l, lt-leb (getD log at 0) 100 h)
 
-    pub record-falls : 1 ≤ getD log at 0 → getD log at 0 ≤ 100 → getD log at 0 < last → recordSound last (drop at log) ≡ false
+    pub record-falls : 1 ≤ getD log at 0 → getD log at 0 ≤ 100 → getD log at 0 < last → recordSound net last (drop at log) ≡ false
     record-falls l m h =
         record-reads
         ∙ rw (
@@ -149,7 +154,7 @@ module _ (last : ℕ) (log : List ℕ) (at : ℕ) where
         )
 
     module _ (some : 1 ≤ getD log at 0) (most : getD log at 0 ≤ 100) (rises : last ≤ getD log at 0) where
-      record-net : recordSound last (drop at log) ≡ both (ltb (getD log (at + 1) 0) netsMost) (pathSound (getD log (at + 5) 0) (getD log (at + 2) 0) (drop at log))
+      record-net : recordSound net last (drop at log) ≡ both (net (getD log (at + 1) 0)) (pathSound (getD log (at + 5) 0) (getD log (at + 2) 0) (drop at log))
       record-net =
           record-reads
           ∙ rw (
@@ -159,11 +164,11 @@ module _ (last : ℕ) (log : List ℕ) (at : ℕ) where
             le-leb last (getD log at 0) rises,
           )
 
-      pub record-high : 512 ≤ getD log (at + 1) 0 → recordSound last (drop at log) ≡ false
-      record-high h = record-net ∙ rw (le-ltb (getD log (at + 1) 0) 512 h)
+      pub record-other : net (getD log (at + 1) 0) ≡ false → recordSound net last (drop at log) ≡ false
+      record-other h = record-net ∙ rw h
 
-      pub record-path : getD log (at + 1) 0 < 512 → recordSound last (drop at log) ≡ pathSound (getD log (at + 5) 0) (getD log (at + 2) 0) (drop at log)
-      record-path h = record-net ∙ rw (lt-ltb (getD log (at + 1) 0) 512 h)
+      pub record-path : net (getD log (at + 1) 0) ≡ true → recordSound net last (drop at log) ≡ pathSound (getD log (at + 5) 0) (getD log (at + 2) 0) (drop at log)
+      record-path h = record-net ∙ rw h
 
 -- ---- what a sound record has
 
@@ -188,16 +193,16 @@ path-fits n sink ws e =
     (both-left (both (between 2 nodesMost n) (leb (6 + n) (length ws)))
     (both (every nodeSound (pathIn n ws)) (eqb (getD ws (5 + n) 0) sink)) e))
 
-module _ (last : ℕ) (ws : List ℕ) (e : recordSound last ws ≡ true) where
+module _ (net : ℕ → Bool) (last : ℕ) (ws : List ℕ) (e : recordSound net last ws ≡ true) where
   sound-path : pathSound (getD ws 5 0) (getD ws 2 0) ws ≡ true
   unfolding recordSound
   sound-path =
-      both-right (ltb (getD ws 1 0) netsMost) (pathSound (getD ws 5 0) (getD ws 2 0) ws)
+      both-right (net (getD ws 1 0)) (pathSound (getD ws 5 0) (getD ws 2 0) ws)
       (both-right (both (between 1 limitMost (getD ws 0 0)) (leb last (getD ws 0 0)))
-      (both (ltb (getD ws 1 0) netsMost) (pathSound (getD ws 5 0) (getD ws 2 0) ws))
+      (both (net (getD ws 1 0)) (pathSound (getD ws 5 0) (getD ws 2 0) ws))
       (both-right (leb 6 (length ws))
       (both (both (between 1 limitMost (getD ws 0 0)) (leb last (getD ws 0 0)))
-      (both (ltb (getD ws 1 0) netsMost) (pathSound (getD ws 5 0) (getD ws 2 0) ws))) e))
+      (both (net (getD ws 1 0)) (pathSound (getD ws 5 0) (getD ws 2 0) ws))) e))
 
   pub sound-most : getD ws 5 0 ≤ 4096
   sound-most = path-most (getD ws 5 0) (getD ws 2 0) ws sound-path

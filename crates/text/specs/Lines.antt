@@ -13,7 +13,7 @@ lf = 10
 abbrev pub comma : ℕ
 comma = 44
 
--- ASCII codes of the line letters: F, P, N, E, S and T of a job text, R and B of a routes text, X of a refusal
+-- ASCII codes of the line letters: F, P, N, E, S and T of a job text, R, B and J of a routes text, X of a refusal
 abbrev pub letterF : ℕ
 letterF = 70
 
@@ -37,6 +37,9 @@ letterR = 82
 
 abbrev pub letterB : ℕ
 letterB = 66
+
+abbrev pub letterJ : ℕ
+letterJ = 74
 
 abbrev pub letterX : ℕ
 letterX = 88

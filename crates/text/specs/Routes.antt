@@ -1,5 +1,5 @@
--- Document 01, "Routes text" and rows 10 and 11 of "Numbers for a stopped call": sound logs, branches,
--- and what the writer answers and leaves.
+-- Document 01, "Routes text" and rows 5, 10 and 11 of "Numbers for a stopped call", with request 2.3's J lines: sound logs,
+-- branches, joined nets, and what the writer answers and leaves.
 -- Assumes nothing.
 use mathlib.Core.Bool.{Bool, not}
 use mathlib.Core.List.{List, [], _∷_, _++_, map}
@@ -9,10 +9,11 @@ use lib.ListN.{length, getD, take, drop}
 use Rattle.price.specs.Test.{choose, both}
 use Rattle.price.specs.Bounds.{nodesMost, limitMost}
 use Rattle.price.specs.Lists.{every}
-use Rattle.negotiation.specs.Tables.{netsMost}
+use Rattle.negotiation.specs.Tables.{sourcesSound}
+use Rattle.negotiation.specs.Join.{firstOf, leads}
 use Rattle.negotiation.specs.Records.{Record, decode}
 use Rattle.negotiation.specs.Demand.{latest}
-use Rattle.text.specs.Lines.{letterR, letterB, printLine}
+use Rattle.text.specs.Lines.{letterR, letterB, letterJ, printLine}
 use Rattle.text.specs.JobText.{between}
 use Rattle.text.specs.ReadReplies.{writtenOver}
 use Rattle.text.specs.declared.WriteAnswer.{WriteAnswer}
@@ -30,28 +31,33 @@ pathSound n sink ws =
     both (both (between 2 nodesMost n) (leb (6 + n) (length ws)))
     (both (every (λ v. ltb v nodesMost) (pathIn n ws)) (eqb (getD ws (5 + n) 0) sink))
 
--- the first record is whole and sound, after one of iteration `last`: "iteration 1 to 100 and never falling, net below 512"
-unfoldable pub recordSound : ℕ → List ℕ → Bool
-recordSound last ws =
+-- the first record is whole and sound, after one of iteration `last`, and its net passes a test:
+-- "iteration 1 to 100 and never falling"
+unfoldable pub recordSound : (ℕ → Bool) → ℕ → List ℕ → Bool
+recordSound net last ws =
     both (leb 6 (length ws))
     (both (both (between 1 limitMost (getD ws 0 0)) (leb last (getD ws 0 0)))
-    (both (ltb (getD ws 1 0) netsMost) (pathSound (getD ws 5 0) (getD ws 2 0) ws)))
+    (both (net (getD ws 1 0)) (pathSound (getD ws 5 0) (getD ws 2 0) ws)))
 
 -- the words of sound records before the first unsound one, after one of iteration `last`; so many records at most
-unfoldable pub soundUpTo : ℕ → ℕ → List ℕ → ℕ
-soundUpTo zero last ws = 0
-soundUpTo (suc k) last ws =
-    choose (recordSound last ws)
-    (6 + getD ws 5 0 + soundUpTo k (getD ws 0 0) (drop (6 + getD ws 5 0) ws))
+unfoldable pub soundUpTo : (ℕ → Bool) → ℕ → ℕ → List ℕ → ℕ
+soundUpTo net zero last ws = 0
+soundUpTo net (suc k) last ws =
+    choose (recordSound net last ws)
+    (6 + getD ws 5 0 + soundUpTo net k (getD ws 0 0) (drop (6 + getD ws 5 0) ws))
     0
 
 -- "first word of the first unsound record": no log has more records than words
-unfoldable pub soundWords : List ℕ → ℕ
-soundWords ws = soundUpTo (length ws) 0 ws
+unfoldable pub soundWords : (ℕ → Bool) → List ℕ → ℕ
+soundWords net ws = soundUpTo net (length ws) 0 ws
 
 -- "A sound log is one or more whole records"
-unfoldable pub logSound : List ℕ → Bool
-logSound ws = both (leb 1 (length ws)) (eqb (soundWords ws) (length ws))
+unfoldable pub logSound : (ℕ → Bool) → List ℕ → Bool
+logSound net ws = both (leb 1 (length ws)) (eqb (soundWords net ws) (length ws))
+
+-- request 2.3: "A record whose net is beyond table 5 or isn't the first of its source is unsound."
+unfoldable pub netWritable : List ℕ → ℕ → Bool
+netWritable sources i = both (ltb i (length sources)) (leads sources i)
 
 -- ---- branches
 
@@ -99,9 +105,32 @@ unfoldable pub branchText : List Branch → List ℕ
 branchText [] = []
 branchText (b ∷ bs) = printLine letterB (b .net ∷ b .from ∷ b .to ∷ []) ++ branchText bs
 
--- "`R,iteration,turns` from the last record and the record count, then `B,net,from,to` for each path step of records with that iteration"
-unfoldable pub routesText : List Record → List ℕ
-routesText rs = printLine letterR (lastIteration rs ∷ length rs ∷ []) ++ branchText (routeBranches rs)
+-- ---- joined nets
+
+-- a net that is joined into the first of its source
+pub record Join : Type 0 where
+  pub net : ℕ
+  pub first : ℕ
+
+-- of the first n nets, by net: those that make no turns, as another is the first of their source
+unfoldable pub joinsBefore : List ℕ → ℕ → List Join
+joinsBefore sources zero = []
+joinsBefore sources (suc i) =
+    joinsBefore sources i ++ choose (leads sources i) [] (record { net = i; first = firstOf sources i } ∷ [])
+
+unfoldable pub routeJoins : List ℕ → List Join
+routeJoins sources = joinsBefore sources (length sources)
+
+-- request 2.3: "the routes text gives each a line `J,net,first` after the B lines, by net"
+unfoldable pub joinText : List Join → List ℕ
+joinText [] = []
+joinText (p ∷ ps) = printLine letterJ (p .net ∷ p .first ∷ []) ++ joinText ps
+
+-- "`R,iteration,turns` from the last record and the record count, then `B,net,from,to` for each path step of records with that iteration",
+-- and the J lines
+unfoldable pub routesText : List ℕ → List Record → List ℕ
+routesText sources rs =
+    printLine letterR (lastIteration rs ∷ length rs ∷ []) ++ (branchText (routeBranches rs) ++ joinText (routeJoins sources))
 
 -- ---- the writer
 
@@ -124,18 +153,23 @@ textReply text buffer =
     choose (ltb (length buffer) (length text)) (notWritten (11 ∷ capped (length text) ∷ []) buffer)
     (record { refusal = []; bytes = length text; buffer = writtenOver text buffer })
 
-unfoldable pub writeReply : List ℕ → List ℕ → WriteReply
-writeReply log buffer =
-    choose (not (logSound log)) (notWritten (10 ∷ soundWords log ∷ []) buffer) (textReply (routesText (decode log)) buffer)
+-- request 2.3: "one of no or over 512 entries, or with an entry of 4,096 or more, is refused with 5 before 10"
+unfoldable pub writeReply : List ℕ → List ℕ → List ℕ → WriteReply
+writeReply sources log buffer =
+    choose (not (sourcesSound nodesMost sources)) (notWritten (5 ∷ 5 ∷ []) buffer)
+    (choose (not (logSound (netWritable sources) log)) (notWritten (10 ∷ soundWords (netWritable sources) log ∷ []) buffer)
+    (textReply (routesText sources (decode log)) buffer))
 
 -- 01's numbers for each case of the answer
 abbrev pub writeRefusal : WriteAnswer → List ℕ
 writeRefusal (a.Written bytes) = []
+writeRefusal (a.BadTable table) = 5 ∷ table ∷ []
 writeRefusal (a.Unsound word) = 10 ∷ word ∷ []
 writeRefusal (a.ShortBuffer needed) = 11 ∷ needed ∷ []
 
 abbrev pub writtenBytes : WriteAnswer → ℕ
 writtenBytes (a.Written bytes) = bytes
+writtenBytes (a.BadTable table) = 0
 writtenBytes (a.Unsound word) = 0
 writtenBytes (a.ShortBuffer needed) = 0
 

@@ -1,9 +1,11 @@
 -- What the contracts of the writer's private functions say.
 -- Assumes nothing.
+use mathlib.Core.Bool.{Bool}
 use mathlib.Core.List.{List, _++_}
 use mathlib.Core.Path.{_≡_}
 use Prim.Native.Nat.{ℕ, _+_}
-use lib.ListN.{length, take, drop}
+use lib.Dec.{eqb}
+use lib.ListN.{length, getD, take, drop}
 use Rattle.price.specs.Test.{choose}
 use Rattle.negotiation.specs.Records.{decode}
 use Rattle.text.specs.Routes.{logSound, soundWords, lastIteration}
@@ -19,14 +21,29 @@ pub record Put (at : ℕ) (bytes before after : List ℕ) (next : ℕ) : Type 0 
   pub written : after ≡ placed at bytes before
   pub next-is : next ≡ at + length bytes
 
+-- the nets that bear the mark 1
+unfoldable pub named : List ℕ → ℕ → Bool
+named marks i = eqb (getD marks i 0) 1
+
 -- what a test of a log finds: the last iteration and the turns of a sound one, or the first word of the first unsound record
 pub data Checked : Type 0 where
   sound : (iteration turns : ℕ) → Checked
   unsound : (word : ℕ) → Checked
 
-unfoldable pub logChecked : List ℕ → Checked
-logChecked ws = choose (logSound ws) (sound (lastIteration (decode ws)) (length (decode ws))) (unsound (soundWords ws))
+unfoldable pub logChecked : (ℕ → Bool) → List ℕ → Checked
+logChecked net ws = choose (logSound net ws) (sound (lastIteration (decode ws)) (length (decode ws))) (unsound (soundWords net ws))
 
 abbrev pub checkedAt : LogCheck → Checked
 checkedAt (k.Sound iteration turns) = sound iteration turns
 checkedAt (k.Unsound word) = unsound word
+
+-- every word is one of a sound record, by some test of the nets
+pub record AllSound (log : List ℕ) : Type 0 where
+  pub net : ℕ → Bool
+  pub all-sound : soundWords net log ≡ length log
+
+-- what the test of a sound log found
+pub record Found (log : List ℕ) (iteration turns : ℕ) : Type 0 where
+  pub words-sound : AllSound log
+  pub iteration-is : iteration ≡ lastIteration (decode log)
+  pub turns-are : turns ≡ length (decode log)

@@ -3,8 +3,8 @@ ghost use mathlib.Core.Path.{_≡_};
 ghost use Prim.Native.Nat.{_+_, _-_, _≤_};
 ghost use lib.ListN.{length, take, drop};
 ghost use Rattle.negotiation.specs.Records.{decode};
-ghost use Rattle.text.specs.Routes.{soundWords, steps, branchesIn, branchText, capped};
-ghost use Rattle.text.specs.WriteSteps.{Put};
+ghost use Rattle.text.specs.Routes.{steps, branchesIn, branchText, capped};
+ghost use Rattle.text.specs.WriteSteps.{Put, AllSound};
 use crate::bounds;
 use crate::decimal;
 
@@ -65,7 +65,7 @@ fn put_steps(
 
 // The bytes that the branches of an iteration take.
 pub fn branches_length(log: &[u32], iteration: u32) -> u64
-    requires { ⌜ soundWords (now log) ≡ length (now log) ⌝ }
+    requires { ⌜ AllSound (now log) ⌝ }
     ensures { λ r. ⌜ r ≡ capped (length (branchText (branchesIn iteration (decode (now (log .entry)))))) ⌝ }
 {
     let mut bytes = 0;
@@ -83,7 +83,7 @@ pub fn branches_length(log: &[u32], iteration: u32) -> u64
 
 // Writes the branches of an iteration.
 pub fn put_branches(log: &[u32], iteration: u32, buffer: &mut [u8], start: usize) -> usize
-    requires { ⌜ soundWords (now log) ≡ length (now log) ⌝ }
+    requires { ⌜ AllSound (now log) ⌝ }
     requires { ⌜ start + length (branchText (branchesIn iteration (decode (now log)))) ≤ length (now buffer) ⌝ }
     ensures { λ r. do
       let bytes = branchText (branchesIn iteration (decode (now (log .entry))))

@@ -3,7 +3,11 @@ ghost use mathlib.Core.Path.{_≡_};
 ghost use Rattle.text.specs.ReadReplies.{tablesOf, lowestShort, storedReply, readReply, readReplyOf};
 ghost use Prim.Native.Nat.{_≤_};
 ghost use Rattle.text.specs.ReadSteps.{RoomForAll, CountsWithin, jobTaken};
-ghost use Rattle.text.specs.Routes.{writeReply, writeReplyOf};
+ghost use Rattle.text.specs.Routes.{routesText, textReply, writeReply, writeReplyOf};
+ghost use Rattle.text.specs.WriteSteps.{Found};
+ghost use Rattle.negotiation.specs.Records.{decode};
+ghost use Rattle.negotiation.specs.Tables.{netsMost};
+ghost use lib.ListN.{length};
 
 // What the reader answers.
 pub enum ReadAnswer {
@@ -28,6 +32,8 @@ pub enum ReadAnswer {
 pub enum WriteAnswer {
     // So many bytes are written.
     Written(usize),
+    // 5: this table, the sources, breaks its rule.
+    BadTable(u32),
     // 10: the record that begins at this word is unsound.
     Unsound(usize),
     // 11: the buffer is shorter than the routes text, which takes so many bytes.
@@ -41,6 +47,7 @@ mod decimal;
 mod edges;
 mod fields;
 mod head;
+mod joins;
 mod log_check;
 mod nets;
 mod nodes;
@@ -247,23 +254,43 @@ pub fn read_job(
     }
 }
 
-// Writes the routes text of a log: its last record's iteration with the turn count, and that iteration's branches.
-pub fn write_routes(log: &[u32], buffer: &mut [u8]) -> WriteAnswer
-    ensures answers { λ r. ⌜ writeReplyOf r (now (buffer .exit)) ≡ writeReply (now (log .entry)) (now (buffer .entry)) ⌝ }
+// Writes the routes text of a sound log with this last iteration and so many turns.
+fn write_text(
+    source: &[u16],
+    log: &[u32],
+    iteration: u32,
+    turns: usize,
+    buffer: &mut [u8],
+) -> WriteAnswer
+    requires { ⌜ (length (now source) ≤ netsMost) × Found (now log) iteration turns ⌝ }
+    ensures { λ r. ⌜ writeReplyOf r (now (buffer .exit))
+        ≡ textReply (routesText (now (source .entry)) (decode (now (log .entry)))) (now (buffer .entry)) ⌝ }
 {
-    match log_check::check_log(log) {
-        LogCheck::Sound { iteration, turns } => {
-            let head = decimal::two_length(iteration as u64, turns as u64);
-            let needed = branches::capped_sum(
-                head as u64,
-                branches::branches_length(log, iteration),
-            );
-            if (buffer.len() as u64) < needed {
-                return WriteAnswer::ShortBuffer(needed);
-            }
-            let at = decimal::put_two(buffer, 0, b'R', iteration as u64, turns as u64);
-            WriteAnswer::Written(branches::put_branches(log, iteration, buffer, at))
-        }
+    let head = decimal::two_length(iteration as u64, turns as u64) as u64;
+    let needed = branches::capped_sum(
+        head + joins::joins_length(source),
+        branches::branches_length(log, iteration),
+    );
+    if (buffer.len() as u64) < needed {
+        return WriteAnswer::ShortBuffer(needed);
+    }
+    let at = decimal::put_two(buffer, 0, b'R', iteration as u64, turns as u64);
+    let next = branches::put_branches(log, iteration, buffer, at);
+    WriteAnswer::Written(joins::put_joins(source, buffer, next))
+}
+
+// Writes the routes text of a log: its last record's iteration with the turn count, that iteration's branches, and the nets of
+// table 5 that are joined into another.
+pub fn write_routes(source: &[u16], log: &[u32], buffer: &mut [u8]) -> WriteAnswer
+    ensures answers { λ r. ⌜ writeReplyOf r (now (buffer .exit))
+        ≡ writeReply (now (source .entry)) (now (log .entry)) (now (buffer .entry)) ⌝ }
+{
+    if !negotiation::sources_sound(bounds::NODES_MOST as usize, source) {
+        return WriteAnswer::BadTable(5);
+    }
+    let marks = joins::first_marks(source);
+    match log_check::check_log(&marks, log) {
+        LogCheck::Sound { iteration, turns } => write_text(source, log, iteration, turns, buffer),
         LogCheck::Unsound(word) => WriteAnswer::Unsound(word),
     }
 }

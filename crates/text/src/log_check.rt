@@ -6,7 +6,7 @@ ghost use lib.ListN.{length, take, drop};
 ghost use Rattle.price.specs.Bounds.{nodesMost};
 ghost use Rattle.price.specs.Lists.{every};
 ghost use Rattle.text.specs.Routes.{pathSound, recordSound};
-ghost use Rattle.text.specs.WriteSteps.{logChecked, checkedAt};
+ghost use Rattle.text.specs.WriteSteps.{named, logChecked, checkedAt};
 use crate::bounds;
 
 pub enum LogCheck {
@@ -53,10 +53,21 @@ fn path_sound(log: &[u32], at: usize, n: u32, sink: u32) -> bool
     log[to - 1] == sink
 }
 
-// The record at this place is whole and sound, after one of this iteration.
-fn record_sound(log: &[u32], at: usize, last: u32) -> bool
+// The net bears the mark 1.
+fn net_named(marks: &[u8], net: u32) -> bool
+    ensures { λ r. ⌜ r ≡ named (now (marks .entry)) net ⌝ }
+{
+    let place = net as usize;
+    if marks.len() <= place {
+        return false;
+    }
+    marks[place] == 1
+}
+
+// The record at this place is whole and sound, after one of this iteration, and its net is marked.
+fn record_sound(marks: &[u8], log: &[u32], at: usize, last: u32) -> bool
     requires { ⌜ at ≤ length (now log) ⌝ }
-    ensures { λ r. ⌜ r ≡ recordSound last (drop at (now (log .entry))) ⌝ }
+    ensures { λ r. ⌜ r ≡ recordSound (named (now (marks .entry))) last (drop at (now (log .entry))) ⌝ }
 {
     if log.len() - at < 6 {
         return false;
@@ -71,21 +82,21 @@ fn record_sound(log: &[u32], at: usize, last: u32) -> bool
     if iteration < last {
         return false;
     }
-    if bounds::NETS_MOST <= log[at + 1] {
+    if !net_named(marks, log[at + 1]) {
         return false;
     }
     path_sound(log, at, log[at + 5], log[at + 2])
 }
 
-// Goes from record to record.
-pub fn check_log(log: &[u32]) -> LogCheck
-    ensures { λ r. ⌜ checkedAt r ≡ logChecked (now (log .entry)) ⌝ }
+// Goes from record to record, each of which is of a marked net.
+pub fn check_log(marks: &[u8], log: &[u32]) -> LogCheck
+    ensures { λ r. ⌜ checkedAt r ≡ logChecked (named (now (marks .entry))) (now (log .entry)) ⌝ }
 {
     let mut at = 0;
     let mut iteration = 0;
     let mut turns = 0;
     while at < log.len() {
-        if !record_sound(log, at, iteration) {
+        if !record_sound(marks, log, at, iteration) {
             return LogCheck::Unsound(at);
         }
         iteration = log[at];

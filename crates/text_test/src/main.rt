@@ -52,6 +52,7 @@ fn written(bytes: usize) {
 fn write_answer(a: WriteAnswer) {
     match a {
         WriteAnswer::Written(bytes) => written(bytes),
+        WriteAnswer::BadTable(table) => refused(5, table as u64),
         WriteAnswer::Unsound(word) => refused(10, word as u64),
         WriteAnswer::ShortBuffer(needed) => refused(11, needed),
     }
@@ -125,22 +126,26 @@ fn read_case(case: &[u8], count: usize, n: [u32; 7]) {
     read::exactly(count, 7);
     let size = read::text(case, 2, &mut job);
     read_tables(&job[..size], n);
+    read::end(case, 3);
 }
 
 // Calls the writer and prints the answer and the routes buffer.
-fn write_line(log: &[u32], routes: &mut [u8]) {
-    write_answer(text::write_routes(log, routes));
+fn write_line(source: &[u16], log: &[u32], routes: &mut [u8]) {
+    write_answer(text::write_routes(source, log, routes));
     show::text(routes, routes.len());
 }
 
-// The writer on the log of line 2, with a routes buffer of 7s.
+// The writer on table 5 and the log of lines 2 and 3, with a routes buffer of 7s.
 fn write_case(case: &[u8], count: usize, n: [u32; 7]) {
+    let mut source = [0u16; 520];
     let mut log = [0u32; 4200];
     let mut routes = [7u8; 64];
     read::exactly(count, 1);
-    let words = read::words(case, 2, &mut log);
+    let nets = read::halves(case, 2, &mut source);
+    let words = read::words(case, 3, &mut log);
     let size = read::of_bytes(n[0], &routes);
-    write_line(&log[..words], &mut routes[..size]);
+    write_line(&source[..nets], &log[..words], &mut routes[..size]);
+    read::end(case, 4);
 }
 
 fn call(case: &[u8], count: usize, n: [u32; 7]) {
@@ -156,7 +161,6 @@ fn one(case: &[u8]) {
     show::name(case);
     let count = read::words(case, 1, &mut n);
     call(case, count, n);
-    read::end(case, 3);
     show::line_end();
 }
 

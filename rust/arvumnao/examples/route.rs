@@ -21,5 +21,6 @@ fn main() -> ExitCode {
 
 fn route(path: &str) -> Result<String, Box<dyn std::error::Error>> {
     let text = std::fs::read(path)?;
-    Ok(Job::read(&text)?.route()?.log.routes()?)
+    let job = Job::read(&text)?;
+    Ok(job.route()?.log.routes(&job.nets)?)
 }

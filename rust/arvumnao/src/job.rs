@@ -29,7 +29,7 @@ pub struct Block {
     pub edge_target: Vec<u16>,
 }
 
-/// The nets: each has a source and one or more sinks.
+/// The nets: each has a source and one or more sinks. Nets of one source are routed as one, under the first one's number.
 #[derive(Clone, Debug, PartialEq, Eq)]
 pub struct Nets {
     /// Table 5: each net's source node.
@@ -70,7 +70,7 @@ pub struct Terms {
 /// job.nets.add(0, &[3, 2]);
 ///
 /// let answer = job.route()?;
-/// assert_eq!(answer.log.routes()?, "R,1,2\nB,0,0,1\nB,0,1,3\nB,0,1,2\n");
+/// assert_eq!(answer.log.routes(&job.nets)?, "R,1,2\nB,0,0,1\nB,0,1,3\nB,0,1,2\n");
 /// # Ok::<(), arvumnao::Refusal>(())
 /// ```
 #[derive(Clone, Debug, Default, PartialEq, Eq)]
@@ -126,11 +126,38 @@ impl Nets {
         self.first_sink.push(self.sink.len() as u32);
     }
 
-    /// A net's sinks; none where tables 6 and 7 don't have them.
+    /// A net's sinks as listed; none where tables 6 and 7 don't have them.
     pub fn sinks(&self, net: usize) -> &[u16] {
         let place = |owner: usize| Some(*self.first_sink.get(owner)? as usize);
         let row = place(net).zip(place(net + 1));
         row.and_then(|(first, end)| self.sink.get(first..end)).unwrap_or(&[])
+    }
+
+    /// The sinks to which a net is routed: where it is the first of its source those of all nets of that source, in listed order,
+    /// each once; otherwise none.
+    ///
+    /// ```
+    /// let mut nets = arvumnao::Nets::default();
+    /// nets.add(0, &[7, 5]);
+    /// nets.add(1, &[6]);
+    /// nets.add(0, &[5, 8]);
+    /// assert_eq!(nets.joined_sinks(0), [7, 5, 8]);
+    /// assert_eq!(nets.joined_sinks(2), []);
+    /// ```
+    pub fn joined_sinks(&self, net: usize) -> Vec<u16> {
+        let mut list = Vec::new();
+        let source = self.source.get(net);
+        if self.source.iter().take(net).any(|other| Some(other) == source) {
+            return list;
+        }
+        for other in (net..self.source.len()).filter(|other| self.source.get(*other) == source) {
+            for sink in self.sinks(other) {
+                if !list.contains(sink) {
+                    list.push(*sink);
+                }
+            }
+        }
+        list
     }
 }
 
@@ -253,7 +280,7 @@ impl Job {
     /// The refusal of a sink without a path.
     fn unreachable(&self, net: u32, place: u32) -> Refusal {
         let source = self.nets.source.get(net as usize).copied().unwrap_or_default();
-        let sink = self.nets.sinks(net as usize).get(place as usize).copied().unwrap_or_default();
+        let sink = self.nets.joined_sinks(net as usize).get(place as usize).copied().unwrap_or_default();
         Refusal::Unreachable { net, place, source, sink }
     }
 }

@@ -8,7 +8,7 @@
 //! let text = "F,3,2,1,1\nN,0,0,1\nN,1,4,1\nN,2,1,1\nE,0,1\nE,1,2\nS,0,0\nT,0,2\n";
 //! let job = arvumnao::Job::read(text.as_bytes())?;
 //! let answer = job.route()?;
-//! assert_eq!(answer.log.routes()?, "R,1,1\nB,0,0,1\nB,0,1,2\n");
+//! assert_eq!(answer.log.routes(&job.nets)?, "R,1,1\nB,0,0,1\nB,0,1,2\n");
 //! for turn in &answer.log {
 //!     println!("{turn}"); // iteration 1, net 0: sink 2 joined at cost 4000 by 0 > 1 > 2
 //! }

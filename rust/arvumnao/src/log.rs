@@ -1,6 +1,7 @@
 //! The log of a run: a record for each turn.
 
-use crate::refusal::Refusal;
+use crate::job::Nets;
+use crate::refusal::{Refusal, TableFault};
 use crate::{out, raw};
 use std::fmt;
 
@@ -25,7 +26,7 @@ pub struct Log {
 pub struct Record<'l> {
     /// The iteration, from 1.
     pub iteration: u32,
-    /// The net.
+    /// The net: the first of its source, for the nets of one source are routed as one.
     pub net: u32,
     /// The sink that the turn joined.
     pub sink: u32,
@@ -47,9 +48,10 @@ impl Log {
         Log { words }
     }
 
-    /// A stored log. Refused by [`Refusal::Record`] unless it is one or more sound records.
-    pub fn from_words(words: &[u32]) -> Result<Log, Refusal> {
-        needed(words)?;
+    /// A stored log of a job with these nets. Refused by [`Refusal::Record`] unless it is one or more sound records, each of a net
+    /// that is the first of its source, and by [`Refusal::Table`] where the sources are none, over 512 or 4,096 and more.
+    pub fn from_words(words: &[u32], nets: &Nets) -> Result<Log, Refusal> {
+        needed(&nets.source, words)?;
         Ok(Log { words: words.to_vec() })
     }
 
@@ -63,12 +65,21 @@ impl Log {
         Records { rest: &self.words }
     }
 
-    /// The routes text. Refused by [`Refusal::Record`] where the log is empty.
+    /// The routes text, with a J line for each net that was joined into another. It takes the nets of the job that was routed, of
+    /// which it reads the sources. Refused as [`Log::from_words`] is, and by [`Refusal::Record`] where the log is empty.
     ///
     /// The routes of a run that was refused are worth nothing: its wires are overfull, or nets are missing.
-    pub fn routes(&self) -> Result<String, Refusal> {
-        let mut buffer = vec![0; needed(&self.words)?];
-        let told = out(|out| raw::write(&self.words, &mut buffer, out));
+    ///
+    /// ```
+    /// // two nets of source 0
+    /// let text = "F,3,2,2,1\nN,0,0,1\nN,1,1,1\nN,2,1,1\nE,0,1\nE,0,2\nS,0,0\nT,0,1\nS,1,0\nT,1,2\n";
+    /// let job = arvumnao::Job::read(text.as_bytes())?;
+    /// assert_eq!(job.route()?.log.routes(&job.nets)?, "R,1,2\nB,0,0,1\nB,0,0,2\nJ,1,0\n");
+    /// # Ok::<(), arvumnao::Refusal>(())
+    /// ```
+    pub fn routes(&self, nets: &Nets) -> Result<String, Refusal> {
+        let mut buffer = vec![0; needed(&nets.source, &self.words)?];
+        let told = out(|out| raw::write(&nets.source, &self.words, &mut buffer, out));
         match raw::refusal(&told) {
             [] => {}
             numbers => return Err(Refusal::unexpected(numbers)),
@@ -80,10 +91,11 @@ impl Log {
 }
 
 /// The bytes that the routes text of a log needs: asked with an empty buffer, which is always too short.
-fn needed(words: &[u32]) -> Result<usize, Refusal> {
-    let told = out(|out| raw::write(words, &mut [], out));
+fn needed(source: &[u16], words: &[u32]) -> Result<usize, Refusal> {
+    let told = out(|out| raw::write(source, words, &mut [], out));
     match *raw::refusal(&told) {
         [11, needed] => Ok(needed as usize),
+        [5, 5] => Err(Refusal::Table(TableFault::of_log(source))),
         [10, word] => Err(Refusal::Record { word }),
         ref numbers => Err(Refusal::unexpected(numbers)),
     }

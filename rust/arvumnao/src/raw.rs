@@ -103,8 +103,8 @@ call! {
 }
 
 call! {
-    /// Writes the routes text of a log. Own number: the bytes written.
-    fn write = arvumnao_write(log: &[u32], buffer: &mut [u8], out: &mut [u64],)
+    /// Writes the routes text of a log beside the job's table 5. Own number: the bytes written.
+    fn write = arvumnao_write(source: &[u16], log: &[u32], buffer: &mut [u8], out: &mut [u64],)
 }
 
 /// The refusal's numbers in `out`, as many as that refusal has; none where nothing was refused.

@@ -20,9 +20,9 @@ pub enum Refusal {
     Table(TableFault),
     /// 7: a sink has no path from its net's source.
     Unreachable {
-        /// The net.
+        /// The net: the first of its source.
         net: u32,
-        /// The sink's place among the net's sinks, from 0.
+        /// The sink's place, from 0, among the sinks of all nets of that source, each once.
         place: u32,
         /// The net's source node.
         source: u16,
@@ -120,6 +120,11 @@ impl TableFault {
     pub fn find(job: &Job, table: u32) -> TableFault {
         TableFault { table, reason: table::reason(job, table) }
     }
+
+    /// What is wrong with the sources that the routes writer refused. It knows no block: they need not be nodes of one.
+    pub fn of_log(source: &[u16]) -> TableFault {
+        TableFault { table: 5, reason: table::source_reason(source) }
+    }
 }
 
 impl fmt::Display for LineFault {
@@ -151,7 +156,7 @@ impl fmt::Display for Refusal {
             Refusal::Table(fault) => fault.fmt(f),
             Refusal::Unreachable { net, place, source, sink } => write!(
                 f,
-                "net {net}: no path leads from its source, node {source}, to sink {sink}, at place {place} of its sinks (from 0)"
+                "net {net}: no path leads from its source, node {source}, to sink {sink}, at place {place} of that source's sinks (from 0)"
             ),
             Refusal::LogFull { iteration, turns, .. } => write!(
                 f,

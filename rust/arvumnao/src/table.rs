@@ -41,6 +41,15 @@ pub(crate) fn reason(job: &Job, table: u32) -> Option<String> {
     }
 }
 
+/// The same of table 5 as the routes writer asks it to be.
+pub(crate) fn source_reason(source: &[u16]) -> Option<String> {
+    length(source.len(), 1, NETS).or_else(|| {
+        entry(source, |_, node| {
+            (usize::from(node) >= NODES).then(|| format!("node {node} is beyond 0 to {}", NODES - 1))
+        })
+    })
+}
+
 /// A table of another length than it may have.
 fn length(length: usize, least: usize, most: usize) -> Option<String> {
     if (least..=most).contains(&length) {

@@ -1,6 +1,6 @@
 //! Jobs that are accepted, and what a caller does with the answer.
 
-use arvumnao::{kind, raw, Job, Log, Terms};
+use arvumnao::{kind, raw, Job, Log, Nets, Terms};
 use std::thread;
 
 const JOB_B: &[u8] = include_bytes!("../../../examples/job_b.txt");
@@ -52,11 +52,33 @@ fn the_log_grows_as_the_job_needs() {
     assert_eq!(job.route_in(answer.log.words().len()).unwrap(), answer);
 }
 
+/// Three nets of one source and one of another: the first has all turns, and every other net of its source a J line.
+#[test]
+fn nets_of_one_source() {
+    let mut job = Job { terms: Terms { limit: 1, ..Terms::default() }, ..Job::default() };
+    job.block.add(kind::SOURCE, 1, &[2, 3]);
+    job.block.add(kind::OUTPUT_PIN, 1, &[4]);
+    for _ in 2..5 {
+        job.block.add(kind::SINK, 1, &[]);
+    }
+    job.nets.add(0, &[3]);
+    job.nets.add(1, &[4]);
+    job.nets.add(0, &[2, 3]);
+    job.nets.add(0, &[2]);
+    let answer = job.route().unwrap();
+    let turns: Vec<_> = answer.log.records().map(|turn| (turn.net, turn.sink)).collect();
+    assert_eq!(turns, [(0, 3), (0, 2), (1, 4)]);
+    let routes = answer.log.routes(&job.nets).unwrap();
+    assert_eq!(routes, "R,1,3\nB,0,0,3\nB,0,0,2\nB,1,1,4\nJ,2,0\nJ,3,0\n");
+}
+
 /// A cost of more than 32 bits is put together from its two words.
 #[test]
 fn costs_over_32_bits() {
     let words = [1, 0, 1, 7, 3, 2, 0, 1];
-    let log = Log::from_words(&words).unwrap();
+    let mut nets = Nets::default();
+    nets.add(0, &[1]);
+    let log = Log::from_words(&words, &nets).unwrap();
     assert_eq!(log.records().next().unwrap().cost, 3 << 32 | 7);
 }
 
@@ -89,7 +111,7 @@ fn a_job_by_hand() {
     let job = Job::read(include_bytes!("../../../examples/job_tuned.txt")).unwrap();
     let answer = job.route().unwrap();
     let routes = "R,3,15\nB,0,0,5\nB,0,5,6\nB,0,5,7\nB,1,1,4\nB,1,4,9\nB,2,2,3\nB,2,3,8\nB,2,3,7\n";
-    assert_eq!(answer.log.routes().unwrap(), routes);
+    assert_eq!(answer.log.routes(&job.nets).unwrap(), routes);
     let costs: Vec<u64> = answer.log.records().map(|turn| turn.cost).collect();
     assert_eq!(costs[..5], [3900, 2000, 102_000, 3900, 2000]);
     assert_eq!(costs[5..10], [9900, 2000, 102_000, 9900, 2000]);

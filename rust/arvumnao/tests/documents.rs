@@ -42,11 +42,12 @@ fn jobs(document: &str) -> usize {
     for (word, text) in blocks(document) {
         let expected = match (word, &answer) {
             ("job", _) => {
-                answer = Some(Job::read(text.as_bytes()).and_then(|job| job.route()));
+                let run = |job: Job| job.route().map(|answer| (job, answer));
+                answer = Some(Job::read(text.as_bytes()).and_then(run));
                 continue;
             }
-            ("log", Some(Ok(answer))) => shown(&answer.log),
-            ("routes", Some(Ok(answer))) => answer.log.routes().unwrap(),
+            ("log", Some(Ok((_, answer)))) => shown(&answer.log),
+            ("routes", Some(Ok((job, answer)))) => answer.log.routes(&job.nets).unwrap(),
             ("refused", Some(Err(refusal))) => x_line(refusal),
             ("sentence", Some(Err(refusal))) => format!("{refusal}\n"),
             ("log" | "routes" | "refused" | "sentence", _) => panic!("{text}\nis not the answer {answer:?}"),
@@ -64,7 +65,7 @@ fn document(path: &str) -> String {
 
 #[test]
 fn format() {
-    assert_eq!(jobs(&document("docs/FORMAT.md")), 6);
+    assert_eq!(jobs(&document("docs/FORMAT.md")), 8);
 }
 
 /// The jobs shown are the files named with them.

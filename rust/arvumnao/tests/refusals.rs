@@ -1,6 +1,6 @@
 //! Every refusal in its numbers and its sentence.
 
-use arvumnao::{kind, Block, Congestion, Job, Log, Refusal, Terms, Use};
+use arvumnao::{kind, Block, Congestion, Job, Log, Nets, Refusal, Terms, Use};
 
 const JOB_B: &str = include_str!("../../../examples/job_b.txt");
 
@@ -228,24 +228,52 @@ fn runs() {
     assert_eq!(refusal.numbers(), [7, 1, 0]);
     assert_eq!(
         refusal.to_string(),
-        "net 1: no path leads from its source, node 1, to sink 4, at place 0 of its sinks (from 0)"
+        "net 1: no path leads from its source, node 1, to sink 4, at place 0 of that source's sinks (from 0)"
+    );
+
+    // net 1 joins net 0: its sink is the second of them
+    job.nets.source[1] = 0;
+    job.nets.sink = vec![4, 5];
+    job.block.edge_target = vec![2, 3, 2, 4];
+    job.block.first_edge = vec![0, 2, 3, 4, 4, 4, 4];
+    let refusal = job.route().unwrap_err();
+    assert_eq!(refusal.numbers(), [7, 0, 1]);
+    assert_eq!(
+        refusal.to_string(),
+        "net 0: no path leads from its source, node 0, to sink 5, at place 1 of that source's sinks (from 0)"
     );
 }
 
 #[test]
 fn stored_logs() {
+    let mut nets = job_b().nets;
     let answer = job_b().route().unwrap();
     let mut words = answer.log.words().to_vec();
-    assert_eq!(Log::from_words(&words).unwrap(), answer.log);
+    assert_eq!(Log::from_words(&words, &nets).unwrap(), answer.log);
     words[9] = 0;
-    let refusal = Log::from_words(&words).unwrap_err();
+    let refusal = Log::from_words(&words, &nets).unwrap_err();
     assert_eq!(
         (refusal.numbers(), refusal.to_string()),
         (vec![10, 9], String::from("the log's record at word 9 is unsound"))
     );
-    assert_eq!(Log::from_words(&[]).unwrap_err().numbers(), [10, 0]);
-    assert_eq!(Log::default().routes().unwrap_err().numbers(), [10, 0]);
+    assert_eq!(Log::from_words(&[], &nets).unwrap_err().numbers(), [10, 0]);
+    assert_eq!(Log::default().routes(&nets).unwrap_err().numbers(), [10, 0]);
     assert_eq!(Log::default().records().count(), 0);
+
+    // net 1 joined into net 0, and left out
+    nets.source[1] = 0;
+    assert_eq!(answer.log.routes(&nets).unwrap_err().numbers(), [10, 9]);
+    nets.source.pop();
+    assert_eq!(answer.log.routes(&nets).unwrap_err().numbers(), [10, 9]);
+    let sources_refused = |source: &[u16], sentence: &str| {
+        let nets = Nets { source: source.to_vec(), ..Nets::default() };
+        let refusal = answer.log.routes(&nets).unwrap_err();
+        let expected = (vec![5, 5], format!("table 5 (source): {sentence}"));
+        assert_eq!((refusal.numbers(), refusal.to_string()), expected);
+    };
+    sources_refused(&[], "has 0 entries, and may have 1 to 512");
+    sources_refused(&[0; 513], "has 513 entries, and may have 1 to 512");
+    sources_refused(&[0, 4_096], "entry 1: node 4096 is beyond 0 to 4095");
 }
 
 #[test]

@@ -5,6 +5,7 @@
 mod answer;
 mod fault;
 mod job;
+mod joined;
 pub mod paths;
 pub mod prices;
 pub mod records;
@@ -14,8 +15,8 @@ mod turns;
 pub use fault::Fault;
 pub use job::{Job, Tuning};
 
-/// Checks the answer to a job with sound tables and enough work memory.
-/// `log` is the whole lent log, `words` the words used, `refusal` 01's
+/// Checks the answer to a job with sound tables and enough work memory, whose
+/// nets of one source are joined here. `log` is the whole lent log, `words` the words used, `refusal` 01's
 /// numbers, empty when accepted.
 pub fn check(
     job: &Job,
@@ -25,6 +26,8 @@ pub fn check(
     turns: u64,
     words: u64,
 ) -> Result<(), Fault> {
+    let joined = joined::Joined::new(job);
+    let job = &joined.job(job);
     let records = records::read(log, words)?;
     let logged = records.len() as u64;
     if turns != logged {

@@ -16,17 +16,6 @@ fn refusals_of_01_pass() {
 }
 
 #[test]
-fn shared_source_never_settles() {
-    let nets: [(u16, &[u16]); 2] = [(0, &[1]), (0, &[2])];
-    let job = tables(&[0, 1, 1], &[(0, 1), (0, 2)], &nets, 2);
-    let log: Vec<u32> =
-        (1..=2).flat_map(|t| [t, 0, 1, 2000, 0, 2, 0, 1, t, 1, 2, 2000, 0, 2, 0, 2]).collect();
-    assert_eq!(job.check(&log, &[9, 2, 1], 2, 4), Ok(()));
-    let overfull = Fault::Overfull { node: 0, load: 2, capacity: 1 };
-    assert_eq!(job.check(&log, &[], 2, 4), Err(overfull));
-}
-
-#[test]
 fn accepted_with_overfull_node() {
     let fault = Fault::Overfull { node: 2, load: 2, capacity: 1 };
     assert_eq!(b(1).check(&B_LOG[..18], &[], 1, 2), Err(fault));

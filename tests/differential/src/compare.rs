@@ -18,7 +18,7 @@ pub enum Case {
     Search { graph: Job, factor: u32, work: Vec<u64>, history: Vec<u32>, others: Vec<u16>, in_tree: Vec<u8> },
     Route { job: Job, work: Vec<u64>, log: Vec<u32> },
     Read { text: Vec<u8>, tables: Job },
-    Write { log: Vec<u32>, buffer: Vec<u8> },
+    Write { source: Vec<u16>, log: Vec<u32>, buffer: Vec<u8> },
 }
 
 /// How many own numbers a call has.
@@ -127,7 +127,7 @@ macro_rules! call {
                 lend(&mut tables.sink),
                 $($out)?
             ),
-            Case::Write { log, buffer } => $side::write(log, lend(buffer) $(, $out)?),
+            Case::Write { source, log, buffer } => $side::write(source, log, lend(buffer) $(, $out)?),
         }
     };
 }
@@ -236,7 +236,9 @@ fn slices(case: &Case) -> Vec<(&'static str, Vec<u64>)> {
             list.extend(job_slices(tables));
             list
         }
-        Case::Write { log, buffer } => vec![("log", wide(log)), ("buffer", wide(buffer))],
+        Case::Write { source, log, buffer } => {
+            vec![("source", wide(source)), ("log", wide(log)), ("buffer", wide(buffer))]
+        }
     }
 }
 
@@ -281,7 +283,11 @@ fn memory(before: &Case, after: &After) -> Result<(), String> {
             cleared(work, work_after, nodes, 8 * nodes)
         }
         (Case::Read { text, .. }, Case::Read { text: text_after, .. }) if refusal == 0 => text == text_after,
-        (Case::Write { log, .. }, Case::Write { log: log_after, .. }) if refusal == 0 => log == log_after,
+        (Case::Write { source, log, .. }, Case::Write { source: source_after, log: log_after, .. })
+            if refusal == 0 =>
+        {
+            source == source_after && log == log_after
+        }
         (_, case) => before == case,
     };
     if kept {
@@ -353,6 +359,7 @@ pub fn compare_out(case: &Case, _length: usize) -> Result<(), String> {
 #[cfg(not(feature = "library"))]
 pub mod inject {
     use super::{Answer, Case};
+    use crate::logs;
     use job::Job;
     use std::sync::atomic::{AtomicU32, Ordering};
 
@@ -394,7 +401,7 @@ pub mod inject {
             (7, Case::Price { factor, .. }, _) if answer.refusal.is_empty() && *factor == 65_535 => {
                 answer.numbers[0] += 1;
             }
-            (fault, ..) => tuning_or_pins(fault, before, &mut answer),
+            (fault, ..) => of_requests(fault, before, &mut answer),
         }
         answer
     }
@@ -403,8 +410,12 @@ pub mod inject {
         job.source.iter().any(|pin| job.kind.get(*pin as usize) == Some(&1))
     }
 
-    /// Faults of the tuning and the pins.
-    fn tuning_or_pins(fault: u32, before: &Case, answer: &mut Answer) {
+    fn repeats_sink(job: &Job) -> bool {
+        (0..job.source.len()).any(|net| logs::repeats_sink(job, net))
+    }
+
+    /// Faults of the tuning, the pins and joined nets.
+    fn of_requests(fault: u32, before: &Case, answer: &mut Answer) {
         match (fault, before) {
             // a step of 2 counts a turn too many
             (8, Case::Route { job, .. }) if job.tuning.step == 2 && answer.numbers[0] >= 2 => {
@@ -417,6 +428,14 @@ pub mod inject {
             // a source of kind 1 goes unseen
             (10, Case::Route { job, .. }) if answer.refusal == [5, 5] && has_source_of_kind_1(job) => {
                 answer.refusal = vec![5, 6]
+            }
+            // of joined nets a sink that is listed twice counts twice among the places of 7
+            (11, Case::Route { job, .. }) if answer.refusal.first() == Some(&7) && repeats_sink(job) => {
+                answer.refusal[2] += 1
+            }
+            // the J lines are left out where there is room for them
+            (12, Case::Write { source, .. }) if answer.refusal.is_empty() && logs::has_joined(source) => {
+                answer.numbers[0] -= 6
             }
             _ => {}
         }

@@ -207,6 +207,24 @@ fn sources(rng: &mut Rng, job: &mut Job) {
     }
 }
 
+/// Table 5 as the writer refuses it, or with a net more or fewer, or with two nets of one source.
+pub fn writer_source(rng: &mut Rng, source: &mut Vec<u16>) {
+    match rng.below(8) {
+        0 => source.clear(),
+        1 => source.resize(rng.pick(&[512, 513, 514, 65_536]), 4_095),
+        2 => length(rng, source, 0),
+        3 => {
+            let copied = source.first().copied().unwrap_or(0);
+            put(rng, source, copied);
+        }
+        4 => put(rng, source, 4_095),
+        _ => {
+            let node = rng.pick(&[4_096, 4_097, 32_768, u16::MAX]);
+            put(rng, source, node);
+        }
+    }
+}
+
 /// No nets, the other tables fitting or not.
 fn no_nets(rng: &mut Rng, job: &mut Job) {
     job.source.clear();

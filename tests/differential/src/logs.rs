@@ -1,6 +1,27 @@
-//! Logs for the writer: a job's own ones changed, and others.
+//! Logs for the writer, with table 5: a job's own ones changed, and others.
 
-use job::Rng;
+use job::{Job, Rng};
+
+/// The first net of a net's source.
+pub fn first_of(source: &[u16], net: usize) -> usize {
+    source.iter().position(|one| *one == source[net]).unwrap_or(net)
+}
+
+/// The nets that are joined into another.
+pub fn joined(source: &[u16]) -> Vec<usize> {
+    (0..source.len()).filter(|net| first_of(source, *net) != *net).collect()
+}
+
+/// Whether two nets have one source.
+pub fn has_joined(source: &[u16]) -> bool {
+    !joined(source).is_empty()
+}
+
+/// Whether an earlier net of the net's source has a sink of it.
+pub fn repeats_sink(job: &Job, net: usize) -> bool {
+    let mut earlier = (0..net).filter(|other| job.source[*other] == job.source[net]);
+    earlier.any(|other| job.sinks(other).iter().any(|sink| job.sinks(net).contains(sink)))
+}
 
 /// Where the whole records of a log begin, and the end of the last.
 pub fn records(log: &[u32]) -> Vec<usize> {
@@ -13,9 +34,9 @@ pub fn records(log: &[u32]) -> Vec<usize> {
     places
 }
 
-/// Changes a log: cut, one word damaged, records moved; or leaves it.
-pub fn change_log(rng: &mut Rng, log: &mut Vec<u32>) {
-    match rng.below(10) {
+/// Changes a log: cut, one word damaged, records moved, another net named; or leaves it.
+pub fn change_log(rng: &mut Rng, source: &[u16], log: &mut Vec<u32>) {
+    match rng.below(11) {
         0..=2 => {}
         3 => log.truncate(rng.below(log.len() + 1)),
         4 => {
@@ -23,6 +44,7 @@ pub fn change_log(rng: &mut Rng, log: &mut Vec<u32>) {
             log.extend((0..length).map(|_| rng.below(3) as u32));
         }
         5 => move_record(rng, log),
+        6 => name_no_first(rng, source, log),
         _ => damage_log(rng, log),
     }
 }
@@ -59,6 +81,21 @@ fn damage_log(rng: &mut Rng, log: &mut [u32]) {
     };
 }
 
+/// Makes a record one of a net that is joined into another, or of one beyond table 5.
+fn name_no_first(rng: &mut Rng, source: &[u16], log: &mut [u32]) {
+    let places = records(log);
+    if places.len() < 2 {
+        return;
+    }
+    let joined = joined(source);
+    let net = if joined.is_empty() || rng.once_in(3) {
+        source.len() + rng.pick(&[0, 0, 1, 5])
+    } else {
+        rng.pick(&joined)
+    };
+    log[rng.pick(&places[..places.len() - 1]) + 1] = net as u32;
+}
+
 /// Puts a record elsewhere or a second time.
 fn move_record(rng: &mut Rng, log: &mut Vec<u32>) {
     let places = records(log);
@@ -69,6 +106,19 @@ fn move_record(rng: &mut Rng, log: &mut Vec<u32>) {
     let words: Vec<u32> = log[places[record]..places[record + 1]].to_vec();
     let to = rng.pick(&places);
     log.splice(to..to, words);
+}
+
+/// Table 5 for such records as `free_log` makes: mostly long enough for all of them, at times with nets of one source.
+pub fn free_source(rng: &mut Rng) -> Vec<u16> {
+    let nets = rng.pick(&[512, 512, 512, 512, 511, 101, 10, 1]);
+    let first = rng.pick(&[0, 1, 1_000, 4_096 - nets]);
+    let mut source: Vec<u16> = (first..first + nets).map(|node| node as u16).collect();
+    if rng.percent(60) {
+        for _ in 0..rng.pick(&[1, 2, 8, 60]) {
+            source[rng.below(nets)] = rng.pick(&source);
+        }
+    }
+    source
 }
 
 /// Records that no job needs to have, sound by the writer's rules but for a path of 4,097 now and then.

@@ -5,7 +5,7 @@ use crate::logs;
 use job::{texts, Counts, Job, Tuning};
 
 /// Every outcome that a whole run must come to.
-const EXPECTED: [&str; 82] = [
+const EXPECTED: [&str; 99] = [
     "price accepted",
     "price 13,0",
     "price 13,1",
@@ -44,8 +44,25 @@ const EXPECTED: [&str; 82] = [
     "read 4,6",
     "read 4,7",
     "write accepted",
+    "write 5,5",
     "write 10",
     "write 11",
+    "table 5 of the writer empty",
+    "table 5 of the writer over 512",
+    "table 5 of the writer with 4,096 or more",
+    "table 5 of the writer unsound beside a log that is",
+    "J lines written",
+    "J line written without a record of the first",
+    "record of a joined net 10",
+    "record beyond table 5 10",
+    "joined nets accepted",
+    "joined nets 7",
+    "joined nets 7 at a place beyond the first one's own sinks",
+    "joined nets 8",
+    "joined nets 9",
+    "joined nets of three and more accepted",
+    "joined nets with a sink repeated accepted",
+    "joined nets with a sink repeated 7",
     "sound job accepted, iteration 6 to 20",
     "route at iteration 21 or later",
     "route with costs over 32 bits",
@@ -121,6 +138,7 @@ impl Outcomes {
             Case::Route { job, log, .. } => {
                 self.count_route(after, log);
                 self.count_pins(after, job);
+                self.count_joined(after, job);
                 "route"
             }
             Case::Read { text, .. } => {
@@ -130,7 +148,10 @@ impl Outcomes {
                 }
                 "read"
             }
-            Case::Write { .. } => "write",
+            Case::Write { source, log, .. } => {
+                self.count_write(after, source, log);
+                "write"
+            }
         };
         let outcome = match after.answer.refusal[..] {
             [] => format!("{call} accepted"),
@@ -149,6 +170,67 @@ impl Outcomes {
         }
         if after.answer.refusal == [13, nodes as u64] {
             self.count("search 13 with the node count");
+        }
+    }
+
+    /// Counts how a sound job with nets of one source ends.
+    fn count_joined(&mut self, after: &After, job: &Job) {
+        let refusal = &after.answer.refusal;
+        if matches!(refusal.first(), Some(5 | 6)) || !logs::has_joined(&job.source) {
+            return;
+        }
+        let end = refusal.first().map_or(String::from("accepted"), u64::to_string);
+        self.count(format!("joined nets {end}"));
+        let same = |net: usize| job.source.iter().filter(move |other| **other == job.source[net]).count();
+        if (0..job.source.len()).any(|net| same(net) > 2) {
+            self.count(format!("joined nets of three and more {end}"));
+        }
+        if (0..job.source.len()).any(|net| logs::repeats_sink(job, net)) {
+            self.count(format!("joined nets with a sink repeated {end}"));
+        }
+        if let [7, net, place] = refusal[..] {
+            if place as usize >= job.sinks(net as usize).len() {
+                self.count("joined nets 7 at a place beyond the first one's own sinks");
+            }
+        }
+    }
+
+    /// Counts what table 5 and the nets of a log come to in the writer.
+    fn count_write(&mut self, after: &After, source: &[u16], log: &[u32]) {
+        let records = logs::records(log);
+        let net = |place: &usize| log.get(place + 1).map_or(usize::MAX, |net| *net as usize);
+        match after.answer.refusal[..] {
+            [] if logs::has_joined(source) => {
+                self.count("J lines written");
+                let nets: Vec<usize> = records[..records.len() - 1].iter().map(net).collect();
+                let mut firsts = logs::joined(source).into_iter().map(|net| logs::first_of(source, net));
+                if firsts.any(|first| !nets.contains(&first)) {
+                    self.count("J line written without a record of the first");
+                }
+            }
+            [5, _] => self.count_source(source, log),
+            [10, word] if records[..records.len() - 1].contains(&(word as usize)) => {
+                let net = net(&(word as usize));
+                if net >= source.len() {
+                    self.count("record beyond table 5 10");
+                } else if logs::first_of(source, net) != net {
+                    self.count("record of a joined net 10");
+                }
+            }
+            _ => {}
+        }
+    }
+
+    /// Counts why the writer refuses table 5.
+    fn count_source(&mut self, source: &[u16], log: &[u32]) {
+        let why = match source.len() {
+            0 => "empty",
+            1..=512 => "with 4,096 or more",
+            _ => "over 512",
+        };
+        self.count(format!("table 5 of the writer {why}"));
+        if log.is_empty() || log[0] == 0 || log[0] > 100 {
+            self.count("table 5 of the writer unsound beside a log that is");
         }
     }
 

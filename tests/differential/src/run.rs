@@ -236,12 +236,19 @@ impl Run {
 
     /// Logs of a job and others, with buffers of lengths around what they need.
     fn writes(&mut self, job: &Job) -> Result<(), Failure> {
-        let mut log = if self.rng.percent(60) { real_log(job) } else { logs::free_log(&mut self.rng) };
-        logs::change_log(&mut self.rng, &mut log);
-        let needed = bytes(&log);
+        let (mut source, mut log) = if self.rng.percent(60) {
+            (job.source.clone(), real_log(job))
+        } else {
+            (logs::free_source(&mut self.rng), logs::free_log(&mut self.rng))
+        };
+        logs::change_log(&mut self.rng, &source, &mut log);
+        if self.rng.once_in(6) {
+            damage::writer_source(&mut self.rng, &mut source);
+        }
+        let needed = bytes(&source, &log);
         if needed < 200 && self.rng.once_in(100) {
             for length in 0..needed + 2 {
-                self.case(Case::Write { log: log.clone(), buffer: vec![0xb7; length] })?;
+                self.case(write(&source, &log, length))?;
             }
         }
         for _ in 0..2 {
@@ -250,7 +257,7 @@ impl Run {
                 1 => needed + self.rng.below(40),
                 _ => around(&mut self.rng, needed, 2),
             };
-            self.case(Case::Write { log: log.clone(), buffer: vec![0xb7; length] })?;
+            self.case(write(&source, &log, length))?;
         }
         Ok(())
     }
@@ -259,6 +266,11 @@ impl Run {
 /// A call of the router.
 fn route(job: &Job, length: usize, log: Vec<u32>) -> Case {
     Case::Route { job: job.clone(), work: work(length), log }
+}
+
+/// A call of the writer, with a buffer of this length.
+fn write(source: &[u16], log: &[u32], length: usize) -> Case {
+    Case::Write { source: source.to_vec(), log: log.to_vec(), buffer: vec![0xb7; length] }
 }
 
 /// A job's log as the plain router writes it, a few iterations of it at most.
@@ -272,9 +284,9 @@ fn real_log(job: &Job) -> Vec<u32> {
     log
 }
 
-/// The bytes that a log's text needs by the plain writer, 1 for an unsound log.
-fn bytes(log: &[u32]) -> usize {
-    let after = compare::plain(&Case::Write { log: log.to_vec(), buffer: Vec::new() });
+/// The bytes that a log's text needs by the plain writer, 1 for an unsound log or table 5.
+fn bytes(source: &[u16], log: &[u32]) -> usize {
+    let after = compare::plain(&write(source, log, 0));
     match after.answer.refusal[..] {
         [11, needed] => needed as usize,
         _ => 1,

@@ -118,7 +118,8 @@ fn only_written(case: &Case, number: usize) -> bool {
         Case::Price { .. } => false,
         Case::Search { .. } => number == 4,
         Case::Route { .. } => number >= 7,
-        Case::Read { .. } | Case::Write { .. } => number >= 1,
+        Case::Read { .. } => number >= 1,
+        Case::Write { .. } => number >= 2,
     }
 }
 
@@ -359,7 +360,8 @@ macro_rules! with_slice {
             (Case::Read { tables: Job { source: $slice, .. }, .. }, 5) => $body,
             (Case::Read { tables: Job { first_sink: $slice, .. }, .. }, 6) => $body,
             (Case::Read { tables: Job { sink: $slice, .. }, .. }, _) => $body,
-            (Case::Write { log: $slice, .. }, 0) => $body,
+            (Case::Write { source: $slice, .. }, 0) => $body,
+            (Case::Write { log: $slice, .. }, 1) => $body,
             (Case::Write { buffer: $slice, .. }, _) => $body,
             (Case::Price { .. }, _) => unreachable!("the price is lent no slice"),
         }
@@ -372,7 +374,7 @@ fn slice_count(case: &Case) -> usize {
         Case::Search { .. } => 8,
         Case::Route { .. } => 9,
         Case::Read { .. } => 8,
-        Case::Write { .. } => 2,
+        Case::Write { .. } => 3,
     }
 }
 
@@ -487,7 +489,7 @@ pub fn literal(case: &Case) -> String {
             ("mut first_sink", "u32"),
             ("mut sink", "u16"),
         ],
-        Case::Write { .. } => &[("log", "u32"), ("mut buffer", "u8")],
+        Case::Write { .. } => &[("source", "u16"), ("log", "u32"), ("mut buffer", "u8")],
     };
     let mut text = String::new();
     for (number, (name, kind)) in names.iter().enumerate() {
@@ -528,7 +530,7 @@ fn call(case: &Case) -> String {
         Case::Read { .. } => String::from(
             "read(&text, &mut kind, &mut capacity, &mut first_edge, &mut edge_target, &mut source, &mut first_sink, &mut sink)",
         ),
-        Case::Write { .. } => String::from("write(&log, &mut buffer)"),
+        Case::Write { .. } => String::from("write(&source, &log, &mut buffer)"),
     }
 }
 
@@ -578,6 +580,10 @@ mod tests {
         assert!(text.starts_with(b"F,1,0,1,1\nP,") && text.len() <= 20, "{}", text.escape_ascii());
         let Case::Route { job, .. } = smallest(10) else { panic!("fault 10") };
         assert!(job.kind == [1] && job.source == [0] && job.sink.is_empty());
+        let Case::Route { job, .. } = smallest(11) else { panic!("fault 11") };
+        assert!(job.source.len() == 2 && job.source[0] == job.source[1] && job.edge_target.is_empty());
+        let Case::Write { source, log, .. } = smallest(12) else { panic!("fault 12") };
+        assert!(source.len() == 2 && source[0] == source[1] && log.len() == 8);
         FAULT.store(0, Ordering::Relaxed);
         assert!(first_failure().is_none());
     }

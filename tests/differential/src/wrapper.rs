@@ -12,6 +12,7 @@ pub fn check(before: &Case, after: &After) -> Result<(), String> {
         (Case::Search { graph: job, .. } | Case::Route { job, .. }, &[5, table]) => {
             TableFault::find(&typed(job), table as u32).reason
         }
+        (Case::Write { source, .. }, &[5, _]) => TableFault::of_log(source).reason,
         _ => Some(String::new()),
     };
     if reason.is_none() {
@@ -46,8 +47,9 @@ fn same(before: &Case, after: &Case, refusal: &[u64], numbers: &[u64]) -> Option
             }
             Err(other) => other.numbers() == refusal,
         },
-        (Case::Write { log, .. }, Case::Write { buffer, .. }) => {
-            let routes = Log::from_words(log).and_then(|log| log.routes());
+        (Case::Write { source, log, .. }, Case::Write { buffer, .. }) => {
+            let nets = Nets { source: source.clone(), ..Nets::default() };
+            let routes = Log::from_words(log, &nets).and_then(|log| log.routes(&nets));
             let bytes = buffer.iter().take(numbers[0] as usize).copied().map(u64::from);
             told(routes.map(|text| text.bytes().map(u64::from).collect())) == accepted(bytes.collect())
         }

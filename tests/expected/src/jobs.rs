@@ -32,9 +32,10 @@ pub fn read(case: &mut Case) -> Result<(), Fault> {
 
 pub fn write(case: &mut Case) -> Result<(), Fault> {
     let [bytes] = case.numbers("write")?;
+    let source: Vec<u16> = case.list("source")?;
     let log: Vec<u32> = case.list("log")?;
     let mut routes: Vec<u8> = lent(bytes);
-    let got = plain::write(&log, &mut routes);
+    let got = plain::write(&source, &log, &mut routes);
     line(case, &[answer(&got), text(&routes)]);
     Ok(())
 }
@@ -83,7 +84,7 @@ impl Lent {
         if !routed.refusal.is_empty() {
             return routed;
         }
-        plain::write(&self.log[..routed.numbers[2] as usize], &mut self.routes)
+        plain::write(&job.source, &self.log[..routed.numbers[2] as usize], &mut self.routes)
     }
 
     /// The program's answer to this input: how many bytes of the routes buffer it prints.

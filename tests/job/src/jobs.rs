@@ -67,15 +67,56 @@ pub fn job(rng: &mut Rng) -> Job {
 /// A sound job of few nodes.
 pub fn small(rng: &mut Rng) -> Job {
     let mut plan = untuned_small(rng);
-    plan.tuning = tuning(rng);
+    finish(rng, &mut plan);
     plan.job()
 }
 
 /// A sound job's lists.
 pub fn plan(rng: &mut Rng) -> Plan {
     let mut plan = untuned(rng);
-    plan.tuning = tuning(rng);
+    finish(rng, &mut plan);
     plan
+}
+
+/// What jobs of every family may have: a tuning, and nets broken into several of one source.
+fn finish(rng: &mut Rng, plan: &mut Plan) {
+    plan.tuning = tuning(rng);
+    if rng.percent(35) {
+        split(rng, plan);
+    }
+}
+
+/// Breaks nets into up to five of one source each, as synthesizers do; some sinks stand in more than one of them.
+fn split(rng: &mut Rng, plan: &mut Plan) {
+    const PARTS: usize = 5;
+    if plan.nets.len() * PARTS > 512 {
+        return;
+    }
+    let mut nets = Vec::new();
+    for (source, sinks) in std::mem::take(&mut plan.nets) {
+        let count = rng.pick(&[1, 1, 2, 3, PARTS]);
+        nets.extend(parts(rng, &sinks, count).into_iter().map(|list| (source, list)));
+    }
+    if rng.percent(60) {
+        rng.shuffle(&mut nets);
+    }
+    plan.nets = nets;
+}
+
+/// So many lists of sinks: each sink is in one of them, at times in two, and none is empty.
+fn parts(rng: &mut Rng, sinks: &[u16], count: usize) -> Vec<Vec<u16>> {
+    let mut parts = vec![Vec::new(); count];
+    for sink in sinks {
+        let (one, other) = (rng.below(count), rng.below(count));
+        parts[one].push(*sink);
+        if other != one && rng.percent(50) {
+            parts[other].push(*sink);
+        }
+    }
+    for part in parts.iter_mut().filter(|part| part.is_empty()) {
+        part.push(rng.pick(sinks));
+    }
+    parts
 }
 
 /// The plain tuning or any other, its bounds more often than what is between them.
@@ -151,20 +192,44 @@ fn large(rng: &mut Rng) -> Plan {
     plan
 }
 
-/// Few nodes, hundreds of nets.
+/// Hundreds of nets: of few nodes, so that most are joined, or each of its own source over the same wires.
 fn crowd(rng: &mut Rng) -> Plan {
-    let nodes = rng.within(3, 10);
-    let mut plan = edges(rng, nodes);
-    kinds(rng, &mut plan);
+    let count = rng.pick(&[100, 254, 255, 256, 257, 300]);
+    let mut plan = if rng.percent(50) { few_sources(rng, count) } else { hubs(rng, count) };
     for capacity in &mut plan.capacity {
         *capacity = rng.pick(&[1, 100, 254, 255]);
     }
-    let count = rng.pick(&[100, 254, 255, 256, 257, 300]);
-    add_nets(rng, &mut plan, count);
     for net in &mut plan.nets {
         net.1.truncate(2);
     }
     plan.limit = rng.within(1, 2) as u32;
+    plan
+}
+
+/// So many nets on a few nodes.
+fn few_sources(rng: &mut Rng, count: usize) -> Plan {
+    let nodes = rng.within(3, 10);
+    let mut plan = edges(rng, nodes);
+    kinds(rng, &mut plan);
+    add_nets(rng, &mut plan, count);
+    plan
+}
+
+/// So many sources, each with edges to all of a few wires, and these to all of a few sinks.
+fn hubs(rng: &mut Rng, count: usize) -> Plan {
+    let (wires, sinks) = (rng.within(1, 3), rng.within(1, 3));
+    let mut plan = Plan::empty(count + wires + sinks);
+    for wire in count..count + wires {
+        (0..count).for_each(|source| plan.join(source, wire));
+        (0..sinks).for_each(|sink| plan.join(wire, count + wires + sink));
+    }
+    let list: Vec<u16> = (0..sinks).map(|sink| (count + wires + sink) as u16).collect();
+    for source in 0..count {
+        let mut list = list.clone();
+        rng.shuffle(&mut list);
+        plan.nets.push((source as u16, list));
+    }
+    pin_kinds(rng, &mut plan);
     plan
 }
 
@@ -288,7 +353,7 @@ pub fn endless(rng: &mut Rng) -> Job {
     let wires = rng.within(2, 4);
     let mut plan = wired(rng, nets, wires);
     plan.limit = rng.within(60, 100) as u32;
-    plan.tuning = tuning(rng);
+    finish(rng, &mut plan);
     plan.job()
 }
 
@@ -574,4 +639,48 @@ pub fn line(nodes: usize) -> Job {
     plan.nets.push((0, vec![nodes as u16 - 1]));
     (plan.kind[0], plan.kind[nodes - 1]) = (2, 3);
     plan.job()
+}
+
+#[cfg(test)]
+mod tests {
+    use super::*;
+
+    /// Parts have together exactly the net's sinks, none empty, none with a sink twice.
+    #[test]
+    fn parts_have_all_sinks() {
+        let mut rng = Rng::new(3);
+        for count in 1..6 {
+            let sinks: Vec<u16> = (5..5 + count as u16).collect();
+            for part_count in 1..6 {
+                let parts = parts(&mut rng, &sinks, part_count);
+                assert!(parts.len() == part_count && parts.iter().all(|part| !part.is_empty()));
+                let mut all = parts.concat();
+                all.sort_unstable();
+                all.dedup();
+                assert_eq!(all, sinks);
+                assert!(parts
+                    .iter()
+                    .all(|part| (1..part.len()).all(|place| !part[..place].contains(&part[place]))));
+            }
+        }
+    }
+
+    /// Nets of one source, of three and more, and of one with a repeated sink come often enough to be met.
+    #[test]
+    fn sources_are_shared() {
+        let mut rng = Rng::new(1);
+        let (mut shared, mut by_three, mut repeated) = (0, 0, 0);
+        for _ in 0..500 {
+            let nets = &plan(&mut rng).nets;
+            let same = |net: usize| nets.iter().filter(move |other| other.0 == nets[net].0);
+            let most = (0..nets.len()).map(|net| same(net).count()).max().unwrap_or(0);
+            let twice = |net: usize| {
+                nets[net].1.iter().any(|sink| same(net).filter(|other| other.1.contains(sink)).count() > 1)
+            };
+            shared += usize::from(most > 1);
+            by_three += usize::from(most > 2);
+            repeated += usize::from((0..nets.len()).any(twice));
+        }
+        assert!(shared > 150 && by_three > 100 && repeated > 100, "{shared} {by_three} {repeated}");
+    }
 }

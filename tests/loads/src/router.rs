@@ -49,7 +49,7 @@ pub fn answer(text: &[u8]) -> String {
         return refusal(&routed.refusal);
     }
     let mut routes = vec![0; 65_536];
-    let written = plain::write(&log[..routed.numbers[2] as usize], &mut routes);
+    let written = plain::write(&t.source, &log[..routed.numbers[2] as usize], &mut routes);
     if !written.refusal.is_empty() {
         return refusal(&written.refusal);
     }

@@ -1,5 +1,6 @@
 //! A plain and slow router, written from 01-scope.md and 02-change-requests.md alone, to compare others with.
 
+mod join;
 mod price;
 mod reader;
 mod route;

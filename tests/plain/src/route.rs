@@ -1,5 +1,6 @@
 //! The negotiation as a machine, with its log.
 
+use crate::join::joined;
 use crate::price::Tuning;
 use crate::search::{distances, path, prices, NO_PATH};
 use crate::tables::{Graph, Nets, MAX_LIMIT};
@@ -104,11 +105,24 @@ fn reached_from(graph: &Graph, from: usize) -> BTreeSet<usize> {
     reached
 }
 
+/// What is routed: each net's source, and its sinks after the nets of one source are joined. Those joined into another have none.
+struct Joined<'a> {
+    source: &'a [u16],
+    sinks: Vec<Vec<u16>>,
+}
+
+impl Joined<'_> {
+    /// The nets that are routed, in order.
+    fn routed(&self) -> impl Iterator<Item = usize> + '_ {
+        (0..self.sinks.len()).filter(|&net| !self.sinks[net].is_empty())
+    }
+}
+
 /// The first net and the first sink place in it without a path from the source.
-fn unreachable(graph: &Graph, nets: &Nets) -> Option<(usize, usize)> {
-    for net in 0..nets.count() {
+fn unreachable(graph: &Graph, nets: &Joined) -> Option<(usize, usize)> {
+    for net in nets.routed() {
         let reached = reached_from(graph, nets.source[net] as usize);
-        let missing = nets.sinks(net).iter().position(|&s| !reached.contains(&(s as usize)));
+        let missing = nets.sinks[net].iter().position(|&s| !reached.contains(&(s as usize)));
         if let Some(place) = missing {
             return Some((net, place));
         }
@@ -123,12 +137,12 @@ fn nearest(sinks: &[u16], distance: &[u64], tree: &BTreeSet<usize>) -> Option<us
 }
 
 /// One turn: joins the nearest sink; false if none was left.
-fn turn(graph: &Graph, nets: &Nets, net: usize, state: &mut State, log: &mut Log) -> Result<bool, Full> {
+fn turn(graph: &Graph, nets: &Joined, net: usize, state: &mut State, log: &mut Log) -> Result<bool, Full> {
     let others = state.users(Some(net));
     let prices = prices(graph, state.factor, &state.histories, &others);
     let tree = &mut state.trees[net];
     let distance = distances(graph, &prices, tree);
-    let Some(sink) = nearest(nets.sinks(net), &distance, tree) else {
+    let Some(sink) = nearest(&nets.sinks[net], &distance, tree) else {
         return Ok(false);
     };
     let path = path(graph, &prices, &distance, tree, sink);
@@ -137,9 +151,9 @@ fn turn(graph: &Graph, nets: &Nets, net: usize, state: &mut State, log: &mut Log
     Ok(true)
 }
 
-/// One iteration: each net in order drops its tree and makes its turns.
-fn iterate(graph: &Graph, nets: &Nets, state: &mut State, log: &mut Log) -> Result<(), Full> {
-    for net in 0..nets.count() {
+/// One iteration: each net that is routed, in order, drops its tree and makes its turns.
+fn iterate(graph: &Graph, nets: &Joined, state: &mut State, log: &mut Log) -> Result<(), Full> {
+    for net in nets.routed() {
         state.trees[net] = BTreeSet::from([nets.source[net] as usize]);
         while turn(graph, nets, net, state, log)? {}
     }
@@ -147,7 +161,7 @@ fn iterate(graph: &Graph, nets: &Nets, state: &mut State, log: &mut Log) -> Resu
 }
 
 /// Iterations until one of the three ends.
-fn negotiate(graph: &Graph, nets: &Nets, limit: u32, state: &mut State, log: &mut Log) -> End {
+fn negotiate(graph: &Graph, nets: &Joined, limit: u32, state: &mut State, log: &mut Log) -> End {
     loop {
         if iterate(graph, nets, state, log).is_err() {
             return End::LogFull;
@@ -208,10 +222,11 @@ pub fn route(
         return Answer::refused(&[6, 8 * nodes as u64], 3);
     }
     work[..8 * nodes].fill(0);
+    let nets = Joined { source, sinks: joined(&nets) };
     if let Some((net, place)) = unreachable(&graph, &nets) {
         return Answer::refused(&[7, net as u64, place as u64], 3);
     }
-    let mut state = State::new(nodes, nets.count(), tuning);
+    let mut state = State::new(nodes, source.len(), tuning);
     let mut log = Log { space: log, words: 0, turns: 0 };
     let end = negotiate(&graph, &nets, limit, &mut state, &mut log);
     answer(end, state.iteration as u64, &log)

@@ -1,5 +1,6 @@
 //! The log into routes text.
 
+use crate::join::first_of;
 use crate::tables::{MAX_LIMIT, MAX_NETS, MAX_NODES};
 use crate::Answer;
 
@@ -10,13 +11,23 @@ struct Record<'a> {
     path: &'a [u32],
 }
 
+/// The writer's own rule for table 5: 1 to 512 entries, each below 4,096.
+fn source_is_sound(source: &[u16]) -> bool {
+    (1..=MAX_NETS).contains(&source.len()) && source.iter().all(|&s| (s as usize) < MAX_NODES)
+}
+
+/// A record's net is one of table 5 and the first of its source.
+fn net_is_sound(source: &[u16], net: usize) -> bool {
+    net < source.len() && first_of(source, net) == net
+}
+
 /// The record at the front of these words, if it is whole and sound by itself.
-fn record(words: &[u32]) -> Option<Record<'_>> {
+fn record<'a>(source: &[u16], words: &'a [u32]) -> Option<Record<'a>> {
     if words.len() < 6 {
         return None;
     }
     let (iteration, net, sink, length) = (words[0], words[1], words[2], words[5] as usize);
-    if !(1..=MAX_LIMIT).contains(&iteration) || net as usize >= MAX_NETS {
+    if !(1..=MAX_LIMIT).contains(&iteration) || !net_is_sound(source, net as usize) {
         return None;
     }
     if !(2..=MAX_NODES).contains(&length) || words.len() < 6 + length {
@@ -28,12 +39,12 @@ fn record(words: &[u32]) -> Option<Record<'_>> {
 }
 
 /// All records, or the first word of the first unsound one.
-fn records(log: &[u32]) -> Result<Vec<Record<'_>>, u64> {
+fn records<'a>(source: &[u16], log: &'a [u32]) -> Result<Vec<Record<'a>>, u64> {
     let mut found: Vec<Record> = Vec::new();
     let mut place = 0;
     while place < log.len() || found.is_empty() {
         let last = found.last().map_or(0, |r| r.iteration);
-        match record(&log[place..]) {
+        match record(source, &log[place..]) {
             Some(next) if next.iteration >= last => {
                 place += 6 + next.path.len();
                 found.push(next);
@@ -44,8 +55,8 @@ fn records(log: &[u32]) -> Result<Vec<Record<'_>>, u64> {
     Ok(found)
 }
 
-/// The whole routes text of one or more records.
-fn routes_text(records: &[Record]) -> String {
+/// The whole routes text of one or more records: last the nets that were joined into another.
+fn routes_text(source: &[u16], records: &[Record]) -> String {
     let last = records.last().map_or(0, |r| r.iteration);
     let mut text = format!("R,{},{}\n", last, records.len());
     for record in records.iter().filter(|r| r.iteration == last) {
@@ -53,16 +64,25 @@ fn routes_text(records: &[Record]) -> String {
             text += &format!("B,{},{},{}\n", record.net, step[0], step[1]);
         }
     }
+    for net in 0..source.len() {
+        let first = first_of(source, net);
+        if first != net {
+            text += &format!("J,{net},{first}\n");
+        }
+    }
     text
 }
 
-/// The writer: tests 10, 11, then writes.
-pub fn write(log: &[u32], buffer: &mut [u8]) -> Answer {
-    let records = match records(log) {
+/// The writer: tests 5 (table 5 alone), 10, 11, then writes.
+pub fn write(source: &[u16], log: &[u32], buffer: &mut [u8]) -> Answer {
+    if !source_is_sound(source) {
+        return Answer::refused(&[5, 5], 1);
+    }
+    let records = match records(source, log) {
         Ok(records) => records,
         Err(word) => return Answer::refused(&[10, word], 1),
     };
-    let text = routes_text(&records);
+    let text = routes_text(source, &records);
     if buffer.len() < text.len() {
         return Answer::refused(&[11, text.len() as u64], 1);
     }

@@ -223,13 +223,9 @@ fn search_alone() {
 #[test]
 fn unsound_logs() {
     let good = [7, 511, 9, 1, 2, 2, 4095, 9];
-    let refused = |log: &[u32]| {
-        let mut buffer = [9; 99];
-        let refusal = write(log, &mut buffer).refusal;
-        assert_eq!(buffer, [9; 99]);
-        refusal
-    };
-    assert_eq!(written(&good), "R,7,1\nB,511,4095,9\n");
+    let source: Vec<u16> = (0..512).collect();
+    let refused = |log: &[u32]| unwritten(&source, log);
+    assert_eq!(written(&source, &good), "R,7,1\nB,511,4095,9\n");
     assert_eq!(refused(&[]), [10, 0]);
     let bad = [(0, 0), (0, 101), (1, 512), (2, 8), (5, 1), (5, 3), (5, u32::MAX), (6, 4096), (7, 8)];
     for (place, word) in bad {
@@ -239,7 +235,7 @@ fn unsound_logs() {
     }
     let mut two = [good, good].concat();
     two[8] = 8;
-    assert_eq!(written(&two), "R,8,2\nB,511,4095,9\n");
+    assert_eq!(written(&source, &two), "R,8,2\nB,511,4095,9\n");
     two[8] = 6;
     assert_eq!(refused(&two), [10, 8]);
     for length in 9..16 {
@@ -277,7 +273,7 @@ fn nothing_panics() {
         if let Some(word) = log.get_mut(place) {
             *word = value;
         }
-        write(&log, &mut vec![0; next(80) as usize]);
+        write(&t.source, &log, &mut vec![0; next(80) as usize]);
         let mut damaged = bytes.clone();
         for _ in 0..=next(3) {
             damaged[next(bytes.len() as u64) as usize] = b"0123456789,\nFPNEST\r\xff"[next(20) as usize];

@@ -43,7 +43,7 @@ fn job_b() {
         assert_eq!(log[..36], B_LOG);
         assert!(log[36..].iter().all(|&w| w == MARK));
     }
-    assert_eq!(written(&B_LOG), text("R,2,4 B,0,0,3 B,0,3,4 B,1,1,2 B,1,2,5"));
+    assert_eq!(written(&t.source, &B_LOG), text("R,2,4 B,0,0,3 B,0,3,4 B,1,1,2 B,1,2,5"));
 }
 
 #[test]
@@ -107,12 +107,16 @@ fn prices() {
     assert_eq!(price(53, 65535, 511, 1, 101179), answer(&[], &[101179 * 1000 * (100 + 65535 * 511)]));
 }
 
+/// Before 2.3 these two nets never settled.
 #[test]
-fn two_nets_from_one_source_never_settle() {
+fn two_nets_from_one_source() {
     for limit in [1, 2, 7, 100] {
         let lines = format!("F,3,2,2,{limit} N,0,0,1 N,1,1,1 N,2,1,1 E,0,1 E,0,2 S,0,0 T,0,1 S,1,0 T,1,2");
-        let (got, _) = routed(&tables(&text(&lines)), 1600);
-        assert_eq!(got, answer(&[9, limit, 1], &[limit, 2 * limit, 16 * limit]));
+        let t = tables(&text(&lines));
+        let (got, log) = routed(&t, 16);
+        assert_eq!(got, answer(&[], &[1, 2, 16]));
+        assert_eq!(log, [1, 0, 1, 2000, 0, 2, 0, 1, 1, 0, 2, 2000, 0, 2, 0, 2]);
+        assert_eq!(written(&t.source, &log), text("R,1,2 B,0,0,1 B,0,0,2 J,1,0"));
     }
 }
 

@@ -155,19 +155,25 @@ fn factor_and_step_show_in_the_log() {
 
 #[test]
 fn the_largest_history() {
-    // 512 nets from one source of capacity 1: after 99 iterations its history is 1 + 99 x 2 x 511; it is never priced.
-    // Their common wire has the same users, and its price shows the history.
-    let mut t = Job::bare(vec![0, 4, 1], vec![1, 1, 255], 100);
+    // 512 nets share a wire of capacity 1: after 99 iterations its history is 1 + 99 x 2 x 511. Their sink has room for 255.
+    let wire = 512;
+    let mut kind = vec![0; wire];
+    kind.extend([4, 1]);
+    let mut capacity = vec![1; wire];
+    capacity.extend([1, 255]);
+    let mut t = Job::bare(kind, capacity, 100);
     t.tuning = job::Tuning { first: 0, up: 1, down: 1, step: 2 };
-    for row in [&[1][..], &[2], &[]] {
-        t.add_row(row);
+    for _ in 0..wire {
+        t.add_row(&[wire as u16]);
     }
-    for _ in 0..512 {
-        t.add_net(0, &[2]);
+    t.add_row(&[wire as u16 + 1]);
+    t.add_row(&[]);
+    for source in 0..wire as u16 {
+        t.add_net(source, &[wire as u16 + 1]);
     }
     let (answer, log) = routed(&t, 100 * 512 * 9);
-    assert_eq!(answer.refusal, [9, 100, 3]);
+    assert_eq!(answer.refusal, [9, 100, 2]);
     let last = &log[log.len() - 9..];
     let cost = 101_179 * 2_000 + (1 + 99 * 2 * 257) * 2_000;
-    assert_eq!(last, [100, 511, 2, cost, 0, 3, 0, 1, 2]);
+    assert_eq!(last, [100, 511, 513, cost, 0, 3, 511, 512, 513]);
 }

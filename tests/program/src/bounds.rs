@@ -31,6 +31,11 @@ fn tables() -> Vec<Bound> {
         bound("8,192 edges", texts::text(&by_last_edge(EDGES)), "R,1,1\nB,0,90,1\n"),
         bound("8,193 edges", texts::text(&by_last_edge(EDGES + 1)), "X,4,4\n"),
         bound("512 nets", texts::text(&nets(NETS, NETS)), "R,1,512\n"),
+        bound(
+            "512 nets of one source",
+            texts::text(&of_one_source(nets(NETS, SINKS))),
+            "R,1,10\nB,0,0,512\n",
+        ),
         bound("513 nets", texts::text(&nets(NETS + 1, NETS + 1)), "X,2,1\n"),
         bound("4,096 sinks", texts::text(&last_unreached(nets(NETS, SINKS))), "X,7,511,7\n"),
         bound("4,097 sinks", texts::text(&nets(NETS, SINKS + 1)), "X,3,5679\n"),
@@ -114,6 +119,12 @@ fn nets(nets: usize, sinks: usize) -> Job {
 /// The hub of a net.
 fn hub(net: usize) -> usize {
     HUBS + net % (REACHED - HUBS)
+}
+
+/// Every net begins at the first one's source, so that all are joined.
+fn of_one_source(mut job: Job) -> Job {
+    job.source.fill(0);
+    job
 }
 
 /// The last sink becomes one that no edge leads to.

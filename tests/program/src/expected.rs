@@ -32,7 +32,7 @@ fn routes(input: &[u8]) -> Result<Vec<u8>, Vec<u64>> {
     let job = read(input)?;
     let log = route(&job)?;
     let mut buffer = vec![0; BYTES];
-    let bytes = numbers(plain::write(&log, &mut buffer))?[0];
+    let bytes = numbers(plain::write(&job.source, &log, &mut buffer))?[0];
     buffer.truncate(bytes as usize);
     Ok(buffer)
 }
@@ -105,5 +105,7 @@ mod tests {
         prints(&JOB_B.replace("F,6,6,2,2", "F,6,6,2,101"), "X,2,1\n");
         prints(&JOB_B.replace("T,1,5", "T,1,1"), "X,3,17\n");
         prints("", "X,1,1\n");
+        // Net 1 becomes one of net 0's source.
+        prints(&JOB_B.replace("S,1,1", "S,1,0"), "R,1,2\nB,0,0,2\nB,0,2,4\nB,0,2,5\nJ,1,0\n");
     }
 }

@@ -5,11 +5,12 @@ use job::Counts;
 
 /// Every outcome that a whole run must come to. 5, 6 and 10 can't come: the reader's tables are sound, the work slice is enough for
 /// all that the tables hold, and the router's logs are sound. Of 4 there are tables 1 and 4 alone, since no text has too many nets or sinks.
-const EXPECTED: [&str; 19] = [
+const EXPECTED: [&str; 20] = [
     "accepted in iteration 1",
     "accepted in iteration 2",
     "accepted in iteration 3 or later",
     "accepted in iteration 3 or later, with a P line",
+    "accepted, with a J line",
     "X,1",
     "X,2",
     "X,3",
@@ -49,6 +50,9 @@ impl Outcomes {
             && text.windows(2).any(|two| two == b"\nP")
         {
             self.0.count(format!("{answer}, with a P line"));
+        }
+        if printed.windows(2).any(|two| two == b"\nJ") {
+            self.0.count("accepted, with a J line");
         }
         self.0.count(answer);
     }

@@ -11,10 +11,12 @@
 //! routed before anything is logged, so that refusal 7 needs no search of its own.
 
 mod graph;
+mod nets;
 mod prices;
 mod search;
 
 use graph::Graph;
+use nets::Nets;
 use prices::{Prices, Tuning};
 use search::{Heap, Key, Search, SHORT_KEY};
 
@@ -56,25 +58,12 @@ pub fn route(
 ) -> Outcome {
     let [first, up, down, step] = [first, up, down, step].map(u64::from);
     let prices = Prices::new(kind, capacity, Tuning { first, up, down, step });
-    let nets = Nets { source, first_sink, sink };
+    let nets = Nets::joined(kind.len(), source, first_sink, sink);
     let graph = Graph::new(first_edge, edge_target);
     match way {
         Way::Heap => Router::<false, false>::new(prices, graph, nets).run(limit, log),
         Way::Pruned => Router::<true, false>::new(prices, graph, nets).run(limit, log),
         Way::Carried => Router::<true, true>::new(prices, graph, nets).run(limit, log),
-    }
-}
-
-/// Tables 5 to 7.
-struct Nets<'a> {
-    source: &'a [u16],
-    first_sink: &'a [u32],
-    sink: &'a [u16],
-}
-
-impl<'a> Nets<'a> {
-    fn sinks(&self, net: usize) -> &'a [u16] {
-        &self.sink[self.first_sink[net] as usize..self.first_sink[net + 1] as usize]
     }
 }
 
@@ -127,10 +116,13 @@ impl<'a, const PRUNE: bool, const CARRY: bool> Router<'a, PRUNE, CARRY> {
         }
     }
 
-    /// Routes every net once. False when the log is full.
+    /// Routes every net that has sinks once. False when the log is full.
     fn iterate<K: Key>(&mut self, iteration: u32, log: &mut Log) -> Result<bool, NoPath> {
         let mut heap = Heap::<K>::new();
         for net in 0..self.nets.source.len() {
+            if self.nets.sinks(net).is_empty() {
+                continue;
+            }
             self.route_net(iteration, net, &mut heap)?;
             if iteration > 1 && !log.take(&mut self.made) {
                 return Ok(false);

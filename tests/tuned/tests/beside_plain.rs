@@ -283,19 +283,34 @@ fn job_b() {
 /// 512 nets share a chain until distances pass 2^52, where heap keys get longer.
 #[test]
 fn long_keys() {
-    let (chain, ends) = (80, 20);
-    let nodes = chain + ends;
-    let mut kind: Vec<u8> = (0..nodes).map(|v| if v < chain { 15 } else { 1 + 2 * (v % 2) as u8 }).collect();
-    kind[0] = 0;
+    let (chain, ends, nets) = (80, 20, 512);
+    let sources = chain + ends;
+    let mut kind = vec![15; chain];
+    kind.extend((0..ends).map(|end| 1 + 2 * (end % 2) as u8));
+    kind.resize(sources + nets, 0);
     let mut rows: Vec<Vec<u16>> = (1..chain as u16).map(|v| vec![v]).collect();
-    // The last chain node leads to every end.
-    rows.push((chain as u16..nodes as u16).collect());
-    rows.resize(nodes, Vec::new());
-    let nets: Vec<_> = (0..512).map(|net| (0, [(chain + net % ends) as u16])).collect();
-    let job = Job::new(kind, vec![1; nodes], &rows, &nets, 40);
+    // The last chain node leads to every end, each source to the first.
+    rows.push((chain as u16..sources as u16).collect());
+    rows.resize(sources, Vec::new());
+    rows.resize(sources + nets, vec![0]);
+    let list: Vec<_> = (0..nets).map(|net| ((sources + net) as u16, [(chain + net % ends) as u16])).collect();
+    let job = Job::new(kind, vec![1; sources + nets], &rows, &list, 40);
     let outcome = compare(&job, 2_000_000, 0);
     assert_eq!(outcome.refusal[0], 9);
     let (_, log) = run_tuned(Way::Heap, &job, outcome.words as usize);
-    let record = 6 + chain + 1;
+    let record = 6 + chain + 2;
     assert!(log.len() % record == 0 && log[log.len() - record + 4] >= 1 << 20);
+}
+
+/// Nets of one source, a sink repeated across them, and one without a path at a place of the joined net.
+#[test]
+fn joined_nets() {
+    let rows = [vec![2, 3], vec![2, 3], vec![4, 5, 6], vec![4, 5, 6], vec![], vec![], vec![], vec![]];
+    let kind = vec![0, 2, 4, 5, 1, 3, 1, 1];
+    let nets: [(u16, &[u16]); 4] = [(0, &[5, 4]), (1, &[6]), (0, &[4, 6]), (0, &[5])];
+    let job = Job::new(kind.clone(), vec![1; 8], &rows, &nets, 9);
+    assert_eq!(compare(&job, 500, 0).refusal.first(), Some(&9));
+    let cut: [(u16, &[u16]); 3] = [(0, &[5, 4]), (1, &[7]), (0, &[4, 7])];
+    let job = Job::new(kind, vec![1; 8], &rows, &cut, 9);
+    assert_eq!(compare(&job, 500, 0).refusal, [7, 0, 2]);
 }

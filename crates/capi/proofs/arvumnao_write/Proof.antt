@@ -6,7 +6,7 @@ use Rattle.capi.proofs.arvumnao_write.Statement.{statement}
 use Rattle.capi.proofs.arvumnao_write.Tie as tie
 
 returns : tie.Need-returns
-returns c = write-short _ _ _ (c .if1 .taken)
+returns c = write-short _ _ _ _ (c .if1 .taken)
 
 write-routes-requires : tie.Need-write-routes-requires
 write-routes-requires c κs = search needs
@@ -23,7 +23,7 @@ same-length-2 c = search needs
 returns-2 : tie.Need-returns-2
 returns-2 c =
     let asked = c .before .before .before .before .before .before in
-    write-called _ _ _ _ _ (asked .write-routes .result) (asked .before .before .if1 .left) (asked .write-routes .ensures) (c .before .before .put-written .ensures)
+    write-called _ _ _ _ _ _ (asked .write-routes .result) (asked .before .before .if1 .left) (asked .write-routes .ensures) (c .before .before .put-written .ensures)
 
 pub arvumnao-write-spec : {M : Type 1} → statement M
 arvumnao-write-spec =

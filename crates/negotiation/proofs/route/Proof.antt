@@ -1,32 +1,55 @@
--- `negotiation::route` meets its contract: each refusal by its law, the run by the negotiation's contract, and demand 3 of the answer by its theorem.
+-- `negotiation::route` meets its contract: refusals 5 and 6 by their laws, the rest by that of the joined nets, and demand 3 of the answer by its theorem.
 -- Assumes nothing.
 use mathlib.Core.List.{[]}
-use mathlib.Core.Path.{sym}
-use native.Mathlib.Nat.{le-of-eq, le-trans}
+use mathlib.Core.Path.{_≡_, sym, subst}
+use Prim.Native.Nat.{ℕ, _+_, _≤_}
 use native.Mathlib.Omega.{arith}
+use lib.ListN.{length, take}
+use lib.Seq.{length-take-le}
 use Rattle.search.proofs.BlockLaws.{kinds-few}
 use Rattle.negotiation.specs.Job.{Job, jobOf}
-use Rattle.negotiation.specs.Tables.{SoundJob}
+use Rattle.negotiation.specs.Join.{joined}
+use Rattle.negotiation.specs.JoinSteps.{JoinedTables}
 use Rattle.negotiation.specs.Routable.{Routable}
-use Rattle.negotiation.proofs.JobLaws.{routable-of}
-use Rattle.negotiation.proofs.RouteLaws.{table-refused, tables-sound, work-refused, unreachable-refused, none-missing, run-answered}
+use Rattle.negotiation.specs.Tables.{SoundJob}
+use Rattle.negotiation.proofs.JoinedHolds.{joinable-of, joined-routable}
+use Rattle.negotiation.proofs.JoiningLaws.{joined-job}
+use Rattle.negotiation.proofs.RouteLaws.{table-refused, tables-sound, work-refused, joined-answered}
 use borrow.Author.Needs.{needs}
 use Rattle.negotiation.proofs.route.Statement.{statement}
 use Rattle.negotiation.proofs.route.Tie as tie
 
--- the job that is lent
-abbrev job : tie.Else1 → Job
-job c =
-    let lent = c .before .before .before .before .before .before .before .before .before .before .before .args in
-    jobOf (lent .kind .now) (lent .capacity .now) (lent .first-edge .now) (lent .edge-target .now)
-    (lent .source .now) (lent .first-sink .now) (lent .sink .now) (lent .terms)
-
 -- no table is faulty
-sound : (c : tie.Else1) → SoundJob (job c)
-sound c = tables-sound _ [] [] _ (c .before .faulty-job .ensures) (c .if1 .left)
+module _ (c : tie.Else1) where
+  abbrev lent : tie.Start
+  lent = c .before .before .before .before .before .before .before .before .before .before .before
 
-routable : (c : tie.Else1) → Routable (job c)
-routable c = routable-of (job c) (sound c)
+  -- the job that is lent
+  abbrev job : Job
+  job =
+      jobOf (lent .args .kind .now) (lent .args .capacity .now) (lent .args .first-edge .now) (lent .args .edge-target .now)
+      (lent .args .source .now) (lent .args .first-sink .now) (lent .args .sink .now) (lent .args .terms)
+
+  sound : SoundJob job
+  sound = tables-sound job [] [] _ (c .before .faulty-job .ensures) (c .if1 .left)
+
+  few-nets : length (lent .args .source .now) ≤ 512
+  few-nets = joined-routable job sound .nets-few
+
+-- the nets are joined
+module _ (c : tie.After-joined-tables) where
+  abbrev tested : tie.Else1
+  tested = c .before .before .before .before
+
+  -- the job of the joined tables
+  abbrev made : Job
+  made =
+      jobOf (lent tested .args .kind .now) (lent tested .args .capacity .now) (lent tested .args .first-edge .now) (lent tested .args .edge-target .now)
+      (lent tested .args .source .now) (take (length (lent tested .args .source .now) + 1) (c .joined-tables .last .1 .1 .1 .0))
+      (take (c .joined-tables .result) (c .joined-tables .last .1 .1 .1 .1 .0)) (lent tested .args .terms)
+
+  made-is : made ≡ joined (job tested)
+  made-is = joined-job (c .joined-tables .ensures) _ _
 
 faulty-job-requires : tie.Need-faulty-job-requires
 faulty-job-requires c κs = search needs
@@ -46,61 +69,49 @@ refused-requires-2 c κs = search needs
 returns-2 : tie.Need-returns-2
 returns-2 c = work-refused _ _ _ _ (c .before .before .before .faulty-job .ensures) (c .before .before .if1 .left) _ (c .before .if2 .taken) (c .refused2 .ensures)
 
-unreachable-requires : tie.Need-unreachable-requires
-unreachable-requires c κs = (record { capacities = _; terms = _; routable = routable (c .before .before) }, c .before .if2 .left)
+add-ends : tie.Need-add-ends
+add-ends c = search needs
 
-enum-known-net : tie.Need-enum-known-net
-enum-known-net c = search needs
+slice-aggregate-joined-tables : tie.Need-slice-aggregate-joined-tables
+slice-aggregate-joined-tables c = search needs
 
-clear-requires : tie.Need-clear-requires
-clear-requires c κs = search needs
+slice-aggregate-joined-tables-2 : tie.Need-slice-aggregate-joined-tables-2
+slice-aggregate-joined-tables-2 c = search needs
 
-refused-requires-3 : tie.Need-refused-requires-3
-refused-requires-3 c κs = search needs
+joined-tables-requires : tie.Need-joined-tables-requires
+joined-tables-requires c κs =
+    let tables = joinable-of (job (c .before .before .before)) (sound (c .before .before .before)) in
+    let few = few-nets (c .before .before .before) in
+    (tables, (omega arith, tables .sinks-few))
 
-enum-told : tie.Need-enum-told
-enum-told c = search needs
+array-share-prefix-firsts : tie.Need-array-share-prefix-firsts
+array-share-prefix-firsts c = search needs
 
-negotiate-requires : tie.Need-negotiate-requires
-negotiate-requires c κs =
-    let told = c .before .before in
-    let reached = told .before .before .before .before in
-    let long-enough = reached .before .before in
-    let tested = long-enough .before in (
-      routable tested,
-      none-missing (job tested) _ (reached .unreachable .ensures .0 _ _ (routable tested)) (told .enum-told .given .1),
-      le-trans (long-enough .if2 .left) (le-of-eq (sym (reached .unreachable .ensures .1 .long))),
-    )
+slice-aggregate-route-joined : tie.Need-slice-aggregate-route-joined
+slice-aggregate-route-joined c = sym (length-take-le _ _ (c .before .before .before .joined-tables .ensures .ends-within))
+
+array-share-prefix-sinks : tie.Need-array-share-prefix-sinks
+array-share-prefix-sinks c = search needs
+
+slice-aggregate-route-joined-2 : tie.Need-slice-aggregate-route-joined-2
+slice-aggregate-route-joined-2 c = sym (length-take-le _ _ (c .before .before .before .before .joined-tables .ensures .within))
+
+route-joined-requires : tie.Need-route-joined-requires
+route-joined-requires c κs =
+    let at = c .before .before .before .before .before .before in
+    (subst Routable (sym (made-is at)) (joined-routable (job (tested at)) (sound (tested at))), c .before .before .before .before .before .before .before .before .before .if2 .left)
 
 same-length : tie.Need-same-length
 same-length c = search needs
 
-returns-3 : tie.Need-returns-3
-returns-3 c =
-    let found = c .before .before .before .before .before .before in
-    let reached = found .before .before .before .before in
-    let long-enough = reached .before .before in
-    let tested = long-enough .before in
-    unreachable-refused (job tested) _ _ _ (tested .before .faulty-job .ensures) (tested .if1 .left) (long-enough .if2 .left) _
-    (reached .unreachable .ensures .1) _ (reached .unreachable .ensures .0 _ _ (routable tested))
-    _ _ _ _ (found .net .given .1) (c .refused3 .ensures) (c .before .before .before .clear .ensures)
-
 same-length-2 : tie.Need-same-length-2
 same-length-2 c = search needs
 
-same-length-3 : tie.Need-same-length-3
-same-length-3 c = search needs
-
-returns-4 : tie.Need-returns-4
-returns-4 c =
-    let ran = c .before .before .before .before in
-    let told = ran .before .before .before in
-    let reached = told .before .before .before .before in
-    let long-enough = reached .before .before in
-    let tested = long-enough .before in
-    run-answered (job tested) _ _ _ (tested .before .faulty-job .ensures) (tested .if1 .left) (long-enough .if2 .left) _
-    (reached .unreachable .ensures .1) _ (reached .unreachable .ensures .0 _ _ (routable tested))
-    (ran .negotiate .result) (ran .negotiate .last .1 .1 .1 .1 .1 .1 .1 .1 .0) (ran .negotiate .last .1 .1 .1 .1 .1 .1 .1 .1 .1 .0) (told .enum-told .given .1) (ran .negotiate .ensures)
+returns-3 : tie.Need-returns-3
+returns-3 c =
+    let at = c .before .before .before .before .before .before .before .before .before .before .before in
+    joined-answered (job (tested at)) _ _ _ (tested at .before .faulty-job .ensures) (tested at .if1 .left) (c .before .before .before .before .before .before .before .before .before .before .before .before .before .before .if2 .left) (made at) (made-is at) _
+    (c .before .before .before .before .route-joined .ensures)
 
 pub route-spec : {M : Type 1} → statement M
 route-spec =
@@ -112,14 +123,15 @@ route-spec =
     mul-needed
     refused-requires-2
     returns-2
-    unreachable-requires
-    enum-known-net
-    clear-requires
-    refused-requires-3
-    enum-told
-    negotiate-requires
+    add-ends
+    slice-aggregate-joined-tables
+    slice-aggregate-joined-tables-2
+    joined-tables-requires
+    array-share-prefix-firsts
+    slice-aggregate-route-joined
+    array-share-prefix-sinks
+    slice-aggregate-route-joined-2
+    route-joined-requires
     same-length
-    returns-3
     same-length-2
-    same-length-3
-    returns-4)
+    returns-3)

@@ -72,17 +72,25 @@ pub fn routed(t: &Job, words: usize) -> (Answer, Vec<u32>) {
     (answer, log)
 }
 
-/// What the writer makes of a log, in a buffer with one byte more than needed.
-pub fn written(log: &[u32]) -> String {
-    let needed = write(log, &mut []).refusal;
+/// What the writer makes of table 5 and a log, in a buffer with one byte more than needed.
+pub fn written(source: &[u16], log: &[u32]) -> String {
+    let needed = write(source, log, &mut []).refusal;
     assert_eq!(needed[0], 11);
     let bytes = needed[1] as usize;
     let mut short = vec![7; bytes - 1];
-    assert_eq!(write(log, &mut short).refusal, needed);
+    assert_eq!(write(source, log, &mut short).refusal, needed);
     assert!(short.iter().all(|&b| b == 7));
     let mut buffer = vec![7; bytes + 1];
-    let answer = write(log, &mut buffer);
+    let answer = write(source, log, &mut buffer);
     assert_eq!(answer, Answer { refusal: vec![], numbers: vec![bytes as u64] });
     assert_eq!(buffer[bytes], 7);
     String::from_utf8(buffer[..bytes].to_vec()).unwrap()
+}
+
+/// The writer's refusal, which leaves the buffer untouched.
+pub fn unwritten(source: &[u16], log: &[u32]) -> Vec<u64> {
+    let mut buffer = [9; 99];
+    let answer = write(source, log, &mut buffer);
+    assert_eq!((answer.numbers, buffer), (vec![0], [9; 99]));
+    answer.refusal
 }

@@ -13,6 +13,9 @@ put-numbers-requires c κs = search needs
 enum-known-answer-2 : tie.Need-enum-known-answer-2
 enum-known-answer-2 c = search needs
 
+cast-put-numbers : tie.Need-cast-put-numbers
+cast-put-numbers c = search needs
+
 put-numbers-requires-2 : tie.Need-put-numbers-requires-2
 put-numbers-requires-2 c κs = search needs
 
@@ -21,6 +24,12 @@ enum-known-answer-3 c = search needs
 
 put-numbers-requires-3 : tie.Need-put-numbers-requires-3
 put-numbers-requires-3 c κs = search needs
+
+enum-known-answer-4 : tie.Need-enum-known-answer-4
+enum-known-answer-4 c = search needs
+
+put-numbers-requires-4 : tie.Need-put-numbers-requires-4
+put-numbers-requires-4 c κs = search needs
 
 same-length : tie.Need-same-length
 same-length c = search needs
@@ -40,6 +49,12 @@ same-length-3 c = search needs
 returns-3 : tie.Need-returns-3
 returns-3 c = rw (c .before .before .before .before .before .answer3 .given .1) (c .before .before .put-numbers3 .ensures)
 
+same-length-4 : tie.Need-same-length-4
+same-length-4 c = search needs
+
+returns-4 : tie.Need-returns-4
+returns-4 c = rw (c .before .before .before .before .before .answer4 .given .1) (c .before .before .put-numbers4 .ensures)
+
 pub put-written-spec : {M : Type 1} → statement M
 put-written-spec =
     tie.close
@@ -47,12 +62,17 @@ put-written-spec =
     enum-known-answer
     put-numbers-requires
     enum-known-answer-2
+    cast-put-numbers
     put-numbers-requires-2
     enum-known-answer-3
     put-numbers-requires-3
+    enum-known-answer-4
+    put-numbers-requires-4
     same-length
     returns
     same-length-2
     returns-2
     same-length-3
-    returns-3)
+    returns-3
+    same-length-4
+    returns-4)

@@ -1,0 +1,98 @@
+-- `join::take_net` meets its contract: the places that net k lists are taken where its source is the net's.
+-- Assumes nothing.
+use Prim.Native.Nat.{_+_}
+use native.Mathlib.Nat.{le-trans}
+use native.Mathlib.Omega.{arith}
+use borrow.Author.Needs.{needs}
+use Rattle.negotiation.proofs.JoiningLaws.{held-other, held-listed}
+use Rattle.negotiation.proofs.join.take_net.Statement.{statement}
+use Rattle.negotiation.proofs.join.take_net.Tie as tie
+
+mul-if1 : tie.Need-mul-if1
+mul-if1 c = search needs
+
+shared-slice-read-if1 : tie.Need-shared-slice-read-if1
+shared-slice-read-if1 c = search needs
+
+mul-if1-2 : tie.Need-mul-if1-2
+mul-if1-2 c = search needs
+
+shared-slice-read-if1-2 : tie.Need-shared-slice-read-if1-2
+shared-slice-read-if1-2 c = search needs
+
+returns : tie.Need-returns
+returns c =
+    let args = c .before .before .before .before .before .before .before .before .args in
+    λ before taken held. held-other (args .source .now) (args .first-sink .now) (args .net) (args .k) taken (c .if1 .taken) held
+
+mul-from : tie.Need-mul-from
+mul-from c = search needs
+
+shared-slice-read-from : tie.Need-shared-slice-read-from
+shared-slice-read-from c = search needs
+
+cast-from : tie.Need-cast-from
+cast-from c = omega (arith, c .shared-slice-known6 .given (c .before .before .before .before .before .before .before .before .before .args .k))
+
+add-to : tie.Need-add-to
+add-to c = search needs
+
+mul-to : tie.Need-mul-to
+mul-to c = search needs
+
+shared-slice-read-to : tie.Need-shared-slice-read-to
+shared-slice-read-to c = search needs
+
+cast-to : tie.Need-cast-to
+cast-to c = omega (arith, c .shared-slice-known7 .given (c .before .before .before .before .before .before .before .before .before .before .args .k + 1))
+
+cast-take-listed : tie.Need-cast-take-listed
+cast-take-listed c = search needs
+
+add-take-listed : tie.Need-add-take-listed
+add-take-listed c = search needs
+
+take-listed-requires : tie.Need-take-listed-requires
+take-listed-requires c κs =
+    let start = c .before .before .before .before .before .before .before .before .before .before .before .before in
+    let tables = start .pre .0 .0 in
+    let k = start .args .k in (
+      (tables .order k (start .pre .1 .0 .1), tables .end (k + 1) (search needs), tables .sinks-few),
+      (λ i l. le-trans (tables .sinks-below i l) (start .pre .0 .1 .seen-room), start .pre .1 .1 (c .before .before .before .before .if1 .left)),
+    )
+
+same-length : tie.Need-same-length
+same-length c = search needs
+
+same-length-2 : tie.Need-same-length-2
+same-length-2 c = search needs
+
+returns-2 : tie.Need-returns-2
+returns-2 c =
+    let called = c .before .before .before .before in
+    let args = c .before .before .before .before .before .before .before .before .before .before .before .before .before .before .before .before .before .args in
+    λ before taken held.
+    held-listed (args .source .now) (args .first-sink .now) (args .net) (args .k) taken (called .before .before .before .before .before .if1 .left) (called .take-listed .ensures before taken held)
+
+pub take-net-spec : {M : Type 1} → statement M
+take-net-spec =
+    tie.close
+    (tie.spec
+    mul-if1
+    shared-slice-read-if1
+    mul-if1-2
+    shared-slice-read-if1-2
+    returns
+    mul-from
+    shared-slice-read-from
+    cast-from
+    add-to
+    mul-to
+    shared-slice-read-to
+    cast-to
+    cast-take-listed
+    add-take-listed
+    take-listed-requires
+    same-length
+    same-length-2
+    returns-2)
