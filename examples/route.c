@@ -48,11 +48,11 @@ int main(void)
         return 1;
     size_t nodes = (size_t)out[ARVUMNAO_READ_NODES], edges = (size_t)out[ARVUMNAO_READ_EDGES];
     size_t nets = (size_t)out[ARVUMNAO_READ_NETS], sinks = (size_t)out[ARVUMNAO_READ_SINKS];
-    uint32_t limit = (uint32_t)out[ARVUMNAO_READ_LIMIT], first = (uint32_t)out[ARVUMNAO_READ_FIRST];
-    uint32_t up = (uint32_t)out[ARVUMNAO_READ_UP], down = (uint32_t)out[ARVUMNAO_READ_DOWN];
-    uint32_t step = (uint32_t)out[ARVUMNAO_READ_STEP];
+    uint32_t terms[ARVUMNAO_TERMS];
+    for (size_t place = 0; place < ARVUMNAO_TERMS; place++)
+        terms[place] = (uint32_t)out[ARVUMNAO_READ_LIMIT + place];
     arvumnao_route(kind, nodes, capacity, nodes, first_edge, nodes + 1, edge_target, edges, source, nets,
-                   first_sink, nets + 1, sink, sinks, limit, first, up, down, step, work, ARVUMNAO_WORK(nodes),
+                   first_sink, nets + 1, sink, sinks, terms, ARVUMNAO_TERMS, work, ARVUMNAO_WORK(nodes),
                    log_words, LOG, out, ARVUMNAO_OUT);
     if (refused())
         return 1;

@@ -14,10 +14,11 @@
  *         static const uint8_t kind[] = {ARVUMNAO_SOURCE, ARVUMNAO_WIRE(1), ARVUMNAO_SINK}, capacity[] = {1, 1, 1};
  *         static const uint32_t first_edge[] = {0, 1, 2, 2}, first_sink[] = {0, 1};
  *         static const uint16_t edge_target[] = {1, 2}, source[] = {0}, sink[] = {2};
+ *         static const uint32_t terms[] = {ARVUMNAO_LIMIT_MOST};
  *         static uint64_t work[ARVUMNAO_WORK(3)], out[ARVUMNAO_OUT];
  *         static uint32_t log[64];
  *         arvumnao_route(kind, 3, capacity, 3, first_edge, 4, edge_target, 2, source, 1, first_sink, 2, sink, 1,
- *                        ARVUMNAO_LIMIT_MOST, ARVUMNAO_PLAIN_TUNING, work, ARVUMNAO_WORK(3), log, 64, out, ARVUMNAO_OUT);
+ *                        terms, 1, work, ARVUMNAO_WORK(3), log, 64, out, ARVUMNAO_OUT);
  *         if (out[ARVUMNAO_REFUSAL] != 0)
  *             return 1;
  *         size_t words = (size_t)out[ARVUMNAO_ROUTE_WORDS];
@@ -70,8 +71,8 @@
  *                                  above the one before, the last is table 7's length
  *   7 sink         16 bits a sink  at most 4,096 nodes of kind ARVUMNAO_SINK or ARVUMNAO_INPUT_PIN: within a net
  *                                  none twice, none its source
- *   8 the terms                    limit, 1 to 100 iterations; first, 0 to 1,000; down, 1 to 4; up, from down to 8;
- *                                  step, 1 or 2
+ *   8 the terms    32 bits         limit, 1 to 100 iterations; first, 0 to 1,000; up, from down to 8; down, 1 to 4;
+ *                                  step, 1 or 2; rule, 1 or 2; in this order. Entries may be left out at the end, see arvumnao_route
  * A table of another length than it must have breaks its rule; where table 3 or 6 doesn't end with the length of table
  * 4 or 7, it is table 3 or 6 that does.
  *
@@ -86,7 +87,7 @@
 
 /* The version of these declarations. The library itself carries none: header and library must be of one build.
  * Until 1.0.0 the second number rises with every change to a call, a place in `out` or a refusal. */
-#define ARVUMNAO_VERSION "0.2.0"
+#define ARVUMNAO_VERSION "0.3.0"
 
 /* The most that a job has. */
 #define ARVUMNAO_NODES_MOST 4096
@@ -103,8 +104,19 @@
 #define ARVUMNAO_WIRE(length) (3 + (length))
 #define ARVUMNAO_KIND_MOST 53
 
-/* first, up, down, step of a job that asks for no tuning: four arguments. */
+/* `terms`: its entries and their places, and the plain values of four of them. */
+#define ARVUMNAO_TERMS 6
+#define ARVUMNAO_TERMS_LIMIT 0
+#define ARVUMNAO_TERMS_FIRST 1
+#define ARVUMNAO_TERMS_UP 2
+#define ARVUMNAO_TERMS_DOWN 3
+#define ARVUMNAO_TERMS_STEP 4
+#define ARVUMNAO_TERMS_RULE 5
 #define ARVUMNAO_PLAIN_TUNING 50, 3, 2, 1
+
+/* The rules: from iteration 2 on every net is routed again, or only the nets whose tree has an overfull node. */
+#define ARVUMNAO_RULE_ALL 1
+#define ARVUMNAO_RULE_CROWDED 2
 
 /* The entries that `work` needs. What they hold before a call doesn't matter. */
 #define ARVUMNAO_WORK(nodes) (8 * (nodes))
@@ -113,7 +125,7 @@
 #define ARVUMNAO_RECORD(path) (6 + (path))
 
 /* Bytes of stack, beyond its caller's, that every call makes do with. Measured on x86-64 Linux by tests/header/memory.c, with
- * what memcpy and memset take: 110,087 in arvumnao_read, 48,551 in arvumnao_route, 1,223 in arvumnao_write, under 500 in the
+ * what memcpy and memset take: 110,151 in arvumnao_read, 48,551 in arvumnao_route, 9,059 in arvumnao_write, under 500 in the
  * others. */
 #define ARVUMNAO_STACK 131072
 
@@ -173,10 +185,15 @@ uint32_t arvumnao_search(const uint8_t *kind, size_t kind_count, const uint8_t *
 
 /* Routes a job. Each table is lent in exactly its length.
  *
- * limit     the most iterations.
- * first, up, down, step   the tariff: the congestion factor is 0 in iteration 1, `first` in iteration 2, and then each
- *           time factor x up / down, rounded down, at most 65,535; a node's history is 1 at first and grows after each
- *           iteration by step x the nets too many on it. ARVUMNAO_PLAIN_TUNING are those of a text without a P line.
+ * terms     limit, first, up, down, step, rule. Of a slice that is shorter the plain values stand for the rest: 0 for the
+ *           limit, which is refused, then 50, 3, 2, 1 and 1, those of a text without P and V lines. Entries past the rule are
+ *           not read. So {100} is a job of 100 iterations and no more said.
+ *           limit: the most iterations.
+ *           first, up, down, step: the tariff. The congestion factor is 0 in iteration 1, `first` in iteration 2, and then
+ *           each time factor x up / down, rounded down, at most 65,535; a node's history is 1 at first and grows after each
+ *           iteration by step x the nets too many on it.
+ *           rule: under 1 every net drops its tree in each iteration and is routed again; under 2, from iteration 2 on, only
+ *           the nets whose tree had an overfull node when the iteration began. The other trees stay and count as users.
  * work      needs ARVUMNAO_WORK(nodes) entries. After acceptance and after refusals 7, 8 and 9 that many are 0, and those
  *           past them stay.
  * log       gets a record for each turn. After acceptance and after 8 and 9 the words used hold the records of the
@@ -190,8 +207,7 @@ uint32_t arvumnao_search(const uint8_t *kind, size_t kind_count, const uint8_t *
 uint32_t arvumnao_route(const uint8_t *kind, size_t kind_count, const uint8_t *capacity, size_t capacity_count,
                         const uint32_t *first_edge, size_t first_edge_count, const uint16_t *edge_target, size_t edge_target_count,
                         const uint16_t *source, size_t source_count, const uint32_t *first_sink, size_t first_sink_count,
-                        const uint16_t *sink, size_t sink_count, uint32_t limit,
-                        uint32_t first, uint32_t up, uint32_t down, uint32_t step,
+                        const uint16_t *sink, size_t sink_count, const uint32_t *terms, size_t terms_count,
                         uint64_t *work, size_t work_count, uint32_t *log, size_t log_count,
                         uint64_t *out, size_t out_count);
 
@@ -200,7 +216,8 @@ uint32_t arvumnao_route(const uint8_t *kind, size_t kind_count, const uint8_t *c
  * text      of any length: the program's bound of 65,536 bytes isn't this call's.
  * tables    may be longer than the job needs; entries past what it has stay. Tables 3 and 6 need an entry more than there
  *           are nodes and nets. ARVUMNAO_NODES_MOST and the like are enough for every job.
- * Without a P line the tuning told is ARVUMNAO_PLAIN_TUNING.
+ * The terms are told in the order in which arvumnao_route takes them, from ARVUMNAO_READ_LIMIT on. Without a P line the tuning
+ * told is ARVUMNAO_PLAIN_TUNING, without a V line the rule is ARVUMNAO_RULE_ALL.
  * Refusals, tested in this order: the first faulty line by ARVUMNAO_BAD_SHAPE, else ARVUMNAO_BAD_VALUE, else
  * ARVUMNAO_BAD_ORDER; then ARVUMNAO_SHORT_TABLE. */
 #define ARVUMNAO_READ_NODES 3
@@ -212,13 +229,15 @@ uint32_t arvumnao_route(const uint8_t *kind, size_t kind_count, const uint8_t *c
 #define ARVUMNAO_READ_UP 9
 #define ARVUMNAO_READ_DOWN 10
 #define ARVUMNAO_READ_STEP 11
+#define ARVUMNAO_READ_RULE 12
 uint32_t arvumnao_read(const uint8_t *text, size_t text_count, uint8_t *kind, size_t kind_count, uint8_t *capacity, size_t capacity_count,
                        uint32_t *first_edge, size_t first_edge_count, uint16_t *edge_target, size_t edge_target_count,
                        uint16_t *source, size_t source_count, uint32_t *first_sink, size_t first_sink_count,
                        uint16_t *sink, size_t sink_count,
                        uint64_t *out, size_t out_count);
 
-/* Writes the routes text of a log: an R line, B lines, and a J line for each net that was joined into another.
+/* Writes the routes text of a log: an R line; net by net B lines, from its records of the latest iteration in which it has any;
+ * and a J line for each net that was joined into another.
  *
  * source    table 5 of the job that was routed. Here its rule is 1 to 512 entries, each below 4,096: the writer knows no kinds.
  * log       the words used of it, not the whole slice that was lent to arvumnao_route. A record whose net is not in table 5,

@@ -124,6 +124,7 @@ static void route(void)
     const uint16_t source[] = { 0, 1 };
     const uint32_t first_sink[] = { 0, 1, 2 };
     const uint16_t sink[] = { 3, 4 };
+    const uint32_t terms[] = { 4, 100, 7, 3, 2, 1 };
     const uint16_t one_source[] = { 0, 0 };
     const uint32_t one_net[] = { 0, 2 };
     const uint64_t ended[] = { 4, 8, 72 }, begun[] = { 1, 0, 0 }, settled[] = { 1, 2, 17 };
@@ -143,32 +144,74 @@ static void route(void)
     lend_out();
     EXPECT(arvumnao_route(kind, COUNT(kind), capacity, COUNT(capacity), first_edge, COUNT(first_edge),
                           edge_target, COUNT(edge_target), source, COUNT(source), first_sink, COUNT(first_sink),
-                          sink, COUNT(sink), 4, 100, 7, 3, 2, work, COUNT(work), log, COUNT(log), out, OUT) == 1);
+                          sink, COUNT(sink), terms, COUNT(terms), work, COUNT(work), log, COUNT(log), out, OUT) == 1);
     EXPECT(told(9, 4, 1, ended, 3));
     EXPECT(memcmp(log, expected, sizeof log) == 0);
     EXPECT(memcmp(work, cleared, sizeof cleared) == 0 && work[40] == OLD);
     arvumnao_route(kind, 5, capacity, 5, first_edge, 6, edge_target, 4, source, 2, first_sink, 3, sink, 2,
-                   4, 100, 7, 3, 2, work, 39, log, 73, out, OUT);
+                   terms, 6, work, 39, log, 73, out, OUT);
     EXPECT(refused(6, 40, 0));
     arvumnao_route(kind, 5, capacity, 5, first_edge, 6, edge_target, 4, source, 2, first_sink, 3, sink, 2,
-                   4, 100, 7, 3, 2, work, 41, log, 8, out, OUT);
+                   terms, 6, work, 41, log, 8, out, OUT);
     EXPECT(told(8, 1, 0, begun, 3));
     arvumnao_route(kind, 0, capacity, 5, first_edge, 6, edge_target, 4, source, 2, first_sink, 3, sink, 2,
-                   4, 100, 7, 3, 2, work, 41, log, 73, out, OUT);
+                   terms, 6, work, 41, log, 73, out, OUT);
     EXPECT(refused(5, 1, 0));
     arvumnao_route(kind, 5, capacity, 5, first_edge, 6, edge_target, 4, source, 1, one_net, 2, sink, 2,
-                   4, 100, 7, 3, 2, work, 41, log, 73, out, OUT);
+                   terms, 6, work, 41, log, 73, out, OUT);
     EXPECT(told(0, 0, 0, settled, 3));
     EXPECT(memcmp(log, joined, sizeof joined) == 0);
     memset(log, 9, sizeof log);
     arvumnao_route(kind, 5, capacity, 5, first_edge, 6, edge_target, 4, one_source, 2, first_sink, 3, sink, 2,
-                   4, 100, 7, 3, 2, work, 41, log, 73, out, OUT);
+                   terms, 6, work, 41, log, 73, out, OUT);
     EXPECT(told(0, 0, 0, settled, 3));
     EXPECT(memcmp(log, joined, sizeof joined) == 0);
 }
 
-/* Job B with capacities and a tuning of its own, read into tables longer than it needs. */
-static const char job[] = "F,6,6,2,9\nP,100,7,3,2\nN,0,0,2\nN,1,0,3\nN,2,4,1\nN,3,5,4\nN,4,1,5\nN,5,1,6\n"
+/* Nets 0 and 1 meet on wire 3, and net 0 gives way to wire 4 in iteration 2; net 2 has wire 5 for itself. With rule 1 it is routed again,
+ * with rule 2 not. A slice without the rule means rule 1, one with the limit alone the plain tuning too, and an empty one no limit;
+ * without a factor in iteration 2 net 0 stays. */
+static void terms(void)
+{
+    const uint8_t kind[] = { 0, 0, 0, 4, 5, 4, 1, 1, 1 };
+    const uint8_t capacity[] = { 1, 1, 1, 1, 1, 1, 1, 1, 1 };
+    const uint32_t first_edge[] = { 0, 2, 3, 4, 6, 7, 8, 8, 8, 8 };
+    const uint16_t edge_target[] = { 3, 4, 3, 5, 6, 7, 6, 8 };
+    const uint16_t source[] = { 0, 1, 2 }, sink[] = { 6, 7, 8 };
+    const uint32_t first_sink[] = { 0, 1, 2, 3 };
+    const uint32_t crowded[] = { 2, ARVUMNAO_PLAIN_TUNING, ARVUMNAO_RULE_CROWDED, 9, 9 };
+    const uint32_t no_factor[] = { 2, 0 }, bad[] = { 2, ARVUMNAO_PLAIN_TUNING, 3 };
+    const uint64_t by_all[] = { 2, 6, 54 }, by_crowded[] = { 2, 5, 45 };
+    const uint32_t expected[] = {
+        1, 0, 6, 4000, 0, 3, 0, 3, 6, 1, 1, 7, 4000, 0, 3, 1, 3, 7, 1, 2, 8, 4000, 0, 3, 2, 5, 8,
+        2, 0, 6, 6000, 0, 3, 0, 4, 6, 2, 1, 7, 6000, 0, 3, 1, 3, 7,
+    };
+    const struct {
+        const uint32_t *terms;
+        size_t count;
+        uint64_t refusal, first, second;
+        const uint64_t *own;
+        size_t owned;
+    } runs[] = {
+        { crowded, 8, 0, 0, 0, by_crowded, 3 }, { crowded, 6, 0, 0, 0, by_crowded, 3 }, { crowded, 5, 0, 0, 0, by_all, 3 },
+        { crowded, 1, 0, 0, 0, by_all, 3 },     { crowded, 0, 5, 8, 0, by_all, 0 },     { no_factor, 2, 9, 2, 1, by_all, 3 },
+        { bad, 6, 5, 8, 0, by_all, 0 },         { bad, 5, 0, 0, 0, by_all, 3 },
+    };
+    uint64_t work[72];
+    uint32_t log[54];
+    size_t run;
+    lend_out();
+    for (run = 0; run < COUNT(runs); run++) {
+        EXPECT(arvumnao_route(kind, 9, capacity, 9, first_edge, 10, edge_target, 8, source, 3, first_sink, 4, sink, 3,
+                              runs[run].terms, runs[run].count, work, 72, log, 54, out, OUT) == 1);
+        EXPECT(told(runs[run].refusal, runs[run].first, runs[run].second, runs[run].own, runs[run].owned));
+        if (run == 0)
+            EXPECT(memcmp(log, expected, sizeof expected) == 0);
+    }
+}
+
+/* Job B with capacities and terms of its own, read into tables longer than it needs. */
+static const char job[] = "F,6,6,2,9\nP,100,7,3,1\nV,2\nN,0,0,2\nN,1,0,3\nN,2,4,1\nN,3,5,4\nN,4,1,5\nN,5,1,6\n"
                           "E,0,2\nE,0,3\nE,1,2\nE,2,4\nE,2,5\nE,3,4\nS,0,0\nT,0,4\nS,1,1\nT,1,5\n";
 
 static uint8_t kind_read[7], capacity_read[8], text_read[sizeof job - 1];
@@ -186,7 +229,7 @@ static uint32_t read_job(size_t kind, size_t capacity, size_t first_edge, size_t
 
 static void read_text(void)
 {
-    const uint64_t counts[] = { 6, 6, 2, 2, 9, 100, 7, 3, 2 };
+    const uint64_t counts[] = { 6, 6, 2, 2, 9, 100, 7, 3, 1, 2 };
     const uint8_t kind[] = { 0, 0, 4, 5, 1, 1, 255 }, capacity[] = { 2, 3, 1, 4, 5, 6, 255, 255 };
     const uint32_t first_edge[] = { 0, 2, 3, 5, 6, 6, 6, UINT32_MAX, UINT32_MAX };
     const uint16_t edge_target[] = { 2, 3, 2, 4, 5, 4, 65535, 65535, 65535, 65535 };
@@ -202,7 +245,7 @@ static void read_text(void)
     memset(sink_read, 255, sizeof sink_read);
     lend_out();
     EXPECT(read_job(7, 8, 9, 10, 4, 5, 3) == 1);
-    EXPECT(told(0, 0, 0, counts, 9));
+    EXPECT(told(0, 0, 0, counts, COUNT(counts)));
     EXPECT(memcmp(kind_read, kind, sizeof kind) == 0);
     EXPECT(memcmp(capacity_read, capacity, sizeof capacity) == 0);
     EXPECT(memcmp(first_edge_read, first_edge, sizeof first_edge) == 0);
@@ -221,7 +264,8 @@ static void read_text(void)
     EXPECT(read_job(7, 8, 9, 10, 4, 5, 3) == 1 && refused(2, 2, 0));
 }
 
-/* The routes of job B's log, with a third net that was joined into the second. */
+/* The routes of job B's log, with a third net that was joined into the second; then of the log without its last record, where
+ * the second net has its branches of iteration 1. */
 static void write_routes(void)
 {
     const uint16_t source[] = { 0, 1, 1, 4096 };
@@ -230,6 +274,7 @@ static void write_routes(void)
         2, 0, 4, 6000, 0, 3, 0, 3, 4, 2, 1, 5, 6000, 0, 3, 1, 2, 5,
     };
     const char routes[] = "R,2,4\nB,0,0,3\nB,0,3,4\nB,1,1,2\nB,1,2,5\nJ,2,1\n";
+    const char kept[] = "R,2,3\nB,0,0,3\nB,0,3,4\nB,1,1,2\nB,1,2,5\nJ,2,1\n";
     const uint64_t bytes = sizeof routes - 1;
     uint8_t buffer[50];
     memset(buffer, OLD, sizeof buffer);
@@ -237,6 +282,9 @@ static void write_routes(void)
     EXPECT(arvumnao_write(source, 3, log, COUNT(log), buffer, COUNT(buffer), out, OUT) == 1);
     EXPECT(told(0, 0, 0, &bytes, 1));
     EXPECT(memcmp(buffer, routes, bytes) == 0 && buffer[bytes] == OLD);
+    EXPECT(arvumnao_write(source, 3, log, 27, buffer, COUNT(buffer), out, OUT) == 1);
+    EXPECT(told(0, 0, 0, &bytes, 1));
+    EXPECT(memcmp(buffer, kept, bytes) == 0);
     arvumnao_write(source, 4, log, 35, buffer, COUNT(buffer), out, OUT);
     EXPECT(refused(5, 5, 0));
     arvumnao_write(source, 3, log, 35, buffer, COUNT(buffer), out, OUT);
@@ -252,6 +300,7 @@ int main(void)
     price();
     search();
     route();
+    terms();
     read_text();
     write_routes();
     return faults != 0;

@@ -22,6 +22,7 @@ enum {
 static uint8_t text[BYTES], kind[NODES], capacity[NODES], routes[16 * BYTES], in_tree[NODES];
 static uint32_t first_edge[NODES + 1], first_sink[NETS + 1], log_words[LOG], history[NODES];
 static uint16_t edge_target[EDGES], source[NETS], sink[SINKS], others[NODES];
+static const uint32_t terms[] = {1, ARVUMNAO_PLAIN_TUNING, ARVUMNAO_RULE_CROWDED};
 static uint64_t work[ARVUMNAO_WORK(NODES)], out[ARVUMNAO_OUT];
 static size_t bytes, words;
 
@@ -52,7 +53,7 @@ static void call_read(void)
 static void call_route(void)
 {
     arvumnao_route(kind, NODES, capacity, NODES, first_edge, NODES + 1, edge_target, EDGES, source, NETS,
-                   first_sink, NETS + 1, sink, SINKS, 1, 50, 3, 2, 1, work, ARVUMNAO_WORK(NODES),
+                   first_sink, NETS + 1, sink, SINKS, terms, ARVUMNAO_TERMS, work, ARVUMNAO_WORK(NODES),
                    log_words, LOG, out, ARVUMNAO_OUT);
 }
 
@@ -121,7 +122,7 @@ static void empty(void)
 {
     arvumnao_search(NULL, 0, NULL, 0, NULL, 0, NULL, 0, 0, NULL, 0, NULL, 0, NULL, 0, NULL, 0, out, ARVUMNAO_OUT);
     expect("search of nothing", out[0] == ARVUMNAO_BAD_TABLE && out[1] == 1);
-    arvumnao_route(NULL, 0, NULL, 0, NULL, 0, NULL, 0, NULL, 0, NULL, 0, NULL, 0, 1, ARVUMNAO_PLAIN_TUNING, NULL, 0,
+    arvumnao_route(NULL, 0, NULL, 0, NULL, 0, NULL, 0, NULL, 0, NULL, 0, NULL, 0, NULL, 0, NULL, 0,
                    NULL, 0, out, ARVUMNAO_OUT);
     expect("route of nothing", out[0] == ARVUMNAO_BAD_TABLE && out[1] == 1);
     arvumnao_read(NULL, 0, NULL, 0, NULL, 0, NULL, 0, NULL, 0, NULL, 0, NULL, 0, NULL, 0, out, ARVUMNAO_OUT);

@@ -28,11 +28,11 @@ pub six-put :
     ≡ outWith (number ∷ first ∷ second ∷ []) (a ∷ b ∷ c ∷ []) out
 six-put out start number first second a b c h = rw h
 
-pub nine-put :
-    (out start : List ℕ) (a b c d e f g h i : ℕ) → start ≡ replicate 16 0 ++ drop 16 out
-    → set (set (set (set (set (set (set (set (set start 3 a) 4 b) 5 c) 6 d) 7 e) 8 f) 9 g) 10 h) 11 i
-    ≡ outWith [] (a ∷ b ∷ c ∷ d ∷ e ∷ f ∷ g ∷ h ∷ i ∷ []) out
-nine-put out start a b c d e f g h i cleared = rw cleared
+pub ten-put :
+    (out start : List ℕ) (a b c d e f g h i k : ℕ) → start ≡ replicate 16 0 ++ drop 16 out
+    → set (set (set (set (set (set (set (set (set (set start 3 a) 4 b) 5 c) 6 d) 7 e) 8 f) 9 g) 10 h) 11 i) 12 k
+    ≡ outWith [] (a ∷ b ∷ c ∷ d ∷ e ∷ f ∷ g ∷ h ∷ i ∷ k ∷ []) out
+ten-put out start a b c d e f g h i k cleared = rw cleared
 
 -- ---- the price
 

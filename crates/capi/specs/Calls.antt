@@ -3,7 +3,7 @@
 use mathlib.Core.List.{List, [], _∷_, _++_}
 use Prim.Native.Nat.{ℕ}
 use lib.Dec.{ltb}
-use lib.ListN.{length, take, drop, replicate}
+use lib.ListN.{length, getD, take, drop, replicate}
 use Rattle.price.specs.Test.{choose}
 use Rattle.price.specs.Replies as p
 use Rattle.search.specs.Block.{Block}
@@ -57,10 +57,15 @@ unfoldable pub searchCall : Block → Congestion → List ℕ → List ℕ → L
 searchCall b c marks work out =
     choose (ltb (length out) 16) (searchDone (callOf 0 out) work) (searchCallWith (searchReply b c marks work) out)
 
--- the limit of iterations, and the factor in iteration 2, its growth and the history's step
-abbrev pub termsOf : ℕ → ℕ → ℕ → ℕ → ℕ → Terms
-termsOf limit first up down step =
-    record { limit = limit; tuning = record { first = first; up = up; down = down; step = step } }
+-- the terms of a job as one slice: 0 limit, 1 first, 2 up, 3 down, 4 step, 5 rule. An entry that the slice lacks has its plain value:
+-- no limit, which is below the least, and what holds without a P or a V line. Further entries aren't read
+abbrev pub termsOf : List ℕ → Terms
+termsOf ts =
+    record {
+      limit = getD ts 0 0;
+      tuning = record { first = getD ts 1 50; up = getD ts 2 3; down = getD ts 3 2; step = getD ts 4 1 };
+      rule = getD ts 5 1;
+    }
 
 -- route: 3 iteration, 4 turns, 5 words
 pub record RouteCall : Type 0 where
@@ -78,7 +83,7 @@ unfoldable pub routeCall : Job → List ℕ → List ℕ → List ℕ → RouteC
 routeCall j work log out =
     choose (ltb (length out) 16) (routeDone (callOf 0 out) work log) (routeCallWith (routeReply j work log) out)
 
--- read: 3 nodes, 4 edges, 5 nets, 6 sinks, 7 limit, 8 first, 9 up, 10 down, 11 step
+-- read: 3 nodes, 4 edges, 5 nets, 6 sinks, 7 limit, 8 first, 9 up, 10 down, 11 step, 12 rule
 pub record ReadCall : Type 0 where
   pub call : Call
   pub tables : Tables

@@ -1,5 +1,6 @@
 // The calls for C, C++ and Rust; include/arvumnao.h declares them. Each takes `out`, in which it tells its numbers.
 ghost use mathlib.Core.Path.{_≡_};
+ghost use lib.ListN.{getD};
 ghost use Rattle.search.specs.Block.{blockOf};
 ghost use Rattle.search.specs.Turn.{congestionOf};
 ghost use Rattle.negotiation.specs.Job.{jobOf};
@@ -68,19 +69,30 @@ pub extern "C" fn arvumnao_search(
     out::put_search(answer, out)
 }
 
-// The terms of a job, of plain numbers.
-fn terms_of(limit: u32, first: u32, up: u32, down: u32, step: u32) -> Terms
-    ensures { λ r. ⌜ r ≡ termsOf limit first up down step ⌝ }
+// The entry at this place of the terms, or its plain value where the slice is shorter.
+fn entry_or(terms: &[u32], place: usize, plain: u32) -> u32
+    ensures { λ r. ⌜ r ≡ getD (now (terms .entry)) place plain ⌝ }
+{
+    if terms.len() <= place {
+        return plain;
+    }
+    terms[place]
+}
+
+// The terms of a job, of a slice of plain numbers: limit, first, up, down, step and rule.
+fn terms_of(terms: &[u32]) -> Terms
+    ensures { λ r. ⌜ r ≡ termsOf (now (terms .entry)) ⌝ }
 {
     let tuning = Tuning {
-        first: first,
-        up: up,
-        down: down,
-        step: step,
+        first: entry_or(terms, 1, 50),
+        up: entry_or(terms, 2, 3),
+        down: entry_or(terms, 3, 2),
+        step: entry_or(terms, 4, 1),
     };
     Terms {
-        limit: limit,
+        limit: entry_or(terms, 0, 0),
         tuning: tuning,
+        rule: entry_or(terms, 5, 1),
     }
 }
 
@@ -94,25 +106,21 @@ pub extern "C" fn arvumnao_route(
     source: &[u16],
     first_sink: &[u32],
     sink: &[u16],
-    limit: u32,
-    first: u32,
-    up: u32,
-    down: u32,
-    step: u32,
+    terms: &[u32],
     work: &mut [u64],
     log: &mut [u32],
     out: &mut [u64],
 ) -> u32
     ensures { λ r. do
       let job = jobOf (now (kind .entry)) (now (capacity .entry)) (now («first_edge» .entry)) (now («edge_target» .entry))
-          (now (source .entry)) (now («first_sink» .entry)) (now (sink .entry)) (termsOf limit first up down step)
+          (now (source .entry)) (now («first_sink» .entry)) (now (sink .entry)) (termsOf (now (terms .entry)))
       ⌜ routeDone (callOf r (now (out .exit))) (now (work .exit)) (now (log .exit))
           ≡ routeCall job (now (work .entry)) (now (log .entry)) (now (out .entry)) ⌝ }
 {
     if out.len() < OUT_ENTRIES {
         return 0;
     }
-    let terms = terms_of(limit, first, up, down, step);
+    let asked = terms_of(terms);
     let r = negotiation::route(
         kind,
         capacity,
@@ -121,7 +129,7 @@ pub extern "C" fn arvumnao_route(
         source,
         first_sink,
         sink,
-        terms,
+        asked,
         work,
         log,
     );

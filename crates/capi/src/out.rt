@@ -123,6 +123,7 @@ fn put_job(
     out[9] = terms.tuning.up as u64;
     out[10] = terms.tuning.down as u64;
     out[11] = terms.tuning.step as u64;
+    out[12] = terms.rule as u64;
     1
 }
 

@@ -3,6 +3,7 @@
 use mathlib.Core.List.{List, [], _∷_, _++_}
 use mathlib.Core.Path.{_≡_, refl}
 use Rattle.negotiation.specs.Records.{decodeUpTo, decode}
+use Rattle.negotiation.specs.Demand.{latest}
 use Rattle.negotiation.specs.Join.{firstOf, leads}
 use Rattle.price.specs.Samples.{Sample, Hold}
 use Rattle.price.specs.Samples as p
@@ -11,11 +12,11 @@ use Rattle.negotiation.specs.Samples as n
 use Rattle.negotiation.proofs.SamplesHold as n-hold
 use Rattle.text.specs.Decimal.{isDigit, digits, decimal}
 use Rattle.text.specs.Lines.{digitsAfter, field, begins, fields, line, printFields, printLine}
-use Rattle.text.specs.JobText.{headWithin, headLine, tuningWithin, tuningLine, nodeWithin, nodeLine, rises, edgeWithin, edgeOrdered, edgeLine}
-use Rattle.text.specs.JobText.{pinWithin, sourceLine, sinkOrdered, sinkLine, tuningPart, headPart, nodeLines, edgeLines, sinksNow, sourceDue, sinkDue}
+use Rattle.text.specs.JobText.{headWithin, headLine, tuningWithin, tuningLine, ruleWithin, ruleLine, nodeWithin, nodeLine, rises, edgeWithin, edgeOrdered, edgeLine}
+use Rattle.text.specs.JobText.{pinWithin, sourceLine, sinkOrdered, sinkLine, tuningPart, rulePart, termsPart, headPart, nodeLines, edgeLines, sinksNow, sourceDue, sinkDue}
 use Rattle.text.specs.JobText.{complete, netEnd, nextSource, nextSink, netLine, netLines, firstPlaces, jobRead, readText}
 use Rattle.text.specs.ReadReplies.{lowestShort, shortTable, writtenOver, tablesWith}
-use Rattle.text.specs.Routes.{pathSound, recordSound, soundUpTo, soundWords, logSound, netWritable, steps, branchesIn, lastIteration, routeBranches, branchText, joinsBefore, routeJoins, joinText, routesText, textReply, writeReply}
+use Rattle.text.specs.Routes.{pathSound, recordSound, soundUpTo, soundWords, logSound, netWritable, steps, lastIteration, passing, finalRecords, recordBranches, treeBranches, routeBranches, branchText, joinsBefore, routeJoins, joinText, routesText, textReply, writeReply}
 use Rattle.flow.specs.Refusals.{refusalLine}
 use Rattle.flow.specs.RunReplies.{routeRun, runReply, response}
 use Rattle.flow.specs.Samples.{lined, linesB, shown, routed, limited, filled, texts, samples}
@@ -23,9 +24,9 @@ use Rattle.flow.specs.Samples.{lined, linesB, shown, routed, limited, fi
 -- all that a closed text computes with: the lines and routes, and what a closed job does
 computing : Unit {0}
 unfolding response refusalLine runReply routeRun
-    writeReply textReply routesText joinText routeJoins joinsBefore branchText routeBranches lastIteration branchesIn steps netWritable leads firstOf logSound soundWords soundUpTo recordSound pathSound
-    tablesWith writtenOver shortTable lowestShort readText jobRead firstPlaces netLines netLine nextSink nextSource netEnd complete sinkDue sourceDue sinksNow edgeLines nodeLines headPart tuningPart
-    sinkLine sinkOrdered sourceLine pinWithin edgeLine edgeOrdered edgeWithin rises nodeLine nodeWithin tuningLine tuningWithin headLine headWithin
+    writeReply textReply routesText joinText routeJoins joinsBefore branchText routeBranches treeBranches recordBranches finalRecords passing latest lastIteration steps netWritable leads firstOf logSound soundWords soundUpTo recordSound pathSound
+    tablesWith writtenOver shortTable lowestShort readText jobRead firstPlaces netLines netLine nextSink nextSource netEnd complete sinkDue sourceDue sinksNow edgeLines nodeLines headPart termsPart rulePart tuningPart
+    sinkLine sinkOrdered sourceLine pinWithin edgeLine edgeOrdered edgeWithin rises nodeLine nodeWithin ruleLine ruleWithin tuningLine tuningWithin headLine headWithin
     printLine printFields line fields begins field digitsAfter decimal digits isDigit lined decode decodeUpTo
     n-hold.computing
 computing = tt

@@ -1,6 +1,5 @@
 -- Every load is sound, the reader takes its text for it and gives its tables back, and the text fits the router's buffer.
 -- Assumes nothing.
-use mathlib.Core.Bool.{false}
 use mathlib.Core.Path.{_≡_, refl}
 use Prim.Native.Nat.{ℕ, _+_, _≤_}
 use native.Mathlib.Omega.{arith}
@@ -8,7 +7,7 @@ use lib.ListN.{length}
 use borrow.Author.Tests.{le-ltb}
 use Rattle.price.proofs.ListLaws.{length-upTo}
 use Rattle.negotiation.specs.Job.{Job, nodes, nets}
-use Rattle.text.specs.Printed.{Accepts, PrintedAs}
+use Rattle.text.specs.Printed.{shortest, Accepts, PrintedAs}
 use Rattle.text.specs.ReadReplies.{Tables, lowestShort, shortTable, storedReply, readReply}
 use Rattle.text.proofs.TextHolds.{reader-exact}
 use Rattle.generator.specs.Load.{rowsFrom, netsFrom, loadSink, loadJob, loadText}
@@ -37,7 +36,7 @@ long-enough j t a b c d e f g =
 module _ (seed n count : ℕ) (least : 8 ≤ n) (most : n ≤ 256) (some : 1 ≤ count) (few : count ≤ 64) where
   printed : PrintedAs (loadText seed n count) (loadJob seed n count)
   unfolding loadText loadJob
-  printed = record { written = false; may = refl; is = refl }
+  printed = record { form = shortest; allowed = record { tuning = refl; rule = refl }; is = refl }
 
   taken : Accepts (loadText seed n count) (loadJob seed n count)
   taken = reader-exact (loadText seed n count) (loadJob seed n count) .all-printed (load-sound seed n count least most some few) printed

@@ -257,7 +257,7 @@ module _ (seed n count : ℕ) where
         rw (getD-upTo (loadKind seed n) n (loadSink (netsFrom seed n) n i) 0 (high .1), kind-sink seed n (loadSink (netsFrom seed n) n i) (high .0)))
 
     terms-fit : termsSound (job .terms) ≡ true
-    unfolding termsSound limitSound tuningSound loadJob
+    unfolding termsSound limitSound tuningSound oneOf loadJob
     terms-fit = refl
 
     pub load-sound : SoundJob job

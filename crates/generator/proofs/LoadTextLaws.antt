@@ -15,7 +15,7 @@ use Rattle.price.proofs.ListLaws.{getD-upTo, every-at, every-all}
 use Rattle.search.specs.Tables.{rowSound}
 use Rattle.text.specs.Decimal.{decimal}
 use Rattle.text.specs.Lines.{letterF, letterN, letterE, letterS, letterT, printFields, printLine}
-use Rattle.text.specs.Printed.{joined, eachLine, nodeText, rowText, netText, tuningText, printJob}
+use Rattle.text.specs.Printed.{joined, eachLine, nodeText, rowText, netText, lineIf, termsText, printJob}
 use Rattle.text.specs.WriteSteps.{Put}
 use Rattle.text.specs.LineReplies.{placeTold, lineReply}
 use Rattle.text.proofs.DecimalLaws.{digits-enough, digits-few, two-size, three-size}
@@ -58,7 +58,7 @@ module _ (seed n count : ℕ) where
   load-parts :
       loadText seed n count
       ≡ headPart n (length (loadRows (rowsFrom seed n) n n)) count ++ (nodesPart seed n ++ (rowsPart (rowsFrom seed n) n ++ netsPart (netsFrom seed n) n count))
-  unfolding loadText printJob tuningText loadJob
+  unfolding loadText printJob lineIf termsText loadJob
   load-parts =
       let one : joined (nodeText (loadJob seed n count)) 0 n ≡ nodesPart seed n = joined-alike _ _ 0 n (λ v l m. node-text v (omega arith)) in
       let two : joined (rowText (loadJob seed n count)) 0 n ≡ rowsPart (rowsFrom seed n) n = joined-alike _ _ 0 n (λ v l m. row-text v (omega arith)) in

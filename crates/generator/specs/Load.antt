@@ -1,7 +1,7 @@
 -- Request 2.12: the job of a seed, a node count and a net count.
 -- No draw is made again or left out, so each has its number among those of its part.
 -- Assumes nothing.
-use mathlib.Core.Bool.{Bool, false, not}
+use mathlib.Core.Bool.{Bool, not}
 use mathlib.Core.List.{List, [], _∷_, _++_}
 use Prim.Native.Nat.{ℕ, zero, suc, _+_, _-_, _*_, _/_}
 use lib.Dec.{eqb, leb, ltb}
@@ -9,7 +9,7 @@ use lib.ListN.{length, replicate}
 use Rattle.price.specs.Test.{choose, both, either}
 use Rattle.price.specs.Lists.{upTo}
 use Rattle.negotiation.specs.Job.{Job, jobOf, plainTerms}
-use Rattle.text.specs.Printed.{printJob}
+use Rattle.text.specs.Printed.{shortest, printJob}
 use Rattle.generator.specs.Draws.{stateAfter, drawAt}
 
 -- ---- nodes
@@ -75,6 +75,6 @@ loadJob seed n nets =
     (upTo (λ u. length (loadRows (rowsFrom seed n) n u)) (n + 1)) (loadRows (rowsFrom seed n) n n)
     (upTo (loadSource (netsFrom seed n) n) nets) (upTo (λ i. i) (nets + 1)) (upTo (loadSink (netsFrom seed n) n) nets) (plainTerms 100)
 
--- "prints the job's text": without a P line, since the tuning is the plain one
+-- "prints the job's text": the shortest, since its terms are the plain ones
 unfoldable pub loadText : ℕ → ℕ → ℕ → List ℕ
-loadText seed n nets = printJob false (loadJob seed n nets)
+loadText seed n nets = printJob shortest (loadJob seed n nets)

@@ -25,7 +25,7 @@ use Rattle.search.proofs.TableLaws.{sinks-all}
 use Rattle.negotiation.specs.Job.{Job, nodes, nets, source, sinksBetween, netSinks}
 use Rattle.negotiation.specs.Tables.{sourcesSound, firstSinksSound, netSound, sinksSound, limitSound, termsSound, sourcePins, sinkPins, faultyNets, faultyJob, SoundJob, netsMost}
 use Rattle.negotiation.specs.Routable.{Routable}
-use Rattle.negotiation.specs.Machine.{State, hasSinks, due}
+use Rattle.negotiation.specs.Machine.{hasSinks}
 
 -- ---- the lowest faulty table
 
@@ -164,13 +164,13 @@ module _ (j : Job) (s : SoundJob j) where
         source-no-sink = no-source;
         limit-some = limit-least (j .terms .limit) (both-left _ _ (s .terms-sound));
         limit-few = leb-true _ _ (both-right (leb 1 (j .terms .limit)) _ (both-left _ _ (s .terms-sound)));
-        tuning-sound = both-right (limitSound (j .terms .limit)) _ (s .terms-sound);
+        tuning-sound = both-left _ _ (both-right (limitSound (j .terms .limit)) _ (s .terms-sound));
       }
 
   -- every net of a sound job has sinks
-  pub all-due : (t : State) (i : ℕ) → i < nets j → due j t i ≡ true
-  unfolding due hasSinks netSinks
-  all-due t i h =
+  pub all-sinks : (i : ℕ) → i < nets j → hasSinks j i ≡ true
+  unfolding hasSinks netSinks
+  all-sinks i h =
       let rises = order i h in
       let within : getD (j .firstSinks) (i + 1) 0 ≤ length (j .sinks) = routable-of .sinks-end (i + 1) (omega arith) in
       le-leb 1 (length (netSinks j i)) (rw (length-slice (getD (j .firstSinks) i 0) (getD (j .firstSinks) (i + 1) 0) (j .sinks) within) (omega arith))

@@ -24,6 +24,7 @@ use Rattle.negotiation.specs.Machine.{State, hasSinks, due}
 use Rattle.negotiation.specs.Routable.{Routable}
 use Rattle.negotiation.specs.Tables.{SoundJob, sinkKind, oneOf, pinsOf}
 use Rattle.negotiation.specs.Unreachable.{AllReachable}
+use Rattle.negotiation.proofs.DueLaws.{due-sinks}
 use Rattle.negotiation.proofs.JobLaws.{routable-of}
 use Rattle.negotiation.proofs.JoinLaws.{first-below, first-source, first-leads, ListedFor, joined-sinks, joined-for, first-once, first-rises, first-covers, before-more, places-few}
 use Rattle.negotiation.proofs.MemberLaws.{no-entry}
@@ -72,8 +73,7 @@ module _ (j : Job) (i : ℕ) where
       (either-way (leads (j .sources) i))
 
   pub due-leads : (t : State) → i < nets j → due (joined j) t i ≡ true → leads (j .sources) i ≡ true
-  unfolding due
-  due-leads t h e = sinks-lead h e
+  due-leads t h e = sinks-lead h (due-sinks (joined j) t i e)
 
 -- ---- a sound job
 

@@ -9,16 +9,16 @@ use native.Mathlib.Numerals.{add-one}
 use native.Mathlib.Omega.{arith}
 use lib.ListN.{length, getD, set, replicate, length-append, length-replicate, getD-replicate}
 use lib.Seq.{slice, ext-getD}
-use borrow.Author.Tests.{leb-true}
 use Rattle.price.specs.Test.{choose}
 use Rattle.price.specs.Lists.{has, upTo}
 use Rattle.price.proofs.ListLaws.{length-upTo, getD-upTo}
 use Rattle.negotiation.specs.Job.{Job, nodes, nets, source, netSinks}
 use Rattle.negotiation.specs.Routable.{Routable}
 use Rattle.negotiation.specs.Records.{Record, encode, decode, pathNodes}
-use Rattle.negotiation.specs.Machine.{State, Progress, usersOf, othersOf, congestionFor, netRecords, treeFrom, withNet, hasSinks, due, afterNets, firstState, recordsAfter}
+use Rattle.negotiation.specs.Machine.{State, Progress, usersOf, othersOf, congestionFor, netRecords, treeFrom, withNet, due, afterNets, firstState, recordsAfter}
 use Rattle.negotiation.specs.Steps.{AllBelow, NoMarks, CountReady, Counted, EndReady, Ended, Passed}
 use Rattle.negotiation.specs.declared.tariff.Tariff.{Tariff}
+use Rattle.negotiation.proofs.DueLaws.{due-some}
 use Rattle.negotiation.proofs.StateLaws.{nets-trees, state-trees, routed-next}
 use Rattle.negotiation.proofs.RecordLaws.{decode-encode, encode-append}
 use Rattle.negotiation.proofs.FilterLaws.{all-splits}
@@ -72,8 +72,7 @@ module _ (j : Job) (sound : Routable j) (all : Reached j) {work₀ log₀ : List
         net-turn j sound here (ready-state j sound i (at .under)) i (at .net) earlier later r (all-made ∙ e) .path-nodes))
 
     some-sinks : 1 ≤ length (netSinks j i)
-    unfolding due hasSinks
-    some-sinks = leb-true 1 (length (netSinks j i)) (at .taken)
+    some-sinks = due-some j (startOf j m) i (at .taken)
 
     -- its source is on a path, so the nodes of its paths are its tree
     tree-nodes : (v : ℕ) → has v (pathNodes (at .made)) ≡ has v (treeFrom j i (at .made))

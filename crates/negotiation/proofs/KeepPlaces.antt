@@ -87,16 +87,19 @@ module _ {j : Job} {rs : List Record} {tree : List ℕ} {from to : ℕ} (w : Tre
   pub tree-read : (v : ℕ) → has v (pathNodes (decode (slice from to log))) ≡ has v tree
   tree-read v = rw (own-words, decode-encode (w .own)) (w .tree-is v)
 
-  words-order : from ≤ to
+  pub words-order : from ≤ to
   words-order = let l = encode-long (w .earlier) (w .own) in omega (arith, w .from-is, w .to-is)
 
-  words-within : to ≤ length log
+  pub words-within : to ≤ length log
   words-within =
       let all = encode-long (w .earlier ++ w .own) (w .later) in
       let is : length (encode rs) ≡ length (encode ((w .earlier ++ w .own) ++ w .later)) =
       ap (λ (l : List Record). length (encode l)) (w .is ∙ sym (append-assoc (w .earlier) (w .own) (w .later))) in
       let long : length log ≡ length log₀ = ap length (a .log-is) ∙ log-length rs log₀ (a .fits) in
       omega (arith, a .fits, w .to-is)
+
+  pub tree-whole : Whole (nodes j) (slice from to log)
+  tree-whole = words-whole (nodes j) (w .own) (slice from to log) own-words (w .below)
 
   -- the tree can be dropped, where the users are the nets whose tree has the node
   pub can-rip :
@@ -109,7 +112,7 @@ module _ {j : Job} {rs : List Record} {tree : List ℕ} {from to : ℕ} (w : Tre
         marks-long = refl;
         order = words-order;
         within = words-within;
-        whole = rw marks-long (words-whole (nodes j) (w .own) (slice from to log) own-words (w .below));
+        whole = rw marks-long tree-whole;
         no-marks = λ v h. ap (λ (l : List ℕ). getD l v 0) m ∙ getD-replicate (nodes j) v 0 0 (rw marks-long at h);
         used = λ v h e.
             rw (u, getD-upTo (usersOf j trees) (nodes j) v 0 (rw marks-long at h))

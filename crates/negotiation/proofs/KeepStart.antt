@@ -1,9 +1,9 @@
 -- The run begins, an iteration marks the nets that are due, and such a net drops its old tree.
 -- Assumes nothing.
-use mathlib.Core.Bool.{Bool, true, false}
+use mathlib.Core.Bool.{Bool, true, false, not}
 use mathlib.Core.List.{List, [], _∷_, _++_, append-nil}
 use mathlib.Core.Logic.{⊎-elim, inl, inr}
-use mathlib.Core.Path.{_≡_, refl, sym, _∙_, ap}
+use mathlib.Core.Path.{_≡_, refl, sym, _∙_, ap, subst}
 use Prim.Native.Nat.{ℕ, _+_, _-_, _*_, _≤_, _<_, zero-le}
 use native.Mathlib.Nat.{not-suc-le-zero, le-trans}
 use native.Mathlib.Omega.{arith}
@@ -15,18 +15,20 @@ use Rattle.price.specs.Test.{choose}
 use Rattle.price.specs.Lists.{has, upTo}
 use Rattle.price.specs.Prices.{nextFactor}
 use Rattle.price.proofs.TestLaws.{either-way, true≢false}
-use Rattle.price.proofs.ListLaws.{length-upTo, getD-upTo}
+use Rattle.price.proofs.ListLaws.{length-upTo, getD-upTo, has-place}
+use Rattle.search.proofs.BlockLaws.{capacities-long}
 use Rattle.negotiation.specs.Job.{Job, nodes, nets, source, netSinks}
 use Rattle.negotiation.specs.Routable.{Routable}
 use Rattle.negotiation.specs.Records.{encode, decode, pathNodes}
-use Rattle.negotiation.specs.Machine.{State, treeAt, usersOf, othersOf, marksOf, congestionFor, turnsOf, netRecords, treeFrom, hasSinks, due, afterNets, firstState, stateAfter, recordsAfter}
+use Rattle.negotiation.specs.Machine.{treeAt, usersOf, othersOf, marksOf, congestionFor, turnsOf, netRecords, treeFrom, hasSinks, overfull, allDue, crowded, due, afterNets, firstState, stateAfter, recordsAfter}
 use Rattle.negotiation.specs.Outcome.{logWith}
-use Rattle.negotiation.specs.Steps.{NoMarks, RippedUp, BeginReady, Begun, Idle, Starts}
+use Rattle.negotiation.specs.Steps.{NoMarks, RippedUp, roomy, someOver, takes, DueReady, BeginReady, Begun, Idle, Starts}
 use Rattle.negotiation.specs.declared.tariff.Tariff.{Tariff}
+use Rattle.negotiation.proofs.MemberLaws.{every-alike}
 use Rattle.negotiation.proofs.StateLaws.{nets-iteration, state-iteration}
 use Rattle.negotiation.proofs.UserLaws.{users-but, users-none}
 use Rattle.negotiation.proofs.KeepLaws.{startOf, reached, dueMarks, Places, Tallied, Kept, AtIteration, AtNet, AtTurn, AtIdle, AtTurns}
-use Rattle.negotiation.proofs.KeepPlaces.{first-places, can-rip, tree-read}
+use Rattle.negotiation.proofs.KeepPlaces.{first-places, can-rip, tree-read, tree-whole, words-order, words-within}
 
 -- ---- lists by their entries
 
@@ -105,9 +107,9 @@ module _ (j : Job) (sound : Routable j) where
   -- ---- an iteration begins
 
   -- a net with sinks has more than none in table 7
-  due-is : (s : State) (i : ℕ) → i < nets j → due j s i ≡ ltb (getD (j .firstSinks) i 0) (getD (j .firstSinks) (i + 1) 0)
-  unfolding due hasSinks netSinks
-  due-is s i h =
+  sinks-is : (i : ℕ) → i < nets j → hasSinks j i ≡ ltb (getD (j .firstSinks) i 0) (getD (j .firstSinks) (i + 1) 0)
+  unfolding hasSinks netSinks
+  sinks-is i h =
       let a : ℕ = getD (j .firstSinks) i 0 in
       let b : ℕ = getD (j .firstSinks) (i + 1) 0 in
       let long : length (slice a b (j .sinks)) ≡ b - a = length-slice a b (j .sinks) (sound .sinks-end (i + 1) (omega arith)) in
@@ -116,23 +118,62 @@ module _ (j : Job) (sound : Routable j) where
       (λ (q : ltb a b ≡ false). let l = ltb-false a b q in rw q (lt-leb 1 (length (slice a b (j .sinks))) (omega arith)))
       (either-way (ltb a b))
 
-  pub keep-due :
-      {work₀ log₀ : List ℕ} {m : ℕ} {t : Tariff} {history users marks from to dues work log : List ℕ} → AtIteration j work₀ log₀ m t history users marks from to dues work log
-      → (dues′ : List ℕ) → dues′ ≡ upTo (λ k. choose (ltb (getD (j .firstSinks) k 0) (getD (j .firstSinks) (k + 1) 0)) 1 0) (length dues)
-      → AtNet j work₀ log₀ m 0 t history users marks from to dues′ work log
-  keep-due {m} {dues = dues} at dues′ e =
-      let mark : (ℕ → ℕ) = λ k. choose (ltb (getD (j .firstSinks) k 0) (getD (j .firstSinks) (k + 1) 0)) 1 0 in
-      let is : dues′ ≡ upTo mark (nets j) = rw (at .due-long) at e in
-      record {
-        under = at .under;
-        upto = zero-le;
-        kept = at .kept;
-        due-is =
-            up-to-is (λ k. choose (due j (startOf j m) k) 1 0) (nets j) dues′ (ap length is ∙ length-upTo mark (nets j))
-            (λ k h. ap (λ (l : List ℕ). getD l k 0) is ∙ getD-upTo mark (nets j) k 0 h ∙ rw (due-is (startOf j m) k h));
-        tallied = at .tallied;
-        work-same = at .work-same;
-      }
+  module _ {work₀ log₀ : List ℕ} {m : ℕ} {t : Tariff} {history users marks from to dues work log : List ℕ}
+      (at : AtIteration j work₀ log₀ m t history users marks from to dues work log) where
+    abbrev trees : List (List ℕ)
+    trees = reached j m 0 .state .trees
+
+    users-long : length users ≡ nodes j
+    users-long = ap length (at .kept .users-is) ∙ length-upTo (usersOf j trees) (nodes j)
+
+    pub keep-due-ready : DueReady (j .block .capacities) (j .firstSinks) log from to users
+    keep-due-ready =
+        let places = at .kept .places in
+        let net : ((k : ℕ) → k < length from → k < nets j) = λ k h. rw (places .from-long) at h in
+        record {
+          capacities-long = capacities-long _ _ (sound .block-sound .capacities-sound) ∙ sym users-long;
+          firsts-long = sound .firstSinks-long ∙ ap (λ n. n + 1) (sym (places .from-long));
+          to-long = places .to-long ∙ sym (places .from-long);
+          order = λ k h. words-order (places .words k (net k h)) (at .tallied);
+          within = λ k h. words-within (places .words k (net k h)) (at .tallied);
+          whole = λ k h. rw users-long (tree-whole (places .words k (net k h)) (at .tallied));
+        }
+
+    -- the nodes of a net's words are its tree's, and each has its users
+    crowded-is :
+        (i : ℕ) → i < nets j → crowded j trees i ≡ someOver (j .block .capacities) users (pathNodes (decode (slice (getD from i 0) (getD to i 0) log)))
+    unfolding crowded someOver overfull
+    crowded-is i h =
+        let words = at .kept .places .words i h in
+        let own : List ℕ = pathNodes (decode (slice (getD from i 0) (getD to i 0) log)) in
+        ap not
+        (sym (every-alike (roomy (j .block .capacities) users) (λ v. not (overfull j trees v)) own (treeAt trees i) (tree-read words (at .tallied))
+        (λ v on.
+        let place = has-place v own on in
+        let below : v < nodes j = subst (λ (u : ℕ). u < nodes j) (place .2) (tree-whole words (at .tallied) .nodes-below (place .0) (place .1)) in
+        rw (at .kept .users-is, getD-upTo (usersOf j trees) (nodes j) v 0 below))))
+
+    due-is : (i : ℕ) → i < nets j → due j (startOf j m) i ≡ takes (allDue (j .terms) (t .iteration)) (j .block .capacities) (j .firstSinks) log from to users i
+    unfolding due afterNets
+    due-is i h = rw (sinks-is i h, crowded-is i h, state-iteration j m, at .under .iteration-is)
+
+    pub keep-due :
+        (dues′ : List ℕ)
+        → dues′ ≡ upTo (λ k. choose (takes (allDue (j .terms) (t .iteration)) (j .block .capacities) (j .firstSinks) log from to users k) 1 0) (length dues)
+        → AtNet j work₀ log₀ m 0 t history users marks from to dues′ work log
+    keep-due dues′ e =
+        let mark : (ℕ → ℕ) = λ k. choose (takes (allDue (j .terms) (t .iteration)) (j .block .capacities) (j .firstSinks) log from to users k) 1 0 in
+        let is : dues′ ≡ upTo mark (nets j) = rw (at .due-long) at e in
+        record {
+          under = at .under;
+          upto = zero-le;
+          kept = at .kept;
+          due-is =
+              up-to-is (λ k. choose (due j (startOf j m) k) 1 0) (nets j) dues′ (ap length is ∙ length-upTo mark (nets j))
+              (λ k h. ap (λ (l : List ℕ). getD l k 0) is ∙ getD-upTo mark (nets j) k 0 h ∙ rw (due-is k h));
+          tallied = at .tallied;
+          work-same = at .work-same;
+        }
 
   -- ---- a net begins
 

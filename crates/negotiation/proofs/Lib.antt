@@ -15,6 +15,7 @@
 --     MemberLaws        which entries a list has, and in what it lacks some
 --     RegionLaws        whole records in a part of the log, as the loops pass them
 --     MarkLaws          marks and users of nodes that are passed one after the other
+--     CrowdedLaws       the loops that look for an overfull node
 --     FilledLaws        a list that a loop fills front to back
 -- The test before iteration 1
 --     FloodLaws         the flood from a source
@@ -22,6 +23,7 @@
 -- The machine
 --     TreeLaws          a net's turns from its tree
 --     NetLaws           a net in an iteration: cheapest paths, costs, no node twice, every sink joined; paths from a source
+--     DueLaws           which nets an iteration takes: under rule 1, and in iteration 1, those with sinks
 --     StateLaws         the machine's state, iteration by iteration
 --     MachineRan        the machine's run is a run: bounds of histories and factor, its turns owned net by net
 --     EndLaws           how a run ends
@@ -62,11 +64,13 @@ pub mod FilterLaws
 pub mod MemberLaws
 pub mod RegionLaws
 pub mod MarkLaws
+pub mod CrowdedLaws
 pub mod FilledLaws
 pub mod FloodLaws
 pub mod TestedLaws
 pub mod TreeLaws
 pub mod NetLaws
+pub mod DueLaws
 pub mod StateLaws
 pub mod EndLaws
 pub mod LimitLaws

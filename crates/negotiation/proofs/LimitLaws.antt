@@ -17,7 +17,7 @@ use Rattle.price.proofs.BelowLaws.{firstBelow-holds, firstBelow-below, firstBel
 use Rattle.search.specs.Turn.{Congestion, Turn, joins, stuck}
 use Rattle.negotiation.specs.Job.{Job, nets, source, netSinks}
 use Rattle.negotiation.specs.Records.{Record}
-use Rattle.negotiation.specs.Machine.{State, Progress, othersOf, usersOf, marksOf, congestionFor, turnOf, logTurn, turnsOf, netRecords, hasSinks, due, routeIf, afterNets, iterate, overfull, overCount, moveOn, firstState, stateAfter, recordsAfter, settlesAt}
+use Rattle.negotiation.specs.Machine.{State, Progress, othersOf, usersOf, marksOf, congestionFor, turnOf, logTurn, turnsOf, netRecords, hasSinks, allDue, crowded, due, routeIf, afterNets, iterate, overfull, overCount, moveOn, firstState, stateAfter, recordsAfter, settlesAt}
 use Rattle.negotiation.specs.Outcome.{iterationsMade, allRecords, endNumbers}
 use Rattle.negotiation.specs.Longer.{withLimit}
 use Rattle.negotiation.proofs.EndLaws.{records-more}
@@ -41,7 +41,7 @@ module _ (j : Job) (limit : ℕ) where
   net-alike s i = turns-alike (s .iteration) (congestionFor j s i) i (length (netSinks j i)) (source j i ∷ [])
 
   due-alike : (s : State) (i : ℕ) → due (withLimit j limit) s i ≡ due j s i
-  unfolding due hasSinks netSinks
+  unfolding due hasSinks netSinks allDue crowded overfull usersOf
   due-alike s i = refl
 
   route-alike : (d : Bool) (i : ℕ) (p : Progress) → routeIf d (withLimit j limit) i p ≡ routeIf d j i p

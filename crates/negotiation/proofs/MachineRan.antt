@@ -8,15 +8,15 @@ use Prim.Native.Nat.{ℕ, zero, suc, _+_, _≤_, _<_}
 use native.Mathlib.Nat.{le-refl}
 use native.Mathlib.Omega.{arith}
 use lib.ListN.{length}
-use borrow.Author.Tests.{leb-true}
 use Rattle.price.specs.Bounds.{limitMost}
 use Rattle.price.specs.Lists.{has}
 use Rattle.price.proofs.TestLaws.{either-way}
 use Rattle.negotiation.specs.Job.{Job, nets, netSinks}
 use Rattle.negotiation.specs.Records.{Record}
-use Rattle.negotiation.specs.Machine.{State, Progress, netRecords, hasSinks, due, routeNet, afterNets, iterate, firstState, stateAfter, recordsAfter}
+use Rattle.negotiation.specs.Machine.{State, Progress, netRecords, due, routeNet, afterNets, iterate, firstState, stateAfter, recordsAfter}
 use Rattle.negotiation.specs.Outcome.{hasPath}
 use Rattle.negotiation.specs.Routable.{Routable}
+use Rattle.negotiation.proofs.DueLaws.{due-some}
 use Rattle.negotiation.proofs.StateLaws.{nets-iteration}
 use Rattle.negotiation.proofs.NetLaws.{StateReady, Grown, grown-same, grown-first, grown-on, grown-ready, net-turn, net-joins, net-source, net-distinct}
 use Rattle.negotiation.proofs.FilterLaws.{All, all-splits, Of}
@@ -57,11 +57,6 @@ module _ (j : Job) (sound : Routable j) (all : Reached j) where
         once = net-distinct j sound s ready i h;
       }
 
-  -- a net that is due has sinks
-  due-some : (s : State) (i : ℕ) → due j s i ≡ true → 1 ≤ length (netSinks j i)
-  unfolding due hasSinks
-  due-some s i d = leb-true 1 (length (netSinks j i)) d
-
   pub machine-nets : {m : ℕ} {rs : List Record} {s : State} → Ran j m rs s → m < limitMost → (i : ℕ) → i ≤ nets j → NetsRan j s i (afterNets j s i)
   unfolding afterNets
   machine-nets r h zero l = none
@@ -71,7 +66,7 @@ module _ (j : Job) (sound : Routable j) (all : Reached j) where
       (λ (q : due j s i ≡ true).
       rw q
       (routed before q
-      (net-owns (afterNets j s i .state) (ran-ready j sound r before h) i (s .iteration) l (nets-iteration j s i) (due-some s i q))))
+      (net-owns (afterNets j s i .state) (ran-ready j sound r before h) i (s .iteration) l (nets-iteration j s i) (due-some j s i q))))
       (λ (q : due j s i ≡ false). rw q (kept before q))
       (either-way (due j s i))
 

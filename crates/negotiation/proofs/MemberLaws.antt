@@ -3,13 +3,13 @@
 use mathlib.Core.Bool.{Bool, true, false, not}
 use mathlib.Core.List.{List, [], _∷_, _++_}
 use mathlib.Core.Logic.{_⊎_, ⊎-elim, inl, inr}
-use mathlib.Core.Path.{_≡_, sym, _∙_, ap}
+use mathlib.Core.Path.{_≡_, refl, sym, _∙_, ap}
 use Prim.Native.Nat.{ℕ, _+_, _*_, _≤_, _<_}
 use native.Mathlib.Nat.{le-refl, add-le-add}
 use native.Mathlib.Omega.{arith}
 use lib.ListN.{length, getD}
 use borrow.Author.Tests.{not-true}
-use Rattle.price.specs.Test.{choose}
+use Rattle.price.specs.Test.{choose, both}
 use Rattle.price.specs.Lists.{every, has, distinct, total}
 use Rattle.price.proofs.TestLaws.{either-way, true≢false}
 use Rattle.price.proofs.ListLaws.{has-at, has-place, every-at, every-all, total-most, has-append-left, has-append-right}
@@ -24,12 +24,36 @@ has-append-split x (z ∷ zs) ys h =
     (λ q. ⊎-elim (λ (l : has x zs ≡ true). inl (has-rest x z zs l)) (λ r. inr r) (has-append-split x zs ys q))
     (has-cons x z (zs ++ ys) h)
 
+-- a test of every entry of two lists after each other
+pub every-append : (t : ℕ → Bool) (xs ys : List ℕ) → every t (xs ++ ys) ≡ both (every t xs) (every t ys)
+unfolding every
+every-append t [] ys = refl
+every-append t (x ∷ xs) ys = ⊎-elim
+    (λ (q : t x ≡ true). rw q (every-append t xs ys))
+    (λ (q : t x ≡ false). rw q)
+    (either-way (t x))
+
 -- a test of every entry, by membership
 pub every-has : (t : ℕ → Bool) (xs : List ℕ) → every t xs ≡ true → (v : ℕ) → has v xs ≡ true → t v ≡ true
 every-has t xs e v h = let at = has-place v xs h in sym (ap t (at .2)) ∙ every-at t xs e (at .0) (at .1)
 
 pub every-members : (t : ℕ → Bool) (xs : List ℕ) → ((v : ℕ) → has v xs ≡ true → t v ≡ true) → every t xs ≡ true
 every-members t xs h = every-all t xs (λ i l. h (getD xs i 0) (has-at xs i l))
+
+-- two tests that agree on the entries of a list, over two lists with the same entries
+pub every-alike :
+    (t u : ℕ → Bool) (xs ys : List ℕ) → ((v : ℕ) → has v xs ≡ has v ys) → ((v : ℕ) → has v xs ≡ true → t v ≡ u v) → every t xs ≡ every u ys
+every-alike t u xs ys same agree =
+    ⊎-elim
+    (λ (p : every t xs ≡ true).
+    p ∙ sym (every-members u ys (λ v h. let on = same v ∙ h in sym (agree v on) ∙ every-has t xs p v on)))
+    (λ (p : every t xs ≡ false).
+    ⊎-elim
+    (λ (q : every u ys ≡ true).
+    absurd (true≢false (sym (every-members t xs (λ v h. agree v h ∙ every-has u ys q v (sym (same v) ∙ h))) ∙ p)))
+    (λ (q : every u ys ≡ false). p ∙ sym q)
+    (either-way (every u ys)))
+    (either-way (every t xs))
 
 -- none of the entries is in a list
 pub none-has : (ys xs : List ℕ) → every (λ v. not (has v ys)) xs ≡ true → (v : ℕ) → has v xs ≡ true → has v ys ≡ false

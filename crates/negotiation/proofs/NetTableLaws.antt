@@ -33,7 +33,7 @@ use Rattle.search.specs.declared.PathAnswer.{PathAnswer}
 use Rattle.search.proofs.BlockLaws.{sound-of, kinds-some, kinds-few}
 use Rattle.search.proofs.NumberLaws.{refusal-table, refusal-work}
 use Rattle.negotiation.specs.Job.{Job, nodes, sinksBetween}
-use Rattle.negotiation.specs.Tables.{netsMost, sourcesSound, firstSinksSound, netSound, sinksSound, limitSound, termsSound, oneOf, pinsOf, sourcePins, sinkPins, faultyNets, faultyJob}
+use Rattle.negotiation.specs.Tables.{netsMost, sourcesSound, firstSinksSound, netSound, sinksSound, limitSound, ruleSound, termsSound, oneOf, pinsOf, sourcePins, sinkPins, faultyNets, faultyJob}
 use Rattle.negotiation.specs.declared.Terms.{Terms}
 use Rattle.negotiation.proofs.SinkMarkLaws.{Unmarked, unmarked-new}
 
@@ -165,9 +165,13 @@ module _ (t : Terms) where
   unfolding termsSound limitSound
   terms-high some h = rw (le-leb 1 (t .limit) some, lt-leb (t .limit) limitMost h)
 
-  pub terms-tuning : 1 ≤ t .limit → t .limit ≤ limitMost → termsSound t ≡ tuningSound (t .tuning)
+  pub terms-tuning : 1 ≤ t .limit → t .limit ≤ limitMost → tuningSound (t .tuning) ≡ false → termsSound t ≡ false
   unfolding termsSound limitSound
-  terms-tuning some few = rw (le-leb 1 (t .limit) some, le-leb (t .limit) limitMost few)
+  terms-tuning some few bad = rw (le-leb 1 (t .limit) some, le-leb (t .limit) limitMost few, bad)
+
+  pub terms-rule : 1 ≤ t .limit → t .limit ≤ limitMost → tuningSound (t .tuning) ≡ true → termsSound t ≡ ruleSound (t .rule)
+  unfolding termsSound limitSound
+  terms-rule some few fits = rw (le-leb 1 (t .limit) some, le-leb (t .limit) limitMost few, fits)
 
 module _ (kinds ss fs ts : List ℕ) (terms : Terms) where
   pub faulty-5 : sourcesSound (length kinds) ss ≡ false → faultyNets kinds ss fs ts terms ≡ 5

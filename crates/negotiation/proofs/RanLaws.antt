@@ -22,6 +22,7 @@ use Rattle.negotiation.specs.Job.{Job, nodes, nets, source, netSinks}
 use Rattle.negotiation.specs.Records.{Record, pathNodes}
 use Rattle.negotiation.specs.Machine.{State, Progress, treeAt, othersOf, usersOf, treeFrom, withNet, hasSinks, due, moveOn, firstState}
 use Rattle.negotiation.specs.Demand.{nodesIn, latest, treeRead, othersRead, upToIteration, usersRead, historyRead, endsIn}
+use Rattle.negotiation.proofs.DueLaws.{first-due}
 use Rattle.negotiation.proofs.RecordLaws.{branchEnds}
 use Rattle.negotiation.proofs.FilterLaws.{All, all-append, all-map, Of, nodes-append, ends-append, upTo-append, latest-append, nodes-of, ends-of, latest-le, latest-of, Elsewhere, nodes-none, ends-none, latest-none, upTo-all, upTo-none}
 
@@ -341,13 +342,13 @@ module _ (j : Job) {s : State} (rs : List Record) (most : All (λ r. r .iteratio
       (eq-or-lt-of-le (le-of-suc-le-suc l)))
 
 -- a net that iteration 1 does not take has no sinks
-first-done : (j : Job) (s : State) (k : ℕ) → due j s k ≡ false → Done j [] k
-unfolding due hasSinks treeRead nodesIn latest endsIn distinct has
-first-done j s k d =
+first-done : (j : Job) (s : State) (k : ℕ) → s .iteration ≡ 1 → due j s k ≡ false → Done j [] k
+unfolding hasSinks treeRead nodesIn latest endsIn distinct has
+first-done j s k first d =
     record {
       joined = λ x h.
           let at = has-place x (netSinks j k) h in
-          let none = leb-false 1 (length (netSinks j k)) d in
+          let none = leb-false 1 (length (netSinks j k)) (sym (first-due j s k first) ∙ d) in
           absurd (omega (arith, at .1));
       once = refl;
     }
@@ -356,7 +357,7 @@ module _ (j : Job) where
   -- after one or more whole iterations every net is done
   pub ran-done : {m : ℕ} {rs : List Record} {s : State} → Ran j m rs s → 1 ≤ m → (k : ℕ) → k < nets j → Done j rs k
   ran-done start some k l = absurd (not-suc-le-zero some)
-  ran-done (next start n) some k l = nets-done j [] tt (λ i h d. first-done j (firstState j) i d) n (le-refl (nets j)) k l
+  ran-done (next start n) some k l = nets-done j [] tt (λ i h d. first-done j (firstState j) i (ran-iteration j start) d) n (le-refl (nets j)) k l
   ran-done (next {rs = rs} (next r q) n) some k l =
       nets-done j rs (ran-before j (next r q)) (λ i h d. ran-done (next r q) (omega arith) i h) n (le-refl (nets j)) k l
 

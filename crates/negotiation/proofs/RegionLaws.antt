@@ -2,7 +2,7 @@
 --     Ahead, ahead                              the words of the record at a place
 --     Passing, passing-none, -next, -end        records that were passed, and those that are left
 --     record-fits, -path, -nodes, -passed       the record at a place, as the code reads it
---     Walking, walking-none, -more, -all, -can  the loops that go from record to record
+--     Walking, walking-none, -nodes, -more, -all, -can  the loops that go from record to record
 -- Assumes nothing.
 use mathlib.Core.List.{List, [], _∷_, _++_, append-assoc, append-nil}
 use mathlib.Core.Path.{_≡_, refl, sym, _∙_, ap}
@@ -152,7 +152,7 @@ walking-none n from until log l h w d = record {
 
 module _ {n from until at : ℕ} {log : List ℕ} {Done : List ℕ → Type 0} (s : Walking n from until log at Done) where
   -- the nodes of all records: those of the records that were passed, of the next one, and others
-  walking-nodes : (l : at < until) → pathNodes (decode (slice from until log)) ≡ pathNodes (s .passed) ++ (slice (at + 6) (at + 6 + getD log (at + 5) 0) log ++ pathNodes (passing-next (s .rest) l (s .walk) .later))
+  pub walking-nodes : (l : at < until) → pathNodes (decode (slice from until log)) ≡ pathNodes (s .passed) ++ (slice (at + 6) (at + 6 + getD log (at + 5) 0) log ++ pathNodes (passing-next (s .rest) l (s .walk) .later))
   unfolding pathNodes
   walking-nodes l =
       let next = passing-next (s .rest) l (s .walk) in

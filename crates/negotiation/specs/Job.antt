@@ -18,7 +18,7 @@ pub record Job : Type 0 where
   pub firstSinks : List ℕ
   -- 7. sink node
   pub sinks : List ℕ
-  -- the limit of iterations, which "counts as table 8", and the tuning of request 2.1
+  -- the limit of iterations, which "counts as table 8", the tuning of request 2.1 and the rule of request 2.7
   pub terms : Terms
 
 abbrev pub nodes : Job → ℕ
@@ -39,9 +39,9 @@ sinksBetween firstSinks sinks i = slice (getD firstSinks i 0) (getD firstSinks (
 unfoldable pub netSinks : Job → ℕ → List ℕ
 netSinks j i = sinksBetween (j .firstSinks) (j .sinks) i
 
--- the terms of a job that asks for no tuning
+-- the terms of a job that asks for no tuning and no rule
 abbrev pub plainTerms : ℕ → Terms
-plainTerms limit = record { limit = limit; tuning = plain }
+plainTerms limit = record { limit = limit; tuning = plain; rule = 1 }
 
 -- the job of seven tables and the terms
 abbrev pub jobOf : List ℕ → List ℕ → List ℕ → List ℕ → List ℕ → List ℕ → List ℕ → Terms → Job

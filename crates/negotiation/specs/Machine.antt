@@ -5,12 +5,13 @@ use mathlib.Core.List.{List, [], _∷_, _++_}
 use Prim.Native.Nat.{ℕ, zero, suc, _+_}
 use lib.Dec.{eqb, ltb, leb}
 use lib.ListN.{length, getD, set, replicate}
-use Rattle.price.specs.Test.{choose, both}
-use Rattle.price.specs.Lists.{has, upTo, countBelow}
+use Rattle.price.specs.Test.{choose, both, either}
+use Rattle.price.specs.Lists.{every, has, upTo, countBelow}
 use Rattle.price.specs.Prices.{nextFactor, nextHistory}
 use Rattle.search.specs.Turn.{Congestion, congestionOf, priceAt, Turn, joins, stuck, turn}
 use Rattle.negotiation.specs.Job.{Job, nodes, nets, source, netSinks}
 use Rattle.negotiation.specs.Records.{Record, pathNodes}
+use Rattle.negotiation.specs.declared.Terms.{Terms}
 
 -- "Its state is iteration, factor, histories and one tree a net"
 pub record State : Type 0 where
@@ -84,9 +85,23 @@ routeNet j i p = withNet j i p (netRecords j (p .state) i)
 unfoldable pub hasSinks : Job → ℕ → Bool
 hasSinks j i = leb 1 (length (netSinks j i))
 
--- the nets that an iteration takes, by the state at its start: those with sinks, which in a sound job all nets are
+-- a node has more users than its capacity
+unfoldable pub overfull : Job → List (List ℕ) → ℕ → Bool
+overfull j trees v = ltb (getD (j .block .capacities) v 0) (usersOf j trees v)
+
+-- request 2.7: "Under rule 1, or without the line, negotiation and log are as before. Under rule 2, from iteration 2 on, only" some nets
+-- make turns: else an iteration takes every net
+unfoldable pub allDue : Terms → ℕ → Bool
+allDue g t = either (eqb (g .rule) 1) (leb t 1)
+
+-- "nets whose tree at the iteration's start has an overfull node"
+unfoldable pub crowded : Job → List (List ℕ) → ℕ → Bool
+crowded j trees i = not (every (λ v. not (overfull j trees v)) (treeAt trees i))
+
+-- the nets that an iteration takes, by the state at its start; they "drop their tree and make turns; the other trees remain". A net without
+-- sinks makes none
 unfoldable pub due : Job → State → ℕ → Bool
-due j s i = hasSinks j i
+due j s i = both (hasSinks j i) (either (allDue (j .terms) (s .iteration)) (crowded j (s .trees) i))
 
 -- a net that is not due makes no turns and keeps its tree
 abbrev pub routeIf : Bool → Job → ℕ → Progress → Progress
@@ -101,10 +116,6 @@ afterNets j s (suc i) = routeIf (due j s i) j i (afterNets j s i)
 -- a whole iteration
 unfoldable pub iterate : Job → State → Progress
 iterate j s = afterNets j s (nets j)
-
--- a node has more users than its capacity
-unfoldable pub overfull : Job → List (List ℕ) → ℕ → Bool
-overfull j trees v = ltb (getD (j .block .capacities) v 0) (usersOf j trees v)
 
 -- "nodes over capacity"
 unfoldable pub overCount : Job → List (List ℕ) → ℕ

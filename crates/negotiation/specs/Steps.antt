@@ -1,13 +1,13 @@
 -- What the private functions of the router do to its lists. Only their contracts cite this file: no caller has to believe it.
 -- Assumes nothing.
-use mathlib.Core.Bool.{Bool, true}
+use mathlib.Core.Bool.{Bool, true, not}
 use mathlib.Core.List.{List, [], _∷_, _++_}
 use mathlib.Core.Path.{_≡_}
 use Prim.Native.Nat.{ℕ, _+_, _*_, _-_, _≤_, _<_}
 use lib.Dec.{eqb, ltb}
 use lib.ListN.{length, getD, take, drop, set, replicate}
 use lib.Seq.{slice}
-use Rattle.price.specs.Test.{choose, both}
+use Rattle.price.specs.Test.{choose, both, either}
 use Rattle.price.specs.Lists.{every, has, distinct}
 use Rattle.price.specs.Bounds.{factorMost}
 use Rattle.search.specs.Block as block
@@ -150,6 +150,31 @@ pub record Counted (n : ℕ) (tree users marks users′ marks′ : List ℕ) : T
   pub marks-long : length marks′ ≡ length marks
   pub no-marks : NoMarks n marks′
   pub users-at : (v : ℕ) → v < n → getD users′ v 0 ≡ getD users v 0 + choose (has v tree) 1 0
+
+-- ---- the nets that an iteration takes
+
+-- a node has no more users than its capacity
+abbrev pub roomy : (capacities users : List ℕ) → ℕ → Bool
+roomy capacities users v = not (ltb (getD capacities v 0) (getD users v 0))
+
+-- one of these nodes has more
+unfoldable pub someOver : (capacities users vs : List ℕ) → Bool
+someOver capacities users vs = not (every (roomy capacities users) vs)
+
+-- net k has sinks, and all such nets are due, or a node of its records in the log is overfull
+abbrev pub takes : (all : Bool) (capacities firstSinks log from to users : List ℕ) → ℕ → Bool
+takes all capacities firstSinks log from to users k =
+    both (ltb (getD firstSinks k 0) (getD firstSinks (k + 1) 0))
+    (either all (someOver capacities users (pathNodes (decode (slice (getD from k 0) (getD to k 0) log)))))
+
+-- every net has its place in each list, and its tree stands in the log
+pub record DueReady (capacities firstSinks log from to users : List ℕ) : Type 0 where
+  pub capacities-long : length capacities ≡ length users
+  pub firsts-long : length firstSinks ≡ length from + 1
+  pub to-long : length to ≡ length from
+  pub order : (k : ℕ) → k < length from → getD from k 0 ≤ getD to k 0
+  pub within : (k : ℕ) → k < length from → getD to k 0 ≤ length log
+  pub whole : (k : ℕ) → k < length from → Whole (length users) (slice (getD from k 0) (getD to k 0) log)
 
 -- ---- a net in an iteration
 

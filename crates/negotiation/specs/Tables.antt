@@ -44,13 +44,17 @@ sinksSound n sources firstSinks sinks =
 unfoldable pub limitSound : ℕ → Bool
 limitSound limit = both (leb 1 limit) (leb limit limitMost)
 
--- table 8: the limit, and by request 2.1 the tuning: "Bad values fall .. under 5 with table 8 in a direct call"
-unfoldable pub termsSound : Terms → Bool
-termsSound t = both (limitSound (t .limit)) (tuningSound (t .tuning))
-
--- one of two kinds
+-- one of two numbers
 unfoldable pub oneOf : ℕ → ℕ → ℕ → Bool
-oneOf a b kind = either (eqb kind a) (eqb kind b)
+oneOf a b n = either (eqb n a) (eqb n b)
+
+-- request 2.7: rule 1 or rule 2, "Other values are 2, or 5 with table 8."
+abbrev pub ruleSound : ℕ → Bool
+ruleSound rule = oneOf 1 2 rule
+
+-- table 8: the limit, by request 2.1 the tuning ("Bad values fall .. under 5 with table 8 in a direct call"), by request 2.7 the rule
+unfoldable pub termsSound : Terms → Bool
+termsSound t = both (limitSound (t .limit)) (both (tuningSound (t .tuning)) (ruleSound (t .rule)))
 
 -- "A source must now be of kind 0 or 2"
 abbrev pub sourceKind : ℕ → Bool

@@ -18,10 +18,12 @@ const SINKS_MOST: usize = 4096;
 // The most entries of table 6: one more than nets.
 const FIRST_SINKS_MOST: usize = 513;
 
-// What a job asks beside its seven tables: the limit of iterations and the tuning of the tariff. A refusal counts it as table 8.
+// What a job asks beside its seven tables: the limit of iterations, the tuning of the tariff, and the rule by which an iteration takes
+// nets: 1, all; 2, from iteration 2 on only crowded ones. A refusal counts it as table 8.
 pub struct Terms {
     pub limit: u32,
     pub tuning: Tuning,
+    pub rule: u32,
 }
 
 // How a run ends.
@@ -63,6 +65,7 @@ mod trees;
 mod turns;
 
 pub use job_terms::plain_terms;
+pub use job_terms::rule_sound;
 pub use job_terms::terms_sound;
 pub use join::first_of;
 pub use pins::sink_kind;

@@ -163,7 +163,17 @@ fn go_on(
     let n = kind.len();
     let mut tariff = begun;
     'iterations: loop {
-        due::mark_due(first_sink, due);
+        due::mark_due(
+            terms,
+            tariff,
+            capacity,
+            first_sink,
+            log,
+            tree_from,
+            tree_to,
+            users,
+            due,
+        );
         let mut net = 0;
         while net < source.len() {
             let from = first_sink[net] as usize;

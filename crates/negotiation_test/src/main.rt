@@ -50,8 +50,8 @@ fn answer(r: RouteAnswer) {
     show::entry(r.used);
 }
 
-// The limit and the tuning, as the numbers of line 1 have them.
-fn terms(n: [u32; 7]) -> Terms {
+// The limit, the tuning and the rule, as the numbers of line 1 have them.
+fn terms(n: [u32; 8]) -> Terms {
     let tuning = Tuning {
         first: n[1],
         up: n[2],
@@ -61,6 +61,7 @@ fn terms(n: [u32; 7]) -> Terms {
     Terms {
         limit: n[0],
         tuning: tuning,
+        rule: n[5],
     }
 }
 
@@ -102,12 +103,12 @@ fn memory(
     source: &[u16],
     first_sink: &[u32],
     sink: &[u16],
-    n: [u32; 7],
+    n: [u32; 8],
 ) {
     let mut work = [7u64; 128];
     let mut log = [7u32; 256];
-    let entries = read::of_entries(n[5], &work);
-    let words = read::of_words(n[6], &log);
+    let entries = read::of_entries(n[6], &work);
+    let words = read::of_words(n[7], &log);
     line(
         kind,
         capacity,
@@ -129,7 +130,7 @@ fn nets(
     capacity: &[u8],
     first_edge: &[u32],
     edge_target: &[u16],
-    n: [u32; 7],
+    n: [u32; 8],
 ) {
     let mut source = [0u16; 64];
     let mut first_sink = [0u32; 64];
@@ -150,7 +151,7 @@ fn nets(
 }
 
 // The tables of the block, and the rest of the case.
-fn block(case: &[u8], n: [u32; 7]) {
+fn block(case: &[u8], n: [u32; 8]) {
     let mut kind = [0u8; 64];
     let mut capacity = [0u8; 64];
     let mut first_edge = [0u32; 64];
@@ -170,10 +171,10 @@ fn block(case: &[u8], n: [u32; 7]) {
 }
 
 fn one(case: &[u8]) {
-    let mut n = [0u32; 7];
+    let mut n = [0u32; 8];
     show::name(case);
     let count = read::words(case, 1, &mut n);
-    read::exactly(count, 7);
+    read::exactly(count, 8);
     read::end(case, 9);
     block(case, n);
     show::line_end();

@@ -1,33 +1,32 @@
 -- The first line: the bounds of its counts, what it gives by them, and the lines before the nodes.
 --     head-nodes-low to head-limit, head-bounds   the bounds, one by one and where all are kept
 --     head-malformed, -beyond, -read              1, 2, or the values
---     head-tuned, -untuned, -refused              the line with the tuning after it, or the refusal
---     head-counts, head-limit-sound, head-place, tuned-place   the counts, the limit and places of what was read
+--     head-read-on, -stopped, -refused            the line with the terms after it, or the refusal
+--     head-counts, head-place                     the counts, and the place where the line ends
 -- Assumes nothing.
 use mathlib.Core.Bool.{true, false}
 use mathlib.Core.List.{List, [], _∷_}
 use mathlib.Core.Path.{_≡_, refl, _∙_, sym, ap}
-use Prim.Native.Nat.{ℕ, _+_, _≤_, _<_}
+use Prim.Native.Nat.{ℕ, _≤_, _<_}
 use lib.Dec.{leb}
-use lib.ListN.{length, getD, drop}
+use lib.ListN.{length, drop}
 use borrow.Author.Tests.{le-leb, lt-leb, leb-true}
 use Rattle.price.specs.Test.{both}
 use Rattle.price.specs.Bounds.{nodesMost, limitMost}
-use Rattle.price.specs.declared.Tuning.{Tuning}
 use Rattle.price.proofs.TestLaws.{both-left, both-right}
 use Rattle.search.specs.Tables.{edgesMost}
-use Rattle.negotiation.specs.Tables.{netsMost, limitSound}
+use Rattle.negotiation.specs.Tables.{netsMost}
 use Rattle.negotiation.specs.declared.Terms.{Terms}
 use Rattle.text.specs.Lines.{letterF, line}
-use Rattle.text.specs.JobText.{values, refused, Part, part, stopped, andThen, Counts, between, headWithin, headLine, tuningPart, countsOf, headPart}
-use Rattle.text.specs.Steps.{fieldsAt, headAt, HeadPlace, withLimit, tunedAt, TunedPlace}
+use Rattle.text.specs.JobText.{values, refused, part, stopped, between, headWithin, headLine, termsPart, countsOf, headPart}
+use Rattle.text.specs.Steps.{fieldsAt, headAt, HeadPlace, termsAt}
 use Rattle.text.specs.ReadSteps.{CountsWithin}
 use Rattle.text.specs.declared.fields.LineFields.{LineFields}
 use Rattle.text.specs.declared.fields.LineFields.the-variants as lf
 use Rattle.text.specs.declared.head.Head.{Head}
 use Rattle.text.specs.declared.head.Head.the-variants as hd
-use Rattle.text.specs.declared.tuning.Tuned.{Tuned}
-use Rattle.text.specs.declared.tuning.Tuned.the-variants as tu
+use Rattle.text.specs.declared.optional.TermsRead.{TermsRead}
+use Rattle.text.specs.declared.optional.TermsRead.the-variants as tr
 use Rattle.text.proofs.JudgedLaws.{line-malformed, line-taken, judged-beyond, judged-taken, judged-values}
 
 module _ (n e t l : ℕ) where
@@ -77,15 +76,6 @@ head-bounds n edges nets limit e =
       nets-most = leb-true nets netsMost (both-right (leb 1 nets) (leb nets netsMost) (both-left (between 1 netsMost nets) limits last));
     }
 
--- the limit keeps its bounds too
-head-limited : (n edges nets limit : ℕ) → headWithin (n ∷ edges ∷ nets ∷ limit ∷ []) ≡ true → limitSound limit ≡ true
-unfolding headWithin limitSound
-head-limited n edges nets limit e =
-    let limits = between 1 limitMost limit in
-    let rest = both (leb edges edgesMost) (both (between 1 netsMost nets) limits) in
-    let after = both-right (between 1 nodesMost n) rest e in
-    both-right (between 1 netsMost nets) limits (both-right (leb edges edgesMost) (both (between 1 netsMost nets) limits) after)
-
 module _ (text : List ℕ) {r : LineFields} (read : fieldsAt 4 text r ≡ line letterF 4 text) where
   pub head-malformed : r ≡ lf.Fault → refused 1 ≡ headLine text
   unfolding headLine
@@ -99,17 +89,6 @@ module _ (text : List ℕ) {r : LineFields} (read : fieldsAt 4 text r ≡ line l
     pub head-read : headWithin (a ∷ b ∷ c ∷ d ∷ []) ≡ true → values (a ∷ b ∷ c ∷ d ∷ []) (drop next text) ≡ headLine text
     unfolding headLine
     head-read w = sym (judged-taken headWithin (λ vs. true) (line-taken 4 text read e) w refl)
-
--- the counts of the first line, with these terms
-abbrev countsWith : List ℕ → Terms → Counts
-countsWith vs t = record { nodes = getD vs 0 0; edges = getD vs 1 0; nets = getD vs 2 0; terms = t }
-
--- the limit may be put to the tuning before or after the counts are
-counts-through :
-    (vs : List ℕ) (p : Part Tuning) → andThen p (λ g at more. part (countsOf vs g) at more)
-    ≡ andThen (withLimit (getD vs 3 0) p) (λ t at more. part (countsWith vs t) at more)
-counts-through vs (part g at more) = refl
-counts-through vs (stopped k at) = refl
 
 -- the first line as it was read, and the lines before the nodes
 module _ (text : List ℕ) (x : Head) (read : headAt text x ≡ headLine text) where
@@ -127,26 +106,17 @@ module _ (text : List ℕ) (x : Head) (read : headAt text x ≡ headLine text) w
     pub head-counts : CountsWithin n edges nets
     head-counts = head-bounds n edges nets limit bounds
 
-    pub head-limit-sound : limitSound limit ≡ true
-    head-limit-sound = head-limited n edges nets limit bounds
-
-    module _ (y : Tuned) (tuned : tunedAt text y ≡ withLimit limit (tuningPart 2 (drop next text))) where
-      pub head-tuned :
-          {t : Terms} {at line : ℕ} → y ≡ tu.Read t at line
-          → part (countsWith (n ∷ edges ∷ nets ∷ limit ∷ []) t) line (drop at text) ≡ headPart text
+    module _ (y : TermsRead) (asked : termsAt text y ≡ termsPart limit 2 (drop next text)) where
+      pub head-read-on :
+          {t : Terms} {at line : ℕ} → y ≡ tr.Read t at line
+          → part (countsOf (n ∷ edges ∷ nets ∷ limit ∷ []) t) line (drop at text) ≡ headPart text
       unfolding headPart
-      head-tuned known =
-          rw (← read, is, counts-through (n ∷ edges ∷ nets ∷ limit ∷ []) (tuningPart 2 (drop next text)), ← tuned, known)
+      head-read-on known = rw (← read, is, ← asked, known)
 
-      pub head-untuned : {k line : ℕ} → y ≡ tu.Stopped k line → stopped k line ≡ headPart text
+      pub head-stopped : {k line : ℕ} → y ≡ tr.Stopped k line → stopped k line ≡ headPart text
       unfolding headPart
-      head-untuned known =
-          rw (← read, is, counts-through (n ∷ edges ∷ nets ∷ limit ∷ []) (tuningPart 2 (drop next text)), ← tuned, known)
+      head-stopped known = rw (← read, is, ← asked, known)
 
 -- where the first line ends
 pub head-place : (text : List ℕ) (x : Head) {n edges nets limit next : ℕ} → x ≡ hd.Counts n edges nets limit next → HeadPlace text x → (1 ≤ next) × (next ≤ length text)
 head-place text x is place = rw is at place
-
--- where the tuning ends
-pub tuned-place : (text : List ℕ) (y : Tuned) {t : Terms} {at line : ℕ} → y ≡ tu.Read t at line → TunedPlace text y → (at ≤ length text) × (line ≤ at + 1)
-tuned-place text y is place = rw is at place

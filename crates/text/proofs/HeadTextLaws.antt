@@ -1,6 +1,6 @@
 -- The lines before the nodes: reading them gives counts and terms within their bounds, and printing these gives the lines' bytes.
 -- Assumes nothing.
-use mathlib.Core.Bool.{Bool, true, false}
+use mathlib.Core.Bool.{true}
 use mathlib.Core.List.{List, [], _∷_, _++_}
 use mathlib.Core.Path.{_≡_, refl, _∙_, ap}
 use Prim.Native.Nat.{ℕ, _≤_, _^_}
@@ -8,21 +8,21 @@ use native.Mathlib.Omega.{arith}
 use lib.Dec.{leb, ltb}
 use lib.ListN.{getD}
 use borrow.Author.Tests.{le-leb, leb-true, lt-ltb}
-use Rattle.price.specs.Test.{choose, both}
+use Rattle.price.specs.Test.{both}
 use Rattle.price.specs.Bounds.{nodesMost, limitMost}
 use Rattle.price.specs.Lists.{every}
 use Rattle.price.specs.Tuning.{tuningSound}
-use Rattle.price.specs.declared.Tuning.{Tuning}
 use Rattle.price.proofs.TestLaws.{both-true, both-left, both-right}
 use Rattle.search.specs.Tables.{edgesMost}
-use Rattle.negotiation.specs.Tables.{netsMost}
-use Rattle.text.specs.Lines.{letterF, letterP, begins, printLine}
-use Rattle.text.specs.JobText.{between, headWithin, headLine, part, andThen, Counts, tuningPart, countsOf, headPart}
-use Rattle.text.specs.Printed.{tuningText, Written}
+use Rattle.negotiation.specs.Tables.{netsMost, ruleSound}
+use Rattle.negotiation.specs.declared.Terms.{Terms}
+use Rattle.text.specs.Lines.{letterF, letterN, begins, printLine}
+use Rattle.text.specs.JobText.{between, headWithin, headLine, part, andThen, Counts, termsPart, countsOf, headPart}
+use Rattle.text.specs.Printed.{Form, termsText, Allowed}
 use Rattle.text.proofs.PrintLaws.{LineRead, judged-line, line-judged, onward-part, then-part, four-of}
-use Rattle.text.proofs.TuningTextLaws.{TuningTold, tuning-read, tuning-printed}
+use Rattle.text.proofs.OptionalTextLaws.{TermsTold, terms-read, linesAfter, terms-printed}
 
--- the bounds of the three counts, of the limit and of the tuning
+-- the bounds of the three counts, of the limit, of the tuning and of the rule
 pub record HeadBounds (c : Counts) : Type 0 where
   pub some-nodes : 1 ≤ c .nodes
   pub few-nodes : c .nodes ≤ nodesMost
@@ -32,6 +32,7 @@ pub record HeadBounds (c : Counts) : Type 0 where
   pub some-turns : 1 ≤ c .terms .limit
   pub few-turns : c .terms .limit ≤ limitMost
   pub tuned : tuningSound (c .terms .tuning) ≡ true
+  pub ruled : ruleSound (c .terms .rule) ≡ true
 
 -- ---- from reading
 
@@ -41,9 +42,10 @@ between-low low high x e = leb-true low x (both-left (leb low x) (leb x high) e)
 between-high : (low high x : ℕ) → between low high x ≡ true → x ≤ high
 between-high low high x e = leb-true x high (both-right (leb low x) (leb x high) e)
 
-bounds-hold : (vs : List ℕ) (g : Tuning) → headWithin vs ≡ true → tuningSound g ≡ true → HeadBounds (countsOf vs g)
+bounds-hold :
+    (vs : List ℕ) (t : Terms) → headWithin vs ≡ true → t .limit ≡ getD vs 3 0 → tuningSound (t .tuning) ≡ true → ruleSound (t .rule) ≡ true → HeadBounds (countsOf vs t)
 unfolding headWithin
-bounds-hold vs g e s =
+bounds-hold vs t e same s r =
     let n = getD vs 0 0 in
     let m = getD vs 1 0 in
     let k = getD vs 2 0 in
@@ -60,25 +62,30 @@ bounds-hold vs g e s =
       few-edges = leb-true m edgesMost p1;
       some-nets = between-low 1 netsMost k p2;
       few-nets = between-high 1 netsMost k p2;
-      some-turns = between-low 1 limitMost l p3;
-      few-turns = between-high 1 limitMost l p3;
+      some-turns = rw same (between-low 1 limitMost l p3);
+      few-turns = rw same (between-high 1 limitMost l p3);
       tuned = s;
+      ruled = r;
     }
 
--- the bytes are those of the counts' F line, and of the P line where it is written
-abbrev pub HeadTold : Counts → List ℕ → List ℕ → Type 0
-HeadTold c bs rest =
-    HeadBounds c × (written : Bool) × Written written (c .terms .tuning)
-    × (bs ≡ printLine letterF (c .nodes ∷ c .edges ∷ c .nets ∷ c .terms .limit ∷ []) ++ (tuningText written (c .terms .tuning) ++ rest))
+-- the bytes are those of the counts' F line, and of the lines after it that are written
+pub record HeadTold (c : Counts) (bs rest : List ℕ) : Type 0 where
+  pub bounds : HeadBounds c
+  pub form : Form
+  pub allowed : Allowed form (c .terms)
+  pub text : bs ≡ printLine letterF (c .nodes ∷ c .edges ∷ c .nets ∷ c .terms .limit ∷ []) ++ (termsText form (c .terms) ++ rest)
 
-lines-told : (bs vs mid rest : List ℕ) (g : Tuning) → LineRead letterF 4 headWithin (λ vs. true) bs vs mid → TuningTold g mid rest → HeadTold (countsOf vs g) bs rest
-lines-told bs vs mid rest g head tuned = (
-  bounds-hold vs g (head .bounds) (tuned .0),
-  tuned .1,
-  tuned .2,
-  head .text ∙ ap (λ (us : List ℕ). printLine letterF us ++ mid) (four-of vs (head .long))
-      ∙ ap (λ (us : List ℕ). printLine letterF (getD vs 0 0 ∷ getD vs 1 0 ∷ getD vs 2 0 ∷ getD vs 3 0 ∷ []) ++ us) (tuned .3),
-)
+lines-told :
+    (bs vs mid rest : List ℕ) (t : Terms) → LineRead letterF 4 headWithin (λ vs. true) bs vs mid → TermsTold (getD vs 3 0) mid t rest → HeadTold (countsOf vs t) bs rest
+lines-told bs vs mid rest t head asked =
+    record {
+      bounds = bounds-hold vs t (head .bounds) (asked .limit-is) (asked .tuned) (asked .ruled);
+      form = asked .form;
+      allowed = asked .allowed;
+      text =
+          head .text ∙ ap (λ (us : List ℕ). printLine letterF us ++ mid) (four-of vs (head .long))
+          ∙ rw (← asked .limit-is) (ap (λ (us : List ℕ). printLine letterF (getD vs 0 0 ∷ getD vs 1 0 ∷ getD vs 2 0 ∷ t .limit ∷ []) ++ us) (asked .text));
+    }
 
 told-moved : (c d : Counts) (bs mid rest : List ℕ) → c ≡ d → mid ≡ rest → HeadTold c bs mid → HeadTold d bs rest
 told-moved c d bs mid rest same follow told = rw (same, follow) at told
@@ -86,17 +93,17 @@ told-moved c d bs mid rest same follow told = rw (same, follow) at told
 pub head-read : (bs : List ℕ) (c : Counts) (at : ℕ) (rest : List ℕ) → headPart bs ≡ part c at rest → HeadTold c bs rest
 unfolding headPart headLine
 head-read bs c at rest e =
-    let r = onward-part (headLine bs) 1 (λ vs rest. andThen (tuningPart 2 rest) (λ g at more. part (countsOf vs g) at more)) c at rest e in
+    let r = onward-part (headLine bs) 1 (λ vs rest. andThen (termsPart (getD vs 3 0) 2 rest) (λ t at more. part (countsOf vs t) at more)) c at rest e in
     let vs : List ℕ = r .0 in
     let mid : List ℕ = r .1 in
     let head : LineRead letterF 4 headWithin (λ vs. true) bs vs mid = judged-line headWithin (λ vs. true) letterF 4 bs vs mid (r .2) in
-    let t = then-part (tuningPart 2 mid) (λ g at more. part (countsOf vs g) at more) c at rest (r .3) in
-    let g : Tuning = t .0 in
-    let more : List ℕ = t .2 in
-    let made : part (countsOf vs g) (t .1) more ≡ part c at rest = t .4 in
-    let same : countsOf vs g ≡ c = cc in
+    let asked = then-part (termsPart (getD vs 3 0) 2 mid) (λ t at more. part (countsOf vs t) at more) c at rest (r .3) in
+    let t : Terms = asked .0 in
+    let more : List ℕ = asked .2 in
+    let made : part (countsOf vs t) (asked .1) more ≡ part c at rest = asked .4 in
+    let same : countsOf vs t ≡ c = cc in
     let follow : more ≡ rest = cc in
-    told-moved (countsOf vs g) c bs more rest same follow (lines-told bs vs mid more g head (tuning-read 2 (t .1) mid g more (t .3)))
+    told-moved (countsOf vs t) c bs more rest same follow (lines-told bs vs mid more t head (terms-read (getD vs 3 0) 2 (asked .1) mid more t (asked .3)))
 
 -- ---- from printing
 
@@ -116,16 +123,15 @@ module _ (c : Counts) (rest : List ℕ) (h : HeadBounds c) where
       (both-true (both-true (le-leb 1 (c .nets) (h .some-nets)) (le-leb (c .nets) netsMost (h .few-nets)))
       (both-true (le-leb 1 (c .terms .limit) (h .some-turns)) (le-leb (c .terms .limit) limitMost (h .few-turns)))))
 
-  -- where the tuning is left out no P may follow
+  -- the nodes' lines follow
   pub head-printed :
-      (written : Bool) → Written written (c .terms .tuning) → (written ≡ false → begins letterP rest ≡ false)
-      → headPart
-      (printLine letterF (c .nodes ∷ c .edges ∷ c .nets ∷ c .terms .limit ∷ []) ++ (tuningText written (c .terms .tuning) ++ rest))
-      ≡ part c (choose written 3 2) rest
+      (form : Form) → Allowed form (c .terms) → begins letterN rest ≡ true
+      → headPart (printLine letterF (c .nodes ∷ c .edges ∷ c .nets ∷ c .terms .limit ∷ []) ++ (termsText form (c .terms) ++ rest))
+      ≡ part c (linesAfter form 2) rest
   unfolding headPart headLine
-  head-printed written may next =
+  head-printed form allowed next =
       rw (
         line-judged headWithin (λ vs. true) letterF (c .nodes ∷ c .edges ∷ c .nets ∷ c .terms .limit ∷ [])
-            (tuningText written (c .terms .tuning) ++ rest) head-small head-within refl,
-        tuning-printed (c .terms .tuning) 2 rest (h .tuned) written may next,
+            (termsText form (c .terms) ++ rest) head-small head-within refl,
+        terms-printed (c .terms) form allowed rest 2 (h .tuned) (h .ruled) next,
       )

@@ -2,14 +2,14 @@
 -- What the crate shows of its definitions:
 --     TextHolds         a text is taken for a job exactly where it is a printed form of this sound job
 --     LogHolds          an accepted job's log is never refused by 10
---     BranchHolds       the branches of an accepted job's routes are those of its nets' final trees
---     ListedHolds       the B lines list exactly the path steps of the last iteration's records, the J lines the nets joined into another
+--     BranchHolds       the branches of any sound log's routes are those of its nets' final trees
+--     ListedHolds       the B lines list exactly the path steps of each net's latest records, the J lines the nets joined into another
 -- A line at a place of the text, for the functions that read it:
 --     FieldLaws         a byte, a number, a field, the fields of a line
 --     SideLaws          two clauses of a contract in a walk by hand
 --     JudgedLaws        a line's letter, and its judgement by 1, 2 or 3
 --     HeadLineLaws      the F line, and the lines before the nodes
---     TuningLineLaws    the P line
+--     OptionalLineLaws  a line that may be left out: P and V
 --     NodeLineLaws      an N line, and the loop over them
 --     EdgeLineLaws      an E line, and the loop over them
 --     NetLineLaws       an S or a T line
@@ -24,7 +24,7 @@
 --     DecimalLaws       a number's digits, printed and counted
 --     PrintLaws         a field and a line
 --     HeadTextLaws      the F line
---     TuningTextLaws    the P line
+--     OptionalTextLaws  the P and the V line
 --     NodeTextLaws      the N lines
 --     FirstPlaceLaws    first places of rows
 --     EdgeRisingLaws    rising edges and sound rows
@@ -35,12 +35,14 @@
 -- Logs and routes:
 --     RecordTestLaws    the tests of a path and of a record
 --     LogLaws           going from record to record
+--     TurnedLaws        the turns of a run, and the log of an accepted job
 --     ShortRecordLaws   numbers of a sound record are short enough for a field
---     StepListLaws      path steps as a list
+--     StepListLaws      path steps of the latest records as a list
 --     JoinListLaws      joined nets as a list
 --     PlacedLaws        bytes placed in a buffer
 --     StepTextLaws      the lines of one path
---     BranchLaws        the lines of one iteration
+--     BranchLaws        the lines of a net's records, and of the nets in order
+--     LatestLaws        where the latest records of each net stand
 --     JoinTextLaws      the marks of first nets, and the J lines
 --     RouteTextLaws     the parts of the routes text, and the writer's answers
 --     RouteLineLaws     B and J lines read again
@@ -50,7 +52,7 @@ pub mod FieldLaws
 pub mod SideLaws
 pub mod JudgedLaws
 pub mod HeadLineLaws
-pub mod TuningLineLaws
+pub mod OptionalLineLaws
 pub mod NodeLineLaws
 pub mod EdgeLineLaws
 pub mod NetLineLaws
@@ -63,7 +65,7 @@ pub mod DecimalLaws
 pub mod PlacedLaws
 pub mod LineReplyLaws
 pub mod PrintLaws
-pub mod TuningTextLaws
+pub mod OptionalTextLaws
 pub mod HeadTextLaws
 pub mod NodeTextLaws
 pub mod FirstPlaceLaws
@@ -76,13 +78,15 @@ pub mod RecordTestLaws
 pub mod LogLaws
 pub mod StepTextLaws
 pub mod BranchLaws
+pub mod LatestLaws
 pub mod JoinTextLaws
 pub mod RouteTextLaws
-pub mod BranchHolds
+pub mod TurnedLaws
 pub mod LogHolds
 pub mod RouteLineLaws
 pub mod StepListLaws
 pub mod ShortRecordLaws
+pub mod BranchHolds
 pub mod JoinListLaws
 pub mod ListedHolds
 pub mod TextHolds

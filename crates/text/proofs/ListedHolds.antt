@@ -1,30 +1,30 @@
--- The B lines of a sound log's routes text list exactly the path steps of the records of the last record's iteration, in log order,
+-- The B lines of a sound log's routes text list exactly the path steps of each net's latest records, by net and within a net in log order,
 -- and the J lines after them exactly the nets of table 5 that are joined into another, by net.
 --     routes-listed                 what a sound log's routes text lists
 --     read-once                     a text's lines give one list of branches and one of joined nets
 --     text-once                     no other text lists the same
---     listed-only, listed-all       a branch is listed exactly where a record of that iteration has it as a step of its path
+--     listed-only, listed-all       a branch is listed exactly where a record of its net's latest iteration has it as a step of its path
 --     joined-only, joined-all       a net is listed exactly where another is the first of its source
 -- Assumes nothing.
 use mathlib.Core.Bool.{Bool, true}
-use mathlib.Core.List.{List, [], _∷_, _++_, map, map-append, List·Memᴰ, Memᴰ·cast}
+use mathlib.Core.List.{List, [], _∷_, _++_, map, map-append, List·Memᴰ}
 use mathlib.Core.Path.{_≡_, refl, sym, _∙_, ap, subst}
-use Prim.Native.Nat.{ℕ, _-_, _≤_, _<_}
+use Prim.Native.Nat.{ℕ, _-_, _≤_}
 use native.Mathlib.Omega.{arith}
-use lib.Dec.{leb, ltb, eqb}
+use lib.Dec.{leb, eqb}
 use lib.ListN.{length, drop, length-append, length-map}
 use lib.Seq.{getD-at}
-use borrow.Author.Tests.{leb-true, ltb-true}
+use borrow.Author.Tests.{leb-true}
 use Rattle.price.specs.Bounds.{nodesMost}
 use Rattle.price.proofs.TestLaws.{both-left}
 use Rattle.negotiation.specs.Records.{Record, decode}
-use Rattle.negotiation.specs.Tables.{netsMost, sourcesSound}
-use Rattle.negotiation.specs.Join.{leads}
+use Rattle.negotiation.specs.Tables.{sourcesSound}
 use Rattle.negotiation.proofs.JobLaws.{sources-few}
-use Rattle.text.specs.Routes.{logSound, soundWords, netWritable, Branch, lastIteration, routeBranches, branchText, Join, routeJoins, joinText, routesText}
-use Rattle.text.specs.Listed.{RouteLines, ended, branch, join, stepsOf, Listed, StepOf, JoinOf}
+use Rattle.text.specs.Routes.{logSound, soundWords, netWritable, Branch, lastIteration, branchText, Join, routeJoins, joinText, routesText}
+use Rattle.text.specs.Listed.{RouteLines, ended, branch, join, stepsByNet, Listed, StepOf, JoinOf}
 use Rattle.text.proofs.RecordTestLaws.{recordLength}
 use Rattle.text.proofs.LogLaws.{soundAfter, firstRecord, found-all}
+use Rattle.text.proofs.RouteTextLaws.{writable-within, writable-few}
 use Rattle.text.proofs.RouteLineLaws.{lines-read, none-read, first-branch, first-join, lines-printed}
 use Rattle.text.proofs.JoinListLaws.{joins-only, joins-all, join-printable}
 use Rattle.text.proofs.StepListLaws.{branches-are, steps-only, steps-all}
@@ -48,15 +48,9 @@ last-of earlier last =
 
 -- ---- the text lists what the log asks
 
--- a net that the writer takes, and one that is joined, have few digits
-writable-few : (sources : List ℕ) → sourcesSound nodesMost sources ≡ true → (i : ℕ) → netWritable sources i ≡ true → i < netsMost
-unfolding netWritable
-writable-few sources t i e =
-    omega (arith, ltb-true i (length sources) (both-left (ltb i (length sources)) (leads sources i) e), sources-few nodesMost sources t)
-
 -- the routes text of a sound log
 pub routes-listed : (sources log : List ℕ) → sourcesSound nodesMost sources ≡ true → logSound (netWritable sources) log ≡ true → Listed sources log (routesText sources (decode log))
-unfolding logSound soundWords routesText routeBranches
+unfolding logSound soundWords routesText
 routes-listed sources log table t =
     let net : (ℕ → Bool) = netWritable sources in
     let some : 1 ≤ length log = leb-true 1 (length log) (both-left (leb 1 (length log)) (eqb (soundWords net log) (length log)) t) in
@@ -68,13 +62,13 @@ routes-listed sources log table t =
       earlier = s .0;
       last = s .1;
       last-is = is;
-      rest = branchText (stepsOf (s .1 .iteration) (decode log)) ++ joinText (routeJoins sources);
-      text-is = rw (iteration, branches-are (s .1 .iteration) (decode log));
+      rest = branchText (stepsByNet (length sources) (decode log)) ++ joinText (routeJoins sources);
+      text-is = rw (iteration, branches-are (length sources) (decode log));
       lines =
           lines-read (routeJoins sources) (λ p m. join-printable p (joins-only sources p m) (sources-few nodesMost sources table))
-          (stepsOf (s .1 .iteration) (decode log))
+          (stepsByNet (length sources) (decode log))
           (λ b m.
-          let o = steps-only (s .1 .iteration) (decode log) b m in
+          let o = steps-only (length sources) (decode log) b m in
           rw (o .branch-is)
           (step-printable net (o .turn) (writable-few sources table) (all-short net (length log) 0 log (omega arith) all (o .turn) (o .logged)) (o .place) (o .within)));
     }
@@ -97,24 +91,26 @@ read-once (join {p = j} e p) q =
 
 -- a text that lists what the log and table 5 ask is the routes text: no other lists the same
 pub text-once : {sources log text : List ℕ} → Listed sources log text → text ≡ routesText sources (decode log)
-unfolding routesText routeBranches
+unfolding routesText
 text-once {sources} {log} {text} l =
     let iteration : lastIteration (decode log) ≡ l .last .iteration = ap lastIteration (l .last-is) ∙ last-of (l .earlier) (l .last) in
-    l .text-is ∙ rw (iteration, branches-are (l .last .iteration) (decode log), lines-printed (l .lines))
+    l .text-is ∙ rw (iteration, branches-are (length sources) (decode log), lines-printed (l .lines))
 
 -- ---- line by line, of the text
 
 -- the branches and the joined nets that are read after the R line
 module _ {sources log text : List ℕ} (l : Listed sources log text) {bs : List Branch} {ps : List Join} (p : RouteLines (l .rest) bs ps) where
-  -- each branch is a step of a record of the last record's iteration
-  pub listed-only : (b : Branch) → List·Memᴰ b bs → StepOf (l .last .iteration) (decode log) b
-  listed-only b m = steps-only (l .last .iteration) (decode log) b (subst (List·Memᴰ b) (read-once p (l .lines) .0) m)
+  -- each branch is a step of a record of its net's latest iteration
+  pub listed-only : (b : Branch) → List·Memᴰ b bs → StepOf (decode log) b
+  listed-only b m = steps-only (length sources) (decode log) b (subst (List·Memᴰ b) (read-once p (l .lines) .0) m)
 
-  -- and each such step is among them
-  pub listed-all : (b : Branch) → StepOf (l .last .iteration) (decode log) b → List·Memᴰ b bs
-  listed-all b s =
-      subst (List·Memᴰ b) (read-once (l .lines) p .0)
-      (Memᴰ·cast (s .branch-is) (steps-all (l .last .iteration) (s .turn) (s .iteration-is) (s .place) (s .within) (decode log) (s .logged)))
+  -- and of a sound log each such step is among them
+  pub listed-all : logSound (netWritable sources) log ≡ true → (b : Branch) → StepOf (decode log) b → List·Memᴰ b bs
+  unfolding soundWords
+  listed-all t b s =
+      let net : (ℕ → Bool) = netWritable sources in
+      let passes = all-short net (length log) 0 log (omega arith) (found-all net log t) (s .turn) (s .logged) .net-passes in
+      subst (List·Memᴰ b) (read-once (l .lines) p .0) (steps-all (length sources) (decode log) b s (writable-within sources (s .turn .net) passes))
 
   -- each joined net has the first of its source before it
   pub joined-only : (q : Join) → List·Memᴰ q ps → JoinOf sources q

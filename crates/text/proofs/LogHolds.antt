@@ -26,7 +26,7 @@ use Rattle.negotiation.proofs.JoinedHolds.{joined-routable}
 use Rattle.negotiation.proofs.RecordLaws.{words-length, records-few}
 use Rattle.negotiation.proofs.FilterLaws.{All, all-map}
 use Rattle.text.specs.Routes.{pathIn, pathSound, recordSound, soundUpTo, soundWords, logSound, netWritable}
-use Rattle.text.proofs.BranchHolds.{Turned, TurnedUpTo, iteration-turned, run-turned, Accepted, accepted, SomeSinks, joined-some, joined-passes, last-some}
+use Rattle.text.proofs.TurnedLaws.{Turned, TurnedUpTo, iteration-turned, run-turned, Accepted, accepted, SomeSinks, joined-some, joined-passes, run-some}
 
 -- ---- iterations that never fall
 
@@ -153,13 +153,10 @@ module _ (net : ℕ → Bool) where
       (eq-eqb (soundUpTo net (length (encode rs)) 0 (encode rs)) (length (encode rs)) (all-sound (length (encode rs)) 0 rs few up all))
 
   pub reply-sound : (j : Job) → Routable j → SomeSinks j → Passes net j → (r : RouteReply) → Accepted j r → logSound net (take (r .used) (r .log)) ≡ true
-  unfolding recordsAfter
   reply-sound j rests one passes r a =
       let m : ℕ = a .whole in
       let rs : List Record = recordsAfter j (firstState j) (suc m) in
-      let last = last-some j rests one r a in
-      let some : 1 ≤ length rs =
-      omega (arith, length-append (recordsAfter j (firstState j) m) (iterationAfter j (firstState j) m .records)) in
+      let some : 1 ≤ length rs = run-some j rests one (a .reached) m (a .below) in
       rw (a .words-are)
       (log-sound rs some (run-rising j rests (suc m) (a .below))
       (all-map (TurnedUpTo j (suc m)) (Writable net) (λ q b. writable net j rests passes (suc m) (a .below) q b) rs (run-turned j rests (suc m) (a .below))))

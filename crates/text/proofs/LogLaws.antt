@@ -12,6 +12,7 @@ use lib.ListN.{length, getD, take, drop, length-drop, drop-of-length-le}
 use lib.Seq.{getD-drop, drop-drop}
 use borrow.Author.Tests.{le-leb, lt-leb, eq-eqb, ne-eqb, eqb-true}
 use Rattle.price.proofs.TestLaws.{either-way, both-right, le-or-lt}
+use Rattle.negotiation.specs.Tables.{netsMost}
 use Rattle.negotiation.specs.Records.{Record, recordOf, decodeUpTo, decode}
 use Rattle.text.specs.Routes.{pathIn, recordSound, soundUpTo, soundWords, logSound, lastIteration}
 use Rattle.text.specs.WriteSteps.{sound, unsound, logChecked, Found}
@@ -128,7 +129,7 @@ recordAt log at =
     (take (getD log (at + 5) 0) (drop (at + 6) log))
 
 module _ (log : List ℕ) (at : ℕ) where
-  first-at : getD (drop at log) 0 0 ≡ getD log at 0
+  pub first-at : getD (drop at log) 0 0 ≡ getD log at 0
   first-at = getD-drop at log 0 0 ∙ ap (λ (i : ℕ). getD log i 0) (add-zero at)
 
   after-at : drop (recordLength (drop at log)) (drop at log) ≡ drop (nextAt log at) log
@@ -136,11 +137,9 @@ module _ (log : List ℕ) (at : ℕ) where
       let place : at + recordLength (drop at log) ≡ nextAt log at = rw (getD-drop at log 5 0) (omega arith) in
       drop-drop (recordLength (drop at log)) at log ∙ ap (λ (i : ℕ). drop i log) place
 
-  pub decode-at : 6 ≤ length (drop at log) → decode (drop at log) ≡ recordAt log at ∷ decode (drop (nextAt log at) log)
-  decode-at h =
-      decode-next (drop at log) h
-      ∙ rw (
-        after-at,
+  pub record-at : firstRecord (drop at log) ≡ recordAt log at
+  record-at =
+      rw (
         first-at,
         getD-drop at log 1 0,
         getD-drop at log 2 0,
@@ -149,6 +148,12 @@ module _ (log : List ℕ) (at : ℕ) where
         getD-drop at log 5 0,
         drop-drop 6 at log,
       )
+
+  pub decode-at : 6 ≤ length (drop at log) → decode (drop at log) ≡ recordAt log at ∷ decode (drop (nextAt log at) log)
+  decode-at h =
+      decode-next (drop at log) h
+      ∙ ap (λ (r : Record). r ∷ decode (drop (recordLength (drop at log)) (drop at log))) record-at
+      ∙ ap (λ (ws : List ℕ). recordAt log at ∷ decode ws) after-at
 
   module _ (net : ℕ → Bool) (last : ℕ) (t : recordSound net last (drop at log) ≡ true) where
     pub sound-at : soundAfter net last (drop at log) ≡ 6 + getD log (at + 5) 0 + soundAfter net (getD log at 0) (drop (nextAt log at) log)
@@ -259,13 +264,15 @@ module _ (net : ℕ → Bool) (log : List ℕ) where
   unfolding logSound
   found-all t = eqb-true (soundWords net log) (length log) (both-right (leb 1 (length log)) (eqb (soundWords net log) (length log)) t)
 
-  pub found : {iteration turns : ℕ} → sound iteration turns ≡ logChecked net log → (logSound net log ≡ true) × Found log iteration turns
+  pub found :
+      {iteration turns : ℕ} → ((i : ℕ) → net i ≡ true → i < netsMost) → sound iteration turns ≡ logChecked net log
+      → (logSound net log ≡ true) × Found log iteration turns
   unfolding logChecked
-  found {iteration} {turns} e =
+  found {iteration} {turns} few e =
       ⊎-elim
       (λ (t : logSound net log ≡ true).
       let same : sound iteration turns ≡ sound (lastIteration (decode log)) (length (decode log)) = rw t at e in
-      (t, record { words-sound = record { net = net; all-sound = found-all t }; iteration-is = cc; turns-are = cc }))
+      (t, record { words-sound = record { net = net; nets-few = few; all-sound = found-all t }; iteration-is = cc; turns-are = cc }))
       (λ (t : logSound net log ≡ false).
       let same : sound iteration turns ≡ unsound (soundWords net log) = rw t at e in
       let z : _≡_ {A = ℕ} 0 1 = cc in

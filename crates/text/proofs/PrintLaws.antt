@@ -2,7 +2,7 @@
 --     field-printed, printed-field        a field
 --     line-printed, printed-line          a line
 --     line-judged, judged-line            a line whose values are tested
---     two-of, four-of                     the values of a line with two or four fields
+--     one-of, two-of, four-of             the values of a line with one, two or four fields
 --     onward-part, then-part              what comes after a line, and after a part
 -- Assumes nothing.
 use mathlib.Core.Bool.{Bool, true, false}
@@ -236,7 +236,12 @@ module _ (within ordered : List ℕ → Bool) where
       → judged within ordered (line letter (length vs) (printLine letter vs ++ rest)) ≡ values vs rest
   line-judged letter vs rest small p q = rw (line-printed letter vs rest small, p, q)
 
--- two values
+-- the values by their count
+pub one-of : (vs : List ℕ) → length vs ≡ 1 → vs ≡ getD vs 0 0 ∷ []
+one-of [] e = absurd (omega arith)
+one-of (x ∷ []) e = refl
+one-of (x ∷ y ∷ zs) e = absurd (omega arith)
+
 pub two-of : (vs : List ℕ) → length vs ≡ 2 → vs ≡ getD vs 0 0 ∷ getD vs 1 0 ∷ []
 two-of [] e = absurd (omega arith)
 two-of (x ∷ []) e = absurd (omega arith)

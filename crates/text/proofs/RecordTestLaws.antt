@@ -14,7 +14,7 @@ use borrow.Author.Tests.{le-leb, lt-leb, lt-ltb, le-ltb, leb-true}
 use Rattle.price.specs.Test.{both}
 use Rattle.price.specs.Bounds.{nodesMost, limitMost}
 use Rattle.price.specs.Lists.{every}
-use Rattle.price.proofs.TestLaws.{both-left, both-right}
+use Rattle.price.proofs.TestLaws.{both-left, both-right, both-true}
 use Rattle.price.proofs.ListLaws.{every-all, every-none}
 use Rattle.text.specs.JobText.{between}
 use Rattle.text.specs.Routes.{pathIn, pathSound, recordSound}
@@ -194,15 +194,46 @@ path-fits n sink ws e =
     (both (every nodeSound (pathIn n ws)) (eqb (getD ws (5 + n) 0) sink)) e))
 
 module _ (net : ℕ → Bool) (last : ℕ) (ws : List ℕ) (e : recordSound net last ws ≡ true) where
-  sound-path : pathSound (getD ws 5 0) (getD ws 2 0) ws ≡ true
+  sound-tests : both (both (between 1 limitMost (getD ws 0 0)) (leb last (getD ws 0 0))) (both (net (getD ws 1 0)) (pathSound (getD ws 5 0) (getD ws 2 0) ws)) ≡ true
   unfolding recordSound
-  sound-path =
-      both-right (net (getD ws 1 0)) (pathSound (getD ws 5 0) (getD ws 2 0) ws)
-      (both-right (both (between 1 limitMost (getD ws 0 0)) (leb last (getD ws 0 0)))
-      (both (net (getD ws 1 0)) (pathSound (getD ws 5 0) (getD ws 2 0) ws))
-      (both-right (leb 6 (length ws))
+  sound-tests =
+      both-right (leb 6 (length ws))
       (both (both (between 1 limitMost (getD ws 0 0)) (leb last (getD ws 0 0)))
-      (both (net (getD ws 1 0)) (pathSound (getD ws 5 0) (getD ws 2 0) ws))) e))
+      (both (net (getD ws 1 0)) (pathSound (getD ws 5 0) (getD ws 2 0) ws))) e
+
+  sound-iteration : both (between 1 limitMost (getD ws 0 0)) (leb last (getD ws 0 0)) ≡ true
+  sound-iteration =
+      both-left (both (between 1 limitMost (getD ws 0 0)) (leb last (getD ws 0 0)))
+      (both (net (getD ws 1 0)) (pathSound (getD ws 5 0) (getD ws 2 0) ws)) sound-tests
+
+  sound-turn : both (net (getD ws 1 0)) (pathSound (getD ws 5 0) (getD ws 2 0) ws) ≡ true
+  sound-turn =
+      both-right (both (between 1 limitMost (getD ws 0 0)) (leb last (getD ws 0 0)))
+      (both (net (getD ws 1 0)) (pathSound (getD ws 5 0) (getD ws 2 0) ws)) sound-tests
+
+  pub sound-path : pathSound (getD ws 5 0) (getD ws 2 0) ws ≡ true
+  sound-path = both-right (net (getD ws 1 0)) (pathSound (getD ws 5 0) (getD ws 2 0) ws) sound-turn
+
+  pub sound-net : net (getD ws 1 0) ≡ true
+  sound-net = both-left (net (getD ws 1 0)) (pathSound (getD ws 5 0) (getD ws 2 0) ws) sound-turn
+
+  pub sound-some : 1 ≤ getD ws 0 0
+  sound-some =
+      leb-true 1 (getD ws 0 0)
+      (both-left (leb 1 (getD ws 0 0)) (leb (getD ws 0 0) limitMost)
+      (both-left (between 1 limitMost (getD ws 0 0)) (leb last (getD ws 0 0)) sound-iteration))
+
+  pub sound-rises : last ≤ getD ws 0 0
+  sound-rises = leb-true last (getD ws 0 0) (both-right (between 1 limitMost (getD ws 0 0)) (leb last (getD ws 0 0)) sound-iteration)
+
+  -- after any earlier iteration too
+  pub sound-lower : recordSound net 0 ws ≡ true
+  unfolding recordSound
+  sound-lower =
+      both-true (both-left (leb 6 (length ws)) (both (both (between 1 limitMost (getD ws 0 0)) (leb last (getD ws 0 0))) (both (net (getD ws 1 0)) (pathSound (getD ws 5 0) (getD ws 2 0) ws))) e)
+      (both-true
+      (both-true (both-left (between 1 limitMost (getD ws 0 0)) (leb last (getD ws 0 0)) sound-iteration) (le-leb 0 (getD ws 0 0) (omega arith)))
+      sound-turn)
 
   pub sound-most : getD ws 5 0 ≤ 4096
   sound-most = path-most (getD ws 5 0) (getD ws 2 0) ws sound-path

@@ -13,7 +13,7 @@ use lib.Dec.{leb, ltb, eqb}
 use lib.ListN.{length, getD, drop, length-drop, drop-of-length-le}
 use borrow.Author.Tests.{lt-ltb, ltb-true}
 use Rattle.price.specs.Test.{both}
-use Rattle.price.specs.Bounds.{nodesMost, limitMost}
+use Rattle.price.specs.Bounds.{nodesMost}
 use Rattle.price.specs.Lists.{every}
 use Rattle.price.proofs.TestLaws.{either-way, both-true, both-left, both-right, le-or-lt}
 use Rattle.price.proofs.ListLaws.{every-at}
@@ -22,7 +22,7 @@ use Rattle.negotiation.specs.Records.{Record, decode}
 use Rattle.text.specs.JobText.{between}
 use Rattle.text.specs.Routes.{pathIn, pathSound, recordSound}
 use Rattle.text.specs.Listed.{stepAt}
-use Rattle.text.proofs.RecordTestLaws.{recordLength, sound-fits}
+use Rattle.text.proofs.RecordTestLaws.{recordLength, sound-path, sound-net, sound-fits}
 use Rattle.text.proofs.LogLaws.{soundAfter, sound-next, sound-stop, firstRecord, decode-none, decode-next}
 use Rattle.text.proofs.RouteLineLaws.{branchFields, Printable}
 
@@ -33,21 +33,15 @@ pub record Short (net : ℕ → Bool) (r : Record) : Type 0 where
 
 module _ (net : ℕ → Bool) (last : ℕ) (ws : List ℕ) (e : recordSound net last ws ≡ true) where
   first-short : Short net (firstRecord ws)
-  unfolding recordSound pathSound
+  unfolding pathSound
   first-short =
-      let tests =
-      both-right (both (between 1 limitMost (getD ws 0 0)) (leb last (getD ws 0 0)))
-      (both (net (getD ws 1 0)) (pathSound (getD ws 5 0) (getD ws 2 0) ws))
-      (both-right (leb 6 (length ws))
-      (both (both (between 1 limitMost (getD ws 0 0)) (leb last (getD ws 0 0)))
-      (both (net (getD ws 1 0)) (pathSound (getD ws 5 0) (getD ws 2 0) ws))) e) in
       record {
-        net-passes = both-left (net (getD ws 1 0)) (pathSound (getD ws 5 0) (getD ws 2 0) ws) tests;
+        net-passes = sound-net net last ws e;
         nodes-below =
             both-left (every (λ v. ltb v nodesMost) (pathIn (getD ws 5 0) ws)) (eqb (getD ws (5 + getD ws 5 0) 0) (getD ws 2 0))
             (both-right (both (between 2 nodesMost (getD ws 5 0)) (leb (6 + getD ws 5 0) (length ws)))
             (both (every (λ v. ltb v nodesMost) (pathIn (getD ws 5 0) ws)) (eqb (getD ws (5 + getD ws 5 0) 0) (getD ws 2 0)))
-            (both-right (net (getD ws 1 0)) (pathSound (getD ws 5 0) (getD ws 2 0) ws) tests));
+            (sound-path net last ws e));
       }
 
 -- the words that are left are sound: their first record is, and so are the words after it

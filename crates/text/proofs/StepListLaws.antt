@@ -1,20 +1,23 @@
--- The path steps of the records of an iteration, as a list and branch by branch.
+-- The path steps of the nets' latest records, as a list and branch by branch.
 --     branches-are                  the branches of the routes text are these steps
---     steps-only, steps-all         a branch is among them exactly where a record of that iteration has it as a step of its path
+--     steps-only, steps-all         a branch is among them exactly where a record of its net's latest iteration has it as a step of its path
 -- Assumes nothing.
-use mathlib.Core.List.{List, [], _∷_, _++_, flatMap, List·Memᴰ, List·Memᴰ·head, List·Memᴰ·tail, List·Memᴰ·not-nil, List·Memᴰ·cases-cons, List·Memᴰ·append-cases, Memᴰ·cast, Memᴰ·append-left, Memᴰ·append-right}
+use mathlib.Core.List.{List, [], _∷_, _++_, append-assoc, append-nil, filter, flatMap, List·Memᴰ, List·Memᴰ·head, List·Memᴰ·tail, List·Memᴰ·not-nil, List·Memᴰ·cases-cons, List·Memᴰ·append-cases, List·Memᴰ·eq-of-singleton, Memᴰ·cast, Memᴰ·append-left, Memᴰ·append-right}
 use mathlib.Core.Logic.{⊎-elim, ite}
 use mathlib.Core.Path.{_≡_, refl, sym, _∙_, ap, subst}
 use Prim.Native.Nat.{ℕ, zero, suc, _-_, _<_}
 use native.Mathlib.Decide.{ℕ-discrete}
 use native.Mathlib.Nat.{le-of-suc-le-suc, eq-or-lt-of-le}
 use native.Mathlib.Omega.{arith}
+use lib.Dec.{eqb}
 use lib.ListN.{length, getD}
 use borrow.Author.Tests.{eq-eqb, ne-eqb}
+use Rattle.price.specs.Test.{choose, both}
 use Rattle.price.specs.Lists.{upTo}
 use Rattle.negotiation.specs.Records.{Record}
-use Rattle.text.specs.Routes.{Branch, steps, branchesIn}
-use Rattle.text.specs.Listed.{stepAt, pathSteps, recordsOf, stepsOf, StepOf}
+use Rattle.negotiation.specs.Demand.{latest}
+use Rattle.text.specs.Routes.{Branch, steps, passing, recordsIn, finalRecords, recordBranches, treeBranches, routeBranches}
+use Rattle.text.specs.Listed.{stepAt, pathSteps, latestOf, stepsByNet, StepOf}
 
 -- ---- steps by their numbers
 
@@ -48,97 +51,163 @@ steps-are : (r : Record) → steps (r .net) (r .path) ≡ pathSteps r
 unfolding pathSteps stepAt
 steps-are r = steps-numbered (r .net) (r .path)
 
--- ---- the records of an iteration
+-- ---- a net's latest records, and those of the nets in order
 
-module _ (t : ℕ) where
-  -- a record that has the iteration, and one that has another
-  branches-with :
-      (r : Record) (rs : List Record) → branchesIn t rs ≡ stepsOf t rs → (d : Dec (r .iteration ≡ t))
-      → branchesIn t (r ∷ rs) ≡ flatMap pathSteps (ite {C = List Record} d (r ∷ recordsOf t rs) (recordsOf t rs))
-  unfolding branchesIn stepsOf flatMap
-  branches-with r rs e (yes q) = rw (eq-eqb (r .iteration) t q, steps-are r, e)
-  branches-with r rs e (no q) = rw (ne-eqb (r .iteration) t q) e
+module _ (i t : ℕ) where
+  -- the tests of a record, one after the other
+  abbrev inNet : (r : Record) → Dec (r .net ≡ i)
+  inNet r = ℕ-discrete (r .net) i
 
-  pub branches-are : (rs : List Record) → branchesIn t rs ≡ stepsOf t rs
-  unfolding branchesIn stepsOf recordsOf flatMap
-  branches-are [] = refl
-  branches-are (r ∷ rs) = branches-with r rs (branches-are rs) (ℕ-discrete (r .iteration) t)
+  abbrev inTurn : (r : Record) → Dec (r .iteration ≡ t)
+  inTurn r = ℕ-discrete (r .iteration) t
+
+  iteration-with :
+      (r : Record) (of taken : List Record) → taken ≡ filter inTurn of → (d : Dec (r .iteration ≡ t))
+      → choose (eqb (r .iteration) t) (r ∷ taken) taken ≡ ite {C = List Record} d (r ∷ filter inTurn of) (filter inTurn of)
+  iteration-with r of taken e (yes q) = rw (eq-eqb (r .iteration) t q, e)
+  iteration-with r of taken e (no q) = rw (ne-eqb (r .iteration) t q) e
+
+  net-with :
+      (r : Record) (of taken : List Record) → taken ≡ filter inTurn of → (d : Dec (r .net ≡ i))
+      → choose (both (eqb (r .net) i) (eqb (r .iteration) t)) (r ∷ taken) taken ≡ filter inTurn (ite {C = List Record} d (r ∷ of) of)
+  net-with r of taken e (yes q) = rw (eq-eqb (r .net) i q) (iteration-with r of taken e (inTurn r))
+  net-with r of taken e (no q) = rw (ne-eqb (r .net) i q) e
+
+  records-are : (rs : List Record) → recordsIn i t rs ≡ filter inTurn (filter inNet rs)
+  unfolding passing
+  records-are [] = refl
+  records-are (r ∷ rs) = net-with r (filter inNet rs) (recordsIn i t rs) (records-are rs) (inNet r)
+
+latest-are : (i : ℕ) (rs : List Record) → finalRecords i rs ≡ latestOf i rs
+unfolding finalRecords latestOf
+latest-are i rs = records-are i (latest i rs) rs
+
+record-steps : (rs : List Record) → recordBranches rs ≡ flatMap pathSteps rs
+unfolding recordBranches flatMap
+record-steps [] = refl
+record-steps (r ∷ rs) = rw (steps-are r, record-steps rs)
+
+flat-append : {A : Type 0} (f : A → List Branch) (xs ys : List A) → flatMap f (xs ++ ys) ≡ flatMap f xs ++ flatMap f ys
+unfolding flatMap
+flat-append f [] ys = refl
+flat-append f (x ∷ xs) ys = rw (flat-append f xs ys) (sym (append-assoc (f x) (flatMap f xs) (flatMap f ys)))
+
+-- the path steps of a net
+abbrev stepsOf : List Record → ℕ → List Branch
+stepsOf rs i = flatMap pathSteps (latestOf i rs)
+
+pub branches-are : (n : ℕ) (rs : List Record) → routeBranches n rs ≡ stepsByNet n rs
+unfolding routeBranches treeBranches stepsByNet upTo flatMap
+branches-are zero rs = refl
+branches-are (suc i) rs =
+    rw (branches-are i rs, record-steps (finalRecords i rs), latest-are i rs)
+    (sym (flat-append (stepsOf rs) (upTo (λ (k : ℕ). k) i) (i ∷ []) ∙ ap (λ (l : List Branch). flatMap (stepsOf rs) (upTo (λ (k : ℕ). k) i) ++ l) (append-nil (stepsOf rs i))))
+
+-- ---- members of made lists
+
+-- an entry of a list made by places stands at one of them
+module _ {A : Type 0} where
+  upTo-only : (f : ℕ → A) (n : ℕ) (b : A) → List·Memᴰ b (upTo f n) → (k : ℕ) × (k < n) × (b ≡ f k)
+  unfolding upTo
+  upTo-only f zero b m = absurd (List·Memᴰ·not-nil m)
+  upTo-only f (suc n) b m =
+      ⊎-elim
+      (λ (p : List·Memᴰ b (upTo f n)).
+      let r = upTo-only f n b p in
+      (r .0, omega (arith, r .1), r .2))
+      (λ (p : List·Memᴰ b (f n ∷ [])). (n, omega arith, List·Memᴰ·eq-of-singleton p))
+      (List·Memᴰ·append-cases (upTo f n) m)
+
+  upTo-all : (f : ℕ → A) (n k : ℕ) → k < n → List·Memᴰ (f k) (upTo f n)
+  unfolding upTo
+  upTo-all f zero k l = absurd (omega arith)
+  upTo-all f (suc n) k l =
+      ⊎-elim
+      (λ (e : k ≡ n). Memᴰ·append-right (upTo f n) (List·Memᴰ·head (ap f e)))
+      (λ (h : k < n). Memᴰ·append-left (f n ∷ []) (upTo-all f n k h))
+      (eq-or-lt-of-le (le-of-suc-le-suc l))
+
+  -- one of a list of lists is in one of these
+  flat-only : (f : A → List Branch) (xs : List A) (b : Branch) → List·Memᴰ b (flatMap f xs) → (x : A) × List·Memᴰ x xs × List·Memᴰ b (f x)
+  unfolding flatMap
+  flat-only f [] b m = absurd (List·Memᴰ·not-nil m)
+  flat-only f (x ∷ xs) b m =
+      ⊎-elim
+      (λ (p : List·Memᴰ b (f x)). (x, List·Memᴰ·head refl, p))
+      (λ (p : List·Memᴰ b (flatMap f xs)).
+      let r = flat-only f xs b p in
+      (r .0, List·Memᴰ·tail (r .1), r .2))
+      (List·Memᴰ·append-cases (f x) m)
+
+  flat-all : (f : A → List Branch) (b : Branch) (x : A) → List·Memᴰ b (f x) → (xs : List A) → List·Memᴰ x xs → List·Memᴰ b (flatMap f xs)
+  unfolding flatMap
+  flat-all f b x h [] m = absurd (List·Memᴰ·not-nil m)
+  flat-all f b x h (y ∷ xs) m =
+      ⊎-elim
+      (λ (e : x ≡ y). Memᴰ·append-left (flatMap f xs) (subst (λ (z : A). List·Memᴰ b (f z)) e h))
+      (λ (p : List·Memᴰ x xs). Memᴰ·append-right (f y) (flat-all f b x h xs p))
+      (List·Memᴰ·cases-cons m)
+
+-- those that a test takes
+module _ {P : Record → Type 0} (d : (r : Record) → Dec (P r)) where
+  only-with :
+      (r q : Record) (rs : List Record) → (List·Memᴰ q (filter d rs) → List·Memᴰ q rs × P q) → (e : Dec (P r))
+      → List·Memᴰ q (ite {C = List Record} e (r ∷ filter d rs) (filter d rs)) → List·Memᴰ q (r ∷ rs) × P q
+  only-with r q rs others (yes h) m =
+      ⊎-elim
+      (λ (e : q ≡ r). (List·Memᴰ·head e, subst P (sym e) h))
+      (λ (p : List·Memᴰ q (filter d rs)).
+      let o = others p in
+      (List·Memᴰ·tail (o .0), o .1))
+      (List·Memᴰ·cases-cons m)
+  only-with r q rs others (no h) m =
+      let o = others m in
+      (List·Memᴰ·tail (o .0), o .1)
+
+  filter-only : (q : Record) (rs : List Record) → List·Memᴰ q (filter d rs) → List·Memᴰ q rs × P q
+  filter-only q [] m = absurd (List·Memᴰ·not-nil m)
+  filter-only q (r ∷ rs) m = only-with r q rs (filter-only q rs) (d r) m
+
+  all-with :
+      (r q : Record) (rs : List Record) → P q → (List·Memᴰ q rs → List·Memᴰ q (filter d rs)) → (e : Dec (P r)) → List·Memᴰ q (r ∷ rs)
+      → List·Memᴰ q (ite {C = List Record} e (r ∷ filter d rs) (filter d rs))
+  all-with r q rs h others (yes g) m =
+      ⊎-elim (λ (e : q ≡ r). List·Memᴰ·head e) (λ (p : List·Memᴰ q rs). List·Memᴰ·tail (others p)) (List·Memᴰ·cases-cons m)
+  all-with r q rs h others (no g) m =
+      ⊎-elim (λ (e : q ≡ r). absurd (g (subst P e h))) (λ (p : List·Memᴰ q rs). others p) (List·Memᴰ·cases-cons m)
+
+  filter-all : (q : Record) → P q → (rs : List Record) → List·Memᴰ q rs → List·Memᴰ q (filter d rs)
+  filter-all q h [] m = absurd (List·Memᴰ·not-nil m)
+  filter-all q h (r ∷ rs) m = all-with r q rs h (filter-all q h rs) (d r) m
 
 -- ---- branch by branch, of the records
 
--- an entry of a list made by places stands at one of them
-upTo-only : (f : ℕ → Branch) (n : ℕ) (b : Branch) → List·Memᴰ b (upTo f n) → (k : ℕ) × (k < n) × (b ≡ f k)
-unfolding upTo
-upTo-only f zero b m = absurd (List·Memᴰ·not-nil m)
-upTo-only f (suc n) b m =
-    ⊎-elim
-    (λ (p : List·Memᴰ b (upTo f n)).
-    let r = upTo-only f n b p in
-    (r .0, omega (arith, r .1), r .2))
-    (λ (p : List·Memᴰ b (f n ∷ [])).
-    ⊎-elim (λ (e : b ≡ f n). (n, omega arith, e)) (λ (q : List·Memᴰ b []). absurd (List·Memᴰ·not-nil q)) (List·Memᴰ·cases-cons p))
-    (List·Memᴰ·append-cases (upTo f n) m)
+pub steps-only : (n : ℕ) (rs : List Record) (b : Branch) → List·Memᴰ b (stepsByNet n rs) → StepOf rs b
+unfolding stepsByNet latestOf pathSteps
+steps-only n rs b m =
+    let o = flat-only (stepsOf rs) (upTo (λ (k : ℕ). k) n) b m in
+    let i : ℕ = o .0 in
+    let p = flat-only pathSteps (latestOf i rs) b (o .2) in
+    let turn : Record = p .0 in
+    let late = filter-only (inTurn i (latest i rs)) turn (filter (inNet i (latest i rs)) rs) (p .1) in
+    let own = filter-only (inNet i (latest i rs)) turn rs (late .0) in
+    let s = upTo-only (stepAt turn) (length (turn .path) - 1) b (p .2) in
+    record {
+      turn = turn;
+      logged = own .0;
+      iteration-is = late .1 ∙ ap (λ (k : ℕ). latest k rs) (sym (own .1));
+      place = s .0;
+      within = omega (arith, s .1);
+      branch-is = s .2;
+    }
 
-upTo-all : (f : ℕ → Branch) (n k : ℕ) → k < n → List·Memᴰ (f k) (upTo f n)
-unfolding upTo
-upTo-all f zero k l = absurd (omega arith)
-upTo-all f (suc n) k l =
-    ⊎-elim
-    (λ (e : k ≡ n). Memᴰ·append-right (upTo f n) (List·Memᴰ·head (ap f e)))
-    (λ (h : k < n). Memᴰ·append-left (f n ∷ []) (upTo-all f n k h))
-    (eq-or-lt-of-le (le-of-suc-le-suc l))
-
-module _ (t : ℕ) where
-  later-step : (r : Record) {rs : List Record} {b : Branch} → StepOf t rs b → StepOf t (r ∷ rs) b
-  later-step r s =
-      record {
-        turn = s .turn;
-        logged = List·Memᴰ·tail (s .logged);
-        iteration-is = s .iteration-is;
-        place = s .place;
-        within = s .within;
-        branch-is = s .branch-is;
-      }
-
-  only-with :
-      (r : Record) (rs : List Record) (b : Branch) → (List·Memᴰ b (stepsOf t rs) → StepOf t rs b) → (d : Dec (r .iteration ≡ t))
-      → List·Memᴰ b (flatMap pathSteps (ite {C = List Record} d (r ∷ recordsOf t rs) (recordsOf t rs))) → StepOf t (r ∷ rs) b
-  unfolding stepsOf flatMap pathSteps
-  only-with r rs b others (yes q) m =
-      ⊎-elim
-      (λ (p : List·Memᴰ b (pathSteps r)).
-      let s = upTo-only (stepAt r) (length (r .path) - 1) b p in
-      record {
-        turn = r;
-        logged = List·Memᴰ·head refl;
-        iteration-is = q;
-        place = s .0;
-        within = omega (arith, s .1);
-        branch-is = s .2;
-      })
-      (λ (p : List·Memᴰ b (flatMap pathSteps (recordsOf t rs))). later-step r (others p))
-      (List·Memᴰ·append-cases (pathSteps r) m)
-  only-with r rs b others (no q) m = later-step r (others m)
-
-  pub steps-only : (rs : List Record) (b : Branch) → List·Memᴰ b (stepsOf t rs) → StepOf t rs b
-  unfolding stepsOf recordsOf flatMap
-  steps-only [] b m = absurd (List·Memᴰ·not-nil m)
-  steps-only (r ∷ rs) b m = only-with r rs b (steps-only rs b) (ℕ-discrete (r .iteration) t) m
-
-  module _ (turn : Record) (i : turn .iteration ≡ t) (k : ℕ) (h : suc k < length (turn .path)) where
-    all-with :
-        (r : Record) (rs : List Record) → (List·Memᴰ turn rs → List·Memᴰ (stepAt turn k) (stepsOf t rs)) → (d : Dec (r .iteration ≡ t))
-        → List·Memᴰ turn (r ∷ rs) → List·Memᴰ (stepAt turn k) (flatMap pathSteps (ite {C = List Record} d (r ∷ recordsOf t rs) (recordsOf t rs)))
-    unfolding stepsOf flatMap pathSteps
-    all-with r rs others (yes q) (List·Memᴰ·head e) =
-        let long : suc k < length (r .path) = subst (λ (x : Record). suc k < length (x .path)) e h in
-        Memᴰ·cast (ap (λ (x : Record). stepAt x k) e)
-        (Memᴰ·append-left (flatMap pathSteps (recordsOf t rs)) (upTo-all (stepAt r) (length (r .path) - 1) k (omega arith)))
-    all-with r rs others (yes q) (List·Memᴰ·tail m) = Memᴰ·append-right (pathSteps r) (others m)
-    all-with r rs others (no q) (List·Memᴰ·head e) = absurd (q (ap (λ (x : Record). x .iteration) (sym e) ∙ i))
-    all-with r rs others (no q) (List·Memᴰ·tail m) = others m
-
-    pub steps-all : (rs : List Record) → List·Memᴰ turn rs → List·Memᴰ (stepAt turn k) (stepsOf t rs)
-    unfolding stepsOf recordsOf flatMap
-    steps-all [] m = absurd (List·Memᴰ·not-nil m)
-    steps-all (r ∷ rs) m = all-with r rs (steps-all rs) (ℕ-discrete (r .iteration) t) m
+pub steps-all : (n : ℕ) (rs : List Record) (b : Branch) (s : StepOf rs b) → s .turn .net < n → List·Memᴰ b (stepsByNet n rs)
+unfolding stepsByNet latestOf pathSteps
+steps-all n rs b s below =
+    let turn : Record = s .turn in
+    let i : ℕ = turn .net in
+    let long = s .within in
+    let step : List·Memᴰ b (pathSteps turn) = Memᴰ·cast (s .branch-is) (upTo-all (stepAt turn) (length (turn .path) - 1) (s .place) (omega arith)) in
+    let late : List·Memᴰ turn (latestOf i rs) =
+    filter-all (inTurn i (latest i rs)) turn (s .iteration-is) (filter (inNet i (latest i rs)) rs) (filter-all (inNet i (latest i rs)) turn refl rs (s .logged)) in
+    flat-all (stepsOf rs) b i (flat-all pathSteps b turn step (latestOf i rs) late) (upTo (λ (k : ℕ). k) n) (upTo-all (λ (k : ℕ). k) n i below)

@@ -1,21 +1,20 @@
--- The lines of a path's steps: counting their bytes, and writing them one after the other.
---     letter-any                       a line is as long with any letter
---     WrittenSoFar, so-far-            a text of which a beginning is written
+-- The lines of a path's steps, one after the other.
+--     letter-any, line-                a line is as long with any letter
+--     filled-                          a text that is counted, and written where the buffer has room
+--     FilledSoFar, so-far-             one of which a beginning is passed
 --     stepLine, stepsLeft              the lines of the steps, and of those from a place on
---     Stepping, stepping-              counting their bytes
---     PuttingSteps, putting-           writing them
+--     PuttingSteps, putting-           going from step to step
 -- Assumes nothing.
 use mathlib.Core.List.{List, [], _∷_, _++_, append-assoc, append-nil}
 use mathlib.Core.Path.{_≡_, refl, sym, _∙_, ap, subst}
-use Prim.Native.Nat.{ℕ, suc, _+_, _*_, _-_, _≤_, _<_}
-use native.Mathlib.Nat.{add-zero}
+use Prim.Native.Nat.{ℕ, suc, _+_, _-_, _^_, _≤_, _<_}
 use native.Mathlib.Omega.{arith}
-use lib.ListN.{length, getD, take, drop, length-append, length-take, length-drop}
+use lib.ListN.{length, getD, drop, length-append, length-take, length-drop}
 use lib.Seq.{getD-take, getD-drop, drop-cons, length-take-le}
 use Rattle.text.specs.Lines.{letterB, printLine}
-use Rattle.text.specs.Routes.{steps, branchText}
-use Rattle.text.specs.WriteSteps.{Put}
-use Rattle.text.proofs.PlacedLaws.{placed-none, put-length, put-then}
+use Rattle.text.specs.Routes.{steps, branchText, capped}
+use Rattle.text.specs.WriteSteps.{Put, Filled, part}
+use Rattle.text.proofs.PlacedLaws.{placed-none, placed-append, put-length}
 
 -- ---- lengths
 
@@ -24,53 +23,70 @@ pub letter-any : (a b : ℕ) (vs : List ℕ) → length (printLine a vs) ≡ len
 unfolding printLine
 letter-any a b vs = refl
 
--- ---- writing text piece by piece
+-- the place behind a line, by its length with no letter
+pub line-counted : (letter : ℕ) (vs : List ℕ) (at : ℕ) {long next : ℕ} → long ≡ length (printLine 0 vs) → next ≡ capped (at + long) → next ≡ capped (at + length (printLine letter vs))
+line-counted letter vs at l e = omega (arith, letter-any 0 letter vs)
 
--- of a text that is due from a place on, all but the rest stands in the buffer
-pub record WrittenSoFar (start : ℕ) (whole rest before after : List ℕ) (next : ℕ) : Type 0 where
-  pub done : List ℕ
-  pub put : Put start done before after next
-  pub all : done ++ rest ≡ whole
+-- what has room with one letter has it with another
+pub line-fits : (letter other : ℕ) (vs : List ℕ) (at most : ℕ) → at + length (printLine letter vs) ≤ most → at + length (printLine other vs) ≤ most
+line-fits letter other vs at most h = rw (letter-any other letter vs) h
 
-pub so-far-none : (start : ℕ) (whole before : List ℕ) → WrittenSoFar start whole whole before before start
-so-far-none start whole before =
+-- ---- a text that is counted, and written where there is room
+
+pub filled-none : (at : ℕ) (before : List ℕ) → at < 2 ^ 64 → Filled at [] before before at
+filled-none at before small =
+    record { counted = omega arith; kept = refl; written = λ s f. sym (placed-none at before) }
+
+pub filled-then : {at p q : ℕ} {xs ys b₀ b₁ b₂ : List ℕ} → Filled at xs b₀ b₁ p → Filled p ys b₁ b₂ q → Filled at (xs ++ ys) b₀ b₂ q
+filled-then {at} {p} {q} {xs} {ys} {b₀} {b₁} {b₂} f g =
+    let long = length-append xs ys in
+    let place = f .counted in
+    let same = f .kept in
     record {
-      done = [];
-      put = record { written = sym (placed-none start before); next-is = sym (add-zero start) };
-      all = refl;
+      counted = omega (arith, g .counted);
+      kept = g .kept ∙ f .kept;
+      written =
+          λ small fits.
+          let here : p ≡ at + length xs = omega arith in
+          g .written (omega arith) (omega arith)
+          ∙ rw (here, f .written (omega arith) (omega arith)) (placed-append at xs ys b₀ (omega arith));
     }
 
-module _ {start next : ℕ} {whole before after : List ℕ} (fits : start + length whole ≤ length before) where
-  done-short : {rest : List ℕ} (w : WrittenSoFar start whole rest before after next) → start + (length (w .done) + length rest) ≤ length before
-  done-short {rest} w = omega (arith, length-append (w .done) rest, ap length (w .all))
+-- the text has room
+pub filled-put : {at r next : ℕ} {bytes before after : List ℕ} → next ≡ capped (at + length bytes) → at + length bytes ≤ length before → Put at bytes before after r → Filled at bytes before after next
+filled-put n fits p = record { counted = n; kept = put-length p fits; written = λ s f. p .written }
 
-  pub so-far-length : {rest : List ℕ} → WrittenSoFar start whole rest before after next → length after ≡ length before
-  so-far-length w =
-      let short = done-short w in
-      put-length (w .put) (omega arith)
+-- it has none
+pub filled-over : {at next : ℕ} {bytes before : List ℕ} → next ≡ capped (at + length bytes) → length before < next → Filled at bytes before before next
+filled-over n over = record { counted = n; kept = refl; written = λ small fits. absurd (omega arith) }
 
-  pub so-far-room : (piece rest : List ℕ) → WrittenSoFar start whole (piece ++ rest) before after next → next + length piece ≤ length after
-  so-far-room piece rest w =
-      let short = done-short w in
-      let same = so-far-length w in
-      let place = w .put .next-is in
-      omega (arith, length-append piece rest)
+pub filled-done : {at next : ℕ} {bytes before after : List ℕ} → length before < 2 ^ 64 → at + length bytes ≤ length before → Filled at bytes before after next → Put at bytes before after next
+filled-done short fits f =
+    record { written = f .written (omega arith) fits; next-is = f .counted ∙ omega arith }
 
+-- of a text that is due from a place on, all but the rest is passed
+pub record FilledSoFar (start : ℕ) (whole rest before after : List ℕ) (next : ℕ) : Type 0 where
+  pub done : List ℕ
+  pub filled : Filled start done before after next
+  pub all : done ++ rest ≡ whole
+
+pub so-far-none : (start : ℕ) (whole before : List ℕ) → start < 2 ^ 64 → FilledSoFar start whole whole before before start
+so-far-none start whole before small = record { done = []; filled = filled-none start before small; all = refl }
+
+module _ {start next : ℕ} {whole before after : List ℕ} where
   pub so-far-more :
-      {later : List ℕ} {further : ℕ} (piece rest : List ℕ) → WrittenSoFar start whole (piece ++ rest) before after next
-      → Put next piece after later further → WrittenSoFar start whole rest before later further
+      {later : List ℕ} {further : ℕ} (piece rest : List ℕ) → FilledSoFar start whole (piece ++ rest) before after next
+      → Filled next piece after later further → FilledSoFar start whole rest before later further
   so-far-more piece rest w p =
-      let short = done-short w in
-      let long = length-append piece rest in
       record {
         done = w .done ++ piece;
-        put = put-then (w .put) p (omega arith);
+        filled = filled-then (w .filled) p;
         all = append-assoc (w .done) piece rest ∙ w .all;
       }
 
-  pub so-far-all : WrittenSoFar start whole [] before after next → Put start whole before after next
+  pub so-far-all : FilledSoFar start whole [] before after next → Filled start whole before after next
   so-far-all w =
-      subst (λ (text : List ℕ). Put start text before after next) (sym (append-nil (w .done)) ∙ w .all) (w .put)
+      subst (λ (text : List ℕ). Filled start text before after next) (sym (append-nil (w .done)) ∙ w .all) (w .filled)
 
 -- ---- the steps of a path
 
@@ -85,9 +101,6 @@ steps-cons :
     steps net (drop j path) ≡ record { net = net; from = getD path j 0; to = getD path (suc j) 0 } ∷ steps net (drop (suc j) path)
 unfolding steps
 steps-cons net path j h = rw (drop-cons path j 0 (omega arith), drop-cons path (suc j) 0 h)
-
-abbrev pub part : List ℕ → ℕ → ℕ → List ℕ
-part log from to = take (to - from) (drop from log)
 
 -- the line of the step to a place of the log
 abbrev pub stepLine : ℕ → List ℕ → ℕ → List ℕ
@@ -127,64 +140,30 @@ module _ (net : ℕ) (log : List ℕ) (from to k : ℕ) (above : from + 1 ≤ k)
       let most = part-long in
       rw (steps-short net (drop (k - (from + 1)) (part log from to)) (rw (length-drop (k - (from + 1)) (part log from to)) (omega arith)))
 
--- the bytes of the steps before a place are counted
-pub record Stepping (net : ℕ) (log : List ℕ) (from to bytes k : ℕ) : Type 0 where
-  pub above : from + 1 ≤ k
-  pub few : bytes ≤ 65 * (k - (from + 1))
-  pub all : bytes + length (stepsLeft net log from to k) ≡ length (branchText (steps net (part log from to)))
-
-pub stepping-none : (net : ℕ) (log : List ℕ) (from to : ℕ) → Stepping net log from to 0 (from + 1)
-stepping-none net log from to =
-    record {
-      above = omega arith;
-      few = omega arith;
-      all = omega (arith, ap length (left-start net log from to));
-    }
-
-module _ {net from to bytes k : ℕ} {log : List ℕ} (fits : to ≤ length log) (p : Stepping net log from to bytes k) where
-  pub stepping-more : {r : ℕ} → k < to → r ≡ length (printLine 0 (net ∷ getD log (k - 1) 0 ∷ getD log k 0 ∷ [])) → r ≤ 65 → Stepping net log from to (bytes + r) (k + 1)
-  stepping-more {r} l e most =
-      let above = p .above in
-      let long = letter-any 0 letterB (net ∷ getD log (k - 1) 0 ∷ getD log k 0 ∷ []) in
-      let more = ap length (left-more net log from to k above fits l) in
-      record {
-        above = omega arith;
-        few = omega (arith, p .few);
-        all = omega (arith, p .all, length-append (stepLine net log k) (stepsLeft net log from to (k + 1)));
-      }
-
-  pub stepping-all : to ≤ k → bytes ≡ length (branchText (steps net (part log from to)))
-  stepping-all l = omega (arith, p .all, ap length (left-none net log from to k (p .above) fits l))
-
--- the lines of the steps before a place are written
+-- the lines of the steps before a place are passed
 pub record PuttingSteps (net : ℕ) (log : List ℕ) (from to start : ℕ) (before after : List ℕ) (next k : ℕ) : Type 0 where
   pub above : from + 1 ≤ k
-  pub writing : WrittenSoFar start (branchText (steps net (part log from to))) (stepsLeft net log from to k) before after next
+  pub writing : FilledSoFar start (branchText (steps net (part log from to))) (stepsLeft net log from to k) before after next
 
-pub putting-none : (net : ℕ) (log : List ℕ) (from to start : ℕ) (before : List ℕ) → PuttingSteps net log from to start before before start (from + 1)
-putting-none net log from to start before =
+pub putting-none : (net : ℕ) (log : List ℕ) (from to start : ℕ) (before : List ℕ) → start < 2 ^ 64 → PuttingSteps net log from to start before before start (from + 1)
+putting-none net log from to start before small =
     record {
       above = omega arith;
-      writing = rw (left-start net log from to) (so-far-none start (branchText (steps net (part log from to))) before);
+      writing = rw (left-start net log from to) (so-far-none start (branchText (steps net (part log from to))) before small);
     }
 
-module _ {net from to start next k : ℕ} {log before after : List ℕ} (fits : to ≤ length log) (room : start + length (branchText (steps net (part log from to))) ≤ length before) (p : PuttingSteps net log from to start before after next k) where
-  pub putting-length : length after ≡ length before
-  putting-length = so-far-length room (p .writing)
+module _ {net from to start next k : ℕ} {log before after : List ℕ} (fits : to ≤ length log) (p : PuttingSteps net log from to start before after next k) where
+  pub putting-all : to ≤ k → Filled start (branchText (steps net (part log from to))) before after next
+  putting-all l = so-far-all (rw (left-none net log from to k (p .above) fits l) at (p .writing))
 
-  pub putting-all : to ≤ k → Put start (branchText (steps net (part log from to))) before after next
-  putting-all l = so-far-all room (rw (left-none net log from to k (p .above) fits l) at (p .writing))
-
-  module _ (l : k < to) where
-    due : WrittenSoFar start (branchText (steps net (part log from to))) (stepLine net log k ++ stepsLeft net log from to (k + 1)) before after next
-    due = rw (left-more net log from to k (p .above) fits l) at (p .writing)
-
-    pub putting-room : next + length (stepLine net log k) ≤ length after
-    putting-room = so-far-room room (stepLine net log k) (stepsLeft net log from to (k + 1)) due
-
-    pub putting-more : {later : List ℕ} {further : ℕ} → Put next (stepLine net log k) after later further → PuttingSteps net log from to start before later further (k + 1)
-    putting-more q =
-        record {
-          above = omega arith;
-          writing = so-far-more room (stepLine net log k) (stepsLeft net log from to (k + 1)) due q;
-        }
+  pub putting-more :
+      {later : List ℕ} {further : ℕ} → k < to → Filled next (stepLine net log k) after later further
+      → PuttingSteps net log from to start before later further (k + 1)
+  putting-more l q =
+      let above = p .above in
+      record {
+        above = omega arith;
+        writing =
+            so-far-more (stepLine net log k) (stepsLeft net log from to (k + 1))
+            (rw (left-more net log from to k above fits l) at (p .writing)) q;
+      }

@@ -1,6 +1,6 @@
 -- A text is taken for a job exactly where the job is sound and the text is a printed form of it; so no two sound jobs have the same printed form.
 -- Assumes nothing.
-use mathlib.Core.Bool.{Bool, true, false}
+use mathlib.Core.Bool.{true}
 use mathlib.Core.List.{List, [], _∷_, _++_}
 use mathlib.Core.Path.{_≡_, refl, sym, _∙_, ap}
 use Prim.Native.Nat.{ℕ, zero, suc, _+_, _≤_, _<_}
@@ -8,7 +8,7 @@ use native.Mathlib.Omega.{arith}
 use lib.Dec.{leb}
 use lib.ListN.{length}
 use borrow.Author.Tests.{le-leb, leb-true}
-use Rattle.price.specs.Test.{choose}
+use Rattle.price.specs.Test.{both}
 use Rattle.price.specs.Bounds.{limitMost}
 use Rattle.price.specs.Lists.{upTo}
 use Rattle.price.specs.Tuning.{tuningSound}
@@ -20,13 +20,14 @@ use Rattle.search.proofs.BlockLaws.{kinds-some, kinds-few}
 use Rattle.search.proofs.TableLaws.{edges-all}
 use Rattle.negotiation.specs.Job.{Job, jobOf, nodes, nets, netSinks}
 use Rattle.negotiation.specs.declared.Terms.{Terms}
-use Rattle.negotiation.specs.Tables.{sourcesSound, firstSinksSound, sinksSound, limitSound, termsSound, sourcePins, sinkPins, SoundJob}
+use Rattle.negotiation.specs.Tables.{sourcesSound, firstSinksSound, sinksSound, limitSound, ruleSound, termsSound, sourcePins, sinkPins, SoundJob}
 use Rattle.negotiation.proofs.JobLaws.{nets-some, routable-of}
-use Rattle.text.specs.Lines.{letterF, letterP, begins, printLine}
+use Rattle.text.specs.Lines.{letterF, letterN, begins, printLine}
 use Rattle.text.specs.JobText.{Part, part, andThen, Counts, headPart, NodeLists, nodeLists, nodeLines, EdgeLists, edgeLists, edgeLines, NetLists, netLists, netLines, firstPlaces, jobRead, readText}
-use Rattle.text.specs.Printed.{joined, nodeText, rowText, netText, tuningText, Written, printJob, Accepts, PrintedAs, Exactly}
+use Rattle.text.specs.Printed.{joined, nodeText, rowText, netText, Form, termsText, Allowed, printJob, Accepts, PrintedAs, Exactly}
 use Rattle.text.proofs.PrintLaws.{then-part}
 use Rattle.text.proofs.HeadTextLaws.{HeadBounds, HeadTold, head-read, head-printed}
+use Rattle.text.proofs.OptionalTextLaws.{linesAfter}
 use Rattle.text.proofs.NodeTextLaws.{nodePrinted, NodesTold, nodes-read, read-kinds-sound, read-capacities-sound, nodes-printed}
 use Rattle.text.proofs.EdgeRisingLaws.{rowOf}
 use Rattle.text.proofs.EdgeTextLaws.{edgesText, EdgesTold, edges-read, EdgesPrinted, edges-printed}
@@ -41,13 +42,13 @@ module _
     (n m k : ℕ) (terms : Terms) (kinds capacities first targets sources firsts sinks : List ℕ)
     (nodes-are : length kinds ≡ n) (edges-are : length targets ≡ m) (nets-are : length sources ≡ k) where
   made-text :
-      (written : Bool)
-      → printJob written (jobOf kinds capacities first targets sources firsts sinks terms)
+      (form : Form)
+      → printJob form (jobOf kinds capacities first targets sources firsts sinks terms)
       ≡ printLine letterF (n ∷ m ∷ k ∷ terms .limit ∷ [])
-      ++ (tuningText written (terms .tuning)
+      ++ (termsText form terms
       ++ (joined (nodePrinted kinds capacities) 0 n ++ (edgesText n first targets ++ joined (netAt sources firsts sinks) 0 k)))
   unfolding printJob nodeText rowText row netText netSinks
-  made-text written = rw (nodes-are, edges-are, nets-are)
+  made-text form = rw (nodes-are, edges-are, nets-are)
 
   made-edges : m ≤ edgesMost → ((u : ℕ) → u < n → rowSound n u (rowOf first targets u) ≡ true) → edgeTargetsSound (blockOf kinds capacities first targets) ≡ true
   unfolding row
@@ -78,7 +79,7 @@ module _
         terms-sound =
             both-true
             (both-true (le-leb 1 (terms .limit) (head .some-turns)) (le-leb (terms .limit) limitMost (head .few-turns)))
-            (head .tuned);
+            (both-true (head .tuned) (head .ruled));
       }
 
 -- what the four parts of a text tell together
@@ -91,8 +92,7 @@ parts-told :
     → SoundJob (jobRead c ns es ts) × PrintedAs bs (jobRead c ns es ts)
 unfolding jobRead
 parts-told c ns es ts bs rest1 rest2 rest3 rest4 told nr er tr =
-    let head : HeadBounds c = told .0 in
-    let written : Bool = told .1 in
+    let head : HeadBounds c = told .bounds in
     let first : List ℕ = firstPlaces (c .nodes) (es .froms) in
     let firsts : List ℕ = ends (ts .firstSinks) (ts .sinks) in (
       made-sound (c .nodes) (c .edges) (c .nets) (c .terms) (ns .kinds) (ns .capacities) first (es .targets) (ts .sources) firsts (ts .sinks)
@@ -101,12 +101,12 @@ parts-told c ns es ts bs rest1 rest2 rest3 rest4 told nr er tr =
           (read-capacities-sound (c .nodes) (c .nodes) (nodeLists [] []) ns rest1 rest2 nr)
           (er .firsts-sound) (er .rows-sound) (tr .sources-sound) (tr .source-pins) (tr .firstSinks-sound) (tr .sinks-sound) (tr .sink-pins),
       record {
-        written = written;
-        may = told .2;
+        form = told .form;
+        allowed = told .allowed;
         is =
-            told .3 ∙ rw (nr .text, er .text-is, tr .text)
+            told .text ∙ rw (nr .text, er .text-is, tr .text)
             (sym (made-text (c .nodes) (c .edges) (c .nets) (c .terms) (ns .kinds) (ns .capacities) first (es .targets) (ts .sources) firsts (ts .sinks)
-            (nr .kinds-long) (er .targets-long) (tr .count) written));
+            (nr .kinds-long) (er .targets-long) (tr .count) (told .form)));
       },
     )
 
@@ -137,7 +137,7 @@ module _
       let same : jobRead c ns es ts ≡ j = cc in
       let left : rest4 ≡ rest = cc in
       let tables : TablesRead (ns .kinds) (c .nodes) (c .nets) ts rest3 rest4 =
-      nets-read (length rest3) (ns .kinds) (c .nodes) (c .nets) ts at3 (r .1) rest3 rest4 (head .0 .some-nets) (head .0 .few-nets) (r .3) in
+      nets-read (length rest3) (ns .kinds) (c .nodes) (c .nets) ts at3 (r .1) rest3 rest4 (head .bounds .some-nets) (head .bounds .few-nets) (r .3) in
       let told = parts-told c ns es ts bs rest1 rest2 rest3 rest4 head nr er tables in
       (rw same at (told .0), rw same at (told .1), rw left at (tables .end))
 
@@ -162,7 +162,7 @@ accepted-printed bs j at rest e =
 -- ---- a sound job's printed form
 
 -- the first of the node lines
-nodes-begin : (n : ℕ) (kinds capacities rest : List ℕ) → 1 ≤ n → begins letterP (joined (nodePrinted kinds capacities) 0 n ++ rest) ≡ false
+nodes-begin : (n : ℕ) (kinds capacities rest : List ℕ) → 1 ≤ n → begins letterN (joined (nodePrinted kinds capacities) 0 n ++ rest) ≡ true
 unfolding begins joined printLine
 nodes-begin zero kinds capacities rest some = absurd (omega arith)
 nodes-begin (suc k) kinds capacities rest some = refl
@@ -186,6 +186,8 @@ module _ (j : Job) (s : SoundJob j) where
   counts-within : HeadBounds counts
   unfolding termsSound
   counts-within =
+      let asked =
+      both-right (limitSound (j .terms .limit)) (both (tuningSound (j .terms .tuning)) (ruleSound (j .terms .rule))) (s .terms-sound) in
       record {
         some-nodes = kinds-some (j .block .kinds) (s .block-sound .kinds-sound);
         few-nodes = kinds-few (j .block .kinds) (s .block-sound .kinds-sound);
@@ -194,14 +196,15 @@ module _ (j : Job) (s : SoundJob j) where
         few-nets = routable-of j s .nets-few;
         some-turns = routable-of j s .limit-some;
         few-turns = routable-of j s .limit-few;
-        tuned = both-right (limitSound (j .terms .limit)) (tuningSound (j .terms .tuning)) (s .terms-sound);
+        tuned = both-left (tuningSound (j .terms .tuning)) (ruleSound (j .terms .rule)) asked;
+        ruled = both-right (tuningSound (j .terms .tuning)) (ruleSound (j .terms .rule)) asked;
       }
 
-  pub printed-accepted : (written : Bool) → Written written (j .terms .tuning) → Accepts (printJob written j) j
+  pub printed-accepted : (form : Form) → Allowed form (j .terms) → Accepts (printJob form j) j
   unfolding readText jobRead printJob nodeText rowText row netText netSinks
-  printed-accepted written may =
+  printed-accepted form allowed =
       let n : ℕ = nodes j in
-      let at : ℕ = choose written 3 2 in
+      let at : ℕ = linesAfter form 2 in
       let kinds : List ℕ = j .block .kinds in
       let capacities : List ℕ = j .block .capacities in
       let first : List ℕ = j .block .firstEdges in
@@ -209,8 +212,8 @@ module _ (j : Job) (s : SoundJob j) where
       let third : List ℕ = joined (netAt (j .sources) (j .firstSinks) (j .sinks)) 0 (nets j) in
       let second : List ℕ = edgesText n first targets ++ third in
       let head =
-      head-printed counts (joined (nodePrinted kinds capacities) 0 n ++ second) counts-within written may
-      (λ left-out. nodes-begin n kinds capacities second (counts-within .some-nodes)) in
+      head-printed counts (joined (nodePrinted kinds capacities) 0 n ++ second) counts-within form allowed
+      (nodes-begin n kinds capacities second (counts-within .some-nodes)) in
       let node = nodes-printed n kinds capacities refl (s .block-sound .kinds-sound) (s .block-sound .capacities-sound) at second in
       let edge : EdgesPrinted n first targets (at + n) third =
       edges-printed n first targets (at + n) third (counts-within .few-nodes) (s .block-sound .firstEdges-sound) rows-sound in
@@ -225,13 +228,12 @@ pub reader-exact : (bs : List ℕ) (j : Job) → Exactly bs j
 reader-exact bs j =
     record {
       only-printed = λ a. let r = accepted-printed bs j (a .0) [] (a .1) in (r .0, r .1);
-      all-printed = λ s p. let a = printed-accepted j s (p .written) (p .may) in (a .0, ap readText (p .is) ∙ a .1);
+      all-printed = λ s p. let a = printed-accepted j s (p .form) (p .allowed) in (a .0, ap readText (p .is) ∙ a .1);
     }
 
 -- two sound jobs with the same printed form are the same job
 pub printed-once :
-    (j k : Job) → SoundJob j → SoundJob k → (a b : Bool) → Written a (j .terms .tuning) → Written b (k .terms .tuning)
-    → printJob a j ≡ printJob b k → j ≡ k
+    (j k : Job) → SoundJob j → SoundJob k → (a b : Form) → Allowed a (j .terms) → Allowed b (k .terms) → printJob a j ≡ printJob b k → j ≡ k
 printed-once j k s t a b may may′ e =
     let p = printed-accepted j s a may in
     let q = printed-accepted k t b may′ in

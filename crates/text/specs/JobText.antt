@@ -1,5 +1,5 @@
--- Document 01, "Job text" and rows 1 to 3 of "Numbers for a stopped call", with the P line of request 2.1 and the pins' kinds of 2.5:
--- what a text gives, line by line, or the first faulty line.
+-- Document 01, "Job text" and rows 1 to 3 of "Numbers for a stopped call", with the P line of request 2.1, the pins' kinds of 2.5 and
+-- the V line of 2.7: what a text gives, line by line, or the first faulty line.
 -- Assumes nothing.
 use mathlib.Core.Bool.{Bool, true, not}
 use mathlib.Core.List.{List, [], _∷_, _++_}
@@ -9,14 +9,14 @@ use lib.ListN.{length, getD, drop}
 use Rattle.price.specs.Test.{choose, both, either}
 use Rattle.price.specs.Bounds.{nodesMost, kindMost, capacityMost, limitMost}
 use Rattle.price.specs.Lists.{has, upTo, total}
-use Rattle.price.specs.Tuning.{plain, tuningSound}
+use Rattle.price.specs.Tuning.{tuningSound}
 use Rattle.price.specs.declared.Tuning.{Tuning}
 use Rattle.search.specs.Tables.{edgesMost}
 use Rattle.search.specs.Replies.{sinksMost}
-use Rattle.negotiation.specs.Tables.{netsMost, sourceKind, sinkKind}
-use Rattle.negotiation.specs.Job.{Job, jobOf}
+use Rattle.negotiation.specs.Tables.{netsMost, ruleSound, sourceKind, sinkKind}
+use Rattle.negotiation.specs.Job.{Job, jobOf, plainTerms}
 use Rattle.negotiation.specs.declared.Terms.{Terms}
-use Rattle.text.specs.Lines.{letterF, letterP, letterN, letterE, letterS, letterT, begins, Fields, taken, malformed, line}
+use Rattle.text.specs.Lines.{letterF, letterP, letterV, letterN, letterE, letterS, letterT, begins, Fields, taken, malformed, line}
 
 -- ---- a line
 
@@ -54,6 +54,13 @@ tuningWithin vs = tuningSound (tuningOf vs)
 
 unfoldable pub tuningLine : List ℕ → Reading (List ℕ)
 tuningLine bs = judged tuningWithin (λ vs. true) (line letterP 4 bs)
+
+-- "A line `V,1` or `V,2`": "Other values are 2"
+unfoldable pub ruleWithin : List ℕ → Bool
+ruleWithin vs = ruleSound (getD vs 0 0)
+
+unfoldable pub ruleLine : List ℕ → Reading (List ℕ)
+ruleLine bs = judged ruleWithin (λ vs. true) (line letterV 1 bs)
 
 -- "`N,node,kind,capacity` in order": of n nodes, node v is due
 unfoldable pub nodeWithin : ℕ → List ℕ → Bool
@@ -116,21 +123,38 @@ pub record Counts : Type 0 where
   pub nets : ℕ
   pub terms : Terms
 
--- "A line `P,first,up,down,step` may follow F" .. "Without the line it is 50,3,2,1."
-unfoldable pub tuningPart : ℕ → List ℕ → Part Tuning
-tuningPart at bs =
-    choose (begins letterP bs) (onward (tuningLine bs) at (λ vs rest. part (tuningOf vs) (at + 1) rest)) (part plain at bs)
+-- a line that may be left out: where its letter stands, it changes the terms so far; without it they stay
+abbrev pub optional : ℕ → Reading (List ℕ) → (List ℕ → Terms) → Terms → ℕ → List ℕ → Part Terms
+optional letter read change t at bs =
+    choose (begins letter bs) (onward read at (λ vs rest. part (change vs) (at + 1) rest)) (part t at bs)
 
--- the counts of the F line, with its limit and this tuning
-abbrev pub countsOf : List ℕ → Tuning → Counts
-countsOf vs g =
-    record { nodes = getD vs 0 0; edges = getD vs 1 0; nets = getD vs 2 0; terms = record { limit = getD vs 3 0; tuning = g } }
+-- "A line `P,first,up,down,step` may follow F"
+abbrev pub withTuning : Terms → List ℕ → Terms
+withTuning t vs = record { limit = t .limit; tuning = tuningOf vs; rule = t .rule }
+
+unfoldable pub tuningPart : Terms → ℕ → List ℕ → Part Terms
+tuningPart t at bs = optional letterP (tuningLine bs) (withTuning t) t at bs
+
+-- "A line `V,1` or `V,2` may follow F and any P."
+abbrev pub withRule : Terms → List ℕ → Terms
+withRule t vs = record { limit = t .limit; tuning = t .tuning; rule = getD vs 0 0 }
+
+unfoldable pub rulePart : Terms → ℕ → List ℕ → Part Terms
+rulePart t at bs = optional letterV (ruleLine bs) (withRule t) t at bs
+
+-- the lines that may follow F. "Without the line it is 50,3,2,1.", and "Under rule 1, or without the line"
+unfoldable pub termsPart : ℕ → ℕ → List ℕ → Part Terms
+termsPart limit at bs = andThen (tuningPart (plainTerms limit) at bs) rulePart
+
+-- the counts of the F line, with these terms
+abbrev pub countsOf : List ℕ → Terms → Counts
+countsOf vs t = record { nodes = getD vs 0 0; edges = getD vs 1 0; nets = getD vs 2 0; terms = t }
 
 -- the lines before the nodes
 unfoldable pub headPart : List ℕ → Part Counts
 headPart bs =
     onward (headLine bs) 1
-    (λ vs rest. andThen (tuningPart 2 rest) (λ g at more. part (countsOf vs g) at more))
+    (λ vs rest. andThen (termsPart (getD vs 3 0) 2 rest) (λ t at more. part (countsOf vs t) at more))
 
 -- the nodes read so far
 pub record NodeLists : Type 0 where

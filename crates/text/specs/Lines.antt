@@ -13,12 +13,15 @@ lf = 10
 abbrev pub comma : ℕ
 comma = 44
 
--- ASCII codes of the line letters: F, P, N, E, S and T of a job text, R, B and J of a routes text, X of a refusal
+-- ASCII codes of the line letters: F, P, V, N, E, S and T of a job text, R, B and J of a routes text, X of a refusal
 abbrev pub letterF : ℕ
 letterF = 70
 
 abbrev pub letterP : ℕ
 letterP = 80
+
+abbrev pub letterV : ℕ
+letterV = 86
 
 abbrev pub letterN : ℕ
 letterN = 78

@@ -8,6 +8,7 @@ use native.Mathlib.Decide.{ℕ-discrete}
 use lib.ListN.{length, getD}
 use Rattle.price.specs.Lists.{upTo}
 use Rattle.negotiation.specs.Records.{Record, decode}
+use Rattle.negotiation.specs.Demand.{latest}
 use Rattle.text.specs.Lines.{letterR, letterB, letterJ, taken, line, printLine}
 use Rattle.text.specs.Routes.{Branch, Join, routeJoins}
 
@@ -30,29 +31,31 @@ stepAt r k = record { net = r .net; from = getD (r .path) k 0; to = getD (r .pat
 unfoldable pub pathSteps : Record → List Branch
 pathSteps r = upTo (stepAt r) (length (r .path) - 1)
 
--- the records of this iteration, in log order
-unfoldable pub recordsOf : ℕ → List Record → List Record
-recordsOf t rs = filter (λ (r : Record). ℕ-discrete (r .iteration) t) rs
+-- request 2.7: net i's "records of the latest iteration in which it has any", in log order
+unfoldable pub latestOf : ℕ → List Record → List Record
+latestOf i rs =
+    filter (λ (r : Record). ℕ-discrete (r .iteration) (latest i rs)) (filter (λ (r : Record). ℕ-discrete (r .net) i) rs)
 
--- their path steps, record after record
-unfoldable pub stepsOf : ℕ → List Record → List Branch
-stepsOf t rs = flatMap pathSteps (recordsOf t rs)
+-- their path steps, of the first n nets in order, record after record
+unfoldable pub stepsByNet : ℕ → List Record → List Branch
+stepsByNet n rs = flatMap (λ (i : ℕ). flatMap pathSteps (latestOf i rs)) (upTo (λ (i : ℕ). i) n)
 
--- "`R,iteration,turns` from the last record and the record count, then `B,net,from,to` for each path step of records with that iteration",
--- and the J lines by net. The R line is said by its bytes: a record count may have more digits than a field that is read
+-- "`R,iteration,turns` from the last record and the record count, then `B,net,from,to`"; request 2.7: "those of each net in
+-- order, from its records of the latest iteration in which it has any"; and the J lines by net. The R line is said by its bytes: a
+-- record count may have more digits than a field that is read
 pub record Listed (sources log text : List ℕ) : Type 0 where
   pub earlier : List Record
   pub last : Record
   pub last-is : decode log ≡ earlier ++ (last ∷ [])
   pub rest : List ℕ
   pub text-is : text ≡ printLine letterR (last .iteration ∷ length (decode log) ∷ []) ++ rest
-  pub lines : RouteLines rest (stepsOf (last .iteration) (decode log)) (routeJoins sources)
+  pub lines : RouteLines rest (stepsByNet (length sources) (decode log)) (routeJoins sources)
 
--- a record of this iteration has the branch as a step of its path
-pub record StepOf (t : ℕ) (rs : List Record) (b : Branch) : Type 0 where
+-- a record of its net's latest iteration has the branch as a step of its path
+pub record StepOf (rs : List Record) (b : Branch) : Type 0 where
   pub turn : Record
   pub logged : List·Memᴰ turn rs
-  pub iteration-is : turn .iteration ≡ t
+  pub iteration-is : turn .iteration ≡ latest (turn .net) rs
   pub place : ℕ
   pub within : suc place < length (turn .path)
   pub branch-is : b ≡ stepAt turn place

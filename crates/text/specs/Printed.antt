@@ -1,4 +1,4 @@
--- Document 01, "Job text": a job's printed form, line by line in 01's order.
+-- Document 01, "Job text", with the P line of request 2.1 and the V line of 2.7: a job's printed forms, line by line in 01's order.
 -- Assumes nothing.
 use mathlib.Core.Bool.{Bool, true, false}
 use mathlib.Core.List.{List, [], _∷_, _++_}
@@ -11,7 +11,8 @@ use Rattle.price.specs.declared.Tuning.{Tuning}
 use Rattle.search.specs.Block.{row}
 use Rattle.negotiation.specs.Job.{Job, nodes, nets, source, netSinks}
 use Rattle.negotiation.specs.Tables.{SoundJob}
-use Rattle.text.specs.Lines.{letterF, letterP, letterN, letterE, letterS, letterT, printLine}
+use Rattle.negotiation.specs.declared.Terms.{Terms}
+use Rattle.text.specs.Lines.{letterF, letterP, letterV, letterN, letterE, letterS, letterT, printLine}
 use Rattle.text.specs.JobText.{part, readText}
 
 -- the texts of m, m + 1, .., one after the other, so many of them
@@ -36,31 +37,56 @@ rowText j u = eachLine letterE u (row (j .block) u)
 unfoldable pub netText : Job → ℕ → List ℕ
 netText j i = printLine letterS (i ∷ source j i ∷ []) ++ eachLine letterT i (netSinks j i)
 
--- "A line `P,first,up,down,step` may follow F": where it is written
-unfoldable pub tuningText : Bool → Tuning → List ℕ
-tuningText written g = choose written (printLine letterP (g .first ∷ g .up ∷ g .down ∷ g .step ∷ [])) []
+-- which of the lines that may be left out are written
+pub record Form : Type 0 where
+  pub tuning : Bool
+  pub rule : Bool
 
--- "Without the line it is 50,3,2,1.": only there it may be left out
-abbrev pub Written : Bool → Tuning → Type 0
-Written true g = Unit {0}
-Written false g = g ≡ plain
+-- the form without any of them
+abbrev pub shortest : Form
+shortest = record { tuning = false; rule = false }
 
--- "`F,nodes,edges,nets,limit`", the tuning where it is written, then nodes, edges and nets; "end of text"
-unfoldable pub printJob : Bool → Job → List ℕ
-printJob written j =
+-- a line, where it is written
+unfoldable pub lineIf : Bool → ℕ → List ℕ → List ℕ
+lineIf written letter vs = choose written (printLine letter vs) []
+
+-- "A line `P,first,up,down,step` may follow F"
+abbrev pub tuningText : Bool → Tuning → List ℕ
+tuningText written g = lineIf written letterP (g .first ∷ g .up ∷ g .down ∷ g .step ∷ [])
+
+-- "A line `V,1` or `V,2` may follow F and any P."
+abbrev pub ruleText : Bool → ℕ → List ℕ
+ruleText written rule = lineIf written letterV (rule ∷ [])
+
+unfoldable pub termsText : Form → Terms → List ℕ
+termsText form t = tuningText (form .tuning) (t .tuning) ++ ruleText (form .rule) (t .rule)
+
+-- a line may be left out only where it says what holds without it
+abbrev pub Written : {A : Type 0} → Bool → A → A → Type 0
+Written true without x = Unit {0}
+Written false without x = x ≡ without
+
+-- "Without the line it is 50,3,2,1."; "Under rule 1, or without the line"
+pub record Allowed (form : Form) (t : Terms) : Type 0 where
+  pub tuning : Written (form .tuning) plain (t .tuning)
+  pub rule : Written (form .rule) 1 (t .rule)
+
+-- "`F,nodes,edges,nets,limit`", the lines that are written of those that may be left out, then nodes, edges and nets; "end of text"
+unfoldable pub printJob : Form → Job → List ℕ
+printJob form j =
     printLine letterF (nodes j ∷ length (j .block .edgeTargets) ∷ nets j ∷ j .terms .limit ∷ [])
-    ++ (tuningText written (j .terms .tuning)
+    ++ (termsText form (j .terms)
     ++ (joined (nodeText j) 0 (nodes j) ++ (joined (rowText j) 0 (nodes j) ++ joined (netText j) 0 (nets j))))
 
 -- the reader takes the text for this job
 abbrev pub Accepts : List ℕ → Job → Type 0
 Accepts bs j = (at : ℕ) × (readText bs ≡ part j at [])
 
--- the text is a printed form of the job: with its P line, or without it where the tuning is the plain one
+-- the text is a printed form of the job
 pub record PrintedAs (bs : List ℕ) (j : Job) : Type 0 where
-  pub written : Bool
-  pub may : Written written (j .terms .tuning)
-  pub is : bs ≡ printJob written j
+  pub form : Form
+  pub allowed : Allowed form (j .terms)
+  pub is : bs ≡ printJob form j
 
 -- the reader takes a text for a job exactly where the job is sound and the text is a printed form of it
 pub record Exactly (bs : List ℕ) (j : Job) : Type 0 where

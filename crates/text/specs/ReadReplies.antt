@@ -60,7 +60,7 @@ tablesWith j t =
     (writtenOver (j .block .firstEdges) (t .firstEdges)) (writtenOver (j .block .edgeTargets) (t .edgeTargets))
     (writtenOver (j .sources) (t .sources)) (writtenOver (j .firstSinks) (t .firstSinks)) (writtenOver (j .sinks) (t .sinks))
 
--- the refusal's numbers, none where the text is taken; nodes, edges, nets, sinks, limit and the four of the tuning, none after a refusal;
+-- the refusal's numbers, none where the text is taken; nodes, edges, nets, sinks and those of the terms, none after a refusal;
 -- and the tables afterwards
 pub record ReadReply : Type 0 where
   pub refusal : List ℕ
@@ -71,11 +71,11 @@ pub record ReadReply : Type 0 where
 abbrev pub notRead : List ℕ → Tables → ReadReply
 notRead refusal t = record { refusal = refusal; numbers = []; tables = t }
 
--- limit, first, up, down and step
+-- limit, first, up, down, step and rule
 abbrev pub termsNumbers : Terms → List ℕ
-termsNumbers t = t .limit ∷ t .tuning .first ∷ t .tuning .up ∷ t .tuning .down ∷ t .tuning .step ∷ []
+termsNumbers t = t .limit ∷ t .tuning .first ∷ t .tuning .up ∷ t .tuning .down ∷ t .tuning .step ∷ t .rule ∷ []
 
--- "The reader returns nodes, edges, nets, sinks and limit.", and by request 2.1 "these too"
+-- "The reader returns nodes, edges, nets, sinks and limit.", and by request 2.1 "these too, as with any later such line"
 unfoldable pub jobNumbers : Job → List ℕ
 jobNumbers j = nodes j ∷ length (j .block .edgeTargets) ∷ nets j ∷ length (j .sinks) ∷ termsNumbers (j .terms)
 

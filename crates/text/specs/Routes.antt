@@ -1,5 +1,5 @@
--- Document 01, "Routes text" and rows 5, 10 and 11 of "Numbers for a stopped call", with request 2.3's J lines: sound logs,
--- branches, joined nets, and what the writer answers and leaves.
+-- Document 01, "Routes text" and rows 5, 10 and 11 of "Numbers for a stopped call", with request 2.3's J lines and request 2.7's
+-- branches by net: sound logs, branches, joined nets, and what the writer answers and leaves.
 -- Assumes nothing.
 use mathlib.Core.Bool.{Bool, not}
 use mathlib.Core.List.{List, [], _∷_, _++_, map}
@@ -73,27 +73,36 @@ steps net [] = []
 steps net (u ∷ []) = []
 steps net (u ∷ v ∷ path) = record { net = net; from = u; to = v } ∷ steps net (v ∷ path)
 
--- the path steps of the records with this iteration, in log order
-unfoldable pub branchesIn : ℕ → List Record → List Branch
-branchesIn t [] = []
-branchesIn t (r ∷ rs) = choose (eqb (r .iteration) t) (steps (r .net) (r .path) ++ branchesIn t rs) (branchesIn t rs)
-
 -- the iteration of the last record
 unfoldable pub lastIteration : List Record → ℕ
 lastIteration rs = getD (map (λ (r : Record). r .iteration) rs) (length rs - 1) 0
 
-unfoldable pub routeBranches : List Record → List Branch
-routeBranches rs = branchesIn (lastIteration rs) rs
+-- the records that pass a test, in log order
+unfoldable pub passing : (Record → Bool) → List Record → List Record
+passing test [] = []
+passing test (r ∷ rs) = choose (test r) (r ∷ passing test rs) (passing test rs)
 
--- "The branches of a final tree are the path steps of the records that it is read from": net i's records of iteration t
-unfoldable pub netBranches : ℕ → ℕ → List Record → List Branch
-netBranches i t [] = []
-netBranches i t (r ∷ rs) =
-    choose (both (eqb (r .net) i) (eqb (r .iteration) t)) (steps (r .net) (r .path) ++ netBranches i t rs) (netBranches i t rs)
+-- net i's records of iteration t
+abbrev pub recordsIn : ℕ → ℕ → List Record → List Record
+recordsIn i t = passing (λ (r : Record). both (eqb (r .net) i) (eqb (r .iteration) t))
 
--- the branches of net i's final tree
+-- request 2.7: "from its records of the latest iteration in which it has any", the ones that net i's final tree is read from
+unfoldable pub finalRecords : ℕ → List Record → List Record
+finalRecords i rs = recordsIn i (latest i rs) rs
+
+-- the path steps of these records, one record after the other
+unfoldable pub recordBranches : List Record → List Branch
+recordBranches [] = []
+recordBranches (r ∷ rs) = steps (r .net) (r .path) ++ recordBranches rs
+
+-- "The branches of a final tree are the path steps of the records that it is read from": those of net i
 unfoldable pub treeBranches : ℕ → List Record → List Branch
-treeBranches i rs = netBranches i (latest i rs) rs
+treeBranches i rs = recordBranches (finalRecords i rs)
+
+-- request 2.7: "The routes text now lists, in place of the last iteration's branches, those of each net in order", of the first n nets
+unfoldable pub routeBranches : ℕ → List Record → List Branch
+routeBranches zero rs = []
+routeBranches (suc i) rs = routeBranches i rs ++ treeBranches i rs
 
 -- the branches of net i among these
 unfoldable pub ofNet : ℕ → List Branch → List Branch
@@ -126,11 +135,12 @@ unfoldable pub joinText : List Join → List ℕ
 joinText [] = []
 joinText (p ∷ ps) = printLine letterJ (p .net ∷ p .first ∷ []) ++ joinText ps
 
--- "`R,iteration,turns` from the last record and the record count, then `B,net,from,to` for each path step of records with that iteration",
+-- "`R,iteration,turns` from the last record and the record count, then `B,net,from,to`" for each branch of the nets of table 5,
 -- and the J lines
 unfoldable pub routesText : List ℕ → List Record → List ℕ
 routesText sources rs =
-    printLine letterR (lastIteration rs ∷ length rs ∷ []) ++ (branchText (routeBranches rs) ++ joinText (routeJoins sources))
+    printLine letterR (lastIteration rs ∷ length rs ∷ [])
+    ++ (branchText (routeBranches (length sources) rs) ++ joinText (routeJoins sources))
 
 -- ---- the writer
 

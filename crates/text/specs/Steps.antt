@@ -1,5 +1,6 @@
 -- What the private functions' contracts say: how their answers stand for the definitions of the job text, at places of the text.
 -- Assumes nothing.
+use mathlib.Core.Bool.{Bool, true, false}
 use mathlib.Core.List.{List, [], _∷_}
 use mathlib.Core.Path.{_≡_}
 use Prim.Native.Nat.{ℕ, _+_, _-_, _≤_, _<_}
@@ -7,11 +8,10 @@ use lib.Dec.{ltb, eqb}
 use lib.ListN.{length, getD, take, drop, set}
 use Rattle.price.specs.Test.{choose}
 use Rattle.price.specs.Lists.{has}
-use Rattle.price.specs.declared.Tuning.{Tuning}
 use Rattle.search.specs.Replies.{sinksMost}
 use Rattle.negotiation.specs.declared.Terms.{Terms}
-use Rattle.text.specs.Lines.{Field, number, fault, Fields, taken, malformed, field, comma}
-use Rattle.text.specs.JobText.{Reading, values, refused, tuningOf, Part, part, stopped, NodeLists, nodeLists, EdgeLists}
+use Rattle.text.specs.Lines.{Field, number, fault, Fields, taken, malformed, field, comma, begins, line}
+use Rattle.text.specs.JobText.{Reading, values, refused, Part, part, stopped, NodeLists, nodeLists, EdgeLists}
 use Rattle.text.specs.JobText.{NetLists, netLists, lastOf, sinksNow, firstPlaces}
 use Rattle.text.specs.declared.fields.Field as fieldType
 use Rattle.text.specs.declared.fields.Field.the-variants as f
@@ -19,10 +19,10 @@ use Rattle.text.specs.declared.fields.LineFields.{LineFields}
 use Rattle.text.specs.declared.fields.LineFields.the-variants as lf
 use Rattle.text.specs.declared.head.Head.{Head}
 use Rattle.text.specs.declared.head.Head.the-variants as hd
-use Rattle.text.specs.declared.tuning.TuningLine.{TuningLine}
-use Rattle.text.specs.declared.tuning.TuningLine.the-variants as tl
-use Rattle.text.specs.declared.tuning.Tuned.{Tuned}
-use Rattle.text.specs.declared.tuning.Tuned.the-variants as tu
+use Rattle.text.specs.declared.optional.Shape.{Shape}
+use Rattle.text.specs.declared.optional.Shape.the-variants as sh
+use Rattle.text.specs.declared.optional.TermsRead.{TermsRead}
+use Rattle.text.specs.declared.optional.TermsRead.the-variants as tr
 use Rattle.text.specs.declared.head.Lines.{Lines}
 use Rattle.text.specs.declared.head.Lines.the-variants as ls
 use Rattle.text.specs.declared.nodes.NodeLine.{NodeLine}
@@ -85,31 +85,27 @@ abbrev pub HeadPlace : List ℕ → Head → Type 0
 HeadPlace text (hd.Counts nodes edges nets limit next) = After 1 text next
 HeadPlace text (hd.Refused k) = Unit {0}
 
--- the terms of a limit and of a P line's values
-abbrev pub termsWith : ℕ → List ℕ → Terms
-termsWith limit vs = record { limit = limit; tuning = tuningOf vs }
+-- a line that may be left out: by its letter, its shape and the values of its fields
+abbrev pub Shaped : (letter count at : ℕ) (text vs : List ℕ) → Shape → Type 0
+Shaped letter count at text vs sh.LeftOut = begins letter (drop at text) ≡ false
+Shaped letter count at text vs sh.Malformed = (begins letter (drop at text) ≡ true) × (line letter count (drop at text) ≡ malformed)
+Shaped letter count at text vs (sh.Line next) =
+    (begins letter (drop at text) ≡ true) × (line letter count (drop at text) ≡ taken (take count vs) (drop next text))
+    × After (at + 1) text next
 
--- the P line
-abbrev pub tuningAt : List ℕ → TuningLine → Reading Terms
-tuningAt text (tl.Given t next) = values t (drop next text)
-tuningAt text (tl.Refused k) = refused k
+-- the terms after it, as they were or changed: 1 for its shape, 2 for a value beyond its bounds
+abbrev pub termsAfter : Shape → Bool → Terms → Terms → ℕ → ℕ → TermsRead
+termsAfter sh.LeftOut within t changed at l = tr.Read t at l
+termsAfter sh.Malformed within t changed at l = tr.Stopped 1 l
+termsAfter (sh.Line next) within t changed at l = choose within (tr.Read changed next (l + 1)) (tr.Stopped 2 l)
 
-abbrev pub TuningPlace : ℕ → List ℕ → TuningLine → Type 0
-TuningPlace at text (tl.Given t next) = After (at + 1) text next
-TuningPlace at text (tl.Refused k) = Unit {0}
+abbrev pub termsAt : List ℕ → TermsRead → Part Terms
+termsAt text (tr.Read t at line) = part t line (drop at text)
+termsAt text (tr.Stopped k line) = stopped k line
 
--- the terms, whether the line is there or not
-abbrev pub withLimit : ℕ → Part Tuning → Part Terms
-withLimit limit (part g at rest) = part (record { limit = limit; tuning = g }) at rest
-withLimit limit (stopped k at) = stopped k at
-
-abbrev pub tunedAt : List ℕ → Tuned → Part Terms
-tunedAt text (tu.Read t at line) = part t line (drop at text)
-tunedAt text (tu.Stopped k line) = stopped k line
-
-abbrev pub TunedPlace : List ℕ → Tuned → Type 0
-TunedPlace text (tu.Read t at line) = (at ≤ length text) × (line ≤ at + 1)
-TunedPlace text (tu.Stopped k line) = Unit {0}
+abbrev pub TermsPlace : List ℕ → TermsRead → Type 0
+TermsPlace text (tr.Read t at line) = (at ≤ length text) × (line ≤ at + 1)
+TermsPlace text (tr.Stopped k line) = Unit {0}
 
 abbrev pub LinesPlace : List ℕ → Lines → Type 0
 LinesPlace text (ls.Read at line) = (at ≤ length text) × (line ≤ at + 1)

@@ -1,14 +1,15 @@
 -- What the contracts of the writer's private functions say.
 -- Assumes nothing.
-use mathlib.Core.Bool.{Bool}
+use mathlib.Core.Bool.{Bool, true}
 use mathlib.Core.List.{List, _++_}
 use mathlib.Core.Path.{_≡_}
-use Prim.Native.Nat.{ℕ, _+_}
+use Prim.Native.Nat.{ℕ, _+_, _-_, _^_, _≤_, _<_}
 use lib.Dec.{eqb}
 use lib.ListN.{length, getD, take, drop}
 use Rattle.price.specs.Test.{choose}
-use Rattle.negotiation.specs.Records.{decode}
-use Rattle.text.specs.Routes.{logSound, soundWords, lastIteration}
+use Rattle.negotiation.specs.Tables.{netsMost}
+use Rattle.negotiation.specs.Records.{Record, decode}
+use Rattle.text.specs.Routes.{logSound, soundWords, lastIteration, passing, finalRecords, capped}
 use Rattle.text.specs.declared.log_check.LogCheck.{LogCheck}
 use Rattle.text.specs.declared.log_check.LogCheck.the-variants as k
 
@@ -20,6 +21,13 @@ placed at bytes buffer = take at buffer ++ (bytes ++ drop (at + length bytes) bu
 pub record Put (at : ℕ) (bytes before after : List ℕ) (next : ℕ) : Type 0 where
   pub written : after ≡ placed at bytes before
   pub next-is : next ≡ at + length bytes
+
+-- a text that is due from a place of the buffer on: the place behind it, as far as 64 bits hold it, and the text itself where
+-- the buffer has room
+pub record Filled (at : ℕ) (bytes before after : List ℕ) (next : ℕ) : Type 0 where
+  pub counted : next ≡ capped (at + length bytes)
+  pub kept : length after ≡ length before
+  pub written : at + length bytes < 2 ^ 64 → at + length bytes ≤ length before → after ≡ placed at bytes before
 
 -- the nets that bear the mark 1
 unfoldable pub named : List ℕ → ℕ → Bool
@@ -37,9 +45,10 @@ abbrev pub checkedAt : LogCheck → Checked
 checkedAt (k.Sound iteration turns) = sound iteration turns
 checkedAt (k.Unsound word) = unsound word
 
--- every word is one of a sound record, by some test of the nets
+-- every word is one of a sound record, by some test of the nets that those below 512 alone can pass
 pub record AllSound (log : List ℕ) : Type 0 where
   pub net : ℕ → Bool
+  pub nets-few : (i : ℕ) → net i ≡ true → i < netsMost
   pub all-sound : soundWords net log ≡ length log
 
 -- what the test of a sound log found
@@ -47,3 +56,24 @@ pub record Found (log : List ℕ) (iteration turns : ℕ) : Type 0 where
   pub words-sound : AllSound log
   pub iteration-is : iteration ≡ lastIteration (decode log)
   pub turns-are : turns ≡ length (decode log)
+
+-- ---- the latest records of each net
+
+-- the words from a place up to another
+abbrev pub part : List ℕ → ℕ → ℕ → List ℕ
+part log from to = take (to - from) (drop from log)
+
+-- the records of net i
+abbrev pub ownRecords : ℕ → List Record → List Record
+ownRecords i = passing (λ (r : Record). eqb (r .net) i)
+
+-- between two places of the log stand whole records, and of net i just those that its final tree is read from
+pub record Latest (log : List ℕ) (i from to : ℕ) : Type 0 where
+  pub rises : from ≤ to
+  pub within : to ≤ length log
+  pub part-sound : AllSound (part log from to)
+  pub own : ownRecords i (decode (part log from to)) ≡ finalRecords i (decode log)
+
+-- two places for each net that may have records
+abbrev pub LatestPlaces : List ℕ → List ℕ → List ℕ → Type 0
+LatestPlaces log froms tos = (i : ℕ) → i < netsMost → Latest log i (getD froms i 0) (getD tos i 0)

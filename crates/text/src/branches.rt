@@ -1,10 +1,13 @@
-// The B lines of a sound log's records of one iteration: how many bytes they take, and writing them.
+// The B lines of a sound log: each net's in order, from its latest records. Where the buffer lacks room they are counted only.
+ghost use mathlib.Core.List.{[], _∷_};
 ghost use mathlib.Core.Path.{_≡_};
-ghost use Prim.Native.Nat.{_+_, _-_, _≤_};
-ghost use lib.ListN.{length, take, drop};
+ghost use Prim.Native.Nat.{_+_, _≤_};
+ghost use lib.ListN.{length};
 ghost use Rattle.negotiation.specs.Records.{decode};
-ghost use Rattle.text.specs.Routes.{steps, branchesIn, branchText, capped};
-ghost use Rattle.text.specs.WriteSteps.{Put, AllSound};
+ghost use Rattle.negotiation.specs.Tables.{netsMost};
+ghost use Rattle.text.specs.Lines.{letterB, printLine};
+ghost use Rattle.text.specs.Routes.{steps, recordBranches, routeBranches, branchText, capped};
+ghost use Rattle.text.specs.WriteSteps.{Filled, AllSound, part, ownRecords, LatestPlaces};
 use crate::bounds;
 use crate::decimal;
 
@@ -18,86 +21,81 @@ pub fn capped_sum(a: u64, b: u64) -> u64
     a + b
 }
 
-// The bytes that the steps of a net's path take, which stands in a part of the log.
-fn steps_length(log: &[u32], from: usize, to: usize, net: u32) -> u64
-    requires { ⌜ (from ≤ to) × (to ≤ length (now log)) × (to - from ≤ 4096) ⌝ }
-    ensures { λ r. ⌜ r ≡ length (branchText (steps net (take (to - from) (drop from (now (log .entry)))))) ⌝ }
+// One line.
+fn put_branch(net: u32, from: u32, to: u32, buffer: &mut [u8], at: u64) -> u64
+    ensures { λ r. ⌜ Filled at (printLine letterB (net ∷ from ∷ to ∷ [])) (now (buffer .entry)) (now (buffer .exit)) r ⌝ }
 {
-    let mut bytes = 0;
-    let mut k = from + 1;
-    while k < to {
-        bytes += decimal::three_length(net as u64, log[k - 1] as u64, log[k] as u64) as u64;
-        k += 1;
-    }
-    bytes
-}
-
-// Writes the steps.
-fn put_steps(
-    log: &[u32],
-    from: usize,
-    to: usize,
-    net: u32,
-    buffer: &mut [u8],
-    start: usize,
-) -> usize
-    requires { ⌜ (from ≤ to) × (to ≤ length (now log)) ⌝ }
-    requires { ⌜ start + length (branchText (steps net (take (to - from) (drop from (now log))))) ≤ length (now buffer) ⌝ }
-    ensures { λ r. do
-      let bytes = branchText (steps net (take (to - from) (drop from (now (log .entry)))))
-      ⌜ Put start bytes (now (buffer .entry)) (now (buffer .exit)) r ⌝ }
-{
-    let mut at = start;
-    let mut k = from + 1;
-    while k < to {
-        at = decimal::put_three(
+    let long = decimal::three_length(net as u64, from as u64, to as u64) as u64;
+    let next = capped_sum(at, long);
+    if next <= buffer.len() as u64 {
+        decimal::put_three(
             buffer,
-            at,
+            at as usize,
             b'B',
             net as u64,
-            log[k - 1] as u64,
-            log[k] as u64,
+            from as u64,
+            to as u64,
         );
+    }
+    next
+}
+
+// The steps of a net's path, which stands in a part of the log.
+fn put_steps(log: &[u32], from: usize, to: usize, net: u32, buffer: &mut [u8], start: u64) -> u64
+    requires { ⌜ (from ≤ to) × (to ≤ length (now log)) ⌝ }
+    ensures { λ r. do
+      let bytes = branchText (steps net (part (now (log .entry)) from to))
+      ⌜ Filled start bytes (now (buffer .entry)) (now (buffer .exit)) r ⌝ }
+{
+    let mut next = start;
+    let mut k = from + 1;
+    while k < to {
+        next = put_branch(net, log[k - 1], log[k], buffer, next);
         k += 1;
     }
-    at
+    next
 }
 
-// The bytes that the branches of an iteration take.
-pub fn branches_length(log: &[u32], iteration: u32) -> u64
+// The branches of a net's records in a sound log.
+fn put_records(log: &[u32], net: u32, buffer: &mut [u8], start: u64) -> u64
     requires { ⌜ AllSound (now log) ⌝ }
-    ensures { λ r. ⌜ r ≡ capped (length (branchText (branchesIn iteration (decode (now (log .entry)))))) ⌝ }
-{
-    let mut bytes = 0;
-    let mut at = 0;
-    while at < log.len() {
-        let path = at + 6;
-        let end = path + log[at + 5] as usize;
-        if log[at] == iteration {
-            bytes = capped_sum(bytes, steps_length(log, path, end, log[at + 1]));
-        }
-        at = end;
-    }
-    bytes
-}
-
-// Writes the branches of an iteration.
-pub fn put_branches(log: &[u32], iteration: u32, buffer: &mut [u8], start: usize) -> usize
-    requires { ⌜ AllSound (now log) ⌝ }
-    requires { ⌜ start + length (branchText (branchesIn iteration (decode (now log)))) ≤ length (now buffer) ⌝ }
     ensures { λ r. do
-      let bytes = branchText (branchesIn iteration (decode (now (log .entry))))
-      ⌜ Put start bytes (now (buffer .entry)) (now (buffer .exit)) r ⌝ }
+      let bytes = branchText (recordBranches (ownRecords net (decode (now (log .entry)))))
+      ⌜ Filled start bytes (now (buffer .entry)) (now (buffer .exit)) r ⌝ }
 {
     let mut next = start;
     let mut at = 0;
     while at < log.len() {
         let path = at + 6;
         let end = path + log[at + 5] as usize;
-        if log[at] == iteration {
-            next = put_steps(log, path, end, log[at + 1], buffer, next);
+        if log[at + 1] == net {
+            next = put_steps(log, path, end, net, buffer, next);
         }
         at = end;
+    }
+    next
+}
+
+// The branches of the first nets, by the places of their latest records.
+pub fn put_branches(
+    log: &[u32],
+    nets: usize,
+    from: &[usize],
+    to: &[usize],
+    buffer: &mut [u8],
+    start: u64,
+) -> u64
+    requires { ⌜ (nets ≤ netsMost) × (netsMost ≤ length (now from)) × (netsMost ≤ length (now to)) ⌝ }
+    requires { ⌜ LatestPlaces (now log) (now from) (now to) ⌝ }
+    ensures { λ r. do
+      let bytes = branchText (routeBranches nets (decode (now (log .entry))))
+      ⌜ Filled start bytes (now (buffer .entry)) (now (buffer .exit)) r ⌝ }
+{
+    let mut next = start;
+    let mut net = 0;
+    while net < nets {
+        next = put_records(&log[from[net]..to[net]], net as u32, buffer, next);
+        net += 1;
     }
     next
 }

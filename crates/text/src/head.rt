@@ -7,8 +7,8 @@ ghost use Rattle.text.specs.ReadSteps.{headReadAt, HeadReadPlace};
 use crate::bounds;
 use crate::fields;
 use crate::fields::LineFields;
-use crate::tuning;
-use crate::tuning::Tuned;
+use crate::optional;
+use crate::optional::TermsRead;
 use negotiation::Terms;
 
 // The place and number of the line after those that were read, or the refusal's number and its line.
@@ -96,7 +96,7 @@ fn head_line(text: &[u8]) -> Head
     }
 }
 
-// The F line, and the P line where one follows.
+// The F line, and those that may follow it.
 pub fn read_head(text: &[u8]) -> HeadRead
     ensures { λ r. ⌜ headReadAt (now (text .entry)) r ≡ headPart (now (text .entry)) ⌝ }
     ensures { λ r. ⌜ HeadReadPlace (now (text .entry)) r ⌝ }
@@ -108,8 +108,8 @@ pub fn read_head(text: &[u8]) -> HeadRead
             nets,
             limit,
             next,
-        } => match tuning::read_tuning(text, next, 2, limit) {
-            Tuned::Read { terms, at, line } => HeadRead::Counts {
+        } => match optional::read_terms(text, next, 2, limit) {
+            TermsRead::Read { terms, at, line } => HeadRead::Counts {
                 nodes: nodes as usize,
                 edges: edges as usize,
                 nets: nets as usize,
@@ -117,7 +117,7 @@ pub fn read_head(text: &[u8]) -> HeadRead
                 at: at,
                 line: line,
             },
-            Tuned::Stopped { number, line } => HeadRead::Stopped {
+            TermsRead::Stopped { number, line } => HeadRead::Stopped {
                 number: number,
                 line: line,
             },

@@ -4,7 +4,7 @@ ghost use Rattle.text.specs.ReadReplies.{tablesOf, lowestShort, storedRe
 ghost use Prim.Native.Nat.{_≤_};
 ghost use Rattle.text.specs.ReadSteps.{RoomForAll, CountsWithin, jobTaken};
 ghost use Rattle.text.specs.Routes.{routesText, textReply, writeReply, writeReplyOf};
-ghost use Rattle.text.specs.WriteSteps.{Found};
+ghost use Rattle.text.specs.WriteSteps.{Found, LatestPlaces};
 ghost use Rattle.negotiation.specs.Records.{decode};
 ghost use Rattle.negotiation.specs.Tables.{netsMost};
 ghost use lib.ListN.{length};
@@ -48,11 +48,14 @@ mod edges;
 mod fields;
 mod head;
 mod joins;
+mod latest;
 mod log_check;
 mod nets;
 mod nodes;
+mod optional;
 mod printing;
 mod reader;
+mod rule;
 mod tuning;
 
 pub use fields::byte_is;
@@ -254,7 +257,36 @@ pub fn read_job(
     }
 }
 
-// Writes the routes text of a sound log with this last iteration and so many turns.
+// Writes the routes text of a sound log with this last iteration and so many turns, by the places of the nets' latest records.
+fn write_lines(
+    source: &[u16],
+    log: &[u32],
+    from: &[usize],
+    to: &[usize],
+    iteration: u32,
+    turns: usize,
+    buffer: &mut [u8],
+) -> WriteAnswer
+    requires { ⌜ (length (now source) ≤ netsMost) × Found (now log) iteration turns ⌝ }
+    requires { ⌜ (netsMost ≤ length (now from)) × (netsMost ≤ length (now to)) × LatestPlaces (now log) (now from) (now to) ⌝ }
+    ensures { λ r. ⌜ writeReplyOf r (now (buffer .exit))
+        ≡ textReply (routesText (now (source .entry)) (decode (now (log .entry)))) (now (buffer .entry)) ⌝ }
+{
+    let mut none = [0u8; 0];
+    let head = decimal::two_length(iteration as u64, turns as u64) as u64;
+    let needed = branches::capped_sum(
+        head + joins::joins_length(source),
+        branches::put_branches(log, source.len(), from, to, &mut none, 0),
+    );
+    if (buffer.len() as u64) < needed {
+        return WriteAnswer::ShortBuffer(needed);
+    }
+    let at = decimal::put_two(buffer, 0, b'R', iteration as u64, turns as u64);
+    let next = branches::put_branches(log, source.len(), from, to, buffer, at as u64);
+    WriteAnswer::Written(joins::put_joins(source, buffer, next as usize))
+}
+
+// Finds these places and writes the text.
 fn write_text(
     source: &[u16],
     log: &[u32],
@@ -266,21 +298,14 @@ fn write_text(
     ensures { λ r. ⌜ writeReplyOf r (now (buffer .exit))
         ≡ textReply (routesText (now (source .entry)) (decode (now (log .entry)))) (now (buffer .entry)) ⌝ }
 {
-    let head = decimal::two_length(iteration as u64, turns as u64) as u64;
-    let needed = branches::capped_sum(
-        head + joins::joins_length(source),
-        branches::branches_length(log, iteration),
-    );
-    if (buffer.len() as u64) < needed {
-        return WriteAnswer::ShortBuffer(needed);
-    }
-    let at = decimal::put_two(buffer, 0, b'R', iteration as u64, turns as u64);
-    let next = branches::put_branches(log, iteration, buffer, at);
-    WriteAnswer::Written(joins::put_joins(source, buffer, next))
+    let mut from = [0usize; 512];
+    let mut to = [0usize; 512];
+    latest::latest_records(log, &mut from, &mut to);
+    write_lines(source, log, &from, &to, iteration, turns, buffer)
 }
 
-// Writes the routes text of a log: its last record's iteration with the turn count, that iteration's branches, and the nets of
-// table 5 that are joined into another.
+// Writes the routes text of a log: its last record's iteration with the turn count, each net's branches of its latest
+// records, and the nets of table 5 that are joined into another.
 pub fn write_routes(source: &[u16], log: &[u32], buffer: &mut [u8]) -> WriteAnswer
     ensures answers { λ r. ⌜ writeReplyOf r (now (buffer .exit))
         ≡ writeReply (now (source .entry)) (now (log .entry)) (now (buffer .entry)) ⌝ }

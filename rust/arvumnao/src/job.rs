@@ -42,7 +42,18 @@ pub struct Nets {
 
 /// On which terms a job is routed. Counted as table 8.
 ///
-/// The default is as many iterations as there may be, and the tariff of a job text without a P line.
+/// The default is as many iterations as there may be, and the tariff and rule of a job text without P and V lines.
+///
+/// ```
+/// use arvumnao::{Job, Terms};
+///
+/// let mut job = Job::read(include_bytes!("../../../examples/job_crowded.txt"))?;
+/// assert_eq!(job.terms, Terms { limit: 9, rule: 2, ..Terms::default() });
+/// assert_eq!(job.route()?.turns, 5);
+/// job.terms.rule = 1; // every net is routed again in every iteration
+/// assert_eq!(job.route()?.turns, 6);
+/// # Ok::<(), arvumnao::Refusal>(())
+/// ```
 #[derive(Clone, Copy, Debug, PartialEq, Eq)]
 pub struct Terms {
     /// The most iterations, 1 to 100.
@@ -55,6 +66,8 @@ pub struct Terms {
     pub down: u32,
     /// By how much a node's history grows for each net too many: 1 or 2.
     pub step: u32,
+    /// Which nets are routed again from iteration 2 on: 1, all of them; 2, those whose tree has an overfull node.
+    pub rule: u32,
 }
 
 /// A job: what is routed.
@@ -79,7 +92,7 @@ pub struct Job {
     pub block: Block,
     /// Tables 5 to 7.
     pub nets: Nets,
-    /// Limit and tuning.
+    /// Limit, tuning and rule.
     pub terms: Terms,
 }
 
@@ -163,7 +176,7 @@ impl Nets {
 
 impl Default for Terms {
     fn default() -> Terms {
-        Terms { limit: 100, first: 50, up: 3, down: 2, step: 1 }
+        Terms { limit: 100, first: 50, up: 3, down: 2, step: 1, rule: 1 }
     }
 }
 
@@ -211,7 +224,7 @@ impl Job {
     }
 
     /// Cuts the tables to what the reader filled, and takes the terms that it read.
-    fn cut(&mut self, numbers: &[u64; 9]) {
+    fn cut(&mut self, numbers: &[u64; 10]) {
         let [nodes, edges, nets, sinks, ..] = numbers.map(|number| number as usize);
         self.block.kind.truncate(nodes);
         self.block.capacity.truncate(nodes);
@@ -220,8 +233,8 @@ impl Job {
         self.nets.source.truncate(nets);
         self.nets.first_sink.truncate(nets + 1);
         self.nets.sink.truncate(sinks);
-        let [.., limit, first, up, down, step] = numbers.map(|number| number as u32);
-        self.terms = Terms { limit, first, up, down, step };
+        let [.., limit, first, up, down, step, rule] = numbers.map(|number| number as u32);
+        self.terms = Terms { limit, first, up, down, step, rule };
     }
 
     /// Routes the job in a log as long as it needs. Refused by [`Refusal::Table`], [`Refusal::Unreachable`] or [`Refusal::Limit`].
@@ -241,6 +254,7 @@ impl Job {
     /// Routes the job in a log of so many words. Refused as [`Job::route`] is, and by [`Refusal::LogFull`].
     pub fn route_in(&self, words: usize) -> Result<Answer, Refusal> {
         let Job { block, nets, terms } = self;
+        let &Terms { limit, first, up, down, step, rule } = terms;
         let mut work = vec![0; 8 * block.kind.len()];
         let mut log = vec![0; words];
         let told = out(|out| {
@@ -252,11 +266,7 @@ impl Job {
                 &nets.source,
                 &nets.first_sink,
                 &nets.sink,
-                terms.limit,
-                terms.first,
-                terms.up,
-                terms.down,
-                terms.step,
+                &[limit, first, up, down, step, rule],
                 &mut work,
                 &mut log,
                 out,

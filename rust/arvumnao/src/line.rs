@@ -47,6 +47,7 @@ fn names(letter: u8) -> &'static [&'static str] {
     match letter {
         b'F' => &["nodes", "edges", "nets", "limit"],
         b'P' => &["first", "up", "down", "step"],
+        b'V' => &["rule"],
         b'N' => &["node", "kind", "capacity"],
         b'E' => &["from", "to"],
         b'S' | b'T' => &["net", "node"],
@@ -60,6 +61,7 @@ struct Before {
     /// Nodes, edges, nets and limit; none before the F line.
     counts: Option<[u32; 4]>,
     tuned: bool,
+    ruled: bool,
     kinds: Vec<u32>,
     edges: usize,
     last_edge: (u32, u32),
@@ -76,6 +78,7 @@ impl Before {
         match (letter, values) {
             (b'F', &[nodes, edges, nets, limit]) => self.counts = Some([nodes, edges, nets, limit]),
             (b'P', _) => self.tuned = true,
+            (b'V', _) => self.ruled = true,
             (b'N', &[_, kind, _]) => self.kinds.push(kind),
             (b'E', &[from, to]) => {
                 self.edges += 1;
@@ -99,8 +102,10 @@ impl Before {
     fn due(&self) -> (&'static [u8], String) {
         let Some([nodes, edges, nets, _]) = self.counts else { return (b"F", String::from("the F line")) };
         let (node, last) = (self.kinds.len(), self.nets.saturating_sub(1));
-        if node == 0 && !self.tuned {
-            (b"PN", String::from("a P line or the N line of node 0"))
+        if node == 0 && !self.tuned && !self.ruled {
+            (b"PVN", String::from("a P line, a V line or the N line of node 0"))
+        } else if node == 0 && !self.ruled {
+            (b"VN", String::from("a V line or the N line of node 0"))
         } else if node < nodes as usize {
             (b"N", format!("the N line of node {node}"))
         } else if self.edges < edges as usize {
@@ -167,6 +172,7 @@ impl Before {
                 1..=4,
                 1..=2,
             ],
+            b'V' => vec![1..=2],
             b'N' => vec![node, 0..=kind::MOST.into(), 1..=255],
             b'E' => vec![node.clone(), node],
             b'S' | b'T' => vec![net, node],

@@ -65,7 +65,8 @@ impl Log {
         Records { rest: &self.words }
     }
 
-    /// The routes text, with a J line for each net that was joined into another. It takes the nets of the job that was routed, of
+    /// The routes text: net by net the branches of its records of the latest iteration in which it has any, and a J line for each net
+    /// that was joined into another. It takes the nets of the job that was routed, of
     /// which it reads the sources. Refused as [`Log::from_words`] is, and by [`Refusal::Record`] where the log is empty.
     ///
     /// The routes of a run that was refused are worth nothing: its wires are overfull, or nets are missing.

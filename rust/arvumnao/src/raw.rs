@@ -68,6 +68,9 @@ call! {
 
 call! {
     /// Routes a job. Own numbers: iteration, turns, words used of the log.
+    ///
+    /// The terms are limit, first, up, down, step, rule; of a slice that is shorter the plain values stand for the rest (0, which is no
+    /// limit, then 50, 3, 2, 1 and 1), and entries past these six are not read.
     fn route = arvumnao_route(
         kind: &[u8],
         capacity: &[u8],
@@ -76,11 +79,7 @@ call! {
         source: &[u16],
         first_sink: &[u32],
         sink: &[u16],
-        limit: u32,
-        first: u32,
-        up: u32,
-        down: u32,
-        step: u32,
+        terms: &[u32],
         work: &mut [u64],
         log: &mut [u32],
         out: &mut [u64],
@@ -88,7 +87,7 @@ call! {
 }
 
 call! {
-    /// Reads a job text. Own numbers: nodes, edges, nets, sinks, limit, first, up, down, step.
+    /// Reads a job text. Own numbers: nodes, edges, nets, sinks, limit, first, up, down, step, rule.
     fn read = arvumnao_read(
         text: &[u8],
         kind: &mut [u8],

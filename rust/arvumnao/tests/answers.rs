@@ -72,6 +72,22 @@ fn nets_of_one_source() {
     assert_eq!(routes, "R,1,3\nB,0,0,3\nB,0,0,2\nB,1,1,4\nJ,2,0\nJ,3,0\n");
 }
 
+/// Three nets of which two meet: under rule 2 the third keeps its tree, and its branches are those of iteration 1.
+#[test]
+fn crowded_nets_alone() {
+    let job = Job::read(include_bytes!("../../../examples/job_crowded.txt")).unwrap();
+    let answer = job.route().unwrap();
+    let turns: Vec<_> = answer.log.records().map(|turn| (turn.iteration, turn.net)).collect();
+    assert_eq!(turns, [(1, 0), (1, 1), (1, 2), (2, 0), (2, 1)]);
+    let branches = "B,0,0,4\nB,0,4,6\nB,1,1,3\nB,1,3,7\nB,2,2,5\nB,2,5,8\n";
+    assert_eq!(answer.log.routes(&job.nets).unwrap(), format!("R,2,5\n{branches}"));
+
+    let all = Job { terms: Terms { rule: 1, ..job.terms }, ..job };
+    let answer = all.route().unwrap();
+    assert_eq!(answer.turns, 6);
+    assert_eq!(answer.log.routes(&all.nets).unwrap(), format!("R,2,6\n{branches}"));
+}
+
 /// A cost of more than 32 bits is put together from its two words.
 #[test]
 fn costs_over_32_bits() {
@@ -92,6 +108,35 @@ fn threads() {
     };
     let threads: Vec<_> = (0..8).map(run).collect();
     threads.into_iter().for_each(|thread| assert_eq!(thread.join().unwrap(), expected));
+}
+
+/// Terms that a slice lacks are plain, and entries past the rule are not read.
+#[test]
+fn terms_as_a_slice() {
+    let Job { block, nets, .. } = Job::read(include_bytes!("../../../examples/job_crowded.txt")).unwrap();
+    let run = |terms: &[u32]| {
+        let (mut work, mut log, mut out) = ([0; 72], [0; 60], [0; raw::OUT]);
+        let (block, nets) = (&block, &nets);
+        raw::route(
+            &block.kind,
+            &block.capacity,
+            &block.first_edge,
+            &block.edge_target,
+            &nets.source,
+            &nets.first_sink,
+            &nets.sink,
+            terms,
+            &mut work,
+            &mut log,
+            &mut out,
+        );
+        (raw::refusal(&out).to_vec(), *raw::own::<3>(&out))
+    };
+    assert_eq!(run(&[]), (vec![5, 8], [0; 3]));
+    assert_eq!(run(&[9]), (vec![], [2, 6, 54]));
+    assert_eq!(run(&[2, 0]), (vec![9, 2, 1], [2, 6, 54]));
+    assert_eq!(run(&[9, 50, 3, 2, 1, 2, 0, 0]), (vec![], [2, 5, 45]));
+    assert_eq!(run(&[9, 50, 3, 2, 1, 3]), (vec![5, 8], [0; 3]));
 }
 
 /// A short `out` is told by the returned 0, and nothing is done.

@@ -65,15 +65,15 @@ fn document(path: &str) -> String {
 
 #[test]
 fn format() {
-    assert_eq!(jobs(&document("docs/FORMAT.md")), 8);
+    assert_eq!(jobs(&document("docs/FORMAT.md")), 10);
 }
 
 /// The jobs shown are the files named with them.
 #[test]
-fn job_b_is_the_example() {
-    let job_b = document("examples/job_b.txt");
-    for path in ["README.md", "docs/FORMAT.md"] {
-        let document = document(path);
-        assert!(blocks(&document).contains(&("job", job_b.clone())), "{path}");
+fn jobs_are_the_examples() {
+    let shown = [("job_b", "README.md"), ("job_b", "docs/FORMAT.md"), ("job_crowded", "docs/FORMAT.md")];
+    for (job, path) in shown {
+        let text = document(&format!("examples/{job}.txt"));
+        assert!(blocks(&document(path)).contains(&("job", text)), "{job} in {path}");
     }
 }

@@ -23,8 +23,19 @@ fn lines_that_are_due() {
     refused(
         "F,6,6,2,2\n",
         [1, 2],
-        "line 2: the text ends where a P line or the N line of node 0 should come",
+        "line 2: the text ends where a P line, a V line or the N line of node 0 should come",
     );
+    refused(
+        "F,6,6,2,2\nP,50,3,2,1\nP,50,3,2,1\n",
+        [1, 3],
+        "line 3: begins with 'P' where a V line or the N line of node 0 should come: \"P,50,3,2,1\"",
+    );
+    refused(
+        "F,6,6,2,2\nV,2\nP,50,3,2,1\n",
+        [1, 3],
+        "line 3: begins with 'P' where the N line of node 0 should come: \"P,50,3,2,1\"",
+    );
+    refused("F,6,6,2,2\nV,2,1\n", [1, 2], "line 2: has 2 numbers, where V takes 1: rule: \"V,2,1\"");
     refused(
         &changed("N,2,4,1\n", "\n"),
         [1, 4],
@@ -111,6 +122,8 @@ fn values() {
     refused(&tuned("P,50,2,3,1"), [2, 2], "line 2: up 2 is beyond 3 to 8: \"P,50,2,3,1\"");
     refused(&tuned("P,50,3,5,1"), [2, 2], "line 2: down 5 is beyond 1 to 4: \"P,50,3,5,1\"");
     refused(&tuned("P,50,3,2,3"), [2, 2], "line 2: step 3 is beyond 1 to 2: \"P,50,3,2,3\"");
+    refused(&tuned("V,3"), [2, 2], "line 2: rule 3 is beyond 1 to 2: \"V,3\"");
+    refused(&tuned("P,50,3,2,1\nV,0"), [2, 3], "line 3: rule 0 is beyond 1 to 2: \"V,0\"");
 }
 
 #[test]
@@ -196,6 +209,7 @@ fn tables() {
     table_refused(|job| job.nets.sink[1] = 6, 7, "(sink): sinks of net 1, entry 0: 6 is not a node of 6");
     table_refused(|job| job.terms.limit = 0, 8, "(terms): limit 0 is beyond 1 to 100");
     table_refused(|job| job.terms = Terms { up: 1, ..job.terms }, 8, "(terms): up 1 is beyond 2 to 8");
+    table_refused(|job| job.terms.rule = 3, 8, "(terms): rule 3 is beyond 1 to 2");
 }
 
 #[test]

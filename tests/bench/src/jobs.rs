@@ -200,7 +200,6 @@ mod tests {
         for shape in SHAPES {
             for nodes in SIZES {
                 let job = make(shape, nodes);
-                let [first, up, down, step] = job.tuning.numbers();
                 let answer = plain::route(
                     &job.kind,
                     &job.capacity,
@@ -209,11 +208,7 @@ mod tests {
                     &job.source,
                     &job.first_sink,
                     &job.sink,
-                    job.limit,
-                    first,
-                    up,
-                    down,
-                    step,
+                    &job.terms(),
                     &mut vec![0; 8 * nodes],
                     &mut [],
                 );

@@ -3,6 +3,7 @@
 //! cargo run --release -p bench [-- largest-size]
 
 mod clock;
+mod cost;
 mod jobs;
 mod routers;
 
@@ -32,6 +33,8 @@ struct Row {
     shape: Shape,
     job: Job,
     result: Result,
+    /// What the final trees cost, see `cost`.
+    cost: u64,
     best: Vec<(Router, Duration)>,
 }
 
@@ -109,16 +112,23 @@ fn plain_guess(before: Option<&Row>, job: &Job, turns: f64) -> f64 {
     }
 }
 
-fn make_row(shape: Shape, nodes: usize, before: Option<&Row>, lent: &mut Lent) -> Row {
-    let job = jobs::make(shape, nodes);
-    let result = Router::Carried.run()(&job, &mut [], &mut lent.log);
-    let log = lent.log[..result.numbers[2] as usize].to_vec();
+/// The routers whose times are taken for a job of so many turns: the plain one too, unless it is expected to take too long.
+fn chosen(before: Option<&Row>, job: &Job, turns: f64) -> Vec<Router> {
     let mut routers = routers::all();
-    if plain_guess(before, &job, result.numbers[1] as f64) > PLAIN_LIMIT {
+    if plain_guess(before, job, turns) > PLAIN_LIMIT {
         routers.retain(|&r| r != Router::Plain);
     }
+    routers
+}
+
+/// A job's times by the routers that are chosen by its number of turns.
+fn make_row(shape: Shape, job: Job, choose: impl Fn(&Job, f64) -> Vec<Router>, lent: &mut Lent) -> Row {
+    let result = Router::Carried.run()(&job, &mut [], &mut lent.log);
+    let log = lent.log[..result.numbers[2] as usize].to_vec();
+    let routers = choose(&job, result.numbers[1] as f64);
     let best = measure(&routers, &job, lent, &result, &log);
-    Row { shape, job, result, best }
+    let cost = cost::of_trees(&job, &log);
+    Row { shape, job, result, cost, best }
 }
 
 fn cell(value: Option<f64>, width: usize, places: usize) -> String {
@@ -179,7 +189,7 @@ fn print_ratio(name: &str, ratios: &[f64]) {
     let least = ratios.iter().copied().fold(f64::INFINITY, f64::min);
     let most = ratios.iter().copied().fold(0.0, f64::max);
     let mean = (ratios.iter().map(|r| r.ln()).sum::<f64>() / ratios.len() as f64).exp();
-    println!("{name}: {least:.1} to {most:.1}, geometric mean {mean:.1}, {} jobs", ratios.len());
+    println!("{name}: {least:.2} to {most:.2}, geometric mean {mean:.2}, {} jobs", ratios.len());
 }
 
 fn print_ratios(rows: &[Row]) {
@@ -196,6 +206,44 @@ fn print_ratios(rows: &[Row]) {
     }
 }
 
+/// The routers whose times are shown there.
+const RULED: [Router; 3] = [Router::Proved, Router::Heap, Router::Carried];
+
+/// The congested jobs under rule 1 and rule 2, with a limit that lets them settle.
+fn rules(largest: usize, lent: &mut Lent) {
+    println!("The congested jobs with limit 100 under rule 1 and under rule 2: iterations, turns, milliseconds of processor time,");
+    println!("and the base costs of the final trees' nodes, summed.");
+    print!("{:>5}{:>6}{:>5}{:>7}{:>7}", "nodes", "sinks", "rule", "iter", "turns");
+    println!("  {:<10}{:>10}{:>10}{:>10}{:>9}", "outcome", "proved", "heap", "carried", "cost");
+    let timed: Vec<Router> = routers::all().into_iter().filter(|router| RULED.contains(router)).collect();
+    let mut ratios = [Vec::new(), Vec::new(), Vec::new()];
+    for nodes in SIZES.into_iter().filter(|&n| n <= largest) {
+        let rows = [1, 2].map(|rule| {
+            let job = Job { rule, limit: 100, ..jobs::make(Shape::Congested, nodes) };
+            let row = make_row(Shape::Congested, job, |_, _| timed.clone(), lent);
+            print_rule(&row);
+            row
+        });
+        let [one, two] = rows.map(|row| (row.turns(), row.seconds(timed[0]).unwrap_or(1.0), row.cost as f64));
+        let pairs = [(one.0, two.0), (one.1, two.1), (one.2, two.2)];
+        ratios.iter_mut().zip(pairs).for_each(|(list, (one, two))| list.push(two / one));
+    }
+    for (name, list) in ["turns", "time", "cost"].iter().zip(&ratios) {
+        print_ratio(&format!("{name}, rule 2/rule 1"), list);
+    }
+}
+
+fn print_rule(row: &Row) {
+    let job = &row.job;
+    let [iteration, turns] = [0, 1].map(|place| row.result.numbers[place]);
+    print!("{:>5}{:>6}{:>5}{iteration:>7}{turns:>7}", job.kind.len(), job.sink.len(), job.rule);
+    print!("  {:<10}", row.outcome());
+    for router in RULED {
+        print!("{}", cell(row.seconds(router).map(|s| s * 1e3), 10, 3));
+    }
+    println!("{:>9}", row.cost);
+}
+
 fn main() {
     let largest = std::env::args().nth(1).and_then(|a| a.parse().ok()).unwrap_or(4096);
     let mut lent = Lent { work: vec![0; 8 * 4096], log: vec![0; LOG] };
@@ -207,10 +255,13 @@ fn main() {
     for shape in SHAPES {
         for nodes in SIZES.into_iter().filter(|&n| n <= largest) {
             let before = rows.last().filter(|row| row.shape == shape);
-            let row = make_row(shape, nodes, before, &mut lent);
+            let choose = |job: &Job, turns: f64| chosen(before, job, turns);
+            let row = make_row(shape, jobs::make(shape, nodes), choose, &mut lent);
             print_row(&row);
             rows.push(row);
         }
     }
     print_ratios(&rows);
+    println!();
+    rules(largest, &mut lent);
 }

@@ -46,7 +46,6 @@ pub fn all() -> Vec<Router> {
 
 #[cfg(all(feature = "proved", not(feature = "no-proved")))]
 fn proved(job: &Job, work: &mut [u64], log: &mut [u32]) -> Result {
-    let [first, up, down, step] = job.tuning.numbers();
     let mut out = [0; arvumnao::raw::OUT];
     arvumnao::raw::route(
         &job.kind,
@@ -56,11 +55,7 @@ fn proved(job: &Job, work: &mut [u64], log: &mut [u32]) -> Result {
         &job.source,
         &job.first_sink,
         &job.sink,
-        job.limit,
-        first,
-        up,
-        down,
-        step,
+        &job.terms(),
         work,
         log,
         &mut out,
@@ -75,7 +70,6 @@ fn proved(_: &Job, _: &mut [u64], _: &mut [u32]) -> Result {
 }
 
 fn plain(job: &Job, work: &mut [u64], log: &mut [u32]) -> Result {
-    let [first, up, down, step] = job.tuning.numbers();
     let answer = plain::route(
         &job.kind,
         &job.capacity,
@@ -84,11 +78,7 @@ fn plain(job: &Job, work: &mut [u64], log: &mut [u32]) -> Result {
         &job.source,
         &job.first_sink,
         &job.sink,
-        job.limit,
-        first,
-        up,
-        down,
-        step,
+        &job.terms(),
         work,
         log,
     );
@@ -96,7 +86,6 @@ fn plain(job: &Job, work: &mut [u64], log: &mut [u32]) -> Result {
 }
 
 fn tuned_answer(way: Way, job: &Job, log: &mut [u32]) -> Result {
-    let [first, up, down, step] = job.tuning.numbers();
     let outcome = tuned::route(
         way,
         &job.kind,
@@ -106,11 +95,7 @@ fn tuned_answer(way: Way, job: &Job, log: &mut [u32]) -> Result {
         &job.source,
         &job.first_sink,
         &job.sink,
-        job.limit,
-        first,
-        up,
-        down,
-        step,
+        job.terms(),
         log,
     );
     let numbers = vec![outcome.iteration, outcome.turns, outcome.words];

@@ -1,6 +1,7 @@
 //! A checker of demand 3: one statement about a job's whole log and its
-//! answer. It routes nothing; which of several cheapest paths was taken, and
-//! the order of the nets, are left to the comparison with a plain router.
+//! answer, the same under either rule. It routes nothing; which of several
+//! cheapest paths was taken, which nets are due and in what order, are left to
+//! the comparison with a plain router.
 
 mod answer;
 mod fault;

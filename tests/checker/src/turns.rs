@@ -27,7 +27,8 @@ pub fn walk(job: &Job, records: &[Record]) -> Result<Trees, Fault> {
 }
 
 /// Prices move on with the record's iteration. The first is 1; each next one
-/// is the same or one more, for every iteration of a sound job has records.
+/// is the same or one more, for every iteration of a sound job has records:
+/// under rule 2 those of the nets that have a node which was overfull.
 fn move_on(job: &Job, turn: u64, record: &Record, trees: &Trees, prices: &mut Prices) -> Result<(), Fault> {
     let iteration = record.iteration;
     if iteration == prices.iteration {

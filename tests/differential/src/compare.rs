@@ -11,12 +11,13 @@ pub struct Answer {
     pub numbers: Vec<u64>,
 }
 
-/// One call with all that is lent to it: the search has a job's graph, tables 1 to 4, the reader its seven tables.
+/// One call with all that is lent to it: the search has a job's graph, tables 1 to 4, the reader its seven tables. The router is lent so
+/// many of the job's terms.
 #[derive(Clone, Debug, PartialEq, Eq)]
 pub enum Case {
     Price { kind: u32, factor: u32, others: u32, capacity: u32, history: u32 },
     Search { graph: Job, factor: u32, work: Vec<u64>, history: Vec<u32>, others: Vec<u16>, in_tree: Vec<u8> },
-    Route { job: Job, work: Vec<u64>, log: Vec<u32> },
+    Route { job: Job, terms: usize, work: Vec<u64>, log: Vec<u32> },
     Read { text: Vec<u8>, tables: Job },
     Write { source: Vec<u16>, log: Vec<u32>, buffer: Vec<u8> },
 }
@@ -27,8 +28,21 @@ pub fn own(case: &Case) -> usize {
         Case::Price { .. } | Case::Write { .. } => 1,
         Case::Search { .. } => 0,
         Case::Route { .. } => 3,
-        Case::Read { .. } => 9,
+        Case::Read { .. } => 10,
     }
+}
+
+/// What the router is lent as its terms: so many of the job's, and past those entries that are not read.
+pub fn lent_terms(job: &Job, count: usize) -> Vec<u32> {
+    let terms = job.terms();
+    (0..count).map(|place| terms.get(place).copied().unwrap_or(0xa8a8_a8a8)).collect()
+}
+
+/// The job as the router takes it, with plain values for terms that it isn't lent.
+pub fn taken(job: &Job, count: usize) -> Job {
+    let mut taken = job.clone();
+    taken.take_terms(&lent_terms(job, count));
+    taken
 }
 
 /// Entries past the end of every slice that a call may write to, to see that it doesn't.
@@ -99,7 +113,7 @@ macro_rules! call {
                 in_tree,
                 $($out)?
             ),
-            Case::Route { job, work, log } => $side::route(
+            Case::Route { job, terms, work, log } => $side::route(
                 &job.kind,
                 &job.capacity,
                 &job.first_edge,
@@ -107,11 +121,7 @@ macro_rules! call {
                 &job.source,
                 &job.first_sink,
                 &job.sink,
-                job.limit,
-                job.tuning.first,
-                job.tuning.up,
-                job.tuning.down,
-                job.tuning.step,
+                &lent_terms(job, *terms),
                 lend(work),
                 lend(log),
                 $($out)?
@@ -226,7 +236,7 @@ fn slices(case: &Case) -> Vec<(&'static str, Vec<u64>)> {
             ]);
             list
         }
-        Case::Route { job, work, log } => {
+        Case::Route { job, work, log, .. } => {
             let mut list = job_slices(job);
             list.extend([("work", work.clone()), ("log", wide(log))]);
             list
@@ -270,8 +280,8 @@ fn memory(before: &Case, after: &After) -> Result<(), String> {
     let refusal = after.answer.refusal.first().copied().unwrap_or(0);
     let kept = match (before, &after.case) {
         (
-            Case::Route { job, work, log },
-            Case::Route { job: job_after, work: work_after, log: log_after },
+            Case::Route { job, work, log, .. },
+            Case::Route { job: job_after, work: work_after, log: log_after, .. },
         ) if matches!(refusal, 0 | 7 | 8 | 9) => {
             let words = after.answer.numbers[2] as usize;
             job == job_after
@@ -304,12 +314,12 @@ fn cleared(before: &[u64], after: &[u64], from: usize, end: usize) -> bool {
 
 /// The checker's word on the log of a sound job with enough work memory.
 fn check(after: &After) -> Result<(), String> {
-    let Case::Route { job, log, .. } = &after.case else { return Ok(()) };
+    let Case::Route { job, terms, log, .. } = &after.case else { return Ok(()) };
     let Answer { refusal, numbers } = &after.answer;
     if matches!(refusal.first(), Some(5 | 6)) {
         return Ok(());
     }
-    let job::Tuning { first, up, down, step } = job.tuning;
+    let [limit, first, up, down, step, _] = taken(job, *terms).terms();
     let job = checker::Job {
         kind: &job.kind,
         capacity: &job.capacity,
@@ -318,7 +328,7 @@ fn check(after: &After) -> Result<(), String> {
         source: &job.source,
         first_sink: &job.first_sink,
         sink: &job.sink,
-        limit: job.limit,
+        limit,
         tuning: checker::Tuning { first, up, down, step },
     };
     checker::check(&job, log, refusal, numbers[0], numbers[1], numbers[2])
@@ -401,7 +411,7 @@ pub mod inject {
             (7, Case::Price { factor, .. }, _) if answer.refusal.is_empty() && *factor == 65_535 => {
                 answer.numbers[0] += 1;
             }
-            (fault, ..) => of_requests(fault, before, &mut answer),
+            (fault, _, after) => of_requests(fault, before, after, &mut answer),
         }
         answer
     }
@@ -414,8 +424,8 @@ pub mod inject {
         (0..job.source.len()).any(|net| logs::repeats_sink(job, net))
     }
 
-    /// Faults of the tuning, the pins and joined nets.
-    fn of_requests(fault: u32, before: &Case, answer: &mut Answer) {
+    /// Faults of the tuning, the pins, joined nets and the rule.
+    fn of_requests(fault: u32, before: &Case, after: &Case, answer: &mut Answer) {
         match (fault, before) {
             // a step of 2 counts a turn too many
             (8, Case::Route { job, .. }) if job.tuning.step == 2 && answer.numbers[0] >= 2 => {
@@ -437,7 +447,29 @@ pub mod inject {
             (12, Case::Write { source, .. }) if answer.refusal.is_empty() && logs::has_joined(source) => {
                 answer.numbers[0] -= 6
             }
+            // under rule 2 a net without an overfull node makes a turn all the same
+            (13, Case::Route { .. }) if logs::passes_over(log(after, answer)) => answer.numbers[1] += 1,
+            // another rule in a V line is taken for a wrong shape
+            (14, Case::Read { text, .. })
+                if answer.refusal == [2, 2]
+                    && text.windows(3).any(|three| three == b"\nV,")
+                    && !text.contains(&b'P') =>
+            {
+                answer.refusal = vec![1, 2]
+            }
+            // the text has the branches of the last iteration alone
+            (15, Case::Write { log, .. }) if answer.refusal.is_empty() && logs::keeps_tree(log) => {
+                answer.numbers[0] -= 8
+            }
+            // a slice without the rule is taken for one of rule 2
+            (16, Case::Route { terms: 5, .. }) if answer.numbers[0] >= 2 => answer.numbers[1] -= 1,
             _ => {}
         }
+    }
+
+    /// The words used of a log.
+    fn log<'a>(after: &'a Case, answer: &Answer) -> &'a [u32] {
+        let Case::Route { log, .. } = after else { return &[] };
+        &log[..answer.numbers[2] as usize]
     }
 }

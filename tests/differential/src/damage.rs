@@ -6,13 +6,14 @@ use job::{jobs, Job, Rng, Tuning};
 pub fn damage(rng: &mut Rng, job: &mut Job) {
     let times = rng.pick(&[1, 1, 1, 1, 2, 3]);
     for _ in 0..times {
-        match rng.below(11) {
+        match rng.below(12) {
             0..=3 => one_of_graph(rng, job),
             4 => sources(rng, job),
             5 => firsts(rng, &mut job.first_sink),
             6 => sinks(rng, job),
             7 => tuning(rng, &mut job.tuning),
             8 | 9 => pin(rng, job),
+            10 => job.rule = rng.pick(&[0, 3, 4, 256, 257, 258, 65_537, 65_538, u32::MAX]),
             _ => job.limit = rng.pick(&[0, 101, 102, 256, 257, 65_536, 65_537, u32::MAX]),
         }
     }
@@ -167,8 +168,8 @@ fn too_many_edges(rng: &mut Rng, job: &mut Job) {
     if rng.percent(50) {
         let full = jobs::full(182, rng.pick(&[32_769, 32_770, 32_942]));
         let old = std::mem::replace(job, full);
+        job.set_terms(old.terms());
         (job.source, job.first_sink, job.sink) = (old.source, old.first_sink, old.sink);
-        (job.limit, job.tuning) = (old.limit, old.tuning);
         return;
     }
     let edges = rng.pick(&[32_768, 32_769, 65_536]);
@@ -299,6 +300,7 @@ fn source_as_sink(rng: &mut Rng, job: &mut Job) {
 
 /// 4,097 sinks, in all else sound.
 fn too_many_sinks(rng: &mut Rng, job: &mut Job) {
-    let (limit, tuning) = (job.limit, job.tuning);
-    *job = Job { limit, tuning, ..jobs::many_sinks(rng, 4_097) };
+    let terms = job.terms();
+    *job = jobs::many_sinks(rng, 4_097);
+    job.set_terms(terms);
 }

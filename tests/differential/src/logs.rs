@@ -34,6 +34,43 @@ pub fn records(log: &[u32]) -> Vec<usize> {
     places
 }
 
+/// Iteration and net of each whole record.
+fn turns(log: &[u32]) -> Vec<(u32, u32)> {
+    let places = records(log);
+    places[..places.len() - 1].iter().map(|place| (log[*place], log[place + 1])).collect()
+}
+
+/// Whether some net's latest record is of an iteration before the last record's.
+pub fn keeps_tree(log: &[u32]) -> bool {
+    let turns = turns(log);
+    let last = turns.last().map_or(0, |turn| turn.0);
+    turns.iter().any(|(_, net)| turns.iter().all(|turn| turn.1 != *net || turn.0 < last))
+}
+
+/// Whether an iteration passes over a net that has earlier records: a net after it has one.
+pub fn passes_over(log: &[u32]) -> bool {
+    let turns = turns(log);
+    (0..turns.len()).any(|place| {
+        let (iteration, net) = turns[place];
+        let latest = |other: u32| turns[..place].iter().rfind(|turn| turn.1 == other);
+        (0..net).any(|other| latest(other).is_some_and(|turn| turn.0 < iteration))
+    })
+}
+
+/// Whether some net has no record in an iteration, but one before and one after it.
+pub fn skips_iteration(log: &[u32]) -> bool {
+    let turns = turns(log);
+    (1..turns.len()).any(|place| {
+        let before = turns[..place].iter().rfind(|turn| turn.1 == turns[place].1);
+        before.is_some_and(|turn| turns[place].0 > turn.0 + 1)
+    })
+}
+
+/// Whether in some iteration a net has a record after one of a higher net, or has two with another's between.
+pub fn interleaves(log: &[u32]) -> bool {
+    turns(log).windows(2).any(|two| two[0].0 == two[1].0 && two[0].1 > two[1].1)
+}
+
 /// Changes a log: cut, one word damaged, records moved, another net named; or leaves it.
 pub fn change_log(rng: &mut Rng, source: &[u16], log: &mut Vec<u32>) {
     match rng.below(11) {
@@ -121,14 +158,15 @@ pub fn free_source(rng: &mut Rng) -> Vec<u16> {
     source
 }
 
-/// Records that no job needs to have, sound by the writer's rules but for a path of 4,097 now and then.
+/// Records that no job needs to have, of nets in any order, sound by the writer's rules but for a path of 4,097 now and then.
 pub fn free_log(rng: &mut Rng) -> Vec<u32> {
     let mut log = Vec::new();
-    let mut iteration = rng.pick(&[1, 1, 2, 50, 99, 100]);
-    for _ in 0..rng.within(1, 6) {
+    let mut iteration = rng.pick(&[1, 1, 2, 50, 88, 99, 100]);
+    let nets: &[u32] = rng.pick(&[&[0, 9, 10, 99, 100, 511], &[0, 1, 2], &[3, 7]]);
+    for _ in 0..rng.pick(&[1, 2, 4, 6, 12]) {
         let length = if rng.once_in(300) { rng.pick(&[4_095, 4_096, 4_097]) } else { rng.within(2, 5) };
         let path: Vec<u32> = (0..length).map(|_| rng.pick(&[0, 9, 10, 99, 100, 999, 1_000, 4_095])).collect();
-        let net = rng.pick(&[0, 9, 10, 99, 100, 511]);
+        let net = rng.pick(nets);
         log.extend([iteration, net, path[length - 1], rng.draw() as u32, rng.draw() as u32, length as u32]);
         log.extend(path);
         if rng.percent(30) {

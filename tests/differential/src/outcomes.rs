@@ -5,7 +5,7 @@ use crate::logs;
 use job::{texts, Counts, Job, Tuning};
 
 /// Every outcome that a whole run must come to.
-const EXPECTED: [&str; 99] = [
+const EXPECTED: [&str; 129] = [
     "price accepted",
     "price 13,0",
     "price 13,1",
@@ -86,6 +86,36 @@ const EXPECTED: [&str; 99] = [
     "P line 1,2",
     "P line 2,2",
     "P line 1,3",
+    "rule 1 accepted, iteration 3 or later",
+    "rule 2 accepted, iteration 3 or later",
+    "rule 1 9",
+    "rule 2 9",
+    "rule 2 with a tree kept accepted",
+    "rule 2 with a tree kept 8",
+    "rule 2 with a tree kept 9",
+    "rule 2 with a tree kept and dropped later",
+    "route 5,8 with a bad rule",
+    "terms of 0 entries",
+    "terms of 1 entries",
+    "terms of 2 entries",
+    "terms of 3 entries",
+    "terms of 4 entries",
+    "terms of 5 entries",
+    "terms of 6 entries",
+    "terms of 7 entries",
+    "terms of 8 entries",
+    "V,1 line accepted",
+    "V,2 line accepted",
+    "V line 1,2",
+    "V line 2,2",
+    "V line 1,3",
+    "V line 2,3",
+    "V line 1,4",
+    "V line after a P line accepted",
+    "V line after a P line 2,3",
+    "branches of several iterations written",
+    "branches of nets that change in an iteration written",
+    "branches of a net that skips an iteration written",
     "source of kind 0 accepted",
     "source of kind 2 accepted",
     "sink of kind 1 accepted",
@@ -136,16 +166,14 @@ impl Outcomes {
                 "search"
             }
             Case::Route { job, log, .. } => {
-                self.count_route(after, log);
+                self.count_route(after, job, log);
                 self.count_pins(after, job);
                 self.count_joined(after, job);
                 "route"
             }
             Case::Read { text, .. } => {
                 self.count_pin_line(after, text);
-                if text.windows(2).any(|bytes| bytes == b"\nP") {
-                    self.count_tuning_line(after);
-                }
+                self.count_term_lines(after, text);
                 "read"
             }
             Case::Write { source, log, .. } => {
@@ -197,6 +225,9 @@ impl Outcomes {
 
     /// Counts what table 5 and the nets of a log come to in the writer.
     fn count_write(&mut self, after: &After, source: &[u16], log: &[u32]) {
+        if after.answer.refusal.is_empty() {
+            self.count_branches(log);
+        }
         let records = logs::records(log);
         let net = |place: &usize| log.get(place + 1).map_or(usize::MAX, |net| *net as usize);
         match after.answer.refusal[..] {
@@ -218,6 +249,18 @@ impl Outcomes {
                 }
             }
             _ => {}
+        }
+    }
+
+    /// Counts what the order of a log's records comes to in its text.
+    fn count_branches(&mut self, log: &[u32]) {
+        let names = [
+            (logs::keeps_tree(log), "of several iterations"),
+            (logs::interleaves(log), "of nets that change in an iteration"),
+            (logs::skips_iteration(log), "of a net that skips an iteration"),
+        ];
+        for (_, name) in names.into_iter().filter(|name| name.0) {
+            self.count(format!("branches {name} written"));
         }
     }
 
@@ -271,12 +314,38 @@ impl Outcomes {
         }
     }
 
-    /// Counts how a text with a P line ends, as far as that may be the line's doing.
-    fn count_tuning_line(&mut self, after: &After) {
-        match after.answer.refusal[..] {
-            [] => self.count("P line accepted"),
-            [number @ (1 | 2), line @ (2 | 3)] => self.count(format!("P line {number},{line}")),
-            _ => {}
+    /// Counts how a text with P or V lines ends, as far as that may be the lines' doing.
+    fn count_term_lines(&mut self, after: &After, text: &[u8]) {
+        let holds = |begin: &[u8]| text.windows(begin.len()).any(|bytes| bytes == begin);
+        let after_tuning = holds(b"\nP") && holds(b"\nV");
+        let names = [
+            (holds(b"\nP"), "P line"),
+            (holds(b"\nV"), "V line"),
+            (holds(b"\nV,1\n"), "V,1 line"),
+            (holds(b"\nV,2\n"), "V,2 line"),
+            (after_tuning, "V line after a P line"),
+        ];
+        for (_, name) in names.into_iter().filter(|name| name.0) {
+            match after.answer.refusal[..] {
+                [] => self.count(format!("{name} accepted")),
+                [number @ (1 | 2), line @ (2..=4)] => self.count(format!("{name} {number},{line}")),
+                _ => {}
+            }
+        }
+    }
+
+    /// Counts how a sound job ends under its rule, and what rule 2 leaves standing.
+    pub fn count_rule(&mut self, rule: u32, after: &After) {
+        let (iteration, words) = (after.answer.numbers[0], after.answer.numbers[2] as usize);
+        let Case::Route { log, .. } = &after.case else { return };
+        let end = after.answer.refusal.first().map_or(String::from("accepted"), u64::to_string);
+        let late = if end == "accepted" && iteration > 2 { ", iteration 3 or later" } else { "" };
+        self.count(format!("rule {rule} {end}{late}"));
+        if rule == 2 && words < 3_000 && logs::passes_over(&log[..words]) {
+            self.count(format!("rule 2 with a tree kept {end}"));
+        }
+        if rule == 2 && logs::skips_iteration(&log[..words]) {
+            self.count("rule 2 with a tree kept and dropped later");
         }
     }
 
@@ -304,8 +373,11 @@ impl Outcomes {
         self.count(format!("tuning step {step}"));
     }
 
-    /// Counts what only long negotiations come to.
-    fn count_route(&mut self, after: &After, log: &[u32]) {
+    /// Counts what only long negotiations come to, and bad rules.
+    fn count_route(&mut self, after: &After, job: &Job, log: &[u32]) {
+        if after.answer.refusal == [5, 8] && !matches!(job.rule, 1 | 2) {
+            self.count("route 5,8 with a bad rule");
+        }
         let (iteration, words) = (after.answer.numbers[0], after.answer.numbers[2] as usize);
         if iteration >= 21 {
             self.count("route at iteration 21 or later");

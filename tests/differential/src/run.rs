@@ -79,6 +79,7 @@ impl Run {
         let words = self.whole(&job)?;
         self.cut_logs(&job, words)?;
         self.work_lengths(&job)?;
+        self.term_counts(&job)?;
         self.damaged(&job)?;
         self.damaged(&job)?;
         let search = alone::search(&mut self.rng);
@@ -100,6 +101,7 @@ impl Run {
         let after = self.case(route(job, 8 * job.kind.len() + extra, log))?;
         self.outcomes.count_whole(&after);
         self.outcomes.count_tuning(job.tuning, &after);
+        self.outcomes.count_rule(job.rule, &after);
         Ok(after.answer.numbers[2] as usize)
     }
 
@@ -141,6 +143,20 @@ impl Run {
             let log = self.old_log(30);
             self.case(route(job, length, log))?;
         }
+        Ok(())
+    }
+
+    /// At times the job with fewer terms than it has, or more entries than there are terms.
+    fn term_counts(&mut self, job: &Job) -> Result<(), Failure> {
+        if self.rng.percent(75) {
+            return Ok(());
+        }
+        let count = self.rng.below(9);
+        let words = self.rng.pick(&[40, 400, 2_000]);
+        let log = self.old_log(words);
+        let work = work(8 * job.kind.len());
+        self.case(Case::Route { job: job.clone(), terms: count, work, log })?;
+        self.outcomes.count(format!("terms of {count} entries"));
         Ok(())
     }
 
@@ -265,7 +281,7 @@ impl Run {
 
 /// A call of the router.
 fn route(job: &Job, length: usize, log: Vec<u32>) -> Case {
-    Case::Route { job: job.clone(), work: work(length), log }
+    Case::Route { job: job.clone(), terms: 6, work: work(length), log }
 }
 
 /// A call of the writer, with a buffer of this length.

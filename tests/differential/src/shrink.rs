@@ -1,7 +1,7 @@
 //! Makes a failing case smaller while it still fails, and prints it.
 
-use crate::compare::Case;
-use job::{Job, Tuning};
+use crate::compare::{lent_terms, Case};
+use job::{Job, Tuning, PLAIN_RULE};
 use std::time::{Duration, Instant};
 
 /// A way to a smaller case. Spans are a first place and a count.
@@ -17,6 +17,10 @@ enum Step {
     Sinks(usize, usize),
     /// Sets the plain tuning.
     Plain,
+    /// Sets rule 1.
+    Rule,
+    /// Lends all terms and no entry more.
+    Terms,
     /// Drops entries of the slice with this number.
     Cut(usize, usize, usize),
     /// Lowers an entry of the slice with this number.
@@ -59,7 +63,7 @@ pub fn shrink(case: &Case, fails: &dyn Fn(&Case) -> bool) -> Case {
 
 /// All steps worth trying, coarse ones first.
 fn steps(case: &Case) -> Vec<Step> {
-    let mut list = vec![Step::Plain];
+    let mut list = vec![Step::Plain, Step::Rule, Step::Terms];
     let (nodes, edges, nets, sinks) = sizes(case);
     list.extend(spans(nets).into_iter().map(|(from, count)| Step::Nets(from, count)));
     list.extend(spans(nodes).into_iter().map(|(from, count)| Step::Nodes(from, count)));
@@ -201,7 +205,7 @@ fn apply(case: &Case, step: Step) -> Option<Case> {
     Some(smaller)
 }
 
-/// The case without some nodes, edges, nets or sinks, or without a tuning of its own.
+/// The case without some nodes, edges, nets or sinks, or without terms of its own.
 fn drop_parts(mut case: Case, step: Step) -> Option<Case> {
     match &mut case {
         Case::Search { graph, work, history, others, in_tree, .. } => {
@@ -216,6 +220,7 @@ fn drop_parts(mut case: Case, step: Step) -> Option<Case> {
             cut(others, from, count);
             cut(in_tree, from, count);
         }
+        Case::Route { terms, .. } if matches!(step, Step::Terms) => *terms = 6,
         Case::Route { job, work, .. } => {
             drop_from_job(job, step)?;
             if let Step::Nodes(_, count) = step {
@@ -239,6 +244,7 @@ fn drop_from_job(job: &mut Job, step: Step) -> Option<()> {
         Step::Nets(from, count) => (0..count).try_for_each(|_| drop_net(job, from)),
         Step::Sinks(from, count) => (0..count).try_for_each(|_| drop_sink(job, from)),
         Step::Plain => (job.tuning != Tuning::PLAIN).then(|| job.tuning = Tuning::PLAIN),
+        Step::Rule => (job.rule != PLAIN_RULE).then(|| job.rule = PLAIN_RULE),
         _ => None,
     }
 }
@@ -522,10 +528,9 @@ fn call(case: &Case) -> String {
         Case::Search { factor, .. } => format!(
             "search(&kind, &capacity, &first_edge, &edge_target, {factor}, &mut work, &history, &others, &in_tree)"
         ),
-        Case::Route { job, .. } => format!(
-            "route(&kind, &capacity, &first_edge, &edge_target, &source, &first_sink, &sink, {}, {}, &mut work, &mut log)",
-            job.limit,
-            job.tuning.numbers().map(|number| number.to_string()).join(", ")
+        Case::Route { job, terms, .. } => format!(
+            "route(&kind, &capacity, &first_edge, &edge_target, &source, &first_sink, &sink, &{:?}, &mut work, &mut log)",
+            lent_terms(job, *terms)
         ),
         Case::Read { .. } => String::from(
             "read(&text, &mut kind, &mut capacity, &mut first_edge, &mut edge_target, &mut source, &mut first_sink, &mut sink)",
@@ -563,7 +568,7 @@ mod tests {
         let Case::Route { job, log, .. } = smallest(1) else { panic!("fault 1") };
         assert!(job.kind.len() <= 4 && job.source.len() <= 2 && job.limit == 3 && log.len() <= 60);
         assert!(job.tuning == Tuning::PLAIN);
-        let Case::Route { job, work, log } = smallest(2) else { panic!("fault 2") };
+        let Case::Route { job, work, log, .. } = smallest(2) else { panic!("fault 2") };
         assert!(job.kind.len() == 2 && job.source.is_empty() && work.is_empty() && log.is_empty());
         let Case::Read { text, tables } = smallest(3) else { panic!("fault 3") };
         assert!(text == b"\r" && tables.kind.is_empty());
@@ -579,11 +584,19 @@ mod tests {
         let Case::Read { text, .. } = smallest(9) else { panic!("fault 9") };
         assert!(text.starts_with(b"F,1,0,1,1\nP,") && text.len() <= 20, "{}", text.escape_ascii());
         let Case::Route { job, .. } = smallest(10) else { panic!("fault 10") };
-        assert!(job.kind == [1] && job.source == [0] && job.sink.is_empty());
+        assert!(job.kind[0] == 1 && job.kind.len() <= 2 && job.source == [0] && job.sink.is_empty());
         let Case::Route { job, .. } = smallest(11) else { panic!("fault 11") };
         assert!(job.source.len() == 2 && job.source[0] == job.source[1] && job.edge_target.is_empty());
         let Case::Write { source, log, .. } = smallest(12) else { panic!("fault 12") };
         assert!(source.len() == 2 && source[0] == source[1] && log.len() == 8);
+        let Case::Route { job, .. } = smallest(13) else { panic!("fault 13") };
+        assert!(job.rule == 2 && job.limit == 2 && job.tuning == Tuning::PLAIN && job.source.len() == 3);
+        let Case::Read { text, .. } = smallest(14) else { panic!("fault 14") };
+        assert!(text.starts_with(b"F,1,0,1,1\nV,") && text.len() <= 14, "{}", text.escape_ascii());
+        let Case::Write { log, .. } = smallest(15) else { panic!("fault 15") };
+        assert!(log.len() == 16);
+        let Case::Route { job, terms, .. } = smallest(16) else { panic!("fault 16") };
+        assert!(terms == 5 && job.limit == 2 && job.rule == 1);
         FAULT.store(0, Ordering::Relaxed);
         assert!(first_failure().is_none());
     }

@@ -1,6 +1,6 @@
 //! The wrapper's types beside the library's calls: it gives the same answers, and a reason for each refused line and table.
 
-use crate::compare::{After, Answer, Case};
+use crate::compare::{taken, After, Answer, Case};
 use arvumnao::{Block, Congestion, LineFault, Log, Nets, Refusal, TableFault, Terms, Use};
 use job::Job;
 
@@ -9,8 +9,9 @@ pub fn check(before: &Case, after: &After) -> Result<(), String> {
     let Answer { refusal, numbers } = &after.answer;
     let reason = match (before, &refusal[..]) {
         (Case::Read { text, .. }, &[number @ 1..=3, line]) => LineFault::find(text, number, line).reason,
-        (Case::Search { graph: job, .. } | Case::Route { job, .. }, &[5, table]) => {
-            TableFault::find(&typed(job), table as u32).reason
+        (Case::Search { graph, .. }, &[5, table]) => TableFault::find(&typed(graph), table as u32).reason,
+        (Case::Route { job, terms, .. }, &[5, table]) => {
+            TableFault::find(&typed(&taken(job, *terms)), table as u32).reason
         }
         (Case::Write { source, .. }, &[5, _]) => TableFault::of_log(source).reason,
         _ => Some(String::new()),
@@ -36,8 +37,8 @@ fn same(before: &Case, after: &Case, refusal: &[u64], numbers: &[u64]) -> Option
         (Case::Search { graph, .. }, Case::Search { work, .. }) => {
             told(distances(before)) == accepted(work.iter().take(graph.kind.len()).copied().collect())
         }
-        (Case::Route { job, log: lent, .. }, Case::Route { log, .. }) => {
-            routed(&typed(job), lent.len(), refusal, numbers, log)
+        (Case::Route { job, terms, log: lent, .. }, Case::Route { log, .. }) => {
+            routed(&typed(&taken(job, *terms)), lent.len(), refusal, numbers, log)
         }
         (Case::Read { text, .. }, Case::Read { tables, .. }) => match arvumnao::Job::read(text) {
             Ok(read) => {
@@ -103,7 +104,7 @@ fn run(refusal: &Refusal) -> Option<(u64, u64, &Log)> {
 
 /// The job in the wrapper's types.
 fn typed(job: &Job) -> arvumnao::Job {
-    let [first, up, down, step] = job.tuning.numbers();
+    let [limit, first, up, down, step, rule] = job.terms();
     arvumnao::Job {
         block: Block {
             kind: job.kind.clone(),
@@ -112,6 +113,6 @@ fn typed(job: &Job) -> arvumnao::Job {
             edge_target: job.edge_target.clone(),
         },
         nets: Nets { source: job.source.clone(), first_sink: job.first_sink.clone(), sink: job.sink.clone() },
-        terms: Terms { limit: job.limit, first, up, down, step },
+        terms: Terms { limit, first, up, down, step, rule },
     }
 }

@@ -13,11 +13,11 @@ fn lent<T: From<u8> + Clone>(length: u32) -> Vec<T> {
 }
 
 pub fn route(case: &mut Case) -> Result<(), Fault> {
-    let [limit, first, up, down, step, entries, words] = case.numbers("route")?;
+    let [limit, first, up, down, step, rule, entries, words] = case.numbers("route")?;
     let tables = Tables::of(case)?;
     let mut work: Vec<u64> = lent(entries);
     let mut log: Vec<u32> = lent(words);
-    let got = tables.route(limit, [first, up, down, step], &mut work, &mut log);
+    let got = tables.route(&[limit, first, up, down, step, rule], &mut work, &mut log);
     line(case, &[refusal(&got), numbers(&got.numbers), slice(&work), slice(&log)]);
     Ok(())
 }
@@ -75,12 +75,12 @@ impl Lent {
         if !read.refusal.is_empty() {
             return read;
         }
-        let [nodes, edges, nets, sinks, limit, first, up, down, step] = read.numbers[..] else {
-            panic!("the reader has nine numbers");
+        let [nodes, edges, nets, sinks, ref terms @ ..] = read.numbers[..] else {
+            panic!("the reader has ten numbers");
         };
         let job = self.tables.cut([nodes, edges, nets, sinks].map(|count| count as usize));
-        let tuning = [first, up, down, step].map(|number| number as u32);
-        let routed = job.route(limit as u32, tuning, &mut self.work, &mut self.log);
+        let terms: Vec<u32> = terms.iter().map(|number| *number as u32).collect();
+        let routed = job.route(&terms, &mut self.work, &mut self.log);
         if !routed.refusal.is_empty() {
             return routed;
         }
@@ -195,8 +195,7 @@ impl Tables {
         )
     }
 
-    fn route(&self, limit: u32, tuning: [u32; 4], work: &mut [u64], log: &mut [u32]) -> Answer {
-        let [first, up, down, step] = tuning;
+    fn route(&self, terms: &[u32], work: &mut [u64], log: &mut [u32]) -> Answer {
         plain::route(
             &self.kind,
             &self.capacity,
@@ -205,11 +204,7 @@ impl Tables {
             &self.source,
             &self.first_sink,
             &self.sink,
-            limit,
-            first,
-            up,
-            down,
-            step,
+            terms,
             work,
             log,
         )

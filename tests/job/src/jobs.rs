@@ -1,6 +1,6 @@
 //! Sound jobs from a seed.
 
-use crate::{Job, Rng, Tuning};
+use crate::{Job, Rng, Tuning, PLAIN_RULE};
 
 /// A job as lists of lists, from which the tables are made.
 #[derive(Clone, Debug)]
@@ -11,10 +11,11 @@ pub struct Plan {
     pub nets: Vec<(u16, Vec<u16>)>,
     pub limit: u32,
     pub tuning: Tuning,
+    pub rule: u32,
 }
 
 impl Plan {
-    /// A graph of wires of length 1, capacities 1, without edges and nets, with the plain tuning.
+    /// A graph of wires of length 1, capacities 1, without edges and nets, with the plain tuning and rule.
     fn empty(nodes: usize) -> Plan {
         Plan {
             kind: vec![4; nodes],
@@ -23,6 +24,7 @@ impl Plan {
             nets: Vec::new(),
             limit: 1,
             tuning: Tuning::PLAIN,
+            rule: PLAIN_RULE,
         }
     }
 
@@ -54,7 +56,7 @@ impl Plan {
     /// The tables.
     pub fn job(&self) -> Job {
         let mut job = Job::new(self.kind.clone(), self.capacity.clone(), &self.rows, &self.nets, self.limit);
-        job.tuning = self.tuning;
+        (job.tuning, job.rule) = (self.tuning, self.rule);
         job
     }
 }
@@ -78,9 +80,10 @@ pub fn plan(rng: &mut Rng) -> Plan {
     plan
 }
 
-/// What jobs of every family may have: a tuning, and nets broken into several of one source.
+/// What jobs of every family may have: a tuning, either rule, and nets broken into several of one source.
 fn finish(rng: &mut Rng, plan: &mut Plan) {
     plan.tuning = tuning(rng);
+    plan.rule = rule(rng);
     if rng.percent(35) {
         split(rng, plan);
     }
@@ -137,7 +140,12 @@ pub fn tuning(rng: &mut Rng) -> Tuning {
     Tuning { first: first as u32, up: up as u32, down: down as u32, step: rng.within(1, 2) as u32 }
 }
 
-/// A sound job's lists with the plain tuning.
+/// Either rule.
+pub fn rule(rng: &mut Rng) -> u32 {
+    rng.within(1, 2) as u32
+}
+
+/// A sound job's lists with the plain tuning and rule.
 fn untuned(rng: &mut Rng) -> Plan {
     match rng.below(1000) {
         0..=2 => large(rng),
@@ -151,7 +159,7 @@ fn untuned(rng: &mut Rng) -> Plan {
     }
 }
 
-/// A job of few nodes, often a congested one, with the plain tuning.
+/// A job of few nodes, often a congested one, with the plain tuning and rule.
 fn untuned_small(rng: &mut Rng) -> Plan {
     if rng.percent(45) {
         congested(rng)

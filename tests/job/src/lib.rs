@@ -38,7 +38,7 @@ impl Tuning {
     }
 }
 
-/// Tables 1 to 7, as 01 numbers them, the limit of iterations and the tuning.
+/// Tables 1 to 7, as 01 numbers them, the limit of iterations, the tuning and the rule by which nets are routed again.
 #[derive(Clone, Debug, PartialEq, Eq)]
 pub struct Job {
     pub kind: Vec<u8>,
@@ -50,10 +50,17 @@ pub struct Job {
     pub sink: Vec<u16>,
     pub limit: u32,
     pub tuning: Tuning,
+    pub rule: u32,
 }
 
+/// The rule of a job text without a V line.
+pub const PLAIN_RULE: u32 = 1;
+
+/// The terms of a call whose slice lacks all of them.
+const PLAIN_TERMS: [u32; 6] = [0, 50, 3, 2, 1, PLAIN_RULE];
+
 impl Job {
-    /// Nodes only: rows and nets are still to be added. The tuning is the plain one.
+    /// Nodes only: rows and nets are still to be added. Tuning and rule are the plain ones.
     pub fn bare(kind: Vec<u8>, capacity: Vec<u8>, limit: u32) -> Job {
         Job {
             kind,
@@ -65,10 +72,11 @@ impl Job {
             sink: Vec::new(),
             limit,
             tuning: Tuning::PLAIN,
+            rule: PLAIN_RULE,
         }
     }
 
-    /// From each node's row of targets and each net's source and sinks, with the plain tuning.
+    /// From each node's row of targets and each net's source and sinks, with the plain tuning and rule.
     pub fn new(
         kind: Vec<u8>,
         capacity: Vec<u8>,
@@ -122,10 +130,30 @@ impl Job {
             sink: vec![0xa7a7; sink],
             limit: 0,
             tuning: Tuning { first: 0, up: 0, down: 0, step: 0 },
+            rule: 0,
         }
     }
 
-    /// Takes the reader's nine numbers: cuts the tables to what it filled, sets the limit and the tuning.
+    /// What a call is lent as table 8: limit, first, up, down, step, rule.
+    pub fn terms(&self) -> [u32; 6] {
+        let Tuning { first, up, down, step } = self.tuning;
+        [self.limit, first, up, down, step, self.rule]
+    }
+
+    /// Sets all of them.
+    pub fn set_terms(&mut self, terms: [u32; 6]) {
+        let [limit, first, up, down, step, rule] = terms;
+        (self.limit, self.tuning, self.rule) = (limit, Tuning { first, up, down, step }, rule);
+    }
+
+    /// Sets them to what a call takes from a slice: an entry that it lacks has its plain value.
+    pub fn take_terms(&mut self, slice: &[u32]) {
+        let mut terms = PLAIN_TERMS;
+        terms.iter_mut().zip(slice).for_each(|(term, entry)| *term = *entry);
+        self.set_terms(terms);
+    }
+
+    /// Takes the reader's ten numbers: cuts the tables to what it filled, sets the terms.
     pub fn take_numbers(&mut self, numbers: &[u64]) {
         let counts: Vec<usize> = numbers.iter().map(|number| *number as usize).collect();
         self.kind.truncate(counts[0]);
@@ -135,9 +163,7 @@ impl Job {
         self.source.truncate(counts[2]);
         self.first_sink.truncate(counts[2] + 1);
         self.sink.truncate(counts[3]);
-        let [limit, first, up, down, step] = [4, 5, 6, 7, 8].map(|place| counts[place] as u32);
-        self.limit = limit;
-        self.tuning = Tuning { first, up, down, step };
+        self.set_terms([4, 5, 6, 7, 8, 9].map(|place| counts[place] as u32));
     }
 }
 
@@ -164,6 +190,7 @@ mod tests {
             sink: vec![2, 1, 0, 2],
             limit: 9,
             tuning: Tuning { first: 50, up: 3, down: 2, step: 1 },
+            rule: 1,
         };
         assert_eq!(job, tables);
         assert_eq!((job.row(0), job.row(1), job.row(2)), (&[1, 2][..], &[][..], &[0][..]));
@@ -173,9 +200,23 @@ mod tests {
     #[test]
     fn numbers_cut_unread_tables() {
         let mut job = Job::unread([9; 7]);
-        job.take_numbers(&[2, 3, 4, 6, 7, 1000, 8, 4, 2]);
-        let tuning = Tuning { first: 1000, up: 8, down: 4, step: 2 };
-        assert_eq!(job, Job { limit: 7, tuning, ..Job::unread([2, 2, 3, 3, 4, 5, 6]) });
-        assert_eq!(job.tuning.numbers(), [1000, 8, 4, 2]);
+        job.take_numbers(&[2, 3, 4, 6, 7, 1000, 8, 4, 3, 2]);
+        let tuning = Tuning { first: 1000, up: 8, down: 4, step: 3 };
+        assert_eq!(job, Job { limit: 7, tuning, rule: 2, ..Job::unread([2, 2, 3, 3, 4, 5, 6]) });
+        assert_eq!(job.terms(), [7, 1000, 8, 4, 3, 2]);
+    }
+
+    #[test]
+    fn entries_that_a_slice_lacks_are_plain() {
+        let mut job = Job::unread([0; 7]);
+        for (slice, terms) in [
+            (&[][..], [0, 50, 3, 2, 1, 1]),
+            (&[9], [9, 50, 3, 2, 1, 1]),
+            (&[9, 8, 7, 6], [9, 8, 7, 6, 1, 1]),
+            (&[9, 8, 7, 6, 5, 4, 3], [9, 8, 7, 6, 5, 4]),
+        ] {
+            job.take_terms(slice);
+            assert_eq!(job.terms(), terms);
+        }
     }
 }

@@ -1,6 +1,6 @@
 //! Job texts, sound and changed, from a seed.
 
-use crate::{jobs, Job, Rng, Tuning};
+use crate::{jobs, Job, Rng, Tuning, PLAIN_RULE};
 
 /// A line's letter and numbers.
 #[derive(Clone)]
@@ -9,16 +9,19 @@ struct Line {
     fields: Vec<u64>,
 }
 
-/// The lines of a job's text; the P line of the plain tuning may be left out.
-fn lines(job: &Job, say_plain: bool) -> Vec<Line> {
+/// The lines of a job's text; the P line of the plain tuning and the V line of rule 1 may be left out.
+fn lines(job: &Job, say_tuning: bool, say_rule: bool) -> Vec<Line> {
     let (nodes, nets) = (job.kind.len(), job.source.len());
     let mut list = Vec::new();
     let mut add = |letter, fields: &[usize]| {
         list.push(Line { letter, fields: fields.iter().map(|field| *field as u64).collect() });
     };
     add(b'F', &[nodes, job.edge_target.len(), nets, job.limit as usize]);
-    if say_plain || job.tuning != Tuning::PLAIN {
+    if say_tuning || job.tuning != Tuning::PLAIN {
         add(b'P', &job.tuning.numbers().map(|number| number as usize));
+    }
+    if say_rule || job.rule != PLAIN_RULE {
+        add(b'V', &[job.rule as usize]);
     }
     for node in 0..nodes {
         add(b'N', &[node, job.kind[node] as usize, job.capacity[node] as usize]);
@@ -51,21 +54,26 @@ fn print(list: &[Line]) -> Vec<u8> {
     text
 }
 
-/// The text of a job with sound tables, with a P line only where it is needed.
+/// The text of a job with sound tables, with P and V lines only where they are needed.
 pub fn text(job: &Job) -> Vec<u8> {
-    print(&lines(job, false))
+    print(&lines(job, false, false))
 }
 
-/// The same, at times with the P line of the plain tuning.
+/// The same, at times with the P line of the plain tuning or the V line of rule 1.
 pub fn some_text(rng: &mut Rng, job: &Job) -> Vec<u8> {
-    print(&lines(job, rng.once_in(4)))
+    print(&some_lines(rng, job))
+}
+
+fn some_lines(rng: &mut Rng, job: &Job) -> Vec<Line> {
+    let (say_tuning, say_rule) = (rng.once_in(4), rng.once_in(3));
+    lines(job, say_tuning, say_rule)
 }
 
 /// A job's text with wrong content, wrong bytes or both.
 pub fn changed(rng: &mut Rng, job: &Job) -> Vec<u8> {
-    let mut list = lines(job, rng.once_in(4));
-    if rng.once_in(8) {
-        change_tuning(rng, &mut list);
+    let mut list = some_lines(rng, job);
+    if rng.once_in(5) {
+        change_term(rng, &mut list);
         return print(&list);
     }
     if rng.once_in(8) {
@@ -82,7 +90,7 @@ pub fn changed(rng: &mut Rng, job: &Job) -> Vec<u8> {
     }
     let mut text = print(&list);
     if rng.once_in(30) {
-        leading_in_second(rng, &mut text);
+        leading_early(rng, &mut text);
     } else if way >= 50 {
         for _ in 0..rng.pick(&[1, 1, 1, 2, 4]) {
             change_bytes(rng, &mut text);
@@ -93,7 +101,7 @@ pub fn changed(rng: &mut Rng, job: &Job) -> Vec<u8> {
 
 /// Texts that hardly hold a job at all.
 pub fn odd(rng: &mut Rng) -> Vec<u8> {
-    let choices: [&[u8]; 18] = [
+    let choices: [&[u8]; 24] = [
         b"",
         b"\n",
         b"F",
@@ -112,6 +120,12 @@ pub fn odd(rng: &mut Rng) -> Vec<u8> {
         b"F,1,0,1,1\nP,50,3,2,1\n",
         b"P,50,3,2,1\n",
         b"F,1,0,1,1\nP,1001,3,2,1",
+        b"F,1,0,1,1\nV",
+        b"F,1,0,1,1\nV,3",
+        b"F,1,0,1,1\nV,2",
+        b"F,1,0,1,1\nV,2\n",
+        b"F,1,0,1,1\nP,50,3,2,1\nV,3\n",
+        b"V,2\n",
     ];
     rng.pick(&choices).to_vec()
 }
@@ -125,7 +139,7 @@ fn change_lines(rng: &mut Rng, list: &mut Vec<Line>) {
     match rng.below(16) {
         0..=5 => change_field(rng, &mut list[place]),
         6 => copy_field(rng, list, place),
-        7 => list[place].letter = rng.pick(b"FPNESTRBXfn ,\n0"),
+        7 => list[place].letter = rng.pick(b"FPVNESTRBXfn ,\n0"),
         8 => drop(list[place].fields.pop()),
         9 => {
             let field = rng.below(9) as u64;
@@ -150,34 +164,47 @@ fn change_lines(rng: &mut Rng, list: &mut Vec<Line>) {
     }
 }
 
-/// A P line of another shape, with a bad value, twice or elsewhere. There is one afterwards even if there was none.
-fn change_tuning(rng: &mut Rng, list: &mut Vec<Line>) {
-    if list.get(1).is_none_or(|line| line.letter != b'P') {
-        let fields = jobs::tuning(rng).numbers().map(u64::from).to_vec();
-        list.insert(1, Line { letter: b'P', fields });
-    }
+/// A P or V line of another shape, with a bad value, twice or elsewhere. There is one afterwards even if there was none.
+fn change_term(rng: &mut Rng, list: &mut Vec<Line>) {
+    let letter = rng.pick(b"PV");
+    let at = term_place(rng, list, letter);
     match rng.below(12) {
-        0 => list.insert(1, list[1].clone()),
-        1 => list.swap(0, 1),
-        2 => list.swap(1, 2),
+        0 => list.insert(at, list[at].clone()),
+        1 => list.swap(at - 1, at),
+        2 => list.swap(at, at + 1),
         3 => {
-            let line = list.remove(1);
+            let line = list.remove(at);
             list.insert(rng.below(list.len() + 1), line);
         }
-        4 => list.insert(rng.within(2, list.len()), list[1].clone()),
-        5 => list[1].fields.push(rng.below(4) as u64),
-        6 => list[1].fields.truncate(rng.below(4)),
-        7 => list[1].letter = rng.pick(b"pNFVWR"),
-        8 => change_field(rng, &mut list[1]),
-        9 => {
+        4 => list.insert(rng.within(at + 1, list.len()), list[at].clone()),
+        5 => list[at].fields.push(rng.below(4) as u64),
+        6 => {
+            let kept = rng.below(list[at].fields.len());
+            list[at].fields.truncate(kept);
+        }
+        7 => list[at].letter = rng.pick(b"pvNFPVWR"),
+        8 => change_field(rng, &mut list[at]),
+        9 if letter == b'P' => {
             let down = rng.within(1, 4) as u64;
-            (list[1].fields[1], list[1].fields[2]) = (down - rng.below(2) as u64, down);
+            (list[at].fields[1], list[at].fields[2]) = (down - rng.below(2) as u64, down);
         }
-        _ => {
+        _ if letter == b'P' => {
             let (field, bad) = rng.pick(&[(0, 1_001), (1, 9), (1, 0), (2, 0), (2, 5), (3, 0), (3, 3)]);
-            list[1].fields[field] = bad;
+            list[at].fields[field] = bad;
         }
+        _ => list[at].fields[0] = rng.pick(&[0, 3, 3, 4, 12, 22, 256, 258, 65_538, 999_999]),
     }
+}
+
+/// The place of a sound text's P or V line, which is put there if it is missing.
+fn term_place(rng: &mut Rng, list: &mut Vec<Line>, letter: u8) -> usize {
+    let at = 1 + usize::from(letter == b'V' && list[1].letter == b'P');
+    if list[at].letter != letter {
+        let fields =
+            if letter == b'P' { jobs::tuning(rng).numbers().to_vec() } else { vec![jobs::rule(rng)] };
+        list.insert(at, Line { letter, fields: fields.into_iter().map(u64::from).collect() });
+    }
+    at
 }
 
 /// A source or sink of any kind: its N line gets the kind, or its own line another node.
@@ -210,7 +237,7 @@ pub fn pin(text: &[u8], line: u64) -> Option<(u8, u8)> {
 
 /// Some line, with each letter about as often.
 fn some_line(rng: &mut Rng, list: &[Line]) -> usize {
-    let letter = rng.pick(b"FPNEST");
+    let letter = rng.pick(b"FPVNEST");
     let same: Vec<usize> = (0..list.len()).filter(|place| list[*place].letter == letter).collect();
     if same.is_empty() {
         rng.below(list.len())
@@ -281,7 +308,7 @@ fn copy_field(rng: &mut Rng, list: &mut [Line], place: usize) {
 
 /// A line after the end.
 fn extra(rng: &mut Rng) -> Line {
-    let letter = rng.pick(b"FPNESTT");
+    let letter = rng.pick(b"FPVNESTT");
     let fields = (0..rng.within(1, 4)).map(|_| rng.below(8) as u64).collect();
     Line { letter, fields }
 }
@@ -317,7 +344,7 @@ fn change_bytes(rng: &mut Rng, text: &mut Vec<u8>) {
 /// A byte, mostly one that job texts have.
 fn byte(rng: &mut Rng) -> u8 {
     if rng.percent(85) {
-        rng.pick(b"0123456789,,\n\n\rFPNEST -+.\"")
+        rng.pick(b"0123456789,,\n\n\rFPVNEST -+.\"")
     } else {
         rng.draw() as u8
     }
@@ -352,10 +379,11 @@ fn leading_within(rng: &mut Rng, text: &mut Vec<u8>, digits: &[u8], from: usize,
     text.splice(place..place, digits.iter().copied());
 }
 
-/// A zero before a number of the second line, which may be a P line.
-fn leading_in_second(rng: &mut Rng, text: &mut Vec<u8>) {
-    let ends: Vec<usize> = (0..text.len()).filter(|place| text[*place] == b'\n').take(2).collect();
-    if let [from, end] = ends[..] {
+/// A zero before a number of the second or third line, which may be a P or a V line.
+fn leading_early(rng: &mut Rng, text: &mut Vec<u8>) {
+    let ends: Vec<usize> = (0..text.len()).filter(|place| text[*place] == b'\n').take(3).collect();
+    if let [first, second, third] = ends[..] {
+        let (from, end) = rng.pick(&[(first, second), (second, third)]);
         leading_within(rng, text, b"0", from, end);
     }
 }

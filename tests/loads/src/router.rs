@@ -28,7 +28,6 @@ pub fn answer(text: &[u8]) -> String {
     t.take_numbers(&read.numbers);
     let mut work = vec![0; 8_192];
     let mut log = vec![0; 16_384];
-    let terms: Vec<u32> = read.numbers[4..9].iter().map(|&n| n as u32).collect();
     let routed = plain::route(
         &t.kind,
         &t.capacity,
@@ -37,11 +36,7 @@ pub fn answer(text: &[u8]) -> String {
         &t.source,
         &t.first_sink,
         &t.sink,
-        terms[0],
-        terms[1],
-        terms[2],
-        terms[3],
-        terms[4],
+        &t.terms(),
         &mut work,
         &mut log,
     );

@@ -1,7 +1,8 @@
 //! The job text into tables.
 
 use crate::price::{Tuning, MAX_KIND};
-use crate::tables::{may_be_sink, may_be_source, MAX_EDGES, MAX_LIMIT, MAX_NETS, MAX_NODES, MAX_SINKS};
+use crate::tables::{may_be_sink, may_be_source, rule_is_sound};
+use crate::tables::{MAX_EDGES, MAX_LIMIT, MAX_NETS, MAX_NODES, MAX_SINKS, PLAIN_RULE};
 use crate::Answer;
 
 /// A refusal: its number and the line.
@@ -25,10 +26,11 @@ struct Job {
     sink: Vec<u16>,
     limit: u32,
     tuning: Tuning,
+    rule: u32,
 }
 
 /// The own numbers of the reader.
-const NUMBERS: usize = 9;
+const NUMBERS: usize = 10;
 
 /// The counts that the F line gives.
 struct Counts {
@@ -114,6 +116,16 @@ fn read_tuning(lines: &mut Lines) -> Result<Tuning, Fault> {
     Ok(tuning)
 }
 
+/// The V line, which may be missing.
+fn read_rule(lines: &mut Lines) -> Result<u32, Fault> {
+    if lines.rest().first() != Some(&b'V') {
+        return Ok(PLAIN_RULE);
+    }
+    let f = lines.take(b'V', 1)?;
+    lines.bounds(rule_is_sound(f[0]))?;
+    Ok(f[0])
+}
+
 fn read_nodes(lines: &mut Lines, counts: &Counts, job: &mut Job) -> Result<(), Fault> {
     for node in 0..counts.nodes {
         let f = lines.take(b'N', 3)?;
@@ -195,6 +207,7 @@ fn read_job(text: &[u8]) -> Result<Job, Fault> {
     let mut lines = Lines { text, place: 0, line: 0 };
     let counts = read_counts(&mut lines)?;
     let tuning = read_tuning(&mut lines)?;
+    let rule = read_rule(&mut lines)?;
     let mut job = Job {
         kind: Vec::new(),
         capacity: Vec::new(),
@@ -205,6 +218,7 @@ fn read_job(text: &[u8]) -> Result<Job, Fault> {
         sink: Vec::new(),
         limit: counts.limit,
         tuning,
+        rule,
     };
     read_nodes(&mut lines, &counts, &mut job)?;
     read_edges(&mut lines, &counts, &mut job)?;
@@ -228,6 +242,7 @@ fn numbers(job: &Job) -> [u64; NUMBERS] {
         up as u64,
         down as u64,
         step as u64,
+        job.rule as u64,
     ]
 }
 

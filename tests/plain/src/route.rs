@@ -3,9 +3,39 @@
 use crate::join::joined;
 use crate::price::Tuning;
 use crate::search::{distances, path, prices, NO_PATH};
-use crate::tables::{Graph, Nets, MAX_LIMIT};
+use crate::tables::{rule_is_sound, Graph, Nets, MAX_LIMIT, PLAIN_RULE};
 use crate::Answer;
 use std::collections::BTreeSet;
+
+/// Limit, tuning and rule, which count as table 8.
+#[derive(Clone, Copy)]
+struct Terms {
+    limit: u32,
+    tuning: Tuning,
+    rule: u32,
+}
+
+impl Terms {
+    /// From a slice in this order; an entry that it lacks has its plain value, and entries past those aren't read.
+    fn of(slice: &[u32]) -> Terms {
+        let plain = Tuning::PLAIN;
+        let entry = |place: usize, plain: u32| slice.get(place).copied().unwrap_or(plain);
+        Terms {
+            limit: entry(0, 0),
+            tuning: Tuning {
+                first: entry(1, plain.first),
+                up: entry(2, plain.up),
+                down: entry(3, plain.down),
+                step: entry(4, plain.step),
+            },
+            rule: entry(5, PLAIN_RULE),
+        }
+    }
+
+    fn is_sound(self) -> bool {
+        (1..=MAX_LIMIT).contains(&self.limit) && self.tuning.is_sound() && rule_is_sound(self.rule)
+    }
+}
 
 /// The machine's state: a tree is a set of nodes, empty at first.
 struct State {
@@ -13,7 +43,7 @@ struct State {
     factor: u32,
     histories: Vec<u32>,
     trees: Vec<BTreeSet<usize>>,
-    tuning: Tuning,
+    terms: Terms,
 }
 
 /// The log with what has been written.
@@ -34,13 +64,13 @@ enum End {
 struct Full;
 
 impl State {
-    fn new(nodes: usize, nets: usize, tuning: Tuning) -> State {
+    fn new(nodes: usize, nets: usize, terms: Terms) -> State {
         State {
             iteration: 1,
             factor: 0,
             histories: vec![1; nodes],
             trees: vec![BTreeSet::new(); nets],
-            tuning,
+            terms,
         }
     }
 
@@ -64,12 +94,20 @@ impl State {
         (0..graph.nodes()).map(over).collect()
     }
 
+    /// The nets that drop their tree and make turns in this iteration, by the trees as they are at its start.
+    fn due(&self, graph: &Graph, nets: &Joined) -> Vec<usize> {
+        let overuse = self.overuse(graph);
+        let crowded = |net: usize| self.trees[net].iter().any(|&v| overuse[v] > 0);
+        let all = self.terms.rule == 1 || self.iteration == 1;
+        nets.routed().filter(|&net| all || crowded(net)).collect()
+    }
+
     /// Histories, factor and iteration move on.
     fn move_on(&mut self, overuse: &[u32]) {
         for (history, over) in self.histories.iter_mut().zip(overuse) {
-            *history = self.tuning.next_history(*history, *over);
+            *history = self.terms.tuning.next_history(*history, *over);
         }
-        self.factor = self.tuning.next_factor(self.iteration, self.factor);
+        self.factor = self.terms.tuning.next_factor(self.iteration, self.factor);
         self.iteration += 1;
     }
 }
@@ -151,9 +189,9 @@ fn turn(graph: &Graph, nets: &Joined, net: usize, state: &mut State, log: &mut L
     Ok(true)
 }
 
-/// One iteration: each net that is routed, in order, drops its tree and makes its turns.
+/// One iteration: each net that is due, in order, drops its tree and makes its turns. The other trees stay.
 fn iterate(graph: &Graph, nets: &Joined, state: &mut State, log: &mut Log) -> Result<(), Full> {
-    for net in nets.routed() {
+    for net in state.due(graph, nets) {
         state.trees[net] = BTreeSet::from([nets.source[net] as usize]);
         while turn(graph, nets, net, state, log)? {}
     }
@@ -161,7 +199,7 @@ fn iterate(graph: &Graph, nets: &Joined, state: &mut State, log: &mut Log) -> Re
 }
 
 /// Iterations until one of the three ends.
-fn negotiate(graph: &Graph, nets: &Joined, limit: u32, state: &mut State, log: &mut Log) -> End {
+fn negotiate(graph: &Graph, nets: &Joined, state: &mut State, log: &mut Log) -> End {
     loop {
         if iterate(graph, nets, state, log).is_err() {
             return End::LogFull;
@@ -171,17 +209,16 @@ fn negotiate(graph: &Graph, nets: &Joined, limit: u32, state: &mut State, log: &
         if over == 0 {
             return End::Accepted;
         }
-        if state.iteration >= limit {
+        if state.iteration >= state.terms.limit {
             return End::Limit { over };
         }
         state.move_on(&overuse);
     }
 }
 
-/// The lowest of tables 1 to 8 that breaks its rule; limit and tuning are table 8.
-fn broken(graph: &Graph, nets: &Nets, limit: u32, tuning: Tuning) -> Option<u64> {
-    let sound = (1..=MAX_LIMIT).contains(&limit) && tuning.is_sound();
-    graph.broken().or_else(|| nets.broken(graph.kind)).or(if sound { None } else { Some(8) })
+/// The lowest of tables 1 to 8 that breaks its rule; the terms are table 8.
+fn broken(graph: &Graph, nets: &Nets, terms: Terms) -> Option<u64> {
+    graph.broken().or_else(|| nets.broken(graph.kind)).or(if terms.is_sound() { None } else { Some(8) })
 }
 
 /// The answer once the negotiation has ended.
@@ -194,7 +231,7 @@ fn answer(end: End, iteration: u64, log: &Log) -> Answer {
     Answer { refusal, numbers: vec![iteration, log.turns, log.words as u64] }
 }
 
-/// The router: tests 5, 6, 7, then 8 and 9 as they arise.
+/// The router: tests 5, 6, 7, then 8 and 9 as they arise. The terms are limit, first, up, down, step, rule.
 pub fn route(
     kind: &[u8],
     capacity: &[u8],
@@ -203,19 +240,15 @@ pub fn route(
     source: &[u16],
     first_sink: &[u32],
     sink: &[u16],
-    limit: u32,
-    first: u32,
-    up: u32,
-    down: u32,
-    step: u32,
+    terms: &[u32],
     work: &mut [u64],
     log: &mut [u32],
 ) -> Answer {
     let graph = Graph { kind, capacity, first_edge, edge_target };
     let nets = Nets { source, first_sink, sink };
-    let tuning = Tuning { first, up, down, step };
+    let terms = Terms::of(terms);
     let nodes = graph.nodes();
-    if let Some(table) = broken(&graph, &nets, limit, tuning) {
+    if let Some(table) = broken(&graph, &nets, terms) {
         return Answer::refused(&[5, table], 3);
     }
     if work.len() < 8 * nodes {
@@ -226,8 +259,8 @@ pub fn route(
     if let Some((net, place)) = unreachable(&graph, &nets) {
         return Answer::refused(&[7, net as u64, place as u64], 3);
     }
-    let mut state = State::new(nodes, source.len(), tuning);
+    let mut state = State::new(nodes, source.len(), terms);
     let mut log = Log { space: log, words: 0, turns: 0 };
-    let end = negotiate(&graph, &nets, limit, &mut state, &mut log);
+    let end = negotiate(&graph, &nets, &mut state, &mut log);
     answer(end, state.iteration as u64, &log)
 }

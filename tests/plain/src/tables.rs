@@ -6,6 +6,14 @@ pub const MAX_NETS: usize = 512;
 pub const MAX_SINKS: usize = 4_096;
 pub const MAX_LIMIT: u32 = 100;
 
+/// Rule 1 reroutes every net, rule 2 from iteration 2 on the crowded ones alone. That of a text without a V line is 1.
+pub const PLAIN_RULE: u32 = 1;
+
+/// The same bounds hold in a text and in a direct call.
+pub fn rule_is_sound(rule: u32) -> bool {
+    rule == 1 || rule == 2
+}
+
 /// A source must be a source or an output pin.
 pub fn may_be_source(kind: u8) -> bool {
     kind == 0 || kind == 2

@@ -7,7 +7,7 @@ use crate::Answer;
 /// What the writer needs of a record.
 struct Record<'a> {
     iteration: u32,
-    net: u32,
+    net: usize,
     path: &'a [u32],
 }
 
@@ -26,8 +26,8 @@ fn record<'a>(source: &[u16], words: &'a [u32]) -> Option<Record<'a>> {
     if words.len() < 6 {
         return None;
     }
-    let (iteration, net, sink, length) = (words[0], words[1], words[2], words[5] as usize);
-    if !(1..=MAX_LIMIT).contains(&iteration) || !net_is_sound(source, net as usize) {
+    let (iteration, net, sink, length) = (words[0], words[1] as usize, words[2], words[5] as usize);
+    if !(1..=MAX_LIMIT).contains(&iteration) || !net_is_sound(source, net) {
         return None;
     }
     if !(2..=MAX_NODES).contains(&length) || words.len() < 6 + length {
@@ -55,13 +55,21 @@ fn records<'a>(source: &[u16], log: &'a [u32]) -> Result<Vec<Record<'a>>, u64> {
     Ok(found)
 }
 
-/// The whole routes text of one or more records: last the nets that were joined into another.
+/// The branches of a net's final tree: the path steps of its records of the latest iteration in which it has any, in log order.
+fn branches(records: &[Record], net: usize) -> Vec<(u32, u32)> {
+    let own = || records.iter().filter(|r| r.net == net);
+    let latest = own().map(|r| r.iteration).max();
+    let last = own().filter(|r| Some(r.iteration) == latest);
+    last.flat_map(|r| r.path.windows(2)).map(|step| (step[0], step[1])).collect()
+}
+
+/// The whole routes text of one or more records: net by net its branches, then the nets that were joined into another.
 fn routes_text(source: &[u16], records: &[Record]) -> String {
     let last = records.last().map_or(0, |r| r.iteration);
     let mut text = format!("R,{},{}\n", last, records.len());
-    for record in records.iter().filter(|r| r.iteration == last) {
-        for step in record.path.windows(2) {
-            text += &format!("B,{},{},{}\n", record.net, step[0], step[1]);
+    for net in 0..source.len() {
+        for (from, to) in branches(records, net) {
+            text += &format!("B,{net},{from},{to}\n");
         }
     }
     for net in 0..source.len() {

@@ -2,7 +2,7 @@
 
 mod common;
 use common::*;
-use job::{Job, Tuning};
+use job::{Job, Tuning, PLAIN_RULE};
 use plain::search;
 
 #[test]
@@ -56,6 +56,7 @@ fn sized(nodes: usize, edges: usize, nets: usize, sinks: usize) -> Job {
         sink: (0..sinks).map(sink).collect(),
         limit: 1,
         tuning: Tuning::PLAIN,
+        rule: PLAIN_RULE,
     }
 }
 

@@ -10,18 +10,6 @@ fn block(nets: &[(u16, &[u16])], limit: u32) -> Job {
     Job::new(vec![0, 2, 4, 5, 1, 3, 1, 1], vec![1; 8], &rows, nets, limit)
 }
 
-/// Net, sink and path of each record.
-fn turns(log: &[u32]) -> Vec<(u32, u32, Vec<u32>)> {
-    let mut list = Vec::new();
-    let mut rest = log;
-    while let [_, net, sink, _, _, nodes, after @ ..] = rest {
-        let (path, next) = after.split_at(*nodes as usize);
-        list.push((*net, *sink, path.to_vec()));
-        rest = next;
-    }
-    list
-}
-
 /// The log of an accepted job.
 fn accepted(t: &Job) -> Vec<u32> {
     let (answer, log) = routed(t, 1_000);
@@ -34,7 +22,7 @@ fn sinks_come_in_listed_order_each_once() {
     // Sink 6 stands in all three nets of source 0, sink 4 in two; of equally near sinks the first listed is joined.
     let t = block(&[(0, &[6, 4]), (0, &[4, 7, 6]), (0, &[6])], 1);
     let log = accepted(&t);
-    let expected = [(0, 6, vec![0, 2, 6]), (0, 4, vec![2, 4]), (0, 7, vec![2, 7])];
+    let expected = [(1, 0, 4000, vec![0, 2, 6]), (1, 0, 2000, vec![2, 4]), (1, 0, 2000, vec![2, 7])];
     assert_eq!(turns(&log), expected);
     assert_eq!(written(&t.source, &log), text("R,1,3 B,0,0,2 B,0,2,6 B,0,2,4 B,0,2,7 J,1,0 J,2,0"));
 }
@@ -46,7 +34,7 @@ fn joined_nets_are_one_user() {
     let log = accepted(&t);
     let last = log.len() - 26;
     assert_eq!(log[last], 2);
-    assert_eq!(turns(&log[last..]).iter().map(|turn| turn.0).collect::<Vec<_>>(), [0, 0, 1]);
+    assert_eq!(turns(&log[last..]).iter().map(|turn| turn.1).collect::<Vec<_>>(), [0, 0, 1]);
     let routes = written(&t.source, &log);
     assert!(routes.ends_with("J,2,0\n") && routes.matches('J').count() == 1, "{routes}");
 }

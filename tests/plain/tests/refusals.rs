@@ -5,9 +5,6 @@ use common::*;
 use job::Job;
 use plain::{price, search, write};
 
-const B: &str = "F,6,6,2,2 N,0,0,1 N,1,0,1 N,2,4,1 N,3,5,1 N,4,1,1 N,5,1,1 \
-    E,0,2 E,0,3 E,1,2 E,2,4 E,2,5 E,3,4 S,0,0 T,0,4 S,1,1 T,1,5";
-
 fn changed(from: &str, to: &str) -> Vec<u64> {
     assert!(B.contains(from));
     refusal(&text(&B.replace(from, to)))
@@ -73,7 +70,7 @@ fn the_4097th_sink() {
     }
     job += "S,1,0\nT,1,1\n";
     let mut t = Job::unread([4096, 4096, 4097, 0, 2, 3, 4096]);
-    assert_eq!(read_into(job.as_bytes(), &mut t).numbers, [4096, 0, 2, 4096, 1, 50, 3, 2, 1]);
+    assert_eq!(read_into(job.as_bytes(), &mut t).numbers, [4096, 0, 2, 4096, 1, 50, 3, 2, 1, 1]);
     assert_eq!(refusal(&(job.clone() + "T,1,4096\n")), [2, 8196]);
     assert_eq!(refusal(&(job + "T,1,2\n")), [3, 8196]);
 }
@@ -252,12 +249,12 @@ fn nothing_panics() {
         (state >> 33) % below
     };
     let sound = tables(&text(B));
-    let bytes = text(&B.replace("F,6,6,2,2", "F,6,6,2,2 P,50,3,2,1")).into_bytes();
+    let bytes = text(&B.replace("F,6,6,2,2", "F,6,6,2,2 P,50,3,2,1 V,2")).into_bytes();
     for _ in 0..20_000 {
         let mut t = sound.clone();
         let value = [0, 1, 2, 3, 5, 6, 255, 65535][next(8) as usize];
         let place = next(9) as usize;
-        match next(9) {
+        match next(10) {
             0 => t.kind.resize(place, value as u8),
             1 => t.capacity.resize(place, value as u8),
             2 => t.first_edge[place % 7] = value,
@@ -266,6 +263,7 @@ fn nothing_panics() {
             5 => t.first_sink[place % 3] = value,
             6 => t.sink[place % 2] = value as u16,
             7 => t.tuning.down = value,
+            8 => t.rule = value,
             _ => t.limit = value,
         }
         let mut log = vec![0; next(60) as usize];
@@ -276,7 +274,7 @@ fn nothing_panics() {
         write(&t.source, &log, &mut vec![0; next(80) as usize]);
         let mut damaged = bytes.clone();
         for _ in 0..=next(3) {
-            damaged[next(bytes.len() as u64) as usize] = b"0123456789,\nFPNEST\r\xff"[next(20) as usize];
+            damaged[next(bytes.len() as u64) as usize] = b"0123456789,\nFPVNEST\r\xff"[next(21) as usize];
         }
         damaged.truncate(bytes.len() - next(4) as usize);
         read_into(&damaged, &mut Job::unread([next(9) as usize; 7]));

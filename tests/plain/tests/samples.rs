@@ -5,8 +5,6 @@ use common::*;
 use job::Job;
 use plain::{price, Answer, Tuning};
 
-const B: &str = "F,6,6,2,2 N,0,0,1 N,1,0,1 N,2,4,1 N,3,5,1 N,4,1,1 N,5,1,1 \
-    E,0,2 E,0,3 E,1,2 E,2,4 E,2,5 E,3,4 S,0,0 T,0,4 S,1,1 T,1,5";
 const B_LOG: [u32; 36] = [
     1, 0, 4, 4000, 0, 3, 0, 2, 4, 1, 1, 5, 4000, 0, 3, 1, 2, 5, //
     2, 0, 4, 6000, 0, 3, 0, 3, 4, 2, 1, 5, 6000, 0, 3, 1, 2, 5,
@@ -21,7 +19,7 @@ fn answer(refusal: &[u64], numbers: &[u64]) -> Answer {
 fn job_b_is_read() {
     let mut t = Job::unread([7; 7]);
     let got = read_into(text(B).as_bytes(), &mut t);
-    assert_eq!(got, answer(&[], &[6, 6, 2, 2, 2, 50, 3, 2, 1]));
+    assert_eq!(got, answer(&[], &[6, 6, 2, 2, 2, 50, 3, 2, 1, 1]));
     // Entries past those needed stay as they were.
     let mut wanted = Job::unread([7; 7]);
     wanted.kind[..6].copy_from_slice(&[0, 0, 4, 5, 1, 1]);

@@ -5,14 +5,6 @@ use common::*;
 use job::Job;
 use plain::Tuning;
 
-const B: &str = "F,6,6,2,2 N,0,0,1 N,1,0,1 N,2,4,1 N,3,5,1 N,4,1,1 N,5,1,1 \
-    E,0,2 E,0,3 E,1,2 E,2,4 E,2,5 E,3,4 S,0,0 T,0,4 S,1,1 T,1,5";
-
-/// B with these lines after F.
-fn b_with(lines: &str) -> String {
-    text(&B.replacen("F,6,6,2,2", &format!("F,6,6,2,2 {lines}"), 1))
-}
-
 #[test]
 fn the_line_is_read() {
     for (line, numbers) in [
@@ -26,7 +18,7 @@ fn the_line_is_read() {
         let mut t = Job::unread([7; 7]);
         let answer = read_into(b_with(line).as_bytes(), &mut t);
         assert_eq!(answer.refusal, [0; 0]);
-        assert_eq!(answer.numbers, [&[6, 6, 2, 2, 2][..], &numbers].concat());
+        assert_eq!(answer.numbers, [&[6, 6, 2, 2, 2][..], &numbers, &[1]].concat());
     }
 }
 

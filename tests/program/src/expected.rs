@@ -37,6 +37,19 @@ fn routes(input: &[u8]) -> Result<Vec<u8>, Vec<u64>> {
     Ok(buffer)
 }
 
+/// Whether a text is accepted with the tree of some net from an iteration before the last.
+pub fn keeps_tree(input: &[u8]) -> bool {
+    let Ok(log) = read(input).and_then(|job| route(&job)) else { return false };
+    let mut latest = std::collections::BTreeMap::new();
+    let (mut last, mut rest) = (0, &log[..]);
+    while let [iteration, net, _, _, _, nodes, after @ ..] = rest {
+        last = *iteration;
+        latest.insert(*net, last);
+        rest = &after[*nodes as usize..];
+    }
+    latest.values().any(|iteration| *iteration < last)
+}
+
 /// The job of a text, if the program's tables can hold it.
 fn read(text: &[u8]) -> Result<Job, Vec<u64>> {
     let mut job = Job::unread([NODES, NODES, NODES + 1, EDGES, NETS, NETS + 1, SINKS]);
@@ -66,11 +79,7 @@ fn route(job: &Job) -> Result<Vec<u32>, Vec<u64>> {
         &job.source,
         &job.first_sink,
         &job.sink,
-        job.limit,
-        job.tuning.first,
-        job.tuning.up,
-        job.tuning.down,
-        job.tuning.step,
+        &job.terms(),
         &mut work,
         &mut log,
     );
@@ -93,6 +102,7 @@ mod tests {
     use super::*;
 
     const JOB_B: &str = include_str!("../../../examples/job_b.txt");
+    const JOB_CROWDED: &str = include_str!("../../../examples/job_crowded.txt");
 
     fn prints(input: &str, output: &str) {
         assert_eq!(String::from_utf8(printed(input.as_bytes())).unwrap(), output);
@@ -105,6 +115,14 @@ mod tests {
         prints(&JOB_B.replace("F,6,6,2,2", "F,6,6,2,101"), "X,2,1\n");
         prints(&JOB_B.replace("T,1,5", "T,1,1"), "X,3,17\n");
         prints("", "X,1,1\n");
+        // Both nets are crowded in iteration 1, so rule 2 gives the same.
+        prints(&JOB_B.replacen('\n', "\nV,2\n", 1), "R,2,4\nB,0,0,3\nB,0,3,4\nB,1,1,2\nB,1,2,5\n");
+        prints(&JOB_B.replacen('\n', "\nV,3\n", 1), "X,2,2\n");
+        // Net 2 has a wire for itself and keeps its tree: five turns in place of six.
+        let routes = "B,0,0,4\nB,0,4,6\nB,1,1,3\nB,1,3,7\nB,2,2,5\nB,2,5,8\n";
+        prints(JOB_CROWDED, &format!("R,2,5\n{routes}"));
+        prints(&JOB_CROWDED.replace("V,2\n", ""), &format!("R,2,6\n{routes}"));
+        assert!(keeps_tree(JOB_CROWDED.as_bytes()) && !keeps_tree(JOB_B.as_bytes()));
         // Net 1 becomes one of net 0's source.
         prints(&JOB_B.replace("S,1,1", "S,1,0"), "R,1,2\nB,0,0,2\nB,0,2,4\nB,0,2,5\nJ,1,0\n");
     }

@@ -1,15 +1,18 @@
 //! What texts come to, counted, and what a whole run must come to.
 
+use crate::expected;
 use crate::feed::Way;
 use job::Counts;
 
 /// Every outcome that a whole run must come to. 5, 6 and 10 can't come: the reader's tables are sound, the work slice is enough for
 /// all that the tables hold, and the router's logs are sound. Of 4 there are tables 1 and 4 alone, since no text has too many nets or sinks.
-const EXPECTED: [&str; 20] = [
+const EXPECTED: [&str; 23] = [
     "accepted in iteration 1",
     "accepted in iteration 2",
     "accepted in iteration 3 or later",
     "accepted in iteration 3 or later, with a P line",
+    "accepted in iteration 3 or later, with a V,2 line",
+    "accepted, with branches of an earlier iteration",
     "accepted, with a J line",
     "X,1",
     "X,2",
@@ -20,6 +23,7 @@ const EXPECTED: [&str; 20] = [
     "X,8",
     "X,9",
     "X,9, with a P line",
+    "X,9, with a V,2 line",
     "X,11",
     "X,12",
     "by pipe",
@@ -46,10 +50,14 @@ impl Outcomes {
     /// Counts what a text is answered with.
     pub fn count_answer(&mut self, text: &[u8], printed: &[u8]) {
         let answer = name(printed);
-        if matches!(&answer[..], "accepted in iteration 3 or later" | "X,9")
-            && text.windows(2).any(|two| two == b"\nP")
-        {
-            self.0.count(format!("{answer}, with a P line"));
+        let holds = |line: &[u8]| text.windows(line.len()).any(|bytes| bytes == line);
+        if matches!(&answer[..], "accepted in iteration 3 or later" | "X,9") {
+            for (_, name) in [(holds(b"\nP"), "P"), (holds(b"\nV,2\n"), "V,2")].iter().filter(|one| one.0) {
+                self.0.count(format!("{answer}, with a {name} line"));
+            }
+        }
+        if expected::keeps_tree(text) {
+            self.0.count("accepted, with branches of an earlier iteration");
         }
         if printed.windows(2).any(|two| two == b"\nJ") {
             self.0.count("accepted, with a J line");

@@ -39,7 +39,7 @@ pub enum Way {
 
 pub const WAYS: [Way; 3] = [Way::Heap, Way::Pruned, Way::Carried];
 
-/// Routes a job with sound tables, limit and tuning.
+/// Routes a job with sound tables and terms: limit, first, up, down, step, rule.
 pub fn route(
     way: Way,
     kind: &[u8],
@@ -49,21 +49,18 @@ pub fn route(
     source: &[u16],
     first_sink: &[u32],
     sink: &[u16],
-    limit: u32,
-    first: u32,
-    up: u32,
-    down: u32,
-    step: u32,
+    terms: [u32; 6],
     log: &mut [u32],
 ) -> Outcome {
+    let [limit, first, up, down, step, rule] = terms;
     let [first, up, down, step] = [first, up, down, step].map(u64::from);
     let prices = Prices::new(kind, capacity, Tuning { first, up, down, step });
     let nets = Nets::joined(kind.len(), source, first_sink, sink);
     let graph = Graph::new(first_edge, edge_target);
     match way {
-        Way::Heap => Router::<false, false>::new(prices, graph, nets).run(limit, log),
-        Way::Pruned => Router::<true, false>::new(prices, graph, nets).run(limit, log),
-        Way::Carried => Router::<true, true>::new(prices, graph, nets).run(limit, log),
+        Way::Heap => Router::<false, false>::new(prices, graph, nets).run(limit, rule, log),
+        Way::Pruned => Router::<true, false>::new(prices, graph, nets).run(limit, rule, log),
+        Way::Carried => Router::<true, true>::new(prices, graph, nets).run(limit, rule, log),
     }
 }
 
@@ -89,15 +86,16 @@ impl<'a, const PRUNE: bool, const CARRY: bool> Router<'a, PRUNE, CARRY> {
         Router { search: Search::new(prices.nodes(), graph), prices, trees, nets, made: Vec::new() }
     }
 
-    fn run(mut self, limit: u32, words: &mut [u32]) -> Outcome {
+    fn run(mut self, limit: u32, rule: u32, words: &mut [u32]) -> Outcome {
         let mut log = Log { words, used: 0, turns: 0 };
         let mut iteration = 1;
         loop {
             self.prices.fill(&mut self.search.nodes);
+            let due = self.due(rule == 1 || iteration == 1);
             let whole = if self.prices.worst_path(self.nets.source.len()) < SHORT_KEY {
-                self.iterate::<u64>(iteration, &mut log)
+                self.iterate::<u64>(iteration, &due, &mut log)
             } else {
-                self.iterate::<u128>(iteration, &mut log)
+                self.iterate::<u128>(iteration, &due, &mut log)
             };
             match whole {
                 Err(none) => return unreachable(none),
@@ -116,13 +114,17 @@ impl<'a, const PRUNE: bool, const CARRY: bool> Router<'a, PRUNE, CARRY> {
         }
     }
 
-    /// Routes every net that has sinks once. False when the log is full.
-    fn iterate<K: Key>(&mut self, iteration: u32, log: &mut Log) -> Result<bool, NoPath> {
+    /// The nets to be routed in an iteration that begins with these trees: of those with sinks all, or those with an overfull node.
+    fn due(&self, all: bool) -> Vec<usize> {
+        let crowded = |net: usize| self.trees[net].iter().any(|&v| self.prices.overfull(v));
+        let nets = 0..self.nets.source.len();
+        nets.filter(|&net| !self.nets.sinks(net).is_empty() && (all || crowded(net))).collect()
+    }
+
+    /// Routes every due net once. False when the log is full.
+    fn iterate<K: Key>(&mut self, iteration: u32, due: &[usize], log: &mut Log) -> Result<bool, NoPath> {
         let mut heap = Heap::<K>::new();
-        for net in 0..self.nets.source.len() {
-            if self.nets.sinks(net).is_empty() {
-                continue;
-            }
+        for &net in due {
             self.route_net(iteration, net, &mut heap)?;
             if iteration > 1 && !log.take(&mut self.made) {
                 return Ok(false);

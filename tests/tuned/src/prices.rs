@@ -84,6 +84,10 @@ impl<'a> Prices<'a> {
         }
     }
 
+    pub fn overfull(&self, v: u16) -> bool {
+        self.over[v as usize] > 0
+    }
+
     pub fn count_over(&self) -> u64 {
         self.over.iter().filter(|&&o| o > 0).count() as u64
     }

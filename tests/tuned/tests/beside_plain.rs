@@ -179,7 +179,6 @@ fn keep_reachable(job: &mut Job) {
 
 fn run_tuned(way: Way, job: &Job, words: usize) -> (Outcome, Vec<u32>) {
     let mut log = vec![UNWRITTEN; words];
-    let [first, up, down, step] = job.tuning.numbers();
     let outcome = tuned::route(
         way,
         &job.kind,
@@ -189,11 +188,7 @@ fn run_tuned(way: Way, job: &Job, words: usize) -> (Outcome, Vec<u32>) {
         &job.source,
         &job.first_sink,
         &job.sink,
-        job.limit,
-        first,
-        up,
-        down,
-        step,
+        job.terms(),
         &mut log,
     );
     (outcome, log)
@@ -201,7 +196,6 @@ fn run_tuned(way: Way, job: &Job, words: usize) -> (Outcome, Vec<u32>) {
 
 fn run_plain(job: &Job, words: usize) -> (Outcome, Vec<u32>) {
     let mut log = vec![UNWRITTEN; words];
-    let [first, up, down, step] = job.tuning.numbers();
     let mut work = vec![0; 8 * job.kind.len()];
     let answer = plain::route(
         &job.kind,
@@ -211,11 +205,7 @@ fn run_plain(job: &Job, words: usize) -> (Outcome, Vec<u32>) {
         &job.source,
         &job.first_sink,
         &job.sink,
-        job.limit,
-        first,
-        up,
-        down,
-        step,
+        &job.terms(),
         &mut work,
         &mut log,
     );
@@ -238,15 +228,17 @@ fn compare(job: &Job, words: usize, seed: u64) -> Outcome {
 fn many_random_jobs() {
     // How often each outcome came: accepted, 7, 8, 9.
     let mut seen = [0; 4];
-    let mut late = 0;
+    // Of those accepted after iteration 2, how many under each rule.
+    let mut late = [0; 2];
     for seed in 0..4_000 {
         let mut draw = Rng::new(seed);
         let most_nodes = if seed % 20 == 0 { 120 } else { 24 };
         let mut job = if seed % 3 == 0 { layered_job(&mut draw) } else { random_job(&mut draw, most_nodes) };
         job.tuning = random_tuning(&mut draw);
+        job.rule = 1 + draw.below(2) as u32;
         let outcome = compare(&job, 60_000, seed);
         seen[outcome.refusal.first().map_or(0, |&r| r as usize - 6)] += 1;
-        late += (outcome.refusal.is_empty() && outcome.iteration > 2) as u32;
+        late[job.rule as usize - 1] += (outcome.refusal.is_empty() && outcome.iteration > 2) as u32;
         // Logs that are exactly long enough, one word short, or cut anywhere.
         let used = outcome.words as usize;
         if used > 0 {
@@ -257,10 +249,10 @@ fn many_random_jobs() {
         }
     }
     println!(
-        "accepted {}, 7: {}, 8: {}, 9: {}; accepted after iteration 2: {late}",
+        "accepted {}, 7: {}, 8: {}, 9: {}; accepted after iteration 2 by either rule: {late:?}",
         seen[0], seen[1], seen[2], seen[3]
     );
-    assert!(seen.iter().all(|&count| count > 100) && late > 50);
+    assert!(seen.iter().all(|&count| count > 100) && late.iter().all(|&count| count > 25));
 }
 
 #[test]

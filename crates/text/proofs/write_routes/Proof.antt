@@ -9,7 +9,7 @@ use Rattle.negotiation.specs.Tables.{sourcesSound}
 use Rattle.negotiation.proofs.JobLaws.{sources-few}
 use Rattle.text.specs.WriteSteps.{named, checkedAt}
 use Rattle.text.proofs.LogLaws.{found}
-use Rattle.text.proofs.RouteTextLaws.{write-table, write-unsound, write-sound}
+use Rattle.text.proofs.RouteTextLaws.{marks-few, write-table, write-unsound, write-sound}
 use Rattle.text.proofs.write_routes.Statement.{statement}
 use Rattle.text.proofs.write_routes.Tie as tie
 
@@ -40,9 +40,11 @@ enum-known-iteration c = search needs
 
 write-text-requires : tie.Need-write-text-requires
 write-text-requires c κs =
-    let arm = c .before .before in (
-      sources-few _ _ (table (arm .before .before .before .before .before)),
-      found (named (arm .before .before .before .before .first-marks .result)) _ (ap checkedAt (sym (arm .iteration .given .1)) ∙ arm .before .before .check-log .ensures) .1,
+    let arm = c .before .before in
+    let marks = arm .before .before .before .before in (
+      sources-few _ _ (table (marks .before)),
+      found (named (marks .first-marks .result)) _ (marks-few _ _ (table (marks .before)) (marks .first-marks .ensures))
+          (ap checkedAt (sym (arm .iteration .given .1)) ∙ arm .before .before .check-log .ensures) .1,
     )
 
 enum-known-word : tie.Need-enum-known-word

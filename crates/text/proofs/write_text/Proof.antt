@@ -1,86 +1,44 @@
--- `text::write_text` meets its contract: what the text takes, and its three parts one after the other.
+-- `text::write_text` meets its contract: the places of the nets' latest records, and the text by them.
 -- Assumes nothing.
-use mathlib.Core.Path.{_≡_}
-use Prim.Native.Nat.{_≤_}
-use native.Mathlib.Omega.{arith}
-use lib.ListN.{length}
+use mathlib.Core.Path.{refl}
 use borrow.Author.Needs.{needs}
-use Rattle.text.specs.Routes.{capped}
-use Rattle.text.proofs.RouteTextLaws.{textBytes, needed-sum, text-short, body-room, joins-room, text-done}
+use Rattle.negotiation.proofs.SinkMarkLaws.{unmarked-new}
 use Rattle.text.proofs.write_text.Statement.{statement}
 use Rattle.text.proofs.write_text.Tie as tie
 
--- where the function begins
-abbrev entry : tie.After-capped-sum → tie.Start
-entry c = c .before .before .before .before .before .before .before
+slice-aggregate-latest-records : tie.Need-slice-aggregate-latest-records
+slice-aggregate-latest-records c = search needs
 
--- the bytes of the text, as far as 64 bits hold them
-needed : (c : tie.After-capped-sum) → c .capped-sum .result ≡ capped (textBytes (entry c .args .iteration) (entry c .args .turns) (entry c .args .log .now) (entry c .args .source .now))
-needed c =
-    let a = entry c .args in
-    needed-sum (a .iteration) (a .turns) (a .log .now) (a .source .now) (c .before .before .before .two-length .ensures .0) (c .before .before .joins-length .ensures .0) (c .before .branches-length .ensures) (c .capped-sum .ensures)
+slice-aggregate-latest-records-2 : tie.Need-slice-aggregate-latest-records-2
+slice-aggregate-latest-records-2 c = search needs
 
--- the buffer has room for it
-fits : (c : tie.Else1) → textBytes (entry (c .before) .args .iteration) (entry (c .before) .args .turns) (entry (c .before) .args .log .now) (entry (c .before) .args .source .now) ≤ length (entry (c .before) .args .buffer .now)
-fits c = omega (arith, needed (c .before), c .if1 .left, entry (c .before) .good)
+latest-records-requires : tie.Need-latest-records-requires
+latest-records-requires c κs = (c .before .before .before .before .before .pre .1 .words-sound, (refl, refl, λ i. (unmarked-new 512 i, unmarked-new 512 i)))
 
-two-length-requires : tie.Need-two-length-requires
-two-length-requires c κs = search needs
+slice-aggregate-write-lines : tie.Need-slice-aggregate-write-lines
+slice-aggregate-write-lines c = search needs
 
-joins-length-requires : tie.Need-joins-length-requires
-joins-length-requires c κs = search needs
+slice-aggregate-write-lines-2 : tie.Need-slice-aggregate-write-lines-2
+slice-aggregate-write-lines-2 c = search needs
 
-add-capped-sum : tie.Need-add-capped-sum
-add-capped-sum c = search needs
-
-branches-length-requires : tie.Need-branches-length-requires
-branches-length-requires c κs = search needs
-
-capped-sum-requires : tie.Need-capped-sum-requires
-capped-sum-requires c κs = search needs
-
-returns : tie.Need-returns
-returns c = text-short (entry (c .before) .pre .1) _ _ (needed (c .before)) (c .if1 .taken)
-
-put-two-requires : tie.Need-put-two-requires
-put-two-requires c κs = omega (arith, fits (c .before))
-
-put-branches-requires : tie.Need-put-branches-requires
-put-branches-requires c κs =
-    let room = c .before .before .before .before .before in
-    let e = entry (room .before) in
-    (e .pre .1 .words-sound, body-room (e .pre .1) (e .args .source .now) (e .args .buffer .now) (fits room) (c .before .before .before .put-two .ensures))
-
-put-joins-requires : tie.Need-put-joins-requires
-put-joins-requires c κs =
-    let room = c .before .before .before .before .before .before .before .before .before in
-    let e = entry (room .before) in
-    joins-room (e .pre .1) (e .args .source .now) (e .args .buffer .now) (fits room) (c .before .before .before .before .before .before .before .put-two .ensures) (c .before .before .before .put-branches .ensures)
+write-lines-requires : tie.Need-write-lines-requires
+write-lines-requires c κs = search needs
 
 same-length : tie.Need-same-length
 same-length c = search needs
 
-returns-2 : tie.Need-returns-2
-returns-2 c =
-    let joins = c .before .before in
-    let body = joins .before .before .before .before in
-    let head = body .before .before .before .before in
-    let room = head .before .before in
-    let e = entry (room .before) in
-    text-done (e .pre .1) (e .args .source .now) (e .args .buffer .now) (fits room) (head .put-two .ensures) (body .put-branches .ensures) (joins .put-joins .ensures)
+returns : tie.Need-returns
+returns c = search needs
 
 pub write-text-spec : {M : Type 1} → statement M
 write-text-spec =
     tie.close
     (tie.spec
-    two-length-requires
-    joins-length-requires
-    add-capped-sum
-    branches-length-requires
-    capped-sum-requires
-    returns
-    put-two-requires
-    put-branches-requires
-    put-joins-requires
+    slice-aggregate-latest-records
+    slice-aggregate-latest-records-2
+    latest-records-requires
+    slice-aggregate-write-lines
+    slice-aggregate-write-lines-2
+    write-lines-requires
     same-length
-    returns-2)
+    returns)

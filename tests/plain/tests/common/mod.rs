@@ -6,6 +6,15 @@ use plain::{read, route, write, Answer};
 
 pub const MARK: u32 = 77;
 
+/// Job B of 01.
+pub const B: &str = "F,6,6,2,2 N,0,0,1 N,1,0,1 N,2,4,1 N,3,5,1 N,4,1,1 N,5,1,1 \
+    E,0,2 E,0,3 E,1,2 E,2,4 E,2,5 E,3,4 S,0,0 T,0,4 S,1,1 T,1,5";
+
+/// Its text with these lines after F.
+pub fn b_with(lines: &str) -> String {
+    text(&B.replacen("F,6,6,2,2", &format!("F,6,6,2,2 {lines}"), 1))
+}
+
 /// Lines parted by spaces into a text with an LF after each.
 pub fn text(lines: &str) -> String {
     lines.split_whitespace().map(|l| format!("{l}\n")).collect()
@@ -37,12 +46,17 @@ pub fn tables(text: &str) -> Job {
 pub fn refusal(text: &str) -> Vec<u64> {
     let mut t = Job::unread([40; 7]);
     let answer = read_into(text.as_bytes(), &mut t);
-    assert_eq!(answer.numbers, vec![0; 9]);
+    assert_eq!(answer.numbers, vec![0; 10]);
     assert_eq!(t, Job::unread([40; 7]));
     answer.refusal
 }
 
 pub fn route_with(t: &Job, work: &mut [u64], log: &mut [u32]) -> Answer {
+    route_by(t, &t.terms(), work, log)
+}
+
+/// The same by other terms than the job's own.
+pub fn route_by(t: &Job, terms: &[u32], work: &mut [u64], log: &mut [u32]) -> Answer {
     route(
         &t.kind,
         &t.capacity,
@@ -51,11 +65,7 @@ pub fn route_with(t: &Job, work: &mut [u64], log: &mut [u32]) -> Answer {
         &t.source,
         &t.first_sink,
         &t.sink,
-        t.limit,
-        t.tuning.first,
-        t.tuning.up,
-        t.tuning.down,
-        t.tuning.step,
+        terms,
         work,
         log,
     )
@@ -70,6 +80,19 @@ pub fn routed(t: &Job, words: usize) -> (Answer, Vec<u32>) {
     assert!(work[..entries].iter().all(|&w| w == 0));
     assert_eq!(work[entries..], [MARK as u64; 2]);
     (answer, log)
+}
+
+/// Iteration, net, cost and path of each record, whose cost is below 2^32.
+pub fn turns(log: &[u32]) -> Vec<(u32, u32, u32, Vec<u32>)> {
+    let mut list = Vec::new();
+    let mut rest = log;
+    while let [iteration, net, _, cost, 0, nodes, after @ ..] = rest {
+        let (path, next) = after.split_at(*nodes as usize);
+        list.push((*iteration, *net, *cost, path.to_vec()));
+        rest = next;
+    }
+    assert!(rest.is_empty());
+    list
 }
 
 /// What the writer makes of table 5 and a log, in a buffer with one byte more than needed.

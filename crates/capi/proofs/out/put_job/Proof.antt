@@ -1,4 +1,4 @@
--- `out::put_job` meets its contract: nine stores over cleared entries are the numbers.
+-- `out::put_job` meets its contract: ten stores over cleared entries are the numbers.
 -- Assumes nothing.
 use mathlib.Core.List.{List}
 use mathlib.Core.Path.{ap}
@@ -7,7 +7,7 @@ use native.Mathlib.Omega.{arith}
 use lib.ListN.{length-set}
 use borrow.Author.Needs.{needs}
 use Rattle.capi.specs.Calls.{callOf}
-use Rattle.capi.proofs.CallLaws.{nine-put}
+use Rattle.capi.proofs.CallLaws.{ten-put}
 use Rattle.capi.proofs.out.put_job.Statement.{statement}
 use Rattle.capi.proofs.out.put_job.Tie as tie
 
@@ -56,13 +56,19 @@ cast-out-5 c = search needs
 slice-write-out-9 : tie.Need-slice-write-out-9
 slice-write-out-9 c = simp length-set (omega arith)
 
+cast-out-6 : tie.Need-cast-out-6
+cast-out-6 c = search needs
+
+slice-write-out-10 : tie.Need-slice-write-out-10
+slice-write-out-10 c = simp length-set (omega arith)
+
 same-length : tie.Need-same-length
 same-length c = simp length-set (omega arith)
 
 returns : tie.Need-returns
 returns c =
-    let cleared = c .before .before .before .before .before .before .before in
-    ap (λ (out : List ℕ). callOf 1 out) (nine-put (cleared .before .before .before .args .out .now) _ _ _ _ _ _ _ _ _ _ (cleared .clear .ensures))
+    let cleared = c .before .before .before .before .before .before .before .before in
+    ap (λ (out : List ℕ). callOf 1 out) (ten-put (cleared .before .before .before .args .out .now) _ _ _ _ _ _ _ _ _ _ _ (cleared .clear .ensures))
 
 pub put-job-spec : {M : Type 1} → statement M
 put-job-spec =
@@ -83,5 +89,7 @@ put-job-spec =
     slice-write-out-8
     cast-out-5
     slice-write-out-9
+    cast-out-6
+    slice-write-out-10
     same-length
     returns)

@@ -1,48 +1,37 @@
 -- `negotiation::due::mark_due` meets its contract: after the turns up to a net the marks below it are those that they shall be, the others stand.
 -- Assumes nothing.
+use mathlib.Core.Bool.{Bool}
 use mathlib.Core.List.{List, _++_}
-use mathlib.Core.Path.{_≡_, refl, _∙_}
+use mathlib.Core.Path.{_≡_, refl, _∙_, ap}
 use Prim.Native.Nat.{ℕ, _+_, _-_, _≤_}
 use native.Mathlib.Omega.{arith}
-use lib.Dec.{ltb}
-use lib.ListN.{length, getD, drop, length-set}
+use lib.ListN.{length, drop, length-set}
 use Rattle.price.specs.Test.{choose}
 use Rattle.price.specs.Lists.{upTo}
+use Rattle.negotiation.specs.Steps.{takes}
 use Rattle.negotiation.proofs.FilledLaws.{filled-none, filled-more, filled-all}
 use Rattle.negotiation.proofs.due.mark_due.Statement.{statement}
 use Rattle.negotiation.proofs.due.mark_due.Tie as tie
 
--- a net's mark, by table 6
-abbrev mark : List ℕ → ℕ → ℕ
-mark firsts k = choose (ltb (getD firsts k 0) (getD firsts (k + 1) 0)) 1 0
+-- a net's mark
+abbrev mark : Bool → (capacities firsts log from to users : List ℕ) → ℕ → ℕ
+mark all capacities firsts log from to users k = choose (takes all capacities firsts log from to users k) 1 0
 
 abbrev Inv-loop : tie.InvT-loop
-Inv-loop first-sink due₀ net₀ due net =
-    (net ≤ length due₀) × (length due ≡ length due₀) × (due ≡ upTo (mark first-sink) net ++ drop net due₀)
+Inv-loop capacity first-sink log tree-from tree-to users due₀ all net₀ due net =
+    (net ≤ length due₀) × (length due ≡ length due₀) × (due ≡ upTo (mark all capacity first-sink log tree-from tree-to users) net ++ drop net due₀)
 
 abbrev μ-loop : tie.MeasureT-loop
-μ-loop first-sink due₀ net₀ due net = length due₀ - net
+μ-loop capacity first-sink log tree-from tree-to users due₀ all net₀ due net = length due₀ - net
+
+all-due-requires : tie.Need-all-due-requires Inv-loop μ-loop
+all-due-requires c κs = tt
 
 loop-holds : tie.Need-loop-holds Inv-loop μ-loop
-loop-holds c = (omega arith, refl, filled-none (mark (c .before .before .args .first-sink .now)) _)
-
-mul-due-mark : tie.Need-mul-due-mark Inv-loop μ-loop
-mul-due-mark c = omega arith
-
-shared-slice-read-due-mark : tie.Need-shared-slice-read-due-mark Inv-loop μ-loop
-shared-slice-read-due-mark c = omega arith
-
-add-due-mark : tie.Need-add-due-mark Inv-loop μ-loop
-add-due-mark c = omega arith
-
-mul-due-mark-2 : tie.Need-mul-due-mark-2 Inv-loop μ-loop
-mul-due-mark-2 c = omega arith
-
-shared-slice-read-due-mark-2 : tie.Need-shared-slice-read-due-mark-2 Inv-loop μ-loop
-shared-slice-read-due-mark-2 c = omega arith
+loop-holds c = let a = c .before .before .before .before .before .before .before .before .args in (omega arith, refl, filled-none (mark (c .all-due .result) (a .capacity .now) (a .first-sink .now) (a .log .now) (a .tree-from .now) (a .tree-to .now) (a .users .now)) _)
 
 due-mark-requires : tie.Need-due-mark-requires Inv-loop μ-loop
-due-mark-requires c κs = tt
+due-mark-requires c κs = (c .before .before .before .before .before .before .before .before .before .before .pre .0, omega (arith, c .before .before .before .before .before .before .before .before .before .before .pre .1))
 
 slice-write-due : tie.Need-slice-write-due Inv-loop μ-loop
 slice-write-due c = omega arith
@@ -55,11 +44,11 @@ loop-less c = omega arith
 
 loop-again : tie.Need-loop-again Inv-loop μ-loop
 loop-again c =
-    let turn = c .before .before .before in
-    let lent = turn .before .before .before .before .args in (
+    let turn = c .before in
+    let a = c .before .before .before .before .before .before .before .before .before .before .before .args in (
       omega arith,
       simp length-set (turn .before .loop .inv .1),
-      rw (turn .before .loop .inv .2, c .due-mark .ensures) (filled-more (mark (lent .first-sink .now)) (lent .due .now) (turn .before .loop .net) (omega arith)),
+      rw (turn .before .loop .inv .2, c .due-mark .ensures) (filled-more (mark (turn .before .before .all-due .result) (a .capacity .now) (a .first-sink .now) (a .log .now) (a .tree-from .now) (a .tree-to .now) (a .users .now)) (a .due .now) (turn .before .loop .net) (omega arith)),
     )
 
 same-length : tie.Need-same-length Inv-loop μ-loop
@@ -67,8 +56,10 @@ same-length c = c .before .loop .inv .1
 
 returns : tie.Need-returns Inv-loop μ-loop
 returns c =
-    let lent = c .before .before .before .before .args in
-    c .before .loop .inv .2 ∙ filled-all (mark (lent .first-sink .now)) (lent .due .now) (c .before .loop .net) (omega arith) (omega arith)
+    let a = c .before .before .before .before .before .before .before .before .before .before .args in
+    c .before .loop .inv .2
+    ∙ filled-all (mark (c .before .before .all-due .result) (a .capacity .now) (a .first-sink .now) (a .log .now) (a .tree-from .now) (a .tree-to .now) (a .users .now)) (a .due .now) (c .before .loop .net) (omega arith) (omega arith)
+    ∙ ap (λ (all : Bool). upTo (mark all (a .capacity .now) (a .first-sink .now) (a .log .now) (a .tree-from .now) (a .tree-to .now) (a .users .now)) (length (a .due .now))) (c .before .before .all-due .ensures)
 
 pub mark-due-spec : {M : Type 1} → statement M
 mark-due-spec =
@@ -76,12 +67,8 @@ mark-due-spec =
     (tie.spec
     Inv-loop
     μ-loop
+    all-due-requires
     loop-holds
-    mul-due-mark
-    shared-slice-read-due-mark
-    add-due-mark
-    mul-due-mark-2
-    shared-slice-read-due-mark-2
     due-mark-requires
     slice-write-due
     add-net

@@ -3,7 +3,7 @@
 -- Assumes nothing.
 use mathlib.Core.List.{List}
 use mathlib.Core.Logic.{⊎-elim}
-use mathlib.Core.Path.{_≡_, _∙_, ap, sym, subst}
+use mathlib.Core.Path.{_≡_, _∙_, sym, subst}
 use Prim.Native.Nat.{ℕ, _+_, _-_, _*_, _≤_, _<_}
 use native.Mathlib.Nat.{le-of-eq, le-trans}
 use native.Mathlib.Omega.{arith}
@@ -19,7 +19,7 @@ use Rattle.negotiation.proofs.JobLaws.{tuning-fits}
 use Rattle.negotiation.proofs.MachineRan.{Reached}
 use Rattle.negotiation.proofs.DemandLaws.{all-reached}
 use Rattle.negotiation.proofs.KeepLaws.{AtIteration, AtNet, AtTurns}
-use Rattle.negotiation.proofs.KeepStart.{keep-start, keep-due, keep-ready, keep-begun}
+use Rattle.negotiation.proofs.KeepStart.{keep-start, keep-due-ready, keep-due, keep-ready, keep-begun}
 use Rattle.negotiation.proofs.KeepTurn.{sinks-part, call-turn, after-nothing, after-logged}
 use Rattle.negotiation.proofs.KeepNet.{keep-end-ready, keep-ended}
 use Rattle.negotiation.proofs.KeepEnd.{Answers, after-full, all-routed, keep-over, keep-accepted, keep-limit, keep-growable, keep-below, keep-next}
@@ -98,7 +98,7 @@ abbrev Net : Type 0
 Net = tie.At-loop Inv-loop2 μ-loop2 Inv-loop μ-loop Inv-iterations μ-iterations
 
 abbrev iteration : Net → Iteration
-iteration c = c .before .before .before .before .before
+iteration c = c .before .before .before .before .before .before .before .before .before
 
 -- at the head of the loop over nets, from any such place at the iteration's start
 module _ (c : Net) where
@@ -106,7 +106,7 @@ module _ (c : Net) where
   net-entry = entry (iteration c)
 
   abbrev dues : List ℕ
-  dues = c .before .before .before .mark-due .last .1 .0
+  dues = c .before .before .before .mark-due .last .1 .1 .1 .1 .1 .1 .1 .1 .0
 
   abbrev NetStart : List ℕ → List ℕ → ℕ → Type 0
   NetStart W L m =
@@ -209,7 +209,10 @@ iterations-holds c =
 
 mark-due-requires :
     tie.Need-mark-due-requires Inv-loop2 μ-loop2 Inv-loop μ-loop Inv-iterations μ-iterations
-mark-due-requires c κs = routable (entry (c .before)) .firstSinks-long ∙ ap (λ k. k + 1) (sym (c .before .iterations .inv .1 .due-long))
+mark-due-requires c κs =
+    let at : Iteration = c .before .before .before .before .before in
+    let inv = at .iterations .inv .1 in
+    (keep-due-ready _ (routable (entry at)) inv, inv .due-long ∙ sym (inv .kept .places .from-long))
 
 loop-holds :
     tie.Need-loop-holds Inv-loop2 μ-loop2 Inv-loop μ-loop Inv-iterations μ-iterations

@@ -1,86 +1,75 @@
--- `text::branches::put_branches` meets its contract. The loop's invariant: the text of the branches passed stands in the buffer.
+-- `text::branches::put_branches` meets its contract. The loop's invariant: the branches of the nets passed are counted, and written where there is room.
 -- Assumes nothing.
-use Prim.Native.Nat.{_-_, _≤_}
+use Prim.Native.Nat.{_-_}
 use native.Mathlib.Omega.{arith}
-use lib.ListN.{length}
+use lib.ListN.{getD}
 use borrow.Author.Needs.{needs}
-use Rattle.text.proofs.LogLaws.{nextAt}
-use Rattle.text.proofs.BranchLaws.{rest-fits, PuttingBranches, branches-none, branches-same, branches-all, branches-passed, branches-room, branches-met}
+use Rattle.text.specs.WriteSteps.{Latest}
+use Rattle.text.proofs.BranchLaws.{PuttingNets, nets-none, nets-more, nets-all}
 use Rattle.text.proofs.branches.put_branches.Statement.{statement}
 use Rattle.text.proofs.branches.put_branches.Tie as tie
 
 abbrev Inv-loop : tie.InvT-loop
-Inv-loop log iteration buffer₀ start next₀ at₀ buffer next at =
-    PuttingBranches iteration log start buffer₀ buffer next at
+Inv-loop log nets from to buffer₀ start next₀ net₀ buffer next net = PuttingNets log nets start buffer₀ buffer next net
 
 abbrev μ-loop : tie.MeasureT-loop
-μ-loop log iteration buffer₀ start next₀ at₀ buffer next at = length log - at
+μ-loop log nets from to buffer₀ start next₀ net₀ buffer next net = nets - net
 
--- the next record begins within the log
-within : (c : tie.In-loop Inv-loop μ-loop) → nextAt (c .before .before .before .before .args .log .now) (c .before .loop .at) ≤ length (c .before .before .before .before .args .log .now)
-within c = rest-fits (c .before .loop .inv .rest) (c .loop-test .taken)
+-- where the function begins
+abbrev entry : tie.In-loop Inv-loop μ-loop → tie.Start Inv-loop μ-loop
+entry c = c .before .before .before .before .before .before
+
+-- the net's two places
+places : (c : tie.In-loop Inv-loop μ-loop) → Latest (entry c .args .log .now) (c .before .loop .net) (getD (entry c .args .from .now) (c .before .loop .net) 0) (getD (entry c .args .to .now) (c .before .loop .net) 0)
+places c = entry c .pre .1 (c .before .loop .net) (omega (arith, c .loop-test .taken, entry c .pre .0 .0))
 
 loop-holds : tie.Need-loop-holds Inv-loop μ-loop
-loop-holds c = branches-none _ _ _ _ (c .before .before .pre .0)
+loop-holds c = nets-none _ _ _ _ (search needs)
 
-add-path : tie.Need-add-path Inv-loop μ-loop
-add-path c = omega (arith, within c)
+mul-put-records : tie.Need-mul-put-records Inv-loop μ-loop
+mul-put-records c = search needs
 
-add-end : tie.Need-add-end Inv-loop μ-loop
-add-end c = omega (arith, within c)
+shared-slice-read-put-records : tie.Need-shared-slice-read-put-records Inv-loop μ-loop
+shared-slice-read-put-records c = search needs
 
-mul-end : tie.Need-mul-end Inv-loop μ-loop
-mul-end c = omega (arith, within c)
+mul-put-records-2 : tie.Need-mul-put-records-2 Inv-loop μ-loop
+mul-put-records-2 c = search needs
 
-shared-slice-read-end : tie.Need-shared-slice-read-end Inv-loop μ-loop
-shared-slice-read-end c = omega (arith, within (c .before))
+shared-slice-read-put-records-2 : tie.Need-shared-slice-read-put-records-2 Inv-loop μ-loop
+shared-slice-read-put-records-2 c = search needs
 
-cast-end : tie.Need-cast-end Inv-loop μ-loop
-cast-end c = omega (arith, within (c .before))
+mul-put-records-3 : tie.Need-mul-put-records-3 Inv-loop μ-loop
+mul-put-records-3 c = omega (arith, places (c .before .before) .rises, places (c .before .before) .within)
 
-add-end-2 : tie.Need-add-end-2 Inv-loop μ-loop
-add-end-2 c = omega (arith, within (c .before))
+sub-put-records : tie.Need-sub-put-records Inv-loop μ-loop
+sub-put-records c = places (c .before .before) .rises
 
-mul-if1 : tie.Need-mul-if1 Inv-loop μ-loop
-mul-if1 c = search needs
+part-put-records-start : tie.Need-part-put-records-start Inv-loop μ-loop
+part-put-records-start c = places (c .before .before) .rises
 
-shared-slice-read-if1 : tie.Need-shared-slice-read-if1 Inv-loop μ-loop
-shared-slice-read-if1 c = search needs
+part-put-records-end : tie.Need-part-put-records-end Inv-loop μ-loop
+part-put-records-end c = places (c .before .before) .within
 
-add-put-steps : tie.Need-add-put-steps Inv-loop μ-loop
-add-put-steps c = omega (arith, within (c .before .before .before))
+cast-put-records : tie.Need-cast-put-records Inv-loop μ-loop
+cast-put-records c = search needs
 
-mul-put-steps : tie.Need-mul-put-steps Inv-loop μ-loop
-mul-put-steps c = omega (arith, within (c .before .before .before))
+put-records-requires : tie.Need-put-records-requires Inv-loop μ-loop
+put-records-requires c κs = places (c .before .before .before .before) .part-sound
 
-shared-slice-read-put-steps : tie.Need-shared-slice-read-put-steps Inv-loop μ-loop
-shared-slice-read-put-steps c = omega (arith, within (c .before .before .before .before))
-
-put-steps-requires : tie.Need-put-steps-requires Inv-loop μ-loop
-put-steps-requires c κs =
-    let d = c .before .before .before .before .before in
-    let fits = within d in
-    ((omega arith, omega arith), branches-room (search needs) (d .before .loop .inv) (search needs) (search needs))
+add-net : tie.Need-add-net Inv-loop μ-loop
+add-net c = search needs
 
 loop-less : tie.Need-loop-less Inv-loop μ-loop
-loop-less c = omega (arith, within (c .before .before .before .before .before .before .before .before))
+loop-less c = search needs
 
 loop-again : tie.Need-loop-again Inv-loop μ-loop
-loop-again c =
-    branches-met (search needs) (c .before .before .before .before .before .before .before .before .before .loop .inv) (search needs) (search needs)
-    (c .before .before .put-steps .ensures)
-
-loop-less-2 : tie.Need-loop-less-2 Inv-loop μ-loop
-loop-less-2 c = omega (arith, within (c .before .before .before))
-
-loop-again-2 : tie.Need-loop-again-2 Inv-loop μ-loop
-loop-again-2 c = branches-passed (search needs) (c .before .before .before .before .loop .inv) (search needs) (c .if1 .left)
+loop-again c = nets-more (c .before .before .before .before .before .before .before .before .loop .inv) (search needs) (places (c .before .before .before .before .before .before .before)) (c .before .before .put-records .ensures)
 
 same-length : tie.Need-same-length Inv-loop μ-loop
-same-length c = branches-same (search needs) (c .before .loop .inv)
+same-length c = c .before .loop .inv .filled .kept
 
 returns : tie.Need-returns Inv-loop μ-loop
-returns c = branches-all (search needs) (c .before .loop .inv) (search needs)
+returns c = nets-all (c .before .loop .inv) (search needs)
 
 pub put-branches-spec : {M : Type 1} → statement M
 put-branches-spec =
@@ -89,21 +78,18 @@ put-branches-spec =
     Inv-loop
     μ-loop
     loop-holds
-    add-path
-    add-end
-    mul-end
-    shared-slice-read-end
-    cast-end
-    add-end-2
-    mul-if1
-    shared-slice-read-if1
-    add-put-steps
-    mul-put-steps
-    shared-slice-read-put-steps
-    put-steps-requires
+    mul-put-records
+    shared-slice-read-put-records
+    mul-put-records-2
+    shared-slice-read-put-records-2
+    mul-put-records-3
+    sub-put-records
+    part-put-records-start
+    part-put-records-end
+    cast-put-records
+    put-records-requires
+    add-net
     loop-less
     loop-again
-    loop-less-2
-    loop-again-2
     same-length
     returns)

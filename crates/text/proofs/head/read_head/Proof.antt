@@ -1,8 +1,9 @@
--- `head::read_head` meets its contract: the counts of the first line, and the tuning from where it ends.
+-- `head::read_head` meets its contract: the counts of the first line, and the terms from where it ends.
 -- Assumes nothing.
 use native.Mathlib.Omega.{arith}
 use borrow.Author.Needs.{needs}
-use Rattle.text.proofs.HeadLineLaws.{head-refused, head-counts, head-limit-sound, head-tuned, head-untuned, head-place, tuned-place}
+use Rattle.text.proofs.HeadLineLaws.{head-refused, head-counts, head-read-on, head-stopped, head-place}
+use Rattle.text.proofs.OptionalLineLaws.{read-place}
 use Rattle.text.proofs.head.read_head.Statement.{statement}
 use Rattle.text.proofs.head.read_head.Tie as tie
 
@@ -12,12 +13,11 @@ head-line-requires c κs = search needs
 enum-known-nodes : tie.Need-enum-known-nodes
 enum-known-nodes c = search needs
 
-read-tuning-requires : tie.Need-read-tuning-requires
-read-tuning-requires c κs =
+read-terms-requires : tie.Need-read-terms-requires
+read-terms-requires c κs =
     let head = c .before .before .before .head-line in
     let place = head-place (c .before .before .before .before .before .args .text .now) (head .result) (c .before .nodes .given .1) (head .ensures .1) in
-    let sound = head-limit-sound (c .before .before .before .before .before .args .text .now) (head .result) (head .ensures .0) (c .before .nodes .given .1) in
-    (place .1, omega (arith, place .0), sound)
+    (place .1, omega (arith, place .0))
 
 enum-known-terms : tie.Need-enum-known-terms
 enum-known-terms c = search needs
@@ -39,21 +39,21 @@ enum-known-number-2 c = search needs
 
 returns : tie.Need-returns
 returns c =
-    let tuned = c .before .before .before .read-tuning in
+    let asked = c .before .before .before .read-terms in
     let counted = c .before .before .before .before .before in
     let head = counted .before .before .head-line in
     let text = counted .before .before .before .before .args .text .now in
-    let place = tuned-place text (tuned .result) (c .before .terms .given .1) (tuned .ensures .1) in (
-      head-tuned text (head .result) (head .ensures .0) (counted .nodes .given .1) (tuned .result) (tuned .ensures .0) (c .before .terms .given .1),
+    let place = read-place text (asked .result) (c .before .terms .given .1) (asked .ensures .1) in (
+      head-read-on text (head .result) (head .ensures .0) (counted .nodes .given .1) (asked .result) (asked .ensures .0) (c .before .terms .given .1),
       (head-counts text (head .result) (head .ensures .0) (counted .nodes .given .1), place .0, place .1),
     )
 
 returns-2 : tie.Need-returns-2
 returns-2 c =
-    let tuned = c .before .before .before .read-tuning in
+    let asked = c .before .before .before .read-terms in
     let counted = c .before .before .before .before .before in
     let head = counted .before .before .head-line in
-    (head-untuned _ (head .result) (head .ensures .0) (counted .nodes .given .1) (tuned .result) (tuned .ensures .0) (c .before .number .given .1), tt)
+    (head-stopped _ (head .result) (head .ensures .0) (counted .nodes .given .1) (asked .result) (asked .ensures .0) (c .before .number .given .1), tt)
 
 returns-3 : tie.Need-returns-3
 returns-3 c = let head = c .before .before .before .head-line in (head-refused _ (head .result) (head .ensures .0) (c .before .number2 .given .1), tt)
@@ -64,7 +64,7 @@ read-head-spec =
     (tie.spec
     head-line-requires
     enum-known-nodes
-    read-tuning-requires
+    read-terms-requires
     enum-known-terms
     cast-t17
     cast-t18

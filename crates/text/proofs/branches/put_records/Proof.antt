@@ -1,0 +1,97 @@
+-- `text::branches::put_records` meets its contract. The loop's invariant: the branches of the net's records passed are counted, and written where there is room.
+-- Assumes nothing.
+use Prim.Native.Nat.{_-_, _≤_}
+use native.Mathlib.Omega.{arith}
+use lib.ListN.{length}
+use borrow.Author.Needs.{needs}
+use Rattle.text.proofs.LogLaws.{nextAt}
+use Rattle.text.proofs.BranchLaws.{rest-fits, PuttingRecords, records-none, records-all, records-passed, records-met}
+use Rattle.text.proofs.branches.put_records.Statement.{statement}
+use Rattle.text.proofs.branches.put_records.Tie as tie
+
+abbrev Inv-loop : tie.InvT-loop
+Inv-loop log net buffer₀ start next₀ at₀ buffer next at = PuttingRecords net log start buffer₀ buffer next at
+
+abbrev μ-loop : tie.MeasureT-loop
+μ-loop log net buffer₀ start next₀ at₀ buffer next at = length log - at
+
+-- the next record begins within the log
+within : (c : tie.In-loop Inv-loop μ-loop) → nextAt (c .before .before .before .before .args .log .now) (c .before .loop .at) ≤ length (c .before .before .before .before .args .log .now)
+within c = rest-fits (c .before .loop .inv .rest) (c .loop-test .taken)
+
+loop-holds : tie.Need-loop-holds Inv-loop μ-loop
+loop-holds c = records-none _ _ _ _ (search needs) (c .before .before .pre)
+
+add-path : tie.Need-add-path Inv-loop μ-loop
+add-path c = omega (arith, within c)
+
+add-end : tie.Need-add-end Inv-loop μ-loop
+add-end c = omega (arith, within c)
+
+mul-end : tie.Need-mul-end Inv-loop μ-loop
+mul-end c = omega (arith, within c)
+
+shared-slice-read-end : tie.Need-shared-slice-read-end Inv-loop μ-loop
+shared-slice-read-end c = omega (arith, within (c .before))
+
+cast-end : tie.Need-cast-end Inv-loop μ-loop
+cast-end c = omega (arith, within (c .before))
+
+add-end-2 : tie.Need-add-end-2 Inv-loop μ-loop
+add-end-2 c = omega (arith, within (c .before))
+
+add-if1 : tie.Need-add-if1 Inv-loop μ-loop
+add-if1 c = omega (arith, within (c .before))
+
+mul-if1 : tie.Need-mul-if1 Inv-loop μ-loop
+mul-if1 c = omega (arith, within (c .before))
+
+shared-slice-read-if1 : tie.Need-shared-slice-read-if1 Inv-loop μ-loop
+shared-slice-read-if1 c = omega (arith, within (c .before .before))
+
+put-steps-requires : tie.Need-put-steps-requires Inv-loop μ-loop
+put-steps-requires c κs =
+    let next = within (c .before .before .before .before) in
+    (omega arith, omega arith)
+
+loop-less : tie.Need-loop-less Inv-loop μ-loop
+loop-less c = omega (arith, within (c .before .before .before .before .before .before .before))
+
+loop-again : tie.Need-loop-again Inv-loop μ-loop
+loop-again c = records-met (c .before .before .before .before .before .before .before .before .loop .inv) (search needs) (c .before .before .before .before .if1 .taken) (c .before .before .put-steps .ensures)
+
+loop-less-2 : tie.Need-loop-less-2 Inv-loop μ-loop
+loop-less-2 c = omega (arith, within (c .before .before .before))
+
+loop-again-2 : tie.Need-loop-again-2 Inv-loop μ-loop
+loop-again-2 c = records-passed (c .before .before .before .before .loop .inv) (search needs) (c .if1 .left)
+
+same-length : tie.Need-same-length Inv-loop μ-loop
+same-length c = c .before .loop .inv .writing .filled .kept
+
+returns : tie.Need-returns Inv-loop μ-loop
+returns c = records-all (c .before .loop .inv) (search needs)
+
+pub put-records-spec : {M : Type 1} → statement M
+put-records-spec =
+    tie.close
+    (tie.spec
+    Inv-loop
+    μ-loop
+    loop-holds
+    add-path
+    add-end
+    mul-end
+    shared-slice-read-end
+    cast-end
+    add-end-2
+    add-if1
+    mul-if1
+    shared-slice-read-if1
+    put-steps-requires
+    loop-less
+    loop-again
+    loop-less-2
+    loop-again-2
+    same-length
+    returns)

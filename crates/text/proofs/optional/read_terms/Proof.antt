@@ -1,0 +1,58 @@
+-- `optional::read_terms` meets its contract: the P line after the plain terms, then the V line after these.
+-- Assumes nothing.
+use borrow.Author.Needs.{needs}
+use Rattle.text.proofs.OptionalLineLaws.{read-place, terms-on, terms-stopped}
+use Rattle.text.proofs.optional.read_terms.Statement.{statement}
+use Rattle.text.proofs.optional.read_terms.Tie as tie
+
+-- where the lines are read
+abbrev start : tie.After-read-tuning → tie.Start
+start d = d .before .before .before
+
+plain-terms-requires : tie.Need-plain-terms-requires
+plain-terms-requires c κs = search needs
+
+read-tuning-requires : tie.Need-read-tuning-requires
+read-tuning-requires c κs = search needs
+
+enum-known-terms : tie.Need-enum-known-terms
+enum-known-terms c = search needs
+
+read-rule-requires : tie.Need-read-rule-requires
+read-rule-requires c κs =
+    let d : tie.After-read-tuning = c .before .before .before in
+    read-place (start d .args .text .now) (d .read-tuning .result) (c .before .terms .given .1) (d .read-tuning .ensures .1)
+
+enum-known-number : tie.Need-enum-known-number
+enum-known-number c = search needs
+
+returns : tie.Need-returns
+returns c =
+    let known = c .before .before in
+    let d : tie.After-read-tuning = known .before .before in
+    let s : tie.Start = start d in (
+      terms-on (s .args .limit) (s .args .at) (s .args .line) (s .args .text .now) _ (d .before .plain-terms .ensures) (d .read-tuning .result) (d .read-tuning .ensures .0)
+          (c .read-rule .result) (known .terms .given .1) (c .read-rule .ensures .0),
+      c .read-rule .ensures .1,
+    )
+
+returns-2 : tie.Need-returns-2
+returns-2 c =
+    let d : tie.After-read-tuning = c .before .before .before in
+    let s : tie.Start = start d in (
+      terms-stopped (s .args .limit) (s .args .at) (s .args .line) (s .args .text .now) _ (d .before .plain-terms .ensures) (d .read-tuning .result) (d .read-tuning .ensures .0)
+          (c .before .number .given .1),
+      tt,
+    )
+
+pub read-terms-spec : {M : Type 1} → statement M
+read-terms-spec =
+    tie.close
+    (tie.spec
+    plain-terms-requires
+    read-tuning-requires
+    enum-known-terms
+    read-rule-requires
+    enum-known-number
+    returns
+    returns-2)

@@ -1,0 +1,31 @@
+-- `rule::read_rule` meets its contract: the line that may be left out, with the rule's bounds.
+-- Assumes nothing.
+use mathlib.Core.List.{[], _∷_}
+use borrow.Author.Needs.{needs}
+use Rattle.text.specs.Lines.{letterV}
+use Rattle.text.specs.JobText.{ruleWithin, ruleLine, withRule, rulePart}
+use Rattle.text.proofs.OptionalLineLaws.{optional-given}
+use Rattle.text.proofs.rule.read_rule.Statement.{statement}
+use Rattle.text.proofs.rule.read_rule.Tie as tie
+
+optional-line-requires : tie.Need-optional-line-requires
+optional-line-requires c κs = search needs
+
+rule-sound-requires : tie.Need-rule-sound-requires
+rule-sound-requires c κs = search needs
+
+terms-after-requires : tie.Need-terms-after-requires
+terms-after-requires c κs = search needs
+
+returns : tie.Need-returns
+unfolding rulePart ruleLine ruleWithin
+returns c =
+    let found : tie.After-optional-line = c .before .before .before in
+    let a = found .before .before .args in
+    let r = found .optional-line .result in
+    optional-given letterV 1 ruleWithin (withRule (a .terms)) (a .terms) (a .at) (a .line) (a .text .now) (r .first ∷ r .second ∷ r .third ∷ r .fourth ∷ []) (r .shape)
+    (found .before .before .pre) (found .optional-line .ensures) (c .before .rule-sound .ensures) (c .terms-after .ensures)
+
+pub read-rule-spec : {M : Type 1} → statement M
+read-rule-spec =
+    tie.close (tie.spec optional-line-requires rule-sound-requires terms-after-requires returns)

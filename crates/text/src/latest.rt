@@ -1,0 +1,40 @@
+// Where the latest records of each net stand in a sound log.
+ghost use mathlib.Core.Bool.{not};
+ghost use mathlib.Core.Path.{_≡_};
+ghost use Prim.Native.Nat.{ℕ, _<_};
+ghost use lib.Dec.{eqb};
+ghost use lib.ListN.{length, getD};
+ghost use Rattle.price.specs.Test.{either};
+ghost use Rattle.negotiation.specs.Tables.{netsMost};
+ghost use Rattle.text.specs.WriteSteps.{AllSound, LatestPlaces};
+
+// The net of the record at this place, whose records so far stand between two places, begins anew: it has none, or of another iteration.
+fn begins_anew(log: &[u32], at: usize, from: usize, to: usize) -> bool
+    requires { ⌜ (from < length (now log)) × (at < length (now log)) ⌝ }
+    ensures { λ r. ⌜ r ≡ either (eqb to 0) (not (eqb (getD (now (log .entry)) from 0) (getD (now (log .entry)) at 0))) ⌝ }
+{
+    if to == 0 {
+        return true;
+    }
+    log[from] != log[at]
+}
+
+// For each net the place of the first record of its latest iteration and the place behind the last one, both 0 where it has none.
+// Iterations never fall in a sound log: every record of the net between these places is of that iteration.
+pub fn latest_records(log: &[u32], from: &mut [usize], to: &mut [usize])
+    requires { ⌜ AllSound (now log) ⌝ }
+    requires { ⌜ (length (now from) ≡ netsMost) × (length (now to) ≡ netsMost)
+        × ((i : ℕ) → (getD (now from) i 0 ≡ 0) × (getD (now to) i 0 ≡ 0)) ⌝ }
+    ensures { λ r. ⌜ LatestPlaces (now (log .entry)) (now (from .exit)) (now (to .exit)) ⌝ }
+{
+    let mut at = 0;
+    while at < log.len() {
+        let net = log[at + 1] as usize;
+        let end = at + 6 + log[at + 5] as usize;
+        if begins_anew(log, at, from[net], to[net]) {
+            from[net] = at;
+        }
+        to[net] = end;
+        at = end;
+    }
+}
