@@ -250,6 +250,13 @@ uint32_t arvumnao_read(const uint8_t *text, size_t text_count, uint8_t *kind, si
 uint32_t arvumnao_write(const uint16_t *source, size_t source_count, const uint32_t *log, size_t log_count,
                         uint8_t *buffer, size_t buffer_count, uint64_t *out, size_t out_count);
 
+/* Writes the same branches as a picture in the DOT language of Graphviz: `digraph r {`, a line `from -> to [label="net"];` for each
+ * B line of the routes text, in its order, and `}`. Parameters, refusals and numbers are those of arvumnao_write;
+ * ARVUMNAO_SHORT_BUFFER has the picture's own length. */
+#define ARVUMNAO_DOT_BYTES 3
+uint32_t arvumnao_dot(const uint16_t *source, size_t source_count, const uint32_t *log, size_t log_count,
+                      uint8_t *buffer, size_t buffer_count, uint64_t *out, size_t out_count);
+
 #ifdef __cplusplus
 }
 #endif

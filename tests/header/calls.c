@@ -293,6 +293,20 @@ static void write_routes(void)
     EXPECT(refused(10, 9, 0));
     arvumnao_write(source, 3, log, COUNT(log), buffer, 43, out, OUT);
     EXPECT(refused(11, 44, 0));
+    const char picture[] =
+        "digraph r {\n0 -> 3 [label=\"0\"];\n3 -> 4 [label=\"0\"];\n1 -> 2 [label=\"1\"];\n2 -> 5 [label=\"1\"];\n}\n";
+    const uint64_t drawn = sizeof picture - 1;
+    uint8_t wide[100];
+    memset(wide, OLD, sizeof wide);
+    EXPECT(arvumnao_dot(source, 3, log, COUNT(log), wide, COUNT(wide), out, OUT) == 1);
+    EXPECT(told(0, 0, 0, &drawn, 1));
+    EXPECT(memcmp(wide, picture, drawn) == 0 && wide[drawn] == OLD);
+    arvumnao_dot(source, 4, log, 35, wide, COUNT(wide), out, OUT);
+    EXPECT(refused(5, 5, 0));
+    arvumnao_dot(source, 3, log, 35, wide, COUNT(wide), out, OUT);
+    EXPECT(refused(10, 27, 0));
+    arvumnao_dot(source, 3, log, COUNT(log), wide, drawn - 1, out, OUT);
+    EXPECT(refused(11, drawn, 0));
 }
 
 int main(void)

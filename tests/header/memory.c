@@ -62,6 +62,11 @@ static void call_write(void)
     arvumnao_write(source, NETS, log_words, words, routes, sizeof routes, out, ARVUMNAO_OUT);
 }
 
+static void call_dot(void)
+{
+    arvumnao_dot(source, NETS, log_words, words, routes, sizeof routes, out, ARVUMNAO_OUT);
+}
+
 static void call_search(void)
 {
     arvumnao_search(kind, NODES, capacity, NODES, first_edge, NODES + 1, edge_target, EDGES, 65535,
@@ -148,6 +153,7 @@ int main(void)
     measure("route", call_route, ARVUMNAO_LIMIT_REACHED);
     words = (size_t)out[5];
     measure("write", call_write, 0);
+    measure("dot", call_dot, 0);
     measure("search", call_search, 0);
     measure("price", call_price, 0);
     return 0;

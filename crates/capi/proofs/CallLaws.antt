@@ -15,10 +15,10 @@ use Rattle.negotiation.specs.Job.{Job}
 use Rattle.negotiation.specs.Outcome.{routeRefusal, routeReplyOf, routeReply}
 use Rattle.negotiation.specs.declared.RouteAnswer.{RouteAnswer}
 use Rattle.text.specs.ReadReplies.{Tables, readRefusal, readNumbers, readReplyOf, readReply}
-use Rattle.text.specs.Routes.{writeRefusal, writtenBytes, writeReplyOf, writeReply}
+use Rattle.text.specs.Routes.{WriteReply, writeRefusal, writtenBytes, writeReplyOf}
 use Rattle.text.specs.declared.ReadAnswer.{ReadAnswer}
 use Rattle.text.specs.declared.WriteAnswer.{WriteAnswer}
-use Rattle.capi.specs.Calls.{Call, callOf, outWith, priceCall, searchDone, searchCall, routeDone, routeCall, readDone, readCall, writeDone, writeCall}
+use Rattle.capi.specs.Calls.{Call, callOf, outWith, priceCall, searchDone, searchCall, routeDone, routeCall, readDone, readCall, writeDone, writtenCall}
 
 -- ---- numbers in `out`: stores over 16 entries of 0
 
@@ -90,13 +90,13 @@ module _ (text : List ℕ) (t : Tables) (out : List ℕ) where
 
 -- ---- the writer
 
-module _ (sources log buffer out : List ℕ) where
-  pub write-short : length out < 16 → writeDone (callOf 0 out) buffer ≡ writeCall sources log buffer out
-  unfolding writeCall
+module _ (reply : WriteReply) (buffer out : List ℕ) where
+  pub write-short : length out < 16 → writeDone (callOf 0 out) buffer ≡ writtenCall reply buffer out
+  unfolding writtenCall
   write-short h = rw (lt-ltb (length out) 16 h)
 
   pub write-called :
-      (left : List ℕ) (call : Call) (r : WriteAnswer) → 16 ≤ length out → writeReplyOf r left ≡ writeReply sources log buffer
-      → call ≡ callOf 1 (outWith (writeRefusal r) (writtenBytes r ∷ []) out) → writeDone call left ≡ writeCall sources log buffer out
-  unfolding writeCall
+      (left : List ℕ) (call : Call) (r : WriteAnswer) → 16 ≤ length out → writeReplyOf r left ≡ reply
+      → call ≡ callOf 1 (outWith (writeRefusal r) (writtenBytes r ∷ []) out) → writeDone call left ≡ writtenCall reply buffer out
+  unfolding writtenCall
   write-called left call r h answers put = rw (le-ltb (length out) 16 h, ← answers, put)

@@ -14,6 +14,7 @@ use Rattle.negotiation.specs.declared.Terms.{Terms}
 use Rattle.negotiation.specs.Outcome.{RouteReply, routeReply}
 use Rattle.text.specs.ReadReplies.{Tables, ReadReply, readReply}
 use Rattle.text.specs.Routes.{WriteReply, writeReply}
+use Rattle.text.specs.Dot.{dotReply}
 
 -- so many entries: those of the list, then 0
 abbrev pub padded : ℕ → List ℕ → List ℕ
@@ -32,7 +33,7 @@ pub record Call : Type 0 where
 abbrev pub callOf : ℕ → List ℕ → Call
 callOf returned out = record { returned = returned; out = out }
 
--- In each of the five a call whose `out` has fewer than 16 entries does nothing and returns 0.
+-- In each of the six a call whose `out` has fewer than 16 entries does nothing and returns 0.
 
 -- price: 3 price
 abbrev pub priceCallWith : p.PriceReply → List ℕ → Call
@@ -108,6 +109,12 @@ writeDone call buffer = record { call = call; buffer = buffer }
 abbrev pub writeCallWith : WriteReply → List ℕ → WriteCall
 writeCallWith r out = writeDone (callOf 1 (outWith (r .refusal) (r .bytes ∷ []) out)) (r .buffer)
 
-unfoldable pub writeCall : List ℕ → List ℕ → List ℕ → List ℕ → WriteCall
-writeCall sources log buffer out =
-    choose (ltb (length out) 16) (writeDone (callOf 0 out) buffer) (writeCallWith (writeReply sources log buffer) out)
+unfoldable pub writtenCall : WriteReply → List ℕ → List ℕ → WriteCall
+writtenCall reply buffer out = choose (ltb (length out) 16) (writeDone (callOf 0 out) buffer) (writeCallWith reply out)
+
+abbrev pub writeCall : List ℕ → List ℕ → List ℕ → List ℕ → WriteCall
+writeCall sources log buffer out = writtenCall (writeReply sources log buffer) buffer out
+
+-- dot: the same of the picture
+abbrev pub dotCall : List ℕ → List ℕ → List ℕ → List ℕ → WriteCall
+dotCall sources log buffer out = writtenCall (dotReply sources log buffer) buffer out

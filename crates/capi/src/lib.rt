@@ -6,13 +6,15 @@ ghost use Rattle.search.specs.Turn.{congestionOf};
 ghost use Rattle.negotiation.specs.Job.{jobOf};
 ghost use Rattle.text.specs.ReadReplies.{tablesOf};
 ghost use Rattle.capi.specs.Calls.{callOf, priceCall, searchDone, searchCall};
-ghost use Rattle.capi.specs.Calls.{termsOf, routeDone, routeCall, readDone, readCall, writeDone, writeCall};
+ghost use Rattle.capi.specs.Calls.{termsOf, routeDone, routeCall, readDone, readCall, writeDone, writtenCall, writeCall, dotCall};
+ghost use Rattle.text.specs.Dot.{styleReply};
 
 mod out;
 
 use negotiation::Terms;
 use out::OUT_ENTRIES;
 use price::Tuning;
+use text::Style;
 
 // The price of a node.
 #[no_mangle]
@@ -172,7 +174,20 @@ pub extern "C" fn arvumnao_read(
     out::put_read(answer, out)
 }
 
-// Writes the routes text of a log, whose nets are those of table 5.
+// Writes either text of a log, whose nets are those of table 5.
+fn write_style(style: Style, source: &[u16], log: &[u32], buffer: &mut [u8], out: &mut [u64]) -> u32
+    ensures { λ r. do
+      let done = writeDone (callOf r (now (out .exit))) (now (buffer .exit))
+      let reply = styleReply style (now (source .entry)) (now (log .entry)) (now (buffer .entry))
+      ⌜ done ≡ writtenCall reply (now (buffer .entry)) (now (out .entry)) ⌝ }
+{
+    if out.len() < OUT_ENTRIES {
+        return 0;
+    }
+    out::put_written(text::write_style(style, source, log, buffer), out)
+}
+
+// Writes the routes text.
 #[no_mangle]
 pub extern "C" fn arvumnao_write(
     source: &[u16],
@@ -184,8 +199,20 @@ pub extern "C" fn arvumnao_write(
       let done = writeDone (callOf r (now (out .exit))) (now (buffer .exit))
       ⌜ done ≡ writeCall (now (source .entry)) (now (log .entry)) (now (buffer .entry)) (now (out .entry)) ⌝ }
 {
-    if out.len() < OUT_ENTRIES {
-        return 0;
-    }
-    out::put_written(text::write_routes(source, log, buffer), out)
+    write_style(Style::Lines, source, log, buffer, out)
+}
+
+// Writes the picture of the same branches, in the DOT language of Graphviz.
+#[no_mangle]
+pub extern "C" fn arvumnao_dot(
+    source: &[u16],
+    log: &[u32],
+    buffer: &mut [u8],
+    out: &mut [u64],
+) -> u32
+    ensures { λ r. do
+      let done = writeDone (callOf r (now (out .exit))) (now (buffer .exit))
+      ⌜ done ≡ dotCall (now (source .entry)) (now (log .entry)) (now (buffer .entry)) (now (out .entry)) ⌝ }
+{
+    write_style(Style::Picture, source, log, buffer, out)
 }

@@ -17,7 +17,9 @@ use Rattle.negotiation.specs.Outcome.{RouteReply, routeReply}
 use Rattle.text.specs.Lines.{letterX, printLine}
 use Rattle.text.specs.JobText.{Part, part, stopped, readText}
 use Rattle.text.specs.ReadReplies.{Tables, shortTable, tablesWith, writtenOver}
-use Rattle.text.specs.Routes.{routesText, logSound, netWritable, textReply, writeReply}
+use Rattle.text.specs.Routes.{logSound, netWritable, textReply, testedReply}
+use Rattle.text.specs.Dot.{textIn, styleReply}
+use Rattle.text.specs.declared.Style.{Style}
 use Rattle.flow.specs.Refusals.{refusalLine}
 use Rattle.flow.specs.RunReplies.{Lent, RunReply, afterRoute, routeRun, runOf, runReply, inputMost, lineResponse, answered, responseOf, response}
 
@@ -34,33 +36,33 @@ text-fits text buffer =
     (λ (e : ltb (length buffer) (length text) ≡ false). rw e (over-long text buffer))
     (either-way (ltb (length buffer) (length text)))
 
-write-fits : (sources log buffer : List ℕ) → writeReply sources log buffer .bytes ≤ length (writeReply sources log buffer .buffer)
-unfolding writeReply
-write-fits sources log buffer =
+write-fits : (style : Style) (sources log buffer : List ℕ) → styleReply style sources log buffer .bytes ≤ length (styleReply style sources log buffer .buffer)
+unfolding testedReply
+write-fits style sources log buffer =
     ⊎-elim
     (λ (t : sourcesSound nodesMost sources ≡ true).
     ⊎-elim
-    (λ (e : logSound (netWritable sources) log ≡ true). rw (t, e) (text-fits (routesText sources (decode log)) buffer))
+    (λ (e : logSound (netWritable sources) log ≡ true). rw (t, e) (text-fits (textIn style sources (decode log)) buffer))
     (λ (e : logSound (netWritable sources) log ≡ false). rw (t, e) zero-le)
     (either-way (logSound (netWritable sources) log)))
     (λ (t : sourcesSound nodesMost sources ≡ false). rw t zero-le)
     (either-way (sourcesSound nodesMost sources))
 
 after-fits :
-    (refusal sources : List ℕ) (t : Tables) (r : RouteReply) (routes : List ℕ)
-    → afterRoute refusal sources t r routes .bytes ≤ length (afterRoute refusal sources t r routes .lent .routes)
-after-fits [] sources t r routes = write-fits sources (take (r .used) (r .log)) routes
-after-fits (k ∷ ks) sources t r routes = zero-le
+    (style : Style) (refusal sources : List ℕ) (t : Tables) (r : RouteReply) (routes : List ℕ)
+    → afterRoute style refusal sources t r routes .bytes ≤ length (afterRoute style refusal sources t r routes .lent .routes)
+after-fits style [] sources t r routes = write-fits style sources (take (r .used) (r .log)) routes
+after-fits style (k ∷ ks) sources t r routes = zero-le
 
-run-of-fits : (p : Part Job) (l : Lent) → runOf p l .bytes ≤ length (runOf p l .lent .routes)
+run-of-fits : (style : Style) (p : Part Job) (l : Lent) → runOf style p l .bytes ≤ length (runOf style p l .lent .routes)
 unfolding routeRun
-run-of-fits (stopped k at) l = zero-le
-run-of-fits (part j at rest) l =
+run-of-fits style (stopped k at) l = zero-le
+run-of-fits style (part j at rest) l =
     ⊎-elim
     (λ (e : leb 1 (shortTable j (l .tables)) ≡ true). rw e zero-le)
     (λ (e : leb 1 (shortTable j (l .tables)) ≡ false).
     rw e
-    (after-fits (routeReply j (l .work) (l .log) .refusal) (j .sources) (tablesWith j (l .tables)) (routeReply j (l .work) (l .log)) (l .routes)))
+    (after-fits style (routeReply j (l .work) (l .log) .refusal) (j .sources) (tablesWith j (l .tables)) (routeReply j (l .work) (l .log)) (l .routes)))
     (either-way (leb 1 (shortTable j (l .tables))))
 
 line-fits : (numbers : List ℕ) (l : Lent) → lineResponse (refusalLine numbers (l .routes)) l .bytes ≤ length (lineResponse (refusalLine numbers (l .routes)) l .lent .routes)
@@ -75,15 +77,15 @@ answer-fits : (refusal : List ℕ) (r : RunReply) → r .bytes ≤ length (r .le
 answer-fits [] r h = h
 answer-fits (k ∷ ks) r h = line-fits (k ∷ ks) (r .lent)
 
-pub response-fits : (input : List ℕ) (l : Lent) → response input l .bytes ≤ length (response input l .lent .routes)
+pub response-fits : (style : Style) (input : List ℕ) (l : Lent) → response style input l .bytes ≤ length (response style input l .lent .routes)
 unfolding response runReply
-response-fits input l =
+response-fits style input l =
     ⊎-elim
     (λ (e : ltb inputMost (length input) ≡ true). rw e (line-fits (12 ∷ inputMost ∷ []) l))
     (λ (e : ltb inputMost (length input) ≡ false).
-    rw e (answer-fits (runOf (readText input) l .refusal) (runOf (readText input) l) (run-of-fits (readText input) l)))
+    rw e (answer-fits (runOf style (readText input) l .refusal) (runOf style (readText input) l) (run-of-fits style (readText input) l)))
     (either-way (ltb inputMost (length input)))
 
 -- the same for an answer that is the response
-pub bytes-fit : (input : List ℕ) (l after : Lent) (bytes : ℕ) → responseOf bytes after ≡ response input l → bytes ≤ length (after .routes)
-bytes-fit input l after bytes e = rw (← e) at (response-fits input l)
+pub bytes-fit : (style : Style) (input : List ℕ) (l after : Lent) (bytes : ℕ) → responseOf bytes after ≡ response style input l → bytes ≤ length (after .routes)
+bytes-fit style input l after bytes e = rw (← e) at (response-fits style input l)

@@ -28,7 +28,9 @@ use Rattle.negotiation.proofs.JobLaws.{routable-of}
 use Rattle.negotiation.proofs.JobLaws as job
 use Rattle.text.specs.JobText.{Part, part, stopped, readText}
 use Rattle.text.specs.ReadReplies.{Tables, shortTable, writtenOver, tablesWith, ReadReply, notRead, termsNumbers, jobNumbers, storedReply, replyTo, readReply}
-use Rattle.text.specs.Routes.{WriteReply, writeReply}
+use Rattle.text.specs.Routes.{WriteReply}
+use Rattle.text.specs.Dot.{styleReply}
+use Rattle.text.specs.declared.Style.{Style}
 use Rattle.flow.specs.RunReplies.{Lent, lentOf, RunReply, runReplyWith, afterWrite, afterRoute, routeRun, runOf, runReply, writtenReplyOf, runReplyOf, inputMost, responseOf, lineResponse, answered, response}
 use Rattle.flow.specs.Refusals.{LineReply, lineReplyOf, refusalLine}
 use Rattle.flow.specs.Steps.{answerLine}
@@ -75,26 +77,26 @@ module _ (j : Job) (work log : List ℕ) (r : RouteAnswer) (work′ log′ : Lis
 
   -- an accepted job's routes are written
   pub run-accepted :
-      (routes : List ℕ) (a : RunAnswer) (routes′ : List ℕ) → r .outcome ≡ Accepted
-      → writtenReplyOf a routes′ ≡ writeReply (j .sources) (take (r .used) log′) routes
-      → (t : Tables) → runReplyOf a (lentOf t work′ log′ routes′) ≡ routeRun j t work log routes
+      (style : Style) (routes : List ℕ) (a : RunAnswer) (routes′ : List ℕ) → r .outcome ≡ Accepted
+      → writtenReplyOf a routes′ ≡ styleReply style (j .sources) (take (r .used) log′) routes
+      → (t : Tables) → runReplyOf a (lentOf t work′ log′ routes′) ≡ routeRun style j t work log routes
   unfolding routeRun
-  run-accepted routes a routes′ out wrote t =
-      subst (λ (x : RouteReply). runReplyOf a (lentOf t work′ log′ routes′) ≡ afterRoute (x .refusal) (j .sources) t x routes) is
+  run-accepted style routes a routes′ out wrote t =
+      subst (λ (x : RouteReply). runReplyOf a (lentOf t work′ log′ routes′) ≡ afterRoute style (x .refusal) (j .sources) t x routes) is
       (subst
-      (λ (o : Outcome). runReplyOf a (lentOf t work′ log′ routes′) ≡ afterRoute (routeRefusal o (r .iteration) (r .turns)) (j .sources) t (routeReplyOf r work′ log′) routes)
+      (λ (o : Outcome). runReplyOf a (lentOf t work′ log′ routes′) ≡ afterRoute style (routeRefusal o (r .iteration) (r .turns)) (j .sources) t (routeReplyOf r work′ log′) routes)
       (sym out)
       (ap (λ (w : WriteReply). afterWrite t (routeReplyOf r work′ log′) w) wrote))
 
   -- a refused one has none
   pub run-refused :
-      (routes : List ℕ) (k : ℕ) (ks : List ℕ) (o : Outcome) → r .outcome ≡ o → routeRefusal o (r .iteration) (r .turns) ≡ k ∷ ks
-      → (t : Tables) → runReplyWith (k ∷ ks) 0 (lentOf t work′ log′ routes) ≡ routeRun j t work log routes
+      (style : Style) (routes : List ℕ) (k : ℕ) (ks : List ℕ) (o : Outcome) → r .outcome ≡ o → routeRefusal o (r .iteration) (r .turns) ≡ k ∷ ks
+      → (t : Tables) → runReplyWith (k ∷ ks) 0 (lentOf t work′ log′ routes) ≡ routeRun style j t work log routes
   unfolding routeRun
-  run-refused routes k ks o out numbers t =
-      subst (λ (x : RouteReply). runReplyWith (k ∷ ks) 0 (lentOf t work′ log′ routes) ≡ afterRoute (x .refusal) (j .sources) t x routes) is
+  run-refused style routes k ks o out numbers t =
+      subst (λ (x : RouteReply). runReplyWith (k ∷ ks) 0 (lentOf t work′ log′ routes) ≡ afterRoute style (x .refusal) (j .sources) t x routes) is
       (subst
-      (λ (l : List ℕ). runReplyWith (k ∷ ks) 0 (lentOf t work′ log′ routes) ≡ afterRoute l (j .sources) t (routeReplyOf r work′ log′) routes)
+      (λ (l : List ℕ). runReplyWith (k ∷ ks) 0 (lentOf t work′ log′ routes) ≡ afterRoute style l (j .sources) t (routeReplyOf r work′ log′) routes)
       (sym (ap (λ (x : Outcome). routeRefusal x (r .iteration) (r .turns)) out ∙ numbers))
       refl)
 
@@ -102,12 +104,12 @@ module _ (j : Job) (work log : List ℕ) (r : RouteAnswer) (work′ log′ : Lis
 
 -- a text that is refused
 refused-of :
-    (p : Part Job) (k : ℕ) (ks : List ℕ) (t t′ : Tables) (work log routes : List ℕ) → notRead (k ∷ ks) t′ ≡ replyTo p t
-    → runReplyWith (k ∷ ks) 0 (lentOf t′ work log routes) ≡ runOf p (lentOf t work log routes)
+    (style : Style) (p : Part Job) (k : ℕ) (ks : List ℕ) (t t′ : Tables) (work log routes : List ℕ) → notRead (k ∷ ks) t′ ≡ replyTo p t
+    → runReplyWith (k ∷ ks) 0 (lentOf t′ work log routes) ≡ runOf style p (lentOf t work log routes)
 unfolding storedReply
-refused-of (stopped n at) k ks t t′ work log routes e =
+refused-of style (stopped n at) k ks t t′ work log routes e =
     ap (λ (x : ReadReply). runReplyWith (x .refusal) 0 (lentOf (x .tables) work log routes)) e
-refused-of (part j at rest) k ks t t′ work log routes e =
+refused-of style (part j at rest) k ks t t′ work log routes e =
     ⊎-elim
     (λ (h : leb 1 (shortTable j t) ≡ true).
     let short : notRead (k ∷ ks) t′ ≡ notRead (4 ∷ shortTable j t ∷ []) t = rw h at e in
@@ -119,10 +121,10 @@ refused-of (part j at rest) k ks t t′ work log routes e =
     (either-way (leb 1 (shortTable j t)))
 
 pub read-refused :
-    (text : List ℕ) (k : ℕ) (ks : List ℕ) (t t′ : Tables) (work log routes : List ℕ) → notRead (k ∷ ks) t′ ≡ readReply text t
-    → runReplyWith (k ∷ ks) 0 (lentOf t′ work log routes) ≡ runReply text (lentOf t work log routes)
+    (style : Style) (text : List ℕ) (k : ℕ) (ks : List ℕ) (t t′ : Tables) (work log routes : List ℕ) → notRead (k ∷ ks) t′ ≡ readReply text t
+    → runReplyWith (k ∷ ks) 0 (lentOf t′ work log routes) ≡ runReply style text (lentOf t work log routes)
 unfolding readReply runReply
-read-refused text k ks t t′ work log routes e = refused-of (readText text) k ks t t′ work log routes e
+read-refused style text k ks t t′ work log routes e = refused-of style (readText text) k ks t t′ work log routes e
 
 -- the reply for a text that is taken
 abbrev readTaken : List ℕ → Tables → ReadReply
@@ -155,7 +157,7 @@ taken-of (part j at rest) numbers t t′ e =
     (either-way (leb 1 (shortTable j t)))
 
 -- what the counts mark out in the tables afterwards: each part is within its table, and together they are the job that is run
-pub record Taken (text : List ℕ) (n edges m count : ℕ) (terms : Terms) (t t′ : Tables) : Type 0 where
+pub record Taken (style : Style) (text : List ℕ) (n edges m count : ℕ) (terms : Terms) (t t′ : Tables) : Type 0 where
   pub few-nodes : n ≤ nodesMost
   pub few-nets : m ≤ netsMost
   pub kinds-fit : n ≤ length (t′ .kinds)
@@ -167,11 +169,11 @@ pub record Taken (text : List ℕ) (n edges m count : ℕ) (terms : Terms) (t t�
   pub sinks-fit : count ≤ length (t′ .sinks)
   pub runs :
       (work log routes : List ℕ)
-      → routeRun
+      → routeRun style
       (jobOf (take n (t′ .kinds)) (take n (t′ .capacities)) (take (n + 1) (t′ .firstEdges)) (take edges (t′ .edgeTargets))
       (take m (t′ .sources)) (take (m + 1) (t′ .firstSinks)) (take count (t′ .sinks)) terms)
       t′ work log routes
-      ≡ runReply text (lentOf t work log routes)
+      ≡ runReply style text (lentOf t work log routes)
 
 module _ (new old : List ℕ) (n : ℕ) (long : length new ≡ n) where
   over-fits : n ≤ length (writtenOver new old)
@@ -182,10 +184,10 @@ module _ (new old : List ℕ) (n : ℕ) (long : length new ≡ n) where
   over-part = take-at new (drop (length new) old) n long
 
 job-taken :
-    (text : List ℕ) (t : Tables) (j : Job) (at : ℕ) (rest : List ℕ) → readText text ≡ part j at rest → leb 1 (shortTable j t) ≡ false
-    → Taken text (nodes j) (length (j .block .edgeTargets)) (nets j) (length (j .sinks)) (j .terms) t (tablesWith j t)
+    (style : Style) (text : List ℕ) (t : Tables) (j : Job) (at : ℕ) (rest : List ℕ) → readText text ≡ part j at rest → leb 1 (shortTable j t) ≡ false
+    → Taken style text (nodes j) (length (j .block .edgeTargets)) (nets j) (length (j .sinks)) (j .terms) t (tablesWith j t)
 unfolding tablesWith runReply
-job-taken text t j at rest is long =
+job-taken style text t j at rest is long =
     let s : SoundJob j = accepted-printed text j at rest is .0 in
     let capacities-are : length (j .block .capacities) ≡ nodes j = capacities-long (nodes j) (j .block .capacities) (s .block-sound .capacities-sound) in
     let first-edges-are : length (j .block .firstEdges) ≡ nodes j + 1 =
@@ -221,39 +223,39 @@ termsIn xs =
     record { limit = getD xs 4 0; tuning = record { first = getD xs 5 0; up = getD xs 6 0; down = getD xs 7 0; step = getD xs 8 0 }; rule = getD xs 9 0 }
 
 pub read-taken :
-    (text : List ℕ) (n edges m count : ℕ) (terms : Terms) (t t′ : Tables)
-    → readTaken (n ∷ edges ∷ m ∷ count ∷ termsNumbers terms) t′ ≡ readReply text t → Taken text n edges m count terms t t′
+    (style : Style) (text : List ℕ) (n edges m count : ℕ) (terms : Terms) (t t′ : Tables)
+    → readTaken (n ∷ edges ∷ m ∷ count ∷ termsNumbers terms) t′ ≡ readReply text t → Taken style text n edges m count terms t t′
 unfolding readReply jobNumbers
-read-taken text n edges m count terms t t′ e =
+read-taken style text n edges m count terms t t′ e =
     let got = taken-of (readText text) (n ∷ edges ∷ m ∷ count ∷ termsNumbers terms) t t′ e in
     let j : Job = got .0 in
-    subst (λ (x : Tables). Taken text n edges m count terms t x) (got .6)
+    subst (λ (x : Tables). Taken style text n edges m count terms t x) (got .6)
     (subst
-    (λ (x : List ℕ). Taken text (getD x 0 0) (getD x 1 0) (getD x 2 0) (getD x 3 0) (termsIn x) t (tablesWith j t))
+    (λ (x : List ℕ). Taken style text (getD x 0 0) (getD x 1 0) (getD x 2 0) (getD x 3 0) (termsIn x) t (tablesWith j t))
     (got .5)
-    (job-taken text t j (got .1) (got .2) (got .3) (got .4)))
+    (job-taken style text t j (got .1) (got .2) (got .3) (got .4)))
 
 -- ---- the response
 
 -- an input that is too long
 pub too-long :
-    (input : List ℕ) (t : Tables) (work log routes : List ℕ) (bytes : ℕ) (routes′ : List ℕ) → inputMost < length input
+    (style : Style) (input : List ℕ) (t : Tables) (work log routes : List ℕ) (bytes : ℕ) (routes′ : List ℕ) → inputMost < length input
     → lineReplyOf bytes routes′ ≡ refusalLine (12 ∷ inputMost ∷ []) routes
-    → responseOf bytes (lentOf t work log routes′) ≡ response input (lentOf t work log routes)
+    → responseOf bytes (lentOf t work log routes′) ≡ response style input (lentOf t work log routes)
 unfolding response
-too-long input t work log routes bytes routes′ h e =
+too-long style input t work log routes bytes routes′ h e =
     rw (lt-ltb inputMost (length input) h) (ap (λ (x : LineReply). lineResponse x (lentOf t work log routes)) e)
 
-module _ (input : List ℕ) (l : Lent) (short : length input ≤ inputMost) where
-  responded : (r : RunReply) → r ≡ runReply input l → answered (r .refusal) r ≡ response input l
+module _ (style : Style) (input : List ℕ) (l : Lent) (short : length input ≤ inputMost) where
+  responded : (r : RunReply) → r ≡ runReply style input l → answered (r .refusal) r ≡ response style input l
   unfolding response
   responded r e = rw (le-ltb inputMost (length input) short) (ap (λ (x : RunReply). answered (x .refusal) x) e)
 
   -- the routes text, or the line of the refusal
   pub shown-out :
       (r : RunAnswer) (t : Tables) (work log routes : List ℕ) (bytes : ℕ) (routes′ : List ℕ)
-      → runReplyOf r (lentOf t work log routes) ≡ runReply input l → lineReplyOf bytes routes′ ≡ answerLine r routes
-      → responseOf bytes (lentOf t work log routes′) ≡ response input l
+      → runReplyOf r (lentOf t work log routes) ≡ runReply style input l → lineReplyOf bytes routes′ ≡ answerLine r routes
+      → responseOf bytes (lentOf t work log routes′) ≡ response style input l
   shown-out (ra.Written b) t work log routes bytes routes′ e shown =
       ap (λ (x : LineReply). lineResponse x (lentOf t work log routes)) shown
       ∙ responded (runReplyWith [] b (lentOf t work log routes)) e

@@ -1,6 +1,6 @@
 -- Every starred sample of 01, in one theorem: what 01 states is what the definitions give.
 -- Assumes nothing.
-use mathlib.Core.List.{List, [], _∷_, _++_}
+use mathlib.Core.List.{List, [], _∷_, _++_, flatMap}
 use mathlib.Core.Path.{_≡_, refl}
 use Rattle.negotiation.specs.Records.{decodeUpTo, decode}
 use Rattle.negotiation.specs.Demand.{latest}
@@ -16,7 +16,7 @@ use Rattle.text.specs.JobText.{headWithin, headLine, tuningWithin, tuningLine, 
 use Rattle.text.specs.JobText.{pinWithin, sourceLine, sinkOrdered, sinkLine, tuningPart, rulePart, termsPart, headPart, nodeLines, edgeLines, sinksNow, sourceDue, sinkDue}
 use Rattle.text.specs.JobText.{complete, netEnd, nextSource, nextSink, netLine, netLines, firstPlaces, jobRead, readText}
 use Rattle.text.specs.ReadReplies.{lowestShort, shortTable, writtenOver, tablesWith}
-use Rattle.text.specs.Routes.{pathSound, recordSound, soundUpTo, soundWords, logSound, netWritable, steps, lastIteration, passing, finalRecords, recordBranches, treeBranches, routeBranches, branchText, joinsBefore, routeJoins, joinText, routesText, textReply, writeReply}
+use Rattle.text.specs.Routes.{pathSound, recordSound, soundUpTo, soundWords, logSound, netWritable, steps, lastIteration, passing, finalRecords, recordBranches, treeBranches, routeBranches, branchLine, joinsBefore, routeJoins, joinText, routesText, textReply, testedReply}
 use Rattle.flow.specs.Refusals.{refusalLine}
 use Rattle.flow.specs.RunReplies.{routeRun, runReply, response}
 use Rattle.flow.specs.Samples.{lined, linesB, shown, routed, limited, filled, texts, samples}
@@ -24,7 +24,7 @@ use Rattle.flow.specs.Samples.{lined, linesB, shown, routed, limited, fi
 -- all that a closed text computes with: the lines and routes, and what a closed job does
 computing : Unit {0}
 unfolding response refusalLine runReply routeRun
-    writeReply textReply routesText joinText routeJoins joinsBefore branchText routeBranches treeBranches recordBranches finalRecords passing latest lastIteration steps netWritable leads firstOf logSound soundWords soundUpTo recordSound pathSound
+    testedReply textReply routesText joinText routeJoins joinsBefore flatMap branchLine routeBranches treeBranches recordBranches finalRecords passing latest lastIteration steps netWritable leads firstOf logSound soundWords soundUpTo recordSound pathSound
     tablesWith writtenOver shortTable lowestShort readText jobRead firstPlaces netLines netLine nextSink nextSource netEnd complete sinkDue sourceDue sinksNow edgeLines nodeLines headPart termsPart rulePart tuningPart
     sinkLine sinkOrdered sourceLine pinWithin edgeLine edgeOrdered edgeWithin rises nodeLine nodeWithin ruleLine ruleWithin tuningLine tuningWithin headLine headWithin
     printLine printFields line fields begins field digitsAfter decimal digits isDigit lined decode decodeUpTo

@@ -1,4 +1,5 @@
--- Document 01: the whole way from a job text to its routes text over lent buffers, and what the program prints.
+-- Document 01: the whole way from a job text to its routes text over lent buffers, and what the program prints. Request 2.10: the same
+-- way to the picture of the routes, where the style asks for it.
 -- Assumes nothing.
 use mathlib.Core.List.{List, [], _∷_}
 use Prim.Native.Nat.{ℕ}
@@ -9,7 +10,9 @@ use Rattle.negotiation.specs.Job.{Job}
 use Rattle.negotiation.specs.Outcome.{RouteReply, routeReply}
 use Rattle.text.specs.JobText.{Part, part, stopped, readText}
 use Rattle.text.specs.ReadReplies.{Tables, shortTable, tablesWith}
-use Rattle.text.specs.Routes.{WriteReply, writeReply}
+use Rattle.text.specs.Routes.{WriteReply}
+use Rattle.text.specs.Dot.{styleReply}
+use Rattle.text.specs.declared.Style.{Style}
 use Rattle.flow.specs.Refusals.{LineReply, refusalLine}
 use Rattle.flow.specs.declared.RunAnswer.{RunAnswer}
 use Rattle.flow.specs.declared.RunAnswer.the-variants as a
@@ -38,22 +41,22 @@ abbrev pub afterWrite : Tables → RouteReply → WriteReply → RunReply
 afterWrite t r w = runReplyWith (w .refusal) (w .bytes) (lentOf t (r .work) (r .log) (w .buffer))
 
 -- a job that isn't accepted has no routes
-abbrev pub afterRoute : List ℕ → List ℕ → Tables → RouteReply → List ℕ → RunReply
-afterRoute [] sources t r routes = afterWrite t r (writeReply sources (take (r .used) (r .log)) routes)
-afterRoute (k ∷ ks) sources t r routes = runReplyWith (k ∷ ks) 0 (lentOf t (r .work) (r .log) routes)
+abbrev pub afterRoute : Style → List ℕ → List ℕ → Tables → RouteReply → List ℕ → RunReply
+afterRoute style [] sources t r routes = afterWrite t r (styleReply style sources (take (r .used) (r .log)) routes)
+afterRoute style (k ∷ ks) sources t r routes = runReplyWith (k ∷ ks) 0 (lentOf t (r .work) (r .log) routes)
 
-unfoldable pub routeRun : Job → Tables → List ℕ → List ℕ → List ℕ → RunReply
-routeRun j t work log routes = afterRoute (routeReply j work log .refusal) (j .sources) t (routeReply j work log) routes
+unfoldable pub routeRun : Style → Job → Tables → List ℕ → List ℕ → List ℕ → RunReply
+routeRun style j t work log routes = afterRoute style (routeReply j work log .refusal) (j .sources) t (routeReply j work log) routes
 
 -- a text that is refused leaves all that was lent as it was
-abbrev pub runOf : Part Job → Lent → RunReply
-runOf (stopped k at) l = runReplyWith (k ∷ at ∷ []) 0 l
-runOf (part j at rest) l =
+abbrev pub runOf : Style → Part Job → Lent → RunReply
+runOf style (stopped k at) l = runReplyWith (k ∷ at ∷ []) 0 l
+runOf style (part j at rest) l =
     choose (leb 1 (shortTable j (l .tables))) (runReplyWith (4 ∷ shortTable j (l .tables) ∷ []) 0 l)
-    (routeRun j (tablesWith j (l .tables)) (l .work) (l .log) (l .routes))
+    (routeRun style j (tablesWith j (l .tables)) (l .work) (l .log) (l .routes))
 
-unfoldable pub runReply : List ℕ → Lent → RunReply
-runReply text l = runOf (readText text) l
+unfoldable pub runReply : Style → List ℕ → Lent → RunReply
+runReply style text l = runOf style (readText text) l
 
 -- 01's numbers for each case of the answer
 abbrev pub runNumbers : RunAnswer → List ℕ
@@ -98,7 +101,7 @@ answered [] r = responseOf (r .bytes) (r .lent)
 answered (k ∷ ks) r = lineResponse (refusalLine (k ∷ ks) (r .lent .routes)) (r .lent)
 
 -- "12, 65536 .. more input bytes": "only the X line printed"
-unfoldable pub response : List ℕ → Lent → Response
-response input l =
+unfoldable pub response : Style → List ℕ → Lent → Response
+response style input l =
     choose (ltb inputMost (length input)) (lineResponse (refusalLine (12 ∷ inputMost ∷ []) (l .routes)) l)
-    (answered (runReply input l .refusal) (runReply input l))
+    (answered (runReply style input l .refusal) (runReply style input l))

@@ -8,6 +8,7 @@ use Rattle.price.specs.Samples as p
 use Rattle.negotiation.specs.Samples as n
 use Rattle.text.specs.Lines.{lf}
 use Rattle.text.specs.ReadReplies.{tablesOf}
+use Rattle.text.specs.declared.Style.the-variants as s
 use Rattle.flow.specs.RunReplies.{lentOf, Response, response}
 
 -- "one a line": each line ended by LF
@@ -62,7 +63,7 @@ printed r = take (r .bytes) (r .lent .routes)
 abbrev pub shown : List ℕ → ℕ → List ℕ
 shown text room =
     printed
-    (response text
+    (response s.Lines text
     (lentOf
     (tablesOf (replicate 6 7) (replicate 6 7) (replicate 7 7) (replicate 6 7) (replicate 2 7) (replicate 3 7) (replicate 2 7))
     (replicate 48 7) (replicate room 7) (replicate 48 7)))

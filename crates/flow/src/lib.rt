@@ -1,11 +1,11 @@
-// The whole way from a job text to its routes text, and what the program prints.
+// The whole way from a job text to its routes text or their picture, and what the program prints.
 ghost use mathlib.Core.Path.{_≡_};
 ghost use Prim.Native.Nat.{_≤_};
 ghost use lib.ListN.{length, take};
 ghost use Rattle.negotiation.specs.Job.{jobOf};
 ghost use Rattle.text.specs.ReadReplies.{Tables, tablesOf};
 ghost use Rattle.flow.specs.Refusals.{lineReplyOf};
-ghost use Rattle.text.specs.Routes.{writeReply};
+ghost use Rattle.text.specs.Dot.{styleReply};
 ghost use Rattle.flow.specs.RunReplies.{lentOf, routeRun, runReply, runReplyOf, writtenReplyOf, responseOf, response};
 ghost use Rattle.flow.specs.Steps.{answerLine};
 
@@ -14,11 +14,12 @@ mod refusals;
 use negotiation::Outcome;
 use negotiation::Terms;
 use text::ReadAnswer;
+use text::Style;
 use text::WriteAnswer;
 
-// What a run from job text to routes text answers.
+// What a run answers.
 pub enum RunAnswer {
-    // So many bytes of the routes text are written.
+    // So many bytes of the text are written.
     Written(usize),
     // A refusal with one number beside its own.
     One {
@@ -37,12 +38,18 @@ pub enum RunAnswer {
 const INPUT_MOST: usize = 65536;
 
 // Writes the routes from the words used.
-fn write_used(source: &[u16], log: &[u32], words: usize, routes: &mut [u8]) -> RunAnswer
+fn write_used(
+    style: Style,
+    source: &[u16],
+    log: &[u32],
+    words: usize,
+    routes: &mut [u8],
+) -> RunAnswer
     requires { ⌜ words ≤ length (now log) ⌝ }
     ensures { λ r. ⌜ writtenReplyOf r (now (routes .exit))
-        ≡ writeReply (now (source .entry)) (take words (now (log .entry))) (now (routes .entry)) ⌝ }
+        ≡ styleReply style (now (source .entry)) (take words (now (log .entry))) (now (routes .entry)) ⌝ }
 {
-    match text::write_routes(source, &log[..words], routes) {
+    match text::write_style(style, source, &log[..words], routes) {
         WriteAnswer::Written(bytes) => RunAnswer::Written(bytes),
         WriteAnswer::BadTable(table) => RunAnswer::One {
             number: 5,
@@ -61,6 +68,7 @@ fn write_used(source: &[u16], log: &[u32], words: usize, routes: &mut [u8]) -> R
 
 // Routes a job given as tables, and writes its routes where it is accepted.
 fn route_job(
+    style: Style,
     kind: &[u8],
     capacity: &[u8],
     first_edge: &[u32],
@@ -77,7 +85,7 @@ fn route_job(
       let job = jobOf (now (kind .entry)) (now (capacity .entry)) (now («first_edge» .entry)) (now («edge_target» .entry))
           (now (source .entry)) (now («first_sink» .entry)) (now (sink .entry)) terms
       ⌜ ((t : Tables) → runReplyOf r (lentOf t (now (work .exit)) (now (log .exit)) (now (routes .exit)))
-          ≡ routeRun job t (now (work .entry)) (now (log .entry)) (now (routes .entry))) ⌝ }
+          ≡ routeRun style job t (now (work .entry)) (now (log .entry)) (now (routes .entry))) ⌝ }
 {
     let r = negotiation::route(
         kind,
@@ -94,7 +102,7 @@ fn route_job(
     let words = r.used as usize;
     let outcome = r.outcome;
     match outcome {
-        Outcome::Accepted => write_used(source, log, words, routes),
+        Outcome::Accepted => write_used(style, source, log, words, routes),
         Outcome::Unreachable { net, place } => RunAnswer::Two {
             number: 7,
             first: net as u64,
@@ -121,8 +129,9 @@ fn route_job(
     }
 }
 
-// Reads a job text, routes the job and writes its routes text. The tables, the work slice and the log are lent for it.
+// Reads a job text, routes the job and writes its routes in this style. The tables, the work slice and the log are lent for it.
 pub fn run(
+    style: Style,
     text: &[u8],
     kind: &mut [u8],
     capacity: &mut [u8],
@@ -142,7 +151,7 @@ pub fn run(
           (now (source .exit)) (now («first_sink» .exit)) (now (sink .exit))
       let lent = lentOf tables (now (work .entry)) (now (log .entry)) (now (routes .entry))
       let after = lentOf left (now (work .exit)) (now (log .exit)) (now (routes .exit))
-      ⌜ runReplyOf r after ≡ runReply (now (text .entry)) lent ⌝ }
+      ⌜ runReplyOf r after ≡ runReply style (now (text .entry)) lent ⌝ }
 {
     match text::read_job(
         text,
@@ -164,6 +173,7 @@ pub fn run(
             let places = nodes + 1;
             let firsts = nets + 1;
             route_job(
+                style,
                 &kind[..nodes],
                 &capacity[..nodes],
                 &first_edge[..places],
@@ -203,9 +213,10 @@ fn put_answer(answer: RunAnswer, routes: &mut [u8]) -> usize
     }
 }
 
-// What the program prints for its input: the routes text, or the line of the refusal, at the start of the routes buffer.
+// What the program prints for its input: its routes in this style, or the line of the refusal, at the start of the routes buffer.
 // The answer is how many bytes these are.
 pub fn respond(
+    style: Style,
     input: &[u8],
     kind: &mut [u8],
     capacity: &mut [u8],
@@ -225,12 +236,13 @@ pub fn respond(
           (now (source .exit)) (now («first_sink» .exit)) (now (sink .exit))
       let lent = lentOf tables (now (work .entry)) (now (log .entry)) (now (routes .entry))
       let after = lentOf left (now (work .exit)) (now (log .exit)) (now (routes .exit))
-      ⌜ responseOf r after ≡ response (now (input .entry)) lent ⌝ }
+      ⌜ responseOf r after ≡ response style (now (input .entry)) lent ⌝ }
 {
     if INPUT_MOST < input.len() {
         return refusals::write_refusal(12, INPUT_MOST as u64, routes);
     }
     let answer = run(
+        style,
         input,
         kind,
         capacity,

@@ -3,6 +3,7 @@
 use cases::lines;
 use cases::read;
 use cases::show;
+use text::Style;
 // `run` and `respond` and their answers.
 
 fn one_number(row: u64, value: u64) {
@@ -75,6 +76,7 @@ fn run_case(job: &[u8], n: [u32; 3]) {
     let words = read::of_words(n[1], &log);
     let size = read::of_bytes(n[2], &routes);
     run_answer(flow::run(
+        Style::Lines,
         job,
         &mut kind,
         &mut capacity,
@@ -99,8 +101,8 @@ fn run_case(job: &[u8], n: [u32; 3]) {
     memory(&work, &log, &routes, n);
 }
 
-// What the program prints, with the same tables.
-fn respond_case(job: &[u8], n: [u32; 3]) {
+// What the program prints in a style, with the same tables.
+fn respond_case(style: Style, job: &[u8], n: [u32; 3]) {
     let mut kind = [7u8; 6];
     let mut capacity = [7u8; 6];
     let mut first_edge = [7u32; 7];
@@ -115,6 +117,7 @@ fn respond_case(job: &[u8], n: [u32; 3]) {
     let words = read::of_words(n[1], &log);
     let size = read::of_bytes(n[2], &routes);
     written(flow::respond(
+        style,
         job,
         &mut kind,
         &mut capacity,
@@ -143,7 +146,8 @@ fn respond_case(job: &[u8], n: [u32; 3]) {
 fn call(letter: u8, job: &[u8], n: [u32; 3]) {
     match letter {
         b'u' => run_case(job, n),
-        b'e' => respond_case(job, n),
+        b'e' => respond_case(Style::Lines, job, n),
+        b'i' => respond_case(Style::Picture, job, n),
         _ => show::malformed(),
     }
 }

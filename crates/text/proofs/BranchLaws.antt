@@ -5,9 +5,9 @@
 --     PuttingNets, nets-               going from net to net
 -- Assumes nothing.
 use mathlib.Core.Bool.{Bool, true, false}
-use mathlib.Core.List.{List, [], _∷_, _++_, append-assoc}
+use mathlib.Core.List.{List, [], _++_, flatMap}
 use mathlib.Core.Logic.{⊎-elim}
-use mathlib.Core.Path.{_≡_, refl, sym, subst}
+use mathlib.Core.Path.{_≡_, subst}
 use Prim.Native.Nat.{ℕ, _+_, _-_, _^_, _≤_, _<_}
 use native.Mathlib.Numerals.{add-one}
 use native.Mathlib.Omega.{arith}
@@ -15,19 +15,11 @@ use lib.ListN.{length, getD, take, drop, length-drop, drop-of-length-le}
 use borrow.Author.Tests.{eq-eqb, ne-eqb}
 use Rattle.price.proofs.TestLaws.{either-way}
 use Rattle.negotiation.specs.Records.{Record, decode}
-use Rattle.text.specs.Lines.{letterB, printLine}
-use Rattle.text.specs.Routes.{recordSound, soundWords, Branch, steps, passing, recordBranches, treeBranches, routeBranches, branchText}
+use Rattle.text.specs.Routes.{recordSound, soundWords, Branch, steps, passing, recordBranches, treeBranches, routeBranches}
 use Rattle.text.specs.WriteSteps.{Filled, AllSound, part, ownRecords, Latest}
 use Rattle.text.proofs.LogLaws.{soundAfter, sound-stop, nextAt, sound-at, long-at, fits-at, decode-at, decode-none}
 use Rattle.text.proofs.StepTextLaws.{filled-none, filled-then, FilledSoFar, so-far-none, so-far-more, so-far-all}
-
--- ---- text of branches
-
-text-append : (bs cs : List Branch) → branchText (bs ++ cs) ≡ branchText bs ++ branchText cs
-unfolding branchText
-text-append [] cs = refl
-text-append (b ∷ bs) cs =
-    rw (text-append bs cs) (sym (append-assoc (printLine letterB (b .net ∷ b .from ∷ b .to ∷ [])) (branchText bs) (branchText cs)))
+use Rattle.text.proofs.StepListLaws.{flat-append}
 
 -- ---- the records from a place on
 
@@ -67,88 +59,88 @@ module _ {log : List ℕ} {at : ℕ} (p : Rest log at) (l : at < length log) whe
 -- ---- the text of a net's records
 
 -- those from a place on
-abbrev pub textFrom : ℕ → List ℕ → ℕ → List ℕ
-textFrom net log at = branchText (recordBranches (ownRecords net (decode (drop at log))))
+abbrev pub textFrom : (Branch → List ℕ) → ℕ → List ℕ → ℕ → List ℕ
+textFrom line net log at = flatMap line (recordBranches (ownRecords net (decode (drop at log))))
 
 -- one of them
-abbrev pub recordText : ℕ → List ℕ → ℕ → List ℕ
-recordText net log at = branchText (steps net (part log (at + 6) (nextAt log at)))
+abbrev pub recordText : (Branch → List ℕ) → ℕ → List ℕ → ℕ → List ℕ
+recordText line net log at = flatMap line (steps net (part log (at + 6) (nextAt log at)))
 
-text-none : (net : ℕ) (log : List ℕ) (at : ℕ) → length log ≤ at → textFrom net log at ≡ []
-unfolding passing recordBranches branchText
-text-none net log at l = rw (drop-of-length-le log l, decode-none)
+text-none : (line : Branch → List ℕ) (net : ℕ) (log : List ℕ) (at : ℕ) → length log ≤ at → textFrom line net log at ≡ []
+unfolding passing recordBranches flatMap
+text-none line net log at l = rw (drop-of-length-le log l, decode-none)
 
-module _ {log : List ℕ} {at : ℕ} (p : Rest log at) (l : at < length log) (net : ℕ) where
-  text-met : getD log (at + 1) 0 ≡ net → textFrom net log at ≡ recordText net log at ++ textFrom net log (nextAt log at)
+module _ {log : List ℕ} {at : ℕ} (p : Rest log at) (l : at < length log) (line : Branch → List ℕ) (net : ℕ) where
+  text-met : getD log (at + 1) 0 ≡ net → textFrom line net log at ≡ recordText line net log at ++ textFrom line net log (nextAt log at)
   unfolding passing recordBranches
   text-met e =
       let long = long-at log at (p .net) (p .last) (sound-here p l) in
       let count : nextAt log at - (at + 6) ≡ getD log (at + 5) 0 = omega arith in
       rw (decode-at log at (omega arith), eq-eqb (getD log (at + 1) 0) net e, count, e)
-      (text-append (steps net (take (getD log (at + 5) 0) (drop (at + 6) log)))
+      (flat-append line (steps net (take (getD log (at + 5) 0) (drop (at + 6) log)))
       (recordBranches (ownRecords net (decode (drop (nextAt log at) log)))))
 
-  text-passed : (getD log (at + 1) 0 ≡ net → ⊥) → textFrom net log at ≡ textFrom net log (nextAt log at)
+  text-passed : (getD log (at + 1) 0 ≡ net → ⊥) → textFrom line net log at ≡ textFrom line net log (nextAt log at)
   unfolding passing
   text-passed e =
       let long = long-at log at (p .net) (p .last) (sound-here p l) in
       rw (decode-at log at (omega arith), ne-eqb (getD log (at + 1) 0) net e)
 
 -- the text of a net's branches before a place is passed
-pub record PuttingRecords (net : ℕ) (log : List ℕ) (start : ℕ) (before after : List ℕ) (next at : ℕ) : Type 0 where
+pub record PuttingRecords (line : Branch → List ℕ) (net : ℕ) (log : List ℕ) (start : ℕ) (before after : List ℕ) (next at : ℕ) : Type 0 where
   pub rest : Rest log at
-  pub writing : FilledSoFar start (branchText (recordBranches (ownRecords net (decode log)))) (textFrom net log at) before after next
+  pub writing : FilledSoFar start (flatMap line (recordBranches (ownRecords net (decode log)))) (textFrom line net log at) before after next
 
-pub records-none : (net : ℕ) (log : List ℕ) (start : ℕ) (before : List ℕ) → start < 2 ^ 64 → AllSound log → PuttingRecords net log start before before start 0
-records-none net log start before small e =
-    record { rest = rest-none log e; writing = so-far-none start (branchText (recordBranches (ownRecords net (decode log)))) before small }
+pub records-none : (line : Branch → List ℕ) (net : ℕ) (log : List ℕ) (start : ℕ) (before : List ℕ) → start < 2 ^ 64 → AllSound log → PuttingRecords line net log start before before start 0
+records-none line net log start before small e =
+    record { rest = rest-none log e; writing = so-far-none start (flatMap line (recordBranches (ownRecords net (decode log)))) before small }
 
-module _ {net start next at : ℕ} {log before after : List ℕ} (p : PuttingRecords net log start before after next at) where
-  pub records-all : length log ≤ at → Filled start (branchText (recordBranches (ownRecords net (decode log)))) before after next
-  records-all l = so-far-all (rw (text-none net log at l) at (p .writing))
+module _ {line : Branch → List ℕ} {net start next at : ℕ} {log before after : List ℕ} (p : PuttingRecords line net log start before after next at) where
+  pub records-all : length log ≤ at → Filled start (flatMap line (recordBranches (ownRecords net (decode log)))) before after next
+  records-all l = so-far-all (rw (text-none line net log at l) at (p .writing))
 
   module _ (l : at < length log) where
-    pub records-passed : (getD log (at + 1) 0 ≡ net → ⊥) → PuttingRecords net log start before after next (nextAt log at)
+    pub records-passed : (getD log (at + 1) 0 ≡ net → ⊥) → PuttingRecords line net log start before after next (nextAt log at)
     records-passed e =
-        record { rest = rest-next (p .rest) l; writing = rw (text-passed (p .rest) l net e) at (p .writing) }
+        record { rest = rest-next (p .rest) l; writing = rw (text-passed (p .rest) l line net e) at (p .writing) }
 
     pub records-met :
-        {later : List ℕ} {further : ℕ} → getD log (at + 1) 0 ≡ net → Filled next (recordText net log at) after later further
-        → PuttingRecords net log start before later further (nextAt log at)
+        {later : List ℕ} {further : ℕ} → getD log (at + 1) 0 ≡ net → Filled next (recordText line net log at) after later further
+        → PuttingRecords line net log start before later further (nextAt log at)
     records-met e q =
         record {
           rest = rest-next (p .rest) l;
           writing =
-              so-far-more (recordText net log at) (textFrom net log (nextAt log at)) (rw (text-met (p .rest) l net e) at (p .writing)) q;
+              so-far-more (recordText line net log at) (textFrom line net log (nextAt log at)) (rw (text-met (p .rest) l line net e) at (p .writing)) q;
         }
 
 -- ---- net after net
 
 -- the text of the nets before one is passed
-pub record PuttingNets (log : List ℕ) (nets start : ℕ) (before after : List ℕ) (next net : ℕ) : Type 0 where
+pub record PuttingNets (line : Branch → List ℕ) (log : List ℕ) (nets start : ℕ) (before after : List ℕ) (next net : ℕ) : Type 0 where
   pub within : net ≤ nets
-  pub filled : Filled start (branchText (routeBranches net (decode log))) before after next
+  pub filled : Filled start (flatMap line (routeBranches net (decode log))) before after next
 
-pub nets-none : (log : List ℕ) (nets start : ℕ) (before : List ℕ) → start < 2 ^ 64 → PuttingNets log nets start before before start 0
-unfolding routeBranches branchText
-nets-none log nets start before small = record { within = omega arith; filled = filled-none start before small }
+pub nets-none : (line : Branch → List ℕ) (log : List ℕ) (nets start : ℕ) (before : List ℕ) → start < 2 ^ 64 → PuttingNets line log nets start before before start 0
+unfolding routeBranches flatMap
+nets-none line log nets start before small = record { within = omega arith; filled = filled-none start before small }
 
-module _ {log : List ℕ} {nets start next net : ℕ} {before after : List ℕ} (p : PuttingNets log nets start before after next net) where
+module _ {line : Branch → List ℕ} {log : List ℕ} {nets start next net : ℕ} {before after : List ℕ} (p : PuttingNets line log nets start before after next net) where
   pub nets-more :
       {later : List ℕ} {further from to : ℕ} → net < nets → Latest log net from to
-      → Filled next (branchText (recordBranches (ownRecords net (decode (part log from to))))) after later further
-      → PuttingNets log nets start before later further (net + 1)
+      → Filled next (flatMap line (recordBranches (ownRecords net (decode (part log from to))))) after later further
+      → PuttingNets line log nets start before later further (net + 1)
   unfolding routeBranches treeBranches
   nets-more {later} {further} {from} {to} l places q =
       record {
         within = omega arith;
         filled =
-            rw (add-one net, text-append (routeBranches net (decode log)) (treeBranches net (decode log)))
+            rw (add-one net, flat-append line (routeBranches net (decode log)) (treeBranches net (decode log)))
             (filled-then (p .filled)
-            (subst (λ (rs : List Record). Filled next (branchText (recordBranches rs)) after later further) (places .own) q));
+            (subst (λ (rs : List Record). Filled next (flatMap line (recordBranches rs)) after later further) (places .own) q));
       }
 
-  pub nets-all : nets ≤ net → Filled start (branchText (routeBranches nets (decode log))) before after next
+  pub nets-all : nets ≤ net → Filled start (flatMap line (routeBranches nets (decode log))) before after next
   nets-all l =
       let end : net ≡ nets = omega (arith, p .within) in
-      subst (λ (n : ℕ). Filled start (branchText (routeBranches n (decode log))) before after next) end (p .filled)
+      subst (λ (n : ℕ). Filled start (flatMap line (routeBranches n (decode log))) before after next) end (p .filled)

@@ -4,6 +4,7 @@
 --     LogHolds          an accepted job's log is never refused by 10
 --     BranchHolds       the branches of any sound log's routes are those of its nets' final trees
 --     ListedHolds       the B lines list exactly the path steps of each net's latest records, the J lines the nets joined into another
+--     PictureHolds      the picture and the routes text of a sound log list the same branches, and each text determines its list
 -- A line at a place of the text, for the functions that read it:
 --     FieldLaws         a byte, a number, a field, the fields of a line
 --     SideLaws          two clauses of a contract in a walk by hand
@@ -40,11 +41,12 @@
 --     StepListLaws      path steps of the latest records as a list
 --     JoinListLaws      joined nets as a list
 --     PlacedLaws        bytes placed in a buffer
+--     DotLaws           the line of a branch in a picture
 --     StepTextLaws      the lines of one path
 --     BranchLaws        the lines of a net's records, and of the nets in order
 --     LatestLaws        where the latest records of each net stand
 --     JoinTextLaws      the marks of first nets, and the J lines
---     RouteTextLaws     the parts of the routes text, and the writer's answers
+--     RouteTextLaws     the parts of either text, and the writer's answers
 --     RouteLineLaws     B and J lines read again
 -- Assumes nothing.
 pub mod LastLaws
@@ -63,6 +65,7 @@ pub mod ReaderLaws
 pub mod ReadJobLaws
 pub mod DecimalLaws
 pub mod PlacedLaws
+pub mod DotLaws
 pub mod LineReplyLaws
 pub mod PrintLaws
 pub mod OptionalTextLaws
@@ -89,4 +92,5 @@ pub mod ShortRecordLaws
 pub mod BranchHolds
 pub mod JoinListLaws
 pub mod ListedHolds
+pub mod PictureHolds
 pub mod TextHolds

@@ -25,7 +25,7 @@ use Rattle.text.specs.Listed.{RouteLines, ended, branch, join, stepsByNe
 use Rattle.text.proofs.RecordTestLaws.{recordLength}
 use Rattle.text.proofs.LogLaws.{soundAfter, firstRecord, found-all}
 use Rattle.text.proofs.RouteTextLaws.{writable-within, writable-few}
-use Rattle.text.proofs.RouteLineLaws.{lines-read, none-read, first-branch, first-join, lines-printed}
+use Rattle.text.proofs.RouteLineLaws.{branchFields, Printable, lines-read, none-read, first-branch, first-join, lines-printed}
 use Rattle.text.proofs.JoinListLaws.{joins-only, joins-all, join-printable}
 use Rattle.text.proofs.StepListLaws.{branches-are, steps-only, steps-all}
 use Rattle.text.proofs.ShortRecordLaws.{decode-first, all-short, step-printable}
@@ -48,6 +48,18 @@ last-of earlier last =
 
 -- ---- the text lists what the log asks
 
+-- the numbers of its branches are short enough for a field
+pub steps-printable :
+    (sources log : List ℕ) → sourcesSound nodesMost sources ≡ true → logSound (netWritable sources) log ≡ true
+    → (b : Branch) → List·Memᴰ b (stepsByNet (length sources) (decode log)) → Printable (branchFields b)
+unfolding soundWords
+steps-printable sources log table t b m =
+    let net : (ℕ → Bool) = netWritable sources in
+    let o = steps-only (length sources) (decode log) b m in
+    rw (o .branch-is)
+    (step-printable net (o .turn) (writable-few sources table) (all-short net (length log) 0 log (omega arith) (found-all net log t) (o .turn) (o .logged))
+    (o .place) (o .within))
+
 -- the routes text of a sound log
 pub routes-listed : (sources log : List ℕ) → sourcesSound nodesMost sources ≡ true → logSound (netWritable sources) log ≡ true → Listed sources log (routesText sources (decode log))
 unfolding logSound soundWords routesText
@@ -66,11 +78,7 @@ routes-listed sources log table t =
       text-is = rw (iteration, branches-are (length sources) (decode log));
       lines =
           lines-read (routeJoins sources) (λ p m. join-printable p (joins-only sources p m) (sources-few nodesMost sources table))
-          (stepsByNet (length sources) (decode log))
-          (λ b m.
-          let o = steps-only (length sources) (decode log) b m in
-          rw (o .branch-is)
-          (step-printable net (o .turn) (writable-few sources table) (all-short net (length log) 0 log (omega arith) all (o .turn) (o .logged)) (o .place) (o .within)));
+          (stepsByNet (length sources) (decode log)) (steps-printable sources log table t);
     }
 
 -- ---- reading again

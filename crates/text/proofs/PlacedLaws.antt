@@ -1,13 +1,13 @@
 -- Bytes placed in a buffer: one piece behind the other, and a byte in front of others.
 -- Assumes nothing.
-use mathlib.Core.List.{List, [], _∷_, _++_, append-assoc}
+use mathlib.Core.List.{List, [], _∷_, _++_, append-assoc, append-nil}
 use mathlib.Core.Path.{_≡_, refl, sym, _∙_, ap}
 use Prim.Native.Nat.{ℕ, suc, _+_, _-_, _/_, _%_, _^_, _≤_, _<_}
 use native.Mathlib.Nat.{zero-add, add-assoc, add-zero}
 use native.Mathlib.Numerals.{add-one}
 use native.Mathlib.Omega.{arith}
-use lib.ListN.{length, take, drop, set, getD, length-append, length-take, length-drop, length-set, take-append-drop}
-use lib.Seq.{length-take-le, take-at, drop-append-add, drop-drop, take-suc, append-snoc, set-at, set-split}
+use lib.ListN.{length, take, drop, set, getD, length-append, length-take, length-drop, length-set, take-append-drop, drop-of-length-le}
+use lib.Seq.{length-take-le, take-all, take-length, take-at, drop-append-add, drop-drop, take-suc, append-snoc, set-at, set-split}
 use Rattle.text.specs.Decimal.{decimal}
 use Rattle.text.specs.Lines.{lf, comma, printFields, printLine}
 use Rattle.text.specs.ReadReplies.{writtenOver}
@@ -129,15 +129,42 @@ pub put-room : {at p : ℕ} {xs b₀ b₁ : List ℕ} → Put at xs b₀ b₁ p 
 put-room {at} {p} {xs} {b₀} {b₁} f k fits =
     rw (f .next-is, put-length f (omega arith)) (omega arith)
 
+-- bytes copied to the front of what the buffer has from a place on
+pub put-over :
+    (at : ℕ) (bytes buffer : List ℕ) {part : List ℕ} → at + length bytes ≤ length buffer
+    → part ≡ take (length bytes) bytes ++ drop (length bytes) (take (length buffer - at) (drop at buffer))
+    → Put at bytes buffer (take at buffer ++ (part ++ drop (length buffer - at) (drop at buffer))) (at + length bytes)
+unfolding placed
+put-over at bytes buffer {part} fits e =
+    let short : length (drop at buffer) ≤ length buffer - at = rw (length-drop at buffer) (omega arith) in
+    record {
+      written =
+          rw (
+            drop-of-length-le (drop at buffer) short,
+            append-nil part,
+            e,
+            take-length bytes,
+            take-all (length buffer - at) (drop at buffer) short,
+            drop-drop (length bytes) at buffer,
+          );
+      next-is = refl;
+    }
+
+-- a piece before the rest
+pub put-onward :
+    {p q r : ℕ} {b₁ b₂ b₃ : List ℕ} (xs rest : List ℕ) → Put p xs b₁ b₂ q → p + length (xs ++ rest) ≤ length b₁
+    → (q + length rest ≤ length b₂ → Put q rest b₂ b₃ r) → Put p (xs ++ rest) b₁ b₃ r
+put-onward xs rest f fits more =
+    let l = length-append xs rest in
+    put-then f (more (put-room f (length rest) (omega arith))) (omega arith)
+
 -- a field before the rest of its line
 pub put-field-then :
     {p q r : ℕ} {b₁ b₂ b₃ : List ℕ} (v : ℕ) (vs : List ℕ)
     → Put p (comma ∷ decimal v) b₁ b₂ q → p + length (printFields (v ∷ vs)) ≤ length b₁
     → (q + length (printFields vs) ≤ length b₂ → Put q (printFields vs) b₂ b₃ r) → Put p (printFields (v ∷ vs)) b₁ b₃ r
 unfolding printFields
-put-field-then v vs f fits rest =
-    let l = length-append (decimal v) (printFields vs) in
-    put-then f (rest (put-room f (length (printFields vs)) (omega arith))) (omega arith)
+put-field-then v vs = put-onward (comma ∷ decimal v) (printFields vs)
 
 -- the letter before the fields
 pub put-letter-then :
@@ -145,8 +172,7 @@ pub put-letter-then :
     → Put at (letter ∷ []) b₀ b₁ p → at + length (printLine letter vs) ≤ length b₀
     → (p + length (printFields vs) ≤ length b₁ → Put p (printFields vs) b₁ b₂ q) → Put at (printLine letter vs) b₀ b₂ q
 unfolding printLine
-put-letter-then vs f fits rest =
-    put-then f (rest (put-room f (length (printFields vs)) (omega arith))) (omega arith)
+put-letter-then {letter = letter} vs = put-onward (letter ∷ []) (printFields vs)
 
 -- LF is what a line without further fields has
 pub put-last : {p q : ℕ} {b₀ b₁ : List ℕ} → Put p (lf ∷ []) b₀ b₁ q → Put p (printFields []) b₀ b₁ q

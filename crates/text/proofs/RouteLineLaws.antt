@@ -4,7 +4,7 @@
 --     lines-printed                     only the printed lines give them
 -- Assumes nothing.
 use mathlib.Core.Bool.{true}
-use mathlib.Core.List.{List, [], _∷_, _++_, append-assoc, List·Memᴰ, List·Memᴰ·head, List·Memᴰ·tail}
+use mathlib.Core.List.{List, [], _∷_, _++_, append-assoc, flatMap, List·Memᴰ, List·Memᴰ·head, List·Memᴰ·tail}
 use mathlib.Core.Path.{_≡_, refl, sym, _∙_, ap, subst}
 use Prim.Native.Nat.{ℕ, _^_}
 use native.Mathlib.Omega.{arith}
@@ -12,7 +12,7 @@ use lib.Dec.{ltb}
 use lib.ListN.{getD}
 use Rattle.price.specs.Lists.{every}
 use Rattle.text.specs.Lines.{letterB, letterJ, taken, line, printLine}
-use Rattle.text.specs.Routes.{Branch, branchText, Join, joinText}
+use Rattle.text.specs.Routes.{Branch, branchLine, branchText, Join, joinText}
 use Rattle.text.specs.Listed.{RouteLines, ended, branch, join}
 use Rattle.text.proofs.PrintLaws.{line-printed, printed-line}
 
@@ -36,7 +36,7 @@ joins-read (p ∷ ps) h =
 -- printed branches and joined nets are read back
 module _ (ps : List Join) (js : (p : Join) → List·Memᴰ p ps → Printable (joinFields p)) where
   pub lines-read : (bs : List Branch) → ((b : Branch) → List·Memᴰ b bs → Printable (branchFields b)) → RouteLines (branchText bs ++ joinText ps) bs ps
-  unfolding branchText
+  unfolding flatMap branchLine
   lines-read [] h = joins-read ps js
   lines-read (b ∷ bs) h =
       rw (append-assoc (printLine letterB (branchFields b)) (branchText bs) (joinText ps))
@@ -97,7 +97,7 @@ first-join {bytes = bytes} {p = p} e (join {ps = rs} f q) =
 
 -- the text that gives some branches and joined nets is the one that prints them
 pub lines-printed : {bytes : List ℕ} {bs : List Branch} {ps : List Join} → RouteLines bytes bs ps → bytes ≡ branchText bs ++ joinText ps
-unfolding branchText joinText
+unfolding flatMap branchLine joinText
 lines-printed ended = refl
 lines-printed (branch {bytes = bytes} {rest = rest} {b = b} {bs = bs} {ps = ps} e p) =
     printed-line letterB 3 bytes (branchFields b) rest e .1

@@ -1,4 +1,5 @@
 -- The path steps of the nets' latest records, as a list and branch by branch.
+--     flat-append                   what two lists give, one after the other
 --     branches-are                  the branches of the routes text are these steps
 --     steps-only, steps-all         a branch is among them exactly where a record of its net's latest iteration has it as a step of its path
 -- Assumes nothing.
@@ -87,7 +88,7 @@ unfolding recordBranches flatMap
 record-steps [] = refl
 record-steps (r ∷ rs) = rw (steps-are r, record-steps rs)
 
-flat-append : {A : Type 0} (f : A → List Branch) (xs ys : List A) → flatMap f (xs ++ ys) ≡ flatMap f xs ++ flatMap f ys
+pub flat-append : {A B : Type 0} (f : A → List B) (xs ys : List A) → flatMap f (xs ++ ys) ≡ flatMap f xs ++ flatMap f ys
 unfolding flatMap
 flat-append f [] ys = refl
 flat-append f (x ∷ xs) ys = rw (flat-append f xs ys) (sym (append-assoc (f x) (flatMap f xs) (flatMap f ys)))

@@ -1,18 +1,18 @@
 -- The lines of a path's steps, one after the other.
---     letter-any, line-                a line is as long with any letter
+--     letter-any                       a line is as long with any letter
 --     filled-                          a text that is counted, and written where the buffer has room
 --     FilledSoFar, so-far-             one of which a beginning is passed
 --     stepLine, stepsLeft              the lines of the steps, and of those from a place on
 --     PuttingSteps, putting-           going from step to step
 -- Assumes nothing.
-use mathlib.Core.List.{List, [], _∷_, _++_, append-assoc, append-nil}
+use mathlib.Core.List.{List, [], _∷_, _++_, append-assoc, append-nil, flatMap}
 use mathlib.Core.Path.{_≡_, refl, sym, _∙_, ap, subst}
 use Prim.Native.Nat.{ℕ, suc, _+_, _-_, _^_, _≤_, _<_}
 use native.Mathlib.Omega.{arith}
-use lib.ListN.{length, getD, drop, length-append, length-take, length-drop}
+use lib.ListN.{length, getD, take, drop, length-append, length-take, length-drop}
 use lib.Seq.{getD-take, getD-drop, drop-cons, length-take-le}
-use Rattle.text.specs.Lines.{letterB, printLine}
-use Rattle.text.specs.Routes.{steps, branchText, capped}
+use Rattle.text.specs.Lines.{printLine}
+use Rattle.text.specs.Routes.{Branch, branchOf, steps, capped}
 use Rattle.text.specs.WriteSteps.{Put, Filled, part}
 use Rattle.text.proofs.PlacedLaws.{placed-none, placed-append, put-length}
 
@@ -22,14 +22,6 @@ use Rattle.text.proofs.PlacedLaws.{placed-none, placed-append, put-leng
 pub letter-any : (a b : ℕ) (vs : List ℕ) → length (printLine a vs) ≡ length (printLine b vs)
 unfolding printLine
 letter-any a b vs = refl
-
--- the place behind a line, by its length with no letter
-pub line-counted : (letter : ℕ) (vs : List ℕ) (at : ℕ) {long next : ℕ} → long ≡ length (printLine 0 vs) → next ≡ capped (at + long) → next ≡ capped (at + length (printLine letter vs))
-line-counted letter vs at l e = omega (arith, letter-any 0 letter vs)
-
--- what has room with one letter has it with another
-pub line-fits : (letter other : ℕ) (vs : List ℕ) (at most : ℕ) → at + length (printLine letter vs) ≤ most → at + length (printLine other vs) ≤ most
-line-fits letter other vs at most h = rw (letter-any other letter vs) h
 
 -- ---- a text that is counted, and written where there is room
 
@@ -98,29 +90,29 @@ steps-short net (u ∷ v ∷ path) h = absurd (omega arith)
 
 steps-cons :
     (net : ℕ) (path : List ℕ) (j : ℕ) → suc j < length path →
-    steps net (drop j path) ≡ record { net = net; from = getD path j 0; to = getD path (suc j) 0 } ∷ steps net (drop (suc j) path)
+    steps net (drop j path) ≡ branchOf net (getD path j 0) (getD path (suc j) 0) ∷ steps net (drop (suc j) path)
 unfolding steps
 steps-cons net path j h = rw (drop-cons path j 0 (omega arith), drop-cons path (suc j) 0 h)
 
 -- the line of the step to a place of the log
-abbrev pub stepLine : ℕ → List ℕ → ℕ → List ℕ
-stepLine net log k = printLine letterB (net ∷ getD log (k - 1) 0 ∷ getD log k 0 ∷ [])
+abbrev pub stepLine : (Branch → List ℕ) → ℕ → List ℕ → ℕ → List ℕ
+stepLine line net log k = line (branchOf net (getD log (k - 1) 0) (getD log k 0))
 
 -- the lines of the steps to this place and those after it
-abbrev pub stepsLeft : ℕ → List ℕ → ℕ → ℕ → ℕ → List ℕ
-stepsLeft net log from to k = branchText (steps net (drop (k - (from + 1)) (part log from to)))
+abbrev pub stepsLeft : (Branch → List ℕ) → ℕ → List ℕ → ℕ → ℕ → ℕ → List ℕ
+stepsLeft line net log from to k = flatMap line (steps net (drop (k - (from + 1)) (part log from to)))
 
-left-start : (net : ℕ) (log : List ℕ) (from to : ℕ) → stepsLeft net log from to (from + 1) ≡ branchText (steps net (part log from to))
-left-start net log from to =
+left-start : (line : Branch → List ℕ) (net : ℕ) (log : List ℕ) (from to : ℕ) → stepsLeft line net log from to (from + 1) ≡ flatMap line (steps net (part log from to))
+left-start line net log from to =
     let none : from + 1 - (from + 1) ≡ 0 = omega arith in
     rw none
 
-module _ (net : ℕ) (log : List ℕ) (from to k : ℕ) (above : from + 1 ≤ k) (fits : to ≤ length log) where
+module _ (line : Branch → List ℕ) (net : ℕ) (log : List ℕ) (from to k : ℕ) (above : from + 1 ≤ k) (fits : to ≤ length log) where
   part-long : length (part log from to) ≤ to - from
   part-long = rw (length-take (to - from) (drop from log)) (omega arith)
 
-  left-more : k < to → stepsLeft net log from to k ≡ stepLine net log k ++ stepsLeft net log from to (k + 1)
-  unfolding branchText
+  left-more : k < to → stepsLeft line net log from to k ≡ stepLine line net log k ++ stepsLeft line net log from to (k + 1)
+  unfolding flatMap
   left-more l =
       let j = k - (from + 1) in
       let long : length (part log from to) ≡ to - from =
@@ -134,36 +126,36 @@ module _ (net : ℕ) (log : List ℕ) (from to k : ℕ) (above : from + 1 ≤ k)
       getD-take (to - from) (drop from log) (suc j) 0 (omega arith) ∙ getD-drop from log (suc j) 0 ∙ ap (λ (i : ℕ). getD log i 0) place′ in
       rw (next, steps-cons net (part log from to) j (rw long (omega arith)), one, two)
 
-  left-none : to ≤ k → stepsLeft net log from to k ≡ []
-  unfolding branchText
+  left-none : to ≤ k → stepsLeft line net log from to k ≡ []
+  unfolding flatMap
   left-none l =
       let most = part-long in
       rw (steps-short net (drop (k - (from + 1)) (part log from to)) (rw (length-drop (k - (from + 1)) (part log from to)) (omega arith)))
 
 -- the lines of the steps before a place are passed
-pub record PuttingSteps (net : ℕ) (log : List ℕ) (from to start : ℕ) (before after : List ℕ) (next k : ℕ) : Type 0 where
+pub record PuttingSteps (line : Branch → List ℕ) (net : ℕ) (log : List ℕ) (from to start : ℕ) (before after : List ℕ) (next k : ℕ) : Type 0 where
   pub above : from + 1 ≤ k
-  pub writing : FilledSoFar start (branchText (steps net (part log from to))) (stepsLeft net log from to k) before after next
+  pub writing : FilledSoFar start (flatMap line (steps net (part log from to))) (stepsLeft line net log from to k) before after next
 
-pub putting-none : (net : ℕ) (log : List ℕ) (from to start : ℕ) (before : List ℕ) → start < 2 ^ 64 → PuttingSteps net log from to start before before start (from + 1)
-putting-none net log from to start before small =
+pub putting-none : (line : Branch → List ℕ) (net : ℕ) (log : List ℕ) (from to start : ℕ) (before : List ℕ) → start < 2 ^ 64 → PuttingSteps line net log from to start before before start (from + 1)
+putting-none line net log from to start before small =
     record {
       above = omega arith;
-      writing = rw (left-start net log from to) (so-far-none start (branchText (steps net (part log from to))) before small);
+      writing = rw (left-start line net log from to) (so-far-none start (flatMap line (steps net (part log from to))) before small);
     }
 
-module _ {net from to start next k : ℕ} {log before after : List ℕ} (fits : to ≤ length log) (p : PuttingSteps net log from to start before after next k) where
-  pub putting-all : to ≤ k → Filled start (branchText (steps net (part log from to))) before after next
-  putting-all l = so-far-all (rw (left-none net log from to k (p .above) fits l) at (p .writing))
+module _ {line : Branch → List ℕ} {net from to start next k : ℕ} {log before after : List ℕ} (fits : to ≤ length log) (p : PuttingSteps line net log from to start before after next k) where
+  pub putting-all : to ≤ k → Filled start (flatMap line (steps net (part log from to))) before after next
+  putting-all l = so-far-all (rw (left-none line net log from to k (p .above) fits l) at (p .writing))
 
   pub putting-more :
-      {later : List ℕ} {further : ℕ} → k < to → Filled next (stepLine net log k) after later further
-      → PuttingSteps net log from to start before later further (k + 1)
+      {later : List ℕ} {further : ℕ} → k < to → Filled next (stepLine line net log k) after later further
+      → PuttingSteps line net log from to start before later further (k + 1)
   putting-more l q =
       let above = p .above in
       record {
         above = omega arith;
         writing =
-            so-far-more (stepLine net log k) (stepsLeft net log from to (k + 1))
-            (rw (left-more net log from to k above fits l) at (p .writing)) q;
+            so-far-more (stepLine line net log k) (stepsLeft line net log from to (k + 1))
+            (rw (left-more line net log from to k above fits l) at (p .writing)) q;
       }

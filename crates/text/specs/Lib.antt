@@ -5,7 +5,9 @@ pub mod Printed
 pub mod Steps
 pub mod ReadReplies
 pub mod Routes
+pub mod Dot
 pub mod Listed
+pub mod Pictured
 pub mod ReadSteps
 pub mod WriteSteps
 pub mod LineReplies

@@ -2,7 +2,7 @@
 -- branches by net: sound logs, branches, joined nets, and what the writer answers and leaves.
 -- Assumes nothing.
 use mathlib.Core.Bool.{Bool, not}
-use mathlib.Core.List.{List, [], _∷_, _++_, map}
+use mathlib.Core.List.{List, [], _∷_, _++_, map, flatMap}
 use Prim.Native.Nat.{ℕ, zero, suc, _+_, _-_, _^_, min}
 use lib.Dec.{leb, ltb, eqb}
 use lib.ListN.{length, getD, take, drop}
@@ -67,11 +67,14 @@ pub record Branch : Type 0 where
   pub from : ℕ
   pub to : ℕ
 
+abbrev pub branchOf : ℕ → ℕ → ℕ → Branch
+branchOf net from to = record { net = net; from = from; to = to }
+
 -- "each path step"
 unfoldable pub steps : ℕ → List ℕ → List Branch
 steps net [] = []
 steps net (u ∷ []) = []
-steps net (u ∷ v ∷ path) = record { net = net; from = u; to = v } ∷ steps net (v ∷ path)
+steps net (u ∷ v ∷ path) = branchOf net u v ∷ steps net (v ∷ path)
 
 -- the iteration of the last record
 unfoldable pub lastIteration : List Record → ℕ
@@ -110,9 +113,11 @@ ofNet i [] = []
 ofNet i (b ∷ bs) = choose (eqb (b .net) i) (b ∷ ofNet i bs) (ofNet i bs)
 
 -- "`B,net,from,to`"
-unfoldable pub branchText : List Branch → List ℕ
-branchText [] = []
-branchText (b ∷ bs) = printLine letterB (b .net ∷ b .from ∷ b .to ∷ []) ++ branchText bs
+unfoldable pub branchLine : Branch → List ℕ
+branchLine b = printLine letterB (b .net ∷ b .from ∷ b .to ∷ [])
+
+abbrev pub branchText : List Branch → List ℕ
+branchText bs = flatMap branchLine bs
 
 -- ---- joined nets
 
@@ -163,12 +168,16 @@ textReply text buffer =
     choose (ltb (length buffer) (length text)) (notWritten (11 ∷ capped (length text) ∷ []) buffer)
     (record { refusal = []; bytes = length text; buffer = writtenOver text buffer })
 
--- request 2.3: "one of no or over 512 entries, or with an entry of 4,096 or more, is refused with 5 before 10"
-unfoldable pub writeReply : List ℕ → List ℕ → List ℕ → WriteReply
-writeReply sources log buffer =
+-- the writer's tests before a text of table 5 and the log's records; request 2.3: "one of no or over 512 entries, or with an entry of
+-- 4,096 or more, is refused with 5 before 10"
+unfoldable pub testedReply : (List ℕ → List Record → List ℕ) → List ℕ → List ℕ → List ℕ → WriteReply
+testedReply text sources log buffer =
     choose (not (sourcesSound nodesMost sources)) (notWritten (5 ∷ 5 ∷ []) buffer)
     (choose (not (logSound (netWritable sources) log)) (notWritten (10 ∷ soundWords (netWritable sources) log ∷ []) buffer)
-    (textReply (routesText sources (decode log)) buffer))
+    (textReply (text sources (decode log)) buffer))
+
+abbrev pub writeReply : List ℕ → List ℕ → List ℕ → WriteReply
+writeReply sources log buffer = testedReply routesText sources log buffer
 
 -- 01's numbers for each case of the answer
 abbrev pub writeRefusal : WriteAnswer → List ℕ

@@ -1,7 +1,7 @@
 -- What the contracts of the writer's private functions say.
 -- Assumes nothing.
 use mathlib.Core.Bool.{Bool, true}
-use mathlib.Core.List.{List, _++_}
+use mathlib.Core.List.{List, [], _∷_, _++_}
 use mathlib.Core.Path.{_≡_}
 use Prim.Native.Nat.{ℕ, _+_, _-_, _^_, _≤_, _<_}
 use lib.Dec.{eqb}
@@ -9,7 +9,11 @@ use lib.ListN.{length, getD, take, drop}
 use Rattle.price.specs.Test.{choose}
 use Rattle.negotiation.specs.Tables.{netsMost}
 use Rattle.negotiation.specs.Records.{Record, decode}
-use Rattle.text.specs.Routes.{logSound, soundWords, lastIteration, passing, finalRecords, capped}
+use Rattle.text.specs.Lines.{letterR, printLine}
+use Rattle.text.specs.Routes.{logSound, soundWords, lastIteration, passing, finalRecords, routeJoins, joinText, capped}
+use Rattle.text.specs.Dot.{dotHead, dotEnd}
+use Rattle.text.specs.declared.Style.{Style}
+use Rattle.text.specs.declared.Style.the-variants as s
 use Rattle.text.specs.declared.log_check.LogCheck.{LogCheck}
 use Rattle.text.specs.declared.log_check.LogCheck.the-variants as k
 
@@ -28,6 +32,16 @@ pub record Filled (at : ℕ) (bytes before after : List ℕ) (next : ℕ) : Type
   pub counted : next ≡ capped (at + length bytes)
   pub kept : length after ≡ length before
   pub written : at + length bytes < 2 ^ 64 → at + length bytes ≤ length before → after ≡ placed at bytes before
+
+-- what stands before the branches
+abbrev pub headText : Style → ℕ → ℕ → List ℕ
+headText s.Lines iteration turns = printLine letterR (iteration ∷ turns ∷ [])
+headText s.Picture iteration turns = dotHead
+
+-- and after them
+abbrev pub tailText : Style → List ℕ → List ℕ
+tailText s.Lines sources = joinText (routeJoins sources)
+tailText s.Picture sources = dotEnd
 
 -- the nets that bear the mark 1
 unfoldable pub named : List ℕ → ℕ → Bool

@@ -24,7 +24,7 @@ pub fn digit_count(n: u64) -> usize
 }
 
 // Writes a number's digits, the last one first. 48 is the digit 0.
-fn put_number(buffer: &mut [u8], at: usize, n: u64) -> usize
+pub fn put_number(buffer: &mut [u8], at: usize, n: u64) -> usize
     requires { ⌜ at + length (decimal n) ≤ length (now buffer) ⌝ }
     ensures { λ r. ⌜ Put at (decimal n) (now (buffer .entry)) (now (buffer .exit)) r ⌝ }
 {

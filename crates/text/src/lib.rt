@@ -3,7 +3,8 @@ ghost use mathlib.Core.Path.{_≡_};
 ghost use Rattle.text.specs.ReadReplies.{tablesOf, lowestShort, storedReply, readReply, readReplyOf};
 ghost use Prim.Native.Nat.{_≤_};
 ghost use Rattle.text.specs.ReadSteps.{RoomForAll, CountsWithin, jobTaken};
-ghost use Rattle.text.specs.Routes.{routesText, textReply, writeReply, writeReplyOf};
+ghost use Rattle.text.specs.Routes.{textReply, writeReply, writeReplyOf};
+ghost use Rattle.text.specs.Dot.{textIn, dotReply, styleReply};
 ghost use Rattle.text.specs.WriteSteps.{Found, LatestPlaces};
 ghost use Rattle.negotiation.specs.Records.{decode};
 ghost use Rattle.negotiation.specs.Tables.{netsMost};
@@ -28,6 +29,12 @@ pub enum ReadAnswer {
     ShortTable(u32),
 }
 
+// The two texts of a log: the lines of its routes, or their picture.
+pub enum Style {
+    Lines,
+    Picture,
+}
+
 // What the writer answers.
 pub enum WriteAnswer {
     // So many bytes are written.
@@ -36,7 +43,7 @@ pub enum WriteAnswer {
     BadTable(u32),
     // 10: the record that begins at this word is unsound.
     Unsound(usize),
-    // 11: the buffer is shorter than the routes text, which takes so many bytes.
+    // 11: the buffer is shorter than the text, which takes so many bytes.
     ShortBuffer(u64),
 }
 
@@ -44,6 +51,7 @@ mod bounds;
 mod branches;
 mod copy;
 mod decimal;
+mod dot;
 mod edges;
 mod fields;
 mod head;
@@ -53,6 +61,7 @@ mod log_check;
 mod nets;
 mod nodes;
 mod optional;
+mod parts;
 mod printing;
 mod reader;
 mod rule;
@@ -257,8 +266,9 @@ pub fn read_job(
     }
 }
 
-// Writes the routes text of a sound log with this last iteration and so many turns, by the places of the nets' latest records.
+// Writes a text of a sound log with this last iteration and so many turns, by the places of the nets' latest records.
 fn write_lines(
+    style: Style,
     source: &[u16],
     log: &[u32],
     from: &[usize],
@@ -270,24 +280,25 @@ fn write_lines(
     requires { ⌜ (length (now source) ≤ netsMost) × Found (now log) iteration turns ⌝ }
     requires { ⌜ (netsMost ≤ length (now from)) × (netsMost ≤ length (now to)) × LatestPlaces (now log) (now from) (now to) ⌝ }
     ensures { λ r. ⌜ writeReplyOf r (now (buffer .exit))
-        ≡ textReply (routesText (now (source .entry)) (decode (now (log .entry)))) (now (buffer .entry)) ⌝ }
+        ≡ textReply (textIn style (now (source .entry)) (decode (now (log .entry)))) (now (buffer .entry)) ⌝ }
 {
     let mut none = [0u8; 0];
-    let head = decimal::two_length(iteration as u64, turns as u64) as u64;
+    let head = parts::head_length(style, iteration as u64, turns as u64) as u64;
     let needed = branches::capped_sum(
-        head + joins::joins_length(source),
-        branches::put_branches(log, source.len(), from, to, &mut none, 0),
+        head + parts::tail_length(style, source),
+        branches::put_branches(style, log, source.len(), from, to, &mut none, 0),
     );
     if (buffer.len() as u64) < needed {
         return WriteAnswer::ShortBuffer(needed);
     }
-    let at = decimal::put_two(buffer, 0, b'R', iteration as u64, turns as u64);
-    let next = branches::put_branches(log, source.len(), from, to, buffer, at as u64);
-    WriteAnswer::Written(joins::put_joins(source, buffer, next as usize))
+    let at = parts::put_head(style, buffer, iteration as u64, turns as u64);
+    let next = branches::put_branches(style, log, source.len(), from, to, buffer, at as u64);
+    WriteAnswer::Written(parts::put_tail(style, source, buffer, next as usize))
 }
 
 // Finds these places and writes the text.
 fn write_text(
+    style: Style,
     source: &[u16],
     log: &[u32],
     iteration: u32,
@@ -296,12 +307,29 @@ fn write_text(
 ) -> WriteAnswer
     requires { ⌜ (length (now source) ≤ netsMost) × Found (now log) iteration turns ⌝ }
     ensures { λ r. ⌜ writeReplyOf r (now (buffer .exit))
-        ≡ textReply (routesText (now (source .entry)) (decode (now (log .entry)))) (now (buffer .entry)) ⌝ }
+        ≡ textReply (textIn style (now (source .entry)) (decode (now (log .entry)))) (now (buffer .entry)) ⌝ }
 {
     let mut from = [0usize; 512];
     let mut to = [0usize; 512];
     latest::latest_records(log, &mut from, &mut to);
-    write_lines(source, log, &from, &to, iteration, turns, buffer)
+    write_lines(style, source, log, &from, &to, iteration, turns, buffer)
+}
+
+// Writes either text of a log, after the writer's tests of table 5 and of the log.
+pub fn write_style(style: Style, source: &[u16], log: &[u32], buffer: &mut [u8]) -> WriteAnswer
+    ensures answers { λ r. ⌜ writeReplyOf r (now (buffer .exit))
+        ≡ styleReply style (now (source .entry)) (now (log .entry)) (now (buffer .entry)) ⌝ }
+{
+    if !negotiation::sources_sound(bounds::NODES_MOST as usize, source) {
+        return WriteAnswer::BadTable(5);
+    }
+    let marks = joins::first_marks(source);
+    match log_check::check_log(&marks, log) {
+        LogCheck::Sound { iteration, turns } => {
+            write_text(style, source, log, iteration, turns, buffer)
+        }
+        LogCheck::Unsound(word) => WriteAnswer::Unsound(word),
+    }
 }
 
 // Writes the routes text of a log: its last record's iteration with the turn count, each net's branches of its latest
@@ -310,12 +338,13 @@ pub fn write_routes(source: &[u16], log: &[u32], buffer: &mut [u8]) -> WriteAnsw
     ensures answers { λ r. ⌜ writeReplyOf r (now (buffer .exit))
         ≡ writeReply (now (source .entry)) (now (log .entry)) (now (buffer .entry)) ⌝ }
 {
-    if !negotiation::sources_sound(bounds::NODES_MOST as usize, source) {
-        return WriteAnswer::BadTable(5);
-    }
-    let marks = joins::first_marks(source);
-    match log_check::check_log(&marks, log) {
-        LogCheck::Sound { iteration, turns } => write_text(source, log, iteration, turns, buffer),
-        LogCheck::Unsound(word) => WriteAnswer::Unsound(word),
-    }
+    write_style(Style::Lines, source, log, buffer)
+}
+
+// Writes the same branches as a picture in the DOT language of Graphviz.
+pub fn write_dot(source: &[u16], log: &[u32], buffer: &mut [u8]) -> WriteAnswer
+    ensures answers { λ r. ⌜ writeReplyOf r (now (buffer .exit))
+        ≡ dotReply (now (source .entry)) (now (log .entry)) (now (buffer .entry)) ⌝ }
+{
+    write_style(Style::Picture, source, log, buffer)
 }

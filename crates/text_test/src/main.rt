@@ -130,14 +130,22 @@ fn read_case(case: &[u8], count: usize, n: [u32; 7]) {
     read::end(case, 3);
 }
 
-// Calls the writer and prints the answer and the routes buffer.
-fn write_line(source: &[u16], log: &[u32], routes: &mut [u8]) {
-    write_answer(text::write_routes(source, log, routes));
+// Calls the writer of the text that the letter names.
+fn write_by(letter: u8, source: &[u16], log: &[u32], routes: &mut [u8]) -> WriteAnswer {
+    match letter {
+        b'w' => text::write_routes(source, log, routes),
+        _ => text::write_dot(source, log, routes),
+    }
+}
+
+// Calls it and prints the answer and the buffer.
+fn write_line(letter: u8, source: &[u16], log: &[u32], routes: &mut [u8]) {
+    write_answer(write_by(letter, source, log, routes));
     show::text(routes, routes.len());
 }
 
 // The writer on table 5 and the log of lines 2 and 3, with a routes buffer of 7s.
-fn write_case(case: &[u8], count: usize, n: [u32; 7]) {
+fn write_case(letter: u8, case: &[u8], count: usize, n: [u32; 7]) {
     let mut source = [0u16; 520];
     let mut log = [0u32; 4200];
     let mut routes = [7u8; 64];
@@ -145,14 +153,15 @@ fn write_case(case: &[u8], count: usize, n: [u32; 7]) {
     let nets = read::halves(case, 2, &mut source);
     let words = read::words(case, 3, &mut log);
     let size = read::of_bytes(n[0], &routes);
-    write_line(&source[..nets], &log[..words], &mut routes[..size]);
+    write_line(letter, &source[..nets], &log[..words], &mut routes[..size]);
     read::end(case, 4);
 }
 
 fn call(case: &[u8], count: usize, n: [u32; 7]) {
-    match lines::call(case, 0) {
+    let letter = lines::call(case, 0);
+    match letter {
         b'r' => read_case(case, count, n),
-        b'w' => write_case(case, count, n),
+        b'w' | b'd' => write_case(letter, case, count, n),
         _ => show::malformed(),
     }
 }

@@ -51,7 +51,7 @@ impl Log {
     /// A stored log of a job with these nets. Refused by [`Refusal::Record`] unless it is one or more sound records, each of a net
     /// that is the first of its source, and by [`Refusal::Table`] where the sources are none, over 512 or 4,096 and more.
     pub fn from_words(words: &[u32], nets: &Nets) -> Result<Log, Refusal> {
-        needed(&nets.source, words)?;
+        needed(raw::write, &nets.source, words)?;
         Ok(Log { words: words.to_vec() })
     }
 
@@ -79,8 +79,24 @@ impl Log {
     /// # Ok::<(), arvumnao::Refusal>(())
     /// ```
     pub fn routes(&self, nets: &Nets) -> Result<String, Refusal> {
-        let mut buffer = vec![0; needed(&nets.source, &self.words)?];
-        let told = out(|out| raw::write(&nets.source, &self.words, &mut buffer, out));
+        self.written(raw::write, nets)
+    }
+
+    /// The same branches as a picture in the DOT language of Graphviz. Refused as [`Log::routes`] is.
+    ///
+    /// ```
+    /// let text = "F,2,1,1,1\nN,0,0,1\nN,1,1,1\nE,0,1\nS,0,0\nT,0,1\n";
+    /// let job = arvumnao::Job::read(text.as_bytes())?;
+    /// assert_eq!(job.route()?.log.picture(&job.nets)?, "digraph r {\n0 -> 1 [label=\"0\"];\n}\n");
+    /// # Ok::<(), arvumnao::Refusal>(())
+    /// ```
+    pub fn picture(&self, nets: &Nets) -> Result<String, Refusal> {
+        self.written(raw::dot, nets)
+    }
+
+    fn written(&self, write: Writer, nets: &Nets) -> Result<String, Refusal> {
+        let mut buffer = vec![0; needed(write, &nets.source, &self.words)?];
+        let told = out(|out| write(&nets.source, &self.words, &mut buffer, out));
         match raw::refusal(&told) {
             [] => {}
             numbers => return Err(Refusal::unexpected(numbers)),
@@ -91,9 +107,12 @@ impl Log {
     }
 }
 
-/// The bytes that the routes text of a log needs: asked with an empty buffer, which is always too short.
-fn needed(source: &[u16], words: &[u32]) -> Result<usize, Refusal> {
-    let told = out(|out| raw::write(source, words, &mut [], out));
+/// The library's call that writes a text of a log.
+type Writer = fn(&[u16], &[u32], &mut [u8], &mut [u64]) -> u32;
+
+/// The bytes that the text of a log needs: asked with an empty buffer, which is always too short.
+fn needed(write: Writer, source: &[u16], words: &[u32]) -> Result<usize, Refusal> {
+    let told = out(|out| write(source, words, &mut [], out));
     match *raw::refusal(&told) {
         [11, needed] => Ok(needed as usize),
         [5, 5] => Err(Refusal::Table(TableFault::of_log(source))),

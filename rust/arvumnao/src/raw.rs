@@ -106,6 +106,11 @@ call! {
     fn write = arvumnao_write(source: &[u16], log: &[u32], buffer: &mut [u8], out: &mut [u64],)
 }
 
+call! {
+    /// Writes the picture of the same branches, in the DOT language of Graphviz. Own number: the bytes written.
+    fn dot = arvumnao_dot(source: &[u16], log: &[u32], buffer: &mut [u8], out: &mut [u64],)
+}
+
 /// The refusal's numbers in `out`, as many as that refusal has; none where nothing was refused.
 pub fn refusal(out: &[u64; OUT]) -> &[u64] {
     match out[0] {

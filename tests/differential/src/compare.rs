@@ -12,14 +12,14 @@ pub struct Answer {
 }
 
 /// One call with all that is lent to it: the search has a job's graph, tables 1 to 4, the reader its seven tables. The router is lent so
-/// many of the job's terms.
+/// many of the job's terms. The writer is that of the routes text or of the picture.
 #[derive(Clone, Debug, PartialEq, Eq)]
 pub enum Case {
     Price { kind: u32, factor: u32, others: u32, capacity: u32, history: u32 },
     Search { graph: Job, factor: u32, work: Vec<u64>, history: Vec<u32>, others: Vec<u16>, in_tree: Vec<u8> },
     Route { job: Job, terms: usize, work: Vec<u64>, log: Vec<u32> },
     Read { text: Vec<u8>, tables: Job },
-    Write { source: Vec<u16>, log: Vec<u32>, buffer: Vec<u8> },
+    Write { picture: bool, source: Vec<u16>, log: Vec<u32>, buffer: Vec<u8> },
 }
 
 /// How many own numbers a call has.
@@ -137,7 +137,8 @@ macro_rules! call {
                 lend(&mut tables.sink),
                 $($out)?
             ),
-            Case::Write { source, log, buffer } => $side::write(source, log, lend(buffer) $(, $out)?),
+            Case::Write { picture: false, source, log, buffer } => $side::write(source, log, lend(buffer) $(, $out)?),
+            Case::Write { picture: true, source, log, buffer } => $side::dot(source, log, lend(buffer) $(, $out)?),
         }
     };
 }
@@ -246,7 +247,7 @@ fn slices(case: &Case) -> Vec<(&'static str, Vec<u64>)> {
             list.extend(job_slices(tables));
             list
         }
-        Case::Write { source, log, buffer } => {
+        Case::Write { source, log, buffer, .. } => {
             vec![("source", wide(source)), ("log", wide(log)), ("buffer", wide(buffer))]
         }
     }

@@ -5,7 +5,7 @@ use crate::logs;
 use job::{texts, Counts, Job, Tuning};
 
 /// Every outcome that a whole run must come to.
-const EXPECTED: [&str; 129] = [
+const EXPECTED: [&str; 133] = [
     "price accepted",
     "price 13,0",
     "price 13,1",
@@ -47,6 +47,10 @@ const EXPECTED: [&str; 129] = [
     "write 5,5",
     "write 10",
     "write 11",
+    "dot accepted",
+    "dot 5,5",
+    "dot 10",
+    "dot 11",
     "table 5 of the writer empty",
     "table 5 of the writer over 512",
     "table 5 of the writer with 4,096 or more",
@@ -176,9 +180,13 @@ impl Outcomes {
                 self.count_term_lines(after, text);
                 "read"
             }
-            Case::Write { source, log, .. } => {
+            Case::Write { picture, source, log, .. } => {
                 self.count_write(after, source, log);
-                "write"
+                if *picture {
+                    "dot"
+                } else {
+                    "write"
+                }
             }
         };
         let outcome = match after.answer.refusal[..] {

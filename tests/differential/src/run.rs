@@ -261,10 +261,11 @@ impl Run {
         if self.rng.once_in(6) {
             damage::writer_source(&mut self.rng, &mut source);
         }
-        let needed = bytes(&source, &log);
+        let picture = self.rng.once_in(3);
+        let needed = bytes(picture, &source, &log);
         if needed < 200 && self.rng.once_in(100) {
             for length in 0..needed + 2 {
-                self.case(write(&source, &log, length))?;
+                self.case(write(picture, &source, &log, length))?;
             }
         }
         for _ in 0..2 {
@@ -273,7 +274,7 @@ impl Run {
                 1 => needed + self.rng.below(40),
                 _ => around(&mut self.rng, needed, 2),
             };
-            self.case(write(&source, &log, length))?;
+            self.case(write(picture, &source, &log, length))?;
         }
         Ok(())
     }
@@ -284,9 +285,9 @@ fn route(job: &Job, length: usize, log: Vec<u32>) -> Case {
     Case::Route { job: job.clone(), terms: 6, work: work(length), log }
 }
 
-/// A call of the writer, with a buffer of this length.
-fn write(source: &[u16], log: &[u32], length: usize) -> Case {
-    Case::Write { source: source.to_vec(), log: log.to_vec(), buffer: vec![0xb7; length] }
+/// A call of the writer of either text, with a buffer of this length.
+fn write(picture: bool, source: &[u16], log: &[u32], length: usize) -> Case {
+    Case::Write { picture, source: source.to_vec(), log: log.to_vec(), buffer: vec![0xb7; length] }
 }
 
 /// A job's log as the plain router writes it, a few iterations of it at most.
@@ -301,8 +302,8 @@ fn real_log(job: &Job) -> Vec<u32> {
 }
 
 /// The bytes that a log's text needs by the plain writer, 1 for an unsound log or table 5.
-fn bytes(source: &[u16], log: &[u32]) -> usize {
-    let after = compare::plain(&write(source, log, 0));
+fn bytes(picture: bool, source: &[u16], log: &[u32]) -> usize {
+    let after = compare::plain(&write(picture, source, log, 0));
     match after.answer.refusal[..] {
         [11, needed] => needed as usize,
         _ => 1,

@@ -535,7 +535,10 @@ fn call(case: &Case) -> String {
         Case::Read { .. } => String::from(
             "read(&text, &mut kind, &mut capacity, &mut first_edge, &mut edge_target, &mut source, &mut first_sink, &mut sink)",
         ),
-        Case::Write { .. } => String::from("write(&source, &log, &mut buffer)"),
+        Case::Write { picture, .. } => {
+            let name = if *picture { "dot" } else { "write" };
+            format!("{name}(&source, &log, &mut buffer)")
+        }
     }
 }
 

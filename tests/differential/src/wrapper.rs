@@ -48,9 +48,10 @@ fn same(before: &Case, after: &Case, refusal: &[u64], numbers: &[u64]) -> Option
             }
             Err(other) => other.numbers() == refusal,
         },
-        (Case::Write { source, log, .. }, Case::Write { buffer, .. }) => {
+        (Case::Write { picture, source, log, .. }, Case::Write { buffer, .. }) => {
             let nets = Nets { source: source.clone(), ..Nets::default() };
-            let routes = Log::from_words(log, &nets).and_then(|log| log.routes(&nets));
+            let write = if *picture { Log::picture } else { Log::routes };
+            let routes = Log::from_words(log, &nets).and_then(|log| write(&log, &nets));
             let bytes = buffer.iter().take(numbers[0] as usize).copied().map(u64::from);
             told(routes.map(|text| text.bytes().map(u64::from).collect())) == accepted(bytes.collect())
         }

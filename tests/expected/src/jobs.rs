@@ -30,12 +30,15 @@ pub fn read(case: &mut Case) -> Result<(), Fault> {
     Ok(())
 }
 
-pub fn write(case: &mut Case) -> Result<(), Fault> {
-    let [bytes] = case.numbers("write")?;
+/// The writer of either text.
+type Writer = fn(&[u16], &[u32], &mut [u8]) -> Answer;
+
+pub fn write(case: &mut Case, call: &str, writer: Writer) -> Result<(), Fault> {
+    let [bytes] = case.numbers(call)?;
     let source: Vec<u16> = case.list("source")?;
     let log: Vec<u32> = case.list("log")?;
     let mut routes: Vec<u8> = lent(bytes);
-    let got = plain::write(&source, &log, &mut routes);
+    let got = writer(&source, &log, &mut routes);
     line(case, &[answer(&got), text(&routes)]);
     Ok(())
 }
@@ -70,7 +73,7 @@ impl Lent {
     }
 
     /// From the job text to its routes text; the first refusal ends it.
-    fn run(&mut self) -> Answer {
+    fn run(&mut self, writer: Writer) -> Answer {
         let read = self.tables.read(&self.job);
         if !read.refusal.is_empty() {
             return read;
@@ -84,15 +87,15 @@ impl Lent {
         if !routed.refusal.is_empty() {
             return routed;
         }
-        plain::write(&job.source, &self.log[..routed.numbers[2] as usize], &mut self.routes)
+        writer(&job.source, &self.log[..routed.numbers[2] as usize], &mut self.routes)
     }
 
     /// The program's answer to this input: how many bytes of the routes buffer it prints.
-    fn respond(&mut self) -> usize {
+    fn respond(&mut self, writer: Writer) -> usize {
         let refused = if self.job.len() > 65_536 {
             vec![12, 65_536]
         } else {
-            let got = self.run();
+            let got = self.run(writer);
             if got.refusal.is_empty() {
                 return got.numbers[0] as usize;
             }
@@ -110,14 +113,14 @@ impl Lent {
 
 pub fn run(case: &mut Case) -> Result<(), Fault> {
     let mut lent = Lent::of(case, "run")?;
-    let got = lent.run();
+    let got = lent.run(plain::write);
     line(case, &[answer(&got), lent.show()]);
     Ok(())
 }
 
-pub fn respond(case: &mut Case) -> Result<(), Fault> {
-    let mut lent = Lent::of(case, "respond")?;
-    let bytes = lent.respond();
+pub fn respond(case: &mut Case, call: &str, writer: Writer) -> Result<(), Fault> {
+    let mut lent = Lent::of(case, call)?;
+    let bytes = lent.respond(writer);
     line(case, &[numbers(&[bytes as u64]), lent.show()]);
     Ok(())
 }

@@ -20,9 +20,11 @@ fn one(case: &mut Case) -> Result<(), Fault> {
         "search" => alone::search(case),
         "route" => jobs::route(case),
         "read" => jobs::read(case),
-        "write" => jobs::write(case),
+        "write" => jobs::write(case, "write", plain::write),
+        "dot" => jobs::write(case, "dot", plain::dot),
         "run" => jobs::run(case),
-        "respond" => jobs::respond(case),
+        "respond" => jobs::respond(case, "respond", plain::write),
+        "picture" => jobs::respond(case, "picture", plain::dot),
         other => Err(format!("there is no call {other:?}")),
     }?;
     case.end()

@@ -12,7 +12,7 @@ pub use price::{price, Tuning};
 pub use reader::read;
 pub use route::route;
 pub use search::{cheapest_path, search};
-pub use writer::write;
+pub use writer::{dot, write};
 
 /// What a call returns: the refusal's numbers (none if there is none) and the call's own numbers.
 #[derive(Clone, Debug, PartialEq, Eq)]

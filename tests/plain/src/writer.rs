@@ -1,4 +1,4 @@
-//! The log into routes text.
+//! The log into routes text, and into a picture.
 
 use crate::join::first_of;
 use crate::tables::{MAX_LIMIT, MAX_NETS, MAX_NODES};
@@ -81,8 +81,29 @@ fn routes_text(source: &[u16], records: &[Record]) -> String {
     text
 }
 
-/// The writer: tests 5 (table 5 alone), 10, 11, then writes.
+/// The same branches in the DOT language.
+fn dot_text(source: &[u16], records: &[Record]) -> String {
+    let mut text = String::from("digraph r {\n");
+    for net in 0..source.len() {
+        for (from, to) in branches(records, net) {
+            text += &format!("{from} -> {to} [label=\"{net}\"];\n");
+        }
+    }
+    text + "}\n"
+}
+
+/// The writer of the routes text.
 pub fn write(source: &[u16], log: &[u32], buffer: &mut [u8]) -> Answer {
+    write_by(routes_text, source, log, buffer)
+}
+
+/// The writer of the picture.
+pub fn dot(source: &[u16], log: &[u32], buffer: &mut [u8]) -> Answer {
+    write_by(dot_text, source, log, buffer)
+}
+
+/// Tests 5 (table 5 alone), 10, 11, then writes.
+fn write_by(text: fn(&[u16], &[Record]) -> String, source: &[u16], log: &[u32], buffer: &mut [u8]) -> Answer {
     if !source_is_sound(source) {
         return Answer::refused(&[5, 5], 1);
     }
@@ -90,7 +111,7 @@ pub fn write(source: &[u16], log: &[u32], buffer: &mut [u8]) -> Answer {
         Ok(records) => records,
         Err(word) => return Answer::refused(&[10, word], 1),
     };
-    let text = routes_text(source, &records);
+    let text = text(source, &records);
     if buffer.len() < text.len() {
         return Answer::refused(&[11, text.len() as u64], 1);
     }

@@ -1,4 +1,4 @@
-//! Texts at the program's bounds and just past them, each with what the answer to it begins with.
+//! Texts at the programs' bounds and just past them, each with what the answer to it begins with.
 
 use crate::expected::{BYTES, EDGES, NETS, NODES, SINKS, WORDS};
 use job::{jobs, texts, Job};
@@ -7,19 +7,22 @@ use job::{jobs, texts, Job};
 pub struct Bound {
     pub name: &'static str,
     pub text: Vec<u8>,
+    /// Whether the answer is that of `picture`, or of `router`.
+    pub picture: bool,
     pub answer: &'static str,
 }
 
 fn bound(name: &'static str, text: Vec<u8>, answer: &'static str) -> Bound {
-    Bound { name, text, answer }
+    Bound { name, text, picture: false, answer }
 }
 
-/// All of them, for tables first, then input, log and routes.
+/// All of them, for tables first, then input, log, routes and picture.
 pub fn all() -> Vec<Bound> {
     let mut list = tables();
     list.extend(input());
     list.extend(log());
     list.extend(routes());
+    list.extend(pictures());
     list
 }
 
@@ -73,9 +76,23 @@ fn log() -> Vec<Bound> {
 /// Routes that fill the buffer, and some of one byte more.
 fn routes() -> Vec<Bound> {
     vec![
-        bound("routes of 65,536 bytes", texts::text(&of_routes(BYTES)), "R,1,8\n"),
-        bound("routes of 65,537 bytes", texts::text(&of_routes(BYTES + 1)), "X,11,65537\n"),
+        bound("routes of 65,536 bytes", texts::text(&lines_of("R,1,8\n", "B,7,,\n", BYTES)), "R,1,8\n"),
+        bound(
+            "routes of 65,537 bytes",
+            texts::text(&lines_of("R,1,8\n", "B,7,,\n", BYTES + 1)),
+            "X,11,65537\n",
+        ),
     ]
+}
+
+/// A picture that fills the buffer, and one of one byte more.
+fn pictures() -> Vec<Bound> {
+    let text = |bytes| texts::text(&lines_of("digraph r {\n}\n", " ->  [label=\"7\"];\n", bytes));
+    let bounds = [
+        bound("a picture of 65,536 bytes", text(BYTES), "digraph r {\n"),
+        bound("a picture of 65,537 bytes", text(BYTES + 1), "X,11,65537\n"),
+    ];
+    bounds.into_iter().map(|bound| Bound { picture: true, ..bound }).collect()
 }
 
 /// A graph of so many edges, of which the 8,192nd leads from node 90, the source, straight to the sink.
@@ -171,21 +188,26 @@ fn ladder(edges: usize) -> Job {
 const START: usize = 8;
 const END: usize = 1_007;
 
-/// Eight nets whose routes text has so many bytes: five go to the line's end, three share the rest.
-fn of_routes(bytes: usize) -> Job {
+/// Nets whose text has so many bytes, with this frame and, but for the nodes, these lines: as many as can go to the line's end, and
+/// three that share the rest.
+fn lines_of(frame: &str, line: &str, bytes: usize) -> Job {
     let digits = |node: usize| node.to_string().len();
     // the bytes of a net's lines up to each node of the line
     let mut bytes_to = vec![0; START];
-    bytes_to.push("B,7,7,8\n".len());
+    bytes_to.push(line.len() + 2);
     for node in START..END {
-        bytes_to.push(bytes_to[node] + "B,7,,\n".len() + digits(node) + digits(node + 1));
+        bytes_to.push(bytes_to[node] + line.len() + digits(node) + digits(node + 1));
     }
-    let rest = bytes - "R,1,8\n".len() - 5 * bytes_to[END];
-    let third = |one: usize, other: usize| bytes_to.binary_search(&(rest - bytes_to[one] - bytes_to[other]));
+    let whole = (bytes - frame.len()) / bytes_to[END];
+    let rest = bytes - frame.len() - whole * bytes_to[END];
+    let third = |one: usize, other: usize| {
+        let left = rest.checked_sub(bytes_to[one] + bytes_to[other])?;
+        bytes_to.binary_search(&left).ok()
+    };
     let pairs = (START..200).flat_map(|one| (one..200).map(move |other| (one, other)));
-    let mut shares = pairs.filter_map(|(one, other)| Some([one, other, third(one, other).ok()?]));
+    let mut shares = pairs.filter_map(|(one, other)| Some([one, other, third(one, other)?]));
     let share = shares.next().expect("three nets can share the rest");
-    along([END; 5].into_iter().chain(share))
+    along(std::iter::repeat_n(END, whole).chain(share))
 }
 
 /// A line of a thousand nodes, and nets from sources before its start to nodes on it.

@@ -1,10 +1,10 @@
-//! What the program must print, by the plain reader, router and writer.
+//! What the programs must print, by the plain reader, router and writer.
 
 use job::Job;
 
-/// Bytes lent for the job text, and as many each for routes, log and work.
+/// Bytes lent for the job text, and as many each for the answer, log and work.
 pub const BYTES: usize = 65_536;
-/// Nodes, edges, nets and sinks for which the program has tables.
+/// Nodes, edges, nets and sinks for which a program has tables.
 pub const NODES: usize = 1_024;
 pub const EDGES: usize = 8_192;
 pub const NETS: usize = 512;
@@ -14,10 +14,25 @@ pub const WORDS: usize = BYTES / 4;
 /// Entries of the work slice, of 8 bytes each.
 const ENTRIES: usize = BYTES / 8;
 
-/// The routes text, or the line of the refusal: 12, then what the reader, the router and the writer refuse.
-pub fn printed(input: &[u8]) -> Vec<u8> {
-    routes(input).unwrap_or_else(|refusal| refusal_line(&refusal))
+/// What each program prints for one input.
+pub struct Printed {
+    /// `router`.
+    pub routes: Vec<u8>,
+    /// `picture`.
+    pub picture: Vec<u8>,
 }
+
+/// The routes text and the picture, or the line of the refusal: 12, then what the reader, the router and the writer refuse.
+pub fn printed(input: &[u8]) -> Printed {
+    let routed = routed(input);
+    let by = |write: Writer| {
+        let text = routed.as_ref().map_err(Vec::clone).and_then(|(job, log)| text(write, job, log));
+        text.unwrap_or_else(|refusal| refusal_line(&refusal))
+    };
+    Printed { routes: by(plain::write), picture: by(plain::dot) }
+}
+
+type Writer = fn(&[u16], &[u32], &mut [u8]) -> plain::Answer;
 
 /// `X,` and the refusal's numbers.
 fn refusal_line(refusal: &[u64]) -> Vec<u8> {
@@ -25,21 +40,26 @@ fn refusal_line(refusal: &[u64]) -> Vec<u8> {
     format!("X,{}\n", numbers.join(",")).into_bytes()
 }
 
-fn routes(input: &[u8]) -> Result<Vec<u8>, Vec<u64>> {
+/// The job of an input and its log.
+fn routed(input: &[u8]) -> Result<(Job, Vec<u32>), Vec<u64>> {
     if input.len() > BYTES {
         return Err(vec![12, BYTES as u64]);
     }
     let job = read(input)?;
     let log = route(&job)?;
+    Ok((job, log))
+}
+
+fn text(write: Writer, job: &Job, log: &[u32]) -> Result<Vec<u8>, Vec<u64>> {
     let mut buffer = vec![0; BYTES];
-    let bytes = numbers(plain::write(&job.source, &log, &mut buffer))?[0];
+    let bytes = numbers(write(&job.source, log, &mut buffer))?[0];
     buffer.truncate(bytes as usize);
     Ok(buffer)
 }
 
 /// Whether a text is accepted with the tree of some net from an iteration before the last.
 pub fn keeps_tree(input: &[u8]) -> bool {
-    let Ok(log) = read(input).and_then(|job| route(&job)) else { return false };
+    let Ok((_, log)) = routed(input) else { return false };
     let mut latest = std::collections::BTreeMap::new();
     let (mut last, mut rest) = (0, &log[..]);
     while let [iteration, net, _, _, _, nodes, after @ ..] = rest {
@@ -105,13 +125,22 @@ mod tests {
     const JOB_CROWDED: &str = include_str!("../../../examples/job_crowded.txt");
 
     fn prints(input: &str, output: &str) {
-        assert_eq!(String::from_utf8(printed(input.as_bytes())).unwrap(), output);
+        assert_eq!(String::from_utf8(printed(input.as_bytes()).routes).unwrap(), output);
+    }
+
+    fn draws(input: &str, output: &str) {
+        assert_eq!(String::from_utf8(printed(input.as_bytes()).picture).unwrap(), output);
     }
 
     #[test]
     fn samples_of_the_specification() {
         prints(JOB_B, "R,2,4\nB,0,0,3\nB,0,3,4\nB,1,1,2\nB,1,2,5\n");
+        draws(
+            JOB_B,
+            "digraph r {\n0 -> 3 [label=\"0\"];\n3 -> 4 [label=\"0\"];\n1 -> 2 [label=\"1\"];\n2 -> 5 [label=\"1\"];\n}\n",
+        );
         prints(&JOB_B.replace("F,6,6,2,2", "F,6,6,2,1"), "X,9,1,1\n");
+        draws(&JOB_B.replace("F,6,6,2,2", "F,6,6,2,1"), "X,9,1,1\n");
         prints(&JOB_B.replace("F,6,6,2,2", "F,6,6,2,101"), "X,2,1\n");
         prints(&JOB_B.replace("T,1,5", "T,1,1"), "X,3,17\n");
         prints("", "X,1,1\n");

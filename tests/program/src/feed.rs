@@ -1,4 +1,4 @@
-//! Runs the built program on a text that reaches it in one of three ways.
+//! Runs a built program on a text that reaches it in one of three ways.
 
 use job::Rng;
 use std::fs::{self, File};
@@ -19,21 +19,21 @@ pub enum Way {
     Pieces(usize),
 }
 
-/// The program, and the file that brings it its texts.
+/// A program, and the file that brings it its texts.
 pub struct Program {
     path: PathBuf,
     file: PathBuf,
 }
 
 impl Program {
-    /// That of ARVUMNAO_PROGRAM, else the one that `rt check router` builds.
-    pub fn find() -> Result<Program, String> {
-        let built = concat!(env!("CARGO_MANIFEST_DIR"), "/../../target/bin/router");
-        let path = PathBuf::from(std::env::var_os("ARVUMNAO_PROGRAM").unwrap_or(built.into()));
+    /// The one of this name in the folder ARVUMNAO_PROGRAMS, else where `rt check` builds it.
+    pub fn find(name: &str) -> Result<Program, String> {
+        let built = concat!(env!("CARGO_MANIFEST_DIR"), "/../../target/bin");
+        let path = PathBuf::from(std::env::var_os("ARVUMNAO_PROGRAMS").unwrap_or(built.into())).join(name);
         if !path.exists() {
-            return Err(format!("{} is missing: build it with rt check router", path.display()));
+            return Err(format!("{} is missing: build it with rt check {name}", path.display()));
         }
-        let file = std::env::temp_dir().join(format!("arvumnao-program-{}", std::process::id()));
+        let file = std::env::temp_dir().join(format!("arvumnao-{name}-{}", std::process::id()));
         Ok(Program { path, file })
     }
 

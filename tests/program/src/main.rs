@@ -1,5 +1,6 @@
-//! Sets the built program beside the plain crate: at its bounds, and on many seeded texts, each by pipe, by file and in pieces.
-//! It fails where they differ, and where a run of at least the default length leaves an outcome out.
+//! Sets the built programs `router` and `picture` beside the plain crate: at their bounds, and on many seeded texts, each by pipe, by file
+//! and in pieces to `router` and by pipe to `picture`. It fails where they differ, and where a run of at least the default length leaves an
+//! outcome out.
 //!
 //! program [TEXTS] [SEED]
 
@@ -10,6 +11,7 @@ mod outcomes;
 mod seeded;
 
 use bounds::Bound;
+use expected::Printed;
 use feed::{Program, Way};
 use job::Rng;
 use outcomes::Outcomes;
@@ -19,9 +21,10 @@ use std::time::Instant;
 const TEXTS: u64 = 2_400;
 const SEED: u64 = 1;
 
-/// A run of the program on many texts.
+/// A run of the programs on many texts.
 struct Run {
-    program: Program,
+    router: Program,
+    picture: Program,
     outcomes: Outcomes,
     /// Where pieces end.
     rng: Rng,
@@ -29,17 +32,15 @@ struct Run {
 
 impl Run {
     /// What a text must be answered with, and is in each of the ways.
-    fn compare(&mut self, text: &[u8], ways: &[Way]) -> Result<Vec<u8>, String> {
+    fn compare(&mut self, text: &[u8], ways: &[Way]) -> Result<Printed, String> {
         let expected = expected::printed(text);
         for way in ways {
-            let printed = self.program.print(text, *way, &mut self.rng);
-            let printed = printed.map_err(|fault| format!("{way:?}: {fault}"))?;
-            if printed != expected {
-                return Err(difference(text, *way, &expected, &printed));
-            }
+            same(&self.router, text, *way, &mut self.rng, &expected.routes)?;
             self.outcomes.count_way(*way);
         }
-        self.outcomes.count_answer(text, &expected);
+        same(&self.picture, text, Way::Pipe, &mut self.rng, &expected.picture)?;
+        self.outcomes.count_answer(text, &expected.routes);
+        self.outcomes.count_picture(&expected.picture);
         Ok(expected)
     }
 
@@ -47,6 +48,7 @@ impl Run {
     fn bound(&mut self, bound: &Bound) -> Result<(), String> {
         let ways = [Way::Pipe, Way::File, Way::Pieces(4_096), Way::Pieces(1)];
         let printed = self.compare(&bound.text, &ways).map_err(|fault| format!("{}: {fault}", bound.name))?;
+        let printed = if bound.picture { printed.picture } else { printed.routes };
         if !printed.starts_with(bound.answer.as_bytes()) {
             return Err(format!("{}: {} is not {:?}", bound.name, shown(&printed, 200), bound.answer));
         }
@@ -62,6 +64,15 @@ impl Run {
         let compared = self.compare(&text, &ways);
         compared.map(drop).map_err(|fault| format!("again with: program 1 {seed}\n{fault}"))
     }
+}
+
+/// A program's answer to a text is this one.
+fn same(program: &Program, text: &[u8], way: Way, rng: &mut Rng, expected: &[u8]) -> Result<(), String> {
+    let printed = program.print(text, way, rng).map_err(|fault| format!("{way:?}: {fault}"))?;
+    if printed != expected {
+        return Err(difference(text, way, expected, &printed));
+    }
+    Ok(())
 }
 
 /// Says where two answers part, with the beginning of the text.
@@ -83,7 +94,8 @@ fn shown(text: &[u8], most: usize) -> String {
 }
 
 fn run(texts: u64, seed: u64) -> Result<(), String> {
-    let mut run = Run { program: Program::find()?, outcomes: Outcomes::default(), rng: Rng::new(seed) };
+    let (router, picture) = (Program::find("router")?, Program::find("picture")?);
+    let mut run = Run { router, picture, outcomes: Outcomes::default(), rng: Rng::new(seed) };
     for bound in bounds::all() {
         run.bound(&bound)?;
     }
@@ -102,7 +114,7 @@ fn main() -> ExitCode {
     let number = |place, missing| job::argument(place, missing, "program [TEXTS] [SEED]");
     let (texts, seed) = (number(1, TEXTS), number(2, SEED));
     let start = Instant::now();
-    println!("the program at its bounds and on {texts} texts, seed {seed}");
+    println!("the programs at their bounds and on {texts} texts, seed {seed}");
     let result = run(texts, seed);
     println!("{:.1} s", start.elapsed().as_secs_f64());
     if let Err(fault) = result {

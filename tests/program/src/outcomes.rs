@@ -6,7 +6,7 @@ use job::Counts;
 
 /// Every outcome that a whole run must come to. 5, 6 and 10 can't come: the reader's tables are sound, the work slice is enough for
 /// all that the tables hold, and the router's logs are sound. Of 4 there are tables 1 and 4 alone, since no text has too many nets or sinks.
-const EXPECTED: [&str; 23] = [
+const EXPECTED: [&str; 26] = [
     "accepted in iteration 1",
     "accepted in iteration 2",
     "accepted in iteration 3 or later",
@@ -26,6 +26,9 @@ const EXPECTED: [&str; 23] = [
     "X,9, with a V,2 line",
     "X,11",
     "X,12",
+    "drawn",
+    "not drawn, 11",
+    "not drawn",
     "by pipe",
     "by file",
     "in pieces",
@@ -63,6 +66,15 @@ impl Outcomes {
             self.0.count("accepted, with a J line");
         }
         self.0.count(answer);
+    }
+
+    /// Counts what is answered in place of a picture, or the picture.
+    pub fn count_picture(&mut self, printed: &[u8]) {
+        self.0.count(match printed {
+            [b'X', b',', b'1', b'1', b',', ..] => "not drawn, 11",
+            [b'X', ..] => "not drawn",
+            _ => "drawn",
+        });
     }
 
     /// Counts the way that a text goes.

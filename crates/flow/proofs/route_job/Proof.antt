@@ -18,32 +18,32 @@ write-used-requires c κs = words-fit _ _ _ (c .before .before .before .before .
 enum-known-outcome : tie.Need-enum-known-outcome
 enum-known-outcome c = search needs
 
-cast-t29 : tie.Need-cast-t29
-cast-t29 c = search needs
-
 cast-t30 : tie.Need-cast-t30
 cast-t30 c = search needs
-
-enum-told-2 : tie.Need-enum-told-2
-enum-told-2 c = search needs
 
 cast-t31 : tie.Need-cast-t31
 cast-t31 c = search needs
 
-enum-known-outcome-2 : tie.Need-enum-known-outcome-2
-enum-known-outcome-2 c = search needs
+enum-told-2 : tie.Need-enum-told-2
+enum-told-2 c = search needs
 
 cast-t32 : tie.Need-cast-t32
 cast-t32 c = search needs
 
+enum-known-outcome-2 : tie.Need-enum-known-outcome-2
+enum-known-outcome-2 c = search needs
+
 cast-t33 : tie.Need-cast-t33
 cast-t33 c = search needs
+
+cast-t34 : tie.Need-cast-t34
+cast-t34 c = search needs
 
 enum-known-outcome-3 : tie.Need-enum-known-outcome-3
 enum-known-outcome-3 c = search needs
 
-cast-t34 : tie.Need-cast-t34
-cast-t34 c = search needs
+cast-t35 : tie.Need-cast-t35
+cast-t35 c = search needs
 
 enum-known-outcome-4 : tie.Need-enum-known-outcome-4
 enum-known-outcome-4 c = search needs
@@ -61,7 +61,7 @@ returns : tie.Need-returns
 returns c =
     let known-enum-told = c .before .before .before .before .before in
     let after-route = known-enum-told .before .before .before .before .before .before in
-    run-accepted _ _ _ (after-route .route .result) _ _ (after-route .route .ensures .0) _ (c .before .before .write-used .result) _ (known-enum-told .enum-told .given .1) (c .before .before .write-used .ensures)
+    run-accepted _ _ _ (after-route .route .result) _ _ (after-route .route .ensures .0) _ _ (c .before .before .write-used .result) _ (known-enum-told .enum-told .given .1) (c .before .before .write-used .ensures)
 
 same-length-4 : tie.Need-same-length-4
 same-length-4 c = search needs
@@ -70,7 +70,7 @@ same-length-5 : tie.Need-same-length-5
 same-length-5 c = search needs
 
 returns-2 : tie.Need-returns-2
-returns-2 c = run-refused _ _ _ (c .before .before .before .before .before .before .before .route .result) _ _ (c .before .before .before .before .before .before .before .route .ensures .0) _ _ _ _ (c .before .outcome .given .1) refl
+returns-2 c = run-refused _ _ _ (c .before .before .before .before .before .before .before .route .result) _ _ (c .before .before .before .before .before .before .before .route .ensures .0) _ _ _ _ _ (c .before .outcome .given .1) refl
 
 same-length-6 : tie.Need-same-length-6
 same-length-6 c = search needs
@@ -79,7 +79,7 @@ same-length-7 : tie.Need-same-length-7
 same-length-7 c = search needs
 
 returns-3 : tie.Need-returns-3
-returns-3 c = run-refused _ _ _ (c .before .before .before .before .before .before .before .route .result) _ _ (c .before .before .before .before .before .before .before .route .ensures .0) _ _ _ _ (c .before .enum-told2 .given .1) refl
+returns-3 c = run-refused _ _ _ (c .before .before .before .before .before .before .before .route .result) _ _ (c .before .before .before .before .before .before .before .route .ensures .0) _ _ _ _ _ (c .before .enum-told2 .given .1) refl
 
 same-length-8 : tie.Need-same-length-8
 same-length-8 c = search needs
@@ -88,7 +88,7 @@ same-length-9 : tie.Need-same-length-9
 same-length-9 c = search needs
 
 returns-4 : tie.Need-returns-4
-returns-4 c = run-refused _ _ _ (c .before .before .before .before .before .before .before .before .route .result) _ _ (c .before .before .before .before .before .before .before .before .route .ensures .0) _ _ _ _ (c .before .before .outcome2 .given .1) refl
+returns-4 c = run-refused _ _ _ (c .before .before .before .before .before .before .before .before .route .result) _ _ (c .before .before .before .before .before .before .before .before .route .ensures .0) _ _ _ _ _ (c .before .before .outcome2 .given .1) refl
 
 same-length-10 : tie.Need-same-length-10
 same-length-10 c = search needs
@@ -97,7 +97,7 @@ same-length-11 : tie.Need-same-length-11
 same-length-11 c = search needs
 
 returns-5 : tie.Need-returns-5
-returns-5 c = run-refused _ _ _ (c .before .before .before .before .before .before .before .route .result) _ _ (c .before .before .before .before .before .before .before .route .ensures .0) _ _ _ _ (c .before .outcome3 .given .1) refl
+returns-5 c = run-refused _ _ _ (c .before .before .before .before .before .before .before .route .result) _ _ (c .before .before .before .before .before .before .before .route .ensures .0) _ _ _ _ _ (c .before .outcome3 .given .1) refl
 
 same-length-12 : tie.Need-same-length-12
 same-length-12 c = search needs
@@ -106,7 +106,7 @@ same-length-13 : tie.Need-same-length-13
 same-length-13 c = search needs
 
 returns-6 : tie.Need-returns-6
-returns-6 c = run-refused _ _ _ (c .before .before .before .before .before .before .before .route .result) _ _ (c .before .before .before .before .before .before .before .route .ensures .0) _ _ _ _ (c .before .outcome4 .given .1) refl
+returns-6 c = run-refused _ _ _ (c .before .before .before .before .before .before .before .route .result) _ _ (c .before .before .before .before .before .before .before .route .ensures .0) _ _ _ _ _ (c .before .outcome4 .given .1) refl
 
 pub route-job-spec : {M : Type 1} → statement M
 route-job-spec =
@@ -116,15 +116,15 @@ route-job-spec =
     enum-told
     write-used-requires
     enum-known-outcome
-    cast-t29
     cast-t30
-    enum-told-2
     cast-t31
-    enum-known-outcome-2
+    enum-told-2
     cast-t32
+    enum-known-outcome-2
     cast-t33
-    enum-known-outcome-3
     cast-t34
+    enum-known-outcome-3
+    cast-t35
     enum-known-outcome-4
     same-length
     same-length-2

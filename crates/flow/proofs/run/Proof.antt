@@ -29,10 +29,10 @@ asked c = c .before .before .before .before .before .before .before .before .bef
 
 taken :
     (c : tie.After-known-told)
-    → Taken (entry (asked c) .args .text .now) (c .before .nodes .given .0 .0) (c .before .nodes .given .0 .1 .0)
+    → Taken (entry (asked c) .args .style) (entry (asked c) .args .text .now) (c .before .nodes .given .0 .0) (c .before .nodes .given .0 .1 .0)
     (c .before .nodes .given .0 .1 .1 .0) (c .before .nodes .given .0 .1 .1 .1 .0) (c .before .nodes .given .0 .1 .1 .1 .1 .0)
     (lent (asked c)) (left (asked c))
-taken c = read-taken _ _ _ _ _ _ _ _ (rw (c .before .nodes .given .1) at (c .before .before .before .before .before .before .before .before .before .before .before .before .before .before .before .before .before .read-job .ensures))
+taken c = read-taken _ _ _ _ _ _ _ _ _ (rw (c .before .nodes .given .1) at (c .before .before .before .before .before .before .before .before .before .before .before .before .before .before .before .before .before .read-job .ensures))
 
 read-job-requires : tie.Need-read-job-requires
 read-job-requires c κs = search needs
@@ -97,8 +97,8 @@ enum-known-number c = search needs
 enum-known-table : tie.Need-enum-known-table
 enum-known-table c = search needs
 
-cast-t59 : tie.Need-cast-t59
-cast-t59 c = search needs
+cast-t60 : tie.Need-cast-t60
+cast-t60 c = search needs
 
 -- the calls before the three returns, which leave the lengths of the slices as they were
 abbrev routed : tie.After-slice-known20 → tie.After-route-job
@@ -135,13 +135,13 @@ same-length-7 : tie.Need-same-length-7
 same-length-7 c = read c .read-job .kept .1 .1 .1 .1 .1 .1 .1 .0
 
 same-length-8 : tie.Need-same-length-8
-same-length-8 c = routed c .route-job .kept .1 .1 .1 .1 .1 .1 .1 .1 .0
+same-length-8 c = routed c .route-job .kept .1 .1 .1 .1 .1 .1 .1 .1 .1 .0
 
 same-length-9 : tie.Need-same-length-9
-same-length-9 c = routed c .route-job .kept .1 .1 .1 .1 .1 .1 .1 .1 .1 .0
+same-length-9 c = routed c .route-job .kept .1 .1 .1 .1 .1 .1 .1 .1 .1 .1 .0
 
 same-length-10 : tie.Need-same-length-10
-same-length-10 c = routed c .route-job .kept .1 .1 .1 .1 .1 .1 .1 .1 .1 .1 .0
+same-length-10 c = routed c .route-job .kept .1 .1 .1 .1 .1 .1 .1 .1 .1 .1 .1 .0
 
 returns : tie.Need-returns
 returns c = routed c .route-job .ensures (left (read c)) ∙ taken (c .before .before .before .before .before .before .before .before .before .before .before .before .before .before .before .before .before) .runs _ _ _
@@ -168,7 +168,7 @@ same-length-17 : tie.Need-same-length-17
 same-length-17 c = misread c .read-job .kept .1 .1 .1 .1 .1 .1 .1 .0
 
 returns-2 : tie.Need-returns-2
-returns-2 c = read-refused _ _ _ (lent (misread c)) (left (misread c)) _ _ _ (rw (c .before .number .given .1) at (c .before .before .before .before .before .before .before .before .before .before .before .before .before .before .before .before .before .read-job .ensures))
+returns-2 c = read-refused _ _ _ _ (lent (misread c)) (left (misread c)) _ _ _ (rw (c .before .number .given .1) at (c .before .before .before .before .before .before .before .before .before .before .before .before .before .before .before .before .before .read-job .ensures))
 
 same-length-18 : tie.Need-same-length-18
 same-length-18 c = short c .read-job .kept .1 .0
@@ -192,7 +192,7 @@ same-length-24 : tie.Need-same-length-24
 same-length-24 c = short c .read-job .kept .1 .1 .1 .1 .1 .1 .1 .0
 
 returns-3 : tie.Need-returns-3
-returns-3 c = read-refused _ _ _ (lent (short c)) (left (short c)) _ _ _ (rw (c .before .table .given .1) at (c .before .before .before .before .before .before .before .before .before .before .before .before .before .before .before .before .before .read-job .ensures))
+returns-3 c = read-refused _ _ _ _ (lent (short c)) (left (short c)) _ _ _ (rw (c .before .table .given .1) at (c .before .before .before .before .before .before .before .before .before .before .before .before .before .before .before .before .before .read-job .ensures))
 
 pub run-spec : {M : Type 1} → statement M
 run-spec =
@@ -219,7 +219,7 @@ run-spec =
     route-job-requires
     enum-known-number
     enum-known-table
-    cast-t59
+    cast-t60
     same-length
     same-length-2
     same-length-3

@@ -6,11 +6,11 @@ use borrow.Author.Needs.{needs}
 use Rattle.flow.proofs.write_used.Statement.{statement}
 use Rattle.flow.proofs.write_used.Tie as tie
 
-slice-aggregate-write-routes : tie.Need-slice-aggregate-write-routes
-slice-aggregate-write-routes c = sym (length-take-le _ _ (c .before .before .before .before .pre))
+slice-aggregate-write-style : tie.Need-slice-aggregate-write-style
+slice-aggregate-write-style c = sym (length-take-le _ _ (c .before .before .before .before .pre))
 
-write-routes-requires : tie.Need-write-routes-requires
-write-routes-requires c κs = search needs
+write-style-requires : tie.Need-write-style-requires
+write-style-requires c κs = search needs
 
 enum-known-bytes : tie.Need-enum-known-bytes
 enum-known-bytes c = search needs
@@ -18,8 +18,8 @@ enum-known-bytes c = search needs
 enum-known-table : tie.Need-enum-known-table
 enum-known-table c = search needs
 
-cast-t15 : tie.Need-cast-t15
-cast-t15 c = search needs
+cast-t16 : tie.Need-cast-t16
+cast-t16 c = search needs
 
 enum-known-word : tie.Need-enum-known-word
 enum-known-word c = search needs
@@ -31,35 +31,35 @@ same-length : tie.Need-same-length
 same-length c = search needs
 
 returns : tie.Need-returns
-returns c = rw (c .before .bytes .given .1) at (c .before .before .before .before .before .write-routes .ensures)
+returns c = rw (c .before .bytes .given .1) at (c .before .before .before .before .before .write-style .ensures)
 
 same-length-2 : tie.Need-same-length-2
 same-length-2 c = search needs
 
 returns-2 : tie.Need-returns-2
-returns-2 c = rw (c .before .table .given .1) at (c .before .before .before .before .before .write-routes .ensures)
+returns-2 c = rw (c .before .table .given .1) at (c .before .before .before .before .before .write-style .ensures)
 
 same-length-3 : tie.Need-same-length-3
 same-length-3 c = search needs
 
 returns-3 : tie.Need-returns-3
-returns-3 c = rw (c .before .word .given .1) at (c .before .before .before .before .before .write-routes .ensures)
+returns-3 c = rw (c .before .word .given .1) at (c .before .before .before .before .before .write-style .ensures)
 
 same-length-4 : tie.Need-same-length-4
 same-length-4 c = search needs
 
 returns-4 : tie.Need-returns-4
-returns-4 c = rw (c .before .needed .given .1) at (c .before .before .before .before .before .write-routes .ensures)
+returns-4 c = rw (c .before .needed .given .1) at (c .before .before .before .before .before .write-style .ensures)
 
 pub write-used-spec : {M : Type 1} → statement M
 write-used-spec =
     tie.close
     (tie.spec
-    slice-aggregate-write-routes
-    write-routes-requires
+    slice-aggregate-write-style
+    write-style-requires
     enum-known-bytes
     enum-known-table
-    cast-t15
+    cast-t16
     enum-known-word
     enum-known-needed
     same-length

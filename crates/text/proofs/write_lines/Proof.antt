@@ -6,7 +6,7 @@ use native.Mathlib.Omega.{arith}
 use lib.ListN.{length}
 use borrow.Author.Needs.{needs}
 use Rattle.text.specs.Routes.{capped}
-use Rattle.text.proofs.RouteTextLaws.{textBytes, needed-sum, text-short, joins-room, text-done}
+use Rattle.text.proofs.RouteTextLaws.{textBytes, needed-sum, text-short, tail-room, text-done}
 use Rattle.text.proofs.write_lines.Statement.{statement}
 use Rattle.text.proofs.write_lines.Tie as tie
 
@@ -15,23 +15,23 @@ abbrev entry : tie.After-capped-sum → tie.Start
 entry c = c .before .before .before .before .before .before .before .before .before .before .before
 
 -- the bytes of the text, as far as 64 bits hold them
-needed : (c : tie.After-capped-sum) → c .capped-sum .result ≡ capped (textBytes (entry c .args .iteration) (entry c .args .turns) (entry c .args .log .now) (entry c .args .source .now))
+needed : (c : tie.After-capped-sum) → c .capped-sum .result ≡ capped (textBytes (entry c .args .style) (entry c .args .iteration) (entry c .args .turns) (entry c .args .log .now) (entry c .args .source .now))
 needed c =
     let a = entry c .args in
-    needed-sum (a .iteration) (a .turns) (a .log .now) (a .source .now) (c .before .before .before .before .before .two-length .ensures .0) (c .before .before .before .before .joins-length .ensures .0) (c .before .before .put-branches .ensures) (c .capped-sum .ensures)
+    needed-sum (a .style) (a .iteration) (a .turns) (a .log .now) (a .source .now) (c .before .before .before .before .before .head-length .ensures .0) (c .before .before .before .before .tail-length .ensures .0) (c .before .before .put-branches .ensures) (c .capped-sum .ensures)
 
 -- the buffer has room for it
-fits : (c : tie.Else1) → textBytes (entry (c .before) .args .iteration) (entry (c .before) .args .turns) (entry (c .before) .args .log .now) (entry (c .before) .args .source .now) ≤ length (entry (c .before) .args .buffer .now)
+fits : (c : tie.Else1) → textBytes (entry (c .before) .args .style) (entry (c .before) .args .iteration) (entry (c .before) .args .turns) (entry (c .before) .args .log .now) (entry (c .before) .args .source .now) ≤ length (entry (c .before) .args .buffer .now)
 fits c = omega (arith, needed (c .before), c .if1 .left, entry (c .before) .good)
 
 short : (e : tie.Start) → length (e .args .buffer .now) < 2 ^ 64
 short e = omega (arith, e .good)
 
-two-length-requires : tie.Need-two-length-requires
-two-length-requires c κs = search needs
+head-length-requires : tie.Need-head-length-requires
+head-length-requires c κs = search needs
 
-joins-length-requires : tie.Need-joins-length-requires
-joins-length-requires c κs = search needs
+tail-length-requires : tie.Need-tail-length-requires
+tail-length-requires c κs = search needs
 
 add-capped-sum : tie.Need-add-capped-sum
 add-capped-sum c = search needs
@@ -46,19 +46,19 @@ capped-sum-requires : tie.Need-capped-sum-requires
 capped-sum-requires c κs = search needs
 
 returns : tie.Need-returns
-returns c = text-short (entry (c .before) .pre .0 .1) _ _ (needed (c .before)) (c .if1 .taken)
+returns c = text-short (entry (c .before) .args .style) (entry (c .before) .pre .0 .1) (entry (c .before) .args .source .now) _ (needed (c .before)) (c .if1 .taken)
 
-put-two-requires : tie.Need-put-two-requires
-put-two-requires c κs = omega (arith, fits (c .before))
+put-head-requires : tie.Need-put-head-requires
+put-head-requires c κs = omega (arith, fits (c .before))
 
 put-branches-requires-2 : tie.Need-put-branches-requires-2
 put-branches-requires-2 c κs = search needs
 
-put-joins-requires : tie.Need-put-joins-requires
-put-joins-requires c κs =
+put-tail-requires : tie.Need-put-tail-requires
+put-tail-requires c κs =
     let room = c .before .before .before .before .before .before .before .before .before in
     let e = entry (room .before) in
-    joins-room (e .pre .0 .1) (e .args .source .now) (e .args .buffer .now) (short e) (fits room) (c .before .before .before .before .before .before .before .put-two .ensures) (c .before .before .before .put-branches2 .ensures)
+    tail-room (e .args .style) (e .pre .0 .1) (e .args .source .now) (e .args .buffer .now) (short e) (fits room) (c .before .before .before .before .before .before .before .put-head .ensures) (c .before .before .before .put-branches2 .ensures)
 
 same-length : tie.Need-same-length
 same-length c = search needs
@@ -70,21 +70,21 @@ returns-2 c =
     let head = body .before .before .before .before in
     let room = head .before .before in
     let e = entry (room .before) in
-    text-done (e .pre .0 .1) (e .args .source .now) (e .args .buffer .now) (short e) (fits room) (head .put-two .ensures) (body .put-branches2 .ensures) (joins .put-joins .ensures)
+    text-done (e .args .style) (e .pre .0 .1) (e .args .source .now) (e .args .buffer .now) (short e) (fits room) (head .put-head .ensures) (body .put-branches2 .ensures) (joins .put-tail .ensures)
 
 pub write-lines-spec : {M : Type 1} → statement M
 write-lines-spec =
     tie.close
     (tie.spec
-    two-length-requires
-    joins-length-requires
+    head-length-requires
+    tail-length-requires
     add-capped-sum
     slice-aggregate-put-branches
     put-branches-requires
     capped-sum-requires
     returns
-    put-two-requires
+    put-head-requires
     put-branches-requires-2
-    put-joins-requires
+    put-tail-requires
     same-length
     returns-2)

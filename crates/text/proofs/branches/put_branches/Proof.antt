@@ -4,16 +4,17 @@ use Prim.Native.Nat.{_-_}
 use native.Mathlib.Omega.{arith}
 use lib.ListN.{getD}
 use borrow.Author.Needs.{needs}
+use Rattle.text.specs.Dot.{styleLine}
 use Rattle.text.specs.WriteSteps.{Latest}
 use Rattle.text.proofs.BranchLaws.{PuttingNets, nets-none, nets-more, nets-all}
 use Rattle.text.proofs.branches.put_branches.Statement.{statement}
 use Rattle.text.proofs.branches.put_branches.Tie as tie
 
 abbrev Inv-loop : tie.InvT-loop
-Inv-loop log nets from to buffer₀ start next₀ net₀ buffer next net = PuttingNets log nets start buffer₀ buffer next net
+Inv-loop style log nets from to buffer₀ start next₀ net₀ buffer next net = PuttingNets (styleLine style) log nets start buffer₀ buffer next net
 
 abbrev μ-loop : tie.MeasureT-loop
-μ-loop log nets from to buffer₀ start next₀ net₀ buffer next net = nets - net
+μ-loop style log nets from to buffer₀ start next₀ net₀ buffer next net = nets - net
 
 -- where the function begins
 abbrev entry : tie.In-loop Inv-loop μ-loop → tie.Start Inv-loop μ-loop
@@ -24,7 +25,7 @@ places : (c : tie.In-loop Inv-loop μ-loop) → Latest (entry c .args .log .now)
 places c = entry c .pre .1 (c .before .loop .net) (omega (arith, c .loop-test .taken, entry c .pre .0 .0))
 
 loop-holds : tie.Need-loop-holds Inv-loop μ-loop
-loop-holds c = nets-none _ _ _ _ (search needs)
+loop-holds c = nets-none _ _ _ _ _ (search needs)
 
 mul-put-records : tie.Need-mul-put-records Inv-loop μ-loop
 mul-put-records c = search needs

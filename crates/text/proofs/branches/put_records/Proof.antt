@@ -4,23 +4,24 @@ use Prim.Native.Nat.{_-_, _≤_}
 use native.Mathlib.Omega.{arith}
 use lib.ListN.{length}
 use borrow.Author.Needs.{needs}
+use Rattle.text.specs.Dot.{styleLine}
 use Rattle.text.proofs.LogLaws.{nextAt}
 use Rattle.text.proofs.BranchLaws.{rest-fits, PuttingRecords, records-none, records-all, records-passed, records-met}
 use Rattle.text.proofs.branches.put_records.Statement.{statement}
 use Rattle.text.proofs.branches.put_records.Tie as tie
 
 abbrev Inv-loop : tie.InvT-loop
-Inv-loop log net buffer₀ start next₀ at₀ buffer next at = PuttingRecords net log start buffer₀ buffer next at
+Inv-loop style log net buffer₀ start next₀ at₀ buffer next at = PuttingRecords (styleLine style) net log start buffer₀ buffer next at
 
 abbrev μ-loop : tie.MeasureT-loop
-μ-loop log net buffer₀ start next₀ at₀ buffer next at = length log - at
+μ-loop style log net buffer₀ start next₀ at₀ buffer next at = length log - at
 
 -- the next record begins within the log
 within : (c : tie.In-loop Inv-loop μ-loop) → nextAt (c .before .before .before .before .args .log .now) (c .before .loop .at) ≤ length (c .before .before .before .before .args .log .now)
 within c = rest-fits (c .before .loop .inv .rest) (c .loop-test .taken)
 
 loop-holds : tie.Need-loop-holds Inv-loop μ-loop
-loop-holds c = records-none _ _ _ _ (search needs) (c .before .before .pre)
+loop-holds c = records-none _ _ _ _ _ (search needs) (c .before .before .pre)
 
 add-path : tie.Need-add-path Inv-loop μ-loop
 add-path c = omega (arith, within c)

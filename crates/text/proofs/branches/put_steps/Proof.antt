@@ -2,21 +2,22 @@
 -- Assumes nothing.
 use Prim.Native.Nat.{_-_}
 use borrow.Author.Needs.{needs}
+use Rattle.text.specs.Dot.{styleLine}
 use Rattle.text.proofs.StepTextLaws.{PuttingSteps, putting-none, putting-more, putting-all}
 use Rattle.text.proofs.branches.put_steps.Statement.{statement}
 use Rattle.text.proofs.branches.put_steps.Tie as tie
 
 abbrev Inv-loop : tie.InvT-loop
-Inv-loop log from to net buffer₀ start next₀ k₀ buffer next k = PuttingSteps net log from to start buffer₀ buffer next k
+Inv-loop style log from to net buffer₀ start next₀ k₀ buffer next k = PuttingSteps (styleLine style) net log from to start buffer₀ buffer next k
 
 abbrev μ-loop : tie.MeasureT-loop
-μ-loop log from to net buffer₀ start next₀ k₀ buffer next k = to - k
+μ-loop style log from to net buffer₀ start next₀ k₀ buffer next k = to - k
 
 add-k : tie.Need-add-k Inv-loop μ-loop
 add-k c = search needs
 
 loop-holds : tie.Need-loop-holds Inv-loop μ-loop
-loop-holds c = putting-none _ _ _ _ _ _ (search needs)
+loop-holds c = putting-none _ _ _ _ _ _ _ (search needs)
 
 sub-put-branch : tie.Need-sub-put-branch Inv-loop μ-loop
 sub-put-branch c = search needs

@@ -1,4 +1,4 @@
--- `text::write_routes` meets its contract: table 5, what the log's test found by the marks of first nets, and the text.
+-- `text::write_style` meets its contract: table 5, what the log's test found by the marks of first nets, and the text.
 -- Assumes nothing.
 use mathlib.Core.Bool.{true}
 use mathlib.Core.Path.{_≡_, sym, _∙_, ap}
@@ -10,8 +10,8 @@ use Rattle.negotiation.proofs.JobLaws.{sources-few}
 use Rattle.text.specs.WriteSteps.{named, checkedAt}
 use Rattle.text.proofs.LogLaws.{found}
 use Rattle.text.proofs.RouteTextLaws.{marks-few, write-table, write-unsound, write-sound}
-use Rattle.text.proofs.write_routes.Statement.{statement}
-use Rattle.text.proofs.write_routes.Tie as tie
+use Rattle.text.proofs.write_style.Statement.{statement}
+use Rattle.text.proofs.write_style.Tie as tie
 
 -- table 5 keeps its rule
 table : (c : tie.Else1) → sourcesSound nodesMost (c .before .before .before .before .before .args .source .now) ≡ true
@@ -24,7 +24,7 @@ sources-sound-requires : tie.Need-sources-sound-requires
 sources-sound-requires c κs = search needs
 
 returns : tie.Need-returns
-returns c = write-table _ _ _ (sym (c .before .sources-sound .ensures) ∙ not-true _ (c .if1 .taken))
+returns c = write-table _ _ _ _ (sym (c .before .sources-sound .ensures) ∙ not-true _ (c .if1 .taken))
 
 first-marks-requires : tie.Need-first-marks-requires
 first-marks-requires c κs = sources-few _ _ (table c)
@@ -58,18 +58,18 @@ returns-2 c =
     let arm = c .before .before .before .before .before in
     let marks = arm .before .before .before .before in
     c .before .before .write-text .ensures
-    ∙ write-sound _ _ _ (marks .first-marks .result) (table (marks .before)) (marks .first-marks .ensures)
+    ∙ write-sound _ _ _ _ (marks .first-marks .result) (table (marks .before)) (marks .first-marks .ensures)
     (ap checkedAt (sym (arm .iteration .given .1)) ∙ arm .before .before .check-log .ensures)
 
 returns-3 : tie.Need-returns-3
 returns-3 c =
     let arm = c .before in
     let marks = arm .before .before .before .before in
-    write-unsound _ _ _ (marks .first-marks .result) (table (marks .before)) (marks .first-marks .ensures)
+    write-unsound _ _ _ _ (marks .first-marks .result) (table (marks .before)) (marks .first-marks .ensures)
     (ap checkedAt (sym (arm .word .given .1)) ∙ arm .before .before .check-log .ensures)
 
-pub write-routes-spec : {M : Type 1} → statement M
-write-routes-spec =
+pub write-style-spec : {M : Type 1} → statement M
+write-style-spec =
     tie.close
     (tie.spec
     cast-sources-sound

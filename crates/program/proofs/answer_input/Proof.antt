@@ -1,11 +1,11 @@
--- `router::main` meets its contract: what is printed lies within the routes buffer.
+-- `program::answer_input` meets its contract: what is printed lies within the routes buffer.
 -- Assumes nothing.
 use mathlib.Core.Path.{sym}
 use borrow.Author.Needs.{needs}
 use lib.Seq.{length-take-le}
 use Rattle.flow.proofs.ResponseLaws.{bytes-fit}
-use Rattle.router.proofs.main.Statement.{statement}
-use Rattle.router.proofs.main.Tie as tie
+use Rattle.program.proofs.answer_input.Statement.{statement}
+use Rattle.program.proofs.answer_input.Tie as tie
 
 slice-aggregate-read-full : tie.Need-slice-aggregate-read-full
 slice-aggregate-read-full c = search needs
@@ -53,10 +53,10 @@ respond-requires : tie.Need-respond-requires
 respond-requires c κs = search needs
 
 array-share-prefix-routes : tie.Need-array-share-prefix-routes
-array-share-prefix-routes c = bytes-fit _ _ _ _ (c .before .before .before .before .before .before .before .before .before .before .respond .ensures)
+array-share-prefix-routes c = bytes-fit _ _ _ _ _ (c .before .before .before .before .before .before .before .before .before .before .respond .ensures)
 
 slice-aggregate-write-all : tie.Need-slice-aggregate-write-all
-slice-aggregate-write-all c = let r = c .before .before .before .before .before .before .before .before .before .before .before .respond in sym (length-take-le (r .result) (r .last .1 .1 .1 .1 .1 .1 .1 .1 .1 .1 .0) (bytes-fit _ _ _ _ (r .ensures)))
+slice-aggregate-write-all c = let r = c .before .before .before .before .before .before .before .before .before .before .before .respond in sym (length-take-le (r .result) (r .last .1 .1 .1 .1 .1 .1 .1 .1 .1 .1 .1 .0) (bytes-fit _ _ _ _ _ (r .ensures)))
 
 write-all-requires : tie.Need-write-all-requires
 write-all-requires c κs = search needs
@@ -64,8 +64,8 @@ write-all-requires c κs = search needs
 returns : tie.Need-returns
 returns c = search needs
 
-pub main-spec : {M : Type 1} → statement M
-main-spec =
+pub answer-input-spec : {M : Type 1} → statement M
+answer-input-spec =
     tie.close
     (tie.spec
     slice-aggregate-read-full
