@@ -17,7 +17,7 @@ use Rattle.negotiation.specs.Outcome.{RouteReply, routeReply}
 use Rattle.text.specs.Lines.{letterX, printLine}
 use Rattle.text.specs.JobText.{Part, part, stopped, readText}
 use Rattle.text.specs.ReadReplies.{Tables, shortTable, tablesWith, writtenOver}
-use Rattle.text.specs.Routes.{logSound, netWritable, textReply, testedReply}
+use Rattle.text.specs.Routes.{logSound, writable, textReply, testedReply}
 use Rattle.text.specs.Dot.{textIn, styleReply}
 use Rattle.text.specs.declared.Style.{Style}
 use Rattle.flow.specs.Refusals.{refusalLine}
@@ -42,9 +42,9 @@ write-fits style sources log buffer =
     ⊎-elim
     (λ (t : sourcesSound nodesMost sources ≡ true).
     ⊎-elim
-    (λ (e : logSound (netWritable sources) log ≡ true). rw (t, e) (text-fits (textIn style sources (decode log)) buffer))
-    (λ (e : logSound (netWritable sources) log ≡ false). rw (t, e) zero-le)
-    (either-way (logSound (netWritable sources) log)))
+    (λ (e : logSound (writable sources) log ≡ true). rw (t, e) (text-fits (textIn style sources (decode log)) buffer))
+    (λ (e : logSound (writable sources) log ≡ false). rw (t, e) zero-le)
+    (either-way (logSound (writable sources) log)))
     (λ (t : sourcesSound nodesMost sources ≡ false). rw t zero-le)
     (either-way (sourcesSound nodesMost sources))
 

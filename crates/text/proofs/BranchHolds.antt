@@ -17,7 +17,7 @@ use Rattle.price.specs.Test.{both}
 use Rattle.price.proofs.TestLaws.{either-way, both-left, true≢false, le-or-lt}
 use Rattle.negotiation.specs.Records.{Record, decode, pathNodes}
 use Rattle.negotiation.specs.Demand.{nodesIn, latest, treeRead}
-use Rattle.text.specs.Routes.{soundWords, logSound, netWritable, Branch, steps, passing, recordsIn, finalRecords, recordBranches, treeBranches, routeBranches, ofNet}
+use Rattle.text.specs.Routes.{Named, soundWords, logSound, netWritable, writable, Branch, steps, passing, recordsIn, finalRecords, recordBranches, treeBranches, routeBranches, ofNet}
 use Rattle.text.proofs.LogLaws.{found-all}
 use Rattle.text.proofs.ShortRecordLaws.{all-short}
 
@@ -122,13 +122,13 @@ module _ (i : ℕ) where
 
 -- a net that table 5 lacks, or that is joined into another, has no branch
 pub routes-nets :
-    (sources log : List ℕ) → logSound (netWritable sources) log ≡ true → (i : ℕ) → netWritable sources i ≡ false
+    (sources log : List ℕ) → logSound (writable sources) log ≡ true → (i : ℕ) → netWritable sources i ≡ false
     → ofNet i (routeBranches (length sources) (decode log)) ≡ []
 unfolding soundWords recordBranches treeBranches finalRecords
 routes-nets sources log t i q =
-    let net : (ℕ → Bool) = netWritable sources in
+    let named : Named = writable sources in
     let none : (r : Record) → List·Memᴰ r (decode log) → r .net ≡ i → ⊥ =
-    λ r m e. true≢false (sym (all-short net (length log) 0 log (omega arith) (found-all net log t) r m .net-passes) ∙ ap net e ∙ q) in
+    λ r m e. true≢false (sym (all-short named (length log) 0 log (omega arith) (found-all named log t) r m .net-passes) ∙ ap (netWritable sources) e ∙ q) in
     ⊎-elim
     (λ (l : length sources ≤ i). routes-before i (length sources) (decode log) l)
     (λ (l : i < length sources). routes-final i (length sources) (decode log) l ∙ rw (none-in i (latest i (decode log)) (decode log) none))

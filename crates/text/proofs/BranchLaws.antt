@@ -15,7 +15,7 @@ use lib.ListN.{length, getD, take, drop, length-drop, drop-of-length-le}
 use borrow.Author.Tests.{eq-eqb, ne-eqb}
 use Rattle.price.proofs.TestLaws.{either-way}
 use Rattle.negotiation.specs.Records.{Record, decode}
-use Rattle.text.specs.Routes.{recordSound, soundWords, Branch, steps, passing, recordBranches, treeBranches, routeBranches}
+use Rattle.text.specs.Routes.{Named, recordSound, soundWords, Branch, steps, passing, recordBranches, treeBranches, routeBranches}
 use Rattle.text.specs.WriteSteps.{Filled, AllSound, part, ownRecords, Latest}
 use Rattle.text.proofs.LogLaws.{soundAfter, sound-stop, nextAt, sound-at, long-at, fits-at, decode-at, decode-none}
 use Rattle.text.proofs.StepTextLaws.{filled-none, filled-then, FilledSoFar, so-far-none, so-far-more, so-far-all}
@@ -23,37 +23,37 @@ use Rattle.text.proofs.StepListLaws.{flat-append}
 
 -- ---- the records from a place on
 
--- they are sound, by some test of the nets
+-- they are sound, by what they may name
 pub record Rest (log : List ℕ) (at : ℕ) : Type 0 where
   pub within : at ≤ length log
-  pub net : ℕ → Bool
+  pub named : Named
   pub last : ℕ
-  pub all-sound : soundAfter net last (drop at log) ≡ length (drop at log)
+  pub all-sound : soundAfter named last (drop at log) ≡ length (drop at log)
 
 rest-none : (log : List ℕ) → AllSound log → Rest log 0
 unfolding soundWords
-rest-none log e = record { within = omega arith; net = e .net; last = 0; all-sound = e .all-sound }
+rest-none log e = record { within = omega arith; named = e .named; last = 0; all-sound = e .all-sound }
 
 module _ {log : List ℕ} {at : ℕ} (p : Rest log at) (l : at < length log) where
-  pub sound-here : recordSound (p .net) (p .last) (drop at log) ≡ true
+  pub sound-here : recordSound (p .named) (p .last) (drop at log) ≡ true
   sound-here =
       let long = length-drop at log in
       ⊎-elim
       (λ t. t)
-      (λ (t : recordSound (p .net) (p .last) (drop at log) ≡ false). absurd (omega (arith, sound-stop (p .net) (p .last) (drop at log) t, p .all-sound)))
-      (either-way (recordSound (p .net) (p .last) (drop at log)))
+      (λ (t : recordSound (p .named) (p .last) (drop at log) ≡ false). absurd (omega (arith, sound-stop (p .named) (p .last) (drop at log) t, p .all-sound)))
+      (either-way (recordSound (p .named) (p .last) (drop at log)))
 
   pub rest-fits : nextAt log at ≤ length log
-  rest-fits = fits-at log at (p .net) (p .last) sound-here (p .within)
+  rest-fits = fits-at log at (p .named) (p .last) sound-here (p .within)
 
   abbrev pub rest-next : Rest log (nextAt log at)
   rest-next =
       record {
         within = rest-fits;
-        net = p .net;
+        named = p .named;
         last = getD log at 0;
         all-sound =
-            omega (arith, sound-at log at (p .net) (p .last) sound-here, p .all-sound, length-drop at log, length-drop (nextAt log at) log, rest-fits);
+            omega (arith, sound-at log at (p .named) (p .last) sound-here, p .all-sound, length-drop at log, length-drop (nextAt log at) log, rest-fits);
       }
 
 -- ---- the text of a net's records
@@ -74,7 +74,7 @@ module _ {log : List ℕ} {at : ℕ} (p : Rest log at) (l : at < length log) (li
   text-met : getD log (at + 1) 0 ≡ net → textFrom line net log at ≡ recordText line net log at ++ textFrom line net log (nextAt log at)
   unfolding passing recordBranches
   text-met e =
-      let long = long-at log at (p .net) (p .last) (sound-here p l) in
+      let long = long-at log at (p .named) (p .last) (sound-here p l) in
       let count : nextAt log at - (at + 6) ≡ getD log (at + 5) 0 = omega arith in
       rw (decode-at log at (omega arith), eq-eqb (getD log (at + 1) 0) net e, count, e)
       (flat-append line (steps net (take (getD log (at + 5) 0) (drop (at + 6) log)))
@@ -83,7 +83,7 @@ module _ {log : List ℕ} {at : ℕ} (p : Rest log at) (l : at < length log) (li
   text-passed : (getD log (at + 1) 0 ≡ net → ⊥) → textFrom line net log at ≡ textFrom line net log (nextAt log at)
   unfolding passing
   text-passed e =
-      let long = long-at log at (p .net) (p .last) (sound-here p l) in
+      let long = long-at log at (p .named) (p .last) (sound-here p l) in
       rw (decode-at log at (omega arith), ne-eqb (getD log (at + 1) 0) net e)
 
 -- the text of a net's branches before a place is passed

@@ -24,7 +24,7 @@ use Rattle.negotiation.specs.Tables.{netsMost}
 use Rattle.negotiation.proofs.SinkMarkLaws.{unmarked-new}
 use Rattle.text.specs.Lines.{letterJ, printLine}
 use Rattle.text.specs.Routes.{netWritable, Join, joinsBefore, routeJoins, joinText}
-use Rattle.text.specs.WriteSteps.{Put, named}
+use Rattle.text.specs.WriteSteps.{Put, netMarked}
 use Rattle.text.proofs.PlacedLaws.{placed-none, put-length, put-then}
 use Rattle.text.proofs.StepTextLaws.{letter-any}
 
@@ -168,10 +168,10 @@ module _ {sources before after : List ℕ} {start at net : ℕ} (room : start + 
 pub record FirstMarks (sources marks : List ℕ) (net : ℕ) : Type 0 where
   pub within : net ≤ length sources
   pub long : length marks ≡ netsMost
-  pub marked : (i : ℕ) → named marks i ≡ both (ltb i net) (leads sources i)
+  pub marked : (i : ℕ) → netMarked marks i ≡ both (ltb i net) (leads sources i)
 
 pub first-none : (sources : List ℕ) → FirstMarks sources (replicate 512 0) 0
-unfolding named
+unfolding netMarked
 first-none sources =
     record {
       within = omega arith;
@@ -189,7 +189,7 @@ module _ {sources marks : List ℕ} {net : ℕ} (p : FirstMarks sources marks ne
         (le-or-lt net i)
 
     -- the net's own mark is right, and the others stand
-    one-more : (later : List ℕ) → length later ≡ netsMost → named later net ≡ leads sources net → ((i : ℕ) → (i ≡ net → ⊥) → named later i ≡ named marks i) → FirstMarks sources later (net + 1)
+    one-more : (later : List ℕ) → length later ≡ netsMost → netMarked later net ≡ leads sources net → ((i : ℕ) → (i ≡ net → ⊥) → netMarked later i ≡ netMarked marks i) → FirstMarks sources later (net + 1)
     one-more later long here others =
         record {
           within = omega arith;
@@ -203,7 +203,7 @@ module _ {sources marks : List ℕ} {net : ℕ} (p : FirstMarks sources marks ne
         }
 
     pub first-marked : first ≡ net → length sources ≤ netsMost → FirstMarks sources (set marks net 1) (net + 1)
-    unfolding named leads
+    unfolding netMarked leads
     first-marked e most =
         one-more (set marks net 1) (length-set marks net 1 ∙ p .long)
         (rw (getD-set-same marks net 1 0 (omega (arith, p .long)), eq-eqb (firstOf sources net) net (sym is ∙ e)))
@@ -216,7 +216,7 @@ module _ {sources marks : List ℕ} {net : ℕ} (p : FirstMarks sources marks ne
         (p .marked net ∙ rw (le-ltb net net (omega arith), ne-eqb (firstOf sources net) net (λ q. e (is ∙ q))))
         (λ i ne. refl)
 
-  pub first-all : length sources ≤ net → (i : ℕ) → named marks i ≡ netWritable sources i
+  pub first-all : length sources ≤ net → (i : ℕ) → netMarked marks i ≡ netWritable sources i
   unfolding netWritable
   first-all l i =
       let end : net ≡ length sources = omega (arith, p .within) in

@@ -16,6 +16,7 @@ use lib.ListN.{length, getD, take, drop, set, length-drop, length-set}
 use lib.Seq.{getD-take, getD-drop, getD-set-same, getD-set-other, drop-drop, ext-getD, length-take-le, take-all}
 use borrow.Author.Tests.{eq-eqb, ne-eqb, le-leb, eqb-true, eqb-false, not-true, not-false}
 use Rattle.price.specs.Test.{choose, both, either}
+use Rattle.price.specs.Bounds.{nodesMost}
 use Rattle.price.proofs.TestLaws.{either-way, true≢false, le-or-lt}
 use Rattle.price.proofs.ListLaws.{part-slice}
 use Rattle.search.proofs.QueueLaws.{same-or-not}
@@ -23,7 +24,7 @@ use Rattle.negotiation.specs.Tables.{netsMost}
 use Rattle.negotiation.specs.Records.{Record, decode}
 use Rattle.negotiation.specs.Demand.{latest}
 use Rattle.negotiation.proofs.FilterLaws.{latest-append}
-use Rattle.text.specs.Routes.{pathIn, pathSound, recordSound, soundWords, soundUpTo, passing, recordsIn, finalRecords}
+use Rattle.text.specs.Routes.{Named, pathIn, pathSound, recordSound, soundWords, soundUpTo, passing, recordsIn, finalRecords}
 use Rattle.text.specs.WriteSteps.{AllSound, part, ownRecords, LatestPlaces}
 use Rattle.text.proofs.RecordTestLaws.{recordLength, sound-net, sound-some, sound-rises, sound-lower}
 use Rattle.text.proofs.LogLaws.{soundAfter, sound-next, firstRecord, recordAt, nextAt, first-at, record-at, decode-next, decode-none}
@@ -118,9 +119,9 @@ module _ (ws vs : List ℕ) (long : recordLength ws ≤ length ws) (fits : recor
       let h : k < n = rw left at l in
       getD-take n (drop 6 vs) k 0 h ∙ getD-drop 6 vs k 0 ∙ same (6 + k) (omega arith) ∙ sym (getD-drop 6 ws k 0) ∙ sym (getD-take n (drop 6 ws) k 0 h))
 
-  agreed-sound : (net : ℕ → Bool) (last : ℕ) → recordSound net last vs ≡ recordSound net last ws
+  agreed-sound : (named : Named) (last : ℕ) → recordSound named last vs ≡ recordSound named last ws
   unfolding recordSound pathSound
-  agreed-sound net last =
+  agreed-sound named last =
       rw (
         agreed-length,
         same 0 (omega arith),
@@ -180,46 +181,46 @@ module _ (log : List ℕ) (a b : ℕ) (fits : nextAt log a ≤ b) (within : b �
       ∙ ap (λ (ws : List ℕ). recordAt log a ∷ decode ws) part-after
 
   part-sound :
-      (net : ℕ → Bool) (last : ℕ) → recordSound net last (drop a log) ≡ true
-      → soundAfter net last (part log a b) ≡ 6 + getD log (a + 5) 0 + soundAfter net (getD log a 0) (part log (nextAt log a) b)
-  part-sound net last s =
-      sound-next net last (part log a b) (agreed-sound (drop a log) (part log a b) all-fits part-fits part-same net last ∙ s)
-      ∙ ap (λ (ws : List ℕ). recordLength (part log a b) + soundAfter net (getD (part log a b) 0 0) ws) part-after
+      (named : Named) (last : ℕ) → recordSound named last (drop a log) ≡ true
+      → soundAfter named last (part log a b) ≡ 6 + getD log (a + 5) 0 + soundAfter named (getD log a 0) (part log (nextAt log a) b)
+  part-sound named last s =
+      sound-next named last (part log a b) (agreed-sound (drop a log) (part log a b) all-fits part-fits part-same named last ∙ s)
+      ∙ ap (λ (ws : List ℕ). recordLength (part log a b) + soundAfter named (getD (part log a b) 0 0) ws) part-after
       ∙ rw (part-five, part-first)
 
 -- ---- whole records between two places
 
 -- with the iterations before the first and of the last
-pub data Whole (net : ℕ → Bool) (log : List ℕ) : ℕ → ℕ → ℕ → ℕ → List Record → Type 0 where
-  none : {a last : ℕ} → Whole net log a last a last []
+pub data Whole (named : Named) (log : List ℕ) : ℕ → ℕ → ℕ → ℕ → List Record → Type 0 where
+  none : {a last : ℕ} → Whole named log a last a last []
   next :
-      {a last b end : ℕ} {rs : List Record} → recordSound net last (drop a log) ≡ true → Whole net log (nextAt log a) (getD log a 0) b end rs
-      → Whole net log a last b end (recordAt log a ∷ rs)
+      {a last b end : ℕ} {rs : List Record} → recordSound named last (drop a log) ≡ true → Whole named log (nextAt log a) (getD log a 0) b end rs
+      → Whole named log a last b end (recordAt log a ∷ rs)
 
 empty-part : (log : List ℕ) (a : ℕ) → part log a a ≡ []
 empty-part log a = let z : a - a ≡ 0 = omega arith in rw z
 
-module _ {net : ℕ → Bool} {log : List ℕ} where
+module _ {named : Named} {log : List ℕ} where
   whole-append :
-      {a la b lb c lc : ℕ} {rs ss : List Record} → Whole net log a la b lb rs → Whole net log b lb c lc ss → Whole net log a la c lc (rs ++ ss)
+      {a la b lb c lc : ℕ} {rs ss : List Record} → Whole named log a la b lb rs → Whole named log b lb c lc ss → Whole named log a la c lc (rs ++ ss)
   whole-append none q = q
   whole-append (next s w) q = next s (whole-append w q)
 
-  whole-le : {a la b lb : ℕ} {rs : List Record} → Whole net log a la b lb rs → a ≤ b
+  whole-le : {a la b lb : ℕ} {rs : List Record} → Whole named log a la b lb rs → a ≤ b
   whole-le none = omega arith
   whole-le (next s w) = omega (arith, whole-le w)
 
   -- after any earlier iteration too
-  whole-lower : {a la b lb : ℕ} {rs : List Record} → Whole net log a la b lb rs → (end : ℕ) × Whole net log a 0 b end rs
+  whole-lower : {a la b lb : ℕ} {rs : List Record} → Whole named log a la b lb rs → (end : ℕ) × Whole named log a 0 b end rs
   whole-lower none = (0, none)
-  whole-lower (next {a = a} {last = last} {end = end} s w) = (end, next (sound-lower net last (drop a log) s) w)
+  whole-lower (next {a = a} {last = last} {end = end} s w) = (end, next (sound-lower named last (drop a log) s) w)
 
-  whole-decode : {a la b lb : ℕ} {rs : List Record} → b ≤ length log → Whole net log a la b lb rs → decode (part log a b) ≡ rs
+  whole-decode : {a la b lb : ℕ} {rs : List Record} → b ≤ length log → Whole named log a la b lb rs → decode (part log a b) ≡ rs
   whole-decode h (none {a = a}) = rw (empty-part log a) decode-none
   whole-decode h (next {a = a} {b = b} s w) =
       part-decode log a b (whole-le w) h ∙ ap (λ (l : List Record). recordAt log a ∷ l) (whole-decode h w)
 
-  whole-sound : {a la b lb : ℕ} {rs : List Record} → b ≤ length log → Whole net log a la b lb rs → soundAfter net la (part log a b) ≡ length (part log a b)
+  whole-sound : {a la b lb : ℕ} {rs : List Record} → b ≤ length log → Whole named log a la b lb rs → soundAfter named la (part log a b) ≡ length (part log a b)
   unfolding soundUpTo
   whole-sound h (none {a = a}) = rw (empty-part log a)
   whole-sound h (next {a = a} {last = last} {b = b} s w) =
@@ -227,26 +228,26 @@ module _ {net : ℕ → Bool} {log : List ℕ} where
       let here : length (part log a b) ≡ b - a = part-long log a b fits h in
       let there : length (part log (nextAt log a) b) ≡ b - nextAt log a =
       length-take-le (b - nextAt log a) (drop (nextAt log a) log) (rw (length-drop (nextAt log a) log) (omega arith)) in
-      part-sound log a b fits h net last s ∙ rw (whole-sound h w) (omega arith)
+      part-sound log a b fits h named last s ∙ rw (whole-sound h w) (omega arith)
 
 -- ---- the places of one net
 
 -- the records so far end at a place: those of net i between the two places are its latest, and none came since
-pub record Standing (net : ℕ → Bool) (log : List ℕ) (records : List Record) (at last i from to : ℕ) : Type 0 where
+pub record Standing (named : Named) (log : List ℕ) (records : List Record) (at last i from to : ℕ) : Type 0 where
   pub before : ℕ
   pub end : ℕ
   pub own : List Record
   pub others : List Record
-  pub words : Whole net log from before to end own
-  pub since : Whole net log to end at last others
+  pub words : Whole named log from before to end own
+  pub since : Whole named log to end at last others
   pub own-are : ownRecords i own ≡ finalRecords i records
   pub none-since : ownRecords i others ≡ []
   pub none-yet : to ≡ 0 → latest i records ≡ 0
   pub reads : (to ≡ 0 → ⊥) → getD log from 0 ≡ latest i records
 
-standing-none : (net : ℕ → Bool) (log : List ℕ) (i from to : ℕ) → from ≡ 0 → to ≡ 0 → Standing net log [] 0 0 i from to
+standing-none : (named : Named) (log : List ℕ) (i from to : ℕ) → from ≡ 0 → to ≡ 0 → Standing named log [] 0 0 i from to
 unfolding passing finalRecords latest
-standing-none net log i from to e f =
+standing-none named log i from to e f =
     rw (e, f)
     record {
       before = 0;
@@ -261,12 +262,12 @@ standing-none net log i from to e f =
       reads = λ z. absurd (z refl);
     }
 
-module _ {net : ℕ → Bool} {log : List ℕ} {at : ℕ} (last : ℕ) (s : recordSound net last (drop at log) ≡ true) where
-  one : Whole net log at last (nextAt log at) (getD log at 0) (recordAt log at ∷ [])
+module _ {named : Named} {log : List ℕ} {at : ℕ} (last : ℕ) (s : recordSound named last (drop at log) ≡ true) where
+  one : Whole named log at last (nextAt log at) (getD log at 0) (recordAt log at ∷ [])
   one = next s none
 
   module _ (records : List Record) {i : ℕ} where
-    standing-other : {from to : ℕ} → (getD log (at + 1) 0 ≡ i → ⊥) → Standing net log records at last i from to → Standing net log (records ++ (recordAt log at ∷ [])) (nextAt log at) (getD log at 0) i from to
+    standing-other : {from to : ℕ} → (getD log (at + 1) 0 ≡ i → ⊥) → Standing named log records at last i from to → Standing named log (records ++ (recordAt log at ∷ [])) (nextAt log at) (getD log at 0) i from to
     standing-other e p =
         let same = latest-other i records (recordAt log at) e in
         record {
@@ -282,7 +283,7 @@ module _ {net : ℕ → Bool} {log : List ℕ} {at : ℕ} (last : ℕ) (s : reco
           reads = λ z. p .reads z ∙ sym same;
         }
 
-    standing-anew : getD log (at + 1) 0 ≡ i → latest i records < getD log at 0 → Standing net log (records ++ (recordAt log at ∷ [])) (nextAt log at) (getD log at 0) i at (nextAt log at)
+    standing-anew : getD log (at + 1) 0 ≡ i → latest i records < getD log at 0 → Standing named log (records ++ (recordAt log at ∷ [])) (nextAt log at) (getD log at 0) i at (nextAt log at)
     unfolding passing
     standing-anew e l =
         record {
@@ -298,7 +299,7 @@ module _ {net : ℕ → Bool} {log : List ℕ} {at : ℕ} (last : ℕ) (s : reco
           reads = λ z. sym (latest-own i records (recordAt log at) e ∙ omega arith);
         }
 
-    standing-same : {from to : ℕ} → getD log (at + 1) 0 ≡ i → (to ≡ 0 → ⊥) → getD log from 0 ≡ getD log at 0 → Standing net log records at last i from to → Standing net log (records ++ (recordAt log at ∷ [])) (nextAt log at) (getD log at 0) i from (nextAt log at)
+    standing-same : {from to : ℕ} → getD log (at + 1) 0 ≡ i → (to ≡ 0 → ⊥) → getD log from 0 ≡ getD log at 0 → Standing named log records at last i from to → Standing named log (records ++ (recordAt log at ∷ [])) (nextAt log at) (getD log at 0) i from (nextAt log at)
     unfolding passing
     standing-same e z f p =
         let same : latest i records ≡ getD log at 0 = sym (p .reads z) ∙ f in
@@ -325,13 +326,14 @@ module _ {net : ℕ → Bool} {log : List ℕ} {at : ℕ} (last : ℕ) (s : reco
 -- the places of all nets, for the records before a place
 pub record Finding (log froms tos : List ℕ) (at : ℕ) : Type 0 where
   pub rest : Rest log at
-  pub few : (i : ℕ) → rest .net i ≡ true → i < netsMost
+  pub nets-few : (i : ℕ) → rest .named .net i ≡ true → i < netsMost
+  pub nodes-few : rest .named .nodes ≤ nodesMost
   pub records : List Record
-  pub so-far : Whole (rest .net) log 0 0 at (rest .last) records
+  pub so-far : Whole (rest .named) log 0 0 at (rest .last) records
   pub none-late : (i : ℕ) → latest i records ≤ rest .last
   pub from-long : length froms ≡ netsMost
   pub to-long : length tos ≡ netsMost
-  pub each : (i : ℕ) → i < netsMost → Standing (rest .net) log records at (rest .last) i (getD froms i 0) (getD tos i 0)
+  pub each : (i : ℕ) → i < netsMost → Standing (rest .named) log records at (rest .last) i (getD froms i 0) (getD tos i 0)
 
 pub finding-none :
     (log froms tos : List ℕ) → AllSound log → length froms ≡ netsMost → length tos ≡ netsMost → ((i : ℕ) → (getD froms i 0 ≡ 0) × (getD tos i 0 ≡ 0))
@@ -339,14 +341,15 @@ pub finding-none :
 unfolding soundWords latest
 finding-none log froms tos e f t z =
     record {
-      rest = record { within = omega arith; net = e .net; last = 0; all-sound = e .all-sound };
-      few = e .nets-few;
+      rest = record { within = omega arith; named = e .named; last = 0; all-sound = e .all-sound };
+      nets-few = e .nets-few;
+      nodes-few = e .nodes-few;
       records = [];
       so-far = none;
       none-late = λ i. omega arith;
       from-long = f;
       to-long = t;
-      each = λ i l. standing-none (e .net) log i (getD froms i 0) (getD tos i 0) (z i .0) (z i .1);
+      each = λ i l. standing-none (e .named) log i (getD froms i 0) (getD tos i 0) (z i .0) (z i .1);
     }
 
 -- the test of a net that has no record yet, and of one that has
@@ -375,23 +378,23 @@ module _ {log froms tos : List ℕ} {at : ℕ} (p : Finding log froms tos at) (l
   abbrev here : ℕ
   here = getD log (at + 1) 0
 
-  sound-now : recordSound (p .rest .net) (p .rest .last) (drop at log) ≡ true
+  sound-now : recordSound (p .rest .named) (p .rest .last) (drop at log) ≡ true
   sound-now = sound-here (p .rest) l
 
   pub finding-net : here < netsMost
-  finding-net = p .few here (rw (getD-drop at log 1 0) at (sound-net (p .rest .net) (p .rest .last) (drop at log) sound-now))
+  finding-net = p .nets-few here (rw (getD-drop at log 1 0) at (sound-net (p .rest .named) (p .rest .last) (drop at log) sound-now))
 
-  stands : Standing (p .rest .net) log (p .records) at (p .rest .last) here (getD froms here 0) (getD tos here 0)
+  stands : Standing (p .rest .named) log (p .records) at (p .rest .last) here (getD froms here 0) (getD tos here 0)
   stands = p .each here finding-net
 
   pub finding-from : getD froms here 0 < length log
   finding-from = omega (arith, whole-le (stands .words), whole-le (stands .since))
 
   some : 1 ≤ getD log at 0
-  some = rw (first-at log at) at (sound-some (p .rest .net) (p .rest .last) (drop at log) sound-now)
+  some = rw (first-at log at) at (sound-some (p .rest .named) (p .rest .last) (drop at log) sound-now)
 
   rises : p .rest .last ≤ getD log at 0
-  rises = rw (first-at log at) at (sound-rises (p .rest .net) (p .rest .last) (drop at log) sound-now)
+  rises = rw (first-at log at) at (sound-rises (p .rest .named) (p .rest .last) (drop at log) sound-now)
 
   late : (i : ℕ) → latest i (p .records ++ (recordAt log at ∷ [])) ≤ getD log at 0
   late i =
@@ -406,12 +409,13 @@ module _ {log froms tos : List ℕ} {at : ℕ} (p : Finding log froms tos at) (l
   moved :
       {froms′ tos′ : List ℕ} → length froms′ ≡ netsMost → length tos′ ≡ netsMost
       → ((i : ℕ) → (here ≡ i → ⊥) → (getD froms′ i 0 ≡ getD froms i 0) × (getD tos′ i 0 ≡ getD tos i 0))
-      → Standing (p .rest .net) log (p .records ++ (recordAt log at ∷ [])) (nextAt log at) (getD log at 0) here (getD froms′ here 0) (getD tos′ here 0)
+      → Standing (p .rest .named) log (p .records ++ (recordAt log at ∷ [])) (nextAt log at) (getD log at 0) here (getD froms′ here 0) (getD tos′ here 0)
       → Finding log froms′ tos′ (nextAt log at)
   moved {froms′} {tos′} f t same new =
       record {
         rest = rest-next (p .rest) l;
-        few = p .few;
+        nets-few = p .nets-few;
+        nodes-few = p .nodes-few;
         records = p .records ++ (recordAt log at ∷ []);
         so-far = whole-append (p .so-far) (one (p .rest .last) sound-now);
         none-late = late;
@@ -423,7 +427,7 @@ module _ {log froms tos : List ℕ} {at : ℕ} (p : Finding log froms tos at) (l
             (λ (e : here ≡ i).
             subst
             (λ (k : ℕ).
-            Standing (p .rest .net) log (p .records ++ (recordAt log at ∷ [])) (nextAt log at) (getD log at 0) k (getD froms′ k 0) (getD tos′ k 0))
+            Standing (p .rest .named) log (p .records ++ (recordAt log at ∷ [])) (nextAt log at) (getD log at 0) k (getD froms′ k 0) (getD tos′ k 0))
             e new)
             (λ (e : here ≡ i → ⊥). rw (same i e .0, same i e .1) (standing-other (p .rest .last) sound-now (p .records) e (p .each i h)))
             (same-or-not here i);
@@ -484,6 +488,6 @@ finding-all {log} {froms} {tos} {at} p l i h =
     record {
       rises = rises;
       within = fits;
-      part-sound = record { net = p .rest .net; nets-few = p .few; all-sound = whole-sound fits (low .1) };
+      part-sound = record { named = p .rest .named; nets-few = p .nets-few; nodes-few = p .nodes-few; all-sound = whole-sound fits (low .1) };
       own = ap (ownRecords i) (whole-decode fits (s .words)) ∙ s .own-are ∙ ap (finalRecords i) (sym all);
     }

@@ -6,7 +6,7 @@
 --     listed-only, listed-all       a branch is listed exactly where a record of its net's latest iteration has it as a step of its path
 --     joined-only, joined-all       a net is listed exactly where another is the first of its source
 -- Assumes nothing.
-use mathlib.Core.Bool.{Bool, true}
+use mathlib.Core.Bool.{true}
 use mathlib.Core.List.{List, [], _∷_, _++_, map, map-append, List·Memᴰ}
 use mathlib.Core.Path.{_≡_, refl, sym, _∙_, ap, subst}
 use Prim.Native.Nat.{ℕ, _-_, _≤_}
@@ -20,7 +20,7 @@ use Rattle.price.proofs.TestLaws.{both-left}
 use Rattle.negotiation.specs.Records.{Record, decode}
 use Rattle.negotiation.specs.Tables.{sourcesSound}
 use Rattle.negotiation.proofs.JobLaws.{sources-few}
-use Rattle.text.specs.Routes.{logSound, soundWords, netWritable, Branch, lastIteration, branchText, Join, routeJoins, joinText, routesText}
+use Rattle.text.specs.Routes.{Named, logSound, soundWords, writable, Branch, lastIteration, branchText, Join, routeJoins, joinText, routesText}
 use Rattle.text.specs.Listed.{RouteLines, ended, branch, join, stepsByNet, Listed, StepOf, JoinOf}
 use Rattle.text.proofs.RecordTestLaws.{recordLength}
 use Rattle.text.proofs.LogLaws.{soundAfter, firstRecord, found-all}
@@ -50,25 +50,25 @@ last-of earlier last =
 
 -- the numbers of its branches are short enough for a field
 pub steps-printable :
-    (sources log : List ℕ) → sourcesSound nodesMost sources ≡ true → logSound (netWritable sources) log ≡ true
+    (sources log : List ℕ) → sourcesSound nodesMost sources ≡ true → logSound (writable sources) log ≡ true
     → (b : Branch) → List·Memᴰ b (stepsByNet (length sources) (decode log)) → Printable (branchFields b)
 unfolding soundWords
 steps-printable sources log table t b m =
-    let net : (ℕ → Bool) = netWritable sources in
+    let named : Named = writable sources in
     let o = steps-only (length sources) (decode log) b m in
     rw (o .branch-is)
-    (step-printable net (o .turn) (writable-few sources table) (all-short net (length log) 0 log (omega arith) (found-all net log t) (o .turn) (o .logged))
+    (step-printable named (o .turn) (writable-few sources table) (omega arith) (all-short named (length log) 0 log (omega arith) (found-all named log t) (o .turn) (o .logged))
     (o .place) (o .within))
 
 -- the routes text of a sound log
-pub routes-listed : (sources log : List ℕ) → sourcesSound nodesMost sources ≡ true → logSound (netWritable sources) log ≡ true → Listed sources log (routesText sources (decode log))
+pub routes-listed : (sources log : List ℕ) → sourcesSound nodesMost sources ≡ true → logSound (writable sources) log ≡ true → Listed sources log (routesText sources (decode log))
 unfolding logSound soundWords routesText
 routes-listed sources log table t =
-    let net : (ℕ → Bool) = netWritable sources in
-    let some : 1 ≤ length log = leb-true 1 (length log) (both-left (leb 1 (length log)) (eqb (soundWords net log) (length log)) t) in
-    let all : soundAfter net 0 log ≡ length log = found-all net log t in
+    let named : Named = writable sources in
+    let some : 1 ≤ length log = leb-true 1 (length log) (both-left (leb 1 (length log)) (eqb (soundWords named log) (length log)) t) in
+    let all : soundAfter named 0 log ≡ length log = found-all named log t in
     let s = split-last (firstRecord log) (decode (drop (recordLength log) log)) in
-    let is : decode log ≡ s .0 ++ (s .1 ∷ []) = decode-first net 0 log all some ∙ s .2 in
+    let is : decode log ≡ s .0 ++ (s .1 ∷ []) = decode-first named 0 log all some ∙ s .2 in
     let iteration : lastIteration (decode log) ≡ s .1 .iteration = ap lastIteration is ∙ last-of (s .0) (s .1) in
     record {
       earlier = s .0;
@@ -113,11 +113,11 @@ module _ {sources log text : List ℕ} (l : Listed sources log text) {bs : List 
   listed-only b m = steps-only (length sources) (decode log) b (subst (List·Memᴰ b) (read-once p (l .lines) .0) m)
 
   -- and of a sound log each such step is among them
-  pub listed-all : logSound (netWritable sources) log ≡ true → (b : Branch) → StepOf (decode log) b → List·Memᴰ b bs
+  pub listed-all : logSound (writable sources) log ≡ true → (b : Branch) → StepOf (decode log) b → List·Memᴰ b bs
   unfolding soundWords
   listed-all t b s =
-      let net : (ℕ → Bool) = netWritable sources in
-      let passes = all-short net (length log) 0 log (omega arith) (found-all net log t) (s .turn) (s .logged) .net-passes in
+      let named : Named = writable sources in
+      let passes = all-short named (length log) 0 log (omega arith) (found-all named log t) (s .turn) (s .logged) .net-passes in
       subst (List·Memᴰ b) (read-once (l .lines) p .0) (steps-all (length sources) (decode log) b s (writable-within sources (s .turn .net) passes))
 
   -- each joined net has the first of its source before it

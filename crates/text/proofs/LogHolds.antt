@@ -1,6 +1,6 @@
 -- The writer never refuses an accepted job's log by 10: its records are whole and sound, and their iterations never fall.
 -- Assumes nothing.
-use mathlib.Core.Bool.{Bool, true, false}
+use mathlib.Core.Bool.{true, false}
 use mathlib.Core.List.{List, [], _∷_, _++_}
 use mathlib.Core.Path.{_≡_, refl, sym, _∙_}
 use Prim.Native.Nat.{ℕ, zero, suc, _+_, _*_, _-_, _≤_, _<_}
@@ -25,7 +25,7 @@ use Rattle.negotiation.specs.Outcome.{RouteReply, routeReply}
 use Rattle.negotiation.proofs.JoinedHolds.{joined-routable}
 use Rattle.negotiation.proofs.RecordLaws.{words-length, records-few}
 use Rattle.negotiation.proofs.FilterLaws.{All, all-map}
-use Rattle.text.specs.Routes.{pathIn, pathSound, recordSound, soundUpTo, soundWords, logSound, netWritable}
+use Rattle.text.specs.Routes.{Named, pathIn, pathSound, recordSound, soundUpTo, soundWords, logSound, writable}
 use Rattle.text.proofs.TurnedLaws.{Turned, TurnedUpTo, iteration-turned, run-turned, Accepted, accepted, SomeSinks, joined-some, joined-passes, run-some}
 
 -- ---- iterations that never fall
@@ -59,35 +59,36 @@ run-rising j rests (suc m) h =
 
 -- ---- sound records
 
--- what the writer asks of a record, besides its iteration's place, by a test of its net
-record Writable (net : ℕ → Bool) (r : Record) : Type 0 where
+-- what makes a record sound, besides its iteration's place, by what it may name
+record Writable (named : Named) (r : Record) : Type 0 where
   iteration-least : 1 ≤ r .iteration
   iteration-most : r .iteration ≤ limitMost
-  net-passes : net (r .net) ≡ true
+  net-passes : named .net (r .net) ≡ true
   path-long : 2 ≤ length (r .path)
   path-short : length (r .path) ≤ nodesMost
-  path-nodes : (k : ℕ) → k < length (r .path) → getD (r .path) k 0 < nodesMost
+  path-nodes : (k : ℕ) → k < length (r .path) → getD (r .path) k 0 < named .nodes
   path-end : getD (r .path) (length (r .path) - 1) 0 ≡ r .sink
 
--- every net that makes turns passes the test
-abbrev pub Passes : (ℕ → Bool) → Job → Type 0
-Passes net j = (i : ℕ) → i < nets j → hasSinks j i ≡ true → net i ≡ true
+-- every net that makes turns and every node may be named
+pub record Passes (named : Named) (j : Job) : Type 0 where
+  pub nets-pass : (i : ℕ) → i < nets j → hasSinks j i ≡ true → named .net i ≡ true
+  pub nodes-pass : nodes j ≤ named .nodes
 
-writable : (net : ℕ → Bool) (j : Job) → Routable j → Passes net j → (m : ℕ) → m ≤ limitMost → (r : Record) → TurnedUpTo j m r → Writable net r
-writable net j rests passes m h r b =
+turn-writable : (named : Named) (j : Job) → Routable j → Passes named j → (m : ℕ) → m ≤ limitMost → (r : Record) → TurnedUpTo j m r → Writable named r
+turn-writable named j rests passes m h r b =
     let few : nodes j ≤ nodesMost = kinds-few (j .block .kinds) (rests .block-sound .kinds-sound) in
     record {
       iteration-least = omega (arith, b .t-least, b .turned .iteration-is);
       iteration-most = omega (arith, b .t-most, b .turned .iteration-is);
-      net-passes = passes (r .net) (b .turned .net-below) (b .turned .has-sinks);
+      net-passes = passes .nets-pass (r .net) (b .turned .net-below) (b .turned .has-sinks);
       path-long = b .turned .path-long;
       path-short = omega (arith, b .turned .path-short);
-      path-nodes = λ k l. omega (arith, b .turned .path-nodes k l);
+      path-nodes = λ k l. omega (arith, b .turned .path-nodes k l, passes .nodes-pass);
       path-end = b .turned .path-end;
     }
 
 -- a record's words, with any after them
-module _ (net : ℕ → Bool) (r : Record) (ws : List ℕ) where
+module _ (named : Named) (r : Record) (ws : List ℕ) where
   long : length (words r ++ ws) ≡ 6 + length (r .path) + length ws
   long = omega (arith, length-append (words r) ws, words-length r)
 
@@ -106,13 +107,13 @@ module _ (net : ℕ → Bool) (r : Record) (ws : List ℕ) where
       rw (place, ← getD-drop 6 (words r ++ ws) (length (r .path) - 1) 0)
       (List·getD-append (r .path) ws 0 (length (r .path) - 1) (omega arith))
 
-  record-sound : (last : ℕ) → Writable net r → last ≤ r .iteration → recordSound net last (words r ++ ws) ≡ true
+  record-sound : (last : ℕ) → Writable named r → last ≤ r .iteration → recordSound named last (words r ++ ws) ≡ true
   unfolding recordSound pathSound words
   record-sound last w up =
       let whole = long in
       let long-enough = w .path-long in
-      let nodes-there : every (λ v. ltb v nodesMost) (pathIn (length (r .path)) (words r ++ ws)) ≡ true =
-      rw path-there (every-all (λ v. ltb v nodesMost) (r .path) (λ k l. lt-ltb (getD (r .path) k 0) nodesMost (w .path-nodes k l))) in
+      let nodes-there : every (λ v. ltb v (named .nodes)) (pathIn (length (r .path)) (words r ++ ws)) ≡ true =
+      rw path-there (every-all (λ v. ltb v (named .nodes)) (r .path) (λ k l. lt-ltb (getD (r .path) k 0) (named .nodes) (w .path-nodes k l))) in
       both-true (le-leb 6 (length (words r ++ ws)) (omega arith))
       (both-true
       (both-true (both-true (le-leb 1 (r .iteration) (w .iteration-least)) (le-leb (r .iteration) limitMost (w .iteration-most))) (le-leb last (r .iteration) up))
@@ -126,45 +127,47 @@ module _ (net : ℕ → Bool) (r : Record) (ws : List ℕ) where
 
 -- ---- sound logs
 
-module _ (net : ℕ → Bool) where
-  none-sound : (last : ℕ) → recordSound net last [] ≡ false
+module _ (named : Named) where
+  none-sound : (last : ℕ) → recordSound named last [] ≡ false
   unfolding recordSound
   none-sound last = rw (lt-leb 6 0 (omega arith))
 
   -- with as many steps as there are records all words are sound
-  all-sound : (k last : ℕ) (rs : List Record) → length rs ≤ k → Rising last rs → All (Writable net) rs → soundUpTo net k last (encode rs) ≡ length (encode rs)
+  all-sound : (k last : ℕ) (rs : List Record) → length rs ≤ k → Rising last rs → All (Writable named) rs → soundUpTo named k last (encode rs) ≡ length (encode rs)
   unfolding soundUpTo encode words
   all-sound zero last [] h up all = refl
   all-sound (suc k) last [] h up all = rw (none-sound last)
   all-sound zero last (r ∷ rs) h up all = absurd (not-suc-le-zero h)
   all-sound (suc k) last (r ∷ rs) h up all =
       rw (
-        record-sound net r (encode rs) last (all .0) (up .0),
-        past-there net r (encode rs),
+        record-sound named r (encode rs) last (all .0) (up .0),
+        past-there named r (encode rs),
         all-sound k (r .iteration) rs (le-of-suc-le-suc h) (up .1) (all .1),
       )
-      (sym (long net r (encode rs)))
+      (sym (long named r (encode rs)))
 
-  log-sound : (rs : List Record) → 1 ≤ length rs → Rising 0 rs → All (Writable net) rs → logSound net (encode rs) ≡ true
+  log-sound : (rs : List Record) → 1 ≤ length rs → Rising 0 rs → All (Writable named) rs → logSound named (encode rs) ≡ true
   unfolding logSound soundWords
   log-sound rs some up all =
       let few = records-few rs in
       both-true (le-leb 1 (length (encode rs)) (omega arith))
-      (eq-eqb (soundUpTo net (length (encode rs)) 0 (encode rs)) (length (encode rs)) (all-sound (length (encode rs)) 0 rs few up all))
+      (eq-eqb (soundUpTo named (length (encode rs)) 0 (encode rs)) (length (encode rs)) (all-sound (length (encode rs)) 0 rs few up all))
 
-  pub reply-sound : (j : Job) → Routable j → SomeSinks j → Passes net j → (r : RouteReply) → Accepted j r → logSound net (take (r .used) (r .log)) ≡ true
+  pub reply-sound : (j : Job) → Routable j → SomeSinks j → Passes named j → (r : RouteReply) → Accepted j r → logSound named (take (r .used) (r .log)) ≡ true
   reply-sound j rests one passes r a =
       let m : ℕ = a .whole in
       let rs : List Record = recordsAfter j (firstState j) (suc m) in
       let some : 1 ≤ length rs = run-some j rests one (a .reached) m (a .below) in
       rw (a .words-are)
       (log-sound rs some (run-rising j rests (suc m) (a .below))
-      (all-map (TurnedUpTo j (suc m)) (Writable net) (λ q b. writable net j rests passes (suc m) (a .below) q b) rs (run-turned j rests (suc m) (a .below))))
+      (all-map (TurnedUpTo j (suc m)) (Writable named) (λ q b. turn-writable named j rests passes (suc m) (a .below) q b) rs (run-turned j rests (suc m) (a .below))))
 
 -- the writer takes an accepted job's log
 pub accepted-sound :
     (j : Job) (work log : List ℕ) → SoundJob j → 8 * nodes j ≤ length work → routeReply j work log .refusal ≡ []
-    → logSound (netWritable (j .sources)) (take (routeReply j work log .used) (routeReply j work log .log)) ≡ true
+    → logSound (writable (j .sources)) (take (routeReply j work log .used) (routeReply j work log .log)) ≡ true
 accepted-sound j work log sound enough e =
-    reply-sound (netWritable (j .sources)) (joined j) (joined-routable j sound) (joined-some j sound) (joined-passes j) (routeReply j work log)
+    let rests : Routable (joined j) = joined-routable j sound in
+    let few : nodes (joined j) ≤ nodesMost = kinds-few (joined j .block .kinds) (rests .block-sound .kinds-sound) in
+    reply-sound (writable (j .sources)) (joined j) rests (joined-some j sound) (record { nets-pass = joined-passes j; nodes-pass = few }) (routeReply j work log)
     (accepted j work log sound enough e)

@@ -1,6 +1,6 @@
 -- Sound logs: going from record to record to the log's end, and what the test of a log says.
 -- Assumes nothing.
-use mathlib.Core.Bool.{Bool, true, false}
+use mathlib.Core.Bool.{true, false}
 use mathlib.Core.List.{List, [], _∷_, map}
 use mathlib.Core.Logic.{⊎-elim}
 use mathlib.Core.Path.{_≡_, refl, sym, _∙_, ap}
@@ -12,52 +12,53 @@ use lib.ListN.{length, getD, take, drop, length-drop, drop-of-length-le}
 use lib.Seq.{getD-drop, drop-drop}
 use borrow.Author.Tests.{le-leb, lt-leb, eq-eqb, ne-eqb, eqb-true}
 use Rattle.price.proofs.TestLaws.{either-way, both-right, le-or-lt}
+use Rattle.price.specs.Bounds.{nodesMost}
 use Rattle.negotiation.specs.Tables.{netsMost}
 use Rattle.negotiation.specs.Records.{Record, recordOf, decodeUpTo, decode}
-use Rattle.text.specs.Routes.{pathIn, recordSound, soundUpTo, soundWords, logSound, lastIteration}
+use Rattle.text.specs.Routes.{Named, pathIn, recordSound, soundUpTo, soundWords, logSound, lastIteration}
 use Rattle.text.specs.WriteSteps.{sound, unsound, logChecked, Found}
 use Rattle.text.proofs.RecordTestLaws.{recordLength, sound-most, sound-fits}
 
 -- ---- sound words, record by record
 
-unsound-short : (net : ℕ → Bool) (last : ℕ) (ws : List ℕ) → length ws < 6 → recordSound net last ws ≡ false
+unsound-short : (named : Named) (last : ℕ) (ws : List ℕ) → length ws < 6 → recordSound named last ws ≡ false
 unfolding recordSound
-unsound-short net last ws h = rw (lt-leb 6 (length ws) h)
+unsound-short named last ws h = rw (lt-leb 6 (length ws) h)
 
 -- more steps than words change nothing
-sound-enough : (net : ℕ → Bool) (k m last : ℕ) (ws : List ℕ) → length ws ≤ k → length ws ≤ m → soundUpTo net k last ws ≡ soundUpTo net m last ws
+sound-enough : (named : Named) (k m last : ℕ) (ws : List ℕ) → length ws ≤ k → length ws ≤ m → soundUpTo named k last ws ≡ soundUpTo named m last ws
 unfolding soundUpTo
-sound-enough net zero zero last ws h g = refl
-sound-enough net zero (suc m) last ws h g = rw (unsound-short net last ws (omega arith))
-sound-enough net (suc k) zero last ws h g = rw (unsound-short net last ws (omega arith))
-sound-enough net (suc k) (suc m) last ws h g =
+sound-enough named zero zero last ws h g = refl
+sound-enough named zero (suc m) last ws h g = rw (unsound-short named last ws (omega arith))
+sound-enough named (suc k) zero last ws h g = rw (unsound-short named last ws (omega arith))
+sound-enough named (suc k) (suc m) last ws h g =
     ⊎-elim
-    (λ (t : recordSound net last ws ≡ true).
+    (λ (t : recordSound named last ws ≡ true).
     let short = length-drop (recordLength ws) ws in
     rw t
     (ap (λ (x : ℕ). recordLength ws + x)
-    (sound-enough net k m (getD ws 0 0) (drop (recordLength ws) ws) (omega arith) (omega arith))))
-    (λ (t : recordSound net last ws ≡ false). rw t)
-    (either-way (recordSound net last ws))
+    (sound-enough named k m (getD ws 0 0) (drop (recordLength ws) ws) (omega arith) (omega arith))))
+    (λ (t : recordSound named last ws ≡ false). rw t)
+    (either-way (recordSound named last ws))
 
 -- the words of sound records from here on
-abbrev pub soundAfter : (ℕ → Bool) → ℕ → List ℕ → ℕ
-soundAfter net last ws = soundUpTo net (length ws) last ws
+abbrev pub soundAfter : Named → ℕ → List ℕ → ℕ
+soundAfter named last ws = soundUpTo named (length ws) last ws
 
-module _ (net : ℕ → Bool) (last : ℕ) (ws : List ℕ) where
-  one-more : soundAfter net last ws ≡ soundUpTo net (suc (length ws)) last ws
-  one-more = sound-enough net (length ws) (suc (length ws)) last ws (omega arith) (omega arith)
+module _ (named : Named) (last : ℕ) (ws : List ℕ) where
+  one-more : soundAfter named last ws ≡ soundUpTo named (suc (length ws)) last ws
+  one-more = sound-enough named (length ws) (suc (length ws)) last ws (omega arith) (omega arith)
 
-  pub sound-next : recordSound net last ws ≡ true → soundAfter net last ws ≡ recordLength ws + soundAfter net (getD ws 0 0) (drop (recordLength ws) ws)
+  pub sound-next : recordSound named last ws ≡ true → soundAfter named last ws ≡ recordLength ws + soundAfter named (getD ws 0 0) (drop (recordLength ws) ws)
   unfolding soundUpTo
   sound-next t =
       let short = length-drop (recordLength ws) ws in
       one-more
       ∙ rw t
       (ap (λ (x : ℕ). recordLength ws + x)
-      (sound-enough net (length ws) (length (drop (recordLength ws) ws)) (getD ws 0 0) (drop (recordLength ws) ws) (omega arith) (omega arith)))
+      (sound-enough named (length ws) (length (drop (recordLength ws) ws)) (getD ws 0 0) (drop (recordLength ws) ws) (omega arith) (omega arith)))
 
-  pub sound-stop : recordSound net last ws ≡ false → soundAfter net last ws ≡ 0
+  pub sound-stop : recordSound named last ws ≡ false → soundAfter named last ws ≡ 0
   unfolding soundUpTo
   sound-stop t = one-more ∙ rw t
 
@@ -155,15 +156,15 @@ module _ (log : List ℕ) (at : ℕ) where
       ∙ ap (λ (r : Record). r ∷ decode (drop (recordLength (drop at log)) (drop at log))) record-at
       ∙ ap (λ (ws : List ℕ). recordAt log at ∷ decode ws) after-at
 
-  module _ (net : ℕ → Bool) (last : ℕ) (t : recordSound net last (drop at log) ≡ true) where
-    pub sound-at : soundAfter net last (drop at log) ≡ 6 + getD log (at + 5) 0 + soundAfter net (getD log at 0) (drop (nextAt log at) log)
-    sound-at = sound-next net last (drop at log) t ∙ rw (after-at, first-at, getD-drop at log 5 0)
+  module _ (named : Named) (last : ℕ) (t : recordSound named last (drop at log) ≡ true) where
+    pub sound-at : soundAfter named last (drop at log) ≡ 6 + getD log (at + 5) 0 + soundAfter named (getD log at 0) (drop (nextAt log at) log)
+    sound-at = sound-next named last (drop at log) t ∙ rw (after-at, first-at, getD-drop at log 5 0)
 
     pub most-at : getD log (at + 5) 0 ≤ 4096
-    most-at = rw (getD-drop at log 5 0) at (sound-most net last (drop at log) t)
+    most-at = rw (getD-drop at log 5 0) at (sound-most named last (drop at log) t)
 
     pub long-at : 6 + getD log (at + 5) 0 ≤ length (drop at log)
-    long-at = rw (getD-drop at log 5 0) at (sound-fits net last (drop at log) t)
+    long-at = rw (getD-drop at log 5 0) at (sound-fits named last (drop at log) t)
 
     pub fits-at : at ≤ length log → nextAt log at ≤ length log
     fits-at l =
@@ -191,65 +192,65 @@ last-is (r ∷ rs) =
 -- ---- from record to record
 
 -- the records before a place are sound: so many, the last of this iteration
-pub record Checking (net : ℕ → Bool) (log : List ℕ) (at iteration turns : ℕ) : Type 0 where
+pub record Checking (named : Named) (log : List ℕ) (at iteration turns : ℕ) : Type 0 where
   pub within : at ≤ length log
-  pub sound-so-far : soundWords net log ≡ at + soundAfter net iteration (drop at log)
+  pub sound-so-far : soundWords named log ≡ at + soundAfter named iteration (drop at log)
   pub counted : turns + length (decode (drop at log)) ≡ length (decode log)
   pub last-met : lastOr iteration (decode (drop at log)) ≡ lastOr 0 (decode log)
   pub few : turns ≤ at
   pub begun : turns ≡ 0 → at ≡ 0
 
-pub checking-none : (net : ℕ → Bool) (log : List ℕ) → Checking net log 0 0 0
+pub checking-none : (named : Named) (log : List ℕ) → Checking named log 0 0 0
 unfolding soundWords
-checking-none net log =
+checking-none named log =
     record {
       within = omega arith;
-      sound-so-far = sym (zero-add (soundAfter net 0 log));
+      sound-so-far = sym (zero-add (soundAfter named 0 log));
       counted = zero-add (length (decode log));
       last-met = refl;
       few = omega arith;
       begun = λ e. refl;
     }
 
-module _ {net : ℕ → Bool} {log : List ℕ} {at iteration turns : ℕ} (p : Checking net log at iteration turns) where
-  pub checking-fits : recordSound net iteration (drop at log) ≡ true → nextAt log at ≤ length log
-  checking-fits t = fits-at log at net iteration t (p .within)
+module _ {named : Named} {log : List ℕ} {at iteration turns : ℕ} (p : Checking named log at iteration turns) where
+  pub checking-fits : recordSound named iteration (drop at log) ≡ true → nextAt log at ≤ length log
+  checking-fits t = fits-at log at named iteration t (p .within)
 
-  pub checking-next : recordSound net iteration (drop at log) ≡ true → Checking net log (nextAt log at) (getD log at 0) (turns + 1)
+  pub checking-next : recordSound named iteration (drop at log) ≡ true → Checking named log (nextAt log at) (getD log at 0) (turns + 1)
   unfolding lastOr
   checking-next t =
-      let long = long-at log at net iteration t in
+      let long = long-at log at named iteration t in
       let one : decode (drop at log) ≡ recordAt log at ∷ decode (drop (nextAt log at) log) = decode-at log at (omega arith) in
       record {
         within = checking-fits t;
-        sound-so-far = omega (arith, sound-at log at net iteration t, p .sound-so-far);
+        sound-so-far = omega (arith, sound-at log at named iteration t, p .sound-so-far);
         counted = omega (arith, rw one at (p .counted));
         last-met = rw one at (p .last-met);
         few = omega arith;
         begun = λ e. absurd (omega arith);
       }
 
-  pub checked-unsound : at < length log → recordSound net iteration (drop at log) ≡ false → unsound at ≡ logChecked net log
+  pub checked-unsound : at < length log → recordSound named iteration (drop at log) ≡ false → unsound at ≡ logChecked named log
   unfolding logChecked logSound
   checked-unsound l t =
-      let stop : soundWords net log ≡ at = p .sound-so-far ∙ rw (sound-stop net iteration (drop at log) t) (add-zero at) in
+      let stop : soundWords named log ≡ at = p .sound-so-far ∙ rw (sound-stop named iteration (drop at log) t) (add-zero at) in
       rw (stop, le-leb 1 (length log) (omega arith), ne-eqb at (length log) (λ e. omega arith))
 
   module _ (l : length log ≤ at) where
     none-left : drop at log ≡ []
     none-left = drop-of-length-le log l
 
-    all-sound : soundWords net log ≡ at
+    all-sound : soundWords named log ≡ at
     unfolding soundUpTo
     all-sound = p .sound-so-far ∙ rw none-left (add-zero at)
 
-    pub checked-none : turns ≡ 0 → unsound 0 ≡ logChecked net log
+    pub checked-none : turns ≡ 0 → unsound 0 ≡ logChecked named log
     unfolding logChecked logSound
     checked-none e =
         let start = p .begun e in
         rw (all-sound, start, lt-leb 1 (length log) (omega arith))
 
-    pub checked-sound : (turns ≡ 0 → ⊥) → sound iteration turns ≡ logChecked net log
+    pub checked-sound : (turns ≡ 0 → ⊥) → sound iteration turns ≡ logChecked named log
     unfolding logChecked logSound lastOr
     checked-sound e =
         let some : 1 ≤ turns = omega arith in
@@ -259,35 +260,41 @@ module _ {net : ℕ → Bool} {log : List ℕ} {at iteration turns : ℕ} (p : C
 
 -- ---- what the test of a log says
 
-module _ (net : ℕ → Bool) (log : List ℕ) where
-  pub found-all : logSound net log ≡ true → soundWords net log ≡ length log
+module _ (named : Named) (log : List ℕ) where
+  pub found-all : logSound named log ≡ true → soundWords named log ≡ length log
   unfolding logSound
-  found-all t = eqb-true (soundWords net log) (length log) (both-right (leb 1 (length log)) (eqb (soundWords net log) (length log)) t)
+  found-all t = eqb-true (soundWords named log) (length log) (both-right (leb 1 (length log)) (eqb (soundWords named log) (length log)) t)
 
   pub found :
-      {iteration turns : ℕ} → ((i : ℕ) → net i ≡ true → i < netsMost) → sound iteration turns ≡ logChecked net log
-      → (logSound net log ≡ true) × Found log iteration turns
+      {iteration turns : ℕ} → ((i : ℕ) → named .net i ≡ true → i < netsMost) → named .nodes ≤ nodesMost → sound iteration turns ≡ logChecked named log
+      → (logSound named log ≡ true) × Found log iteration turns
   unfolding logChecked
-  found {iteration} {turns} few e =
+  found {iteration} {turns} nets-few nodes-few e =
       ⊎-elim
-      (λ (t : logSound net log ≡ true).
-      let same : sound iteration turns ≡ sound (lastIteration (decode log)) (length (decode log)) = rw t at e in
-      (t, record { words-sound = record { net = net; nets-few = few; all-sound = found-all t }; iteration-is = cc; turns-are = cc }))
-      (λ (t : logSound net log ≡ false).
-      let same : sound iteration turns ≡ unsound (soundWords net log) = rw t at e in
+      (λ (t : logSound named log ≡ true).
+      let same : sound iteration turns ≡ sound (lastIteration (decode log)) (length (decode log)) = rw t at e in (
+        t,
+        record {
+          words-sound = record { named = named; nets-few = nets-few; nodes-few = nodes-few; all-sound = found-all t };
+          iteration-is = cc;
+          turns-are = cc;
+        },
+      ))
+      (λ (t : logSound named log ≡ false).
+      let same : sound iteration turns ≡ unsound (soundWords named log) = rw t at e in
       let z : _≡_ {A = ℕ} 0 1 = cc in
       absurd (omega arith))
-      (either-way (logSound net log))
+      (either-way (logSound named log))
 
-  pub found-none : {word : ℕ} → unsound word ≡ logChecked net log → (logSound net log ≡ false) × (word ≡ soundWords net log)
+  pub found-none : {word : ℕ} → unsound word ≡ logChecked named log → (logSound named log ≡ false) × (word ≡ soundWords named log)
   unfolding logChecked
   found-none {word} e =
       ⊎-elim
-      (λ (t : logSound net log ≡ true).
+      (λ (t : logSound named log ≡ true).
       let same : unsound word ≡ sound (lastIteration (decode log)) (length (decode log)) = rw t at e in
       let z : _≡_ {A = ℕ} 0 1 = cc in
       absurd (omega arith))
-      (λ (t : logSound net log ≡ false).
-      let same : unsound word ≡ unsound (soundWords net log) = rw t at e in
+      (λ (t : logSound named log ≡ false).
+      let same : unsound word ≡ unsound (soundWords named log) = rw t at e in
       (t, cc))
-      (either-way (logSound net log))
+      (either-way (logSound named log))

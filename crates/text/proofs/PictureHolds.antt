@@ -18,7 +18,7 @@ use Rattle.negotiation.specs.Records.{decode}
 use Rattle.negotiation.specs.Tables.{sourcesSound}
 use Rattle.text.specs.Decimal.{isDigit, decimal}
 use Rattle.text.specs.Lines.{Field, field, Fields, taken, withValue, afterField}
-use Rattle.text.specs.Routes.{logSound, netWritable, Branch, branchOf, Join, routesText}
+use Rattle.text.specs.Routes.{logSound, writable, Branch, branchOf, Join, routesText}
 use Rattle.text.specs.Dot.{dotHead, dotArrow, dotLabel, dotClose, dotEnd, dotLine, dotText}
 use Rattle.text.specs.Listed.{RouteLines, stepsByNet, Listed}
 use Rattle.text.specs.Pictured.{afterBytes, numberThen, dotFields, DotLines, ended, branch, Pictured}
@@ -77,7 +77,7 @@ lines-shown (b ∷ bs) h =
 
 -- ---- the picture
 
-module _ (sources log : List ℕ) (table : sourcesSound nodesMost sources ≡ true) (t : logSound (netWritable sources) log ≡ true) where
+module _ (sources log : List ℕ) (table : sourcesSound nodesMost sources ≡ true) (t : logSound (writable sources) log ≡ true) where
   pub picture-shows : Pictured (dotText sources (decode log)) (stepsByNet (length sources) (decode log))
   unfolding dotText
   picture-shows =
@@ -114,7 +114,7 @@ picture-once {cs = cs} p q =
 
 -- the branches read off the routes text and those read off the picture
 pub picture-same :
-    (sources log : List ℕ) → sourcesSound nodesMost sources ≡ true → logSound (netWritable sources) log ≡ true
+    (sources log : List ℕ) → sourcesSound nodesMost sources ≡ true → logSound (writable sources) log ≡ true
     → {bs cs : List Branch} {ps : List Join} (l : Listed sources log (routesText sources (decode log))) → RouteLines (l .rest) bs ps
     → Pictured (dotText sources (decode log)) cs → bs ≡ cs
 picture-same sources log table t l p q = read-once p (l .lines) .0 ∙ picture-once (picture-shows sources log table t) q

@@ -17,25 +17,25 @@ use Rattle.price.specs.Lists.{every}
 use Rattle.price.proofs.TestLaws.{both-left, both-right, both-true}
 use Rattle.price.proofs.ListLaws.{every-all, every-none}
 use Rattle.text.specs.JobText.{between}
-use Rattle.text.specs.Routes.{pathIn, pathSound, recordSound}
-use Rattle.text.specs.WriteSteps.{named}
+use Rattle.text.specs.Routes.{Named, pathIn, pathSound, recordSound}
+use Rattle.text.specs.WriteSteps.{netMarked}
 
 -- ---- the tests of a path
 
-abbrev pub nodeSound : ℕ → Bool
-nodeSound v = ltb v nodesMost
+abbrev pub nodeSound : ℕ → ℕ → Bool
+nodeSound nodes v = ltb v nodes
 
 -- the words of a log up to a place are nodes
-pub record Below (log : List ℕ) (from to k : ℕ) : Type 0 where
+pub record Below (nodes : ℕ) (log : List ℕ) (from to k : ℕ) : Type 0 where
   pub above : from ≤ k
   pub within : k ≤ to
-  pub below : (i : ℕ) → from ≤ i → i < k → getD log i 0 < 4096
+  pub below : (i : ℕ) → from ≤ i → i < k → getD log i 0 < nodes
 
-pub below-none : (log : List ℕ) (from to : ℕ) → from ≤ to → Below log from to from
-below-none log from to h = record { above = omega arith; within = h; below = λ i l m. absurd (omega arith) }
+pub below-none : (nodes : ℕ) (log : List ℕ) (from to : ℕ) → from ≤ to → Below nodes log from to from
+below-none nodes log from to h = record { above = omega arith; within = h; below = λ i l m. absurd (omega arith) }
 
-module _ {log : List ℕ} {from to k : ℕ} (p : Below log from to k) where
-  pub below-more : k < to → getD log k 0 < 4096 → Below log from to (k + 1)
+module _ {nodes : ℕ} {log : List ℕ} {from to k : ℕ} (p : Below nodes log from to k) where
+  pub below-more : k < to → getD log k 0 < nodes → Below nodes log from to (k + 1)
   below-more l h =
       record {
         above = omega (arith, p .above);
@@ -50,37 +50,37 @@ module _ {log : List ℕ} {from to k : ℕ} (p : Below log from to k) where
     part-long : length (take (to - from) (drop from log)) ≡ to - from
     part-long = length-take-le (to - from) (drop from log) (rw (length-drop from log) (omega arith))
 
-    pub nodes-faulty : k < to → 4096 ≤ getD log k 0 → every nodeSound (take (to - from) (drop from log)) ≡ false
+    pub nodes-faulty : k < to → nodes ≤ getD log k 0 → every (nodeSound nodes) (take (to - from) (drop from log)) ≡ false
     nodes-faulty l h =
         let above = p .above in
         let place : from + (k - from) ≡ k = omega arith in
-        every-none nodeSound (take (to - from) (drop from log)) (k - from) (rw part-long (omega arith))
-        (rw (part-at (k - from) (omega arith), place) (le-ltb (getD log k 0) 4096 h))
+        every-none (nodeSound nodes) (take (to - from) (drop from log)) (k - from) (rw part-long (omega arith))
+        (rw (part-at (k - from) (omega arith), place) (le-ltb (getD log k 0) nodes h))
 
-    pub nodes-all : to ≤ k → every nodeSound (take (to - from) (drop from log)) ≡ true
+    pub nodes-all : to ≤ k → every (nodeSound nodes) (take (to - from) (drop from log)) ≡ true
     nodes-all l =
-        every-all nodeSound (take (to - from) (drop from log))
+        every-all (nodeSound nodes) (take (to - from) (drop from log))
         (λ i (b : i < length (take (to - from) (drop from log))).
         let c : i < to - from = rw part-long at b in
-        rw (part-at i c) (lt-ltb (getD log (from + i) 0) 4096 (p .below (from + i) (omega arith) (omega arith))))
+        rw (part-at i c) (lt-ltb (getD log (from + i) 0) nodes (p .below (from + i) (omega arith) (omega arith))))
 
-module _ (log : List ℕ) (at n sink : ℕ) where
-  pub path-few : n < 2 → pathSound n sink (drop at log) ≡ false
+module _ (nodes : ℕ) (log : List ℕ) (at n sink : ℕ) where
+  pub path-few : n < 2 → pathSound nodes n sink (drop at log) ≡ false
   unfolding pathSound
   path-few h = rw (lt-leb 2 n h)
 
-  pub path-many : 2 ≤ n → 4096 < n → pathSound n sink (drop at log) ≡ false
+  pub path-many : 2 ≤ n → 4096 < n → pathSound nodes n sink (drop at log) ≡ false
   unfolding pathSound
   path-many l h = rw (le-leb 2 n l, lt-leb n 4096 h)
 
-  pub path-cut : 2 ≤ n → n ≤ 4096 → length log - at < 6 + n → pathSound n sink (drop at log) ≡ false
+  pub path-cut : 2 ≤ n → n ≤ 4096 → length log - at < 6 + n → pathSound nodes n sink (drop at log) ≡ false
   unfolding pathSound
   path-cut l m h = rw (le-leb 2 n l, le-leb n 4096 m, length-drop at log, lt-leb (6 + n) (length log - at) h)
 
   -- of a whole path the nodes and the sink decide
   path-whole :
       2 ≤ n → n ≤ 4096 → 6 + n ≤ length log - at →
-      pathSound n sink (drop at log) ≡ both (every nodeSound (take (at + 6 + n - (at + 6)) (drop (at + 6) log))) (eqb (getD log (at + 6 + n - 1) 0) sink)
+      pathSound nodes n sink (drop at log) ≡ both (every (nodeSound nodes) (take (at + 6 + n - (at + 6)) (drop (at + 6) log))) (eqb (getD log (at + 6 + n - 1) 0) sink)
   unfolding pathSound
   path-whole l m h =
       let long : at + 6 + n - (at + 6) ≡ n = omega arith in
@@ -98,29 +98,29 @@ module _ (log : List ℕ) (at n sink : ℕ) where
 
   pub path-nodes :
       2 ≤ n → n ≤ 4096 → 6 + n ≤ length log - at →
-      every nodeSound (take (at + 6 + n - (at + 6)) (drop (at + 6) log)) ≡ false → pathSound n sink (drop at log) ≡ false
+      every (nodeSound nodes) (take (at + 6 + n - (at + 6)) (drop (at + 6) log)) ≡ false → pathSound nodes n sink (drop at log) ≡ false
   path-nodes l m h e = path-whole l m h ∙ rw e
 
   pub path-last :
       2 ≤ n → n ≤ 4096 → 6 + n ≤ length log - at →
-      every nodeSound (take (at + 6 + n - (at + 6)) (drop (at + 6) log)) ≡ true →
-      pathSound n sink (drop at log) ≡ eqb (getD log (at + 6 + n - 1) 0) sink
+      every (nodeSound nodes) (take (at + 6 + n - (at + 6)) (drop (at + 6) log)) ≡ true →
+      pathSound nodes n sink (drop at log) ≡ eqb (getD log (at + 6 + n - 1) 0) sink
   path-last l m h e = path-whole l m h ∙ rw e
 
 -- ---- the tests of a record
 
 -- a net beyond the marks has none
-pub named-none : (marks : List ℕ) (i : ℕ) → length marks ≤ i → named marks i ≡ false
-unfolding named
-named-none marks i l = rw (List·getD-eq-default marks 0 l)
+pub marked-none : (marks : List ℕ) (i : ℕ) → length marks ≤ i → netMarked marks i ≡ false
+unfolding netMarked
+marked-none marks i l = rw (List·getD-eq-default marks 0 l)
 
-module _ (net : ℕ → Bool) (last : ℕ) (log : List ℕ) (at : ℕ) where
+module _ (named : Named) (last : ℕ) (log : List ℕ) (at : ℕ) where
   -- the first record of the words from a place on, read there
   record-reads :
-      recordSound net last (drop at log)
+      recordSound named last (drop at log)
       ≡ both (leb 6 (length log - at))
       (both (both (between 1 limitMost (getD log at 0)) (leb last (getD log at 0)))
-      (both (net (getD log (at + 1) 0)) (pathSound (getD log (at + 5) 0) (getD log (at + 2) 0) (drop at log))))
+      (both (named .net (getD log (at + 1) 0)) (pathSound (named .nodes) (getD log (at + 5) 0) (getD log (at + 2) 0) (drop at log))))
   unfolding recordSound
   record-reads =
       rw (
@@ -132,18 +132,18 @@ module _ (net : ℕ → Bool) (last : ℕ) (log : List ℕ) (at : ℕ) where
         add-zero at,
       )
 
-  pub record-cut : length log - at < 6 → recordSound net last (drop at log) ≡ false
+  pub record-cut : length log - at < 6 → recordSound named last (drop at log) ≡ false
   record-cut h = record-reads ∙ rw (lt-leb 6 (length log - at) h)
 
   module _ (whole : 6 ≤ length log - at) where
-    pub record-none : getD log at 0 < 1 → recordSound net last (drop at log) ≡ false
+    pub record-none : getD log at 0 < 1 → recordSound named last (drop at log) ≡ false
     record-none h = record-reads ∙ rw (le-leb 6 (length log - at) whole, lt-leb 1 (getD log at 0) h)
 
-    pub record-late : 1 ≤ getD log at 0 → 100 < getD log at 0 → recordSound net last (drop at log) ≡ false
+    pub record-late : 1 ≤ getD log at 0 → 100 < getD log at 0 → recordSound named last (drop at log) ≡ false
     record-late l h =
         record-reads ∙ rw (le-leb 6 (length log - at) whole, le-leb 1 (getD log at 0) l, lt-leb (getD log at 0) 100 h)
 
-    pub record-falls : 1 ≤ getD log at 0 → getD log at 0 ≤ 100 → getD log at 0 < last → recordSound net last (drop at log) ≡ false
+    pub record-falls : 1 ≤ getD log at 0 → getD log at 0 ≤ 100 → getD log at 0 < last → recordSound named last (drop at log) ≡ false
     record-falls l m h =
         record-reads
         ∙ rw (
@@ -154,7 +154,7 @@ module _ (net : ℕ → Bool) (last : ℕ) (log : List ℕ) (at : ℕ) where
         )
 
     module _ (some : 1 ≤ getD log at 0) (most : getD log at 0 ≤ 100) (rises : last ≤ getD log at 0) where
-      record-net : recordSound net last (drop at log) ≡ both (net (getD log (at + 1) 0)) (pathSound (getD log (at + 5) 0) (getD log (at + 2) 0) (drop at log))
+      record-net : recordSound named last (drop at log) ≡ both (named .net (getD log (at + 1) 0)) (pathSound (named .nodes) (getD log (at + 5) 0) (getD log (at + 2) 0) (drop at log))
       record-net =
           record-reads
           ∙ rw (
@@ -164,10 +164,10 @@ module _ (net : ℕ → Bool) (last : ℕ) (log : List ℕ) (at : ℕ) where
             le-leb last (getD log at 0) rises,
           )
 
-      pub record-other : net (getD log (at + 1) 0) ≡ false → recordSound net last (drop at log) ≡ false
+      pub record-other : named .net (getD log (at + 1) 0) ≡ false → recordSound named last (drop at log) ≡ false
       record-other h = record-net ∙ rw h
 
-      pub record-path : net (getD log (at + 1) 0) ≡ true → recordSound net last (drop at log) ≡ pathSound (getD log (at + 5) 0) (getD log (at + 2) 0) (drop at log)
+      pub record-path : named .net (getD log (at + 1) 0) ≡ true → recordSound named last (drop at log) ≡ pathSound (named .nodes) (getD log (at + 5) 0) (getD log (at + 2) 0) (drop at log)
       record-path h = record-net ∙ rw h
 
 -- ---- what a sound record has
@@ -176,46 +176,46 @@ module _ (net : ℕ → Bool) (last : ℕ) (log : List ℕ) (at : ℕ) where
 abbrev pub recordLength : List ℕ → ℕ
 recordLength ws = 6 + getD ws 5 0
 
-path-most : (n sink : ℕ) (ws : List ℕ) → pathSound n sink ws ≡ true → n ≤ 4096
+path-most : (nodes n sink : ℕ) (ws : List ℕ) → pathSound nodes n sink ws ≡ true → n ≤ 4096
 unfolding pathSound
-path-most n sink ws e =
+path-most nodes n sink ws e =
     leb-true n 4096
     (both-right (leb 2 n) (leb n 4096)
     (both-left (between 2 nodesMost n) (leb (6 + n) (length ws))
     (both-left (both (between 2 nodesMost n) (leb (6 + n) (length ws)))
-    (both (every nodeSound (pathIn n ws)) (eqb (getD ws (5 + n) 0) sink)) e)))
+    (both (every (nodeSound nodes) (pathIn n ws)) (eqb (getD ws (5 + n) 0) sink)) e)))
 
-path-fits : (n sink : ℕ) (ws : List ℕ) → pathSound n sink ws ≡ true → 6 + n ≤ length ws
+path-fits : (nodes n sink : ℕ) (ws : List ℕ) → pathSound nodes n sink ws ≡ true → 6 + n ≤ length ws
 unfolding pathSound
-path-fits n sink ws e =
+path-fits nodes n sink ws e =
     leb-true (6 + n) (length ws)
     (both-right (between 2 nodesMost n) (leb (6 + n) (length ws))
     (both-left (both (between 2 nodesMost n) (leb (6 + n) (length ws)))
-    (both (every nodeSound (pathIn n ws)) (eqb (getD ws (5 + n) 0) sink)) e))
+    (both (every (nodeSound nodes) (pathIn n ws)) (eqb (getD ws (5 + n) 0) sink)) e))
 
-module _ (net : ℕ → Bool) (last : ℕ) (ws : List ℕ) (e : recordSound net last ws ≡ true) where
-  sound-tests : both (both (between 1 limitMost (getD ws 0 0)) (leb last (getD ws 0 0))) (both (net (getD ws 1 0)) (pathSound (getD ws 5 0) (getD ws 2 0) ws)) ≡ true
+module _ (named : Named) (last : ℕ) (ws : List ℕ) (e : recordSound named last ws ≡ true) where
+  sound-tests : both (both (between 1 limitMost (getD ws 0 0)) (leb last (getD ws 0 0))) (both (named .net (getD ws 1 0)) (pathSound (named .nodes) (getD ws 5 0) (getD ws 2 0) ws)) ≡ true
   unfolding recordSound
   sound-tests =
       both-right (leb 6 (length ws))
       (both (both (between 1 limitMost (getD ws 0 0)) (leb last (getD ws 0 0)))
-      (both (net (getD ws 1 0)) (pathSound (getD ws 5 0) (getD ws 2 0) ws))) e
+      (both (named .net (getD ws 1 0)) (pathSound (named .nodes) (getD ws 5 0) (getD ws 2 0) ws))) e
 
   sound-iteration : both (between 1 limitMost (getD ws 0 0)) (leb last (getD ws 0 0)) ≡ true
   sound-iteration =
       both-left (both (between 1 limitMost (getD ws 0 0)) (leb last (getD ws 0 0)))
-      (both (net (getD ws 1 0)) (pathSound (getD ws 5 0) (getD ws 2 0) ws)) sound-tests
+      (both (named .net (getD ws 1 0)) (pathSound (named .nodes) (getD ws 5 0) (getD ws 2 0) ws)) sound-tests
 
-  sound-turn : both (net (getD ws 1 0)) (pathSound (getD ws 5 0) (getD ws 2 0) ws) ≡ true
+  sound-turn : both (named .net (getD ws 1 0)) (pathSound (named .nodes) (getD ws 5 0) (getD ws 2 0) ws) ≡ true
   sound-turn =
       both-right (both (between 1 limitMost (getD ws 0 0)) (leb last (getD ws 0 0)))
-      (both (net (getD ws 1 0)) (pathSound (getD ws 5 0) (getD ws 2 0) ws)) sound-tests
+      (both (named .net (getD ws 1 0)) (pathSound (named .nodes) (getD ws 5 0) (getD ws 2 0) ws)) sound-tests
 
-  pub sound-path : pathSound (getD ws 5 0) (getD ws 2 0) ws ≡ true
-  sound-path = both-right (net (getD ws 1 0)) (pathSound (getD ws 5 0) (getD ws 2 0) ws) sound-turn
+  pub sound-path : pathSound (named .nodes) (getD ws 5 0) (getD ws 2 0) ws ≡ true
+  sound-path = both-right (named .net (getD ws 1 0)) (pathSound (named .nodes) (getD ws 5 0) (getD ws 2 0) ws) sound-turn
 
-  pub sound-net : net (getD ws 1 0) ≡ true
-  sound-net = both-left (net (getD ws 1 0)) (pathSound (getD ws 5 0) (getD ws 2 0) ws) sound-turn
+  pub sound-net : named .net (getD ws 1 0) ≡ true
+  sound-net = both-left (named .net (getD ws 1 0)) (pathSound (named .nodes) (getD ws 5 0) (getD ws 2 0) ws) sound-turn
 
   pub sound-some : 1 ≤ getD ws 0 0
   sound-some =
@@ -227,16 +227,16 @@ module _ (net : ℕ → Bool) (last : ℕ) (ws : List ℕ) (e : recordSound net 
   sound-rises = leb-true last (getD ws 0 0) (both-right (between 1 limitMost (getD ws 0 0)) (leb last (getD ws 0 0)) sound-iteration)
 
   -- after any earlier iteration too
-  pub sound-lower : recordSound net 0 ws ≡ true
+  pub sound-lower : recordSound named 0 ws ≡ true
   unfolding recordSound
   sound-lower =
-      both-true (both-left (leb 6 (length ws)) (both (both (between 1 limitMost (getD ws 0 0)) (leb last (getD ws 0 0))) (both (net (getD ws 1 0)) (pathSound (getD ws 5 0) (getD ws 2 0) ws))) e)
+      both-true (both-left (leb 6 (length ws)) (both (both (between 1 limitMost (getD ws 0 0)) (leb last (getD ws 0 0))) (both (named .net (getD ws 1 0)) (pathSound (named .nodes) (getD ws 5 0) (getD ws 2 0) ws))) e)
       (both-true
       (both-true (both-left (between 1 limitMost (getD ws 0 0)) (leb last (getD ws 0 0)) sound-iteration) (le-leb 0 (getD ws 0 0) (omega arith)))
       sound-turn)
 
   pub sound-most : getD ws 5 0 ≤ 4096
-  sound-most = path-most (getD ws 5 0) (getD ws 2 0) ws sound-path
+  sound-most = path-most (named .nodes) (getD ws 5 0) (getD ws 2 0) ws sound-path
 
   pub sound-fits : recordLength ws ≤ length ws
-  sound-fits = path-fits (getD ws 5 0) (getD ws 2 0) ws sound-path
+  sound-fits = path-fits (named .nodes) (getD ws 5 0) (getD ws 2 0) ws sound-path

@@ -16,9 +16,9 @@ use Rattle.price.proofs.TestLaws.{both-left}
 use Rattle.negotiation.specs.Tables.{netsMost, sourcesSound}
 use Rattle.negotiation.specs.Join.{leads}
 use Rattle.negotiation.proofs.JobLaws.{sources-few}
-use Rattle.text.specs.Routes.{netWritable, routeBranches, lastIteration, routesText, capped, notWritten, textReply, testedReply}
+use Rattle.text.specs.Routes.{Named, netWritable, writable, routeBranches, lastIteration, routesText, capped, notWritten, textReply, testedReply}
 use Rattle.text.specs.Dot.{dotText, styleText, textIn}
-use Rattle.text.specs.WriteSteps.{Put, Filled, headText, tailText, named, sound, unsound, logChecked, Found}
+use Rattle.text.specs.WriteSteps.{Put, Filled, headText, tailText, netMarked, namedBy, sound, unsound, logChecked, Found}
 use Rattle.text.specs.declared.Style.{Style}
 use Rattle.text.specs.declared.Style.the-variants as s
 use Rattle.text.specs.ReadReplies.{writtenOver}
@@ -101,8 +101,8 @@ writable-few sources t i e = omega (arith, writable-within sources i e, sources-
 
 -- by the marks of those nets
 pub marks-few :
-    (sources marks : List ℕ) → sourcesSound nodesMost sources ≡ true → ((i : ℕ) → named marks i ≡ netWritable sources i)
-    → (i : ℕ) → named marks i ≡ true → i < netsMost
+    (sources marks : List ℕ) → sourcesSound nodesMost sources ≡ true → ((i : ℕ) → netMarked marks i ≡ netWritable sources i)
+    → (i : ℕ) → netMarked marks i ≡ true → i < netsMost
 marks-few sources marks t m i e = writable-few sources t i (sym (m i) ∙ e)
 
 module _ (text : List ℕ → List Record → List ℕ) (sources log buffer : List ℕ) where
@@ -111,18 +111,18 @@ module _ (text : List ℕ → List Record → List ℕ) (sources log buffer : Li
   write-table t = rw t
 
   -- the log's test goes by the marks of the nets that may be named
-  module _ (marks : List ℕ) (t : sourcesSound nodesMost sources ≡ true) (m : (i : ℕ) → named marks i ≡ netWritable sources i) where
-    by-marks : named marks ≡ netWritable sources
-    by-marks = fun-ext m
+  module _ (marks : List ℕ) (t : sourcesSound nodesMost sources ≡ true) (m : (i : ℕ) → netMarked marks i ≡ netWritable sources i) where
+    by-marks : namedBy marks nodesMost ≡ writable sources
+    by-marks = ap (λ (net : ℕ → Bool). record { net = net; nodes = nodesMost }) (fun-ext m)
 
-    pub write-unsound : {word : ℕ} → unsound word ≡ logChecked (named marks) log → notWritten (10 ∷ word ∷ []) buffer ≡ testedReply text sources log buffer
+    pub write-unsound : {word : ℕ} → unsound word ≡ logChecked (namedBy marks nodesMost) log → notWritten (10 ∷ word ∷ []) buffer ≡ testedReply text sources log buffer
     unfolding testedReply
     write-unsound e =
-        let n = found-none (netWritable sources) log (rw by-marks at e) in
+        let n = found-none (writable sources) log (rw by-marks at e) in
         rw (t, n .0, n .1)
 
-    pub write-sound : {iteration turns : ℕ} → sound iteration turns ≡ logChecked (named marks) log → textReply (text sources (decode log)) buffer ≡ testedReply text sources log buffer
+    pub write-sound : {iteration turns : ℕ} → sound iteration turns ≡ logChecked (namedBy marks nodesMost) log → textReply (text sources (decode log)) buffer ≡ testedReply text sources log buffer
     unfolding testedReply
     write-sound e =
-        let n = found (netWritable sources) log (writable-few sources t) (rw by-marks at e) in
+        let n = found (writable sources) log (writable-few sources t) (omega arith) (rw by-marks at e) in
         rw (t, n .0)

@@ -1,9 +1,9 @@
 -- The nets and nodes of a sound log's records, and that a field can hold them.
 --     decode-first                  a sound log that isn't empty has a first record
---     Short, all-short              the nets of its records pass the log's test, and their nodes are within the bounds
+--     Short, all-short              its records name what they may
 --     step-printable                so a line gives back each step of their paths
 -- Assumes nothing.
-use mathlib.Core.Bool.{Bool, true, false}
+use mathlib.Core.Bool.{true, false}
 use mathlib.Core.List.{List, [], _∷_, List·Memᴰ, List·Memᴰ·not-nil, List·Memᴰ·cases-cons}
 use mathlib.Core.Logic.{⊎-elim}
 use mathlib.Core.Path.{_≡_, refl}
@@ -20,58 +20,58 @@ use Rattle.price.proofs.ListLaws.{every-at}
 use Rattle.negotiation.specs.Tables.{netsMost}
 use Rattle.negotiation.specs.Records.{Record, decode}
 use Rattle.text.specs.JobText.{between}
-use Rattle.text.specs.Routes.{pathIn, pathSound, recordSound}
+use Rattle.text.specs.Routes.{Named, pathIn, pathSound, recordSound}
 use Rattle.text.specs.Listed.{stepAt}
 use Rattle.text.proofs.RecordTestLaws.{recordLength, sound-path, sound-net, sound-fits}
 use Rattle.text.proofs.LogLaws.{soundAfter, sound-next, sound-stop, firstRecord, decode-none, decode-next}
 use Rattle.text.proofs.RouteLineLaws.{branchFields, Printable}
 
--- a record whose net passes the test, and whose nodes a line's field can hold
-pub record Short (net : ℕ → Bool) (r : Record) : Type 0 where
-  pub net-passes : net (r .net) ≡ true
-  nodes-below : every (λ v. ltb v nodesMost) (r .path) ≡ true
+-- a record that names what it may
+pub record Short (named : Named) (r : Record) : Type 0 where
+  pub net-passes : named .net (r .net) ≡ true
+  nodes-below : every (λ v. ltb v (named .nodes)) (r .path) ≡ true
 
-module _ (net : ℕ → Bool) (last : ℕ) (ws : List ℕ) (e : recordSound net last ws ≡ true) where
-  first-short : Short net (firstRecord ws)
+module _ (named : Named) (last : ℕ) (ws : List ℕ) (e : recordSound named last ws ≡ true) where
+  first-short : Short named (firstRecord ws)
   unfolding pathSound
   first-short =
       record {
-        net-passes = sound-net net last ws e;
+        net-passes = sound-net named last ws e;
         nodes-below =
-            both-left (every (λ v. ltb v nodesMost) (pathIn (getD ws 5 0) ws)) (eqb (getD ws (5 + getD ws 5 0) 0) (getD ws 2 0))
+            both-left (every (λ v. ltb v (named .nodes)) (pathIn (getD ws 5 0) ws)) (eqb (getD ws (5 + getD ws 5 0) 0) (getD ws 2 0))
             (both-right (both (between 2 nodesMost (getD ws 5 0)) (leb (6 + getD ws 5 0) (length ws)))
-            (both (every (λ v. ltb v nodesMost) (pathIn (getD ws 5 0) ws)) (eqb (getD ws (5 + getD ws 5 0) 0) (getD ws 2 0)))
-            (sound-path net last ws e));
+            (both (every (λ v. ltb v (named .nodes)) (pathIn (getD ws 5 0) ws)) (eqb (getD ws (5 + getD ws 5 0) 0) (getD ws 2 0)))
+            (sound-path named last ws e));
       }
 
 -- the words that are left are sound: their first record is, and so are the words after it
-module _ (net : ℕ → Bool) (last : ℕ) (ws : List ℕ) (all : soundAfter net last ws ≡ length ws) (some : 1 ≤ length ws) where
-  sound-first : recordSound net last ws ≡ true
+module _ (named : Named) (last : ℕ) (ws : List ℕ) (all : soundAfter named last ws ≡ length ws) (some : 1 ≤ length ws) where
+  sound-first : recordSound named last ws ≡ true
   sound-first =
       ⊎-elim
       (λ t. t)
-      (λ (t : recordSound net last ws ≡ false). absurd (omega (arith, sound-stop net last ws t)))
-      (either-way (recordSound net last ws))
+      (λ (t : recordSound named last ws ≡ false). absurd (omega (arith, sound-stop named last ws t)))
+      (either-way (recordSound named last ws))
 
-  sound-rest : soundAfter net (getD ws 0 0) (drop (recordLength ws) ws) ≡ length (drop (recordLength ws) ws)
-  sound-rest = omega (arith, sound-next net last ws sound-first, sound-fits net last ws sound-first, length-drop (recordLength ws) ws)
+  sound-rest : soundAfter named (getD ws 0 0) (drop (recordLength ws) ws) ≡ length (drop (recordLength ws) ws)
+  sound-rest = omega (arith, sound-next named last ws sound-first, sound-fits named last ws sound-first, length-drop (recordLength ws) ws)
 
   pub decode-first : decode ws ≡ firstRecord ws ∷ decode (drop (recordLength ws) ws)
-  decode-first = decode-next ws (omega (arith, sound-fits net last ws sound-first))
+  decode-first = decode-next ws (omega (arith, sound-fits named last ws sound-first))
 
 -- so every record of sound words is short; k bounds the records
-pub all-short : (net : ℕ → Bool) (k last : ℕ) (ws : List ℕ) → length ws ≤ k → soundAfter net last ws ≡ length ws → (r : Record) → List·Memᴰ r (decode ws) → Short net r
-all-short net zero last ws few all r m =
+pub all-short : (named : Named) (k last : ℕ) (ws : List ℕ) → length ws ≤ k → soundAfter named last ws ≡ length ws → (r : Record) → List·Memᴰ r (decode ws) → Short named r
+all-short named zero last ws few all r m =
     let none : ws ≡ [] = drop-of-length-le ws few in
     absurd (List·Memᴰ·not-nil (rw (none, decode-none) at m))
-all-short net (suc k) last ws few all r m =
+all-short named (suc k) last ws few all r m =
     ⊎-elim
     (λ (some : 1 ≤ length ws).
     ⊎-elim
-    (λ (e : r ≡ firstRecord ws). rw e (first-short net last ws (sound-first net last ws all some)))
+    (λ (e : r ≡ firstRecord ws). rw e (first-short named last ws (sound-first named last ws all some)))
     (λ (p : List·Memᴰ r (decode (drop (recordLength ws) ws))).
-    all-short net k (getD ws 0 0) (drop (recordLength ws) ws) (omega (arith, length-drop (recordLength ws) ws)) (sound-rest net last ws all some) r p)
-    (List·Memᴰ·cases-cons (rw (decode-first net last ws all some) at m)))
+    all-short named k (getD ws 0 0) (drop (recordLength ws) ws) (omega (arith, length-drop (recordLength ws) ws)) (sound-rest named last ws all some) r p)
+    (List·Memᴰ·cases-cons (rw (decode-first named last ws all some) at m)))
     (λ (h : length ws < 1).
     let short : length ws ≤ 0 = omega arith in
     let none : ws ≡ [] = drop-of-length-le ws short in
@@ -79,12 +79,14 @@ all-short net (suc k) last ws few all r m =
     (le-or-lt 1 (length ws))
 
 -- a line gives back each step of such a record's path
-pub step-printable : (net : ℕ → Bool) (r : Record) → ((i : ℕ) → net i ≡ true → i < netsMost) → Short net r → (k : ℕ) → suc k < length (r .path) → Printable (branchFields (stepAt r k))
+pub step-printable :
+    (named : Named) (r : Record) → ((i : ℕ) → named .net i ≡ true → i < netsMost) → named .nodes ≤ nodesMost → Short named r
+    → (k : ℕ) → suc k < length (r .path) → Printable (branchFields (stepAt r k))
 unfolding stepAt every
-step-printable net r most h k l =
-    let few = most (r .net) (h .net-passes) in
-    let from = ltb-true (getD (r .path) k 0) nodesMost (every-at (λ v. ltb v nodesMost) (r .path) (h .nodes-below) k (omega arith)) in
-    let to = ltb-true (getD (r .path) (suc k) 0) nodesMost (every-at (λ v. ltb v nodesMost) (r .path) (h .nodes-below) (suc k) (omega arith)) in
+step-printable named r nets-few nodes-few h k l =
+    let few = nets-few (r .net) (h .net-passes) in
+    let from = ltb-true (getD (r .path) k 0) (named .nodes) (every-at (λ v. ltb v (named .nodes)) (r .path) (h .nodes-below) k (omega arith)) in
+    let to = ltb-true (getD (r .path) (suc k) 0) (named .nodes) (every-at (λ v. ltb v (named .nodes)) (r .path) (h .nodes-below) (suc k) (omega arith)) in
     both-true (lt-ltb (r .net) (10 ^ 6) (omega arith))
     (both-true (lt-ltb (getD (r .path) k 0) (10 ^ 6) (omega arith))
     (both-true (lt-ltb (getD (r .path) (suc k) 0) (10 ^ 6) (omega arith)) refl))

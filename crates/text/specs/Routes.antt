@@ -25,39 +25,48 @@ use Rattle.text.specs.declared.WriteAnswer.the-variants as a
 abbrev pub pathIn : ℕ → List ℕ → List ℕ
 pathIn n ws = take n (drop 6 ws)
 
--- the path of the first record is whole: "n 2 to 4,096, nodes below 4,096, last node equal to the sink"
-unfoldable pub pathSound : ℕ → ℕ → List ℕ → Bool
-pathSound n sink ws =
-    both (both (between 2 nodesMost n) (leb (6 + n) (length ws)))
-    (both (every (λ v. ltb v nodesMost) (pathIn n ws)) (eqb (getD ws (5 + n) 0) sink))
+-- what a sound record may name: nets that pass a test, and nodes below a bound
+pub record Named : Type 0 where
+  pub net : ℕ → Bool
+  pub nodes : ℕ
 
--- the first record is whole and sound, after one of iteration `last`, and its net passes a test:
+-- the path of the first record is whole: "n 2 to 4,096, nodes below 4,096, last node equal to the sink", the nodes by their bound
+unfoldable pub pathSound : ℕ → ℕ → ℕ → List ℕ → Bool
+pathSound nodes n sink ws =
+    both (both (between 2 nodesMost n) (leb (6 + n) (length ws)))
+    (both (every (λ v. ltb v nodes) (pathIn n ws)) (eqb (getD ws (5 + n) 0) sink))
+
+-- the first record is whole and sound, after one of iteration `last`, and names what may be named:
 -- "iteration 1 to 100 and never falling"
-unfoldable pub recordSound : (ℕ → Bool) → ℕ → List ℕ → Bool
-recordSound net last ws =
+unfoldable pub recordSound : Named → ℕ → List ℕ → Bool
+recordSound named last ws =
     both (leb 6 (length ws))
     (both (both (between 1 limitMost (getD ws 0 0)) (leb last (getD ws 0 0)))
-    (both (net (getD ws 1 0)) (pathSound (getD ws 5 0) (getD ws 2 0) ws)))
+    (both (named .net (getD ws 1 0)) (pathSound (named .nodes) (getD ws 5 0) (getD ws 2 0) ws)))
 
 -- the words of sound records before the first unsound one, after one of iteration `last`; so many records at most
-unfoldable pub soundUpTo : (ℕ → Bool) → ℕ → ℕ → List ℕ → ℕ
-soundUpTo net zero last ws = 0
-soundUpTo net (suc k) last ws =
-    choose (recordSound net last ws)
-    (6 + getD ws 5 0 + soundUpTo net k (getD ws 0 0) (drop (6 + getD ws 5 0) ws))
+unfoldable pub soundUpTo : Named → ℕ → ℕ → List ℕ → ℕ
+soundUpTo named zero last ws = 0
+soundUpTo named (suc k) last ws =
+    choose (recordSound named last ws)
+    (6 + getD ws 5 0 + soundUpTo named k (getD ws 0 0) (drop (6 + getD ws 5 0) ws))
     0
 
 -- "first word of the first unsound record": no log has more records than words
-unfoldable pub soundWords : (ℕ → Bool) → List ℕ → ℕ
-soundWords net ws = soundUpTo net (length ws) 0 ws
+unfoldable pub soundWords : Named → List ℕ → ℕ
+soundWords named ws = soundUpTo named (length ws) 0 ws
 
 -- "A sound log is one or more whole records"
-unfoldable pub logSound : (ℕ → Bool) → List ℕ → Bool
-logSound net ws = both (leb 1 (length ws)) (eqb (soundWords net ws) (length ws))
+unfoldable pub logSound : Named → List ℕ → Bool
+logSound named ws = both (leb 1 (length ws)) (eqb (soundWords named ws) (length ws))
 
 -- request 2.3: "A record whose net is beyond table 5 or isn't the first of its source is unsound."
 unfoldable pub netWritable : List ℕ → ℕ → Bool
 netWritable sources i = both (ltb i (length sources)) (leads sources i)
+
+-- what a log may name that is written by table 5
+abbrev pub writable : List ℕ → Named
+writable sources = record { net = netWritable sources; nodes = nodesMost }
 
 -- ---- branches
 
@@ -173,7 +182,7 @@ textReply text buffer =
 unfoldable pub testedReply : (List ℕ → List Record → List ℕ) → List ℕ → List ℕ → List ℕ → WriteReply
 testedReply text sources log buffer =
     choose (not (sourcesSound nodesMost sources)) (notWritten (5 ∷ 5 ∷ []) buffer)
-    (choose (not (logSound (netWritable sources) log)) (notWritten (10 ∷ soundWords (netWritable sources) log ∷ []) buffer)
+    (choose (not (logSound (writable sources) log)) (notWritten (10 ∷ soundWords (writable sources) log ∷ []) buffer)
     (textReply (text sources (decode log)) buffer))
 
 abbrev pub writeReply : List ℕ → List ℕ → List ℕ → WriteReply

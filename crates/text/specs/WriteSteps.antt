@@ -7,10 +7,11 @@ use Prim.Native.Nat.{ℕ, _+_, _-_, _^_, _≤_, _<_}
 use lib.Dec.{eqb}
 use lib.ListN.{length, getD, take, drop}
 use Rattle.price.specs.Test.{choose}
+use Rattle.price.specs.Bounds.{nodesMost}
 use Rattle.negotiation.specs.Tables.{netsMost}
 use Rattle.negotiation.specs.Records.{Record, decode}
 use Rattle.text.specs.Lines.{letterR, printLine}
-use Rattle.text.specs.Routes.{logSound, soundWords, lastIteration, passing, finalRecords, routeJoins, joinText, capped}
+use Rattle.text.specs.Routes.{Named, logSound, soundWords, lastIteration, passing, finalRecords, routeJoins, joinText, capped}
 use Rattle.text.specs.Dot.{dotHead, dotEnd}
 use Rattle.text.specs.declared.Style.{Style}
 use Rattle.text.specs.declared.Style.the-variants as s
@@ -44,26 +45,32 @@ tailText s.Lines sources = joinText (routeJoins sources)
 tailText s.Picture sources = dotEnd
 
 -- the nets that bear the mark 1
-unfoldable pub named : List ℕ → ℕ → Bool
-named marks i = eqb (getD marks i 0) 1
+unfoldable pub netMarked : List ℕ → ℕ → Bool
+netMarked marks i = eqb (getD marks i 0) 1
+
+-- what a log may name by marks of nets and a bound of nodes
+abbrev pub namedBy : List ℕ → ℕ → Named
+namedBy marks nodes = record { net = netMarked marks; nodes = nodes }
 
 -- what a test of a log finds: the last iteration and the turns of a sound one, or the first word of the first unsound record
 pub data Checked : Type 0 where
   sound : (iteration turns : ℕ) → Checked
   unsound : (word : ℕ) → Checked
 
-unfoldable pub logChecked : (ℕ → Bool) → List ℕ → Checked
-logChecked net ws = choose (logSound net ws) (sound (lastIteration (decode ws)) (length (decode ws))) (unsound (soundWords net ws))
+unfoldable pub logChecked : Named → List ℕ → Checked
+logChecked named ws =
+    choose (logSound named ws) (sound (lastIteration (decode ws)) (length (decode ws))) (unsound (soundWords named ws))
 
 abbrev pub checkedAt : LogCheck → Checked
 checkedAt (k.Sound iteration turns) = sound iteration turns
 checkedAt (k.Unsound word) = unsound word
 
--- every word is one of a sound record, by some test of the nets that those below 512 alone can pass
+-- every word is one of a sound record, which may name some of the nets below 512 and of the nodes below 4,096
 pub record AllSound (log : List ℕ) : Type 0 where
-  pub net : ℕ → Bool
-  pub nets-few : (i : ℕ) → net i ≡ true → i < netsMost
-  pub all-sound : soundWords net log ≡ length log
+  pub named : Named
+  pub nets-few : (i : ℕ) → named .net i ≡ true → i < netsMost
+  pub nodes-few : named .nodes ≤ nodesMost
+  pub all-sound : soundWords named log ≡ length log
 
 -- what the test of a sound log found
 pub record Found (log : List ℕ) (iteration turns : ℕ) : Type 0 where

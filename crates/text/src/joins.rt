@@ -4,13 +4,13 @@ ghost use Prim.Native.Nat.{ℕ, _+_, _*_, _≤_};
 ghost use lib.ListN.{length};
 ghost use Rattle.negotiation.specs.Tables.{netsMost};
 ghost use Rattle.text.specs.Routes.{netWritable, joinText, routeJoins};
-ghost use Rattle.text.specs.WriteSteps.{Put, named};
+ghost use Rattle.text.specs.WriteSteps.{Put, netMarked};
 use crate::decimal;
 
 // Marks of the nets, 1 for each that is the first of its source.
 pub fn first_marks(source: &[u16]) -> [u8; 512]
     requires { ⌜ length (now source) ≤ netsMost ⌝ }
-    ensures { λ r. ⌜ ((i : ℕ) → named r i ≡ netWritable (now (source .entry)) i) ⌝ }
+    ensures { λ r. ⌜ ((i : ℕ) → netMarked r i ≡ netWritable (now (source .entry)) i) ⌝ }
 {
     let mut marks = [0u8; 512];
     let mut net = 0;

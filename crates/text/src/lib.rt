@@ -324,7 +324,7 @@ pub fn write_style(style: Style, source: &[u16], log: &[u32], buffer: &mut [u8])
         return WriteAnswer::BadTable(5);
     }
     let marks = joins::first_marks(source);
-    match log_check::check_log(&marks, log) {
+    match log_check::check_log(&marks, bounds::NODES_MOST as usize, log) {
         LogCheck::Sound { iteration, turns } => {
             write_text(style, source, log, iteration, turns, buffer)
         }

@@ -3,10 +3,9 @@ ghost use mathlib.Core.Path.{_≡_};
 ghost use Prim.Native.Nat.{ℕ, _-_, _≤_};
 ghost use lib.Dec.{ltb};
 ghost use lib.ListN.{length, take, drop};
-ghost use Rattle.price.specs.Bounds.{nodesMost};
 ghost use Rattle.price.specs.Lists.{every};
 ghost use Rattle.text.specs.Routes.{pathSound, recordSound};
-ghost use Rattle.text.specs.WriteSteps.{named, logChecked, checkedAt};
+ghost use Rattle.text.specs.WriteSteps.{netMarked, namedBy, logChecked, checkedAt};
 use crate::bounds;
 
 pub enum LogCheck {
@@ -16,14 +15,14 @@ pub enum LogCheck {
     Unsound(usize),
 }
 
-// Every word of a part is a node number.
-fn nodes_sound(log: &[u32], from: usize, to: usize) -> bool
+// Every word of a part is a node number, below this bound.
+fn nodes_sound(nodes: usize, log: &[u32], from: usize, to: usize) -> bool
     requires { ⌜ (from ≤ to) × (to ≤ length (now log)) ⌝ }
-    ensures { λ r. ⌜ r ≡ every (λ (v : ℕ). ltb v nodesMost) (take (to - from) (drop from (now (log .entry)))) ⌝ }
+    ensures { λ r. ⌜ r ≡ every (λ (v : ℕ). ltb v nodes) (take (to - from) (drop from (now (log .entry)))) ⌝ }
 {
     let mut k = from;
     while k < to {
-        if bounds::NODES_MOST <= log[k] {
+        if nodes <= log[k] as usize {
             return false;
         }
         k += 1;
@@ -32,9 +31,9 @@ fn nodes_sound(log: &[u32], from: usize, to: usize) -> bool
 }
 
 // The path of the record at this place, of so many words, is whole and sound.
-fn path_sound(log: &[u32], at: usize, n: u32, sink: u32) -> bool
+fn path_sound(nodes: usize, log: &[u32], at: usize, n: u32, sink: u32) -> bool
     requires { ⌜ at ≤ length (now log) ⌝ }
-    ensures { λ r. ⌜ r ≡ pathSound n sink (drop at (now (log .entry))) ⌝ }
+    ensures { λ r. ⌜ r ≡ pathSound nodes n sink (drop at (now (log .entry))) ⌝ }
 {
     if n < 2 {
         return false;
@@ -47,15 +46,15 @@ fn path_sound(log: &[u32], at: usize, n: u32, sink: u32) -> bool
     }
     let from = at + 6;
     let to = from + n as usize;
-    if !nodes_sound(log, from, to) {
+    if !nodes_sound(nodes, log, from, to) {
         return false;
     }
     log[to - 1] == sink
 }
 
 // The net bears the mark 1.
-fn net_named(marks: &[u8], net: u32) -> bool
-    ensures { λ r. ⌜ r ≡ named (now (marks .entry)) net ⌝ }
+fn net_marked(marks: &[u8], net: u32) -> bool
+    ensures { λ r. ⌜ r ≡ netMarked (now (marks .entry)) net ⌝ }
 {
     let place = net as usize;
     if marks.len() <= place {
@@ -64,10 +63,10 @@ fn net_named(marks: &[u8], net: u32) -> bool
     marks[place] == 1
 }
 
-// The record at this place is whole and sound, after one of this iteration, and its net is marked.
-fn record_sound(marks: &[u8], log: &[u32], at: usize, last: u32) -> bool
+// The record at this place is whole and sound, after one of this iteration, its net is marked and its nodes are below the bound.
+fn record_sound(marks: &[u8], nodes: usize, log: &[u32], at: usize, last: u32) -> bool
     requires { ⌜ at ≤ length (now log) ⌝ }
-    ensures { λ r. ⌜ r ≡ recordSound (named (now (marks .entry))) last (drop at (now (log .entry))) ⌝ }
+    ensures { λ r. ⌜ r ≡ recordSound (namedBy (now (marks .entry)) nodes) last (drop at (now (log .entry))) ⌝ }
 {
     if log.len() - at < 6 {
         return false;
@@ -82,21 +81,21 @@ fn record_sound(marks: &[u8], log: &[u32], at: usize, last: u32) -> bool
     if iteration < last {
         return false;
     }
-    if !net_named(marks, log[at + 1]) {
+    if !net_marked(marks, log[at + 1]) {
         return false;
     }
-    path_sound(log, at, log[at + 5], log[at + 2])
+    path_sound(nodes, log, at, log[at + 5], log[at + 2])
 }
 
-// Goes from record to record, each of which is of a marked net.
-pub fn check_log(marks: &[u8], log: &[u32]) -> LogCheck
-    ensures { λ r. ⌜ checkedAt r ≡ logChecked (named (now (marks .entry))) (now (log .entry)) ⌝ }
+// Goes from record to record, each of which is of a marked net and of nodes below the bound.
+pub fn check_log(marks: &[u8], nodes: usize, log: &[u32]) -> LogCheck
+    ensures { λ r. ⌜ checkedAt r ≡ logChecked (namedBy (now (marks .entry)) nodes) (now (log .entry)) ⌝ }
 {
     let mut at = 0;
     let mut iteration = 0;
     let mut turns = 0;
     while at < log.len() {
-        if !record_sound(marks, log, at, iteration) {
+        if !record_sound(marks, nodes, log, at, iteration) {
             return LogCheck::Unsound(at);
         }
         iteration = log[at];

@@ -2,12 +2,13 @@
 -- Assumes nothing.
 use mathlib.Core.Bool.{true}
 use mathlib.Core.Path.{_≡_, sym, _∙_, ap}
+use native.Mathlib.Omega.{arith}
 use borrow.Author.Needs.{needs}
 use borrow.Author.Tests.{not-true, not-false}
 use Rattle.price.specs.Bounds.{nodesMost}
 use Rattle.negotiation.specs.Tables.{sourcesSound}
 use Rattle.negotiation.proofs.JobLaws.{sources-few}
-use Rattle.text.specs.WriteSteps.{named, checkedAt}
+use Rattle.text.specs.WriteSteps.{namedBy, checkedAt}
 use Rattle.text.proofs.LogLaws.{found}
 use Rattle.text.proofs.RouteTextLaws.{marks-few, write-table, write-unsound, write-sound}
 use Rattle.text.proofs.write_style.Statement.{statement}
@@ -32,6 +33,9 @@ first-marks-requires c κs = sources-few _ _ (table c)
 slice-aggregate-check-log : tie.Need-slice-aggregate-check-log
 slice-aggregate-check-log c = search needs
 
+cast-check-log : tie.Need-cast-check-log
+cast-check-log c = search needs
+
 check-log-requires : tie.Need-check-log-requires
 check-log-requires c κs = search needs
 
@@ -43,7 +47,7 @@ write-text-requires c κs =
     let arm = c .before .before in
     let marks = arm .before .before .before .before in (
       sources-few _ _ (table (marks .before)),
-      found (named (marks .first-marks .result)) _ (marks-few _ _ (table (marks .before)) (marks .first-marks .ensures))
+      found (namedBy (marks .first-marks .result) nodesMost) _ (marks-few _ _ (table (marks .before)) (marks .first-marks .ensures)) (omega arith)
           (ap checkedAt (sym (arm .iteration .given .1)) ∙ arm .before .before .check-log .ensures) .1,
     )
 
@@ -77,6 +81,7 @@ write-style-spec =
     returns
     first-marks-requires
     slice-aggregate-check-log
+    cast-check-log
     check-log-requires
     enum-known-iteration
     write-text-requires

@@ -8,23 +8,27 @@ use lib.ListN.{length, drop}
 use borrow.Author.Needs.{needs}
 use borrow.Author.Tests.{not-true, not-false}
 use Rattle.text.specs.Routes.{recordSound}
-use Rattle.text.specs.WriteSteps.{named}
+use Rattle.text.specs.WriteSteps.{namedBy}
 use Rattle.text.proofs.LogLaws.{nextAt, Checking, checking-none, checking-fits, checking-next, checked-unsound, checked-none, checked-sound}
 use Rattle.text.proofs.log_check.check_log.Statement.{statement}
 use Rattle.text.proofs.log_check.check_log.Tie as tie
 
 abbrev Inv-loop : tie.InvT-loop
-Inv-loop marks log at₀ iteration₀ turns₀ at iteration turns = Checking (named marks) log at iteration turns
+Inv-loop marks nodes log at₀ iteration₀ turns₀ at iteration turns = Checking (namedBy marks nodes) log at iteration turns
 
 abbrev μ-loop : tie.MeasureT-loop
-μ-loop marks log at₀ iteration₀ turns₀ at iteration turns = length log - at
+μ-loop marks nodes log at₀ iteration₀ turns₀ at iteration turns = length log - at
+
+-- where the function begins
+abbrev entry : tie.Else1 Inv-loop μ-loop → tie.Start Inv-loop μ-loop
+entry c = c .before .before .before .before .before .before
 
 -- the record met is sound
-here : (c : tie.Else1 Inv-loop μ-loop) → recordSound (named (c .before .before .before .before .before .before .args .marks .now)) (c .before .before .before .loop .iteration) (drop (c .before .before .before .loop .at) (c .before .before .before .before .before .before .args .log .now)) ≡ true
+here : (c : tie.Else1 Inv-loop μ-loop) → recordSound (namedBy (entry c .args .marks .now) (entry c .args .nodes)) (c .before .before .before .loop .iteration) (drop (c .before .before .before .loop .at) (entry c .args .log .now)) ≡ true
 here c = sym (c .before .record-sound .ensures) ∙ not-false _ (c .if1 .left)
 
 -- the next one begins within the log
-next : (c : tie.Else1 Inv-loop μ-loop) → nextAt (c .before .before .before .before .before .before .args .log .now) (c .before .before .before .loop .at) ≤ length (c .before .before .before .before .before .before .args .log .now)
+next : (c : tie.Else1 Inv-loop μ-loop) → nextAt (entry c .args .log .now) (c .before .before .before .loop .at) ≤ length (entry c .args .log .now)
 next c = checking-fits (c .before .before .before .loop .inv) (here c)
 
 loop-holds : tie.Need-loop-holds Inv-loop μ-loop

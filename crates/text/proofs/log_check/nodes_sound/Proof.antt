@@ -2,25 +2,29 @@
 -- Assumes nothing.
 use mathlib.Core.Path.{sym}
 use Prim.Native.Nat.{_-_}
+use native.Mathlib.Omega.{arith}
 use borrow.Author.Needs.{needs}
 use Rattle.text.proofs.RecordTestLaws.{Below, below-none, below-more, nodes-faulty, nodes-all}
 use Rattle.text.proofs.log_check.nodes_sound.Statement.{statement}
 use Rattle.text.proofs.log_check.nodes_sound.Tie as tie
 
 abbrev Inv-loop : tie.InvT-loop
-Inv-loop log from to k₀ k = Below log from to k
+Inv-loop nodes log from to k₀ k = Below nodes log from to k
 
 abbrev μ-loop : tie.MeasureT-loop
-μ-loop log from to k₀ k = to - k
+μ-loop nodes log from to k₀ k = to - k
 
 loop-holds : tie.Need-loop-holds Inv-loop μ-loop
-loop-holds c = below-none _ _ _ (search needs)
+loop-holds c = below-none _ _ _ _ (search needs)
 
 mul-if1 : tie.Need-mul-if1 Inv-loop μ-loop
 mul-if1 c = search needs
 
 shared-slice-read-if1 : tie.Need-shared-slice-read-if1 Inv-loop μ-loop
 shared-slice-read-if1 c = search needs
+
+cast-if1 : tie.Need-cast-if1 Inv-loop μ-loop
+cast-if1 c = omega (arith, c .shared-slice-known .given (c .before .before .loop .k))
 
 returns : tie.Need-returns Inv-loop μ-loop
 returns c = sym (nodes-faulty (c .before .before .before .loop .inv) (search needs) (search needs) (search needs))
@@ -46,6 +50,7 @@ nodes-sound-spec =
     loop-holds
     mul-if1
     shared-slice-read-if1
+    cast-if1
     returns
     add-k
     loop-less

@@ -10,12 +10,12 @@ use Rattle.text.proofs.log_check.path_sound.Tie as tie
 returns : tie.Need-returns
 returns c =
     let a = c .before .before .args in
-    sym (path-few (a .log .now) (a .at) _ _ (search needs))
+    sym (path-few (a .nodes) (a .log .now) (a .at) _ _ (search needs))
 
 returns-2 : tie.Need-returns-2
 returns-2 c =
     let a = c .before .before .before .args in
-    sym (path-many (a .log .now) (a .at) _ _ (search needs) (search needs))
+    sym (path-many (a .nodes) (a .log .now) (a .at) _ _ (search needs) (search needs))
 
 sub-if3 : tie.Need-sub-if3
 sub-if3 c = search needs
@@ -26,7 +26,7 @@ add-if3 c = search needs
 returns-3 : tie.Need-returns-3
 returns-3 c =
     let a = c .before .before .before .before .args in
-    sym (path-cut (a .log .now) (a .at) _ _ (search needs) (search needs) (search needs))
+    sym (path-cut (a .nodes) (a .log .now) (a .at) _ _ (search needs) (search needs) (search needs))
 
 add-from : tie.Need-add-from
 add-from c = search needs
@@ -40,7 +40,7 @@ nodes-sound-requires c κs = search needs
 returns-4 : tie.Need-returns-4
 returns-4 c =
     let a = c .before .before .before .before .before .before .args in
-    sym (path-nodes (a .log .now) (a .at) _ _ (search needs) (search needs) (search needs)
+    sym (path-nodes (a .nodes) (a .log .now) (a .at) _ _ (search needs) (search needs) (search needs)
     (sym (c .before .nodes-sound .ensures) ∙ not-true _ (c .if4 .taken)))
 
 sub-result : tie.Need-sub-result
@@ -55,7 +55,7 @@ shared-slice-read-result c = search needs
 returns-5 : tie.Need-returns-5
 returns-5 c =
     let a = c .before .before .before .before .before .before .before .args in
-    sym (path-last (a .log .now) (a .at) _ _ (search needs) (search needs) (search needs)
+    sym (path-last (a .nodes) (a .log .now) (a .at) _ _ (search needs) (search needs) (search needs)
     (sym (c .before .before .nodes-sound .ensures) ∙ not-false _ (c .before .if4 .left)))
 
 pub path-sound-spec : {M : Type 1} → statement M

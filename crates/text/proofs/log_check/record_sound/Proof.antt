@@ -3,7 +3,7 @@
 use mathlib.Core.Path.{sym, _∙_}
 use borrow.Author.Needs.{needs}
 use borrow.Author.Tests.{not-true, not-false}
-use Rattle.text.specs.WriteSteps.{named}
+use Rattle.text.specs.WriteSteps.{namedBy}
 use Rattle.text.proofs.RecordTestLaws.{record-cut, record-none, record-late, record-falls, record-other, record-path}
 use Rattle.text.proofs.log_check.record_sound.Statement.{statement}
 use Rattle.text.proofs.log_check.record_sound.Tie as tie
@@ -14,7 +14,7 @@ sub-if1 c = search needs
 returns : tie.Need-returns
 returns c =
     let a = c .before .before .before .args in
-    sym (record-cut (named (a .marks .now)) (a .last) (a .log .now) (a .at) (search needs))
+    sym (record-cut (namedBy (a .marks .now) (a .nodes)) (a .last) (a .log .now) (a .at) (search needs))
 
 mul-iteration : tie.Need-mul-iteration
 mul-iteration c = search needs
@@ -25,35 +25,35 @@ shared-slice-read-iteration c = search needs
 returns-2 : tie.Need-returns-2
 returns-2 c =
     let a = c .before .before .before .before .before .args in
-    sym (record-none (named (a .marks .now)) (a .last) (a .log .now) (a .at) (search needs) (search needs))
+    sym (record-none (namedBy (a .marks .now) (a .nodes)) (a .last) (a .log .now) (a .at) (search needs) (search needs))
 
 returns-3 : tie.Need-returns-3
 returns-3 c =
     let a = c .before .before .before .before .before .before .args in
-    sym (record-late (named (a .marks .now)) (a .last) (a .log .now) (a .at) (search needs) (search needs) (search needs))
+    sym (record-late (namedBy (a .marks .now) (a .nodes)) (a .last) (a .log .now) (a .at) (search needs) (search needs) (search needs))
 
 returns-4 : tie.Need-returns-4
 returns-4 c =
     let a = c .before .before .before .before .before .before .before .args in
-    sym (record-falls (named (a .marks .now)) (a .last) (a .log .now) (a .at) (search needs) (search needs) (search needs) (search needs))
+    sym (record-falls (namedBy (a .marks .now) (a .nodes)) (a .last) (a .log .now) (a .at) (search needs) (search needs) (search needs) (search needs))
 
-add-net-named : tie.Need-add-net-named
-add-net-named c = search needs
+add-net-marked : tie.Need-add-net-marked
+add-net-marked c = search needs
 
-mul-net-named : tie.Need-mul-net-named
-mul-net-named c = search needs
+mul-net-marked : tie.Need-mul-net-marked
+mul-net-marked c = search needs
 
-shared-slice-read-net-named : tie.Need-shared-slice-read-net-named
-shared-slice-read-net-named c = search needs
+shared-slice-read-net-marked : tie.Need-shared-slice-read-net-marked
+shared-slice-read-net-marked c = search needs
 
-net-named-requires : tie.Need-net-named-requires
-net-named-requires c κs = search needs
+net-marked-requires : tie.Need-net-marked-requires
+net-marked-requires c κs = search needs
 
 returns-5 : tie.Need-returns-5
 returns-5 c =
     let a = c .before .before .before .before .before .before .before .before .before .before .args in
-    sym (record-other (named (a .marks .now)) (a .last) (a .log .now) (a .at) (search needs) (search needs) (search needs) (search needs)
-    (sym (c .before .net-named .ensures) ∙ not-true _ (c .if5 .taken)))
+    sym (record-other (namedBy (a .marks .now) (a .nodes)) (a .last) (a .log .now) (a .at) (search needs) (search needs) (search needs) (search needs)
+    (sym (c .before .net-marked .ensures) ∙ not-true _ (c .if5 .taken)))
 
 add-path-sound : tie.Need-add-path-sound
 add-path-sound c = search needs
@@ -80,8 +80,8 @@ returns-6 : tie.Need-returns-6
 returns-6 c =
     let a = c .before .before .before .before .before .before .before .before .before .before .before .before .before .args in
     c .path-sound .ensures
-    ∙ sym (record-path (named (a .marks .now)) (a .last) (a .log .now) (a .at) (search needs) (search needs) (search needs) (search needs)
-    (sym (c .before .before .before .before .net-named .ensures) ∙ not-false _ (c .before .before .before .if5 .left)))
+    ∙ sym (record-path (namedBy (a .marks .now) (a .nodes)) (a .last) (a .log .now) (a .at) (search needs) (search needs) (search needs) (search needs)
+    (sym (c .before .before .before .before .net-marked .ensures) ∙ not-false _ (c .before .before .before .if5 .left)))
 
 pub record-sound-spec : {M : Type 1} → statement M
 record-sound-spec =
@@ -94,10 +94,10 @@ record-sound-spec =
     returns-2
     returns-3
     returns-4
-    add-net-named
-    mul-net-named
-    shared-slice-read-net-named
-    net-named-requires
+    add-net-marked
+    mul-net-marked
+    shared-slice-read-net-marked
+    net-marked-requires
     returns-5
     add-path-sound
     mul-path-sound
