@@ -1,7 +1,8 @@
 /* Arvumnao: a proved router for a programmable logic block. The calls of the static library libcapi.a.
  *
- * docs/FORMAT.md describes the job text, the routes text, the log and every refusal; examples/route.c goes from a job
- * text to its routes text. Here are first an example, then what holds for all calls, then the calls.
+ * docs/FORMAT.md describes the job text, the routes text, the log, the uses text and every refusal; examples/route.c goes from
+ * a job text to its routes text, examples/uses.c from many jobs of one block to the use of its wires. Here are first an
+ * example, then what holds for all calls, then the calls.
  *
  * An example, whole: it routes one net over one wire and prints R,1,1 and B,0,0,1 and B,0,1,2, a line each.
  *
@@ -49,8 +50,8 @@
  * code does the same is tested. Slices that overlap, dangle or are counted wrong are out of its sight.
  *
  * OUT. Every call takes `out`, a slice of 64-bit numbers, which need not be cleared. If it has fewer than
- * ARVUMNAO_OUT entries the call does nothing and returns 0. Otherwise it returns 1, fills the first ARVUMNAO_OUT
- * entries and leaves those past them:
+ * ARVUMNAO_OUT entries, or `counts` fewer than ARVUMNAO_COUNTS, the call does nothing and returns 0. Otherwise it returns 1, fills
+ * the first ARVUMNAO_OUT entries and leaves those past them:
  *   out[ARVUMNAO_REFUSAL]     0 where nothing was refused, else the refusal's number
  *   out[ARVUMNAO_REFUSAL_1]   that refusal's first further number, else 0
  *   out[ARVUMNAO_REFUSAL_2]   its second, else 0
@@ -124,9 +125,14 @@
 /* The words of a record whose path has so many nodes, 2 to 4,096. A job makes at most limit x sinks records. */
 #define ARVUMNAO_RECORD(path) (6 + (path))
 
+/* `counts` of uses: its entries, one a kind, the most logs that it may be of, and bytes that are enough for its text. */
+#define ARVUMNAO_COUNTS 54
+#define ARVUMNAO_LOGS_MOST 65535
+#define ARVUMNAO_USES_BYTES 4096
+
 /* Bytes of stack, beyond its caller's, that every call makes do with. Measured on x86-64 Linux by tests/header/memory.c, with
- * what memcpy and memset take: 110,151 in arvumnao_read, 48,551 in arvumnao_route, 9,059 in arvumnao_write, under 500 in the
- * others. */
+ * what memcpy and memset take: 110,151 in arvumnao_read, 48,551 in arvumnao_route, 35,127 in arvumnao_uses_add, 22,615 in
+ * arvumnao_uses_write, 9,071 in arvumnao_write and arvumnao_dot, under 500 in the others. */
 #define ARVUMNAO_STACK 131072
 
 /* `out`: its length, and the places that every call has. */
@@ -148,9 +154,10 @@
 #define ARVUMNAO_LOG_FULL 8      /* iteration, turns: after so many turns the next record, of that iteration, doesn't fit */
 #define ARVUMNAO_LIMIT_REACHED 9 /* iteration, nodes: after the last iteration so many nodes are over capacity */
 #define ARVUMNAO_BAD_RECORD 10   /* word: where the first unsound record begins; 0 if the log is empty */
-#define ARVUMNAO_SHORT_BUFFER 11 /* bytes that the routes text needs */
+#define ARVUMNAO_SHORT_BUFFER 11 /* bytes that the text needs */
 #define ARVUMNAO_LONG_TEXT 12    /* 65536: by the program alone, of an input with more bytes; no call here gives it */
-#define ARVUMNAO_BAD_NUMBER 13   /* place: a number beyond its bounds */
+#define ARVUMNAO_BAD_NUMBER 13   /* place: a number beyond its bounds; in counts the kind, or 54 for the number of logs */
+#define ARVUMNAO_COUNTS_FULL 16  /* 65535: counts are of so many logs already, and may be of no more */
 
 #ifdef __cplusplus
 extern "C" {
@@ -256,6 +263,38 @@ uint32_t arvumnao_write(const uint16_t *source, size_t source_count, const uint3
 #define ARVUMNAO_DOT_BYTES 3
 uint32_t arvumnao_dot(const uint16_t *source, size_t source_count, const uint32_t *log, size_t log_count,
                       uint8_t *buffer, size_t buffer_count, uint64_t *out, size_t out_count);
+
+/* Adds the log of a job to counts of how much the nodes of one block are used, kind by kind, over many jobs. A kind's uses are the
+ * sum, over all logs added and all nodes of the kind, of the nets whose final tree has the node: a node on two paths of a net
+ * counts once. A net's final tree is the nodes of its records of the latest iteration in which it has any. The order
+ * in which logs are added makes no difference, and the uses of a log sum to the sizes of its final trees.
+ *
+ * counts    ARVUMNAO_COUNTS entries, the uses of each kind, at first all 0; those past them stay. If there are fewer the call
+ *           does nothing and returns 0, as with a short `out`.
+ * logs      how many logs the counts are of, at first 0. An accepted log makes it one more, and that is told for the next
+ *           call. After a refusal, which tells 0, go on with the number handed in.
+ * log       the words used of it. Its records must be sound as for arvumnao_write, but may be of any net below 512, and have
+ *           no node that the block lacks. Which job it is of, and whether that job was accepted, is not asked.
+ * Refusals, tested in this order: ARVUMNAO_BAD_TABLE (1 to 4); ARVUMNAO_BAD_NUMBER with 54 for more than ARVUMNAO_LOGS_MOST logs, else with
+ * the lowest kind that has more uses than 512 x logs x its nodes; ARVUMNAO_BAD_RECORD; ARVUMNAO_COUNTS_FULL. A refused log
+ * adds nothing. Counts that began with 0 and are changed by this call alone, for one block, never meet ARVUMNAO_BAD_NUMBER. */
+#define ARVUMNAO_USES_ADD_LOGS 3
+uint32_t arvumnao_uses_add(const uint8_t *kind, size_t kind_count, const uint8_t *capacity, size_t capacity_count,
+                           const uint32_t *first_edge, size_t first_edge_count, const uint16_t *edge_target, size_t edge_target_count,
+                           uint64_t *counts, size_t counts_count, uint64_t logs, const uint32_t *log, size_t log_count,
+                           uint64_t *out, size_t out_count);
+
+/* Writes such counts: for each kind from 0 to 53 a line `U,kind,uses,capacity`, where capacity is that of all nodes of the kind
+ * times the number of logs.
+ *
+ * counts    and logs are those of arvumnao_uses_add.
+ * buffer    gets the text, without a 0 at its end; bytes past it stay. ARVUMNAO_USES_BYTES are always enough.
+ * Refusals, tested in this order: ARVUMNAO_BAD_TABLE and ARVUMNAO_BAD_NUMBER as there; ARVUMNAO_SHORT_BUFFER. */
+#define ARVUMNAO_USES_WRITE_BYTES 3
+uint32_t arvumnao_uses_write(const uint8_t *kind, size_t kind_count, const uint8_t *capacity, size_t capacity_count,
+                             const uint32_t *first_edge, size_t first_edge_count, const uint16_t *edge_target, size_t edge_target_count,
+                             const uint64_t *counts, size_t counts_count, uint64_t logs, uint8_t *buffer, size_t buffer_count,
+                             uint64_t *out, size_t out_count);
 
 #ifdef __cplusplus
 }

@@ -30,13 +30,13 @@ fn main() {
 }
 MAIN
 libraries=(--lib "std=$home/libs/std/src/lib.rt")
-for crate in price search negotiation text capi; do libraries+=(--lib "$crate=crates/$crate/src/lib.rt"); done
+for crate in price search negotiation text uses capi; do libraries+=(--lib "$crate=crates/$crate/src/lib.rt"); done
 "$kit/bin/rattle-cases" --toolchain "$scratch/tools" "$scratch/main/main.rt" --crate-name main "${libraries[@]}" >/dev/null
 
 # the calls under their own names, a slice as a pointer to its pointer and length
 clang=("$kit/toolchain/bin/clang" --target=x86_64-unknown-linux-gnu --no-default-config -fPIE)
 "${clang[@]}" -x ir "$scratch/module.bc" -S -emit-llvm -O0 -Xclang -disable-llvm-passes -o "$scratch/module.ll"
-sed -i -E 's/define internal noundef i32 @"capi::arvumnao_([a-z]+)"/define noundef i32 @rattle_\1/; s/@"capi::arvumnao_([a-z]+)"/@rattle_\1/g; s/^define i32 @main\(\)/define internal i32 @unused()/' "$scratch/module.ll"
+sed -i -E 's/define internal noundef i32 @"capi::arvumnao_([a-z_]+)"/define noundef i32 @rattle_\1/; s/@"capi::arvumnao_([a-z_]+)"/@rattle_\1/g; s/^define i32 @main\(\)/define internal i32 @unused()/' "$scratch/module.ll"
 "${clang[@]}" -march=x86-64 -ffunction-sections -O3 -c -x ir "$scratch/module.ll" -o "$scratch/module.o"
 tools/unproved_calls.py include/arvumnao.h >"$scratch/calls.c"
 cc -std=c99 -O2 -fPIE -Wall -Wextra -Werror -Iinclude -c "$scratch/calls.c" -o "$scratch/calls.o"

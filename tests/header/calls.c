@@ -264,49 +264,131 @@ static void read_text(void)
     EXPECT(read_job(7, 8, 9, 10, 4, 5, 3) == 1 && refused(2, 2, 0));
 }
 
+/* Job B's log. */
+static const uint32_t job_log[] = {
+    1, 0, 4, 4000, 0, 3, 0, 2, 4, 1, 1, 5, 4000, 0, 3, 1, 2, 5,
+    2, 0, 4, 6000, 0, 3, 0, 3, 4, 2, 1, 5, 6000, 0, 3, 1, 2, 5,
+};
+
 /* The routes of job B's log, with a third net that was joined into the second; then of the log without its last record, where
  * the second net has its branches of iteration 1. */
 static void write_routes(void)
 {
     const uint16_t source[] = { 0, 1, 1, 4096 };
-    const uint32_t log[] = {
-        1, 0, 4, 4000, 0, 3, 0, 2, 4, 1, 1, 5, 4000, 0, 3, 1, 2, 5,
-        2, 0, 4, 6000, 0, 3, 0, 3, 4, 2, 1, 5, 6000, 0, 3, 1, 2, 5,
-    };
     const char routes[] = "R,2,4\nB,0,0,3\nB,0,3,4\nB,1,1,2\nB,1,2,5\nJ,2,1\n";
     const char kept[] = "R,2,3\nB,0,0,3\nB,0,3,4\nB,1,1,2\nB,1,2,5\nJ,2,1\n";
     const uint64_t bytes = sizeof routes - 1;
     uint8_t buffer[50];
     memset(buffer, OLD, sizeof buffer);
     lend_out();
-    EXPECT(arvumnao_write(source, 3, log, COUNT(log), buffer, COUNT(buffer), out, OUT) == 1);
+    EXPECT(arvumnao_write(source, 3, job_log, COUNT(job_log), buffer, COUNT(buffer), out, OUT) == 1);
     EXPECT(told(0, 0, 0, &bytes, 1));
     EXPECT(memcmp(buffer, routes, bytes) == 0 && buffer[bytes] == OLD);
-    EXPECT(arvumnao_write(source, 3, log, 27, buffer, COUNT(buffer), out, OUT) == 1);
+    EXPECT(arvumnao_write(source, 3, job_log, 27, buffer, COUNT(buffer), out, OUT) == 1);
     EXPECT(told(0, 0, 0, &bytes, 1));
     EXPECT(memcmp(buffer, kept, bytes) == 0);
-    arvumnao_write(source, 4, log, 35, buffer, COUNT(buffer), out, OUT);
+    arvumnao_write(source, 4, job_log, 35, buffer, COUNT(buffer), out, OUT);
     EXPECT(refused(5, 5, 0));
-    arvumnao_write(source, 3, log, 35, buffer, COUNT(buffer), out, OUT);
+    arvumnao_write(source, 3, job_log, 35, buffer, COUNT(buffer), out, OUT);
     EXPECT(refused(10, 27, 0));
-    arvumnao_write(source, 1, log, COUNT(log), buffer, COUNT(buffer), out, OUT);
+    arvumnao_write(source, 1, job_log, COUNT(job_log), buffer, COUNT(buffer), out, OUT);
     EXPECT(refused(10, 9, 0));
-    arvumnao_write(source, 3, log, COUNT(log), buffer, 43, out, OUT);
+    arvumnao_write(source, 3, job_log, COUNT(job_log), buffer, 43, out, OUT);
     EXPECT(refused(11, 44, 0));
     const char picture[] =
         "digraph r {\n0 -> 3 [label=\"0\"];\n3 -> 4 [label=\"0\"];\n1 -> 2 [label=\"1\"];\n2 -> 5 [label=\"1\"];\n}\n";
     const uint64_t drawn = sizeof picture - 1;
     uint8_t wide[100];
     memset(wide, OLD, sizeof wide);
-    EXPECT(arvumnao_dot(source, 3, log, COUNT(log), wide, COUNT(wide), out, OUT) == 1);
+    EXPECT(arvumnao_dot(source, 3, job_log, COUNT(job_log), wide, COUNT(wide), out, OUT) == 1);
     EXPECT(told(0, 0, 0, &drawn, 1));
     EXPECT(memcmp(wide, picture, drawn) == 0 && wide[drawn] == OLD);
-    arvumnao_dot(source, 4, log, 35, wide, COUNT(wide), out, OUT);
+    arvumnao_dot(source, 4, job_log, 35, wide, COUNT(wide), out, OUT);
     EXPECT(refused(5, 5, 0));
-    arvumnao_dot(source, 3, log, 35, wide, COUNT(wide), out, OUT);
+    arvumnao_dot(source, 3, job_log, 35, wide, COUNT(wide), out, OUT);
     EXPECT(refused(10, 27, 0));
-    arvumnao_dot(source, 3, log, COUNT(log), wide, drawn - 1, out, OUT);
+    arvumnao_dot(source, 3, job_log, COUNT(job_log), wide, drawn - 1, out, OUT);
     EXPECT(refused(11, drawn, 0));
+}
+
+/* Job B's block with capacities of its own, and one entry more than there are counts. */
+static const uint8_t kind_used[] = { 0, 0, 4, 5, 1, 1 }, capacity_used[] = { 2, 3, 1, 4, 5, 6 };
+static const uint32_t first_edge_used[] = { 0, 2, 3, 5, 6, 6, 6 };
+static const uint16_t edge_target_used[] = { 2, 3, 2, 4, 5, 4 };
+static uint64_t uses[ARVUMNAO_COUNTS + 1];
+static uint8_t uses_text[ARVUMNAO_USES_BYTES];
+
+/* Adds so many words of job B's log, with tables 1 to 4 of these lengths. */
+static uint32_t add_uses(size_t kinds, size_t capacities, size_t first_edges, size_t edge_targets, size_t counts,
+                         uint64_t logs, size_t words)
+{
+    return arvumnao_uses_add(kind_used, kinds, capacity_used, capacities, first_edge_used, first_edges, edge_target_used,
+                             edge_targets, uses, counts, logs, job_log, words, out, OUT);
+}
+
+/* Writes them into so many bytes. */
+static uint32_t write_uses(size_t kinds, size_t capacities, size_t first_edges, size_t edge_targets, size_t counts,
+                           uint64_t logs, size_t bytes)
+{
+    return arvumnao_uses_write(kind_used, kinds, capacity_used, capacities, first_edge_used, first_edges, edge_target_used,
+                               edge_targets, uses, counts, logs, uses_text, bytes, out, OUT);
+}
+
+/* Whether these are the uses of kinds 0, 1, 4 and 5, all others are 0, and the last entry is as it was. */
+static int used(uint64_t sources, uint64_t sinks, uint64_t short_wires, uint64_t long_wires)
+{
+    uint64_t expected[ARVUMNAO_COUNTS + 1];
+    memset(expected, 0, sizeof expected);
+    expected[ARVUMNAO_SOURCE] = sources;
+    expected[ARVUMNAO_SINK] = sinks;
+    expected[ARVUMNAO_WIRE(1)] = short_wires;
+    expected[ARVUMNAO_WIRE(2)] = long_wires;
+    expected[ARVUMNAO_COUNTS] = OLD;
+    return memcmp(uses, expected, sizeof uses) == 0;
+}
+
+/* The whole log of job B, in which wires 2 and 3 are used once each, then its first iteration, in which wire 2 is used twice. */
+static void count_uses(void)
+{
+    const uint64_t one = 1, two = 2;
+    const char lines[] = "U,0,4,10\nU,1,4,22\nU,2,0,0\nU,3,0,0\nU,4,3,2\nU,5,1,8\n";
+    const size_t end = sizeof lines - 1;
+    const uint64_t bytes = end + 4 * 8 + 44 * 9;
+    uses[ARVUMNAO_COUNTS] = OLD;
+    lend_out();
+    EXPECT(add_uses(6, 6, 7, 6, COUNT(uses), 0, 36) == 1 && told(0, 0, 0, &one, 1));
+    EXPECT(used(2, 2, 1, 1));
+    EXPECT(add_uses(6, 6, 7, 6, ARVUMNAO_COUNTS, 1, 18) == 1 && told(0, 0, 0, &two, 1));
+    EXPECT(used(4, 4, 3, 1));
+    memset(uses_text, OLD, sizeof uses_text);
+    EXPECT(write_uses(6, 6, 7, 6, COUNT(uses), 2, sizeof uses_text) == 1 && told(0, 0, 0, &bytes, 1));
+    EXPECT(memcmp(uses_text, lines, end) == 0 && memcmp(uses_text + bytes - 18, "U,52,0,0\nU,53,0,0\n", 18) == 0);
+    EXPECT(uses_text[bytes] == OLD);
+    EXPECT(add_uses(0, 6, 7, 6, 54, 2, 36) == 1 && refused(ARVUMNAO_BAD_TABLE, 1, 0));
+    EXPECT(add_uses(6, 5, 7, 6, 54, 2, 36) == 1 && refused(5, 2, 0));
+    EXPECT(add_uses(6, 6, 6, 6, 54, 2, 36) == 1 && refused(5, 3, 0));
+    EXPECT(add_uses(6, 6, 7, 5, 54, 2, 36) == 1 && refused(5, 3, 0));
+    EXPECT(add_uses(6, 6, 7, 6, 54, 65536, 35) == 1 && refused(ARVUMNAO_BAD_NUMBER, 54, 0));
+    EXPECT(add_uses(6, 6, 7, 6, 54, 0, 35) == 1 && refused(13, 0, 0));
+    EXPECT(add_uses(6, 6, 7, 6, 54, 65535, 35) == 1 && refused(ARVUMNAO_BAD_RECORD, 27, 0));
+    EXPECT(add_uses(6, 6, 7, 6, 54, 65535, 0) == 1 && refused(10, 0, 0));
+    EXPECT(add_uses(6, 6, 7, 6, 54, 65535, 36) == 1 && refused(ARVUMNAO_COUNTS_FULL, ARVUMNAO_LOGS_MOST, 0));
+    EXPECT(write_uses(0, 6, 7, 6, 54, 2, 0) == 1 && refused(5, 1, 0));
+    EXPECT(write_uses(6, 5, 7, 6, 54, 2, 0) == 1 && refused(5, 2, 0));
+    EXPECT(write_uses(6, 6, 6, 6, 54, 2, 0) == 1 && refused(5, 3, 0));
+    EXPECT(write_uses(6, 6, 7, 6, 54, 65536, 0) == 1 && refused(13, 54, 0));
+    EXPECT(write_uses(6, 6, 7, 6, 54, 2, bytes - 1) == 1 && refused(ARVUMNAO_SHORT_BUFFER, bytes, 0));
+    EXPECT(used(4, 4, 3, 1));
+    /* 512 uses a log of the one node of kind 5 are as many as there can be */
+    uses[ARVUMNAO_WIRE(2)] = 1024;
+    EXPECT(add_uses(6, 6, 7, 6, 54, 2, 35) == 1 && refused(10, 27, 0));
+    uses[ARVUMNAO_WIRE(2)] = 1025;
+    EXPECT(add_uses(6, 6, 7, 6, 54, 2, 35) == 1 && refused(13, 5, 0));
+    EXPECT(write_uses(6, 6, 7, 6, 54, 2, 0) == 1 && refused(13, 5, 0));
+    lend_out();
+    EXPECT(add_uses(6, 6, 7, 6, 53, 2, 36) == 0 && out[0] == OLD && out[15] == OLD);
+    EXPECT(write_uses(6, 6, 7, 6, 53, 2, sizeof uses_text) == 0 && out[0] == OLD && out[15] == OLD);
+    EXPECT(used(4, 4, 3, 1025));
 }
 
 int main(void)
@@ -317,5 +399,6 @@ int main(void)
     terms();
     read_text();
     write_routes();
+    count_uses();
     return faults != 0;
 }

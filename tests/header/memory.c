@@ -23,7 +23,7 @@ static uint8_t text[BYTES], kind[NODES], capacity[NODES], routes[16 * BYTES], in
 static uint32_t first_edge[NODES + 1], first_sink[NETS + 1], log_words[LOG], history[NODES];
 static uint16_t edge_target[EDGES], source[NETS], sink[SINKS], others[NODES];
 static const uint32_t terms[] = {1, ARVUMNAO_PLAIN_TUNING, ARVUMNAO_RULE_CROWDED};
-static uint64_t work[ARVUMNAO_WORK(NODES)], out[ARVUMNAO_OUT];
+static uint64_t work[ARVUMNAO_WORK(NODES)], counts[ARVUMNAO_COUNTS], out[ARVUMNAO_OUT];
 static size_t bytes, words;
 
 /* Each node has switches to the next few; 512 sources, then 512 sinks, then wires; every source has 8 of the sinks. */
@@ -65,6 +65,18 @@ static void call_write(void)
 static void call_dot(void)
 {
     arvumnao_dot(source, NETS, log_words, words, routes, sizeof routes, out, ARVUMNAO_OUT);
+}
+
+static void call_uses_add(void)
+{
+    arvumnao_uses_add(kind, NODES, capacity, NODES, first_edge, NODES + 1, edge_target, EDGES, counts, ARVUMNAO_COUNTS, 0,
+                      log_words, words, out, ARVUMNAO_OUT);
+}
+
+static void call_uses_write(void)
+{
+    arvumnao_uses_write(kind, NODES, capacity, NODES, first_edge, NODES + 1, edge_target, EDGES, counts, ARVUMNAO_COUNTS, 1,
+                        routes, sizeof routes, out, ARVUMNAO_OUT);
 }
 
 static void call_search(void)
@@ -115,7 +127,7 @@ static void measure(const char *name, void (*call)(void), uint64_t refusal)
     while (stack[unused] == PAINT)
         unused++;
     size_t used = (size_t)(run.top - (uintptr_t)(stack + unused));
-    printf("%-6s %6zu bytes of stack\n", name, used);
+    printf("%-10s %6zu bytes of stack\n", name, used);
     expect("within ARVUMNAO_STACK", used <= ARVUMNAO_STACK);
     expect("the answer", out[0] == refusal);
     pthread_attr_destroy(&attributes);
@@ -138,6 +150,10 @@ static void empty(void)
     expect("write of nothing", out[0] == ARVUMNAO_BAD_TABLE && out[1] == 5);
     arvumnao_write(source, 1, NULL, 0, NULL, 0, out, ARVUMNAO_OUT);
     expect("write of an empty log", out[0] == ARVUMNAO_BAD_RECORD && out[1] == 0);
+    arvumnao_uses_add(NULL, 0, NULL, 0, NULL, 0, NULL, 0, counts, ARVUMNAO_COUNTS, 0, NULL, 0, out, ARVUMNAO_OUT);
+    expect("uses of nothing", out[0] == ARVUMNAO_BAD_TABLE && out[1] == 1);
+    expect("uses without counts", arvumnao_uses_add(NULL, 0, NULL, 0, NULL, 0, NULL, 0, NULL, 0, 0, NULL, 0, out, ARVUMNAO_OUT) == 0
+           && arvumnao_uses_write(NULL, 0, NULL, 0, NULL, 0, NULL, 0, NULL, 0, 0, NULL, 0, out, ARVUMNAO_OUT) == 0);
     expect("price without out", arvumnao_price(0, 0, 0, 1, 1, NULL, 0) == 0);
     expect("write without out", arvumnao_write(NULL, 0, NULL, 0, NULL, 0, NULL, 0) == 0);
 }
@@ -154,6 +170,9 @@ int main(void)
     words = (size_t)out[5];
     measure("write", call_write, 0);
     measure("dot", call_dot, 0);
+    measure("uses_add", call_uses_add, 0);
+    measure("uses_write", call_uses_write, 0);
+    expect("text within ARVUMNAO_USES_BYTES", out[ARVUMNAO_USES_WRITE_BYTES] <= ARVUMNAO_USES_BYTES);
     measure("search", call_search, 0);
     measure("price", call_price, 0);
     return 0;

@@ -1,9 +1,11 @@
 -- What each call for C leaves is what it is to leave: the laws over plain values, for a short `out` and for every answer.
 -- Assumes nothing.
-use mathlib.Core.List.{List, [], _∷_, _++_}
-use mathlib.Core.Path.{_≡_}
+use mathlib.Core.List.{List, [], _∷_, _++_, append-nil}
+use mathlib.Core.Path.{_≡_, refl, sym, _∙_, ap}
 use Prim.Native.Nat.{ℕ, _≤_, _<_}
-use lib.ListN.{length, set, drop, replicate}
+use native.Mathlib.Omega.{arith}
+use lib.ListN.{length, set, take, drop, replicate, take-append-drop}
+use lib.Seq.{length-take-le, take-all, take-at, drop-at}
 use borrow.Author.Tests.{lt-ltb, le-ltb}
 use Rattle.price.specs.Replies as p
 use Rattle.price.specs.declared.PriceAnswer.{PriceAnswer}
@@ -15,10 +17,14 @@ use Rattle.negotiation.specs.Job.{Job}
 use Rattle.negotiation.specs.Outcome.{routeRefusal, routeReplyOf, routeReply}
 use Rattle.negotiation.specs.declared.RouteAnswer.{RouteAnswer}
 use Rattle.text.specs.ReadReplies.{Tables, readRefusal, readNumbers, readReplyOf, readReply}
-use Rattle.text.specs.Routes.{WriteReply, writeRefusal, writtenBytes, writeReplyOf}
+use Rattle.text.specs.Routes.{WriteReply}
 use Rattle.text.specs.declared.ReadAnswer.{ReadAnswer}
-use Rattle.text.specs.declared.WriteAnswer.{WriteAnswer}
-use Rattle.capi.specs.Calls.{Call, callOf, outWith, priceCall, searchDone, searchCall, routeDone, routeCall, readDone, readCall, writeDone, writtenCall}
+use Rattle.uses.specs.Uses.{kindCount, countsOf, AddReply, addRefusal, addReplyOf, addReply, printReply}
+use Rattle.uses.specs.declared.AddAnswer.{AddAnswer}
+use Rattle.uses.specs.declared.AddAnswer.the-variants as a
+use Rattle.uses.proofs.UsesHold.{counts-long}
+use Rattle.capi.specs.Calls.{Call, callOf, outWith, priceCall, searchDone, searchCall, routeDone, routeCall, readDone, readCall, WriteCall, writeDone, writtenCall}
+use Rattle.capi.specs.Calls.{addDone, logsAdded, logsTold, addCall, usesCall}
 
 -- ---- numbers in `out`: stores over 16 entries of 0
 
@@ -95,8 +101,79 @@ module _ (reply : WriteReply) (buffer out : List ℕ) where
   unfolding writtenCall
   write-short h = rw (lt-ltb (length out) 16 h)
 
+  -- of every text
   pub write-called :
-      (left : List ℕ) (call : Call) (r : WriteAnswer) → 16 ≤ length out → writeReplyOf r left ≡ reply
-      → call ≡ callOf 1 (outWith (writeRefusal r) (writtenBytes r ∷ []) out) → writeDone call left ≡ writtenCall reply buffer out
+      (left : List ℕ) (call : Call) {refusal : List ℕ} {bytes : ℕ} → 16 ≤ length out → record { refusal = refusal; bytes = bytes; buffer = left } ≡ reply
+      → call ≡ callOf 1 (outWith refusal (bytes ∷ []) out) → writeDone call left ≡ writtenCall reply buffer out
   unfolding writtenCall
-  write-called left call r h answers put = rw (le-ltb (length out) 16 h, ← answers, put)
+  write-called left call h answers put = rw (le-ltb (length out) 16 h, ← answers, put)
+
+-- ---- counts of uses
+
+module _ (counts : List ℕ) {all : List ℕ} (copied : all ≡ take kindCount counts ++ drop kindCount (replicate kindCount 0)) where
+  -- the array has the entries of all kinds
+  copied-all : all ≡ take kindCount counts
+  copied-all = copied ∙ append-nil (take kindCount counts)
+
+  pub uses-written :
+      (b : Block) (logs : ℕ) (buffer : List ℕ) {reply : WriteReply} → reply ≡ printReply b (countsOf all logs) buffer
+      → reply ≡ printReply b (countsOf (take kindCount counts) logs) buffer
+  uses-written b logs buffer is = is ∙ ap (λ (xs : List ℕ). printReply b (countsOf xs logs) buffer) copied-all
+
+  -- after a log it is as long
+  module _ (long : kindCount ≤ length counts) (b : Block) (logs : ℕ) (log : List ℕ) (r : AddAnswer) {after : List ℕ} (answers : addReplyOf logs r after ≡ addReply b (countsOf all logs) log) where
+    pub after-long : length after ≡ kindCount
+    after-long =
+        ap (λ (reply : AddReply). length (reply .counts .uses)) answers
+        ∙ counts-long b (countsOf all logs) log (ap length copied-all ∙ length-take-le kindCount counts long)
+
+    -- and stands in the slice again
+    pub log-added :
+        {left : List ℕ} → left ≡ take kindCount after ++ drop kindCount counts
+        → (addReplyOf logs r (take kindCount left) ≡ addReply b (countsOf (take kindCount counts) logs) log) × (drop kindCount left ≡ drop kindCount counts)
+    log-added {left} put =
+        let size = after-long in
+        let back : left ≡ after ++ drop kindCount counts = put ∙ ap (λ (xs : List ℕ). xs ++ drop kindCount counts) (take-all kindCount after (omega arith)) in (
+          ap (addReplyOf logs r) (ap (take kindCount) back ∙ take-at after (drop kindCount counts) kindCount size)
+              ∙ answers ∙ ap (λ (xs : List ℕ). addReply b (countsOf xs logs) log) copied-all,
+          ap (drop kindCount) back ∙ drop-at after (drop kindCount counts) kindCount size,
+        )
+
+logs-told : (logs : ℕ) (r : AddAnswer) (uses : List ℕ) → logsAdded r ≡ logsTold (addReplyOf logs r uses)
+logs-told logs (a.Added n) uses = refl
+logs-told logs (a.BadTable table) uses = refl
+logs-told logs (a.BadCount kind) uses = refl
+logs-told logs (a.Unsound word) uses = refl
+logs-told logs (a.LogsFull most) uses = refl
+
+module _ (b : Block) (counts : List ℕ) (logs : ℕ) (log out : List ℕ) where
+  pub add-few : length counts < kindCount → addDone (callOf 0 out) counts ≡ addCall b counts logs log out
+  unfolding addCall
+  add-few h = rw (lt-ltb (length counts) kindCount h)
+
+  module _ (long : kindCount ≤ length counts) where
+    pub add-short : length out < 16 → addDone (callOf 0 out) counts ≡ addCall b counts logs log out
+    unfolding addCall
+    add-short h = rw (le-ltb (length counts) kindCount long, lt-ltb (length out) 16 h)
+
+    pub add-called :
+        (left : List ℕ) (call : Call) (r : AddAnswer) → 16 ≤ length out
+        → (addReplyOf logs r (take kindCount left) ≡ addReply b (countsOf (take kindCount counts) logs) log) × (drop kindCount left ≡ drop kindCount counts)
+        → call ≡ callOf 1 (outWith (addRefusal r) (logsAdded r ∷ []) out) → addDone call left ≡ addCall b counts logs log out
+    unfolding addCall
+    add-called left call r h (answers, stays) put =
+        let whole : take kindCount left ++ drop kindCount counts ≡ left =
+        ap (λ (xs : List ℕ). take kindCount left ++ xs) (sym stays) ∙ take-append-drop kindCount left in
+        rw (le-ltb (length counts) kindCount long, le-ltb (length out) 16 h, ← answers, whole, put, logs-told logs r (take kindCount left))
+
+module _ (b : Block) (counts : List ℕ) (logs : ℕ) (buffer out : List ℕ) where
+  pub uses-few : length counts < kindCount → writeDone (callOf 0 out) buffer ≡ usesCall b counts logs buffer out
+  unfolding usesCall
+  uses-few h = rw (lt-ltb (length counts) kindCount h)
+
+  -- else it is a writer's call
+  pub uses-called :
+      {done : WriteCall} → kindCount ≤ length counts → done ≡ writtenCall (printReply b (countsOf (take kindCount counts) logs) buffer) buffer out
+      → done ≡ usesCall b counts logs buffer out
+  unfolding usesCall
+  uses-called long is = rw (le-ltb (length counts) kindCount long) is

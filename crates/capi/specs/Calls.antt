@@ -2,7 +2,7 @@
 -- Assumes nothing.
 use mathlib.Core.List.{List, [], _∷_, _++_}
 use Prim.Native.Nat.{ℕ}
-use lib.Dec.{ltb}
+use lib.Dec.{leb, ltb}
 use lib.ListN.{length, getD, take, drop, replicate}
 use Rattle.price.specs.Test.{choose}
 use Rattle.price.specs.Replies as p
@@ -15,6 +15,9 @@ use Rattle.negotiation.specs.Outcome.{RouteReply, routeReply}
 use Rattle.text.specs.ReadReplies.{Tables, ReadReply, readReply}
 use Rattle.text.specs.Routes.{WriteReply, writeReply}
 use Rattle.text.specs.Dot.{dotReply}
+use Rattle.uses.specs.Uses.{kindCount, countsOf, AddReply, addReply, printReply}
+use Rattle.uses.specs.declared.AddAnswer.{AddAnswer}
+use Rattle.uses.specs.declared.AddAnswer.the-variants as a
 
 -- so many entries: those of the list, then 0
 abbrev pub padded : ℕ → List ℕ → List ℕ
@@ -33,7 +36,7 @@ pub record Call : Type 0 where
 abbrev pub callOf : ℕ → List ℕ → Call
 callOf returned out = record { returned = returned; out = out }
 
--- In each of the six a call whose `out` has fewer than 16 entries does nothing and returns 0.
+-- A call whose `out` has fewer than 16 entries does nothing and returns 0.
 
 -- price: 3 price
 abbrev pub priceCallWith : p.PriceReply → List ℕ → Call
@@ -118,3 +121,38 @@ writeCall sources log buffer out = writtenCall (writeReply sources log buffer) b
 -- dot: the same of the picture
 abbrev pub dotCall : List ℕ → List ℕ → List ℕ → List ℕ → WriteCall
 dotCall sources log buffer out = writtenCall (dotReply sources log buffer) buffer out
+
+-- Nor does one do anything whose `counts` have fewer than 54 entries. Those past 54 aren't read and stay.
+
+-- uses_add: 3 logs, with `counts` afterwards; as with every own number, 0 after a refusal
+pub record AddCall : Type 0 where
+  pub call : Call
+  pub counts : List ℕ
+
+abbrev pub addDone : Call → List ℕ → AddCall
+addDone call counts = record { call = call; counts = counts }
+
+abbrev pub logsAdded : AddAnswer → ℕ
+logsAdded (a.Added logs) = logs
+logsAdded (a.BadTable table) = 0
+logsAdded (a.BadCount kind) = 0
+logsAdded (a.Unsound word) = 0
+logsAdded (a.LogsFull most) = 0
+
+abbrev pub logsTold : AddReply → ℕ
+logsTold r = choose (leb 1 (length (r .refusal))) 0 (r .counts .logs)
+
+abbrev pub addCallWith : AddReply → List ℕ → List ℕ → AddCall
+addCallWith r counts out = addDone (callOf 1 (outWith (r .refusal) (logsTold r ∷ []) out)) (r .counts .uses ++ drop kindCount counts)
+
+unfoldable pub addCall : Block → List ℕ → ℕ → List ℕ → List ℕ → AddCall
+addCall b counts logs log out =
+    choose (ltb (length counts) kindCount) (addDone (callOf 0 out) counts)
+    (choose (ltb (length out) 16) (addDone (callOf 0 out) counts)
+    (addCallWith (addReply b (countsOf (take kindCount counts) logs) log) counts out))
+
+-- uses_write: 3 bytes
+unfoldable pub usesCall : Block → List ℕ → ℕ → List ℕ → List ℕ → WriteCall
+usesCall b counts logs buffer out =
+    choose (ltb (length counts) kindCount) (writeDone (callOf 0 out) buffer)
+    (writtenCall (printReply b (countsOf (take kindCount counts) logs) buffer) buffer out)

@@ -7,14 +7,17 @@ ghost use Rattle.negotiation.specs.Job.{jobOf};
 ghost use Rattle.text.specs.ReadReplies.{tablesOf};
 ghost use Rattle.capi.specs.Calls.{callOf, priceCall, searchDone, searchCall};
 ghost use Rattle.capi.specs.Calls.{termsOf, routeDone, routeCall, readDone, readCall, writeDone, writtenCall, writeCall, dotCall};
+ghost use Rattle.capi.specs.Calls.{addDone, addCall, usesCall};
 ghost use Rattle.text.specs.Dot.{styleReply};
 
+mod counts;
 mod out;
 
 use negotiation::Terms;
 use out::OUT_ENTRIES;
 use price::Tuning;
 use text::Style;
+use uses::KINDS;
 
 // The price of a node.
 #[no_mangle]
@@ -215,4 +218,66 @@ pub extern "C" fn arvumnao_dot(
       ⌜ done ≡ dotCall (now (source .entry)) (now (log .entry)) (now (buffer .entry)) (now (out .entry)) ⌝ }
 {
     write_style(Style::Picture, source, log, buffer, out)
+}
+
+// Adds a log to counts of uses.
+#[no_mangle]
+pub extern "C" fn arvumnao_uses_add(
+    kind: &[u8],
+    capacity: &[u8],
+    first_edge: &[u32],
+    edge_target: &[u16],
+    counts: &mut [u64],
+    logs: u64,
+    log: &[u32],
+    out: &mut [u64],
+) -> u32
+    ensures { λ r. do
+      let block = blockOf (now (kind .entry)) (now (capacity .entry)) (now («first_edge» .entry)) (now («edge_target» .entry))
+      ⌜ addDone (callOf r (now (out .exit))) (now (counts .exit))
+          ≡ addCall block (now (counts .entry)) logs (now (log .entry)) (now (out .entry)) ⌝ }
+{
+    if counts.len() < KINDS {
+        return 0;
+    }
+    if out.len() < OUT_ENTRIES {
+        return 0;
+    }
+    let answer = counts::add_log(kind, capacity, first_edge, edge_target, counts, logs, log);
+    out::put_added(answer, out)
+}
+
+// Writes the text of counts of uses.
+#[no_mangle]
+pub extern "C" fn arvumnao_uses_write(
+    kind: &[u8],
+    capacity: &[u8],
+    first_edge: &[u32],
+    edge_target: &[u16],
+    counts: &[u64],
+    logs: u64,
+    buffer: &mut [u8],
+    out: &mut [u64],
+) -> u32
+    ensures { λ r. do
+      let block = blockOf (now (kind .entry)) (now (capacity .entry)) (now («first_edge» .entry)) (now («edge_target» .entry))
+      ⌜ writeDone (callOf r (now (out .exit))) (now (buffer .exit))
+          ≡ usesCall block (now (counts .entry)) logs (now (buffer .entry)) (now (out .entry)) ⌝ }
+{
+    if counts.len() < KINDS {
+        return 0;
+    }
+    if out.len() < OUT_ENTRIES {
+        return 0;
+    }
+    let answer = counts::write_uses(
+        kind,
+        capacity,
+        first_edge,
+        edge_target,
+        counts,
+        logs,
+        buffer,
+    );
+    out::put_printed(answer, out)
 }

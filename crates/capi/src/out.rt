@@ -8,7 +8,8 @@ ghost use Rattle.search.specs.Replies.{searchRefusal};
 ghost use Rattle.negotiation.specs.Outcome.{routeRefusal};
 ghost use Rattle.text.specs.ReadReplies.{termsNumbers, readRefusal, readNumbers};
 ghost use Rattle.text.specs.Routes.{writeRefusal, writtenBytes};
-ghost use Rattle.capi.specs.Calls.{callOf, outWith};
+ghost use Rattle.uses.specs.Uses.{addRefusal, printRefusal, printedBytes};
+ghost use Rattle.capi.specs.Calls.{callOf, outWith, logsAdded};
 use negotiation::Outcome;
 use negotiation::RouteAnswer;
 use negotiation::Terms;
@@ -16,6 +17,8 @@ use price::PriceAnswer;
 use search::SearchAnswer;
 use text::ReadAnswer;
 use text::WriteAnswer;
+use uses::AddAnswer;
+use uses::PrintAnswer;
 
 // The entries of `out` that a call writes.
 pub const OUT_ENTRIES: usize = 16;
@@ -161,5 +164,36 @@ pub fn put_written(answer: WriteAnswer, out: &mut [u64]) -> u32
         WriteAnswer::BadTable(table) => put_numbers(out, 5, table as u64, 0, 0, 0, 0),
         WriteAnswer::Unsound(word) => put_numbers(out, 10, word as u64, 0, 0, 0, 0),
         WriteAnswer::ShortBuffer(needed) => put_numbers(out, 11, needed, 0, 0, 0, 0),
+    }
+}
+
+// Writes the numbers of an adding.
+pub fn put_added(answer: AddAnswer, out: &mut [u64]) -> u32
+    requires { ⌜ 16 ≤ length (now out) ⌝ }
+    ensures { λ r. do
+      let after = outWith (addRefusal answer) (logsAdded answer ∷ []) (now (out .entry))
+      ⌜ callOf r (now (out .exit)) ≡ callOf 1 after ⌝ }
+{
+    match answer {
+        AddAnswer::Added(logs) => put_numbers(out, 0, 0, 0, logs, 0, 0),
+        AddAnswer::BadTable(table) => put_numbers(out, 5, table as u64, 0, 0, 0, 0),
+        AddAnswer::BadCount(kind) => put_numbers(out, 13, kind as u64, 0, 0, 0, 0),
+        AddAnswer::Unsound(word) => put_numbers(out, 10, word as u64, 0, 0, 0, 0),
+        AddAnswer::LogsFull(most) => put_numbers(out, 16, most, 0, 0, 0, 0),
+    }
+}
+
+// Writes the numbers of a printing.
+pub fn put_printed(answer: PrintAnswer, out: &mut [u64]) -> u32
+    requires { ⌜ 16 ≤ length (now out) ⌝ }
+    ensures { λ r. do
+      let after = outWith (printRefusal answer) (printedBytes answer ∷ []) (now (out .entry))
+      ⌜ callOf r (now (out .exit)) ≡ callOf 1 after ⌝ }
+{
+    match answer {
+        PrintAnswer::Written(bytes) => put_numbers(out, 0, 0, 0, bytes as u64, 0, 0),
+        PrintAnswer::BadTable(table) => put_numbers(out, 5, table as u64, 0, 0, 0, 0),
+        PrintAnswer::BadCount(kind) => put_numbers(out, 13, kind as u64, 0, 0, 0, 0),
+        PrintAnswer::ShortBuffer(needed) => put_numbers(out, 11, needed, 0, 0, 0, 0),
     }
 }

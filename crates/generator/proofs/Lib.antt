@@ -1,5 +1,4 @@
 pub mod DrawLaws
-pub mod JoinLaws
 pub mod NodeLaws
 pub mod TargetLaws
 pub mod RowLaws

@@ -4,7 +4,6 @@ use mathlib.Core.Bool.{true}
 use mathlib.Core.List.{List, [], _∷_, _++_, append-nil}
 use mathlib.Core.Path.{_≡_, sym, _∙_, ap, subst}
 use Prim.Native.Nat.{ℕ, zero, suc, _+_, _*_, _^_, _≤_, _<_}
-use native.Mathlib.Nat.{suc-mul}
 use native.Mathlib.Omega.{arith}
 use lib.Dec.{ltb}
 use lib.ListN.{length, getD, length-append, getD-replicate}
@@ -20,10 +19,10 @@ use Rattle.text.specs.WriteSteps.{Put}
 use Rattle.text.specs.LineReplies.{placeTold, lineReply}
 use Rattle.text.proofs.DecimalLaws.{digits-enough, digits-few, two-size, three-size}
 use Rattle.text.proofs.LineReplyLaws.{line-put}
+use Rattle.text.proofs.JoiningLaws.{joined-alike, joined-size, part-first, part-rest, part-both}
 use Rattle.generator.specs.Draws.{stateAfter}
 use Rattle.generator.specs.Load.{loadKind, rowsFrom, netsFrom, loadRow, loadRows, loadSource, loadSink, loadJob, loadText}
 use Rattle.generator.specs.Steps.{nodeLine, rowLines, netLines}
-use Rattle.generator.proofs.JoinLaws.{joined-alike, part-first, part-rest, part-both}
 use Rattle.generator.proofs.NodeLaws.{kind-most}
 use Rattle.generator.proofs.RowLaws.{row-few, rows-few}
 use Rattle.generator.proofs.LoadLaws.{node-count, net-count, row-is, row-sound, source-is, sinks-are, source-low, sink-low}
@@ -133,13 +132,6 @@ three-digits n l = digits-most 3 n (omega arith) (omega arith) (omega arith)
 four-size : (letter a b c d : ℕ) → length (printLine letter (a ∷ b ∷ c ∷ d ∷ [])) ≡ length (decimal a) + length (decimal b) + length (decimal c) + length (decimal d) + 6
 unfolding printLine printFields
 four-size letter a b c d = simp length-append (omega arith)
-
-joined-size : (f : ℕ → List ℕ) (m a k : ℕ) → ((i : ℕ) → i < a + k → length (f i) ≤ m) → length (joined f a k) ≤ k * m
-unfolding joined
-joined-size f m a zero h = omega arith
-joined-size f m a (suc k) h =
-    rw (length-append (f a) (joined f (suc a) k))
-    (omega (arith, h a (omega arith), joined-size f m (suc a) k (λ i l. h i (omega arith)), suc-mul k m))
 
 each-size : (letter i : ℕ) (xs : List ℕ) → i < 1000 → every (λ x. ltb x 1000) xs ≡ true → length (eachLine letter i xs) ≤ 10 * length xs
 unfolding eachLine every

@@ -13,7 +13,7 @@ use Rattle.text.specs.WriteSteps.{Put}
 use Rattle.generator.specs.Load.{quarter, loadKind}
 use Rattle.generator.specs.Steps.{nodeLine, wireKind}
 use Rattle.generator.proofs.DrawLaws.{draw-below}
-use Rattle.generator.proofs.JoinLaws.{joined-append, joined-alike, part-first, part-rest, part-both}
+use Rattle.text.proofs.JoiningLaws.{joined-append, joined-alike, part-first, part-rest, part-both}
 
 module _ (seed n : ℕ) where
   pub kind-source : (v : ℕ) → v < quarter n → loadKind seed n v ≡ 0

@@ -72,6 +72,7 @@ pub use pins::sink_kind;
 pub use pins::source_kind;
 use price::Tuning;
 use reach::Reach;
+pub use tables::faulty_block;
 pub use tables::sources_sound;
 
 // The answer of a call that is refused before any turn.

@@ -172,7 +172,7 @@ fn faulty_nets(kind: &[u8], source: &[u16], first_sink: &[u32], sink: &[u16], te
 
 // The lowest of tables 1 to 4 that breaks its rule, 0 where none does: the cheapest path tests them first, and a work slice of one entry is
 // too short for any job.
-fn faulty_block(kind: &[u8], capacity: &[u8], first_edge: &[u32], edge_target: &[u16]) -> u32
+pub fn faulty_block(kind: &[u8], capacity: &[u8], first_edge: &[u32], edge_target: &[u16]) -> u32
     ensures { λ r. do
       let block = blockOf (now (kind .entry)) (now (capacity .entry)) (now («first_edge» .entry)) (now («edge_target» .entry))
       ⌜ r ≡ faultyTable block ⌝ }

@@ -30,7 +30,7 @@ pub record Rest (log : List ℕ) (at : ℕ) : Type 0 where
   pub last : ℕ
   pub all-sound : soundAfter named last (drop at log) ≡ length (drop at log)
 
-rest-none : (log : List ℕ) → AllSound log → Rest log 0
+unfoldable pub rest-none : (log : List ℕ) → AllSound log → Rest log 0
 unfolding soundWords
 rest-none log e = record { within = omega arith; named = e .named; last = 0; all-sound = e .all-sound }
 

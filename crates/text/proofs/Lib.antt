@@ -5,7 +5,7 @@
 --     BranchHolds       the branches of any sound log's routes are those of its nets' final trees
 --     ListedHolds       the B lines list exactly the path steps of each net's latest records, the J lines the nets joined into another
 --     PictureHolds      the picture and the routes text of a sound log list the same branches, and each text determines its list
---     SamplesHold       a record with a node at the bound of nodes is unsound, computed
+--     SamplesHold       a record with a node at the bound of nodes is unsound, and a small log's users, computed
 -- A line at a place of the text, for the functions that read it:
 --     FieldLaws         a byte, a number, a field, the fields of a line
 --     SideLaws          two clauses of a contract in a walk by hand
@@ -42,10 +42,13 @@
 --     StepListLaws      path steps of the latest records as a list
 --     JoinListLaws      joined nets as a list
 --     PlacedLaws        bytes placed in a buffer
+--     JoiningLaws       texts one after the other in a buffer
 --     DotLaws           the line of a branch in a picture
 --     StepTextLaws      the lines of one path
 --     BranchLaws        the lines of a net's records, and of the nets in order
 --     LatestLaws        where the latest records of each net stand
+--     UserLaws          how many nets have each node, counted with stamps
+--     UserReplyLaws     what counting them answers and leaves
 --     JoinTextLaws      the marks of first nets, and the J lines
 --     RouteTextLaws     the parts of either text, and the writer's answers
 --     RouteLineLaws     B and J lines read again
@@ -76,6 +79,7 @@ pub mod FirstPlaceLaws
 pub mod EdgeRisingLaws
 pub mod EdgeTextLaws
 pub mod NetTextLaws
+pub mod JoiningLaws
 pub mod NetReadLaws
 pub mod NetPrintLaws
 pub mod RecordTestLaws
@@ -95,4 +99,6 @@ pub mod JoinListLaws
 pub mod ListedHolds
 pub mod PictureHolds
 pub mod TextHolds
+pub mod UserLaws
+pub mod UserReplyLaws
 pub mod SamplesHold

@@ -16,7 +16,8 @@ use Rattle.price.specs.Bounds.{nodesMost}
 use Rattle.negotiation.specs.Tables.{netsMost}
 use Rattle.negotiation.specs.Records.{Record, recordOf, decodeUpTo, decode}
 use Rattle.text.specs.Routes.{Named, pathIn, recordSound, soundUpTo, soundWords, logSound, lastIteration}
-use Rattle.text.specs.WriteSteps.{sound, unsound, logChecked, Found}
+use Rattle.text.specs.Users.{sound, unsound, logChecked}
+use Rattle.text.specs.WriteSteps.{Found}
 use Rattle.text.proofs.RecordTestLaws.{recordLength, sound-most, sound-fits}
 
 -- ---- sound words, record by record

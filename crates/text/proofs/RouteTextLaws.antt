@@ -18,7 +18,8 @@ use Rattle.negotiation.specs.Join.{leads}
 use Rattle.negotiation.proofs.JobLaws.{sources-few}
 use Rattle.text.specs.Routes.{Named, netWritable, writable, routeBranches, lastIteration, routesText, capped, notWritten, textReply, testedReply}
 use Rattle.text.specs.Dot.{dotText, styleText, textIn}
-use Rattle.text.specs.WriteSteps.{Put, Filled, headText, tailText, netMarked, namedBy, sound, unsound, logChecked, Found}
+use Rattle.text.specs.Users.{sound, unsound, logChecked}
+use Rattle.text.specs.WriteSteps.{Put, Filled, headText, tailText, netMarked, namedBy, Found}
 use Rattle.text.specs.declared.Style.{Style}
 use Rattle.text.specs.declared.Style.the-variants as s
 use Rattle.text.specs.ReadReplies.{writtenOver}

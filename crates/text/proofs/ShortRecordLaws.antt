@@ -29,10 +29,10 @@ use Rattle.text.proofs.RouteLineLaws.{branchFields, Printable}
 -- a record that names what it may
 pub record Short (named : Named) (r : Record) : Type 0 where
   pub net-passes : named .net (r .net) ≡ true
-  nodes-below : every (λ v. ltb v (named .nodes)) (r .path) ≡ true
+  pub nodes-below : every (λ v. ltb v (named .nodes)) (r .path) ≡ true
 
 module _ (named : Named) (last : ℕ) (ws : List ℕ) (e : recordSound named last ws ≡ true) where
-  first-short : Short named (firstRecord ws)
+  pub first-short : Short named (firstRecord ws)
   unfolding pathSound
   first-short =
       record {

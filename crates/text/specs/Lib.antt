@@ -10,4 +10,6 @@ pub mod Listed
 pub mod Pictured
 pub mod ReadSteps
 pub mod WriteSteps
+pub mod Users
+pub mod UserSteps
 pub mod LineReplies

@@ -6,17 +6,14 @@ use mathlib.Core.Path.{_≡_}
 use Prim.Native.Nat.{ℕ, _+_, _-_, _^_, _≤_, _<_}
 use lib.Dec.{eqb}
 use lib.ListN.{length, getD, take, drop}
-use Rattle.price.specs.Test.{choose}
 use Rattle.price.specs.Bounds.{nodesMost}
 use Rattle.negotiation.specs.Tables.{netsMost}
 use Rattle.negotiation.specs.Records.{Record, decode}
 use Rattle.text.specs.Lines.{letterR, printLine}
-use Rattle.text.specs.Routes.{Named, logSound, soundWords, lastIteration, passing, finalRecords, routeJoins, joinText, capped}
+use Rattle.text.specs.Routes.{Named, soundWords, lastIteration, passing, finalRecords, routeJoins, joinText, capped}
 use Rattle.text.specs.Dot.{dotHead, dotEnd}
 use Rattle.text.specs.declared.Style.{Style}
 use Rattle.text.specs.declared.Style.the-variants as s
-use Rattle.text.specs.declared.log_check.LogCheck.{LogCheck}
-use Rattle.text.specs.declared.log_check.LogCheck.the-variants as k
 
 -- the buffer with these bytes from a place on
 unfoldable pub placed : ℕ → List ℕ → List ℕ → List ℕ
@@ -51,19 +48,6 @@ netMarked marks i = eqb (getD marks i 0) 1
 -- what a log may name by marks of nets and a bound of nodes
 abbrev pub namedBy : List ℕ → ℕ → Named
 namedBy marks nodes = record { net = netMarked marks; nodes = nodes }
-
--- what a test of a log finds: the last iteration and the turns of a sound one, or the first word of the first unsound record
-pub data Checked : Type 0 where
-  sound : (iteration turns : ℕ) → Checked
-  unsound : (word : ℕ) → Checked
-
-unfoldable pub logChecked : Named → List ℕ → Checked
-logChecked named ws =
-    choose (logSound named ws) (sound (lastIteration (decode ws)) (length (decode ws))) (unsound (soundWords named ws))
-
-abbrev pub checkedAt : LogCheck → Checked
-checkedAt (k.Sound iteration turns) = sound iteration turns
-checkedAt (k.Unsound word) = unsound word
 
 -- every word is one of a sound record, which may name some of the nets below 512 and of the nodes below 4,096
 pub record AllSound (log : List ℕ) : Type 0 where

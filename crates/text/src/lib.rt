@@ -66,12 +66,14 @@ mod printing;
 mod reader;
 mod rule;
 mod tuning;
+mod users;
 
 pub use fields::byte_is;
-use log_check::LogCheck;
+pub use log_check::LogCheck;
 use negotiation::Terms;
 pub use printing::print_line;
 use reader::JobLines;
+pub use users::node_users;
 
 // The lowest table that is shorter than the job needs, 0 where each is long enough.
 fn short_table(

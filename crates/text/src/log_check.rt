@@ -5,9 +5,11 @@ ghost use lib.Dec.{ltb};
 ghost use lib.ListN.{length, take, drop};
 ghost use Rattle.price.specs.Lists.{every};
 ghost use Rattle.text.specs.Routes.{pathSound, recordSound};
-ghost use Rattle.text.specs.WriteSteps.{netMarked, namedBy, logChecked, checkedAt};
+ghost use Rattle.text.specs.Users.{logChecked, checkedAt};
+ghost use Rattle.text.specs.WriteSteps.{netMarked, namedBy};
 use crate::bounds;
 
+// What the test of a log answers.
 pub enum LogCheck {
     // The last record's iteration, and how many records there are.
     Sound { iteration: u32, turns: usize },

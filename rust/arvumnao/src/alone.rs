@@ -1,8 +1,8 @@
 //! Price and search called alone.
 
 use crate::job::Block;
-use crate::refusal::{Refusal, TableFault};
-use crate::{out, raw, Job};
+use crate::refusal::Refusal;
+use crate::{out, raw};
 
 /// What the price of a node depends on.
 ///
@@ -108,10 +108,7 @@ impl Block {
         });
         match *raw::refusal(&told) {
             [] => {}
-            [5, table] => {
-                let job = Job { block: self.clone(), ..Job::default() };
-                return Err(Refusal::Table(TableFault::find(&job, table as u32)));
-            }
+            [5, table] => return Err(self.faulty(table)),
             [13, place] => return Err(self.bad_number(start, place)),
             ref numbers => return Err(Refusal::unexpected(numbers)),
         }

@@ -122,6 +122,12 @@ impl Block {
         self.edge_target.extend(targets);
         self.first_edge.push(self.edge_target.len() as u32);
     }
+
+    /// The refusal of one of its tables.
+    pub(crate) fn faulty(&self, table: u64) -> Refusal {
+        let job = Job { block: self.clone(), ..Job::default() };
+        Refusal::Table(TableFault::find(&job, table as u32))
+    }
 }
 
 impl Default for Nets {

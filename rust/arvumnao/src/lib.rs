@@ -55,11 +55,13 @@ mod log;
 pub mod raw;
 mod refusal;
 mod table;
+mod uses;
 
 pub use alone::{Congestion, Use};
 pub use job::{Answer, Block, Job, Nets, Terms, EDGES, NETS, NODES, SINKS};
 pub use log::{Log, Record, Records};
 pub use refusal::{LineFault, Refusal, TableFault};
+pub use uses::UseCounts;
 
 /// What a call tells in an `out` of its own.
 fn out(call: impl FnOnce(&mut [u64]) -> u32) -> [u64; raw::OUT] {

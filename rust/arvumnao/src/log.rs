@@ -121,6 +121,12 @@ fn needed(write: Writer, source: &[u16], words: &[u32]) -> Result<usize, Refusal
     }
 }
 
+impl AsRef<[u32]> for Log {
+    fn as_ref(&self) -> &[u32] {
+        &self.words
+    }
+}
+
 impl<'l> Iterator for Records<'l> {
     type Item = Record<'l>;
 

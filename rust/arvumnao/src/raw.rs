@@ -1,7 +1,7 @@
 //! The library's calls as they are: every slice is lent by the caller, `out` too, and the numbers come back in it.
 //!
 //! Each call may be lent slices of any length with anything in them. It returns 1, or 0 where `out` has fewer than [`OUT`]
-//! entries; then it has done nothing. `include/arvumnao.h` says what each call tells and leaves.
+//! entries, or counts of uses fewer than [`COUNTS`]; then it has done nothing. `include/arvumnao.h` says what each call tells and leaves.
 //!
 //! A call needs [`STACK`] bytes of stack.
 
@@ -10,6 +10,12 @@ pub const OUT: usize = 16;
 
 /// The place in `out` of a call's first own number.
 pub const OWN: usize = 3;
+
+/// The entries of counts of uses, one a kind.
+pub const COUNTS: usize = 54;
+
+/// Bytes that are enough for the text of such counts.
+pub const USES_BYTES: usize = 4_096;
 
 /// Bytes of stack that are enough for every call.
 pub const STACK: usize = 131_072;
@@ -28,8 +34,8 @@ macro_rules! call {
         call!(@ $doc $name $symbol [$($rust)* $lent: &[$entry],] [$($c)* $lent: *const $entry, _: usize,]
             [$($passed)* $lent.as_ptr(), $lent.len(),] $($rest)*);
     };
-    (@ $doc:tt $name:ident $symbol:ident [$($rust:tt)*] [$($c:tt)*] [$($passed:tt)*] $number:ident: u32, $($rest:tt)*) => {
-        call!(@ $doc $name $symbol [$($rust)* $number: u32,] [$($c)* $number: u32,] [$($passed)* $number,] $($rest)*);
+    (@ $doc:tt $name:ident $symbol:ident [$($rust:tt)*] [$($c:tt)*] [$($passed:tt)*] $number:ident: $type:ident, $($rest:tt)*) => {
+        call!(@ $doc $name $symbol [$($rust)* $number: $type,] [$($c)* $number: $type,] [$($passed)* $number,] $($rest)*);
     };
     (@ [$($doc:tt)*] $name:ident $symbol:ident [$($rust:tt)*] [$($c:tt)*] [$($passed:tt)*]) => {
         $($doc)*
@@ -109,6 +115,34 @@ call! {
 call! {
     /// Writes the picture of the same branches, in the DOT language of Graphviz. Own number: the bytes written.
     fn dot = arvumnao_dot(source: &[u16], log: &[u32], buffer: &mut [u8], out: &mut [u64],)
+}
+
+call! {
+    /// Adds a log to counts of uses. Own number: the logs that they are of afterwards.
+    fn uses_add = arvumnao_uses_add(
+        kind: &[u8],
+        capacity: &[u8],
+        first_edge: &[u32],
+        edge_target: &[u16],
+        counts: &mut [u64],
+        logs: u64,
+        log: &[u32],
+        out: &mut [u64],
+    )
+}
+
+call! {
+    /// Writes the text of such counts. Own number: the bytes written.
+    fn uses_write = arvumnao_uses_write(
+        kind: &[u8],
+        capacity: &[u8],
+        first_edge: &[u32],
+        edge_target: &[u16],
+        counts: &[u64],
+        logs: u64,
+        buffer: &mut [u8],
+        out: &mut [u64],
+    )
 }
 
 /// The refusal's numbers in `out`, as many as that refusal has; none where nothing was refused.

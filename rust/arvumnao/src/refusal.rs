@@ -49,17 +49,23 @@ pub enum Refusal {
         /// Their records.
         log: Log,
     },
-    /// 10: a stored log is empty or has an unsound record.
+    /// 10: a stored log is empty or has an unsound record, or one that is added to counts has a node that the block lacks.
     Record {
         /// The place of that record's first word.
         word: u64,
     },
-    /// 13: a number given to the price or the search is beyond its bounds.
+    /// 13: a number given to the price or the search, or one of the counts of uses, is beyond its bounds.
     Number {
-        /// Its place among the price's five numbers, or the node in the search; the node count for the search's factor.
+        /// Its place among the price's five numbers, or the node in the search; the node count for the search's factor. In counts
+        /// the kind, or 54 for the number of logs.
         place: u64,
         /// What is wrong with it.
         reason: String,
+    },
+    /// 16: counts of uses are of as many logs as they may be of.
+    CountsFull {
+        /// So many: 65,535.
+        logs: u64,
     },
     /// A refusal that the call shouldn't come to: the library is of another version than this crate.
     Unexpected(Vec<u64>),
@@ -98,6 +104,7 @@ impl Refusal {
             Refusal::Limit { iteration, over, .. } => vec![9, (*iteration).into(), (*over).into()],
             Refusal::Record { word } => vec![10, *word],
             Refusal::Number { place, .. } => vec![13, *place],
+            Refusal::CountsFull { logs } => vec![16, *logs],
             Refusal::Unexpected(numbers) => numbers.clone(),
         }
     }
@@ -171,6 +178,9 @@ impl fmt::Display for Refusal {
             Refusal::Record { word: 0 } => write!(f, "the log is empty or its first record is unsound"),
             Refusal::Record { word } => write!(f, "the log's record at word {word} is unsound"),
             Refusal::Number { reason, .. } => f.write_str(reason),
+            Refusal::CountsFull { logs } => {
+                write!(f, "the counts are of {logs} logs already, and may be of no more: begin new ones")
+            }
             Refusal::Unexpected(numbers) => {
                 write!(f, "refused by {numbers:?}: the library is not of this version")
             }

@@ -1,6 +1,6 @@
 //! Jobs that are accepted, and what a caller does with the answer.
 
-use arvumnao::{kind, raw, Job, Log, Nets, Terms};
+use arvumnao::{kind, raw, Job, Log, Nets, Terms, UseCounts};
 use std::thread;
 
 const JOB_B: &[u8] = include_bytes!("../../../examples/job_b.txt");
@@ -88,6 +88,27 @@ fn crowded_nets_alone() {
     assert_eq!(answer.log.routes(&all.nets).unwrap(), format!("R,2,6\n{branches}"));
 }
 
+/// The uses of two jobs of one block, in either order: trees 0, 3, 4 and 1, 2, 5, then 0, 2, 4 alone.
+#[test]
+fn uses_of_two_jobs() {
+    let both = Job::read(JOB_B).unwrap();
+    let mut one = both.clone();
+    one.nets = Nets::default();
+    one.nets.add(0, &[4]);
+    let logs = [&both, &one].map(|job| job.route().unwrap().log);
+    let after = |logs: [&Log; 2]| {
+        let mut counts = UseCounts::default();
+        logs.into_iter().for_each(|log| counts.add(&both.block, log).unwrap());
+        counts
+    };
+    let counts = after([&logs[0], &logs[1]]);
+    assert_eq!(counts, after([&logs[1], &logs[0]]));
+    assert_eq!((counts.logs, counts.uses.iter().sum()), (2, 9));
+    let text = counts.text(&both.block).unwrap();
+    assert!(text.starts_with("U,0,3,4\nU,1,3,4\nU,2,0,0\nU,3,0,0\nU,4,2,2\nU,5,1,2\nU,6,0,0\n"), "{text}");
+    assert_eq!(text.lines().count(), 54);
+}
+
 /// A cost of more than 32 bits is put together from its two words.
 #[test]
 fn costs_over_32_bits() {
@@ -147,6 +168,11 @@ fn raw_calls() {
     let mut out = [7; raw::OUT + 1];
     assert_eq!(raw::price(4, 0, 0, 1, 1, &mut out), 1);
     assert_eq!((out[raw::OWN], out[raw::OUT]), (2000, 7));
+    // so is a short slice of counts
+    let (mut counts, mut out) = ([7; raw::COUNTS - 1], [7; raw::OUT]);
+    assert_eq!(raw::uses_add(&[0], &[1], &[0, 0], &[], &mut counts, 1, &[], &mut out), 0);
+    assert_eq!(raw::uses_write(&[0], &[1], &[0, 0], &[], &counts, 1, &mut [], &mut out), 0);
+    assert_eq!((counts, out), ([7; raw::COUNTS - 1], [7; raw::OUT]));
 }
 
 /// A job written by hand after docs/FORMAT.md, with a P line, nets of several sinks, pins and long wires. Its routes and costs

@@ -1,7 +1,7 @@
-//! The examples in the documents: each block of a job is read and routed, and the blocks after it must be its log, its routes text or its
-//! refusal.
+//! The examples in the documents: each block of a job is read and routed, and the blocks after it must be its log, its routes text, the
+//! first lines of its uses, or its refusal.
 
-use arvumnao::{Job, Log, Refusal};
+use arvumnao::{Job, Log, Refusal, UseCounts};
 
 /// The fenced blocks of a document: the word after the fence, and the lines.
 fn blocks(document: &str) -> Vec<(&str, String)> {
@@ -30,6 +30,15 @@ fn shown(log: &Log) -> String {
     log.records().map(record).collect()
 }
 
+/// The uses of a log alone, so many lines; the other kinds have none.
+fn uses(job: &Job, log: &Log, lines: usize) -> String {
+    let mut counts = UseCounts::default();
+    counts.add(&job.block, log).unwrap();
+    let text = counts.text(&job.block).unwrap();
+    assert!(text.lines().skip(lines).all(|line| line.ends_with(",0,0")));
+    text.split_inclusive('\n').take(lines).collect()
+}
+
 /// The refusal as the program prints it.
 fn x_line(refusal: &Refusal) -> String {
     refusal.numbers().iter().fold(String::from("X"), |line, number| format!("{line},{number}")) + "\n"
@@ -48,9 +57,12 @@ fn jobs(document: &str) -> usize {
             }
             ("log", Some(Ok((_, answer)))) => shown(&answer.log),
             ("routes", Some(Ok((job, answer)))) => answer.log.routes(&job.nets).unwrap(),
+            ("uses", Some(Ok((job, answer)))) => uses(job, &answer.log, text.lines().count()),
             ("refused", Some(Err(refusal))) => x_line(refusal),
             ("sentence", Some(Err(refusal))) => format!("{refusal}\n"),
-            ("log" | "routes" | "refused" | "sentence", _) => panic!("{text}\nis not the answer {answer:?}"),
+            ("log" | "routes" | "uses" | "refused" | "sentence", _) => {
+                panic!("{text}\nis not the answer {answer:?}")
+            }
             _ => continue,
         };
         assert_eq!(text, expected);
@@ -65,7 +77,7 @@ fn document(path: &str) -> String {
 
 #[test]
 fn format() {
-    assert_eq!(jobs(&document("docs/FORMAT.md")), 10);
+    assert_eq!(jobs(&document("docs/FORMAT.md")), 11);
 }
 
 /// The jobs shown are the files named with them.

@@ -1,6 +1,6 @@
 //! Every refusal in its numbers and its sentence.
 
-use arvumnao::{kind, Block, Congestion, Job, Log, Nets, Refusal, Terms, Use};
+use arvumnao::{kind, Block, Congestion, Job, Log, Nets, Refusal, Terms, Use, UseCounts};
 
 const JOB_B: &str = include_str!("../../../examples/job_b.txt");
 
@@ -316,4 +316,51 @@ fn numbers_called_alone() {
     );
     block.capacity[0] = 0;
     assert_eq!(block.distances(&Congestion::default()).unwrap_err().numbers(), [5, 2]);
+}
+
+/// Adding a log and printing refuse the same counts, by the same sentence.
+#[test]
+fn counts_of_uses() {
+    let Job { mut block, nets, .. } = job_b();
+    let log = job_b().route().unwrap().log;
+    let of = |logs, wires| {
+        let mut counts = UseCounts { logs, ..UseCounts::default() };
+        counts.uses[usize::from(kind::wire(2))] = wires;
+        counts
+    };
+    let added = |mut counts: UseCounts, block: &Block, log: &[u32]| {
+        let before = counts.clone();
+        let refusal = counts.add(block, log).unwrap_err();
+        assert_eq!(counts, before);
+        (refusal.numbers(), refusal.to_string())
+    };
+    let refused = |counts: UseCounts, block: &Block, place: [u64; 2], sentence: &str| {
+        let refusal = counts.text(block).unwrap_err();
+        assert_eq!((refusal.numbers(), refusal.to_string()), (place.to_vec(), String::from(sentence)));
+        assert_eq!(added(counts, block, &[]), (place.to_vec(), String::from(sentence)));
+    };
+    let sentence = "counts of 65536 logs: they may be of at most 65535";
+    refused(of(65_536, 9), &block, [13, 54], sentence);
+    let sentence = "kind 5, a wire of length 2: 1025 uses, where 2 logs have at most 1024";
+    refused(of(2, 1_025), &block, [13, 5], sentence);
+
+    let full = of(65_535, 9);
+    let sentence = "the counts are of 65535 logs already, and may be of no more: begin new ones";
+    assert_eq!(added(full.clone(), &block, log.words()), (vec![16, 65_535], String::from(sentence)));
+    let sentence = "the log's record at word 27 is unsound";
+    assert_eq!(added(full.clone(), &block, &log.words()[..35]), (vec![10, 27], String::from(sentence)));
+
+    // a block without the last node lacks the sink of the second record; the log itself is sound
+    let small = Block {
+        kind: vec![0, 0, 4, 5, 1],
+        capacity: vec![1; 5],
+        first_edge: vec![0; 6],
+        edge_target: vec![],
+    };
+    assert_eq!(added(of(1, 0), &small, log.words()).0, [10, 9]);
+    assert!(Log::from_words(log.words(), &nets).is_ok());
+
+    block.capacity[2] = 0;
+    let sentence = "table 2 (capacity): entry 2: capacity 0 is beyond 1 to 255";
+    refused(full, &block, [5, 2], sentence);
 }

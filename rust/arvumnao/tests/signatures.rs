@@ -52,6 +52,8 @@ fn numbers_agree() {
     assert_eq!(defined("ARVUMNAO_OUT"), raw::OUT);
     assert_eq!(defined("ARVUMNAO_REFUSAL_2") + 1, raw::OWN);
     assert_eq!(defined("ARVUMNAO_STACK"), raw::STACK);
+    assert_eq!(defined("ARVUMNAO_COUNTS"), raw::COUNTS);
+    assert_eq!(defined("ARVUMNAO_USES_BYTES"), raw::USES_BYTES);
     assert_eq!(defined("ARVUMNAO_NODES_MOST"), arvumnao::NODES);
     assert_eq!(defined("ARVUMNAO_EDGES_MOST"), arvumnao::EDGES);
     assert_eq!(defined("ARVUMNAO_NETS_MOST"), arvumnao::NETS);

@@ -11,8 +11,8 @@ pub struct Answer {
     pub numbers: Vec<u64>,
 }
 
-/// One call with all that is lent to it: the search has a job's graph, tables 1 to 4, the reader its seven tables. The router is lent so
-/// many of the job's terms. The writer is that of the routes text or of the picture.
+/// One call with all that is lent to it: the search and the calls about uses have a job's graph, tables 1 to 4, the reader its seven
+/// tables. The router is lent so many of the job's terms. The writer writes the routes text, or the picture.
 #[derive(Clone, Debug, PartialEq, Eq)]
 pub enum Case {
     Price { kind: u32, factor: u32, others: u32, capacity: u32, history: u32 },
@@ -20,11 +20,19 @@ pub enum Case {
     Route { job: Job, terms: usize, work: Vec<u64>, log: Vec<u32> },
     Read { text: Vec<u8>, tables: Job },
     Write { picture: bool, source: Vec<u16>, log: Vec<u32>, buffer: Vec<u8> },
+    AddUses { graph: Job, counts: Vec<u64>, logs: u64, log: Vec<u32> },
+    WriteUses { graph: Job, counts: Vec<u64>, logs: u64, buffer: Vec<u8> },
+}
+
+/// Whether the call does nothing, for its counts are too short.
+pub fn idle(case: &Case) -> bool {
+    matches!(case, Case::AddUses { counts, .. } | Case::WriteUses { counts, .. } if counts.len() < plain::KINDS)
 }
 
 /// How many own numbers a call has.
 pub fn own(case: &Case) -> usize {
     match case {
+        Case::AddUses { .. } | Case::WriteUses { .. } => usize::from(!idle(case)),
         Case::Price { .. } | Case::Write { .. } => 1,
         Case::Search { .. } => 0,
         Case::Route { .. } => 3,
@@ -85,7 +93,8 @@ macro_rules! guards {
                     $one(&mut tables.first_sink, 77);
                     $one(&mut tables.sink, 77);
                 }
-                Case::Write { buffer, .. } => $one(buffer, 77),
+                Case::Write { buffer, .. } | Case::WriteUses { buffer, .. } => $one(buffer, 77),
+                Case::AddUses { counts, .. } => $one(counts, 77),
             }
         }
     };
@@ -139,6 +148,26 @@ macro_rules! call {
             ),
             Case::Write { picture: false, source, log, buffer } => $side::write(source, log, lend(buffer) $(, $out)?),
             Case::Write { picture: true, source, log, buffer } => $side::dot(source, log, lend(buffer) $(, $out)?),
+            Case::AddUses { graph, counts, logs, log } => $side::uses_add(
+                &graph.kind,
+                &graph.capacity,
+                &graph.first_edge,
+                &graph.edge_target,
+                lend(counts),
+                *logs,
+                log,
+                $($out)?
+            ),
+            Case::WriteUses { graph, counts, logs, buffer } => $side::uses_write(
+                &graph.kind,
+                &graph.capacity,
+                &graph.first_edge,
+                &graph.edge_target,
+                counts,
+                *logs,
+                lend(buffer),
+                $($out)?
+            ),
         }
     };
 }
@@ -162,7 +191,16 @@ fn raw_call(case: &mut Case, out: &mut [u64]) -> u32 {
 #[cfg(feature = "library")]
 fn run_library(case: &mut Case) -> Answer {
     let mut out = [0xa5a5; raw::OUT];
-    assert_eq!(raw_call(case, &mut out), 1, "the library did nothing though out has {} entries", raw::OUT);
+    let returned = raw_call(case, &mut out);
+    if idle(case) {
+        assert_eq!(
+            (returned, out),
+            (0, [0xa5a5; raw::OUT]),
+            "the library did something though counts are short"
+        );
+        return Answer { refusal: Vec::new(), numbers: Vec::new() };
+    }
+    assert_eq!(returned, 1, "the library did nothing though out has {} entries", raw::OUT);
     Answer { refusal: raw::refusal(&out).to_vec(), numbers: out[raw::OWN..raw::OWN + own(case)].to_vec() }
 }
 
@@ -250,6 +288,16 @@ fn slices(case: &Case) -> Vec<(&'static str, Vec<u64>)> {
         Case::Write { source, log, buffer, .. } => {
             vec![("source", wide(source)), ("log", wide(log)), ("buffer", wide(buffer))]
         }
+        Case::AddUses { graph, counts, log, .. } => {
+            let mut list = graph_slices(graph);
+            list.extend([("counts", counts.clone()), ("log", wide(log))]);
+            list
+        }
+        Case::WriteUses { graph, counts, buffer, .. } => {
+            let mut list = graph_slices(graph);
+            list.extend([("counts", counts.clone()), ("buffer", wide(buffer))]);
+            list
+        }
     }
 }
 
@@ -299,6 +347,18 @@ fn memory(before: &Case, after: &After) -> Result<(), String> {
         {
             source == source_after && log == log_after
         }
+        (Case::AddUses { counts, .. }, Case::AddUses { counts: grown, .. })
+            if refusal == 0 && !idle(before) =>
+        {
+            counts.iter().zip(grown).all(|(count, grown)| count <= grown)
+                && counts[plain::KINDS..] == grown[plain::KINDS..]
+        }
+        (Case::WriteUses { buffer, .. }, Case::WriteUses { buffer: written, .. })
+            if refusal == 0 && !idle(before) =>
+        {
+            let bytes = after.answer.numbers[0] as usize;
+            buffer[bytes..] == written[bytes..]
+        }
         (_, case) => before == case,
     };
     if kept {
@@ -343,14 +403,15 @@ pub fn compare_out(case: &Case, length: usize) -> Result<(), String> {
     let mut expected_out: Vec<u64> = (0..length as u64).map(|place| 0xa5a5_0000_0000_0000 + place).collect();
     let mut copy = case.clone();
     let mut out = expected_out.clone();
-    if length >= raw::OUT {
+    let acts = length >= raw::OUT && !idle(case);
+    if acts {
         let answer = run_plain(&mut expected);
         expected_out[..raw::OUT].fill(0);
         expected_out[..answer.refusal.len()].copy_from_slice(&answer.refusal);
         expected_out[raw::OWN..raw::OWN + own(case)].copy_from_slice(&answer.numbers);
     }
     let returned = raw_call(&mut copy, &mut out);
-    if returned != u32::from(length >= raw::OUT) || out != expected_out || copy != expected {
+    if returned != u32::from(acts) || out != expected_out || copy != expected {
         return Err(format!(
             "with an out of {length}: returned {returned}, out {out:?}, expected {expected_out:?}, slices {}",
             if copy == expected { "equal" } else { "differ" },
@@ -369,7 +430,7 @@ pub fn compare_out(case: &Case, _length: usize) -> Result<(), String> {
 /// Wrong answers put in on purpose, to test the shrinker.
 #[cfg(not(feature = "library"))]
 pub mod inject {
-    use super::{Answer, Case};
+    use super::{idle, Answer, Case};
     use crate::logs;
     use job::Job;
     use std::sync::atomic::{AtomicU32, Ordering};
@@ -412,6 +473,14 @@ pub mod inject {
             (7, Case::Price { factor, .. }, _) if answer.refusal.is_empty() && *factor == 65_535 => {
                 answer.numbers[0] += 1;
             }
+            // a node on two paths of a net counts twice
+            (17, Case::AddUses { log, .. }, Case::AddUses { counts, .. })
+                if answer.refusal.is_empty() && !idle(before) && logs::forks(log) =>
+            {
+                counts[0] += 1;
+            }
+            // a refused log adds something
+            (18, _, Case::AddUses { counts, .. }) if answer.refusal.first() == Some(&10) => counts[53] += 1,
             (fault, _, after) => of_requests(fault, before, after, &mut answer),
         }
         answer
@@ -425,7 +494,7 @@ pub mod inject {
         (0..job.source.len()).any(|net| logs::repeats_sink(job, net))
     }
 
-    /// Faults of the tuning, the pins, joined nets and the rule.
+    /// Faults of the tuning, the pins, joined nets, the rule and the bounds of counts.
     fn of_requests(fault: u32, before: &Case, after: &Case, answer: &mut Answer) {
         match (fault, before) {
             // a step of 2 counts a turn too many
@@ -464,6 +533,8 @@ pub mod inject {
             }
             // a slice without the rule is taken for one of rule 2
             (16, Case::Route { terms: 5, .. }) if answer.numbers[0] >= 2 => answer.numbers[1] -= 1,
+            // counts of 65,536 logs are tested for their uses
+            (19, Case::WriteUses { .. }) if answer.refusal == [13, 54] => answer.refusal = vec![13, 53],
             _ => {}
         }
     }

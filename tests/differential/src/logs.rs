@@ -1,4 +1,4 @@
-//! Logs for the writer, with table 5: a job's own ones changed, and others.
+//! Stored logs, with table 5 for the writer: a job's own ones changed, and others.
 
 use job::{Job, Rng};
 
@@ -69,6 +69,26 @@ pub fn skips_iteration(log: &[u32]) -> bool {
 /// Whether in some iteration a net has a record after one of a higher net, or has two with another's between.
 pub fn interleaves(log: &[u32]) -> bool {
     turns(log).windows(2).any(|two| two[0].0 == two[1].0 && two[0].1 > two[1].1)
+}
+
+/// Whether two records of one net and iteration have a node in common.
+pub fn forks(log: &[u32]) -> bool {
+    let places = records(log);
+    let path = |place: usize| &log[places[place] + 6..places[place + 1]];
+    let turns = turns(log);
+    (0..turns.len()).any(|place| {
+        (0..place)
+            .any(|other| turns[other] == turns[place] && path(other).iter().any(|v| path(place).contains(v)))
+    })
+}
+
+/// Whether the record at the front of these words is whole, sound by 01, and has a node from a block's node count on.
+pub fn lacks(words: &[u32], nodes: usize) -> bool {
+    let &[1..=100, 0..512, sink, _, _, length @ 2..=4_096, ref rest @ ..] = words else { return false };
+    let path = rest.get(..length as usize).unwrap_or(&[]);
+    path.last() == Some(&sink)
+        && path.iter().all(|node| *node < 4_096)
+        && path.iter().any(|node| *node as usize >= nodes)
 }
 
 /// Changes a log: cut, one word damaged, records moved, another net named; or leaves it.

@@ -11,6 +11,7 @@ mod logs;
 mod outcomes;
 mod run;
 mod shrink;
+mod uses;
 #[cfg(feature = "library")]
 mod wrapper;
 

@@ -1,11 +1,11 @@
 //! The outcomes that calls come to, counted, and those that a whole run must come to.
 
-use crate::compare::{After, Case};
+use crate::compare::{idle, After, Case};
 use crate::logs;
 use job::{texts, Counts, Job, Tuning};
 
 /// Every outcome that a whole run must come to.
-const EXPECTED: [&str; 133] = [
+const EXPECTED: [&str; 173] = [
     "price accepted",
     "price 13,0",
     "price 13,1",
@@ -51,6 +51,46 @@ const EXPECTED: [&str; 133] = [
     "dot 5,5",
     "dot 10",
     "dot 11",
+    "uses_add accepted",
+    "uses_add 5,1",
+    "uses_add 5,2",
+    "uses_add 5,3",
+    "uses_add 5,4",
+    "uses_add 10",
+    "uses_add 13",
+    "uses_add 13,54",
+    "uses_add 16",
+    "uses_add with short counts",
+    "uses_write accepted",
+    "uses_write 5,1",
+    "uses_write 5,2",
+    "uses_write 5,3",
+    "uses_write 5,4",
+    "uses_write 11",
+    "uses_write 13",
+    "uses_write 13,54",
+    "uses_write with short counts",
+    "uses_add accepted, uses at their bound",
+    "uses_add 13, uses one above their bound",
+    "uses_add 13,54, 65,536 logs",
+    "uses_add 16, 65,535 logs",
+    "uses_write accepted, uses at their bound",
+    "uses_write accepted, 65,535 logs",
+    "uses_write 13, uses one above their bound",
+    "uses_write 13,54, 65,536 logs",
+    "log of rule 1 added",
+    "log of rule 2 added",
+    "log of another block added",
+    "log of another block 10",
+    "log of no job added",
+    "log of no job 10",
+    "changed log added",
+    "changed log 10",
+    "log with a tree kept added",
+    "log with a node on two paths of a net added",
+    "log with a node that the block lacks 10",
+    "log damaged word by word",
+    "run of 3 logs added in another order",
     "table 5 of the writer empty",
     "table 5 of the writer over 512",
     "table 5 of the writer with 4,096 or more",
@@ -188,14 +228,74 @@ impl Outcomes {
                     "write"
                 }
             }
+            Case::AddUses { .. } => "uses_add",
+            Case::WriteUses { .. } => "uses_write",
         };
         let outcome = match after.answer.refusal[..] {
+            [] if idle(&after.case) => format!("{call} with short counts"),
             [] => format!("{call} accepted"),
             [number @ (4 | 5), table] => format!("{call} {number},{table}"),
             [13, place] if call == "price" => format!("{call} 13,{place}"),
+            [13, 54] if call.starts_with("uses") => format!("{call} 13,54"),
             [number, ..] => format!("{call} {number}"),
         };
+        self.count_bounds(after, &outcome);
         self.count(outcome);
+    }
+
+    /// Counts which bounds of counts a call comes to.
+    fn count_bounds(&mut self, after: &After, outcome: &str) {
+        let (Case::AddUses { graph, counts, logs, .. } | Case::WriteUses { graph, counts, logs, .. }) =
+            &after.case
+        else {
+            return;
+        };
+        if idle(&after.case) {
+            return;
+        }
+        let nodes = |kind: usize| graph.kind.iter().filter(|one| **one as usize == kind).count() as u64;
+        let bound = |kind: usize| 512 * logs * nodes(kind);
+        match after.answer.refusal[..] {
+            [] if (0..54).any(|kind| bound(kind) > 0 && counts[kind] >= bound(kind)) => {
+                self.count(format!("{outcome}, uses at their bound"));
+            }
+            [13, kind @ 0..54] if counts[kind as usize] == bound(kind as usize) + 1 => {
+                self.count(format!("{outcome}, uses one above their bound"));
+            }
+            _ => {}
+        }
+        if matches!(after.answer.refusal.first(), Some(5 | 10 | 11)) {
+            return;
+        }
+        match logs {
+            65_535 => self.count(format!("{outcome}, 65,535 logs")),
+            65_536 => self.count(format!("{outcome}, 65,536 logs")),
+            _ => {}
+        }
+    }
+
+    /// Counts what becomes of a log that is added to counts.
+    pub fn count_added(&mut self, name: &str, log: &[u32], after: &After) {
+        let Case::AddUses { graph, .. } = &after.case else { return };
+        match after.answer.refusal[..] {
+            [] => {
+                self.count(format!("{name} added"));
+                let kinds = [
+                    (logs::keeps_tree(log), "a tree kept"),
+                    (logs::forks(log), "a node on two paths of a net"),
+                ];
+                for (_, kind) in kinds.into_iter().filter(|kind| kind.0) {
+                    self.count(format!("log with {kind} added"));
+                }
+            }
+            [number, word] => {
+                self.count(format!("{name} {number}"));
+                if number == 10 && logs::lacks(&log[word as usize..], graph.kind.len()) {
+                    self.count("log with a node that the block lacks 10");
+                }
+            }
+            _ => {}
+        }
     }
 
     /// Counts what few searches come to.

@@ -6,6 +6,7 @@ use crate::damage;
 use crate::lengths::{self, around};
 use crate::logs;
 use crate::outcomes::Outcomes;
+use crate::uses::{self, Counts};
 use job::{jobs, texts, Job, Rng};
 
 /// A case that fails, and how.
@@ -183,7 +184,11 @@ impl Run {
             _ => jobs::small(&mut self.rng),
         };
         self.reads(&job)?;
-        self.writes(&job)
+        self.writes(&job)?;
+        if self.rng.percent(60) {
+            self.uses(&job)?;
+        }
+        Ok(())
     }
 
     /// A text of 4,096 or 4,097 sinks, then without its last LF, and with no node as its last sink.
@@ -262,20 +267,87 @@ impl Run {
             damage::writer_source(&mut self.rng, &mut source);
         }
         let picture = self.rng.once_in(3);
-        let needed = bytes(picture, &source, &log);
+        let needed = bytes(&write(picture, &source, &log, 0));
         if needed < 200 && self.rng.once_in(100) {
             for length in 0..needed + 2 {
                 self.case(write(picture, &source, &log, length))?;
             }
         }
         for _ in 0..2 {
-            let length = match self.rng.below(6) {
-                0 => self.rng.below(needed + 1),
-                1 => needed + self.rng.below(40),
-                _ => around(&mut self.rng, needed, 2),
-            };
+            let length = self.length(needed);
             self.case(write(picture, &source, &log, length))?;
         }
+        Ok(())
+    }
+
+    /// The length of a buffer that needs so many bytes, mostly about as many.
+    fn length(&mut self, needed: usize) -> usize {
+        match self.rng.below(6) {
+            0 => self.rng.below(needed + 1),
+            1 => needed + self.rng.below(40),
+            _ => around(&mut self.rng, needed, 2),
+        }
+    }
+
+    /// Logs added to counts of the job's block one after another, and the text of these; then counts at and beyond their bounds.
+    fn uses(&mut self, job: &Job) -> Result<(), Failure> {
+        let (mut counts, mut added) = (Counts::none(), Vec::new());
+        for _ in 0..self.rng.within(1, 4) {
+            let (name, log) = uses::log(&mut self.rng, job);
+            let after = self.case(counts.add(job, &log))?;
+            self.outcomes.count_added(&name, &log, &after);
+            if counts.take(&after) {
+                added.push(log);
+            }
+        }
+        self.other_order(job, &counts, added)?;
+        self.uses_text(job, &counts)?;
+        let mut graph = job.clone();
+        if self.rng.once_in(4) {
+            damage::damage_graph(&mut self.rng, &mut graph);
+        }
+        let extreme = Counts::extreme(&mut self.rng, job);
+        let (_, log) = uses::log(&mut self.rng, job);
+        self.case(extreme.add(&graph, &log))?;
+        self.uses_text(&graph, &extreme)?;
+        self.damaged_words(job, &log)
+    }
+
+    /// The same logs in another order leave the same counts.
+    fn other_order(&mut self, job: &Job, counts: &Counts, mut added: Vec<Vec<u32>>) -> Result<(), Failure> {
+        let mut other = Counts::none();
+        self.rng.shuffle(&mut added);
+        for log in &added {
+            let after = self.case(other.add(job, log))?;
+            other.take(&after);
+        }
+        assert_eq!(&other, counts, "the order of logs matters");
+        self.outcomes.count(format!("run of {} logs added in another order", added.len()));
+        Ok(())
+    }
+
+    /// The text of counts, with buffers of lengths around what it needs.
+    fn uses_text(&mut self, graph: &Job, counts: &Counts) -> Result<(), Failure> {
+        let needed = bytes(&counts.write(graph, 0));
+        for length in [needed - 1, needed, self.length(needed)] {
+            self.case(counts.write(graph, length))?;
+        }
+        Ok(())
+    }
+
+    /// At times a short log, every word of it damaged in turn.
+    fn damaged_words(&mut self, job: &Job, log: &[u32]) -> Result<(), Failure> {
+        if log.len() > 60 || !self.rng.once_in(40) {
+            return Ok(());
+        }
+        for place in 0..log.len() {
+            for word in [log[place] ^ 1, job.kind.len() as u32, u32::MAX] {
+                let mut damaged = log.to_vec();
+                damaged[place] = word;
+                self.case(Counts::none().add(job, &damaged))?;
+            }
+        }
+        self.outcomes.count("log damaged word by word");
         Ok(())
     }
 }
@@ -291,7 +363,7 @@ fn write(picture: bool, source: &[u16], log: &[u32], length: usize) -> Case {
 }
 
 /// A job's log as the plain router writes it, a few iterations of it at most.
-fn real_log(job: &Job) -> Vec<u32> {
+pub fn real_log(job: &Job) -> Vec<u32> {
     let mut job = job.clone();
     job.limit = job.limit.min(4);
     let after = compare::plain(&route(&job, 8 * job.kind.len(), vec![0; 3_000]));
@@ -301,9 +373,9 @@ fn real_log(job: &Job) -> Vec<u32> {
     log
 }
 
-/// The bytes that a log's text needs by the plain writer, 1 for an unsound log or table 5.
-fn bytes(picture: bool, source: &[u16], log: &[u32]) -> usize {
-    let after = compare::plain(&write(picture, source, log, 0));
+/// The bytes that a text needs by the plain writer, asked with an empty buffer; 1 where the call is refused for something else.
+fn bytes(empty: &Case) -> usize {
+    let after = compare::plain(empty);
     match after.answer.refusal[..] {
         [11, needed] => needed as usize,
         _ => 1,

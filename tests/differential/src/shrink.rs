@@ -29,9 +29,9 @@ enum Step {
     Number(usize, u64),
     /// Fills the slice with this number with one value.
     Fill(usize),
-    /// Drops a record of the writer's log.
+    /// Drops a record of a stored log.
     Record(usize),
-    /// Drops the second node of a record of the writer's log.
+    /// Drops the second node of a record of a stored log.
     PathNode(usize),
 }
 
@@ -124,20 +124,22 @@ fn only_written(case: &Case, number: usize) -> bool {
         Case::Route { .. } => number >= 7,
         Case::Read { .. } => number >= 1,
         Case::Write { .. } => number >= 2,
+        Case::AddUses { .. } => false,
+        Case::WriteUses { .. } => number >= 5,
     }
 }
 
-/// Whole records of the writer's log.
+/// Whole records of a stored log.
 fn record_count(case: &Case) -> usize {
     match case {
-        Case::Write { log, .. } => crate::logs::records(log).len() - 1,
+        Case::Write { log, .. } | Case::AddUses { log, .. } => crate::logs::records(log).len() - 1,
         _ => 0,
     }
 }
 
-/// The writer's case without a record, or with one of a shorter path.
+/// A case without a record of its stored log, or with one of a shorter path.
 fn drop_from_log(case: &mut Case, step: Step) -> Option<()> {
-    let Case::Write { log, .. } = case else { return None };
+    let (Case::Write { log, .. } | Case::AddUses { log, .. }) = case else { return None };
     let places = crate::logs::records(log);
     match step {
         Step::Record(record) => {
@@ -167,7 +169,9 @@ fn lower(value: u64) -> Vec<u64> {
 /// Nodes, edges, nets and sinks of a case that has them.
 fn sizes(case: &Case) -> (usize, usize, usize, usize) {
     match case {
-        Case::Search { graph, .. } => (graph.kind.len(), graph.edge_target.len(), 0, 0),
+        Case::Search { graph, .. } | Case::AddUses { graph, .. } | Case::WriteUses { graph, .. } => {
+            (graph.kind.len(), graph.edge_target.len(), 0, 0)
+        }
         Case::Route { job, .. } => job_sizes(job),
         Case::Read { text, .. } => read_back(text).map_or((0, 0, 0, 0), |job| job_sizes(&job)),
         _ => (0, 0, 0, 0),
@@ -219,6 +223,16 @@ fn drop_parts(mut case: Case, step: Step) -> Option<Case> {
             cut(history, from, count);
             cut(others, from, count);
             cut(in_tree, from, count);
+        }
+        Case::AddUses { graph, .. } | Case::WriteUses { graph, .. } => {
+            match step {
+                Step::Nodes(from, count) => drop_nodes(graph, from, count)?,
+                Step::Edges(from, count) => drop_edges(graph, from, count)?,
+                _ => return None,
+            }
+            if let (Case::AddUses { log, .. }, Step::Nodes(from, count)) = (&mut case, step) {
+                (0..count).for_each(|_| number_log_anew(log, from));
+            }
         }
         Case::Route { terms, .. } if matches!(step, Step::Terms) => *terms = 6,
         Case::Route { job, work, .. } => {
@@ -315,9 +329,17 @@ fn drop_node(graph: &mut Job, node: usize) -> Option<()> {
 }
 
 /// Lowers the numbers above a dropped node's.
-fn number_anew(list: &mut [u16], node: usize) {
-    for entry in list.iter_mut().filter(|entry| **entry as usize > node) {
-        *entry -= 1;
+fn number_anew<T: Copy + Into<u64> + TryFrom<u64>>(list: &mut [T], node: usize) {
+    for entry in list.iter_mut().filter(|entry| wide(**entry) > node as u64) {
+        reduce(entry, wide(*entry) - 1);
+    }
+}
+
+/// The same of the sinks and paths of a stored log.
+fn number_log_anew(log: &mut [u32], node: usize) {
+    for place in crate::logs::records(log).windows(2) {
+        number_anew(&mut log[place[0] + 2..=place[0] + 2], node);
+        number_anew(&mut log[place[0] + 6..place[1]], node);
     }
 }
 
@@ -337,14 +359,23 @@ fn drop_job_nodes(job: &mut Job, from: usize, count: usize) -> Option<()> {
     Some(())
 }
 
+/// A case with a graph of this pattern.
+macro_rules! with_graph {
+    ($graph:pat) => {
+        Case::Search { graph: $graph, .. }
+            | Case::AddUses { graph: $graph, .. }
+            | Case::WriteUses { graph: $graph, .. }
+    };
+}
+
 /// Calls something with the slice of a case that has a number.
 macro_rules! with_slice {
     ($case:expr, $number:expr, $slice:ident => $body:expr) => {
         match ($case, $number) {
-            (Case::Search { graph: Job { kind: $slice, .. }, .. }, 0) => $body,
-            (Case::Search { graph: Job { capacity: $slice, .. }, .. }, 1) => $body,
-            (Case::Search { graph: Job { first_edge: $slice, .. }, .. }, 2) => $body,
-            (Case::Search { graph: Job { edge_target: $slice, .. }, .. }, 3) => $body,
+            (with_graph!(Job { kind: $slice, .. }), 0) => $body,
+            (with_graph!(Job { capacity: $slice, .. }), 1) => $body,
+            (with_graph!(Job { first_edge: $slice, .. }), 2) => $body,
+            (with_graph!(Job { edge_target: $slice, .. }), 3) => $body,
             (Case::Search { work: $slice, .. }, 4) => $body,
             (Case::Search { history: $slice, .. }, 5) => $body,
             (Case::Search { others: $slice, .. }, 6) => $body,
@@ -369,6 +400,9 @@ macro_rules! with_slice {
             (Case::Write { source: $slice, .. }, 0) => $body,
             (Case::Write { log: $slice, .. }, 1) => $body,
             (Case::Write { buffer: $slice, .. }, _) => $body,
+            (Case::AddUses { counts: $slice, .. } | Case::WriteUses { counts: $slice, .. }, 4) => $body,
+            (Case::AddUses { log: $slice, .. }, _) => $body,
+            (Case::WriteUses { buffer: $slice, .. }, _) => $body,
             (Case::Price { .. }, _) => unreachable!("the price is lent no slice"),
         }
     };
@@ -381,6 +415,7 @@ fn slice_count(case: &Case) -> usize {
         Case::Route { .. } => 9,
         Case::Read { .. } => 8,
         Case::Write { .. } => 3,
+        Case::AddUses { .. } | Case::WriteUses { .. } => 6,
     }
 }
 
@@ -431,6 +466,7 @@ fn numbers(case: &Case) -> Vec<u64> {
             [kind, factor, others, capacity, history].map(|number| u64::from(*number)).to_vec()
         }
         Case::Search { factor, .. } => vec![u64::from(*factor)],
+        Case::AddUses { logs, .. } | Case::WriteUses { logs, .. } => vec![*logs],
         Case::Route { job, .. } if job.tuning == Tuning::PLAIN => vec![u64::from(job.limit)],
         Case::Route { job, .. } => {
             [&[job.limit][..], &job.tuning.numbers()].concat().into_iter().map(u64::from).collect()
@@ -445,6 +481,7 @@ fn set_number(case: &mut Case, number: usize, value: u64) -> Option<()> {
             [kind, factor, others, capacity, history].into_iter().nth(number)?
         }
         Case::Search { factor, .. } => factor,
+        Case::AddUses { logs, .. } | Case::WriteUses { logs, .. } => return reduce(logs, value),
         Case::Route { job: Job { limit, tuning, .. }, .. } if number == 0 || *tuning == Tuning::PLAIN => {
             [limit].into_iter().nth(number)?
         }
@@ -453,11 +490,7 @@ fn set_number(case: &mut Case, number: usize, value: u64) -> Option<()> {
         }
         _ => return None,
     };
-    if value >= u64::from(*place) {
-        return None;
-    }
-    *place = value as u32;
-    Some(())
+    reduce(place, value)
 }
 
 /// A case as Rust text.
@@ -496,6 +529,22 @@ pub fn literal(case: &Case) -> String {
             ("mut sink", "u16"),
         ],
         Case::Write { .. } => &[("source", "u16"), ("log", "u32"), ("mut buffer", "u8")],
+        Case::AddUses { .. } => &[
+            ("kind", "u8"),
+            ("capacity", "u8"),
+            ("first_edge", "u32"),
+            ("edge_target", "u16"),
+            ("mut counts", "u64"),
+            ("log", "u32"),
+        ],
+        Case::WriteUses { .. } => &[
+            ("kind", "u8"),
+            ("capacity", "u8"),
+            ("first_edge", "u32"),
+            ("edge_target", "u16"),
+            ("counts", "u64"),
+            ("mut buffer", "u8"),
+        ],
     };
     let mut text = String::new();
     for (number, (name, kind)) in names.iter().enumerate() {
@@ -538,6 +587,12 @@ fn call(case: &Case) -> String {
         Case::Write { picture, .. } => {
             let name = if *picture { "dot" } else { "write" };
             format!("{name}(&source, &log, &mut buffer)")
+        }
+        Case::AddUses { logs, .. } => {
+            format!("uses_add(&kind, &capacity, &first_edge, &edge_target, &mut counts, {logs}, &log)")
+        }
+        Case::WriteUses { logs, .. } => {
+            format!("uses_write(&kind, &capacity, &first_edge, &edge_target, &counts, {logs}, &mut buffer)")
         }
     }
 }
@@ -600,6 +655,12 @@ mod tests {
         assert!(log.len() == 16);
         let Case::Route { job, terms, .. } = smallest(16) else { panic!("fault 16") };
         assert!(terms == 5 && job.limit == 2 && job.rule == 1);
+        let Case::AddUses { graph, counts, log, .. } = smallest(17) else { panic!("fault 17") };
+        assert!(graph.kind.len() <= 2 && counts == [0; 54] && log.len() == 16);
+        let Case::AddUses { graph, counts, log, .. } = smallest(18) else { panic!("fault 18") };
+        assert!(graph.kind.len() == 1 && counts == [0; 54] && log.is_empty());
+        let Case::WriteUses { graph, counts, logs, buffer } = smallest(19) else { panic!("fault 19") };
+        assert!(graph.kind.len() == 1 && counts == [0; 54] && logs == 65_536 && buffer.is_empty());
         FAULT.store(0, Ordering::Relaxed);
         assert!(first_failure().is_none());
     }

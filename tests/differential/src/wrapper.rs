@@ -1,7 +1,7 @@
 //! The wrapper's types beside the library's calls: it gives the same answers, and a reason for each refused line and table.
 
-use crate::compare::{taken, After, Answer, Case};
-use arvumnao::{Block, Congestion, LineFault, Log, Nets, Refusal, TableFault, Terms, Use};
+use crate::compare::{idle, taken, After, Answer, Case};
+use arvumnao::{Block, Congestion, LineFault, Log, Nets, Refusal, TableFault, Terms, Use, UseCounts};
 use job::Job;
 
 /// What is wrong with the wrapper's word on a call that the library has answered.
@@ -9,7 +9,10 @@ pub fn check(before: &Case, after: &After) -> Result<(), String> {
     let Answer { refusal, numbers } = &after.answer;
     let reason = match (before, &refusal[..]) {
         (Case::Read { text, .. }, &[number @ 1..=3, line]) => LineFault::find(text, number, line).reason,
-        (Case::Search { graph, .. }, &[5, table]) => TableFault::find(&typed(graph), table as u32).reason,
+        (
+            Case::Search { graph, .. } | Case::AddUses { graph, .. } | Case::WriteUses { graph, .. },
+            &[5, table],
+        ) => TableFault::find(&typed(graph), table as u32).reason,
         (Case::Route { job, terms, .. }, &[5, table]) => {
             TableFault::find(&typed(&taken(job, *terms)), table as u32).reason
         }
@@ -25,7 +28,7 @@ pub fn check(before: &Case, after: &After) -> Result<(), String> {
 
 /// Whether the wrapper answers the same; nothing where it lends more than the case does.
 fn same(before: &Case, after: &Case, refusal: &[u64], numbers: &[u64]) -> Option<bool> {
-    if matches!(refusal.first(), Some(4 | 6 | 11)) {
+    if matches!(refusal.first(), Some(4 | 6 | 11)) || idle(before) {
         return None;
     }
     let accepted = |given: Vec<u64>| (refusal.to_vec(), if refusal.is_empty() { given } else { Vec::new() });
@@ -53,10 +56,31 @@ fn same(before: &Case, after: &Case, refusal: &[u64], numbers: &[u64]) -> Option
             let write = if *picture { Log::picture } else { Log::routes };
             let routes = Log::from_words(log, &nets).and_then(|log| write(&log, &nets));
             let bytes = buffer.iter().take(numbers[0] as usize).copied().map(u64::from);
-            told(routes.map(|text| text.bytes().map(u64::from).collect())) == accepted(bytes.collect())
+            told(routes.map(wide)) == accepted(bytes.collect())
+        }
+        (Case::AddUses { graph, counts, logs, log }, Case::AddUses { counts: after, .. }) => {
+            let mut uses = use_counts(counts, *logs);
+            let added = uses.add(&typed(graph).block, log);
+            let logs = if refusal.is_empty() { numbers[0] } else { *logs };
+            told(added.map(|()| Vec::new())) == accepted(Vec::new()) && uses == use_counts(after, logs)
+        }
+        (Case::WriteUses { graph, counts, logs, .. }, Case::WriteUses { buffer, .. }) => {
+            let text = use_counts(counts, *logs).text(&typed(graph).block);
+            let bytes = buffer.iter().take(numbers[0] as usize).copied().map(u64::from);
+            told(text.map(wide)) == accepted(bytes.collect())
         }
         _ => return None,
     })
+}
+
+/// A text's bytes.
+fn wide(text: String) -> Vec<u64> {
+    text.bytes().map(u64::from).collect()
+}
+
+/// Counts in the wrapper's type.
+fn use_counts(counts: &[u64], logs: u64) -> UseCounts {
+    UseCounts { uses: *counts.first_chunk().expect("counts that a call takes"), logs }
 }
 
 /// The distances of a search by the wrapper.

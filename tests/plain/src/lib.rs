@@ -1,17 +1,20 @@
 //! A plain and slow router, written from 01-scope.md and 02-change-requests.md alone, to compare others with.
 
 mod join;
+mod log;
 mod price;
 mod reader;
 mod route;
 mod search;
 mod tables;
+mod uses;
 mod writer;
 
 pub use price::{price, Tuning};
 pub use reader::read;
 pub use route::route;
 pub use search::{cheapest_path, search};
+pub use uses::{uses_add, uses_write, KINDS};
 pub use writer::{dot, write};
 
 /// What a call returns: the refusal's numbers (none if there is none) and the call's own numbers.

@@ -23,7 +23,7 @@ same-length-2 c = search needs
 returns-2 : tie.Need-returns-2
 returns-2 c =
     let asked = c .before .before .before .before .before .before in
-    write-called _ _ _ _ _ (asked .write-style .result) (asked .before .before .if1 .left) (asked .write-style .ensures) (c .before .before .put-written .ensures)
+    write-called _ _ _ _ _ (asked .before .before .if1 .left) (asked .write-style .ensures) (c .before .before .put-written .ensures)
 
 pub write-style-spec : {M : Type 1} → statement M
 write-style-spec =

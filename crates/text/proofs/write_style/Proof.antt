@@ -8,7 +8,8 @@ use borrow.Author.Tests.{not-true, not-false}
 use Rattle.price.specs.Bounds.{nodesMost}
 use Rattle.negotiation.specs.Tables.{sourcesSound}
 use Rattle.negotiation.proofs.JobLaws.{sources-few}
-use Rattle.text.specs.WriteSteps.{namedBy, checkedAt}
+use Rattle.text.specs.Users.{checkedAt}
+use Rattle.text.specs.WriteSteps.{namedBy}
 use Rattle.text.proofs.LogLaws.{found}
 use Rattle.text.proofs.RouteTextLaws.{marks-few, write-table, write-unsound, write-sound}
 use Rattle.text.proofs.write_style.Statement.{statement}

@@ -95,16 +95,21 @@ pub fn turns(log: &[u32]) -> Vec<(u32, u32, u32, Vec<u32>)> {
     list
 }
 
-/// What the writer makes of table 5 and a log, in a buffer with one byte more than needed.
+/// What the writer makes of table 5 and a log.
 pub fn written(source: &[u16], log: &[u32]) -> String {
-    let needed = write(source, log, &mut []).refusal;
+    text_of(|buffer| write(source, log, buffer))
+}
+
+/// The text that a call writes into a buffer, in one with a byte more than needed; one with a byte less stays untouched.
+pub fn text_of(write: impl Fn(&mut [u8]) -> Answer) -> String {
+    let needed = write(&mut []).refusal;
     assert_eq!(needed[0], 11);
     let bytes = needed[1] as usize;
     let mut short = vec![7; bytes - 1];
-    assert_eq!(write(source, log, &mut short).refusal, needed);
+    assert_eq!(write(&mut short).refusal, needed);
     assert!(short.iter().all(|&b| b == 7));
     let mut buffer = vec![7; bytes + 1];
-    let answer = write(source, log, &mut buffer);
+    let answer = write(&mut buffer);
     assert_eq!(answer, Answer { refusal: vec![], numbers: vec![bytes as u64] });
     assert_eq!(buffer[bytes], 7);
     String::from_utf8(buffer[..bytes].to_vec()).unwrap()

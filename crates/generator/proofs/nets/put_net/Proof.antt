@@ -6,7 +6,7 @@ use Prim.Native.Nat.{ℕ, _+_, _≤_}
 use lib.ListN.{length}
 use Rattle.text.specs.Lines.{letterS, letterT, printLine}
 use Rattle.text.proofs.LineReplyLaws.{line-put}
-use Rattle.generator.proofs.JoinLaws.{part-first, part-rest, part-both}
+use Rattle.text.proofs.JoiningLaws.{part-first, part-rest, part-both}
 use Rattle.generator.proofs.nets.put_net.Statement.{statement}
 use Rattle.generator.proofs.nets.put_net.Tie as tie
 

@@ -8,7 +8,7 @@ use mathlib.Core.Path.{refl}
 use Prim.Native.Nat.{_+_}
 use Rattle.generator.proofs.DrawLaws.{state-none, drawn-small, NetDrawn, net-drawn}
 use Rattle.generator.proofs.RowLaws.{net-room, net-put}
-use Rattle.generator.proofs.JoinLaws.{Joining, joining-none, joining-room, joining-more, joining-all, joining-same, from-first, all-put}
+use Rattle.text.proofs.JoiningLaws.{Joining, joining-none, joining-room, joining-more, joining-all, joining-same, from-first, all-put}
 use borrow.Author.Needs.{needs}
 use Rattle.generator.proofs.nets.put_nets.Statement.{statement}
 use Rattle.generator.proofs.nets.put_nets.Tie as tie

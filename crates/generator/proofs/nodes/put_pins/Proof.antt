@@ -3,7 +3,7 @@
 use Prim.Native.Nat.{_-_}
 use Rattle.generator.specs.Steps.{nodeLine}
 use Rattle.text.proofs.LineReplyLaws.{line-put}
-use Rattle.generator.proofs.JoinLaws.{Joining, joining-none, joining-room, joining-more, joining-all, joining-same}
+use Rattle.text.proofs.JoiningLaws.{Joining, joining-none, joining-room, joining-more, joining-all, joining-same}
 use borrow.Author.Needs.{needs}
 use Rattle.generator.proofs.nodes.put_pins.Statement.{statement}
 use Rattle.generator.proofs.nodes.put_pins.Tie as tie

@@ -8,7 +8,7 @@ use mathlib.Core.List.{[], _∷_}
 use Prim.Native.Nat.{ℕ}
 use mathlib.Core.Path.{ap}
 use Rattle.generator.proofs.DrawLaws.{state-start, wire-drawn}
-use Rattle.generator.proofs.JoinLaws.{line-put-as, Joining, joining-none, joining-room, joining-more, joining-all, joining-same}
+use Rattle.text.proofs.JoiningLaws.{line-put-as, Joining, joining-none, joining-room, joining-more, joining-all, joining-same}
 use borrow.Author.Needs.{needs}
 use Rattle.generator.proofs.nodes.put_wires.Statement.{statement}
 use Rattle.generator.proofs.nodes.put_wires.Tie as tie

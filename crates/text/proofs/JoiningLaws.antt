@@ -2,17 +2,17 @@
 -- Assumes nothing.
 use mathlib.Core.List.{List, [], _++_, append-assoc}
 use mathlib.Core.Path.{_≡_, refl, sym, _∙_, ap, subst}
-use Prim.Native.Nat.{ℕ, zero, suc, _+_, _-_, _≤_, _<_}
-use native.Mathlib.Nat.{zero-add, suc-add, add-zero}
+use Prim.Native.Nat.{ℕ, zero, suc, _+_, _*_, _-_, _≤_, _<_}
+use native.Mathlib.Nat.{zero-add, suc-add, add-zero, suc-mul}
 use native.Mathlib.Omega.{arith}
 use lib.ListN.{length, length-append}
 use Rattle.text.specs.Lines.{printLine}
 use Rattle.text.specs.Printed.{joined}
 use Rattle.text.specs.WriteSteps.{Put}
 use Rattle.text.specs.LineReplies.{placeTold, lineReply}
 use Rattle.text.proofs.PlacedLaws.{placed-none, put-then, put-length, put-room}
 use Rattle.text.proofs.LineReplyLaws.{line-put}
 use Rattle.text.proofs.NetTextLaws.{joined-last}
 
 pub joined-append : (f : ℕ → List ℕ) (a j k : ℕ) → joined f a (j + k) ≡ joined f a j ++ joined f (a + j) k
 unfolding joined
@@ -49,6 +49,14 @@ pub joined-alike : (f g : ℕ → List ℕ) (a k : ℕ) → ((i : ℕ) → a ≤
 unfolding joined
 joined-alike f g a zero same = refl
 joined-alike f g a (suc k) same = rw (same a (omega arith) (omega arith), joined-alike f g (suc a) k (λ i l m. same i (omega arith) (omega arith)))
+
+-- texts of at most m bytes each
+pub joined-size : (f : ℕ → List ℕ) (m a k : ℕ) → ((i : ℕ) → i < a + k → length (f i) ≤ m) → length (joined f a k) ≤ k * m
+unfolding joined
+joined-size f m a zero h = omega arith
+joined-size f m a (suc k) h =
+    rw (length-append (f a) (joined f (suc a) k))
+    (omega (arith, h a (omega arith), joined-size f m (suc a) k (λ i l. h i (omega arith)), suc-mul k m))
 
 module _ (f : ℕ → List ℕ) (from to : ℕ) where
   -- the next text has room where all have

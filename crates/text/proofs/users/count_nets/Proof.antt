@@ -1,0 +1,111 @@
+-- `text::users::count_nets` meets its contract. The loop's invariant: the trees of the nets passed are counted.
+-- Assumes nothing.
+use mathlib.Core.Path.{_∙_, sym}
+use Prim.Native.Nat.{_-_}
+use native.Mathlib.Omega.{arith}
+use lib.ListN.{getD}
+use borrow.Author.Needs.{needs}
+use Rattle.negotiation.specs.Tables.{netsMost}
+use Rattle.text.specs.WriteSteps.{Latest}
+use Rattle.text.proofs.UserLaws.{CountingNets, nets-none, nets-few, nets-more, nets-all}
+use Rattle.text.proofs.users.count_nets.Statement.{statement}
+use Rattle.text.proofs.users.count_nets.Tie as tie
+
+abbrev Inv-loop : tie.InvT-loop
+Inv-loop log from to users₀ stamps₀ net₀ users stamps net = CountingNets log users stamps net
+
+abbrev μ-loop : tie.MeasureT-loop
+μ-loop log from to users₀ stamps₀ net₀ users stamps net = netsMost - net
+
+-- where the function begins
+abbrev entry : tie.In-loop Inv-loop μ-loop → tie.Start Inv-loop μ-loop
+entry c = c .before .before .before .before .before .before .before
+
+-- the net's two places
+places : (c : tie.In-loop Inv-loop μ-loop) → Latest (entry c .args .log .now) (c .before .loop .net) (getD (entry c .args .from .now) (c .before .loop .net) 0) (getD (entry c .args .to .now) (c .before .loop .net) 0)
+places c = entry c .pre .0 .2 (c .before .loop .net) (c .loop-test .taken)
+
+loop-holds : tie.Need-loop-holds Inv-loop μ-loop
+loop-holds c = nets-none _ _ _ (c .before .before .before .before .before .pre .1 .0) (c .before .before .before .before .before .pre .1 .1) (c .before .before .before .before .before .pre .1 .2)
+
+mul-count-records : tie.Need-mul-count-records Inv-loop μ-loop
+mul-count-records c = search needs
+
+shared-slice-read-count-records : tie.Need-shared-slice-read-count-records Inv-loop μ-loop
+shared-slice-read-count-records c = search needs
+
+mul-count-records-2 : tie.Need-mul-count-records-2 Inv-loop μ-loop
+mul-count-records-2 c = search needs
+
+shared-slice-read-count-records-2 : tie.Need-shared-slice-read-count-records-2 Inv-loop μ-loop
+shared-slice-read-count-records-2 c = search needs
+
+mul-count-records-3 : tie.Need-mul-count-records-3 Inv-loop μ-loop
+mul-count-records-3 c = omega (arith, places (c .before .before) .rises, places (c .before .before) .within)
+
+sub-count-records : tie.Need-sub-count-records Inv-loop μ-loop
+sub-count-records c = places (c .before .before) .rises
+
+part-count-records-start : tie.Need-part-count-records-start Inv-loop μ-loop
+part-count-records-start c = places (c .before .before) .rises
+
+part-count-records-end : tie.Need-part-count-records-end Inv-loop μ-loop
+part-count-records-end c = places (c .before .before) .within
+
+cast-count-records : tie.Need-cast-count-records Inv-loop μ-loop
+cast-count-records c = search needs
+
+cast-count-records-2 : tie.Need-cast-count-records-2 Inv-loop μ-loop
+cast-count-records-2 c = search needs
+
+add-count-records : tie.Need-add-count-records Inv-loop μ-loop
+add-count-records c = search needs
+
+count-records-requires : tie.Need-count-records-requires Inv-loop μ-loop
+count-records-requires c κs =
+    let inv = c .before .before .before .before .before .before .loop .inv in
+    ((places (c .before .before .before .before .before) .part-sound, inv .users-long, inv .stamps-long), nets-few inv)
+
+add-net : tie.Need-add-net Inv-loop μ-loop
+add-net c = search needs
+
+loop-less : tie.Need-loop-less Inv-loop μ-loop
+loop-less c = search needs
+
+loop-again : tie.Need-loop-again Inv-loop μ-loop
+loop-again c = nets-more (c .before .before .before .before .before .before .before .before .before .before .before .loop .inv) (search needs) (places (c .before .before .before .before .before .before .before .before .before .before)) (c .before .before .before .before .count-records .ensures)
+
+same-length : tie.Need-same-length Inv-loop μ-loop
+same-length c = c .before .loop .inv .users-long ∙ sym (c .before .before .before .before .before .before .before .pre .1 .0)
+
+same-length-2 : tie.Need-same-length-2 Inv-loop μ-loop
+same-length-2 c = c .before .loop .inv .stamps-long ∙ sym (c .before .before .before .before .before .before .before .pre .1 .1)
+
+returns : tie.Need-returns Inv-loop μ-loop
+returns c = (c .before .loop .inv .users-long, nets-all (c .before .loop .inv) (search needs))
+
+pub count-nets-spec : {M : Type 1} → statement M
+count-nets-spec =
+    tie.close
+    (tie.spec
+    Inv-loop
+    μ-loop
+    loop-holds
+    mul-count-records
+    shared-slice-read-count-records
+    mul-count-records-2
+    shared-slice-read-count-records-2
+    mul-count-records-3
+    sub-count-records
+    part-count-records-start
+    part-count-records-end
+    cast-count-records
+    cast-count-records-2
+    add-count-records
+    count-records-requires
+    add-net
+    loop-less
+    loop-again
+    same-length
+    same-length-2
+    returns)

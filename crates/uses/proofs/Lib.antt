@@ -1,0 +1,20 @@
+-- Laws by subject.
+--     SumLaws           sums of numbers, counts as sums, sums over the nodes of a kind
+--     TallyLaws         sums by kind, as the loop makes them
+--     CountsLaws        the test of counts
+--     LineLaws          the U lines, their length, and what printing answers
+--     AnswerLaws        what the two calls answer
+--     TreeLaws          the nodes of a sound log's final trees
+--     AddLaws           the uses of a log, and what is answered to it
+--     UsesHold          theorem: the uses of a log sum to the size of its final trees; counts never pass 13's bounds; the order of logs is free
+--     SamplesHold       job B with two logs, computed
+-- Assumes nothing.
+pub mod SumLaws
+pub mod TallyLaws
+pub mod CountsLaws
+pub mod LineLaws
+pub mod AddLaws
+pub mod TreeLaws
+pub mod UsesHold
+pub mod AnswerLaws
+pub mod SamplesHold

@@ -1,0 +1,266 @@
+-- Theorems of request 2.11: the uses of a log sum to the size of its final trees, counts that pass 13 pass it after any log, and the order of
+-- accepted logs makes no difference.
+-- Assumes nothing.
+use mathlib.Core.Bool.{Bool, true, false, not}
+use mathlib.Core.List.{List, [], _∷_}
+use mathlib.Core.Logic.{_⊎_, ⊎-elim, inl, inr}
+use mathlib.Core.Path.{_≡_, refl, sym, _∙_, ap, subst}
+use Prim.Native.Nat.{ℕ, zero, suc, _+_, _*_, _≤_, _<_}
+use native.Mathlib.Nat.{add-mul, le-trans, min-le-left}
+use native.Mathlib.Omega.{arith}
+use lib.Dec.{eqb, leb, ltb}
+use lib.ListN.{length, getD, replicate}
+use borrow.Author.Tests.{le-leb, lt-leb, leb-true, leb-false, lt-ltb, le-ltb, ltb-true, ltb-false, not-true, not-false}
+use Rattle.price.specs.Test.{choose}
+use Rattle.price.specs.Bounds.{kindMost, nodesMost}
+use Rattle.price.specs.Lists.{has, upTo, firstBelow, countBelow}
+use Rattle.price.proofs.TestLaws.{either-way, true≢false}
+use Rattle.price.proofs.ListLaws.{getD-upTo, length-upTo}
+use Rattle.price.proofs.BelowLaws.{firstBelow-le, firstBelow-below, firstBelow-all, count-most}
+use Rattle.search.specs.Block.{Block, nodes}
+use Rattle.search.specs.Tables.{faultyTable}
+use Rattle.search.proofs.BlockLaws.{sound-of, kind-most}
+use Rattle.negotiation.specs.Tables.{netsMost}
+use Rattle.negotiation.specs.Records.{Record, decode}
+use Rattle.negotiation.specs.Demand.{treeRead}
+use Rattle.text.specs.Routes.{logSound, soundWords}
+use Rattle.text.specs.Users.{netsWith}
+use Rattle.uses.specs.Uses.{kindCount, logsMost, sumBelow, overKind, usesIn, nodesOf, Counts, countsOf, tooMany, countsRefusal, withLog, ofBlock, AddReply, addTold, testedReply, addReply}
+use Rattle.uses.specs.Runs.{treeSize, UsesSum, UsesGrow, TreesWithin, noCounts, afterCalls, Accepted, Reordered, same, swap, under, through, OrderFree, StaysWithin, NeverOver}
+use Rattle.uses.proofs.TreeLaws.{tree-named}
+use Rattle.uses.proofs.SumLaws.{zeros-at, upTo-same, sum-same, sum-plus, sum-turned, count-sum, sum-one, kind-sum-most}
+
+-- ---- the uses of a log
+
+module _ (b : Block) (sound : faultyTable b ≡ 0) where
+  -- each node counts under its own kind, so the kinds' sums are the sum over all nodes; and that counts the same pairs of net and node as the trees' sizes
+  pub uses-sum : (rs : List Record) → UsesSum b rs
+  unfolding usesIn overKind netsWith treeSize
+  uses-sum rs =
+      sum-turned (λ k v. choose (eqb (getD (b .kinds) v 0) k) (netsWith rs v) 0) kindCount (nodes b)
+      ∙ sum-same (λ v. sumBelow (λ k. choose (eqb (getD (b .kinds) v 0) k) (netsWith rs v) 0) kindCount) (netsWith rs) (nodes b)
+      (λ v l. sum-one (getD (b .kinds) v 0) (netsWith rs v) kindCount (let most = kind-most (b .kinds) (sound-of b sound .kinds-sound) v l in omega arith))
+      ∙ sum-same (netsWith rs) (λ v. sumBelow (λ i. choose (has v (treeRead i rs)) 1 0) netsMost) (nodes b)
+      (λ v l. count-sum (λ i. has v (treeRead i rs)) netsMost)
+      ∙ sum-turned (λ v i. choose (has v (treeRead i rs)) 1 0) (nodes b) netsMost
+      ∙ sum-same (λ i. sumBelow (λ v. choose (has v (treeRead i rs)) 1 0) (nodes b)) (treeSize b rs) netsMost
+      (λ i l. sym (count-sum (λ v. has v (treeRead i rs)) (nodes b)))
+
+-- ---- the test of counts
+
+empty : (xs : List ℕ) → length xs < 1 → xs ≡ []
+empty [] l = refl
+empty (x ∷ xs) l = absurd (omega arith)
+
+no-numbers : {a b : ℕ} → a ∷ b ∷ [] ≡ [] → ⊥
+no-numbers {a} {b} e = let z : _≡_ {A = ℕ} 2 0 = ap length e in omega arith
+
+-- counts that pass: a sound block, few enough logs, and no kind with too many uses
+pub record Fine (b : Block) (c : Counts) : Type 0 where
+  pub sound : faultyTable b ≡ 0
+  pub few : c .logs ≤ logsMost
+  pub within : (k : ℕ) → k < kindCount → getD (c .uses) k 0 ≤ netsMost * c .logs * nodesOf b k
+
+module _ (b : Block) (c : Counts) where
+  -- the place of the lowest kind that has too many
+  abbrev lowest : ℕ
+  lowest = firstBelow (tooMany b c) kindCount
+
+  pub fine-passes : Fine b c → countsRefusal b c ≡ []
+  unfolding countsRefusal tooMany
+  fine-passes f =
+      let none : lowest ≡ kindCount =
+      firstBelow-all (tooMany b c) kindCount (λ k l. le-ltb (netsMost * c .logs * nodesOf b k) (getD (c .uses) k 0) (f .within k l)) in
+      rw (f .sound, le-ltb logsMost (c .logs) (f .few), none)
+
+  pub passes-fine : countsRefusal b c ≡ [] → Fine b c
+  unfolding countsRefusal tooMany
+  passes-fine e =
+      ⊎-elim
+      (λ (t : leb 1 (faultyTable b) ≡ true). absurd (no-numbers (rw t at e)))
+      (λ (t : leb 1 (faultyTable b) ≡ false).
+      ⊎-elim
+      (λ (u : ltb logsMost (c .logs) ≡ true). absurd (no-numbers (rw (t, u) at e)))
+      (λ (u : ltb logsMost (c .logs) ≡ false).
+      ⊎-elim
+      (λ (w : ltb lowest kindCount ≡ true). absurd (no-numbers (rw (t, u, w) at e)))
+      (λ (w : ltb lowest kindCount ≡ false).
+      let none : kindCount ≤ lowest = ltb-false lowest kindCount w in
+      let zero-table = leb-false 1 (faultyTable b) t in
+      record {
+        sound = omega arith;
+        few = ltb-false logsMost (c .logs) u;
+        within = λ k l.
+            ltb-false (netsMost * c .logs * nodesOf b k) (getD (c .uses) k 0) (firstBelow-below (tooMany b c) kindCount k (omega arith));
+      })
+      (either-way (ltb lowest kindCount)))
+      (either-way (ltb logsMost (c .logs))))
+      (either-way (leb 1 (faultyTable b)))
+
+-- ---- counts stay within their bounds
+
+module _ (b : Block) (rs : List Record) where
+  -- no kind has more uses in a log than 512 for each of its nodes
+  uses-most : (k : ℕ) → usesIn b rs k ≤ netsMost * nodesOf b k
+  unfolding usesIn netsWith nodesOf
+  uses-most k = kind-sum-most (b .kinds) (λ v. countBelow (λ i. has v (treeRead i rs)) netsMost) netsMost k (λ v l. count-most (λ i. has v (treeRead i rs)) netsMost)
+
+  with-at : (c : Counts) (k : ℕ) → k < kindCount → getD (withLog b c rs .uses) k 0 ≡ getD (c .uses) k 0 + usesIn b rs k
+  unfolding withLog
+  with-at c k l = getD-upTo (λ k. getD (c .uses) k 0 + usesIn b rs k) kindCount k 0 l
+
+  with-logs : (c : Counts) → withLog b c rs .logs ≡ c .logs + 1
+  unfolding withLog
+  with-logs c = refl
+
+  more-logs : (m x y z : ℕ) → x ≤ 512 * m * z → y ≤ 512 * z → x + y ≤ 512 * (m + 1) * z
+  more-logs m x y z p q =
+      let parts : (512 * m + 512) * z ≡ 512 * m * z + 512 * z = add-mul (512 * m) 512 z in
+      let e : 512 * (m + 1) ≡ 512 * m + 512 = omega arith in
+      rw e (omega arith)
+
+  pub fine-more : (c : Counts) → Fine b c → c .logs < logsMost → Fine b (withLog b c rs)
+  fine-more c f l =
+      record {
+        sound = f .sound;
+        few = rw (with-logs c) (omega arith);
+        within = λ k h. rw (with-at c k h, with-logs c) (more-logs (c .logs) (getD (c .uses) k 0) (usesIn b rs k) (nodesOf b k) (f .within k h) (uses-most k));
+      }
+
+-- ---- a call that adds a log
+
+-- the log is added: counts that pass, a sound log, and room for one more
+pub record Adds (b : Block) (c : Counts) (log : List ℕ) : Type 0 where
+  pub fine : Fine b c
+  pub log-sound : logSound (ofBlock b) log ≡ true
+  pub room : c .logs < logsMost
+
+module _ (b : Block) (c : Counts) (log : List ℕ) where
+  pub adds-reply : Adds b c log → addReply b c log ≡ addTold [] (withLog b c (decode log))
+  unfolding addReply testedReply
+  adds-reply h = rw (fine-passes b c (h .fine), h .log-sound, lt-leb logsMost (c .logs) (h .room))
+
+  -- it is added, or the counts stay
+  reply-cases : Adds b c log ⊎ ((addReply b c log .counts ≡ c) × (addReply b c log .refusal ≡ [] → ⊥))
+  unfolding addReply testedReply
+  reply-cases =
+      ⊎-elim
+      (λ (t : leb 1 (length (countsRefusal b c)) ≡ true).
+      inr (rw t, λ e. let some = leb-true 1 (length (countsRefusal b c)) t in let none : length (countsRefusal b c) ≡ 0 = ap length (rw t at e) in omega arith))
+      (λ (t : leb 1 (length (countsRefusal b c)) ≡ false).
+      ⊎-elim
+      (λ (u : logSound (ofBlock b) log ≡ true).
+      ⊎-elim
+      (λ (w : leb logsMost (c .logs) ≡ true). inr (rw (t, u, w), λ e. no-numbers (rw (t, u, w) at e)))
+      (λ (w : leb logsMost (c .logs) ≡ false).
+      inl (record { fine = passes-fine b c (empty (countsRefusal b c) (leb-false 1 (length (countsRefusal b c)) t)); log-sound = u; room = leb-false logsMost (c .logs) w }))
+      (either-way (leb logsMost (c .logs))))
+      (λ (u : logSound (ofBlock b) log ≡ false). inr (rw (t, u), λ e. no-numbers (rw (t, u) at e)))
+      (either-way (logSound (ofBlock b) log)))
+      (either-way (leb 1 (length (countsRefusal b c))))
+
+  pub adds-of : addReply b c log .refusal ≡ [] → Adds b c log
+  adds-of e = ⊎-elim (λ h. h) (λ h. absurd (h .1 e)) reply-cases
+
+  -- there stay as many counts
+  pub counts-long : length (c .uses) ≡ kindCount → length (addReply b c log .counts .uses) ≡ kindCount
+  unfolding withLog
+  counts-long long =
+      ⊎-elim
+      (λ (h : Adds b c log). rw (adds-reply h) (length-upTo (λ k. getD (c .uses) k 0 + usesIn b (decode log) k) kindCount))
+      (λ h. rw (h .0) long)
+      reply-cases
+
+pub stays-within : (b : Block) → StaysWithin b
+stays-within b c log passes =
+    ⊎-elim
+    (λ (h : Adds b c log). rw (adds-reply b c log h) (fine-passes b (withLog b c (decode log)) (fine-more b (decode log) c (h .fine) (h .room))))
+    (λ h. rw (h .0) passes)
+    (reply-cases b c log)
+
+run-within : (b : Block) (logs : List (List ℕ)) (c : Counts) → countsRefusal b c ≡ [] → countsRefusal b (afterCalls b c logs) ≡ []
+unfolding afterCalls
+run-within b [] c passes = passes
+run-within b (log ∷ logs) c passes = run-within b logs (addReply b c log .counts) (stays-within b c log passes)
+
+pub never-over : (b : Block) → NeverOver b
+never-over b logs sound =
+    run-within b logs noCounts
+    (fine-passes b noCounts (record { sound = sound; few = omega arith; within = λ k l. rw (zeros-at kindCount k) (omega arith) }))
+
+-- each log that is added adds the size of its final trees
+pub uses-grow : (b : Block) → UsesGrow b
+uses-grow b c log e =
+    let h = adds-of b c log e in
+    rw (adds-reply b c log h)
+    (sum-same (λ k. getD (withLog b c (decode log) .uses) k 0) (λ k. getD (c .uses) k 0 + usesIn b (decode log) k) kindCount (λ k l. with-at b (decode log) c k l)
+    ∙ sum-plus (λ k. getD (c .uses) k 0) (usesIn b (decode log)) kindCount
+    ∙ ap (λ (s : ℕ). sumBelow (λ k. getD (c .uses) k 0) kindCount + s) (uses-sum b (h .fine .sound) (decode log)))
+
+pub trees-within : (b : Block) → TreesWithin b
+trees-within b c log e i v h =
+    let within = tree-named (ofBlock b) i v log (adds-of b c log e .log-sound) h in
+    (ltb-true i netsMost (within .0), le-trans (within .1) (min-le-left (nodes b) nodesMost))
+
+-- ---- the order of logs
+
+module _ (b : Block) where
+  -- two logs change places
+  two-logs : (c : Counts) (x y : List Record) → withLog b (withLog b c x) y ≡ withLog b (withLog b c y) x
+  unfolding withLog
+  two-logs c x y =
+      ap (λ (l : List ℕ). countsOf l (c .logs + 1 + 1))
+      (upTo-same
+      (λ k. getD (upTo (λ m. getD (c .uses) m 0 + usesIn b x m) kindCount) k 0 + usesIn b y k)
+      (λ k. getD (upTo (λ m. getD (c .uses) m 0 + usesIn b y m) kindCount) k 0 + usesIn b x k)
+      kindCount
+      (λ k l. omega (arith, getD-upTo (λ m. getD (c .uses) m 0 + usesIn b x m) kindCount k 0 l, getD-upTo (λ m. getD (c .uses) m 0 + usesIn b y m) kindCount k 0 l)))
+
+  -- after a log that is added, what the next call sees
+  added : (c : Counts) (log : List ℕ) → Adds b c log → addReply b c log .counts ≡ withLog b c (decode log)
+  added c log h = ap (λ (r : AddReply). r .counts) (adds-reply b c log h)
+
+  swap-adds : (c : Counts) (x y : List ℕ) → Adds b c x → Adds b (withLog b c (decode x)) y → Adds b c y × Adds b (withLog b c (decode y)) x
+  swap-adds c x y h g =
+      let second : c .logs + 1 < logsMost = rw (with-logs b (decode x) c) at (g .room) in
+      let first : Adds b c y = record { fine = h .fine; log-sound = g .log-sound; room = h .room } in
+      (first, record { fine = fine-more b (decode y) c (h .fine) (h .room); log-sound = h .log-sound; room = rw (with-logs b (decode y) c) second })
+
+  accepted-first : (c : Counts) (log : List ℕ) (logs : List (List ℕ)) → Adds b c log → Accepted b (withLog b c (decode log)) logs → Accepted b c (log ∷ logs)
+  unfolding Accepted
+  accepted-first c log logs h rest = (ap (λ (r : AddReply). r .refusal) (adds-reply b c log h), rw (added c log h) rest)
+
+  calls-first : (c : Counts) (log : List ℕ) (logs : List (List ℕ)) → Adds b c log → afterCalls b c (log ∷ logs) ≡ afterCalls b (withLog b c (decode log)) logs
+  unfolding afterCalls
+  calls-first c log logs h = rw (added c log h)
+
+  record First (c : Counts) (log : List ℕ) (logs : List (List ℕ)) : Type 0 where
+    adds : Adds b c log
+    others : Accepted b (withLog b c (decode log)) logs
+
+  first-of : (c : Counts) (log : List ℕ) (logs : List (List ℕ)) → Accepted b c (log ∷ logs) → First c log logs
+  unfolding Accepted
+  first-of c log logs (e, rest) =
+      let h = adds-of b c log e in
+      record { adds = h; others = rw (added c log h) at rest }
+
+  pub order-free : OrderFree b
+  order-free c xs ys same a = (a, refl)
+  order-free c xs ys (swap {x = x} {y = y} {xs = zs}) a =
+      let one = first-of c x (y ∷ zs) a in
+      let two = first-of (withLog b c (decode x)) y zs (one .others) in
+      let turned = swap-adds c x y (one .adds) (two .adds) in
+      let rest : Accepted b (withLog b (withLog b c (decode y)) (decode x)) zs = subst (λ (d : Counts). Accepted b d zs) (two-logs c (decode x) (decode y)) (two .others) in (
+        accepted-first c y (x ∷ zs) (turned .0) (accepted-first (withLog b c (decode y)) x zs (turned .1) rest),
+        calls-first c x (y ∷ zs) (one .adds) ∙ calls-first (withLog b c (decode x)) y zs (two .adds)
+            ∙ ap (λ (d : Counts). afterCalls b d zs) (two-logs c (decode x) (decode y))
+            ∙ sym (calls-first c y (x ∷ zs) (turned .0) ∙ calls-first (withLog b c (decode y)) x zs (turned .1)),
+      )
+  order-free c xs ys (under {x = x} {xs = us} {ys = vs} r) a =
+      let one = first-of c x us a in
+      let rest = order-free (withLog b c (decode x)) us vs r (one .others) in
+      (accepted-first c x vs (one .adds) (rest .0), calls-first c x us (one .adds) ∙ rest .1 ∙ sym (calls-first c x vs (one .adds)))
+  order-free c xs ys (through {ys = us} r s) a =
+      let first = order-free c xs us r a in
+      let then = order-free c us ys s (first .0) in
+      (then .0, first .1 ∙ then .1)

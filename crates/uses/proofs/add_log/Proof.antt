@@ -1,0 +1,46 @@
+-- `add_log` meets its contract: what the test of the counts refuses, else what the log gets.
+-- Assumes nothing.
+use Rattle.uses.proofs.AnswerLaws.{test-fine, test-sound, uses-low, add-table, add-count, add-fine}
+use borrow.Author.Needs.{needs}
+use Rattle.uses.proofs.add_log.Statement.{statement}
+use Rattle.uses.proofs.add_log.Tie as tie
+
+test-counts-requires : tie.Need-test-counts-requires
+test-counts-requires c κs = search needs
+
+enum-told : tie.Need-enum-told
+enum-told c = search needs
+
+add-tested-requires : tie.Need-add-tested-requires
+add-tested-requires c κs =
+    let told = c .before .before .before .test-counts .ensures in
+    let fine = c .before .enum-told .given .1 in
+    (test-sound _ _ told fine .kinds-sound, uses-low (test-fine _ _ told fine))
+
+enum-known-table : tie.Need-enum-known-table
+enum-known-table c = search needs
+
+enum-known-k : tie.Need-enum-known-k
+enum-known-k c = search needs
+
+returns : tie.Need-returns
+returns c = add-fine _ _ (c .before .before .before .before .test-counts .ensures) _ (c .before .before .enum-told .given .1) (c .add-tested .ensures)
+
+returns-2 : tie.Need-returns-2
+returns-2 c = add-table _ _ (c .before .before .before .test-counts .ensures) _ (c .before .table .given .1)
+
+returns-3 : tie.Need-returns-3
+returns-3 c = add-count _ _ (c .before .before .before .test-counts .ensures) _ (c .before .k .given .1)
+
+pub add-log-spec : {M : Type 1} → statement M
+add-log-spec =
+    tie.close
+    (tie.spec
+    test-counts-requires
+    enum-told
+    add-tested-requires
+    enum-known-table
+    enum-known-k
+    returns
+    returns-2
+    returns-3)

@@ -1,0 +1,64 @@
+-- `add_tested` meets its contract: an unsound log, one too many, or one that is added.
+-- Assumes nothing.
+use native.Mathlib.Omega.{arith}
+use lib.ListN.{replicate}
+use denote.Ref.{now}
+use borrow.Author.Needs.{needs}
+use Rattle.search.proofs.BlockLaws.{kinds-few}
+use Rattle.uses.proofs.AddLaws.{add-unsound, add-full, users-long, add-done}
+use Rattle.uses.proofs.add_tested.Statement.{statement}
+use Rattle.uses.proofs.add_tested.Tie as tie
+
+node-users-requires : tie.Need-node-users-requires
+node-users-requires c κs = search needs
+
+enum-known-word : tie.Need-enum-known-word
+enum-known-word c = search needs
+
+enum-told : tie.Need-enum-told
+enum-told c = search needs
+
+returns : tie.Need-returns
+returns c =
+    let users = c .before .before .before .node-users in
+    add-full _ _ _ (users .ensures) (c .before .enum-told .given .1) _ (search needs)
+
+slice-aggregate-tally : tie.Need-slice-aggregate-tally
+slice-aggregate-tally c =
+    let start = c .before .before .before .before .before .before .before .before in
+    let users = c .before .before .before .before .node-users in
+    let long = users-long (now (start .args .kind)) (now (start .args .log)) (replicate 4096 0) (users .ensures) (c .before .before .enum-told .given .1) in
+    search needs
+
+tally-requires : tie.Need-tally-requires
+tally-requires c κs =
+    let start = c .before .before .before .before .before .before .before .before .before in
+    let users = c .before .before .before .before .before .node-users in
+    let long = users-long (now (start .args .kind)) (now (start .args .log)) (replicate 4096 0) (users .ensures) (c .before .before .before .enum-told .given .1) in
+    ((start .pre .0, omega (arith, long, kinds-few _ (start .pre .0))), (search needs, start .pre .1))
+
+add-t17 : tie.Need-add-t17
+add-t17 c = search needs
+
+returns-2 : tie.Need-returns-2
+returns-2 c = add-unsound _ _ _ (c .before .before .before .node-users .ensures) _ (c .before .word .given .1)
+
+returns-3 : tie.Need-returns-3
+returns-3 c =
+    let start = c .before .before .before .before .before .before .before .before .before .before in
+    let users = c .before .before .before .before .before .before .node-users in
+    add-done _ _ _ (users .ensures) (c .before .before .before .before .enum-told .given .1) _ (kinds-few _ (start .pre .0)) (search needs) (c .tally .ensures)
+
+pub add-tested-spec : {M : Type 1} → statement M
+add-tested-spec =
+    tie.close
+    (tie.spec
+    node-users-requires
+    enum-known-word
+    enum-told
+    returns
+    slice-aggregate-tally
+    tally-requires
+    add-t17
+    returns-2
+    returns-3)

@@ -1,0 +1,73 @@
+-- `counts::test_counts` meets its contract: the tables first, then the logs, then each kind by the nodes counted.
+-- Assumes nothing.
+use mathlib.Core.Path.{refl}
+use Prim.Native.Nat.{ℕ}
+use native.Mathlib.Omega.{arith}
+use lib.ListN.{getD-replicate}
+use Rattle.search.proofs.BlockLaws.{sound-of}
+use Rattle.uses.specs.Uses.{kindCount}
+use Rattle.uses.proofs.TallyLaws.{tallied-long}
+use Rattle.uses.proofs.CountsLaws.{no-fault, few-nodes, found-most, refused-table, refused-logs, refused-kind, refused-none}
+use borrow.Author.Needs.{needs}
+use Rattle.uses.proofs.counts.test_counts.Statement.{statement}
+use Rattle.uses.proofs.counts.test_counts.Tie as tie
+
+faulty-block-requires : tie.Need-faulty-block-requires
+faulty-block-requires c κs = search needs
+
+returns : tie.Need-returns
+returns c = refused-table _ _ (c .before .faulty-block .ensures) (search needs)
+
+cast-t12 : tie.Need-cast-t12
+cast-t12 c = search needs
+
+returns-2 : tie.Need-returns-2
+returns-2 c = refused-logs _ _ (c .before .before .faulty-block .ensures) (search needs) (search needs)
+
+slice-aggregate-tally : tie.Need-slice-aggregate-tally
+slice-aggregate-tally c = search needs
+
+slice-aggregate-tally-2 : tie.Need-slice-aggregate-tally-2
+slice-aggregate-tally-2 c = search needs
+
+tally-requires : tie.Need-tally-requires
+tally-requires c κs =
+    let sound = no-fault _ (c .before .before .before .before .faulty-block .ensures) (search needs) in
+    ((sound-of _ sound .kinds-sound, few-nodes _ sound), (refl, λ k l. let zero = getD-replicate {A = ℕ} kindCount k 0 0 l in omega arith))
+
+slice-aggregate-first-over : tie.Need-slice-aggregate-first-over
+slice-aggregate-first-over c = search needs
+
+first-over-requires : tie.Need-first-over-requires
+first-over-requires c κs =
+    let sound = no-fault _ (c .before .before .before .before .before .before .before .before .faulty-block .ensures) (search needs) in
+    let found = c .before .before .before .tally .ensures in
+    (search needs, rw found (tallied-long _ _ _), found-most _ sound found, search needs)
+
+cast-if3 : tie.Need-cast-if3
+cast-if3 c = search needs
+
+returns-3 : tie.Need-returns-3
+returns-3 c =
+    refused-kind _ _ (c .before .before .before .before .before .before .before .before .before .before .faulty-block .ensures) (search needs) (search needs) (c .before .before .before .before .before .tally .ensures) (c .before .first-over .ensures) (search needs)
+
+returns-4 : tie.Need-returns-4
+returns-4 c =
+    refused-none _ _ (c .before .before .before .before .before .before .before .before .before .before .faulty-block .ensures) (search needs) (search needs) (c .before .before .before .before .before .tally .ensures) (c .before .first-over .ensures) (search needs)
+
+pub test-counts-spec : {M : Type 1} → statement M
+test-counts-spec =
+    tie.close
+    (tie.spec
+    faulty-block-requires
+    returns
+    cast-t12
+    returns-2
+    slice-aggregate-tally
+    slice-aggregate-tally-2
+    tally-requires
+    slice-aggregate-first-over
+    first-over-requires
+    cast-if3
+    returns-3
+    returns-4)

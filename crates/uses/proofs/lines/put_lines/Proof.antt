@@ -1,0 +1,85 @@
+-- `lines::put_lines` meets its contract. The loop's invariant: the lines of the kinds passed stand in the buffer.
+-- Assumes nothing.
+use Prim.Native.Nat.{_+_, _-_, _≤_}
+use native.Mathlib.Omega.{arith}
+use lib.ListN.{length}
+use borrow.Author.Needs.{needs}
+use Rattle.text.specs.Printed.{joined}
+use Rattle.text.proofs.LineReplyLaws.{line-put}
+use Rattle.text.proofs.JoiningLaws.{Joining, joining-none, joining-room, joining-more, joining-all, joining-same, from-first}
+use Rattle.uses.specs.Uses.{kindCount, letterU}
+use Rattle.uses.specs.Steps.{totalLine}
+use Rattle.uses.proofs.lines.put_lines.Statement.{statement}
+use Rattle.uses.proofs.lines.put_lines.Tie as tie
+
+abbrev Inv-loop : tie.InvT-loop
+Inv-loop uses totals logs buffer₀ at₀ k₀ buffer at k = Joining (totalLine uses totals logs) 0 kindCount 0 buffer₀ buffer at k
+
+abbrev μ-loop : tie.MeasureT-loop
+μ-loop uses totals logs buffer₀ at₀ k₀ buffer at k = kindCount - k
+
+-- the text has room
+room : (c : tie.Start Inv-loop μ-loop) → 0 + length (joined (totalLine (c .args .uses .now) (c .args .totals .now) (c .args .logs)) 0 (kindCount - 0)) ≤ length (c .args .buffer .now)
+room c = from-first (totalLine (c .args .uses .now) (c .args .totals .now) (c .args .logs)) kindCount 0 (length (c .args .buffer .now)) (omega (arith, c .pre .1 .1))
+
+loop-holds : tie.Need-loop-holds Inv-loop μ-loop
+loop-holds c = joining-none _ _ _ _ _ (room (c .before .before .before)) (search needs)
+
+mul-t10 : tie.Need-mul-t10 Inv-loop μ-loop
+mul-t10 c = search needs
+
+shared-slice-read-t12 : tie.Need-shared-slice-read-t12 Inv-loop μ-loop
+shared-slice-read-t12 c = search needs
+
+mul-t13 : tie.Need-mul-t13 Inv-loop μ-loop
+mul-t13 c = search needs
+
+shared-slice-read-t15 : tie.Need-shared-slice-read-t15 Inv-loop μ-loop
+shared-slice-read-t15 c = search needs
+
+mul-t16 : tie.Need-mul-t16 Inv-loop μ-loop
+mul-t16 c = record { fits = c .before .before .before .before .before .before .before .pre .1 .0 (c .before .before .before .loop .k) (search needs) }
+
+slice-aggregate-print-line : tie.Need-slice-aggregate-print-line Inv-loop μ-loop
+slice-aggregate-print-line c = search needs
+
+print-line-requires : tie.Need-print-line-requires Inv-loop μ-loop
+print-line-requires c κs = search needs
+
+add-k : tie.Need-add-k Inv-loop μ-loop
+add-k c = search needs
+
+loop-less : tie.Need-loop-less Inv-loop μ-loop
+loop-less c = search needs
+
+loop-again : tie.Need-loop-again Inv-loop μ-loop
+loop-again c =
+    let fits = room (c .before .before .before .before .before .before .before .before .before .before .before .before) in
+    let inv = c .before .before .before .before .before .before .before .before .loop .inv in
+    joining-more _ _ _ _ _ fits inv (search needs) (line-put letterU _ (c .before .before .print-line .ensures) (joining-room _ _ _ _ _ fits inv (search needs)))
+
+same-length : tie.Need-same-length Inv-loop μ-loop
+same-length c = joining-same _ _ _ _ _ (room (c .before .before .before .before .before)) (c .before .loop .inv)
+
+returns : tie.Need-returns Inv-loop μ-loop
+returns c = joining-all _ _ _ _ _ (room (c .before .before .before .before .before)) (c .before .loop .inv) (search needs)
+
+pub put-lines-spec : {M : Type 1} → statement M
+put-lines-spec =
+    tie.close
+    (tie.spec
+    Inv-loop
+    μ-loop
+    loop-holds
+    mul-t10
+    shared-slice-read-t12
+    mul-t13
+    shared-slice-read-t15
+    mul-t16
+    slice-aggregate-print-line
+    print-line-requires
+    add-k
+    loop-less
+    loop-again
+    same-length
+    returns)

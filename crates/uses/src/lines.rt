@@ -1,0 +1,60 @@
+// The U lines.
+ghost use mathlib.Core.Bool.{true};
+ghost use mathlib.Core.List.{[]};
+ghost use mathlib.Core.Path.{_≡_};
+ghost use Prim.Native.Nat.{ℕ, _*_, _^_, _≤_, _<_};
+ghost use lib.ListN.{length, getD};
+ghost use Rattle.search.specs.Block.{blockOf};
+ghost use Rattle.text.specs.Printed.{joined};
+ghost use Rattle.text.specs.Routes.{textReply};
+ghost use Rattle.text.specs.WriteSteps.{Put};
+ghost use Rattle.search.specs.Tables.{kindsSound, capacitiesSound};
+ghost use Rattle.uses.specs.Uses.{kindCount, logsMost, countsOf, usesText, printReplyOf};
+ghost use Rattle.uses.specs.Steps.{totalLine};
+use crate::KINDS;
+use crate::PrintAnswer;
+use crate::tally;
+
+// Writes the lines of all kinds.
+fn put_lines(uses: &[u64], totals: &[u64], logs: u64, buffer: &mut [u8]) -> usize
+    requires { ⌜ (length (now uses) ≡ kindCount) × (length (now totals) ≡ kindCount) ⌝ }
+    requires { ⌜ ((k : ℕ) → k < kindCount → getD (now totals) k 0 * logs < 2 ^ 64) ⌝ }
+    requires { ⌜ length (joined (totalLine (now uses) (now totals) logs) 0 kindCount) ≤ length (now buffer) ⌝ }
+    ensures { λ r. do
+      let text = joined (totalLine (now (uses .entry)) (now (totals .entry)) logs) 0 kindCount
+      ⌜ Put 0 text (now (buffer .entry)) (now (buffer .exit)) r ⌝ }
+{
+    let mut at = 0;
+    let mut k = 0;
+    while k < KINDS {
+        let fields = [k as u64, uses[k], totals[k] * logs];
+        at = text::print_line(b'U', &fields, buffer, at);
+        k += 1;
+    }
+    at
+}
+
+// Writes the text of counts that passed their test. Its length is found by writing it where it surely fits.
+pub fn put_uses(
+    kind: &[u8],
+    capacity: &[u8],
+    uses: &[u64; 54],
+    logs: u64,
+    buffer: &mut [u8],
+) -> PrintAnswer
+    requires { ⌜ (kindsSound (now kind) ≡ true) × (capacitiesSound (length (now kind)) (now capacity) ≡ true) × (logs ≤ logsMost) ⌝ }
+    ensures { λ r. do
+      let text = usesText (blockOf (now (kind .entry)) (now (capacity .entry)) [] []) (countsOf (now (uses .entry)) logs)
+      ⌜ printReplyOf r (now (buffer .exit)) ≡ textReply text (now (buffer .entry)) ⌝ }
+{
+    let mut wide = [0u16; 4096];
+    tally::widen(capacity, &mut wide);
+    let mut totals = [0u64; 54];
+    tally::tally(kind, &wide, &mut totals);
+    let mut trial = [0u8; 4096];
+    let needed = put_lines(uses, &totals, logs, &mut trial);
+    if buffer.len() < needed {
+        return PrintAnswer::ShortBuffer(needed as u64);
+    }
+    PrintAnswer::Written(put_lines(uses, &totals, logs, buffer))
+}
