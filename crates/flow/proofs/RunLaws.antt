@@ -19,7 +19,8 @@ use Rattle.negotiation.specs.Tables.{netsMost, faultyJob, SoundJob}
 use Rattle.negotiation.specs.Job.{Job, jobOf, nodes, nets}
 use Rattle.negotiation.specs.Join.{joined}
 use Rattle.negotiation.specs.Records.{Record, encode}
-use Rattle.negotiation.specs.Outcome.{RouteReply, routeRefusal, routeReplyOf, logWith, loggedRecords, allRecords, unreachableNet, negotiated, routeReply}
+use Rattle.negotiation.specs.Machine.{Progress}
+use Rattle.negotiation.specs.Outcome.{RouteReply, routeRefusal, routeReplyOf, logWith, begun, loggedRecords, allRecords, unreachableNet, continued, routeReply}
 use Rattle.negotiation.specs.declared.RouteAnswer.{RouteAnswer}
 use Rattle.negotiation.specs.declared.Terms.{Terms}
 use Rattle.negotiation.specs.declared.Outcome.{Outcome}
@@ -47,13 +48,13 @@ unfolding logWith
 ran-fits rs log = let long = length-append (encode rs) (drop (length (encode rs)) log) in omega arith
 
 -- the words that a run uses are words of the log
-run-fits : (j : Job) (work log : List ℕ) → negotiated j work log .used ≤ length (negotiated j work log .log)
-unfolding negotiated
-run-fits j work log =
+run-fits : (j : Job) (p : Progress) (work log : List ℕ) → continued j p work log .used ≤ length (continued j p work log .log)
+unfolding continued
+run-fits j p work log =
     ⊎-elim
-    (λ (w : ltb (length (loggedRecords j (length log))) (length (allRecords j)) ≡ true). rw w (ran-fits (loggedRecords j (length log)) log))
-    (λ (w : ltb (length (loggedRecords j (length log))) (length (allRecords j)) ≡ false). rw w (ran-fits (allRecords j) log))
-    (either-way (ltb (length (loggedRecords j (length log))) (length (allRecords j))))
+    (λ (w : ltb (length (loggedRecords j p (length log))) (length (allRecords j p)) ≡ true). rw w (ran-fits (loggedRecords j p (length log)) log))
+    (λ (w : ltb (length (loggedRecords j p (length log))) (length (allRecords j p)) ≡ false). rw w (ran-fits (allRecords j p) log))
+    (either-way (ltb (length (loggedRecords j p (length log))) (length (allRecords j p))))
 
 used-fits : (j : Job) (work log : List ℕ) → routeReply j work log .used ≤ length (routeReply j work log .log)
 unfolding routeReply
@@ -66,7 +67,7 @@ used-fits j work log =
     (λ (u : ltb (length work) (workNeeded (nodes j)) ≡ false).
     ⊎-elim
     (λ (v : ltb (unreachableNet (joined j)) (nets j) ≡ true). rw (t, u, v) zero-le)
-    (λ (v : ltb (unreachableNet (joined j)) (nets j) ≡ false). rw (t, u, v) (run-fits (joined j) work log))
+    (λ (v : ltb (unreachableNet (joined j)) (nets j) ≡ false). rw (t, u, v) (run-fits (joined j) (begun (joined j)) work log))
     (either-way (ltb (unreachableNet (joined j)) (nets j))))
     (either-way (ltb (length work) (workNeeded (nodes j)))))
     (either-way (leb 1 (faultyJob j)))

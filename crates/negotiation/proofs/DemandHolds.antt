@@ -4,22 +4,22 @@ use mathlib.Core.Bool.{Bool, true, false}
 use mathlib.Core.List.{List, [], _∷_, _++_, append-assoc}
 use mathlib.Core.Logic.{⊎-elim}
 use mathlib.Core.Path.{_≡_, refl, sym, _∙_, ap, subst}
-use Prim.Native.Nat.{ℕ, suc, _-_, _≤_, _<_}
+use Prim.Native.Nat.{ℕ, suc, _+_, _-_, _≤_, _<_}
 use native.Mathlib.Omega.{arith}
 use lib.Dec.{ltb}
 use lib.ListN.{length}
 use borrow.Author.Tests.{ltb-true}
 use Rattle.price.specs.Test.{choose}
-use Rattle.price.specs.Bounds.{pathMost}
+use Rattle.price.specs.Bounds.{limitMost, pathMost}
 use Rattle.price.specs.Lists.{has, firstBelow}
 use Rattle.price.proofs.TestLaws.{either-way, le-or-lt}
 use Rattle.price.proofs.PriceLaws.{path-fits}
 use Rattle.search.specs.Replies.{workNeeded, cleared}
-use Rattle.negotiation.specs.Job.{Job, nodes, nets, netSinks}
+use Rattle.negotiation.specs.Job.{Job, nodes, nets}
 use Rattle.negotiation.specs.Tables.{faultyJob}
 use Rattle.negotiation.specs.Records.{Record, encode}
-use Rattle.negotiation.specs.Machine.{State, firstState, settlesAt}
-use Rattle.negotiation.specs.Outcome.{RouteReply, turnsLogged, refusedReply, unreachableNet, iterationsMade, iterationsRun, allRecords, loggedRecords, endNumbers, negotiated, routeReply}
+use Rattle.negotiation.specs.Machine.{State, Progress, firstState, recordsAfter, settlesAt}
+use Rattle.negotiation.specs.Outcome.{RouteReply, turnsLogged, refusedReply, unreachableNet, iterationsMade, begun, iterationsLeft, madeFrom, allRecords, loggedRecords, endNumbers, continued, negotiated, routeReply}
 use Rattle.negotiation.specs.Unreachable.{AllReachable}
 use Rattle.negotiation.specs.Demand.{TurnHolds, FinalTrees, Demand3, CostsFit}
 use Rattle.negotiation.specs.Routable.{Routable}
@@ -28,7 +28,7 @@ use Rattle.negotiation.proofs.JobLaws.{sound-job}
 use Rattle.negotiation.proofs.JoinedHolds.{joined-routable, joined-reachable}
 use Rattle.negotiation.proofs.RecordLaws.{fitting-begins}
 use Rattle.negotiation.proofs.NetLaws.{no-split}
-use Rattle.negotiation.proofs.RanLaws.{start}
+use Rattle.negotiation.proofs.RanLaws.{Ran, start, ran-iteration}
 use Rattle.negotiation.proofs.MachineRan.{Reached}
 use Rattle.negotiation.proofs.DemandLaws.{all-reached, none-unreachable, turn-holds, turn-below, final-trees-hold}
 use Rattle.negotiation.proofs.RefusalLaws.{route-table, route-work, route-unreachable, route-run}
@@ -43,9 +43,9 @@ made-most j s most =
     (λ (q : ltb (firstBelow (settlesAt j s) most) most ≡ false). rw q (omega arith))
     (either-way (ltb (firstBelow (settlesAt j s) most) most))
 
-made-some : (j : Job) (s : State) (most : ℕ) → 1 ≤ most → 1 ≤ iterationsMade j s most
+some-made : (j : Job) (s : State) (most : ℕ) → 1 ≤ most → 1 ≤ iterationsMade j s most
 unfolding iterationsMade
-made-some j s most h =
+some-made j s most h =
     ⊎-elim
     (λ (q : ltb (firstBelow (settlesAt j s) most) most ≡ true). rw q (omega arith))
     (λ (q : ltb (firstBelow (settlesAt j s) most) most ≡ false). rw q h)
@@ -61,20 +61,20 @@ chosen-number true k n ks ns e = absurd (let z : _≡_ {A = ℕ} 0 1 = cc in ome
 chosen-number false k n ks ns e = cc
 
 -- no run ends as unreachable
-end-reached : (j : Job) (net place : ℕ) → endNumbers j ≡ 7 ∷ net ∷ place ∷ [] → ⊥
+end-reached : (j : Job) (s : State) (net place : ℕ) → endNumbers j s ≡ 7 ∷ net ∷ place ∷ [] → ⊥
 unfolding endNumbers
-end-reached j net place e =
-    let z : _≡_ {A = ℕ} 9 7 = chosen-number (settlesAt j (firstState j) (iterationsRun j - 1)) _ _ _ _ e in
+end-reached j s net place e =
+    let z : _≡_ {A = ℕ} 9 7 = chosen-number (settlesAt j s (madeFrom j s - 1)) _ _ _ _ e in
     omega arith
 
-pub run-reached : (j : Job) (work log : List ℕ) (net place : ℕ) → negotiated j work log .refusal ≡ 7 ∷ net ∷ place ∷ [] → ⊥
-unfolding negotiated
-run-reached j work log net place =
+pub run-reached : (j : Job) (p : Progress) (work log : List ℕ) (net place : ℕ) → continued j p work log .refusal ≡ 7 ∷ net ∷ place ∷ [] → ⊥
+unfolding continued
+run-reached j p work log net place =
     ⊎-elim
-    (λ (q : ltb (length (loggedRecords j (length log))) (length (allRecords j)) ≡ true).
+    (λ (q : ltb (length (loggedRecords j p (length log))) (length (allRecords j p)) ≡ true).
     rw q (λ e. let z : _≡_ {A = ℕ} 8 7 = cc in omega arith))
-    (λ (q : ltb (length (loggedRecords j (length log))) (length (allRecords j)) ≡ false). rw q (end-reached j net place))
-    (either-way (ltb (length (loggedRecords j (length log))) (length (allRecords j))))
+    (λ (q : ltb (length (loggedRecords j p (length log))) (length (allRecords j p)) ≡ false). rw q (end-reached j (p .state) net place))
+    (either-way (ltb (length (loggedRecords j p (length log))) (length (allRecords j p))))
 
 -- ---- from what holds of some records
 
@@ -107,31 +107,52 @@ module _ (j : Job) (work log : List ℕ) (r : RouteReply) (h : Facts j work log 
 
 -- ---- a run of joined nets
 
-module _ (j : Job) (sound : Routable j) (all : Reached j) where
-  run-turn : (earlier later : List Record) (t : Record) → allRecords j ≡ earlier ++ (t ∷ later) → TurnHolds j earlier t × (t .cost < pathMost)
-  unfolding allRecords
-  run-turn earlier later t e =
-      let few = sound .limit-few in
-      let most = made-most j (firstState j) (j .terms .limit) in
-      (turn-holds j sound all start (iterationsRun j) (omega arith) earlier later t e, turn-below j sound all start (iterationsRun j) (omega arith) earlier later t e)
+-- from where whole iterations lead, below the limit
+module _ (j : Job) (sound : Routable j) (all : Reached j) {m : ℕ} {rs : List Record} {s : State} (r : Ran j m rs s) (below : m < j .terms .limit) where
+  -- it makes one at least, and no more than the limit leaves
+  made-some : 1 ≤ madeFrom j s
+  unfolding iterationsLeft
+  made-some = let t = ran-iteration j r in some-made j s (iterationsLeft j s) (omega arith)
 
-  run-final : endNumbers j ≡ [] → FinalTrees j (allRecords j)
-  unfolding allRecords endNumbers
-  run-final e =
+  made-few : m + madeFrom j s ≤ limitMost
+  unfolding iterationsLeft
+  made-few =
+      let t = ran-iteration j r in
       let few = sound .limit-few in
-      let made : ℕ = iterationsRun j in
-      let most : made ≤ j .terms .limit = made-most j (firstState j) (j .terms .limit) in
-      let some : 1 ≤ made = made-some j (firstState j) (j .terms .limit) (sound .limit-some) in
+      let most = made-most j s (iterationsLeft j s) in
+      omega arith
+
+  pub run-turn :
+      (earlier later : List Record) (t : Record) → recordsAfter j s (madeFrom j s) ≡ earlier ++ (t ∷ later) → TurnHolds j (rs ++ earlier) t × (t .cost < pathMost)
+  run-turn earlier later t e =
+      (turn-holds j sound all r (madeFrom j s) made-few earlier later t e, turn-below j sound all r (madeFrom j s) made-few earlier later t e)
+
+  pub run-final : endNumbers j s ≡ [] → FinalTrees j (rs ++ recordsAfter j s (madeFrom j s))
+  unfolding endNumbers
+  run-final e =
+      let made : ℕ = madeFrom j s in
+      let some : 1 ≤ made = made-some in
+      let few : m + made ≤ limitMost = made-few in
       let last : made ≡ suc (made - 1) = omega arith in
-      let settled : settlesAt j (firstState j) (made - 1) ≡ true = chosen-none _ _ _ e in
-      rw last (final-trees-hold j sound all start (made - 1) (omega arith) settled)
+      let settled : settlesAt j s (made - 1) ≡ true = chosen-none _ _ _ e in
+      rw last (final-trees-hold j sound all r (made - 1) (omega arith) settled)
+
+-- one that begins
+module _ (j : Job) (sound : Routable j) (all : Reached j) where
+  all-turn : (earlier later : List Record) (t : Record) → allRecords j (begun j) ≡ earlier ++ (t ∷ later) → TurnHolds j earlier t × (t .cost < pathMost)
+  unfolding allRecords
+  all-turn = run-turn j sound all start (sound .limit-some)
+
+  all-final : endNumbers j (firstState j) ≡ [] → FinalTrees j (allRecords j (begun j))
+  unfolding allRecords
+  all-final = run-final j sound all start (sound .limit-some)
 
   -- the records that fit are a beginning of all
-  logged-turn : (room : ℕ) (earlier later : List Record) (t : Record) → loggedRecords j room ≡ earlier ++ (t ∷ later) → TurnHolds j earlier t × (t .cost < pathMost)
+  logged-turn : (room : ℕ) (earlier later : List Record) (t : Record) → loggedRecords j (begun j) room ≡ earlier ++ (t ∷ later) → TurnHolds j earlier t × (t .cost < pathMost)
   unfolding loggedRecords
   logged-turn room earlier later t e =
-      let whole = fitting-begins room (allRecords j) in
-      run-turn earlier (later ++ whole .0) t
+      let whole = fitting-begins room (allRecords j (begun j)) in
+      all-turn earlier (later ++ whole .0) t
       (whole .1 ∙ ap (λ (l : List Record). l ++ whole .0) e ∙ append-assoc earlier (t ∷ later) (whole .0))
 
 -- ---- each case of the reply
@@ -151,30 +172,31 @@ module _ (j : Job) (work log : List ℕ) where
       }
 
   run-facts : Routable (joined j) → Reached (joined j) → Facts j work log (negotiated (joined j) work log)
-  unfolding negotiated
+  unfolding continued
   run-facts sound all =
+      let k : Job = joined j in
       ⊎-elim
-      (λ (q : ltb (length (loggedRecords (joined j) (length log))) (length (allRecords (joined j))) ≡ true).
+      (λ (q : ltb (length (loggedRecords k (begun k) (length log))) (length (allRecords k (begun k))) ≡ true).
       rw q
       (record {
-        records = loggedRecords (joined j) (length log);
-        words = ran-log (joined j) _ _ (loggedRecords (joined j) (length log)) work log;
+        records = loggedRecords k (begun k) (length log);
+        words = ran-log k _ _ (loggedRecords k (begun k) (length log)) work log;
         turns = refl;
-        each = logged-turn (joined j) sound all (length log);
+        each = logged-turn k sound all (length log);
         final = λ e. absurd (let z : _≡_ {A = ℕ} 0 1 = cc in omega arith);
         reached = λ _ net place e. let z : _≡_ {A = ℕ} 8 7 = cc in omega arith;
       }))
-      (λ (q : ltb (length (loggedRecords (joined j) (length log))) (length (allRecords (joined j))) ≡ false).
+      (λ (q : ltb (length (loggedRecords k (begun k) (length log))) (length (allRecords k (begun k))) ≡ false).
       rw q
       (record {
-        records = allRecords (joined j);
-        words = ran-log (joined j) (endNumbers (joined j)) _ (allRecords (joined j)) work log;
+        records = allRecords k (begun k);
+        words = ran-log k (endNumbers k (firstState k)) _ (allRecords k (begun k)) work log;
         turns = refl;
-        each = run-turn (joined j) sound all;
-        final = run-final (joined j) sound all;
-        reached = λ _. end-reached (joined j);
+        each = all-turn k sound all;
+        final = all-final k sound all;
+        reached = λ _. end-reached k (firstState k);
       }))
-      (either-way (ltb (length (loggedRecords (joined j) (length log))) (length (allRecords (joined j)))))
+      (either-way (ltb (length (loggedRecords k (begun k) (length log))) (length (allRecords k (begun k)))))
 
   reply-facts : Facts j work log (routeReply j work log)
   reply-facts =

@@ -18,8 +18,8 @@ use Rattle.price.proofs.BelowLaws.{firstBelow-holds, firstBelow-is, firstBelow-
 use Rattle.search.specs.Replies.{cleared}
 use Rattle.negotiation.specs.Job.{Job, nodes, nets}
 use Rattle.negotiation.specs.Records.{Record, words, encode}
-use Rattle.negotiation.specs.Machine.{State, netRecords, due, afterNets, stateAfter, iterate, overCount, firstState, iterationAfter, recordsAfter, settlesAt}
-use Rattle.negotiation.specs.Outcome.{negotiated, ranReply, logWith, routeReplyOf, routeRefusal, iterationsMade, allRecords, loggedRecords, cutIteration, endNumbers}
+use Rattle.negotiation.specs.Machine.{State, Progress, netRecords, due, afterNets, stateAfter, iterate, overCount, firstState, iterationAfter, recordsAfter, settlesAt}
+use Rattle.negotiation.specs.Outcome.{continued, ranReply, logWith, routeReplyOf, routeRefusal, iterationsMade, iterationsLeft, madeFrom, lastIteration, allRecords, loggedRecords, cutIteration, endNumbers}
 use Rattle.negotiation.specs.Steps.{SameFrom}
 use Rattle.negotiation.specs.declared.RouteAnswer.{RouteAnswer}
 use Rattle.negotiation.proofs.StateLaws.{route-if, routed-next}
@@ -27,45 +27,45 @@ use Rattle.negotiation.proofs.RecordLaws.{fitting-all, fitting-cut}
 
 -- ---- how many iterations
 
-module _ (j : Job) (m : ℕ) (below : m < j .terms .limit) (unsettled : (k : ℕ) → k < m → settlesAt j (firstState j) k ≡ false) where
-  -- the first iteration that settles is the last
-  pub made-settled : settlesAt j (firstState j) m ≡ true → iterationsMade j (firstState j) (j .terms .limit) ≡ m + 1
-  unfolding iterationsMade
-  made-settled s =
-      rw (firstBelow-is (settlesAt j (firstState j)) (j .terms .limit) m below s unsettled, lt-ltb m (j .terms .limit) below)
+-- the limit leaves all of them to a run that begins
+pub left-first : (j : Job) → iterationsLeft j (firstState j) ≡ j .terms .limit
+unfolding iterationsLeft firstState
+left-first j = omega arith
 
-  pub unsettled-more : settlesAt j (firstState j) m ≡ false → (k : ℕ) → k < m + 1 → settlesAt j (firstState j) k ≡ false
-  unsettled-more s k h =
+module _ (j : Job) (s : State) (most m : ℕ) (below : m < most) (unsettled : (k : ℕ) → k < m → settlesAt j s k ≡ false) where
+  -- the first iteration that settles is the last
+  pub made-settled : settlesAt j s m ≡ true → iterationsMade j s most ≡ m + 1
+  unfolding iterationsMade
+  made-settled t = rw (firstBelow-is (settlesAt j s) most m below t unsettled, lt-ltb m most below)
+
+  pub unsettled-more : settlesAt j s m ≡ false → (k : ℕ) → k < m + 1 → settlesAt j s k ≡ false
+  unsettled-more t k h =
       ⊎-elim
-      (λ (e : k ≡ m). rw e s)
+      (λ (e : k ≡ m). rw e t)
       (λ (l : k < m). unsettled k l)
       (eq-or-lt-of-le (omega (arith, h)))
 
   -- where none settles the limit ends the run
-  pub made-limit : settlesAt j (firstState j) m ≡ false → m + 1 ≡ j .terms .limit → iterationsMade j (firstState j) (j .terms .limit) ≡ m + 1
+  pub made-limit : settlesAt j s m ≡ false → m + 1 ≡ most → iterationsMade j s most ≡ m + 1
   unfolding iterationsMade
-  made-limit s last =
-      let none : firstBelow (settlesAt j (firstState j)) (j .terms .limit) ≡ j .terms .limit =
-      firstBelow-all (settlesAt j (firstState j)) (j .terms .limit) (λ k h. unsettled-more s k (omega (arith, h))) in
-      rw (none, le-ltb (j .terms .limit) (j .terms .limit) (le-refl (j .terms .limit))) (sym last)
+  made-limit t last =
+      let none : firstBelow (settlesAt j s) most ≡ most = firstBelow-all (settlesAt j s) most (λ k h. unsettled-more t k (omega (arith, h))) in
+      rw (none, le-ltb most most (le-refl most)) (sym last)
 
   -- the iteration after m that do not settle is made
-  pub made-least : suc m ≤ iterationsMade j (firstState j) (j .terms .limit)
+  pub made-least : suc m ≤ iterationsMade j s most
   unfolding iterationsMade
   made-least =
-      let least : m ≤ firstBelow (settlesAt j (firstState j)) (j .terms .limit) =
+      let first : ℕ = firstBelow (settlesAt j s) most in
+      let least : m ≤ first =
       ⊎-elim
-      (λ (l : m ≤ firstBelow (settlesAt j (firstState j)) (j .terms .limit)). l)
-      (λ (l : firstBelow (settlesAt j (firstState j)) (j .terms .limit) < m).
-      absurd
-      (true≢false
-      (sym (firstBelow-holds (settlesAt j (firstState j)) (j .terms .limit) (omega arith))
-      ∙ unsettled (firstBelow (settlesAt j (firstState j)) (j .terms .limit)) l)))
-      (le-or-lt m (firstBelow (settlesAt j (firstState j)) (j .terms .limit))) in
+      (λ (l : m ≤ first). l)
+      (λ (l : first < m). absurd (true≢false (sym (firstBelow-holds (settlesAt j s) most (omega arith)) ∙ unsettled first l)))
+      (le-or-lt m first) in
       ⊎-elim
-      (λ (t : ltb (firstBelow (settlesAt j (firstState j)) (j .terms .limit)) (j .terms .limit) ≡ true). rw t (omega arith))
-      (λ (t : ltb (firstBelow (settlesAt j (firstState j)) (j .terms .limit)) (j .terms .limit) ≡ false). rw t below)
-      (either-way (ltb (firstBelow (settlesAt j (firstState j)) (j .terms .limit)) (j .terms .limit)))
+      (λ (t : ltb (firstBelow (settlesAt j s) most) most ≡ true). rw t (omega arith))
+      (λ (t : ltb (firstBelow (settlesAt j s) most) most ≡ false). rw t below)
+      (either-way (ltb (firstBelow (settlesAt j s) most) most))
 
 -- ---- its records
 
@@ -103,18 +103,17 @@ module _ (j : Job) (s : State) where
       (eq-or-lt-of-le h)
 
 -- a record of net i has its place among all
-pub all-split : (j : Job) (m i : ℕ) → m < j .terms .limit → ((k : ℕ) → k < m → settlesAt j (firstState j) k ≡ false) → i < nets j
-    → due j (stateAfter j (firstState j) m) i ≡ true → (made : List Record) (r : Record) (rest : List Record) → netRecords j (afterNets j (stateAfter j (firstState j) m) i .state) i ≡ made ++ (r ∷ rest)
+pub all-split : (j : Job) (p : Progress) (m i : ℕ) → m < iterationsLeft j (p .state) → ((k : ℕ) → k < m → settlesAt j (p .state) k ≡ false) → i < nets j
+    → due j (stateAfter j (p .state) m) i ≡ true → (made : List Record) (r : Record) (rest : List Record) → netRecords j (afterNets j (stateAfter j (p .state) m) i .state) i ≡ made ++ (r ∷ rest)
     → (later : List Record)
-    × (allRecords j ≡ ((recordsAfter j (firstState j) m ++ afterNets j (stateAfter j (firstState j) m) i .records) ++ made) ++ (r ∷ later))
+    × (allRecords j p ≡ (((p .records ++ recordsAfter j (p .state) m) ++ afterNets j (stateAfter j (p .state) m) i .records) ++ made) ++ (r ∷ later))
 unfolding allRecords recordsAfter iterate
-all-split j m i below unsettled net d made r rest is =
-    let s = stateAfter j (firstState j) m in
-    let after = records-more j (firstState j) (iterationsMade j (firstState j) (j .terms .limit)) (suc m) (made-least j m below unsettled) in
+all-split j p m i below unsettled net d made r rest is =
+    let s = stateAfter j (p .state) m in
+    let after = records-more j (p .state) (madeFrom j (p .state)) (suc m) (made-least j (p .state) (iterationsLeft j (p .state)) m below unsettled) in
     let others = nets-more j s (nets j) (suc i) net in (
       rest ++ (others .0 ++ after .0),
-      after .1
-          ∙ rw (others .1, routed-next j s i d, is) (simp append-assoc),
+      rw (after .1, others .1, routed-next j s i d, is) (simp append-assoc),
     )
 
 -- ---- its reply
@@ -124,34 +123,38 @@ cut-place [] r later = refl
 cut-place (q ∷ rs) r later = cut-place rs r later
 
 -- a record that does not fit ends the run
-pub full-reply : (j : Job) (work log : List ℕ) (rs : List Record) (r : Record) (later : List Record) → allRecords j ≡ rs ++ (r ∷ later)
+pub full-reply : (j : Job) (p : Progress) (work log : List ℕ) (rs : List Record) (r : Record) (later : List Record) → allRecords j p ≡ rs ++ (r ∷ later)
     → length (encode rs) ≤ length log → length log < length (encode rs) + length (words r)
-    → negotiated j work log ≡ ranReply j (8 ∷ r .iteration ∷ length rs ∷ []) (r .iteration) rs work log
-unfolding negotiated loggedRecords cutIteration
-full-reply j work log rs r later e fits over =
+    → continued j p work log ≡ ranReply j (8 ∷ r .iteration ∷ length rs ∷ []) (r .iteration) rs work log
+unfolding continued loggedRecords cutIteration
+full-reply j p work log rs r later e fits over =
     let long = length-append rs (r ∷ later) in
     rw (e, fitting-cut (length log) rs later r fits over, lt-ltb (length rs) (length (rs ++ (r ∷ later))) (omega arith), cut-place rs r later)
 
 -- where all fit, the last iteration ends it
-pub whole-reply : (j : Job) (work log : List ℕ) (rs : List Record) → allRecords j ≡ rs → length (encode rs) ≤ length log
-    → negotiated j work log ≡ ranReply j (endNumbers j) (iterationsMade j (firstState j) (j .terms .limit)) rs work log
-unfolding negotiated loggedRecords
-whole-reply j work log rs e fits =
+pub whole-reply : (j : Job) (p : Progress) (work log : List ℕ) (rs : List Record) → allRecords j p ≡ rs → length (encode rs) ≤ length log
+    → continued j p work log ≡ ranReply j (endNumbers j (p .state)) (lastIteration j (p .state)) rs work log
+unfolding continued loggedRecords
+whole-reply j p work log rs e fits =
     rw (e, fitting-all (length log) rs fits, le-ltb (length rs) (length rs) (le-refl (length rs)))
 
-module _ (j : Job) (m : ℕ) (made : iterationsMade j (firstState j) (j .terms .limit) ≡ m + 1) where
-  pub end-settled : settlesAt j (firstState j) m ≡ true → endNumbers j ≡ []
+module _ (j : Job) (s : State) (m : ℕ) (made : madeFrom j s ≡ m + 1) where
+  pub end-settled : settlesAt j s m ≡ true → endNumbers j s ≡ []
   unfolding endNumbers
-  end-settled s = let e : m + 1 - 1 ≡ m = omega arith in rw (made, e, s)
+  end-settled t = let e : m + 1 - 1 ≡ m = omega arith in rw (made, e, t)
 
-  pub end-limit : settlesAt j (firstState j) m ≡ false → endNumbers j ≡ 9 ∷ j .terms .limit ∷ overCount j (iterationAfter j (firstState j) m .state .trees) ∷ []
+  pub end-limit : settlesAt j s m ≡ false → endNumbers j s ≡ 9 ∷ j .terms .limit ∷ overCount j (iterationAfter j s m .state .trees) ∷ []
   unfolding endNumbers
-  end-limit s = let e : m + 1 - 1 ≡ m = omega arith in rw (made, e, s)
+  end-limit t = let e : m + 1 - 1 ≡ m = omega arith in rw (made, e, t)
 
-  -- all records are those of the iterations up to m
-  pub all-made : allRecords j ≡ recordsAfter j (firstState j) (suc m)
-  unfolding allRecords
-  all-made = rw (made, add-one)
+  -- m iterations come before the last
+  pub last-made : lastIteration j s ≡ s .iteration + m
+  last-made = rw made (omega arith)
+
+-- all records are those so far and those of the iterations up to m
+pub all-made : (j : Job) (p : Progress) (m : ℕ) → madeFrom j (p .state) ≡ m + 1 → allRecords j p ≡ p .records ++ recordsAfter j (p .state) (suc m)
+unfolding allRecords
+all-made j p m made = rw (made, add-one)
 
 -- the work slice with 0 up to 8 × nodes
 cleared-same : (n : ℕ) (work₀ work : List ℕ) → SameFrom (8 * n) work₀ work → replicate (8 * n) 0 ++ drop (8 * n) work ≡ cleared n [] work₀

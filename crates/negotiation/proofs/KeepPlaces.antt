@@ -19,9 +19,9 @@ use Rattle.negotiation.specs.Records.{Record, encode, decode, pathNodes}
 use Rattle.negotiation.specs.Machine.{Progress, treeAt, usersOf, treeFrom, withNet}
 use Rattle.negotiation.specs.Outcome.{logWith}
 use Rattle.negotiation.specs.Steps.{AllBelow, Whole, RipReady}
+use Rattle.negotiation.specs.Kept.{TreeWords, Places, Tallied}
 use Rattle.negotiation.specs.declared.tariff.Tariff.{Tariff}
 use Rattle.negotiation.proofs.RecordLaws.{decode-encode, encode-append}
-use Rattle.negotiation.proofs.KeepLaws.{TreeWords, Places, Tallied}
 use Rattle.negotiation.proofs.TurnStepLaws.{log-length}
 use Rattle.negotiation.proofs.UserLaws.{users-some}
 

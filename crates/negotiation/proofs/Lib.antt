@@ -26,8 +26,8 @@
 --     DueLaws           which nets an iteration takes: under rule 1, and in iteration 1, those with sinks
 --     StateLaws         the machine's state, iteration by iteration
 --     MachineRan        the machine's run is a run: bounds of histories and factor, its turns owned net by net
---     EndLaws           how a run ends
---     LimitLaws         a run under two limits
+--     EndLaws           how a run ends that goes on from a progress
+--     LimitLaws         such a run under two limits
 -- Read off the log
 --     RanLaws           runs of whole iterations, whoever made the turns: trees, users and histories read off their records are the state's
 --     DemandLaws        a logged turn, the final trees, which sinks have a path
@@ -49,6 +49,7 @@
 --     TurnStepLaws      a turn more of a net
 --     KeepLaws          what holds at the head of each loop
 --     KeepPlaces        where each net's tree stands in the log
+--     KeepProgress      the lists over any progress: nets due, a tree dropped, grown and counted, histories moved on
 --     KeepStart, KeepTurn, KeepNet, KeepEnd   that it holds at first, after a turn, a net and an iteration, and what each call asks
 --     KeepLengths       the lists keep their lengths
 -- Assumes nothing.
@@ -94,6 +95,7 @@ pub mod OneTurnLaws
 pub mod TurnStepLaws
 pub mod KeepLaws
 pub mod KeepPlaces
+pub mod KeepProgress
 pub mod KeepStart
 pub mod KeepTurn
 pub mod KeepNet

@@ -1,7 +1,7 @@
 -- A job under two limits of iterations: no turn depends on the limit, the larger makes as many iterations at least, and its records begin with the smaller's.
 -- Assumes nothing.
 use mathlib.Core.Bool.{Bool, true, false}
-use mathlib.Core.List.{List, [], _∷_, _++_}
+use mathlib.Core.List.{List, [], _∷_, _++_, append-assoc}
 use mathlib.Core.Logic.{⊎-elim}
 use mathlib.Core.Path.{_≡_, refl, sym, _∙_, ap, fun-ext}
 use Prim.Native.Nat.{ℕ, zero, suc, _+_, _-_, _≤_, _<_}
@@ -18,9 +18,13 @@ use Rattle.search.specs.Turn.{Congestion, Turn, joins, stuck}
 use Rattle.negotiation.specs.Job.{Job, nets, source, netSinks}
 use Rattle.negotiation.specs.Records.{Record}
 use Rattle.negotiation.specs.Machine.{State, Progress, othersOf, usersOf, marksOf, congestionFor, turnOf, logTurn, turnsOf, netRecords, hasSinks, allDue, crowded, due, routeIf, afterNets, iterate, overfull, overCount, moveOn, firstState, stateAfter, recordsAfter, settlesAt}
-use Rattle.negotiation.specs.Outcome.{iterationsMade, allRecords, endNumbers}
+use Rattle.negotiation.specs.Outcome.{iterationsMade, iterationsLeft, madeFrom, allRecords, endNumbers}
 use Rattle.negotiation.specs.Longer.{withLimit}
 use Rattle.negotiation.proofs.EndLaws.{records-more}
+
+-- how many iterations a limit leaves to a run from a state
+abbrev pub leftUnder : ℕ → State → ℕ
+leftUnder limit s = limit + 1 - s .iteration
 
 -- ---- no turn depends on the limit
 
@@ -88,11 +92,11 @@ module _ (j : Job) (limit : ℕ) where
   made-alike s most =
       ap (λ (t : ℕ → Bool). choose (ltb (firstBelow t most) most) (firstBelow t most + 1) most) (fun-ext (settles-alike s))
 
-  pub all-alike : allRecords (withLimit j limit) ≡ recordsAfter j (firstState j) (iterationsMade j (firstState j) limit)
-  unfolding allRecords
-  all-alike =
-      rw (first-alike, made-alike (firstState j) limit)
-      (records-alike (firstState j) (iterationsMade j (firstState j) limit))
+  pub all-alike : (p : Progress) → allRecords (withLimit j limit) p ≡ p .records ++ recordsAfter j (p .state) (iterationsMade j (p .state) (leftUnder limit (p .state)))
+  unfolding allRecords iterationsLeft
+  all-alike p =
+      rw (made-alike (p .state) (leftUnder limit (p .state)))
+      (ap (λ (l : List Record). p .records ++ l) (records-alike (p .state) (iterationsMade j (p .state) (leftUnder limit (p .state)))))
 
 -- ---- how many iterations are made under two limits
 
@@ -163,41 +167,43 @@ pub not-accepted : (number : ℕ) (numbers : List ℕ) → [] ≡ number ∷ num
 not-accepted number numbers e = let z : _≡_ {A = ℕ} 0 1 = cc in omega arith
 
 -- the run's end under a limit has no numbers where its last iteration settles, and only there
-module _ (j : Job) (limit : ℕ) where
-  last-alike :
-      settlesAt (withLimit j limit) (firstState (withLimit j limit)) (iterationsMade (withLimit j limit) (firstState (withLimit j limit)) limit - 1)
-      ≡ settlesAt j (firstState j) (iterationsMade j (firstState j) limit - 1)
-  last-alike =
-      rw (first-alike j limit, made-alike j limit (firstState j) limit)
-      (settles-alike j limit (firstState j) (iterationsMade j (firstState j) limit - 1))
+module _ (j : Job) (limit : ℕ) (s : State) where
+  -- how many iterations it makes
+  abbrev pub madeUnder : ℕ
+  madeUnder = iterationsMade j s (leftUnder limit s)
 
-  pub end-settles : endNumbers (withLimit j limit) ≡ [] → settlesAt j (firstState j) (iterationsMade j (firstState j) limit - 1) ≡ true
+  pub run-alike : madeFrom (withLimit j limit) s ≡ madeUnder
+  unfolding iterationsLeft
+  run-alike = made-alike j limit s (leftUnder limit s)
+
+  last-alike : settlesAt (withLimit j limit) s (madeFrom (withLimit j limit) s - 1) ≡ settlesAt j s (madeUnder - 1)
+  last-alike = rw run-alike (settles-alike j limit s (madeUnder - 1))
+
+  pub end-settles : endNumbers (withLimit j limit) s ≡ [] → settlesAt j s (madeUnder - 1) ≡ true
   unfolding endNumbers
   end-settles e =
       ⊎-elim
-      (λ (t : settlesAt j (firstState j) (iterationsMade j (firstState j) limit - 1) ≡ true). t)
-      (λ (t : settlesAt j (firstState j) (iterationsMade j (firstState j) limit - 1) ≡ false).
-      absurd (not-accepted _ _ (sym (rw (last-alike, t) at e))))
-      (either-way (settlesAt j (firstState j) (iterationsMade j (firstState j) limit - 1)))
+      (λ (t : settlesAt j s (madeUnder - 1) ≡ true). t)
+      (λ (t : settlesAt j s (madeUnder - 1) ≡ false). absurd (not-accepted _ _ (sym (rw (last-alike, t) at e))))
+      (either-way (settlesAt j s (madeUnder - 1)))
 
-  pub settled-end : settlesAt j (firstState j) (iterationsMade j (firstState j) limit - 1) ≡ true → endNumbers (withLimit j limit) ≡ []
+  pub settled-end : settlesAt j s (madeUnder - 1) ≡ true → endNumbers (withLimit j limit) s ≡ []
   unfolding endNumbers
   settled-end t = rw (last-alike, t)
 
-  pub end-unsettled : (number : ℕ) (numbers : List ℕ) → endNumbers (withLimit j limit) ≡ number ∷ numbers
-      → settlesAt j (firstState j) (iterationsMade j (firstState j) limit - 1) ≡ false
+  pub end-unsettled : (number : ℕ) (numbers : List ℕ) → endNumbers (withLimit j limit) s ≡ number ∷ numbers → settlesAt j s (madeUnder - 1) ≡ false
   end-unsettled number numbers e =
       ⊎-elim
-      (λ (t : settlesAt j (firstState j) (iterationsMade j (firstState j) limit - 1) ≡ true).
-      absurd (not-accepted number numbers (sym (settled-end t) ∙ e)))
-      (λ (t : settlesAt j (firstState j) (iterationsMade j (firstState j) limit - 1) ≡ false). t)
-      (either-way (settlesAt j (firstState j) (iterationsMade j (firstState j) limit - 1)))
+      (λ (t : settlesAt j s (madeUnder - 1) ≡ true). absurd (not-accepted number numbers (sym (settled-end t) ∙ e)))
+      (λ (t : settlesAt j s (madeUnder - 1) ≡ false). t)
+      (either-way (settlesAt j s (madeUnder - 1)))
 
-module _ (j : Job) (low high : ℕ) (more : low ≤ high) where
+module _ (j : Job) (p : Progress) (low high : ℕ) (more : low ≤ high) where
   -- the records under the smaller are a beginning of those under the larger
-  pub raised-records : (later : List Record) × (allRecords (withLimit j high) ≡ allRecords (withLimit j low) ++ later)
+  pub raised-records : (later : List Record) × (allRecords (withLimit j high) p ≡ allRecords (withLimit j low) p ++ later)
   raised-records =
-      let rest =
-      records-more j (firstState j) (iterationsMade j (firstState j) high) (iterationsMade j (firstState j) low)
-      (made-more j (firstState j) low high more) in
-      (rest .0, all-alike j high ∙ rest .1 ∙ ap (λ (l : List Record). l ++ rest .0) (sym (all-alike j low)))
+      let s : State = p .state in
+      let rest = records-more j s (madeUnder j high s) (madeUnder j low s) (made-more j s (leftUnder low s) (leftUnder high s) (omega arith)) in (
+        rest .0,
+        rw (all-alike j high p, all-alike j low p, rest .1) (sym (append-assoc (p .records) (recordsAfter j s (madeUnder j low s)) (rest .0))),
+      )

@@ -9,21 +9,20 @@ use native.Mathlib.Omega.{arith}
 use lib.Dec.{leb, ltb}
 use lib.ListN.{length}
 use borrow.Author.Tests.{le-ltb}
-use Rattle.price.specs.Test.{choose}
 use Rattle.price.proofs.TestLaws.{either-way}
 use Rattle.search.specs.Replies.{workNeeded, cleared}
 use Rattle.negotiation.specs.Job.{Job, nodes, nets, netSinks}
 use Rattle.negotiation.specs.Tables.{limitSound, termsSound, faultyNets, faultyJob}
 use Rattle.negotiation.specs.Join.{joined}
 use Rattle.negotiation.specs.Records.{Record, encode, fitting}
-use Rattle.negotiation.specs.Machine.{othersOf, marksOf, congestionFor, firstState, recordsAfter}
-use Rattle.negotiation.specs.Outcome.{RouteReply, hasPath, unreachableNet, unreachablePlace, iterationsMade, iterationsRun, allRecords, endNumbers, refusedReply, ranReply, negotiated, reachedReply, tested, routeReply}
+use Rattle.negotiation.specs.Machine.{Progress, othersOf, marksOf, congestionFor, firstState}
+use Rattle.negotiation.specs.Outcome.{RouteReply, hasPath, unreachableNet, unreachablePlace, begun, lastIteration, allRecords, endNumbers, refusedReply, ranReply, continued, negotiated, reachedReply, tested, routeReply}
 use Rattle.negotiation.specs.Longer.{withLimit, Begins, SameLog, LimitsCompared, RaisedInPlace, LogLengthened, LogsCompared}
 use Rattle.negotiation.proofs.JobLaws.{limit-least}
 use Rattle.negotiation.proofs.JoiningLaws.{places-same}
 use Rattle.negotiation.proofs.RecordLaws.{fitting-begins, fitting-less, fitting-append}
 use Rattle.negotiation.proofs.EndLaws.{whole-reply}
-use Rattle.negotiation.proofs.LimitLaws.{first-alike, made-alike, all-alike, made-same, made-again, not-accepted, end-settles, settled-end, end-unsettled, raised-records}
+use Rattle.negotiation.proofs.LimitLaws.{leftUnder, first-alike, all-alike, made-same, made-again, not-accepted, madeUnder, run-alike, end-settles, settled-end, end-unsettled, raised-records}
 use Rattle.negotiation.proofs.ReplyLogLaws.{LogHas, log-words, log-turns, log-begins, refused-log, ran-log, run-log, full-or-fits, run-same}
 
 -- ---- the refusals before any turn
@@ -109,6 +108,13 @@ reply-tested j work log = refl
 joined-limit : (j : Job) (limit : ℕ) → joined (withLimit j limit) ≡ withLimit (joined j) limit
 joined-limit j limit = simp (places-same (withLimit j limit) j refl refl refl)
 
+-- and every run begins alike
+begun-limit : (j : Job) (limit : ℕ) (work log : List ℕ) → negotiated (joined (withLimit j limit)) work log ≡ continued (withLimit (joined j) limit) (begun (joined j)) work log
+begun-limit j limit work log = rw (joined-limit j limit, first-alike (joined j) limit)
+
+begun-records : (j : Job) (limit : ℕ) → allRecords (joined (withLimit j limit)) (begun (joined (withLimit j limit))) ≡ allRecords (withLimit (joined j) limit) (begun (joined j))
+begun-records j limit = rw (joined-limit j limit, first-alike (joined j) limit)
+
 -- of the tests of tables only that of table 8 reads it
 faulty-alike : (j : Job) (low high : ℕ) → limitSound low ≡ true → limitSound high ≡ true → faultyJob (withLimit j high) ≡ faultyJob (withLimit j low)
 unfolding faultyJob faultyNets termsSound
@@ -166,93 +172,107 @@ log-lengthened j work short work′ long enough enough′ more =
     (λ (r : Runs j work work′).
     let left = reply-tested j work short ∙ r .reply short (negotiated (joined j) work short) in
     let right = reply-tested j work′ long ∙ r .reply′ long (negotiated (joined j) work′ long) in
-    lengthened j work short work′ long more (allRecords (joined j)) (rw left (run-log (joined j) work short)) (rw right (run-log (joined j) work′ long))
+    let p : Progress = begun (joined j) in
+    lengthened j work short work′ long more (allRecords (joined j) p) (rw left (run-log (joined j) p work short)) (rw right (run-log (joined j) p work′ long))
     (λ unfilled.
     rw (left, right)
     (⊎-elim
     (λ full. absurd (unfilled (full .0) (full .1) (ap (λ (r : RouteReply). r .refusal) left ∙ full .2)))
-    (λ (fits : length (encode (allRecords (joined j))) ≤ length short). run-same (joined j) work short work′ long fits (omega arith))
-    (full-or-fits (joined j) work short))))
+    (λ (fits : length (encode (allRecords (joined j) p)) ≤ length short). run-same (joined j) p work short work′ long fits (omega arith))
+    (full-or-fits (joined j) p work short))))
     (refused-or-runs j work work′ (enough-alike j work work′ enough enough′))
 
 -- ---- a larger limit
 
-module _ (j : Job) (low high : ℕ) (more : low ≤ high) where
-  -- where the run settles under the smaller, it makes as many iterations under the larger, and ends as accepted
-  settled-made : 1 ≤ low → endNumbers (withLimit j low) ≡ [] → iterationsMade j (firstState j) high ≡ iterationsMade j (firstState j) low
-  settled-made some end = made-same j (firstState j) low high more some (end-settles j low end)
+-- of a run that goes on from p
+module _ (j : Job) (p : Progress) (low high : ℕ) (more : low ≤ high) where
+  -- where it settles under the smaller, it makes as many iterations under the larger, and ends as accepted
+  settled-made : p .state .iteration ≤ low → endNumbers (withLimit j low) (p .state) ≡ [] → madeUnder j high (p .state) ≡ madeUnder j low (p .state)
+  settled-made some end = made-same j (p .state) (leftUnder low (p .state)) (leftUnder high (p .state)) (omega arith) (omega arith) (end-settles j low (p .state) end)
 
-  settled-records : 1 ≤ low → endNumbers (withLimit j low) ≡ [] → allRecords (withLimit j high) ≡ allRecords (withLimit j low)
-  settled-records some end =
-      all-alike j high ∙ ap (recordsAfter j (firstState j)) (settled-made some end) ∙ sym (all-alike j low)
+  settled-records : p .state .iteration ≤ low → endNumbers (withLimit j low) (p .state) ≡ [] → allRecords (withLimit j high) p ≡ allRecords (withLimit j low) p
+  settled-records some end = rw (all-alike j high p, all-alike j low p, settled-made some end)
 
-  settled-iterations : 1 ≤ low → endNumbers (withLimit j low) ≡ [] → iterationsRun (withLimit j high) ≡ iterationsRun (withLimit j low)
-  settled-iterations some end =
-      rw (first-alike j low, first-alike j high, made-alike j low, made-alike j high) (settled-made some end)
+  settled-iterations :
+      p .state .iteration ≤ low → endNumbers (withLimit j low) (p .state) ≡ [] → lastIteration (withLimit j high) (p .state) ≡ lastIteration (withLimit j low) (p .state)
+  settled-iterations some end = rw (run-alike j low (p .state), run-alike j high (p .state), settled-made some end)
 
-  settled-numbers : 1 ≤ low → endNumbers (withLimit j low) ≡ [] → endNumbers (withLimit j high) ≡ []
-  settled-numbers some end = settled-end j high (rw (settled-made some end) (end-settles j low end))
+  settled-numbers : p .state .iteration ≤ low → endNumbers (withLimit j low) (p .state) ≡ [] → endNumbers (withLimit j high) (p .state) ≡ []
+  settled-numbers some end = settled-end j high (p .state) (rw (settled-made some end) (end-settles j low (p .state) end))
 
   -- in the same slices
-  placed-begins : (work log : List ℕ) → Begins (negotiated (withLimit j low) work log) (negotiated (withLimit j high) work log)
+  placed-begins : (work log : List ℕ) → Begins (continued (withLimit j low) p work log) (continued (withLimit j high) p work log)
   placed-begins work log =
-      let all = raised-records j low high more in
-      let later = fitting-append (length log) (allRecords (withLimit j low)) (all .0) in
-      log-begins (negotiated (withLimit j low) work log) (negotiated (withLimit j high) work log)
-      (fitting (length log) (allRecords (withLimit j low))) (later .0) (fitting (length log) (allRecords (withLimit j high)))
-      (run-log (withLimit j low) work log) (run-log (withLimit j high) work log)
+      let all = raised-records j p low high more in
+      let later = fitting-append (length log) (allRecords (withLimit j low) p) (all .0) in
+      log-begins (continued (withLimit j low) p work log) (continued (withLimit j high) p work log)
+      (fitting (length log) (allRecords (withLimit j low) p)) (later .0) (fitting (length log) (allRecords (withLimit j high) p))
+      (run-log (withLimit j low) p work log) (run-log (withLimit j high) p work log)
       (ap (fitting (length log)) (all .1) ∙ later .1)
 
   placed-same :
-      1 ≤ low → (work log : List ℕ) → negotiated (withLimit j low) work log .refusal ≡ []
-      → negotiated (withLimit j high) work log ≡ negotiated (withLimit j low) work log
+      p .state .iteration ≤ low → (work log : List ℕ) → continued (withLimit j low) p work log .refusal ≡ []
+      → continued (withLimit j high) p work log ≡ continued (withLimit j low) p work log
   placed-same some work log accepted =
       ⊎-elim
       (λ full. absurd (not-accepted _ _ (sym accepted ∙ full .2)))
-      (λ (fits : length (encode (allRecords (withLimit j low))) ≤ length log).
-      let left = whole-reply (withLimit j low) work log (allRecords (withLimit j low)) refl fits in
-      let end : endNumbers (withLimit j low) ≡ [] = sym (ap (λ (r : RouteReply). r .refusal) left) ∙ accepted in
-      let right = whole-reply (withLimit j high) work log (allRecords (withLimit j low)) (settled-records some end) fits in
+      (λ (fits : length (encode (allRecords (withLimit j low) p)) ≤ length log).
+      let left = whole-reply (withLimit j low) p work log (allRecords (withLimit j low) p) refl fits in
+      let end : endNumbers (withLimit j low) (p .state) ≡ [] = sym (ap (λ (r : RouteReply). r .refusal) left) ∙ accepted in
+      let right = whole-reply (withLimit j high) p work log (allRecords (withLimit j low) p) (settled-records some end) fits in
       rw (right, left, end, settled-numbers some end, settled-iterations some end))
-      (full-or-fits (withLimit j low) work log)
+      (full-or-fits (withLimit j low) p work log)
 
   -- each in its own slices, with room for all its turns
   module _ (work log work′ log′ : List ℕ)
-      (fits : length (encode (allRecords (withLimit j low))) ≤ length log) (fits′ : length (encode (allRecords (withLimit j high))) ≤ length log′) where
-    left : negotiated (withLimit j low) work log ≡ ranReply (withLimit j low) (endNumbers (withLimit j low)) (iterationsRun (withLimit j low)) (allRecords (withLimit j low)) work log
-    left = whole-reply (withLimit j low) work log (allRecords (withLimit j low)) refl fits
+      (fits : length (encode (allRecords (withLimit j low) p)) ≤ length log) (fits′ : length (encode (allRecords (withLimit j high) p)) ≤ length log′) where
+    abbrev a : RouteReply
+    a = continued (withLimit j low) p work log
 
-    right : negotiated (withLimit j high) work′ log′ ≡ ranReply (withLimit j high) (endNumbers (withLimit j high)) (iterationsRun (withLimit j high)) (allRecords (withLimit j high)) work′ log′
-    right = whole-reply (withLimit j high) work′ log′ (allRecords (withLimit j high)) refl fits′
+    abbrev b : RouteReply
+    b = continued (withLimit j high) p work′ log′
 
-    raised-begins : Begins (negotiated (withLimit j low) work log) (negotiated (withLimit j high) work′ log′)
+    left : a ≡ ranReply (withLimit j low) (endNumbers (withLimit j low) (p .state)) (lastIteration (withLimit j low) (p .state)) (allRecords (withLimit j low) p) work log
+    left = whole-reply (withLimit j low) p work log (allRecords (withLimit j low) p) refl fits
+
+    right : b ≡ ranReply (withLimit j high) (endNumbers (withLimit j high) (p .state)) (lastIteration (withLimit j high) (p .state)) (allRecords (withLimit j high) p) work′ log′
+    right = whole-reply (withLimit j high) p work′ log′ (allRecords (withLimit j high) p) refl fits′
+
+    low-log : LogHas a (allRecords (withLimit j low) p)
+    low-log = rw left (ran-log (withLimit j low) _ _ (allRecords (withLimit j low) p) work log)
+
+    high-log : LogHas b (allRecords (withLimit j high) p)
+    high-log = rw right (ran-log (withLimit j high) _ _ (allRecords (withLimit j high) p) work′ log′)
+
+    raised-begins : Begins a b
     raised-begins =
-        let all = raised-records j low high more in
-        rw (left, right)
-        (log-begins _ _ (allRecords (withLimit j low)) (all .0) (allRecords (withLimit j high))
-        (ran-log (withLimit j low) _ _ (allRecords (withLimit j low)) work log) (ran-log (withLimit j high) _ _ (allRecords (withLimit j high)) work′ log′) (all .1))
+        let all = raised-records j p low high more in
+        log-begins a b (allRecords (withLimit j low) p) (all .0) (allRecords (withLimit j high) p) low-log high-log (all .1)
 
-    raised-same : 1 ≤ low → negotiated (withLimit j low) work log .refusal ≡ [] → SameLog (negotiated (withLimit j low) work log) (negotiated (withLimit j high) work′ log′)
+    raised-same : p .state .iteration ≤ low → a .refusal ≡ [] → SameLog a b
     raised-same some accepted =
-        let end : endNumbers (withLimit j low) ≡ [] = sym (ap (λ (r : RouteReply). r .refusal) left) ∙ accepted in
+        let end : endNumbers (withLimit j low) (p .state) ≡ [] = sym (ap (λ (r : RouteReply). r .refusal) left) ∙ accepted in
         let same = settled-records some end in
-        let words =
-        log-words (negotiated (withLimit j high) work′ log′) (allRecords (withLimit j high)) (rw right (ran-log (withLimit j high) _ _ (allRecords (withLimit j high)) work′ log′))
-        ∙ ap encode same
-        ∙ sym (log-words (negotiated (withLimit j low) work log) (allRecords (withLimit j low)) (rw left (ran-log (withLimit j low) _ _ (allRecords (withLimit j low)) work log))) in
         record {
           refusal = rw (left, right) (settled-numbers some end ∙ sym end);
           iteration = rw (left, right) (settled-iterations some end);
           turns = rw (left, right) (ap length same);
           used = rw (left, right) (ap (λ (rs : List Record). length (encode rs)) same);
-          words = words;
+          words = log-words b (allRecords (withLimit j high) p) high-log ∙ ap encode same ∙ sym (log-words a (allRecords (withLimit j low) p) low-log);
         }
 
-    raised-on : (over : ℕ) → negotiated (withLimit j low) work log .refusal ≡ 9 ∷ low ∷ over ∷ [] → low < high → low < negotiated (withLimit j high) work′ log′ .iteration
-    raised-on over limited less =
-        let end : endNumbers (withLimit j low) ≡ 9 ∷ low ∷ over ∷ [] = sym (ap (λ (r : RouteReply). r .refusal) left) ∙ limited in
-        rw (right, first-alike j high, made-alike j high)
-        (made-again j (firstState j) low high more (end-unsettled j low 9 (low ∷ over ∷ []) end) less)
+    raised-on : (over : ℕ) → p .state .iteration ≤ low → a .refusal ≡ 9 ∷ low ∷ over ∷ [] → low < high → low < b .iteration
+    raised-on over some limited less =
+        let s = p .state in
+        let end : endNumbers (withLimit j low) s ≡ 9 ∷ low ∷ over ∷ [] = sym (ap (λ (r : RouteReply). r .refusal) left) ∙ limited in
+        let again : leftUnder low s < madeUnder j high s =
+        made-again j s (leftUnder low s) (leftUnder high s) (omega arith) (end-unsettled j low s 9 (low ∷ over ∷ []) end) (omega arith) in
+        rw (right, run-alike j high s) (omega arith)
+
+-- an allowed limit lets a run begin
+begins-below : (j : Job) (limit : ℕ) → 1 ≤ limit → firstState j .iteration ≤ limit
+unfolding firstState
+begins-below j limit h = h
 
 -- both replies under two allowed limits: refused alike, or the runs'
 module _ (j : Job) (low high : ℕ) (l : limitSound low ≡ true) (h : limitSound high ≡ true) (work log work′ log′ : List ℕ) where
@@ -263,15 +283,15 @@ module _ (j : Job) (low high : ℕ) (l : limitSound low ≡ true) (h : limitSoun
   high-refused r =
       reply-tested (withLimit j high) work′ log′ ∙ tested-alike j low high l h work′ log′ _ ∙ r .reply′ log′ (negotiated (joined (withLimit j high)) work′ log′)
 
-  low-runs : Runs (withLimit j low) work work′ → routeReply (withLimit j low) work log ≡ negotiated (withLimit (joined j) low) work log
+  low-runs : Runs (withLimit j low) work work′ → routeReply (withLimit j low) work log ≡ continued (withLimit (joined j) low) (begun (joined j)) work log
   low-runs r =
       reply-tested (withLimit j low) work log ∙ r .reply log (negotiated (joined (withLimit j low)) work log)
-      ∙ ap (λ (k : Job). negotiated k work log) (joined-limit j low)
+      ∙ begun-limit j low work log
 
-  high-runs : Runs (withLimit j low) work work′ → routeReply (withLimit j high) work′ log′ ≡ negotiated (withLimit (joined j) high) work′ log′
+  high-runs : Runs (withLimit j low) work work′ → routeReply (withLimit j high) work′ log′ ≡ continued (withLimit (joined j) high) (begun (joined j)) work′ log′
   high-runs r =
       reply-tested (withLimit j high) work′ log′ ∙ tested-alike j low high l h work′ log′ _ ∙ r .reply′ log′ (negotiated (joined (withLimit j high)) work′ log′)
-      ∙ ap (λ (k : Job). negotiated k work′ log′) (joined-limit j high)
+      ∙ begun-limit j high work′ log′
 
   refused-begins : (r : Refused (withLimit j low) work work′) → Begins (routeReply (withLimit j low) work log) (routeReply (withLimit j high) work′ log′)
   refused-begins r =
@@ -296,18 +316,20 @@ limit-raised j low high work log work′ log′ l h more enough enough′ =
     (λ (r : Runs (withLimit j low) work work′).
     let left = low-runs j low high l h work log work′ log′ r in
     let right = high-runs j low high l h work log work′ log′ r in
-    let fits = rw (joined-limit j low) at (enough .log-long) in
-    let fits′ = rw (joined-limit j high) at (enough′ .log-long) in
+    let p : Progress = begun (joined j) in
+    let fits = rw (begun-records j low) at (enough .log-long) in
+    let fits′ = rw (begun-records j high) at (enough′ .log-long) in
+    let some = begins-below (joined j) low (limit-least low l) in
     record {
-      begins = rw (left, right) (raised-begins (joined j) low high more work log work′ log′ fits fits′);
+      begins = rw (left, right) (raised-begins (joined j) p low high more work log work′ log′ fits fits′);
       same =
           λ accepted.
           rw (left, right)
-          (raised-same (joined j) low high more work log work′ log′ fits fits′ (limit-least low l) (rw left at accepted));
+          (raised-same (joined j) p low high more work log work′ log′ fits fits′ some (rw left at accepted));
       goes-on =
           λ over limited less.
           rw right
-          (raised-on (joined j) low high more work log work′ log′ fits fits′ over (rw left at limited) less);
+          (raised-on (joined j) p low high more work log work′ log′ fits fits′ over some (rw left at limited) less);
     })
     (refused-or-runs (withLimit j low) work work′ (enough-alike j work work′ (enough .work-long) (enough′ .work-long)))
 
@@ -326,8 +348,8 @@ raised-in-place j low high work log l h more =
     let left = low-runs j low high l h work log work log r in
     let right = high-runs j low high l h work log work log r in
     record {
-      begins = rw (left, right) (placed-begins (joined j) low high more work log);
-      same = λ accepted. right ∙ placed-same (joined j) low high more (limit-least low l) work log (rw left at accepted) ∙ sym left;
+      begins = rw (left, right) (placed-begins (joined j) (begun (joined j)) low high more work log);
+      same = λ accepted. right ∙ placed-same (joined j) (begun (joined j)) low high more (begins-below (joined j) low (limit-least low l)) work log (rw left at accepted) ∙ sym left;
     })
     (refused-or-runs (withLimit j low) work work refl)
   where

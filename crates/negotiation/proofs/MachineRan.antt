@@ -3,7 +3,7 @@
 use mathlib.Core.Bool.{true, false}
 use mathlib.Core.List.{List, _++_, append-nil, append-assoc}
 use mathlib.Core.Logic.{⊎-elim}
-use mathlib.Core.Path.{_≡_, sym, _∙_, ap, subst}
+use mathlib.Core.Path.{_≡_, _∙_}
 use Prim.Native.Nat.{ℕ, zero, suc, _+_, _≤_, _<_}
 use native.Mathlib.Nat.{le-refl}
 use native.Mathlib.Omega.{arith}
@@ -13,14 +13,15 @@ use Rattle.price.specs.Lists.{has}
 use Rattle.price.proofs.TestLaws.{either-way}
 use Rattle.negotiation.specs.Job.{Job, nets, netSinks}
 use Rattle.negotiation.specs.Records.{Record}
-use Rattle.negotiation.specs.Machine.{State, Progress, netRecords, due, routeNet, afterNets, iterate, firstState, stateAfter, recordsAfter}
+use Rattle.negotiation.specs.Machine.{State, Progress, netRecords, due, afterNets, iterate, stateAfter, recordsAfter}
 use Rattle.negotiation.specs.Outcome.{hasPath}
 use Rattle.negotiation.specs.Routable.{Routable}
+use Rattle.negotiation.specs.Kept.{Grown, CanGoOn}
 use Rattle.negotiation.proofs.DueLaws.{due-some}
 use Rattle.negotiation.proofs.StateLaws.{nets-iteration}
-use Rattle.negotiation.proofs.NetLaws.{StateReady, Grown, grown-same, grown-first, grown-on, grown-ready, net-turn, net-joins, net-source, net-distinct}
-use Rattle.negotiation.proofs.FilterLaws.{All, all-splits, Of}
-use Rattle.negotiation.proofs.RanLaws.{Owns, NetsRan, none, kept, routed, Ran, start, next, nets-histories, nets-factor, source-twice}
+use Rattle.negotiation.proofs.NetLaws.{StateReady, grown-same, grown-first, grown-on, grown-ready, net-turn, net-joins, net-source, net-distinct}
+use Rattle.negotiation.proofs.FilterLaws.{all-splits, Of}
+use Rattle.negotiation.proofs.RanLaws.{Owns, NetsRan, none, kept, routed, Ran, start, next, nets-histories, nets-factor, ran-iteration, ran-trees, source-twice}
 
 -- every sink has a path from its source, as the test before iteration 1 finds
 abbrev pub Reached : Job → Type 0
@@ -37,6 +38,10 @@ module _ (j : Job) (sound : Routable j) where
   pub ran-ready : {m i : ℕ} {rs : List Record} {s : State} {p : Progress} → Ran j m rs s → NetsRan j s i p → m < limitMost → StateReady j (p .state)
   ran-ready {m = m} {s = s} {p = p} r n h =
       grown-ready j (p .state) m h (grown-same j s (p .state) m (nets-histories j n) (nets-factor j n) (ran-grown r))
+
+  -- below the limit a run can go on from where it leads
+  pub ran-can : {m : ℕ} {rs : List Record} {s : State} → Ran j m rs s → m < j .terms .limit → CanGoOn j (record { records = rs; state = s })
+  ran-can {m = m} r h = record { made = m; below = h; iteration-is = ran-iteration j r; grown = ran-grown r; trees-long = ran-trees j r }
 
 -- ---- the machine's turns
 

@@ -33,6 +33,7 @@ use Rattle.negotiation.specs.Records.{Record, pathNodes}
 use Rattle.negotiation.specs.Machine.{State, treeAt, othersOf, usersOf, marksOf, congestionFor, netRecords, treeFrom, afterNets, iterate, movedHistory, moveOn, firstState, stateAfter}
 use Rattle.negotiation.specs.Outcome.{hasPath}
 use Rattle.negotiation.specs.Unreachable.{Reachable}
+use Rattle.negotiation.specs.Kept.{Grown}
 use Rattle.negotiation.proofs.StateLaws.{nets-factor, nets-histories}
 use Rattle.negotiation.specs.Routable.{Routable}
 use Rattle.negotiation.proofs.JobLaws.{tuning-fits}
@@ -47,14 +48,7 @@ pub record StateReady (j : Job) (s : State) : Type 0 where
   pub history-most : (v : ℕ) → v < nodes j → getD (s .histories) v 0 ≤ historyMost
   pub factor-most : s .factor ≤ factorMost
 
--- the same after m whole iterations, with what the histories have grown by at most
-pub record Grown (j : Job) (s : State) (m : ℕ) : Type 0 where
-  pub long : length (s .histories) ≡ nodes j
-  pub least : (v : ℕ) → v < nodes j → 1 ≤ getD (s .histories) v 0
-  pub most : (v : ℕ) → v < nodes j → getD (s .histories) v 0 ≤ 1 + m * historyGain
-  pub factor-most : s .factor ≤ factorMost
-
--- it hangs on histories and factor alone
+-- what they have grown by after so many whole iterations hangs on histories and factor alone
 pub grown-same : (j : Job) (s t : State) (m : ℕ) → t .histories ≡ s .histories → t .factor ≡ s .factor → Grown j s m → Grown j t m
 grown-same j s t m hs f g =
     record { long = rw hs (g .long); least = rw hs (g .least); most = rw hs (g .most); factor-most = rw f (g .factor-most) }
@@ -93,11 +87,12 @@ grown-on j sound s m g =
       factor-most = next-factor-most _ (tuning-fits j sound .few-first) _ _;
     }
 
-grown : (j : Job) → Routable j → (m : ℕ) → Grown j (stateAfter j (firstState j) m) m
+grown : (j : Job) → Routable j → {s : State} {n : ℕ} → Grown j s n → (m : ℕ) → Grown j (stateAfter j s m) (n + m)
 unfolding stateAfter iterate
-grown j sound zero = grown-first j sound
-grown j sound (suc m) =
-    grown-on j sound _ m (grown-after j (stateAfter j (firstState j) m) m (nets j) (grown j sound m))
+grown j sound {s} {n} g zero = let e : n + 0 ≡ n = omega arith in rw e g
+grown j sound {s} {n} g (suc m) =
+    let e : n + suc m ≡ suc (n + m) = omega arith in
+    rw e (grown-on j sound _ (n + m) (grown-after j (stateAfter j s m) (n + m) (nets j) (grown j sound g m)))
 
 -- below the largest limit it keeps the bounds
 pub grown-ready : (j : Job) (s : State) (m : ℕ) → m < limitMost → Grown j s m → StateReady j s
@@ -109,10 +104,11 @@ grown-ready j s m h g =
       factor-most = g .factor-most;
     }
 
--- every state in which a net is routed keeps them
-pub state-ready : (j : Job) → Routable j → (m i : ℕ) → m < limitMost → StateReady j (afterNets j (stateAfter j (firstState j) m) i .state)
-state-ready j sound m i h =
-    grown-ready j (afterNets j (stateAfter j (firstState j) m) i .state) m h (grown-after j (stateAfter j (firstState j) m) m i (grown j sound m))
+-- from such a state on, every state in which a net is routed keeps them
+pub state-ready :
+    (j : Job) → Routable j → {s : State} {n : ℕ} → Grown j s n → (m i : ℕ) → n + m < limitMost → StateReady j (afterNets j (stateAfter j s m) i .state)
+state-ready j sound {s} {n} g m i h =
+    grown-ready j (afterNets j (stateAfter j s m) i .state) (n + m) h (grown-after j (stateAfter j s m) (n + m) i (grown j sound g m))
 
 -- fewer other nets have a node than there are nets
 pub others-few : (j : Job) (trees : List (List ℕ)) (i v : ℕ) → i < nets j → othersOf j trees i v < nets j
@@ -180,7 +176,7 @@ source-alone j sound i hi v h = rw (only-entry v (source j i) h) (sound .source-
 -- the first state keeps its bounds
 pub first-ready : (j : Job) → Routable j → StateReady j (firstState j)
 unfolding afterNets stateAfter
-first-ready j sound = state-ready j sound 0 0 (omega arith)
+first-ready j sound = state-ready j sound (grown-first j sound) 0 0 (omega arith)
 
 -- a node that the test before iteration 1 finds has a path from the source
 pub path-from : (j : Job) → Routable j → (i : ℕ) → i < nets j → (x : ℕ) → x < nodes j → hasPath j i x ≡ true → Reachable j i x

@@ -13,7 +13,8 @@ use borrow.Author.Tests.{ltb-false}
 use Rattle.price.proofs.TestLaws.{either-way}
 use Rattle.negotiation.specs.Job.{Job}
 use Rattle.negotiation.specs.Records.{Record, encode, decode, fitting}
-use Rattle.negotiation.specs.Outcome.{RouteReply, wordsUsed, turnsLogged, allRecords, loggedRecords, cutIteration, logWith, refusedReply, ranReply, negotiated}
+use Rattle.negotiation.specs.Machine.{Progress}
+use Rattle.negotiation.specs.Outcome.{RouteReply, wordsUsed, turnsLogged, allRecords, loggedRecords, cutIteration, logWith, refusedReply, ranReply, continued}
 use Rattle.negotiation.specs.Longer.{Begins, SameLog}
 use Rattle.negotiation.proofs.RecordLaws.{decode-encode, encode-append, fitting-fits, fitting-whole}
 use Rattle.negotiation.proofs.EndLaws.{whole-reply}
@@ -49,44 +50,46 @@ pub ran-log : (j : Job) (numbers : List ℕ) (iteration : ℕ) (rs : List Record
 unfolding logWith
 ran-log j numbers iteration rs work log = record { rest = drop (length (encode rs)) log; used = refl; log = refl }
 
--- a run logs the records that fit
-pub run-log : (j : Job) (work log : List ℕ) → LogHas (negotiated j work log) (fitting (length log) (allRecords j))
-unfolding negotiated loggedRecords
-run-log j work log =
-    ⊎-elim
-    (λ (t : ltb (length (fitting (length log) (allRecords j))) (length (allRecords j)) ≡ true).
-    rw t (ran-log j _ _ (fitting (length log) (allRecords j)) work log))
-    (λ (t : ltb (length (fitting (length log) (allRecords j))) (length (allRecords j)) ≡ false).
-    rw (t, fitting-whole (length log) (allRecords j) (ltb-false _ _ t)) (ran-log j _ _ (allRecords j) work log))
-    (either-way (ltb (length (fitting (length log) (allRecords j))) (length (allRecords j))))
+-- a run from here, in some slices
+module _ (j : Job) (p : Progress) (work log : List ℕ) where
+  -- it logs the records that fit
+  pub run-log : LogHas (continued j p work log) (fitting (length log) (allRecords j p))
+  unfolding continued loggedRecords
+  run-log =
+      ⊎-elim
+      (λ (t : ltb (length (fitting (length log) (allRecords j p))) (length (allRecords j p)) ≡ true).
+      rw t (ran-log j _ _ (fitting (length log) (allRecords j p)) work log))
+      (λ (t : ltb (length (fitting (length log) (allRecords j p))) (length (allRecords j p)) ≡ false).
+      rw (t, fitting-whole (length log) (allRecords j p) (ltb-false _ _ t)) (ran-log j _ _ (allRecords j p) work log))
+      (either-way (ltb (length (fitting (length log) (allRecords j p))) (length (allRecords j p))))
 
--- a run fills its log, or all its records fit
-pub full-or-fits : (j : Job) (work log : List ℕ)
-    → ((iteration : ℕ) × (turns : ℕ) × (negotiated j work log .refusal ≡ 8 ∷ iteration ∷ turns ∷ []))
-    ⊎ (length (encode (allRecords j)) ≤ length log)
-unfolding negotiated loggedRecords
-full-or-fits j work log =
-    ⊎-elim
-    (λ (t : ltb (length (fitting (length log) (allRecords j))) (length (allRecords j)) ≡ true).
-    inl (cutIteration j (length log), length (loggedRecords j (length log)), rw t))
-    (λ (t : ltb (length (fitting (length log) (allRecords j))) (length (allRecords j)) ≡ false).
-    let whole : fitting (length log) (allRecords j) ≡ allRecords j = fitting-whole (length log) (allRecords j) (ltb-false _ _ t) in
-    inr (rw whole at (fitting-fits (length log) (allRecords j))))
-    (either-way (ltb (length (fitting (length log) (allRecords j))) (length (allRecords j))))
+  -- it fills its log, or all its records fit
+  pub full-or-fits :
+      ((iteration : ℕ) × (turns : ℕ) × (continued j p work log .refusal ≡ 8 ∷ iteration ∷ turns ∷ []))
+      ⊎ (length (encode (allRecords j p)) ≤ length log)
+  unfolding continued loggedRecords
+  full-or-fits =
+      ⊎-elim
+      (λ (t : ltb (length (fitting (length log) (allRecords j p))) (length (allRecords j p)) ≡ true).
+      inl (cutIteration j p (length log), length (loggedRecords j p (length log)), rw t))
+      (λ (t : ltb (length (fitting (length log) (allRecords j p))) (length (allRecords j p)) ≡ false).
+      let whole : fitting (length log) (allRecords j p) ≡ allRecords j p = fitting-whole (length log) (allRecords j p) (ltb-false _ _ t) in
+      inr (rw whole at (fitting-fits (length log) (allRecords j p))))
+      (either-way (ltb (length (fitting (length log) (allRecords j p))) (length (allRecords j p))))
 
 -- where all fit both logs, the run ends alike, whatever the work slices
 pub run-same :
-    (j : Job) (work short work′ long : List ℕ) → length (encode (allRecords j)) ≤ length short → length (encode (allRecords j)) ≤ length long
-    → SameLog (negotiated j work short) (negotiated j work′ long)
+    (j : Job) (p : Progress) (work short work′ long : List ℕ) → length (encode (allRecords j p)) ≤ length short → length (encode (allRecords j p)) ≤ length long
+    → SameLog (continued j p work short) (continued j p work′ long)
 unfolding logWith
-run-same j work short work′ long fits more =
-    rw (whole-reply j work short (allRecords j) refl fits, whole-reply j work′ long (allRecords j) refl more)
+run-same j p work short work′ long fits more =
+    rw (whole-reply j p work short (allRecords j p) refl fits, whole-reply j p work′ long (allRecords j p) refl more)
     (record {
       refusal = refl;
       iteration = refl;
       turns = refl;
       used = refl;
       words =
-          take-append-seam (encode (allRecords j)) (drop (length (encode (allRecords j))) long)
-          ∙ sym (take-append-seam (encode (allRecords j)) (drop (length (encode (allRecords j))) short));
+          take-append-seam (encode (allRecords j p)) (drop (length (encode (allRecords j p))) long)
+          ∙ sym (take-append-seam (encode (allRecords j p)) (drop (length (encode (allRecords j p))) short));
     })

@@ -14,7 +14,8 @@ use Rattle.search.specs.Replies.{workNeeded, cleared}
 use Rattle.negotiation.specs.Job.{Job, nodes, nets}
 use Rattle.negotiation.specs.Tables.{SoundJob, faultyJob}
 use Rattle.negotiation.specs.Join.{joined}
-use Rattle.negotiation.specs.Outcome.{RouteReply, unreachableNet, unreachablePlace, negotiated, refusedAnswer, refusedReply, routeReplyOf, reachedReply, routeReply}
+use Rattle.negotiation.specs.Machine.{Progress}
+use Rattle.negotiation.specs.Outcome.{RouteReply, unreachableNet, unreachablePlace, begun, continued, negotiated, refusedAnswer, refusedReply, routeReplyOf, reachedReply, routeReply}
 use Rattle.negotiation.specs.Demand.{Demand3}
 use Rattle.negotiation.specs.Steps.{SameFrom, missing, reachNumbers}
 use Rattle.negotiation.specs.declared.RouteAnswer.{RouteAnswer}
@@ -72,9 +73,9 @@ module _ (j : Job) (work log : List ℕ) where
       unfolding cleared
       cleared-same = rw past
 
-      run-same : negotiated j w log ≡ negotiated j work log
-      unfolding negotiated
-      run-same = rw cleared-same
+      run-same : (p : Progress) → continued j p w log ≡ continued j p work log
+      unfolding continued
+      run-same p = rw cleared-same
 
       pub unreachable-refused :
           (net place : ℕ) (r : RouteAnswer) (w′ : List ℕ) → found ≡ Missing net place → r ≡ refusedAnswer (Unreachable net place)
@@ -86,7 +87,7 @@ module _ (j : Job) (work log : List ℕ) where
 
       pub run-answered :
           (r : RouteAnswer) (w′ log′ : List ℕ) → found ≡ All → routeReplyOf r w′ log′ ≡ negotiated j w log → Reaches (routeReplyOf r w′ log′)
-      run-answered r w′ log′ f e = e ∙ run-same ∙ rw (le-ltb (unreachableNet j) (nets j) (none-missing f))
+      run-answered r w′ log′ f e = e ∙ run-same (begun j) ∙ rw (le-ltb (unreachableNet j) (nets j) (none-missing f))
 
 -- ---- a job as it is given
 

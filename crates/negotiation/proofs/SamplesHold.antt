@@ -16,12 +16,12 @@ use Rattle.negotiation.specs.Tables.{sourcesSound, firstSinksSound, netS
 use Rattle.negotiation.specs.Records.{words, encode, fitting, pathNodes}
 use Rattle.negotiation.specs.Join.{firstOf, leads, placesFrom, listedPlaces, taking, placesOfFirst, joinedPlaces, placesBefore}
 use Rattle.negotiation.specs.Machine.{othersOf, usersOf, marksOf, congestionFor, turnOf, turnsOf, netRecords, hasSinks, allDue, crowded, due, afterNets, iterate, overfull, overCount, moveOn, firstState, stateAfter, recordsAfter, settlesAt}
-use Rattle.negotiation.specs.Outcome.{hasPath, unreachableNet, unreachablePlace, iterationsMade, allRecords, loggedRecords, cutIteration, logWith, endNumbers, negotiated, routeReply}
+use Rattle.negotiation.specs.Outcome.{hasPath, unreachableNet, unreachablePlace, iterationsMade, iterationsLeft, allRecords, loggedRecords, cutIteration, logWith, endNumbers, continued, routeReply}
 use Rattle.negotiation.specs.Samples.{answer, jobB, jobC, jobCut, jobDiamond, settled, limited, filled, nearestFirst, cutOff, lowestFirst, samples}
 
 -- all that a closed job computes with
 unfoldable pub computing : Unit {0}
-unfolding routeReply negotiated endNumbers logWith cutIteration loggedRecords allRecords iterationsMade unreachablePlace unreachableNet hasPath
+unfolding routeReply continued endNumbers logWith cutIteration loggedRecords allRecords iterationsLeft iterationsMade unreachablePlace unreachableNet hasPath
     settlesAt recordsAfter stateAfter firstState moveOn overCount overfull iterate afterNets due allDue crowded hasSinks netRecords turnsOf turnOf congestionFor marksOf usersOf othersOf
     pathNodes fitting encode words faultyJob faultyNets pinsOf oneOf termsSound tuningSound limitSound sinksSound netSound firstSinksSound sourcesSound netSinks cleared
     placesBefore joinedPlaces placesOfFirst taking listedPlaces placesFrom leads firstOf

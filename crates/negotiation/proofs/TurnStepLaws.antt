@@ -8,7 +8,7 @@ use Prim.Native.Nat.{ℕ, zero, suc, _+_, _-_, _≤_, _<_}
 use native.Mathlib.Nat.{not-suc-le-zero}
 use native.Mathlib.Numerals.{add-one}
 use native.Mathlib.Omega.{arith}
-use lib.ListN.{length, getD, take, drop, set, length-append, length-drop, List·getD-append}
+use lib.ListN.{length, getD, take, drop, length-append, length-drop, List·getD-append}
 use lib.Seq.{slice, take-append-seam, drop-append-seam, drop-append-add, drop-drop, getD-append-add}
 use borrow.Author.Tests.{lt-ltb, le-leb}
 use Rattle.price.specs.Bounds.{historyMost, othersMost}
@@ -24,11 +24,11 @@ use Rattle.negotiation.specs.Machine.{State, marksOf, turnOf, turnsOf, d
 use Rattle.negotiation.specs.Outcome.{logWith}
 use Rattle.negotiation.specs.Steps.{AllBelow}
 use Rattle.negotiation.specs.TariffSteps.{loggedTariff}
+use Rattle.negotiation.specs.Kept.{Tallied}
 use Rattle.negotiation.specs.declared.tariff.Tariff.{Tariff}
 use Rattle.negotiation.proofs.RecordLaws.{words-length, encode-append}
 use Rattle.negotiation.proofs.MemberLaws.{lacks-append}
 use Rattle.negotiation.proofs.FilterLaws.{All}
-use Rattle.negotiation.proofs.KeepLaws.{Tallied}
 
 -- ---- what the search asks of a node
 

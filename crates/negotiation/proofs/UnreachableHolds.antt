@@ -15,7 +15,7 @@ use Rattle.price.proofs.BelowLaws.{firstBelow-below, firstBelow-holds, firstBel
 use Rattle.search.specs.Replies.{workNeeded}
 use Rattle.negotiation.specs.Job.{Job, nodes, nets, netSinks}
 use Rattle.negotiation.specs.Tables.{SoundJob, faultyJob}
-use Rattle.negotiation.specs.Outcome.{RouteReply, hasPath, unreachableNet, unreachablePlace}
+use Rattle.negotiation.specs.Outcome.{RouteReply, hasPath, unreachableNet, unreachablePlace, begun}
 use Rattle.negotiation.specs.Unreachable.{Reachable, FirstUnreachable, UnreachableRefused}
 use Rattle.negotiation.specs.Routable.{Routable}
 use Rattle.negotiation.specs.Join.{joined}
@@ -135,7 +135,7 @@ unreachable-refused j work log =
           (λ (enough : workNeeded (nodes j) ≤ length work).
           ⊎-elim
           (λ (all : nets j ≤ unreachableNet (joined j)).
-          absurd (run-reached (joined j) work log net place (sym (refusal (route-run j work log h enough all)) ∙ e)))
+          absurd (run-reached (joined j) (begun (joined j)) work log net place (sym (refusal (route-run j work log h enough all)) ∙ e)))
           (λ (some : unreachableNet (joined j) < nets j).
           let same = sym (refusal (route-unreachable j work log h enough some)) ∙ e in
           let at : unreachableNet (joined j) ≡ net = cc in

@@ -11,6 +11,7 @@ pub mod Demand
 pub mod Longer
 pub mod TariffSteps
 pub mod Steps
+pub mod Kept
 pub mod JoinSteps
 pub mod Flood
 pub mod Samples

@@ -14,7 +14,8 @@ use Rattle.negotiation.specs.Job.{Job, nodes, nets, source, netSinks}
 use Rattle.negotiation.specs.Tables.{faultyJob}
 use Rattle.negotiation.specs.Join.{joined}
 use Rattle.negotiation.specs.Records.{Record, encode, decode, fitting}
-use Rattle.negotiation.specs.Machine.{State, marksOf, congestionFor, firstState, recordsAfter, iterationAfter, settlesAt, overCount}
+use Rattle.negotiation.specs.Machine.{State, Progress, marksOf, congestionFor, overCount}
+use Rattle.negotiation.specs.Machine.{firstState, iterationAfter, recordsAfter, settlesAt}
 use Rattle.negotiation.specs.declared.RouteAnswer.{RouteAnswer}
 use Rattle.negotiation.specs.declared.Outcome.{Outcome}
 use Rattle.negotiation.specs.declared.Outcome.the-variants as o
@@ -37,21 +38,28 @@ unfoldable pub iterationsMade : Job → State → ℕ → ℕ
 iterationsMade j s most =
     choose (ltb (firstBelow (settlesAt j s) most) most) (firstBelow (settlesAt j s) most + 1) most
 
--- how many iterations the job's run makes under its own limit
-abbrev pub iterationsRun : Job → ℕ
-iterationsRun j = iterationsMade j (firstState j) (j .terms .limit)
+-- a run begins with no records
+abbrev pub begun : Job → Progress
+begun j = record { records = []; state = firstState j }
 
--- all turns of the run, in a log of any length
-unfoldable pub allRecords : Job → List Record
-allRecords j = recordsAfter j (firstState j) (iterationsRun j)
+-- how many iterations the limit leaves to a run that goes on from a state, and how many it makes
+unfoldable pub iterationsLeft : Job → State → ℕ
+iterationsLeft j s = j .terms .limit + 1 - s .iteration
+
+abbrev pub madeFrom : Job → State → ℕ
+madeFrom j s = iterationsMade j s (iterationsLeft j s)
+
+-- all turns of a run that goes on from these records and this state, in a log of any length
+unfoldable pub allRecords : Job → Progress → List Record
+allRecords j p = p .records ++ recordsAfter j (p .state) (madeFrom j (p .state))
 
 -- the turns that are logged in so many words
-unfoldable pub loggedRecords : Job → ℕ → List Record
-loggedRecords j room = fitting room (allRecords j)
+unfoldable pub loggedRecords : Job → Progress → ℕ → List Record
+loggedRecords j p room = fitting room (allRecords j p)
 
 -- the iteration of the first turn whose record does not fit
-unfoldable pub cutIteration : Job → ℕ → ℕ
-cutIteration j room = getD (map (λ (r : Record). r .iteration) (allRecords j)) (length (loggedRecords j room)) 0
+unfoldable pub cutIteration : Job → Progress → ℕ → ℕ
+cutIteration j p room = getD (map (λ (r : Record). r .iteration) (allRecords j p)) (length (loggedRecords j p room)) 0
 
 -- what a call answers and leaves: the refusal's numbers, none where the job is accepted; iteration, turns and words used; work slice
 -- and log
@@ -118,20 +126,28 @@ ranReply j numbers iteration rs work log =
     }
 
 -- the run's end where every record fits: "nothing over capacity, accepted; else limit reached, refusal 9"
-unfoldable pub endNumbers : Job → List ℕ
-endNumbers j =
-    choose (settlesAt j (firstState j) (iterationsRun j - 1))
+unfoldable pub endNumbers : Job → State → List ℕ
+endNumbers j s =
+    choose (settlesAt j s (madeFrom j s - 1))
     []
-    (9 ∷ j .terms .limit ∷ overCount j (iterationAfter j (firstState j) (iterationsRun j - 1) .state .trees) ∷ [])
+    (9 ∷ j .terms .limit ∷ overCount j (iterationAfter j s (madeFrom j s - 1) .state .trees) ∷ [])
 
--- the reply of the negotiation itself
-unfoldable pub negotiated : Job → List ℕ → List ℕ → RouteReply
-negotiated j work log =
-    let logged = loggedRecords j (length log) in
-    let cut = cutIteration j (length log) in
-    choose (ltb (length logged) (length (allRecords j)))
+-- the iteration in which a run from a state ends
+abbrev pub lastIteration : Job → State → ℕ
+lastIteration j s = s .iteration + madeFrom j s - 1
+
+-- the reply of a negotiation that goes on from these records and this state
+unfoldable pub continued : Job → Progress → List ℕ → List ℕ → RouteReply
+continued j p work log =
+    let logged = loggedRecords j p (length log) in
+    let cut = cutIteration j p (length log) in
+    choose (ltb (length logged) (length (allRecords j p)))
     (ranReply j (8 ∷ cut ∷ length logged ∷ []) cut logged work log)
-    (ranReply j (endNumbers j) (iterationsRun j) (allRecords j) work log)
+    (ranReply j (endNumbers j (p .state)) (lastIteration j (p .state)) (allRecords j p) work log)
+
+-- and of one that begins
+abbrev pub negotiated : Job → List ℕ → List ℕ → RouteReply
+negotiated j work log = continued j (begun j) work log
 
 -- the reply of a job of joined nets where a run that is begun replies so: by request 2.3, "7 gives the first net's number and the place
 -- among its joined sinks"

@@ -5,7 +5,7 @@ use mathlib.Core.List.{List, [], _∷_, _++_}
 use mathlib.Core.Path.{_≡_}
 use Prim.Native.Nat.{ℕ, _+_, _*_, _-_, _≤_, _<_}
 use lib.Dec.{eqb, ltb}
-use lib.ListN.{length, getD, take, drop, set, replicate}
+use lib.ListN.{length, getD, take, drop, set}
 use lib.Seq.{slice}
 use Rattle.price.specs.Test.{choose, both, either}
 use Rattle.price.specs.Lists.{every, has, distinct}
@@ -15,7 +15,7 @@ use Rattle.search.specs.Block.{Block}
 use Rattle.search.specs.Tables.{Sound}
 use Rattle.search.specs.Turn.{Congestion, congestionOf, Turn, joins, stuck}
 use Rattle.search.specs.Replies.{nodeSound, sinkListSound}
-use Rattle.negotiation.specs.Job.{Job, nodes, nets, jobOf}
+use Rattle.negotiation.specs.Job.{Job, nets, jobOf}
 use Rattle.negotiation.specs.Tables.{sourceKind, sinkKind}
 use Rattle.negotiation.specs.Routable.{Routable}
 use Rattle.negotiation.specs.Outcome.{unreachableNet, unreachablePlace}
@@ -268,18 +268,3 @@ pub record CanTurn (b : Block) (tariff : Tariff) (net : ℕ) (sinks history user
   pub sinks-sound : sinkListSound (block.nodes b) sinks ≡ true
   pub within : tariff .words ≤ length log
   pub few-turns : tariff .turns ≤ tariff .words
-
--- ---- a run
-
--- the lists and the tariff of a run that begins: history 1, no users, no tree
-pub record Starts (j : Job) (t : Tariff) (history users marks from to dues : List ℕ) : Type 0 where
-  pub iteration-is : t .iteration ≡ 1
-  pub factor-is : t .factor ≡ 0
-  pub turns-is : t .turns ≡ 0
-  pub words-is : t .words ≡ 0
-  pub history-is : history ≡ replicate (nodes j) 1
-  pub users-is : users ≡ replicate (nodes j) 0
-  pub no-marks : marks ≡ replicate (nodes j) 0
-  pub from-is : from ≡ replicate (nets j) 0
-  pub to-is : to ≡ replicate (nets j) 0
-  pub due-long : length dues ≡ nets j

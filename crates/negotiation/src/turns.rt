@@ -9,8 +9,10 @@ ghost use Rattle.search.specs.Block.{blockOf};
 ghost use Rattle.search.specs.Turn.{congestionOf, priceAt, turn};
 ghost use Rattle.negotiation.specs.Job.{jobOf, nodes, nets};
 ghost use Rattle.negotiation.specs.Routable.{Routable};
-ghost use Rattle.negotiation.specs.Outcome.{unreachableNet, negotiated, routeReplyOf};
-ghost use Rattle.negotiation.specs.Steps.{SameFrom, TurnDone, CanTurn, Starts};
+ghost use Rattle.negotiation.specs.Machine.{Progress};
+ghost use Rattle.negotiation.specs.Outcome.{unreachableNet, continued, negotiated, routeReplyOf};
+ghost use Rattle.negotiation.specs.Steps.{SameFrom, TurnDone, CanTurn};
+ghost use Rattle.negotiation.specs.Kept.{Ready, Stands};
 use crate::NETS_MOST;
 use crate::NODES_MOST;
 use crate::Outcome;
@@ -128,8 +130,8 @@ fn one_turn(
     TurnMade::Logged(tariff::turn_logged(tariff, 6 + count))
 }
 
-// The iterations: in each every net that is due, in order, drops its old tree and makes turns until its sinks are joined. Routing stops
-// inside a net at the first turn whose record does not fit.
+// The iterations of a run that goes on from where its lists stand: in each every net that is due, in order, drops its old tree and makes
+// turns until its sinks are joined. Routing stops inside a net at the first turn whose record does not fit.
 fn go_on(
     kind: &[u8],
     capacity: &[u8],
@@ -154,11 +156,14 @@ fn go_on(
       ⌜ Routable job × (nets job ≤ unreachableNet job) × (8 * nodes job ≤ length (now work)) ⌝ }
     requires { do
       let job = jobOf (now kind) (now capacity) (now «first_edge») (now «edge_target») (now source) (now «first_sink») (now sink) terms
-      ⌜ Starts job begun (now history) (now users) (now «in_tree») (now «tree_from») (now «tree_to») (now due) ⌝ }
+      ⌜ Stands job begun (now history) (now users) (now «in_tree») (now «tree_from») (now «tree_to») (now due) (now log) ⌝ }
     ensures { λ r. do
       let job = jobOf (now (kind .entry)) (now (capacity .entry)) (now («first_edge» .entry)) (now («edge_target» .entry))
           (now (source .entry)) (now («first_sink» .entry)) (now (sink .entry)) terms
-      ⌜ routeReplyOf r (now (work .exit)) (now (log .exit)) ≡ negotiated job (now (work .entry)) (now (log .entry)) ⌝ }
+      ⌜ ((p : Progress)
+          → Ready job p begun (now (history .entry)) (now (users .entry)) (now («in_tree» .entry)) (now («tree_from» .entry))
+          (now («tree_to» .entry)) (now (due .entry)) (now (log .entry))
+          → routeReplyOf r (now (work .exit)) (now (log .exit)) ≡ continued job p (now (work .entry)) (now (log .entry))) ⌝ }
 {
     let n = kind.len();
     let mut tariff = begun;

@@ -27,19 +27,19 @@ use Rattle.negotiation.specs.Routable.{Routable}
 use Rattle.negotiation.specs.Join.{firstOf, joined}
 use Rattle.negotiation.specs.Records.{Record, encode}
 use Rattle.negotiation.specs.Machine.{State, Progress, netRecords, treeFrom, hasSinks, due, afterNets, iterate, firstState, stateAfter, iterationAfter, recordsAfter}
-use Rattle.negotiation.specs.Outcome.{RouteReply, unreachableNet, unreachablePlace, iterationsMade, allRecords, loggedRecords, cutIteration, logWith, negotiated, routeReply}
+use Rattle.negotiation.specs.Outcome.{RouteReply, unreachableNet, unreachablePlace, begun, iterationsLeft, madeFrom, allRecords, loggedRecords, cutIteration, logWith, continued, negotiated, routeReply}
 use Rattle.negotiation.specs.Demand.{latest}
 use Rattle.negotiation.proofs.JobLaws.{faulty-none, nets-some, all-sinks}
 use Rattle.negotiation.proofs.JoinedHolds.{sinks-lead, joined-nets, joined-routable}
-use Rattle.negotiation.proofs.NetLaws.{NetTurn, net-turn, state-ready}
+use Rattle.negotiation.proofs.NetLaws.{NetTurn, net-turn, grown-first, state-ready}
 use Rattle.negotiation.proofs.FilterLaws.{All, all-append, all-map, all-splits}
-use Rattle.negotiation.proofs.StateLaws.{nets-iteration, state-iteration}
+use Rattle.negotiation.proofs.StateLaws.{nets-iteration, first-iteration}
 use Rattle.negotiation.proofs.DueLaws.{due-sinks, first-due}
 use Rattle.negotiation.proofs.RanLaws.{start, ran-latest}
 use Rattle.negotiation.proofs.MachineRan.{Reached, machine-nets}
 use Rattle.negotiation.proofs.DemandHolds.{made-most}
 use Rattle.negotiation.proofs.DemandLaws.{all-reached}
-use Rattle.negotiation.proofs.EndLaws.{made-least, all-made}
+use Rattle.negotiation.proofs.EndLaws.{left-first, made-least, all-made}
 use Rattle.negotiation.proofs.RefusalLaws.{route-unreachable, route-run}
 use Rattle.text.specs.Routes.{netWritable}
 use Rattle.negotiation.proofs.JoinLaws.{first-below}
@@ -105,8 +105,8 @@ module _ (j : Job) (rests : Routable j) (m : ℕ) (hm : m < limitMost) where
       (all-append (Turned j (m + 1)) (p .records) (netRecords j s i) before
       (all-splits (Turned j (m + 1)) (netRecords j s i)
       (λ earlier later r e.
-      net-turned j s i (m + 1) earlier r h (due-sinks j (stateAfter j (firstState j) m) i d) (nets-iteration j (stateAfter j (firstState j) m) i ∙ state-iteration j m)
-      (net-turn j rests s (state-ready j rests m i hm) i h earlier later r e)))))
+      net-turned j s i (m + 1) earlier r h (due-sinks j (stateAfter j (firstState j) m) i d) (nets-iteration j (stateAfter j (firstState j) m) i ∙ first-iteration j m)
+      (net-turn j rests s (state-ready j rests (grown-first j rests) m i (omega (arith, hm))) i h earlier later r e)))))
       (λ (d : due j (stateAfter j (firstState j) m) i ≡ false). rw d before)
       (either-way (due j (stateAfter j (firstState j) m) i))
 
@@ -143,31 +143,33 @@ pub record Accepted (j : Job) (r : RouteReply) : Type 0 where
   pub reached : Reached j
 
 -- a run without a refusal logs all its records
-run-words : (j : Job) (work log : List ℕ) → negotiated j work log .refusal ≡ [] → take (negotiated j work log .used) (negotiated j work log .log) ≡ encode (allRecords j)
-unfolding negotiated logWith
-run-words j work log e =
+run-words : (j : Job) (p : Progress) (work log : List ℕ) → continued j p work log .refusal ≡ [] → take (continued j p work log .used) (continued j p work log .log) ≡ encode (allRecords j p)
+unfolding continued logWith
+run-words j p work log e =
     ⊎-elim
-    (λ (q : ltb (length (loggedRecords j (length log))) (length (allRecords j)) ≡ true).
-    let none : (8 ∷ cutIteration j (length log) ∷ length (loggedRecords j (length log)) ∷ []) ≡ [] = rw q at e in
+    (λ (q : ltb (length (loggedRecords j p (length log))) (length (allRecords j p)) ≡ true).
+    let none : (8 ∷ cutIteration j p (length log) ∷ length (loggedRecords j p (length log)) ∷ []) ≡ [] = rw q at e in
     let z : _≡_ {A = ℕ} 0 1 = cc in
     absurd (omega arith))
-    (λ (q : ltb (length (loggedRecords j (length log))) (length (allRecords j)) ≡ false).
-    rw q (take-append-seam (encode (allRecords j)) (drop (length (encode (allRecords j))) log)))
-    (either-way (ltb (length (loggedRecords j (length log))) (length (allRecords j))))
+    (λ (q : ltb (length (loggedRecords j p (length log))) (length (allRecords j p)) ≡ false).
+    rw q (take-append-seam (encode (allRecords j p)) (drop (length (encode (allRecords j p))) log)))
+    (either-way (ltb (length (loggedRecords j p (length log))) (length (allRecords j p))))
 
 -- the run of a job that can be routed
 pub run-accepted :
     (j : Job) (work log : List ℕ) → Routable j → nets j ≤ unreachableNet j → negotiated j work log .refusal ≡ [] → Accepted j (negotiated j work log)
 run-accepted j work log rests h e =
-    let some = made-least j 0 (rests .limit-some) (λ k l. absurd (not-suc-le-zero l)) in
+    let left = left-first j in
+    let one = rests .limit-some in
+    let some = made-least j (firstState j) (iterationsLeft j (firstState j)) 0 (omega arith) (λ k l. absurd (not-suc-le-zero l)) in
     let few = rests .limit-few in
-    let most = made-most j (firstState j) (j .terms .limit) in
-    let last : ℕ = iterationsMade j (firstState j) (j .terms .limit) - 1 in
-    let made : iterationsMade j (firstState j) (j .terms .limit) ≡ last + 1 = omega arith in
+    let most = made-most j (firstState j) (iterationsLeft j (firstState j)) in
+    let last : ℕ = madeFrom j (firstState j) - 1 in
+    let made : madeFrom j (firstState j) ≡ last + 1 = omega arith in
     record {
       whole = last;
       below = omega arith;
-      words-are = run-words j work log e ∙ ap encode (all-made j last made);
+      words-are = run-words j (begun j) work log e ∙ ap encode (all-made j (begun j) last made);
       reached = all-reached j h;
     }
 

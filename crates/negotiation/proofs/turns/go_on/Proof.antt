@@ -1,9 +1,10 @@
--- `negotiation::turns::go_on` meets its contract. At the head of each loop the lists and the tariff are the machine's (`KeepLaws`); within an iteration
--- that is said from any such place at the iteration's start. The measures: iterations up to the limit, nets left, turns left.
+-- `negotiation::turns::go_on` meets its contract. At the head of each loop the lists and the tariff are the machine's (`KeepLaws`), from any progress whose
+-- they were at first; within an iteration that is said from any such place at the iteration's start. What is safe rests on the one progress that is asked for.
+-- The measures: iterations up to the limit, nets left, turns left.
 -- Assumes nothing.
 use mathlib.Core.List.{List}
 use mathlib.Core.Logic.{⊎-elim}
-use mathlib.Core.Path.{_≡_, _∙_, sym, subst}
+use mathlib.Core.Path.{_≡_, _∙_, sym, ap, subst}
 use Prim.Native.Nat.{ℕ, _+_, _-_, _*_, _≤_, _<_}
 use native.Mathlib.Nat.{le-of-eq, le-trans}
 use native.Mathlib.Omega.{arith}
@@ -13,25 +14,26 @@ use Rattle.price.specs.Lists.{countBelow}
 use Rattle.search.proofs.BlockLaws.{kinds-few, capacities-long}
 use Rattle.negotiation.specs.Job.{Job, jobOf, nodes, netSinks}
 use Rattle.negotiation.specs.Routable.{Routable}
-use Rattle.negotiation.specs.Machine.{overCount, iterationAfter, firstState}
-use Rattle.negotiation.specs.Steps.{Starts}
+use Rattle.negotiation.specs.Machine.{Progress}
+use Rattle.negotiation.specs.Kept.{Ready}
 use Rattle.negotiation.proofs.JobLaws.{tuning-fits}
 use Rattle.negotiation.proofs.MachineRan.{Reached}
 use Rattle.negotiation.proofs.DemandLaws.{all-reached}
 use Rattle.negotiation.proofs.KeepLaws.{AtIteration, AtNet, AtTurns}
-use Rattle.negotiation.proofs.KeepStart.{keep-start, keep-due-ready, keep-due, keep-ready, keep-begun}
+use Rattle.negotiation.proofs.KeepProgress.{due-ready}
+use Rattle.negotiation.proofs.KeepStart.{keep-start, keep-due, keep-ready, keep-begun}
 use Rattle.negotiation.proofs.KeepTurn.{sinks-part, call-turn, after-nothing, after-logged}
 use Rattle.negotiation.proofs.KeepNet.{keep-end-ready, keep-ended}
-use Rattle.negotiation.proofs.KeepEnd.{Answers, after-full, all-routed, keep-over, keep-accepted, keep-limit, keep-growable, keep-below, keep-next}
+use Rattle.negotiation.proofs.KeepEnd.{after-full, all-routed, overUsed, keep-accepted, keep-limit, keep-growable, keep-below, keep-next}
 use Rattle.negotiation.proofs.KeepLengths.{Long, net-long, turn-long, start-long}
 use Rattle.negotiation.proofs.turns.go_on.Statement.{statement}
 use Rattle.negotiation.proofs.turns.go_on.Tie as tie
 
 abbrev Inv-loop2 : tie.InvT-loop2
 Inv-loop2 kind capacity first-edge edge-target source first-sink sink terms history users in-tree₀ tree-from tree-to due work₀ log₀ n tariff₀ net from to first left₀ in-tree work log tariff left =
-    (W L : List ℕ) (m : ℕ) → 8 * length kind ≤ length W
-    → AtTurns (jobOf kind capacity first-edge edge-target source first-sink sink terms) W L m net left₀ tariff₀ history users in-tree₀ tree-from tree-to due work₀ log₀ first
-    → AtTurns (jobOf kind capacity first-edge edge-target source first-sink sink terms) W L m net left tariff history users in-tree tree-from tree-to due work log first
+    (p : Progress) (W L : List ℕ) (m : ℕ) → 8 * length kind ≤ length W
+    → AtTurns (jobOf kind capacity first-edge edge-target source first-sink sink terms) p W L m net left₀ tariff₀ history users in-tree₀ tree-from tree-to due work₀ log₀ first
+    → AtTurns (jobOf kind capacity first-edge edge-target source first-sink sink terms) p W L m net left tariff history users in-tree tree-from tree-to due work log first
 
 abbrev μ-loop2 : tie.MeasureT-loop2
 μ-loop2 kind capacity first-edge edge-target source first-sink sink terms history users in-tree₀ tree-from tree-to due work₀ log₀ n tariff₀ net from to first left₀ in-tree work log tariff left =
@@ -39,9 +41,9 @@ abbrev μ-loop2 : tie.MeasureT-loop2
 
 abbrev Inv-loop : tie.InvT-loop
 Inv-loop kind capacity first-edge edge-target source first-sink sink terms history users₀ in-tree₀ tree-from₀ tree-to₀ due work₀ log₀ n tariff₀ net₀ users in-tree tree-from tree-to work log tariff net =
-    (W L : List ℕ) (m : ℕ) → 8 * length kind ≤ length W
-    → AtNet (jobOf kind capacity first-edge edge-target source first-sink sink terms) W L m 0 tariff₀ history users₀ in-tree₀ tree-from₀ tree-to₀ due work₀ log₀
-    → AtNet (jobOf kind capacity first-edge edge-target source first-sink sink terms) W L m net tariff history users in-tree tree-from tree-to due work log
+    (p : Progress) (W L : List ℕ) (m : ℕ) → 8 * length kind ≤ length W
+    → AtNet (jobOf kind capacity first-edge edge-target source first-sink sink terms) p W L m 0 tariff₀ history users₀ in-tree₀ tree-from₀ tree-to₀ due work₀ log₀
+    → AtNet (jobOf kind capacity first-edge edge-target source first-sink sink terms) p W L m net tariff history users in-tree tree-from tree-to due work log
 
 abbrev μ-loop : tie.MeasureT-loop
 μ-loop kind capacity first-edge edge-target source first-sink sink terms history users₀ in-tree₀ tree-from₀ tree-to₀ due work₀ log₀ n tariff₀ net₀ users in-tree tree-from tree-to work log tariff net =
@@ -49,7 +51,9 @@ abbrev μ-loop : tie.MeasureT-loop
 
 abbrev Inv-iterations : tie.InvT-iterations
 Inv-iterations kind capacity first-edge edge-target source first-sink sink terms history₀ users₀ in-tree₀ tree-from₀ tree-to₀ due₀ work₀ log₀ n tariff₀ history users in-tree tree-from tree-to due work log tariff =
-    (m : ℕ) × AtIteration (jobOf kind capacity first-edge edge-target source first-sink sink terms) work₀ log₀ m tariff history users in-tree tree-from tree-to due work log
+    (p : Progress)
+    → Ready (jobOf kind capacity first-edge edge-target source first-sink sink terms) p tariff₀ history₀ users₀ in-tree₀ tree-from₀ tree-to₀ due₀ log₀
+    → (m : ℕ) × AtIteration (jobOf kind capacity first-edge edge-target source first-sink sink terms) p work₀ log₀ m tariff history users in-tree tree-from tree-to due work log
 
 abbrev μ-iterations : tie.MeasureT-iterations
 μ-iterations kind capacity first-edge edge-target source first-sink sink terms history₀ users₀ in-tree₀ tree-from₀ tree-to₀ due₀ work₀ log₀ n tariff₀ history users in-tree tree-from tree-to due work log tariff =
@@ -75,10 +79,18 @@ module _ (e : Entry) where
   enough : 8 * nodes job ≤ length (e .args .work .now)
   enough = e .pre .0 .2
 
-  starts :
-      Starts job (e .args .begun) (e .args .history .now) (e .args .users .now) (e .args .in-tree .now) (e .args .tree-from .now) (e .args .tree-to .now)
-      (e .args .due .now)
-  starts = e .pre .1
+  -- a progress whose lists and tariff they are at first
+  abbrev ReadyAt : Progress → Type 0
+  ReadyAt p =
+      Ready job p (e .args .begun) (e .args .history .now) (e .args .users .now) (e .args .in-tree .now) (e .args .tree-from .now) (e .args .tree-to .now)
+      (e .args .due .now) (e .args .log .now)
+
+  -- there is one
+  abbrev some : Progress
+  some = e .pre .1 .progress
+
+  ready : ReadyAt some
+  ready = e .pre .1 .ready
 
   few-nodes : nodes job ≤ 4096
   few-nodes = kinds-few _ (routable .block-sound .kinds-sound)
@@ -86,7 +98,7 @@ module _ (e : Entry) where
   entry-long :
       Long job (e .args .work .now) (e .args .log .now) (e .args .history .now) (e .args .users .now) (e .args .in-tree .now) (e .args .tree-from .now)
       (e .args .tree-to .now) (e .args .due .now) (e .args .work .now) (e .args .log .now)
-  entry-long = start-long (e .args .work .now) (e .args .log .now) starts
+  entry-long = start-long (e .args .work .now) ready
 
 abbrev Iteration : Type 0
 Iteration = tie.At-iterations Inv-loop2 μ-loop2 Inv-loop μ-loop Inv-iterations μ-iterations
@@ -108,29 +120,32 @@ module _ (c : Net) where
   abbrev dues : List ℕ
   dues = c .before .before .before .mark-due .last .1 .1 .1 .1 .1 .1 .1 .1 .0
 
-  abbrev NetStart : List ℕ → List ℕ → ℕ → Type 0
-  NetStart W L m =
-      AtNet (job net-entry) W L m 0 (iteration c .iterations .tariff) (iteration c .iterations .history) (iteration c .iterations .users)
+  abbrev NetStart : Progress → List ℕ → List ℕ → ℕ → Type 0
+  NetStart p W L m =
+      AtNet (job net-entry) p W L m 0 (iteration c .iterations .tariff) (iteration c .iterations .history) (iteration c .iterations .users)
       (iteration c .iterations .in-tree) (iteration c .iterations .tree-from) (iteration c .iterations .tree-to) dues (iteration c .iterations .work)
       (iteration c .iterations .log)
 
-  abbrev NetHere : List ℕ → List ℕ → ℕ → Type 0
-  NetHere W L m =
-      AtNet (job net-entry) W L m (c .loop .net) (c .loop .tariff) (iteration c .iterations .history) (c .loop .users) (c .loop .in-tree) (c .loop .tree-from)
+  abbrev NetHere : Progress → List ℕ → List ℕ → ℕ → Type 0
+  NetHere p W L m =
+      AtNet (job net-entry) p W L m (c .loop .net) (c .loop .tariff) (iteration c .iterations .history) (c .loop .users) (c .loop .in-tree) (c .loop .tree-from)
       (c .loop .tree-to) dues (c .loop .work) (c .loop .log)
 
-  net-from : (W L : List ℕ) (m : ℕ) → 8 * nodes (job net-entry) ≤ length W → NetStart W L m → NetHere W L m
-  net-from W L m e o = c .loop .inv W L m e o
+  net-from : (p : Progress) (W L : List ℕ) (m : ℕ) → 8 * nodes (job net-entry) ≤ length W → NetStart p W L m → NetHere p W L m
+  net-from p W L m e o = c .loop .inv p W L m e o
 
-  net-at : NetHere (net-entry .args .work .now) (net-entry .args .log .now) (iteration c .iterations .inv .0)
-  net-at =
-      net-from _ _ _ (enough net-entry)
-      (keep-due _ (routable net-entry) (iteration c .iterations .inv .1) _ (c .before .before .before .mark-due .ensures))
+  net-at : (p : Progress) (r : ReadyAt net-entry p) → NetHere p (net-entry .args .work .now) (net-entry .args .log .now) (iteration c .iterations .inv p r .0)
+  net-at p r =
+      net-from p _ _ _ (enough net-entry)
+      (keep-due _ (routable net-entry) (iteration c .iterations .inv p r .1) _ (c .before .before .before .mark-due .ensures))
+
+  net-safe : NetHere (some net-entry) (net-entry .args .work .now) (net-entry .args .log .now) (iteration c .iterations .inv (some net-entry) (ready net-entry) .0)
+  net-safe = net-at (some net-entry) (ready net-entry)
 
   net-lengths :
       Long (job net-entry) (net-entry .args .work .now) (net-entry .args .log .now) (iteration c .iterations .history) (c .loop .users) (c .loop .in-tree)
       (c .loop .tree-from) (c .loop .tree-to) dues (c .loop .work) (c .loop .log)
-  net-lengths = net-long _ (routable net-entry) net-at
+  net-lengths = net-long _ (routable net-entry) net-safe
 
 abbrev Turn : Type 0
 Turn = tie.At-loop2 Inv-loop2 μ-loop2 Inv-loop μ-loop Inv-iterations μ-iterations
@@ -146,26 +161,30 @@ module _ (c : Turn) where
   abbrev lent-users : List ℕ
   lent-users = c .before .before .before .before .before .begin-net .last .1 .1 .1 .1 .1 .1 .1 .0
 
-  abbrev TurnHere : List ℕ → List ℕ → ℕ → Type 0
-  TurnHere W L m =
-      AtTurns (job turn-entry) W L m (net c .loop .net) (c .loop2 .left) (c .loop2 .tariff) (iteration (net c) .iterations .history) lent-users (c .loop2 .in-tree)
+  abbrev TurnHere : Progress → List ℕ → List ℕ → ℕ → Type 0
+  TurnHere p W L m =
+      AtTurns (job turn-entry) p W L m (net c .loop .net) (c .loop2 .left) (c .loop2 .tariff) (iteration (net c) .iterations .history) lent-users (c .loop2 .in-tree)
       (net c .loop .tree-from) (net c .loop .tree-to) (dues (net c)) (c .loop2 .work) (c .loop2 .log) (net c .loop .tariff .words)
 
-  turn-from : (W L : List ℕ) (m : ℕ) → 8 * nodes (job turn-entry) ≤ length W → NetStart (net c) W L m → TurnHere W L m
-  turn-from W L m e o =
-      c .loop2 .inv W L m e
-      (keep-begun _ (routable turn-entry) (net-from (net c) W L m e o) (c .before .before .before .before .before .before .before .before .before .before .before .before .before .before .loop-test .taken)
+  turn-from : (p : Progress) (W L : List ℕ) (m : ℕ) → 8 * nodes (job turn-entry) ≤ length W → NetStart (net c) p W L m → TurnHere p W L m
+  turn-from p W L m e o =
+      c .loop2 .inv p W L m e
+      (keep-begun _ (routable turn-entry) (net-from (net c) p W L m e o) (c .before .before .before .before .before .before .before .before .before .before .before .before .before .before .loop-test .taken)
       (c .before .before .before .before .before .begin-net .ensures .0) (c .before .before .before .before .before .begin-net .ensures .1))
 
-  turn-at : TurnHere (turn-entry .args .work .now) (turn-entry .args .log .now) (iteration (net c) .iterations .inv .0)
-  turn-at =
-      turn-from _ _ _ (enough turn-entry)
-      (keep-due _ (routable turn-entry) (iteration (net c) .iterations .inv .1) _ (net c .before .before .before .mark-due .ensures))
+  turn-at : (p : Progress) (r : ReadyAt turn-entry p) → TurnHere p (turn-entry .args .work .now) (turn-entry .args .log .now) (iteration (net c) .iterations .inv p r .0)
+  turn-at p r =
+      turn-from p _ _ _ (enough turn-entry)
+      (keep-due _ (routable turn-entry) (iteration (net c) .iterations .inv p r .1) _ (net c .before .before .before .mark-due .ensures))
+
+  turn-safe :
+      TurnHere (some turn-entry) (turn-entry .args .work .now) (turn-entry .args .log .now) (iteration (net c) .iterations .inv (some turn-entry) (ready turn-entry) .0)
+  turn-safe = turn-at (some turn-entry) (ready turn-entry)
 
   turn-lengths :
       Long (job turn-entry) (turn-entry .args .work .now) (turn-entry .args .log .now) (iteration (net c) .iterations .history) lent-users (c .loop2 .in-tree)
       (net c .loop .tree-from) (net c .loop .tree-to) (dues (net c)) (c .loop2 .work) (c .loop2 .log)
-  turn-lengths = turn-long _ (routable turn-entry) (enough turn-entry) turn-at
+  turn-lengths = turn-long _ (routable turn-entry) turn-safe
 
   net-below : net c .loop .net < length (turn-entry .args .source .now)
   net-below = c .before .before .before .before .before .before .before .before .before .before .before .before .before .before .loop-test .taken
@@ -182,41 +201,44 @@ module _ (c : tie.After-loop Inv-loop2 μ-loop2 Inv-loop μ-loop Inv-iterations 
   last = c .before
 
   whole :
-      AtNet (job (net-entry last)) (net-entry last .args .work .now) (net-entry last .args .log .now) (iteration last .iterations .inv .0) (length (net-entry last .args .source .now))
-      (last .loop .tariff) (iteration last .iterations .history) (last .loop .users) (last .loop .in-tree) (last .loop .tree-from) (last .loop .tree-to) (dues last)
-      (last .loop .work) (last .loop .log)
-  whole = all-routed _ (net-at last) (c .loop-test .left)
+      (p : Progress) (r : ReadyAt (net-entry last) p)
+      → AtNet (job (net-entry last)) p (net-entry last .args .work .now) (net-entry last .args .log .now) (iteration last .iterations .inv p r .0)
+      (length (net-entry last .args .source .now)) (last .loop .tariff) (iteration last .iterations .history) (last .loop .users) (last .loop .in-tree)
+      (last .loop .tree-from) (last .loop .tree-to) (dues last) (last .loop .work) (last .loop .log)
+  whole p r = all-routed _ (net-at last p r) (c .loop-test .left)
 
-  -- the nodes over capacity at the iteration's end
-  abbrev over : ℕ
-  over = overCount (job (net-entry last)) (iterationAfter (job (net-entry last)) (firstState (job (net-entry last))) (iteration last .iterations .inv .0) .state .trees)
+  whole-safe :
+      AtNet (job (net-entry last)) (some (net-entry last)) (net-entry last .args .work .now) (net-entry last .args .log .now)
+      (iteration last .iterations .inv (some (net-entry last)) (ready (net-entry last)) .0) (length (net-entry last .args .source .now)) (last .loop .tariff)
+      (iteration last .iterations .history) (last .loop .users) (last .loop .in-tree) (last .loop .tree-from) (last .loop .tree-to) (dues last) (last .loop .work) (last .loop .log)
+  whole-safe = whole (some (net-entry last)) (ready (net-entry last))
 
--- counted
+-- the nodes over capacity are counted
 module _ (c : tie.After-over-count Inv-loop2 μ-loop2 Inv-loop μ-loop Inv-iterations μ-iterations) where
-  over-is : c .over-count .result ≡ over (c .before .before)
+  abbrev counted : Net
+  counted = c .before .before .before
+
+  over-is : c .over-count .result ≡ overUsed (job (net-entry counted)) (counted .loop .users)
   over-is =
       c .over-count .ensures
-      ∙ subst
-      (λ (k : ℕ). countBelow (λ (v : ℕ). ltb (getD (net-entry (c .before .before .before) .args .capacity .now) v 0) (getD (c .before .before .before .loop .users) v 0)) k ≡ over (c .before .before))
-      (sym (capacities-long _ _ (routable (net-entry (c .before .before .before)) .block-sound .capacities-sound)))
-      (keep-over _ (routable (net-entry (c .before .before .before))) (whole (c .before .before)))
+      ∙ ap (λ (k : ℕ). countBelow (λ (v : ℕ). ltb (getD (net-entry counted .args .capacity .now) v 0) (getD (counted .loop .users) v 0)) k)
+      (capacities-long _ _ (routable (net-entry counted) .block-sound .capacities-sound))
 
 iterations-holds :
     tie.Need-iterations-holds Inv-loop2 μ-loop2 Inv-loop μ-loop Inv-iterations μ-iterations
 iterations-holds c =
-    let e : Entry = c .before .before .before .before .before .before .before .before .before .before .before .before .before .before .before in
-    (0, keep-start _ (routable e) (starts e))
+    λ p r. (0, keep-start _ r _)
 
 mark-due-requires :
     tie.Need-mark-due-requires Inv-loop2 μ-loop2 Inv-loop μ-loop Inv-iterations μ-iterations
 mark-due-requires c κs =
     let at : Iteration = c .before .before .before .before .before in
-    let inv = at .iterations .inv .1 in
-    (keep-due-ready _ (routable (entry at)) inv, inv .due-long ∙ sym (inv .kept .places .from-long))
+    let inv = at .iterations .inv (some (entry at)) (ready (entry at)) .1 in
+    (due-ready _ (routable (entry at)) (inv .kept) (inv .tallied), inv .due-long ∙ sym (inv .kept .places .from-long))
 
 loop-holds :
     tie.Need-loop-holds Inv-loop2 μ-loop2 Inv-loop μ-loop Inv-iterations μ-iterations
-loop-holds c = λ W L m e at. at
+loop-holds c = λ p W L m e at. at
 
 mul-from :
     tie.Need-mul-from Inv-loop2 μ-loop2 Inv-loop μ-loop Inv-iterations μ-iterations
@@ -250,11 +272,11 @@ begin-net-requires :
     tie.Need-begin-net-requires Inv-loop2 μ-loop2 Inv-loop μ-loop Inv-iterations μ-iterations
 begin-net-requires c κs =
     let at : Net = c .before .before .before .before .before .before .before .before .before in
-    keep-ready _ (routable (net-entry at)) (net-at at) (c .before .before .before .before .before .before .before .before .loop-test .taken)
+    keep-ready _ (routable (net-entry at)) (net-safe at) (c .before .before .before .before .before .before .before .before .loop-test .taken)
 
 loop2-holds :
     tie.Need-loop2-holds Inv-loop2 μ-loop2 Inv-loop μ-loop Inv-iterations μ-iterations
-loop2-holds c = λ W L m e at. at
+loop2-holds c = λ p W L m e at. at
 
 mul-one-turn :
     tie.Need-mul-one-turn Inv-loop2 μ-loop2 Inv-loop μ-loop Inv-iterations μ-iterations
@@ -298,7 +320,7 @@ one-turn-requires :
     tie.Need-one-turn-requires Inv-loop2 μ-loop2 Inv-loop μ-loop Inv-iterations μ-iterations
 one-turn-requires c κs =
     let at : Turn = c .before .before .before .before .before .before .before in
-    call-turn _ (routable (turn-entry at)) (enough (turn-entry at)) (turn-at at) (c .before .before .before .before .before .before .loop2-test .taken) _ (own-sinks at)
+    call-turn _ (routable (turn-entry at)) (enough (turn-entry at)) (turn-safe at) (c .before .before .before .before .before .before .loop2-test .taken) _ (own-sinks at)
 
 enum-told :
     tie.Need-enum-told Inv-loop2 μ-loop2 Inv-loop μ-loop Inv-iterations μ-iterations
@@ -322,14 +344,14 @@ loop2-less c = let h = c .before .before .before .before .before .before .before
 
 loop2-again :
     tie.Need-loop2-again Inv-loop2 μ-loop2 Inv-loop μ-loop Inv-iterations μ-iterations
-loop2-again c = λ W L m e o.
+loop2-again c = λ p W L m e o.
     let at : Turn = c .before .before .before .before .before .before .before .before .before .before .before .before .before .before .before in
     ⊎-elim
     (λ w.
-    after-nothing _ (routable (turn-entry at)) e (at .loop2 .inv W L m e o) (c .before .before .before .before .before .before .before .before .before .before .before .before .before .before .loop2-test .taken) _ (own-sinks at) _ _ _
+    after-nothing _ (routable (turn-entry at)) e (at .loop2 .inv p W L m e o) (c .before .before .before .before .before .before .before .before .before .before .before .before .before .before .loop2-test .taken) _ (own-sinks at) _ _ _
     (c .before .before .before .before .before .before .before .one-turn .ensures .1) _ (c .before .before .before .before .before .before .before .one-turn .ensures .0) (w .1 .given .1) _ (w .2))
     (λ w.
-    after-logged _ (routable (turn-entry at)) e (at .loop2 .inv W L m e o) (c .before .before .before .before .before .before .before .before .before .before .before .before .before .before .loop2-test .taken) _ (own-sinks at) _ _ _
+    after-logged _ (routable (turn-entry at)) e (at .loop2 .inv p W L m e o) (c .before .before .before .before .before .before .before .before .before .before .before .before .before .before .loop2-test .taken) _ (own-sinks at) _ _ _
     (c .before .before .before .before .before .before .before .one-turn .ensures .1) _ (c .before .before .before .before .before .before .before .one-turn .ensures .0) _ (w .1 .given .1) _ (w .3))
     (c .match .came)
 
@@ -337,7 +359,7 @@ end-net-requires :
     tie.Need-end-net-requires Inv-loop2 μ-loop2 Inv-loop μ-loop Inv-iterations μ-iterations
 end-net-requires c κs =
     let at : Turn = c .before .before .before .before .before .before .before in
-    keep-end-ready _ (routable (turn-entry at)) (reachable (turn-entry at)) (enough (turn-entry at)) (c .before .before .before .before .before .before .loop2-test .left) (turn-at at)
+    keep-end-ready _ (routable (turn-entry at)) (reachable (turn-entry at)) (c .before .before .before .before .before .before .loop2-test .left) (turn-safe at)
 
 add-net :
     tie.Need-add-net Inv-loop2 μ-loop2 Inv-loop μ-loop Inv-iterations μ-iterations
@@ -353,9 +375,9 @@ loop-less c = let h = net-below (c .before .before .before .before .before .befo
 
 loop-again :
     tie.Need-loop-again Inv-loop2 μ-loop2 Inv-loop μ-loop Inv-iterations μ-iterations
-loop-again c = λ W L m e o.
+loop-again c = λ p W L m e o.
     let at : Turn = c .before .before .before .before .before .before .before .before .before .before .before .before .before .before .before .before in
-    keep-ended _ (routable (turn-entry at)) (reachable (turn-entry at)) e (c .before .before .before .before .before .before .before .before .before .before .before .before .before .before .before .loop2-test .left) (turn-from at W L m e o)
+    keep-ended _ (routable (turn-entry at)) (reachable (turn-entry at)) (c .before .before .before .before .before .before .before .before .before .before .before .before .before .before .before .loop2-test .left) (turn-from at p W L m e o)
     (c .before .before .before .before .before .before .before .before .end-net .ensures .0) (c .before .before .before .before .before .before .before .before .end-net .ensures .1)
 
 over-count-requires :
@@ -430,8 +452,9 @@ returns :
     tie.Need-returns Inv-loop2 μ-loop2 Inv-loop μ-loop Inv-iterations μ-iterations
 returns c =
     let at : Net = c .before .before .before .before .before .before .before .before .before in
+    λ p r.
     rw (c .before .before .before .clear .ensures)
-    (keep-accepted _ (routable (net-entry at)) (whole (c .before .before .before .before .before .before .before .before)) (sym (over-is (c .before .before .before .before .before .before)) ∙ c .before .before .before .before .before .if1 .taken) (c .answer .result) (c .answer .ensures .0)
+    (keep-accepted _ (routable (net-entry at)) (whole (c .before .before .before .before .before .before .before .before) p r) (sym (over-is (c .before .before .before .before .before .before)) ∙ c .before .before .before .before .before .if1 .taken) (c .answer .result) (c .answer .ensures .0)
     (record { iteration-is = c .answer .ensures .1; turns-is = c .answer .ensures .2; words-is = c .answer .ensures .3 }))
 
 mul-clear-2 :
@@ -498,8 +521,9 @@ returns-2 :
     tie.Need-returns-2 Inv-loop2 μ-loop2 Inv-loop μ-loop Inv-iterations μ-iterations
 returns-2 c =
     let at : Net = c .before .before .before .before .before .before .before .before .before .before .before .before in
+    λ p r.
     rw (c .before .before .before .clear2 .ensures)
-    (keep-limit _ (routable (net-entry at)) (whole (c .before .before .before .before .before .before .before .before .before .before .before)) _
+    (keep-limit _ (routable (net-entry at)) (whole (c .before .before .before .before .before .before .before .before .before .before .before) p r) _
     (over-is (c .before .before .before .before .before .before .before .before .before)) (c .before .before .before .before .before .before .before .before .if1 .left) (c .before .before .before .before .before .if2 .taken)
     (c .answer2 .result) (c .answer2 .ensures .0)
     (record { iteration-is = c .answer2 .ensures .1; turns-is = c .answer2 .ensures .2; words-is = c .answer2 .ensures .3 }))
@@ -512,13 +536,13 @@ grow-histories-requires c κs =
     let l = capacities-long _ _ (r .block-sound .capacities-sound) in
     let long = net-lengths at in
     let h = long .history-long in
-    ((l ∙ sym (long .users-long), l ∙ sym h), (λ v b. keep-growable _ r (whole (c .before .before .before .before .before .before .before .before)) v (subst (λ k. v < k) h b), tuning-fits _ r .few-step))
+    ((l ∙ sym (long .users-long), l ∙ sym h), (λ v b. keep-growable _ r (whole-safe (c .before .before .before .before .before .before .before .before)) v (subst (λ k. v < k) h b), tuning-fits _ r .few-step))
 
 next-iteration-requires :
     tie.Need-next-iteration-requires Inv-loop2 μ-loop2 Inv-loop μ-loop Inv-iterations μ-iterations
 next-iteration-requires c κs =
     let at : Net = c .before .before .before .before .before .before .before .before .before .before .before .before in
-    let b = keep-below _ (routable (net-entry at)) (whole (c .before .before .before .before .before .before .before .before .before .before .before)) (c .before .before .before .before .before .if2 .left) in
+    let b = keep-below _ (routable (net-entry at)) (whole-safe (c .before .before .before .before .before .before .before .before .before .before .before)) (c .before .before .before .before .before .if2 .left) in
     let l = routable (net-entry at) .limit-few in
     omega arith
 
@@ -526,19 +550,20 @@ iterations-less :
     tie.Need-iterations-less Inv-loop2 μ-loop2 Inv-loop μ-loop Inv-iterations μ-iterations
 iterations-less c =
     let at : Net = c .before .before .before .before .before .before .before .before .before .before .before .before .before in
-    let b = keep-below _ (routable (net-entry at)) (whole (c .before .before .before .before .before .before .before .before .before .before .before .before)) (c .before .before .before .before .before .before .if2 .left) in
+    let b = keep-below _ (routable (net-entry at)) (whole-safe (c .before .before .before .before .before .before .before .before .before .before .before .before)) (c .before .before .before .before .before .before .if2 .left) in
     let e = c .next-iteration .ensures .0 in
-    let a = net-at at .under .iteration-is in
-    let h = iteration at .iterations .inv .1 .under .iteration-is in
+    let a = net-safe at .under .iteration-is in
+    let h = iteration at .iterations .inv (some (net-entry at)) (ready (net-entry at)) .1 .under .iteration-is in
     omega arith
 
 iterations-again :
     tie.Need-iterations-again Inv-loop2 μ-loop2 Inv-loop μ-loop Inv-iterations μ-iterations
 iterations-again c =
     let at : Net = c .before .before .before .before .before .before .before .before .before .before .before .before .before in
-    let e = c .next-iteration .ensures in (
+    let e = c .next-iteration .ensures in
+    λ p r. (
       _,
-      keep-next _ (routable (net-entry at)) (whole (c .before .before .before .before .before .before .before .before .before .before .before .before))
+      keep-next _ (routable (net-entry at)) (whole (c .before .before .before .before .before .before .before .before .before .before .before .before) p r)
           (λ z. c .before .before .before .before .before .before .before .before .before .if1 .left (over-is (c .before .before .before .before .before .before .before .before .before .before) ∙ z)) (c .before .before .before .before .before .before .if2 .left)
           (e .0) (e .1) (e .2) (e .3) (c .before .before .before .grow-histories .ensures),
     )
@@ -612,7 +637,8 @@ returns-3 :
     tie.Need-returns-3 Inv-loop2 μ-loop2 Inv-loop μ-loop Inv-iterations μ-iterations
 returns-3 c =
     let at : Turn = c .before .before .before .before .before .before .before .before .before .before .before .before .before .before .before .before .before .before .before .before .before in
-    after-full _ (routable (turn-entry at)) (enough (turn-entry at)) (turn-at at) (c .before .before .before .before .before .before .before .before .before .before .before .before .before .before .before .before .before .before .before .before .loop2-test .taken) _ (own-sinks at) _ _ _
+    λ p r.
+    after-full _ (routable (turn-entry at)) (enough (turn-entry at)) (turn-at at p r) (c .before .before .before .before .before .before .before .before .before .before .before .before .before .before .before .before .before .before .before .before .loop2-test .taken) _ (own-sinks at) _ _ _
     (c .before .before .before .before .before .before .before .before .before .before .before .before .before .one-turn .ensures .1) _
     (c .before .before .before .before .before .before .before .before .before .before .before .before .before .one-turn .ensures .0) (c .before .before .before .before .before .enum-told2 .given .1) _ (c .before .before .before .clear3 .ensures)
     (c .answer3 .result) (c .answer3 .ensures .0)

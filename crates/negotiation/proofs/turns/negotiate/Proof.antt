@@ -1,14 +1,16 @@
 -- `negotiation::turns::negotiate` meets its contract: the arrays' parts that it lends are the lists of a run that begins.
 -- Assumes nothing.
 use mathlib.Core.List.{List}
-use mathlib.Core.Path.{_≡_, refl, sym}
+use mathlib.Core.Path.{refl, sym}
 use Prim.Native.Nat.{ℕ, _≤_}
 use lib.ListN.{length, take, replicate}
 use lib.Seq.{length-take-le}
 use borrow.Author.Needs.{needs}
 use Rattle.search.proofs.BlockLaws.{kinds-few}
-use Rattle.negotiation.specs.Job.{jobOf, nodes}
-use Rattle.negotiation.proofs.KeepStart.{take-replicate}
+use Rattle.negotiation.specs.Job.{Job, jobOf, nodes, nets}
+use Rattle.negotiation.specs.Outcome.{begun}
+use Rattle.negotiation.specs.Kept.{Ready}
+use Rattle.negotiation.proofs.KeepStart.{take-replicate, begun-ready}
 use Rattle.negotiation.proofs.turns.negotiate.Statement.{statement}
 use Rattle.negotiation.proofs.turns.negotiate.Tie as tie
 
@@ -18,6 +20,32 @@ module _ (e : tie.Start) where
 
   few-nets : length (e .args .source .now) ≤ 512
   few-nets = e .pre .0 .nets-few
+
+  abbrev job : Job
+  job =
+      jobOf (e .args .kind .now) (e .args .capacity .now) (e .args .first-edge .now) (e .args .edge-target .now) (e .args .source .now) (e .args .first-sink .now)
+      (e .args .sink .now) (e .args .terms)
+
+  -- what is lent is ready for a run that begins
+  ready :
+      (log : List ℕ)
+      → Ready job (begun job) (record { iteration = 1; factor = 0; turns = 0; words = 0 }) (take (nodes job) (replicate 4096 1)) (take (nodes job) (replicate 4096 0))
+      (take (nodes job) (replicate 4096 0)) (take (nets job) (replicate 512 0)) (take (nets job) (replicate 512 0)) (take (nets job) (replicate 512 0)) log
+  ready log =
+      begun-ready job (e .pre .0)
+      (record {
+        iteration-is = refl;
+        factor-is = refl;
+        turns-is = refl;
+        words-is = refl;
+        history-is = take-replicate _ 4096 1 few-nodes;
+        users-is = take-replicate _ 4096 0 few-nodes;
+        no-marks = take-replicate _ 4096 0 few-nodes;
+        from-is = take-replicate _ 512 0 few-nets;
+        to-is = take-replicate _ 512 0 few-nets;
+        due-long = length-take-le _ (replicate 512 0) few-nets;
+      })
+      log
 
 array-borrow-prefix-history : tie.Need-array-borrow-prefix-history
 array-borrow-prefix-history c = few-nodes (c .before .before .before .before .before .before .before .before .before)
@@ -57,21 +85,8 @@ slice-aggregate-go-on-6 c = sym (length-take-le _ _ (few-nets (c .before .before
 
 go-on-requires : tie.Need-go-on-requires
 go-on-requires c κs =
-    let e = c .before .before .before .before .before .before .before .before .before .before .before .before .before .before .before .before .before in (
-      e .pre,
-      record {
-        iteration-is = refl;
-        factor-is = refl;
-        turns-is = refl;
-        words-is = refl;
-        history-is = take-replicate _ 4096 1 (few-nodes e);
-        users-is = take-replicate _ 4096 0 (few-nodes e);
-        no-marks = take-replicate _ 4096 0 (few-nodes e);
-        from-is = take-replicate _ 512 0 (few-nets e);
-        to-is = take-replicate _ 512 0 (few-nets e);
-        due-long = length-take-le _ (replicate 512 0) (few-nets e);
-      },
-    )
+    let e = c .before .before .before .before .before .before .before .before .before .before .before .before .before .before .before .before .before in
+    (e .pre, record { progress = begun (job e); ready = ready e (e .args .log .now) })
 
 same-length : tie.Need-same-length
 same-length c = search needs
@@ -80,7 +95,10 @@ same-length-2 : tie.Need-same-length-2
 same-length-2 c = search needs
 
 returns : tie.Need-returns
-returns c = search needs
+returns c =
+    let called = c .before .before .before .before .before .before .before .before .before .before in
+    let e = called .before .before .before .before .before .before .before .before .before .before .before .before .before .before .before .before .before .before in
+    called .go-on .ensures (begun (job e)) (ready e (e .args .log .now))
 
 pub negotiate-spec : {M : Type 1} → statement M
 negotiate-spec =
