@@ -132,7 +132,7 @@
 
 /* Bytes of stack, beyond its caller's, that every call makes do with. Measured on x86-64 Linux by tests/header/memory.c, with
  * what memcpy and memset take: 110,151 in arvumnao_read, 48,551 in arvumnao_route, 35,127 in arvumnao_uses_add, 22,615 in
- * arvumnao_uses_write, 9,071 in arvumnao_write and arvumnao_dot, under 500 in the others. */
+ * arvumnao_uses_write, 9,079 in arvumnao_write and arvumnao_dot, under 500 in the others. */
 #define ARVUMNAO_STACK 131072
 
 /* `out`: its length, and the places that every call has. */
