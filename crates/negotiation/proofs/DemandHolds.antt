@@ -1,25 +1,25 @@
 -- Demand 3 holds of every call, and every logged cost is below the bound on a path's.
 -- Assumes nothing.
 use mathlib.Core.Bool.{Bool, true, false}
-use mathlib.Core.List.{List, [], _∷_, _++_, append-assoc}
+use mathlib.Core.List.{List, [], _∷_, _++_, append-assoc, append-cancel-left}
 use mathlib.Core.Logic.{⊎-elim}
-use mathlib.Core.Path.{_≡_, refl, sym, _∙_, ap, subst}
+use mathlib.Core.Path.{_≡_, refl, sym, _∙_, ap}
 use Prim.Native.Nat.{ℕ, suc, _+_, _-_, _≤_, _<_}
 use native.Mathlib.Omega.{arith}
-use lib.Dec.{ltb}
+use lib.Dec.{leb, ltb}
 use lib.ListN.{length}
-use borrow.Author.Tests.{ltb-true}
+use borrow.Author.Tests.{leb-false, ltb-true, ltb-false}
 use Rattle.price.specs.Test.{choose}
 use Rattle.price.specs.Bounds.{limitMost, pathMost}
-use Rattle.price.specs.Lists.{has, firstBelow}
-use Rattle.price.proofs.TestLaws.{either-way, le-or-lt}
+use Rattle.price.specs.Lists.{firstBelow}
+use Rattle.price.proofs.TestLaws.{either-way}
 use Rattle.price.proofs.PriceLaws.{path-fits}
 use Rattle.search.specs.Replies.{workNeeded, cleared}
 use Rattle.negotiation.specs.Job.{Job, nodes, nets}
-use Rattle.negotiation.specs.Tables.{faultyJob}
+use Rattle.negotiation.specs.Tables.{faultyJob, SoundJob}
 use Rattle.negotiation.specs.Records.{Record, encode}
-use Rattle.negotiation.specs.Machine.{State, Progress, firstState, recordsAfter, settlesAt}
-use Rattle.negotiation.specs.Outcome.{RouteReply, turnsLogged, refusedReply, unreachableNet, iterationsMade, begun, iterationsLeft, madeFrom, allRecords, loggedRecords, endNumbers, continued, negotiated, routeReply}
+use Rattle.negotiation.specs.Machine.{State, Progress, recordsAfter, settlesAt}
+use Rattle.negotiation.specs.Outcome.{RouteReply, wordsUsed, turnsLogged, refusedReply, unreachableNet, unreachablePlace, iterationsMade, begun, iterationsLeft, madeFrom, allRecords, loggedRecords, endNumbers, continued, negotiated, tested, routeReply}
 use Rattle.negotiation.specs.Unreachable.{AllReachable}
 use Rattle.negotiation.specs.Demand.{TurnHolds, FinalTrees, Demand3, CostsFit}
 use Rattle.negotiation.specs.Routable.{Routable}
@@ -31,7 +31,6 @@ use Rattle.negotiation.proofs.NetLaws.{no-split}
 use Rattle.negotiation.proofs.RanLaws.{Ran, start, ran-iteration}
 use Rattle.negotiation.proofs.MachineRan.{Reached}
 use Rattle.negotiation.proofs.DemandLaws.{all-reached, none-unreachable, turn-holds, turn-below, final-trees-hold}
-use Rattle.negotiation.proofs.RefusalLaws.{route-table, route-work, route-unreachable, route-run}
 use Rattle.negotiation.proofs.ReplyLogLaws.{LogHas, log-words, log-turns, refused-log, ran-log}
 
 -- a run makes an iteration at least, and no more than the limit
@@ -78,32 +77,41 @@ run-reached j p work log net place =
 
 -- ---- from what holds of some records
 
--- what demand 3 and the bound say of a reply whose words used are those of some records
-record Facts (j : Job) (work log : List ℕ) (r : RouteReply) : Type 0 where
-  records : List Record
-  words : LogHas r records
-  turns : r .turns ≡ length records
-  each : (earlier later : List Record) (t : Record) → records ≡ earlier ++ (t ∷ later) → TurnHolds (joined j) earlier t × (t .cost < pathMost)
-  final : r .refusal ≡ [] → FinalTrees (joined j) records
-  reached : AllReachable j → (net place : ℕ) → r .refusal ≡ 7 ∷ net ∷ place ∷ [] → ⊥
+-- what demand 3 and the bound say of a reply whose words used are those of some records: of each turn after those that were lent
+pub record Facts (j : Job) (lent : List Record) (r : RouteReply) : Type 0 where
+  pub records : List Record
+  pub words : LogHas r records
+  pub turns : r .turns ≡ length records
+  pub each :
+      (earlier later : List Record) (t : Record) → records ≡ lent ++ (earlier ++ (t ∷ later)) → TurnHolds (joined j) (lent ++ earlier) t × (t .cost < pathMost)
+  pub final : r .refusal ≡ [] → FinalTrees (joined j) records
+  pub reached : AllReachable j → (net place : ℕ) → r .refusal ≡ 7 ∷ net ∷ place ∷ [] → ⊥
 
-module _ (j : Job) (work log : List ℕ) (r : RouteReply) (h : Facts j work log r) where
-  is : turnsLogged r ≡ h .records
-  is = log-turns r (h .records) (h .words)
+module _ (j : Job) (lent : List Record) (r : RouteReply) (h : Facts j lent r) where
+  pub logged-is : turnsLogged r ≡ h .records
+  logged-is = log-turns r (h .records) (h .words)
 
+  pub words-only : encode (turnsLogged r) ≡ wordsUsed r
+  words-only = ap encode logged-is ∙ sym (log-words r (h .records) (h .words))
+
+  pub turns-are : r .turns ≡ length (turnsLogged r)
+  turns-are = h .turns ∙ sym (ap length logged-is)
+
+-- none was lent
+module _ (j : Job) (work log : List ℕ) (r : RouteReply) (h : Facts j [] r) where
   demand-of : r ≡ routeReply j work log → Demand3 j work log r
   demand-of reply =
       record {
         as-negotiated = reply;
-        nothing-else = ap encode is ∙ sym (log-words r (h .records) (h .words));
-        every-turn = λ earlier later t e. h .each earlier later t (sym is ∙ e) .0;
-        final-trees = λ e. rw is (h .final e);
+        nothing-else = words-only j [] r h;
+        every-turn = λ earlier later t e. h .each earlier later t (sym (logged-is j [] r h) ∙ e) .0;
+        final-trees = λ e. rw (logged-is j [] r h) (h .final e);
         not-unreachable = h .reached;
-        turns-counted = h .turns ∙ sym (ap length is);
+        turns-counted = turns-are j [] r h;
       }
 
   costs-of : CostsFit r
-  costs-of = record { below = λ earlier later t e. h .each earlier later t (sym is ∙ e) .1; fits = path-fits }
+  costs-of = record { below = λ earlier later t e. h .each earlier later t (sym (logged-is j [] r h) ∙ e) .1; fits = path-fits }
 
 -- ---- a run of joined nets
 
@@ -137,88 +145,105 @@ module _ (j : Job) (sound : Routable j) (all : Reached j) {m : ℕ} {rs : List R
       let settled : settlesAt j s (made - 1) ≡ true = chosen-none _ _ _ e in
       rw last (final-trees-hold j sound all r (made - 1) (omega arith) settled)
 
--- one that begins
-module _ (j : Job) (sound : Routable j) (all : Reached j) where
-  all-turn : (earlier later : List Record) (t : Record) → allRecords j (begun j) ≡ earlier ++ (t ∷ later) → TurnHolds j earlier t × (t .cost < pathMost)
+-- and goes on
+module _ (j : Job) (sound : Routable j) (all : Reached j) (m : ℕ) (p : Progress) (r : Ran j m (p .records) (p .state)) (below : m < j .terms .limit) where
+  all-turn :
+      (earlier later : List Record) (t : Record) → allRecords j p ≡ p .records ++ (earlier ++ (t ∷ later)) → TurnHolds j (p .records ++ earlier) t × (t .cost < pathMost)
   unfolding allRecords
-  all-turn = run-turn j sound all start (sound .limit-some)
+  all-turn earlier later t e =
+      run-turn j sound all r below earlier later t
+      (append-cancel-left (p .records) (recordsAfter j (p .state) (madeFrom j (p .state))) (earlier ++ (t ∷ later)) e)
 
-  all-final : endNumbers j (firstState j) ≡ [] → FinalTrees j (allRecords j (begun j))
+  all-final : endNumbers j (p .state) ≡ [] → FinalTrees j (allRecords j p)
   unfolding allRecords
-  all-final = run-final j sound all start (sound .limit-some)
+  all-final = run-final j sound all r below
 
   -- the records that fit are a beginning of all
-  logged-turn : (room : ℕ) (earlier later : List Record) (t : Record) → loggedRecords j (begun j) room ≡ earlier ++ (t ∷ later) → TurnHolds j earlier t × (t .cost < pathMost)
+  logged-turn :
+      (room : ℕ) (earlier later : List Record) (t : Record) → loggedRecords j p room ≡ p .records ++ (earlier ++ (t ∷ later))
+      → TurnHolds j (p .records ++ earlier) t × (t .cost < pathMost)
   unfolding loggedRecords
   logged-turn room earlier later t e =
-      let whole = fitting-begins room (allRecords j (begun j)) in
+      let whole = fitting-begins room (allRecords j p) in
       all-turn earlier (later ++ whole .0) t
-      (whole .1 ∙ ap (λ (l : List Record). l ++ whole .0) e ∙ append-assoc earlier (t ∷ later) (whole .0))
+      (whole .1 ∙ ap (λ (l : List Record). l ++ whole .0) e ∙ append-assoc (p .records) (earlier ++ (t ∷ later)) (whole .0)
+      ∙ ap (λ (l : List Record). p .records ++ l) (append-assoc earlier (t ∷ later) (whole .0)))
 
 -- ---- each case of the reply
 
 module _ (j : Job) (work log : List ℕ) where
+  -- what holds of every refusal before a run, and of a run of a sound job whose sinks have paths, holds of the reply
+  pub tested-case :
+      (P : (RouteReply → RouteReply) → Type 0)
+      → ((number : ℕ) (numbers left : List ℕ) → (AllReachable j → number ≡ 7 → ⊥) → P (λ _. refusedReply (number ∷ numbers) left log))
+      → (Routable (joined j) → Reached (joined j) → P (λ run. run)) → P (λ run. tested j work log run)
+  tested-case P refused runs =
+      ⊎-elim
+      (λ (t : leb 1 (faultyJob j) ≡ true). rw t (refused 5 (faultyJob j ∷ []) work (λ _ z. omega arith)))
+      (λ (t : leb 1 (faultyJob j) ≡ false).
+      let none : faultyJob j < 1 = leb-false 1 (faultyJob j) t in
+      let sound : SoundJob j = sound-job j (omega arith) in
+      ⊎-elim
+      (λ (u : ltb (length work) (workNeeded (nodes j)) ≡ true). rw (t, u) (refused 6 (workNeeded (nodes j) ∷ []) work (λ _ z. omega arith)))
+      (λ (u : ltb (length work) (workNeeded (nodes j)) ≡ false).
+      ⊎-elim
+      (λ (v : ltb (unreachableNet (joined j)) (nets j) ≡ true).
+      rw (t, u, v)
+      (refused 7 (unreachableNet (joined j) ∷ unreachablePlace (joined j) ∷ []) (cleared (nodes j) [] work)
+      (λ all _. none-unreachable (joined j) (joined-routable j sound) (joined-reachable j sound all) (ltb-true _ _ v))))
+      (λ (v : ltb (unreachableNet (joined j)) (nets j) ≡ false).
+      rw (t, u, v) (runs (joined-routable j sound) (all-reached (joined j) (ltb-false _ _ v))))
+      (either-way (ltb (unreachableNet (joined j)) (nets j))))
+      (either-way (ltb (length work) (workNeeded (nodes j)))))
+      (either-way (leb 1 (faultyJob j)))
+
   -- a refusal before any turn leaves no record
-  refused-facts :
-      (number : ℕ) (numbers left : List ℕ) → (AllReachable j → number ≡ 7 → ⊥) → Facts j work log (refusedReply (number ∷ numbers) left log)
-  refused-facts number numbers left reached =
+  pub refused-facts :
+      (lent : List Record) (number : ℕ) (numbers left : List ℕ) → (AllReachable j → number ≡ 7 → ⊥) → Facts j lent (refusedReply (number ∷ numbers) left log)
+  refused-facts lent number numbers left reached =
       record {
         records = [];
         words = refused-log (number ∷ numbers) left log;
         turns = refl;
-        each = λ earlier later t e. absurd (no-split earlier later t e);
+        each = λ earlier later t e. absurd (no-split (lent ++ earlier) later t (e ∙ sym (append-assoc lent earlier (t ∷ later))));
         final = λ e. absurd (let z : _≡_ {A = ℕ} 0 1 = cc in omega arith);
         reached = λ all net place e. reached all (cc);
       }
 
-  run-facts : Routable (joined j) → Reached (joined j) → Facts j work log (negotiated (joined j) work log)
+  pub run-facts :
+      (m : ℕ) (p : Progress) → Routable (joined j) → Reached (joined j) → Ran (joined j) m (p .records) (p .state) → m < j .terms .limit
+      → Facts j (p .records) (continued (joined j) p work log)
   unfolding continued
-  run-facts sound all =
+  run-facts m p sound all r below =
       let k : Job = joined j in
       ⊎-elim
-      (λ (q : ltb (length (loggedRecords k (begun k) (length log))) (length (allRecords k (begun k))) ≡ true).
+      (λ (q : ltb (length (loggedRecords k p (length log))) (length (allRecords k p)) ≡ true).
       rw q
       (record {
-        records = loggedRecords k (begun k) (length log);
-        words = ran-log k _ _ (loggedRecords k (begun k) (length log)) work log;
+        records = loggedRecords k p (length log);
+        words = ran-log k _ _ (loggedRecords k p (length log)) work log;
         turns = refl;
-        each = logged-turn k sound all (length log);
+        each = logged-turn k sound all m p r below (length log);
         final = λ e. absurd (let z : _≡_ {A = ℕ} 0 1 = cc in omega arith);
         reached = λ _ net place e. let z : _≡_ {A = ℕ} 8 7 = cc in omega arith;
       }))
-      (λ (q : ltb (length (loggedRecords k (begun k) (length log))) (length (allRecords k (begun k))) ≡ false).
+      (λ (q : ltb (length (loggedRecords k p (length log))) (length (allRecords k p)) ≡ false).
       rw q
       (record {
-        records = allRecords k (begun k);
-        words = ran-log k (endNumbers k (firstState k)) _ (allRecords k (begun k)) work log;
+        records = allRecords k p;
+        words = ran-log k (endNumbers k (p .state)) _ (allRecords k p) work log;
         turns = refl;
-        each = all-turn k sound all;
-        final = all-final k sound all;
-        reached = λ _. end-reached k (firstState k);
+        each = all-turn k sound all m p r below;
+        final = all-final k sound all m p r below;
+        reached = λ _. end-reached k (p .state);
       }))
-      (either-way (ltb (length (loggedRecords k (begun k) (length log))) (length (allRecords k (begun k)))))
+      (either-way (ltb (length (loggedRecords k p (length log))) (length (allRecords k p))))
 
-  reply-facts : Facts j work log (routeReply j work log)
+  reply-facts : Facts j [] (routeReply j work log)
+  unfolding routeReply
   reply-facts =
-      ⊎-elim
-      (λ (h : 1 ≤ faultyJob j).
-      subst (Facts j work log) (sym (route-table j work log h)) (refused-facts 5 _ work (λ _ z. omega arith)))
-      (λ (h : faultyJob j < 1).
-      ⊎-elim
-      (λ (enough : workNeeded (nodes j) ≤ length work).
-      let sound = sound-job j (omega arith) in
-      let routable = joined-routable j sound in
-      ⊎-elim
-      (λ (all : nets j ≤ unreachableNet (joined j)).
-      subst (Facts j work log) (sym (route-run j work log h enough all)) (run-facts routable (all-reached (joined j) all)))
-      (λ (some : unreachableNet (joined j) < nets j).
-      subst (Facts j work log) (sym (route-unreachable j work log h enough some))
-      (refused-facts 7 _ (cleared (nodes j) [] work) (λ all _. none-unreachable (joined j) routable (joined-reachable j sound all) some)))
-      (le-or-lt (nets j) (unreachableNet (joined j))))
-      (λ (short : length work < workNeeded (nodes j)).
-      subst (Facts j work log) (sym (route-work j work log h short)) (refused-facts 6 _ work (λ _ z. omega arith)))
-      (le-or-lt (workNeeded (nodes j)) (length work)))
-      (le-or-lt 1 (faultyJob j))
+      tested-case (λ f. Facts j [] (f (negotiated (joined j) work log))) (refused-facts [])
+      (λ sound all. run-facts 0 (begun (joined j)) sound all start (sound .limit-some))
 
   pub demand-3 : Demand3 j work log (routeReply j work log)
   demand-3 = demand-of j work log (routeReply j work log) reply-facts refl

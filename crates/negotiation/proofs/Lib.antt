@@ -28,9 +28,22 @@
 --     MachineRan        the machine's run is a run: bounds of histories and factor, its turns owned net by net
 --     EndLaws           how a run ends that goes on from a progress
 --     LimitLaws         such a run under two limits
+--     CutLaws           a run cut in two ends as the whole run
 -- Read off the log
 --     RanLaws           runs of whole iterations, whoever made the turns: trees, users and histories read off their records are the state's
 --     DemandLaws        a logged turn, the final trees, which sinks have a path
+-- A lent log
+--     FollowLaws        one record that follows: what its test says, clause by clause; its words
+--     ReplayLaws        a log that passes is a run, its words are the records', it has fewer iterations than the limit
+--     OwnReplayLaws     a log whose turns follow, one after the other, is taken up
+--     OneSinkLaws       a cheapest path passes no other unjoined sink
+--     SomeTurnLaws      an iteration that leaves a node overfull has a turn
+--     OwnRunLaws        the machine's own log over such iterations is taken up
+--     StepPassLaws      the steps of a path in one pass, with marks for the nodes of the tree and those passed
+--     FrameLaws         a record's words apart from its path, and where the log has them
+--     PathPassLaws      such a pass over a record's path tests what is asked clause by clause
+--     PassLoopLaws      the loops that make it: over a node's row, and over the words of a path
+--     TurnTestLaws      the test of one record at a place of the log: frame, path and cost
 -- The reply
 --     RefusalLaws       refusal by refusal
 --     ReplyLogLaws      the log of a reply as the records whose words it holds
@@ -40,6 +53,9 @@
 --     UnreachableHolds  what refusal 7 means
 --     JoinedHolds       request 2.3: joined nets; the joined job can be routed
 --     LongerHolds       request 2.6: two limits, two log lengths
+--     ResumeHolds       request 2.8: every resumed call: what is rebuilt, the lent words first, the appended turns as demand 3 asks
+--     OwnResumeHolds    request 2.8: a job's own log ends as the straight run
+--     AfterLimitHolds   request 2.8: so does the log of a run that refusal 9 ended, under a larger limit
 --     SamplesHold       the starred jobs
 -- The routing loops
 --     TariffLaws, StepLaws, StepWithLaws   the tariff's steps, by hand
@@ -75,9 +91,21 @@ pub mod DueLaws
 pub mod StateLaws
 pub mod EndLaws
 pub mod LimitLaws
+pub mod CutLaws
 pub mod RanLaws
 pub mod MachineRan
 pub mod DemandLaws
+pub mod FollowLaws
+pub mod ReplayLaws
+pub mod OwnReplayLaws
+pub mod OneSinkLaws
+pub mod SomeTurnLaws
+pub mod OwnRunLaws
+pub mod StepPassLaws
+pub mod FrameLaws
+pub mod PathPassLaws
+pub mod PassLoopLaws
+pub mod TurnTestLaws
 pub mod RefusalLaws
 pub mod ReplyLogLaws
 pub mod RouteLaws
@@ -85,6 +113,9 @@ pub mod DemandHolds
 pub mod UnreachableHolds
 pub mod JoinedHolds
 pub mod LongerHolds
+pub mod ResumeHolds
+pub mod OwnResumeHolds
+pub mod AfterLimitHolds
 pub mod SamplesHold
 pub mod TariffLaws
 pub mod StepLaws

@@ -70,7 +70,7 @@ module _ (j : Job) (limit : ℕ) where
   state-alike s zero = refl
   state-alike s (suc m) = rw (state-alike s m, iterate-alike (stateAfter j s m), move-alike (iterate j (stateAfter j s m) .state))
 
-  records-alike : (s : State) (m : ℕ) → recordsAfter (withLimit j limit) s m ≡ recordsAfter j s m
+  pub records-alike : (s : State) (m : ℕ) → recordsAfter (withLimit j limit) s m ≡ recordsAfter j s m
   unfolding recordsAfter
   records-alike s zero = refl
   records-alike s (suc m) = rw (records-alike s m, state-alike s m, iterate-alike (stateAfter j s m))
@@ -79,7 +79,7 @@ module _ (j : Job) (limit : ℕ) where
   unfolding overCount overfull usersOf
   over-alike trees = refl
 
-  settles-alike : (s : State) (m : ℕ) → settlesAt (withLimit j limit) s m ≡ settlesAt j s m
+  pub settles-alike : (s : State) (m : ℕ) → settlesAt (withLimit j limit) s m ≡ settlesAt j s m
   unfolding settlesAt
   settles-alike s m = rw (state-alike s m, iterate-alike (stateAfter j s m), over-alike (iterate j (stateAfter j s m) .state .trees))
 
@@ -100,6 +100,24 @@ module _ (j : Job) (limit : ℕ) where
 
 -- ---- how many iterations are made under two limits
 
+module _ (j : Job) (s : State) (low : ℕ) where
+  -- where the last iteration under a limit does not settle, none does
+  pub none-settles : settlesAt j s (iterationsMade j s low - 1) ≡ false → low ≤ firstBelow (settlesAt j s) low
+  unfolding iterationsMade
+  none-settles unsettled =
+      ⊎-elim
+      (λ (l : low ≤ firstBelow (settlesAt j s) low). l)
+      (λ (l : firstBelow (settlesAt j s) low < low).
+      let first : ℕ = firstBelow (settlesAt j s) low in
+      let last : first + 1 - 1 ≡ first = omega arith in
+      absurd (true≢false (sym (firstBelow-holds (settlesAt j s) low l) ∙ (rw (lt-ltb first low l, last) at unsettled))))
+      (le-or-lt low (firstBelow (settlesAt j s) low))
+
+  -- and the limit ends the run
+  pub made-late : low ≤ firstBelow (settlesAt j s) low → iterationsMade j s low ≡ low
+  unfolding iterationsMade
+  made-late l = rw (le-ltb (firstBelow (settlesAt j s) low) low l)
+
 module _ (j : Job) (s : State) (low high : ℕ) (more : low ≤ high) where
   -- a run that settles below the smaller limit ends there under both
   made-early : firstBelow (settlesAt j s) low < low → iterationsMade j s high ≡ iterationsMade j s low
@@ -111,12 +129,7 @@ module _ (j : Job) (s : State) (low high : ℕ) (more : low ≤ high) where
       firstBelow-is (settlesAt j s) high first (omega arith) settles (firstBelow-below (settlesAt j s) low) in
       rw (same, lt-ltb first high (omega arith), lt-ltb first low l)
 
-  -- else the smaller ends it
-  made-late : low ≤ firstBelow (settlesAt j s) low → iterationsMade j s low ≡ low
-  unfolding iterationsMade
-  made-late l = rw (le-ltb (firstBelow (settlesAt j s) low) low l)
-
-  -- and under the larger it goes on, by one iteration at least where that is larger
+  -- one that does not goes on under the larger, by one iteration at least where that is larger
   made-past : low ≤ firstBelow (settlesAt j s) low → (k : ℕ) → k ≤ low + 1 → k ≤ high → k ≤ iterationsMade j s high
   unfolding iterationsMade
   made-past l k near below =
@@ -134,7 +147,7 @@ module _ (j : Job) (s : State) (low high : ℕ) (more : low ≤ high) where
   made-more : iterationsMade j s low ≤ iterationsMade j s high
   made-more =
       ⊎-elim
-      (λ (l : low ≤ firstBelow (settlesAt j s) low). rw (made-late l) (made-past l low (omega arith) more))
+      (λ (l : low ≤ firstBelow (settlesAt j s) low). rw (made-late j s low l) (made-past l low (omega arith) more))
       (λ (l : firstBelow (settlesAt j s) low < low). rw (made-early l) (le-refl (iterationsMade j s low)))
       (le-or-lt low (firstBelow (settlesAt j s) low))
 
@@ -143,22 +156,16 @@ module _ (j : Job) (s : State) (low high : ℕ) (more : low ≤ high) where
   made-same some settles =
       ⊎-elim
       (λ (l : low ≤ firstBelow (settlesAt j s) low).
-      let last : settlesAt j s (low - 1) ≡ true = rw (made-late l) at settles in
+      let last : settlesAt j s (low - 1) ≡ true = rw (made-late j s low l) at settles in
       absurd (true≢false (sym last ∙ firstBelow-below (settlesAt j s) low (low - 1) (omega arith))))
       (λ (l : firstBelow (settlesAt j s) low < low). made-early l)
       (le-or-lt low (firstBelow (settlesAt j s) low))
 
   -- where it does not, more are
   pub made-again : settlesAt j s (iterationsMade j s low - 1) ≡ false → low < high → low < iterationsMade j s high
-  unfolding iterationsMade
   made-again unsettled less =
-      ⊎-elim
-      (λ (l : low ≤ firstBelow (settlesAt j s) low). let past = made-past l (low + 1) (omega arith) (omega arith) in omega arith)
-      (λ (l : firstBelow (settlesAt j s) low < low).
-      let first : ℕ = firstBelow (settlesAt j s) low in
-      let last : first + 1 - 1 ≡ first = omega arith in
-      absurd (true≢false (sym (firstBelow-holds (settlesAt j s) low l) ∙ (rw (lt-ltb first low l, last) at unsettled))))
-      (le-or-lt low (firstBelow (settlesAt j s) low))
+      let past = made-past (none-settles j s low unsettled) (low + 1) (omega arith) (omega arith) in
+      omega arith
 
 -- ---- the run's end and its records under a limit
 

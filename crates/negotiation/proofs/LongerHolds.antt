@@ -23,34 +23,34 @@ use Rattle.negotiation.proofs.JoiningLaws.{places-same}
 use Rattle.negotiation.proofs.RecordLaws.{fitting-begins, fitting-less, fitting-append}
 use Rattle.negotiation.proofs.EndLaws.{whole-reply}
 use Rattle.negotiation.proofs.LimitLaws.{leftUnder, first-alike, all-alike, made-same, made-again, not-accepted, madeUnder, run-alike, end-settles, settled-end, end-unsettled, raised-records}
-use Rattle.negotiation.proofs.ReplyLogLaws.{LogHas, log-words, log-turns, log-begins, refused-log, ran-log, run-log, full-or-fits, run-same}
+use Rattle.negotiation.proofs.ReplyLogLaws.{LogHas, log-words, log-turns, log-begins, refused-log, ran-log, run-log, full-or-fits, run-same, run-as-long}
 
 -- ---- the refusals before any turn
 
 -- both work slices are long enough, or neither is
-abbrev Alike : Job → List ℕ → List ℕ → Type 0
+abbrev pub Alike : Job → List ℕ → List ℕ → Type 0
 Alike j work work′ = ltb (length work) (workNeeded (nodes j)) ≡ ltb (length work′) (workNeeded (nodes j))
 
-enough-alike : (j : Job) (work work′ : List ℕ) → workNeeded (nodes j) ≤ length work → workNeeded (nodes j) ≤ length work′ → Alike j work work′
+pub enough-alike : (j : Job) (work work′ : List ℕ) → workNeeded (nodes j) ≤ length work → workNeeded (nodes j) ≤ length work′ → Alike j work work′
 enough-alike j work work′ h k = le-ltb (length work) (workNeeded (nodes j)) h ∙ sym (le-ltb (length work′) (workNeeded (nodes j)) k)
 
 -- a job is refused before any turn, by 5, 6 or 7, in both work slices, whatever the log and the run
-record Refused (j : Job) (work work′ : List ℕ) : Type 0 where
-  number : ℕ
-  numbers : List ℕ
+pub record Refused (j : Job) (work work′ : List ℕ) : Type 0 where
+  pub number : ℕ
+  pub numbers : List ℕ
   -- the work slices that are left
-  left : List ℕ
-  left′ : List ℕ
-  number-most : number ≤ 7
-  reply : (log : List ℕ) (run : RouteReply) → tested j work log run ≡ refusedReply (number ∷ numbers) left log
-  reply′ : (log : List ℕ) (run : RouteReply) → tested j work′ log run ≡ refusedReply (number ∷ numbers) left′ log
+  pub left : List ℕ
+  pub left′ : List ℕ
+  pub number-most : number ≤ 7
+  pub reply : (log : List ℕ) (run : RouteReply) → tested j work log run ≡ refusedReply (number ∷ numbers) left log
+  pub reply′ : (log : List ℕ) (run : RouteReply) → tested j work′ log run ≡ refusedReply (number ∷ numbers) left′ log
 
 -- or it runs in both
-record Runs (j : Job) (work work′ : List ℕ) : Type 0 where
-  reply : (log : List ℕ) (run : RouteReply) → tested j work log run ≡ run
-  reply′ : (log : List ℕ) (run : RouteReply) → tested j work′ log run ≡ run
+pub record Runs (j : Job) (work work′ : List ℕ) : Type 0 where
+  pub reply : (log : List ℕ) (run : RouteReply) → tested j work log run ≡ run
+  pub reply′ : (log : List ℕ) (run : RouteReply) → tested j work′ log run ≡ run
 
-refused-or-runs : (j : Job) (work work′ : List ℕ) → Alike j work work′ → Refused j work work′ ⊎ Runs j work work′
+pub refused-or-runs : (j : Job) (work work′ : List ℕ) → Alike j work work′ → Refused j work work′ ⊎ Runs j work work′
 refused-or-runs j work work′ alike =
     ⊎-elim
     (λ (t : leb 1 (faultyJob j) ≡ true).
@@ -105,7 +105,7 @@ unfolding routeReply
 reply-tested j work log = refl
 
 -- joining does not read the limit
-joined-limit : (j : Job) (limit : ℕ) → joined (withLimit j limit) ≡ withLimit (joined j) limit
+pub joined-limit : (j : Job) (limit : ℕ) → joined (withLimit j limit) ≡ withLimit (joined j) limit
 joined-limit j limit = simp (places-same (withLimit j limit) j refl refl refl)
 
 -- and every run begins alike
@@ -180,6 +180,20 @@ log-lengthened j work short work′ long enough enough′ more =
     (λ full. absurd (unfilled (full .0) (full .1) (ap (λ (r : RouteReply). r .refusal) left ∙ full .2)))
     (λ (fits : length (encode (allRecords (joined j) p)) ≤ length short). run-same (joined j) p work short work′ long fits (omega arith))
     (full-or-fits (joined j) p work short))))
+    (refused-or-runs j work work′ (enough-alike j work work′ enough enough′))
+
+-- in logs of one length every call answers and logs the same
+pub same-length :
+    (j : Job) (work log work′ log′ : List ℕ) → workNeeded (nodes j) ≤ length work → workNeeded (nodes j) ≤ length work′ → length log ≡ length log′
+    → SameLog (routeReply j work log) (routeReply j work′ log′)
+same-length j work log work′ log′ enough enough′ long =
+    ⊎-elim
+    (λ (r : Refused j work work′).
+    rw (reply-tested j work log ∙ r .reply log (negotiated (joined j) work log), reply-tested j work′ log′ ∙ r .reply′ log′ (negotiated (joined j) work′ log′))
+    (refused-same (r .number ∷ r .numbers) (r .left) (r .left′) log log′))
+    (λ (r : Runs j work work′).
+    rw (reply-tested j work log ∙ r .reply log (negotiated (joined j) work log), reply-tested j work′ log′ ∙ r .reply′ log′ (negotiated (joined j) work′ log′))
+    (run-as-long (joined j) (begun (joined j)) work log work′ log′ long))
     (refused-or-runs j work work′ (enough-alike j work work′ enough enough′))
 
 -- ---- a larger limit
@@ -276,19 +290,19 @@ begins-below j limit h = h
 
 -- both replies under two allowed limits: refused alike, or the runs'
 module _ (j : Job) (low high : ℕ) (l : limitSound low ≡ true) (h : limitSound high ≡ true) (work log work′ log′ : List ℕ) where
-  low-refused : (r : Refused (withLimit j low) work work′) → routeReply (withLimit j low) work log ≡ refusedReply (r .number ∷ r .numbers) (r .left) log
+  pub low-refused : (r : Refused (withLimit j low) work work′) → routeReply (withLimit j low) work log ≡ refusedReply (r .number ∷ r .numbers) (r .left) log
   low-refused r = reply-tested (withLimit j low) work log ∙ r .reply log (negotiated (joined (withLimit j low)) work log)
 
   high-refused : (r : Refused (withLimit j low) work work′) → routeReply (withLimit j high) work′ log′ ≡ refusedReply (r .number ∷ r .numbers) (r .left′) log′
   high-refused r =
       reply-tested (withLimit j high) work′ log′ ∙ tested-alike j low high l h work′ log′ _ ∙ r .reply′ log′ (negotiated (joined (withLimit j high)) work′ log′)
 
-  low-runs : Runs (withLimit j low) work work′ → routeReply (withLimit j low) work log ≡ continued (withLimit (joined j) low) (begun (joined j)) work log
+  pub low-runs : Runs (withLimit j low) work work′ → routeReply (withLimit j low) work log ≡ continued (withLimit (joined j) low) (begun (joined j)) work log
   low-runs r =
       reply-tested (withLimit j low) work log ∙ r .reply log (negotiated (joined (withLimit j low)) work log)
       ∙ begun-limit j low work log
 
-  high-runs : Runs (withLimit j low) work work′ → routeReply (withLimit j high) work′ log′ ≡ continued (withLimit (joined j) high) (begun (joined j)) work′ log′
+  pub high-runs : Runs (withLimit j low) work work′ → routeReply (withLimit j high) work′ log′ ≡ continued (withLimit (joined j) high) (begun (joined j)) work′ log′
   high-runs r =
       reply-tested (withLimit j high) work′ log′ ∙ tested-alike j low high l h work′ log′ _ ∙ r .reply′ log′ (negotiated (joined (withLimit j high)) work′ log′)
       ∙ begun-limit j high work′ log′

@@ -93,3 +93,22 @@ run-same j p work short work′ long fits more =
           take-append-seam (encode (allRecords j p)) (drop (length (encode (allRecords j p))) long)
           ∙ sym (take-append-seam (encode (allRecords j p)) (drop (length (encode (allRecords j p))) short));
     })
+
+-- in logs of one length it does, whether they are filled or not
+module _ (j : Job) (p : Progress) (work log work′ log′ : List ℕ) (long : length log ≡ length log′) where
+  as-long-words : wordsUsed (continued j p work′ log′) ≡ wordsUsed (continued j p work log)
+  as-long-words =
+      log-words (continued j p work′ log′) (fitting (length log′) (allRecords j p)) (run-log j p work′ log′)
+      ∙ ap (λ (n : ℕ). encode (fitting n (allRecords j p))) (sym long)
+      ∙ sym (log-words (continued j p work log) (fitting (length log) (allRecords j p)) (run-log j p work log))
+
+  pub run-as-long : SameLog (continued j p work log) (continued j p work′ log′)
+  unfolding continued
+  run-as-long =
+      let same = as-long-words in
+      ⊎-elim
+      (λ (t : ltb (length (loggedRecords j p (length log′))) (length (allRecords j p)) ≡ true).
+      record { refusal = rw (long, t); iteration = rw (long, t); turns = rw (long, t); used = rw (long, t); words = same })
+      (λ (t : ltb (length (loggedRecords j p (length log′))) (length (allRecords j p)) ≡ false).
+      record { refusal = rw (long, t); iteration = rw (long, t); turns = rw (long, t); used = rw (long, t); words = same })
+      (either-way (ltb (length (loggedRecords j p (length log′))) (length (allRecords j p))))

@@ -9,9 +9,12 @@ pub mod Outcome
 pub mod Unreachable
 pub mod Demand
 pub mod Longer
+pub mod Resume
+pub mod Resumed
 pub mod TariffSteps
 pub mod Steps
 pub mod Kept
 pub mod JoinSteps
+pub mod ResumeSteps
 pub mod Flood
 pub mod Samples

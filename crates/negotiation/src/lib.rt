@@ -53,6 +53,7 @@ pub struct RouteAnswer {
 mod congestion;
 mod due;
 mod flood;
+mod follow;
 mod job_terms;
 mod join;
 mod nets;

@@ -8,6 +8,7 @@ use lib.Seq.{length-take-le}
 use borrow.Author.Needs.{needs}
 use Rattle.search.proofs.BlockLaws.{kinds-few}
 use Rattle.negotiation.specs.Job.{Job, jobOf, nodes, nets}
+use Rattle.negotiation.specs.Records.{encode}
 use Rattle.negotiation.specs.Outcome.{begun}
 use Rattle.negotiation.specs.Kept.{Ready}
 use Rattle.negotiation.proofs.KeepStart.{take-replicate, begun-ready}
@@ -83,10 +84,26 @@ array-borrow-prefix-due c = few-nets (c .before .before .before .before .before 
 slice-aggregate-go-on-6 : tie.Need-slice-aggregate-go-on-6
 slice-aggregate-go-on-6 c = sym (length-take-le _ _ (few-nets (c .before .before .before .before .before .before .before .before .before .before .before .before .before .before .before)))
 
+-- the counts stand apart: an edit of one fails at its own equation
 go-on-requires : tie.Need-go-on-requires
+unfolding encode
 go-on-requires c κs =
     let e = c .before .before .before .before .before .before .before .before .before .before .before .before .before .before .before .before .before in
-    (e .pre, record { progress = begun (job e); ready = ready e (e .args .log .now) })
+    let r = ready e (e .args .log .now) in (
+      e .pre,
+      record {
+        progress = begun (job e);
+        ready =
+            record {
+              can = r .can;
+              iteration-is = r .iteration-is;
+              factor-is = r .factor-is;
+              kept = r .kept;
+              due-long = r .due-long;
+              tallied = record { turns-is = refl; words-is = refl; log-is = r .tallied .log-is; fits = r .tallied .fits };
+            };
+      },
+    )
 
 same-length : tie.Need-same-length
 same-length c = search needs

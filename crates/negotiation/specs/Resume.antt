@@ -1,0 +1,153 @@
+-- Request 2.8, "Going on from a finished log": whether a lent log follows the job, what is rebuilt from it, and what resume answers and
+-- leaves. The replay goes over the log's words with the machine's own steps, so what is rebuilt is a state of the machine.
+-- Assumes nothing.
+use mathlib.Core.Bool.{Bool, false, not}
+use mathlib.Core.List.{List, [], _∷_, _++_}
+use mathlib.Core.Path.{_≡_}
+use Prim.Native.Nat.{ℕ, zero, suc, _+_, _-_, _/_, _%_, _^_, _≤_, _<_}
+use lib.Dec.{eqb, leb, ltb}
+use lib.ListN.{length, getD, take, drop}
+use Rattle.price.specs.Test.{choose, both, either}
+use Rattle.price.specs.Lists.{every, neighbours, has, distinct}
+use Rattle.search.specs.Block.{hasEdge}
+use Rattle.search.specs.Paths.{pathCost}
+use Rattle.search.specs.Turn.{priceAt}
+use Rattle.search.specs.Replies.{cleared}
+use Rattle.negotiation.specs.Job.{Job, nodes, nets, netSinks}
+use Rattle.negotiation.specs.Join.{joined}
+use Rattle.negotiation.specs.Records.{Record, recordOf, encode}
+use Rattle.negotiation.specs.Machine.{State, Progress, congestionFor, treeFrom, withNet, due, overCount, moveOn, firstState}
+use Rattle.negotiation.specs.Machine.{recordsAfter, settlesAt}
+use Rattle.negotiation.specs.Outcome.{RouteReply, refusedReply, continued, tested}
+
+-- ---- one record
+
+-- the path of the record that the words begin with
+abbrev pub pathIn : List ℕ → List ℕ
+pathIn ws = take (getD ws 5 0) (drop 6 ws)
+
+-- the record that the words begin with, where its cost follows
+abbrev pub recordIn : (ℕ → ℕ) → List ℕ → Record
+recordIn price ws = recordOf (getD ws 0 0) (getD ws 1 0) (getD ws 2 0) (pathCost price (pathIn ws)) (pathIn ws)
+
+-- "a record cut short .. doesn't follow"
+unfoldable pub wholeRecord : List ℕ → Bool
+wholeRecord ws = both (leb 6 (length ws)) (leb (6 + getD ws 5 0) (length ws))
+
+-- a sink that the tree lacks
+unfoldable pub unjoined : List ℕ → List ℕ → ℕ → Bool
+unjoined sinks tree v = both (has v sinks) (not (has v tree))
+
+-- "its first node alone in the tree"
+unfoldable pub firstAlone : List ℕ → List ℕ → Bool
+firstAlone tree path = both (has (getD path 0 0) tree) (every (λ v. not (has v tree)) (drop 1 path))
+
+-- "its last the record's sink"
+unfoldable pub endsAt : ℕ → List ℕ → Bool
+endsAt sink path = eqb (getD path (length path - 1) 0) sink
+
+-- "with no other unjoined sink on it"
+unfoldable pub noOther : List ℕ → List ℕ → ℕ → List ℕ → Bool
+noOther sinks tree sink path = every (λ v. either (eqb v sink) (not (unjoined sinks tree v))) path
+
+-- "each turn a path along edges, no node twice, its first node alone in the tree, its last the record's sink, unjoined, with no other
+-- unjoined sink on it". Nothing asks that the path be cheapest or the sink nearest.
+unfoldable pub pathFollows : Job → ℕ → List ℕ → ℕ → List ℕ → Bool
+pathFollows j i tree sink path =
+    both (neighbours (hasEdge (j .block)) path)
+    (both (distinct path)
+    (both (firstAlone tree path)
+    (both (endsAt sink path)
+    (both (unjoined (netSinks j i) tree sink)
+    (noOther (netSinks j i) tree sink path)))))
+
+-- "its cost the sum of its prices": the two words of a cost are that cost's
+unfoldable pub costFollows : (ℕ → ℕ) → List ℕ → Bool
+costFollows price ws =
+    both (eqb (getD ws 3 0) (pathCost price (pathIn ws) % 2 ^ 32)) (eqb (getD ws 4 0) (pathCost price (pathIn ws) / 2 ^ 32))
+
+-- the words begin with a turn of net i, which has this tree, in this state
+unfoldable pub turnFollows : Job → State → ℕ → List ℕ → List ℕ → Bool
+turnFollows j s i tree ws =
+    both (wholeRecord ws)
+    (both (eqb (getD ws 0 0) (s .iteration))
+    (both (eqb (getD ws 1 0) i)
+    (both (pathFollows j i tree (getD ws 2 0) (pathIn ws))
+    (costFollows (priceAt (j .block) (congestionFor j s i)) ws))))
+
+-- ---- the log, record after record
+
+-- the records so far follow and lead to this state, or the record at this word doesn't follow
+pub data Replay : Type 0 where
+  on : (p : Progress) → Replay
+  off : (word : ℕ) → Replay
+
+abbrev pub andThen : Replay → (Progress → Replay) → Replay
+andThen (on p) next = next p
+andThen (off word) next = off word
+
+-- the words after these records
+abbrev pub after : List ℕ → List Record → List ℕ
+after ws rs = drop (length (encode rs)) ws
+
+-- where the next record begins: "the word place of the first record that doesn't follow, the words used if only the end is wrong"
+abbrev pub offAfter : List Record → Replay
+offAfter rs = off (length (encode rs))
+
+-- every sink of net i is joined by these turns
+unfoldable pub allJoined : Job → ℕ → List Record → Bool
+allJoined j i made = every (λ x. has x (treeFrom j i made)) (netSinks j i)
+
+-- so many turns of net i, at most, after those that it has made: "each until its sinks are joined"
+unfoldable pub replayTurns : Job → List ℕ → ℕ → Progress → ℕ → List Record → Replay
+replayTurns j ws i p zero made = choose (allJoined j i made) (on (withNet j i p made)) (offAfter (p .records ++ made))
+replayTurns j ws i p (suc k) made =
+    choose (allJoined j i made) (on (withNet j i p made))
+    (choose (turnFollows j (p .state) i (treeFrom j i made) (after ws (p .records ++ made)))
+    (replayTurns j ws i p k (made ++ (recordIn (priceAt (j .block) (congestionFor j (p .state) i)) (after ws (p .records ++ made)) ∷ [])))
+    (offAfter (p .records ++ made)))
+
+-- "the nets due to be routed, in order": the first nets of an iteration from state s, after these records
+unfoldable pub replayNets : Job → List ℕ → State → List Record → ℕ → Replay
+replayNets j ws s rs zero = on (record { records = rs; state = s })
+replayNets j ws s rs (suc i) =
+    andThen (replayNets j ws s rs i)
+    (λ p. choose (due j s i) (replayTurns j ws i p (length (netSinks j i)) []) (on p))
+
+-- after a whole iteration: "one or more iterations, each leaving a node overfull, the last whole and below the limit"
+abbrev pub replayNext : Job → List ℕ → Progress → (State → List Record → Replay) → Replay
+replayNext j ws p next =
+    choose (either (eqb (overCount j (p .state .trees)) 0) (leb (j .terms .limit) (p .state .iteration))) (offAfter (p .records))
+    (choose (leb (length ws) (length (encode (p .records)))) (on (record { records = p .records; state = moveOn j (p .state) }))
+    (next (moveOn j (p .state)) (p .records)))
+
+-- so many iterations, at most; as many as the limit are never all made, since the last must be below it
+unfoldable pub replayFrom : Job → List ℕ → ℕ → State → List Record → Replay
+replayFrom j ws zero s rs = offAfter rs
+replayFrom j ws (suc k) s rs =
+    andThen (replayNets j ws s rs (nets j)) (λ p. replayNext j ws p (replayFrom j ws k))
+
+-- "The log must follow the job: from iteration 1", over the words used; "or the log's length if the words used exceed it"
+unfoldable pub replay : Job → ℕ → List ℕ → Replay
+replay j used log =
+    choose (ltb (length log) used) (off (length log)) (replayFrom j (take used log) (j .terms .limit) (firstState j) [])
+
+-- ---- a job's own log
+
+-- "this job's own run over one or more whole iterations", of which each leaves a node overfull and the last is below the limit, stands in
+-- the words used
+pub record OwnLog (j : Job) (m used : ℕ) (log : List ℕ) : Type 0 where
+  pub some : 1 ≤ m
+  pub below : m < j .terms .limit
+  pub unsettled : (k : ℕ) → k < m → settlesAt j (firstState j) k ≡ false
+  pub within : used ≤ length log
+  pub words-are : take used log ≡ encode (recordsAfter j (firstState j) m)
+
+-- ---- what resume answers
+
+abbrev pub resumedReply : Job → Replay → List ℕ → List ℕ → RouteReply
+resumedReply j (off word) work log = refusedReply (14 ∷ word ∷ []) (cleared (nodes j) [] work) log
+resumedReply j (on p) work log = continued j p work log
+
+unfoldable pub resumeReply : Job → ℕ → List ℕ → List ℕ → RouteReply
+resumeReply j used work log = tested j work log (resumedReply (joined j) (replay (joined j) used log) work log)
