@@ -30,7 +30,7 @@ fn main() {
 }
 MAIN
 libraries=(--lib "std=$home/libs/std/src/lib.rt")
-for crate in price search negotiation text uses capi; do libraries+=(--lib "$crate=crates/$crate/src/lib.rt"); done
+for crate in price search job negotiation text uses capi; do libraries+=(--lib "$crate=crates/$crate/src/lib.rt"); done
 "$kit/bin/rattle-cases" --toolchain "$scratch/tools" "$scratch/main/main.rt" --crate-name main "${libraries[@]}" >/dev/null
 
 # the calls under their own names, a slice as a pointer to its pointer and length

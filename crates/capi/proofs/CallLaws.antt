@@ -13,7 +13,7 @@ use Rattle.search.specs.Block.{Block}
 use Rattle.search.specs.Turn.{Congestion}
 use Rattle.search.specs.Replies.{searchRefusal, searchReply, searchReplyOf}
 use Rattle.search.specs.declared.SearchAnswer.{SearchAnswer}
-use Rattle.negotiation.specs.Job.{Job}
+use Rattle.job.specs.Job.{Job}
 use Rattle.negotiation.specs.Outcome.{routeRefusal, routeReplyOf, routeReply}
 use Rattle.negotiation.specs.declared.RouteAnswer.{RouteAnswer}
 use Rattle.text.specs.ReadReplies.{Tables, readRefusal, readNumbers, readReplyOf, readReply}

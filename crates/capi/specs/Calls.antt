@@ -9,8 +9,8 @@ use Rattle.price.specs.Replies as p
 use Rattle.search.specs.Block.{Block}
 use Rattle.search.specs.Turn.{Congestion}
 use Rattle.search.specs.Replies.{SearchReply, searchReply}
-use Rattle.negotiation.specs.Job.{Job}
-use Rattle.negotiation.specs.declared.Terms.{Terms}
+use Rattle.job.specs.Job.{Job}
+use Rattle.job.specs.declared.Terms.{Terms}
 use Rattle.negotiation.specs.Outcome.{RouteReply, routeReply}
 use Rattle.text.specs.ReadReplies.{Tables, ReadReply, readReply}
 use Rattle.text.specs.Routes.{WriteReply, writeReply}

@@ -3,7 +3,7 @@ ghost use mathlib.Core.Path.{_≡_};
 ghost use lib.ListN.{getD};
 ghost use Rattle.search.specs.Block.{blockOf};
 ghost use Rattle.search.specs.Turn.{congestionOf};
-ghost use Rattle.negotiation.specs.Job.{jobOf};
+ghost use Rattle.job.specs.Job.{jobOf};
 ghost use Rattle.text.specs.ReadReplies.{tablesOf};
 ghost use Rattle.capi.specs.Calls.{callOf, priceCall, searchDone, searchCall};
 ghost use Rattle.capi.specs.Calls.{termsOf, routeDone, routeCall, readDone, readCall, writeDone, writtenCall, writeCall, dotCall};
@@ -13,7 +13,7 @@ ghost use Rattle.text.specs.Dot.{styleReply};
 mod counts;
 mod out;
 
-use negotiation::Terms;
+use job::Terms;
 use out::OUT_ENTRIES;
 use price::Tuning;
 use text::Style;

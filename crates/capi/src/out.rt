@@ -10,9 +10,9 @@ ghost use Rattle.text.specs.ReadReplies.{termsNumbers, readRefusal, readNumbers
 ghost use Rattle.text.specs.Routes.{writeRefusal, writtenBytes};
 ghost use Rattle.uses.specs.Uses.{addRefusal, printRefusal, printedBytes};
 ghost use Rattle.capi.specs.Calls.{callOf, outWith, logsAdded};
+use job::Terms;
 use negotiation::Outcome;
 use negotiation::RouteAnswer;
-use negotiation::Terms;
 use price::PriceAnswer;
 use search::SearchAnswer;
 use text::ReadAnswer;

@@ -10,9 +10,9 @@ use lib.Dec.{leb, ltb}
 use lib.ListN.{length, take, drop, length-append}
 use Rattle.price.specs.Bounds.{nodesMost}
 use Rattle.price.proofs.TestLaws.{either-way}
-use Rattle.negotiation.specs.Job.{Job}
+use Rattle.job.specs.Job.{Job}
 use Rattle.negotiation.specs.Records.{decode}
-use Rattle.negotiation.specs.Tables.{sourcesSound}
+use Rattle.job.specs.Tables.{sourcesSound}
 use Rattle.negotiation.specs.Outcome.{RouteReply, routeReply}
 use Rattle.text.specs.Lines.{letterX, printLine}
 use Rattle.text.specs.JobText.{Part, part, stopped, readText}

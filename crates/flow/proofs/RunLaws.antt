@@ -15,18 +15,18 @@ use Rattle.price.proofs.TestLaws.{either-way}
 use Rattle.search.specs.Replies.{workNeeded}
 use Rattle.search.proofs.BlockLaws.{kinds-few, capacities-long}
 use Rattle.search.proofs.BlockLaws as block
-use Rattle.negotiation.specs.Tables.{netsMost, faultyJob, SoundJob}
-use Rattle.negotiation.specs.Job.{Job, jobOf, nodes, nets}
-use Rattle.negotiation.specs.Join.{joined}
+use Rattle.job.specs.Tables.{netsMost, faultyJob, SoundJob}
+use Rattle.job.specs.Job.{Job, jobOf, nodes, nets}
+use Rattle.job.specs.Join.{joined}
 use Rattle.negotiation.specs.Records.{Record, encode}
 use Rattle.negotiation.specs.Machine.{Progress}
 use Rattle.negotiation.specs.Outcome.{RouteReply, routeRefusal, routeReplyOf, logWith, begun, loggedRecords, allRecords, unreachableNet, continued, routeReply}
 use Rattle.negotiation.specs.declared.RouteAnswer.{RouteAnswer}
-use Rattle.negotiation.specs.declared.Terms.{Terms}
+use Rattle.job.specs.declared.Terms.{Terms}
 use Rattle.negotiation.specs.declared.Outcome.{Outcome}
 use Rattle.negotiation.specs.declared.Outcome.the-variants.{Accepted}
-use Rattle.negotiation.proofs.JobLaws.{routable-of}
-use Rattle.negotiation.proofs.JobLaws as job
+use Rattle.negotiation.proofs.RoutableLaws.{routable-of}
+use Rattle.job.proofs.JobLaws as job
 use Rattle.text.specs.JobText.{Part, part, stopped, readText}
 use Rattle.text.specs.ReadReplies.{Tables, shortTable, writtenOver, tablesWith, ReadReply, notRead, termsNumbers, jobNumbers, storedReply, replyTo, readReply}
 use Rattle.text.specs.Routes.{WriteReply}

@@ -4,7 +4,7 @@ use mathlib.Core.List.{List, [], _∷_, _++_, flatMap}
 use mathlib.Core.Path.{_≡_, refl}
 use Rattle.negotiation.specs.Records.{decodeUpTo, decode}
 use Rattle.negotiation.specs.Demand.{latest}
-use Rattle.negotiation.specs.Join.{firstOf, leads}
+use Rattle.job.specs.Join.{firstOf, leads}
 use Rattle.price.specs.Samples.{Sample, Hold}
 use Rattle.price.specs.Samples as p
 use Rattle.price.proofs.SamplesHold as p-hold

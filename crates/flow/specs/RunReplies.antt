@@ -6,7 +6,7 @@ use Prim.Native.Nat.{ℕ}
 use lib.Dec.{leb, ltb}
 use lib.ListN.{length, take}
 use Rattle.price.specs.Test.{choose}
-use Rattle.negotiation.specs.Job.{Job}
+use Rattle.job.specs.Job.{Job}
 use Rattle.negotiation.specs.Outcome.{RouteReply, routeReply}
 use Rattle.text.specs.JobText.{Part, part, stopped, readText}
 use Rattle.text.specs.ReadReplies.{Tables, shortTable, tablesWith}

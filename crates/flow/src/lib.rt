@@ -2,7 +2,7 @@
 ghost use mathlib.Core.Path.{_≡_};
 ghost use Prim.Native.Nat.{_≤_};
 ghost use lib.ListN.{length, take};
-ghost use Rattle.negotiation.specs.Job.{jobOf};
+ghost use Rattle.job.specs.Job.{jobOf};
 ghost use Rattle.text.specs.ReadReplies.{Tables, tablesOf};
 ghost use Rattle.flow.specs.Refusals.{lineReplyOf};
 ghost use Rattle.text.specs.Dot.{styleReply};
@@ -11,8 +11,8 @@ ghost use Rattle.flow.specs.Steps.{answerLine};
 
 mod refusals;
 
+use job::Terms;
 use negotiation::Outcome;
-use negotiation::Terms;
 use text::ReadAnswer;
 use text::Style;
 use text::WriteAnswer;

@@ -6,7 +6,7 @@ use native.Mathlib.Omega.{arith}
 use lib.ListN.{length}
 use borrow.Author.Tests.{le-ltb}
 use Rattle.price.proofs.ListLaws.{length-upTo}
-use Rattle.negotiation.specs.Job.{Job, nodes, nets}
+use Rattle.job.specs.Job.{Job, nodes, nets}
 use Rattle.text.specs.Printed.{shortest, Accepts, PrintedAs}
 use Rattle.text.specs.ReadReplies.{Tables, lowestShort, shortTable, storedReply, readReply}
 use Rattle.text.proofs.TextHolds.{reader-exact}

@@ -23,8 +23,8 @@ use Rattle.search.specs.Block as block
 use Rattle.search.specs.Tables.{edgesMost, kindsSound, capacitiesSound, firstEdgesSound, rowSound, edgeTargetsSound}
 use Rattle.search.specs.Replies.{sinksMost}
 use Rattle.search.proofs.TableLaws.{edges-all}
-use Rattle.negotiation.specs.Job.{Job, nodes, nets, source, sinksBetween, netSinks}
-use Rattle.negotiation.specs.Tables.{netsMost, sourcesSound, firstSinksSound, netSound, sinksSound, limitSound, termsSound, oneOf, pinsOf, SoundJob, sourceKind, sinkKind}
+use Rattle.job.specs.Job.{Job, nodes, nets, source, sinksBetween, netSinks}
+use Rattle.job.specs.Tables.{netsMost, sourcesSound, firstSinksSound, netSound, sinksSound, limitSound, termsSound, oneOf, pinsOf, SoundJob, sourceKind, sinkKind}
 use Rattle.generator.specs.Load.{quarter, loadKind, rowsFrom, netsFrom, rowDraw, drawn, passing, loadRow, loadRows, loadSource, loadSink, loadJob}
 use Rattle.generator.proofs.DrawLaws.{draw-below}
 use Rattle.generator.proofs.NodeLaws.{kind-source, kind-sink, kind-most}

@@ -8,7 +8,7 @@ use lib.Dec.{eqb, leb, ltb}
 use lib.ListN.{length, replicate}
 use Rattle.price.specs.Test.{choose, both, either}
 use Rattle.price.specs.Lists.{upTo}
-use Rattle.negotiation.specs.Job.{Job, jobOf, plainTerms}
+use Rattle.job.specs.Job.{Job, jobOf, plainTerms}
 use Rattle.text.specs.Printed.{shortest, printJob}
 use Rattle.generator.specs.Draws.{stateAfter, drawAt}
 

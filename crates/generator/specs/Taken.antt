@@ -4,8 +4,8 @@ use mathlib.Core.List.{[]}
 use mathlib.Core.Path.{_≡_}
 use Prim.Native.Nat.{ℕ, _≤_}
 use lib.ListN.{length}
-use Rattle.negotiation.specs.Job.{Job}
-use Rattle.negotiation.specs.Tables.{SoundJob}
+use Rattle.job.specs.Job.{Job}
+use Rattle.job.specs.Tables.{SoundJob}
 use Rattle.text.specs.Printed.{Accepts}
 use Rattle.text.specs.ReadReplies.{Tables, shortTable, tablesWith, ReadReply, jobNumbers, readReply}
 use Rattle.generator.specs.Load.{loadJob, loadText}

@@ -12,16 +12,16 @@ use Rattle.price.specs.Lists.{firstBelow}
 use Rattle.price.proofs.TestLaws.{both-left, le-or-lt}
 use Rattle.price.proofs.BelowLaws.{firstBelow-below}
 use Rattle.search.specs.Replies.{workNeeded}
-use Rattle.negotiation.specs.Job.{Job, nodes}
-use Rattle.negotiation.specs.Tables.{limitSound, termsSound, faultyJob}
-use Rattle.negotiation.specs.Join.{joined}
+use Rattle.job.specs.Job.{Job, nodes}
+use Rattle.job.specs.Tables.{limitSound, termsSound, faultyJob}
+use Rattle.job.specs.Join.{joined}
 use Rattle.negotiation.specs.Records.{Record, encode, fitting}
 use Rattle.negotiation.specs.Machine.{State, Progress, firstState, recordsAfter, settlesAt}
 use Rattle.negotiation.specs.Outcome.{RouteReply, begun, allRecords, loggedRecords, lastIteration, endNumbers, logWith, refusedReply, ranReply, continued, routeReply}
 use Rattle.negotiation.specs.Longer.{withLimit}
 use Rattle.negotiation.specs.Resume.{OwnLog}
 use Rattle.negotiation.specs.Resumed.{ResumedAfterLimit}
-use Rattle.negotiation.proofs.JobLaws.{sound-job, limit-least}
+use Rattle.job.proofs.JobLaws.{sound-job, limit-least}
 use Rattle.negotiation.proofs.RecordLaws.{encode-append, fitting-all, fitting-append}
 use Rattle.negotiation.proofs.TurnStepLaws.{log-length}
 use Rattle.negotiation.proofs.EndLaws.{whole-reply}

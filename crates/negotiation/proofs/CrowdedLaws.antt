@@ -15,7 +15,7 @@ use Rattle.price.specs.Lists.{every}
 use Rattle.negotiation.specs.Records.{decode, pathNodes}
 use Rattle.negotiation.specs.Steps.{roomy, someOver, takes}
 use Rattle.negotiation.proofs.MemberLaws.{every-append}
-use Rattle.negotiation.proofs.MarkLaws.{Between, passed-more, slice-parts}
+use Rattle.job.proofs.MarkLaws.{Between, passed-more, slice-parts}
 use Rattle.negotiation.proofs.RegionLaws.{Walking, walking-nodes, walking-more, passing-next}
 
 module _ (capacities users : List ℕ) where

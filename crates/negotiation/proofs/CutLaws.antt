@@ -11,7 +11,7 @@ use borrow.Author.Tests.{lt-ltb, le-ltb}
 use Rattle.price.specs.Lists.{firstBelow}
 use Rattle.price.proofs.TestLaws.{le-or-lt}
 use Rattle.price.proofs.BelowLaws.{firstBelow-below, firstBelow-holds, firstBelow-is, firstBelow-all}
-use Rattle.negotiation.specs.Job.{Job}
+use Rattle.job.specs.Job.{Job}
 use Rattle.negotiation.specs.Machine.{State, Progress, stateAfter, iterationAfter, recordsAfter, settlesAt}
 use Rattle.negotiation.specs.Outcome.{iterationsMade, iterationsLeft, madeFrom, allRecords, loggedRecords, cutIteration, endNumbers, lastIteration, continued}
 use Rattle.negotiation.proofs.StateLaws.{state-iteration}

@@ -15,16 +15,16 @@ use Rattle.price.specs.Lists.{firstBelow}
 use Rattle.price.proofs.TestLaws.{either-way}
 use Rattle.price.proofs.PriceLaws.{path-fits}
 use Rattle.search.specs.Replies.{workNeeded, cleared}
-use Rattle.negotiation.specs.Job.{Job, nodes, nets}
-use Rattle.negotiation.specs.Tables.{faultyJob, SoundJob}
+use Rattle.job.specs.Job.{Job, nodes, nets}
+use Rattle.job.specs.Tables.{faultyJob, SoundJob}
 use Rattle.negotiation.specs.Records.{Record, encode}
 use Rattle.negotiation.specs.Machine.{State, Progress, recordsAfter, settlesAt}
 use Rattle.negotiation.specs.Outcome.{RouteReply, wordsUsed, turnsLogged, refusedReply, unreachableNet, unreachablePlace, iterationsMade, begun, iterationsLeft, madeFrom, allRecords, loggedRecords, endNumbers, continued, negotiated, tested, routeReply}
 use Rattle.negotiation.specs.Unreachable.{AllReachable}
 use Rattle.negotiation.specs.Demand.{TurnHolds, FinalTrees, Demand3, CostsFit}
 use Rattle.negotiation.specs.Routable.{Routable}
-use Rattle.negotiation.specs.Join.{joined}
-use Rattle.negotiation.proofs.JobLaws.{sound-job}
+use Rattle.job.specs.Join.{joined}
+use Rattle.job.proofs.JobLaws.{sound-job}
 use Rattle.negotiation.proofs.JoinedHolds.{joined-routable, joined-reachable}
 use Rattle.negotiation.proofs.RecordLaws.{fitting-begins}
 use Rattle.negotiation.proofs.NetLaws.{no-split}

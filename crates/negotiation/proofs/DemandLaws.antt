@@ -28,7 +28,7 @@ use Rattle.search.proofs.DistinctLaws.{has-first}
 use Rattle.search.proofs.WalkLaws.{WalkEnd, step-cost, last-step}
 use Rattle.search.proofs.EdgeLaws.{shaped}
 use Rattle.search.proofs.DistanceLaws.{path-near}
-use Rattle.negotiation.specs.Job.{Job, nodes, nets, source, netSinks}
+use Rattle.job.specs.Job.{Job, nodes, nets, source, netSinks}
 use Rattle.negotiation.specs.Records.{Record}
 use Rattle.negotiation.specs.Machine.{State, Progress, othersOf, usersOf, marksOf, congestionFor, netRecords, treeFrom, due, afterNets, iterate, overfull, overCount, moveOn, firstState, stateAfter, iterationAfter, recordsAfter, settlesAt}
 use Rattle.negotiation.specs.Outcome.{hasPath, unreachableNet}

@@ -8,9 +8,9 @@ use lib.Dec.{eqb, leb}
 use lib.ListN.{length}
 use borrow.Author.Tests.{leb-true, eq-eqb, ne-eqb}
 use Rattle.price.proofs.TestLaws.{either-way, both-left, either-true}
-use Rattle.negotiation.specs.Job.{Job, netSinks}
+use Rattle.job.specs.Job.{Job, netSinks}
 use Rattle.negotiation.specs.Machine.{State, hasSinks, allDue, due}
-use Rattle.negotiation.specs.declared.Terms.{Terms}
+use Rattle.job.specs.declared.Terms.{Terms}
 
 -- ---- whether the rule takes every net
 

@@ -16,7 +16,7 @@ use Rattle.price.proofs.TestLaws.{either-way, le-or-lt, true≢false}
 use Rattle.price.proofs.ListLaws.{drop-same}
 use Rattle.price.proofs.BelowLaws.{firstBelow-holds, firstBelow-is, firstBelow-all}
 use Rattle.search.specs.Replies.{cleared}
-use Rattle.negotiation.specs.Job.{Job, nodes, nets}
+use Rattle.job.specs.Job.{Job, nodes, nets}
 use Rattle.negotiation.specs.Records.{Record, words, encode}
 use Rattle.negotiation.specs.Machine.{State, Progress, netRecords, due, afterNets, stateAfter, iterate, overCount, firstState, iterationAfter, recordsAfter, settlesAt}
 use Rattle.negotiation.specs.Outcome.{continued, ranReply, logWith, routeReplyOf, routeRefusal, iterationsMade, iterationsLeft, madeFrom, lastIteration, allRecords, loggedRecords, cutIteration, endNumbers}

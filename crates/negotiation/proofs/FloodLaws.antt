@@ -19,7 +19,8 @@ use Rattle.search.specs.Tables.{Graph}
 use Rattle.search.specs.Paths.{Walk, stay, step}
 use Rattle.search.proofs.BlockLaws.{target-node, edge-at, edge-place, edge-from}
 use Rattle.search.proofs.WalkLaws.{snoc}
-use Rattle.negotiation.specs.Steps.{AllBelow, SameFrom}
+use Rattle.job.specs.Steps.{AllBelow}
+use Rattle.negotiation.specs.Steps.{SameFrom}
 use Rattle.negotiation.specs.Flood.{FloodReady, markedCount, Queue, RowFlooded, Flooded, FirstUnmarked}
 
 -- ---- entries from a place on

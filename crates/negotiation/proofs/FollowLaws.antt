@@ -15,7 +15,7 @@ use Rattle.price.proofs.TestLaws.{true≢false, both-left, both-right}
 use Rattle.search.specs.Block.{hasEdge}
 use Rattle.search.specs.Paths.{pathCost}
 use Rattle.search.specs.Turn.{priceAt}
-use Rattle.negotiation.specs.Job.{Job, netSinks}
+use Rattle.job.specs.Job.{Job, netSinks}
 use Rattle.negotiation.specs.Records.{words}
 use Rattle.negotiation.specs.Machine.{State, congestionFor}
 use Rattle.negotiation.specs.Resume.{pathIn, recordIn, wholeRecord, unjoined, firstAlone, endsAt, noOther, pathFollows, costFollows, turnFollows}

@@ -17,34 +17,13 @@ use Rattle.price.proofs.TestLaws.{either-way, true≢false, le-or-lt}
 use Rattle.price.proofs.ListLaws.{has-at, getD-upTo}
 use Rattle.price.proofs.EntryLaws.{placeOf-is, placeOf-none, placeOf-at, placeOf-most, placeOf-lt}
 use Rattle.search.proofs.DistinctLaws.{lacks, distinct-short}
-use Rattle.negotiation.specs.Job.{Job, nets, source, netSinks}
-use Rattle.negotiation.specs.Join.{firstOf, leads, listedPlaces, entriesAt, placesOfFirst, joinedPlaces, placesBefore, joined}
+use Rattle.job.specs.Job.{Job, nets, source, netSinks}
+use Rattle.job.specs.Join.{firstOf, leads, listedPlaces, entriesAt, placesOfFirst, joinedPlaces, placesBefore, joined}
 use Rattle.negotiation.specs.JoinSteps.{Joinable, listedCount}
 use Rattle.negotiation.proofs.MemberLaws.{has-append-split, no-entry, distinct-append}
 use Rattle.negotiation.proofs.TakingLaws.{from-within, from-distinct, length-from, taking-split, taking-once, entries-distinct, taking-covers, taking-rises}
 
 -- ---- the first net of a source
-
-pub first-found : (sources : List ℕ) (net node i : ℕ) → node ≡ getD sources net 0 → i < length sources → getD sources i 0 ≡ node → ((k : ℕ) → k < i → getD sources k 0 ≡ node → ⊥) → firstOf sources net ≡ i
-unfolding firstOf
-first-found sources net node i e h here none = rw (← e) (placeOf-is node sources i h here none)
-
-pub first-none : (sources : List ℕ) (net node i : ℕ) → node ≡ getD sources net 0 → i ≡ length sources → ((k : ℕ) → k < i → getD sources k 0 ≡ node → ⊥) → firstOf sources net ≡ i
-unfolding firstOf
-first-none sources net node i e long none = rw (← e, long) (placeOf-none node sources (rw long at none))
-
-module _ (sources : List ℕ) (k : ℕ) (h : k < length sources) where
-  pub first-below : firstOf sources k < length sources
-  unfolding firstOf
-  first-below = placeOf-lt (getD sources k 0) sources k h refl
-
-  pub first-source : getD sources (firstOf sources k) 0 ≡ getD sources k 0
-  unfolding firstOf
-  first-source = placeOf-at (getD sources k 0) sources (placeOf-lt (getD sources k 0) sources k h refl)
-
-  pub first-leads : leads sources (firstOf sources k) ≡ true
-  unfolding leads firstOf
-  first-leads = eq-eqb (firstOf sources (firstOf sources k)) (firstOf sources k) (ap (λ (x : ℕ). placeOf x sources) first-source)
 
 -- no net before a first net has its source
 pub none-before : (j : Job) (i : ℕ) → i < nets j → leads (j .sources) i ≡ true → (k : ℕ) → k ≤ i → placesOfFirst j i k ≡ []

@@ -15,9 +15,9 @@ use borrow.Author.Tests.{eq-eqb, ne-eqb, eqb-true, eqb-false}
 use Rattle.price.specs.Test.{choose}
 use Rattle.price.specs.Lists.{has}
 use Rattle.price.proofs.TestLaws.{either-way, either-true, either-false}
-use Rattle.negotiation.specs.Join.{placesFrom, entriesAt, taking}
+use Rattle.job.specs.Join.{placesFrom, entriesAt, taking}
 use Rattle.negotiation.specs.JoinSteps.{Held}
-use Rattle.negotiation.specs.Steps.{AllBelow}
+use Rattle.job.specs.Steps.{AllBelow}
 use Rattle.negotiation.proofs.TakingLaws.{entries-more}
 
 -- ---- the places that a net lists

@@ -16,17 +16,18 @@ use Rattle.price.proofs.ListLaws.{every-at, has-at, has-place, length-upTo, get
 use Rattle.search.specs.Paths.{Walk}
 use Rattle.search.proofs.BlockLaws.{kinds-few}
 use Rattle.search.proofs.DistinctLaws.{has-cons, has-first, has-rest, lacks}
-use Rattle.negotiation.specs.Job.{Job, nodes, nets, source, netSinks}
-use Rattle.negotiation.specs.Join.{firstOf, leads, placesFrom, listedPlaces, entriesAt, placesOfFirst, joinedPlaces, placesBefore, joined}
+use Rattle.job.specs.Job.{Job, nodes, nets, source, netSinks}
+use Rattle.job.specs.Join.{firstOf, leads, placesFrom, listedPlaces, entriesAt, placesOfFirst, joinedPlaces, placesBefore, joined}
 use Rattle.negotiation.specs.JoinSteps.{Joinable, listedCount}
 use Rattle.negotiation.specs.JoinedNets.{JoinedNets}
 use Rattle.negotiation.specs.Machine.{State, hasSinks, due}
 use Rattle.negotiation.specs.Routable.{Routable}
-use Rattle.negotiation.specs.Tables.{SoundJob, sinkKind, oneOf, pinsOf}
+use Rattle.job.specs.Tables.{SoundJob, sinkKind, oneOf, pinsOf}
 use Rattle.negotiation.specs.Unreachable.{AllReachable}
 use Rattle.negotiation.proofs.DueLaws.{due-sinks}
-use Rattle.negotiation.proofs.JobLaws.{routable-of}
-use Rattle.negotiation.proofs.JoinLaws.{first-below, first-source, first-leads, ListedFor, joined-sinks, joined-for, first-once, first-rises, first-covers, before-more, places-few}
+use Rattle.negotiation.proofs.RoutableLaws.{routable-of}
+use Rattle.job.proofs.FirstNetLaws.{first-below, first-source, first-leads}
+use Rattle.negotiation.proofs.JoinLaws.{ListedFor, joined-sinks, joined-for, first-once, first-rises, first-covers, before-more, places-few}
 use Rattle.negotiation.proofs.MemberLaws.{no-entry}
 use Rattle.negotiation.proofs.TakingLaws.{from-has, entry-has}
 

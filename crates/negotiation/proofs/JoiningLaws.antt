@@ -16,13 +16,13 @@ use Rattle.price.specs.Lists.{has, upTo}
 use Rattle.price.proofs.ListLaws.{has-at, length-upTo, getD-upTo}
 use Rattle.search.specs.Block.{Block}
 use Rattle.search.specs.Replies.{sinksMost}
-use Rattle.negotiation.specs.declared.Terms.{Terms}
-use Rattle.negotiation.specs.Job.{Job}
-use Rattle.negotiation.specs.Join.{firstOf, leads, placesFrom, listedPlaces, entriesAt, taking, placesOfFirst, joinedPlaces, placesBefore, joined}
+use Rattle.job.specs.declared.Terms.{Terms}
+use Rattle.job.specs.Job.{Job}
+use Rattle.job.specs.Join.{firstOf, leads, placesFrom, listedPlaces, entriesAt, taking, placesOfFirst, joinedPlaces, placesBefore, joined}
 use Rattle.negotiation.specs.JoinSteps.{Joinable, JoinRoom, netsOnly, netsJob, listedCount, withListed, Held, Placed, JoinedPlaces, JoinedTables}
-use Rattle.negotiation.specs.Steps.{AllBelow}
+use Rattle.job.specs.Steps.{AllBelow}
 use Rattle.negotiation.proofs.JoinLaws.{none-before, places-few, before-below, taking-room}
-use Rattle.negotiation.proofs.SinkMarkLaws.{unmarked-new}
+use Rattle.job.proofs.SinkMarkLaws.{unmarked-new}
 
 -- ---- a net more
 

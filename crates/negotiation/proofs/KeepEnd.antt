@@ -14,7 +14,7 @@ use borrow.Author.Tests.{eq-eqb, ne-eqb}
 use Rattle.price.specs.Lists.{upTo, countBelow}
 use Rattle.price.specs.Prices.{nextFactor}
 use Rattle.search.specs.Turn.{joins, turn, congestionOf, priceAt}
-use Rattle.negotiation.specs.Job.{Job, nodes, nets, netSinks}
+use Rattle.job.specs.Job.{Job, nodes, nets, netSinks}
 use Rattle.negotiation.specs.Routable.{Routable}
 use Rattle.negotiation.specs.Records.{Record, recordOf, words, encode}
 use Rattle.negotiation.specs.Machine.{State, Progress, congestionFor, turnOf, turnsOf, netRecords, treeFrom, afterNets, overCount, stateAfter, iterationAfter, recordsAfter, settlesAt, iterate, moveOn}

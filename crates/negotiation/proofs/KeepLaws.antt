@@ -8,7 +8,7 @@ use Prim.Native.Nat.{ℕ, _+_, _*_, _≤_, _<_}
 use lib.ListN.{length}
 use Rattle.price.specs.Test.{choose}
 use Rattle.price.specs.Lists.{upTo}
-use Rattle.negotiation.specs.Job.{Job, nodes, nets}
+use Rattle.job.specs.Job.{Job, nodes, nets}
 use Rattle.negotiation.specs.Records.{Record, encode}
 use Rattle.negotiation.specs.Machine.{State, Progress, othersOf, marksOf, congestionFor, turnsOf, netRecords, treeFrom, due, afterNets, stateAfter, recordsAfter, settlesAt}
 use Rattle.negotiation.specs.Outcome.{iterationsLeft}

@@ -5,7 +5,7 @@ use mathlib.Core.Logic.{⊎-elim}
 use mathlib.Core.Path.{_≡_, refl, _∙_, ap}
 use Prim.Native.Nat.{ℕ}
 use lib.ListN.{length}
-use Rattle.negotiation.specs.Job.{Job, nodes, nets}
+use Rattle.job.specs.Job.{Job, nodes, nets}
 use Rattle.negotiation.specs.Routable.{Routable}
 use Rattle.negotiation.specs.Machine.{Progress}
 use Rattle.negotiation.specs.Kept.{Ready}

@@ -9,11 +9,12 @@ use native.Mathlib.Numerals.{add-one}
 use native.Mathlib.Omega.{arith}
 use lib.ListN.{length, getD}
 use Rattle.price.specs.Lists.{has}
-use Rattle.negotiation.specs.Job.{Job, nodes, nets, source}
+use Rattle.job.specs.Job.{Job, nodes, nets, source}
 use Rattle.negotiation.specs.Routable.{Routable}
 use Rattle.negotiation.specs.Records.{pathNodes}
 use Rattle.negotiation.specs.Machine.{State, Progress, congestionFor, netRecords, treeFrom, withNet, afterNets, recordsAfter}
-use Rattle.negotiation.specs.Steps.{AllBelow, CountReady, EndReady, Ended, Passed}
+use Rattle.job.specs.Steps.{AllBelow}
+use Rattle.negotiation.specs.Steps.{CountReady, EndReady, Ended, Passed}
 use Rattle.negotiation.specs.declared.tariff.Tariff.{Tariff}
 use Rattle.negotiation.proofs.DueLaws.{due-some}
 use Rattle.negotiation.proofs.StateLaws.{nets-trees, state-trees, routed-next}

@@ -14,11 +14,12 @@ use borrow.Author.Tests.{eqb-true, eqb-false}
 use Rattle.price.specs.Lists.{has, upTo}
 use Rattle.price.proofs.TestLaws.{either-way}
 use Rattle.price.proofs.ListLaws.{length-upTo, getD-upTo}
-use Rattle.negotiation.specs.Job.{Job, nodes, nets}
+use Rattle.job.specs.Job.{Job, nodes, nets}
 use Rattle.negotiation.specs.Records.{Record, encode, decode, pathNodes}
 use Rattle.negotiation.specs.Machine.{Progress, treeAt, usersOf, treeFrom, withNet}
 use Rattle.negotiation.specs.Outcome.{logWith}
-use Rattle.negotiation.specs.Steps.{AllBelow, Whole, RipReady}
+use Rattle.job.specs.Steps.{AllBelow}
+use Rattle.negotiation.specs.Steps.{Whole, RipReady}
 use Rattle.negotiation.specs.Kept.{TreeWords, Places, Tallied}
 use Rattle.negotiation.specs.declared.tariff.Tariff.{Tariff}
 use Rattle.negotiation.proofs.RecordLaws.{decode-encode, encode-append}

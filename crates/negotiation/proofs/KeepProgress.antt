@@ -19,12 +19,13 @@ use Rattle.price.proofs.TestLaws.{either-way}
 use Rattle.price.proofs.ListLaws.{length-upTo, getD-upTo, has-place}
 use Rattle.price.proofs.BelowLaws.{count-same}
 use Rattle.search.proofs.BlockLaws.{capacities-long}
-use Rattle.negotiation.specs.Job.{Job, nodes, nets, source, netSinks}
-use Rattle.negotiation.specs.Tables.{netsMost}
+use Rattle.job.specs.Job.{Job, nodes, nets, source, netSinks}
+use Rattle.job.specs.Tables.{netsMost}
 use Rattle.negotiation.specs.Routable.{Routable}
 use Rattle.negotiation.specs.Records.{Record, encode, decode, pathNodes}
 use Rattle.negotiation.specs.Machine.{State, Progress, treeAt, usersOf, othersOf, marksOf, treeFrom, withNet, hasSinks, overfull, allDue, crowded, due, overCount, movedHistory, moveOn}
-use Rattle.negotiation.specs.Steps.{AllBelow, Stored, NoMarks, RippedUp, CountReady, roomy, someOver, takes, DueReady, BeginReady, Begun, Ended}
+use Rattle.job.specs.Steps.{AllBelow, Stored}
+use Rattle.negotiation.specs.Steps.{NoMarks, RippedUp, CountReady, roomy, someOver, takes, DueReady, BeginReady, Begun, Ended}
 use Rattle.negotiation.specs.Kept.{Kept, Tallied}
 use Rattle.negotiation.specs.declared.tariff.Tariff.{Tariff}
 use Rattle.negotiation.proofs.MemberLaws.{every-alike}

@@ -13,7 +13,7 @@ use Rattle.price.specs.Test.{choose}
 use Rattle.price.specs.Lists.{upTo}
 use Rattle.price.specs.Prices.{nextFactor}
 use Rattle.price.proofs.TestLaws.{either-way}
-use Rattle.negotiation.specs.Job.{Job, nodes, nets, netSinks}
+use Rattle.job.specs.Job.{Job, nodes, nets, netSinks}
 use Rattle.negotiation.specs.Routable.{Routable}
 use Rattle.negotiation.specs.Records.{encode, pathNodes}
 use Rattle.negotiation.specs.Machine.{Progress, usersOf, congestionFor, turnsOf, netRecords, treeFrom, allDue, due, afterNets, firstState, stateAfter, recordsAfter}

@@ -12,7 +12,7 @@ use Rattle.price.specs.Lists.{has, upTo}
 use Rattle.price.proofs.TestLaws.{one-most}
 use Rattle.price.proofs.ListLaws.{part-slice}
 use Rattle.search.specs.Turn.{Congestion, Turn, joins, stuck, turn, congestionOf, priceAt}
-use Rattle.negotiation.specs.Job.{Job, nodes, netSinks}
+use Rattle.job.specs.Job.{Job, nodes, netSinks}
 use Rattle.negotiation.specs.Routable.{Routable}
 use Rattle.negotiation.specs.Records.{Record, recordOf}
 use Rattle.negotiation.specs.Machine.{State, Progress, othersOf, marksOf, congestionFor, turnOf, turnsOf, treeFrom}
@@ -22,7 +22,7 @@ use Rattle.negotiation.specs.declared.tariff.Tariff.{Tariff}
 use Rattle.negotiation.specs.declared.turns.TurnMade.{TurnMade}
 use Rattle.negotiation.specs.declared.turns.TurnMade.the-variants.{Nothing, Full, Logged}
 use Rattle.negotiation.proofs.StateLaws.{nets-factor}
-use Rattle.negotiation.proofs.JobLaws.{sinks-searched}
+use Rattle.negotiation.proofs.RoutableLaws.{sinks-searched}
 use Rattle.negotiation.proofs.RecordLaws.{records-few}
 use Rattle.negotiation.proofs.NetLaws.{StateReady, state-ready, tree-more}
 use Rattle.negotiation.proofs.KeepLaws.{startOf, reached, Under, AtTurn, AtIdle, AtTurns}

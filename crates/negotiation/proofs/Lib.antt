@@ -1,12 +1,10 @@
 -- The laws by subject, a line a file. Each file's head says what is in it; the folders beside hold one proof for each function of src/.
 --
 -- Tables and jobs
---     JobLaws           a sound job, table by table: places, bounds, terms; what of it routing rests on
---     NetTableLaws      tables 5 to 8: what each test's answer says, the lowest table that breaks its rule
---     SinkMarkLaws      the pass that marks a net's sinks
+--     RoutableLaws      what of a sound job routing rests on
 -- Joined nets
 --     TakingLaws        places that are taken in turn, but for a sink seen already
---     JoinLaws          the first net of a source, the places that a joined net takes, no place twice
+--     JoinLaws          the places that a joined net takes, no place twice
 --     JoinStepLaws      a net's places, and the entries at places, as the loops take them
 --     JoiningLaws       the loops over the nets, and the tables that they make
 -- Lists and records
@@ -14,7 +12,7 @@
 --     FilterLaws        the records of a net and of an iteration
 --     MemberLaws        which entries a list has, and in what it lacks some
 --     RegionLaws        whole records in a part of the log, as the loops pass them
---     MarkLaws          marks and users of nodes that are passed one after the other
+--     LeavingLaws       users of nodes that are passed one after the other
 --     CrowdedLaws       the loops that look for an overfull node
 --     FilledLaws        a list that a loop fills front to back
 -- The test before iteration 1
@@ -69,9 +67,7 @@
 --     KeepStart, KeepTurn, KeepNet, KeepEnd   that it holds at first, after a turn, a net and an iteration, and what each call asks
 --     KeepLengths       the lists keep their lengths
 -- Assumes nothing.
-pub mod JobLaws
-pub mod NetTableLaws
-pub mod SinkMarkLaws
+pub mod RoutableLaws
 pub mod TakingLaws
 pub mod JoinLaws
 pub mod JoinStepLaws
@@ -80,7 +76,7 @@ pub mod RecordLaws
 pub mod FilterLaws
 pub mod MemberLaws
 pub mod RegionLaws
-pub mod MarkLaws
+pub mod LeavingLaws
 pub mod CrowdedLaws
 pub mod FilledLaws
 pub mod FloodLaws

@@ -15,7 +15,7 @@ use Rattle.price.specs.Lists.{firstBelow}
 use Rattle.price.proofs.TestLaws.{either-way, le-or-lt, true≢false}
 use Rattle.price.proofs.BelowLaws.{firstBelow-holds, firstBelow-below, firstBelow-is}
 use Rattle.search.specs.Turn.{Congestion, Turn, joins, stuck}
-use Rattle.negotiation.specs.Job.{Job, nets, source, netSinks}
+use Rattle.job.specs.Job.{Job, nets, source, netSinks}
 use Rattle.negotiation.specs.Records.{Record}
 use Rattle.negotiation.specs.Machine.{State, Progress, othersOf, usersOf, marksOf, congestionFor, turnOf, logTurn, turnsOf, netRecords, hasSinks, allDue, crowded, due, routeIf, afterNets, iterate, overfull, overCount, moveOn, firstState, stateAfter, recordsAfter, settlesAt}
 use Rattle.negotiation.specs.Outcome.{iterationsMade, iterationsLeft, madeFrom, allRecords, endNumbers}

@@ -11,14 +11,14 @@ use lib.ListN.{length}
 use borrow.Author.Tests.{le-ltb}
 use Rattle.price.proofs.TestLaws.{either-way}
 use Rattle.search.specs.Replies.{workNeeded, cleared}
-use Rattle.negotiation.specs.Job.{Job, nodes, nets, netSinks}
-use Rattle.negotiation.specs.Tables.{limitSound, termsSound, faultyNets, faultyJob}
-use Rattle.negotiation.specs.Join.{joined}
+use Rattle.job.specs.Job.{Job, nodes, nets, netSinks}
+use Rattle.job.specs.Tables.{limitSound, termsSound, faultyNets, faultyJob}
+use Rattle.job.specs.Join.{joined}
 use Rattle.negotiation.specs.Records.{Record, encode, fitting}
 use Rattle.negotiation.specs.Machine.{Progress, othersOf, marksOf, congestionFor, firstState}
 use Rattle.negotiation.specs.Outcome.{RouteReply, hasPath, unreachableNet, unreachablePlace, begun, lastIteration, allRecords, endNumbers, refusedReply, ranReply, continued, negotiated, reachedReply, tested, routeReply}
 use Rattle.negotiation.specs.Longer.{withLimit, Begins, SameLog, LimitsCompared, RaisedInPlace, LogLengthened, LogsCompared}
-use Rattle.negotiation.proofs.JobLaws.{limit-least}
+use Rattle.job.proofs.JobLaws.{limit-least}
 use Rattle.negotiation.proofs.JoiningLaws.{places-same}
 use Rattle.negotiation.proofs.RecordLaws.{fitting-begins, fitting-less, fitting-append}
 use Rattle.negotiation.proofs.EndLaws.{whole-reply}

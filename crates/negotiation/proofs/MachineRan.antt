@@ -11,7 +11,7 @@ use lib.ListN.{length}
 use Rattle.price.specs.Bounds.{limitMost}
 use Rattle.price.specs.Lists.{has}
 use Rattle.price.proofs.TestLaws.{either-way}
-use Rattle.negotiation.specs.Job.{Job, nets, netSinks}
+use Rattle.job.specs.Job.{Job, nets, netSinks}
 use Rattle.negotiation.specs.Records.{Record}
 use Rattle.negotiation.specs.Machine.{State, Progress, netRecords, due, afterNets, iterate, stateAfter, recordsAfter}
 use Rattle.negotiation.specs.Outcome.{hasPath}

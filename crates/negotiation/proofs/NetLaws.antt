@@ -27,8 +27,8 @@ use Rattle.search.proofs.WalkLaws.{cost-most}
 use Rattle.search.proofs.EdgeLaws.{shaped}
 use Rattle.search.proofs.DistanceLaws.{some-path}
 use Rattle.search.proofs.DistinctLaws.{has-first, lacks, distinct-cons, distinct-rest}
-use Rattle.negotiation.specs.Job.{Job, nodes, nets, source, netSinks}
-use Rattle.negotiation.specs.Tables.{netsMost}
+use Rattle.job.specs.Job.{Job, nodes, nets, source, netSinks}
+use Rattle.job.specs.Tables.{netsMost}
 use Rattle.negotiation.specs.Records.{Record, pathNodes}
 use Rattle.negotiation.specs.Machine.{State, treeAt, othersOf, usersOf, marksOf, congestionFor, netRecords, treeFrom, afterNets, iterate, movedHistory, moveOn, firstState, stateAfter}
 use Rattle.negotiation.specs.Outcome.{hasPath}
@@ -36,7 +36,7 @@ use Rattle.negotiation.specs.Unreachable.{Reachable}
 use Rattle.negotiation.specs.Kept.{Grown}
 use Rattle.negotiation.proofs.StateLaws.{nets-factor, nets-histories}
 use Rattle.negotiation.specs.Routable.{Routable}
-use Rattle.negotiation.proofs.JobLaws.{tuning-fits}
+use Rattle.negotiation.proofs.RoutableLaws.{tuning-fits}
 use Rattle.negotiation.proofs.RecordLaws.{stepEnds, branchEnds, pathNodes-append}
 use Rattle.negotiation.proofs.MemberLaws.{no-entry, has-append-split, none-has, lacks-left, lacks-right, distinct-append, missing-most}
 use Rattle.negotiation.proofs.TreeLaws.{TreeNodes, mark-is, TreeTurn, Turns, none, stop, more, turns-are, turns-join, turns-source, only-entry}

@@ -21,7 +21,8 @@ use Rattle.search.proofs.PathToLaws.{path-short, path-nodes}
 use Rattle.search.proofs.TurnLaws.{joins-within, joins-path, joins-near}
 use Rattle.search.proofs.PathReplyLaws.{read-front, path-turn, joined-turn, stuck-turn, no-refusal}
 use Rattle.negotiation.specs.Records.{recordOf, words}
-use Rattle.negotiation.specs.Steps.{AllBelow, Stored, SameFrom, CanTurn, Skipped, Overflows, TurnLogged}
+use Rattle.job.specs.Steps.{AllBelow, Stored}
+use Rattle.negotiation.specs.Steps.{SameFrom, CanTurn, Skipped, Overflows, TurnLogged}
 use Rattle.negotiation.specs.TariffSteps.{loggedTariff}
 use Rattle.negotiation.specs.declared.tariff.Tariff.{Tariff}
 

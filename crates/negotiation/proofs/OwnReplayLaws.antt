@@ -15,7 +15,7 @@ use Rattle.price.specs.Test.{either}
 use Rattle.price.proofs.TestLaws.{either-way}
 use Rattle.search.specs.Paths.{pathCost}
 use Rattle.search.specs.Turn.{Congestion, priceAt, Turn, joins, stuck}
-use Rattle.negotiation.specs.Job.{Job, nets, source, netSinks}
+use Rattle.job.specs.Job.{Job, nets, source, netSinks}
 use Rattle.negotiation.specs.Records.{Record, words, encode}
 use Rattle.negotiation.specs.Machine.{State, Progress, congestionFor, turnOf, logTurn, turnsOf, netRecords, treeFrom, withNet, due, routeIf, afterNets, iterate, overCount, stateAfter, iterationAfter, recordsAfter, settlesAt}
 use Rattle.negotiation.specs.Resume.{recordIn, turnFollows, allJoined, on, after, replayTurns, replayNets, replayFrom}

@@ -4,8 +4,8 @@ use mathlib.Core.List.{List}
 use mathlib.Core.Path.{_≡_, refl, sym, subst}
 use Prim.Native.Nat.{ℕ, _+_, _≤_}
 use native.Mathlib.Omega.{arith}
-use Rattle.negotiation.specs.Job.{Job}
-use Rattle.negotiation.specs.Join.{joined}
+use Rattle.job.specs.Job.{Job}
+use Rattle.job.specs.Join.{joined}
 use Rattle.negotiation.specs.Routable.{Routable}
 use Rattle.negotiation.specs.Machine.{firstState}
 use Rattle.negotiation.specs.Outcome.{begun, negotiated, routeReply}

@@ -17,7 +17,7 @@ use Rattle.search.specs.Block.{Block, hasEdge}
 use Rattle.search.specs.Paths.{Walk, stay, step, pathCost}
 use Rattle.search.specs.Turn.{priceAt}
 use Rattle.search.proofs.BlockLaws.{graph-of}
-use Rattle.negotiation.specs.Job.{Job, nets, netSinks}
+use Rattle.job.specs.Job.{Job, nets, netSinks}
 use Rattle.negotiation.specs.Records.{Record, words}
 use Rattle.negotiation.specs.Routable.{Routable}
 use Rattle.negotiation.specs.Machine.{State, congestionFor, netRecords, treeFrom, afterNets, iterate, overCount, firstState, stateAfter, iterationAfter, recordsAfter, settlesAt}

@@ -31,9 +31,9 @@ use Rattle.search.specs.Turn.{Congestion, congestionOf, priceAt}
 use Rattle.search.specs.Frontier.{PriceReady}
 use Rattle.search.proofs.BlockLaws.{graph-of, row-order, row-end, edge-to}
 use Rattle.search.proofs.FillLaws.{answered-price}
-use Rattle.negotiation.specs.Steps.{Stored}
+use Rattle.job.specs.Steps.{Stored}
 use Rattle.negotiation.specs.ResumeSteps.{lastMark, stepPasses, stepsCost, passCost, PassReady}
-use Rattle.negotiation.proofs.MarkLaws.{slice-more, stored-one, stored-append}
+use Rattle.job.proofs.MarkLaws.{slice-more, stored-one, stored-append}
 
 -- ---- the row of a node
 

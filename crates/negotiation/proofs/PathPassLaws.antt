@@ -22,7 +22,7 @@ use Rattle.search.specs.Paths.{pathCost}
 use Rattle.search.specs.Turn.{priceAt}
 use Rattle.search.proofs.BlockLaws.{edge-to}
 use Rattle.search.proofs.DistinctLaws.{has-rest, has-cons, lacks, distinct-cons, distinct-rest, distinct-short}
-use Rattle.negotiation.specs.Job.{Job, nodes, netSinks}
+use Rattle.job.specs.Job.{Job, nodes, netSinks}
 use Rattle.negotiation.specs.Machine.{State, congestionFor}
 use Rattle.negotiation.specs.Resume.{pathIn, unjoined, noOther, costFollows, turnFollows}
 use Rattle.negotiation.specs.ResumeSteps.{passCost, costIs, frameFollows, turnPasses}

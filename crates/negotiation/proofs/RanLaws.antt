@@ -18,7 +18,7 @@ use Rattle.price.proofs.TestLaws.{either-way, true≢false}
 use Rattle.price.proofs.ListLaws.{getD-upTo, has-place}
 use Rattle.price.proofs.BelowLaws.{count-same}
 use Rattle.price.proofs.PriceLaws.{factor-steps}
-use Rattle.negotiation.specs.Job.{Job, nodes, nets, source, netSinks}
+use Rattle.job.specs.Job.{Job, nodes, nets, source, netSinks}
 use Rattle.negotiation.specs.Records.{Record, pathNodes}
 use Rattle.negotiation.specs.Machine.{State, Progress, treeAt, othersOf, usersOf, treeFrom, withNet, hasSinks, due, moveOn, firstState}
 use Rattle.negotiation.specs.Demand.{nodesIn, latest, treeRead, othersRead, upToIteration, usersRead, historyRead, endsIn}

@@ -6,9 +6,9 @@ use Prim.Native.Nat.{ℕ, _≤_, _<_}
 use lib.ListN.{length}
 use borrow.Author.Tests.{le-leb, lt-leb, lt-ltb, le-ltb}
 use Rattle.search.specs.Replies.{workNeeded, cleared}
-use Rattle.negotiation.specs.Job.{Job, nodes, nets}
-use Rattle.negotiation.specs.Tables.{faultyJob}
-use Rattle.negotiation.specs.Join.{joined}
+use Rattle.job.specs.Job.{Job, nodes, nets}
+use Rattle.job.specs.Tables.{faultyJob}
+use Rattle.job.specs.Join.{joined}
 use Rattle.negotiation.specs.Outcome.{unreachableNet, unreachablePlace, negotiated, refusedReply, reachedReply, routeReply}
 
 module _ (j : Job) (work log : List ℕ) where

@@ -12,9 +12,11 @@ use native.Mathlib.Omega.{arith}
 use lib.ListN.{length, getD, take, length-append}
 use lib.Seq.{length-take-le, take-take, take-add, take-at, drop-at, drop-drop, getD-take, getD-drop, slice, length-slice}
 use Rattle.negotiation.specs.Records.{Record, words, encode, decode, pathNodes}
-use Rattle.negotiation.specs.Steps.{AllBelow, Dropped, CanDrop, Whole}
+use Rattle.job.specs.Steps.{AllBelow}
+use Rattle.negotiation.specs.Steps.{Dropped, CanDrop, Whole}
 use Rattle.negotiation.proofs.RecordLaws.{encode-append, pathNodes-append, words-length}
-use Rattle.negotiation.proofs.MarkLaws.{below-left, below-right, can-drop-left, can-drop-rest}
+use Rattle.job.proofs.MarkLaws.{below-left, below-right}
+use Rattle.negotiation.proofs.LeavingLaws.{can-drop-left, can-drop-rest}
 
 -- ---- a part of a part
 

@@ -18,7 +18,7 @@ use Rattle.price.proofs.TestLaws.{either-way, true≢false}
 use Rattle.price.proofs.ListLaws.{has-at, has-append-left, has-append-right}
 use Rattle.search.specs.Turn.{priceAt}
 use Rattle.search.proofs.DistinctLaws.{has-first, has-rest, has-cons, lacks, distinct-rest}
-use Rattle.negotiation.specs.Job.{Job, nets, source, netSinks}
+use Rattle.job.specs.Job.{Job, nets, source, netSinks}
 use Rattle.negotiation.specs.Records.{Record, words, encode, pathNodes}
 use Rattle.negotiation.specs.Machine.{State, Progress, congestionFor, treeFrom, withNet, due, overCount, moveOn, firstState}
 use Rattle.negotiation.specs.Resume.{recordIn, wholeRecord, costFollows, turnFollows, allJoined, Replay, on, off, andThen, after, replayTurns, replayNets, replayNext, replayFrom, replay}

@@ -11,7 +11,7 @@ use lib.ListN.{length, drop, length-append}
 use lib.Seq.{take-append-seam}
 use borrow.Author.Tests.{ltb-false}
 use Rattle.price.proofs.TestLaws.{either-way}
-use Rattle.negotiation.specs.Job.{Job}
+use Rattle.job.specs.Job.{Job}
 use Rattle.negotiation.specs.Records.{Record, encode, decode, fitting}
 use Rattle.negotiation.specs.Machine.{Progress}
 use Rattle.negotiation.specs.Outcome.{RouteReply, wordsUsed, turnsLogged, allRecords, loggedRecords, cutIteration, logWith, refusedReply, ranReply, continued}

@@ -8,8 +8,8 @@ use native.Mathlib.Omega.{arith}
 use lib.ListN.{length, take, length-append}
 use lib.Seq.{length-take-le, take-append-seam}
 use Rattle.search.specs.Replies.{cleared}
-use Rattle.negotiation.specs.Job.{Job, nodes}
-use Rattle.negotiation.specs.Join.{joined}
+use Rattle.job.specs.Job.{Job, nodes}
+use Rattle.job.specs.Join.{joined}
 use Rattle.negotiation.specs.Routable.{Routable}
 use Rattle.negotiation.specs.Records.{Record, encode, decode, fitting}
 use Rattle.negotiation.specs.Machine.{Progress, recordsAfter}

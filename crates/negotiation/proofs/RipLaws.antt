@@ -12,7 +12,8 @@ use borrow.Author.Tests.{eq-eqb}
 use Rattle.price.specs.Lists.{has}
 use Rattle.price.proofs.TestLaws.{either-way}
 use Rattle.negotiation.specs.Records.{decode, pathNodes}
-use Rattle.negotiation.specs.Steps.{Stored, Dropped, Added, CanDrop, CanAddMarked, RipReady, RippedUp, CountReady, Counted}
+use Rattle.job.specs.Steps.{Stored}
+use Rattle.negotiation.specs.Steps.{Dropped, Added, CanDrop, CanAddMarked, RipReady, RippedUp, CountReady, Counted}
 
 -- the old tree: its nodes are dropped and marked, then their marks go
 module _ {from to : ℕ} {log users marks : List ℕ} (r : RipReady (length marks) from to log users marks) where

@@ -11,9 +11,9 @@ use borrow.Author.Tests.{lt-ltb, le-ltb}
 use Rattle.price.proofs.TestLaws.{le-or-lt}
 use Rattle.price.proofs.ListLaws.{drop-same}
 use Rattle.search.specs.Replies.{workNeeded, cleared}
-use Rattle.negotiation.specs.Job.{Job, nodes, nets}
-use Rattle.negotiation.specs.Tables.{SoundJob, faultyJob}
-use Rattle.negotiation.specs.Join.{joined}
+use Rattle.job.specs.Job.{Job, nodes, nets}
+use Rattle.job.specs.Tables.{SoundJob, faultyJob}
+use Rattle.job.specs.Join.{joined}
 use Rattle.negotiation.specs.Machine.{Progress}
 use Rattle.negotiation.specs.Outcome.{RouteReply, unreachableNet, unreachablePlace, begun, continued, negotiated, refusedAnswer, refusedReply, routeReplyOf, reachedReply, routeReply}
 use Rattle.negotiation.specs.Demand.{Demand3}
@@ -22,7 +22,7 @@ use Rattle.negotiation.specs.declared.RouteAnswer.{RouteAnswer}
 use Rattle.negotiation.specs.declared.Outcome.the-variants.{BadTable, ShortWork, Unreachable}
 use Rattle.negotiation.specs.declared.reach.Reach.{Reach}
 use Rattle.negotiation.specs.declared.reach.Reach.the-variants.{All, Missing}
-use Rattle.negotiation.proofs.JobLaws.{sound-job}
+use Rattle.job.proofs.JobLaws.{sound-job}
 use Rattle.negotiation.proofs.RefusalLaws.{route-table, route-work, route-joined}
 use Rattle.negotiation.proofs.DemandHolds.{demand-3}
 

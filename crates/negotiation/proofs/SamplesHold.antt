@@ -11,10 +11,10 @@ use Rattle.search.specs.Paths.{pathCost}
 use Rattle.search.specs.Distance.{inTree, treeDistances, nearer, round, rounds, distances}
 use Rattle.search.specs.Turn.{priceAt, openDistance, before, back, pathTo, openDistances, joinAt, turn}
 use Rattle.search.specs.Replies.{cleared}
-use Rattle.negotiation.specs.Job.{netSinks}
-use Rattle.negotiation.specs.Tables.{sourcesSound, firstSinksSound, netSound, sinksSound, limitSound, termsSound, oneOf, pinsOf, faultyNets, faultyJob}
+use Rattle.job.specs.Job.{netSinks}
+use Rattle.job.specs.Tables.{sourcesSound, firstSinksSound, netSound, sinksSound, limitSound, termsSound, oneOf, pinsOf, faultyNets, faultyJob}
 use Rattle.negotiation.specs.Records.{words, encode, fitting, pathNodes}
-use Rattle.negotiation.specs.Join.{firstOf, leads, placesFrom, listedPlaces, taking, placesOfFirst, joinedPlaces, placesBefore}
+use Rattle.job.specs.Join.{firstOf, leads, placesFrom, listedPlaces, taking, placesOfFirst, joinedPlaces, placesBefore}
 use Rattle.negotiation.specs.Machine.{othersOf, usersOf, marksOf, congestionFor, turnOf, turnsOf, netRecords, hasSinks, allDue, crowded, due, afterNets, iterate, overfull, overCount, moveOn, firstState, stateAfter, recordsAfter, settlesAt}
 use Rattle.negotiation.specs.Outcome.{hasPath, unreachableNet, unreachablePlace, iterationsMade, iterationsLeft, allRecords, loggedRecords, cutIteration, logWith, endNumbers, continued, routeReply}
 use Rattle.negotiation.specs.Samples.{answer, jobB, jobC, jobCut, jobDiamond, settled, limited, filled, nearestFirst, cutOff, lowestFirst, samples}

@@ -14,7 +14,7 @@ use borrow.Author.Tests.{eqb-true, eqb-false, ltb-true, not-true}
 use Rattle.price.specs.Lists.{every, has, firstBelow, countBelow}
 use Rattle.price.proofs.TestLaws.{either-way, true≢false, either-true, le-or-lt}
 use Rattle.price.proofs.BelowLaws.{firstBelow-below, firstBelow-holds}
-use Rattle.negotiation.specs.Job.{Job, nets}
+use Rattle.job.specs.Job.{Job, nets}
 use Rattle.negotiation.specs.Records.{Record}
 use Rattle.negotiation.specs.Machine.{State, Progress, treeAt, usersOf, treeFrom, hasSinks, overfull, allDue, crowded, due, overCount, moveOn, firstState}
 use Rattle.negotiation.specs.Demand.{latest}

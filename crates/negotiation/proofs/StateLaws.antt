@@ -5,7 +5,7 @@ use mathlib.Core.Path.{_≡_, refl, _∙_}
 use Prim.Native.Nat.{ℕ, zero, suc, _+_}
 use native.Mathlib.Omega.{arith}
 use lib.ListN.{length, length-set}
-use Rattle.negotiation.specs.Job.{Job, nets}
+use Rattle.job.specs.Job.{Job, nets}
 use Rattle.negotiation.specs.Machine.{State, Progress, treeFrom, netRecords, routeNet, due, routeIf, afterNets, iterate, moveOn, firstState, stateAfter}
 
 -- ---- a net that is due, and one that is not

@@ -23,7 +23,7 @@ use Rattle.search.specs.Block as block
 use Rattle.search.specs.Tables.{Graph}
 use Rattle.search.proofs.BlockLaws.{edge-to}
 use Rattle.search.proofs.DistinctLaws.{has-first, has-rest, has-cons, lacks, distinct-cons, distinct-first, distinct-rest}
-use Rattle.negotiation.specs.Job.{nodes}
+use Rattle.job.specs.Job.{nodes}
 use Rattle.negotiation.specs.ResumeSteps.{lastMark, stepPasses, stepsCost}
 use Rattle.negotiation.proofs.MemberLaws.{no-entry}
 

@@ -15,7 +15,7 @@ use Rattle.price.specs.Lists.{neighbours, has, distinct}
 use Rattle.price.proofs.TestLaws.{either-way, either-true, either-false, true≢false}
 use Rattle.price.proofs.ListLaws.{rises-last, has-append}
 use Rattle.search.proofs.DistinctLaws.{has-cons, has-first, has-rest, lacks, distinct-cons, distinct-first, distinct-rest}
-use Rattle.negotiation.specs.Join.{placesFrom, entriesAt, taking}
+use Rattle.job.specs.Join.{placesFrom, entriesAt, taking}
 use Rattle.negotiation.proofs.MemberLaws.{has-append-split, no-entry, every-members, distinct-append}
 
 -- ---- places from one on

@@ -18,10 +18,11 @@ use Rattle.price.proofs.BelowLaws.{firstBelow-below, firstBelow-holds, firstBel
 use Rattle.search.specs.Block.{Block, graphOf, row, hasEdge}
 use Rattle.search.specs.Paths.{Walk, stay, step}
 use Rattle.search.proofs.ReadyLaws.{sound-graph}
-use Rattle.negotiation.specs.Job.{Job, nodes, nets, source, netSinks}
+use Rattle.job.specs.Job.{Job, nodes, nets, source, netSinks}
 use Rattle.negotiation.specs.Machine.{congestionFor, firstState}
 use Rattle.negotiation.specs.Outcome.{hasPath, unreachableNet, unreachablePlace}
-use Rattle.negotiation.specs.Steps.{AllBelow, SameFrom, missing}
+use Rattle.job.specs.Steps.{AllBelow}
+use Rattle.negotiation.specs.Steps.{SameFrom, missing}
 use Rattle.negotiation.specs.Flood.{FloodReady, Flooded, FirstUnmarked}
 use Rattle.negotiation.specs.Routable.{Routable}
 use Rattle.negotiation.proofs.NetLaws.{path-from}

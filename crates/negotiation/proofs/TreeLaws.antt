@@ -20,7 +20,7 @@ use Rattle.search.proofs.DistinctLaws.{has-cons, has-first, lacks}
 use Rattle.search.proofs.EdgeLaws.{Shaped}
 use Rattle.search.proofs.PathToLaws.{path-walk, path-distinct, path-one-tree-node, path-short, path-nodes}
 use Rattle.search.proofs.TurnLaws.{joins-within, joins-path, joins-near, joins-cheapest, stuck-no-path}
-use Rattle.negotiation.specs.Job.{Job, nodes, netSinks}
+use Rattle.job.specs.Job.{Job, nodes, netSinks}
 use Rattle.negotiation.specs.Records.{Record, pathNodes}
 use Rattle.negotiation.specs.Machine.{marksOf, turnOf, logTurn, turnsOf}
 use Rattle.negotiation.proofs.MemberLaws.{no-entry, has-append-split, every-has, every-members, missing, missing-none, missing-less}

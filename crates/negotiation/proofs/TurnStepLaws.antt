@@ -18,11 +18,11 @@ use Rattle.price.proofs.TestLaws.{either-way, le-or-lt, both-true}
 use Rattle.price.proofs.ListLaws.{has-append-left, has-append-right, getD-upTo}
 use Rattle.search.specs.Turn.{Congestion, joins, stuck}
 use Rattle.search.specs.Replies.{nodeSound}
-use Rattle.negotiation.specs.Job.{Job, nodes, netSinks}
+use Rattle.job.specs.Job.{Job, nodes, netSinks}
 use Rattle.negotiation.specs.Records.{Record, recordOf, words, encode, pathNodes}
 use Rattle.negotiation.specs.Machine.{State, marksOf, turnOf, turnsOf, due, afterNets}
 use Rattle.negotiation.specs.Outcome.{logWith}
-use Rattle.negotiation.specs.Steps.{AllBelow}
+use Rattle.job.specs.Steps.{AllBelow}
 use Rattle.negotiation.specs.TariffSteps.{loggedTariff}
 use Rattle.negotiation.specs.Kept.{Tallied}
 use Rattle.negotiation.specs.declared.tariff.Tariff.{Tariff}

@@ -18,7 +18,7 @@ use Rattle.price.specs.Test.{choose}
 use Rattle.search.specs.Block.{Block, nodes}
 use Rattle.search.specs.Turn.{Congestion, priceAt}
 use Rattle.negotiation.specs.Resume.{pathIn}
-use Rattle.negotiation.specs.Steps.{Stored}
+use Rattle.job.specs.Steps.{Stored}
 use Rattle.negotiation.specs.ResumeSteps.{passCost, TurnReady, PassReady, costsOf, PathMarked, costIs, frameFollows, turnPasses}
 use Rattle.negotiation.specs.declared.follow.PathCost.{PathCost}
 use Rattle.negotiation.specs.declared.follow.PathCost.the-variants.{Cost, Strays}

@@ -13,13 +13,13 @@ use Rattle.price.proofs.TestLaws.{either-way, le-or-lt, true≢false}
 use Rattle.price.proofs.ListLaws.{every-at, every-all, every-none, has-at, has-place}
 use Rattle.price.proofs.BelowLaws.{firstBelow-below, firstBelow-holds, firstBelow-is}
 use Rattle.search.specs.Replies.{workNeeded}
-use Rattle.negotiation.specs.Job.{Job, nodes, nets, netSinks}
-use Rattle.negotiation.specs.Tables.{SoundJob, faultyJob}
+use Rattle.job.specs.Job.{Job, nodes, nets, netSinks}
+use Rattle.job.specs.Tables.{SoundJob, faultyJob}
 use Rattle.negotiation.specs.Outcome.{RouteReply, hasPath, unreachableNet, unreachablePlace, begun}
 use Rattle.negotiation.specs.Unreachable.{Reachable, FirstUnreachable, UnreachableRefused}
 use Rattle.negotiation.specs.Routable.{Routable}
-use Rattle.negotiation.specs.Join.{joined}
-use Rattle.negotiation.proofs.JobLaws.{sound-job, faulty-none}
+use Rattle.job.specs.Join.{joined}
+use Rattle.job.proofs.JobLaws.{sound-job, faulty-none}
 use Rattle.negotiation.proofs.JoinedHolds.{joined-routable}
 use Rattle.negotiation.proofs.NetLaws.{path-from, sink-path}
 use Rattle.negotiation.proofs.DemandLaws.{walk-path}

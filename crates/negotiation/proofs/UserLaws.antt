@@ -15,7 +15,7 @@ use Rattle.price.specs.Test.{choose, both}
 use Rattle.price.specs.Lists.{has, countBelow}
 use Rattle.price.proofs.TestLaws.{true≢false, either-way}
 use Rattle.price.proofs.BelowLaws.{count-less, count-same}
-use Rattle.negotiation.specs.Job.{Job, nets}
+use Rattle.job.specs.Job.{Job, nets}
 use Rattle.negotiation.specs.Machine.{treeAt, usersOf, othersOf, firstState}
 
 -- ---- counts

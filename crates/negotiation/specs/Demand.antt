@@ -12,8 +12,8 @@ use Rattle.price.specs.Bounds.{priceMost, pathMost}
 use Rattle.price.specs.Lists.{has, distinct, countBelow}
 use Rattle.price.specs.Prices.{priceOf, factorAt, nextHistory}
 use Rattle.search.specs.Paths.{CheapestPath}
-use Rattle.negotiation.specs.Job.{Job, nodes, nets, source, netSinks}
-use Rattle.negotiation.specs.Join.{joined}
+use Rattle.job.specs.Job.{Job, nodes, nets, source, netSinks}
+use Rattle.job.specs.Join.{joined}
 use Rattle.negotiation.specs.Records.{Record, encode}
 use Rattle.negotiation.specs.Outcome.{RouteReply, wordsUsed, turnsLogged, routeReply}
 use Rattle.negotiation.specs.Unreachable.{AllReachable}

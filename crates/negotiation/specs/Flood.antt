@@ -12,7 +12,8 @@ use Rattle.price.specs.Lists.{countBelow}
 use Rattle.search.specs.Block.{Block, nodes, rowStart, hasEdge}
 use Rattle.search.specs.Tables.{Graph}
 use Rattle.search.specs.Paths.{Walk}
-use Rattle.negotiation.specs.Steps.{AllBelow, SameFrom}
+use Rattle.job.specs.Steps.{AllBelow}
+use Rattle.negotiation.specs.Steps.{SameFrom}
 
 -- the graph keeps its rules, source and sinks are nodes, and each node has a mark and room in the queue
 pub record FloodReady (b : Block) (source : ℕ) (sinks marks work : List ℕ) : Type 0 where

@@ -10,11 +10,11 @@ use Rattle.price.specs.Test.{choose}
 use Rattle.price.specs.Lists.{has, upTo}
 use Rattle.search.specs.Block.{Block}
 use Rattle.search.specs.Replies.{sinksMost}
-use Rattle.negotiation.specs.Job.{Job, nets, jobOf, plainTerms}
-use Rattle.negotiation.specs.Join.{listedPlaces, entriesAt, taking, placesBefore, joined}
-use Rattle.negotiation.specs.Steps.{AllBelow}
-use Rattle.negotiation.specs.Tables.{netsMost}
-use Rattle.negotiation.specs.declared.Terms.{Terms}
+use Rattle.job.specs.Job.{Job, nets, jobOf, plainTerms}
+use Rattle.job.specs.Join.{listedPlaces, entriesAt, taking, placesBefore, joined}
+use Rattle.job.specs.Steps.{AllBelow}
+use Rattle.job.specs.Tables.{netsMost}
+use Rattle.job.specs.declared.Terms.{Terms}
 
 -- What joining asks of tables 5 to 7. A sound job's have it.
 pub record Joinable (sources firstSinks sinks : List ℕ) : Type 0 where

@@ -6,8 +6,8 @@ use mathlib.Core.Path.{_≡_}
 use Prim.Native.Nat.{ℕ, _<_}
 use lib.Dec.{ltb}
 use Rattle.price.specs.Lists.{has, distinct, neighbours}
-use Rattle.negotiation.specs.Job.{Job, nets, source, netSinks}
-use Rattle.negotiation.specs.Join.{firstOf, leads, entriesAt, joinedPlaces, joined}
+use Rattle.job.specs.Job.{Job, nets, source, netSinks}
+use Rattle.job.specs.Join.{firstOf, leads, entriesAt, joinedPlaces, joined}
 
 -- of a sound job
 pub record JoinedNets (j : Job) : Type 0 where

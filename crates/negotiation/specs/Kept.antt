@@ -7,11 +7,11 @@ use Prim.Native.Nat.{ℕ, _+_, _*_, _≤_, _<_}
 use lib.ListN.{length, getD, replicate}
 use Rattle.price.specs.Bounds.{factorMost, historyGain}
 use Rattle.price.specs.Lists.{has, upTo}
-use Rattle.negotiation.specs.Job.{Job, nodes, nets}
+use Rattle.job.specs.Job.{Job, nodes, nets}
 use Rattle.negotiation.specs.Records.{Record, encode, pathNodes}
 use Rattle.negotiation.specs.Machine.{State, Progress, treeAt, usersOf}
 use Rattle.negotiation.specs.Outcome.{logWith}
-use Rattle.negotiation.specs.Steps.{AllBelow}
+use Rattle.job.specs.Steps.{AllBelow}
 use Rattle.negotiation.specs.declared.tariff.Tariff.{Tariff}
 
 -- ---- where the trees stand

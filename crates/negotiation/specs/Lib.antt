@@ -1,8 +1,5 @@
-pub mod Job
-pub mod Tables
 pub mod Records
 pub mod Routable
-pub mod Join
 pub mod JoinedNets
 pub mod Machine
 pub mod Outcome

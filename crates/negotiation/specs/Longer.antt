@@ -7,9 +7,9 @@ use mathlib.Core.Path.{_≡_}
 use Prim.Native.Nat.{ℕ, _≤_, _<_}
 use lib.ListN.{length, take}
 use Rattle.search.specs.Replies.{workNeeded}
-use Rattle.negotiation.specs.Job.{Job, nodes}
-use Rattle.negotiation.specs.Tables.{limitSound}
-use Rattle.negotiation.specs.Join.{joined}
+use Rattle.job.specs.Job.{Job, nodes}
+use Rattle.job.specs.Tables.{limitSound}
+use Rattle.job.specs.Join.{joined}
 use Rattle.negotiation.specs.Records.{Record, encode, fitting}
 use Rattle.negotiation.specs.Outcome.{RouteReply, wordsUsed, turnsLogged, begun, allRecords, routeReply}
 

@@ -9,9 +9,9 @@ use Rattle.price.specs.Test.{choose, both, either}
 use Rattle.price.specs.Lists.{every, has, upTo, countBelow}
 use Rattle.price.specs.Prices.{nextFactor, nextHistory}
 use Rattle.search.specs.Turn.{Congestion, congestionOf, priceAt, Turn, joins, stuck, turn}
-use Rattle.negotiation.specs.Job.{Job, nodes, nets, source, netSinks}
+use Rattle.job.specs.Job.{Job, nodes, nets, source, netSinks}
 use Rattle.negotiation.specs.Records.{Record, pathNodes}
-use Rattle.negotiation.specs.declared.Terms.{Terms}
+use Rattle.job.specs.declared.Terms.{Terms}
 
 -- "Its state is iteration, factor, histories and one tree a net"
 pub record State : Type 0 where

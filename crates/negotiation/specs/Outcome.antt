@@ -10,9 +10,9 @@ use Rattle.price.specs.Lists.{every, firstBelow}
 use Rattle.search.specs.Distance.{far, distance}
 use Rattle.search.specs.Turn.{priceAt}
 use Rattle.search.specs.Replies.{workNeeded, cleared}
-use Rattle.negotiation.specs.Job.{Job, nodes, nets, source, netSinks}
-use Rattle.negotiation.specs.Tables.{faultyJob}
-use Rattle.negotiation.specs.Join.{joined}
+use Rattle.job.specs.Job.{Job, nodes, nets, source, netSinks}
+use Rattle.job.specs.Tables.{faultyJob}
+use Rattle.job.specs.Join.{joined}
 use Rattle.negotiation.specs.Records.{Record, encode, decode, fitting}
 use Rattle.negotiation.specs.Machine.{State, Progress, marksOf, congestionFor, overCount}
 use Rattle.negotiation.specs.Machine.{firstState, iterationAfter, recordsAfter, settlesAt}

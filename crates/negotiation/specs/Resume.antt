@@ -13,8 +13,8 @@ use Rattle.search.specs.Block.{hasEdge}
 use Rattle.search.specs.Paths.{pathCost}
 use Rattle.search.specs.Turn.{priceAt}
 use Rattle.search.specs.Replies.{cleared}
-use Rattle.negotiation.specs.Job.{Job, nodes, nets, netSinks}
-use Rattle.negotiation.specs.Join.{joined}
+use Rattle.job.specs.Job.{Job, nodes, nets, netSinks}
+use Rattle.job.specs.Join.{joined}
 use Rattle.negotiation.specs.Records.{Record, recordOf, encode}
 use Rattle.negotiation.specs.Machine.{State, Progress, congestionFor, treeFrom, withNet, due, overCount, moveOn, firstState}
 use Rattle.negotiation.specs.Machine.{recordsAfter, settlesAt}

@@ -13,7 +13,7 @@ use Rattle.search.specs.Tables.{Sound}
 use Rattle.search.specs.Turn.{Congestion}
 use Rattle.search.specs.Frontier.{PriceReady}
 use Rattle.negotiation.specs.Resume.{pathIn, wholeRecord, endsAt}
-use Rattle.negotiation.specs.Steps.{Stored}
+use Rattle.job.specs.Steps.{Stored}
 use Rattle.negotiation.specs.declared.follow.PathCost.{PathCost}
 use Rattle.negotiation.specs.declared.follow.PathCost.the-variants.{Cost, Strays}
 

@@ -10,9 +10,9 @@ use lib.ListN.{length, getD, take}
 use Rattle.price.specs.Lists.{has}
 use Rattle.price.specs.Prices.{factorAt}
 use Rattle.search.specs.Replies.{workNeeded}
-use Rattle.negotiation.specs.Job.{Job, nodes, nets}
-use Rattle.negotiation.specs.Tables.{limitSound, SoundJob}
-use Rattle.negotiation.specs.Join.{joined}
+use Rattle.job.specs.Job.{Job, nodes, nets}
+use Rattle.job.specs.Tables.{limitSound, SoundJob}
+use Rattle.job.specs.Join.{joined}
 use Rattle.negotiation.specs.Records.{Record, encode, decode}
 use Rattle.negotiation.specs.Machine.{Progress, treeAt}
 use Rattle.negotiation.specs.Outcome.{RouteReply, wordsUsed, turnsLogged, routeReply}

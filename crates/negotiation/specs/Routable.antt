@@ -10,8 +10,8 @@ use Rattle.price.specs.Lists.{has}
 use Rattle.price.specs.Tuning.{tuningSound}
 use Rattle.search.specs.Tables.{Sound}
 use Rattle.search.specs.Replies.{sinksMost}
-use Rattle.negotiation.specs.Job.{Job, nodes, nets, source, netSinks}
-use Rattle.negotiation.specs.Tables.{netsMost}
+use Rattle.job.specs.Job.{Job, nodes, nets, source, netSinks}
+use Rattle.job.specs.Tables.{netsMost}
 
 -- A sound job has it. So has a job of which some nets have no sinks: its table 6 never falls, where that of a sound job strictly rises.
 pub record Routable (j : Job) : Type 0 where

@@ -5,7 +5,7 @@ use Prim.Native.Nat.{ℕ}
 use lib.ListN.{replicate}
 use Rattle.price.specs.Samples.{Sample}
 use Rattle.search.specs.Block.{blockOf}
-use Rattle.negotiation.specs.Job.{Job, plainTerms}
+use Rattle.job.specs.Job.{Job, plainTerms}
 use Rattle.negotiation.specs.Outcome.{RouteReply, wordsUsed, routeReply}
 
 -- job B, under a limit

@@ -8,45 +8,25 @@ use lib.Dec.{eqb, ltb}
 use lib.ListN.{length, getD, take, drop, set}
 use lib.Seq.{slice}
 use Rattle.price.specs.Test.{choose, both, either}
-use Rattle.price.specs.Lists.{every, has, distinct}
+use Rattle.price.specs.Lists.{every, has}
 use Rattle.price.specs.Bounds.{factorMost}
 use Rattle.search.specs.Block as block
 use Rattle.search.specs.Block.{Block}
 use Rattle.search.specs.Tables.{Sound}
 use Rattle.search.specs.Turn.{Congestion, congestionOf, Turn, joins, stuck}
 use Rattle.search.specs.Replies.{nodeSound, sinkListSound}
-use Rattle.negotiation.specs.Job.{Job, nets, jobOf}
-use Rattle.negotiation.specs.Tables.{sourceKind, sinkKind}
+use Rattle.job.specs.Job.{Job, nets, jobOf}
 use Rattle.negotiation.specs.Routable.{Routable}
 use Rattle.negotiation.specs.Outcome.{unreachableNet, unreachablePlace}
 use Rattle.negotiation.specs.TariffSteps.{loggedTariff}
-use Rattle.negotiation.specs.declared.Terms.{Terms}
-use Rattle.negotiation.specs.declared.pins.Pin.{Pin}
-use Rattle.negotiation.specs.declared.pins.Pin.the-variants.{Source, Sink}
+use Rattle.job.specs.declared.Terms.{Terms}
 use Rattle.negotiation.specs.declared.tariff.Tariff.{Tariff}
 use Rattle.negotiation.specs.declared.turns.TurnMade.{TurnMade}
 use Rattle.negotiation.specs.declared.turns.TurnMade.the-variants.{Nothing, Full, Logged}
 use Rattle.negotiation.specs.declared.reach.Reach.{Reach}
 use Rattle.negotiation.specs.declared.reach.Reach.the-variants.{All, Missing}
 use Rattle.negotiation.specs.Records.{recordOf, words, encode, decode, pathNodes}
-
--- the test of a pin's kind
-abbrev pub pinKind : Pin → ℕ → Bool
-pinKind Source = sourceKind
-pinKind Sink = sinkKind
-
--- every entry is a node
-abbrev pub AllBelow : ℕ → List ℕ → Type 0
-AllBelow n xs = (i : ℕ) → i < length xs → getD xs i 0 < n
-
--- the entries at these places hold a, the others stay
-pub record Stored (a : ℕ) (xs old new : List ℕ) : Type 0 where
-  pub long : length new ≡ length old
-  pub at : (v : ℕ) → getD new v 0 ≡ choose (has v xs) a (getD old v 0)
-
--- each of these sinks is a node, none stands twice, and none was marked
-unfoldable pub sinksFree : ℕ → List ℕ → List ℕ → Bool
-sinksFree n sinks marks = both (every (λ s. ltb s n) sinks) (both (distinct sinks) (every (λ s. eqb (getD marks s 0) 0) sinks))
+use Rattle.job.specs.Steps.{AllBelow, Stored}
 
 -- each of these nodes that was not marked has one user less, and all are marked
 pub record Dropped (n : ℕ) (xs users marks users′ marks′ : List ℕ) : Type 0 where

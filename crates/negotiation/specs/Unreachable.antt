@@ -8,9 +8,9 @@ use lib.ListN.{length, getD}
 use Rattle.price.specs.Lists.{has}
 use Rattle.search.specs.Paths.{Walk}
 use Rattle.search.specs.Replies.{workNeeded}
-use Rattle.negotiation.specs.Job.{Job, nodes, nets, source, netSinks}
-use Rattle.negotiation.specs.Tables.{SoundJob}
-use Rattle.negotiation.specs.Join.{joined}
+use Rattle.job.specs.Job.{Job, nodes, nets, source, netSinks}
+use Rattle.job.specs.Tables.{SoundJob}
+use Rattle.job.specs.Join.{joined}
 use Rattle.negotiation.specs.Outcome.{routeReply}
 
 -- a path from net i's source to a node

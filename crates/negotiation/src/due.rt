@@ -7,9 +7,10 @@ ghost use Rattle.price.specs.Test.{choose};
 ghost use Rattle.price.specs.Lists.{upTo};
 ghost use Rattle.negotiation.specs.Machine.{allDue};
 ghost use Rattle.negotiation.specs.Records.{decode, pathNodes};
-ghost use Rattle.negotiation.specs.Steps.{AllBelow, Whole, someOver, takes, DueReady};
-use crate::Terms;
+ghost use Rattle.job.specs.Steps.{AllBelow};
+ghost use Rattle.negotiation.specs.Steps.{Whole, someOver, takes, DueReady};
 use crate::tariff::Tariff;
+use job::Terms;
 
 // Every net that has sinks is due: under rule 1, and in iteration 1.
 fn all_due(terms: Terms, iteration: u32) -> bool

@@ -3,7 +3,7 @@ ghost use mathlib.Core.Path.{_≡_};
 ghost use Prim.Native.Nat.{_+_, _≤_};
 ghost use lib.ListN.{length, replicate};
 ghost use Rattle.search.specs.Block.{graphOf, rowStart};
-ghost use Rattle.negotiation.specs.Steps.{AllBelow};
+ghost use Rattle.job.specs.Steps.{AllBelow};
 ghost use Rattle.negotiation.specs.Flood.{FloodReady, FloodRoom, RowFlooded, Flooded, FirstUnmarked};
 
 // Takes every mark away.

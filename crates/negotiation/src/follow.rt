@@ -14,7 +14,7 @@ ghost use Rattle.search.specs.Frontier.{PriceReady};
 ghost use Rattle.negotiation.specs.Resume.{pathIn};
 ghost use Rattle.negotiation.specs.ResumeSteps.{stepPasses, passCost, TurnReady, PassReady, costsOf, PathMarked};
 ghost use Rattle.negotiation.specs.ResumeSteps.{costIs, frameFollows, turnPasses};
-ghost use Rattle.negotiation.specs.Steps.{Stored};
+ghost use Rattle.job.specs.Steps.{Stored};
 use crate::tariff::Tariff;
 use price::PriceAnswer;
 

@@ -4,34 +4,12 @@ ghost use mathlib.Core.List.{List};
 ghost use Prim.Native.Nat.{ℕ, _+_, _-_, _≤_, _<_};
 ghost use lib.ListN.{length, getD, take};
 ghost use Rattle.search.specs.Replies.{sinksMost};
-ghost use Rattle.negotiation.specs.Join.{firstOf, entriesAt, placesFrom, taking};
+ghost use Rattle.job.specs.Join.{entriesAt, placesFrom, taking};
 ghost use Rattle.negotiation.specs.JoinSteps.{Joinable, JoinRoom, netsOnly, listedCount};
 ghost use Rattle.negotiation.specs.JoinSteps.{withListed, Held, Placed, JoinedPlaces, JoinedTables};
-ghost use Rattle.negotiation.specs.Steps.{AllBelow};
-use crate::NODES_MOST;
-use crate::SINKS_MOST;
-
-// The source of a net, 0 where there is no such net.
-fn source_of(source: &[u16], net: usize) -> u16
-    ensures { λ r. ⌜ r ≡ getD (now (source .entry)) net 0 ⌝ }
-{
-    if net < source.len() { source[net] } else { 0 }
-}
-
-// The first net of a net's source.
-pub fn first_of(source: &[u16], net: usize) -> usize
-    ensures { λ r. ⌜ r ≡ firstOf (now (source .entry)) net ⌝ }
-{
-    let node = source_of(source, net);
-    let mut i = 0;
-    while i < source.len() {
-        if source[i] == node {
-            return i;
-        }
-        i += 1;
-    }
-    i
-}
+ghost use Rattle.job.specs.Steps.{AllBelow};
+use job::NODES_MOST;
+use job::SINKS_MOST;
 
 // Takes the places of table 7 from one to another, but for those whose sink is stamped already.
 fn take_listed(
@@ -109,7 +87,7 @@ fn join_one(
     ensures { λ r. ⌜ Placed (now (source .entry)) (now («first_sink» .entry)) (now (sink .entry))
         (now (seen .exit)) (now (places .exit)) (net + 1) r ⌝ }
 {
-    if first_of(source, net) != net {
+    if job::first_of(source, net) != net {
         return start;
     }
     let mut count = start;

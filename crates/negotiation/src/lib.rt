@@ -2,29 +2,13 @@
 ghost use mathlib.Core.Path.{_≡_};
 ghost use Prim.Native.Nat.{_*_, _≤_};
 ghost use lib.ListN.{length};
-ghost use Rattle.negotiation.specs.Job.{jobOf, nodes};
+ghost use Rattle.job.specs.Job.{jobOf, nodes};
 ghost use Rattle.negotiation.specs.Routable.{Routable};
 ghost use Rattle.negotiation.specs.Outcome.{refusedAnswer, routeReplyOf, negotiated, reachedReply, routeReply};
 ghost use Rattle.negotiation.specs.Demand.{Demand3};
 
-// The most nodes of a block: the router keeps a mark, a history and a count of users for each.
-const NODES_MOST: usize = 4096;
-
-// The most nets, and sinks of all nets.
-const NETS_MOST: usize = 512;
-
-const SINKS_MOST: usize = 4096;
-
 // The most entries of table 6: one more than nets.
 const FIRST_SINKS_MOST: usize = 513;
-
-// What a job asks beside its seven tables: the limit of iterations, the tuning of the tariff, and the rule by which an iteration takes
-// nets: 1, all; 2, from iteration 2 on only crowded ones. A refusal counts it as table 8.
-pub struct Terms {
-    pub limit: u32,
-    pub tuning: Tuning,
-    pub rule: u32,
-}
 
 // How a run ends.
 pub enum Outcome {
@@ -54,27 +38,17 @@ mod congestion;
 mod due;
 mod flood;
 mod follow;
-mod job_terms;
 mod join;
 mod nets;
-mod pins;
 mod reach;
 mod records;
-mod tables;
 mod tariff;
 mod trees;
 mod turns;
 
-pub use job_terms::plain_terms;
-pub use job_terms::rule_sound;
-pub use job_terms::terms_sound;
-pub use join::first_of;
-pub use pins::sink_kind;
-pub use pins::source_kind;
-use price::Tuning;
+use job::SINKS_MOST;
+use job::Terms;
 use reach::Reach;
-pub use tables::faulty_block;
-pub use tables::sources_sound;
 
 // The answer of a call that is refused before any turn.
 fn refused(outcome: Outcome) -> RouteAnswer
@@ -163,7 +137,7 @@ pub fn route(
           (now (source .entry)) (now («first_sink» .entry)) (now (sink .entry)) terms
       ⌜ Demand3 job (now (work .entry)) (now (log .entry)) (routeReplyOf r (now (work .exit)) (now (log .exit))) ⌝ }
 {
-    let table = tables::faulty_job(
+    let table = job::faulty_job(
         kind,
         capacity,
         first_edge,

@@ -2,8 +2,8 @@
 ghost use Prim.Native.Nat.{_*_, _≤_};
 ghost use lib.ListN.{length};
 ghost use Rattle.negotiation.specs.Steps.{SameFrom, RoutableWith, FirstMissing};
-use crate::NODES_MOST;
 use crate::flood;
+use job::NODES_MOST;
 
 // What the test of all nets, or of one net, finds.
 pub enum Reach {

@@ -4,7 +4,7 @@ ghost use mathlib.Core.Path.{_≡_};
 ghost use Prim.Native.Nat.{_+_, _^_, _≤_, _<_};
 ghost use lib.ListN.{length, take, drop};
 ghost use Rattle.negotiation.specs.Records.{recordOf, words};
-ghost use Rattle.negotiation.specs.Steps.{AllBelow};
+ghost use Rattle.job.specs.Steps.{AllBelow};
 
 // A cost is logged in two words of 32 bits.
 const HALF: u64 = 4294967296;

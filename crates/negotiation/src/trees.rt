@@ -5,7 +5,8 @@ ghost use Prim.Native.Nat.{_≤_};
 ghost use lib.ListN.{length, take};
 ghost use lib.Seq.{slice};
 ghost use Rattle.negotiation.specs.Records.{decode, pathNodes};
-ghost use Rattle.negotiation.specs.Steps.{AllBelow, Stored, Dropped, Added, CanDrop, CanAddMarked, Whole};
+ghost use Rattle.job.specs.Steps.{AllBelow, Stored};
+ghost use Rattle.negotiation.specs.Steps.{Dropped, Added, CanDrop, CanAddMarked, Whole};
 
 // The path at the beginning of the work slice joins the tree.
 pub fn mark_path(work: &[u64], count: usize, in_tree: &mut [u8])

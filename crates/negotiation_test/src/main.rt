@@ -3,9 +3,9 @@
 use cases::lines;
 use cases::read;
 use cases::show;
+use job::Terms;
 use negotiation::Outcome;
 use negotiation::RouteAnswer;
-use negotiation::Terms;
 use price::Tuning;
 
 fn one_number(row: u64, value: u64) {

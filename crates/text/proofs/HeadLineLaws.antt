@@ -15,8 +15,8 @@ use Rattle.price.specs.Test.{both}
 use Rattle.price.specs.Bounds.{nodesMost, limitMost}
 use Rattle.price.proofs.TestLaws.{both-left, both-right}
 use Rattle.search.specs.Tables.{edgesMost}
-use Rattle.negotiation.specs.Tables.{netsMost}
-use Rattle.negotiation.specs.declared.Terms.{Terms}
+use Rattle.job.specs.Tables.{netsMost}
+use Rattle.job.specs.declared.Terms.{Terms}
 use Rattle.text.specs.Lines.{letterF, line}
 use Rattle.text.specs.JobText.{values, refused, part, stopped, between, headWithin, headLine, termsPart, countsOf, headPart}
 use Rattle.text.specs.Steps.{fieldsAt, headAt, HeadPlace, termsAt}

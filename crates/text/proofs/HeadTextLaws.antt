@@ -14,8 +14,8 @@ use Rattle.price.specs.Lists.{every}
 use Rattle.price.specs.Tuning.{tuningSound}
 use Rattle.price.proofs.TestLaws.{both-true, both-left, both-right}
 use Rattle.search.specs.Tables.{edgesMost}
-use Rattle.negotiation.specs.Tables.{netsMost, ruleSound}
-use Rattle.negotiation.specs.declared.Terms.{Terms}
+use Rattle.job.specs.Tables.{netsMost, ruleSound}
+use Rattle.job.specs.declared.Terms.{Terms}
 use Rattle.text.specs.Lines.{letterF, letterN, begins, printLine}
 use Rattle.text.specs.JobText.{between, headWithin, headLine, part, andThen, Counts, termsPart, countsOf, headPart}
 use Rattle.text.specs.Printed.{Form, termsText, Allowed}

@@ -15,9 +15,9 @@ use Rattle.price.specs.Test.{choose}
 use Rattle.price.specs.Lists.{every}
 use Rattle.price.proofs.TestLaws.{either-way, both-true}
 use Rattle.price.proofs.EntryLaws.{placeOf-is, placeOf-most}
-use Rattle.negotiation.specs.Join.{firstOf, leads}
-use Rattle.negotiation.specs.Tables.{netsMost}
-use Rattle.negotiation.proofs.JoinLaws.{first-below, first-source}
+use Rattle.job.specs.Join.{firstOf, leads}
+use Rattle.job.specs.Tables.{netsMost}
+use Rattle.job.proofs.FirstNetLaws.{first-below, first-source}
 use Rattle.text.specs.Routes.{Join, joinsBefore, routeJoins}
 use Rattle.text.specs.Listed.{JoinOf}
 use Rattle.text.proofs.RouteLineLaws.{joinFields, Printable}

@@ -19,9 +19,9 @@ use borrow.Author.Tests.{lt-ltb, le-ltb, eq-eqb, ne-eqb}
 use Rattle.price.specs.Test.{choose, both}
 use Rattle.price.proofs.TestLaws.{le-or-lt}
 use Rattle.search.proofs.QueueLaws.{same-or-not}
-use Rattle.negotiation.specs.Join.{firstOf, leads}
-use Rattle.negotiation.specs.Tables.{netsMost}
-use Rattle.negotiation.proofs.SinkMarkLaws.{unmarked-new}
+use Rattle.job.specs.Join.{firstOf, leads}
+use Rattle.job.specs.Tables.{netsMost}
+use Rattle.job.proofs.SinkMarkLaws.{unmarked-new}
 use Rattle.text.specs.Lines.{letterJ, printLine}
 use Rattle.text.specs.Routes.{netWritable, Join, joinsBefore, routeJoins, joinText}
 use Rattle.text.specs.WriteSteps.{Put, netMarked}

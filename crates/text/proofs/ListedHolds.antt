@@ -18,8 +18,8 @@ use borrow.Author.Tests.{leb-true}
 use Rattle.price.specs.Bounds.{nodesMost}
 use Rattle.price.proofs.TestLaws.{both-left}
 use Rattle.negotiation.specs.Records.{Record, decode}
-use Rattle.negotiation.specs.Tables.{sourcesSound}
-use Rattle.negotiation.proofs.JobLaws.{sources-few}
+use Rattle.job.specs.Tables.{sourcesSound}
+use Rattle.job.proofs.JobLaws.{sources-few}
 use Rattle.text.specs.Routes.{Named, logSound, soundWords, writable, Branch, lastIteration, branchText, Join, routeJoins, joinText, routesText}
 use Rattle.text.specs.Listed.{RouteLines, ended, branch, join, stepsByNet, Listed, StepOf, JoinOf}
 use Rattle.text.proofs.RecordTestLaws.{recordLength}

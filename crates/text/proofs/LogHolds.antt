@@ -15,12 +15,12 @@ use Rattle.price.specs.Lists.{every}
 use Rattle.price.proofs.TestLaws.{both-true}
 use Rattle.price.proofs.ListLaws.{every-all}
 use Rattle.search.proofs.BlockLaws.{kinds-few}
-use Rattle.negotiation.specs.Job.{Job, nodes, nets}
-use Rattle.negotiation.specs.Tables.{SoundJob}
+use Rattle.job.specs.Job.{Job, nodes, nets}
+use Rattle.job.specs.Tables.{SoundJob}
 use Rattle.negotiation.specs.Routable.{Routable}
 use Rattle.negotiation.specs.Records.{Record, words, encode}
 use Rattle.negotiation.specs.Machine.{hasSinks, firstState, iterationAfter, recordsAfter}
-use Rattle.negotiation.specs.Join.{joined}
+use Rattle.job.specs.Join.{joined}
 use Rattle.negotiation.specs.Outcome.{RouteReply, routeReply}
 use Rattle.negotiation.proofs.JoinedHolds.{joined-routable}
 use Rattle.negotiation.proofs.RecordLaws.{words-length, records-few}

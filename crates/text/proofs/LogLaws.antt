@@ -13,7 +13,7 @@ use lib.Seq.{getD-drop, drop-drop}
 use borrow.Author.Tests.{le-leb, lt-leb, eq-eqb, ne-eqb, eqb-true}
 use Rattle.price.proofs.TestLaws.{either-way, both-right, le-or-lt}
 use Rattle.price.specs.Bounds.{nodesMost}
-use Rattle.negotiation.specs.Tables.{netsMost}
+use Rattle.job.specs.Tables.{netsMost}
 use Rattle.negotiation.specs.Records.{Record, recordOf, decodeUpTo, decode}
 use Rattle.text.specs.Routes.{Named, pathIn, recordSound, soundUpTo, soundWords, logSound, lastIteration}
 use Rattle.text.specs.Users.{sound, unsound, logChecked}

@@ -22,7 +22,7 @@ use Rattle.price.specs.Test.{choose, both}
 use Rattle.price.specs.Lists.{has}
 use Rattle.price.proofs.TestLaws.{either-way, both-right, both-true, both-false-right}
 use Rattle.search.specs.Replies.{sinksMost}
-use Rattle.negotiation.specs.Tables.{sinkKind}
+use Rattle.job.specs.Tables.{sinkKind}
 use Rattle.text.specs.Lines.{letterS, letterT, taken, line}
 use Rattle.text.specs.JobText.{Reading, values, refused, pinWithin, sourceLine, sinkOrdered, sinkLine, ofKind}
 use Rattle.text.specs.Steps.{After, fieldsAt, pinAt, PinPlace, Marked}

@@ -17,10 +17,10 @@ use Rattle.price.specs.Lists.{every, has}
 use Rattle.price.proofs.TestLaws.{either-way, both-true, both-left, both-right}
 use Rattle.price.proofs.ListLaws.{every-at}
 use Rattle.search.specs.Replies.{sinksMost}
-use Rattle.negotiation.specs.Job.{sinksBetween}
-use Rattle.negotiation.specs.Tables.{netsMost, sourcesSound, firstSinksSound, netSound, sinksSound, oneOf, sourceKind, sinkKind, pinsOf, sourcePins, sinkPins}
-use Rattle.negotiation.proofs.JobLaws.{sources-some, sources-few, source-below, firsts-long, firsts-end, firsts-order, firsts-most, net-rule}
-use Rattle.negotiation.proofs.MarkLaws.{below-at, slice-parts}
+use Rattle.job.specs.Job.{sinksBetween}
+use Rattle.job.specs.Tables.{netsMost, sourcesSound, firstSinksSound, netSound, sinksSound, oneOf, sourceKind, sinkKind, pinsOf, sourcePins, sinkPins}
+use Rattle.job.proofs.JobLaws.{sources-some, sources-few, source-below, firsts-long, firsts-end, firsts-order, firsts-most, net-rule}
+use Rattle.job.proofs.MarkLaws.{below-at, slice-parts}
 use Rattle.text.specs.Lines.{letterS, letterT, taken, line, printLine}
 use Rattle.text.specs.JobText.{values, lastOf, pinWithin, sourceLine, sinkOrdered, sinkLine, part, NetLists, netLists, sinksNow, sourceDue, sinkDue, complete, netEnd, withSource, withSink, nextSource, nextSink, netLine, netLines}
 use Rattle.text.specs.Printed.{joined, eachLine}

@@ -13,8 +13,8 @@ use Rattle.price.specs.Test.{both}
 use Rattle.price.specs.Lists.{every, has}
 use Rattle.price.proofs.TestLaws.{either-way, both-left, both-right}
 use Rattle.search.specs.Replies.{sinksMost}
-use Rattle.negotiation.specs.Tables.{netsMost, sourcesSound, firstSinksSound, sinksSound, oneOf, sourceKind, sinkKind, pinsOf, sourcePins, sinkPins}
-use Rattle.negotiation.proofs.NetTableLaws.{sources-all, nets-all}
+use Rattle.job.specs.Tables.{netsMost, sourcesSound, firstSinksSound, sinksSound, oneOf, sourceKind, sinkKind, pinsOf, sourcePins, sinkPins}
+use Rattle.job.proofs.NetTableLaws.{sources-all, nets-all}
 use Rattle.text.specs.Lines.{letterS, letterT, printLine}
 use Rattle.text.specs.JobText.{Reading, values, refused, lastOf, pinWithin, sourceLine, sinkOrdered, sinkLine, part, stopped, NetLists}
 use Rattle.text.specs.JobText.{netLists, sinksNow, sourceDue, sinkDue, complete, netEnd, withSource, withSink, nextSource, nextSink, taking}

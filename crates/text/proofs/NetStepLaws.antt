@@ -21,7 +21,7 @@ use Rattle.price.proofs.TestLaws.{either-false, either-way, le-or-lt, both-left
 use Rattle.price.proofs.ListLaws.{has-append, has-append-right}
 use Rattle.search.specs.Replies.{sinksMost}
 use Rattle.text.specs.Lines.{letterS, letterT}
-use Rattle.negotiation.specs.Tables.{sourceKind, sinkKind}
+use Rattle.job.specs.Tables.{sourceKind, sinkKind}
 use Rattle.text.specs.JobText.{values, refused, NetLists, lastOf, sinksNow, sourceDue, sinkDue, withSource, withSink, taking, sourceLine, sinkLine, ofKind, nextSource, nextSink, netLine}
 use Rattle.text.specs.Steps.{Marked, netsAt, NetKept, SourceAdded, SinkAdded, netLineAt, KeptAfter}
 use Rattle.text.specs.declared.nets.NetCursor.{NetCursor}

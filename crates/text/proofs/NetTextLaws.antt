@@ -21,9 +21,9 @@ use Rattle.price.proofs.TestLaws.{true≢false, both-true, both-left, both-righ
 use Rattle.price.proofs.ListLaws.{neighbours-all, has-append-right}
 use Rattle.search.specs.Replies.{sinksMost}
 use Rattle.search.proofs.DistinctLaws.{has-cons, has-first, has-rest, lacks, distinct-first, distinct-rest}
-use Rattle.negotiation.specs.Job.{sinksBetween}
-use Rattle.negotiation.specs.Tables.{firstSinksSound, netSound}
-use Rattle.negotiation.proofs.NetTableLaws.{firsts-last}
+use Rattle.job.specs.Job.{sinksBetween}
+use Rattle.job.specs.Tables.{firstSinksSound, netSound}
+use Rattle.job.proofs.NetTableLaws.{firsts-last}
 use Rattle.negotiation.proofs.MemberLaws.{lacks-append, distinct-append}
 use Rattle.text.specs.Lines.{letterS, letterT, printLine}
 use Rattle.text.specs.Printed.{joined, eachLine}

@@ -9,8 +9,8 @@ use Prim.Native.Nat.{ℕ, _+_, _≤_}
 use native.Mathlib.Omega.{arith}
 use lib.ListN.{length, take, drop}
 use Rattle.price.specs.Test.{choose}
-use Rattle.negotiation.specs.Job.{plainTerms}
-use Rattle.negotiation.specs.declared.Terms.{Terms}
+use Rattle.job.specs.Job.{plainTerms}
+use Rattle.job.specs.declared.Terms.{Terms}
 use Rattle.text.specs.Lines.{line}
 use Rattle.text.specs.JobText.{values, refused, judged, part, stopped, onward, optional, tuningPart, rulePart, termsPart}
 use Rattle.text.specs.Steps.{Shaped, termsAfter, termsAt, TermsPlace}

@@ -16,9 +16,9 @@ use Rattle.price.specs.Lists.{every}
 use Rattle.price.specs.Tuning.{plain, tuningSound}
 use Rattle.price.proofs.TestLaws.{either-way, both-true, true≢false}
 use Rattle.price.proofs.TuningLaws.{TuningWithin, tuning-within}
-use Rattle.negotiation.specs.Job.{plainTerms}
-use Rattle.negotiation.specs.Tables.{oneOf, ruleSound}
-use Rattle.negotiation.specs.declared.Terms.{Terms}
+use Rattle.job.specs.Job.{plainTerms}
+use Rattle.job.specs.Tables.{oneOf, ruleSound}
+use Rattle.job.specs.declared.Terms.{Terms}
 use Rattle.text.specs.Lines.{letterP, letterV, letterN, begins, line, printLine}
 use Rattle.text.specs.JobText.{judged, part, optional, tuningWithin, tuningLine, withTuning, tuningPart, ruleWithin, ruleLine, withRule, rulePart, termsPart}
 use Rattle.text.specs.Printed.{Form, lineIf, tuningText, ruleText, termsText, Written, Allowed}

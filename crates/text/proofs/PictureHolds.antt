@@ -15,7 +15,7 @@ use Rattle.price.specs.Bounds.{nodesMost}
 use Rattle.price.specs.Lists.{every}
 use Rattle.price.proofs.TestLaws.{both-left, both-right}
 use Rattle.negotiation.specs.Records.{decode}
-use Rattle.negotiation.specs.Tables.{sourcesSound}
+use Rattle.job.specs.Tables.{sourcesSound}
 use Rattle.text.specs.Decimal.{isDigit, decimal}
 use Rattle.text.specs.Lines.{Field, field, Fields, taken, withValue, afterField}
 use Rattle.text.specs.Routes.{logSound, writable, Branch, branchOf, Join, routesText}

@@ -10,8 +10,8 @@ use lib.Seq.{length-take-le}
 use borrow.Author.Tests.{lt-ltb, le-ltb, le-leb}
 use Rattle.price.proofs.TestLaws.{le-or-lt}
 use Rattle.search.specs.Replies.{sinksMost}
-use Rattle.negotiation.specs.Job.{Job}
-use Rattle.negotiation.specs.declared.Terms.{Terms}
+use Rattle.job.specs.Job.{Job}
+use Rattle.job.specs.declared.Terms.{Terms}
 use Rattle.text.specs.JobText.{Part, readText}
 use Rattle.text.specs.ReadReplies.{Tables, ReadReply, notRead, lowestShort, shortTable, writtenOver, tablesWith, termsNumbers, jobNumbers, storedReply, replyTo, readReply}
 use Rattle.text.specs.ReadSteps.{RoomForAll, CountsWithin, jobTaken, jobAt, JobPlace, Over}

@@ -8,8 +8,8 @@ use native.Mathlib.Omega.{arith}
 use lib.ListN.{length, take, drop}
 use lib.Seq.{take-suc, length-take-le}
 use Rattle.search.specs.Replies.{sinksMost}
-use Rattle.negotiation.specs.Job.{Job, jobOf}
-use Rattle.negotiation.specs.declared.Terms.{Terms}
+use Rattle.job.specs.Job.{Job, jobOf}
+use Rattle.job.specs.declared.Terms.{Terms}
 use Rattle.text.specs.JobText.{Part, part, stopped, andThen, Counts, headPart, NodeLists, nodeLists, nodeLines, EdgeLists, edgeLists, edgeLines, NetLists, netLists, netLines, firstPlaces, jobRead, readText}
 use Rattle.text.specs.ReadReplies.{Tables}
 use Rattle.text.specs.Steps.{edgeTables, edgesAt, nodesAt, LinesPlace, netsReadAt, NetsEnd}

@@ -13,9 +13,9 @@ use borrow.Author.Tests.{lt-ltb, le-ltb, ltb-true}
 use Rattle.price.specs.Bounds.{nodesMost}
 use Rattle.negotiation.specs.Records.{Record, decode}
 use Rattle.price.proofs.TestLaws.{both-left}
-use Rattle.negotiation.specs.Tables.{netsMost, sourcesSound}
-use Rattle.negotiation.specs.Join.{leads}
-use Rattle.negotiation.proofs.JobLaws.{sources-few}
+use Rattle.job.specs.Tables.{netsMost, sourcesSound}
+use Rattle.job.specs.Join.{leads}
+use Rattle.job.proofs.JobLaws.{sources-few}
 use Rattle.text.specs.Routes.{Named, netWritable, writable, routeBranches, lastIteration, routesText, capped, notWritten, textReply, testedReply}
 use Rattle.text.specs.Dot.{dotText, styleText, textIn}
 use Rattle.text.specs.Users.{sound, unsound, logChecked}

@@ -17,7 +17,7 @@ use Rattle.price.specs.Bounds.{nodesMost}
 use Rattle.price.specs.Lists.{every}
 use Rattle.price.proofs.TestLaws.{either-way, both-true, both-left, both-right, le-or-lt}
 use Rattle.price.proofs.ListLaws.{every-at}
-use Rattle.negotiation.specs.Tables.{netsMost}
+use Rattle.job.specs.Tables.{netsMost}
 use Rattle.negotiation.specs.Records.{Record, decode}
 use Rattle.text.specs.JobText.{between}
 use Rattle.text.specs.Routes.{Named, pathIn, pathSound, recordSound}

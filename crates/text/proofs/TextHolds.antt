@@ -18,10 +18,10 @@ use Rattle.search.specs.Block.{blockOf, row}
 use Rattle.search.specs.Tables.{edgesMost, kindsSound, capacitiesSound, firstEdgesSound, rowSound, edgeTargetsSound}
 use Rattle.search.proofs.BlockLaws.{kinds-some, kinds-few}
 use Rattle.search.proofs.TableLaws.{edges-all}
-use Rattle.negotiation.specs.Job.{Job, jobOf, nodes, nets, netSinks}
-use Rattle.negotiation.specs.declared.Terms.{Terms}
-use Rattle.negotiation.specs.Tables.{sourcesSound, firstSinksSound, sinksSound, limitSound, ruleSound, termsSound, sourcePins, sinkPins, SoundJob}
-use Rattle.negotiation.proofs.JobLaws.{nets-some, routable-of}
+use Rattle.job.specs.Job.{Job, jobOf, nodes, nets, netSinks}
+use Rattle.job.specs.declared.Terms.{Terms}
+use Rattle.job.specs.Tables.{sourcesSound, firstSinksSound, sinksSound, limitSound, ruleSound, termsSound, sourcePins, sinkPins, SoundJob}
+use Rattle.negotiation.proofs.RoutableLaws.{nets-some, routable-of}
 use Rattle.text.specs.Lines.{letterF, letterN, begins, printLine}
 use Rattle.text.specs.JobText.{Part, part, andThen, Counts, headPart, NodeLists, nodeLists, nodeLines, EdgeLists, edgeLists, edgeLines, NetLists, netLists, netLines, firstPlaces, jobRead, readText}
 use Rattle.text.specs.Printed.{joined, nodeText, rowText, netText, Form, termsText, Allowed, printJob, Accepts, PrintedAs, Exactly}

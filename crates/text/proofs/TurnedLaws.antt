@@ -21,15 +21,16 @@ use Rattle.price.proofs.TestLaws.{either-way, both-true, true≢false, le-or-lt
 use Rattle.price.proofs.ListLaws.{has-at, has-place}
 use Rattle.search.specs.Block.{Block}
 use Rattle.search.specs.Paths.{Walk, stay, step}
-use Rattle.negotiation.specs.Job.{Job, nodes, nets, netSinks}
-use Rattle.negotiation.specs.Tables.{SoundJob}
+use Rattle.job.specs.Job.{Job, nodes, nets, netSinks}
+use Rattle.job.specs.Tables.{SoundJob}
 use Rattle.negotiation.specs.Routable.{Routable}
-use Rattle.negotiation.specs.Join.{firstOf, joined}
+use Rattle.job.specs.Join.{firstOf, joined}
 use Rattle.negotiation.specs.Records.{Record, encode}
 use Rattle.negotiation.specs.Machine.{State, Progress, netRecords, treeFrom, hasSinks, due, afterNets, iterate, firstState, stateAfter, iterationAfter, recordsAfter}
 use Rattle.negotiation.specs.Outcome.{RouteReply, unreachableNet, unreachablePlace, begun, iterationsLeft, madeFrom, allRecords, loggedRecords, cutIteration, logWith, continued, negotiated, routeReply}
 use Rattle.negotiation.specs.Demand.{latest}
-use Rattle.negotiation.proofs.JobLaws.{faulty-none, nets-some, all-sinks}
+use Rattle.job.proofs.JobLaws.{faulty-none}
+use Rattle.negotiation.proofs.RoutableLaws.{nets-some, all-sinks}
 use Rattle.negotiation.proofs.JoinedHolds.{sinks-lead, joined-nets, joined-routable}
 use Rattle.negotiation.proofs.NetLaws.{NetTurn, net-turn, grown-first, state-ready}
 use Rattle.negotiation.proofs.FilterLaws.{All, all-append, all-map, all-splits}
@@ -42,7 +43,7 @@ use Rattle.negotiation.proofs.DemandLaws.{all-reached}
 use Rattle.negotiation.proofs.EndLaws.{left-first, made-least, all-made}
 use Rattle.negotiation.proofs.RefusalLaws.{route-unreachable, route-run}
 use Rattle.text.specs.Routes.{netWritable}
-use Rattle.negotiation.proofs.JoinLaws.{first-below}
+use Rattle.job.proofs.FirstNetLaws.{first-below}
 
 -- ---- the records of a run
 

@@ -20,9 +20,9 @@ use Rattle.price.proofs.ListLaws.{every-at, has-append, part-slice}
 use Rattle.price.proofs.BelowLaws.{count-most}
 use Rattle.negotiation.specs.Records.{decode, pathNodes}
 use Rattle.negotiation.specs.Demand.{treeRead}
-use Rattle.negotiation.specs.Steps.{AllBelow}
-use Rattle.negotiation.specs.Tables.{netsMost}
-use Rattle.negotiation.proofs.MarkLaws.{stored-none, stored-one, stored-append}
+use Rattle.job.specs.Steps.{AllBelow}
+use Rattle.job.specs.Tables.{netsMost}
+use Rattle.job.proofs.MarkLaws.{stored-none, stored-one, stored-append}
 use Rattle.text.specs.Routes.{pathIn, passing}
 use Rattle.text.specs.WriteSteps.{AllSound, part, ownRecords, Latest}
 use Rattle.text.specs.Users.{netsWith}

@@ -12,7 +12,7 @@ use borrow.Author.Tests.{lt-ltb, le-ltb, ltb-true}
 use Rattle.price.specs.Bounds.{nodesMost}
 use Rattle.price.specs.Lists.{upTo}
 use Rattle.price.proofs.TestLaws.{le-or-lt}
-use Rattle.negotiation.specs.Tables.{netsMost}
+use Rattle.job.specs.Tables.{netsMost}
 use Rattle.negotiation.specs.Records.{decode}
 use Rattle.text.specs.Routes.{logSound}
 use Rattle.text.specs.Users.{sound, unsound, logChecked, checkedAt, belowNodes, netsWith, usersReply, usersReplyOf}

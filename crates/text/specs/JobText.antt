@@ -13,9 +13,9 @@ use Rattle.price.specs.Tuning.{tuningSound}
 use Rattle.price.specs.declared.Tuning.{Tuning}
 use Rattle.search.specs.Tables.{edgesMost}
 use Rattle.search.specs.Replies.{sinksMost}
-use Rattle.negotiation.specs.Tables.{netsMost, ruleSound, sourceKind, sinkKind}
-use Rattle.negotiation.specs.Job.{Job, jobOf, plainTerms}
-use Rattle.negotiation.specs.declared.Terms.{Terms}
+use Rattle.job.specs.Tables.{netsMost, ruleSound, sourceKind, sinkKind}
+use Rattle.job.specs.Job.{Job, jobOf, plainTerms}
+use Rattle.job.specs.declared.Terms.{Terms}
 use Rattle.text.specs.Lines.{letterF, letterP, letterV, letterN, letterE, letterS, letterT, begins, Fields, taken, malformed, line}
 
 -- ---- a line

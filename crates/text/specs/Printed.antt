@@ -9,9 +9,9 @@ use Rattle.price.specs.Test.{choose}
 use Rattle.price.specs.Tuning.{plain}
 use Rattle.price.specs.declared.Tuning.{Tuning}
 use Rattle.search.specs.Block.{row}
-use Rattle.negotiation.specs.Job.{Job, nodes, nets, source, netSinks}
-use Rattle.negotiation.specs.Tables.{SoundJob}
-use Rattle.negotiation.specs.declared.Terms.{Terms}
+use Rattle.job.specs.Job.{Job, nodes, nets, source, netSinks}
+use Rattle.job.specs.Tables.{SoundJob}
+use Rattle.job.specs.declared.Terms.{Terms}
 use Rattle.text.specs.Lines.{letterF, letterP, letterV, letterN, letterE, letterS, letterT, printLine}
 use Rattle.text.specs.JobText.{part, readText}
 

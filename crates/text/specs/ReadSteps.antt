@@ -7,9 +7,9 @@ use lib.ListN.{length, take, drop}
 use Rattle.price.specs.Bounds.{nodesMost}
 use Rattle.search.specs.Tables.{edgesMost}
 use Rattle.search.specs.Replies.{sinksMost}
-use Rattle.negotiation.specs.Tables.{netsMost}
-use Rattle.negotiation.specs.Job.{Job, jobOf}
-use Rattle.negotiation.specs.declared.Terms.{Terms}
+use Rattle.job.specs.Tables.{netsMost}
+use Rattle.job.specs.Job.{Job, jobOf}
+use Rattle.job.specs.declared.Terms.{Terms}
 use Rattle.text.specs.JobText.{Part, part, stopped, Counts, NodeLists, nodeLists, nodeLines}
 use Rattle.text.specs.JobText.{edgeLists, edgeLines, NetLists, netLists, netLines}
 use Rattle.text.specs.ReadReplies.{Tables, tablesOf}

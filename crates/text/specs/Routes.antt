@@ -9,8 +9,8 @@ use lib.ListN.{length, getD, take, drop}
 use Rattle.price.specs.Test.{choose, both}
 use Rattle.price.specs.Bounds.{nodesMost, limitMost}
 use Rattle.price.specs.Lists.{every}
-use Rattle.negotiation.specs.Tables.{sourcesSound}
-use Rattle.negotiation.specs.Join.{firstOf, leads}
+use Rattle.job.specs.Tables.{sourcesSound}
+use Rattle.job.specs.Join.{firstOf, leads}
 use Rattle.negotiation.specs.Records.{Record, decode}
 use Rattle.negotiation.specs.Demand.{latest}
 use Rattle.text.specs.Lines.{letterR, letterB, letterJ, printLine}

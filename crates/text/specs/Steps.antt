@@ -9,7 +9,7 @@ use lib.ListN.{length, getD, take, drop, set}
 use Rattle.price.specs.Test.{choose}
 use Rattle.price.specs.Lists.{has}
 use Rattle.search.specs.Replies.{sinksMost}
-use Rattle.negotiation.specs.declared.Terms.{Terms}
+use Rattle.job.specs.declared.Terms.{Terms}
 use Rattle.text.specs.Lines.{Field, number, fault, Fields, taken, malformed, field, comma, begins, line}
 use Rattle.text.specs.JobText.{Reading, values, refused, Part, part, stopped, NodeLists, nodeLists, EdgeLists}
 use Rattle.text.specs.JobText.{NetLists, netLists, lastOf, sinksNow, firstPlaces}

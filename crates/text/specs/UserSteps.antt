@@ -8,8 +8,8 @@ use lib.Dec.{eqb}
 use lib.ListN.{length, getD}
 use Rattle.price.specs.Test.{choose, both}
 use Rattle.price.specs.Lists.{has}
-use Rattle.negotiation.specs.Steps.{Stored}
-use Rattle.negotiation.specs.Tables.{netsMost}
+use Rattle.job.specs.Steps.{Stored}
+use Rattle.job.specs.Tables.{netsMost}
 
 -- the nodes of the list that don't bear the stamp count one user more each, and all of them bear it afterwards
 pub record Counted (stamp : ℕ) (xs users stamps usersNow stampsNow : List ℕ) : Type 0 where

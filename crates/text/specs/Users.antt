@@ -7,7 +7,7 @@ use lib.ListN.{length}
 use Rattle.price.specs.Test.{choose}
 use Rattle.price.specs.Bounds.{nodesMost}
 use Rattle.price.specs.Lists.{has, upTo, countBelow}
-use Rattle.negotiation.specs.Tables.{netsMost}
+use Rattle.job.specs.Tables.{netsMost}
 use Rattle.negotiation.specs.Records.{Record, decode}
 use Rattle.negotiation.specs.Demand.{treeRead}
 use Rattle.text.specs.Routes.{Named, logSound, soundWords, lastIteration}

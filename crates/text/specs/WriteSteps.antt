@@ -7,7 +7,7 @@ use Prim.Native.Nat.{ℕ, _+_, _-_, _^_, _≤_, _<_}
 use lib.Dec.{eqb}
 use lib.ListN.{length, getD, take, drop}
 use Rattle.price.specs.Bounds.{nodesMost}
-use Rattle.negotiation.specs.Tables.{netsMost}
+use Rattle.job.specs.Tables.{netsMost}
 use Rattle.negotiation.specs.Records.{Record, decode}
 use Rattle.text.specs.Lines.{letterR, printLine}
 use Rattle.text.specs.Routes.{Named, soundWords, lastIteration, passing, finalRecords, routeJoins, joinText, capped}

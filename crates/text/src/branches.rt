@@ -4,7 +4,7 @@ ghost use mathlib.Core.Path.{_≡_};
 ghost use Prim.Native.Nat.{_+_, _≤_};
 ghost use lib.ListN.{length};
 ghost use Rattle.negotiation.specs.Records.{decode};
-ghost use Rattle.negotiation.specs.Tables.{netsMost};
+ghost use Rattle.job.specs.Tables.{netsMost};
 ghost use Rattle.text.specs.Routes.{branchOf, steps, recordBranches, routeBranches, capped};
 ghost use Rattle.text.specs.Dot.{styleLine, styleText};
 ghost use Rattle.text.specs.WriteSteps.{Filled, AllSound, part, ownRecords, LatestPlaces};

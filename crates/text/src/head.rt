@@ -9,7 +9,7 @@ use crate::fields;
 use crate::fields::LineFields;
 use crate::optional;
 use crate::optional::TermsRead;
-use negotiation::Terms;
+use job::Terms;
 
 // The place and number of the line after those that were read, or the refusal's number and its line.
 pub enum Lines {

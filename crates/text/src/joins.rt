@@ -2,7 +2,7 @@
 ghost use mathlib.Core.Path.{_≡_};
 ghost use Prim.Native.Nat.{ℕ, _+_, _*_, _≤_};
 ghost use lib.ListN.{length};
-ghost use Rattle.negotiation.specs.Tables.{netsMost};
+ghost use Rattle.job.specs.Tables.{netsMost};
 ghost use Rattle.text.specs.Routes.{netWritable, joinText, routeJoins};
 ghost use Rattle.text.specs.WriteSteps.{Put, netMarked};
 use crate::decimal;
@@ -15,7 +15,7 @@ pub fn first_marks(source: &[u16]) -> [u8; 512]
     let mut marks = [0u8; 512];
     let mut net = 0;
     while net < source.len() {
-        if negotiation::first_of(source, net) == net {
+        if job::first_of(source, net) == net {
             marks[net] = 1;
         }
         net += 1;
@@ -31,7 +31,7 @@ pub fn joins_length(source: &[u16]) -> u64
     let mut bytes = 0;
     let mut net = 0;
     while net < source.len() {
-        let first = negotiation::first_of(source, net);
+        let first = job::first_of(source, net);
         if first != net {
             bytes += decimal::two_length(net as u64, first as u64) as u64;
         }
@@ -48,7 +48,7 @@ pub fn put_joins(source: &[u16], buffer: &mut [u8], start: usize) -> usize
     let mut at = start;
     let mut net = 0;
     while net < source.len() {
-        let first = negotiation::first_of(source, net);
+        let first = job::first_of(source, net);
         if first != net {
             at = decimal::put_two(buffer, at, b'J', net as u64, first as u64);
         }

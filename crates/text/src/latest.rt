@@ -5,7 +5,7 @@ ghost use Prim.Native.Nat.{ℕ, _<_};
 ghost use lib.Dec.{eqb};
 ghost use lib.ListN.{length, getD};
 ghost use Rattle.price.specs.Test.{either};
-ghost use Rattle.negotiation.specs.Tables.{netsMost};
+ghost use Rattle.job.specs.Tables.{netsMost};
 ghost use Rattle.text.specs.WriteSteps.{AllSound, LatestPlaces};
 
 // The net of the record at this place, whose records so far stand between two places, begins anew: it has none, or of another iteration.

@@ -7,7 +7,7 @@ ghost use Rattle.text.specs.Routes.{textReply, writeReply, writeReplyOf}
 ghost use Rattle.text.specs.Dot.{textIn, dotReply, styleReply};
 ghost use Rattle.text.specs.WriteSteps.{Found, LatestPlaces};
 ghost use Rattle.negotiation.specs.Records.{decode};
-ghost use Rattle.negotiation.specs.Tables.{netsMost};
+ghost use Rattle.job.specs.Tables.{netsMost};
 ghost use lib.ListN.{length};
 
 // What the reader answers.
@@ -69,8 +69,8 @@ mod tuning;
 mod users;
 
 pub use fields::byte_is;
+use job::Terms;
 pub use log_check::LogCheck;
-use negotiation::Terms;
 pub use printing::print_line;
 use reader::JobLines;
 pub use users::node_users;
@@ -322,7 +322,7 @@ pub fn write_style(style: Style, source: &[u16], log: &[u32], buffer: &mut [u8])
     ensures answers { λ r. ⌜ writeReplyOf r (now (buffer .exit))
         ≡ styleReply style (now (source .entry)) (now (log .entry)) (now (buffer .entry)) ⌝ }
 {
-    if !negotiation::sources_sound(bounds::NODES_MOST as usize, source) {
+    if !job::sources_sound(bounds::NODES_MOST as usize, source) {
         return WriteAnswer::BadTable(5);
     }
     let marks = joins::first_marks(source);

@@ -5,7 +5,7 @@ ghost use Prim.Native.Nat.{ℕ, _+_, _-_, _≤_, _<_};
 ghost use lib.Dec.{ltb, eqb};
 ghost use lib.ListN.{length, drop};
 ghost use Rattle.price.specs.Test.{both, either};
-ghost use Rattle.negotiation.specs.Tables.{sourceKind, sinkKind};
+ghost use Rattle.job.specs.Tables.{sourceKind, sinkKind};
 ghost use Rattle.text.specs.JobText.{sourceLine, sinkLine, ofKind, netLists, netLine, netLines};
 ghost use Rattle.text.specs.Steps.{pinAt, PinPlace, Marked, netsAt, NetKept, SourceAdded, SinkAdded};
 ghost use Rattle.text.specs.Steps.{netLineAt, KeptAfter, netsReadAt, NetsEnd};
@@ -65,7 +65,7 @@ fn source_line(text: &[u8], at: usize, kind: &[u8], nodes: usize, nets: usize, i
     if first as usize != i {
         return PinLine::Refused(3);
     }
-    if !negotiation::source_kind(kind[second as usize]) {
+    if !job::source_kind(kind[second as usize]) {
         return PinLine::Refused(3);
     }
     PinLine::Pin {
@@ -117,7 +117,7 @@ fn sink_line(
     if bounds::SINKS_MOST <= count {
         return PinLine::Refused(3);
     }
-    if !negotiation::sink_kind(kind[second as usize]) {
+    if !job::sink_kind(kind[second as usize]) {
         return PinLine::Refused(3);
     }
     PinLine::Pin {

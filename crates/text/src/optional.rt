@@ -9,7 +9,7 @@ use crate::fields;
 use crate::fields::LineFields;
 use crate::rule;
 use crate::tuning;
-use negotiation::Terms;
+use job::Terms;
 
 // The terms with the place and number of the line after those that were read, or the refusal's number and its line.
 pub enum TermsRead {
@@ -124,7 +124,7 @@ pub fn read_terms(text: &[u8], at: usize, line: usize, limit: u32) -> TermsRead
     ensures { λ r. ⌜ termsAt (now (text .entry)) r ≡ termsPart limit line (drop at (now (text .entry))) ⌝ }
     ensures { λ r. ⌜ TermsPlace (now (text .entry)) r ⌝ }
 {
-    match tuning::read_tuning(text, at, line, negotiation::plain_terms(limit)) {
+    match tuning::read_tuning(text, at, line, job::plain_terms(limit)) {
         TermsRead::Read {
             terms,
             at: place,

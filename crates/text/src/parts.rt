@@ -2,7 +2,7 @@
 ghost use mathlib.Core.Path.{_≡_};
 ghost use Prim.Native.Nat.{_+_, _*_, _≤_};
 ghost use lib.ListN.{length};
-ghost use Rattle.negotiation.specs.Tables.{netsMost};
+ghost use Rattle.job.specs.Tables.{netsMost};
 ghost use Rattle.text.specs.Routes.{branchOf};
 ghost use Rattle.text.specs.Dot.{styleLine};
 ghost use Rattle.text.specs.WriteSteps.{Put, headText, tailText};

@@ -13,7 +13,7 @@ use crate::head::Lines;
 use crate::nets;
 use crate::nets::NetsRead;
 use crate::nodes;
-use negotiation::Terms;
+use job::Terms;
 
 // The counts of a job that was read and the number of the line after its last, or the refusal's number and its line.
 pub enum JobLines {

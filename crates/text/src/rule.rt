@@ -6,7 +6,7 @@ ghost use Rattle.text.specs.JobText.{rulePart};
 ghost use Rattle.text.specs.Steps.{termsAt, TermsPlace};
 use crate::optional;
 use crate::optional::TermsRead;
-use negotiation::Terms;
+use job::Terms;
 
 // The terms with the rule of the V line where there is one, else as they are.
 pub fn read_rule(text: &[u8], at: usize, line: usize, terms: Terms) -> TermsRead
@@ -23,5 +23,5 @@ pub fn read_rule(text: &[u8], at: usize, line: usize, terms: Terms) -> TermsRead
         rule: rule,
     };
     let shape = found.shape;
-    optional::terms_after(shape, negotiation::rule_sound(rule), terms, ruled, at, line)
+    optional::terms_after(shape, job::rule_sound(rule), terms, ruled, at, line)
 }

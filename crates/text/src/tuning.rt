@@ -6,7 +6,7 @@ ghost use Rattle.text.specs.JobText.{tuningPart};
 ghost use Rattle.text.specs.Steps.{termsAt, TermsPlace};
 use crate::optional;
 use crate::optional::TermsRead;
-use negotiation::Terms;
+use job::Terms;
 use price::Tuning;
 
 // The terms with the tuning of the P line where there is one, else as they are.

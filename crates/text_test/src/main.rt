@@ -3,7 +3,7 @@
 use cases::lines;
 use cases::read;
 use cases::show;
-use negotiation::Terms;
+use job::Terms;
 use price::Tuning;
 use text::ReadAnswer;
 use text::WriteAnswer;

@@ -14,7 +14,7 @@ use Rattle.price.specs.Bounds.{nodesMost}
 use Rattle.price.specs.Lists.{upTo}
 use Rattle.price.proofs.ListLaws.{getD-upTo, length-upTo}
 use Rattle.search.specs.Block.{Block, blockOf}
-use Rattle.negotiation.specs.Tables.{netsMost}
+use Rattle.job.specs.Tables.{netsMost}
 use Rattle.negotiation.specs.Records.{Record, decode}
 use Rattle.text.specs.Routes.{logSound}
 use Rattle.text.specs.Users.{logChecked, checkedAt, belowNodes, netsWith, UsersReply, usersReply, usersReplyOf}

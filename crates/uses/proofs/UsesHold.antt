@@ -20,7 +20,7 @@ use Rattle.price.proofs.BelowLaws.{firstBelow-le, firstBelow-below, firstBelow-
 use Rattle.search.specs.Block.{Block, nodes}
 use Rattle.search.specs.Tables.{faultyTable}
 use Rattle.search.proofs.BlockLaws.{sound-of, kind-most}
-use Rattle.negotiation.specs.Tables.{netsMost}
+use Rattle.job.specs.Tables.{netsMost}
 use Rattle.negotiation.specs.Records.{Record, decode}
 use Rattle.negotiation.specs.Demand.{treeRead}
 use Rattle.text.specs.Routes.{logSound, soundWords}

@@ -8,7 +8,7 @@ use lib.ListN.{getD, replicate}
 use Rattle.price.specs.Lists.{has, countBelow}
 use Rattle.search.specs.Block.{Block, nodes}
 use Rattle.search.specs.Tables.{faultyTable}
-use Rattle.negotiation.specs.Tables.{netsMost}
+use Rattle.job.specs.Tables.{netsMost}
 use Rattle.negotiation.specs.Records.{Record, decode}
 use Rattle.negotiation.specs.Demand.{treeRead}
 use Rattle.uses.specs.Uses.{kindCount, sumBelow, usesIn, Counts, countsOf, countsRefusal, addReply}

@@ -8,8 +8,8 @@ use lib.Dec.{eqb, ltb}
 use lib.ListN.{length, getD}
 use Rattle.price.specs.Test.{choose, both}
 use Rattle.price.specs.Lists.{has, upTo}
-use Rattle.negotiation.specs.Steps.{Stored}
-use Rattle.negotiation.specs.Tables.{netsMost}
+use Rattle.job.specs.Steps.{Stored}
+use Rattle.job.specs.Tables.{netsMost}
 use Rattle.negotiation.specs.Records.{Record}
 use Rattle.text.specs.Lines.{printLine}
 use Rattle.text.specs.Users.{netsWith}

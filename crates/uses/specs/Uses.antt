@@ -10,7 +10,7 @@ use Rattle.price.specs.Bounds.{kindMost}
 use Rattle.price.specs.Lists.{upTo, firstBelow}
 use Rattle.search.specs.Block.{Block, nodes}
 use Rattle.search.specs.Tables.{faultyTable}
-use Rattle.negotiation.specs.Tables.{netsMost}
+use Rattle.job.specs.Tables.{netsMost}
 use Rattle.negotiation.specs.Records.{Record, decode}
 use Rattle.text.specs.Lines.{printLine}
 use Rattle.text.specs.Printed.{joined}

@@ -47,7 +47,7 @@ pub fn test_counts(
       let block = blockOf (now (kind .entry)) (now (capacity .entry)) (now («first_edge» .entry)) (now («edge_target» .entry))
       ⌜ testRefusal r ≡ countsRefusal block (countsOf (now (uses .entry)) logs) ⌝ }
 {
-    let table = negotiation::faulty_block(kind, capacity, first_edge, edge_target);
+    let table = job::faulty_block(kind, capacity, first_edge, edge_target);
     if 1 <= table {
         return CountsTest::BadTable(table);
     }

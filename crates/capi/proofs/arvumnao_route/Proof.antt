@@ -1,7 +1,7 @@
 -- `capi::arvumnao_route` meets its contract: a short `out` is left, else the router's answer is written.
 -- Assumes nothing.
 use borrow.Author.Needs.{needs}
-use Rattle.negotiation.specs.Job.{jobOf}
+use Rattle.job.specs.Job.{jobOf}
 use Rattle.capi.specs.Calls.{termsOf}
 use Rattle.capi.proofs.CallLaws.{route-short, route-called}
 use Rattle.capi.proofs.arvumnao_route.Statement.{statement}

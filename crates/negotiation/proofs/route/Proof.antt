@@ -7,11 +7,11 @@ use native.Mathlib.Omega.{arith}
 use lib.ListN.{length, take}
 use lib.Seq.{length-take-le}
 use Rattle.search.proofs.BlockLaws.{kinds-few}
-use Rattle.negotiation.specs.Job.{Job, jobOf}
-use Rattle.negotiation.specs.Join.{joined}
+use Rattle.job.specs.Job.{Job, jobOf}
+use Rattle.job.specs.Join.{joined}
 use Rattle.negotiation.specs.JoinSteps.{JoinedTables}
 use Rattle.negotiation.specs.Routable.{Routable}
-use Rattle.negotiation.specs.Tables.{SoundJob}
+use Rattle.job.specs.Tables.{SoundJob}
 use Rattle.negotiation.proofs.JoinedHolds.{joinable-of, joined-routable}
 use Rattle.negotiation.proofs.JoiningLaws.{joined-job}
 use Rattle.negotiation.proofs.RouteLaws.{table-refused, tables-sound, work-refused, joined-answered}

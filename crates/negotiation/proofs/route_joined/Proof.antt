@@ -5,7 +5,7 @@ use mathlib.Core.Path.{sym}
 use native.Mathlib.Nat.{le-of-eq, le-trans}
 use native.Mathlib.Omega.{arith}
 use Rattle.search.proofs.BlockLaws.{kinds-few}
-use Rattle.negotiation.specs.Job.{Job, jobOf}
+use Rattle.job.specs.Job.{Job, jobOf}
 use Rattle.negotiation.proofs.RouteLaws.{unreachable-refused, none-missing, run-answered}
 use borrow.Author.Needs.{needs}
 use Rattle.negotiation.proofs.route_joined.Statement.{statement}

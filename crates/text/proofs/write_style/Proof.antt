@@ -6,8 +6,8 @@ use native.Mathlib.Omega.{arith}
 use borrow.Author.Needs.{needs}
 use borrow.Author.Tests.{not-true, not-false}
 use Rattle.price.specs.Bounds.{nodesMost}
-use Rattle.negotiation.specs.Tables.{sourcesSound}
-use Rattle.negotiation.proofs.JobLaws.{sources-few}
+use Rattle.job.specs.Tables.{sourcesSound}
+use Rattle.job.proofs.JobLaws.{sources-few}
 use Rattle.text.specs.Users.{checkedAt}
 use Rattle.text.specs.WriteSteps.{namedBy}
 use Rattle.text.proofs.LogLaws.{found}

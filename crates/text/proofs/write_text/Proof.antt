@@ -2,7 +2,7 @@
 -- Assumes nothing.
 use mathlib.Core.Path.{refl}
 use borrow.Author.Needs.{needs}
-use Rattle.negotiation.proofs.SinkMarkLaws.{unmarked-new}
+use Rattle.job.proofs.SinkMarkLaws.{unmarked-new}
 use Rattle.text.proofs.write_text.Statement.{statement}
 use Rattle.text.proofs.write_text.Tie as tie
 

@@ -8,8 +8,8 @@ use lib.ListN.{length, getD, length-replicate}
 use lib.Seq.{length-take-le}
 use borrow.Author.Count.{below-none}
 use Rattle.search.proofs.BlockLaws.{kinds-few}
-use Rattle.negotiation.specs.Job.{Job, jobOf, nodes}
-use Rattle.negotiation.specs.declared.Terms.{Terms}
+use Rattle.job.specs.Job.{Job, jobOf, nodes}
+use Rattle.job.specs.declared.Terms.{Terms}
 use Rattle.negotiation.specs.Routable.{Routable}
 use Rattle.negotiation.proofs.FloodLaws.{same-from-refl}
 use Rattle.negotiation.proofs.TestedLaws.{Tested, tested-all, flood-asked, marks-fit, tested-same, sinks-asked, tested-found, tested-more}

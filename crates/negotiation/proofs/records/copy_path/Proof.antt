@@ -7,7 +7,7 @@ use native.Mathlib.Numerals.{add-one}
 use native.Mathlib.Omega.{arith}
 use lib.ListN.{length, getD, take, drop, length-set}
 use lib.Seq.{length-take-le, getD-take, paste, paste-zero, paste-suc}
-use Rattle.negotiation.specs.Steps.{AllBelow}
+use Rattle.job.specs.Steps.{AllBelow}
 use Rattle.negotiation.proofs.records.copy_path.Statement.{statement}
 use Rattle.negotiation.proofs.records.copy_path.Tie as tie
 

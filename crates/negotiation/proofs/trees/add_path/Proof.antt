@@ -7,7 +7,8 @@ use lib.ListN.{length, getD}
 use lib.Seq.{slice, slice-empty}
 use denote.Ref.{now}
 use Rattle.negotiation.specs.Steps.{Added}
-use Rattle.negotiation.proofs.MarkLaws.{Between, between-none, between-more, between-all, node-below, can-add-rest, passed-more, added-none, added-one, added-kept, added-append}
+use Rattle.job.proofs.MarkLaws.{Between, between-none, between-more, between-all, node-below, passed-more}
+use Rattle.negotiation.proofs.LeavingLaws.{can-add-rest, added-none, added-one, added-kept, added-append}
 use Rattle.negotiation.proofs.trees.add_path.Statement.{statement}
 use Rattle.negotiation.proofs.trees.add_path.Tie as tie
 

@@ -7,7 +7,7 @@ use native.Mathlib.Omega.{arith}
 use lib.ListN.{length, getD}
 use denote.Ref.{now}
 use Rattle.negotiation.specs.Steps.{Added}
-use Rattle.negotiation.proofs.MarkLaws.{added-none, added-append, can-add-rest}
+use Rattle.negotiation.proofs.LeavingLaws.{added-none, added-append, can-add-rest}
 use Rattle.negotiation.proofs.RegionLaws.{Walking, walking-none, walking-more, walking-all, record-fits, record-nodes}
 use Rattle.negotiation.proofs.trees.add_records.Statement.{statement}
 use Rattle.negotiation.proofs.trees.add_records.Tie as tie

@@ -7,7 +7,8 @@ use lib.ListN.{length, getD}
 use lib.Seq.{slice, slice-empty}
 use denote.Ref.{now}
 use Rattle.negotiation.specs.Steps.{Dropped}
-use Rattle.negotiation.proofs.MarkLaws.{Between, between-none, between-more, between-all, node-below, node-can-drop, passed-more, dropped-none, dropped-one, dropped-kept, dropped-append}
+use Rattle.job.proofs.MarkLaws.{Between, between-none, between-more, between-all, node-below, passed-more}
+use Rattle.negotiation.proofs.LeavingLaws.{node-can-drop, dropped-none, dropped-one, dropped-kept, dropped-append}
 use Rattle.negotiation.proofs.trees.drop_path.Statement.{statement}
 use Rattle.negotiation.proofs.trees.drop_path.Tie as tie
 

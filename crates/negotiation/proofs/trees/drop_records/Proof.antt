@@ -7,7 +7,7 @@ use native.Mathlib.Omega.{arith}
 use lib.ListN.{length, getD}
 use denote.Ref.{now}
 use Rattle.negotiation.specs.Steps.{Dropped}
-use Rattle.negotiation.proofs.MarkLaws.{dropped-none, dropped-append}
+use Rattle.negotiation.proofs.LeavingLaws.{dropped-none, dropped-append}
 use Rattle.negotiation.proofs.RegionLaws.{Walking, walking-none, walking-more, walking-all, walking-can, record-fits, record-nodes}
 use Rattle.negotiation.proofs.trees.drop_records.Statement.{statement}
 use Rattle.negotiation.proofs.trees.drop_records.Tie as tie

@@ -4,8 +4,8 @@ use Prim.Native.Nat.{_+_, _-_, _≤_}
 use native.Mathlib.Omega.{arith}
 use lib.ListN.{length, getD}
 use denote.Ref.{now}
-use Rattle.negotiation.specs.Steps.{Stored}
-use Rattle.negotiation.proofs.MarkLaws.{stored-none, stored-append}
+use Rattle.job.specs.Steps.{Stored}
+use Rattle.job.proofs.MarkLaws.{stored-none, stored-append}
 use Rattle.negotiation.proofs.RegionLaws.{Walking, walking-none, walking-more, walking-all, record-fits, record-nodes}
 use Rattle.negotiation.proofs.trees.unmark_records.Statement.{statement}
 use Rattle.negotiation.proofs.trees.unmark_records.Tie as tie

@@ -12,11 +12,11 @@ use lib.Dec.{ltb}
 use lib.ListN.{length, getD, take, drop}
 use Rattle.price.specs.Lists.{countBelow}
 use Rattle.search.proofs.BlockLaws.{kinds-few, capacities-long}
-use Rattle.negotiation.specs.Job.{Job, jobOf, nodes, netSinks}
+use Rattle.job.specs.Job.{Job, jobOf, nodes, netSinks}
 use Rattle.negotiation.specs.Routable.{Routable}
 use Rattle.negotiation.specs.Machine.{Progress}
 use Rattle.negotiation.specs.Kept.{Ready}
-use Rattle.negotiation.proofs.JobLaws.{tuning-fits}
+use Rattle.negotiation.proofs.RoutableLaws.{tuning-fits}
 use Rattle.negotiation.proofs.MachineRan.{Reached}
 use Rattle.negotiation.proofs.DemandLaws.{all-reached}
 use Rattle.negotiation.proofs.KeepLaws.{AtIteration, AtNet, AtTurns}

@@ -7,7 +7,7 @@ use lib.ListN.{length, take, replicate}
 use lib.Seq.{length-take-le}
 use borrow.Author.Needs.{needs}
 use Rattle.search.proofs.BlockLaws.{kinds-few}
-use Rattle.negotiation.specs.Job.{Job, jobOf, nodes, nets}
+use Rattle.job.specs.Job.{Job, jobOf, nodes, nets}
 use Rattle.negotiation.specs.Records.{encode}
 use Rattle.negotiation.specs.Outcome.{begun}
 use Rattle.negotiation.specs.Kept.{Ready}

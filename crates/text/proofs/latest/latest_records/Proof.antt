@@ -6,7 +6,7 @@ use Prim.Native.Nat.{_-_, _+_, _≤_, _<_}
 use native.Mathlib.Omega.{arith}
 use lib.ListN.{length, getD}
 use borrow.Author.Needs.{needs}
-use Rattle.negotiation.specs.Tables.{netsMost}
+use Rattle.job.specs.Tables.{netsMost}
 use Rattle.text.proofs.LogLaws.{nextAt}
 use Rattle.text.proofs.BranchLaws.{rest-fits}
 use Rattle.text.proofs.LatestLaws.{Finding, finding-none, finding-net, finding-from, finding-anew, finding-same, finding-all}

@@ -7,7 +7,7 @@ use native.Mathlib.Omega.{arith}
 use lib.ListN.{drop}
 use borrow.Author.Needs.{needs}
 use Rattle.search.specs.Replies.{sinksMost}
-use Rattle.negotiation.specs.Tables.{sinkKind}
+use Rattle.job.specs.Tables.{sinkKind}
 use Rattle.text.specs.JobText.{Reading, sinkLine, ofKind}
 use Rattle.text.proofs.NetLineLaws.{bearing, bearing-marked, sink-few, pin-reading, pin-refused, pin-place}
 use Rattle.text.proofs.nets.add_sink.Statement.{statement}

@@ -6,7 +6,7 @@ use Prim.Native.Nat.{ℕ}
 use native.Mathlib.Omega.{arith}
 use lib.ListN.{drop}
 use borrow.Author.Needs.{needs}
-use Rattle.negotiation.specs.Tables.{sourceKind}
+use Rattle.job.specs.Tables.{sourceKind}
 use Rattle.text.specs.JobText.{Reading, sourceLine, ofKind}
 use Rattle.text.proofs.NetLineLaws.{pin-reading, pin-refused, pin-place}
 use Rattle.text.proofs.nets.add_source.Statement.{statement}

@@ -3,7 +3,7 @@
 use Prim.Native.Nat.{_+_}
 use borrow.Author.Needs.{needs}
 use Rattle.search.proofs.KeptLaws.{refused, passed}
-use Rattle.negotiation.specs.Tables.{sinkKind}
+use Rattle.job.specs.Tables.{sinkKind}
 use Rattle.text.proofs.JudgedLaws.{line-place}
 use Rattle.text.proofs.NetLineLaws.{sink-fault, sink-net, sink-node, sink-order, sink-seen, sink-many, sink-pin, of-refused, of-none, of-one}
 use Rattle.text.proofs.nets.sink_line.Statement.{statement}

@@ -3,7 +3,7 @@
 use Prim.Native.Nat.{_+_}
 use borrow.Author.Needs.{needs}
 use Rattle.search.proofs.KeptLaws.{refused, passed}
-use Rattle.negotiation.specs.Tables.{sourceKind}
+use Rattle.job.specs.Tables.{sourceKind}
 use Rattle.text.proofs.JudgedLaws.{line-place}
 use Rattle.text.proofs.NetLineLaws.{source-fault, source-net, source-node, source-order, source-pin, of-refused, of-none, of-one}
 use Rattle.text.proofs.nets.source_line.Statement.{statement}

@@ -5,7 +5,7 @@ use Prim.Native.Nat.{_-_}
 use native.Mathlib.Omega.{arith}
 use lib.ListN.{getD}
 use borrow.Author.Needs.{needs}
-use Rattle.negotiation.specs.Tables.{netsMost}
+use Rattle.job.specs.Tables.{netsMost}
 use Rattle.text.specs.WriteSteps.{Latest}
 use Rattle.text.proofs.UserLaws.{CountingNets, nets-none, nets-few, nets-more, nets-all}
 use Rattle.text.proofs.users.count_nets.Statement.{statement}

@@ -6,7 +6,7 @@ use native.Mathlib.Omega.{arith}
 use lib.ListN.{length, getD}
 use lib.Seq.{slice, slice-empty}
 use denote.Ref.{now}
-use Rattle.negotiation.proofs.MarkLaws.{Between, between-none, between-more, between-all, node-below, passed-more}
+use Rattle.job.proofs.MarkLaws.{Between, between-none, between-more, between-all, node-below, passed-more}
 use Rattle.text.specs.UserSteps.{Counted}
 use Rattle.text.proofs.UserLaws.{counted-none, counted-one, counted-kept, counted-append, few-counted, few-one}
 use Rattle.text.proofs.users.count_path.Statement.{statement}

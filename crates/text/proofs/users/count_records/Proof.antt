@@ -6,7 +6,7 @@ use native.Mathlib.Omega.{arith}
 use lib.ListN.{length}
 use lib.Seq.{slice}
 use borrow.Author.Needs.{needs}
-use Rattle.negotiation.specs.Steps.{AllBelow}
+use Rattle.job.specs.Steps.{AllBelow}
 use Rattle.text.proofs.LogLaws.{nextAt}
 use Rattle.text.proofs.BranchLaws.{rest-fits}
 use Rattle.text.proofs.UserLaws.{path-below, CountingRecords, records-none, records-all, records-passed, records-met}

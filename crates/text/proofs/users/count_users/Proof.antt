@@ -2,7 +2,7 @@
 -- Assumes nothing.
 use mathlib.Core.Path.{refl}
 use borrow.Author.Needs.{needs}
-use Rattle.negotiation.proofs.SinkMarkLaws.{unmarked-new}
+use Rattle.job.proofs.SinkMarkLaws.{unmarked-new}
 use Rattle.negotiation.proofs.KeepProgress.{up-to-is}
 use Rattle.text.proofs.users.count_users.Statement.{statement}
 use Rattle.text.proofs.users.count_users.Tie as tie

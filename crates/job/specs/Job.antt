@@ -1,0 +1,55 @@
+-- Document 01, "Tables and bounds": a job is the block with its nets and its terms. Nets are numbered from 0.
+-- Assumes nothing.
+use mathlib.Core.List.{List}
+use Prim.Native.Nat.{ℕ, _+_}
+use lib.ListN.{length, getD}
+use lib.Seq.{slice}
+use Rattle.price.specs.Tuning.{plain}
+use Rattle.search.specs.Block.{Block}
+use Rattle.search.specs.Block as b
+use Rattle.job.specs.declared.Terms.{Terms}
+
+pub record Job : Type 0 where
+  -- tables 1 to 4
+  pub block : Block
+  -- 5. source node
+  pub sources : List ℕ
+  -- 6. first sink place
+  pub firstSinks : List ℕ
+  -- 7. sink node
+  pub sinks : List ℕ
+  -- the limit of iterations, which "counts as table 8", the tuning of request 2.1 and the rule of request 2.7
+  pub terms : Terms
+
+abbrev pub nodes : Job → ℕ
+nodes j = b.nodes (j .block)
+
+-- the net count is table 5's length
+abbrev pub nets : Job → ℕ
+nets j = length (j .sources)
+
+abbrev pub source : Job → ℕ → ℕ
+source j i = getD (j .sources) i 0
+
+-- a net's sinks stand in table 7 from its own first place to the next net's
+abbrev pub sinksBetween : List ℕ → List ℕ → ℕ → List ℕ
+sinksBetween firstSinks sinks i = slice (getD firstSinks i 0) (getD firstSinks (i + 1) 0) sinks
+
+-- a net's sinks, as listed
+unfoldable pub netSinks : Job → ℕ → List ℕ
+netSinks j i = sinksBetween (j .firstSinks) (j .sinks) i
+
+-- the terms of a job that asks for no tuning and no rule
+abbrev pub plainTerms : ℕ → Terms
+plainTerms limit = record { limit = limit; tuning = plain; rule = 1 }
+
+-- the job of seven tables and the terms
+abbrev pub jobOf : List ℕ → List ℕ → List ℕ → List ℕ → List ℕ → List ℕ → List ℕ → Terms → Job
+jobOf kinds capacities firstEdges edgeTargets sources firstSinks sinks terms =
+    record {
+      block = b.blockOf kinds capacities firstEdges edgeTargets;
+      sources = sources;
+      firstSinks = firstSinks;
+      sinks = sinks;
+      terms = terms;
+    }

@@ -1,0 +1,4 @@
+pub mod Job
+pub mod Tables
+pub mod Join
+pub mod Steps

@@ -1,0 +1,33 @@
+// A job as it is given: the tests of its tables, its terms, the kinds of its pins, and the first net of a source.
+
+// The most nodes of a block: the router keeps a mark, a history and a count of users for each.
+pub const NODES_MOST: usize = 4096;
+
+// The most nets, and sinks of all nets.
+pub const NETS_MOST: usize = 512;
+
+pub const SINKS_MOST: usize = 4096;
+
+// What a job asks beside its seven tables: the limit of iterations, the tuning of the tariff, and the rule by which an iteration takes
+// nets: 1, all; 2, from iteration 2 on only crowded ones. A refusal counts it as table 8.
+pub struct Terms {
+    pub limit: u32,
+    pub tuning: Tuning,
+    pub rule: u32,
+}
+
+mod first_net;
+mod job_terms;
+mod pins;
+mod tables;
+
+pub use first_net::first_of;
+pub use job_terms::plain_terms;
+pub use job_terms::rule_sound;
+pub use job_terms::terms_sound;
+pub use pins::sink_kind;
+pub use pins::source_kind;
+use price::Tuning;
+pub use tables::faulty_block;
+pub use tables::faulty_job;
+pub use tables::sources_sound;
