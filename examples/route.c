@@ -1,14 +1,17 @@
 /* Routes a job text from standard input and prints its routes text. A refused job prints X and the refusal's numbers and
- * ends with status 1. It lends what the program `router` lends, and prints the same. See include/arvumnao.h.
+ * ends with status 1. It lends what the program `router` lends, and prints the same. With a limit named, a run that reaches the
+ * job's own goes on from its log under that one. See include/arvumnao.h.
  *
  *     rt staticlib capi
  *     cc -Iinclude examples/route.c target/staticlib/libcapi.a -o target/route
  *     target/route < examples/job_b.txt
+ *     sed 1s/2$/1/ examples/job_b.txt | target/route 2
  */
 #include "arvumnao.h"
 
 #include <inttypes.h>
 #include <stdio.h>
+#include <stdlib.h>
 
 enum { TEXT = 65536, ROUTES = 65536, NODES = 1024, EDGES = 8192, NETS = 512, SINKS = 4096, LOG = 16384 };
 
@@ -31,7 +34,7 @@ static int refused(void)
     return 1;
 }
 
-int main(void)
+int main(int count, char **arguments)
 {
     size_t bytes = fread(text, 1, TEXT + 1, stdin);
     if (ferror(stdin)) {
@@ -54,6 +57,12 @@ int main(void)
     arvumnao_route(kind, nodes, capacity, nodes, first_edge, nodes + 1, edge_target, edges, source, nets,
                    first_sink, nets + 1, sink, sinks, terms, ARVUMNAO_TERMS, work, ARVUMNAO_WORK(nodes),
                    log_words, LOG, out, ARVUMNAO_OUT);
+    if (out[ARVUMNAO_REFUSAL] == ARVUMNAO_LIMIT_REACHED && count > 1) {
+        terms[ARVUMNAO_TERMS_LIMIT] = (uint32_t)strtoul(arguments[1], NULL, 10);
+        arvumnao_resume(kind, nodes, capacity, nodes, first_edge, nodes + 1, edge_target, edges, source, nets,
+                        first_sink, nets + 1, sink, sinks, terms, ARVUMNAO_TERMS, out[ARVUMNAO_ROUTE_WORDS], work,
+                        ARVUMNAO_WORK(nodes), log_words, LOG, out, ARVUMNAO_OUT);
+    }
     if (refused())
         return 1;
     arvumnao_write(source, nets, log_words, (size_t)out[ARVUMNAO_ROUTE_WORDS], routes, ROUTES, out, ARVUMNAO_OUT);

@@ -1,8 +1,8 @@
 /* Arvumnao: a proved router for a programmable logic block. The calls of the static library libcapi.a.
  *
  * docs/FORMAT.md describes the job text, the routes text, the log, the uses text and every refusal; examples/route.c goes from
- * a job text to its routes text, examples/uses.c from many jobs of one block to the use of its wires. Here are first an
- * example, then what holds for all calls, then the calls.
+ * a job text to its routes text, and on from its log under a higher limit, examples/uses.c from many jobs of one block to the use
+ * of its wires. Here are first an example, then what holds for all calls, then the calls.
  *
  * An example, whole: it routes one net over one wire and prints R,1,1 and B,0,0,1 and B,0,1,2, a line each.
  *
@@ -56,7 +56,7 @@
  *   out[ARVUMNAO_REFUSAL_1]   that refusal's first further number, else 0
  *   out[ARVUMNAO_REFUSAL_2]   its second, else 0
  *   the rest                  the call's own numbers, at the places defined with the call, and 0
- * A refused call's own numbers are 0, but for those of arvumnao_route after ARVUMNAO_LOG_FULL and
+ * A refused call's own numbers are 0, but for those of arvumnao_route and arvumnao_resume after ARVUMNAO_LOG_FULL and
  * ARVUMNAO_LIMIT_REACHED. A refused call leaves every other slice as it was, but where its comment says more.
  *
  * TABLES. A job is seven tables, and terms that count as an eighth. Nodes and nets are numbered from 0: a node has
@@ -73,7 +73,8 @@
  *   7 sink         16 bits a sink  at most 4,096 nodes of kind ARVUMNAO_SINK or ARVUMNAO_INPUT_PIN: within a net
  *                                  none twice, none its source
  *   8 the terms    32 bits         limit, 1 to 100 iterations; first, 0 to 1,000; up, from down to 8; down, 1 to 4;
- *                                  step, 1 or 2; rule, 1 or 2; in this order. Entries may be left out at the end, see arvumnao_route
+ *                                  step, 1 or 2; rule, 1 or 2; until, 1 to 99; in this order. Entries may be left out at the
+ *                                  end, see arvumnao_route
  * A table of another length than it must have breaks its rule; where table 3 or 6 doesn't end with the length of table
  * 4 or 7, it is table 3 or 6 that does.
  *
@@ -88,7 +89,7 @@
 
 /* The version of these declarations. The library itself carries none: header and library must be of one build.
  * Until 1.0.0 the second number rises with every change to a call, a place in `out` or a refusal. */
-#define ARVUMNAO_VERSION "0.3.0"
+#define ARVUMNAO_VERSION "0.4.0"
 
 /* The most that a job has. */
 #define ARVUMNAO_NODES_MOST 4096
@@ -106,16 +107,17 @@
 #define ARVUMNAO_KIND_MOST 53
 
 /* `terms`: its entries and their places, and the plain values of four of them. */
-#define ARVUMNAO_TERMS 6
+#define ARVUMNAO_TERMS 7
 #define ARVUMNAO_TERMS_LIMIT 0
 #define ARVUMNAO_TERMS_FIRST 1
 #define ARVUMNAO_TERMS_UP 2
 #define ARVUMNAO_TERMS_DOWN 3
 #define ARVUMNAO_TERMS_STEP 4
 #define ARVUMNAO_TERMS_RULE 5
+#define ARVUMNAO_TERMS_UNTIL 6
 #define ARVUMNAO_PLAIN_TUNING 50, 3, 2, 1
 
-/* The rules: from iteration 2 on every net is routed again, or only the nets whose tree has an overfull node. */
+/* The rules: in each iteration every net is routed again, or after iteration `until` only the nets whose tree has an overfull node. */
 #define ARVUMNAO_RULE_ALL 1
 #define ARVUMNAO_RULE_CROWDED 2
 
@@ -131,8 +133,8 @@
 #define ARVUMNAO_USES_BYTES 4096
 
 /* Bytes of stack, beyond its caller's, that every call makes do with. Measured on x86-64 Linux by tests/header/memory.c, with
- * what memcpy and memset take: 110,151 in arvumnao_read, 48,551 in arvumnao_route, 35,127 in arvumnao_uses_add, 22,615 in
- * arvumnao_uses_write, 9,079 in arvumnao_write and arvumnao_dot, under 500 in the others. */
+ * what memcpy and memset take, and rounded up: 110,500 in arvumnao_read, 53,400 in arvumnao_route and arvumnao_resume, 35,200 in
+ * arvumnao_uses_add, 22,800 in arvumnao_uses_write, 9,200 in arvumnao_write and arvumnao_dot, under 600 in the others. */
 #define ARVUMNAO_STACK 131072
 
 /* `out`: its length, and the places that every call has. */
@@ -157,6 +159,8 @@
 #define ARVUMNAO_SHORT_BUFFER 11 /* bytes that the text needs */
 #define ARVUMNAO_LONG_TEXT 12    /* 65536: by the program alone, of an input with more bytes; no call here gives it */
 #define ARVUMNAO_BAD_NUMBER 13   /* place: a number beyond its bounds; in counts the kind, or 54 for the number of logs */
+#define ARVUMNAO_DIVERGES 14     /* word: where the first record begins that doesn't follow the job; the words used if only the
+                                    log's end is wrong; the log's length if the words used exceed it */
 #define ARVUMNAO_COUNTS_FULL 16  /* 65535: counts are of so many logs already, and may be of no more */
 
 #ifdef __cplusplus
@@ -192,15 +196,16 @@ uint32_t arvumnao_search(const uint8_t *kind, size_t kind_count, const uint8_t *
 
 /* Routes a job. Each table is lent in exactly its length.
  *
- * terms     limit, first, up, down, step, rule. Of a slice that is shorter the plain values stand for the rest: 0 for the
- *           limit, which is refused, then 50, 3, 2, 1 and 1, those of a text without P and V lines. Entries past the rule are
- *           not read. So {100} is a job of 100 iterations and no more said.
+ * terms     limit, first, up, down, step, rule, until. Of a slice that is shorter the plain values stand for the rest: 0 for
+ *           the limit, which is refused, then 50, 3, 2, 1, 1 and 1, those of a text without P and V lines. Entries past these
+ *           seven are not read. So {100} is a job of 100 iterations and no more said.
  *           limit: the most iterations.
  *           first, up, down, step: the tariff. The congestion factor is 0 in iteration 1, `first` in iteration 2, and then
  *           each time factor x up / down, rounded down, at most 65,535; a node's history is 1 at first and grows after each
  *           iteration by step x the nets too many on it.
- *           rule: under 1 every net drops its tree in each iteration and is routed again; under 2, from iteration 2 on, only
- *           the nets whose tree had an overfull node when the iteration began. The other trees stay and count as users.
+ *           rule, until: under rule 1 every net drops its tree in each iteration and is routed again; under rule 2 that is so up
+ *           to iteration `until`, and after it only the nets whose tree had an overfull node when the iteration began are. The
+ *           other trees stay and count as users. `until` is the k of a line V,2,k; under rule 1 it is of no account.
  * work      needs ARVUMNAO_WORK(nodes) entries. After acceptance and after refusals 7, 8 and 9 that many are 0, and those
  *           past them stay.
  * log       gets a record for each turn. After acceptance and after 8 and 9 the words used hold the records of the
@@ -218,13 +223,37 @@ uint32_t arvumnao_route(const uint8_t *kind, size_t kind_count, const uint8_t *c
                         uint64_t *work, size_t work_count, uint32_t *log, size_t log_count,
                         uint64_t *out, size_t out_count);
 
+/* Goes on from the log of a run that ended in whole iterations, as one does that ARVUMNAO_LIMIT_REACHED stopped: rebuilds from it the
+ * histories, the factor and the trees, and appends turns under the job's terms, whose limit must be above those iterations. From
+ * the job's own log it ends as arvumnao_route does in a log of that length, with the same log (proved); the turns in it are not
+ * made again. Any other log that follows the job is gone on from as it is: its paths need not be cheapest.
+ *
+ * used      how many words of `log` the lent log has. Words past them are not read before they are written.
+ * log       follows the job when it has one or more whole iterations, from 1 on, each of which leaves a node over capacity, the
+ *           last below the limit. In each the nets that are due make turns, in order, until their sinks are joined. Each turn's path
+ *           goes along edges, no node twice; its first node, and no other, is in the net's tree; its last is the record's sink,
+ *           not joined before, and no other unjoined sink is on it; its cost is the sum of its nodes' prices but the first's.
+ *           The lent words stay. After acceptance and after 8 and 9 the appended records follow them.
+ * The other parameters and the own numbers are those of arvumnao_route, over the whole log: lent turns and words count.
+ * Refusals, tested in this order: ARVUMNAO_BAD_TABLE, ARVUMNAO_SHORT_WORK, ARVUMNAO_UNREACHABLE, ARVUMNAO_DIVERGES, which leaves the
+ * log as it was, the work memory 0 and the own numbers 0; then ARVUMNAO_LOG_FULL and ARVUMNAO_LIMIT_REACHED as they arise. */
+#define ARVUMNAO_RESUME_ITERATION 3
+#define ARVUMNAO_RESUME_TURNS 4
+#define ARVUMNAO_RESUME_WORDS 5
+uint32_t arvumnao_resume(const uint8_t *kind, size_t kind_count, const uint8_t *capacity, size_t capacity_count,
+                         const uint32_t *first_edge, size_t first_edge_count, const uint16_t *edge_target, size_t edge_target_count,
+                         const uint16_t *source, size_t source_count, const uint32_t *first_sink, size_t first_sink_count,
+                         const uint16_t *sink, size_t sink_count, const uint32_t *terms, size_t terms_count, uint64_t used,
+                         uint64_t *work, size_t work_count, uint32_t *log, size_t log_count,
+                         uint64_t *out, size_t out_count);
+
 /* Reads a job text into the seven tables, and tells how much of each it filled, and the terms.
  *
  * text      of any length: the program's bound of 65,536 bytes isn't this call's.
  * tables    may be longer than the job needs; entries past what it has stay. Tables 3 and 6 need an entry more than there
  *           are nodes and nets. ARVUMNAO_NODES_MOST and the like are enough for every job.
  * The terms are told in the order in which arvumnao_route takes them, from ARVUMNAO_READ_LIMIT on. Without a P line the tuning
- * told is ARVUMNAO_PLAIN_TUNING, without a V line the rule is ARVUMNAO_RULE_ALL.
+ * told is ARVUMNAO_PLAIN_TUNING, without a V line the rule is ARVUMNAO_RULE_ALL, without its second number `until` is 1.
  * Refusals, tested in this order: the first faulty line by ARVUMNAO_BAD_SHAPE, else ARVUMNAO_BAD_VALUE, else
  * ARVUMNAO_BAD_ORDER; then ARVUMNAO_SHORT_TABLE. */
 #define ARVUMNAO_READ_NODES 3
@@ -237,6 +266,7 @@ uint32_t arvumnao_route(const uint8_t *kind, size_t kind_count, const uint8_t *c
 #define ARVUMNAO_READ_DOWN 10
 #define ARVUMNAO_READ_STEP 11
 #define ARVUMNAO_READ_RULE 12
+#define ARVUMNAO_READ_UNTIL 13
 uint32_t arvumnao_read(const uint8_t *text, size_t text_count, uint8_t *kind, size_t kind_count, uint8_t *capacity, size_t capacity_count,
                        uint32_t *first_edge, size_t first_edge_count, uint16_t *edge_target, size_t edge_target_count,
                        uint16_t *source, size_t source_count, uint32_t *first_sink, size_t first_sink_count,

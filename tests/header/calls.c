@@ -124,7 +124,7 @@ static void route(void)
     const uint16_t source[] = { 0, 1 };
     const uint32_t first_sink[] = { 0, 1, 2 };
     const uint16_t sink[] = { 3, 4 };
-    const uint32_t terms[] = { 4, 100, 7, 3, 2, 1 };
+    const uint32_t terms[] = { 4, 100, 7, 3, 2, 1, 9 };
     const uint16_t one_source[] = { 0, 0 };
     const uint32_t one_net[] = { 0, 2 };
     const uint64_t ended[] = { 4, 8, 72 }, begun[] = { 1, 0, 0 }, settled[] = { 1, 2, 17 };
@@ -168,9 +168,66 @@ static void route(void)
     EXPECT(memcmp(log, joined, sizeof joined) == 0);
 }
 
+/* The same two nets, gone on from after two of their four iterations, in a log of this length with so many words used. */
+static uint32_t resume_in(const uint16_t *source, size_t nets, const uint32_t *terms, size_t count, uint64_t used, uint64_t *work,
+                          size_t entries, uint32_t *log, size_t words)
+{
+    const uint8_t kind[] = { 0, 2, 4, 1, 3 };
+    const uint8_t capacity[] = { 2, 1, 1, 3, 1 };
+    const uint32_t first_edge[] = { 0, 1, 2, 4, 4, 4 };
+    const uint16_t edge_target[] = { 2, 2, 3, 4 };
+    const uint32_t first_sink[] = { 0, 1, 2 };
+    const uint16_t sink[] = { 3, 4 };
+    return arvumnao_resume(kind, COUNT(kind), capacity, COUNT(capacity), first_edge, COUNT(first_edge), edge_target,
+                           COUNT(edge_target), source, nets, first_sink, COUNT(first_sink), sink, COUNT(sink), terms, count,
+                           used, work, entries, log, words, out, OUT);
+}
+
+/* It ends as the straight run. Under a limit of 2 the log has no iteration below it, a word less cuts its last record, and a cost
+ * that is off is the third record's. */
+static void resume(void)
+{
+    const uint16_t source[] = { 0, 1 };
+    const uint32_t terms[] = { 4, 100, 7, 3, 2, 1, 9 }, two[] = { 2, 100, 7, 3, 2 };
+    const uint64_t ended[] = { 4, 8, 72 }, full[] = { 3, 5, 45 };
+    const uint32_t lent[] = {
+        1, 0, 3, 4000,  0, 3, 0, 2, 3, 1, 1, 4, 3900,  0, 3, 1, 2, 4,
+        2, 0, 3, 14000, 0, 3, 0, 2, 3, 2, 1, 4, 13900, 0, 3, 1, 2, 4,
+    };
+    const uint32_t appended[] = {
+        3, 0, 3, 35300, 0, 3, 0, 2, 3, 3, 1, 4, 35200, 0, 3, 1, 2, 4,
+        4, 0, 3, 92020, 0, 3, 0, 2, 3, 4, 1, 4, 91920, 0, 3, 1, 2, 4, OLD,
+    };
+    const uint64_t cleared[40] = { 0 };
+    uint64_t work[41];
+    uint32_t log[73], before[73];
+    memset(work, 9, sizeof work);
+    memset(log, 9, sizeof log);
+    memcpy(log, lent, sizeof lent);
+    work[40] = log[72] = OLD;
+    memcpy(before, log, sizeof log);
+    lend_out();
+    EXPECT(resume_in(source, 2, terms, 7, 73 * UINT64_C(4294967296), work, 41, log, 73) == 1 && refused(ARVUMNAO_DIVERGES, 73, 0));
+    EXPECT(memcmp(work, cleared, sizeof cleared) == 0 && work[40] == OLD);
+    EXPECT(resume_in(source, 2, terms, 7, 0, work, 41, log, 73) == 1 && refused(14, 0, 0));
+    EXPECT(resume_in(source, 2, two, 5, 36, work, 41, log, 73) == 1 && refused(14, 36, 0));
+    EXPECT(resume_in(source, 2, terms, 7, 35, work, 41, log, 73) == 1 && refused(14, 27, 0));
+    EXPECT(resume_in(source, 2, terms, 7, 36, work, 39, log, 73) == 1 && refused(6, 40, 0));
+    EXPECT(resume_in(source, 1, terms, 7, 36, work, 41, log, 73) == 1 && refused(5, 6, 0));
+    EXPECT(resume_in(source, 2, terms, 0, 36, work, 41, log, 73) == 1 && refused(5, 8, 0));
+    log[21] = before[21] = 14001;
+    EXPECT(resume_in(source, 2, terms, 7, 36, work, 41, log, 73) == 1 && refused(14, 18, 0));
+    EXPECT(memcmp(log, before, sizeof log) == 0);
+    log[21] = 14000;
+    EXPECT(resume_in(source, 2, terms, 7, 36, work, 41, log, 53) == 1 && told(8, 3, 5, full, 3));
+    EXPECT(resume_in(source, 2, terms, 7, 36, work, 41, log, 73) == 1 && told(9, 4, 1, ended, 3));
+    EXPECT(memcmp(log, lent, sizeof lent) == 0 && memcmp(log + 36, appended, sizeof appended) == 0);
+    EXPECT(memcmp(work, cleared, sizeof cleared) == 0 && work[40] == OLD);
+}
+
 /* Nets 0 and 1 meet on wire 3, and net 0 gives way to wire 4 in iteration 2; net 2 has wire 5 for itself. With rule 1 it is routed again,
- * with rule 2 not. A slice without the rule means rule 1, one with the limit alone the plain tuning too, and an empty one no limit;
- * without a factor in iteration 2 net 0 stays. */
+ * with rule 2 not, unless that holds only after iteration 2. A slice without the rule means rule 1, one with the limit alone the plain
+ * tuning too, and an empty one no limit; without a factor in iteration 2 net 0 stays. */
 static void terms(void)
 {
     const uint8_t kind[] = { 0, 0, 0, 4, 5, 4, 1, 1, 1 };
@@ -179,8 +236,9 @@ static void terms(void)
     const uint16_t edge_target[] = { 3, 4, 3, 5, 6, 7, 6, 8 };
     const uint16_t source[] = { 0, 1, 2 }, sink[] = { 6, 7, 8 };
     const uint32_t first_sink[] = { 0, 1, 2, 3 };
-    const uint32_t crowded[] = { 2, ARVUMNAO_PLAIN_TUNING, ARVUMNAO_RULE_CROWDED, 9, 9 };
-    const uint32_t no_factor[] = { 2, 0 }, bad[] = { 2, ARVUMNAO_PLAIN_TUNING, 3 };
+    const uint32_t crowded[] = { 2, ARVUMNAO_PLAIN_TUNING, ARVUMNAO_RULE_CROWDED, 1, 100 };
+    const uint32_t later[] = { 2, ARVUMNAO_PLAIN_TUNING, ARVUMNAO_RULE_CROWDED, 2 };
+    const uint32_t no_factor[] = { 2, 0 }, bad[] = { 2, ARVUMNAO_PLAIN_TUNING, 3 }, bad_until[] = { 2, ARVUMNAO_PLAIN_TUNING, 1, 100 };
     const uint64_t by_all[] = { 2, 6, 54 }, by_crowded[] = { 2, 5, 45 };
     const uint32_t expected[] = {
         1, 0, 6, 4000, 0, 3, 0, 3, 6, 1, 1, 7, 4000, 0, 3, 1, 3, 7, 1, 2, 8, 4000, 0, 3, 2, 5, 8,
@@ -195,7 +253,9 @@ static void terms(void)
     } runs[] = {
         { crowded, 8, 0, 0, 0, by_crowded, 3 }, { crowded, 6, 0, 0, 0, by_crowded, 3 }, { crowded, 5, 0, 0, 0, by_all, 3 },
         { crowded, 1, 0, 0, 0, by_all, 3 },     { crowded, 0, 5, 8, 0, by_all, 0 },     { no_factor, 2, 9, 2, 1, by_all, 3 },
-        { bad, 6, 5, 8, 0, by_all, 0 },         { bad, 5, 0, 0, 0, by_all, 3 },
+        { bad, 6, 5, 8, 0, by_all, 0 },         { bad, 5, 0, 0, 0, by_all, 3 },         { crowded, 7, 0, 0, 0, by_crowded, 3 },
+        { later, 7, 0, 0, 0, by_all, 3 },       { later, 6, 0, 0, 0, by_crowded, 3 },   { bad_until, 7, 5, 8, 0, by_all, 0 },
+        { bad_until, 6, 0, 0, 0, by_all, 3 },
     };
     uint64_t work[72];
     uint32_t log[54];
@@ -211,7 +271,7 @@ static void terms(void)
 }
 
 /* Job B with capacities and terms of its own, read into tables longer than it needs. */
-static const char job[] = "F,6,6,2,9\nP,100,7,3,1\nV,2\nN,0,0,2\nN,1,0,3\nN,2,4,1\nN,3,5,4\nN,4,1,5\nN,5,1,6\n"
+static const char job[] = "F,6,6,2,9\nP,100,7,3,1\nV,2,5\nN,0,0,2\nN,1,0,3\nN,2,4,1\nN,3,5,4\nN,4,1,5\nN,5,1,6\n"
                           "E,0,2\nE,0,3\nE,1,2\nE,2,4\nE,2,5\nE,3,4\nS,0,0\nT,0,4\nS,1,1\nT,1,5\n";
 
 static uint8_t kind_read[7], capacity_read[8], text_read[sizeof job - 1];
@@ -229,7 +289,7 @@ static uint32_t read_job(size_t kind, size_t capacity, size_t first_edge, size_t
 
 static void read_text(void)
 {
-    const uint64_t counts[] = { 6, 6, 2, 2, 9, 100, 7, 3, 1, 2 };
+    const uint64_t counts[] = { 6, 6, 2, 2, 9, 100, 7, 3, 1, 2, 5 };
     const uint8_t kind[] = { 0, 0, 4, 5, 1, 1, 255 }, capacity[] = { 2, 3, 1, 4, 5, 6, 255, 255 };
     const uint32_t first_edge[] = { 0, 2, 3, 5, 6, 6, 6, UINT32_MAX, UINT32_MAX };
     const uint16_t edge_target[] = { 2, 3, 2, 4, 5, 4, 65535, 65535, 65535, 65535 };
@@ -396,6 +456,7 @@ int main(void)
     price();
     search();
     route();
+    resume();
     terms();
     read_text();
     write_routes();

@@ -22,7 +22,8 @@ enum {
 static uint8_t text[BYTES], kind[NODES], capacity[NODES], routes[16 * BYTES], in_tree[NODES];
 static uint32_t first_edge[NODES + 1], first_sink[NETS + 1], log_words[LOG], history[NODES];
 static uint16_t edge_target[EDGES], source[NETS], sink[SINKS], others[NODES];
-static const uint32_t terms[] = {1, ARVUMNAO_PLAIN_TUNING, ARVUMNAO_RULE_CROWDED};
+static const uint32_t terms[] = {1, ARVUMNAO_PLAIN_TUNING, ARVUMNAO_RULE_CROWDED, 1};
+static const uint32_t two[] = {2, ARVUMNAO_PLAIN_TUNING, ARVUMNAO_RULE_CROWDED, 1};
 static uint64_t work[ARVUMNAO_WORK(NODES)], counts[ARVUMNAO_COUNTS], out[ARVUMNAO_OUT];
 static size_t bytes, words;
 
@@ -55,6 +56,14 @@ static void call_route(void)
     arvumnao_route(kind, NODES, capacity, NODES, first_edge, NODES + 1, edge_target, EDGES, source, NETS,
                    first_sink, NETS + 1, sink, SINKS, terms, ARVUMNAO_TERMS, work, ARVUMNAO_WORK(NODES),
                    log_words, LOG, out, ARVUMNAO_OUT);
+}
+
+/* Goes on from the log for a second iteration. */
+static void call_resume(void)
+{
+    arvumnao_resume(kind, NODES, capacity, NODES, first_edge, NODES + 1, edge_target, EDGES, source, NETS,
+                    first_sink, NETS + 1, sink, SINKS, two, ARVUMNAO_TERMS, words, work, ARVUMNAO_WORK(NODES),
+                    log_words, LOG, out, ARVUMNAO_OUT);
 }
 
 static void call_write(void)
@@ -142,6 +151,9 @@ static void empty(void)
     arvumnao_route(NULL, 0, NULL, 0, NULL, 0, NULL, 0, NULL, 0, NULL, 0, NULL, 0, NULL, 0, NULL, 0,
                    NULL, 0, out, ARVUMNAO_OUT);
     expect("route of nothing", out[0] == ARVUMNAO_BAD_TABLE && out[1] == 1);
+    arvumnao_resume(NULL, 0, NULL, 0, NULL, 0, NULL, 0, NULL, 0, NULL, 0, NULL, 0, NULL, 0, 0, NULL, 0,
+                    NULL, 0, out, ARVUMNAO_OUT);
+    expect("resume of nothing", out[0] == ARVUMNAO_BAD_TABLE && out[1] == 1);
     arvumnao_read(NULL, 0, NULL, 0, NULL, 0, NULL, 0, NULL, 0, NULL, 0, NULL, 0, NULL, 0, out, ARVUMNAO_OUT);
     expect("read of nothing", out[0] == ARVUMNAO_BAD_SHAPE && out[1] == 1);
     arvumnao_read(text, bytes, NULL, 0, NULL, 0, NULL, 0, NULL, 0, NULL, 0, NULL, 0, NULL, 0, out, ARVUMNAO_OUT);
@@ -167,7 +179,9 @@ int main(void)
     measure("read", call_read, 0);
     /* in one iteration, nets that meet on the last sources don't settle */
     measure("route", call_route, ARVUMNAO_LIMIT_REACHED);
-    words = (size_t)out[5];
+    words = (size_t)out[ARVUMNAO_ROUTE_WORDS];
+    measure("resume", call_resume, ARVUMNAO_LIMIT_REACHED);
+    expect("turns of both runs", out[ARVUMNAO_RESUME_TURNS] > SINKS);
     measure("write", call_write, 0);
     measure("dot", call_dot, 0);
     measure("uses_add", call_uses_add, 0);

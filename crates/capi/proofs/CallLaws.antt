@@ -13,8 +13,7 @@ use Rattle.search.specs.Block.{Block}
 use Rattle.search.specs.Turn.{Congestion}
 use Rattle.search.specs.Replies.{searchRefusal, searchReply, searchReplyOf}
 use Rattle.search.specs.declared.SearchAnswer.{SearchAnswer}
-use Rattle.job.specs.Job.{Job}
-use Rattle.negotiation.specs.Outcome.{routeRefusal, routeReplyOf, routeReply}
+use Rattle.negotiation.specs.Outcome.{RouteReply, routeRefusal, routeReplyOf}
 use Rattle.negotiation.specs.declared.RouteAnswer.{RouteAnswer}
 use Rattle.text.specs.ReadReplies.{Tables, readRefusal, readNumbers, readReplyOf, readReply}
 use Rattle.text.specs.Routes.{WriteReply}
@@ -23,7 +22,7 @@ use Rattle.uses.specs.Uses.{kindCount, countsOf, AddReply, addRefusal, addReply
 use Rattle.uses.specs.declared.AddAnswer.{AddAnswer}
 use Rattle.uses.specs.declared.AddAnswer.the-variants as a
 use Rattle.uses.proofs.UsesHold.{counts-long}
-use Rattle.capi.specs.Calls.{Call, callOf, outWith, priceCall, searchDone, searchCall, routeDone, routeCall, readDone, readCall, WriteCall, writeDone, writtenCall}
+use Rattle.capi.specs.Calls.{Call, callOf, outWith, priceCall, searchDone, searchCall, routeDone, routedCall, readDone, readCall, WriteCall, writeDone, writtenCall}
 use Rattle.capi.specs.Calls.{addDone, logsAdded, logsTold, addCall, usesCall}
 
 -- ---- numbers in `out`: stores over 16 entries of 0
@@ -34,11 +33,11 @@ pub six-put :
     ≡ outWith (number ∷ first ∷ second ∷ []) (a ∷ b ∷ c ∷ []) out
 six-put out start number first second a b c h = rw h
 
-pub ten-put :
-    (out start : List ℕ) (a b c d e f g h i k : ℕ) → start ≡ replicate 16 0 ++ drop 16 out
-    → set (set (set (set (set (set (set (set (set (set start 3 a) 4 b) 5 c) 6 d) 7 e) 8 f) 9 g) 10 h) 11 i) 12 k
-    ≡ outWith [] (a ∷ b ∷ c ∷ d ∷ e ∷ f ∷ g ∷ h ∷ i ∷ k ∷ []) out
-ten-put out start a b c d e f g h i k cleared = rw cleared
+pub eleven-put :
+    (out start : List ℕ) (a b c d e f g h i k l : ℕ) → start ≡ replicate 16 0 ++ drop 16 out
+    → set (set (set (set (set (set (set (set (set (set (set start 3 a) 4 b) 5 c) 6 d) 7 e) 8 f) 9 g) 10 h) 11 i) 12 k) 13 l
+    ≡ outWith [] (a ∷ b ∷ c ∷ d ∷ e ∷ f ∷ g ∷ h ∷ i ∷ k ∷ l ∷ []) out
+eleven-put out start a b c d e f g h i k l cleared = rw cleared
 
 -- ---- the price
 
@@ -69,16 +68,17 @@ module _ (b : Block) (c : Congestion) (marks work out : List ℕ) where
 
 -- ---- the router
 
-module _ (j : Job) (work log out : List ℕ) where
-  pub route-short : length out < 16 → routeDone (callOf 0 out) work log ≡ routeCall j work log out
-  unfolding routeCall
+module _ (reply : RouteReply) (work log out : List ℕ) where
+  pub route-short : length out < 16 → routeDone (callOf 0 out) work log ≡ routedCall reply work log out
+  unfolding routedCall
   route-short h = rw (lt-ltb (length out) 16 h)
 
+  -- of every run, one that begins or one that goes on
   pub route-called :
-      (left logged : List ℕ) (call : Call) (r : RouteAnswer) → 16 ≤ length out → routeReplyOf r left logged ≡ routeReply j work log
+      (left logged : List ℕ) (call : Call) (r : RouteAnswer) → 16 ≤ length out → routeReplyOf r left logged ≡ reply
       → call ≡ callOf 1 (outWith (routeRefusal (r .outcome) (r .iteration) (r .turns)) (r .iteration ∷ r .turns ∷ r .used ∷ []) out)
-      → routeDone call left logged ≡ routeCall j work log out
-  unfolding routeCall
+      → routeDone call left logged ≡ routedCall reply work log out
+  unfolding routedCall
   route-called left logged call r h answers put = rw (le-ltb (length out) 16 h, ← answers, put)
 
 -- ---- the reader

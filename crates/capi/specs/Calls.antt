@@ -12,6 +12,7 @@ use Rattle.search.specs.Replies.{SearchReply, searchReply}
 use Rattle.job.specs.Job.{Job}
 use Rattle.job.specs.declared.Terms.{Terms}
 use Rattle.negotiation.specs.Outcome.{RouteReply, routeReply}
+use Rattle.negotiation.specs.Resume.{resumeReply}
 use Rattle.text.specs.ReadReplies.{Tables, ReadReply, readReply}
 use Rattle.text.specs.Routes.{WriteReply, writeReply}
 use Rattle.text.specs.Dot.{dotReply}
@@ -61,14 +62,15 @@ unfoldable pub searchCall : Block → Congestion → List ℕ → List ℕ → L
 searchCall b c marks work out =
     choose (ltb (length out) 16) (searchDone (callOf 0 out) work) (searchCallWith (searchReply b c marks work) out)
 
--- the terms of a job as one slice: 0 limit, 1 first, 2 up, 3 down, 4 step, 5 rule. An entry that the slice lacks has its plain value:
--- no limit, which is below the least, and what holds without a P or a V line. Further entries aren't read
+-- the terms of a job as one slice: 0 limit, 1 first, 2 up, 3 down, 4 step, 5 rule, 6 k. An entry that the slice lacks has its plain
+-- value: no limit, which is below the least, and what holds without a P or a V line. Further entries aren't read
 abbrev pub termsOf : List ℕ → Terms
 termsOf ts =
     record {
       limit = getD ts 0 0;
       tuning = record { first = getD ts 1 50; up = getD ts 2 3; down = getD ts 3 2; step = getD ts 4 1 };
       rule = getD ts 5 1;
+      until = getD ts 6 1;
     }
 
 -- route: 3 iteration, 4 turns, 5 words
@@ -83,11 +85,17 @@ routeDone call work log = record { call = call; work = work; log = log }
 abbrev pub routeCallWith : RouteReply → List ℕ → RouteCall
 routeCallWith r out = routeDone (callOf 1 (outWith (r .refusal) (r .iteration ∷ r .turns ∷ r .used ∷ []) out)) (r .work) (r .log)
 
-unfoldable pub routeCall : Job → List ℕ → List ℕ → List ℕ → RouteCall
-routeCall j work log out =
-    choose (ltb (length out) 16) (routeDone (callOf 0 out) work log) (routeCallWith (routeReply j work log) out)
+unfoldable pub routedCall : RouteReply → List ℕ → List ℕ → List ℕ → RouteCall
+routedCall reply work log out = choose (ltb (length out) 16) (routeDone (callOf 0 out) work log) (routeCallWith reply out)
 
--- read: 3 nodes, 4 edges, 5 nets, 6 sinks, 7 limit, 8 first, 9 up, 10 down, 11 step, 12 rule
+abbrev pub routeCall : Job → List ℕ → List ℕ → List ℕ → RouteCall
+routeCall j work log out = routedCall (routeReply j work log) work log out
+
+-- resume: the same of a run that goes on from the words used of the lent log
+abbrev pub resumeCall : Job → ℕ → List ℕ → List ℕ → List ℕ → RouteCall
+resumeCall j used work log out = routedCall (resumeReply j used work log) work log out
+
+-- read: 3 nodes, 4 edges, 5 nets, 6 sinks, 7 limit, 8 first, 9 up, 10 down, 11 step, 12 rule, 13 k
 pub record ReadCall : Type 0 where
   pub call : Call
   pub tables : Tables

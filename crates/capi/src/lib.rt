@@ -5,8 +5,8 @@ ghost use Rattle.search.specs.Block.{blockOf};
 ghost use Rattle.search.specs.Turn.{congestionOf};
 ghost use Rattle.job.specs.Job.{jobOf};
 ghost use Rattle.text.specs.ReadReplies.{tablesOf};
-ghost use Rattle.capi.specs.Calls.{callOf, priceCall, searchDone, searchCall};
-ghost use Rattle.capi.specs.Calls.{termsOf, routeDone, routeCall, readDone, readCall, writeDone, writtenCall, writeCall, dotCall};
+ghost use Rattle.capi.specs.Calls.{callOf, priceCall, searchDone, searchCall, termsOf, routeDone, routeCall, resumeCall};
+ghost use Rattle.capi.specs.Calls.{readDone, readCall, writeDone, writtenCall, writeCall, dotCall};
 ghost use Rattle.capi.specs.Calls.{addDone, addCall, usesCall};
 ghost use Rattle.text.specs.Dot.{styleReply};
 
@@ -84,7 +84,7 @@ fn entry_or(terms: &[u32], place: usize, plain: u32) -> u32
     terms[place]
 }
 
-// The terms of a job, of a slice of plain numbers: limit, first, up, down, step and rule.
+// The terms of a job, of a slice of plain numbers: limit, first, up, down, step, rule and the last iteration before rule 2 is followed.
 fn terms_of(terms: &[u32]) -> Terms
     ensures { λ r. ⌜ r ≡ termsOf (now (terms .entry)) ⌝ }
 {
@@ -98,6 +98,7 @@ fn terms_of(terms: &[u32]) -> Terms
         limit: entry_or(terms, 0, 0),
         tuning: tuning,
         rule: entry_or(terms, 5, 1),
+        until: entry_or(terms, 6, 1),
     }
 }
 
@@ -135,6 +136,48 @@ pub extern "C" fn arvumnao_route(
         first_sink,
         sink,
         asked,
+        work,
+        log,
+    );
+    out::put_routed(r, out)
+}
+
+// Goes on from the words used of a lent log.
+#[no_mangle]
+pub extern "C" fn arvumnao_resume(
+    kind: &[u8],
+    capacity: &[u8],
+    first_edge: &[u32],
+    edge_target: &[u16],
+    source: &[u16],
+    first_sink: &[u32],
+    sink: &[u16],
+    terms: &[u32],
+    used: u64,
+    work: &mut [u64],
+    log: &mut [u32],
+    out: &mut [u64],
+) -> u32
+    ensures { λ r. do
+      let job = jobOf (now (kind .entry)) (now (capacity .entry)) (now («first_edge» .entry)) (now («edge_target» .entry))
+          (now (source .entry)) (now («first_sink» .entry)) (now (sink .entry)) (termsOf (now (terms .entry)))
+      ⌜ routeDone (callOf r (now (out .exit))) (now (work .exit)) (now (log .exit))
+          ≡ resumeCall job used (now (work .entry)) (now (log .entry)) (now (out .entry)) ⌝ }
+{
+    if out.len() < OUT_ENTRIES {
+        return 0;
+    }
+    let asked = terms_of(terms);
+    let r = negotiation::resume(
+        kind,
+        capacity,
+        first_edge,
+        edge_target,
+        source,
+        first_sink,
+        sink,
+        asked,
+        used,
         work,
         log,
     );

@@ -99,6 +99,7 @@ pub fn put_routed(r: RouteAnswer, out: &mut [u64]) -> u32
         Outcome::Limit(over) => put_numbers(out, 9, i, over as u64, i, turns, used),
         Outcome::BadTable(table) => put_numbers(out, 5, table as u64, 0, i, turns, used),
         Outcome::ShortWork(needed) => put_numbers(out, 6, needed, 0, i, turns, used),
+        Outcome::Diverges(word) => put_numbers(out, 14, word, 0, i, turns, used),
     }
 }
 
@@ -127,6 +128,7 @@ fn put_job(
     out[10] = terms.tuning.down as u64;
     out[11] = terms.tuning.step as u64;
     out[12] = terms.rule as u64;
+    out[13] = terms.until as u64;
     1
 }
 

@@ -221,7 +221,12 @@ job-taken style text t j at rest is long =
 -- the terms among the numbers of a job
 abbrev termsIn : List ℕ → Terms
 termsIn xs =
-    record { limit = getD xs 4 0; tuning = record { first = getD xs 5 0; up = getD xs 6 0; down = getD xs 7 0; step = getD xs 8 0 }; rule = getD xs 9 0 }
+    record {
+      limit = getD xs 4 0;
+      tuning = record { first = getD xs 5 0; up = getD xs 6 0; down = getD xs 7 0; step = getD xs 8 0 };
+      rule = getD xs 9 0;
+      until = getD xs 10 0;
+    }
 
 pub read-taken :
     (style : Style) (text : List ℕ) (n edges m count : ℕ) (terms : Terms) (t t′ : Tables)

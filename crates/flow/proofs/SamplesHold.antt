@@ -12,7 +12,7 @@ use Rattle.negotiation.specs.Samples as n
 use Rattle.negotiation.proofs.SamplesHold as n-hold
 use Rattle.text.specs.Decimal.{isDigit, digits, decimal}
 use Rattle.text.specs.Lines.{digitsAfter, field, begins, fields, line, printFields, printLine}
-use Rattle.text.specs.JobText.{headWithin, headLine, tuningWithin, tuningLine, ruleWithin, ruleLine, nodeWithin, nodeLine, rises, edgeWithin, edgeOrdered, edgeLine}
+use Rattle.text.specs.JobText.{headWithin, headLine, tuningWithin, tuningLine, ruleFields, ruleWithin, ruleLine, nodeWithin, nodeLine, rises, edgeWithin, edgeOrdered, edgeLine}
 use Rattle.text.specs.JobText.{pinWithin, sourceLine, sinkOrdered, sinkLine, tuningPart, rulePart, termsPart, headPart, nodeLines, edgeLines, sinksNow, sourceDue, sinkDue}
 use Rattle.text.specs.JobText.{complete, netEnd, nextSource, nextSink, netLine, netLines, firstPlaces, jobRead, readText}
 use Rattle.text.specs.ReadReplies.{lowestShort, shortTable, writtenOver, tablesWith}
@@ -26,7 +26,7 @@ computing : Unit {0}
 unfolding response refusalLine runReply routeRun
     testedReply textReply routesText joinText routeJoins joinsBefore flatMap branchLine routeBranches treeBranches recordBranches finalRecords passing latest lastIteration steps netWritable leads firstOf logSound soundWords soundUpTo recordSound pathSound
     tablesWith writtenOver shortTable lowestShort readText jobRead firstPlaces netLines netLine nextSink nextSource netEnd complete sinkDue sourceDue sinksNow edgeLines nodeLines headPart termsPart rulePart tuningPart
-    sinkLine sinkOrdered sourceLine pinWithin edgeLine edgeOrdered edgeWithin rises nodeLine nodeWithin ruleLine ruleWithin tuningLine tuningWithin headLine headWithin
+    sinkLine sinkOrdered sourceLine pinWithin edgeLine edgeOrdered edgeWithin rises nodeLine nodeWithin ruleLine ruleWithin ruleFields tuningLine tuningWithin headLine headWithin
     printLine printFields line fields begins field digitsAfter decimal digits isDigit lined decode decodeUpTo
     n-hold.computing
 computing = tt

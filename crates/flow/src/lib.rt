@@ -126,6 +126,11 @@ fn route_job(
             number: 6,
             value: needed,
         },
+        // A run that begins has no lent log to turn away.
+        Outcome::Diverges(word) => RunAnswer::One {
+            number: 14,
+            value: word,
+        },
     }
 }
 

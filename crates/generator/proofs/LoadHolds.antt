@@ -36,7 +36,7 @@ long-enough j t a b c d e f g =
 module _ (seed n count : ℕ) (least : 8 ≤ n) (most : n ≤ 256) (some : 1 ≤ count) (few : count ≤ 64) where
   printed : PrintedAs (loadText seed n count) (loadJob seed n count)
   unfolding loadText loadJob
-  printed = record { form = shortest; allowed = record { tuning = refl; rule = refl }; is = refl }
+  printed = record { form = shortest; allowed = record { tuning = refl; rule = (refl, refl) }; is = refl }
 
   taken : Accepts (loadText seed n count) (loadJob seed n count)
   taken = reader-exact (loadText seed n count) (loadJob seed n count) .all-printed (load-sound seed n count least most some few) printed

@@ -24,7 +24,7 @@ use Rattle.search.specs.Tables.{edgesMost, kindsSound, capacitiesSound, firstEd
 use Rattle.search.specs.Replies.{sinksMost}
 use Rattle.search.proofs.TableLaws.{edges-all}
 use Rattle.job.specs.Job.{Job, nodes, nets, source, sinksBetween, netSinks}
-use Rattle.job.specs.Tables.{netsMost, sourcesSound, firstSinksSound, netSound, sinksSound, limitSound, termsSound, oneOf, pinsOf, SoundJob, sourceKind, sinkKind}
+use Rattle.job.specs.Tables.{netsMost, sourcesSound, firstSinksSound, netSound, sinksSound, limitSound, ruleSound, termsSound, oneOf, pinsOf, SoundJob, sourceKind, sinkKind}
 use Rattle.generator.specs.Load.{quarter, loadKind, rowsFrom, netsFrom, rowDraw, drawn, passing, loadRow, loadRows, loadSource, loadSink, loadJob}
 use Rattle.generator.proofs.DrawLaws.{draw-below}
 use Rattle.generator.proofs.NodeLaws.{kind-source, kind-sink, kind-most}
@@ -257,7 +257,7 @@ module _ (seed n count : ℕ) where
         rw (getD-upTo (loadKind seed n) n (loadSink (netsFrom seed n) n i) 0 (high .1), kind-sink seed n (loadSink (netsFrom seed n) n i) (high .0)))
 
     terms-fit : termsSound (job .terms) ≡ true
-    unfolding termsSound limitSound tuningSound oneOf loadJob
+    unfolding termsSound ruleSound limitSound tuningSound oneOf loadJob
     terms-fit = refl
 
     pub load-sound : SoundJob job

@@ -33,7 +33,7 @@ use Rattle.search.specs.declared.PathAnswer.{PathAnswer}
 use Rattle.search.proofs.BlockLaws.{sound-of, kinds-some, kinds-few}
 use Rattle.search.proofs.NumberLaws.{refusal-table, refusal-work}
 use Rattle.job.specs.Job.{Job, nodes, sinksBetween}
-use Rattle.job.specs.Tables.{netsMost, sourcesSound, firstSinksSound, netSound, sinksSound, limitSound, ruleSound, termsSound, oneOf, pinsOf, sourcePins, sinkPins, faultyNets, faultyJob}
+use Rattle.job.specs.Tables.{netsMost, sourcesSound, firstSinksSound, netSound, sinksSound, limitSound, untilMost, ruleSound, termsSound, oneOf, pinsOf, sourcePins, sinkPins, faultyNets, faultyJob}
 use Rattle.job.specs.declared.Terms.{Terms}
 use Rattle.job.proofs.SinkMarkLaws.{Unmarked, unmarked-new}
 
@@ -156,6 +156,23 @@ module _ (test : ℕ → Bool) (kinds ps : List ℕ) where
 -- ---- the lowest faulty table
 
 -- table 8
+module _ (rule until : ℕ) where
+  pub until-low : until < 1 → ruleSound rule until ≡ false
+  unfolding ruleSound
+  until-low h = rw (lt-leb 1 until h)
+
+  pub until-high : 1 ≤ until → untilMost < until → ruleSound rule until ≡ false
+  unfolding ruleSound
+  until-high some h = rw (le-leb 1 until some, lt-leb until untilMost h)
+
+  pub rule-first : 1 ≤ until → until ≤ untilMost → rule ≡ 1 → ruleSound rule until ≡ true
+  unfolding ruleSound oneOf
+  rule-first some few e = rw (le-leb 1 until some, le-leb until untilMost few, eq-eqb rule 1 e)
+
+  pub rule-second : 1 ≤ until → until ≤ untilMost → (rule ≡ 1 → ⊥) → ruleSound rule until ≡ eqb rule 2
+  unfolding ruleSound oneOf
+  rule-second some few n = rw (le-leb 1 until some, le-leb until untilMost few, ne-eqb rule 1 n)
+
 module _ (t : Terms) where
   pub terms-low : t .limit < 1 → termsSound t ≡ false
   unfolding termsSound limitSound
@@ -169,7 +186,7 @@ module _ (t : Terms) where
   unfolding termsSound limitSound
   terms-tuning some few bad = rw (le-leb 1 (t .limit) some, le-leb (t .limit) limitMost few, bad)
 
-  pub terms-rule : 1 ≤ t .limit → t .limit ≤ limitMost → tuningSound (t .tuning) ≡ true → termsSound t ≡ ruleSound (t .rule)
+  pub terms-rule : 1 ≤ t .limit → t .limit ≤ limitMost → tuningSound (t .tuning) ≡ true → termsSound t ≡ ruleSound (t .rule) (t .until)
   unfolding termsSound limitSound
   terms-rule some few fits = rw (le-leb 1 (t .limit) some, le-leb (t .limit) limitMost few, fits)
 

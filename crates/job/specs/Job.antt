@@ -18,7 +18,7 @@ pub record Job : Type 0 where
   pub firstSinks : List ℕ
   -- 7. sink node
   pub sinks : List ℕ
-  -- the limit of iterations, which "counts as table 8", the tuning of request 2.1 and the rule of request 2.7
+  -- the limit of iterations, which "counts as table 8", the tuning of request 2.1, the rule of request 2.7 and the k of request 2.8
   pub terms : Terms
 
 abbrev pub nodes : Job → ℕ
@@ -39,9 +39,9 @@ sinksBetween firstSinks sinks i = slice (getD firstSinks i 0) (getD firstSinks (
 unfoldable pub netSinks : Job → ℕ → List ℕ
 netSinks j i = sinksBetween (j .firstSinks) (j .sinks) i
 
--- the terms of a job that asks for no tuning and no rule
+-- the terms of a job that asks for no tuning and no rule. The field `until` is request 2.8's k
 abbrev pub plainTerms : ℕ → Terms
-plainTerms limit = record { limit = limit; tuning = plain; rule = 1 }
+plainTerms limit = record { limit = limit; tuning = plain; rule = 1; until = 1 }
 
 -- the job of seven tables and the terms
 abbrev pub jobOf : List ℕ → List ℕ → List ℕ → List ℕ → List ℕ → List ℕ → List ℕ → Terms → Job

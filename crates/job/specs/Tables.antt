@@ -48,13 +48,18 @@ limitSound limit = both (leb 1 limit) (leb limit limitMost)
 unfoldable pub oneOf : ℕ → ℕ → ℕ → Bool
 oneOf a b n = either (eqb n a) (eqb n b)
 
--- request 2.7: rule 1 or rule 2, "Other values are 2, or 5 with table 8."
-abbrev pub ruleSound : ℕ → Bool
-ruleSound rule = oneOf 1 2 rule
+-- request 2.8: "k from 1 to 99"
+abbrev pub untilMost : ℕ
+untilMost = 99
 
--- table 8: the limit, by request 2.1 the tuning ("Bad values fall .. under 5 with table 8 in a direct call"), by request 2.7 the rule
+-- request 2.7: rule 1 or rule 2, "Other values are 2, or 5 with table 8."; so with k, which has its bounds under either rule
+unfoldable pub ruleSound : ℕ → ℕ → Bool
+ruleSound rule until = both (both (leb 1 until) (leb until untilMost)) (oneOf 1 2 rule)
+
+-- table 8: the limit, by request 2.1 the tuning ("Bad values fall .. under 5 with table 8 in a direct call"), by requests 2.7 and 2.8 the
+-- rule and its k
 unfoldable pub termsSound : Terms → Bool
-termsSound t = both (limitSound (t .limit)) (both (tuningSound (t .tuning)) (ruleSound (t .rule)))
+termsSound t = both (limitSound (t .limit)) (both (tuningSound (t .tuning)) (ruleSound (t .rule) (t .until)))
 
 -- "A source must now be of kind 0 or 2"
 abbrev pub sourceKind : ℕ → Bool

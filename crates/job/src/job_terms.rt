@@ -7,6 +7,9 @@ use crate::Terms;
 // The largest limit of iterations.
 const LIMIT_MOST: u32 = 100;
 
+// The largest iteration after which rule 2 may be followed.
+const UNTIL_MOST: u32 = 99;
+
 // The terms of a job that asks for no tuning and no rule.
 pub fn plain_terms(limit: u32) -> Terms
     ensures { λ r. ⌜ r ≡ plainTerms limit ⌝ }
@@ -15,13 +18,20 @@ pub fn plain_terms(limit: u32) -> Terms
         limit: limit,
         tuning: price::plain_tuning(),
         rule: 1,
+        until: 1,
     }
 }
 
-// The rule is 1 or 2.
-pub fn rule_sound(rule: u32) -> bool
-    ensures { λ r. ⌜ r ≡ ruleSound rule ⌝ }
+// The rule is 1 or 2, and the last iteration before rule 2 is followed keeps its bounds.
+pub fn rule_sound(rule: u32, until: u32) -> bool
+    ensures { λ r. ⌜ r ≡ ruleSound rule until ⌝ }
 {
+    if until < 1 {
+        return false;
+    }
+    if UNTIL_MOST < until {
+        return false;
+    }
     if rule == 1 {
         return true;
     }
@@ -41,5 +51,5 @@ pub fn terms_sound(terms: Terms) -> bool
     if !price::tuning_sound(terms.tuning) {
         return false;
     }
-    rule_sound(terms.rule)
+    rule_sound(terms.rule, terms.until)
 }

@@ -9,11 +9,12 @@ pub const NETS_MOST: usize = 512;
 pub const SINKS_MOST: usize = 4096;
 
 // What a job asks beside its seven tables: the limit of iterations, the tuning of the tariff, and the rule by which an iteration takes
-// nets: 1, all; 2, from iteration 2 on only crowded ones. A refusal counts it as table 8.
+// nets: 1, all; 2, all up to iteration `until`, only crowded ones after it. A refusal counts it as table 8.
 pub struct Terms {
     pub limit: u32,
     pub tuning: Tuning,
     pub rule: u32,
+    pub until: u32,
 }
 
 mod first_net;

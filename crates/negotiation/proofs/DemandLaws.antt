@@ -299,7 +299,7 @@ unfolding stateAfter moveOn
 final-trees-hold j sound all {m} {rs} {s} r k few settled =
     let ran : Ran j (m + suc k) (rs ++ recordsAfter j s (suc k)) (stateAfter j s (suc k)) = machine-ran j sound all r (suc k) (omega arith) in
     record {
-      no-sink-missed = λ i x h l. ran-done j ran (omega arith) i h .joined x l;
-      none-twice = λ i h. ran-done j ran (omega arith) i h .once;
+      no-sink-missed = λ i x h l. ran-done j (sound .until-some) ran (omega arith) i h .joined x l;
+      none-twice = λ i h. ran-done j (sound .until-some) ran (omega arith) i h .once;
       within-capacity = λ v h. rw (ran-users j ran v) (settled-within j s k settled v h);
     }

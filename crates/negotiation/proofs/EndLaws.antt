@@ -157,7 +157,7 @@ unfolding allRecords
 all-made j p m made = rw (made, add-one)
 
 -- the work slice with 0 up to 8 × nodes
-cleared-same : (n : ℕ) (work₀ work : List ℕ) → SameFrom (8 * n) work₀ work → replicate (8 * n) 0 ++ drop (8 * n) work ≡ cleared n [] work₀
+pub cleared-same : (n : ℕ) (work₀ work : List ℕ) → SameFrom (8 * n) work₀ work → replicate (8 * n) 0 ++ drop (8 * n) work ≡ cleared n [] work₀
 unfolding cleared
 cleared-same n work₀ work same =
     let none : 8 * n - 0 ≡ 8 * n = omega arith in

@@ -192,6 +192,7 @@ module _ (j : Job) (s : SoundJob j) where
         limit-some = r .limit-some;
         limit-few = r .limit-few;
         tuning-sound = r .tuning-sound;
+        until-some = r .until-some;
       }
 
   -- where every listed sink has a path, every sink of a joined net has one

@@ -8,10 +8,9 @@ use Prim.Native.Nat.{ℕ, suc, _+_, _-_, _*_, _≤_, _<_}
 use native.Mathlib.Nat.{eq-or-lt-of-le, le-antisymm}
 use native.Mathlib.Numerals.{add-one}
 use native.Mathlib.Omega.{arith}
-use lib.Dec.{ltb}
 use lib.ListN.{length, getD, drop, replicate}
 use borrow.Author.Tests.{eq-eqb, ne-eqb}
-use Rattle.price.specs.Lists.{upTo, countBelow}
+use Rattle.price.specs.Lists.{upTo}
 use Rattle.price.specs.Prices.{nextFactor}
 use Rattle.search.specs.Turn.{joins, turn, congestionOf, priceAt}
 use Rattle.job.specs.Job.{Job, nodes, nets, netSinks}
@@ -30,7 +29,7 @@ use Rattle.negotiation.proofs.RecordLaws.{words-length}
 use Rattle.negotiation.proofs.TurnStepLaws.{log-length}
 use Rattle.negotiation.proofs.EndLaws.{made-settled, unsettled-more, made-limit, all-split, full-reply, whole-reply, end-settled, end-limit, last-made, all-made, reply-same}
 use Rattle.negotiation.proofs.KeepLaws.{startOf, reached, Under, AtIteration, AtNet, AtTurn, AtTurns}
-use Rattle.negotiation.proofs.KeepProgress.{dues-long, over-is, grow, kept-moved}
+use Rattle.negotiation.proofs.KeepProgress.{dues-long, overUsed, over-is, grow, kept-moved}
 use Rattle.negotiation.proofs.KeepTurn.{ready-state, same-twice, at-more, overflows}
 
 -- the answer's numbers beside its outcome
@@ -100,10 +99,6 @@ pub all-routed :
     → AtNet j p work₀ log₀ m (nets j) t history users marks from to dues work log
 all-routed j {p} {work₀} {log₀} {m} {t = t} {history} {users} {marks} {from} {to} {dues} {work} {log} at l =
     subst (λ (k : ℕ). AtNet j p work₀ log₀ m k t history users marks from to dues work log) (le-antisymm (at .upto) l) at
-
--- the nodes over capacity, as the code counts them
-abbrev pub overUsed : Job → List ℕ → ℕ
-overUsed j users = countBelow (λ (v : ℕ). ltb (getD (j .block .capacities) v 0) (getD users v 0)) (nodes j)
 
 module _ (j : Job) (sound : Routable j) {p : Progress} {work₀ log₀ : List ℕ} {m : ℕ} {t : Tariff} {history users marks from to dues work log : List ℕ}
     (at : AtNet j p work₀ log₀ m (nets j) t history users marks from to dues work log) where

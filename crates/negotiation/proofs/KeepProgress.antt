@@ -52,13 +52,23 @@ all-zero n marks long none =
     (λ v h. let l : v < n = rw long at h in none v l ∙ sym (getD-replicate n v 0 0 l))
 
 -- the marks of a tree
-marks-length : (j : Job) (tree : List ℕ) → length (marksOf j tree) ≡ nodes j
+pub marks-length : (j : Job) (tree : List ℕ) → length (marksOf j tree) ≡ nodes j
 unfolding marksOf
 marks-length j tree = length-upTo {A = ℕ} (λ v. choose (has v tree) 1 0) (nodes j)
 
-marks-are : (j : Job) (tree marks : List ℕ) → length marks ≡ nodes j → ((v : ℕ) → v < nodes j → getD marks v 0 ≡ choose (has v tree) 1 0) → marks ≡ marksOf j tree
+pub marks-are : (j : Job) (tree marks : List ℕ) → length marks ≡ nodes j → ((v : ℕ) → v < nodes j → getD marks v 0 ≡ choose (has v tree) 1 0) → marks ≡ marksOf j tree
 unfolding marksOf
 marks-are j tree marks long at = up-to-is (λ v. choose (has v tree) 1 0) (nodes j) marks long at
+
+-- a path joins the tree, and is marked beside it
+pub marks-grow :
+    (j : Job) (i : ℕ) (made : List Record) (r : Record) {marks marks′ : List ℕ} → marks ≡ marksOf j (treeFrom j i made) → Stored 1 (r .path) marks marks′
+    → marks′ ≡ marksOf j (treeFrom j i (made ++ (r ∷ [])))
+marks-grow j i made r {marks} {marks′} is stored =
+    marks-are j (treeFrom j i (made ++ (r ∷ []))) marks′ (stored .long ∙ ap length is ∙ marks-length j (treeFrom j i made))
+    (λ v h.
+    let here : getD marks v 0 ≡ choose (has v (treeFrom j i made)) 1 0 = ap (λ (l : List ℕ). getD l v 0) is ∙ mark-at j (treeFrom j i made) v h in
+    stored .at v ∙ rw (here, ← tree-more j i made r) (mark-more v (treeFrom j i made) (r .path)))
 
 -- a mark at one node alone is the mark of the tree of that node
 one-mark : (j : Job) (marks : List ℕ) (s : ℕ) → length marks ≡ nodes j → s < nodes j → NoMarks (nodes j) marks → set marks s 1 ≡ marksOf j (s ∷ [])
@@ -218,13 +228,11 @@ module _ (j : Job) {p : Progress} {i : ℕ} {made : List Record} {history users 
 
   -- a turn's path joins it
   pub opened-more : (r : Record) {marks′ : List ℕ} → Stored 1 (r .path) marks marks′ → Opened j p i (made ++ (r ∷ [])) history users marks′ from to
-  opened-more r {marks′} stored =
+  opened-more r stored =
       record {
         history-is = opened .history-is;
         users-is = opened .users-is;
-        marks-is =
-            marks-are j (treeFrom j i (made ++ (r ∷ []))) marks′ (stored .long ∙ tree-long)
-            (λ v h. stored .at v ∙ rw (tree-at v h, ← tree-more j i made r) (mark-more v (treeFrom j i made) (r .path)));
+        marks-is = marks-grow j i made r (opened .marks-is) stored;
         places = opened .places;
       }
 
@@ -288,9 +296,13 @@ module _ (j : Job) (sound : Routable j) {p : Progress} {i : ℕ} {made : List Re
 
 -- ---- after an iteration
 
+-- the nodes over capacity, as the code counts them
+abbrev pub overUsed : Job → List ℕ → ℕ
+overUsed j users = countBelow (λ (v : ℕ). ltb (getD (j .block .capacities) v 0) (getD users v 0)) (nodes j)
+
 module _ (j : Job) {p : Progress} {history users marks from to : List ℕ} (kept : Kept j p history users marks from to) where
   -- the nodes over capacity
-  pub over-is : countBelow (λ (v : ℕ). ltb (getD (j .block .capacities) v 0) (getD users v 0)) (nodes j) ≡ overCount j (p .state .trees)
+  pub over-is : overUsed j users ≡ overCount j (p .state .trees)
   unfolding overCount overfull
   over-is =
       count-same (λ v. ltb (getD (j .block .capacities) v 0) (getD users v 0)) (λ v. ltb (getD (j .block .capacities) v 0) (usersOf j (p .state .trees) v)) (nodes j)

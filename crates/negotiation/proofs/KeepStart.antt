@@ -105,6 +105,13 @@ keep-start j {p} r work =
       work-same = record { long = refl; high = λ n l. refl };
     }
 
+-- a net has as many sinks as stand between its places of table 6
+pub sinks-count :
+    (j : Job) → Routable j → (i : ℕ) → i < nets j → getD (j .firstSinks) (i + 1) 0 - getD (j .firstSinks) i 0 ≡ length (netSinks j i)
+unfolding netSinks
+sinks-count j sound i hi =
+    sym (length-slice (getD (j .firstSinks) i 0) (getD (j .firstSinks) (i + 1) 0) (j .sinks) (sound .sinks-end (i + 1) (omega arith)))
+
 module _ (j : Job) (sound : Routable j) {p : Progress} {work₀ log₀ : List ℕ} {m : ℕ} where
   -- ---- an iteration begins
 
@@ -137,10 +144,6 @@ module _ (j : Job) (sound : Routable j) {p : Progress} {work₀ log₀ : List �
     unfolding netRecords pathNodes
     first-turns = rw (nets-iteration j (startOf j p m) i, state-iteration j (p .state) m)
 
-    sinks-count : getD (j .firstSinks) (i + 1) 0 - getD (j .firstSinks) i 0 ≡ length (netSinks j i)
-    unfolding netSinks
-    sinks-count = sym (length-slice (getD (j .firstSinks) i 0) (getD (j .firstSinks) (i + 1) 0) (j .sinks) (sound .sinks-end (i + 1) (omega arith)))
-
     taken :
         {left : ℕ} {users′ marks′ : List ℕ} → due j (startOf j p m) i ≡ true → Begun log (j .sources) (j .firstSinks) i from to users marks left users′ marks′
         → AtTurn j p work₀ log₀ m i left t history users′ marks′ from to dues work log (t .words)
@@ -150,7 +153,7 @@ module _ (j : Job) (sound : Routable j) {p : Progress} {work₀ log₀ : List �
           net = hi;
           taken = q;
           made = [];
-          rest-is = rw (b .left-is, sinks-count) first-turns;
+          rest-is = rw (b .left-is, sinks-count j sound i hi) first-turns;
           tallied = rw (append-nil (reached j p m i .records)) (at .tallied);
           first-is = at .tallied .words-is;
           opened = opens j sound (at .kept) (at .tallied) i hi b;

@@ -21,7 +21,7 @@
 -- The machine
 --     TreeLaws          a net's turns from its tree
 --     NetLaws           a net in an iteration: cheapest paths, costs, no node twice, every sink joined; paths from a source
---     DueLaws           which nets an iteration takes: under rule 1, and in iteration 1, those with sinks
+--     DueLaws           which nets an iteration takes: under rule 1, and up to iteration k, those with sinks
 --     StateLaws         the machine's state, iteration by iteration
 --     MachineRan        the machine's run is a run: bounds of histories and factor, its turns owned net by net
 --     EndLaws           how a run ends that goes on from a progress
@@ -45,7 +45,7 @@
 -- The reply
 --     RefusalLaws       refusal by refusal
 --     ReplyLogLaws      the log of a reply as the records whose words it holds
---     RouteLaws         what `route` answers, as its contract says it
+--     RouteLaws         what `route` and `resume` answer, as their contracts say it
 -- Theorems
 --     DemandHolds       demand 3, and the bound on every logged cost
 --     UnreachableHolds  what refusal 7 means
@@ -66,6 +66,10 @@
 --     KeepProgress      the lists over any progress: nets due, a tree dropped, grown and counted, histories moved on
 --     KeepStart, KeepTurn, KeepNet, KeepEnd   that it holds at first, after a turn, a net and an iteration, and what each call asks
 --     KeepLengths       the lists keep their lengths
+--     TakeTurnLaws      the turns of a net in a lent log, as a loop follows them
+--     TakeNetLaws       the nets of an iteration in it
+--     TakeLogLaws       its iterations
+--     StartLaws         a run's start: begun, after a lent log, or turned away
 -- Assumes nothing.
 pub mod RoutableLaws
 pub mod TakingLaws
@@ -128,3 +132,7 @@ pub mod KeepTurn
 pub mod KeepNet
 pub mod KeepEnd
 pub mod KeepLengths
+pub mod TakeTurnLaws
+pub mod TakeNetLaws
+pub mod TakeLogLaws
+pub mod StartLaws

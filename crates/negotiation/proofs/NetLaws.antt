@@ -120,7 +120,7 @@ others-few j trees i v h =
 
 -- so the search can work with the prices of a turn
 module _ (j : Job) (sound : Routable j) (s : State) (ready : StateReady j s) (i : ℕ) (hi : i < nets j) where
-  turn-bounds : (v : ℕ) → v < nodes j → InBounds (getD (j .block .kinds) v 0) (s .factor) (othersOf j (s .trees) i v) (getD (j .block .capacities) v 0) (getD (s .histories) v 0)
+  pub turn-bounds : (v : ℕ) → v < nodes j → InBounds (getD (j .block .kinds) v 0) (s .factor) (othersOf j (s .trees) i v) (getD (j .block .capacities) v 0) (getD (s .histories) v 0)
   turn-bounds v h =
       let few : othersOf j (s .trees) i v < nets j = others-few j (s .trees) i v hi in
       let most : nets j ≤ netsMost = sound .nets-few in

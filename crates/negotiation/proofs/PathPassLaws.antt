@@ -87,7 +87,7 @@ module _ (j : Job) (g : Graph (j .block)) (price : ℕ → ℕ) (i : ℕ) (tree 
       rw (eq-eqb (getD marks u 0) 1 (first-marked u rest h), ← sum) (steps-pass (j .block) g price goals (steps-on u rest h) marks long marked 0)
 
   -- it is no longer than there are nodes
-  path-nodes : (path : List ℕ) → PathHolds j i tree sink path → (k : ℕ) → k < length path → getD path k 0 < nodes j
+  pub path-nodes : (path : List ℕ) → PathHolds j i tree sink path → (k : ℕ) → k < length path → getD path k 0 < nodes j
   path-nodes path h zero l = inside (getD path 0 0) (h .begins)
   path-nodes path h (suc k) l =
       edge-to (j .block) g (getD path k 0) (getD path (suc k) 0) (neighbours-at (hasEdge (j .block)) path (h .edges) k l)

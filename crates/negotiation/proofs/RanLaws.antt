@@ -342,24 +342,24 @@ module _ (j : Job) {s : State} (rs : List Record) (most : All (λ r. r .iteratio
       (eq-or-lt-of-le (le-of-suc-le-suc l)))
 
 -- a net that iteration 1 does not take has no sinks
-first-done : (j : Job) (s : State) (k : ℕ) → s .iteration ≡ 1 → due j s k ≡ false → Done j [] k
+first-done : (j : Job) (s : State) (k : ℕ) → 1 ≤ j .terms .until → s .iteration ≡ 1 → due j s k ≡ false → Done j [] k
 unfolding hasSinks treeRead nodesIn latest endsIn distinct has
-first-done j s k first d =
+first-done j s k early first d =
     record {
       joined = λ x h.
           let at = has-place x (netSinks j k) h in
-          let none = leb-false 1 (length (netSinks j k)) (sym (first-due j s k first) ∙ d) in
+          let none = leb-false 1 (length (netSinks j k)) (sym (first-due j s k early first) ∙ d) in
           absurd (omega (arith, at .1));
       once = refl;
     }
 
 module _ (j : Job) where
   -- after one or more whole iterations every net is done
-  pub ran-done : {m : ℕ} {rs : List Record} {s : State} → Ran j m rs s → 1 ≤ m → (k : ℕ) → k < nets j → Done j rs k
-  ran-done start some k l = absurd (not-suc-le-zero some)
-  ran-done (next start n) some k l = nets-done j [] tt (λ i h d. first-done j (firstState j) i (ran-iteration j start) d) n (le-refl (nets j)) k l
-  ran-done (next {rs = rs} (next r q) n) some k l =
-      nets-done j rs (ran-before j (next r q)) (λ i h d. ran-done (next r q) (omega arith) i h) n (le-refl (nets j)) k l
+  pub ran-done : 1 ≤ j .terms .until → {m : ℕ} {rs : List Record} {s : State} → Ran j m rs s → 1 ≤ m → (k : ℕ) → k < nets j → Done j rs k
+  ran-done early start some k l = absurd (not-suc-le-zero some)
+  ran-done early (next start n) some k l = nets-done j [] tt (λ i h d. first-done j (firstState j) i early (ran-iteration j start) d) n (le-refl (nets j)) k l
+  ran-done early (next {rs = rs} (next r q) n) some k l =
+      nets-done j rs (ran-before j (next r q)) (λ i h d. ran-done early (next r q) (omega arith) i h) n (le-refl (nets j)) k l
 
   pub ran-latest :
       {m : ℕ} {rs : List Record} {s : State} {p : Progress} → Ran j m rs s → NetsRan j s (nets j) p → (k : ℕ) → k < nets j → due j s k ≡ true

@@ -1,7 +1,7 @@
 -- The router's reply, refusal by refusal: which of its cases it is, by the tests in their order.
 -- Assumes nothing.
 use mathlib.Core.List.{List, [], _∷_}
-use mathlib.Core.Path.{_≡_}
+use mathlib.Core.Path.{_≡_, _∙_}
 use Prim.Native.Nat.{ℕ, _≤_, _<_}
 use lib.ListN.{length}
 use borrow.Author.Tests.{le-leb, lt-leb, lt-ltb, le-ltb}
@@ -9,34 +9,39 @@ use Rattle.search.specs.Replies.{workNeeded, cleared}
 use Rattle.job.specs.Job.{Job, nodes, nets}
 use Rattle.job.specs.Tables.{faultyJob}
 use Rattle.job.specs.Join.{joined}
-use Rattle.negotiation.specs.Outcome.{unreachableNet, unreachablePlace, negotiated, refusedReply, reachedReply, routeReply}
+use Rattle.negotiation.specs.Outcome.{RouteReply, unreachableNet, unreachablePlace, negotiated, refusedReply, reachedReply, tested, routeReply}
 
+-- the tests of a job as it is given, whatever run stands behind them
+module _ (j : Job) (work log : List ℕ) (run : RouteReply) where
+  pub tested-table : 1 ≤ faultyJob j → tested j work log run ≡ refusedReply (5 ∷ faultyJob j ∷ []) work log
+  tested-table h = rw (le-leb 1 (faultyJob j) h)
+
+  module _ (sound : faultyJob j < 1) where
+    pub tested-work : length work < workNeeded (nodes j) → tested j work log run ≡ refusedReply (6 ∷ workNeeded (nodes j) ∷ []) work log
+    tested-work h = rw (lt-leb 1 (faultyJob j) sound, lt-ltb (length work) (workNeeded (nodes j)) h)
+
+    -- what stays is the reply of the joined nets
+    pub tested-joined : workNeeded (nodes j) ≤ length work → tested j work log run ≡ reachedReply (joined j) work log run
+    tested-joined enough = rw (lt-leb 1 (faultyJob j) sound, le-ltb (length work) (workNeeded (nodes j)) enough)
+
+-- the router's run begins
 module _ (j : Job) (work log : List ℕ) where
   pub route-table : 1 ≤ faultyJob j → routeReply j work log ≡ refusedReply (5 ∷ faultyJob j ∷ []) work log
   unfolding routeReply
-  route-table h = rw (le-leb 1 (faultyJob j) h)
+  route-table = tested-table j work log (negotiated (joined j) work log)
 
   module _ (sound : faultyJob j < 1) where
     pub route-work : length work < workNeeded (nodes j) → routeReply j work log ≡ refusedReply (6 ∷ workNeeded (nodes j) ∷ []) work log
     unfolding routeReply
-    route-work h = rw (lt-leb 1 (faultyJob j) sound, lt-ltb (length work) (workNeeded (nodes j)) h)
+    route-work = tested-work j work log (negotiated (joined j) work log) sound
 
     module _ (enough : workNeeded (nodes j) ≤ length work) where
       pub route-unreachable :
           unreachableNet (joined j) < nets j
           → routeReply j work log ≡ refusedReply (7 ∷ unreachableNet (joined j) ∷ unreachablePlace (joined j) ∷ []) (cleared (nodes j) [] work) log
       unfolding routeReply
-      route-unreachable h =
-          rw
-          (lt-leb 1 (faultyJob j) sound, le-ltb (length work) (workNeeded (nodes j)) enough, lt-ltb (unreachableNet (joined j)) (nets j) h)
-
-      -- what stays is the reply of the joined nets
-      pub route-joined : routeReply j work log ≡ reachedReply (joined j) work log (negotiated (joined j) work log)
-      unfolding routeReply
-      route-joined = rw (lt-leb 1 (faultyJob j) sound, le-ltb (length work) (workNeeded (nodes j)) enough)
+      route-unreachable h = tested-joined j work log (negotiated (joined j) work log) sound enough ∙ rw (lt-ltb (unreachableNet (joined j)) (nets j) h)
 
       pub route-run : nets j ≤ unreachableNet (joined j) → routeReply j work log ≡ negotiated (joined j) work log
       unfolding routeReply
-      route-run h =
-          rw
-          (lt-leb 1 (faultyJob j) sound, le-ltb (length work) (workNeeded (nodes j)) enough, le-ltb (unreachableNet (joined j)) (nets j) h)
+      route-run h = tested-joined j work log (negotiated (joined j) work log) sound enough ∙ rw (le-ltb (unreachableNet (joined j)) (nets j) h)

@@ -62,7 +62,7 @@ unfolding encode
 encode-one r = append-nil (words r)
 
 -- one record more
-begins-more :
+pub begins-more :
     (ws : List ℕ) (rs : List Record) (price : ℕ → ℕ) → Begins ws rs → wholeRecord (after ws rs) ≡ true → costFollows price (after ws rs) ≡ true
     → Begins ws (rs ++ (recordIn price (after ws rs) ∷ []))
 begins-more ws rs price b w c =
@@ -123,7 +123,7 @@ made-none j i t = record { own = tt; source-on = inl refl; once = refl }
 
 -- a path more
 module _ (j : Job) (i : ℕ) (made : List Record) (r : Record) (f : PathHolds j i (treeFrom j i made) (r .sink) (r .path)) where
-  source-more : (made ≡ []) ⊎ (has (source j i) (pathNodes made) ≡ true) → has (source j i) (pathNodes (made ++ (r ∷ []))) ≡ true
+  pub source-more : (made ≡ []) ⊎ (has (source j i) (pathNodes made) ≡ true) → has (source j i) (pathNodes (made ++ (r ∷ []))) ≡ true
   unfolding pathNodes
   source-more before =
       let path = first-there j i (treeFrom j i made) (r .sink) (r .path) f in

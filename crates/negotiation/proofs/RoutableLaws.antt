@@ -12,11 +12,12 @@ use borrow.Author.Tests.{le-leb, leb-true, ltb-true, not-true}
 use Rattle.price.specs.Lists.{every, has, distinct}
 use Rattle.price.proofs.TestLaws.{both-left, both-right}
 use Rattle.price.proofs.ListLaws.{every-at}
+use Rattle.price.specs.Tuning.{tuningSound}
 use Rattle.price.proofs.TuningLaws.{TuningWithin, tuning-within}
 use Rattle.search.specs.Replies as search
 use Rattle.search.proofs.TableLaws.{sinks-all}
 use Rattle.job.specs.Job.{Job, nodes, nets, source, netSinks}
-use Rattle.job.specs.Tables.{netSound, sinksSound, limitSound, termsSound, SoundJob}
+use Rattle.job.specs.Tables.{netSound, sinksSound, limitSound, ruleSound, termsSound, SoundJob}
 use Rattle.negotiation.specs.Routable.{Routable}
 use Rattle.negotiation.specs.Machine.{hasSinks}
 use Rattle.job.proofs.JobLaws.{firsts-long, firsts-most, firsts-order, limit-least, net-rule, source-below, sources-few, sources-some}
@@ -44,7 +45,7 @@ module _ (j : Job) (s : SoundJob j) where
   order i h = firsts-order _ _ _ (s .firstSinks-sound) i h
 
   pub routable-of : Routable j
-  unfolding termsSound limitSound sinksSound
+  unfolding termsSound ruleSound limitSound sinksSound
   routable-of =
       record {
         block-sound = s .block-sound;
@@ -59,6 +60,10 @@ module _ (j : Job) (s : SoundJob j) where
         limit-some = limit-least (j .terms .limit) (both-left _ _ (s .terms-sound));
         limit-few = leb-true _ _ (both-right (leb 1 (j .terms .limit)) _ (both-left _ _ (s .terms-sound)));
         tuning-sound = both-left _ _ (both-right (limitSound (j .terms .limit)) _ (s .terms-sound));
+        until-some =
+            leb-true _ _
+            (both-left _ _
+            (both-left _ _ (both-right (tuningSound (j .terms .tuning)) _ (both-right (limitSound (j .terms .limit)) _ (s .terms-sound)))));
       }
 
   -- every net of a sound job has sinks

@@ -12,7 +12,7 @@ use Rattle.search.specs.Distance.{inTree, treeDistances, nearer, round, rounds,
 use Rattle.search.specs.Turn.{priceAt, openDistance, before, back, pathTo, openDistances, joinAt, turn}
 use Rattle.search.specs.Replies.{cleared}
 use Rattle.job.specs.Job.{netSinks}
-use Rattle.job.specs.Tables.{sourcesSound, firstSinksSound, netSound, sinksSound, limitSound, termsSound, oneOf, pinsOf, faultyNets, faultyJob}
+use Rattle.job.specs.Tables.{sourcesSound, firstSinksSound, netSound, sinksSound, limitSound, ruleSound, termsSound, oneOf, pinsOf, faultyNets, faultyJob}
 use Rattle.negotiation.specs.Records.{words, encode, fitting, pathNodes}
 use Rattle.job.specs.Join.{firstOf, leads, placesFrom, listedPlaces, taking, placesOfFirst, joinedPlaces, placesBefore}
 use Rattle.negotiation.specs.Machine.{othersOf, usersOf, marksOf, congestionFor, turnOf, turnsOf, netRecords, hasSinks, allDue, crowded, due, afterNets, iterate, overfull, overCount, moveOn, firstState, stateAfter, recordsAfter, settlesAt}
@@ -23,7 +23,7 @@ use Rattle.negotiation.specs.Samples.{answer, jobB, jobC, jobCut, jobDia
 unfoldable pub computing : Unit {0}
 unfolding routeReply continued endNumbers logWith cutIteration loggedRecords allRecords iterationsLeft iterationsMade unreachablePlace unreachableNet hasPath
     settlesAt recordsAfter stateAfter firstState moveOn overCount overfull iterate afterNets due allDue crowded hasSinks netRecords turnsOf turnOf congestionFor marksOf usersOf othersOf
-    pathNodes fitting encode words faultyJob faultyNets pinsOf oneOf termsSound tuningSound limitSound sinksSound netSound firstSinksSound sourcesSound netSinks cleared
+    pathNodes fitting encode words faultyJob faultyNets pinsOf oneOf ruleSound termsSound tuningSound limitSound sinksSound netSound firstSinksSound sourcesSound netSinks cleared
     placesBefore joinedPlaces placesOfFirst taking listedPlaces placesFrom leads firstOf
     turn joinAt openDistances pathTo back before openDistance priceAt distances rounds round nearer treeDistances inTree pathCost
     faultyTable edgeTargetsSound rowSound firstEdgesSound capacitiesSound kindsSound hasEdge row nextHistory nextFactor priceOf overuse baseCost

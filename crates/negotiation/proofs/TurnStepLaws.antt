@@ -89,7 +89,7 @@ encode-one : (r : Record) → encode (r ∷ []) ≡ words r
 unfolding encode
 encode-one r = append-nil (words r)
 
-encode-more : (rs : List Record) (r : Record) → encode (rs ++ (r ∷ [])) ≡ encode rs ++ words r
+pub encode-more : (rs : List Record) (r : Record) → encode (rs ++ (r ∷ [])) ≡ encode rs ++ words r
 encode-more rs r = rw (encode-append rs (r ∷ []), encode-one r)
 
 -- one record more is written behind the others
@@ -143,7 +143,7 @@ tallied-slice rs ss log₀ t log first a e =
 
 -- ---- nodes of paths
 
-below-append : (n : ℕ) (xs ys : List ℕ) → AllBelow n xs → AllBelow n ys → AllBelow n (xs ++ ys)
+pub below-append : (n : ℕ) (xs ys : List ℕ) → AllBelow n xs → AllBelow n ys → AllBelow n (xs ++ ys)
 below-append n xs ys p q k l =
     let all = length-append xs ys in
     ⊎-elim

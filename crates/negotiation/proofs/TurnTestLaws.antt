@@ -19,7 +19,7 @@ use Rattle.search.specs.Block.{Block, nodes}
 use Rattle.search.specs.Turn.{Congestion, priceAt}
 use Rattle.negotiation.specs.Resume.{pathIn}
 use Rattle.job.specs.Steps.{Stored}
-use Rattle.negotiation.specs.ResumeSteps.{passCost, TurnReady, PassReady, costsOf, PathMarked, costIs, frameFollows, turnPasses}
+use Rattle.negotiation.specs.ResumeSteps.{passCost, RecordReady, PassReady, costsOf, PathMarked, costIs, frameFollows, turnPasses}
 use Rattle.negotiation.specs.declared.follow.PathCost.{PathCost}
 use Rattle.negotiation.specs.declared.follow.PathCost.the-variants.{Cost, Strays}
 use Rattle.negotiation.proofs.FrameLaws.{pathCount, path-read, frame-at}
@@ -35,7 +35,7 @@ module _ (log : List ℕ) (at cost : ℕ) where
 
 -- ---- the record
 
-module _ {b : Block} {c : Congestion} {goals marks log : List ℕ} {at : ℕ} (ready : TurnReady b c goals marks log at) (iteration net : ℕ) where
+module _ {b : Block} {c : Congestion} {goals marks log : List ℕ} {at : ℕ} (ready : RecordReady b c goals marks log at) (iteration net : ℕ) where
   abbrev passes : Bool
   passes = turnPasses b (priceAt b c) goals marks iteration net (drop at log)
 

@@ -13,5 +13,6 @@ pub mod Steps
 pub mod Kept
 pub mod JoinSteps
 pub mod ResumeSteps
+pub mod TakeSteps
 pub mod Flood
 pub mod Samples

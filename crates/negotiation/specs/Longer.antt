@@ -21,7 +21,7 @@ withLimit j limit =
       sources = j .sources;
       firstSinks = j .firstSinks;
       sinks = j .sinks;
-      terms = record { limit = limit; tuning = j .terms .tuning; rule = j .terms .rule };
+      terms = record { limit = limit; tuning = j .terms .tuning; rule = j .terms .rule; until = j .terms .until };
     }
 
 -- "work and log long enough": 8 × nodes entries, and the words of all turns of its joined nets

@@ -89,10 +89,10 @@ hasSinks j i = leb 1 (length (netSinks j i))
 unfoldable pub overfull : Job → List (List ℕ) → ℕ → Bool
 overfull j trees v = ltb (getD (j .block .capacities) v 0) (usersOf j trees v)
 
--- request 2.7: "Under rule 1, or without the line, negotiation and log are as before. Under rule 2, from iteration 2 on, only" some nets
--- make turns: else an iteration takes every net
+-- request 2.7: "Under rule 1, or without the line, negotiation and log are as before." Under rule 2 only some nets make turns, by request
+-- 2.8 from the iteration after k on: "rule 1 up to iteration k, rule 2 after it". Else an iteration takes every net
 unfoldable pub allDue : Terms → ℕ → Bool
-allDue g t = either (eqb (g .rule) 1) (leb t 1)
+allDue g t = either (eqb (g .rule) 1) (leb t (g .until))
 
 -- "nets whose tree at the iteration's start has an overfull node"
 unfoldable pub crowded : Job → List (List ℕ) → ℕ → Bool

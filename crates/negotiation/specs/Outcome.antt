@@ -79,7 +79,7 @@ wordsUsed r = take (r .used) (r .log)
 abbrev pub turnsLogged : RouteReply → List Record
 turnsLogged r = decode (wordsUsed r)
 
--- 01's numbers for each case of the outcome, beside iteration and turns
+-- 01's numbers for each case of the outcome, and request 2.8's 14, beside iteration and turns
 abbrev pub routeRefusal : Outcome → ℕ → ℕ → List ℕ
 routeRefusal o.Accepted iteration turns = []
 routeRefusal (o.Unreachable net place) iteration turns = 7 ∷ net ∷ place ∷ []
@@ -87,6 +87,7 @@ routeRefusal o.LogFull iteration turns = 8 ∷ iteration ∷ turns ∷ []
 routeRefusal (o.Limit over) iteration turns = 9 ∷ iteration ∷ over ∷ []
 routeRefusal (o.BadTable table) iteration turns = 5 ∷ table ∷ []
 routeRefusal (o.ShortWork needed) iteration turns = 6 ∷ needed ∷ []
+routeRefusal (o.Diverges word) iteration turns = 14 ∷ word ∷ []
 
 -- the answer with work slice and log at the call's end, as one value
 abbrev pub routeReplyOf : RouteAnswer → List ℕ → List ℕ → RouteReply

@@ -18,7 +18,9 @@ use Rattle.job.specs.Join.{joined}
 use Rattle.negotiation.specs.Records.{Record, recordOf, encode}
 use Rattle.negotiation.specs.Machine.{State, Progress, congestionFor, treeFrom, withNet, due, overCount, moveOn, firstState}
 use Rattle.negotiation.specs.Machine.{recordsAfter, settlesAt}
-use Rattle.negotiation.specs.Outcome.{RouteReply, refusedReply, continued, tested}
+use Rattle.negotiation.specs.Outcome.{RouteReply, refusedReply, continued, negotiated, tested}
+use Rattle.negotiation.specs.declared.Start.{Start}
+use Rattle.negotiation.specs.declared.Start.the-variants.{Anew, After}
 
 -- ---- one record
 
@@ -145,9 +147,17 @@ pub record OwnLog (j : Job) (m used : ℕ) (log : List ℕ) : Type 0 where
 
 -- ---- what resume answers
 
+-- a log that doesn't follow: "Turned away: number 14 with the word place of the first record that doesn't follow, ..", "the work is zeroed,
+-- and the log stays as lent". One that follows: "rebuilds histories, factor and trees, and appends turns"
 abbrev pub resumedReply : Job → Replay → List ℕ → List ℕ → RouteReply
 resumedReply j (off word) work log = refusedReply (14 ∷ word ∷ []) (cleared (nodes j) [] work) log
 resumedReply j (on p) work log = continued j p work log
 
+-- the reply of a run of joined nets that starts with iteration 1, or after the words used of a lent log
+abbrev pub runFrom : Start → Job → List ℕ → List ℕ → RouteReply
+runFrom Anew j work log = negotiated j work log
+runFrom (After used) j work log = resumedReply j (replay j used log) work log
+
+-- "it comes after 7": the tests of a job as it is given come first, as `route` has them
 unfoldable pub resumeReply : Job → ℕ → List ℕ → List ℕ → RouteReply
 resumeReply j used work log = tested j work log (resumedReply (joined j) (replay (joined j) used log) work log)

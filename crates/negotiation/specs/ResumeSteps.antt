@@ -38,7 +38,7 @@ passCost b price goals marks [] = []
 passCost b price goals marks (u ∷ rest) = choose (eqb (getD marks u 0) 1) (stepsCost b price goals marks u 0 rest) []
 
 -- a turn can be tested: tables and numbers keep their rules, each node has its mark and goal, and the place is within the log
-pub record TurnReady (b : Block) (c : Congestion) (goals marks log : List ℕ) (at : ℕ) : Type 0 where
+pub record RecordReady (b : Block) (c : Congestion) (goals marks log : List ℕ) (at : ℕ) : Type 0 where
   pub sound : Sound b
   pub prices : (v : ℕ) → v < nodes b → PriceReady (b .kinds) (b .capacities) (c .histories) (c .others) (c .factor) v
   pub marks-long : length marks ≡ nodes b
@@ -47,7 +47,7 @@ pub record TurnReady (b : Block) (c : Congestion) (goals marks log : List ℕ) (
 
 -- a pass can be made: all that, at the place where the path ends, and the path has words, no more than there are nodes
 pub record PassReady (b : Block) (c : Congestion) (goals marks log : List ℕ) (from to : ℕ) : Type 0 where
-  pub turn : TurnReady b c goals marks log to
+  pub turn : RecordReady b c goals marks log to
   pub some : from < to
   pub few : to ≤ from + nodes b
 

@@ -27,3 +27,4 @@ pub record Routable (j : Job) : Type 0 where
   pub limit-some : 1 ≤ j .terms .limit
   pub limit-few : j .terms .limit ≤ limitMost
   pub tuning-sound : tuningSound (j .terms .tuning) ≡ true
+  pub until-some : 1 ≤ j .terms .until

@@ -12,14 +12,14 @@ ghost use Rattle.negotiation.specs.Steps.{Whole, someOver, takes, DueRea
 use crate::tariff::Tariff;
 use job::Terms;
 
-// Every net that has sinks is due: under rule 1, and in iteration 1.
+// Every net that has sinks is due: under rule 1, and up to the iteration after which rule 2 is followed.
 fn all_due(terms: Terms, iteration: u32) -> bool
     ensures { λ r. ⌜ r ≡ allDue terms iteration ⌝ }
 {
     if terms.rule == 1 {
         return true;
     }
-    iteration <= 1
+    iteration <= terms.until
 }
 
 // One of the nodes in the log from `from` to below `to` has more users than its capacity.

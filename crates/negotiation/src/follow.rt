@@ -12,7 +12,7 @@ ghost use Rattle.search.specs.Tables.{Graph};
 ghost use Rattle.search.specs.Turn.{congestionOf, priceAt};
 ghost use Rattle.search.specs.Frontier.{PriceReady};
 ghost use Rattle.negotiation.specs.Resume.{pathIn};
-ghost use Rattle.negotiation.specs.ResumeSteps.{stepPasses, passCost, TurnReady, PassReady, costsOf, PathMarked};
+ghost use Rattle.negotiation.specs.ResumeSteps.{stepPasses, passCost, RecordReady, PassReady, costsOf, PathMarked};
 ghost use Rattle.negotiation.specs.ResumeSteps.{costIs, frameFollows, turnPasses};
 ghost use Rattle.job.specs.Steps.{Stored};
 use crate::tariff::Tariff;
@@ -205,7 +205,7 @@ pub fn follow_turn(
     requires { do
       let block = blockOf (now kind) (now capacity) (now «first_edge») (now «edge_target»)
       let congestion = congestionOf (tariff .factor) (now history) (now users)
-      ⌜ TurnReady block congestion (now goals) (now «in_tree») (now log) (tariff .words) ⌝ }
+      ⌜ RecordReady block congestion (now goals) (now «in_tree») (now log) (tariff .words) ⌝ }
     ensures { λ r. do
       let block = blockOf (now (kind .entry)) (now (capacity .entry)) (now («first_edge» .entry)) (now («edge_target» .entry))
       let price = priceAt block (congestionOf (tariff .factor) (now (history .entry)) (now (users .entry)))

@@ -4,8 +4,12 @@ ghost use Prim.Native.Nat.{_*_, _≤_};
 ghost use lib.ListN.{length};
 ghost use Rattle.job.specs.Job.{jobOf, nodes};
 ghost use Rattle.negotiation.specs.Routable.{Routable};
-ghost use Rattle.negotiation.specs.Outcome.{refusedAnswer, routeReplyOf, negotiated, reachedReply, routeReply};
+ghost use Rattle.negotiation.specs.Outcome.{refusedAnswer, routeReplyOf, reachedReply, tested, routeReply};
 ghost use Rattle.negotiation.specs.Demand.{Demand3};
+ghost use Rattle.job.specs.Join.{joined};
+ghost use Rattle.negotiation.specs.Resume.{runFrom, resumeReply};
+ghost use Rattle.negotiation.specs.Resumed.{Resumed};
+ghost use Rattle.negotiation.specs.TakeSteps.{SinksOnce};
 
 // The most entries of table 6: one more than nets.
 const FIRST_SINKS_MOST: usize = 513;
@@ -24,6 +28,8 @@ pub enum Outcome {
     BadTable(u32),
     // 6: the work slice is shorter than this many entries.
     ShortWork(u64),
+    // 14: the record at this word of a lent log does not follow the job.
+    Diverges(u64),
 }
 
 // The answer: how the run ended, beside iteration, turns made and words used.
@@ -34,6 +40,14 @@ pub struct RouteAnswer {
     pub used: u64,
 }
 
+// Where a run starts.
+enum Start {
+    // With iteration 1.
+    Anew,
+    // After so many words of a lent log.
+    After(usize),
+}
+
 mod congestion;
 mod due;
 mod flood;
@@ -42,6 +56,7 @@ mod join;
 mod nets;
 mod reach;
 mod records;
+mod take_up;
 mod tariff;
 mod trees;
 mod turns;
@@ -62,7 +77,7 @@ fn refused(outcome: Outcome) -> RouteAnswer
     }
 }
 
-// Routes a job of joined nets: refusal 7, then the negotiation.
+// Routes a job of joined nets from a start: refusal 7, then the negotiation.
 fn route_joined(
     kind: &[u8],
     capacity: &[u8],
@@ -72,16 +87,17 @@ fn route_joined(
     first_sink: &[u32],
     sink: &[u16],
     terms: Terms,
+    start: Start,
     work: &mut [u64],
     log: &mut [u32],
 ) -> RouteAnswer
     requires { do
       let job = jobOf (now kind) (now capacity) (now «first_edge») (now «edge_target») (now source) (now «first_sink») (now sink) terms
-      ⌜ Routable job × (8 * nodes job ≤ length (now work)) ⌝ }
+      ⌜ Routable job × SinksOnce job × (8 * nodes job ≤ length (now work)) ⌝ }
     ensures { λ r. do
       let job = jobOf (now (kind .entry)) (now (capacity .entry)) (now («first_edge» .entry)) (now («edge_target» .entry))
           (now (source .entry)) (now («first_sink» .entry)) (now (sink .entry)) terms
-      let run = negotiated job (now (work .entry)) (now (log .entry))
+      let run = runFrom start job (now (work .entry)) (now (log .entry))
       ⌜ routeReplyOf r (now (work .exit)) (now (log .exit)) ≡ reachedReply job (now (work .entry)) (now (log .entry)) run ⌝ }
 {
     match reach::unreachable(
@@ -109,14 +125,15 @@ fn route_joined(
             first_sink,
             sink,
             terms,
+            start,
             work,
             log,
         ),
     }
 }
 
-// Routes a job given as tables: refusals 5 and 6; then nets of one source are joined, and the joined nets are routed.
-pub fn route(
+// Routes a job given as tables from a start: refusals 5 and 6; then nets of one source are joined, and the joined nets are routed.
+fn routed_from(
     kind: &[u8],
     capacity: &[u8],
     first_edge: &[u32],
@@ -125,17 +142,15 @@ pub fn route(
     first_sink: &[u32],
     sink: &[u16],
     terms: Terms,
+    start: Start,
     work: &mut [u64],
     log: &mut [u32],
 ) -> RouteAnswer
-    ensures answers { λ r. do
+    ensures { λ r. do
       let job = jobOf (now (kind .entry)) (now (capacity .entry)) (now («first_edge» .entry)) (now («edge_target» .entry))
           (now (source .entry)) (now («first_sink» .entry)) (now (sink .entry)) terms
-      ⌜ routeReplyOf r (now (work .exit)) (now (log .exit)) ≡ routeReply job (now (work .entry)) (now (log .entry)) ⌝ }
-    ensures demand { λ r. do
-      let job = jobOf (now (kind .entry)) (now (capacity .entry)) (now («first_edge» .entry)) (now («edge_target» .entry))
-          (now (source .entry)) (now («first_sink» .entry)) (now (sink .entry)) terms
-      ⌜ Demand3 job (now (work .entry)) (now (log .entry)) (routeReplyOf r (now (work .exit)) (now (log .exit))) ⌝ }
+      let run = runFrom start (joined job) (now (work .entry)) (now (log .entry))
+      ⌜ routeReplyOf r (now (work .exit)) (now (log .exit)) ≡ tested job (now (work .entry)) (now (log .entry)) run ⌝ }
 {
     let table = job::faulty_job(
         kind,
@@ -167,6 +182,82 @@ pub fn route(
         &firsts[..ends],
         &sinks[..count],
         terms,
+        start,
+        work,
+        log,
+    )
+}
+
+// Routes a job given as tables.
+pub fn route(
+    kind: &[u8],
+    capacity: &[u8],
+    first_edge: &[u32],
+    edge_target: &[u16],
+    source: &[u16],
+    first_sink: &[u32],
+    sink: &[u16],
+    terms: Terms,
+    work: &mut [u64],
+    log: &mut [u32],
+) -> RouteAnswer
+    ensures answers { λ r. do
+      let job = jobOf (now (kind .entry)) (now (capacity .entry)) (now («first_edge» .entry)) (now («edge_target» .entry))
+          (now (source .entry)) (now («first_sink» .entry)) (now (sink .entry)) terms
+      ⌜ routeReplyOf r (now (work .exit)) (now (log .exit)) ≡ routeReply job (now (work .entry)) (now (log .entry)) ⌝ }
+    ensures demand { λ r. do
+      let job = jobOf (now (kind .entry)) (now (capacity .entry)) (now («first_edge» .entry)) (now («edge_target» .entry))
+          (now (source .entry)) (now («first_sink» .entry)) (now (sink .entry)) terms
+      ⌜ Demand3 job (now (work .entry)) (now (log .entry)) (routeReplyOf r (now (work .exit)) (now (log .exit))) ⌝ }
+{
+    routed_from(
+        kind,
+        capacity,
+        first_edge,
+        edge_target,
+        source,
+        first_sink,
+        sink,
+        terms,
+        Start::Anew,
+        work,
+        log,
+    )
+}
+
+// Goes on from the words used of a lent log, which must follow the job.
+pub fn resume(
+    kind: &[u8],
+    capacity: &[u8],
+    first_edge: &[u32],
+    edge_target: &[u16],
+    source: &[u16],
+    first_sink: &[u32],
+    sink: &[u16],
+    terms: Terms,
+    used: u64,
+    work: &mut [u64],
+    log: &mut [u32],
+) -> RouteAnswer
+    ensures answers { λ r. do
+      let job = jobOf (now (kind .entry)) (now (capacity .entry)) (now («first_edge» .entry)) (now («edge_target» .entry))
+          (now (source .entry)) (now («first_sink» .entry)) (now (sink .entry)) terms
+      ⌜ routeReplyOf r (now (work .exit)) (now (log .exit)) ≡ resumeReply job used (now (work .entry)) (now (log .entry)) ⌝ }
+    ensures resumed { λ r. do
+      let job = jobOf (now (kind .entry)) (now (capacity .entry)) (now («first_edge» .entry)) (now («edge_target» .entry))
+          (now (source .entry)) (now («first_sink» .entry)) (now (sink .entry)) terms
+      ⌜ Resumed job used (now (work .entry)) (now (log .entry)) (routeReplyOf r (now (work .exit)) (now (log .exit))) ⌝ }
+{
+    routed_from(
+        kind,
+        capacity,
+        first_edge,
+        edge_target,
+        source,
+        first_sink,
+        sink,
+        terms,
+        Start::After(used as usize),
         work,
         log,
     )

@@ -10,15 +10,21 @@ ghost use Rattle.search.specs.Turn.{congestionOf, priceAt, turn};
 ghost use Rattle.job.specs.Job.{jobOf, nodes, nets};
 ghost use Rattle.negotiation.specs.Routable.{Routable};
 ghost use Rattle.negotiation.specs.Machine.{Progress};
-ghost use Rattle.negotiation.specs.Outcome.{unreachableNet, continued, negotiated, routeReplyOf};
+ghost use Rattle.negotiation.specs.Outcome.{unreachableNet, begun as unbegun, continued, routeReplyOf};
 ghost use Rattle.negotiation.specs.Steps.{SameFrom, TurnDone, CanTurn};
 ghost use Rattle.negotiation.specs.Kept.{Ready, Stands};
+ghost use Rattle.negotiation.specs.Resume.{runFrom};
+ghost use Rattle.negotiation.specs.TakeSteps.{SinksOnce, Started};
 use crate::Outcome;
 use crate::RouteAnswer;
+use crate::Start;
 use crate::congestion;
 use crate::due;
 use crate::nets;
 use crate::records;
+use crate::refused;
+use crate::take_up;
+use crate::take_up::Taken;
 use crate::tariff;
 use crate::tariff::Tariff;
 use crate::trees;
@@ -250,7 +256,146 @@ fn go_on(
     answer(Outcome::LogFull, tariff)
 }
 
-// The negotiation: the lists of a run that begins, and its iterations.
+// Where a run starts: as it is begun, or after the words of a lent log, which is taken up.
+fn start_at(
+    kind: &[u8],
+    capacity: &[u8],
+    first_edge: &[u32],
+    edge_target: &[u16],
+    source: &[u16],
+    first_sink: &[u32],
+    sink: &[u16],
+    terms: Terms,
+    start: Start,
+    begun: Tariff,
+    history: &mut [u32],
+    users: &mut [u16],
+    in_tree: &mut [u8],
+    tree_from: &mut [usize],
+    tree_to: &mut [usize],
+    due: &mut [u8],
+    log: &[u32],
+) -> Taken
+    requires { do
+      let job = jobOf (now kind) (now capacity) (now «first_edge») (now «edge_target») (now source) (now «first_sink») (now sink) terms
+      ⌜ Routable job × SinksOnce job ⌝ }
+    requires { do
+      let job = jobOf (now kind) (now capacity) (now «first_edge») (now «edge_target») (now source) (now «first_sink») (now sink) terms
+      ⌜ Ready job (unbegun job) begun (now history) (now users) (now «in_tree») (now «tree_from») (now «tree_to») (now due)
+          (now log) ⌝ }
+    ensures { λ r. do
+      let job = jobOf (now (kind .entry)) (now (capacity .entry)) (now («first_edge» .entry)) (now («edge_target» .entry))
+          (now (source .entry)) (now («first_sink» .entry)) (now (sink .entry)) terms
+      ⌜ Started r start job (now (history .exit)) (now (users .exit)) (now («in_tree» .exit)) (now («tree_from» .exit))
+          (now («tree_to» .exit)) (now (due .exit)) (now (log .entry)) ⌝ }
+{
+    match start {
+        Start::Anew => Taken::On(begun),
+        Start::After(used) => {
+            if log.len() < used {
+                return Taken::Off(log.len());
+            }
+            take_up::take_up(
+                kind,
+                capacity,
+                first_edge,
+                edge_target,
+                source,
+                first_sink,
+                sink,
+                terms,
+                begun,
+                history,
+                users,
+                in_tree,
+                tree_from,
+                tree_to,
+                due,
+                &log[..used],
+            )
+        }
+    }
+}
+
+// The run that starts so: its iterations, or nothing but refusal 14.
+fn run_from(
+    kind: &[u8],
+    capacity: &[u8],
+    first_edge: &[u32],
+    edge_target: &[u16],
+    source: &[u16],
+    first_sink: &[u32],
+    sink: &[u16],
+    terms: Terms,
+    start: Start,
+    begun: Tariff,
+    history: &mut [u32],
+    users: &mut [u16],
+    in_tree: &mut [u8],
+    tree_from: &mut [usize],
+    tree_to: &mut [usize],
+    due: &mut [u8],
+    work: &mut [u64],
+    log: &mut [u32],
+) -> RouteAnswer
+    requires { do
+      let job = jobOf (now kind) (now capacity) (now «first_edge») (now «edge_target») (now source) (now «first_sink») (now sink) terms
+      ⌜ Routable job × SinksOnce job × (nets job ≤ unreachableNet job) × (8 * nodes job ≤ length (now work)) ⌝ }
+    requires { do
+      let job = jobOf (now kind) (now capacity) (now «first_edge») (now «edge_target») (now source) (now «first_sink») (now sink) terms
+      ⌜ Ready job (unbegun job) begun (now history) (now users) (now «in_tree») (now «tree_from») (now «tree_to») (now due)
+          (now log) ⌝ }
+    ensures { λ r. do
+      let job = jobOf (now (kind .entry)) (now (capacity .entry)) (now («first_edge» .entry)) (now («edge_target» .entry))
+          (now (source .entry)) (now («first_sink» .entry)) (now (sink .entry)) terms
+      ⌜ routeReplyOf r (now (work .exit)) (now (log .exit)) ≡ runFrom start job (now (work .entry)) (now (log .entry)) ⌝ }
+{
+    match start_at(
+        kind,
+        capacity,
+        first_edge,
+        edge_target,
+        source,
+        first_sink,
+        sink,
+        terms,
+        start,
+        begun,
+        history,
+        users,
+        in_tree,
+        tree_from,
+        tree_to,
+        due,
+        log,
+    ) {
+        Taken::Off(word) => {
+            clear(work, 8 * kind.len());
+            refused(Outcome::Diverges(word as u64))
+        }
+        Taken::On(tariff) => go_on(
+            kind,
+            capacity,
+            first_edge,
+            edge_target,
+            source,
+            first_sink,
+            sink,
+            terms,
+            tariff,
+            history,
+            users,
+            in_tree,
+            tree_from,
+            tree_to,
+            due,
+            work,
+            log,
+        ),
+    }
+}
+
+// The negotiation: the lists and the tariff of a run that begins, and the run from its start.
 pub fn negotiate(
     kind: &[u8],
     capacity: &[u8],
@@ -260,16 +405,17 @@ pub fn negotiate(
     first_sink: &[u32],
     sink: &[u16],
     terms: Terms,
+    start: Start,
     work: &mut [u64],
     log: &mut [u32],
 ) -> RouteAnswer
     requires { do
       let job = jobOf (now kind) (now capacity) (now «first_edge») (now «edge_target») (now source) (now «first_sink») (now sink) terms
-      ⌜ Routable job × (nets job ≤ unreachableNet job) × (8 * nodes job ≤ length (now work)) ⌝ }
+      ⌜ Routable job × SinksOnce job × (nets job ≤ unreachableNet job) × (8 * nodes job ≤ length (now work)) ⌝ }
     ensures { λ r. do
       let job = jobOf (now (kind .entry)) (now (capacity .entry)) (now («first_edge» .entry)) (now («edge_target» .entry))
           (now (source .entry)) (now («first_sink» .entry)) (now (sink .entry)) terms
-      ⌜ routeReplyOf r (now (work .exit)) (now (log .exit)) ≡ negotiated job (now (work .entry)) (now (log .entry)) ⌝ }
+      ⌜ routeReplyOf r (now (work .exit)) (now (log .exit)) ≡ runFrom start job (now (work .entry)) (now (log .entry)) ⌝ }
 {
     let n = kind.len();
     let nets = source.len();
@@ -285,7 +431,7 @@ pub fn negotiate(
         turns: 0,
         words: 0,
     };
-    go_on(
+    run_from(
         kind,
         capacity,
         first_edge,
@@ -294,6 +440,7 @@ pub fn negotiate(
         first_sink,
         sink,
         terms,
+        start,
         begun,
         &mut history[..n],
         &mut users[..n],

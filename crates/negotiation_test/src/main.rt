@@ -1,5 +1,5 @@
-// The router, a line for each case of the file stdin, which docs/CASES.md describes: the answer, then the whole work slice and the whole
-// log afterwards. The expected lines stand in the file stdout.
+// The router and resume, a line for each case of the file stdin, which docs/CASES.md describes: the answer, then the whole work slice and
+// the whole log afterwards. The expected lines stand in the file stdout.
 use cases::lines;
 use cases::read;
 use cases::show;
@@ -38,6 +38,9 @@ fn outcome(r: RouteAnswer) {
         Outcome::ShortWork(needed) => {
             one_number(6, needed);
         }
+        Outcome::Diverges(word) => {
+            one_number(14, word);
+        }
     }
 }
 
@@ -50,8 +53,8 @@ fn answer(r: RouteAnswer) {
     show::entry(r.used);
 }
 
-// The limit, the tuning and the rule, as the numbers of line 1 have them.
-fn terms(n: [u32; 8]) -> Terms {
+// The limit, the tuning, the rule and its k, as the numbers of line 1 have them.
+fn terms(n: [u32; 9]) -> Terms {
     let tuning = Tuning {
         first: n[1],
         up: n[2],
@@ -62,6 +65,7 @@ fn terms(n: [u32; 8]) -> Terms {
         limit: n[0],
         tuning: tuning,
         rule: n[5],
+        until: n[6],
     }
 }
 
@@ -103,12 +107,12 @@ fn memory(
     source: &[u16],
     first_sink: &[u32],
     sink: &[u16],
-    n: [u32; 8],
+    n: [u32; 9],
 ) {
     let mut work = [7u64; 128];
     let mut log = [7u32; 256];
-    let entries = read::of_entries(n[6], &work);
-    let words = read::of_words(n[7], &log);
+    let entries = read::of_entries(n[7], &work);
+    let words = read::of_words(n[8], &log);
     line(
         kind,
         capacity,
@@ -123,6 +127,119 @@ fn memory(
     );
 }
 
+// Calls resume and prints the answer, the work slice and the log.
+fn resume_line(
+    kind: &[u8],
+    capacity: &[u8],
+    first_edge: &[u32],
+    edge_target: &[u16],
+    source: &[u16],
+    first_sink: &[u32],
+    sink: &[u16],
+    terms: Terms,
+    used: u64,
+    work: &mut [u64],
+    log: &mut [u32],
+) {
+    answer(negotiation::resume(
+        kind,
+        capacity,
+        first_edge,
+        edge_target,
+        source,
+        first_sink,
+        sink,
+        terms,
+        used,
+        work,
+        log,
+    ));
+    show::entries(work, work.len());
+    show::words(log, log.len());
+}
+
+// The work slice as long as the case says, the log as the case has it, and the call.
+fn resume_memory(
+    case: &[u8],
+    kind: &[u8],
+    capacity: &[u8],
+    first_edge: &[u32],
+    edge_target: &[u16],
+    source: &[u16],
+    first_sink: &[u32],
+    sink: &[u16],
+    n: [u32; 9],
+) {
+    let mut work = [7u64; 128];
+    let mut log = [0u32; 256];
+    let entries = read::of_entries(n[8], &work);
+    let words = read::words(case, 9, &mut log);
+    resume_line(
+        kind,
+        capacity,
+        first_edge,
+        edge_target,
+        source,
+        first_sink,
+        sink,
+        terms(n),
+        n[7] as u64,
+        &mut work[..entries],
+        &mut log[..words],
+    );
+}
+
+// Whether the case's call is resume, and not route.
+fn resumes(case: &[u8]) -> bool {
+    lines::call(case, 1) == b'e'
+}
+
+// How many lines the case has: that of a resume has a line for the log.
+fn line_count(case: &[u8]) -> usize {
+    if resumes(case) {
+        return 10;
+    }
+    9
+}
+
+// The call, by its name.
+fn call(
+    case: &[u8],
+    kind: &[u8],
+    capacity: &[u8],
+    first_edge: &[u32],
+    edge_target: &[u16],
+    source: &[u16],
+    first_sink: &[u32],
+    sink: &[u16],
+    n: [u32; 9],
+) {
+    if resumes(case) {
+        resume_memory(
+            case,
+            kind,
+            capacity,
+            first_edge,
+            edge_target,
+            source,
+            first_sink,
+            sink,
+            n,
+        );
+        return;
+    }
+    memory(
+        kind,
+        capacity,
+        first_edge,
+        edge_target,
+        source,
+        first_sink,
+        sink,
+        n,
+    );
+}
+
 // The tables of the nets, and the rest of the case.
 fn nets(
     case: &[u8],
@@ -130,7 +247,7 @@ fn nets(
     capacity: &[u8],
     first_edge: &[u32],
     edge_target: &[u16],
-    n: [u32; 8],
+    n: [u32; 9],
 ) {
     let mut source = [0u16; 64];
     let mut first_sink = [0u32; 64];
@@ -138,7 +255,8 @@ fn nets(
     let sources = read::halves(case, 6, &mut source);
     let places = read::words(case, 7, &mut first_sink);
     let sinks = read::halves(case, 8, &mut sink);
-    memory(
+    call(
+        case,
         kind,
         capacity,
         first_edge,
@@ -151,7 +269,7 @@ fn nets(
 }
 
 // The tables of the block, and the rest of the case.
-fn block(case: &[u8], n: [u32; 8]) {
+fn block(case: &[u8], n: [u32; 9]) {
     let mut kind = [0u8; 64];
     let mut capacity = [0u8; 64];
     let mut first_edge = [0u32; 64];
@@ -171,11 +289,11 @@ fn block(case: &[u8], n: [u32; 8]) {
 }
 
 fn one(case: &[u8]) {
-    let mut n = [0u32; 8];
+    let mut n = [0u32; 9];
     show::name(case);
     let count = read::words(case, 1, &mut n);
-    read::exactly(count, 8);
-    read::end(case, 9);
+    read::exactly(count, 9);
+    read::end(case, line_count(case));
     block(case, n);
     show::line_end();
 }

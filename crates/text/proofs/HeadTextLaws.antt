@@ -22,7 +22,7 @@ use Rattle.text.specs.Printed.{Form, termsText, Allowed}
 use Rattle.text.proofs.PrintLaws.{LineRead, judged-line, line-judged, onward-part, then-part, four-of}
 use Rattle.text.proofs.OptionalTextLaws.{TermsTold, terms-read, linesAfter, terms-printed}
 
--- the bounds of the three counts, of the limit, of the tuning and of the rule
+-- the bounds of the three counts, of the limit, of the tuning, of the rule and of its k
 pub record HeadBounds (c : Counts) : Type 0 where
   pub some-nodes : 1 ≤ c .nodes
   pub few-nodes : c .nodes ≤ nodesMost
@@ -32,7 +32,7 @@ pub record HeadBounds (c : Counts) : Type 0 where
   pub some-turns : 1 ≤ c .terms .limit
   pub few-turns : c .terms .limit ≤ limitMost
   pub tuned : tuningSound (c .terms .tuning) ≡ true
-  pub ruled : ruleSound (c .terms .rule) ≡ true
+  pub ruled : ruleSound (c .terms .rule) (c .terms .until) ≡ true
 
 -- ---- from reading
 
@@ -43,7 +43,8 @@ between-high : (low high x : ℕ) → between low high x ≡ true → x ≤ high
 between-high low high x e = leb-true x high (both-right (leb low x) (leb x high) e)
 
 bounds-hold :
-    (vs : List ℕ) (t : Terms) → headWithin vs ≡ true → t .limit ≡ getD vs 3 0 → tuningSound (t .tuning) ≡ true → ruleSound (t .rule) ≡ true → HeadBounds (countsOf vs t)
+    (vs : List ℕ) (t : Terms) → headWithin vs ≡ true → t .limit ≡ getD vs 3 0 → tuningSound (t .tuning) ≡ true → ruleSound (t .rule) (t .until) ≡ true
+    → HeadBounds (countsOf vs t)
 unfolding headWithin
 bounds-hold vs t e same s r =
     let n = getD vs 0 0 in

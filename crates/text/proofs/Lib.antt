@@ -5,7 +5,7 @@
 --     BranchHolds       the branches of any sound log's routes are those of its nets' final trees
 --     ListedHolds       the B lines list exactly the path steps of each net's latest records, the J lines the nets joined into another
 --     PictureHolds      the picture and the routes text of a sound log list the same branches, and each text determines its list
---     SamplesHold       a record with a node at the bound of nodes is unsound, and a small log's users, computed
+--     SamplesHold       a record with a node at the bound of nodes is unsound, a small log's users, and V lines, computed
 -- A line at a place of the text, for the functions that read it:
 --     FieldLaws         a byte, a number, a field, the fields of a line
 --     SideLaws          two clauses of a contract in a walk by hand

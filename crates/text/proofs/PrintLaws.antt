@@ -1,6 +1,6 @@
 -- Reading a field or a line, and printing it, undo each other.
 --     field-printed, printed-field        a field
---     line-printed, printed-line          a line
+--     line-printed, printed-line          a line; line-longer, one that has too many fields
 --     line-judged, judged-line            a line whose values are tested
 --     one-of, two-of, four-of             the values of a line with one, two or four fields
 --     onward-part, then-part              what comes after a line, and after a part
@@ -156,6 +156,12 @@ fields-printed (v ∷ vs) rest e =
 pub line-printed : (letter : ℕ) (vs rest : List ℕ) → every (λ v. ltb v (10 ^ 6)) vs ≡ true → line letter (length vs) (printLine letter vs ++ rest) ≡ taken vs rest
 unfolding line printLine
 line-printed letter vs rest e = rw (eq-eqb letter letter refl) (fields-printed vs rest e)
+
+-- a line of more fields is none of one
+pub line-longer : (letter v w : ℕ) (ws rest : List ℕ) → v < 10 ^ 6 → line letter 1 (printLine letter (v ∷ w ∷ ws) ++ rest) ≡ malformed
+unfolding line printLine fields printFields
+line-longer letter v w ws rest small =
+    rw (eq-eqb letter letter refl, append-assoc (decimal v) (printFields (w ∷ ws)) rest, field-then v (w ∷ ws) rest small)
 
 with-taken : (v : ℕ) (f : Fields) (vs rest : List ℕ) → withValue v f ≡ taken vs rest → (ws : List ℕ) × (f ≡ taken ws rest) × (vs ≡ v ∷ ws)
 with-taken v (taken ws mid) vs rest e = (ws, (cc), (cc))

@@ -1,13 +1,18 @@
 -- Small logs, computed: a record with a node at the bound of nodes is unsound, and sound where the bound is 4,096; how many nets have each node.
+-- And V lines: what each gives, or its refusal.
 -- Assumes nothing.
 use mathlib.Core.Bool.{true, false}
-use mathlib.Core.List.{List, [], _∷_}
+use mathlib.Core.List.{List, [], _∷_, _++_}
 use mathlib.Core.Path.{_≡_, refl}
 use Prim.Native.Nat.{ℕ}
 use Rattle.price.specs.Bounds.{nodesMost}
 use Rattle.price.specs.Lists.{every, has, upTo, countBelow}
+use Rattle.job.specs.Tables.{oneOf, ruleSound}
 use Rattle.negotiation.specs.Records.{decodeUpTo, decode}
 use Rattle.negotiation.specs.Demand.{nodesIn, latest, treeRead}
+use Rattle.text.specs.Decimal.{isDigit}
+use Rattle.text.specs.Lines.{digitsAfter, field, fields, line}
+use Rattle.text.specs.JobText.{values, refused, ruleFields, ruleWithin, ruleLine}
 use Rattle.text.specs.Routes.{pathSound, recordSound, soundUpTo, soundWords, logSound, lastIteration}
 use Rattle.text.specs.Users.{sound, unsound, logChecked, belowNodes, netsWith, usersReply}
 
@@ -50,3 +55,45 @@ users-are = refl
 pub users-stay : (users : List ℕ) → usersReply (belowNodes 5) twice users ≡ record { told = unsound 9; users = users }
 unfolding testing usersReply
 users-stay users = refl
+
+-- ---- V lines
+
+-- all that a closed V line computes with
+reading : Unit {0}
+unfolding ruleLine ruleWithin ruleSound oneOf ruleFields line fields field digitsAfter isDigit
+reading = tt
+
+-- the bytes of `V,` and these, with LF
+abbrev lineV : List ℕ → List ℕ
+lineV bs = 86 ∷ 44 ∷ (bs ++ (10 ∷ []))
+
+-- `V,2` and `V,1`
+pub rule-2-alone : ruleLine (lineV (50 ∷ [])) ≡ values (2 ∷ 1 ∷ []) []
+unfolding reading
+rule-2-alone = refl
+
+pub rule-1-alone : ruleLine (lineV (49 ∷ [])) ≡ values (1 ∷ 1 ∷ []) []
+unfolding reading
+rule-1-alone = refl
+
+-- `V,2,99`, `V,2,100` and `V,2,0`
+pub last-k : ruleLine (lineV (50 ∷ 44 ∷ 57 ∷ 57 ∷ [])) ≡ values (2 ∷ 99 ∷ []) []
+unfolding reading
+last-k = refl
+
+pub k-too-high : ruleLine (lineV (50 ∷ 44 ∷ 49 ∷ 48 ∷ 48 ∷ [])) ≡ refused 2
+unfolding reading
+k-too-high = refl
+
+pub k-too-low : ruleLine (lineV (50 ∷ 44 ∷ 48 ∷ [])) ≡ refused 2
+unfolding reading
+k-too-low = refl
+
+-- `V,1,5` and `V,3,5`
+pub rule-1-with-k : ruleLine (lineV (49 ∷ 44 ∷ 53 ∷ [])) ≡ refused 1
+unfolding reading
+rule-1-with-k = refl
+
+pub rule-3-with-k : ruleLine (lineV (51 ∷ 44 ∷ 53 ∷ [])) ≡ refused 2
+unfolding reading
+rule-3-with-k = refl

@@ -187,7 +187,7 @@ module _ (j : Job) (s : SoundJob j) where
   unfolding termsSound
   counts-within =
       let asked =
-      both-right (limitSound (j .terms .limit)) (both (tuningSound (j .terms .tuning)) (ruleSound (j .terms .rule))) (s .terms-sound) in
+      both-right (limitSound (j .terms .limit)) (both (tuningSound (j .terms .tuning)) (ruleSound (j .terms .rule) (j .terms .until))) (s .terms-sound) in
       record {
         some-nodes = kinds-some (j .block .kinds) (s .block-sound .kinds-sound);
         few-nodes = kinds-few (j .block .kinds) (s .block-sound .kinds-sound);
@@ -196,8 +196,8 @@ module _ (j : Job) (s : SoundJob j) where
         few-nets = routable-of j s .nets-few;
         some-turns = routable-of j s .limit-some;
         few-turns = routable-of j s .limit-few;
-        tuned = both-left (tuningSound (j .terms .tuning)) (ruleSound (j .terms .rule)) asked;
-        ruled = both-right (tuningSound (j .terms .tuning)) (ruleSound (j .terms .rule)) asked;
+        tuned = both-left (tuningSound (j .terms .tuning)) (ruleSound (j .terms .rule) (j .terms .until)) asked;
+        ruled = both-right (tuningSound (j .terms .tuning)) (ruleSound (j .terms .rule) (j .terms .until)) asked;
       }
 
   pub printed-accepted : (form : Form) → Allowed form (j .terms) → Accepts (printJob form j) j

@@ -237,6 +237,6 @@ unfolding recordsAfter stateAfter firstState iterate
 run-some j rests one reached zero h =
     some-latest (one .net) 0 (iterationAfter j (firstState j) 0 .records)
     (ran-latest j start (machine-nets j rests reached start h (nets j) (le-refl (nets j))) (one .net) (one .below)
-    (first-due j (firstState j) (one .net) refl ∙ one .some))
+    (first-due j (firstState j) (one .net) (rests .until-some) refl ∙ one .some))
 run-some j rests one reached (suc m) h =
     omega (arith, run-some j rests one reached m (omega arith), length-append (recordsAfter j (firstState j) (suc m)) (iterationAfter j (firstState j) (suc m) .records))

@@ -1,5 +1,5 @@
 -- Document 01, "Job text" and rows 1 to 3 of "Numbers for a stopped call", with the P line of request 2.1, the pins' kinds of 2.5 and
--- the V line of 2.7: what a text gives, line by line, or the first faulty line.
+-- the V line of 2.7 and 2.8: what a text gives, line by line, or the first faulty line.
 -- Assumes nothing.
 use mathlib.Core.Bool.{Bool, true, not}
 use mathlib.Core.List.{List, [], _∷_, _++_}
@@ -55,12 +55,22 @@ tuningWithin vs = tuningSound (tuningOf vs)
 unfoldable pub tuningLine : List ℕ → Reading (List ℕ)
 tuningLine bs = judged tuningWithin (λ vs. true) (line letterP 4 bs)
 
--- "A line `V,1` or `V,2`": "Other values are 2"
+-- "A line `V,1` or `V,2`", which "may have a second number, `V,2,k`": what it gives as a line of one field and as one of two, as rule and
+-- k. "`V,2` alone means k = 1, `V,1` takes none, else 1": after rule 1 a second field is out of place
+abbrev pub oneOrTwo : Fields → Fields → Fields
+oneOrTwo (taken vs rest) two = taken (getD vs 0 0 ∷ 1 ∷ []) rest
+oneOrTwo malformed (taken vs rest) = choose (eqb (getD vs 0 0) 1) malformed (taken vs rest)
+oneOrTwo malformed malformed = malformed
+
+unfoldable pub ruleFields : List ℕ → Fields
+ruleFields bs = oneOrTwo (line letterV 1 bs) (line letterV 2 bs)
+
+-- "k from 1 to 99", and of the rule "Other values are 2"
 unfoldable pub ruleWithin : List ℕ → Bool
-ruleWithin vs = ruleSound (getD vs 0 0)
+ruleWithin vs = ruleSound (getD vs 0 0) (getD vs 1 0)
 
 unfoldable pub ruleLine : List ℕ → Reading (List ℕ)
-ruleLine bs = judged ruleWithin (λ vs. true) (line letterV 1 bs)
+ruleLine bs = judged ruleWithin (λ vs. true) (ruleFields bs)
 
 -- "`N,node,kind,capacity` in order": of n nodes, node v is due
 unfoldable pub nodeWithin : ℕ → List ℕ → Bool
@@ -130,14 +140,14 @@ optional letter read change t at bs =
 
 -- "A line `P,first,up,down,step` may follow F"
 abbrev pub withTuning : Terms → List ℕ → Terms
-withTuning t vs = record { limit = t .limit; tuning = tuningOf vs; rule = t .rule }
+withTuning t vs = record { limit = t .limit; tuning = tuningOf vs; rule = t .rule; until = t .until }
 
 unfoldable pub tuningPart : Terms → ℕ → List ℕ → Part Terms
 tuningPart t at bs = optional letterP (tuningLine bs) (withTuning t) t at bs
 
 -- "A line `V,1` or `V,2` may follow F and any P."
 abbrev pub withRule : Terms → List ℕ → Terms
-withRule t vs = record { limit = t .limit; tuning = t .tuning; rule = getD vs 0 0 }
+withRule t vs = record { limit = t .limit; tuning = t .tuning; rule = getD vs 0 0; until = getD vs 1 0 }
 
 unfoldable pub rulePart : Terms → ℕ → List ℕ → Part Terms
 rulePart t at bs = optional letterV (ruleLine bs) (withRule t) t at bs

@@ -1,4 +1,4 @@
--- Document 01, "Job text", with the P line of request 2.1 and the V line of 2.7: a job's printed forms, line by line in 01's order.
+-- Document 01, "Job text", with the P line of request 2.1 and the V line of 2.7 and 2.8: a job's printed forms, line by line in 01's order.
 -- Assumes nothing.
 use mathlib.Core.Bool.{Bool, true, false}
 use mathlib.Core.List.{List, [], _∷_, _++_}
@@ -37,14 +37,20 @@ rowText j u = eachLine letterE u (row (j .block) u)
 unfoldable pub netText : Job → ℕ → List ℕ
 netText j i = printLine letterS (i ∷ source j i ∷ []) ++ eachLine letterT i (netSinks j i)
 
--- which of the lines that may be left out are written
+-- how a V line is written: not at all, with the rule alone, or with rule and k
+pub data RuleForm : Type 0 where
+  unwritten : RuleForm
+  alone : RuleForm
+  whole : RuleForm
+
+-- which of the lines that may be left out are written, and how
 pub record Form : Type 0 where
   pub tuning : Bool
-  pub rule : Bool
+  pub rule : RuleForm
 
 -- the form without any of them
 abbrev pub shortest : Form
-shortest = record { tuning = false; rule = false }
+shortest = record { tuning = false; rule = unwritten }
 
 -- a line, where it is written
 unfoldable pub lineIf : Bool → ℕ → List ℕ → List ℕ
@@ -54,22 +60,30 @@ lineIf written letter vs = choose written (printLine letter vs) []
 abbrev pub tuningText : Bool → Tuning → List ℕ
 tuningText written g = lineIf written letterP (g .first ∷ g .up ∷ g .down ∷ g .step ∷ [])
 
--- "A line `V,1` or `V,2` may follow F and any P."
-abbrev pub ruleText : Bool → ℕ → List ℕ
-ruleText written rule = lineIf written letterV (rule ∷ [])
+-- "A line `V,1` or `V,2` may follow F and any P."; it "may have a second number, `V,2,k`"
+abbrev pub ruleText : RuleForm → ℕ → ℕ → List ℕ
+ruleText unwritten rule until = []
+ruleText alone rule until = printLine letterV (rule ∷ [])
+ruleText whole rule until = printLine letterV (rule ∷ until ∷ [])
 
 unfoldable pub termsText : Form → Terms → List ℕ
-termsText form t = tuningText (form .tuning) (t .tuning) ++ ruleText (form .rule) (t .rule)
+termsText form t = tuningText (form .tuning) (t .tuning) ++ ruleText (form .rule) (t .rule) (t .until)
 
 -- a line may be left out only where it says what holds without it
 abbrev pub Written : {A : Type 0} → Bool → A → A → Type 0
 Written true without x = Unit {0}
 Written false without x = x ≡ without
 
--- "Without the line it is 50,3,2,1."; "Under rule 1, or without the line"
+-- "Under rule 1, or without the line"; "`V,2` alone means k = 1, `V,1` takes none". So rule 1 with a k above 1 has no form
+abbrev pub RuleWritten : RuleForm → ℕ → ℕ → Type 0
+RuleWritten unwritten rule until = (rule ≡ 1) × (until ≡ 1)
+RuleWritten alone rule until = until ≡ 1
+RuleWritten whole rule until = rule ≡ 2
+
+-- "Without the line it is 50,3,2,1."
 pub record Allowed (form : Form) (t : Terms) : Type 0 where
   pub tuning : Written (form .tuning) plain (t .tuning)
-  pub rule : Written (form .rule) 1 (t .rule)
+  pub rule : RuleWritten (form .rule) (t .rule) (t .until)
 
 -- "`F,nodes,edges,nets,limit`", the lines that are written of those that may be left out, then nodes, edges and nets; "end of text"
 unfoldable pub printJob : Form → Job → List ℕ

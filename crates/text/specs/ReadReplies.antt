@@ -71,9 +71,9 @@ pub record ReadReply : Type 0 where
 abbrev pub notRead : List ℕ → Tables → ReadReply
 notRead refusal t = record { refusal = refusal; numbers = []; tables = t }
 
--- limit, first, up, down, step and rule
+-- limit, first, up, down, step, rule and k
 abbrev pub termsNumbers : Terms → List ℕ
-termsNumbers t = t .limit ∷ t .tuning .first ∷ t .tuning .up ∷ t .tuning .down ∷ t .tuning .step ∷ t .rule ∷ []
+termsNumbers t = t .limit ∷ t .tuning .first ∷ t .tuning .up ∷ t .tuning .down ∷ t .tuning .step ∷ t .rule ∷ t .until ∷ []
 
 -- "The reader returns nodes, edges, nets, sinks and limit.", and by request 2.1 "these too, as with any later such line"
 unfoldable pub jobNumbers : Job → List ℕ

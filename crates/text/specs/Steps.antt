@@ -85,13 +85,12 @@ abbrev pub HeadPlace : List ℕ → Head → Type 0
 HeadPlace text (hd.Counts nodes edges nets limit next) = After 1 text next
 HeadPlace text (hd.Refused k) = Unit {0}
 
--- a line that may be left out: by its letter, its shape and the values of its fields
-abbrev pub Shaped : (letter count at : ℕ) (text vs : List ℕ) → Shape → Type 0
-Shaped letter count at text vs sh.LeftOut = begins letter (drop at text) ≡ false
-Shaped letter count at text vs sh.Malformed = (begins letter (drop at text) ≡ true) × (line letter count (drop at text) ≡ malformed)
-Shaped letter count at text vs (sh.Line next) =
-    (begins letter (drop at text) ≡ true) × (line letter count (drop at text) ≡ taken (take count vs) (drop next text))
-    × After (at + 1) text next
+-- a line that may be left out: by its letter, its shape and the values that it gives
+abbrev pub Shaped : (letter : ℕ) (read : List ℕ → Fields) (at : ℕ) (text vs : List ℕ) → Shape → Type 0
+Shaped letter read at text vs sh.LeftOut = begins letter (drop at text) ≡ false
+Shaped letter read at text vs sh.Malformed = (begins letter (drop at text) ≡ true) × (read (drop at text) ≡ malformed)
+Shaped letter read at text vs (sh.Line next) =
+    (begins letter (drop at text) ≡ true) × (read (drop at text) ≡ taken vs (drop next text)) × After (at + 1) text next
 
 -- the terms after it, as they were or changed: 1 for its shape, 2 for a value beyond its bounds
 abbrev pub termsAfter : Shape → Bool → Terms → Terms → ℕ → ℕ → TermsRead

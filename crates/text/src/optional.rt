@@ -2,7 +2,8 @@
 ghost use mathlib.Core.List.{[], _∷_};
 ghost use mathlib.Core.Path.{_≡_};
 ghost use Prim.Native.Nat.{_+_, _^_, _≤_};
-ghost use lib.ListN.{length, drop};
+ghost use lib.ListN.{length, take, drop};
+ghost use Rattle.text.specs.Lines.{line};
 ghost use Rattle.text.specs.JobText.{termsPart};
 ghost use Rattle.text.specs.Steps.{Shaped, termsAfter, termsAt, TermsPlace};
 use crate::fields;
@@ -44,8 +45,8 @@ pub struct OptionalLine {
 pub fn optional_line(text: &[u8], at: usize, letter: u8, count: usize) -> OptionalLine
     requires { ⌜ count ≤ 4 ⌝ }
     ensures { λ r. do
-      let values = r .first ∷ r .second ∷ r .third ∷ r .fourth ∷ []
-      ⌜ Shaped letter count at (now (text .entry)) values (r .shape) ⌝ }
+      let values = take count (r .first ∷ r .second ∷ r .third ∷ r .fourth ∷ [])
+      ⌜ Shaped letter (line letter count) at (now (text .entry)) values (r .shape) ⌝ }
 {
     if !fields::byte_is(text, at, letter) {
         return OptionalLine {

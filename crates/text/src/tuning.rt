@@ -26,6 +26,7 @@ pub fn read_tuning(text: &[u8], at: usize, line: usize, terms: Terms) -> TermsRe
         limit: terms.limit,
         tuning: tuning,
         rule: terms.rule,
+        until: terms.until,
     };
     let shape = found.shape;
     optional::terms_after(shape, price::tuning_sound(tuning), terms, tuned, at, line)

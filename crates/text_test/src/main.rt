@@ -29,6 +29,7 @@ fn counts(nodes: usize, edges: usize, nets: usize, sinks: usize, terms: Terms) {
     show::entry(terms.limit as u64);
     tuning(terms.tuning);
     show::entry(terms.rule as u64);
+    show::entry(terms.until as u64);
 }
 
 fn read_answer(a: ReadAnswer) {

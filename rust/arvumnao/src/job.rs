@@ -66,8 +66,11 @@ pub struct Terms {
     pub down: u32,
     /// By how much a node's history grows for each net too many: 1 or 2.
     pub step: u32,
-    /// Which nets are routed again from iteration 2 on: 1, all of them; 2, those whose tree has an overfull node.
+    /// Which nets are routed again: 1, all of them in every iteration; 2, after iteration `until` only those whose tree has an overfull
+    /// node.
     pub rule: u32,
+    /// 1 to 99; of no account under rule 1. It is the k of a line `V,2,k`.
+    pub until: u32,
 }
 
 /// A job: what is routed.
@@ -182,7 +185,25 @@ impl Nets {
 
 impl Default for Terms {
     fn default() -> Terms {
-        Terms { limit: 100, first: 50, up: 3, down: 2, step: 1, rule: 1 }
+        Terms { limit: 100, first: 50, up: 3, down: 2, step: 1, rule: 1, until: 1 }
+    }
+}
+
+impl Terms {
+    /// In the order in which the library takes them.
+    fn numbers(&self) -> [u32; 7] {
+        let &Terms { limit, first, up, down, step, rule, until } = self;
+        [limit, first, up, down, step, rule, until]
+    }
+}
+
+/// A run in a log that is twice as long each time one is full.
+fn growing(mut words: usize, run: impl Fn(usize) -> Result<Answer, Refusal>) -> Result<Answer, Refusal> {
+    loop {
+        match run(words) {
+            Err(Refusal::LogFull { .. }) => words *= 2,
+            answer => return answer,
+        }
     }
 }
 
@@ -230,7 +251,7 @@ impl Job {
     }
 
     /// Cuts the tables to what the reader filled, and takes the terms that it read.
-    fn cut(&mut self, numbers: &[u64; 10]) {
+    fn cut(&mut self, numbers: &[u64; 11]) {
         let [nodes, edges, nets, sinks, ..] = numbers.map(|number| number as usize);
         self.block.kind.truncate(nodes);
         self.block.capacity.truncate(nodes);
@@ -239,8 +260,8 @@ impl Job {
         self.nets.source.truncate(nets);
         self.nets.first_sink.truncate(nets + 1);
         self.nets.sink.truncate(sinks);
-        let [.., limit, first, up, down, step, rule] = numbers.map(|number| number as u32);
-        self.terms = Terms { limit, first, up, down, step, rule };
+        let [.., limit, first, up, down, step, rule, until] = numbers.map(|number| number as u32);
+        self.terms = Terms { limit, first, up, down, step, rule, until };
     }
 
     /// Routes the job in a log as long as it needs. Refused by [`Refusal::Table`], [`Refusal::Unreachable`] or [`Refusal::Limit`].
@@ -248,20 +269,13 @@ impl Job {
     /// It begins with a log of 16,384 words and tries again with twice as many when one is full; the job's outcome and log are
     /// those of any log that is long enough. A log needs at most limit × sinks × (nodes + 6) words.
     pub fn route(&self) -> Result<Answer, Refusal> {
-        let mut words = LOG;
-        loop {
-            match self.route_in(words) {
-                Err(Refusal::LogFull { .. }) => words *= 2,
-                answer => return answer,
-            }
-        }
+        growing(LOG, |words| self.route_in(words))
     }
 
     /// Routes the job in a log of so many words. Refused as [`Job::route`] is, and by [`Refusal::LogFull`].
     pub fn route_in(&self, words: usize) -> Result<Answer, Refusal> {
         let Job { block, nets, terms } = self;
-        let &Terms { limit, first, up, down, step, rule } = terms;
-        let mut work = vec![0; 8 * block.kind.len()];
+        let mut work = self.work();
         let mut log = vec![0; words];
         let told = out(|out| {
             raw::route(
@@ -272,16 +286,78 @@ impl Job {
                 &nets.source,
                 &nets.first_sink,
                 &nets.sink,
-                &[limit, first, up, down, step, rule],
+                &terms.numbers(),
                 &mut work,
                 &mut log,
                 out,
             )
         });
-        let &[iteration, turns, used] = raw::own::<3>(&told);
+        self.answer(&told, log)
+    }
+
+    /// Goes on from the log of a run that ended in whole iterations, as one stopped by [`Refusal::Limit`] does, under a limit above
+    /// those: histories, factor and trees are rebuilt from it, and turns are appended. Refused as [`Job::route`] is, and by
+    /// [`Refusal::Diverges`] unless the log follows the job. The answer is about the whole log.
+    ///
+    /// From the job's own log it ends as [`Job::route`] does, without making its turns again. Any other log that follows the job is gone on
+    /// from as it is: its paths need not be the cheapest.
+    ///
+    /// ```
+    /// use arvumnao::{Job, Refusal};
+    ///
+    /// let mut job = Job::read(include_bytes!("../../../examples/job_b.txt"))?;
+    /// job.terms.limit = 1;
+    /// let Err(Refusal::Limit { log, .. }) = job.route() else { panic!("job B settles in iteration 2") };
+    /// job.terms.limit = 2;
+    /// assert_eq!(job.resume(&log)?, job.route()?);
+    /// # Ok::<(), Refusal>(())
+    /// ```
+    pub fn resume(&self, log: impl AsRef<[u32]>) -> Result<Answer, Refusal> {
+        let log = log.as_ref();
+        growing(LOG.max(2 * log.len()), |words| self.resume_in(log, words))
+    }
+
+    /// The same in a log of so many words, or of as many as it has where that is more. Refused as [`Job::resume`] is, and by
+    /// [`Refusal::LogFull`].
+    pub fn resume_in(&self, log: impl AsRef<[u32]>, words: usize) -> Result<Answer, Refusal> {
+        let Job { block, nets, terms } = self;
+        let mut log = log.as_ref().to_vec();
+        let used = log.len();
+        log.resize(words.max(used), 0);
+        let mut work = self.work();
+        let told = out(|out| {
+            raw::resume(
+                &block.kind,
+                &block.capacity,
+                &block.first_edge,
+                &block.edge_target,
+                &nets.source,
+                &nets.first_sink,
+                &nets.sink,
+                &terms.numbers(),
+                used as u64,
+                &mut work,
+                &mut log,
+                out,
+            )
+        });
+        match *raw::refusal(&told) {
+            [14, word] => Err(Refusal::Diverges { word, words: used as u64 }),
+            _ => self.answer(&told, log),
+        }
+    }
+
+    /// Work memory that is enough.
+    fn work(&self) -> Vec<u64> {
+        vec![0; 8 * self.block.kind.len()]
+    }
+
+    /// What the router and resume tell, with the log that they leave.
+    fn answer(&self, told: &[u64; raw::OUT], mut log: Vec<u32>) -> Result<Answer, Refusal> {
+        let &[iteration, turns, used] = raw::own::<3>(told);
         log.truncate(used as usize);
         let (iteration, log) = (iteration as u32, Log::of_run(log));
-        match *raw::refusal(&told) {
+        match *raw::refusal(told) {
             [] => Ok(Answer { iteration, turns, log }),
             [5, table] => Err(Refusal::Table(TableFault::find(self, table as u32))),
             [7, net, place] => Err(self.unreachable(net as u32, place as u32)),

@@ -22,17 +22,17 @@
 //! assert_eq!(refusal.to_string(), "line 3: kind 54 is beyond 0 to 53: \"N,1,54,1\"");
 //! ```
 //!
-//! A run that was stopped keeps its log, in the refusal:
+//! A run that was stopped keeps its log, in the refusal, and [`Job::resume`] goes on from it under a higher limit:
 //!
 //! ```
 //! use arvumnao::{Job, Refusal};
 //!
 //! let mut job = Job::read(include_bytes!("../../../examples/job_b.txt"))?;
 //! job.terms.limit = 1;
-//! match job.route() {
-//!     Err(Refusal::Limit { over, log, .. }) => assert_eq!((over, log.records().count()), (1, 2)),
-//!     other => panic!("{other:?}"),
-//! }
+//! let Err(Refusal::Limit { over, log, .. }) = job.route() else { panic!("job B settles in iteration 2") };
+//! assert_eq!((over, log.records().count()), (1, 2));
+//! job.terms.limit = 2;
+//! assert_eq!(job.resume(&log)?.turns, 4);
 //! # Ok::<(), Refusal>(())
 //! ```
 //!

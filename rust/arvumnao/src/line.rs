@@ -47,11 +47,19 @@ fn names(letter: u8) -> &'static [&'static str] {
     match letter {
         b'F' => &["nodes", "edges", "nets", "limit"],
         b'P' => &["first", "up", "down", "step"],
-        b'V' => &["rule"],
+        b'V' => &["rule", "k"],
         b'N' => &["node", "kind", "capacity"],
         b'E' => &["from", "to"],
         b'S' | b'T' => &["net", "node"],
         _ => &[],
+    }
+}
+
+/// How many of them a line must have.
+fn fewest(letter: u8) -> usize {
+    match letter {
+        b'V' => 1,
+        _ => names(letter).len(),
     }
 }
 
@@ -133,7 +141,7 @@ impl Before {
         if !letters.contains(letter) {
             return Some(format!("begins with {} where {due} should come", shown(*letter)));
         }
-        let names = names(*letter);
+        let (names, fewest) = (names(*letter), fewest(*letter));
         let letter = char::from(*letter);
         let Some(fields) = bytes[1..].strip_prefix(b",") else {
             return Some(format!("the letter {letter} is not followed by a comma"));
@@ -142,9 +150,13 @@ impl Before {
         if let Some(fault) = fields.iter().zip(names).find_map(|(field, name)| digits(field, name)) {
             return Some(fault);
         }
-        if fields.len() != names.len() {
-            let (has, takes) = (fields.len(), names.len());
+        if !(fewest..=names.len()).contains(&fields.len()) {
+            let (has, most) = (fields.len(), names.len());
+            let takes = if fewest < most { format!("{fewest} to {most}") } else { most.to_string() };
             return Some(format!("has {has} numbers, where {letter} takes {takes}: {}", names.join(", ")));
+        }
+        if let ('V', [b"1", _]) = (letter, &fields[..]) {
+            return Some(String::from("has a second number, which rule 1 takes none of"));
         }
         (!ended).then(|| String::from("the last line is not ended by LF"))
     }
@@ -172,7 +184,7 @@ impl Before {
                 1..=4,
                 1..=2,
             ],
-            b'V' => vec![1..=2],
+            b'V' => vec![1..=2, 1..=99],
             b'N' => vec![node, 0..=kind::MOST.into(), 1..=255],
             b'E' => vec![node.clone(), node],
             b'S' | b'T' => vec![net, node],

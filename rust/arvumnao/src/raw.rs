@@ -75,8 +75,8 @@ call! {
 call! {
     /// Routes a job. Own numbers: iteration, turns, words used of the log.
     ///
-    /// The terms are limit, first, up, down, step, rule; of a slice that is shorter the plain values stand for the rest (0, which is no
-    /// limit, then 50, 3, 2, 1 and 1), and entries past these six are not read.
+    /// The terms are limit, first, up, down, step, rule, until; of a slice that is shorter the plain values stand for the rest (0, which
+    /// is no limit, then 50, 3, 2, 1, 1 and 1), and entries past these seven are not read.
     fn route = arvumnao_route(
         kind: &[u8],
         capacity: &[u8],
@@ -93,7 +93,26 @@ call! {
 }
 
 call! {
-    /// Reads a job text. Own numbers: nodes, edges, nets, sinks, limit, first, up, down, step, rule.
+    /// Goes on from a log of which so many words are used, and appends turns to it. Terms and own numbers are those of [`route`], over the
+    /// whole log.
+    fn resume = arvumnao_resume(
+        kind: &[u8],
+        capacity: &[u8],
+        first_edge: &[u32],
+        edge_target: &[u16],
+        source: &[u16],
+        first_sink: &[u32],
+        sink: &[u16],
+        terms: &[u32],
+        used: u64,
+        work: &mut [u64],
+        log: &mut [u32],
+        out: &mut [u64],
+    )
+}
+
+call! {
+    /// Reads a job text. Own numbers: nodes, edges, nets, sinks, limit, first, up, down, step, rule, until.
     fn read = arvumnao_read(
         text: &[u8],
         kind: &mut [u8],

@@ -62,6 +62,13 @@ pub enum Refusal {
         /// What is wrong with it.
         reason: String,
     },
+    /// 14: a log that a run was to go on from doesn't follow the job.
+    Diverges {
+        /// The place of the first word of the first record that doesn't, or the log's words if only its end is wrong.
+        word: u64,
+        /// The log's words.
+        words: u64,
+    },
     /// 16: counts of uses are of as many logs as they may be of.
     CountsFull {
         /// So many: 65,535.
@@ -104,6 +111,7 @@ impl Refusal {
             Refusal::Limit { iteration, over, .. } => vec![9, (*iteration).into(), (*over).into()],
             Refusal::Record { word } => vec![10, *word],
             Refusal::Number { place, .. } => vec![13, *place],
+            Refusal::Diverges { word, .. } => vec![14, *word],
             Refusal::CountsFull { logs } => vec![16, *logs],
             Refusal::Unexpected(numbers) => numbers.clone(),
         }
@@ -178,6 +186,15 @@ impl fmt::Display for Refusal {
             Refusal::Record { word: 0 } => write!(f, "the log is empty or its first record is unsound"),
             Refusal::Record { word } => write!(f, "the log's record at word {word} is unsound"),
             Refusal::Number { reason, .. } => f.write_str(reason),
+            Refusal::Diverges { words: 0, .. } => write!(f, "the log is empty: there is no run to go on from"),
+            Refusal::Diverges { word, words } if word < words => {
+                write!(f, "the log's record at word {word} does not follow the job")
+            }
+            Refusal::Diverges { word, .. } => write!(
+                f,
+                "the log follows the job to its end, at word {word}, but can't be gone on from: its last iteration is not whole, \
+                 leaves no node over capacity, or is the limit"
+            ),
             Refusal::CountsFull { logs } => {
                 write!(f, "the counts are of {logs} logs already, and may be of no more: begin new ones")
             }

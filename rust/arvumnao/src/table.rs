@@ -12,7 +12,7 @@ pub(crate) const NAMES_AND_RULES: [(&str, &str); 8] = [
     ("source", "1 to 512 nets, each with a node of kind 0 or 2"),
     ("first_sink", "nets + 1 entries: begins with 0, rises, ends with the length of sink"),
     ("sink", "at most 4,096 nodes of kind 1 or 3, within a net none twice and none its source"),
-    ("terms", "limit 1 to 100, first 0 to 1,000, down 1 to 4, up from down to 8, step 1 or 2, rule 1 or 2"),
+    ("terms", "limit 1 to 100, first 0 to 1,000, down 1 to 4, up from down to 8, step 1 or 2, rule 1 or 2, until 1 to 99"),
 ];
 
 /// The first entry of a table that breaks its rule, if the tables below keep theirs.
@@ -144,6 +144,7 @@ fn terms(job: &Job) -> Option<String> {
         ("up", terms.up, terms.down..=8),
         ("step", terms.step, 1..=2),
         ("rule", terms.rule, 1..=2),
+        ("until", terms.until, 1..=99),
     ];
     let (name, value, bounds) = bounds.into_iter().find(|(_, value, bounds)| !bounds.contains(value))?;
     Some(format!("{name} {value} is beyond {} to {}", bounds.start(), bounds.end()))

@@ -1,6 +1,6 @@
 //! Jobs that are accepted, and what a caller does with the answer.
 
-use arvumnao::{kind, raw, Job, Log, Nets, Terms, UseCounts};
+use arvumnao::{kind, raw, Job, Log, Nets, Refusal, Terms, UseCounts};
 use std::thread;
 
 const JOB_B: &[u8] = include_bytes!("../../../examples/job_b.txt");
@@ -88,6 +88,38 @@ fn crowded_nets_alone() {
     assert_eq!(answer.log.routes(&all.nets).unwrap(), format!("R,2,6\n{branches}"));
 }
 
+/// Up to iteration 2 every net is routed again, though rule 2 holds after it.
+#[test]
+fn crowded_nets_alone_after_iteration_k() {
+    let text =
+        String::from_utf8_lossy(include_bytes!("../../../examples/job_crowded.txt")).replace("V,2", "V,2,2");
+    let job = Job::read(text.as_bytes()).unwrap();
+    assert_eq!((job.terms.rule, job.terms.until), (2, 2));
+    assert_eq!(job.route().unwrap().turns, 6);
+}
+
+/// Job B stopped by a limit of 1, and gone on from: its own log, as long as needed or not, and one of a longer path for net 0.
+#[test]
+fn job_b_resumed() {
+    let mut job = Job::read(JOB_B).unwrap();
+    let straight = job.route().unwrap();
+    job.terms.limit = 1;
+    let Err(Refusal::Limit { log, .. }) = job.route() else { panic!("one iteration is not enough") };
+    job.terms.limit = 2;
+    assert_eq!(job.resume(&log).unwrap(), straight);
+    assert_eq!(job.resume_in(log.words(), 36).unwrap(), straight);
+    let Err(Refusal::LogFull { turns: 3, log: full, .. }) = job.resume_in(&log, 35) else {
+        panic!("35 words")
+    };
+    assert_eq!(full.words(), &straight.log.words()[..27]);
+    // a log is never shorter than its own words
+    assert_eq!(job.resume_in(&log, 0).unwrap_err().numbers(), [8, 2, 2]);
+
+    // net 0 on wire 3 settles iteration 1, so that there is nothing to go on for
+    let longer = [1, 0, 4, 6000, 0, 3, 0, 3, 4, 1, 1, 5, 4000, 0, 3, 1, 2, 5];
+    assert_eq!(job.resume(longer).unwrap_err().numbers(), [14, 18]);
+}
+
 /// The uses of two jobs of one block, in either order: trees 0, 3, 4 and 1, 2, 5, then 0, 2, 4 alone.
 #[test]
 fn uses_of_two_jobs() {
@@ -131,7 +163,7 @@ fn threads() {
     threads.into_iter().for_each(|thread| assert_eq!(thread.join().unwrap(), expected));
 }
 
-/// Terms that a slice lacks are plain, and entries past the rule are not read.
+/// Terms that a slice lacks are plain, and entries past the seventh are not read.
 #[test]
 fn terms_as_a_slice() {
     let Job { block, nets, .. } = Job::read(include_bytes!("../../../examples/job_crowded.txt")).unwrap();
@@ -156,8 +188,11 @@ fn terms_as_a_slice() {
     assert_eq!(run(&[]), (vec![5, 8], [0; 3]));
     assert_eq!(run(&[9]), (vec![], [2, 6, 54]));
     assert_eq!(run(&[2, 0]), (vec![9, 2, 1], [2, 6, 54]));
-    assert_eq!(run(&[9, 50, 3, 2, 1, 2, 0, 0]), (vec![], [2, 5, 45]));
+    assert_eq!(run(&[9, 50, 3, 2, 1, 2]), (vec![], [2, 5, 45]));
+    assert_eq!(run(&[9, 50, 3, 2, 1, 2, 1, 0, 0]), (vec![], [2, 5, 45]));
+    assert_eq!(run(&[9, 50, 3, 2, 1, 2, 2]), (vec![], [2, 6, 54]));
     assert_eq!(run(&[9, 50, 3, 2, 1, 3]), (vec![5, 8], [0; 3]));
+    assert_eq!(run(&[9, 50, 3, 2, 1, 2, 0]), (vec![5, 8], [0; 3]));
 }
 
 /// A short `out` is told by the returned 0, and nothing is done.

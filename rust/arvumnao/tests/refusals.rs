@@ -35,7 +35,17 @@ fn lines_that_are_due() {
         [1, 3],
         "line 3: begins with 'P' where the N line of node 0 should come: \"P,50,3,2,1\"",
     );
-    refused("F,6,6,2,2\nV,2,1\n", [1, 2], "line 2: has 2 numbers, where V takes 1: rule: \"V,2,1\"");
+    refused(
+        "F,6,6,2,2\nV,2,1,1\n",
+        [1, 2],
+        "line 2: has 3 numbers, where V takes 1 to 2: rule, k: \"V,2,1,1\"",
+    );
+    refused("F,6,6,2,2\nV,2,\n", [1, 2], "line 2: k has no digits: \"V,2,\"");
+    refused(
+        "F,6,6,2,2\nV,1,1\n",
+        [1, 2],
+        "line 2: has a second number, which rule 1 takes none of: \"V,1,1\"",
+    );
     refused(
         &changed("N,2,4,1\n", "\n"),
         [1, 4],
@@ -124,6 +134,9 @@ fn values() {
     refused(&tuned("P,50,3,2,3"), [2, 2], "line 2: step 3 is beyond 1 to 2: \"P,50,3,2,3\"");
     refused(&tuned("V,3"), [2, 2], "line 2: rule 3 is beyond 1 to 2: \"V,3\"");
     refused(&tuned("P,50,3,2,1\nV,0"), [2, 3], "line 3: rule 0 is beyond 1 to 2: \"V,0\"");
+    refused(&tuned("V,2,0"), [2, 2], "line 2: k 0 is beyond 1 to 99: \"V,2,0\"");
+    refused(&tuned("V,2,100"), [2, 2], "line 2: k 100 is beyond 1 to 99: \"V,2,100\"");
+    refused(&tuned("V,3,100"), [2, 2], "line 2: rule 3 is beyond 1 to 2: \"V,3,100\"");
 }
 
 #[test]
@@ -210,6 +223,7 @@ fn tables() {
     table_refused(|job| job.terms.limit = 0, 8, "(terms): limit 0 is beyond 1 to 100");
     table_refused(|job| job.terms = Terms { up: 1, ..job.terms }, 8, "(terms): up 1 is beyond 2 to 8");
     table_refused(|job| job.terms.rule = 3, 8, "(terms): rule 3 is beyond 1 to 2");
+    table_refused(|job| job.terms.until = 100, 8, "(terms): until 100 is beyond 1 to 99");
 }
 
 #[test]
@@ -256,6 +270,35 @@ fn runs() {
         refusal.to_string(),
         "net 0: no path leads from its source, node 0, to sink 5, at place 1 of that source's sinks (from 0)"
     );
+}
+
+/// Logs that can't be gone on from.
+#[test]
+fn resumes() {
+    let job = job_b();
+    let whole = job.route().unwrap().log;
+    let refused = |job: &Job, words: &[u32], word: u64, sentence: &str| {
+        let refusal = job.resume(words).unwrap_err();
+        assert_eq!((refusal.numbers(), refusal.to_string()), (vec![14, word], String::from(sentence)));
+    };
+    refused(&job, &[], 0, "the log is empty: there is no run to go on from");
+    let end = |word: u64| {
+        format!(
+            "the log follows the job to its end, at word {word}, but can't be gone on from: its last iteration is not whole, leaves \
+             no node over capacity, or is the limit"
+        )
+    };
+    refused(&job, &whole.words()[..9], 9, &end(9));
+    refused(&job, whole.words(), 36, &end(36));
+    let mut one = job.clone();
+    one.terms.limit = 1;
+    refused(&one, &whole.words()[..18], 18, &end(18));
+    refused(&job, &whole.words()[..17], 9, "the log's record at word 9 does not follow the job");
+    let mut dearer = whole.words()[..18].to_vec();
+    dearer[3] += 1;
+    refused(&job, &dearer, 0, "the log's record at word 0 does not follow the job");
+    one.terms.limit = 0;
+    assert_eq!(one.resume(&whole).unwrap_err().numbers(), [5, 8]);
 }
 
 #[test]

@@ -6,7 +6,7 @@
 mod answer;
 mod fault;
 mod job;
-mod joined;
+pub mod joined;
 pub mod paths;
 pub mod prices;
 pub mod records;
@@ -27,6 +27,19 @@ pub fn check(
     turns: u64,
     words: u64,
 ) -> Result<(), Fault> {
+    check_resumed(job, 0, log, refusal, iteration, turns, words)
+}
+
+/// Checks the answer of a resume that has taken up so many words: the turns in them need not be cheapest, all else holds of the whole log.
+pub fn check_resumed(
+    job: &Job,
+    lent: u64,
+    log: &[u32],
+    refusal: &[u64],
+    iteration: u64,
+    turns: u64,
+    words: u64,
+) -> Result<(), Fault> {
     let joined = joined::Joined::new(job);
     let job = &joined.job(job);
     let records = records::read(log, words)?;
@@ -34,7 +47,8 @@ pub fn check(
     if turns != logged {
         return Err(Fault::TurnCount { reported: turns, logged });
     }
-    let trees = turns::walk(job, &records)?;
+    let lent = records::read(log, lent)?.len() as u64;
+    let trees = turns::walk(job, &records, lent)?;
     let room = log.len() as u64 - words;
     let answer = answer::Answer { refusal, iteration, turns, words, room };
     answer::check(job, &records, &trees, &answer)

@@ -7,8 +7,8 @@ use crate::prices::Prices;
 use crate::records::Record;
 use crate::trees::Trees;
 
-/// Checks every turn and gives the final trees.
-pub fn walk(job: &Job, records: &[Record]) -> Result<Trees, Fault> {
+/// Checks every turn and gives the final trees. So many turns were lent: no path is looked for that costs less than theirs.
+pub fn walk(job: &Job, records: &[Record], lent: u64) -> Result<Trees, Fault> {
     let mut trees = Trees::new(job);
     let mut prices = Prices::new(job);
     let mut search = Search::new(job.nodes());
@@ -20,7 +20,10 @@ pub fn walk(job: &Job, records: &[Record]) -> Result<Trees, Fault> {
         let view = View { job, trees: &trees, prices: &prices, net };
         follows(&view, turn, &path)?;
         joins(&view, turn, record.sink, &path)?;
-        costs(&view, turn, record.cost, &path, &mut search)?;
+        costs(&view, turn, record.cost, &path)?;
+        if turn >= lent {
+            cheapest(&view, turn, record.cost, &mut search)?;
+        }
         trees.add(net, &path);
     }
     Ok(trees)
@@ -83,12 +86,17 @@ fn joins(view: &View, turn: u64, sink: u32, path: &[usize]) -> Result<(), Fault>
     Ok(())
 }
 
-/// The logged cost is the path's, and no path costs less.
-fn costs(view: &View, turn: u64, logged: u64, path: &[usize], search: &mut Search) -> Result<(), Fault> {
+/// The logged cost is the path's.
+fn costs(view: &View, turn: u64, logged: u64, path: &[usize]) -> Result<(), Fault> {
     let cost = view.cost(path);
     if cost != u128::from(logged) {
         return Err(Fault::Cost { turn, logged, path: cost });
     }
+    Ok(())
+}
+
+/// No path costs less.
+fn cheapest(view: &View, turn: u64, logged: u64, search: &mut Search) -> Result<(), Fault> {
     match search.least(view) {
         Some(least) if least < logged => Err(Fault::CheaperPath { turn, logged, least }),
         _ => Ok(()),

@@ -12,12 +12,12 @@ pub struct Answer {
 }
 
 /// One call with all that is lent to it: the search and the calls about uses have a job's graph, tables 1 to 4, the reader its seven
-/// tables. The router is lent so many of the job's terms. The writer writes the routes text, or the picture.
+/// tables. The router is lent so many of the job's terms; where the words used of the log are told, it resumes. The writer writes the routes text, or the picture.
 #[derive(Clone, Debug, PartialEq, Eq)]
 pub enum Case {
     Price { kind: u32, factor: u32, others: u32, capacity: u32, history: u32 },
     Search { graph: Job, factor: u32, work: Vec<u64>, history: Vec<u32>, others: Vec<u16>, in_tree: Vec<u8> },
-    Route { job: Job, terms: usize, work: Vec<u64>, log: Vec<u32> },
+    Route { job: Job, terms: usize, used: Option<u64>, work: Vec<u64>, log: Vec<u32> },
     Read { text: Vec<u8>, tables: Job },
     Write { picture: bool, source: Vec<u16>, log: Vec<u32>, buffer: Vec<u8> },
     AddUses { graph: Job, counts: Vec<u64>, logs: u64, log: Vec<u32> },
@@ -36,7 +36,7 @@ pub fn own(case: &Case) -> usize {
         Case::Price { .. } | Case::Write { .. } => 1,
         Case::Search { .. } => 0,
         Case::Route { .. } => 3,
-        Case::Read { .. } => 10,
+        Case::Read { .. } => 11,
     }
 }
 
@@ -122,7 +122,7 @@ macro_rules! call {
                 in_tree,
                 $($out)?
             ),
-            Case::Route { job, terms, work, log } => $side::route(
+            Case::Route { job, terms, used: None, work, log } => $side::route(
                 &job.kind,
                 &job.capacity,
                 &job.first_edge,
@@ -131,6 +131,20 @@ macro_rules! call {
                 &job.first_sink,
                 &job.sink,
                 &lent_terms(job, *terms),
+                lend(work),
+                lend(log),
+                $($out)?
+            ),
+            Case::Route { job, terms, used: Some(used), work, log } => $side::resume(
+                &job.kind,
+                &job.capacity,
+                &job.first_edge,
+                &job.edge_target,
+                &job.source,
+                &job.first_sink,
+                &job.sink,
+                &lent_terms(job, *terms),
+                *used,
                 lend(work),
                 lend(log),
                 $($out)?
@@ -329,12 +343,14 @@ fn memory(before: &Case, after: &After) -> Result<(), String> {
     let refusal = after.answer.refusal.first().copied().unwrap_or(0);
     let kept = match (before, &after.case) {
         (
-            Case::Route { job, work, log, .. },
+            Case::Route { job, used, work, log, .. },
             Case::Route { job: job_after, work: work_after, log: log_after, .. },
-        ) if matches!(refusal, 0 | 7 | 8 | 9) => {
+        ) if matches!(refusal, 0 | 7 | 8 | 9 | 14) => {
             let words = after.answer.numbers[2] as usize;
+            let lent = used.map_or(0, |used| words.min(used as usize));
             job == job_after
                 && cleared(work, work_after, 0, 8 * job.kind.len())
+                && log[..lent] == log_after[..lent]
                 && log[words..] == log_after[words..]
         }
         (Case::Search { graph, work, .. }, Case::Search { work: work_after, .. }) if refusal == 0 => {
@@ -373,15 +389,24 @@ fn cleared(before: &[u64], after: &[u64], from: usize, end: usize) -> bool {
     after[from..end].iter().all(|entry| *entry == 0) && before[end..] == after[end..]
 }
 
-/// The checker's word on the log of a sound job with enough work memory.
+/// The checker's word on the log of a sound job with enough work memory. Of one that is resumed the words lent count as they are, once
+/// they are taken up.
 fn check(after: &After) -> Result<(), String> {
-    let Case::Route { job, terms, log, .. } = &after.case else { return Ok(()) };
+    let Case::Route { job, terms, used, log, .. } = &after.case else { return Ok(()) };
     let Answer { refusal, numbers } = &after.answer;
-    if matches!(refusal.first(), Some(5 | 6)) {
+    if matches!(refusal.first(), Some(5 | 6 | 14)) {
         return Ok(());
     }
-    let [limit, first, up, down, step, _] = taken(job, *terms).terms();
-    let job = checker::Job {
+    let lent = used.filter(|_| refusal.first() != Some(&7)).unwrap_or(0);
+    let job = taken(job, *terms);
+    checker::check_resumed(&checked(&job), lent, log, refusal, numbers[0], numbers[1], numbers[2])
+        .map_err(|fault| format!("the checker faults the log ({:?}): {fault}", after.answer))
+}
+
+/// The job as the checker takes it.
+pub fn checked(job: &Job) -> checker::Job<'_> {
+    let [first, up, down, step] = job.tuning.numbers();
+    checker::Job {
         kind: &job.kind,
         capacity: &job.capacity,
         first_edge: &job.first_edge,
@@ -389,11 +414,9 @@ fn check(after: &After) -> Result<(), String> {
         source: &job.source,
         first_sink: &job.first_sink,
         sink: &job.sink,
-        limit,
+        limit: job.limit,
         tuning: checker::Tuning { first, up, down, step },
-    };
-    checker::check(&job, log, refusal, numbers[0], numbers[1], numbers[2])
-        .map_err(|fault| format!("the checker faults the log ({:?}): {fault}", after.answer))
+    }
 }
 
 /// Lends an `out` of some length to the raw call and tests what it holds afterwards.
@@ -442,7 +465,7 @@ pub mod inject {
     pub fn inject(before: &Case, after: &mut Case, mut answer: Answer) -> Answer {
         match (FAULT.load(Ordering::Relaxed), before, after) {
             // the last word of a log that comes to iteration 3 is off by one
-            (1, Case::Route { .. }, Case::Route { log, .. }) if answer.numbers[0] >= 3 => {
+            (1, Case::Route { used: None, .. }, Case::Route { log, .. }) if answer.numbers[0] >= 3 => {
                 log[answer.numbers[2] as usize - 1] ^= 1;
             }
             // a bad target goes unseen
@@ -494,8 +517,26 @@ pub mod inject {
         (0..job.source.len()).any(|net| logs::repeats_sink(job, net))
     }
 
+    /// Faults of resume.
+    fn of_resumes(fault: u32, before: &Case, answer: &mut Answer) {
+        let Case::Route { job, used: Some(used), log, .. } = before else { return };
+        let lent = &log[..log.len().min(*used as usize)];
+        match (fault, &answer.refusal[..]) {
+            // the appended turns alone are counted
+            (20, []) => answer.numbers[1] -= logs::records(lent).len() as u64 - 1,
+            // a log that settles goes on
+            (21, [14, word]) if *word == *used && *used > 0 => answer.refusal.clear(),
+            // the iteration's first record is named in place of the stray one
+            (22, &[14, word]) if word >= 9 && word < *used => answer.refusal[1] = 0,
+            // under rule 2 a turn before iteration k is left out
+            (23, []) if job.rule == 2 && logs::last_iteration(lent) < job.until => answer.numbers[1] -= 1,
+            _ => {}
+        }
+    }
+
     /// Faults of the tuning, the pins, joined nets, the rule and the bounds of counts.
     fn of_requests(fault: u32, before: &Case, after: &Case, answer: &mut Answer) {
+        of_resumes(fault, before, answer);
         match (fault, before) {
             // a step of 2 counts a turn too many
             (8, Case::Route { job, .. }) if job.tuning.step == 2 && answer.numbers[0] >= 2 => {

@@ -6,13 +6,14 @@ use job::{jobs, Job, Rng, Tuning};
 pub fn damage(rng: &mut Rng, job: &mut Job) {
     let times = rng.pick(&[1, 1, 1, 1, 2, 3]);
     for _ in 0..times {
-        match rng.below(12) {
+        match rng.below(13) {
             0..=3 => one_of_graph(rng, job),
             4 => sources(rng, job),
             5 => firsts(rng, &mut job.first_sink),
             6 => sinks(rng, job),
             7 => tuning(rng, &mut job.tuning),
             8 | 9 => pin(rng, job),
+            12 => job.until = rng.pick(&[0, 100, 101, 256, 257, 65_537, u32::MAX]),
             10 => job.rule = rng.pick(&[0, 3, 4, 256, 257, 258, 65_537, 65_538, u32::MAX]),
             _ => job.limit = rng.pick(&[0, 101, 102, 256, 257, 65_536, 65_537, u32::MAX]),
         }

@@ -40,10 +40,27 @@ fn turns(log: &[u32]) -> Vec<(u32, u32)> {
     places[..places.len() - 1].iter().map(|place| (log[*place], log[place + 1])).collect()
 }
 
+/// The iteration of the last whole record, 0 without one.
+pub fn last_iteration(log: &[u32]) -> u32 {
+    turns(log).last().map_or(0, |turn| turn.0)
+}
+
+/// Whether a record's cost is over 32 bits.
+pub fn has_long_cost(log: &[u32]) -> bool {
+    records(log).iter().any(|place| log.get(place + 4).is_some_and(|high| *high > 0))
+}
+
+/// The words of a log's first iterations, so many.
+pub fn first_iterations(log: &[u32], count: u32) -> &[u32] {
+    let places = records(log);
+    let whole = turns(log).iter().take_while(|turn| turn.0 <= count).count();
+    &log[..places[whole]]
+}
+
 /// Whether some net's latest record is of an iteration before the last record's.
 pub fn keeps_tree(log: &[u32]) -> bool {
     let turns = turns(log);
-    let last = turns.last().map_or(0, |turn| turn.0);
+    let last = last_iteration(log);
     turns.iter().any(|(_, net)| turns.iter().all(|turn| turn.1 != *net || turn.0 < last))
 }
 

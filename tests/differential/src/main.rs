@@ -9,9 +9,11 @@ mod damage;
 mod lengths;
 mod logs;
 mod outcomes;
+mod resumes;
 mod run;
 mod shrink;
 mod uses;
+mod wander;
 #[cfg(feature = "library")]
 mod wrapper;
 

@@ -2,10 +2,11 @@
 
 use crate::compare::{idle, After, Case};
 use crate::logs;
+use crate::resumes::Lent;
 use job::{texts, Counts, Job, Tuning};
 
 /// Every outcome that a whole run must come to.
-const EXPECTED: [&str; 173] = [
+const EXPECTED: [&str; 237] = [
     "price accepted",
     "price 13,0",
     "price 13,1",
@@ -32,6 +33,60 @@ const EXPECTED: [&str; 173] = [
     "route 7",
     "route 8",
     "route 9",
+    "resume accepted",
+    "resume 5,1",
+    "resume 5,2",
+    "resume 5,3",
+    "resume 5,4",
+    "resume 5,5",
+    "resume 5,6",
+    "resume 5,7",
+    "resume 5,8",
+    "resume 6",
+    "resume 7",
+    "resume 8",
+    "resume 9",
+    "resume 14",
+    "own log accepted",
+    "own log 8",
+    "own log 9",
+    "log under a lower limit accepted",
+    "log under a lower limit 8",
+    "log under a lower limit 9",
+    "straight run's end by a resume, accepted",
+    "straight run's end by a resume, 8",
+    "straight run's end by a resume, 9",
+    "wandering log accepted",
+    "wandering log 8",
+    "wandering log 9",
+    "wandering log 14",
+    "log of other terms accepted",
+    "log of other terms 14",
+    "log of another job 14",
+    "changed log accepted",
+    "changed log 14",
+    "log over another sink 14",
+    "log through a tree 14",
+    "log from outside a tree 14",
+    "cut log 14",
+    "no words 14",
+    "whole log that settles 14",
+    "whole log at the limit 14",
+    "words beyond the log 14",
+    "14 at the first record",
+    "14 at a later record",
+    "14 at a record of iteration 2 or later",
+    "14 with the words used",
+    "14 with the log's length",
+    "log of rule 1 taken up",
+    "log of rule 2 taken up below iteration k",
+    "log of rule 2 taken up at iteration k",
+    "log of rule 2 taken up after iteration k",
+    "log with a tree kept taken up",
+    "log of three iterations and more taken up",
+    "log with costs over 32 bits taken up",
+    "log of joined nets taken up",
+    "lent log damaged word by word",
     "read accepted",
     "read 1",
     "read 2",
@@ -138,7 +193,11 @@ const EXPECTED: [&str; 173] = [
     "rule 2 with a tree kept 8",
     "rule 2 with a tree kept 9",
     "rule 2 with a tree kept and dropped later",
+    "rule 2 after iteration k over 1 with a tree kept accepted",
+    "rule 2 after iteration k over 1 with a tree kept 9",
+    "rule 2 up to iteration k alone accepted",
     "route 5,8 with a bad rule",
+    "route 5,8 with a bad k",
     "terms of 0 entries",
     "terms of 1 entries",
     "terms of 2 entries",
@@ -148,6 +207,7 @@ const EXPECTED: [&str; 173] = [
     "terms of 6 entries",
     "terms of 7 entries",
     "terms of 8 entries",
+    "terms of 9 entries",
     "V,1 line accepted",
     "V,2 line accepted",
     "V line 1,2",
@@ -155,6 +215,11 @@ const EXPECTED: [&str; 173] = [
     "V line 1,3",
     "V line 2,3",
     "V line 1,4",
+    "V,2,k line accepted",
+    "V,2,k line 2,2",
+    "V,2,k line 2,3",
+    "V,1,k line 1,2",
+    "V,1,k line 1,3",
     "V line after a P line accepted",
     "V line after a P line 2,3",
     "branches of several iterations written",
@@ -209,6 +274,7 @@ impl Outcomes {
                 self.count_search(after, graph.kind.len(), work);
                 "search"
             }
+            Case::Route { used: Some(_), .. } => "resume",
             Case::Route { job, log, .. } => {
                 self.count_route(after, job, log);
                 self.count_pins(after, job);
@@ -298,6 +364,53 @@ impl Outcomes {
         }
     }
 
+    /// Counts what becomes of a log that a run is to go on from.
+    pub fn count_resumed(&mut self, lent: &Lent, after: &After) {
+        let whole = match (lent.name, after.answer.refusal.first()) {
+            ("whole log", Some(14)) if logs::last_iteration(&lent.words) == lent.job.limit => " at the limit",
+            ("whole log", Some(14)) => " that settles",
+            _ => "",
+        };
+        self.count(format!("{}{whole} {}", lent.name, end(after)));
+        match after.answer.refusal[..] {
+            [14, word] => self.count_diverging(lent, word),
+            [5..=7, ..] => {}
+            _ => self.count_taken_up(lent),
+        }
+    }
+
+    /// Counts where a log doesn't follow the job.
+    fn count_diverging(&mut self, lent: &Lent, word: u64) {
+        self.count(match word {
+            _ if lent.used > lent.words.len() as u64 => "14 with the log's length",
+            _ if word == lent.used => "14 with the words used",
+            0 => "14 at the first record",
+            _ if lent.words[word as usize] > 1 => "14 at a record of iteration 2 or later",
+            _ => "14 at a later record",
+        });
+    }
+
+    /// Counts what is taken up.
+    fn count_taken_up(&mut self, lent: &Lent) {
+        let (job, last) = (&lent.job, logs::last_iteration(&lent.words));
+        let rule = match last.cmp(&job.until) {
+            _ if job.rule == 1 => "log of rule 1",
+            std::cmp::Ordering::Less => "log of rule 2 taken up below iteration k",
+            std::cmp::Ordering::Equal => "log of rule 2 taken up at iteration k",
+            std::cmp::Ordering::Greater => "log of rule 2 taken up after iteration k",
+        };
+        let names = [
+            (logs::passes_over(&lent.words), "log with a tree kept"),
+            (last >= 3, "log of three iterations and more"),
+            (logs::has_long_cost(&lent.words), "log with costs over 32 bits"),
+            (logs::has_joined(&job.source), "log of joined nets"),
+        ];
+        self.count(if job.rule == 1 { format!("{rule} taken up") } else { String::from(rule) });
+        for (_, name) in names.into_iter().filter(|name| name.0) {
+            self.count(format!("{name} taken up"));
+        }
+    }
+
     /// Counts what few searches come to.
     fn count_search(&mut self, after: &After, nodes: usize, work: &[u64]) {
         if after.answer.refusal.is_empty() && work[..nodes].iter().any(|far| (1 << 61..1 << 62).contains(far))
@@ -315,7 +428,7 @@ impl Outcomes {
         if matches!(refusal.first(), Some(5 | 6)) || !logs::has_joined(&job.source) {
             return;
         }
-        let end = refusal.first().map_or(String::from("accepted"), u64::to_string);
+        let end = end(after);
         self.count(format!("joined nets {end}"));
         let same = |net: usize| job.source.iter().filter(move |other| **other == job.source[net]).count();
         if (0..job.source.len()).any(|net| same(net) > 2) {
@@ -431,6 +544,8 @@ impl Outcomes {
             (holds(b"\nV"), "V line"),
             (holds(b"\nV,1\n"), "V,1 line"),
             (holds(b"\nV,2\n"), "V,2 line"),
+            (holds(b"\nV,1,"), "V,1,k line"),
+            (holds(b"\nV,2,"), "V,2,k line"),
             (after_tuning, "V line after a P line"),
         ];
         for (_, name) in names.into_iter().filter(|name| name.0) {
@@ -443,14 +558,20 @@ impl Outcomes {
     }
 
     /// Counts how a sound job ends under its rule, and what rule 2 leaves standing.
-    pub fn count_rule(&mut self, rule: u32, after: &After) {
+    pub fn count_rule(&mut self, job: &Job, after: &After) {
         let (iteration, words) = (after.answer.numbers[0], after.answer.numbers[2] as usize);
         let Case::Route { log, .. } = &after.case else { return };
-        let end = after.answer.refusal.first().map_or(String::from("accepted"), u64::to_string);
+        let (rule, end) = (job.rule, end(after));
         let late = if end == "accepted" && iteration > 2 { ", iteration 3 or later" } else { "" };
         self.count(format!("rule {rule} {end}{late}"));
         if rule == 2 && words < 3_000 && logs::passes_over(&log[..words]) {
             self.count(format!("rule 2 with a tree kept {end}"));
+            if job.until > 1 {
+                self.count(format!("rule 2 after iteration k over 1 with a tree kept {end}"));
+            }
+        }
+        if rule == 2 && iteration > 1 && iteration <= job.until.into() {
+            self.count(format!("rule 2 up to iteration k alone {end}"));
         }
         if rule == 2 && logs::skips_iteration(&log[..words]) {
             self.count("rule 2 with a tree kept and dropped later");
@@ -481,17 +602,20 @@ impl Outcomes {
         self.count(format!("tuning step {step}"));
     }
 
-    /// Counts what only long negotiations come to, and bad rules.
+    /// Counts what only long negotiations come to, and bad terms.
     fn count_route(&mut self, after: &After, job: &Job, log: &[u32]) {
         if after.answer.refusal == [5, 8] && !matches!(job.rule, 1 | 2) {
             self.count("route 5,8 with a bad rule");
+        }
+        if after.answer.refusal == [5, 8] && !matches!(job.until, 1..=99) {
+            self.count("route 5,8 with a bad k");
         }
         let (iteration, words) = (after.answer.numbers[0], after.answer.numbers[2] as usize);
         if iteration >= 21 {
             self.count("route at iteration 21 or later");
         }
         let log = &log[..words];
-        if logs::records(log).iter().any(|place| log.get(place + 4).is_some_and(|high| *high > 0)) {
+        if logs::has_long_cost(log) {
             self.count("route with costs over 32 bits");
         }
     }
@@ -511,6 +635,11 @@ impl Outcomes {
             Some(number) => format!("sound job {number}{iterations}"),
         });
     }
+}
+
+/// How a call ends: accepted, or the refusal's number.
+pub fn end(after: &After) -> String {
+    after.answer.refusal.first().map_or(String::from("accepted"), u64::to_string)
 }
 
 /// Words for a pin's kind, the same for all wires.

@@ -5,9 +5,10 @@ use crate::compare::{self, After, Case};
 use crate::damage;
 use crate::lengths::{self, around};
 use crate::logs;
-use crate::outcomes::Outcomes;
+use crate::outcomes::{self, Outcomes};
+use crate::resumes::{self, Lent};
 use crate::uses::{self, Counts};
-use job::{jobs, texts, Job, Rng};
+use job::{jobs, texts, Job, Rng, TERMS};
 
 /// A case that fails, and how.
 pub struct Failure {
@@ -83,6 +84,7 @@ impl Run {
         self.term_counts(&job)?;
         self.damaged(&job)?;
         self.damaged(&job)?;
+        self.resumes(&job)?;
         let search = alone::search(&mut self.rng);
         self.case(search)?;
         for _ in 0..4 {
@@ -102,7 +104,7 @@ impl Run {
         let after = self.case(route(job, 8 * job.kind.len() + extra, log))?;
         self.outcomes.count_whole(&after);
         self.outcomes.count_tuning(job.tuning, &after);
-        self.outcomes.count_rule(job.rule, &after);
+        self.outcomes.count_rule(job, &after);
         Ok(after.answer.numbers[2] as usize)
     }
 
@@ -152,11 +154,11 @@ impl Run {
         if self.rng.percent(75) {
             return Ok(());
         }
-        let count = self.rng.below(9);
+        let count = self.rng.below(10);
         let words = self.rng.pick(&[40, 400, 2_000]);
         let log = self.old_log(words);
         let work = work(8 * job.kind.len());
-        self.case(Case::Route { job: job.clone(), terms: count, work, log })?;
+        self.case(Case::Route { job: job.clone(), terms: count, used: None, work, log })?;
         self.outcomes.count(format!("terms of {count} entries"));
         Ok(())
     }
@@ -170,6 +172,66 @@ impl Run {
         let words = self.rng.below(60);
         let log = self.old_log(words);
         self.case(route(&job, length, log))?;
+        Ok(())
+    }
+
+    /// The job resumed from its own logs and from others; at times with damaged tables, a work slice of another length, or fewer terms.
+    fn resumes(&mut self, job: &Job) -> Result<(), Failure> {
+        if job.kind.len() > 60 && !self.rng.once_in(20) {
+            return Ok(());
+        }
+        let lent = resumes::lent(&mut self.rng, job);
+        let after = self.case(lent.case())?;
+        self.outcomes.count_resumed(&lent, &after);
+        if lent.is_own() {
+            self.straight(&lent, &after);
+        }
+        if self.rng.once_in(3) {
+            self.refused_resume(&lent)?;
+        }
+        self.damaged_lent(&lent)
+    }
+
+    /// A job's own log ends as a straight run in as long a log does.
+    fn straight(&mut self, lent: &Lent, after: &After) {
+        let straight = compare::plain(&lent.straight());
+        let (Case::Route { log, .. }, Case::Route { log: other, .. }) = (&straight.case, &after.case) else {
+            return;
+        };
+        assert!(
+            straight.answer == after.answer && log == other,
+            "an own log doesn't end as the straight run"
+        );
+        self.outcomes.count(format!("straight run's end by a resume, {}", outcomes::end(after)));
+    }
+
+    /// The same with something wrong that is told before the log is looked at.
+    fn refused_resume(&mut self, lent: &Lent) -> Result<(), Failure> {
+        let mut case = lent.case();
+        let Case::Route { job, terms, work, .. } = &mut case else { return Ok(()) };
+        match self.rng.below(4) {
+            0 => *terms = self.rng.below(10),
+            1 => work.truncate(self.rng.below(8 * job.kind.len())),
+            2 => *job = jobs::small(&mut self.rng),
+            _ => damage::damage(&mut self.rng, job),
+        }
+        self.case(case)?;
+        Ok(())
+    }
+
+    /// At times a short lent log, every word of it damaged in turn.
+    fn damaged_lent(&mut self, lent: &Lent) -> Result<(), Failure> {
+        if lent.words.len() > 60 || !self.rng.once_in(40) {
+            return Ok(());
+        }
+        for place in 0..lent.words.len() {
+            for word in [lent.words[place] ^ 1, lent.words[place].wrapping_add(1), u32::MAX] {
+                let mut damaged = lent.clone();
+                damaged.words[place] = word;
+                self.case(damaged.case())?;
+            }
+        }
+        self.outcomes.count("lent log damaged word by word");
         Ok(())
     }
 
@@ -354,7 +416,7 @@ impl Run {
 
 /// A call of the router.
 fn route(job: &Job, length: usize, log: Vec<u32>) -> Case {
-    Case::Route { job: job.clone(), terms: 6, work: work(length), log }
+    Case::Route { job: job.clone(), terms: TERMS, used: None, work: work(length), log }
 }
 
 /// A call of the writer of either text, with a buffer of this length.

@@ -1,7 +1,8 @@
 //! Makes a failing case smaller while it still fails, and prints it.
 
 use crate::compare::{lent_terms, Case};
-use job::{Job, Tuning, PLAIN_RULE};
+use crate::resumes;
+use job::{Job, Tuning, PLAIN_RULE, PLAIN_UNTIL, TERMS};
 use std::time::{Duration, Instant};
 
 /// A way to a smaller case. Spans are a first place and a count.
@@ -19,6 +20,10 @@ enum Step {
     Plain,
     /// Sets rule 1.
     Rule,
+    /// Sets the k of a V line without one.
+    Until,
+    /// Lends so many iterations of the job's own log.
+    Own(u32),
     /// Lends all terms and no entry more.
     Terms,
     /// Drops entries of the slice with this number.
@@ -63,14 +68,14 @@ pub fn shrink(case: &Case, fails: &dyn Fn(&Case) -> bool) -> Case {
 
 /// All steps worth trying, coarse ones first.
 fn steps(case: &Case) -> Vec<Step> {
-    let mut list = vec![Step::Plain, Step::Rule, Step::Terms];
+    let mut list = vec![Step::Plain, Step::Rule, Step::Until, Step::Terms, Step::Own(1), Step::Own(2)];
     let (nodes, edges, nets, sinks) = sizes(case);
     list.extend(spans(nets).into_iter().map(|(from, count)| Step::Nets(from, count)));
     list.extend(spans(nodes).into_iter().map(|(from, count)| Step::Nodes(from, count)));
     list.extend(spans(sinks).into_iter().map(|(from, count)| Step::Sinks(from, count)));
     list.extend(spans(edges).into_iter().map(|(from, count)| Step::Edges(from, count)));
     for (number, value) in numbers(case).into_iter().enumerate() {
-        list.extend(lower(value).into_iter().map(|value| Step::Number(number, value)));
+        list.extend(lower_by_parts(value).into_iter().map(|value| Step::Number(number, value)));
     }
     list.extend((0..record_count(case)).rev().map(Step::Record));
     list.extend((0..record_count(case)).map(Step::PathNode));
@@ -121,7 +126,7 @@ fn only_written(case: &Case, number: usize) -> bool {
     match case {
         Case::Price { .. } => false,
         Case::Search { .. } => number == 4,
-        Case::Route { .. } => number >= 7,
+        Case::Route { used, .. } => number == 7 || number == 8 && used.is_none(),
         Case::Read { .. } => number >= 1,
         Case::Write { .. } => number >= 2,
         Case::AddUses { .. } => false,
@@ -132,15 +137,21 @@ fn only_written(case: &Case, number: usize) -> bool {
 /// Whole records of a stored log.
 fn record_count(case: &Case) -> usize {
     match case {
-        Case::Write { log, .. } | Case::AddUses { log, .. } => crate::logs::records(log).len() - 1,
+        Case::Write { log, .. } | Case::AddUses { log, .. } | Case::Route { used: Some(_), log, .. } => {
+            crate::logs::records(log).len() - 1
+        }
         _ => 0,
     }
 }
 
 /// A case without a record of its stored log, or with one of a shorter path.
 fn drop_from_log(case: &mut Case, step: Step) -> Option<()> {
-    let (Case::Write { log, .. } | Case::AddUses { log, .. }) = case else { return None };
-    let places = crate::logs::records(log);
+    let (log, used) = match case {
+        Case::Write { log, .. } | Case::AddUses { log, .. } => (log, None),
+        Case::Route { log, used, .. } => (log, used.as_mut()),
+        _ => return None,
+    };
+    let (places, length) = (crate::logs::records(log), log.len());
     match step {
         Step::Record(record) => {
             log.drain(*places.get(record)?..*places.get(record + 1)?);
@@ -155,6 +166,9 @@ fn drop_from_log(case: &mut Case, step: Step) -> Option<()> {
         }
         _ => return None,
     }
+    if let Some(used) = used {
+        *used = used.saturating_sub((length - log.len()) as u64);
+    }
     Some(())
 }
 
@@ -164,6 +178,12 @@ fn lower(value: u64) -> Vec<u64> {
     list.retain(|lower| *lower < value);
     list.dedup();
     list
+}
+
+/// Lower values to try for a single number: 0, then it without a half, a quarter and so on, so that a bound far from 0 is soon met.
+fn lower_by_parts(value: u64) -> Vec<u64> {
+    let parts = std::iter::successors(Some(value), |part| Some(part / 2));
+    parts.take_while(|part| *part > 0).map(|part| value - part).collect()
 }
 
 /// Nodes, edges, nets and sinks of a case that has them.
@@ -219,7 +239,7 @@ fn drop_parts(mut case: Case, step: Step) -> Option<Case> {
                 return Some(case);
             };
             drop_nodes(graph, from, count)?;
-            work.truncate(work.len().checked_sub(8 * count)?);
+            work.truncate(work.len().saturating_sub(8 * count));
             cut(history, from, count);
             cut(others, from, count);
             cut(in_tree, from, count);
@@ -234,11 +254,21 @@ fn drop_parts(mut case: Case, step: Step) -> Option<Case> {
                 (0..count).for_each(|_| number_log_anew(log, from));
             }
         }
-        Case::Route { terms, .. } if matches!(step, Step::Terms) => *terms = 6,
-        Case::Route { job, work, .. } => {
+        Case::Route { terms, .. } if matches!(step, Step::Terms) => *terms = TERMS,
+        Case::Route { job, log, used: Some(used), .. } if matches!(step, Step::Own(_)) => {
+            let Step::Own(count) = step else { return None };
+            lend_own(job, count, used, log)?;
+        }
+        Case::Route { job, work, log, used, .. } => {
+            let own = used.and_then(|used| resumes::own_iterations(job, log.get(..used as usize)?));
             drop_from_job(job, step)?;
+            match (own, used.as_mut()) {
+                (Some(count), Some(used)) => lend_own(job, count, used, log)?,
+                (None, Some(used)) => lend_without(step, used, log),
+                (_, None) => {}
+            }
             if let Step::Nodes(_, count) = step {
-                work.truncate(work.len().checked_sub(8 * count)?);
+                work.truncate(work.len().saturating_sub(8 * count));
             }
         }
         Case::Read { text, .. } => {
@@ -251,6 +281,46 @@ fn drop_parts(mut case: Case, step: Step) -> Option<Case> {
     Some(case)
 }
 
+/// Puts so many iterations of the job's own log in the place of the words used.
+fn lend_own(job: &Job, count: u32, used: &mut u64, log: &mut Vec<u32>) -> Option<()> {
+    let own = resumes::own_log(job, count);
+    let lent = log.get(..*used as usize)?;
+    if own.is_empty() || own.len() > lent.len() {
+        return None;
+    }
+    log.splice(..*used as usize, own.iter().copied());
+    *used = own.len() as u64;
+    Some(())
+}
+
+/// Takes the records of dropped nets out of the words used, and numbers nets and nodes anew. The costs stay.
+fn lend_without(step: Step, used: &mut u64, log: &mut Vec<u32>) {
+    let Some(lent) = log.get(..*used as usize) else { return };
+    let mut words = lent.to_vec();
+    match step {
+        Step::Nets(from, count) => words = without_nets(lent, from as u32, count as u32),
+        Step::Nodes(from, count) => (0..count).for_each(|_| number_log_anew(&mut words, from)),
+        _ => return,
+    }
+    log.splice(..*used as usize, words.iter().copied());
+    *used = words.len() as u64;
+}
+
+/// A log without the records of so many nets; later nets have numbers so much lower.
+fn without_nets(log: &[u32], from: u32, count: u32) -> Vec<u32> {
+    let places = crate::logs::records(log);
+    let mut kept = Vec::new();
+    for place in places.windows(2) {
+        let mut record = log[place[0]..place[1]].to_vec();
+        if record[1] < from || record[1] - from >= count {
+            record[1] -= if record[1] < from { 0 } else { count };
+            kept.extend(record);
+        }
+    }
+    kept.extend(&log[places[places.len() - 1]..]);
+    kept
+}
+
 fn drop_from_job(job: &mut Job, step: Step) -> Option<()> {
     match step {
         Step::Nodes(from, count) => drop_job_nodes(job, from, count),
@@ -259,6 +329,7 @@ fn drop_from_job(job: &mut Job, step: Step) -> Option<()> {
         Step::Sinks(from, count) => (0..count).try_for_each(|_| drop_sink(job, from)),
         Step::Plain => (job.tuning != Tuning::PLAIN).then(|| job.tuning = Tuning::PLAIN),
         Step::Rule => (job.rule != PLAIN_RULE).then(|| job.rule = PLAIN_RULE),
+        Step::Until => (job.until != PLAIN_UNTIL).then(|| job.until = PLAIN_UNTIL),
         _ => None,
     }
 }
@@ -459,7 +530,16 @@ fn fill_slice(case: &mut Case, number: usize) {
     with_slice!(case, number, slice => slice.fill(7));
 }
 
-/// The single numbers of a case; those of the plain tuning are not to be lowered.
+/// How many single numbers of a job may be lowered: the limit, and the tuning's unless it is the plain one.
+fn lowered(job: &Job) -> usize {
+    if job.tuning == Tuning::PLAIN {
+        1
+    } else {
+        5
+    }
+}
+
+/// The single numbers of a case.
 fn numbers(case: &Case) -> Vec<u64> {
     match case {
         Case::Price { kind, factor, others, capacity, history } => {
@@ -467,9 +547,9 @@ fn numbers(case: &Case) -> Vec<u64> {
         }
         Case::Search { factor, .. } => vec![u64::from(*factor)],
         Case::AddUses { logs, .. } | Case::WriteUses { logs, .. } => vec![*logs],
-        Case::Route { job, .. } if job.tuning == Tuning::PLAIN => vec![u64::from(job.limit)],
-        Case::Route { job, .. } => {
-            [&[job.limit][..], &job.tuning.numbers()].concat().into_iter().map(u64::from).collect()
+        Case::Route { job, used, .. } => {
+            let terms = job.terms().into_iter().take(lowered(job)).map(u64::from);
+            terms.chain(*used).collect()
         }
         _ => Vec::new(),
     }
@@ -482,11 +562,11 @@ fn set_number(case: &mut Case, number: usize, value: u64) -> Option<()> {
         }
         Case::Search { factor, .. } => factor,
         Case::AddUses { logs, .. } | Case::WriteUses { logs, .. } => return reduce(logs, value),
-        Case::Route { job: Job { limit, tuning, .. }, .. } if number == 0 || *tuning == Tuning::PLAIN => {
-            [limit].into_iter().nth(number)?
-        }
-        Case::Route { job: Job { tuning: Tuning { first, up, down, step }, .. }, .. } => {
-            [first, up, down, step].into_iter().nth(number - 1)?
+        Case::Route { job, used, .. } if number == lowered(job) => return reduce(used.as_mut()?, value),
+        // the tuning is the plain one since the steps were listed: it stays
+        Case::Route { job, .. } if number > lowered(job) => return None,
+        Case::Route { job: Job { limit, tuning: Tuning { first, up, down, step }, .. }, .. } => {
+            [limit, first, up, down, step].into_iter().nth(number)?
         }
         _ => return None,
     };
@@ -577,10 +657,13 @@ fn call(case: &Case) -> String {
         Case::Search { factor, .. } => format!(
             "search(&kind, &capacity, &first_edge, &edge_target, {factor}, &mut work, &history, &others, &in_tree)"
         ),
-        Case::Route { job, terms, .. } => format!(
-            "route(&kind, &capacity, &first_edge, &edge_target, &source, &first_sink, &sink, &{:?}, &mut work, &mut log)",
-            lent_terms(job, *terms)
-        ),
+        Case::Route { job, terms, used, .. } => {
+            let (name, terms) = (if used.is_some() { "resume" } else { "route" }, lent_terms(job, *terms));
+            let used = used.map_or(String::new(), |used| format!("{used}, "));
+            format!(
+                "{name}(&kind, &capacity, &first_edge, &edge_target, &source, &first_sink, &sink, &{terms:?}, {used}&mut work, &mut log)"
+            )
+        }
         Case::Read { .. } => String::from(
             "read(&text, &mut kind, &mut capacity, &mut first_edge, &mut edge_target, &mut source, &mut first_sink, &mut sink)",
         ),
@@ -661,6 +744,14 @@ mod tests {
         assert!(graph.kind.len() == 1 && counts == [0; 54] && log.is_empty());
         let Case::WriteUses { graph, counts, logs, buffer } = smallest(19) else { panic!("fault 19") };
         assert!(graph.kind.len() == 1 && counts == [0; 54] && logs == 65_536 && buffer.is_empty());
+        let Case::Route { job, used, .. } = smallest(20) else { panic!("fault 20") };
+        assert!(job.limit == 2 && job.source.len() == 2 && used.is_some_and(|used| used <= 18));
+        let Case::Route { used, log, .. } = smallest(21) else { panic!("fault 21") };
+        assert!(used.is_some_and(|used| used as usize <= log.len()) && log.len() <= 9);
+        let Case::Route { used, .. } = smallest(22) else { panic!("fault 22") };
+        assert!(used.is_some_and(|used| used <= 20));
+        let Case::Route { job, used, .. } = smallest(23) else { panic!("fault 23") };
+        assert!(job.rule == 2 && job.until > 1 && job.limit == 2 && used.is_some_and(|used| used <= 18));
         FAULT.store(0, Ordering::Relaxed);
         assert!(first_failure().is_none());
     }

@@ -40,8 +40,13 @@ fn same(before: &Case, after: &Case, refusal: &[u64], numbers: &[u64]) -> Option
         (Case::Search { graph, .. }, Case::Search { work, .. }) => {
             told(distances(before)) == accepted(work.iter().take(graph.kind.len()).copied().collect())
         }
-        (Case::Route { job, terms, log: lent, .. }, Case::Route { log, .. }) => {
-            routed(&typed(&taken(job, *terms)), lent.len(), refusal, numbers, log)
+        (Case::Route { job, terms, used, log: lent, .. }, Case::Route { log, .. }) => {
+            let job = typed(&taken(job, *terms));
+            let answer = match used {
+                None => job.route_in(lent.len()),
+                Some(used) => job.resume_in(lent.get(..usize::try_from(*used).ok()?)?, lent.len()),
+            };
+            routed(answer, refusal, numbers, log)
         }
         (Case::Read { text, .. }, Case::Read { tables, .. }) => match arvumnao::Job::read(text) {
             Ok(read) => {
@@ -100,9 +105,8 @@ fn told(answer: Result<Vec<u64>, Refusal>) -> (Vec<u64>, Vec<u64>) {
     }
 }
 
-/// Whether the wrapper's run in a log of that length has this refusal, these numbers and the words used of this log.
-fn routed(job: &arvumnao::Job, length: usize, refusal: &[u64], numbers: &[u64], log: &[u32]) -> bool {
-    let answer = job.route_in(length);
+/// Whether the wrapper's run has this refusal, these numbers and the words used of this log.
+fn routed(answer: Result<arvumnao::Answer, Refusal>, refusal: &[u64], numbers: &[u64], log: &[u32]) -> bool {
     let (other, run) = match &answer {
         Ok(answer) => (Vec::new(), Some((u64::from(answer.iteration), answer.turns, &answer.log))),
         Err(stopped) => (stopped.numbers(), run(stopped)),
@@ -129,7 +133,7 @@ fn run(refusal: &Refusal) -> Option<(u64, u64, &Log)> {
 
 /// The job in the wrapper's types.
 fn typed(job: &Job) -> arvumnao::Job {
-    let [limit, first, up, down, step, rule] = job.terms();
+    let [limit, first, up, down, step, rule, until] = job.terms();
     arvumnao::Job {
         block: Block {
             kind: job.kind.clone(),
@@ -138,6 +142,6 @@ fn typed(job: &Job) -> arvumnao::Job {
             edge_target: job.edge_target.clone(),
         },
         nets: Nets { source: job.source.clone(), first_sink: job.first_sink.clone(), sink: job.sink.clone() },
-        terms: Terms { limit, first, up, down, step, rule },
+        terms: Terms { limit, first, up, down, step, rule, until },
     }
 }

@@ -12,12 +12,27 @@ fn lent<T: From<u8> + Clone>(length: u32) -> Vec<T> {
     vec![T::from(BEFORE); length as usize]
 }
 
+/// The terms, of which k may be left out, then the lengths of the work slice and the log.
 pub fn route(case: &mut Case) -> Result<(), Fault> {
-    let [limit, first, up, down, step, rule, entries, words] = case.numbers("route")?;
+    let said: Vec<u32> = case.list("route")?;
+    let [ref terms @ .., entries, words] = said[..] else {
+        return Err(String::from("route has two lengths"));
+    };
     let tables = Tables::of(case)?;
     let mut work: Vec<u64> = lent(entries);
     let mut log: Vec<u32> = lent(words);
-    let got = tables.route(&[limit, first, up, down, step, rule], &mut work, &mut log);
+    let got = tables.route(terms, &mut work, &mut log);
+    line(case, &[refusal(&got), numbers(&got.numbers), slice(&work), slice(&log)]);
+    Ok(())
+}
+
+/// All terms, then the words used and the length of the work slice. The log, whole, stands after the tables.
+pub fn resume(case: &mut Case) -> Result<(), Fault> {
+    let [ref terms @ .., used, entries] = case.numbers::<9>("resume")?;
+    let tables = Tables::of(case)?;
+    let mut work: Vec<u64> = lent(entries);
+    let mut log: Vec<u32> = case.list("log")?;
+    let got = tables.resume(terms, used, &mut work, &mut log);
     line(case, &[refusal(&got), numbers(&got.numbers), slice(&work), slice(&log)]);
     Ok(())
 }
@@ -79,7 +94,7 @@ impl Lent {
             return read;
         }
         let [nodes, edges, nets, sinks, ref terms @ ..] = read.numbers[..] else {
-            panic!("the reader has ten numbers");
+            panic!("the reader has eleven numbers");
         };
         let job = self.tables.cut([nodes, edges, nets, sinks].map(|count| count as usize));
         let terms: Vec<u32> = terms.iter().map(|number| *number as u32).collect();
@@ -208,6 +223,22 @@ impl Tables {
             &self.first_sink,
             &self.sink,
             terms,
+            work,
+            log,
+        )
+    }
+
+    fn resume(&self, terms: &[u32], used: u32, work: &mut [u64], log: &mut [u32]) -> Answer {
+        plain::resume(
+            &self.kind,
+            &self.capacity,
+            &self.first_edge,
+            &self.edge_target,
+            &self.source,
+            &self.first_sink,
+            &self.sink,
+            terms,
+            used.into(),
             work,
             log,
         )

@@ -19,6 +19,7 @@ fn one(case: &mut Case) -> Result<(), Fault> {
         "history" => alone::history(case),
         "search" => alone::search(case),
         "route" => jobs::route(case),
+        "resume" => jobs::resume(case),
         "read" => jobs::read(case),
         "write" => jobs::write(case, "write", plain::write),
         "dot" => jobs::write(case, "dot", plain::dot),

@@ -1,6 +1,6 @@
 //! Sound jobs from a seed.
 
-use crate::{Job, Rng, Tuning, PLAIN_RULE};
+use crate::{Job, Rng, Tuning, PLAIN_RULE, PLAIN_UNTIL};
 
 /// A job as lists of lists, from which the tables are made.
 #[derive(Clone, Debug)]
@@ -12,6 +12,7 @@ pub struct Plan {
     pub limit: u32,
     pub tuning: Tuning,
     pub rule: u32,
+    pub until: u32,
 }
 
 impl Plan {
@@ -25,6 +26,7 @@ impl Plan {
             limit: 1,
             tuning: Tuning::PLAIN,
             rule: PLAIN_RULE,
+            until: PLAIN_UNTIL,
         }
     }
 
@@ -56,7 +58,7 @@ impl Plan {
     /// The tables.
     pub fn job(&self) -> Job {
         let mut job = Job::new(self.kind.clone(), self.capacity.clone(), &self.rows, &self.nets, self.limit);
-        (job.tuning, job.rule) = (self.tuning, self.rule);
+        (job.tuning, job.rule, job.until) = (self.tuning, self.rule, self.until);
         job
     }
 }
@@ -80,10 +82,11 @@ pub fn plan(rng: &mut Rng) -> Plan {
     plan
 }
 
-/// What jobs of every family may have: a tuning, either rule, and nets broken into several of one source.
+/// What jobs of every family may have: a tuning, either rule from any iteration on, and nets broken into several of one source.
 fn finish(rng: &mut Rng, plan: &mut Plan) {
     plan.tuning = tuning(rng);
     plan.rule = rule(rng);
+    plan.until = until(rng);
     if rng.percent(35) {
         split(rng, plan);
     }
@@ -143,6 +146,15 @@ pub fn tuning(rng: &mut Rng) -> Tuning {
 /// Either rule.
 pub fn rule(rng: &mut Rng) -> u32 {
     rng.within(1, 2) as u32
+}
+
+/// The last iteration before rule 2 holds: mostly an early one.
+pub fn until(rng: &mut Rng) -> u32 {
+    match rng.below(10) {
+        0..=3 => PLAIN_UNTIL,
+        4 => rng.pick(&[10, 98, 99]),
+        _ => rng.within(1, 5) as u32,
+    }
 }
 
 /// A sound job's lists with the plain tuning and rule.

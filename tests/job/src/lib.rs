@@ -38,7 +38,8 @@ impl Tuning {
     }
 }
 
-/// Tables 1 to 7, as 01 numbers them, the limit of iterations, the tuning and the rule by which nets are routed again.
+/// Tables 1 to 7, as 01 numbers them, the limit of iterations, the tuning, and the rule by which nets are routed again: rule 2 holds
+/// after iteration `until`.
 #[derive(Clone, Debug, PartialEq, Eq)]
 pub struct Job {
     pub kind: Vec<u8>,
@@ -51,13 +52,20 @@ pub struct Job {
     pub limit: u32,
     pub tuning: Tuning,
     pub rule: u32,
+    pub until: u32,
 }
 
 /// The rule of a job text without a V line.
 pub const PLAIN_RULE: u32 = 1;
 
+/// The second number of a V line that has none.
+pub const PLAIN_UNTIL: u32 = 1;
+
+/// How many terms a call may be lent.
+pub const TERMS: usize = 7;
+
 /// The terms of a call whose slice lacks all of them.
-const PLAIN_TERMS: [u32; 6] = [0, 50, 3, 2, 1, PLAIN_RULE];
+const PLAIN_TERMS: [u32; TERMS] = [0, 50, 3, 2, 1, PLAIN_RULE, PLAIN_UNTIL];
 
 impl Job {
     /// Nodes only: rows and nets are still to be added. Tuning and rule are the plain ones.
@@ -73,6 +81,7 @@ impl Job {
             limit,
             tuning: Tuning::PLAIN,
             rule: PLAIN_RULE,
+            until: PLAIN_UNTIL,
         }
     }
 
@@ -131,19 +140,21 @@ impl Job {
             limit: 0,
             tuning: Tuning { first: 0, up: 0, down: 0, step: 0 },
             rule: 0,
+            until: 0,
         }
     }
 
-    /// What a call is lent as table 8: limit, first, up, down, step, rule.
-    pub fn terms(&self) -> [u32; 6] {
+    /// What a call is lent as table 8: limit, first, up, down, step, rule, until.
+    pub fn terms(&self) -> [u32; TERMS] {
         let Tuning { first, up, down, step } = self.tuning;
-        [self.limit, first, up, down, step, self.rule]
+        [self.limit, first, up, down, step, self.rule, self.until]
     }
 
     /// Sets all of them.
-    pub fn set_terms(&mut self, terms: [u32; 6]) {
-        let [limit, first, up, down, step, rule] = terms;
-        (self.limit, self.tuning, self.rule) = (limit, Tuning { first, up, down, step }, rule);
+    pub fn set_terms(&mut self, terms: [u32; TERMS]) {
+        let [limit, first, up, down, step, rule, until] = terms;
+        self.tuning = Tuning { first, up, down, step };
+        (self.limit, self.rule, self.until) = (limit, rule, until);
     }
 
     /// Sets them to what a call takes from a slice: an entry that it lacks has its plain value.
@@ -153,7 +164,7 @@ impl Job {
         self.set_terms(terms);
     }
 
-    /// Takes the reader's ten numbers: cuts the tables to what it filled, sets the terms.
+    /// Takes the reader's eleven numbers: cuts the tables to what it filled, sets the terms.
     pub fn take_numbers(&mut self, numbers: &[u64]) {
         let counts: Vec<usize> = numbers.iter().map(|number| *number as usize).collect();
         self.kind.truncate(counts[0]);
@@ -163,7 +174,7 @@ impl Job {
         self.source.truncate(counts[2]);
         self.first_sink.truncate(counts[2] + 1);
         self.sink.truncate(counts[3]);
-        self.set_terms([4, 5, 6, 7, 8, 9].map(|place| counts[place] as u32));
+        self.set_terms([4, 5, 6, 7, 8, 9, 10].map(|place| counts[place] as u32));
     }
 }
 
@@ -191,6 +202,7 @@ mod tests {
             limit: 9,
             tuning: Tuning { first: 50, up: 3, down: 2, step: 1 },
             rule: 1,
+            until: 1,
         };
         assert_eq!(job, tables);
         assert_eq!((job.row(0), job.row(1), job.row(2)), (&[1, 2][..], &[][..], &[0][..]));
@@ -200,20 +212,20 @@ mod tests {
     #[test]
     fn numbers_cut_unread_tables() {
         let mut job = Job::unread([9; 7]);
-        job.take_numbers(&[2, 3, 4, 6, 7, 1000, 8, 4, 3, 2]);
+        job.take_numbers(&[2, 3, 4, 6, 7, 1000, 8, 4, 3, 2, 99]);
         let tuning = Tuning { first: 1000, up: 8, down: 4, step: 3 };
-        assert_eq!(job, Job { limit: 7, tuning, rule: 2, ..Job::unread([2, 2, 3, 3, 4, 5, 6]) });
-        assert_eq!(job.terms(), [7, 1000, 8, 4, 3, 2]);
+        assert_eq!(job, Job { limit: 7, tuning, rule: 2, until: 99, ..Job::unread([2, 2, 3, 3, 4, 5, 6]) });
+        assert_eq!(job.terms(), [7, 1000, 8, 4, 3, 2, 99]);
     }
 
     #[test]
     fn entries_that_a_slice_lacks_are_plain() {
         let mut job = Job::unread([0; 7]);
         for (slice, terms) in [
-            (&[][..], [0, 50, 3, 2, 1, 1]),
-            (&[9], [9, 50, 3, 2, 1, 1]),
-            (&[9, 8, 7, 6], [9, 8, 7, 6, 1, 1]),
-            (&[9, 8, 7, 6, 5, 4, 3], [9, 8, 7, 6, 5, 4]),
+            (&[][..], [0, 50, 3, 2, 1, 1, 1]),
+            (&[9], [9, 50, 3, 2, 1, 1, 1]),
+            (&[9, 8, 7, 6], [9, 8, 7, 6, 1, 1, 1]),
+            (&[9, 8, 7, 6, 5, 4, 3, 2], [9, 8, 7, 6, 5, 4, 3]),
         ] {
             job.take_terms(slice);
             assert_eq!(job.terms(), terms);

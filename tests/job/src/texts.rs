@@ -1,6 +1,6 @@
 //! Job texts, sound and changed, from a seed.
 
-use crate::{jobs, Job, Rng, Tuning, PLAIN_RULE};
+use crate::{jobs, Job, Rng, Tuning, PLAIN_RULE, PLAIN_UNTIL};
 
 /// A line's letter and numbers.
 #[derive(Clone)]
@@ -9,19 +9,30 @@ struct Line {
     fields: Vec<u64>,
 }
 
-/// The lines of a job's text; the P line of the plain tuning and the V line of rule 1 may be left out.
-fn lines(job: &Job, say_tuning: bool, say_rule: bool) -> Vec<Line> {
+/// What a job's text says though it need not: the P line of the plain tuning, the V line of rule 1, the second number of `V,2,1`.
+#[derive(Clone, Copy, Default)]
+struct Said {
+    tuning: bool,
+    rule: bool,
+    until: bool,
+}
+
+/// The lines of a job's text. Under rule 1 it has no place for the second number.
+fn lines(job: &Job, said: Said) -> Vec<Line> {
     let (nodes, nets) = (job.kind.len(), job.source.len());
     let mut list = Vec::new();
     let mut add = |letter, fields: &[usize]| {
         list.push(Line { letter, fields: fields.iter().map(|field| *field as u64).collect() });
     };
     add(b'F', &[nodes, job.edge_target.len(), nets, job.limit as usize]);
-    if say_tuning || job.tuning != Tuning::PLAIN {
+    if said.tuning || job.tuning != Tuning::PLAIN {
         add(b'P', &job.tuning.numbers().map(|number| number as usize));
     }
-    if say_rule || job.rule != PLAIN_RULE {
-        add(b'V', &[job.rule as usize]);
+    let fields = [job.rule as usize, job.until as usize];
+    if job.rule != PLAIN_RULE {
+        add(b'V', if said.until || job.until != PLAIN_UNTIL { &fields } else { &fields[..1] });
+    } else if said.rule {
+        add(b'V', &fields[..1]);
     }
     for node in 0..nodes {
         add(b'N', &[node, job.kind[node] as usize, job.capacity[node] as usize]);
@@ -56,17 +67,16 @@ fn print(list: &[Line]) -> Vec<u8> {
 
 /// The text of a job with sound tables, with P and V lines only where they are needed.
 pub fn text(job: &Job) -> Vec<u8> {
-    print(&lines(job, false, false))
+    print(&lines(job, Said::default()))
 }
 
-/// The same, at times with the P line of the plain tuning or the V line of rule 1.
+/// The same, at times with more than is needed.
 pub fn some_text(rng: &mut Rng, job: &Job) -> Vec<u8> {
     print(&some_lines(rng, job))
 }
 
 fn some_lines(rng: &mut Rng, job: &Job) -> Vec<Line> {
-    let (say_tuning, say_rule) = (rng.once_in(4), rng.once_in(3));
-    lines(job, say_tuning, say_rule)
+    lines(job, Said { tuning: rng.once_in(4), rule: rng.once_in(3), until: rng.once_in(3) })
 }
 
 /// A job's text with wrong content, wrong bytes or both.
@@ -101,7 +111,7 @@ pub fn changed(rng: &mut Rng, job: &Job) -> Vec<u8> {
 
 /// Texts that hardly hold a job at all.
 pub fn odd(rng: &mut Rng) -> Vec<u8> {
-    let choices: [&[u8]; 24] = [
+    let choices: [&[u8]; 28] = [
         b"",
         b"\n",
         b"F",
@@ -126,6 +136,10 @@ pub fn odd(rng: &mut Rng) -> Vec<u8> {
         b"F,1,0,1,1\nV,2\n",
         b"F,1,0,1,1\nP,50,3,2,1\nV,3\n",
         b"V,2\n",
+        b"F,1,0,1,1\nV,2,",
+        b"F,1,0,1,1\nV,2,1",
+        b"F,1,0,1,1\nV,1,100\n",
+        b"F,1,0,1,1\nV,2,2,2\n",
     ];
     rng.pick(&choices).to_vec()
 }
@@ -168,7 +182,7 @@ fn change_lines(rng: &mut Rng, list: &mut Vec<Line>) {
 fn change_term(rng: &mut Rng, list: &mut Vec<Line>) {
     let letter = rng.pick(b"PV");
     let at = term_place(rng, list, letter);
-    match rng.below(12) {
+    match rng.below(14) {
         0 => list.insert(at, list[at].clone()),
         1 => list.swap(at - 1, at),
         2 => list.swap(at, at + 1),
@@ -192,7 +206,9 @@ fn change_term(rng: &mut Rng, list: &mut Vec<Line>) {
             let (field, bad) = rng.pick(&[(0, 1_001), (1, 9), (1, 0), (2, 0), (2, 5), (3, 0), (3, 3)]);
             list[at].fields[field] = bad;
         }
-        _ => list[at].fields[0] = rng.pick(&[0, 3, 3, 4, 12, 22, 256, 258, 65_538, 999_999]),
+        9 | 10 => list[at].fields[0] = rng.pick(&[0, 3, 3, 4, 12, 22, 256, 258, 65_538, 999_999]),
+        11 => list[at].fields = vec![rng.pick(&[1, 1, 0, 3]), rng.pick(&[0, 1, 2, 99, 100])],
+        _ => list[at].fields = vec![2, rng.pick(&[0, 1, 98, 99, 100, 101, 256, 257, 65_537, 999_999])],
     }
 }
 
@@ -200,8 +216,11 @@ fn change_term(rng: &mut Rng, list: &mut Vec<Line>) {
 fn term_place(rng: &mut Rng, list: &mut Vec<Line>, letter: u8) -> usize {
     let at = 1 + usize::from(letter == b'V' && list[1].letter == b'P');
     if list[at].letter != letter {
-        let fields =
-            if letter == b'P' { jobs::tuning(rng).numbers().to_vec() } else { vec![jobs::rule(rng)] };
+        let fields = match letter {
+            b'P' => jobs::tuning(rng).numbers().to_vec(),
+            _ if rng.once_in(3) => vec![2, jobs::until(rng)],
+            _ => vec![jobs::rule(rng)],
+        };
         list.insert(at, Line { letter, fields: fields.into_iter().map(u64::from).collect() });
     }
     at

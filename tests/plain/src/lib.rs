@@ -4,6 +4,7 @@ mod join;
 mod log;
 mod price;
 mod reader;
+mod resume;
 mod route;
 mod search;
 mod tables;
@@ -12,6 +13,7 @@ mod writer;
 
 pub use price::{price, Tuning};
 pub use reader::read;
+pub use resume::resume;
 pub use route::route;
 pub use search::{cheapest_path, search};
 pub use uses::{uses_add, uses_write, KINDS};

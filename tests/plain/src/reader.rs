@@ -2,7 +2,7 @@
 
 use crate::price::{Tuning, MAX_KIND};
 use crate::tables::{may_be_sink, may_be_source, rule_is_sound};
-use crate::tables::{MAX_EDGES, MAX_LIMIT, MAX_NETS, MAX_NODES, MAX_SINKS, PLAIN_RULE};
+use crate::tables::{MAX_EDGES, MAX_LIMIT, MAX_NETS, MAX_NODES, MAX_SINKS, PLAIN_RULE, PLAIN_UNTIL};
 use crate::Answer;
 
 /// A refusal: its number and the line.
@@ -27,10 +27,11 @@ struct Job {
     limit: u32,
     tuning: Tuning,
     rule: u32,
+    until: u32,
 }
 
 /// The own numbers of the reader.
-const NUMBERS: usize = 10;
+const NUMBERS: usize = 11;
 
 /// The counts that the F line gives.
 struct Counts {
@@ -45,8 +46,13 @@ impl<'a> Lines<'a> {
         &self.text[self.place..]
     }
 
-    /// Takes the next line; fault 1 if it is missing, has no LF or another shape.
+    /// Takes the next line, of so many fields; fault 1 if it is missing, has no LF or another shape.
     fn take(&mut self, letter: u8, fields: usize) -> Result<Vec<u32>, Fault> {
+        self.take_some(letter, &[fields])
+    }
+
+    /// The same of a line that may have any of these counts of fields.
+    fn take_some(&mut self, letter: u8, fields: &[usize]) -> Result<Vec<u32>, Fault> {
         self.line += 1;
         let rest = self.rest();
         let Some(end) = rest.iter().position(|&b| b == b'\n') else {
@@ -75,14 +81,14 @@ impl<'a> Lines<'a> {
     }
 }
 
-/// The numbers of a line (without its LF), if it has the letter and so many fields.
-fn line_fields(line: &[u8], letter: u8, fields: usize) -> Option<Vec<u32>> {
+/// The numbers of a line (without its LF), if it has the letter and one of these counts of fields.
+fn line_fields(line: &[u8], letter: u8, fields: &[usize]) -> Option<Vec<u32>> {
     let mut parts = line.split(|&b| b == b',');
     if parts.next() != Some(&[letter][..]) {
         return None;
     }
     let numbers: Option<Vec<u32>> = parts.map(number).collect();
-    numbers.filter(|n| n.len() == fields)
+    numbers.filter(|n| fields.contains(&n.len()))
 }
 
 /// A field: 1 to 6 digits, no leading zero but 0 itself.
@@ -116,14 +122,18 @@ fn read_tuning(lines: &mut Lines) -> Result<Tuning, Fault> {
     Ok(tuning)
 }
 
-/// The V line, which may be missing.
-fn read_rule(lines: &mut Lines) -> Result<u32, Fault> {
+/// Rule and k of the V line, which may be missing. `V,1` takes no second number.
+fn read_rule(lines: &mut Lines) -> Result<(u32, u32), Fault> {
     if lines.rest().first() != Some(&b'V') {
-        return Ok(PLAIN_RULE);
+        return Ok((PLAIN_RULE, PLAIN_UNTIL));
     }
-    let f = lines.take(b'V', 1)?;
-    lines.bounds(rule_is_sound(f[0]))?;
-    Ok(f[0])
+    let f = lines.take_some(b'V', &[1, 2])?;
+    if f[0] == 1 && f.len() == 2 {
+        return Err([1, lines.line]);
+    }
+    let (rule, until) = (f[0], f.get(1).copied().unwrap_or(PLAIN_UNTIL));
+    lines.bounds(rule_is_sound(rule, until))?;
+    Ok((rule, until))
 }
 
 fn read_nodes(lines: &mut Lines, counts: &Counts, job: &mut Job) -> Result<(), Fault> {
@@ -207,7 +217,7 @@ fn read_job(text: &[u8]) -> Result<Job, Fault> {
     let mut lines = Lines { text, place: 0, line: 0 };
     let counts = read_counts(&mut lines)?;
     let tuning = read_tuning(&mut lines)?;
-    let rule = read_rule(&mut lines)?;
+    let (rule, until) = read_rule(&mut lines)?;
     let mut job = Job {
         kind: Vec::new(),
         capacity: Vec::new(),
@@ -219,6 +229,7 @@ fn read_job(text: &[u8]) -> Result<Job, Fault> {
         limit: counts.limit,
         tuning,
         rule,
+        until,
     };
     read_nodes(&mut lines, &counts, &mut job)?;
     read_edges(&mut lines, &counts, &mut job)?;
@@ -243,6 +254,7 @@ fn numbers(job: &Job) -> [u64; NUMBERS] {
         down as u64,
         step as u64,
         job.rule as u64,
+        job.until as u64,
     ]
 }
 

@@ -3,21 +3,22 @@
 use crate::join::joined;
 use crate::price::Tuning;
 use crate::search::{distances, path, prices, NO_PATH};
-use crate::tables::{rule_is_sound, Graph, Nets, MAX_LIMIT, PLAIN_RULE};
+use crate::tables::{rule_is_sound, Graph, Nets, MAX_LIMIT, PLAIN_RULE, PLAIN_UNTIL};
 use crate::Answer;
 use std::collections::BTreeSet;
 
-/// Limit, tuning and rule, which count as table 8.
+/// Limit, tuning, rule and k, which count as table 8.
 #[derive(Clone, Copy)]
-struct Terms {
-    limit: u32,
+pub struct Terms {
+    pub limit: u32,
     tuning: Tuning,
     rule: u32,
+    until: u32,
 }
 
 impl Terms {
     /// From a slice in this order; an entry that it lacks has its plain value, and entries past those aren't read.
-    fn of(slice: &[u32]) -> Terms {
+    pub fn of(slice: &[u32]) -> Terms {
         let plain = Tuning::PLAIN;
         let entry = |place: usize, plain: u32| slice.get(place).copied().unwrap_or(plain);
         Terms {
@@ -29,28 +30,31 @@ impl Terms {
                 step: entry(4, plain.step),
             },
             rule: entry(5, PLAIN_RULE),
+            until: entry(6, PLAIN_UNTIL),
         }
     }
 
     fn is_sound(self) -> bool {
-        (1..=MAX_LIMIT).contains(&self.limit) && self.tuning.is_sound() && rule_is_sound(self.rule)
+        (1..=MAX_LIMIT).contains(&self.limit)
+            && self.tuning.is_sound()
+            && rule_is_sound(self.rule, self.until)
     }
 }
 
 /// The machine's state: a tree is a set of nodes, empty at first.
-struct State {
-    iteration: u32,
-    factor: u32,
-    histories: Vec<u32>,
-    trees: Vec<BTreeSet<usize>>,
-    terms: Terms,
+pub struct State {
+    pub iteration: u32,
+    pub factor: u32,
+    pub histories: Vec<u32>,
+    pub trees: Vec<BTreeSet<usize>>,
+    pub terms: Terms,
 }
 
 /// The log with what has been written.
-struct Log<'a> {
-    space: &'a mut [u32],
-    words: usize,
-    turns: u64,
+pub struct Log<'a> {
+    pub space: &'a mut [u32],
+    pub words: usize,
+    pub turns: u64,
 }
 
 /// How the negotiation ends.
@@ -75,7 +79,7 @@ impl State {
     }
 
     /// How many nets have each node in their tree, one net perhaps left out.
-    fn users(&self, left_out: Option<usize>) -> Vec<u32> {
+    pub fn users(&self, left_out: Option<usize>) -> Vec<u32> {
         let mut users = vec![0; self.histories.len()];
         for (net, tree) in self.trees.iter().enumerate() {
             if Some(net) != left_out {
@@ -88,22 +92,22 @@ impl State {
     }
 
     /// By how much each node's users pass its capacity.
-    fn overuse(&self, graph: &Graph) -> Vec<u32> {
+    pub fn overuse(&self, graph: &Graph) -> Vec<u32> {
         let users = self.users(None);
         let over = |v: usize| users[v].saturating_sub(graph.capacity[v] as u32);
         (0..graph.nodes()).map(over).collect()
     }
 
     /// The nets that drop their tree and make turns in this iteration, by the trees as they are at its start.
-    fn due(&self, graph: &Graph, nets: &Joined) -> Vec<usize> {
+    pub fn due(&self, graph: &Graph, nets: &Joined) -> Vec<usize> {
         let overuse = self.overuse(graph);
         let crowded = |net: usize| self.trees[net].iter().any(|&v| overuse[v] > 0);
-        let all = self.terms.rule == 1 || self.iteration == 1;
+        let all = self.terms.rule == 1 || self.iteration <= self.terms.until;
         nets.routed().filter(|&net| all || crowded(net)).collect()
     }
 
     /// Histories, factor and iteration move on.
-    fn move_on(&mut self, overuse: &[u32]) {
+    pub fn move_on(&mut self, overuse: &[u32]) {
         for (history, over) in self.histories.iter_mut().zip(overuse) {
             *history = self.terms.tuning.next_history(*history, *over);
         }
@@ -144,9 +148,9 @@ fn reached_from(graph: &Graph, from: usize) -> BTreeSet<usize> {
 }
 
 /// What is routed: each net's source, and its sinks after the nets of one source are joined. Those joined into another have none.
-struct Joined<'a> {
-    source: &'a [u16],
-    sinks: Vec<Vec<u16>>,
+pub struct Joined<'a> {
+    pub source: &'a [u16],
+    pub sinks: Vec<Vec<u16>>,
 }
 
 impl Joined<'_> {
@@ -221,8 +225,32 @@ fn broken(graph: &Graph, nets: &Nets, terms: Terms) -> Option<u64> {
     graph.broken().or_else(|| nets.broken(graph.kind)).or(if terms.is_sound() { None } else { Some(8) })
 }
 
-/// The answer once the negotiation has ended.
-fn answer(end: End, iteration: u64, log: &Log) -> Answer {
+/// Tests 5, 6 and 7, and zeroes the work once it is long enough: the joined nets and the machine's first state, or the refusal.
+pub fn tested<'a>(
+    graph: &Graph,
+    nets: &Nets<'a>,
+    terms: Terms,
+    work: &mut [u64],
+) -> Result<(Joined<'a>, State), Answer> {
+    let nodes = graph.nodes();
+    if let Some(table) = broken(graph, nets, terms) {
+        return Err(Answer::refused(&[5, table], 3));
+    }
+    if work.len() < 8 * nodes {
+        return Err(Answer::refused(&[6, 8 * nodes as u64], 3));
+    }
+    work[..8 * nodes].fill(0);
+    let joined = Joined { source: nets.source, sinks: joined(nets) };
+    if let Some((net, place)) = unreachable(graph, &joined) {
+        return Err(Answer::refused(&[7, net as u64, place as u64], 3));
+    }
+    Ok((joined, State::new(nodes, nets.count(), terms)))
+}
+
+/// The answer of a negotiation that goes on from a state and a log.
+pub fn negotiated(graph: &Graph, nets: &Joined, state: &mut State, log: &mut Log) -> Answer {
+    let end = negotiate(graph, nets, state, log);
+    let iteration = state.iteration as u64;
     let refusal = match end {
         End::Accepted => vec![],
         End::LogFull => vec![8, iteration, log.turns],
@@ -231,7 +259,7 @@ fn answer(end: End, iteration: u64, log: &Log) -> Answer {
     Answer { refusal, numbers: vec![iteration, log.turns, log.words as u64] }
 }
 
-/// The router: tests 5, 6, 7, then 8 and 9 as they arise. The terms are limit, first, up, down, step, rule.
+/// The router: tests 5, 6, 7, then 8 and 9 as they arise. The terms are limit, first, up, down, step, rule, k.
 pub fn route(
     kind: &[u8],
     capacity: &[u8],
@@ -246,21 +274,10 @@ pub fn route(
 ) -> Answer {
     let graph = Graph { kind, capacity, first_edge, edge_target };
     let nets = Nets { source, first_sink, sink };
-    let terms = Terms::of(terms);
-    let nodes = graph.nodes();
-    if let Some(table) = broken(&graph, &nets, terms) {
-        return Answer::refused(&[5, table], 3);
+    match tested(&graph, &nets, Terms::of(terms), work) {
+        Err(refused) => refused,
+        Ok((nets, mut state)) => {
+            negotiated(&graph, &nets, &mut state, &mut Log { space: log, words: 0, turns: 0 })
+        }
     }
-    if work.len() < 8 * nodes {
-        return Answer::refused(&[6, 8 * nodes as u64], 3);
-    }
-    work[..8 * nodes].fill(0);
-    let nets = Joined { source, sinks: joined(&nets) };
-    if let Some((net, place)) = unreachable(&graph, &nets) {
-        return Answer::refused(&[7, net as u64, place as u64], 3);
-    }
-    let mut state = State::new(nodes, source.len(), terms);
-    let mut log = Log { space: log, words: 0, turns: 0 };
-    let end = negotiate(&graph, &nets, &mut state, &mut log);
-    answer(end, state.iteration as u64, &log)
 }

@@ -6,12 +6,15 @@ pub const MAX_NETS: usize = 512;
 pub const MAX_SINKS: usize = 4_096;
 pub const MAX_LIMIT: u32 = 100;
 
-/// Rule 1 reroutes every net, rule 2 from iteration 2 on the crowded ones alone. That of a text without a V line is 1.
+/// Rule 1 reroutes every net, rule 2 after iteration k the crowded ones alone. That of a text without a V line is 1.
 pub const PLAIN_RULE: u32 = 1;
 
-/// The same bounds hold in a text and in a direct call.
-pub fn rule_is_sound(rule: u32) -> bool {
-    rule == 1 || rule == 2
+/// The k of a V line that doesn't tell it, and of a text without one.
+pub const PLAIN_UNTIL: u32 = 1;
+
+/// Rule and k. The same bounds hold in a text and in a direct call.
+pub fn rule_is_sound(rule: u32, until: u32) -> bool {
+    (rule == 1 || rule == 2) && (1..=99).contains(&until)
 }
 
 /// A source must be a source or an output pin.

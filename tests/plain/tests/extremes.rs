@@ -2,7 +2,7 @@
 
 mod common;
 use common::*;
-use job::{Job, Tuning, PLAIN_RULE};
+use job::{Job, Tuning, PLAIN_RULE, PLAIN_UNTIL};
 use plain::search;
 
 #[test]
@@ -57,6 +57,7 @@ fn sized(nodes: usize, edges: usize, nets: usize, sinks: usize) -> Job {
         limit: 1,
         tuning: Tuning::PLAIN,
         rule: PLAIN_RULE,
+        until: PLAIN_UNTIL,
     }
 }
 

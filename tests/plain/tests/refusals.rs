@@ -70,7 +70,7 @@ fn the_4097th_sink() {
     }
     job += "S,1,0\nT,1,1\n";
     let mut t = Job::unread([4096, 4096, 4097, 0, 2, 3, 4096]);
-    assert_eq!(read_into(job.as_bytes(), &mut t).numbers, [4096, 0, 2, 4096, 1, 50, 3, 2, 1, 1]);
+    assert_eq!(read_into(job.as_bytes(), &mut t).numbers, [4096, 0, 2, 4096, 1, 50, 3, 2, 1, 1, 1]);
     assert_eq!(refusal(&(job.clone() + "T,1,4096\n")), [2, 8196]);
     assert_eq!(refusal(&(job + "T,1,2\n")), [3, 8196]);
 }
@@ -249,12 +249,12 @@ fn nothing_panics() {
         (state >> 33) % below
     };
     let sound = tables(&text(B));
-    let bytes = text(&B.replace("F,6,6,2,2", "F,6,6,2,2 P,50,3,2,1 V,2")).into_bytes();
+    let bytes = text(&B.replace("F,6,6,2,2", "F,6,6,2,2 P,50,3,2,1 V,2,1")).into_bytes();
     for _ in 0..20_000 {
         let mut t = sound.clone();
         let value = [0, 1, 2, 3, 5, 6, 255, 65535][next(8) as usize];
         let place = next(9) as usize;
-        match next(10) {
+        match next(11) {
             0 => t.kind.resize(place, value as u8),
             1 => t.capacity.resize(place, value as u8),
             2 => t.first_edge[place % 7] = value,
@@ -264,6 +264,7 @@ fn nothing_panics() {
             6 => t.sink[place % 2] = value as u16,
             7 => t.tuning.down = value,
             8 => t.rule = value,
+            9 => t.until = value,
             _ => t.limit = value,
         }
         let mut log = vec![0; next(60) as usize];
@@ -271,6 +272,7 @@ fn nothing_panics() {
         if let Some(word) = log.get_mut(place) {
             *word = value;
         }
+        resume_with(&t, next(40), &mut vec![0; next(80) as usize], &mut log.clone());
         write(&t.source, &log, &mut vec![0; next(80) as usize]);
         let mut damaged = bytes.clone();
         for _ in 0..=next(3) {

@@ -1,4 +1,5 @@
-//! The rule by which nets are routed again: its line, its bounds, and what it moves in log and routes text.
+//! The rule by which nets are routed again and the iteration up to which it is rule 1: their line, their bounds, and what they move in log
+//! and routes text.
 
 mod common;
 use common::*;
@@ -8,11 +9,15 @@ use plain::Answer;
 #[test]
 fn the_line_is_read() {
     for (lines, terms) in [
-        ("", [2, 50, 3, 2, 1, 1]),
-        ("V,1", [2, 50, 3, 2, 1, 1]),
-        ("V,2", [2, 50, 3, 2, 1, 2]),
-        ("P,7,4,4,2 V,1", [2, 7, 4, 4, 2, 1]),
-        ("P,7,4,4,2 V,2", [2, 7, 4, 4, 2, 2]),
+        ("", [2, 50, 3, 2, 1, 1, 1]),
+        ("V,1", [2, 50, 3, 2, 1, 1, 1]),
+        ("V,2", [2, 50, 3, 2, 1, 2, 1]),
+        ("V,2,1", [2, 50, 3, 2, 1, 2, 1]),
+        ("V,2,2", [2, 50, 3, 2, 1, 2, 2]),
+        ("V,2,99", [2, 50, 3, 2, 1, 2, 99]),
+        ("P,7,4,4,2 V,1", [2, 7, 4, 4, 2, 1, 1]),
+        ("P,7,4,4,2 V,2", [2, 7, 4, 4, 2, 2, 1]),
+        ("P,7,4,4,2 V,2,7", [2, 7, 4, 4, 2, 2, 7]),
     ] {
         assert_eq!(tables(&b_with(lines)).terms(), terms, "{lines}");
     }
@@ -20,7 +25,11 @@ fn the_line_is_read() {
 
 #[test]
 fn lines_of_wrong_shape_or_place() {
-    for line in ["V", "V,", "V,2,", "V,2,1", "V,02", "v,2", "V,,2", "V,+2", "V,0000002", "W,2"] {
+    let shapes = ["V", "V,", "V,2,", "V,2,1,", "V,2,1,1", "V,2,01", "V,2,0000001", "V,2,+1", "V,2,,1"];
+    let others = ["V,02", "v,2", "V,,2", "V,+2", "V,0000002", "W,2"];
+    // Rule 1 takes no second number, whatever it is.
+    let of_rule_1 = ["V,1,", "V,1,0", "V,1,1", "V,1,2", "V,1,99", "V,1,100", "V,1,999999"];
+    for line in [&shapes[..], &others, &of_rule_1].concat() {
         assert_eq!(refusal(&b_with(line)), [1, 2], "{line}");
         assert_eq!(refusal(&b_with(&format!("P,50,3,2,1 {line}"))), [1, 3], "{line}");
     }
@@ -43,6 +52,10 @@ fn lines_beyond_bounds() {
     for rule in ["0", "3", "4", "12", "22", "258", "65538", "999999"] {
         assert_eq!(refusal(&b_with(&format!("V,{rule}"))), [2, 2], "{rule}");
         assert_eq!(refusal(&b_with(&format!("P,50,3,2,1 V,{rule}"))), [2, 3], "{rule}");
+    }
+    for line in ["V,2,0", "V,2,100", "V,2,101", "V,2,257", "V,2,999999", "V,3,1", "V,3,0", "V,0,1", "V,0,100"]
+    {
+        assert_eq!(refusal(&b_with(line)), [2, 2], "{line}");
     }
     // The first faulty line counts.
     assert_eq!(refusal(&b_with("P,1001,3,2,1 V,3")), [2, 2]);
@@ -67,6 +80,13 @@ fn rules_beyond_bounds_in_a_call() {
     }
     for rule in [1, 2] {
         assert_eq!(by_terms(&[2, 50, 3, 2, 1, rule]).numbers, [2, 4, 36]);
+        // Under either rule.
+        for until in [0, 100, 101, 257, 65_537, u32::MAX] {
+            assert_eq!(by_terms(&[2, 50, 3, 2, 1, rule, until]).refusal, [5, 8], "{rule} {until}");
+        }
+        for until in [1, 2, 98, 99] {
+            assert_eq!(by_terms(&[2, 50, 3, 2, 1, rule, until]).numbers, [2, 4, 36]);
+        }
     }
 }
 
@@ -74,12 +94,12 @@ fn rules_beyond_bounds_in_a_call() {
 fn terms_that_the_slice_lacks_are_plain() {
     // A limit of 0 is none.
     assert_eq!(by_terms(&[]).refusal, [5, 8]);
-    let plain = [2, 50, 3, 2, 1, 1];
-    for count in 1..=6 {
+    let plain = [2, 50, 3, 2, 1, 1, 1];
+    for count in 1..=7 {
         assert_eq!(by_terms(&plain[..count]).numbers, [2, 4, 36]);
     }
-    // Entries past the rule aren't read.
-    assert_eq!(by_terms(&[2, 50, 3, 2, 1, 1, 0, u32::MAX]).numbers, [2, 4, 36]);
+    // Entries past k aren't read.
+    assert_eq!(by_terms(&[2, 50, 3, 2, 1, 1, 1, 0, u32::MAX]).numbers, [2, 4, 36]);
     // A factor of 0 in iteration 2 doesn't part the nets, a bad one is told.
     assert_eq!(by_terms(&[2, 0]).refusal, [9, 2, 1]);
     assert_eq!(by_terms(&[2, 1001]).refusal, [5, 8]);
@@ -112,6 +132,27 @@ fn a_tree_without_overfull_node_stays() {
     let (log, routes) = accepted(&job, 2);
     assert_eq!(turns(&log), [&first[..], &second[..2]].concat());
     assert_eq!(routes, text(&format!("R,2,5 {branches}")));
+}
+
+/// Rule 1 up to iteration 2, rule 2 after it: in iteration 2 every net is routed again, in iteration 3 the two of the overfull wire.
+#[test]
+fn rule_2_holds_after_iteration_k() {
+    let job = tables(&text(&BETWEEN.replace("F,9,10,3,20", "F,9,10,3,3")));
+    let nets = |until: u32| -> Vec<(u32, u32)> {
+        let (answer, log) = routed(&Job { rule: 2, until, ..job.clone() }, 100);
+        assert_eq!(answer.refusal[..2], [9, 3]);
+        turns(&log[..answer.numbers[2] as usize]).iter().map(|turn| (turn.0, turn.1)).collect()
+    };
+    let all = |iteration: u32| [(iteration, 0), (iteration, 1), (iteration, 2)];
+    assert_eq!(nets(1), [&all(1)[..], &[(2, 0), (2, 1)], &[(3, 0), (3, 2)]].concat());
+    assert_eq!(nets(2), [&all(1)[..], &all(2), &[(3, 0), (3, 2)]].concat());
+    for until in [3, 4, 99] {
+        assert_eq!(nets(until), [all(1), all(2), all(3)].concat());
+    }
+    let rule_1 = routed(&job, 100);
+    assert_eq!(routed(&Job { rule: 2, until: 3, ..job.clone() }, 100), rule_1);
+    // Under rule 1 the number is of no account.
+    assert_eq!(routed(&Job { until: 1, ..job.clone() }, 100), routed(&Job { until: 2, ..job.clone() }, 100));
 }
 
 /// At its place in iteration 2 net 1 is alone on wire 2, but it wasn't when the iteration began.

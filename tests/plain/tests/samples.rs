@@ -19,7 +19,7 @@ fn answer(refusal: &[u64], numbers: &[u64]) -> Answer {
 fn job_b_is_read() {
     let mut t = Job::unread([7; 7]);
     let got = read_into(text(B).as_bytes(), &mut t);
-    assert_eq!(got, answer(&[], &[6, 6, 2, 2, 2, 50, 3, 2, 1, 1]));
+    assert_eq!(got, answer(&[], &[6, 6, 2, 2, 2, 50, 3, 2, 1, 1, 1]));
     // Entries past those needed stay as they were.
     let mut wanted = Job::unread([7; 7]);
     wanted.kind[..6].copy_from_slice(&[0, 0, 4, 5, 1, 1]);

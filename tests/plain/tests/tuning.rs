@@ -18,7 +18,7 @@ fn the_line_is_read() {
         let mut t = Job::unread([7; 7]);
         let answer = read_into(b_with(line).as_bytes(), &mut t);
         assert_eq!(answer.refusal, [0; 0]);
-        assert_eq!(answer.numbers, [&[6, 6, 2, 2, 2][..], &numbers, &[1]].concat());
+        assert_eq!(answer.numbers, [&[6, 6, 2, 2, 2][..], &numbers, &[1, 1]].concat());
     }
 }
 

@@ -151,6 +151,10 @@ mod tests {
         let routes = "B,0,0,4\nB,0,4,6\nB,1,1,3\nB,1,3,7\nB,2,2,5\nB,2,5,8\n";
         prints(JOB_CROWDED, &format!("R,2,5\n{routes}"));
         prints(&JOB_CROWDED.replace("V,2\n", ""), &format!("R,2,6\n{routes}"));
+        // Up to iteration 2 it doesn't.
+        prints(&JOB_CROWDED.replace("V,2\n", "V,2,1\n"), &format!("R,2,5\n{routes}"));
+        prints(&JOB_CROWDED.replace("V,2\n", "V,2,2\n"), &format!("R,2,6\n{routes}"));
+        prints(&JOB_CROWDED.replace("V,2\n", "V,1,2\n"), "X,1,2\n");
         assert!(keeps_tree(JOB_CROWDED.as_bytes()) && !keeps_tree(JOB_B.as_bytes()));
         // Net 1 becomes one of net 0's source.
         prints(&JOB_B.replace("S,1,1", "S,1,0"), "R,1,2\nB,0,0,2\nB,0,2,4\nB,0,2,5\nJ,1,0\n");

@@ -6,12 +6,13 @@ use job::Counts;
 
 /// Every outcome that a whole run must come to. 5, 6 and 10 can't come: the reader's tables are sound, the work slice is enough for
 /// all that the tables hold, and the router's logs are sound. Of 4 there are tables 1 and 4 alone, since no text has too many nets or sinks.
-const EXPECTED: [&str; 26] = [
+const EXPECTED: [&str; 28] = [
     "accepted in iteration 1",
     "accepted in iteration 2",
     "accepted in iteration 3 or later",
     "accepted in iteration 3 or later, with a P line",
     "accepted in iteration 3 or later, with a V,2 line",
+    "accepted in iteration 3 or later, with a V,2,k line",
     "accepted, with branches of an earlier iteration",
     "accepted, with a J line",
     "X,1",
@@ -24,6 +25,7 @@ const EXPECTED: [&str; 26] = [
     "X,9",
     "X,9, with a P line",
     "X,9, with a V,2 line",
+    "X,9, with a V,2,k line",
     "X,11",
     "X,12",
     "drawn",
@@ -55,7 +57,8 @@ impl Outcomes {
         let answer = name(printed);
         let holds = |line: &[u8]| text.windows(line.len()).any(|bytes| bytes == line);
         if matches!(&answer[..], "accepted in iteration 3 or later" | "X,9") {
-            for (_, name) in [(holds(b"\nP"), "P"), (holds(b"\nV,2\n"), "V,2")].iter().filter(|one| one.0) {
+            let lines = [(holds(b"\nP"), "P"), (holds(b"\nV,2\n"), "V,2"), (holds(b"\nV,2,"), "V,2,k")];
+            for (_, name) in lines.iter().filter(|one| one.0) {
                 self.0.count(format!("{answer}, with a {name} line"));
             }
         }

@@ -39,7 +39,7 @@ pub enum Way {
 
 pub const WAYS: [Way; 3] = [Way::Heap, Way::Pruned, Way::Carried];
 
-/// Routes a job with sound tables and terms: limit, first, up, down, step, rule.
+/// Routes a job with sound tables and terms: limit, first, up, down, step, rule, and the last iteration before rule 2 holds.
 pub fn route(
     way: Way,
     kind: &[u8],
@@ -49,18 +49,19 @@ pub fn route(
     source: &[u16],
     first_sink: &[u32],
     sink: &[u16],
-    terms: [u32; 6],
+    terms: [u32; 7],
     log: &mut [u32],
 ) -> Outcome {
-    let [limit, first, up, down, step, rule] = terms;
+    let [limit, first, up, down, step, rule, until] = terms;
+    let rule_1 = if rule == 1 { limit } else { until };
     let [first, up, down, step] = [first, up, down, step].map(u64::from);
     let prices = Prices::new(kind, capacity, Tuning { first, up, down, step });
     let nets = Nets::joined(kind.len(), source, first_sink, sink);
     let graph = Graph::new(first_edge, edge_target);
     match way {
-        Way::Heap => Router::<false, false>::new(prices, graph, nets).run(limit, rule, log),
-        Way::Pruned => Router::<true, false>::new(prices, graph, nets).run(limit, rule, log),
-        Way::Carried => Router::<true, true>::new(prices, graph, nets).run(limit, rule, log),
+        Way::Heap => Router::<false, false>::new(prices, graph, nets).run(limit, rule_1, log),
+        Way::Pruned => Router::<true, false>::new(prices, graph, nets).run(limit, rule_1, log),
+        Way::Carried => Router::<true, true>::new(prices, graph, nets).run(limit, rule_1, log),
     }
 }
 
@@ -86,12 +87,13 @@ impl<'a, const PRUNE: bool, const CARRY: bool> Router<'a, PRUNE, CARRY> {
         Router { search: Search::new(prices.nodes(), graph), prices, trees, nets, made: Vec::new() }
     }
 
-    fn run(mut self, limit: u32, rule: u32, words: &mut [u32]) -> Outcome {
+    /// Under rule 1 up to an iteration, under rule 2 after it.
+    fn run(mut self, limit: u32, rule_1: u32, words: &mut [u32]) -> Outcome {
         let mut log = Log { words, used: 0, turns: 0 };
         let mut iteration = 1;
         loop {
             self.prices.fill(&mut self.search.nodes);
-            let due = self.due(rule == 1 || iteration == 1);
+            let due = self.due(iteration <= rule_1);
             let whole = if self.prices.worst_path(self.nets.source.len()) < SHORT_KEY {
                 self.iterate::<u64>(iteration, &due, &mut log)
             } else {

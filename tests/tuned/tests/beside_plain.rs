@@ -1,6 +1,6 @@
 //! The tuned router beside the plain one: same outcome, same log, on many small random jobs.
 
-use job::{Job, Rng, Tuning};
+use job::{jobs, Job, Rng, Tuning};
 use tuned::{Outcome, Way, WAYS};
 
 const UNWRITTEN: u32 = 0xdead_beef;
@@ -235,7 +235,7 @@ fn many_random_jobs() {
         let most_nodes = if seed % 20 == 0 { 120 } else { 24 };
         let mut job = if seed % 3 == 0 { layered_job(&mut draw) } else { random_job(&mut draw, most_nodes) };
         job.tuning = random_tuning(&mut draw);
-        job.rule = 1 + draw.below(2) as u32;
+        (job.rule, job.until) = (1 + draw.below(2) as u32, jobs::until(&mut draw));
         let outcome = compare(&job, 60_000, seed);
         seen[outcome.refusal.first().map_or(0, |&r| r as usize - 6)] += 1;
         late[job.rule as usize - 1] += (outcome.refusal.is_empty() && outcome.iteration > 2) as u32;

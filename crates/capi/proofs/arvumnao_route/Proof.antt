@@ -2,6 +2,7 @@
 -- Assumes nothing.
 use borrow.Author.Needs.{needs}
 use Rattle.job.specs.Job.{jobOf}
+use Rattle.negotiation.specs.Outcome.{routeReply}
 use Rattle.capi.specs.Calls.{termsOf}
 use Rattle.capi.proofs.CallLaws.{route-short, route-called}
 use Rattle.capi.proofs.arvumnao_route.Statement.{statement}
@@ -36,7 +37,7 @@ returns-2 c =
     let job =
     jobOf (a .kind .now) (a .capacity .now) (a .first-edge .now) (a .edge-target .now) (a .source .now) (a .first-sink .now) (a .sink .now) (termsOf (a .terms .now)) in
     let answers = rw (made .terms-of .ensures) at (asked .route .ensures .0) in
-    route-called job _ _ _ _ _ _ (asked .route .result) (made .before .if1 .left) answers (c .before .before .put-routed .ensures)
+    route-called (routeReply job _ _) _ _ _ _ _ _ (asked .route .result) (made .before .if1 .left) answers (c .before .before .put-routed .ensures)
 
 pub arvumnao-route-spec : {M : Type 1} → statement M
 arvumnao-route-spec =

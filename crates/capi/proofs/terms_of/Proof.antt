@@ -22,15 +22,19 @@ entry-or-requires-5 c κs = search needs
 entry-or-requires-6 : tie.Need-entry-or-requires-6
 entry-or-requires-6 c κs = search needs
 
+entry-or-requires-7 : tie.Need-entry-or-requires-7
+entry-or-requires-7 c κs = search needs
+
 returns : tie.Need-returns
 returns c =
     rw (
-      c .before .before .before .before .before .entry-or .ensures,
-      c .before .before .before .before .entry-or2 .ensures,
-      c .before .before .before .entry-or3 .ensures,
-      c .before .before .entry-or4 .ensures,
-      c .before .entry-or5 .ensures,
-      c .entry-or6 .ensures,
+      c .before .before .before .before .before .before .entry-or .ensures,
+      c .before .before .before .before .before .entry-or2 .ensures,
+      c .before .before .before .before .entry-or3 .ensures,
+      c .before .before .before .entry-or4 .ensures,
+      c .before .before .entry-or5 .ensures,
+      c .before .entry-or6 .ensures,
+      c .entry-or7 .ensures,
     )
 
 pub terms-of-spec : {M : Type 1} → statement M
@@ -43,4 +47,5 @@ terms-of-spec =
     entry-or-requires-4
     entry-or-requires-5
     entry-or-requires-6
+    entry-or-requires-7
     returns)

@@ -18,35 +18,38 @@ write-used-requires c κs = words-fit _ _ _ (c .before .before .before .before .
 enum-known-outcome : tie.Need-enum-known-outcome
 enum-known-outcome c = search needs
 
-cast-t30 : tie.Need-cast-t30
-cast-t30 c = search needs
-
 cast-t31 : tie.Need-cast-t31
 cast-t31 c = search needs
-
-enum-told-2 : tie.Need-enum-told-2
-enum-told-2 c = search needs
 
 cast-t32 : tie.Need-cast-t32
 cast-t32 c = search needs
 
-enum-known-outcome-2 : tie.Need-enum-known-outcome-2
-enum-known-outcome-2 c = search needs
+enum-told-2 : tie.Need-enum-told-2
+enum-told-2 c = search needs
 
 cast-t33 : tie.Need-cast-t33
 cast-t33 c = search needs
 
+enum-known-outcome-2 : tie.Need-enum-known-outcome-2
+enum-known-outcome-2 c = search needs
+
 cast-t34 : tie.Need-cast-t34
 cast-t34 c = search needs
-
-enum-known-outcome-3 : tie.Need-enum-known-outcome-3
-enum-known-outcome-3 c = search needs
 
 cast-t35 : tie.Need-cast-t35
 cast-t35 c = search needs
 
+enum-known-outcome-3 : tie.Need-enum-known-outcome-3
+enum-known-outcome-3 c = search needs
+
+cast-t36 : tie.Need-cast-t36
+cast-t36 c = search needs
+
 enum-known-outcome-4 : tie.Need-enum-known-outcome-4
 enum-known-outcome-4 c = search needs
+
+enum-known-outcome-5 : tie.Need-enum-known-outcome-5
+enum-known-outcome-5 c = search needs
 
 same-length : tie.Need-same-length
 same-length c = search needs
@@ -108,6 +111,15 @@ same-length-13 c = search needs
 returns-6 : tie.Need-returns-6
 returns-6 c = run-refused _ _ _ (c .before .before .before .before .before .before .before .route .result) _ _ (c .before .before .before .before .before .before .before .route .ensures .0) _ _ _ _ _ (c .before .outcome4 .given .1) refl
 
+same-length-14 : tie.Need-same-length-14
+same-length-14 c = search needs
+
+same-length-15 : tie.Need-same-length-15
+same-length-15 c = search needs
+
+returns-7 : tie.Need-returns-7
+returns-7 c = run-refused _ _ _ (c .before .before .before .before .before .before .before .route .result) _ _ (c .before .before .before .before .before .before .before .route .ensures .0) _ _ _ _ _ (c .before .outcome5 .given .1) refl
+
 pub route-job-spec : {M : Type 1} → statement M
 route-job-spec =
     tie.close
@@ -116,16 +128,17 @@ route-job-spec =
     enum-told
     write-used-requires
     enum-known-outcome
-    cast-t30
     cast-t31
-    enum-told-2
     cast-t32
-    enum-known-outcome-2
+    enum-told-2
     cast-t33
+    enum-known-outcome-2
     cast-t34
-    enum-known-outcome-3
     cast-t35
+    enum-known-outcome-3
+    cast-t36
     enum-known-outcome-4
+    enum-known-outcome-5
     same-length
     same-length-2
     same-length-3
@@ -144,4 +157,7 @@ route-job-spec =
     returns-5
     same-length-12
     same-length-13
-    returns-6)
+    returns-6
+    same-length-14
+    same-length-15
+    returns-7)

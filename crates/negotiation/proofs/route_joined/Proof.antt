@@ -1,10 +1,7 @@
 -- `negotiation::route_joined` meets its contract: refusal 7 by its law, the run by the negotiation's contract.
 -- Assumes nothing.
-use mathlib.Core.List.{[]}
 use mathlib.Core.Path.{sym}
 use native.Mathlib.Nat.{le-of-eq, le-trans}
-use native.Mathlib.Omega.{arith}
-use Rattle.search.proofs.BlockLaws.{kinds-few}
 use Rattle.job.specs.Job.{Job, jobOf}
 use Rattle.negotiation.proofs.RouteLaws.{unreachable-refused, none-missing, run-answered}
 use borrow.Author.Needs.{needs}
@@ -40,8 +37,9 @@ negotiate-requires c κs =
     let e : tie.Start = c .before .before .before .before .before .before .before .before .before .before .before .before .before .before .before .before .before in
     let reached = c .before .before .before .before .before .before in (
       e .pre .0,
-      none-missing (job e) [] [] _ (reached .unreachable .ensures .0 _ _ (e .pre .0)) (c .before .before .enum-told .given .1),
-      le-trans (e .pre .1) (le-of-eq (sym (reached .unreachable .ensures .1 .long))),
+      e .pre .1,
+      none-missing (job e) _ (reached .unreachable .ensures .0 _ _ (e .pre .0)) (c .before .before .enum-told .given .1),
+      le-trans (e .pre .2) (le-of-eq (sym (reached .unreachable .ensures .1 .long))),
     )
 
 same-length : tie.Need-same-length
@@ -51,7 +49,7 @@ returns : tie.Need-returns
 returns c =
     let e : tie.Start = c .before .before .before .before .before .before .before .before .before .before .before .before .before .before .before .before .before .before .before .before .before in
     let reached = c .before .before .before .before .before .before .before .before .before .before in
-    unreachable-refused (job e) _ _ _ (reached .unreachable .ensures .0 _ _ (e .pre .0)) _ (reached .unreachable .ensures .1)
+    unreachable-refused (e .args .start) (job e) _ _ _ (reached .unreachable .ensures .0 _ _ (e .pre .0)) _ (reached .unreachable .ensures .1)
     _ _ _ _ (c .before .before .before .before .before .before .net .given .1) (c .refused .ensures) (c .before .before .before .clear .ensures)
 
 same-length-2 : tie.Need-same-length-2
@@ -65,8 +63,8 @@ returns-2 c =
     let e : tie.Start = c .before .before .before .before .before .before .before .before .before .before .before .before .before .before .before .before .before .before .before .before .before .before in
     let reached = c .before .before .before .before .before .before .before .before .before .before .before in
     let ran = c .before .before .before .before in
-    run-answered (job e) _ _ _ (reached .unreachable .ensures .0 _ _ (e .pre .0)) _ (reached .unreachable .ensures .1)
-    (ran .negotiate .result) (ran .negotiate .last .1 .1 .1 .1 .1 .1 .1 .1 .0) (ran .negotiate .last .1 .1 .1 .1 .1 .1 .1 .1 .1 .0)
+    run-answered (e .args .start) (job e) _ _ _ (reached .unreachable .ensures .0 _ _ (e .pre .0)) _ (reached .unreachable .ensures .1)
+    (ran .negotiate .result) (ran .negotiate .last .1 .1 .1 .1 .1 .1 .1 .1 .1 .0) (ran .negotiate .last .1 .1 .1 .1 .1 .1 .1 .1 .1 .1 .0)
     (c .before .before .before .before .before .before .before .enum-told .given .1) (ran .negotiate .ensures)
 
 pub route-joined-spec : {M : Type 1} → statement M

@@ -2,7 +2,7 @@
 #![allow(dead_code)]
 
 use job::Job;
-use plain::{read, route, write, Answer};
+use plain::{read, resume, route, write, Answer};
 
 pub const MARK: u32 = 77;
 
@@ -46,7 +46,7 @@ pub fn tables(text: &str) -> Job {
 pub fn refusal(text: &str) -> Vec<u64> {
     let mut t = Job::unread([40; 7]);
     let answer = read_into(text.as_bytes(), &mut t);
-    assert_eq!(answer.numbers, vec![0; 10]);
+    assert_eq!(answer.numbers, vec![0; 11]);
     assert_eq!(t, Job::unread([40; 7]));
     answer.refusal
 }
@@ -71,14 +71,37 @@ pub fn route_by(t: &Job, terms: &[u32], work: &mut [u64], log: &mut [u32]) -> An
     )
 }
 
-/// Routes with a marked log of so many words; two work entries more than needed.
-pub fn routed(t: &Job, words: usize) -> (Answer, Vec<u32>) {
+/// Goes on from so many words of a log.
+pub fn resume_with(t: &Job, used: u64, work: &mut [u64], log: &mut [u32]) -> Answer {
+    resume(
+        &t.kind,
+        &t.capacity,
+        &t.first_edge,
+        &t.edge_target,
+        &t.source,
+        &t.first_sink,
+        &t.sink,
+        &t.terms(),
+        used,
+        work,
+        log,
+    )
+}
+
+/// What a call answers that is lent two work entries more than needed, all of which but those two it zeroes.
+pub fn zeroing(t: &Job, call: impl FnOnce(&mut [u64]) -> Answer) -> Answer {
     let entries = 8 * t.kind.len();
     let mut work = vec![MARK as u64; entries + 2];
-    let mut log = vec![MARK; words];
-    let answer = route_with(t, &mut work, &mut log);
+    let answer = call(&mut work);
     assert!(work[..entries].iter().all(|&w| w == 0));
     assert_eq!(work[entries..], [MARK as u64; 2]);
+    answer
+}
+
+/// Routes with a marked log of so many words.
+pub fn routed(t: &Job, words: usize) -> (Answer, Vec<u32>) {
+    let mut log = vec![MARK; words];
+    let answer = zeroing(t, |work| route_with(t, work, &mut log));
     (answer, log)
 }
 

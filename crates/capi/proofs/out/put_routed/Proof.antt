@@ -55,6 +55,12 @@ enum-known-outcome-4 c = search needs
 put-numbers-requires-6 : tie.Need-put-numbers-requires-6
 put-numbers-requires-6 c κs = search needs
 
+enum-known-outcome-5 : tie.Need-enum-known-outcome-5
+enum-known-outcome-5 c = search needs
+
+put-numbers-requires-7 : tie.Need-put-numbers-requires-7
+put-numbers-requires-7 c κs = search needs
+
 same-length : tie.Need-same-length
 same-length c = search needs
 
@@ -91,6 +97,12 @@ same-length-6 c = search needs
 returns-6 : tie.Need-returns-6
 returns-6 c = rw (c .before .before .before .before .before .outcome4 .given .1) (c .before .before .put-numbers6 .ensures)
 
+same-length-7 : tie.Need-same-length-7
+same-length-7 c = search needs
+
+returns-7 : tie.Need-returns-7
+returns-7 c = rw (c .before .before .before .before .before .outcome5 .given .1) (c .before .before .put-numbers7 .ensures)
+
 pub put-routed-spec : {M : Type 1} → statement M
 put-routed-spec =
     tie.close
@@ -112,6 +124,8 @@ put-routed-spec =
     put-numbers-requires-5
     enum-known-outcome-4
     put-numbers-requires-6
+    enum-known-outcome-5
+    put-numbers-requires-7
     same-length
     returns
     same-length-2
@@ -123,4 +137,6 @@ put-routed-spec =
     same-length-5
     returns-5
     same-length-6
-    returns-6)
+    returns-6
+    same-length-7
+    returns-7)

@@ -9,7 +9,7 @@ plain-tuning-requires : tie.Need-plain-tuning-requires
 plain-tuning-requires c κs = search needs
 
 returns : tie.Need-returns
-returns c = ap (λ tuning. record { limit = c .before .args .limit; tuning = tuning; rule = 1 }) (c .plain-tuning .ensures)
+returns c = ap (λ tuning. record { limit = c .before .args .limit; tuning = tuning; rule = 1; until = 1 }) (c .plain-tuning .ensures)
 
 pub plain-terms-spec : {M : Type 1} → statement M
 plain-terms-spec = tie.close (tie.spec plain-tuning-requires returns)

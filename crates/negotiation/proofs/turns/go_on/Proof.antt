@@ -20,11 +20,11 @@ use Rattle.negotiation.proofs.RoutableLaws.{tuning-fits}
 use Rattle.negotiation.proofs.MachineRan.{Reached}
 use Rattle.negotiation.proofs.DemandLaws.{all-reached}
 use Rattle.negotiation.proofs.KeepLaws.{AtIteration, AtNet, AtTurns}
-use Rattle.negotiation.proofs.KeepProgress.{due-ready}
+use Rattle.negotiation.proofs.KeepProgress.{due-ready, overUsed}
 use Rattle.negotiation.proofs.KeepStart.{keep-start, keep-due, keep-ready, keep-begun}
 use Rattle.negotiation.proofs.KeepTurn.{sinks-part, call-turn, after-nothing, after-logged}
 use Rattle.negotiation.proofs.KeepNet.{keep-end-ready, keep-ended}
-use Rattle.negotiation.proofs.KeepEnd.{after-full, all-routed, overUsed, keep-accepted, keep-limit, keep-growable, keep-below, keep-next}
+use Rattle.negotiation.proofs.KeepEnd.{after-full, all-routed, keep-accepted, keep-limit, keep-growable, keep-below, keep-next}
 use Rattle.negotiation.proofs.KeepLengths.{Long, net-long, turn-long, start-long}
 use Rattle.negotiation.proofs.turns.go_on.Statement.{statement}
 use Rattle.negotiation.proofs.turns.go_on.Tie as tie

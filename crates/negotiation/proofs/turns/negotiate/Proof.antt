@@ -51,57 +51,53 @@ module _ (e : tie.Start) where
 array-borrow-prefix-history : tie.Need-array-borrow-prefix-history
 array-borrow-prefix-history c = few-nodes (c .before .before .before .before .before .before .before .before .before)
 
-slice-aggregate-go-on : tie.Need-slice-aggregate-go-on
-slice-aggregate-go-on c = sym (length-take-le _ _ (few-nodes (c .before .before .before .before .before .before .before .before .before .before)))
+slice-aggregate-run-from : tie.Need-slice-aggregate-run-from
+slice-aggregate-run-from c = sym (length-take-le _ _ (few-nodes (c .before .before .before .before .before .before .before .before .before .before)))
 
 array-borrow-prefix-users : tie.Need-array-borrow-prefix-users
 array-borrow-prefix-users c = few-nodes (c .before .before .before .before .before .before .before .before .before .before)
 
-slice-aggregate-go-on-2 : tie.Need-slice-aggregate-go-on-2
-slice-aggregate-go-on-2 c = sym (length-take-le _ _ (few-nodes (c .before .before .before .before .before .before .before .before .before .before .before)))
+slice-aggregate-run-from-2 : tie.Need-slice-aggregate-run-from-2
+slice-aggregate-run-from-2 c = sym (length-take-le _ _ (few-nodes (c .before .before .before .before .before .before .before .before .before .before .before)))
 
 array-borrow-prefix-in-tree : tie.Need-array-borrow-prefix-in-tree
 array-borrow-prefix-in-tree c = few-nodes (c .before .before .before .before .before .before .before .before .before .before .before)
 
-slice-aggregate-go-on-3 : tie.Need-slice-aggregate-go-on-3
-slice-aggregate-go-on-3 c = sym (length-take-le _ _ (few-nodes (c .before .before .before .before .before .before .before .before .before .before .before .before)))
+slice-aggregate-run-from-3 : tie.Need-slice-aggregate-run-from-3
+slice-aggregate-run-from-3 c = sym (length-take-le _ _ (few-nodes (c .before .before .before .before .before .before .before .before .before .before .before .before)))
 
 array-borrow-prefix-tree-from : tie.Need-array-borrow-prefix-tree-from
 array-borrow-prefix-tree-from c = few-nets (c .before .before .before .before .before .before .before .before .before .before .before .before)
 
-slice-aggregate-go-on-4 : tie.Need-slice-aggregate-go-on-4
-slice-aggregate-go-on-4 c = sym (length-take-le _ _ (few-nets (c .before .before .before .before .before .before .before .before .before .before .before .before .before)))
+slice-aggregate-run-from-4 : tie.Need-slice-aggregate-run-from-4
+slice-aggregate-run-from-4 c = sym (length-take-le _ _ (few-nets (c .before .before .before .before .before .before .before .before .before .before .before .before .before)))
 
 array-borrow-prefix-tree-to : tie.Need-array-borrow-prefix-tree-to
 array-borrow-prefix-tree-to c = few-nets (c .before .before .before .before .before .before .before .before .before .before .before .before .before)
 
-slice-aggregate-go-on-5 : tie.Need-slice-aggregate-go-on-5
-slice-aggregate-go-on-5 c = sym (length-take-le _ _ (few-nets (c .before .before .before .before .before .before .before .before .before .before .before .before .before .before)))
+slice-aggregate-run-from-5 : tie.Need-slice-aggregate-run-from-5
+slice-aggregate-run-from-5 c = sym (length-take-le _ _ (few-nets (c .before .before .before .before .before .before .before .before .before .before .before .before .before .before)))
 
 array-borrow-prefix-due : tie.Need-array-borrow-prefix-due
 array-borrow-prefix-due c = few-nets (c .before .before .before .before .before .before .before .before .before .before .before .before .before .before)
 
-slice-aggregate-go-on-6 : tie.Need-slice-aggregate-go-on-6
-slice-aggregate-go-on-6 c = sym (length-take-le _ _ (few-nets (c .before .before .before .before .before .before .before .before .before .before .before .before .before .before .before)))
+slice-aggregate-run-from-6 : tie.Need-slice-aggregate-run-from-6
+slice-aggregate-run-from-6 c = sym (length-take-le _ _ (few-nets (c .before .before .before .before .before .before .before .before .before .before .before .before .before .before .before)))
 
 -- the counts stand apart: an edit of one fails at its own equation
-go-on-requires : tie.Need-go-on-requires
+run-from-requires : tie.Need-run-from-requires
 unfolding encode
-go-on-requires c κs =
-    let e = c .before .before .before .before .before .before .before .before .before .before .before .before .before .before .before .before .before in
+run-from-requires c κs =
+    let e : tie.Start = c .before .before .before .before .before .before .before .before .before .before .before .before .before .before .before .before .before in
     let r = ready e (e .args .log .now) in (
       e .pre,
       record {
-        progress = begun (job e);
-        ready =
-            record {
-              can = r .can;
-              iteration-is = r .iteration-is;
-              factor-is = r .factor-is;
-              kept = r .kept;
-              due-long = r .due-long;
-              tallied = record { turns-is = refl; words-is = refl; log-is = r .tallied .log-is; fits = r .tallied .fits };
-            };
+        can = r .can;
+        iteration-is = r .iteration-is;
+        factor-is = r .factor-is;
+        kept = r .kept;
+        due-long = r .due-long;
+        tallied = record { turns-is = refl; words-is = refl; log-is = r .tallied .log-is; fits = r .tallied .fits };
       },
     )
 
@@ -112,28 +108,25 @@ same-length-2 : tie.Need-same-length-2
 same-length-2 c = search needs
 
 returns : tie.Need-returns
-returns c =
-    let called = c .before .before .before .before .before .before .before .before .before .before in
-    let e = called .before .before .before .before .before .before .before .before .before .before .before .before .before .before .before .before .before .before in
-    called .go-on .ensures (begun (job e)) (ready e (e .args .log .now))
+returns c = c .before .before .before .before .before .before .before .before .before .before .run-from .ensures
 
 pub negotiate-spec : {M : Type 1} → statement M
 negotiate-spec =
     tie.close
     (tie.spec
     array-borrow-prefix-history
-    slice-aggregate-go-on
+    slice-aggregate-run-from
     array-borrow-prefix-users
-    slice-aggregate-go-on-2
+    slice-aggregate-run-from-2
     array-borrow-prefix-in-tree
-    slice-aggregate-go-on-3
+    slice-aggregate-run-from-3
     array-borrow-prefix-tree-from
-    slice-aggregate-go-on-4
+    slice-aggregate-run-from-4
     array-borrow-prefix-tree-to
-    slice-aggregate-go-on-5
+    slice-aggregate-run-from-5
     array-borrow-prefix-due
-    slice-aggregate-go-on-6
-    go-on-requires
+    slice-aggregate-run-from-6
+    run-from-requires
     same-length
     same-length-2
     returns)

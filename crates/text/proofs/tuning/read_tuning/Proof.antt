@@ -2,7 +2,7 @@
 -- Assumes nothing.
 use mathlib.Core.List.{[], _∷_}
 use borrow.Author.Needs.{needs}
-use Rattle.text.specs.Lines.{letterP}
+use Rattle.text.specs.Lines.{letterP, line}
 use Rattle.text.specs.JobText.{tuningWithin, tuningLine, withTuning, tuningPart}
 use Rattle.text.proofs.OptionalLineLaws.{optional-given}
 use Rattle.text.proofs.tuning.read_tuning.Statement.{statement}
@@ -23,7 +23,7 @@ returns c =
     let found : tie.After-optional-line = c .before .before in
     let a = found .before .before .args in
     let r = found .optional-line .result in
-    optional-given letterP 4 tuningWithin (withTuning (a .terms)) (a .terms) (a .at) (a .line) (a .text .now) (r .first ∷ r .second ∷ r .third ∷ r .fourth ∷ []) (r .shape)
+    optional-given letterP (line letterP 4) tuningWithin (withTuning (a .terms)) (a .terms) (a .at) (a .line) (a .text .now) (r .first ∷ r .second ∷ r .third ∷ r .fourth ∷ []) (r .shape)
     (found .before .before .pre) (found .optional-line .ensures) (c .before .tuning-sound .ensures) (c .terms-after .ensures)
 
 pub read-tuning-spec : {M : Type 1} → statement M

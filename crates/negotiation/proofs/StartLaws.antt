@@ -1,0 +1,130 @@
+-- A run starts as it is begun, or after a lent log that is taken up from its words used; else the log is turned away.
+-- Assumes nothing.
+use mathlib.Core.List.{List, [], _++_, append-assoc}
+use mathlib.Core.Path.{_≡_, refl, sym, _∙_, ap, subst}
+use Prim.Native.Nat.{ℕ, _*_, _≤_, _<_, zero-le}
+use native.Mathlib.Omega.{arith}
+use lib.ListN.{length, take, drop, replicate, take-append-drop}
+use lib.Seq.{length-take-le, drop-append-seam}
+use borrow.Author.Tests.{lt-ltb, le-ltb}
+use Rattle.job.specs.Job.{Job, nodes}
+use Rattle.negotiation.specs.Records.{Record, encode}
+use Rattle.negotiation.specs.Machine.{Progress, firstState}
+use Rattle.negotiation.specs.Outcome.{RouteReply, begun, logWith, continued, refusedAnswer, routeReplyOf}
+use Rattle.negotiation.specs.Kept.{Tallied, Ready, Stands}
+use Rattle.negotiation.specs.Resume.{Replay, on, off, replayFrom, replay, resumedReply, runFrom}
+use Rattle.negotiation.specs.TakeSteps.{LogTaken, StartOn, Started}
+use Rattle.negotiation.specs.declared.RouteAnswer.{RouteAnswer}
+use Rattle.negotiation.specs.declared.Outcome.the-variants.{Diverges}
+use Rattle.negotiation.specs.declared.Start.{Start}
+use Rattle.negotiation.specs.declared.Start.the-variants.{Anew, After}
+use Rattle.negotiation.specs.declared.tariff.Tariff.{Tariff}
+use Rattle.negotiation.specs.declared.take_up.Taken.{Taken}
+use Rattle.negotiation.specs.declared.take_up.Taken.the-variants.{On, Off}
+use Rattle.negotiation.proofs.EndLaws.{cleared-same}
+
+-- ---- the words used and the whole log
+
+-- records that stand first in a beginning of the log stand first in the log
+tallied-whole : {rs : List Record} {t : Tariff} (used : ℕ) (log : List ℕ) → used ≤ length log → Tallied rs (take used log) t (take used log) → Tallied rs log t log
+unfolding logWith
+tallied-whole {rs} used log within at =
+    let rest : List ℕ = drop (length (encode rs)) (take used log) ++ drop used log in
+    let there : log ≡ encode rs ++ rest =
+    sym (take-append-drop used log) ∙ ap (λ (l : List ℕ). l ++ drop used log) (at .log-is)
+    ∙ append-assoc (encode rs) (drop (length (encode rs)) (take used log)) (drop used log) in
+    let past : drop (length (encode rs)) log ≡ rest = ap (drop (length (encode rs))) there ∙ drop-append-seam (encode rs) rest in
+    let long = length-take-le used log within in
+    let few = at .fits in
+    record {
+      turns-is = at .turns-is;
+      words-is = at .words-is;
+      log-is = there ∙ ap (λ (l : List ℕ). encode rs ++ l) (sym past);
+      fits = omega arith;
+    }
+
+module _ (j : Job) {t : Tariff} {history users marks from to dues : List ℕ} where
+  ready-whole :
+      {p : Progress} (used : ℕ) (log : List ℕ) → used ≤ length log → Ready j p t history users marks from to dues (take used log)
+      → Ready j p t history users marks from to dues log
+  ready-whole used log within r =
+      record {
+        can = r .can;
+        iteration-is = r .iteration-is;
+        factor-is = r .factor-is;
+        kept = r .kept;
+        due-long = r .due-long;
+        tallied = tallied-whole used log within (r .tallied);
+      }
+
+  -- a run that begins has no records, so any log will do
+  pub begun-over :
+      {log : List ℕ} → Ready j (begun j) t history users marks from to dues log → (other : List ℕ) → Ready j (begun j) t history users marks from to dues other
+  unfolding encode logWith
+  begun-over r other =
+      record {
+        can = r .can;
+        iteration-is = r .iteration-is;
+        factor-is = r .factor-is;
+        kept = r .kept;
+        due-long = r .due-long;
+        tallied = record { turns-is = r .tallied .turns-is; words-is = r .tallied .words-is; log-is = refl; fits = zero-le };
+      }
+
+-- ---- what a start comes to
+
+module _ (j : Job) (start : Start) (log : List ℕ) where
+  pub start-anew :
+      start ≡ Anew → {t : Tariff} {history users marks from to dues : List ℕ} → Ready j (begun j) t history users marks from to dues log
+      → Started (On t) start j history users marks from to dues log
+  unfolding Started
+  start-anew e r = record { progress = begun j; is = λ work. rw e; ready = r }
+
+  module _ (used : ℕ) (e : start ≡ After used) where
+    after-so : (a : Replay) → replay j used log ≡ a → (work : List ℕ) → runFrom start j work log ≡ resumedReply j a work log
+    after-so a q work = rw (e, q)
+
+    pub start-beyond : length log < used → (history users marks from to dues : List ℕ) → Started (Off (length log)) start j history users marks from to dues log
+    unfolding Started replay
+    start-beyond l history users marks from to dues = after-so (off (length log)) (rw (lt-ltb (length log) used l))
+
+    module _ (within : used ≤ length log) where
+      replay-is : replay j used log ≡ replayFrom j (take used log) (j .terms .limit) (firstState j) []
+      unfolding replay
+      replay-is = rw (le-ltb (length log) used within)
+
+      pub start-taken :
+          (r : Taken) (history users marks from to dues : List ℕ) → LogTaken r j history users marks from to dues (take used log)
+          → Started r start j history users marks from to dues log
+      unfolding Started
+      start-taken (On t) history users marks from to dues o =
+          record { progress = o .progress; is = after-so (on (o .progress)) (replay-is ∙ o .is); ready = ready-whole j used log within (o .ready) }
+      start-taken (Off word) history users marks from to dues q = after-so (off word) (replay-is ∙ q)
+
+-- ---- the run from it
+
+module _ (j : Job) (start : Start) (log : List ℕ) {r : Taken} {history users marks from to dues : List ℕ} (s : Started r start j history users marks from to dues log) where
+  started-on : {t : Tariff} → r ≡ On t → StartOn start j t history users marks from to dues log
+  unfolding Started
+  started-on e = subst (λ (x : Taken). Started x start j history users marks from to dues log) e s
+
+  -- it can go on,
+  pub start-stands : {t : Tariff} → r ≡ On t → Stands j t history users marks from to dues log
+  start-stands e = record { progress = started-on e .progress; ready = started-on e .ready }
+
+  -- and its reply is that of a run which goes on from the same progress
+  pub start-ran :
+      {t : Tariff} → r ≡ On t → (work : List ℕ) (a : RouteReply)
+      → ((p : Progress) → Ready j p t history users marks from to dues log → a ≡ continued j p work log) → a ≡ runFrom start j work log
+  start-ran e work a ran = ran (started-on e .progress) (started-on e .ready) ∙ sym (started-on e .is work)
+
+-- a log that is turned away leaves the work slice cleared
+pub turned-away :
+    (j : Job) (start : Start) (log : List ℕ) (r : Taken) (history users marks from to dues : List ℕ) → Started r start j history users marks from to dues log
+    → (word : ℕ) → r ≡ Off word → (work : List ℕ) (a : RouteAnswer) → a ≡ refusedAnswer (Diverges word)
+    → (left : List ℕ) → left ≡ replicate (8 * nodes j) 0 ++ drop (8 * nodes j) work → routeReplyOf a left log ≡ runFrom start j work log
+unfolding Started
+turned-away j start log r history users marks from to dues s word e work a q left is =
+    let off-so : ((w : List ℕ) → runFrom start j w log ≡ resumedReply j (off word) w log) =
+    subst (λ (x : Taken). Started x start j history users marks from to dues log) e s in
+    rw (q, is ∙ cleared-same (nodes j) work work (record { long = refl; high = λ k l. refl })) (sym (off-so work))

@@ -1,0 +1,319 @@
+-- The nets of an iteration in a lent log, as a loop follows them one after the other.
+--     goals-on, goals-off                 the goals of a net's sinks, set and taken away, with what is asked for both
+--     nets-start, net-ready               the nets so far, and the next one begins
+--     net-asks                            its turns can be followed
+--     nets-off                            they stray, and so does the iteration
+--     end-ready, net-next                 or its new tree counts
+--     nets-all                            all nets follow
+-- Assumes nothing.
+use mathlib.Core.Bool.{Bool, true, false}
+use mathlib.Core.List.{List, [], _++_}
+use mathlib.Core.Logic.{⊎-elim}
+use mathlib.Core.Path.{_≡_, refl, sym, _∙_, ap, subst}
+use Prim.Native.Nat.{ℕ, zero, suc, _+_, _-_, _≤_, _<_}
+use native.Mathlib.Nat.{le-antisymm}
+use native.Mathlib.Numerals.{add-one}
+use native.Mathlib.Omega.{arith}
+use lib.ListN.{length, getD, take, drop, replicate, length-append, length-replicate, getD-replicate, take-append-drop}
+use lib.Seq.{ext-getD, take-append-seam, drop-append-seam}
+use Rattle.price.specs.Bounds.{nodesMost}
+use Rattle.price.specs.Test.{choose}
+use Rattle.price.specs.Lists.{has}
+use Rattle.price.proofs.TestLaws.{either-way, true≢false}
+use Rattle.search.proofs.BlockLaws.{kinds-few}
+use Rattle.job.specs.Job.{Job, nodes, nets, netSinks}
+use Rattle.negotiation.specs.Routable.{Routable}
+use Rattle.negotiation.specs.Records.{Record, pathNodes}
+use Rattle.negotiation.specs.Machine.{State, Progress, marksOf, withNet, due}
+use Rattle.job.specs.Steps.{AllBelow, Stored}
+use Rattle.negotiation.specs.Steps.{BeginReady, Begun, Idle, EndReady, Ended, Passed}
+use Rattle.negotiation.specs.Resume.{Replay, on, off, replayTurns, replayNets}
+use Rattle.negotiation.specs.TakeSteps.{SinksOnce, NetOpens, NetOn, NetTaken, NetsOpen, NetsOn, NetsTaken}
+use Rattle.negotiation.specs.declared.tariff.Tariff.{Tariff}
+use Rattle.negotiation.specs.declared.take_up.Taken.{Taken}
+use Rattle.negotiation.specs.declared.take_up.Taken.the-variants.{On, Off}
+use Rattle.negotiation.proofs.DueLaws.{due-some}
+use Rattle.negotiation.proofs.TurnStepLaws.{mark-at}
+use Rattle.negotiation.proofs.KeepLaws.{Opened, dueMarks}
+use Rattle.negotiation.proofs.KeepProgress.{marks-length, marks-are, users-long, marks-long, due-mark, dues-long, begin-ready, opens, countable, counted}
+use Rattle.negotiation.proofs.KeepStart.{take-replicate, sinks-count}
+
+-- ---- answers by cases
+
+abbrev isOn : Taken → Bool
+isOn (On t) = true
+isOn (Off w) = false
+
+on-off : {t : Tariff} {w : ℕ} → On t ≡ Off w → ⊥
+on-off e = true≢false (ap isOn e)
+
+abbrev tariffIn : Tariff → Taken → Tariff
+tariffIn d (On t) = t
+tariffIn d (Off w) = d
+
+on-same : {t t′ : Tariff} → On t ≡ On t′ → t ≡ t′
+on-same {t} e = ap (tariffIn t) e
+
+-- ---- goals
+
+module _ (n : ℕ) (few : n ≤ nodesMost) {goals : List ℕ} (none : goals ≡ replicate nodesMost 0) where
+  first-none : take n goals ≡ replicate n 0
+  first-none = ap (λ (l : List ℕ). take n l) none ∙ take-replicate n nodesMost 0 few
+
+  first-long : length (take n goals) ≡ n
+  first-long = ap length first-none ∙ length-replicate n 0
+
+  first-zero : (v : ℕ) → v < n → getD (take n goals) v 0 ≡ 0
+  first-zero v h = ap (λ (l : List ℕ). getD l v 0) first-none ∙ getD-replicate n v 0 0 h
+
+-- a list whose beginning was replaced
+module _ (n : ℕ) (ys goals : List ℕ) (long : length ys ≡ n) where
+  front-is : take n (ys ++ drop n goals) ≡ ys
+  front-is = subst (λ (k : ℕ). take k (ys ++ drop n goals) ≡ ys) long (take-append-seam ys (drop n goals))
+
+  back-is : drop n (ys ++ drop n goals) ≡ drop n goals
+  back-is = subst (λ (k : ℕ). drop k (ys ++ drop n goals) ≡ drop n goals) long (drop-append-seam ys (drop n goals))
+
+zero-twice : (t : Bool) → _≡_ {A = ℕ} (choose t 0 (choose t 1 0)) 0
+zero-twice true = refl
+zero-twice false = refl
+
+module _ (j : Job) (sound : Routable j) (i : ℕ) (hi : i < nets j) {goals part : List ℕ} (none : goals ≡ replicate nodesMost 0) (is : part ≡ netSinks j i) where
+  few : nodes j ≤ nodesMost
+  few = kinds-few _ (sound .block-sound .kinds-sound)
+
+  -- there is a goal mark for each node
+  pub goals-enough : nodes j ≤ length goals
+  goals-enough = let long : length goals ≡ nodesMost = ap length none ∙ length-replicate {A = ℕ} nodesMost 0 in let most = few in omega arith
+
+  part-below : (n : ℕ) → n ≡ nodes j → AllBelow n part
+  part-below n e = subst (λ (l : List ℕ). AllBelow n l) (sym is) (subst (λ (k : ℕ). AllBelow k (netSinks j i)) (sym e) (sound .sink-node i hi))
+
+  -- what is asked of the sinks
+  pub goals-asked : AllBelow (length (take (nodes j) goals)) part
+  goals-asked = part-below (length (take (nodes j) goals)) (first-long (nodes j) few none)
+
+  module _ {ys : List ℕ} (given : Stored 1 part (take (nodes j) goals) ys) where
+    stored : Stored 1 (netSinks j i) (take (nodes j) goals) ys
+    stored = subst (λ (l : List ℕ). Stored 1 l (take (nodes j) goals) ys) is given
+
+    goals-long : length ys ≡ nodes j
+    goals-long = stored .long ∙ first-long (nodes j) few none
+
+    goals-are : ys ≡ marksOf j (netSinks j i)
+    goals-are =
+        marks-are j (netSinks j i) ys goals-long
+        (λ v h. stored .at v ∙ ap (λ (k : ℕ). choose (has v (netSinks j i)) 1 k) (first-zero (nodes j) few none v h))
+
+    pub goals-fit : nodes j ≤ length (ys ++ drop (nodes j) goals)
+    goals-fit = let all = length-append ys (drop (nodes j) goals) in let long = goals-long in omega arith
+
+    -- those of the net are set
+    pub goals-on : take (nodes j) (ys ++ drop (nodes j) goals) ≡ marksOf j (netSinks j i)
+    goals-on = front-is (nodes j) ys goals goals-long ∙ goals-are
+
+    pub goals-again : AllBelow (length (take (nodes j) (ys ++ drop (nodes j) goals))) part
+    goals-again = part-below (length (take (nodes j) (ys ++ drop (nodes j) goals))) (ap length goals-on ∙ marks-length j (netSinks j i))
+
+    -- and taken away
+    pub goals-off :
+        {zs : List ℕ} → Stored 0 part (take (nodes j) (ys ++ drop (nodes j) goals)) zs
+        → zs ++ drop (nodes j) (ys ++ drop (nodes j) goals) ≡ replicate nodesMost 0
+    goals-off {zs} taken-away =
+        let cleared : Stored 0 (netSinks j i) (take (nodes j) (ys ++ drop (nodes j) goals)) zs =
+        subst (λ (l : List ℕ). Stored 0 l (take (nodes j) (ys ++ drop (nodes j) goals)) zs) is taken-away in
+        let zs-long : length zs ≡ nodes j = cleared .long ∙ ap length goals-on ∙ marks-length j (netSinks j i) in
+        let same : zs ≡ take (nodes j) goals =
+        ext-getD 0 zs (take (nodes j) goals) (zs-long ∙ sym (first-long (nodes j) few none))
+        (λ v l.
+        let h : v < nodes j = rw zs-long at l in
+        let mark : getD (take (nodes j) (ys ++ drop (nodes j) goals)) v 0 ≡ choose (has v (netSinks j i)) 1 0 =
+        ap (λ (xs : List ℕ). getD xs v 0) goals-on ∙ mark-at j (netSinks j i) v h in
+        cleared .at v ∙ ap (λ (k : ℕ). choose (has v (netSinks j i)) 0 k) mark ∙ zero-twice (has v (netSinks j i)) ∙ sym (first-zero (nodes j) few none v h)) in
+        rw (same, back-is (nodes j) ys goals goals-long) (take-append-drop (nodes j) goals ∙ none)
+
+-- ---- the nets so far
+
+-- none, at first
+pub nets-start :
+    (j : Job) {p : Progress} {t : Tariff} {history users marks from to dues log : List ℕ} → NetsOpen j p t history users marks from to dues log
+    → NetsOn j p 0 t history users marks from to log
+unfolding replayNets
+nets-start j {p} o = record { progress = p; is = refl; same = refl; at = o .at; kept = o .kept }
+
+-- a net that strays ends the iteration
+off-step : (j : Job) (ws : List ℕ) (s : State) (rs : List Record) (i w : ℕ) → replayNets j ws s rs i ≡ off w → replayNets j ws s rs (suc i) ≡ off w
+unfolding replayNets
+off-step j ws s rs i w e = rw e
+
+off-more : (j : Job) (ws : List ℕ) (s : State) (rs : List Record) (i w : ℕ) → replayNets j ws s rs i ≡ off w → (k : ℕ) → replayNets j ws s rs (k + i) ≡ off w
+off-more j ws s rs i w e zero =
+    let none : i ≡ 0 + i = omega arith in
+    subst (λ (n : ℕ). replayNets j ws s rs n ≡ off w) none e
+off-more j ws s rs i w e (suc k) =
+    let one : suc (k + i) ≡ suc k + i = omega arith in
+    subst (λ (n : ℕ). replayNets j ws s rs n ≡ off w) one (off-step j ws s rs (k + i) w (off-more j ws s rs i w e k))
+
+-- a net more
+net-more :
+    (j : Job) (ws : List ℕ) (s : State) (rs : List Record) (i : ℕ) (q : Progress) (a : Replay) → replayNets j ws s rs i ≡ on q
+    → choose (due j s i) (replayTurns j ws i q (length (netSinks j i)) []) (on q) ≡ a → replayNets j ws s rs (suc i) ≡ a
+unfolding replayNets
+net-more j ws s rs i q a e f = rw e f
+
+-- past the last net
+pub nets-all :
+    (j : Job) {p : Progress} {i : ℕ} {t : Tariff} {history users marks from to log : List ℕ} → NetsOn j p i t history users marks from to log → i ≤ nets j
+    → nets j ≤ i → NetsOn j p (nets j) t history users marks from to log
+nets-all j {p} {t = t} {history} {users} {marks} {from} {to} {log} at upto l =
+    subst (λ (k : ℕ). NetsOn j p k t history users marks from to log) (le-antisymm upto l) at
+
+-- the lists keep their lengths
+pub nets-long :
+    (j : Job) {p : Progress} {i : ℕ} {t : Tariff} {history users marks from to log : List ℕ} → NetsOn j p i t history users marks from to log
+    → (length users ≡ nodes j) × (length marks ≡ nodes j) × (length from ≡ nets j) × (length to ≡ nets j)
+nets-long j at = (users-long j (at .kept), marks-long j (at .kept), at .kept .places .from-long, at .kept .places .to-long)
+
+-- ---- the next net
+
+module _ (j : Job) (sound : Routable j) (once : SinksOnce j) {p : Progress} {i : ℕ} {t : Tariff} {history users marks from to dues log : List ℕ}
+    (due-is : dues ≡ dueMarks j (p .state)) (at : NetsOn j p i t history users marks from to log) (hi : i < nets j) where
+  abbrev here : Progress
+  here = at .progress
+
+  pub net-ready : BeginReady log (j .sources) (j .firstSinks) i dues from to users marks
+  net-ready = begin-ready j sound (at .kept) (at .at .tallied) i hi dues (dues-long j (p .state) due-is)
+
+  marked : due j (p .state) i ≡ true → getD dues i 0 ≡ 0 → ⊥
+  marked d z = let one : getD dues i 0 ≡ 1 = due-mark j (p .state) due-is i hi ∙ rw d in let n : _≡_ {A = ℕ} 0 1 = sym z ∙ one in omega arith
+
+  unmarked : due j (p .state) i ≡ false → getD dues i 0 ≡ 0
+  unmarked d = due-mark j (p .state) due-is i hi ∙ rw d
+
+  -- it has dropped its old tree, if it is due
+  module _ {turns : ℕ} {users′ marks′ : List ℕ} (without : getD dues i 0 ≡ 0 → Idle turns users marks users′ marks′)
+      (with-turns : (getD dues i 0 ≡ 0 → ⊥) → Begun log (j .sources) (j .firstSinks) i from to users marks turns users′ marks′) where
+    opened : due j (p .state) i ≡ true → Opened j here i [] history users′ marks′ from to
+    opened d = opens j sound (at .kept) (at .at .tallied) i hi (with-turns (marked d))
+
+    turns-are : due j (p .state) i ≡ true → turns ≡ length (netSinks j i)
+    turns-are d = with-turns (marked d) .left-is ∙ sinks-count j sound i hi
+
+    -- one with turns is due
+    is-due : 0 < turns → due j (p .state) i ≡ true
+    is-due some =
+        ⊎-elim (λ d. d) (λ (d : due j (p .state) i ≡ false). absurd (let z = without (unmarked d) .none-left in omega arith)) (either-way (due j (p .state) i))
+
+    module _ {goals : List ℕ} (goals-are : goals ≡ marksOf j (netSinks j i)) where
+      net-opens : due j (p .state) i ≡ true → NetOpens j here i turns t history users′ goals marks′ log
+      unfolding pathNodes
+      net-opens d =
+          record {
+            routable = sound;
+            once = once;
+            net = hi;
+            at = at .at;
+            some = let all = turns-are d in let sinks = due-some j (p .state) i d in omega arith;
+            turns-is = turns-are d;
+            history-is = opened d .history-is;
+            users-is = opened d .users-is;
+            goals-is = goals-are;
+            marks-is = opened d .marks-is;
+          }
+
+      -- its turns can be followed
+      pub net-asks : 0 < turns → NetOpens j here i turns t history users′ goals marks′ log
+      net-asks some = net-opens (is-due some)
+
+      -- what they come to
+      module _ {r : Taken} {marks″ : List ℕ} (none : turns ≡ 0 → (r ≡ On t) × (marks″ ≡ marks′))
+          (answer : NetOpens j here i turns t history users′ goals marks′ log → NetTaken r j here i marks″ log) where
+        case : due j (p .state) i ≡ true → (x : Taken) → r ≡ x → NetTaken x j here i marks″ log
+        case d x e = subst (λ (y : Taken). NetTaken y j here i marks″ log) e (answer (net-opens d))
+
+        idle-is : due j (p .state) i ≡ false → (turns ≡ 0) × (users′ ≡ users) × (marks′ ≡ marks)
+        idle-is d = let e = without (unmarked d) in (e .none-left, e .users-same, e .marks-same)
+
+        -- they stray
+        strays : (w : ℕ) → r ≡ Off w → choose (due j (p .state) i) (replayTurns j log i here (length (netSinks j i)) []) (on here) ≡ off w
+        strays w e =
+            ⊎-elim
+            (λ (d : due j (p .state) i ≡ true). rw d (case d (Off w) e))
+            (λ (d : due j (p .state) i ≡ false). absurd (on-off (sym (none (idle-is d .0) .0) ∙ e)))
+            (either-way (due j (p .state) i))
+
+        net-off : (w : ℕ) → r ≡ Off w → replayNets j log (p .state) (p .records) (nets j) ≡ off w
+        net-off w e =
+            let rest : (nets j - suc i) + suc i ≡ nets j = omega arith in
+            subst (λ (n : ℕ). replayNets j log (p .state) (p .records) n ≡ off w) rest
+            (off-more j log (p .state) (p .records) (suc i) w (net-more j log (p .state) (p .records) i here (off w) (at .is) (strays w e)) (nets j - suc i))
+
+        pub nets-off : (w : ℕ) → r ≡ Off w → (history′ users″ marks‴ from′ to′ : List ℕ) → NetsTaken r j p history′ users″ marks‴ from′ to′ log
+        nets-off w e history′ users″ marks‴ from′ to′ =
+            subst (λ (x : Taken). NetsTaken x j p history′ users″ marks‴ from′ to′ log) (sym e) (net-off w e)
+
+        -- or follow
+        module _ {t′ : Tariff} (is-on : r ≡ On t′) where
+          made : due j (p .state) i ≡ true → NetOn j here i t′ marks″ log
+          made d = case d (On t′) is-on
+
+          grown : (d : due j (p .state) i ≡ true) → Opened j here i (made d .made) history users′ marks″ from to
+          grown d =
+              record {
+                history-is = opened d .history-is;
+                users-is = opened d .users-is;
+                marks-is = made d .marks-is;
+                places = opened d .places;
+              }
+
+          pub end-ready : EndReady log i (t .words) (t′ .words) dues users′ marks″ from to
+          end-ready =
+              let long = dues-long j (p .state) due-is in
+              let from-long = at .kept .places .from-long in
+              let to-long = at .kept .places .to-long in
+              record {
+                due-listed = omega arith;
+                from-listed = omega arith;
+                to-listed = omega arith;
+                countable = λ some.
+                    ⊎-elim
+                    (λ (d : due j (p .state) i ≡ true).
+                    countable j sound (grown d) (made d .at .tallied) hi (t .words) (at .at .tallied .words-is) (made d .below) (made d .source-on))
+                    (λ (d : due j (p .state) i ≡ false). absurd (some (unmarked d)))
+                    (either-way (due j (p .state) i));
+              }
+
+          module _ {users″ marks‴ from′ to′ : List ℕ} (passed : getD dues i 0 ≡ 0 → Passed users′ marks″ from to users″ marks‴ from′ to′)
+              (ended : (getD dues i 0 ≡ 0 → ⊥) → Ended log i (t .words) (t′ .words) users′ marks″ from to users″ marks‴ from′ to′) where
+            routed-next : due j (p .state) i ≡ true → NetsOn j p (suc i) t′ history users″ marks‴ from′ to′ log
+            routed-next d =
+                record {
+                  progress = withNet j i here (made d .made);
+                  is = net-more j log (p .state) (p .records) i here (on (withNet j i here (made d .made))) (at .is) (rw d (made d .is));
+                  same = at .same;
+                  at = made d .at;
+                  kept =
+                      counted j sound (grown d) (made d .at .tallied) hi (t .words) (at .at .tallied .words-is) (made d .below) (made d .source-on)
+                      (at .at .can .trees-long) (ended (marked d));
+                }
+
+            idle-next : due j (p .state) i ≡ false → NetsOn j p (suc i) t′ history users″ marks‴ from′ to′ log
+            idle-next d =
+                let e = passed (unmarked d) in
+                let still = none (idle-is d .0) in
+                let same-tariff : t ≡ t′ = on-same (sym (still .0) ∙ is-on) in
+                let users-same : users″ ≡ users = e .users-same ∙ idle-is d .1 in
+                let marks-same : marks‴ ≡ marks = e .marks-same ∙ still .1 ∙ idle-is d .2 in
+                rw (users-same, marks-same, e .from-same, e .to-same, ← same-tariff)
+                (record {
+                  progress = here;
+                  is = net-more j log (p .state) (p .records) i here (on here) (at .is) (rw d);
+                  same = at .same;
+                  at = at .at;
+                  kept = at .kept;
+                })
+
+            pub net-next : NetsOn j p (i + 1) t′ history users″ marks‴ from′ to′ log
+            net-next =
+                subst (λ (k : ℕ). NetsOn j p k t′ history users″ marks‴ from′ to′ log) (sym (add-one i))
+                (⊎-elim routed-next idle-next (either-way (due j (p .state) i)))

@@ -1,0 +1,65 @@
+-- `negotiation::take_up::set_goals` meets its contract. The loop's invariant: the entries at the sinks passed hold the mark, the others are as before.
+-- Assumes nothing.
+use Prim.Native.Nat.{_-_}
+use native.Mathlib.Omega.{arith}
+use lib.ListN.{length, take}
+use Rattle.job.specs.Steps.{Stored}
+use Rattle.job.proofs.MarkLaws.{stored-none}
+use Rattle.job.proofs.SinkMarkLaws.{stored-more, stored-all}
+use Rattle.negotiation.proofs.take_up.set_goals.Statement.{statement}
+use Rattle.negotiation.proofs.take_up.set_goals.Tie as tie
+
+abbrev Inv-loop : tie.InvT-loop
+Inv-loop sinks mark goals₀ k₀ goals k = Stored mark (take k sinks) goals₀ goals
+
+abbrev μ-loop : tie.MeasureT-loop
+μ-loop sinks mark goals₀ k₀ goals k = length sinks - k
+
+loop-holds : tie.Need-loop-holds Inv-loop μ-loop
+loop-holds c = stored-none _ _
+
+mul-goals : tie.Need-mul-goals Inv-loop μ-loop
+mul-goals c = omega arith
+
+shared-slice-read-goals : tie.Need-shared-slice-read-goals Inv-loop μ-loop
+shared-slice-read-goals c = omega arith
+
+cast-goals : tie.Need-cast-goals Inv-loop μ-loop
+cast-goals c = omega (arith, c .shared-slice-known .given (c .before .before .loop .k))
+
+slice-write-goals : tie.Need-slice-write-goals Inv-loop μ-loop
+slice-write-goals c = omega (arith, c .before .before .loop .inv .long, c .before .before .before .pre (c .before .before .loop .k) (c .before .loop-test .taken))
+
+add-k : tie.Need-add-k Inv-loop μ-loop
+add-k c = omega arith
+
+loop-less : tie.Need-loop-less Inv-loop μ-loop
+loop-less c = omega arith
+
+loop-again : tie.Need-loop-again Inv-loop μ-loop
+loop-again c =
+    let s = c .before .before .before in
+    stored-more (s .args .sinks .now) (c .before .before .loop .k) (c .before .loop-test .taken) (s .pre (c .before .before .loop .k) (c .before .loop-test .taken)) (c .before .before .loop .inv)
+
+same-length : tie.Need-same-length Inv-loop μ-loop
+same-length c = c .before .loop .inv .long
+
+returns : tie.Need-returns Inv-loop μ-loop
+returns c = stored-all _ (c .loop-test .left) (c .before .loop .inv)
+
+pub set-goals-spec : {M : Type 1} → statement M
+set-goals-spec =
+    tie.close
+    (tie.spec
+    Inv-loop
+    μ-loop
+    loop-holds
+    mul-goals
+    shared-slice-read-goals
+    cast-goals
+    slice-write-goals
+    add-k
+    loop-less
+    loop-again
+    same-length
+    returns)

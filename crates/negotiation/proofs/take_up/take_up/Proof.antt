@@ -1,0 +1,409 @@
+-- `negotiation::take_up::take_up` meets its contract: at the loop's head the iterations passed follow and lead to a progress from which a run can go on, in the log
+-- or behind it (`TakeLogLaws`). The measure: iterations up to the limit.
+-- Assumes nothing.
+use mathlib.Core.Bool.{true}
+use mathlib.Core.List.{List}
+use mathlib.Core.Path.{_≡_, refl, sym, _∙_, ap}
+use Prim.Native.Nat.{ℕ, _-_, _≤_, _<_}
+use native.Mathlib.Nat.{le-of-eq, le-trans}
+use native.Mathlib.Omega.{arith}
+use lib.Dec.{ltb}
+use lib.ListN.{length, getD}
+use Rattle.price.specs.Lists.{countBelow}
+use Rattle.search.proofs.BlockLaws.{kinds-few, capacities-long}
+use Rattle.job.specs.Job.{Job, jobOf, nodes, nets}
+use Rattle.negotiation.specs.Routable.{Routable}
+use Rattle.negotiation.specs.TariffSteps.{endedTariff, startedTariff}
+use Rattle.negotiation.specs.TakeSteps.{NetsOpen, NetsOn, NetsTaken}
+use Rattle.negotiation.specs.declared.tariff.Tariff.{Tariff}
+use Rattle.negotiation.proofs.RoutableLaws.{tuning-fits}
+use Rattle.negotiation.proofs.KeepProgress.{overUsed}
+use Rattle.negotiation.proofs.TakeNetLaws.{nets-long}
+use Rattle.negotiation.proofs.TakeLogLaws.{Taking, take-start, taking-long, take-on, nets-on, next-below, due-asks, growable, nets-open, take-off, take-settled, take-last, same-iteration, take-next}
+use Rattle.negotiation.proofs.take_up.take_up.Statement.{statement}
+use Rattle.negotiation.proofs.take_up.take_up.Tie as tie
+
+abbrev Inv-loop : tie.InvT-loop
+Inv-loop kind capacity first-edge edge-target source first-sink sink terms history₀ users₀ in-tree₀ tree-from₀ tree-to₀ due₀ log tariff₀ more₀ history users in-tree tree-from tree-to due tariff more =
+    Taking (jobOf kind capacity first-edge edge-target source first-sink sink terms) more tariff history users in-tree tree-from tree-to due log
+
+abbrev μ-loop : tie.MeasureT-loop
+μ-loop kind capacity first-edge edge-target source first-sink sink terms history₀ users₀ in-tree₀ tree-from₀ tree-to₀ due₀ log tariff₀ more₀ history users in-tree tree-from tree-to due tariff more =
+    terms .limit - tariff .iteration
+
+-- ---- the entry and the loop's head
+
+abbrev Entry : Type 0
+Entry = tie.Start Inv-loop μ-loop
+
+module _ (e : Entry) where
+  abbrev job : Job
+  job =
+      jobOf (e .args .kind .now) (e .args .capacity .now) (e .args .first-edge .now) (e .args .edge-target .now) (e .args .source .now) (e .args .first-sink .now)
+      (e .args .sink .now) (e .args .terms)
+
+  routable : Routable job
+  routable = e .pre .0 .0
+
+  few-nodes : nodes job ≤ 4096
+  few-nodes = kinds-few _ (routable .block-sound .kinds-sound)
+
+  capacities : length (e .args .capacity .now) ≡ nodes job
+  capacities = capacities-long _ _ (routable .block-sound .capacities-sound)
+
+  begins :
+      Taking job true (e .args .begun) (e .args .history .now) (e .args .users .now) (e .args .in-tree .now) (e .args .tree-from .now) (e .args .tree-to .now)
+      (e .args .due .now) (e .args .log .now)
+  begins = take-start _ (e .pre .1)
+
+abbrev Head : Type 0
+Head = tie.At-loop Inv-loop μ-loop
+
+module _ (c : Head) where
+  abbrev entry : Entry
+  entry = c .before .before .before .before .before .before .before .before .before .before .before .before .before .before .before
+
+  -- the lists keep their lengths
+  long :
+      (length (c .loop .history) ≡ length (entry .args .history .now)) × (length (c .loop .users) ≡ length (entry .args .users .now))
+      × (length (c .loop .in-tree) ≡ length (entry .args .in-tree .now)) × (length (c .loop .tree-from) ≡ length (entry .args .tree-from .now))
+      × (length (c .loop .tree-to) ≡ length (entry .args .tree-to .now)) × (length (c .loop .due) ≡ length (entry .args .due .now))
+  long =
+      let now = taking-long _ (c .loop .inv) in
+      let first = taking-long _ (begins entry) in
+      (now .0 ∙ sym (first .0), now .1 ∙ sym (first .1), now .2 ∙ sym (first .2), now .3 ∙ sym (first .3), now .4 ∙ sym (first .4), now .5 ∙ sym (first .5))
+
+-- ---- an iteration
+
+abbrev Iteration : Type 0
+Iteration = tie.In-loop Inv-loop μ-loop
+
+abbrev start : Iteration → Entry
+start c = entry (c .before)
+
+-- its nets are marked
+abbrev Marked : Type 0
+Marked = tie.After-mark-due Inv-loop μ-loop
+
+module _ (c : Marked) where
+  abbrev marked-in : Iteration
+  marked-in = c .before .before .before .before .before
+
+  abbrev dues : List ℕ
+  dues = c .mark-due .last .1 .1 .1 .1 .1 .1 .1 .1 .0
+
+  opened :
+      NetsOpen (job (start marked-in)) (marked-in .before .loop .inv .progress) (marked-in .before .loop .tariff) (marked-in .before .loop .history)
+      (marked-in .before .loop .users) (marked-in .before .loop .in-tree) (marked-in .before .loop .tree-from) (marked-in .before .loop .tree-to) dues
+      (start marked-in .args .log .now)
+  opened = nets-open _ (routable (start marked-in)) (marked-in .before .loop .inv) (start marked-in .pre .0 .1) (c .mark-due .ensures)
+
+-- they are followed
+abbrev Followed : Type 0
+Followed = tie.After-follow-nets Inv-loop μ-loop
+
+module _ (c : Followed) where
+  abbrev marked : Marked
+  marked = c .before .before .before .before .before .before .before .before .before
+
+  abbrev iteration : Iteration
+  iteration = marked-in marked
+
+  abbrev users : List ℕ
+  users = c .follow-nets .last .1 .1 .1 .1 .1 .1 .1 .1 .1 .0
+
+  abbrev marks : List ℕ
+  marks = c .follow-nets .last .1 .1 .1 .1 .1 .1 .1 .1 .1 .1 .0
+
+  abbrev from : List ℕ
+  from = c .follow-nets .last .1 .1 .1 .1 .1 .1 .1 .1 .1 .1 .1 .0
+
+  abbrev to : List ℕ
+  to = c .follow-nets .last .1 .1 .1 .1 .1 .1 .1 .1 .1 .1 .1 .1 .0
+
+  came :
+      NetsTaken (c .follow-nets .result) (job (start iteration)) (iteration .before .loop .inv .progress) (iteration .before .loop .history) users marks from to
+      (start iteration .args .log .now)
+  came = c .follow-nets .ensures _ _ (opened marked)
+
+  same-users : length users ≡ length (start iteration .args .users .now)
+  same-users = c .follow-nets .kept .1 .1 .1 .1 .1 .1 .1 .1 .1 .0 ∙ long (iteration .before) .1
+
+  same-marks : length marks ≡ length (start iteration .args .in-tree .now)
+  same-marks = c .follow-nets .kept .1 .1 .1 .1 .1 .1 .1 .1 .1 .1 .0 ∙ long (iteration .before) .2
+
+  same-from : length from ≡ length (start iteration .args .tree-from .now)
+  same-from = c .follow-nets .kept .1 .1 .1 .1 .1 .1 .1 .1 .1 .1 .1 .0 ∙ long (iteration .before) .3
+
+  same-to : length to ≡ length (start iteration .args .tree-to .now)
+  same-to = c .follow-nets .kept .1 .1 .1 .1 .1 .1 .1 .1 .1 .1 .1 .1 .0 ∙ long (iteration .before) .4
+
+  same-due : length (dues marked) ≡ length (start iteration .args .due .now)
+  same-due = marked .mark-due .kept .1 .1 .1 .1 .1 .1 .1 .1 .0 ∙ long (iteration .before) .5
+
+-- all follow
+abbrev Told : Type 0
+Told = tie.After-known-told Inv-loop μ-loop
+
+module _ (c : Told) where
+  abbrev followed : Followed
+  followed = c .before .before .before .before .before .before .before .before .before .before .before
+
+  abbrev told-in : Iteration
+  told-in = iteration followed
+
+  -- the tariff behind them
+  abbrev tariff : Tariff
+  tariff = c .before .taken .given .0 .0
+
+  all-on :
+      NetsOn (job (start told-in)) (told-in .before .loop .inv .progress) (nets (job (start told-in))) tariff
+      (told-in .before .loop .history) (users followed) (marks followed) (from followed) (to followed) (start told-in .args .log .now)
+  all-on = nets-on _ _ _ (users followed) (marks followed) (from followed) (to followed) _ (came followed) (c .before .taken .given .1)
+
+  fits-users : length (start told-in .args .capacity .now) ≡ length (users followed)
+  fits-users = capacities (start told-in) ∙ sym (nets-long _ all-on .0)
+
+-- the nodes over capacity are counted
+abbrev Counted : Type 0
+Counted = tie.After-over-count Inv-loop μ-loop
+
+module _ (c : Counted) where
+  abbrev told : Told
+  told = c .before .before
+
+  over-is : c .over-count .result ≡ overUsed (job (start (told-in told))) (users (followed told))
+  over-is =
+      c .over-count .ensures
+      ∙ ap (λ (k : ℕ). countBelow (λ (v : ℕ). ltb (getD (start (told-in told) .args .capacity .now) v 0) (getD (users (followed told)) v 0)) k)
+      (capacities (start (told-in told)))
+
+-- some are over it, and the limit is not reached
+abbrev Goes : Type 0
+Goes = tie.Else2 Inv-loop μ-loop
+
+module _ (c : Goes) where
+  abbrev counted : Counted
+  counted = c .before .before .before .before
+
+  abbrev goes-told : Told
+  goes-told = told counted
+
+  below : tariff goes-told .iteration < start (told-in goes-told) .args .terms .limit
+  below = next-below _ (all-on goes-told) (c .if2 .left)
+
+-- histories have grown, and the factor moved on
+abbrev Ended : Type 0
+Ended = tie.After-iteration-ended Inv-loop μ-loop
+
+abbrev goes : Ended → Goes
+goes c = c .before .before .before .before .before .before
+
+abbrev ended-told : Ended → Told
+ended-told c = goes-told (goes c)
+
+-- and the next one starts
+abbrev Started : Type 0
+Started = tie.After-iteration-started Inv-loop μ-loop
+
+started-is :
+    (c : Started)
+    → c .iteration-started .result
+    ≡ startedTariff (endedTariff (start (told-in (ended-told (c .before))) .args .terms .tuning) (tariff (ended-told (c .before))))
+started-is c = c .iteration-started .ensures ∙ ap startedTariff (c .before .iteration-ended .ensures)
+
+-- ---- the needs
+
+loop-holds : tie.Need-loop-holds Inv-loop μ-loop
+loop-holds c = begins (c .before .before .before .before .before .before .before .before .before .before .before .before .before .before)
+
+mark-due-requires : tie.Need-mark-due-requires Inv-loop μ-loop
+mark-due-requires c κs = let t : Iteration = c .before .before .before .before in due-asks _ (routable (start t)) (t .before .loop .inv)
+
+follow-nets-requires : tie.Need-follow-nets-requires Inv-loop μ-loop
+follow-nets-requires c κs = let m : Marked = c .before .before .before .before .before .before .before .before in record { terms = _; progress = _; open-so = opened m }
+
+enum-known-taken : tie.Need-enum-known-taken Inv-loop μ-loop
+enum-known-taken c = c .match .keys1
+
+enum-told : tie.Need-enum-told Inv-loop μ-loop
+enum-told c = c .match .keys2
+
+same-length : tie.Need-same-length Inv-loop μ-loop
+same-length c = long (iteration (c .before .before .before .before .before .before .before .before .before .before) .before) .0
+
+same-length-2 : tie.Need-same-length-2 Inv-loop μ-loop
+same-length-2 c = same-users (c .before .before .before .before .before .before .before .before .before .before)
+
+same-length-3 : tie.Need-same-length-3 Inv-loop μ-loop
+same-length-3 c = same-marks (c .before .before .before .before .before .before .before .before .before .before)
+
+same-length-4 : tie.Need-same-length-4 Inv-loop μ-loop
+same-length-4 c = same-from (c .before .before .before .before .before .before .before .before .before .before)
+
+same-length-5 : tie.Need-same-length-5 Inv-loop μ-loop
+same-length-5 c = same-to (c .before .before .before .before .before .before .before .before .before .before)
+
+same-length-6 : tie.Need-same-length-6 Inv-loop μ-loop
+same-length-6 c = same-due (c .before .before .before .before .before .before .before .before .before .before)
+
+returns : tie.Need-returns Inv-loop μ-loop
+returns c =
+    let f : Followed = c .before .before .before .before .before .before .before .before .before .before in
+    let t : Iteration = iteration f in
+    take-off _ (routable (start t)) (t .before .loop .inv) (t .loop-test .taken) (users f) (marks f) (from f) (to f) (came f) (c .enum-told .given .1) _ _ _ _ _ _
+
+over-count-requires : tie.Need-over-count-requires Inv-loop μ-loop
+over-count-requires c κs =
+    let e : Entry = start (told-in (c .before)) in
+    (le-of-eq (fits-users (c .before)), le-trans (le-of-eq (capacities e)) (few-nodes e))
+
+same-length-7 : tie.Need-same-length-7 Inv-loop μ-loop
+same-length-7 c = long (iteration (followed (told (c .before))) .before) .0
+
+same-length-8 : tie.Need-same-length-8 Inv-loop μ-loop
+same-length-8 c = same-users (followed (told (c .before)))
+
+same-length-9 : tie.Need-same-length-9 Inv-loop μ-loop
+same-length-9 c = same-marks (followed (told (c .before)))
+
+same-length-10 : tie.Need-same-length-10 Inv-loop μ-loop
+same-length-10 c = same-from (followed (told (c .before)))
+
+same-length-11 : tie.Need-same-length-11 Inv-loop μ-loop
+same-length-11 c = same-to (followed (told (c .before)))
+
+same-length-12 : tie.Need-same-length-12 Inv-loop μ-loop
+same-length-12 c = same-due (followed (told (c .before)))
+
+returns-2 : tie.Need-returns-2 Inv-loop μ-loop
+returns-2 c =
+    let h : Told = told (c .before) in
+    let t : Iteration = told-in h in
+    take-settled _ (routable (start t)) (t .before .loop .inv) (t .loop-test .taken) (all-on h) (sym (over-is (c .before)) ∙ c .if1 .taken)
+
+same-length-13 : tie.Need-same-length-13 Inv-loop μ-loop
+same-length-13 c = long (iteration (followed (told (c .before .before .before .before))) .before) .0
+
+same-length-14 : tie.Need-same-length-14 Inv-loop μ-loop
+same-length-14 c = same-users (followed (told (c .before .before .before .before)))
+
+same-length-15 : tie.Need-same-length-15 Inv-loop μ-loop
+same-length-15 c = same-marks (followed (told (c .before .before .before .before)))
+
+same-length-16 : tie.Need-same-length-16 Inv-loop μ-loop
+same-length-16 c = same-from (followed (told (c .before .before .before .before)))
+
+same-length-17 : tie.Need-same-length-17 Inv-loop μ-loop
+same-length-17 c = same-to (followed (told (c .before .before .before .before)))
+
+same-length-18 : tie.Need-same-length-18 Inv-loop μ-loop
+same-length-18 c = same-due (followed (told (c .before .before .before .before)))
+
+returns-3 : tie.Need-returns-3 Inv-loop μ-loop
+returns-3 c =
+    let h : Told = told (c .before .before .before .before) in
+    let t : Iteration = told-in h in
+    take-last _ (routable (start t)) (t .before .loop .inv) (t .loop-test .taken) (all-on h) (c .if2 .taken)
+
+grow-histories-requires : tie.Need-grow-histories-requires Inv-loop μ-loop
+grow-histories-requires c κs =
+    let h : Told = goes-told (c .before .before) in
+    let t : Iteration = told-in h in (
+      (fits-users h, capacities (start t) ∙ sym (taking-long _ (t .before .loop .inv) .0)),
+      (growable _ (routable (start t)) (t .before .loop .inv), tuning-fits _ (routable (start t)) .few-step),
+    )
+
+iteration-ended-requires : tie.Need-iteration-ended-requires Inv-loop μ-loop
+iteration-ended-requires c κs = tt
+
+iteration-started-requires : tie.Need-iteration-started-requires Inv-loop μ-loop
+iteration-started-requires c κs =
+    let b = below (goes c) in
+    let l = routable (start (told-in (ended-told c))) .limit-few in
+    let e : c .iteration-ended .result .iteration ≡ _ = ap (λ (x : Tariff). x .iteration) (c .iteration-ended .ensures) in
+    omega arith
+
+loop-less : tie.Need-loop-less Inv-loop μ-loop
+loop-less c =
+    let h : Told = ended-told (c .before .before) in
+    let t : Iteration = told-in h in
+    let b = below (goes (c .before .before)) in
+    let s = same-iteration _ (routable (start t)) (t .before .loop .inv) (t .loop-test .taken) (all-on h) in
+    let e : c .before .iteration-started .result .iteration ≡ _ = ap (λ (x : Tariff). x .iteration) (started-is (c .before)) in
+    omega arith
+
+loop-again : tie.Need-loop-again Inv-loop μ-loop
+loop-again c =
+    let g : Goes = goes (c .before .before) in
+    let h : Told = goes-told g in
+    let t : Iteration = told-in h in
+    take-next _ (routable (start t)) (t .before .loop .inv) (t .loop-test .taken) (all-on h) (λ z. g .before .before .before .if1 .left (over-is (counted g) ∙ z)) (below g)
+    (same-due (followed h) ∙ taking-long _ (begins (start t)) .5) (c .before .before .before .before .before .grow-histories .ensures) (started-is (c .before)) refl
+
+same-length-19 : tie.Need-same-length-19 Inv-loop μ-loop
+same-length-19 c = long (c .before) .0
+
+same-length-20 : tie.Need-same-length-20 Inv-loop μ-loop
+same-length-20 c = long (c .before) .1
+
+same-length-21 : tie.Need-same-length-21 Inv-loop μ-loop
+same-length-21 c = long (c .before) .2
+
+same-length-22 : tie.Need-same-length-22 Inv-loop μ-loop
+same-length-22 c = long (c .before) .3
+
+same-length-23 : tie.Need-same-length-23 Inv-loop μ-loop
+same-length-23 c = long (c .before) .4
+
+same-length-24 : tie.Need-same-length-24 Inv-loop μ-loop
+same-length-24 c = long (c .before) .5
+
+returns-4 : tie.Need-returns-4 Inv-loop μ-loop
+returns-4 c = take-on _ (c .before .loop .inv) (c .loop-test .left)
+
+pub take-up-spec : {M : Type 1} → statement M
+take-up-spec =
+    tie.close
+    (tie.spec
+    Inv-loop
+    μ-loop
+    loop-holds
+    mark-due-requires
+    follow-nets-requires
+    enum-known-taken
+    enum-told
+    same-length
+    same-length-2
+    same-length-3
+    same-length-4
+    same-length-5
+    same-length-6
+    returns
+    over-count-requires
+    same-length-7
+    same-length-8
+    same-length-9
+    same-length-10
+    same-length-11
+    same-length-12
+    returns-2
+    same-length-13
+    same-length-14
+    same-length-15
+    same-length-16
+    same-length-17
+    same-length-18
+    returns-3
+    grow-histories-requires
+    iteration-ended-requires
+    iteration-started-requires
+    loop-less
+    loop-again
+    same-length-19
+    same-length-20
+    same-length-21
+    same-length-22
+    same-length-23
+    same-length-24
+    returns-4)
