@@ -23,7 +23,7 @@ use Rattle.uses.specs.declared.AddAnswer.{AddAnswer}
 use Rattle.uses.specs.declared.AddAnswer.the-variants as a
 use Rattle.uses.proofs.UsesHold.{counts-long}
 use Rattle.capi.specs.Calls.{Call, callOf, outWith, priceCall, searchDone, searchCall, routeDone, routedCall, readDone, readCall, WriteCall, writeDone, writtenCall}
-use Rattle.capi.specs.Calls.{addDone, logsAdded, logsTold, addCall, usesCall}
+use Rattle.capi.specs.Calls.{addDone, logsAdded, logsReturned, addCall, usesCall}
 
 -- ---- numbers in `out`: stores over 16 entries of 0
 
@@ -139,12 +139,12 @@ module _ (counts : List ℕ) {all : List ℕ} (copied : all ≡ take kindCount c
           ap (drop kindCount) back ∙ drop-at after (drop kindCount counts) kindCount size,
         )
 
-logs-told : (logs : ℕ) (r : AddAnswer) (uses : List ℕ) → logsAdded r ≡ logsTold (addReplyOf logs r uses)
-logs-told logs (a.Added n) uses = refl
-logs-told logs (a.BadTable table) uses = refl
-logs-told logs (a.BadCount kind) uses = refl
-logs-told logs (a.Unsound word) uses = refl
-logs-told logs (a.LogsFull most) uses = refl
+logs-returned : (logs : ℕ) (r : AddAnswer) (uses : List ℕ) → logsAdded r ≡ logsReturned (addReplyOf logs r uses)
+logs-returned logs (a.Added n) uses = refl
+logs-returned logs (a.BadTable table) uses = refl
+logs-returned logs (a.BadCount kind) uses = refl
+logs-returned logs (a.Unsound word) uses = refl
+logs-returned logs (a.LogsFull most) uses = refl
 
 module _ (b : Block) (counts : List ℕ) (logs : ℕ) (log out : List ℕ) where
   pub add-few : length counts < kindCount → addDone (callOf 0 out) counts ≡ addCall b counts logs log out
@@ -164,7 +164,7 @@ module _ (b : Block) (counts : List ℕ) (logs : ℕ) (log out : List ℕ) where
     add-called left call r h (answers, stays) put =
         let whole : take kindCount left ++ drop kindCount counts ≡ left =
         ap (λ (xs : List ℕ). take kindCount left ++ xs) (sym stays) ∙ take-append-drop kindCount left in
-        rw (le-ltb (length counts) kindCount long, le-ltb (length out) 16 h, ← answers, whole, put, logs-told logs r (take kindCount left))
+        rw (le-ltb (length counts) kindCount long, le-ltb (length out) 16 h, ← answers, whole, put, logs-returned logs r (take kindCount left))
 
 module _ (b : Block) (counts : List ℕ) (logs : ℕ) (buffer out : List ℕ) where
   pub uses-few : length counts < kindCount → writeDone (callOf 0 out) buffer ≡ usesCall b counts logs buffer out

@@ -147,11 +147,11 @@ logsAdded (a.BadCount kind) = 0
 logsAdded (a.Unsound word) = 0
 logsAdded (a.LogsFull most) = 0
 
-abbrev pub logsTold : AddReply → ℕ
-logsTold r = choose (leb 1 (length (r .refusal))) 0 (r .counts .logs)
+abbrev pub logsReturned : AddReply → ℕ
+logsReturned r = choose (leb 1 (length (r .refusal))) 0 (r .counts .logs)
 
 abbrev pub addCallWith : AddReply → List ℕ → List ℕ → AddCall
-addCallWith r counts out = addDone (callOf 1 (outWith (r .refusal) (logsTold r ∷ []) out)) (r .counts .uses ++ drop kindCount counts)
+addCallWith r counts out = addDone (callOf 1 (outWith (r .refusal) (logsReturned r ∷ []) out)) (r .counts .uses ++ drop kindCount counts)
 
 unfoldable pub addCall : Block → List ℕ → ℕ → List ℕ → List ℕ → AddCall
 addCall b counts logs log out =

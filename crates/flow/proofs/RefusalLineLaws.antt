@@ -10,7 +10,7 @@ use lib.ListN.{length}
 use borrow.Author.Tests.{le-leb, lt-leb, lt-ltb, le-ltb}
 use Rattle.price.proofs.TestLaws.{le-or-lt}
 use Rattle.text.specs.Lines.{letterX, printLine}
-use Rattle.text.specs.LineReplies.{PlaceReply, placeTold, lineReply}
+use Rattle.text.specs.LineReplies.{PlaceReply, placeReplyOf, lineReply}
 use Rattle.text.proofs.PlacedLaws.{placed-start}
 use Rattle.flow.specs.Refusals.{LineReply, lineReplyOf, refusalLine}
 
@@ -29,6 +29,6 @@ same-line numbers buffer =
     (le-or-lt (length line) (length buffer))
 
 pub line-printed :
-    (numbers before after : List ℕ) (next : ℕ) → placeTold next after ≡ lineReply letterX numbers 0 before
+    (numbers before after : List ℕ) (next : ℕ) → placeReplyOf next after ≡ lineReply letterX numbers 0 before
     → lineReplyOf next after ≡ refusalLine numbers before
 line-printed numbers before after next e = ap fromStart e ∙ same-line numbers before

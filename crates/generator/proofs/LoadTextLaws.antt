@@ -14,12 +14,12 @@ use Rattle.price.proofs.ListLaws.{getD-upTo, every-at, every-all}
 use Rattle.search.specs.Tables.{rowSound}
 use Rattle.text.specs.Decimal.{decimal}
 use Rattle.text.specs.Lines.{letterF, letterN, letterE, letterS, letterT, printFields, printLine}
-use Rattle.text.specs.Printed.{joined, eachLine, nodeText, rowText, netText, lineIf, termsText, printJob}
+use Rattle.text.specs.Printed.{concatFrom, eachLine, nodeText, rowText, netText, lineIf, termsText, printJob}
 use Rattle.text.specs.WriteSteps.{Put}
-use Rattle.text.specs.LineReplies.{placeTold, lineReply}
+use Rattle.text.specs.LineReplies.{placeReplyOf, lineReply}
 use Rattle.text.proofs.DecimalLaws.{digits-enough, digits-few, two-size, three-size}
 use Rattle.text.proofs.LineReplyLaws.{line-put}
-use Rattle.text.proofs.JoiningLaws.{joined-alike, joined-size, part-first, part-rest, part-both}
+use Rattle.text.proofs.JoiningLaws.{concat-alike, concat-size, part-first, part-rest, part-both}
 use Rattle.generator.specs.Draws.{stateAfter}
 use Rattle.generator.specs.Load.{loadKind, rowsFrom, netsFrom, loadRow, loadRows, loadSource, loadSink, loadJob, loadText}
 use Rattle.generator.specs.Steps.{nodeLine, rowLines, netLines}
@@ -33,13 +33,13 @@ abbrev headPart : ℕ → ℕ → ℕ → List ℕ
 headPart n edges count = printLine letterF (n ∷ edges ∷ count ∷ 100 ∷ [])
 
 abbrev nodesPart : ℕ → ℕ → List ℕ
-nodesPart seed n = joined (nodeLine (loadKind seed n)) 0 n
+nodesPart seed n = concatFrom (nodeLine (loadKind seed n)) 0 n
 
 abbrev rowsPart : ℕ → ℕ → List ℕ
-rowsPart first n = joined (rowLines first n) 0 n
+rowsPart first n = concatFrom (rowLines first n) 0 n
 
 abbrev netsPart : ℕ → ℕ → ℕ → List ℕ
-netsPart first n count = joined (netLines first n) 0 count
+netsPart first n count = concatFrom (netLines first n) 0 count
 
 module _ (seed n count : ℕ) where
   node-text : (v : ℕ) → v < n → nodeText (loadJob seed n count) v ≡ nodeLine (loadKind seed n) v
@@ -59,9 +59,9 @@ module _ (seed n count : ℕ) where
       ≡ headPart n (length (loadRows (rowsFrom seed n) n n)) count ++ (nodesPart seed n ++ (rowsPart (rowsFrom seed n) n ++ netsPart (netsFrom seed n) n count))
   unfolding loadText printJob lineIf termsText loadJob
   load-parts =
-      let one : joined (nodeText (loadJob seed n count)) 0 n ≡ nodesPart seed n = joined-alike _ _ 0 n (λ v l m. node-text v (omega arith)) in
-      let two : joined (rowText (loadJob seed n count)) 0 n ≡ rowsPart (rowsFrom seed n) n = joined-alike _ _ 0 n (λ v l m. row-text v (omega arith)) in
-      let three : joined (netText (loadJob seed n count)) 0 count ≡ netsPart (netsFrom seed n) n count = joined-alike _ _ 0 count (λ i l m. net-text i (omega arith)) in
+      let one : concatFrom (nodeText (loadJob seed n count)) 0 n ≡ nodesPart seed n = concat-alike _ _ 0 n (λ v l m. node-text v (omega arith)) in
+      let two : concatFrom (rowText (loadJob seed n count)) 0 n ≡ rowsPart (rowsFrom seed n) n = concat-alike _ _ 0 n (λ v l m. row-text v (omega arith)) in
+      let three : concatFrom (netText (loadJob seed n count)) 0 count ≡ netsPart (netsFrom seed n) n count = concat-alike _ _ 0 count (λ i l m. net-text i (omega arith)) in
       rw (node-count seed n count, net-count seed n count, one, two, three)
 
 -- the parts from the states and the edge count that the code has
@@ -85,7 +85,7 @@ module _
   room : 0 + length (headPart n edges count ++ rest) ≤ length before
   room = let l = ap length (load-is seed n count r s e) in omega arith
 
-  module _ {b₁ : List ℕ} {p : ℕ} (told : placeTold p b₁ ≡ lineReply 70 (n ∷ edges ∷ count ∷ 100 ∷ []) 0 before) where
+  module _ {b₁ : List ℕ} {p : ℕ} (told : placeReplyOf p b₁ ≡ lineReply 70 (n ∷ edges ∷ count ∷ 100 ∷ []) 0 before) where
     head-put : Put 0 (headPart n edges count) before b₁ p
     head-put = line-put 70 (n ∷ edges ∷ count ∷ 100 ∷ []) told (part-first 0 (headPart n edges count) rest before room)
 
@@ -179,9 +179,9 @@ module _ (seed n count : ℕ) (least : 8 ≤ n) (most : n ≤ 256) (some : 1 ≤
       let b = three-digits edges (omega arith) in
       let c = two-digits count (omega arith) in
       let d = three-digits 100 (omega arith) in
-      let nodes = joined-size (nodeLine (loadKind seed n)) 11 0 n (λ v l. node-size v (omega arith)) in
-      let rows = joined-size (rowLines (rowsFrom seed n) n) 30 0 n (λ v l. row-size v (omega arith)) in
-      let nets = joined-size (netLines (netsFrom seed n) n) 18 0 count (λ i l. net-size i (omega arith)) in
+      let nodes = concat-size (nodeLine (loadKind seed n)) 11 0 n (λ v l. node-size v (omega arith)) in
+      let rows = concat-size (rowLines (rowsFrom seed n) n) 30 0 n (λ v l. row-size v (omega arith)) in
+      let nets = concat-size (netLines (netsFrom seed n) n) 18 0 count (λ i l. net-size i (omega arith)) in
       rw (
         load-parts seed n count,
         length-append (headPart n edges count) (nodesPart seed n ++ (rowsPart (rowsFrom seed n) n ++ netsPart (netsFrom seed n) n count)),

@@ -8,12 +8,12 @@ use native.Mathlib.Omega.{arith}
 use lib.ListN.{length}
 use borrow.Author.Tests.{le-leb, lt-leb, lt-ltb, le-ltb}
 use Rattle.price.proofs.TestLaws.{le-or-lt}
-use Rattle.text.specs.Printed.{joined}
+use Rattle.text.specs.Printed.{concatFrom}
 use Rattle.text.specs.WriteSteps.{Put}
 use Rattle.generator.specs.Load.{quarter, loadKind}
 use Rattle.generator.specs.Steps.{nodeLine, wireKind}
 use Rattle.generator.proofs.DrawLaws.{draw-below}
-use Rattle.text.proofs.JoiningLaws.{joined-append, joined-alike, part-first, part-rest, part-both}
+use Rattle.text.proofs.JoiningLaws.{concat-append, concat-alike, part-first, part-rest, part-both}
 
 module _ (seed n : ℕ) where
   pub kind-source : (v : ℕ) → v < quarter n → loadKind seed n v ≡ 0
@@ -42,16 +42,16 @@ module _ (seed n : ℕ) where
       (le-or-lt (n - quarter n) v)
 
   abbrev whole : List ℕ
-  whole = joined (nodeLine (loadKind seed n)) 0 n
+  whole = concatFrom (nodeLine (loadKind seed n)) 0 n
 
   abbrev sources : List ℕ
-  sources = joined (nodeLine (λ v. 0)) 0 (quarter n - 0)
+  sources = concatFrom (nodeLine (λ v. 0)) 0 (quarter n - 0)
 
   abbrev wired : List ℕ
-  wired = joined (nodeLine (wireKind seed (quarter n))) (quarter n) (n - quarter n - quarter n)
+  wired = concatFrom (nodeLine (wireKind seed (quarter n))) (quarter n) (n - quarter n - quarter n)
 
   abbrev sinks : List ℕ
-  sinks = joined (nodeLine (λ v. 1)) (n - quarter n) (n - (n - quarter n))
+  sinks = concatFrom (nodeLine (λ v. 1)) (n - quarter n) (n - (n - quarter n))
 
   nodes-parts : whole ≡ sources ++ (wired ++ sinks)
   nodes-parts =
@@ -62,12 +62,12 @@ module _ (seed n : ℕ) where
       let count : n ≡ a + (b + c) = omega arith in
       let at-wires : 0 + a ≡ quarter n = omega arith in
       let at-sinks : quarter n + b ≡ n - quarter n = omega arith in
-      let one : joined f 0 a ≡ sources = joined-alike f (nodeLine (λ v. 0)) 0 a (λ v l m. rw (kind-source v (omega arith))) in
-      let two : joined f (quarter n) b ≡ wired = joined-alike f (nodeLine (wireKind seed (quarter n))) (quarter n) b (λ v l m. rw (kind-wire v l (omega arith))) in
-      let three : joined f (n - quarter n) c ≡ sinks = joined-alike f (nodeLine (λ v. 1)) (n - quarter n) c (λ v l m. rw (kind-sink v l)) in
-      ap (joined f 0) count ∙ joined-append f 0 a (b + c)
-      ∙ ap (λ (k : ℕ). joined f 0 a ++ joined f k (b + c)) at-wires
-      ∙ ap (λ (xs : List ℕ). joined f 0 a ++ xs) (joined-append f (quarter n) b c ∙ ap (λ (k : ℕ). joined f (quarter n) b ++ joined f k c) at-sinks)
+      let one : concatFrom f 0 a ≡ sources = concat-alike f (nodeLine (λ v. 0)) 0 a (λ v l m. rw (kind-source v (omega arith))) in
+      let two : concatFrom f (quarter n) b ≡ wired = concat-alike f (nodeLine (wireKind seed (quarter n))) (quarter n) b (λ v l m. rw (kind-wire v l (omega arith))) in
+      let three : concatFrom f (n - quarter n) c ≡ sinks = concat-alike f (nodeLine (λ v. 1)) (n - quarter n) c (λ v l m. rw (kind-sink v l)) in
+      ap (concatFrom f 0) count ∙ concat-append f 0 a (b + c)
+      ∙ ap (λ (k : ℕ). concatFrom f 0 a ++ concatFrom f k (b + c)) at-wires
+      ∙ ap (λ (xs : List ℕ). concatFrom f 0 a ++ xs) (concat-append f (quarter n) b c ∙ ap (λ (k : ℕ). concatFrom f (quarter n) b ++ concatFrom f k c) at-sinks)
       ∙ rw (one, two, three)
 
   module _ (start : ℕ) (before : List ℕ) (fits : start + length whole ≤ length before) where

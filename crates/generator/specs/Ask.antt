@@ -68,8 +68,8 @@ pub record ShownReply : Type 0 where
   pub bytes : ℕ
   pub buffer : List ℕ
 
-abbrev pub shownTold : ℕ → List ℕ → ShownReply
-shownTold bytes buffer = record { bytes = bytes; buffer = buffer }
+abbrev pub shownReplyOf : ℕ → List ℕ → ShownReply
+shownReplyOf bytes buffer = record { bytes = bytes; buffer = buffer }
 
 unfoldable pub shownReply : List ℕ → List ℕ → ShownReply
-shownReply input buffer = shownTold (length (shownFor (askedIn input))) (writtenOver (shownFor (askedIn input)) buffer)
+shownReply input buffer = shownReplyOf (length (shownFor (askedIn input))) (writtenOver (shownFor (askedIn input)) buffer)

@@ -32,9 +32,9 @@ abbrev pub FieldWithin : ℕ → ℕ → List ℕ → fieldType.Field → Type 0
 FieldWithin low high input (f.Number value next) = (next ≤ length input) × (low ≤ value) × (value ≤ high)
 FieldWithin low high input f.Fault = Unit {0}
 
-abbrev pub askTold : Ask → Asked
-askTold (a.Load seed nodes nets) = asked seed nodes nets
-askTold (a.TurnedAway place) = turnedAway place
+abbrev pub askedOf : Ask → Asked
+askedOf (a.Load seed nodes nets) = asked seed nodes nets
+askedOf (a.TurnedAway place) = turnedAway place
 
 -- what is asked for lies within its bounds
 abbrev pub AskWithin : Ask → Type 0

@@ -5,7 +5,7 @@ ghost use lib.ListN.{length, drop};
 ghost use Rattle.text.specs.Decimal.{isDigit};
 ghost use Rattle.text.specs.Lines.{digitsAfter};
 ghost use Rattle.generator.specs.Ask.{numberUpTo, fieldEnds, wholeField, nextField, askedIn};
-ghost use Rattle.generator.specs.Steps.{fieldAt, FieldPlace, FieldWithin, askTold, AskWithin};
+ghost use Rattle.generator.specs.Steps.{fieldAt, FieldPlace, FieldWithin, askedOf, AskWithin};
 
 // A number with the place after its digits, or a fault.
 pub enum Field {
@@ -134,7 +134,7 @@ fn next_field(input: &[u8], at: usize, more: u32, low: u64, high: u64) -> Field
 
 // The input's line.
 pub fn asked(input: &[u8]) -> Ask
-    ensures { λ r. ⌜ askTold r ≡ askedIn (now (input .entry)) ⌝ }
+    ensures { λ r. ⌜ askedOf r ≡ askedIn (now (input .entry)) ⌝ }
     ensures { λ r. ⌜ AskWithin r ⌝ }
 {
     let Field::Number {

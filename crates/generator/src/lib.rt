@@ -6,7 +6,7 @@ ghost use lib.ListN.{length};
 ghost use Rattle.text.specs.Lines.{letterX, printLine};
 ghost use Rattle.text.specs.WriteSteps.{Put};
 ghost use Rattle.generator.specs.Load.{loadText};
-ghost use Rattle.generator.specs.Ask.{shownTold, shownReply};
+ghost use Rattle.generator.specs.Ask.{shownReplyOf, shownReply};
 
 mod ask;
 mod draws;
@@ -42,7 +42,7 @@ fn put_refusal(place: u32, buffer: &mut [u8]) -> usize
 
 // What the program prints for its input, and how many bytes that is: the job's text, or the line of the refusal.
 pub fn load_text(input: &[u8], buffer: &mut [u8; 16384]) -> usize
-    ensures answers { λ r. ⌜ shownTold r (now (buffer .exit)) ≡ shownReply (now (input .entry)) (now (buffer .entry)) ⌝ }
+    ensures answers { λ r. ⌜ shownReplyOf r (now (buffer .exit)) ≡ shownReply (now (input .entry)) (now (buffer .entry)) ⌝ }
 {
     match ask::asked(input) {
         Ask::Load { seed, nodes, nets } => put_load(seed, nodes, nets, buffer),

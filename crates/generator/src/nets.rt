@@ -1,7 +1,7 @@
 // The S and T lines: each net draws a source and a sink.
 ghost use Prim.Native.Nat.{_+_, _≤_};
 ghost use lib.ListN.{length};
-ghost use Rattle.text.specs.Printed.{joined};
+ghost use Rattle.text.specs.Printed.{concatFrom};
 ghost use Rattle.text.specs.WriteSteps.{Put};
 ghost use Rattle.generator.specs.Steps.{pinLines, netLines};
 use crate::draws;
@@ -19,8 +19,8 @@ fn put_net(net: u32, source: u32, sink: u32, buffer: &mut [u8], start: usize) ->
 
 // Writes the lines of all nets, from the state before their draws.
 pub fn put_nets(first: u32, nodes: u32, nets: u32, buffer: &mut [u8], start: usize) -> usize
-    requires { ⌜ (4 ≤ nodes) × (start + length (joined (netLines first nodes) 0 nets) ≤ length (now buffer)) ⌝ }
-    ensures { λ r. ⌜ Put start (joined (netLines first nodes) 0 nets) (now (buffer .entry)) (now (buffer .exit)) r ⌝ }
+    requires { ⌜ (4 ≤ nodes) × (start + length (concatFrom (netLines first nodes) 0 nets) ≤ length (now buffer)) ⌝ }
+    ensures { λ r. ⌜ Put start (concatFrom (netLines first nodes) 0 nets) (now (buffer .entry)) (now (buffer .exit)) r ⌝ }
 {
     let quarter = nodes / 4;
     let mut at = start;

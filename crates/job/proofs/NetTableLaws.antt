@@ -269,7 +269,7 @@ module _ (b : Block) (factor : ℕ) (histories others marks work : List ℕ) (sh
       let some : 1 ≤ block.nodes b = kinds-some (b .kinds) (sound-of b none .kinds-sound) in
       rw (unfit, lt-leb 1 (faultyTable b) h, refusal-work 0 (block.nodes b) factor (length work) histories others marks (omega arith) (omega arith))
 
-  pub named : {r told : PathAnswer} (left : List ℕ) → pathReplyOf r left ≡ pathReply b (congestionOf factor histories others) marks [] work → r ≡ told → tableNamed (pathReplyOf told left .refusal) ≡ faultyTable b
+  pub named : {r answered : PathAnswer} (left : List ℕ) → pathReplyOf r left ≡ pathReply b (congestionOf factor histories others) marks [] work → r ≡ answered → tableNamed (pathReplyOf answered left .refusal) ≡ faultyTable b
   named left e t =
       ap (λ a. tableNamed (pathReplyOf a left .refusal)) (sym t)
       ∙ ap (λ a. tableNamed (a .refusal)) e

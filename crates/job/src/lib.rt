@@ -1,12 +1,9 @@
 // A job as it is given: the tests of its tables, its terms, the kinds of its pins, and the first net of a source.
 
-// The most nodes of a block: the router keeps a mark, a history and a count of users for each.
-pub const NODES_MOST: usize = 4096;
-
-// The most nets, and sinks of all nets.
+// The most nets, and entries of table 6: one more.
 pub const NETS_MOST: usize = 512;
 
-pub const SINKS_MOST: usize = 4096;
+pub const FIRST_SINKS_MOST: usize = 513;
 
 // What a job asks beside its seven tables: the limit of iterations, the tuning of the tariff, and the rule by which an iteration takes
 // nets: 1, all; 2, all up to iteration `until`, only crowded ones after it. A refusal counts it as table 8.

@@ -12,13 +12,13 @@ ghost use Rattle.job.specs.Job.{jobOf};
 ghost use Rattle.job.specs.Steps.{AllBelow, Stored, sinksFree};
 ghost use Rattle.job.specs.Tables.{netsMost, sourcesSound, firstSinksSound, netSound, sinksSound, faultyNets, faultyJob};
 use crate::NETS_MOST;
-use crate::NODES_MOST;
-use crate::SINKS_MOST;
 use crate::Terms;
 use crate::job_terms;
 use crate::pins;
 use crate::pins::Pin;
+use search::NODES_MOST;
 use search::PathAnswer;
+use search::SINKS_MOST;
 
 // Table 5: 1 to 512 nets, each source below n.
 pub fn sources_sound(n: usize, source: &[u16]) -> bool

@@ -17,7 +17,7 @@ use Rattle.job.specs.Tables.{limitSound, termsSound, faultyJob}
 use Rattle.job.specs.Join.{joined}
 use Rattle.negotiation.specs.Records.{Record, encode, fitting}
 use Rattle.negotiation.specs.Machine.{State, Progress, firstState, recordsAfter, settlesAt}
-use Rattle.negotiation.specs.Outcome.{RouteReply, begun, allRecords, loggedRecords, lastIteration, endNumbers, logWith, refusedReply, ranReply, continued, routeReply}
+use Rattle.negotiation.specs.Outcome.{RouteReply, begun, allRecords, loggedRecords, endIteration, endNumbers, logWith, refusedReply, ranReply, continued, routeReply}
 use Rattle.negotiation.specs.Longer.{withLimit}
 use Rattle.negotiation.specs.Resume.{OwnLog}
 use Rattle.negotiation.specs.Resumed.{ResumedAfterLimit}
@@ -97,7 +97,7 @@ module _ (k : Job) (low over : ℕ) (work log : List ℕ) (some : 1 ≤ low)
       (λ fits. fits)
       (full-or-fits (withLimit k low) (begun k) work log)
 
-  low-reply : continued (withLimit k low) (begun k) work log ≡ ranReply (withLimit k low) (endNumbers (withLimit k low) (firstState k)) (lastIteration (withLimit k low) (firstState k)) rs work log
+  low-reply : continued (withLimit k low) (begun k) work log ≡ ranReply (withLimit k low) (endNumbers (withLimit k low) (firstState k)) (endIteration (withLimit k low) (firstState k)) rs work log
   low-reply = whole-reply (withLimit k low) (begun k) work log rs refl low-fits
 
   all-left : leftUnder low (firstState k) ≡ low

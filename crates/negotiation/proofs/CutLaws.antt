@@ -13,7 +13,7 @@ use Rattle.price.proofs.TestLaws.{le-or-lt}
 use Rattle.price.proofs.BelowLaws.{firstBelow-below, firstBelow-holds, firstBelow-is, firstBelow-all}
 use Rattle.job.specs.Job.{Job}
 use Rattle.negotiation.specs.Machine.{State, Progress, stateAfter, iterationAfter, recordsAfter, settlesAt}
-use Rattle.negotiation.specs.Outcome.{iterationsMade, iterationsLeft, madeFrom, allRecords, loggedRecords, cutIteration, endNumbers, lastIteration, continued}
+use Rattle.negotiation.specs.Outcome.{iterationsMade, iterationsLeft, madeFrom, allRecords, loggedRecords, cutIteration, endNumbers, endIteration, continued}
 use Rattle.negotiation.proofs.StateLaws.{state-iteration}
 use Rattle.negotiation.proofs.EndLaws.{made-least}
 
@@ -90,7 +90,7 @@ module _ (j : Job) (s : State) (m : ℕ) (unsettled : (k : ℕ) → k < m → se
         let last : madeFrom j s - 1 ≡ m + (madeFrom j (stateAfter j s m) - 1) = omega arith in
         rw (last, settles-cut j s m (madeFrom j (stateAfter j s m) - 1), state-cut j s m (madeFrom j (stateAfter j s m) - 1))
 
-    last-cut : lastIteration j (stateAfter j s m) ≡ lastIteration j s
+    last-cut : endIteration j (stateAfter j s m) ≡ endIteration j s
     last-cut =
         let some = goes-on in
         let whole = run-cut in
@@ -102,7 +102,7 @@ module _ (j : Job) (s : State) (m : ℕ) (unsettled : (k : ℕ) → k < m → se
 -- it rests on all records, on how the run ends, and in which iteration
 reply-by :
     (j : Job) (p q : Progress) (work log : List ℕ) → allRecords j p ≡ allRecords j q → endNumbers j (p .state) ≡ endNumbers j (q .state)
-    → lastIteration j (p .state) ≡ lastIteration j (q .state) → continued j p work log ≡ continued j q work log
+    → endIteration j (p .state) ≡ endIteration j (q .state) → continued j p work log ≡ continued j q work log
 unfolding continued loggedRecords cutIteration
 reply-by j p q work log records end last = rw (records, end, last)
 

@@ -19,7 +19,7 @@ use Rattle.search.specs.Replies.{cleared}
 use Rattle.job.specs.Job.{Job, nodes, nets}
 use Rattle.negotiation.specs.Records.{Record, words, encode}
 use Rattle.negotiation.specs.Machine.{State, Progress, netRecords, due, afterNets, stateAfter, iterate, overCount, firstState, iterationAfter, recordsAfter, settlesAt}
-use Rattle.negotiation.specs.Outcome.{continued, ranReply, logWith, routeReplyOf, routeRefusal, iterationsMade, iterationsLeft, madeFrom, lastIteration, allRecords, loggedRecords, cutIteration, endNumbers}
+use Rattle.negotiation.specs.Outcome.{continued, ranReply, logWith, routeReplyOf, routeRefusal, iterationsMade, iterationsLeft, madeFrom, endIteration, allRecords, loggedRecords, cutIteration, endNumbers}
 use Rattle.negotiation.specs.Steps.{SameFrom}
 use Rattle.negotiation.specs.declared.RouteAnswer.{RouteAnswer}
 use Rattle.negotiation.proofs.StateLaws.{route-if, routed-next}
@@ -133,7 +133,7 @@ full-reply j p work log rs r later e fits over =
 
 -- where all fit, the last iteration ends it
 pub whole-reply : (j : Job) (p : Progress) (work log : List ℕ) (rs : List Record) → allRecords j p ≡ rs → length (encode rs) ≤ length log
-    → continued j p work log ≡ ranReply j (endNumbers j (p .state)) (lastIteration j (p .state)) rs work log
+    → continued j p work log ≡ ranReply j (endNumbers j (p .state)) (endIteration j (p .state)) rs work log
 unfolding continued loggedRecords
 whole-reply j p work log rs e fits =
     rw (e, fitting-all (length log) rs fits, le-ltb (length rs) (length rs) (le-refl (length rs)))
@@ -148,7 +148,7 @@ module _ (j : Job) (s : State) (m : ℕ) (made : madeFrom j s ≡ m + 1) where
   end-limit t = let e : m + 1 - 1 ≡ m = omega arith in rw (made, e, t)
 
   -- m iterations come before the last
-  pub last-made : lastIteration j s ≡ s .iteration + m
+  pub last-made : endIteration j s ≡ s .iteration + m
   last-made = rw made (omega arith)
 
 -- all records are those so far and those of the iterations up to m

@@ -16,7 +16,7 @@ use Rattle.price.specs.Test.{choose}
 use Rattle.price.specs.Lists.{has, upTo, countBelow}
 use Rattle.price.specs.Prices.{nextHistory}
 use Rattle.price.proofs.TestLaws.{either-way}
-use Rattle.price.proofs.ListLaws.{length-upTo, getD-upTo, has-place}
+use Rattle.price.proofs.ListLaws.{length-upTo, getD-upTo, has-place, up-to-is}
 use Rattle.price.proofs.BelowLaws.{count-same}
 use Rattle.search.proofs.BlockLaws.{capacities-long}
 use Rattle.job.specs.Job.{Job, nodes, nets, source, netSinks}
@@ -38,12 +38,6 @@ use Rattle.negotiation.proofs.KeepPlaces.{can-rip, tree-read, tree-whol
 use Rattle.negotiation.proofs.KeepLaws.{Opened, dueMarks}
 
 -- ---- lists by their entries
-
--- a list with these entries is the list of them
-pub up-to-is : (f : ℕ → ℕ) (n : ℕ) (xs : List ℕ) → length xs ≡ n → ((v : ℕ) → v < n → getD xs v 0 ≡ f v) → xs ≡ upTo f n
-up-to-is f n xs long at =
-    ext-getD 0 xs (upTo f n) (long ∙ sym (length-upTo f n))
-    (λ v h. let l : v < n = rw long at h in at v l ∙ sym (getD-upTo f n v 0 l))
 
 -- no mark at all
 all-zero : (n : ℕ) (marks : List ℕ) → length marks ≡ n → NoMarks n marks → marks ≡ replicate n 0

@@ -13,6 +13,7 @@ use Rattle.price.specs.Test.{choose}
 use Rattle.price.specs.Lists.{upTo}
 use Rattle.price.specs.Prices.{nextFactor}
 use Rattle.price.proofs.TestLaws.{either-way}
+use Rattle.price.proofs.ListLaws.{up-to-is}
 use Rattle.job.specs.Job.{Job, nodes, nets, netSinks}
 use Rattle.negotiation.specs.Routable.{Routable}
 use Rattle.negotiation.specs.Records.{encode, pathNodes}
@@ -27,7 +28,7 @@ use Rattle.negotiation.proofs.MachineRan.{ran-can}
 use Rattle.negotiation.proofs.UserLaws.{users-none}
 use Rattle.negotiation.proofs.KeepLaws.{startOf, reached, AtIteration, AtNet, AtTurn, AtIdle, AtTurns}
 use Rattle.negotiation.proofs.KeepPlaces.{first-places}
-use Rattle.negotiation.proofs.KeepProgress.{up-to-is, due-mark, dues-long, due-marked, begin-ready, opens}
+use Rattle.negotiation.proofs.KeepProgress.{due-mark, dues-long, due-marked, begin-ready, opens}
 
 -- a beginning of one number over and over
 pub take-replicate : (n most x : ℕ) → n ≤ most → take n (replicate most x) ≡ replicate n x

@@ -16,7 +16,7 @@ use Rattle.job.specs.Tables.{limitSound, termsSound, faultyNets, faultyJob}
 use Rattle.job.specs.Join.{joined}
 use Rattle.negotiation.specs.Records.{Record, encode, fitting}
 use Rattle.negotiation.specs.Machine.{Progress, othersOf, marksOf, congestionFor, firstState}
-use Rattle.negotiation.specs.Outcome.{RouteReply, hasPath, unreachableNet, unreachablePlace, begun, lastIteration, allRecords, endNumbers, refusedReply, ranReply, continued, negotiated, reachedReply, tested, routeReply}
+use Rattle.negotiation.specs.Outcome.{RouteReply, hasPath, unreachableNet, unreachablePlace, begun, endIteration, allRecords, endNumbers, refusedReply, ranReply, continued, negotiated, reachedReply, tested, routeReply}
 use Rattle.negotiation.specs.Longer.{withLimit, Begins, SameLog, LimitsCompared, RaisedInPlace, LogLengthened, LogsCompared}
 use Rattle.job.proofs.JobLaws.{limit-least}
 use Rattle.negotiation.proofs.JoiningLaws.{places-same}
@@ -208,7 +208,7 @@ module _ (j : Job) (p : Progress) (low high : ℕ) (more : low ≤ high) where
   settled-records some end = rw (all-alike j high p, all-alike j low p, settled-made some end)
 
   settled-iterations :
-      p .state .iteration ≤ low → endNumbers (withLimit j low) (p .state) ≡ [] → lastIteration (withLimit j high) (p .state) ≡ lastIteration (withLimit j low) (p .state)
+      p .state .iteration ≤ low → endNumbers (withLimit j low) (p .state) ≡ [] → endIteration (withLimit j high) (p .state) ≡ endIteration (withLimit j low) (p .state)
   settled-iterations some end = rw (run-alike j low (p .state), run-alike j high (p .state), settled-made some end)
 
   settled-numbers : p .state .iteration ≤ low → endNumbers (withLimit j low) (p .state) ≡ [] → endNumbers (withLimit j high) (p .state) ≡ []
@@ -246,10 +246,10 @@ module _ (j : Job) (p : Progress) (low high : ℕ) (more : low ≤ high) where
     abbrev b : RouteReply
     b = continued (withLimit j high) p work′ log′
 
-    left : a ≡ ranReply (withLimit j low) (endNumbers (withLimit j low) (p .state)) (lastIteration (withLimit j low) (p .state)) (allRecords (withLimit j low) p) work log
+    left : a ≡ ranReply (withLimit j low) (endNumbers (withLimit j low) (p .state)) (endIteration (withLimit j low) (p .state)) (allRecords (withLimit j low) p) work log
     left = whole-reply (withLimit j low) p work log (allRecords (withLimit j low) p) refl fits
 
-    right : b ≡ ranReply (withLimit j high) (endNumbers (withLimit j high) (p .state)) (lastIteration (withLimit j high) (p .state)) (allRecords (withLimit j high) p) work′ log′
+    right : b ≡ ranReply (withLimit j high) (endNumbers (withLimit j high) (p .state)) (endIteration (withLimit j high) (p .state)) (allRecords (withLimit j high) p) work′ log′
     right = whole-reply (withLimit j high) p work′ log′ (allRecords (withLimit j high) p) refl fits′
 
     low-log : LogHas a (allRecords (withLimit j low) p)

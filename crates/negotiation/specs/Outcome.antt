@@ -134,8 +134,8 @@ endNumbers j s =
     (9 ∷ j .terms .limit ∷ overCount j (iterationAfter j s (madeFrom j s - 1) .state .trees) ∷ [])
 
 -- the iteration in which a run from a state ends
-abbrev pub lastIteration : Job → State → ℕ
-lastIteration j s = s .iteration + madeFrom j s - 1
+abbrev pub endIteration : Job → State → ℕ
+endIteration j s = s .iteration + madeFrom j s - 1
 
 -- the reply of a negotiation that goes on from these records and this state
 unfoldable pub continued : Job → Progress → List ℕ → List ℕ → RouteReply
@@ -144,7 +144,7 @@ continued j p work log =
     let cut = cutIteration j p (length log) in
     choose (ltb (length logged) (length (allRecords j p)))
     (ranReply j (8 ∷ cut ∷ length logged ∷ []) cut logged work log)
-    (ranReply j (endNumbers j (p .state)) (lastIteration j (p .state)) (allRecords j p) work log)
+    (ranReply j (endNumbers j (p .state)) (endIteration j (p .state)) (allRecords j p) work log)
 
 -- and of one that begins
 abbrev pub negotiated : Job → List ℕ → List ℕ → RouteReply

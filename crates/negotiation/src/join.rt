@@ -8,8 +8,8 @@ ghost use Rattle.job.specs.Join.{entriesAt, placesFrom, taking};
 ghost use Rattle.negotiation.specs.JoinSteps.{Joinable, JoinRoom, netsOnly, listedCount};
 ghost use Rattle.negotiation.specs.JoinSteps.{withListed, Held, Placed, JoinedPlaces, JoinedTables};
 ghost use Rattle.job.specs.Steps.{AllBelow};
-use job::NODES_MOST;
-use job::SINKS_MOST;
+use search::NODES_MOST;
+use search::SINKS_MOST;
 
 // Takes the places of table 7 from one to another, but for those whose sink is stamped already.
 fn take_listed(

@@ -11,9 +11,6 @@ ghost use Rattle.negotiation.specs.Resume.{runFrom, resumeReply};
 ghost use Rattle.negotiation.specs.Resumed.{Resumed};
 ghost use Rattle.negotiation.specs.TakeSteps.{SinksOnce};
 
-// The most entries of table 6: one more than nets.
-const FIRST_SINKS_MOST: usize = 513;
-
 // How a run ends.
 pub enum Outcome {
     // Nothing is over capacity.
@@ -61,9 +58,10 @@ mod tariff;
 mod trees;
 mod turns;
 
-use job::SINKS_MOST;
+use job::FIRST_SINKS_MOST;
 use job::Terms;
 use reach::Reach;
+use search::SINKS_MOST;
 
 // The answer of a call that is refused before any turn.
 fn refused(outcome: Outcome) -> RouteAnswer

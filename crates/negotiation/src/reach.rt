@@ -3,7 +3,7 @@ ghost use Prim.Native.Nat.{_*_, _≤_};
 ghost use lib.ListN.{length};
 ghost use Rattle.negotiation.specs.Steps.{SameFrom, RoutableWith, FirstMissing};
 use crate::flood;
-use job::NODES_MOST;
+use search::NODES_MOST;
 
 // What the test of all nets, or of one net, finds.
 pub enum Reach {

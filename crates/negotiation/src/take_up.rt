@@ -15,8 +15,8 @@ use crate::follow;
 use crate::nets;
 use crate::tariff;
 use crate::tariff::Tariff;
-use job::NODES_MOST;
 use job::Terms;
+use search::NODES_MOST;
 
 // What a lent log comes to: the run goes on from this tariff, or the record at this word doesn't follow.
 pub enum Taken {

@@ -29,9 +29,9 @@ use crate::tariff;
 use crate::tariff::Tariff;
 use crate::trees;
 use job::NETS_MOST;
-use job::NODES_MOST;
 use job::Terms;
 use price::Tuning;
+use search::NODES_MOST;
 use search::PathAnswer;
 
 // What an attempt at a turn does.

@@ -132,6 +132,12 @@ module _ {ℓ} {A : Type ℓ} (f : ℕ → A) where
       (λ h. List·getD-append (upTo f n) (f n ∷ []) d i (rw length-upTo h) ∙ getD-upTo n i d h)
       (eq-or-lt-of-le (le-of-suc-le-suc l))
 
+-- a list with these entries is the list of them
+pub up-to-is : (f : ℕ → ℕ) (n : ℕ) (xs : List ℕ) → length xs ≡ n → ((v : ℕ) → v < n → getD xs v 0 ≡ f v) → xs ≡ upTo f n
+up-to-is f n xs long at =
+    ext-getD 0 xs (upTo f n) (long ∙ sym (length-upTo f n))
+    (λ v h. let l : v < n = rw long at h in at v l ∙ sym (getD-upTo f n v 0 l))
+
 -- ---- a sum
 
 pub total-append : (f : ℕ → ℕ) (xs ys : List ℕ) → total f (xs ++ ys) ≡ total f xs + total f ys

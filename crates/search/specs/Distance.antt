@@ -28,7 +28,7 @@ pub data LeastCost (b : Block) (price : ℕ → ℕ) (tree : ℕ → Bool) (v d 
       d ≡ far → ((t : ℕ) (path : List ℕ) → tree t ≡ true → Walk b t path v → ⊥)
       → LeastCost b price tree v d
 
--- "tree mark (1 in the tree, else 0)"
+-- "tree mark (1 in the tree, else 0; .."
 unfoldable pub inTree : List ℕ → ℕ → Bool
 inTree marks v = eqb (getD marks v 0) 1
 

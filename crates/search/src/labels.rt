@@ -5,7 +5,7 @@
 ghost use mathlib.Core.Path.{_≡_};
 ghost use Prim.Native.Nat.{_+_, _*_, _≤_, _<_, min};
 ghost use lib.ListN.{length, getD};
-ghost use Rattle.price.specs.Bounds.{priceMost};
+ghost use Rattle.price.specs.Bounds.{nodesMost, priceMost};
 ghost use Rattle.search.specs.Block.{graphOf};
 ghost use Rattle.search.specs.Turn.{congestionOf};
 ghost use Rattle.search.specs.Held.{held as heldAt, heldPrice, Lent};
@@ -104,7 +104,7 @@ fn label(
 
 // Node v has its label already, from its predecessor; u, of label d, takes that one's place where it is as near and lower.
 fn lower(work: &mut [u64], n: usize, u: usize, v: usize, d: u64)
-    requires { ⌜ (u < n) × (v < n) × (n ≤ 4096) × (3 * n ≤ length (now work)) × (fromAt n (now work) v < n) ⌝ }
+    requires { ⌜ (u < n) × (v < n) × (n ≤ nodesMost) × (3 * n ≤ length (now work)) × (fromAt n (now work) v < n) ⌝ }
     ensures { λ _. ⌜ Lowered n u v d (now (work .entry)) (now (work .exit)) ⌝ }
 {
     let w = work[n + v];

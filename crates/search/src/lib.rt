@@ -32,6 +32,16 @@ pub enum PathAnswer {
     BadNumber(u32),
 }
 
+// The most nodes of a block, places of its rows and edges.
+pub const NODES_MOST: usize = 4096;
+
+pub const FIRST_EDGES_MOST: usize = 4097;
+
+pub const EDGES_MOST: usize = 32768;
+
+// The most sinks of all nets.
+pub const SINKS_MOST: usize = 4096;
+
 mod distances;
 mod heap;
 mod labels;
@@ -161,7 +171,7 @@ fn fits(
     if n < 1 {
         return false;
     }
-    if tables::NODES_MOST < n {
+    if NODES_MOST < n {
         return false;
     }
     if capacity != n {
@@ -170,7 +180,7 @@ fn fits(
     if first_edge != n + 1 {
         return false;
     }
-    if tables::EDGES_MOST < edge_target {
+    if EDGES_MOST < edge_target {
         return false;
     }
     if work < 8 * n {
@@ -185,7 +195,7 @@ fn fits(
     if in_tree < n {
         return false;
     }
-    sinks <= tables::SINKS_MOST
+    sinks <= SINKS_MOST
 }
 
 // One turn: the cheapest path from the marked nodes to the nearest unmarked sink. Only lengths are compared: every number is read within

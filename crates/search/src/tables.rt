@@ -11,15 +11,12 @@ ghost use Rattle.price.specs.Lists.{neighbours};
 ghost use Rattle.search.specs.Block.{blockOf, graphOf};
 ghost use Rattle.search.specs.Tables.{kindsSound, capacitiesSound, firstEdgesSound, edgeTargetsSound, rowSound, faultyTable};
 ghost use Rattle.search.specs.Replies.{sinkListSound};
+use crate::EDGES_MOST;
+use crate::NODES_MOST;
+use crate::SINKS_MOST;
 
-// The bounds of tables 1, 4 and 7.
+// The largest kind.
 const KIND_MOST: u8 = 53;
-
-pub const NODES_MOST: usize = 4096;
-
-pub const EDGES_MOST: usize = 32768;
-
-pub const SINKS_MOST: usize = 4096;
 
 fn kinds_sound(kind: &[u8]) -> bool
     ensures { λ r. ⌜ r ≡ kindsSound (now (kind .entry)) ⌝ }

@@ -2,6 +2,7 @@
 ghost use mathlib.Core.Path.{_≡_};
 ghost use Prim.Native.Nat.{_*_, _≤_, _<_};
 ghost use lib.ListN.{length, take};
+ghost use Rattle.price.specs.Bounds.{nodesMost};
 ghost use Rattle.search.specs.Block.{blockOf};
 ghost use Rattle.search.specs.Turn.{congestionOf, turn};
 ghost use Rattle.search.specs.Held.{heldPrice, Lent};
@@ -18,7 +19,7 @@ const ANY_PRICE_MOST: u64 = 1000000000000000000;
 
 // Tree nodes have label 0 and wait, the others have none: how many wait.
 fn mark_tree(in_tree: &[u8], work: &mut [u64], n: usize) -> usize
-    requires { ⌜ (n ≤ 4096) × (n ≤ length (now «in_tree»)) × (3 * n ≤ length (now work)) ⌝ }
+    requires { ⌜ (n ≤ nodesMost) × (n ≤ length (now «in_tree»)) × (3 * n ≤ length (now work)) ⌝ }
     ensures { λ count. ⌜ TreeMarked n (now («in_tree» .entry)) (now (work .entry)) (now (work .exit)) count ⌝ }
 {
     let mut count = 0;
@@ -38,7 +39,7 @@ fn mark_tree(in_tree: &[u8], work: &mut [u64], n: usize) -> usize
 
 // Listed nodes without a label are goals.
 fn mark_goals(sinks: &[u16], work: &mut [u64], n: usize)
-    requires { ⌜ (n ≤ 4096) × (n ≤ length (now work)) ⌝ }
+    requires { ⌜ (n ≤ nodesMost) × (n ≤ length (now work)) ⌝ }
     ensures { λ _. ⌜ GoalsMarked n (now (sinks .entry)) (now (work .entry)) (now (work .exit)) (length (now (sinks .entry))) ⌝ }
 {
     let mut i = 0;
@@ -89,7 +90,7 @@ fn least_price(
 
 // The first listed node of this label.
 fn first_at(sinks: &[u16], work: &[u64], n: usize, d: u64) -> usize
-    requires { ⌜ (n ≤ 4096) × (n ≤ length (now work)) ⌝ }
+    requires { ⌜ (n ≤ nodesMost) × (n ≤ length (now work)) ⌝ }
     ensures { λ r. ⌜ FirstAt n d (now (sinks .entry)) (now (work .entry)) r ⌝ }
 {
     let mut place = 0;

@@ -113,8 +113,8 @@ module _ (n count lastFrom lastTo at : ℕ) (text : List ℕ) {r : LineFields} (
 edge-rising : (n count lastFrom lastTo : ℕ) (bs : List ℕ) {a b : ℕ} {rest : List ℕ} → values (a ∷ b ∷ []) rest ≡ edgeLine n count lastFrom lastTo bs → rises count lastFrom lastTo a b ≡ true
 unfolding edgeLine edgeOrdered
 edge-rising n count lastFrom lastTo bs {a} {b} {rest} e =
-    let told = judged-values (edgeWithin n) (edgeOrdered count lastFrom lastTo) (line letterE 2 bs) (a ∷ b ∷ []) rest (sym e) in
-    both-right (not (eqb a b)) (rises count lastFrom lastTo a b) (told .order)
+    let answered = judged-values (edgeWithin n) (edgeOrdered count lastFrom lastTo) (line letterE 2 bs) (a ∷ b ∷ []) rest (sym e) in
+    both-right (not (eqb a b)) (rises count lastFrom lastTo a b) (answered .order)
 
 -- ---- a part of a table that holds one value
 
@@ -259,18 +259,18 @@ module _ {text : List ℕ} {from first nodes edges : ℕ} {firsts₀ targets₀ 
 
     -- the rows from the last edge's to this one's are within the table
     pub edges-rows : {r : EdgeLine} {u v next : ℕ} → r ≡ el.Edge u v next → edgeAt text r ≡ edgeLine nodes k row target (drop at text) → EdgePlace nodes at text r → (row + 1 ≤ u + 1) × (u + 1 ≤ length firsts)
-    edges-rows {r} {u} {v} {next} e told p =
+    edges-rows {r} {u} {v} {next} e answered p =
         let place : After (at + 1) text next × (u < nodes) × (v < nodes) = subst (λ (x : EdgeLine). EdgePlace nodes at text x) e p in
-        let low : row ≤ u = rises-least k row target u v first-row (edge-rising nodes k row target (drop at text) (sym (ap (edgeAt text) e) ∙ told)) in
+        let low : row ≤ u = rises-least k row target u v first-row (edge-rising nodes k row target (drop at text) (sym (ap (edgeAt text) e) ∙ answered)) in
         (omega arith, omega (arith, s .firsts-same, room .0, place .1))
 
     pub edges-more :
         {r : EdgeLine} {u v next : ℕ} {firsts′ : List ℕ} → r ≡ el.Edge u v next → edgeAt text r ≡ edgeLine nodes k row target (drop at text)
         → EdgePlace nodes at text r → firsts′ ≡ filled firsts (row + 1) (u + 1) k
         → EdgesRead text from first nodes edges firsts₀ targets₀ firsts′ (set targets k v) next (line + 1) u v (k + 1)
-    edges-more {r} {u} {v} {next} {firsts′} e told p filling =
+    edges-more {r} {u} {v} {next} {firsts′} e answered p filling =
         let place : After (at + 1) text next × (u < nodes) × (v < nodes) = subst (λ (x : EdgeLine). EdgePlace nodes at text x) e p in
-        let wide : (row + 1 ≤ u + 1) × (u + 1 ≤ length firsts) = edges-rows e told p in
+        let wide : (row + 1 ≤ u + 1) × (u + 1 ≤ length firsts) = edges-rows e answered p in
         let targets-more : take (k + 1) (set targets k v) ≡ take k targets ++ (v ∷ []) = rw add-one (take-suc-set targets k v (omega (arith, s .targets-same, room .1))) in
         let froms-more : length (s .froms ++ (u ∷ [])) ≡ k + 1 = length-append (s .froms) (u ∷ []) ∙ rw (s .froms-long) in
         record {
@@ -293,15 +293,15 @@ module _ {text : List ℕ} {from first nodes edges : ℕ} {firsts₀ targets₀ 
           rest-is =
               s .rest-is
               ∙ rw (left, targets-more)
-              (edge-step nodes (edges - (k + 1)) k row target line (s .froms) (take k targets) (drop at text) targets-read (s .last-from) (s .last-to) (sym (ap (edgeAt text) e) ∙ told));
+              (edge-step nodes (edges - (k + 1)) k row target line (s .froms) (take k targets) (drop at text) targets-read (s .last-from) (s .last-to) (sym (ap (edgeAt text) e) ∙ answered));
         }
 
     pub edges-stop :
         {r : EdgeLine} {m : ℕ} → r ≡ el.Refused m → edgeAt text r ≡ edgeLine nodes k row target (drop at text)
         → stopped m line ≡ edgeTables nodes (edgeLines nodes edges (edgeLists [] []) first (drop from text))
-    edges-stop {r} {m} e told =
+    edges-stop {r} {m} e answered =
         let stop : edgeLines nodes edges (edgeLists [] []) first (drop from text) ≡ stopped m line =
-        s .rest-is ∙ rw left (edge-stop nodes (edges - (k + 1)) k row target line (s .froms) (take k targets) (drop at text) targets-read (s .last-from) (s .last-to) (sym (ap (edgeAt text) e) ∙ told)) in
+        s .rest-is ∙ rw left (edge-stop nodes (edges - (k + 1)) k row target line (s .froms) (take k targets) (drop at text) targets-read (s .last-from) (s .last-to) (sym (ap (edgeAt text) e) ∙ answered)) in
         sym (ap (edgeTables nodes) stop)
 
   -- the rows after the last edge's are within the table

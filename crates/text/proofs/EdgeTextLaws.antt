@@ -16,7 +16,7 @@ use Rattle.search.specs.Tables.{firstEdgesSound, rowSound}
 use Rattle.search.proofs.BlockLaws.{firsts-end, firsts-order, firsts-most}
 use Rattle.text.specs.Lines.{letterE, printLine}
 use Rattle.text.specs.JobText.{values, lastOf, rises, edgeWithin, edgeOrdered, edgeLine, part, EdgeLists, edgeLists, edgeLines, firstPlaces}
-use Rattle.text.specs.Printed.{joined, eachLine}
+use Rattle.text.specs.Printed.{concatFrom, eachLine}
 use Rattle.text.proofs.PrintLaws.{LineRead, judged-line, line-judged, two-of, onward-part}
 use Rattle.text.proofs.LastLaws.{last-more}
 use Rattle.text.proofs.EdgeRisingLaws.{rowOf, Edge, Rising, edge-within, edge-ordered, rising-none, rising-more, rising-rest, rising-keys, rising-rows, rows-rising}
@@ -30,10 +30,10 @@ pairText (f ∷ fs) (t ∷ ts) = printLine letterE (f ∷ t ∷ []) ++ pairText 
 
 -- the E lines of n rows
 abbrev pub edgesText : ℕ → List ℕ → List ℕ → List ℕ
-edgesText n first targets = joined (λ u. eachLine letterE u (rowOf first targets u)) 0 n
+edgesText n first targets = concatFrom (λ u. eachLine letterE u (rowOf first targets u)) 0 n
 
 -- what E lines that are read say: sound tables 3 and 4, whose print they are
-pub record EdgesTold (n k : ℕ) (l : EdgeLists) (bs rest : List ℕ) : Type 0 where
+pub record EdgesGiven (n k : ℕ) (l : EdgeLists) (bs rest : List ℕ) : Type 0 where
   pub targets-long : length (l .targets) ≡ k
   pub firsts-sound : firstEdgesSound n k (firstPlaces n (l .froms)) ≡ true
   pub rows-sound : (u : ℕ) → u < n → rowSound n u (rowOf (firstPlaces n (l .froms)) (l .targets) u) ≡ true
@@ -62,8 +62,8 @@ pairs-row u (suc d) a b fs ts e h same key =
     (ap (λ (l : List ℕ). printLine letterE (u ∷ getD ts a 0 ∷ []) ++ l) rest)
 
 module _ (n : ℕ) (first fs ts : List ℕ) (f : Filed n first fs) (same : length fs ≡ length ts) where
-  rows-pairs : (k m : ℕ) → m + k ≡ n → joined (λ u. eachLine letterE u (rowOf first ts u)) m k ≡ pairText (drop (getD first m 0) fs) (drop (getD first m 0) ts)
-  unfolding joined pairText
+  rows-pairs : (k m : ℕ) → m + k ≡ n → concatFrom (λ u. eachLine letterE u (rowOf first ts u)) m k ≡ pairText (drop (getD first m 0) fs) (drop (getD first m 0) ts)
+  unfolding concatFrom pairText
   rows-pairs zero m e =
       let at : m ≡ n = omega arith in
       let end : getD first n 0 ≡ length fs = firsts-end n (length fs) first (f .sound) in
@@ -72,7 +72,7 @@ module _ (n : ℕ) (first fs ts : List ℕ) (f : Filed n first fs) (same : lengt
   rows-pairs (suc k) m e =
       let h : m < n = omega arith in
       let rise : getD first m 0 ≤ getD first (m + 1) 0 = firsts-order n (length fs) first (f .sound) m h in
-      let rest : joined (λ u. eachLine letterE u (rowOf first ts u)) (m + 1) k ≡ pairText (drop (getD first (m + 1) 0) fs) (drop (getD first (m + 1) 0) ts) = rows-pairs k (m + 1) (omega arith) in
+      let rest : concatFrom (λ u. eachLine letterE u (rowOf first ts u)) (m + 1) k ≡ pairText (drop (getD first (m + 1) 0) fs) (drop (getD first (m + 1) 0) ts) = rows-pairs k (m + 1) (omega arith) in
       rw (← add-one m, rest)
       (sym (pairs-row m (getD first (m + 1) 0 - getD first m 0) (getD first m 0) (getD first (m + 1) 0) fs ts (omega arith)
       (firsts-most n (length fs) first (f .sound) (m + 1) (omega arith)) same (λ p from to. f .key-is m p h from to)))
@@ -91,8 +91,8 @@ pairs-rows n froms targets k same = sym (filed-text n (firstPlaces n froms) from
 line-read : (n c lf lt : ℕ) (bs vs rest : List ℕ) → edgeLine n c lf lt bs ≡ values vs rest → LineRead letterE 2 (edgeWithin n) (edgeOrdered c lf lt) bs (getD vs 0 0 ∷ getD vs 1 0 ∷ []) rest
 unfolding edgeLine
 line-read n c lf lt bs vs rest e =
-    let told = judged-line (edgeWithin n) (edgeOrdered c lf lt) letterE 2 bs vs rest e in
-    subst (λ (us : List ℕ). LineRead letterE 2 (edgeWithin n) (edgeOrdered c lf lt) bs us rest) (two-of vs (told .long)) told
+    let answered = judged-line (edgeWithin n) (edgeOrdered c lf lt) letterE 2 bs vs rest e in
+    subst (λ (us : List ℕ). LineRead letterE 2 (edgeWithin n) (edgeOrdered c lf lt) bs us rest) (two-of vs (answered .long)) answered
 
 line-again : (n c lf lt f t : ℕ) (rest : List ℕ) → n ≤ 4096 → Edge n f t → rises c lf lt f t ≡ true → edgeLine n c lf lt (printLine letterE (f ∷ t ∷ []) ++ rest) ≡ values (f ∷ t ∷ []) rest
 unfolding edgeLine every
@@ -169,7 +169,7 @@ pairs-again n few (f ∷ fs) (t ∷ ts) l at rest r =
 
 -- ---- all edges
 
-rising-read : (n k : ℕ) (fs ts : List ℕ) (bs rest : List ℕ) → Rising n 0 0 0 fs ts → length ts ≡ k → bs ≡ pairText fs ts ++ rest → EdgesTold n k (edgeLists fs ts) bs rest
+rising-read : (n k : ℕ) (fs ts : List ℕ) (bs rest : List ℕ) → Rising n 0 0 0 fs ts → length ts ≡ k → bs ≡ pairText fs ts ++ rest → EdgesGiven n k (edgeLists fs ts) bs rest
 rising-read n k fs ts bs rest r long text =
     let keys : Keys n fs = rising-keys n 0 0 0 fs ts r in
     let filed : Filed n (firstPlaces n fs) fs = places-filed n fs keys in
@@ -181,7 +181,7 @@ rising-read n k fs ts bs rest r long text =
       text-is = text ∙ ap (λ (b : List ℕ). b ++ rest) (pairs-rows n fs ts keys (r .same));
     }
 
-pub edges-read : (n k : ℕ) (l' : EdgeLists) (at at' : ℕ) (bs rest : List ℕ) → edgeLines n k (edgeLists [] []) at bs ≡ part l' at' rest → EdgesTold n k l' bs rest
+pub edges-read : (n k : ℕ) (l' : EdgeLists) (at at' : ℕ) (bs rest : List ℕ) → edgeLines n k (edgeLists [] []) at bs ≡ part l' at' rest → EdgesGiven n k l' bs rest
 edges-read n k l' at at' bs rest e =
     let r = pairs-read n k (edgeLists [] []) l' at at' bs rest e in
     rw (r .lists-are) (rising-read n k (r .froms-more) (r .targets-more) bs rest (r .rising) (r .long) (r .text))

@@ -20,7 +20,7 @@ use Rattle.text.specs.Lines.{letterF, letterN, begins, printLine}
 use Rattle.text.specs.JobText.{between, headWithin, headLine, part, andThen, Counts, termsPart, countsOf, headPart}
 use Rattle.text.specs.Printed.{Form, termsText, Allowed}
 use Rattle.text.proofs.PrintLaws.{LineRead, judged-line, line-judged, onward-part, then-part, four-of}
-use Rattle.text.proofs.OptionalTextLaws.{TermsTold, terms-read, linesAfter, terms-printed}
+use Rattle.text.proofs.OptionalTextLaws.{TermsGiven, terms-read, linesAfter, terms-printed}
 
 -- the bounds of the three counts, of the limit, of the tuning, of the rule and of its k
 pub record HeadBounds (c : Counts) : Type 0 where
@@ -70,15 +70,15 @@ bounds-hold vs t e same s r =
     }
 
 -- the bytes are those of the counts' F line, and of the lines after it that are written
-pub record HeadTold (c : Counts) (bs rest : List ℕ) : Type 0 where
+pub record HeadGiven (c : Counts) (bs rest : List ℕ) : Type 0 where
   pub bounds : HeadBounds c
   pub form : Form
   pub allowed : Allowed form (c .terms)
   pub text : bs ≡ printLine letterF (c .nodes ∷ c .edges ∷ c .nets ∷ c .terms .limit ∷ []) ++ (termsText form (c .terms) ++ rest)
 
-lines-told :
-    (bs vs mid rest : List ℕ) (t : Terms) → LineRead letterF 4 headWithin (λ vs. true) bs vs mid → TermsTold (getD vs 3 0) mid t rest → HeadTold (countsOf vs t) bs rest
-lines-told bs vs mid rest t head asked =
+lines-given :
+    (bs vs mid rest : List ℕ) (t : Terms) → LineRead letterF 4 headWithin (λ vs. true) bs vs mid → TermsGiven (getD vs 3 0) mid t rest → HeadGiven (countsOf vs t) bs rest
+lines-given bs vs mid rest t head asked =
     record {
       bounds = bounds-hold vs t (head .bounds) (asked .limit-is) (asked .tuned) (asked .ruled);
       form = asked .form;
@@ -88,10 +88,10 @@ lines-told bs vs mid rest t head asked =
           ∙ rw (← asked .limit-is) (ap (λ (us : List ℕ). printLine letterF (getD vs 0 0 ∷ getD vs 1 0 ∷ getD vs 2 0 ∷ t .limit ∷ []) ++ us) (asked .text));
     }
 
-told-moved : (c d : Counts) (bs mid rest : List ℕ) → c ≡ d → mid ≡ rest → HeadTold c bs mid → HeadTold d bs rest
-told-moved c d bs mid rest same follow told = rw (same, follow) at told
+given-moved : (c d : Counts) (bs mid rest : List ℕ) → c ≡ d → mid ≡ rest → HeadGiven c bs mid → HeadGiven d bs rest
+given-moved c d bs mid rest same follow answered = rw (same, follow) at answered
 
-pub head-read : (bs : List ℕ) (c : Counts) (at : ℕ) (rest : List ℕ) → headPart bs ≡ part c at rest → HeadTold c bs rest
+pub head-read : (bs : List ℕ) (c : Counts) (at : ℕ) (rest : List ℕ) → headPart bs ≡ part c at rest → HeadGiven c bs rest
 unfolding headPart headLine
 head-read bs c at rest e =
     let r = onward-part (headLine bs) 1 (λ vs rest. andThen (termsPart (getD vs 3 0) 2 rest) (λ t at more. part (countsOf vs t) at more)) c at rest e in
@@ -104,7 +104,7 @@ head-read bs c at rest e =
     let made : part (countsOf vs t) (asked .1) more ≡ part c at rest = asked .4 in
     let same : countsOf vs t ≡ c = cc in
     let follow : more ≡ rest = cc in
-    told-moved (countsOf vs t) c bs more rest same follow (lines-told bs vs mid more t head (terms-read (getD vs 3 0) 2 (asked .1) mid more t (asked .3)))
+    given-moved (countsOf vs t) c bs more rest same follow (lines-given bs vs mid more t head (terms-read (getD vs 3 0) 2 (asked .1) mid more t (asked .3)))
 
 -- ---- from printing
 

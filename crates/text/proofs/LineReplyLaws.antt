@@ -12,7 +12,7 @@ use Rattle.text.specs.Decimal.{decimal}
 use Rattle.text.specs.Lines.{lf, comma, printFields, printLine}
 use Rattle.text.specs.Routes.{capped}
 use Rattle.text.specs.WriteSteps.{placed, Put}
-use Rattle.text.specs.LineReplies.{PlaceReply, placeTold, lineReply}
+use Rattle.text.specs.LineReplies.{PlaceReply, placeReplyOf, lineReply}
 use Rattle.text.proofs.PlacedLaws.{put-room, put-length, put-field-then}
 
 -- what is left of the line from a field on
@@ -93,12 +93,12 @@ filling-end {vs} {k = k} f l = omega (arith, f .room, ap length (tail-none vs k 
 
 module _ (letter : ℕ) (vs : List ℕ) (at : ℕ) (buffer : List ℕ) where
   -- nothing is written
-  pub line-short : length buffer < at + length (printLine letter vs) → placeTold at buffer ≡ lineReply letter vs at buffer
+  pub line-short : length buffer < at + length (printLine letter vs) → placeReplyOf at buffer ≡ lineReply letter vs at buffer
   unfolding lineReply
   line-short l = rw (lt-leb (at + length (printLine letter vs)) (length buffer) l)
 
   -- the line stands
-  pub line-stands : {next : ℕ} {after : List ℕ} → at + length (printLine letter vs) ≤ length buffer → Put at (printLine letter vs) buffer after next → placeTold next after ≡ lineReply letter vs at buffer
+  pub line-stands : {next : ℕ} {after : List ℕ} → at + length (printLine letter vs) ≤ length buffer → Put at (printLine letter vs) buffer after next → placeReplyOf next after ≡ lineReply letter vs at buffer
   unfolding lineReply
   line-stands fits p = rw (le-leb (at + length (printLine letter vs)) (length buffer) fits, p .next-is, p .written)
 
@@ -109,10 +109,10 @@ line-size letter vs = omega arith
 
 -- what a caller knows whose buffer has room for the line
 pub line-put :
-    (letter : ℕ) (vs : List ℕ) {at next : ℕ} {buffer after : List ℕ} → placeTold next after ≡ lineReply letter vs at buffer → at + length (printLine letter vs) ≤ length buffer
+    (letter : ℕ) (vs : List ℕ) {at next : ℕ} {buffer after : List ℕ} → placeReplyOf next after ≡ lineReply letter vs at buffer → at + length (printLine letter vs) ≤ length buffer
     → Put at (printLine letter vs) buffer after next
 unfolding lineReply
 line-put letter vs {at} {next} {buffer} {after} e fits =
-    let told : placeTold next after ≡ placeTold (at + length (printLine letter vs)) (placed at (printLine letter vs) buffer) =
+    let answered : placeReplyOf next after ≡ placeReplyOf (at + length (printLine letter vs)) (placed at (printLine letter vs) buffer) =
     e ∙ rw (le-leb (at + length (printLine letter vs)) (length buffer) fits) in
-    record { written = ap (λ (p : PlaceReply). p .buffer) told; next-is = ap (λ (p : PlaceReply). p .next) told }
+    record { written = ap (λ (p : PlaceReply). p .buffer) answered; next-is = ap (λ (p : PlaceReply). p .next) answered }

@@ -204,10 +204,10 @@ module _ (stamp : ℕ) (seen : List ℕ) where
 pub sink-few : (kinds : List ℕ) (n nets i : ℕ) (pins : List ℕ) (count : ℕ) (bs : List ℕ) {vs rest : List ℕ} → ofKind sinkKind kinds (sinkLine n nets i pins count bs) ≡ values vs rest → count < sinksMost
 unfolding sinkLine sinkOrdered
 sink-few kinds n nets i pins count bs {vs} {rest} e =
-    let told = judged-values (pinWithin n nets) (sinkOrdered i pins count) (line letterT 2 bs) vs rest (of-values sinkKind kinds (sinkLine n nets i pins count bs) vs rest e .0) in
+    let answered = judged-values (pinWithin n nets) (sinkOrdered i pins count) (line letterT 2 bs) vs rest (of-values sinkKind kinds (sinkLine n nets i pins count bs) vs rest e .0) in
     ltb-true count sinksMost
     (both-right (not (has (getD vs 1 0) pins)) (ltb count sinksMost)
-    (both-right (eqb (getD vs 0 0) i) (both (not (has (getD vs 1 0) pins)) (ltb count sinksMost)) (told .order)))
+    (both-right (eqb (getD vs 0 0) i) (both (not (has (getD vs 1 0) pins)) (ltb count sinksMost)) (answered .order)))
 
 module _ (i : ℕ) (text : List ℕ) {p : PinLine} {r : Reading (List ℕ)} (e : pinAt i text p ≡ r) where
   pub pin-reading : {node next : ℕ} → p ≡ pl.Pin node next → r ≡ values (i ∷ node ∷ []) (drop next text)

@@ -23,7 +23,7 @@ use Rattle.job.proofs.JobLaws.{sources-some, sources-few, source-below, firsts-
 use Rattle.job.proofs.MarkLaws.{below-at, slice-parts}
 use Rattle.text.specs.Lines.{letterS, letterT, taken, line, printLine}
 use Rattle.text.specs.JobText.{values, lastOf, pinWithin, sourceLine, sinkOrdered, sinkLine, part, NetLists, netLists, sinksNow, sourceDue, sinkDue, complete, netEnd, withSource, withSink, nextSource, nextSink, netLine, netLines}
-use Rattle.text.specs.Printed.{joined, eachLine}
+use Rattle.text.specs.Printed.{concatFrom, eachLine}
 use Rattle.text.proofs.NetTextLaws.{netAt, ends, net-new}
 use Rattle.text.proofs.NetReadLaws.{now-is}
 use Rattle.text.proofs.PrintLaws.{line-printed}
@@ -76,7 +76,7 @@ line-longer letter vs rest = rw length-append (omega arith)
 pub record TablesPrinted (k : ℕ) (kinds : List ℕ) (n at : ℕ) (ss fs ts : List ℕ) : Type 0 where
   pub after : ℕ
   pub reads :
-      netLines k kinds n (length ss) (netLists [] [] []) at (joined (netAt ss fs ts) 0 (length ss))
+      netLines k kinds n (length ss) (netLists [] [] []) at (concatFrom (netAt ss fs ts) 0 (length ss))
       ≡ part (netLists ss (take (length ss) fs) ts) after []
   pub firsts : ends (take (length ss) fs) ts ≡ fs
 
@@ -86,7 +86,7 @@ abbrev listsAt : List ℕ → List ℕ → List ℕ → ℕ → ℕ → NetLists
 listsAt ss fs ts m p = netLists (take m ss) (take m fs) (take p ts)
 
 abbrev textAt : List ℕ → List ℕ → List ℕ → ℕ → ℕ → List ℕ
-textAt ss fs ts m p = eachLine letterT (m - 1) (slice p (getD fs m 0) ts) ++ joined (netAt ss fs ts) m (length ss - m)
+textAt ss fs ts m p = eachLine letterT (m - 1) (slice p (getD fs m 0) ts) ++ concatFrom (netAt ss fs ts) m (length ss - m)
 
 -- where the reader may stand: in the last of m nets, or before the first
 record Stand (ss fs : List ℕ) (m p : ℕ) : Type 0 where
@@ -175,7 +175,7 @@ module _
           stand = record { few = few; least = λ k h. let same : k ≡ i = omega arith in rw same (omega arith); most = omega arith };
           text =
               rw (slice-cons p (getD fs m 0) ts 0 below within, place)
-              (append-assoc (printLine letterT (i ∷ getD ts p 0 ∷ [])) (eachLine letterT i (slice (suc p) (getD fs m 0) ts)) (joined (netAt ss fs ts) m (length ss - m)));
+              (append-assoc (printLine letterT (i ∷ getD ts p 0 ∷ [])) (eachLine letterT i (slice (suc p) (getD fs m 0) ts)) (concatFrom (netAt ss fs ts) m (length ss - m)));
           reads =
               sink-read kinds n (length ss) (listsAt ss fs ts m p) nodes-few nets-few i (getD ts p 0) (textAt ss fs ts m (suc p))
               (length-take-le m ss few ∙ sym last) (omega arith) node (pin-at sinkKind kinds ts sink-pins p (omega arith))
@@ -199,7 +199,7 @@ module _
 
   -- all its sinks are read, and a net is left
   source-next : (m : ℕ) → m < length ss → Next kinds n ss fs ts m (getD fs m 0)
-  unfolding eachLine joined
+  unfolding eachLine concatFrom
   source-next m h =
       let l : length fs ≡ length ss + 1 = long in
       let within : getD fs m 0 ≤ length ts = inside m (omega arith) in
@@ -214,8 +214,8 @@ module _
         stand = record { few = omega arith; least = λ k e. let same : k ≡ m = omega arith in rw same (omega arith); most = omega arith };
         text =
             rw (slice-empty (getD fs m 0) ts, one, back)
-            (append-assoc (printLine letterS (m ∷ getD ss m 0 ∷ [])) (eachLine letterT m (sinksBetween fs ts m)) (joined (netAt ss fs ts) (suc m) (length ss - (m + 1)))
-            ∙ ap (λ (k : ℕ). printLine letterS (m ∷ getD ss m 0 ∷ []) ++ (eachLine letterT m (sinksBetween fs ts m) ++ joined (netAt ss fs ts) k (length ss - (m + 1)))) (sym (add-one m)));
+            (append-assoc (printLine letterS (m ∷ getD ss m 0 ∷ [])) (eachLine letterT m (sinksBetween fs ts m)) (concatFrom (netAt ss fs ts) (suc m) (length ss - (m + 1)))
+            ∙ ap (λ (k : ℕ). printLine letterS (m ∷ getD ss m 0 ∷ []) ++ (eachLine letterT m (sinksBetween fs ts m) ++ concatFrom (netAt ss fs ts) k (length ss - (m + 1)))) (sym (add-one m)));
         reads =
             source-read kinds n (length ss) (listsAt ss fs ts m (getD fs m 0)) nodes-few nets-few m (getD ss m 0) (textAt ss fs ts (m + 1) (getD fs m 0))
             (length-take-le m ss (omega arith)) h (source-below n ss sources-sound m h) (pin-at sourceKind kinds ss source-pins m h) (source-due m h)
@@ -224,7 +224,7 @@ module _
 
   -- all nets are read
   net-last : Last ss fs ts (length ss) (getD fs (length ss) 0)
-  unfolding complete eachLine joined
+  unfolding complete eachLine concatFrom
   net-last =
       let end : getD fs (length ss) 0 ≡ length ts = firsts-end (length ss) (length ts) fs firsts-sound in
       let some : 1 ≤ length ss = sources-some n ss sources-sound in
@@ -288,12 +288,12 @@ module _
       (λ (r : Last ss fs ts m p). (at, last-end (suc k) m p at r))
       (line-left m p st)
 
-  pub nets-printed : (k at : ℕ) → length (joined (netAt ss fs ts) 0 (length ss)) ≤ k → TablesPrinted k kinds n at ss fs ts
+  pub nets-printed : (k at : ℕ) → length (concatFrom (netAt ss fs ts) 0 (length ss)) ≤ k → TablesPrinted k kinds n at ss fs ts
   unfolding eachLine
   nets-printed k at short =
       let l : length fs ≡ length ss + 1 = long in
       let all : length ss - 0 ≡ length ss = omega arith in
-      let text : textAt ss fs ts 0 0 ≡ joined (netAt ss fs ts) 0 (length ss) = rw (begin, all) in
+      let text : textAt ss fs ts 0 0 ≡ concatFrom (netAt ss fs ts) 0 (length ss) = rw (begin, all) in
       let stand : Stand ss fs 0 0 = record { few = omega arith; least = λ i e. absurd (omega arith); most = omega arith } in
       let r = read-on k 0 0 at stand (rw text short) in
       record {

@@ -19,7 +19,7 @@ use Rattle.text.specs.Lines.{letterS, letterT, printLine}
 use Rattle.text.specs.JobText.{Reading, values, refused, lastOf, pinWithin, sourceLine, sinkOrdered, sinkLine, part, stopped, NetLists}
 use Rattle.text.specs.JobText.{netLists, sinksNow, sourceDue, sinkDue, complete, netEnd, withSource, withSink, nextSource, nextSink, taking}
 use Rattle.text.specs.JobText.{netLine, netLines}
-use Rattle.text.specs.Printed.{joined}
+use Rattle.text.specs.Printed.{concatFrom}
 use Rattle.text.proofs.LastLaws.{every-more}
 use Rattle.text.proofs.NetLineLaws.{of-values}
 use Rattle.text.proofs.NetTextLaws.{netAt, ends, Good, written, good-none, with-source, source-text, with-sink, sink-text, good-firsts}
@@ -230,12 +230,12 @@ pub record TablesRead (kinds : List ℕ) (n nets : ℕ) (l : NetLists) (bs rest 
   pub firstSinks-sound : firstSinksSound nets (length (l .sinks)) (ends (l .firstSinks) (l .sinks)) ≡ true
   pub sinks-sound : sinksSound n (l .sources) (ends (l .firstSinks) (l .sinks)) (l .sinks) ≡ true
   pub sink-pins : sinkPins kinds (l .sinks) ≡ true
-  pub text : bs ≡ joined (netAt (l .sources) (ends (l .firstSinks) (l .sinks)) (l .sinks)) 0 nets
+  pub text : bs ≡ concatFrom (netAt (l .sources) (ends (l .firstSinks) (l .sinks)) (l .sinks)) 0 nets
 
 pub nets-read :
     (k : ℕ) (kinds : List ℕ) (n nets : ℕ) (l : NetLists) (at at2 : ℕ) (bs rest : List ℕ) → 1 ≤ nets → nets ≤ netsMost
     → netLines k kinds n nets (netLists [] [] []) at bs ≡ part l at2 rest → TablesRead kinds n nets l bs rest
-unfolding joined
+unfolding concatFrom
 nets-read k kinds n nets l at at2 bs rest some few e =
     let r = nets-on kinds n nets k 0 (netLists [] [] []) l at at2 bs rest (good-none n nets) (pinned-none kinds) e in
     let g : Good n nets nets (l .sources) (l .firstSinks) (l .sinks) = r .good in

@@ -26,7 +26,7 @@ use Rattle.job.specs.Tables.{firstSinksSound, netSound}
 use Rattle.job.proofs.NetTableLaws.{firsts-last}
 use Rattle.negotiation.proofs.MemberLaws.{lacks-append, distinct-append}
 use Rattle.text.specs.Lines.{letterS, letterT, printLine}
-use Rattle.text.specs.Printed.{joined, eachLine}
+use Rattle.text.specs.Printed.{concatFrom, eachLine}
 use Rattle.text.proofs.LastLaws.{every-more}
 
 -- ---- texts
@@ -40,19 +40,19 @@ abbrev pub ends : List ℕ → List ℕ → List ℕ
 ends fs ts = fs ++ (length ts ∷ [])
 
 -- one text more, and texts that agree
-pub joined-last : (f : ℕ → List ℕ) (a k j : ℕ) → a + k ≡ j → joined f a (suc k) ≡ joined f a k ++ f j
-unfolding joined
-joined-last f a zero j e =
+pub concat-last : (f : ℕ → List ℕ) (a k j : ℕ) → a + k ≡ j → concatFrom f a (suc k) ≡ concatFrom f a k ++ f j
+unfolding concatFrom
+concat-last f a zero j e =
     let here : a ≡ j = omega arith in
     append-nil (f a) ∙ ap f here
-joined-last f a (suc k) j e =
-    rw (joined-last f (suc a) k j (omega arith)) (sym (append-assoc (f a) (joined f (suc a) k) (f j)))
+concat-last f a (suc k) j e =
+    rw (concat-last f (suc a) k j (omega arith)) (sym (append-assoc (f a) (concatFrom f (suc a) k) (f j)))
 
-pub joined-same : (f g : ℕ → List ℕ) (a k j : ℕ) → a + k ≡ j → ((i : ℕ) → i < j → f i ≡ g i) → joined f a k ≡ joined g a k
-unfolding joined
-joined-same f g a zero j e same = refl
-joined-same f g a (suc k) j e same =
-    rw (same a (omega arith), joined-same f g (suc a) k j (omega arith) same)
+pub concat-same : (f g : ℕ → List ℕ) (a k j : ℕ) → a + k ≡ j → ((i : ℕ) → i < j → f i ≡ g i) → concatFrom f a k ≡ concatFrom g a k
+unfolding concatFrom
+concat-same f g a zero j e same = refl
+concat-same f g a (suc k) j e same =
+    rw (same a (omega arith), concat-same f g (suc a) k j (omega arith) same)
 
 pub eachLine-last : (letter i : ℕ) (xs : List ℕ) (t : ℕ) → eachLine letter i (xs ++ (t ∷ [])) ≡ eachLine letter i xs ++ printLine letter (i ∷ t ∷ [])
 unfolding eachLine
@@ -143,7 +143,7 @@ pub record Good (n nets m : ℕ) (ss fs ts : List ℕ) : Type 0 where
 
 -- their text
 abbrev pub written : ℕ → List ℕ → List ℕ → List ℕ → List ℕ
-written m ss fs ts = joined (netAt ss (ends fs ts) ts) 0 m
+written m ss fs ts = concatFrom (netAt ss (ends fs ts) ts) 0 m
 
 pub good-none : (n nets : ℕ) → Good n nets 0 [] [] []
 good-none n nets =
@@ -207,10 +207,10 @@ module _ {n nets m : ℕ} {ss fs ts : List ℕ} (g : Good n nets m ss fs ts) whe
     unfolding eachLine
     source-text =
         rw add-one
-        (joined-last (netAt (ss ++ (s ∷ [])) (ends (ends fs ts) ts) ts) 0 m m (omega arith)
+        (concat-last (netAt (ss ++ (s ∷ [])) (ends (ends fs ts) ts) ts) 0 m m (omega arith)
         ∙ rw (source-here, sinks-here, append-nil (printLine letterS (m ∷ s ∷ [])))
         (ap (λ (r : List ℕ). r ++ printLine letterS (m ∷ s ∷ []))
-        (joined-same (netAt (ss ++ (s ∷ [])) (ends (ends fs ts) ts) ts) (netAt ss (ends fs ts) ts) 0 m m (omega arith)
+        (concat-same (netAt (ss ++ (s ∷ [])) (ends (ends fs ts) ts) ts) (netAt ss (ends fs ts) ts) 0 m m (omega arith)
         (λ i h. rw (source-at i h, sinks-at i h)))))
 
   -- the next sink of the last net
@@ -255,10 +255,10 @@ module _ {n nets m : ℕ} {ss fs ts : List ℕ} (g : Good n nets m ss fs ts) whe
     pub sink-text : written m ss fs (ts ++ (t ∷ [])) ≡ written m ss fs ts ++ printLine letterT (i ∷ t ∷ [])
     sink-text =
         rw (← last, add-one)
-        (joined-last (netAt ss (ends fs (ts ++ (t ∷ []))) (ts ++ (t ∷ []))) 0 i i (omega arith)
+        (concat-last (netAt ss (ends fs (ts ++ (t ∷ []))) (ts ++ (t ∷ []))) 0 i i (omega arith)
         ∙ rw (sinks-grown, eachLine-last letterT i (sinksBetween (ends fs ts) ts i) t)
-        (rw (joined-same (netAt ss (ends fs (ts ++ (t ∷ []))) (ts ++ (t ∷ []))) (netAt ss (ends fs ts) ts) 0 i i (omega arith) (λ k h. rw (sinks-kept k h)))
-        (rw (joined-last (netAt ss (ends fs ts) ts) 0 i i (omega arith)) (simp append-assoc))))
+        (rw (concat-same (netAt ss (ends fs (ts ++ (t ∷ []))) (ts ++ (t ∷ []))) (netAt ss (ends fs ts) ts) 0 i i (omega arith) (λ k h. rw (sinks-kept k h)))
+        (rw (concat-last (netAt ss (ends fs ts) ts) 0 i i (omega arith)) (simp append-assoc))))
 
 -- the end of the last net is above its begin
 pub good-firsts : (n nets : ℕ) (ss fs ts : List ℕ) → Good n nets nets ss fs ts → ((i : ℕ) → i + 1 ≡ nets → getD fs i 0 < length ts) → firstSinksSound nets (length ts) (ends fs ts) ≡ true

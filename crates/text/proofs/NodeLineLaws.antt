@@ -105,7 +105,7 @@ module _ {text : List ℕ} {from first nodes : ℕ} {kinds₀ capacities₀ kind
     pub nodes-more :
         {r : NodeLine} {k c next : ℕ} → r ≡ nl.Node k c next → nodeAt v text r ≡ nodeLine nodes v (drop at text) → NodePlace at text r
         → NodesRead text from first nodes kinds₀ capacities₀ (set kinds v k) (set capacities v c) next (line + 1) (v + 1)
-    nodes-more {r} {k} {c} {next} e told p =
+    nodes-more {r} {k} {c} {next} e answered p =
         let place : After (at + 1) text next = subst (λ (x : NodeLine). NodePlace at text x) e p in
         record {
           read = omega arith;
@@ -116,12 +116,12 @@ module _ {text : List ℕ} {from first nodes : ℕ} {kinds₀ capacities₀ kind
           rest-is =
               s .rest-is
               ∙ rw (left, add-one v, take-suc-set kinds v k (omega (arith, s .kinds-same, room .0)), take-suc-set capacities v c (omega (arith, s .capacities-same, room .1)))
-              (node-step nodes (nodes - suc v) v line (take v kinds) (take v capacities) (drop at text) kinds-read (sym (ap (nodeAt v text) e) ∙ told));
+              (node-step nodes (nodes - suc v) v line (take v kinds) (take v capacities) (drop at text) kinds-read (sym (ap (nodeAt v text) e) ∙ answered));
         }
 
     pub nodes-stop : {r : NodeLine} {m : ℕ} → r ≡ nl.Refused m → nodeAt v text r ≡ nodeLine nodes v (drop at text) → stopped m line ≡ nodeLines nodes nodes (nodeLists [] []) first (drop from text)
-    nodes-stop e told =
-        sym (s .rest-is ∙ rw left (node-stop nodes (nodes - (v + 1)) v line (take v kinds) (take v capacities) (drop at text) kinds-read (sym (ap (nodeAt v text) e) ∙ told)))
+    nodes-stop e answered =
+        sym (s .rest-is ∙ rw left (node-stop nodes (nodes - (v + 1)) v line (take v kinds) (take v capacities) (drop at text) kinds-read (sym (ap (nodeAt v text) e) ∙ answered)))
 
   pub nodes-end : nodes ≤ v → part (nodeLists (take nodes kinds) (take nodes capacities)) line (drop at text) ≡ nodeLines nodes nodes (nodeLists [] []) first (drop from text)
   unfolding nodeLines

@@ -19,7 +19,7 @@ use Rattle.search.specs.Tables.{kindsSound, capacitiesSound}
 use Rattle.search.proofs.BlockLaws.{kinds-few, capacities-long}
 use Rattle.text.specs.Lines.{letterN, printLine}
 use Rattle.text.specs.JobText.{values, nodeWithin, nodeLine, part, NodeLists, nodeLists, nodeLines}
-use Rattle.text.specs.Printed.{joined}
+use Rattle.text.specs.Printed.{concatFrom}
 use Rattle.text.proofs.LastLaws.{every-more}
 use Rattle.text.proofs.PrintLaws.{LineRead, judged-line, line-judged, onward-part}
 
@@ -36,14 +36,14 @@ capacityWithin c = both (leb 1 c) (leb c capacityMost)
 -- ---- from reading
 
 -- what k node lines tell that are read after the lists `before`, and make them `after`
-pub record NodesTold (n k : ℕ) (before after : NodeLists) (bs rest : List ℕ) : Type 0 where
+pub record NodesGiven (n k : ℕ) (before after : NodeLists) (bs rest : List ℕ) : Type 0 where
   pub kinds-long : length (after .kinds) ≡ n
   pub capacities-long : length (after .capacities) ≡ n
   pub kinds-within : every (λ k. leb k kindMost) (after .kinds) ≡ true
   pub capacities-within : every (λ c. both (leb 1 c) (leb c capacityMost)) (after .capacities) ≡ true
   pub kinds-kept : (i : ℕ) → i < length (before .kinds) → getD (after .kinds) i 0 ≡ getD (before .kinds) i 0
   pub capacities-kept : (i : ℕ) → i < length (before .capacities) → getD (after .capacities) i 0 ≡ getD (before .capacities) i 0
-  pub text : bs ≡ joined (nodePrinted (after .kinds) (after .capacities)) (length (before .kinds)) k ++ rest
+  pub text : bs ≡ concatFrom (nodePrinted (after .kinds) (after .capacities)) (length (before .kinds)) k ++ rest
 
 three : (vs : List ℕ) → length vs ≡ 3 → vs ≡ getD vs 0 0 ∷ getD vs 1 0 ∷ getD vs 2 0 ∷ []
 three [] e = absurd (omega arith)
@@ -66,10 +66,10 @@ capacity-passes n vs e =
     (both-right (ltb (getD vs 0 0) n) (both (kindWithin (getD vs 1 0)) (capacityWithin (getD vs 2 0))) e)
 
 -- one line more in front
-joined-more : (f : ℕ → List ℕ) (m m′ k : ℕ) (bs first mid rest : List ℕ) → bs ≡ first ++ mid → first ≡ f m → m′ ≡ suc m → mid ≡ joined f m′ k ++ rest → bs ≡ joined f m (suc k) ++ rest
-unfolding joined
-joined-more f m m′ k bs first mid rest whole here next others =
-    whole ∙ rw (here, others, next) (sym (append-assoc (f m) (joined f (suc m) k) rest))
+concat-more : (f : ℕ → List ℕ) (m m′ k : ℕ) (bs first mid rest : List ℕ) → bs ≡ first ++ mid → first ≡ f m → m′ ≡ suc m → mid ≡ concatFrom f m′ k ++ rest → bs ≡ concatFrom f m (suc k) ++ rest
+unfolding concatFrom
+concat-more f m m′ k bs first mid rest whole here next others =
+    whole ∙ rw (here, others, next) (sym (append-assoc (f m) (concatFrom f (suc m) k) rest))
 
 -- the lists after one line
 abbrev withNode : NodeLists → List ℕ → NodeLists
@@ -86,17 +86,17 @@ nodes-step :
     (n k : ℕ) (l l′ : NodeLists) (bs vs mid rest : List ℕ)
     → length (l .capacities) ≡ length (l .kinds)
     → LineRead letterN 3 (nodeWithin n) (λ vs. eqb (getD vs 0 0) (length (l .kinds))) bs vs mid
-    → NodesTold n k (withNode l vs) l′ mid rest
-    → NodesTold n (suc k) l l′ bs rest
-nodes-step n k l l′ bs vs mid rest even told r =
+    → NodesGiven n k (withNode l vs) l′ mid rest
+    → NodesGiven n (suc k) l l′ bs rest
+nodes-step n k l l′ bs vs mid rest even answered r =
     let m : ℕ = length (l .kinds) in
     let x : ℕ = getD vs 1 0 in
     let y : ℕ = getD vs 2 0 in
-    let due : getD vs 0 0 ≡ m = eqb-true (getD vs 0 0) m (told .order) in
+    let due : getD vs 0 0 ≡ m = eqb-true (getD vs 0 0) m (answered .order) in
     let kind : getD (l′ .kinds) m 0 ≡ x = kept-last (l .kinds) (l′ .kinds) x m refl (r .kinds-kept) in
     let capacity : getD (l′ .capacities) m 0 ≡ y = kept-last (l .capacities) (l′ .capacities) y m even (r .capacities-kept) in
     let here : printLine letterN vs ≡ nodePrinted (l′ .kinds) (l′ .capacities) m =
-    ap (printLine letterN) (three vs (told .long) ∙ cc) in
+    ap (printLine letterN) (three vs (answered .long) ∙ cc) in
     record {
       kinds-long = r .kinds-long;
       capacities-long = r .capacities-long;
@@ -105,7 +105,7 @@ nodes-step n k l l′ bs vs mid rest even told r =
       kinds-kept = kept-more (l .kinds) (l′ .kinds) x (r .kinds-kept);
       capacities-kept = kept-more (l .capacities) (l′ .capacities) y (r .capacities-kept);
       text =
-          joined-more (nodePrinted (l′ .kinds) (l′ .capacities)) m (length (l .kinds ++ (x ∷ []))) k bs (printLine letterN vs) mid rest (told .text) here
+          concat-more (nodePrinted (l′ .kinds) (l′ .capacities)) m (length (l .kinds ++ (x ∷ []))) k bs (printLine letterN vs) mid rest (answered .text) here
           (length-append (l .kinds) (x ∷ []) ∙ add-one m) (r .text);
     }
 
@@ -114,12 +114,12 @@ nodes-from :
     → nodeLines n k l at bs ≡ part l′ at′ rest
     → length (l .capacities) ≡ length (l .kinds) → length (l .kinds) + k ≡ n
     → every (λ k. leb k kindMost) (l .kinds) ≡ true → every (λ c. both (leb 1 c) (leb c capacityMost)) (l .capacities) ≡ true
-    → NodesTold n k l l′ bs rest
-unfolding nodeLines nodeLine joined
+    → NodesGiven n k l l′ bs rest
+unfolding nodeLines nodeLine concatFrom
 nodes-from n zero l l′ at at′ bs rest e even all ks cs =
     let same : l ≡ l′ = cc in
     let follow : bs ≡ rest = cc in
-    subst (λ (f : NodeLists). NodesTold n zero l f bs rest) same
+    subst (λ (f : NodeLists). NodesGiven n zero l f bs rest) same
     (record {
       kinds-long = omega arith;
       capacities-long = omega arith;
@@ -134,20 +134,20 @@ nodes-from n (suc k) l l′ at at′ bs rest e even all ks cs =
     let r = onward-part (nodeLine n m bs) at (λ vs rest. nodeLines n k (withNode l vs) (at + 1) rest) l′ at′ rest e in
     let vs : List ℕ = r .0 in
     let mid : List ℕ = r .1 in
-    let told : LineRead letterN 3 (nodeWithin n) (λ vs. eqb (getD vs 0 0) m) bs vs mid =
+    let answered : LineRead letterN 3 (nodeWithin n) (λ vs. eqb (getD vs 0 0) m) bs vs mid =
     judged-line (nodeWithin n) (λ vs. eqb (getD vs 0 0) m) letterN 3 bs vs mid (r .2) in
     let long : length (l .kinds ++ (getD vs 1 0 ∷ [])) ≡ length (l .kinds) + 1 = length-append (l .kinds) (getD vs 1 0 ∷ []) in
     let long′ : length (l .capacities ++ (getD vs 2 0 ∷ [])) ≡ length (l .capacities) + 1 = length-append (l .capacities) (getD vs 2 0 ∷ []) in
-    nodes-step n k l l′ bs vs mid rest even told
+    nodes-step n k l l′ bs vs mid rest even answered
     (nodes-from n k (withNode l vs) l′ (at + 1) at′ mid rest (r .3) (omega arith) (omega arith)
-    (every-more kindWithin (l .kinds) (getD vs 1 0) ks (kind-passes n vs (told .bounds)))
-    (every-more capacityWithin (l .capacities) (getD vs 2 0) cs (capacity-passes n vs (told .bounds))))
+    (every-more kindWithin (l .kinds) (getD vs 1 0) ks (kind-passes n vs (answered .bounds)))
+    (every-more capacityWithin (l .capacities) (getD vs 2 0) cs (capacity-passes n vs (answered .bounds))))
 
-pub nodes-read : (n : ℕ) (l′ : NodeLists) (at at′ : ℕ) (bs rest : List ℕ) → nodeLines n n (nodeLists [] []) at bs ≡ part l′ at′ rest → NodesTold n n (nodeLists [] []) l′ bs rest
+pub nodes-read : (n : ℕ) (l′ : NodeLists) (at at′ : ℕ) (bs rest : List ℕ) → nodeLines n n (nodeLists [] []) at bs ≡ part l′ at′ rest → NodesGiven n n (nodeLists [] []) l′ bs rest
 unfolding every
 nodes-read n l′ at at′ bs rest e = nodes-from n n (nodeLists [] []) l′ at at′ bs rest e refl (omega arith) refl refl
 
-module _ (n k : ℕ) (l l′ : NodeLists) (bs rest : List ℕ) (r : NodesTold n k l l′ bs rest) where
+module _ (n k : ℕ) (l l′ : NodeLists) (bs rest : List ℕ) (r : NodesGiven n k l l′ bs rest) where
   pub read-kinds-sound : 1 ≤ n → n ≤ nodesMost → kindsSound (l′ .kinds) ≡ true
   unfolding kindsSound
   read-kinds-sound some few =
@@ -197,20 +197,20 @@ module _ (n : ℕ) (kinds capacities : List ℕ) (kinds-long : length kinds ≡ 
   -- the first m are read, k are left
   printed-from :
       (k m at : ℕ) (rest : List ℕ) → m + k ≡ n
-      → nodeLines n k (nodeLists (take m kinds) (take m capacities)) at (joined (nodePrinted kinds capacities) m k ++ rest)
+      → nodeLines n k (nodeLists (take m kinds) (take m capacities)) at (concatFrom (nodePrinted kinds capacities) m k ++ rest)
       ≡ part (nodeLists kinds capacities) (at + k) rest
-  unfolding nodeLines joined
+  unfolding nodeLines concatFrom
   printed-from zero m at rest e =
       let stays : at + zero ≡ at = omega arith in
       rw (take-all m kinds (omega arith), take-all m capacities (omega (arith, capacities-are)), stays)
   printed-from (suc k) m at rest e =
       let long : length (take m kinds) ≡ m = length-take-le m kinds (omega arith) in
-      let here = line-of m (joined (nodePrinted kinds capacities) (suc m) k ++ rest) (omega arith) in
+      let here = line-of m (concatFrom (nodePrinted kinds capacities) (suc m) k ++ rest) (omega arith) in
       let step : at + suc k ≡ at + 1 + k = omega arith in
       rw (append-assoc, long, here, ← take-suc kinds m 0 (omega arith), ← take-suc capacities m 0 (omega (arith, capacities-are)), step)
       (printed-from k (suc m) (at + 1) rest (omega arith))
 
   pub nodes-printed :
       (at : ℕ) (rest : List ℕ)
-      → nodeLines n n (nodeLists [] []) at (joined (nodePrinted kinds capacities) 0 n ++ rest) ≡ part (nodeLists kinds capacities) (at + n) rest
+      → nodeLines n n (nodeLists [] []) at (concatFrom (nodePrinted kinds capacities) 0 n ++ rest) ≡ part (nodeLists kinds capacities) (at + n) rest
   nodes-printed at rest = printed-from n 0 at rest (omega arith)

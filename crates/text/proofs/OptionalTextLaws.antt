@@ -36,7 +36,7 @@ module _ (letter : ℕ) (read : List ℕ → Fields) (within : List ℕ → Bool
       (at at′ : ℕ) (bs rest : List ℕ) (t′ : Terms) (P : Terms → List ℕ → Type 0)
       → ((vs mid : List ℕ) → Judged within (λ vs. true) (read bs) vs mid → P (change vs) mid) → P t bs
       → optional letter (judged within (λ vs. true) (read bs)) change t at bs ≡ part t′ at′ rest → P t′ rest
-  optional-read at at′ bs rest t′ P told none e =
+  optional-read at at′ bs rest t′ P answered none e =
       ⊎-elim
       (λ (q : begins letter bs ≡ true).
       let r = onward-part (judged within (λ vs. true) (read bs)) at (λ vs rest. part (change vs) (at + 1) rest) t′ at′ rest (rw q at e) in
@@ -45,7 +45,7 @@ module _ (letter : ℕ) (read : List ℕ → Fields) (within : List ℕ → Bool
       let made : part (change vs) (at + 1) mid ≡ part t′ at′ rest = r .3 in
       let same : change vs ≡ t′ = cc in
       let follow : mid ≡ rest = cc in
-      rw (same, follow) at (told vs mid (judged-values within (λ vs. true) (read bs) vs mid (r .2))))
+      rw (same, follow) at (answered vs mid (judged-values within (λ vs. true) (read bs) vs mid (r .2))))
       (λ (q : begins letter bs ≡ false).
       let made : part t at bs ≡ part t′ at′ rest = rw q at e in
       let same : t ≡ t′ = cc in
@@ -66,7 +66,7 @@ module _ (letter : ℕ) (read : List ℕ → Fields) (within : List ℕ → Bool
 -- ---- from reading
 
 -- the P line, or none: rule and k are still those of a job without a V line
-pub record TuningTold (limit : ℕ) (bs : List ℕ) (t : Terms) (rest : List ℕ) : Type 0 where
+pub record TuningGiven (limit : ℕ) (bs : List ℕ) (t : Terms) (rest : List ℕ) : Type 0 where
   pub limit-is : t .limit ≡ limit
   pub rule-is : t .rule ≡ 1
   pub until-is : t .until ≡ 1
@@ -75,17 +75,17 @@ pub record TuningTold (limit : ℕ) (bs : List ℕ) (t : Terms) (rest : List ℕ
   pub may : Written written plain (t .tuning)
   pub text : bs ≡ tuningText written (t .tuning) ++ rest
 
-tuning-told : (limit at at′ : ℕ) (bs rest : List ℕ) (t : Terms) → tuningPart (plainTerms limit) at bs ≡ part t at′ rest → TuningTold limit bs t rest
+tuning-given : (limit at at′ : ℕ) (bs rest : List ℕ) (t : Terms) → tuningPart (plainTerms limit) at bs ≡ part t at′ rest → TuningGiven limit bs t rest
 unfolding tuningPart tuningLine tuningWithin tuningSound lineIf
-tuning-told limit at at′ bs rest t e =
-    optional-read letterP (line letterP 4) tuningWithin (withTuning (plainTerms limit)) (plainTerms limit) at at′ bs rest t (TuningTold limit bs)
-    (λ vs mid told.
-    let printed = printed-line letterP 4 bs vs mid (told .is) in
+tuning-given limit at at′ bs rest t e =
+    optional-read letterP (line letterP 4) tuningWithin (withTuning (plainTerms limit)) (plainTerms limit) at at′ bs rest t (TuningGiven limit bs)
+    (λ vs mid answered.
+    let printed = printed-line letterP 4 bs vs mid (answered .is) in
     record {
       limit-is = refl;
       rule-is = refl;
       until-is = refl;
-      tuned = told .bounds;
+      tuned = answered .bounds;
       written = true;
       may = tt;
       text = printed .1 ∙ ap (λ (us : List ℕ). printLine letterP us ++ mid) (four-of vs (printed .0));
@@ -145,7 +145,7 @@ rule-read bs vs rest malformed malformed e f is s =
     let z : _≡_ {A = ℕ} 0 1 = cc in absurd (omega arith)
 
 -- the V line after terms of rule 1 and k 1, or none
-pub record RuleTold (start : Terms) (bs : List ℕ) (t : Terms) (rest : List ℕ) : Type 0 where
+pub record RuleGiven (start : Terms) (bs : List ℕ) (t : Terms) (rest : List ℕ) : Type 0 where
   pub limit-is : t .limit ≡ start .limit
   pub tuning-is : t .tuning ≡ start .tuning
   pub ruled : ruleSound (t .rule) (t .until) ≡ true
@@ -157,14 +157,14 @@ plain-ruled : (rule until : ℕ) → rule ≡ 1 → until ≡ 1 → ruleSound ru
 unfolding ruleSound oneOf
 plain-ruled rule until one k = rw (one, k)
 
-rule-told :
-    (start : Terms) (at at′ : ℕ) (bs rest : List ℕ) (t : Terms) → start .rule ≡ 1 → start .until ≡ 1 → rulePart start at bs ≡ part t at′ rest → RuleTold start bs t rest
+rule-given :
+    (start : Terms) (at at′ : ℕ) (bs rest : List ℕ) (t : Terms) → start .rule ≡ 1 → start .until ≡ 1 → rulePart start at bs ≡ part t at′ rest → RuleGiven start bs t rest
 unfolding rulePart ruleLine ruleWithin ruleFields
-rule-told start at at′ bs rest t one k e =
-    optional-read letterV ruleFields ruleWithin (withRule start) start at at′ bs rest t (RuleTold start bs)
-    (λ vs mid told.
-    let r : RuleRead bs vs mid = rule-read bs vs mid (line letterV 1 bs) (line letterV 2 bs) refl refl (told .is) (told .bounds) in
-    record { limit-is = refl; tuning-is = refl; ruled = told .bounds; form = r .form; may = r .may; text = r .text })
+rule-given start at at′ bs rest t one k e =
+    optional-read letterV ruleFields ruleWithin (withRule start) start at at′ bs rest t (RuleGiven start bs)
+    (λ vs mid answered.
+    let r : RuleRead bs vs mid = rule-read bs vs mid (line letterV 1 bs) (line letterV 2 bs) refl refl (answered .is) (answered .bounds) in
+    record { limit-is = refl; tuning-is = refl; ruled = answered .bounds; form = r .form; may = r .may; text = r .text })
     (record {
       limit-is = refl;
       tuning-is = refl;
@@ -175,7 +175,7 @@ rule-told start at at′ bs rest t one k e =
     }) e
 
 -- all lines that may follow F
-pub record TermsTold (limit : ℕ) (bs : List ℕ) (t : Terms) (rest : List ℕ) : Type 0 where
+pub record TermsGiven (limit : ℕ) (bs : List ℕ) (t : Terms) (rest : List ℕ) : Type 0 where
   pub limit-is : t .limit ≡ limit
   pub tuned : tuningSound (t .tuning) ≡ true
   pub ruled : ruleSound (t .rule) (t .until) ≡ true
@@ -183,9 +183,9 @@ pub record TermsTold (limit : ℕ) (bs : List ℕ) (t : Terms) (rest : List ℕ)
   pub allowed : Allowed form t
   pub text : bs ≡ termsText form t ++ rest
 
-lines-told : (limit : ℕ) (bs mid rest : List ℕ) (s t : Terms) → TuningTold limit bs s mid → RuleTold s mid t rest → TermsTold limit bs t rest
+lines-given : (limit : ℕ) (bs mid rest : List ℕ) (s t : Terms) → TuningGiven limit bs s mid → RuleGiven s mid t rest → TermsGiven limit bs t rest
 unfolding termsText
-lines-told limit bs mid rest s t p v =
+lines-given limit bs mid rest s t p v =
     record {
       limit-is = v .limit-is ∙ p .limit-is;
       tuned = rw (v .tuning-is) (p .tuned);
@@ -197,14 +197,14 @@ lines-told limit bs mid rest s t p v =
           ∙ rw (v .text, ← v .tuning-is) (sym (append-assoc (tuningText (p .written) (t .tuning)) (ruleText (v .form) (t .rule) (t .until)) rest));
     }
 
-pub terms-read : (limit at at′ : ℕ) (bs rest : List ℕ) (t : Terms) → termsPart limit at bs ≡ part t at′ rest → TermsTold limit bs t rest
+pub terms-read : (limit at at′ : ℕ) (bs rest : List ℕ) (t : Terms) → termsPart limit at bs ≡ part t at′ rest → TermsGiven limit bs t rest
 unfolding termsPart
 terms-read limit at at′ bs rest t e =
     let r = then-part (tuningPart (plainTerms limit) at bs) rulePart t at′ rest e in
     let s : Terms = r .0 in
     let mid : List ℕ = r .2 in
-    let told : TuningTold limit bs s mid = tuning-told limit at (r .1) bs mid s (r .3) in
-    lines-told limit bs mid rest s t told (rule-told s (r .1) at′ mid rest t (told .rule-is) (told .until-is) (r .4))
+    let answered : TuningGiven limit bs s mid = tuning-given limit at (r .1) bs mid s (r .3) in
+    lines-given limit bs mid rest s t answered (rule-given s (r .1) at′ mid rest t (answered .rule-is) (answered .until-is) (r .4))
 
 -- ---- from printing
 

@@ -42,7 +42,7 @@ twice =
     ∷ 2 ∷ 0 ∷ 5 ∷ 0 ∷ 0 ∷ 4 ∷ 0 ∷ 3 ∷ 0 ∷ 5
     ∷ []
 
-pub users-counted : (users : List ℕ) → usersReply (belowNodes 6) twice users ≡ record { told = sound 2 4; users = upTo (netsWith (decode twice)) nodesMost }
+pub users-counted : (users : List ℕ) → usersReply (belowNodes 6) twice users ≡ record { checked = sound 2 4; users = upTo (netsWith (decode twice)) nodesMost }
 unfolding testing usersReply
 users-counted users = refl
 
@@ -52,7 +52,7 @@ unfolding netsWith treeRead latest nodesIn decode decodeUpTo has upTo countBelow
 users-are = refl
 
 -- the second record has node 5, at the bound: the users stay
-pub users-stay : (users : List ℕ) → usersReply (belowNodes 5) twice users ≡ record { told = unsound 9; users = users }
+pub users-stay : (users : List ℕ) → usersReply (belowNodes 5) twice users ≡ record { checked = unsound 9; users = users }
 unfolding testing usersReply
 users-stay users = refl
 

@@ -24,13 +24,13 @@ use Rattle.job.specs.Tables.{sourcesSound, firstSinksSound, sinksSound, limitSo
 use Rattle.negotiation.proofs.RoutableLaws.{nets-some, routable-of}
 use Rattle.text.specs.Lines.{letterF, letterN, begins, printLine}
 use Rattle.text.specs.JobText.{Part, part, andThen, Counts, headPart, NodeLists, nodeLists, nodeLines, EdgeLists, edgeLists, edgeLines, NetLists, netLists, netLines, firstPlaces, jobRead, readText}
-use Rattle.text.specs.Printed.{joined, nodeText, rowText, netText, Form, termsText, Allowed, printJob, Accepts, PrintedAs, Exactly}
+use Rattle.text.specs.Printed.{concatFrom, nodeText, rowText, netText, Form, termsText, Allowed, printJob, Accepts, PrintedAs, Exactly}
 use Rattle.text.proofs.PrintLaws.{then-part}
-use Rattle.text.proofs.HeadTextLaws.{HeadBounds, HeadTold, head-read, head-printed}
+use Rattle.text.proofs.HeadTextLaws.{HeadBounds, HeadGiven, head-read, head-printed}
 use Rattle.text.proofs.OptionalTextLaws.{linesAfter}
-use Rattle.text.proofs.NodeTextLaws.{nodePrinted, NodesTold, nodes-read, read-kinds-sound, read-capacities-sound, nodes-printed}
+use Rattle.text.proofs.NodeTextLaws.{nodePrinted, NodesGiven, nodes-read, read-kinds-sound, read-capacities-sound, nodes-printed}
 use Rattle.text.proofs.EdgeRisingLaws.{rowOf}
-use Rattle.text.proofs.EdgeTextLaws.{edgesText, EdgesTold, edges-read, EdgesPrinted, edges-printed}
+use Rattle.text.proofs.EdgeTextLaws.{edgesText, EdgesGiven, edges-read, EdgesPrinted, edges-printed}
 use Rattle.text.proofs.NetTextLaws.{netAt, ends}
 use Rattle.text.proofs.NetReadLaws.{TablesRead, nets-read}
 use Rattle.text.proofs.NetPrintLaws.{TablesPrinted, nets-printed}
@@ -46,7 +46,7 @@ module _
       → printJob form (jobOf kinds capacities first targets sources firsts sinks terms)
       ≡ printLine letterF (n ∷ m ∷ k ∷ terms .limit ∷ [])
       ++ (termsText form terms
-      ++ (joined (nodePrinted kinds capacities) 0 n ++ (edgesText n first targets ++ joined (netAt sources firsts sinks) 0 k)))
+      ++ (concatFrom (nodePrinted kinds capacities) 0 n ++ (edgesText n first targets ++ concatFrom (netAt sources firsts sinks) 0 k)))
   unfolding printJob nodeText rowText row netText netSinks
   made-text form = rw (nodes-are, edges-are, nets-are)
 
@@ -83,16 +83,16 @@ module _
       }
 
 -- what the four parts of a text tell together
-parts-told :
+parts-given :
     (c : Counts) (ns : NodeLists) (es : EdgeLists) (ts : NetLists) (bs rest1 rest2 rest3 rest4 : List ℕ)
-    → HeadTold c bs rest1
-    → NodesTold (c .nodes) (c .nodes) (nodeLists [] []) ns rest1 rest2
-    → EdgesTold (c .nodes) (c .edges) es rest2 rest3
+    → HeadGiven c bs rest1
+    → NodesGiven (c .nodes) (c .nodes) (nodeLists [] []) ns rest1 rest2
+    → EdgesGiven (c .nodes) (c .edges) es rest2 rest3
     → TablesRead (ns .kinds) (c .nodes) (c .nets) ts rest3 rest4
     → SoundJob (jobRead c ns es ts) × PrintedAs bs (jobRead c ns es ts)
 unfolding jobRead
-parts-told c ns es ts bs rest1 rest2 rest3 rest4 told nr er tr =
-    let head : HeadBounds c = told .bounds in
+parts-given c ns es ts bs rest1 rest2 rest3 rest4 answered nr er tr =
+    let head : HeadBounds c = answered .bounds in
     let first : List ℕ = firstPlaces (c .nodes) (es .froms) in
     let firsts : List ℕ = ends (ts .firstSinks) (ts .sinks) in (
       made-sound (c .nodes) (c .edges) (c .nets) (c .terms) (ns .kinds) (ns .capacities) first (es .targets) (ts .sources) firsts (ts .sinks)
@@ -101,12 +101,12 @@ parts-told c ns es ts bs rest1 rest2 rest3 rest4 told nr er tr =
           (read-capacities-sound (c .nodes) (c .nodes) (nodeLists [] []) ns rest1 rest2 nr)
           (er .firsts-sound) (er .rows-sound) (tr .sources-sound) (tr .source-pins) (tr .firstSinks-sound) (tr .sinks-sound) (tr .sink-pins),
       record {
-        form = told .form;
-        allowed = told .allowed;
+        form = answered .form;
+        allowed = answered .allowed;
         is =
-            told .text ∙ rw (nr .text, er .text-is, tr .text)
+            answered .text ∙ rw (nr .text, er .text-is, tr .text)
             (sym (made-text (c .nodes) (c .edges) (c .nets) (c .terms) (ns .kinds) (ns .capacities) first (es .targets) (ts .sources) firsts (ts .sinks)
-            (nr .kinds-long) (er .targets-long) (tr .count) (told .form)));
+            (nr .kinds-long) (er .targets-long) (tr .count) (answered .form)));
       },
     )
 
@@ -124,10 +124,10 @@ nodeStage c at bs = andThen (nodeLines (c .nodes) (c .nodes) (nodeLists [] []) a
 
 -- a stage that gives a job, once the parts before it are read
 module _
-    (bs : List ℕ) (j : Job) (at : ℕ) (rest : List ℕ) (c : Counts) (rest1 : List ℕ) (head : HeadTold c bs rest1) where
+    (bs : List ℕ) (j : Job) (at : ℕ) (rest : List ℕ) (c : Counts) (rest1 : List ℕ) (head : HeadGiven c bs rest1) where
   after-edges :
       (ns : NodeLists) (es : EdgeLists) (at3 : ℕ) (rest2 rest3 : List ℕ)
-      → NodesTold (c .nodes) (c .nodes) (nodeLists [] []) ns rest1 rest2 → EdgesTold (c .nodes) (c .edges) es rest2 rest3
+      → NodesGiven (c .nodes) (c .nodes) (nodeLists [] []) ns rest1 rest2 → EdgesGiven (c .nodes) (c .edges) es rest2 rest3
       → netStage c ns es at3 rest3 ≡ part j at rest → SoundJob j × PrintedAs bs j × (rest ≡ [])
   after-edges ns es at3 rest2 rest3 nr er e =
       let r = then-part (netLines (length rest3) (ns .kinds) (c .nodes) (c .nets) (netLists [] [] []) at3 rest3) _ j at rest e in
@@ -138,11 +138,11 @@ module _
       let left : rest4 ≡ rest = cc in
       let tables : TablesRead (ns .kinds) (c .nodes) (c .nets) ts rest3 rest4 =
       nets-read (length rest3) (ns .kinds) (c .nodes) (c .nets) ts at3 (r .1) rest3 rest4 (head .bounds .some-nets) (head .bounds .few-nets) (r .3) in
-      let told = parts-told c ns es ts bs rest1 rest2 rest3 rest4 head nr er tables in
-      (rw same at (told .0), rw same at (told .1), rw left at (tables .end))
+      let answered = parts-given c ns es ts bs rest1 rest2 rest3 rest4 head nr er tables in
+      (rw same at (answered .0), rw same at (answered .1), rw left at (tables .end))
 
   after-nodes :
-      (ns : NodeLists) (at2 : ℕ) (rest2 : List ℕ) → NodesTold (c .nodes) (c .nodes) (nodeLists [] []) ns rest1 rest2
+      (ns : NodeLists) (at2 : ℕ) (rest2 : List ℕ) → NodesGiven (c .nodes) (c .nodes) (nodeLists [] []) ns rest1 rest2
       → edgeStage c ns at2 rest2 ≡ part j at rest → SoundJob j × PrintedAs bs j × (rest ≡ [])
   after-nodes ns at2 rest2 nr e =
       let q = then-part (edgeLines (c .nodes) (c .edges) (edgeLists [] []) at2 rest2) (λ es next more. netStage c ns es next more) j at rest e in
@@ -162,8 +162,8 @@ accepted-printed bs j at rest e =
 -- ---- a sound job's printed form
 
 -- the first of the node lines
-nodes-begin : (n : ℕ) (kinds capacities rest : List ℕ) → 1 ≤ n → begins letterN (joined (nodePrinted kinds capacities) 0 n ++ rest) ≡ true
-unfolding begins joined printLine
+nodes-begin : (n : ℕ) (kinds capacities rest : List ℕ) → 1 ≤ n → begins letterN (concatFrom (nodePrinted kinds capacities) 0 n ++ rest) ≡ true
+unfolding begins concatFrom printLine
 nodes-begin zero kinds capacities rest some = absurd (omega arith)
 nodes-begin (suc k) kinds capacities rest some = refl
 
@@ -209,10 +209,10 @@ module _ (j : Job) (s : SoundJob j) where
       let capacities : List ℕ = j .block .capacities in
       let first : List ℕ = j .block .firstEdges in
       let targets : List ℕ = j .block .edgeTargets in
-      let third : List ℕ = joined (netAt (j .sources) (j .firstSinks) (j .sinks)) 0 (nets j) in
+      let third : List ℕ = concatFrom (netAt (j .sources) (j .firstSinks) (j .sinks)) 0 (nets j) in
       let second : List ℕ = edgesText n first targets ++ third in
       let head =
-      head-printed counts (joined (nodePrinted kinds capacities) 0 n ++ second) counts-within form allowed
+      head-printed counts (concatFrom (nodePrinted kinds capacities) 0 n ++ second) counts-within form allowed
       (nodes-begin n kinds capacities second (counts-within .some-nodes)) in
       let node = nodes-printed n kinds capacities refl (s .block-sound .kinds-sound) (s .block-sound .capacities-sound) at second in
       let edge : EdgesPrinted n first targets (at + n) third =

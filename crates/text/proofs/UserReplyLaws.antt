@@ -32,11 +32,11 @@ all-marked =
     (λ (l : i < netsMost). rw (getD-replicate {A = ℕ} netsMost i 1 0 l) (sym (lt-ltb i netsMost l)))
     (le-or-lt netsMost i))
 
-module _ (nodes : ℕ) (log : List ℕ) {few : ℕ} {r : LogCheck} (bound : few ≡ min nodes nodesMost) (told : checkedAt r ≡ logChecked (namedBy (replicate netsMost 1) few) log) where
+module _ (nodes : ℕ) (log : List ℕ) {few : ℕ} {r : LogCheck} (bound : few ≡ min nodes nodesMost) (answered : checkedAt r ≡ logChecked (namedBy (replicate netsMost 1) few) log) where
   tested : {s : LogCheck} → r ≡ s → checkedAt s ≡ logChecked (belowNodes nodes) log
   tested e =
       sym (ap checkedAt e)
-      ∙ told
+      ∙ answered
       ∙ ap (λ (net : ℕ → Bool). logChecked (record { net = net; nodes = few }) log) all-marked
       ∙ ap (λ (n : ℕ). logChecked (record { net = λ i. ltb i netsMost; nodes = n }) log) bound
 

@@ -12,12 +12,12 @@ pub record PlaceReply : Type 0 where
   pub next : ℕ
   pub buffer : List ℕ
 
-abbrev pub placeTold : ℕ → List ℕ → PlaceReply
-placeTold next buffer = record { next = next; buffer = buffer }
+abbrev pub placeReplyOf : ℕ → List ℕ → PlaceReply
+placeReplyOf next buffer = record { next = next; buffer = buffer }
 
 -- the line stands there where it fits, and nothing is written where it does not
 unfoldable pub lineReply : ℕ → List ℕ → ℕ → List ℕ → PlaceReply
 lineReply letter values at buffer =
     choose (leb (at + length (printLine letter values)) (length buffer))
-    (placeTold (at + length (printLine letter values)) (placed at (printLine letter values) buffer))
-    (placeTold at buffer)
+    (placeReplyOf (at + length (printLine letter values)) (placed at (printLine letter values) buffer))
+    (placeReplyOf at buffer)

@@ -16,9 +16,9 @@ use Rattle.text.specs.Lines.{letterF, letterP, letterV, letterN, letterE
 use Rattle.text.specs.JobText.{part, readText}
 
 -- the texts of m, m + 1, .., one after the other, so many of them
-unfoldable pub joined : (ℕ → List ℕ) → ℕ → ℕ → List ℕ
-joined f m zero = []
-joined f m (suc k) = f m ++ joined f (suc m) k
+unfoldable pub concatFrom : (ℕ → List ℕ) → ℕ → ℕ → List ℕ
+concatFrom f m zero = []
+concatFrom f m (suc k) = f m ++ concatFrom f (suc m) k
 
 -- a line for each entry, with the same first field
 unfoldable pub eachLine : ℕ → ℕ → List ℕ → List ℕ
@@ -90,7 +90,7 @@ unfoldable pub printJob : Form → Job → List ℕ
 printJob form j =
     printLine letterF (nodes j ∷ length (j .block .edgeTargets) ∷ nets j ∷ j .terms .limit ∷ [])
     ++ (termsText form (j .terms)
-    ++ (joined (nodeText j) 0 (nodes j) ++ (joined (rowText j) 0 (nodes j) ++ joined (netText j) 0 (nets j))))
+    ++ (concatFrom (nodeText j) 0 (nodes j) ++ (concatFrom (rowText j) 0 (nodes j) ++ concatFrom (netText j) 0 (nets j))))
 
 -- the reader takes the text for this job
 abbrev pub Accepts : List ℕ → Job → Type 0

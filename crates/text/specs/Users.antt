@@ -41,17 +41,17 @@ netsWith rs v = countBelow (λ i. has v (treeRead i rs)) netsMost
 
 -- what is told of the log, and each node's users afterwards
 pub record UsersReply : Type 0 where
-  pub told : Checked
+  pub checked : Checked
   pub users : List ℕ
 
 -- the users of every node below 4,096 where the log is sound; where it is not, those that were lent stay
 unfoldable pub usersReply : Named → List ℕ → List ℕ → UsersReply
 usersReply named log users =
     record {
-      told = logChecked named log;
+      checked = logChecked named log;
       users = choose (logSound named log) (upTo (netsWith (decode log)) nodesMost) users;
     }
 
 -- the answer with the users at the call's end
 abbrev pub usersReplyOf : LogCheck → List ℕ → UsersReply
-usersReplyOf r users = record { told = checkedAt r; users = users }
+usersReplyOf r users = record { checked = checkedAt r; users = users }

@@ -5,8 +5,6 @@ pub const EDGES_MOST: u32 = 32768;
 
 pub const NETS_MOST: u32 = 512;
 
-pub const SINKS_MOST: usize = 4096;
-
 pub const KIND_MOST: u32 = 53;
 
 pub const CAPACITY_MOST: u32 = 255;

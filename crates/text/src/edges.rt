@@ -3,6 +3,8 @@ ghost use mathlib.Core.List.{[], _++_};
 ghost use mathlib.Core.Path.{_≡_};
 ghost use Prim.Native.Nat.{_+_, _-_, _≤_};
 ghost use lib.ListN.{length, take, drop, replicate};
+ghost use Rattle.search.specs.Tables.{edgesMost};
+ghost use Rattle.price.specs.Bounds.{nodesMost};
 ghost use Rattle.text.specs.JobText.{edgeLine, edgeLists, edgeLines, rises};
 ghost use Rattle.text.specs.Steps.{edgeAt, EdgePlace, edgesAt, edgeTables, LinesPlace};
 use crate::fields;
@@ -39,7 +41,7 @@ fn edge_line(
     last_from: usize,
     last_to: usize,
 ) -> EdgeLine
-    requires { ⌜ nodes ≤ 4096 ⌝ }
+    requires { ⌜ nodes ≤ nodesMost ⌝ }
     ensures { λ r. ⌜ edgeAt (now (text .entry)) r ≡ edgeLine nodes count «last_from» «last_to» (drop at (now (text .entry))) ⌝ }
     ensures { λ r. ⌜ EdgePlace nodes at (now (text .entry)) r ⌝ }
 {
@@ -95,7 +97,7 @@ pub fn read_edges(
     first_edge: &mut [u32],
     edge_target: &mut [u16],
 ) -> Lines
-    requires { ⌜ (from ≤ length (now text)) × («first_line» ≤ from + 1) × (nodes ≤ 4096) × (edges ≤ 32768) ⌝ }
+    requires { ⌜ (from ≤ length (now text)) × («first_line» ≤ from + 1) × (nodes ≤ nodesMost) × (edges ≤ edgesMost) ⌝ }
     requires { ⌜ (nodes + 1 ≤ length (now «first_edge»)) × (edges ≤ length (now «edge_target»)) ⌝ }
     ensures { λ r. do
       let lines = edgeLines nodes edges (edgeLists [] []) «first_line» (drop from (now (text .entry)))

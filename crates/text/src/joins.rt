@@ -6,13 +6,14 @@ ghost use Rattle.job.specs.Tables.{netsMost};
 ghost use Rattle.text.specs.Routes.{netWritable, joinText, routeJoins};
 ghost use Rattle.text.specs.WriteSteps.{Put, netMarked};
 use crate::decimal;
+use job::NETS_MOST;
 
 // Marks of the nets, 1 for each that is the first of its source.
-pub fn first_marks(source: &[u16]) -> [u8; 512]
+pub fn first_marks(source: &[u16]) -> [u8; NETS_MOST]
     requires { ⌜ length (now source) ≤ netsMost ⌝ }
     ensures { λ r. ⌜ ((i : ℕ) → netMarked r i ≡ netWritable (now (source .entry)) i) ⌝ }
 {
-    let mut marks = [0u8; 512];
+    let mut marks = [0u8; NETS_MOST];
     let mut net = 0;
     while net < source.len() {
         if job::first_of(source, net) == net {

@@ -1,5 +1,7 @@
 // The job text before the router, and the routes text or the line of a refusal after it.
 ghost use mathlib.Core.Path.{_≡_};
+ghost use Rattle.search.specs.Replies.{sinksMost};
+ghost use Rattle.price.specs.Bounds.{nodesMost};
 ghost use Rattle.text.specs.ReadReplies.{tablesOf, lowestShort, storedReply, readReply, readReplyOf};
 ghost use Prim.Native.Nat.{_≤_};
 ghost use Rattle.text.specs.ReadSteps.{RoomForAll, CountsWithin, jobTaken};
@@ -69,10 +71,16 @@ mod tuning;
 mod users;
 
 pub use fields::byte_is;
+use job::FIRST_SINKS_MOST;
+use job::NETS_MOST;
 use job::Terms;
 pub use log_check::LogCheck;
 pub use printing::print_line;
 use reader::JobLines;
+use search::EDGES_MOST;
+use search::FIRST_EDGES_MOST;
+use search::NODES_MOST;
+use search::SINKS_MOST;
 pub use users::node_users;
 
 // The lowest table that is shorter than the job needs, 0 where each is long enough.
@@ -89,7 +97,7 @@ fn short_table(
     first_sink: usize,
     sink: usize,
 ) -> u32
-    requires { ⌜ (nodes ≤ 4096) × (nets ≤ 512) ⌝ }
+    requires { ⌜ (nodes ≤ nodesMost) × (nets ≤ netsMost) ⌝ }
     ensures { λ r. ⌜ r
         ≡ lowestShort nodes edges nets sinks kind capacity «first_edge» «edge_target» source «first_sink» sink ⌝ }
 {
@@ -141,7 +149,7 @@ fn store_job(
 ) -> ReadAnswer
     requires { ⌜ RoomForAll (now kinds) (now capacities) (now «first_edges») (now «edge_targets»)
         (now sources) (now «first_sinks») (now sinks) ⌝ }
-    requires { ⌜ CountsWithin nodes edges nets × (count ≤ 4096) ⌝ }
+    requires { ⌜ CountsWithin nodes edges nets × (count ≤ sinksMost) ⌝ }
     ensures { λ r. do
       let job = jobTaken nodes edges nets count terms (now (kinds .entry)) (now (capacities .entry)) (now («first_edges» .entry))
           (now («edge_targets» .entry)) (now (sources .entry)) (now («first_sinks» .entry)) (now (sinks .entry))
@@ -216,13 +224,13 @@ pub fn read_job(
           (now (source .exit)) (now («first_sink» .exit)) (now (sink .exit))
       ⌜ readReplyOf r left ≡ readReply (now (text .entry)) tables ⌝ }
 {
-    let mut kinds = [0u8; 4096];
-    let mut capacities = [0u8; 4096];
-    let mut first_edges = [0u32; 4097];
-    let mut edge_targets = [0u16; 32768];
-    let mut sources = [0u16; 512];
-    let mut first_sinks = [0u32; 513];
-    let mut sinks_read = [0u16; 4096];
+    let mut kinds = [0u8; NODES_MOST];
+    let mut capacities = [0u8; NODES_MOST];
+    let mut first_edges = [0u32; FIRST_EDGES_MOST];
+    let mut edge_targets = [0u16; EDGES_MOST];
+    let mut sources = [0u16; NETS_MOST];
+    let mut first_sinks = [0u32; FIRST_SINKS_MOST];
+    let mut sinks_read = [0u16; SINKS_MOST];
     match reader::read_lines(
         text,
         &mut kinds,
@@ -311,8 +319,8 @@ fn write_text(
     ensures { λ r. ⌜ writeReplyOf r (now (buffer .exit))
         ≡ textReply (textIn style (now (source .entry)) (decode (now (log .entry)))) (now (buffer .entry)) ⌝ }
 {
-    let mut from = [0usize; 512];
-    let mut to = [0usize; 512];
+    let mut from = [0usize; NETS_MOST];
+    let mut to = [0usize; NETS_MOST];
     latest::latest_records(log, &mut from, &mut to);
     write_lines(style, source, log, &from, &to, iteration, turns, buffer)
 }
@@ -322,11 +330,11 @@ pub fn write_style(style: Style, source: &[u16], log: &[u32], buffer: &mut [u8])
     ensures answers { λ r. ⌜ writeReplyOf r (now (buffer .exit))
         ≡ styleReply style (now (source .entry)) (now (log .entry)) (now (buffer .entry)) ⌝ }
 {
-    if !job::sources_sound(bounds::NODES_MOST as usize, source) {
+    if !job::sources_sound(NODES_MOST, source) {
         return WriteAnswer::BadTable(5);
     }
     let marks = joins::first_marks(source);
-    match log_check::check_log(&marks, bounds::NODES_MOST as usize, log) {
+    match log_check::check_log(&marks, NODES_MOST, log) {
         LogCheck::Sound { iteration, turns } => {
             write_text(style, source, log, iteration, turns, buffer)
         }

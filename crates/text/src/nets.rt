@@ -4,14 +4,18 @@ ghost use mathlib.Core.Path.{_≡_};
 ghost use Prim.Native.Nat.{ℕ, _+_, _-_, _≤_, _<_};
 ghost use lib.Dec.{ltb, eqb};
 ghost use lib.ListN.{length, drop};
+ghost use Rattle.search.specs.Replies.{sinksMost};
+ghost use Rattle.price.specs.Bounds.{nodesMost};
 ghost use Rattle.price.specs.Test.{both, either};
-ghost use Rattle.job.specs.Tables.{sourceKind, sinkKind};
+ghost use Rattle.job.specs.Tables.{netsMost, sourceKind, sinkKind};
 ghost use Rattle.text.specs.JobText.{sourceLine, sinkLine, ofKind, netLists, netLine, netLines};
 ghost use Rattle.text.specs.Steps.{pinAt, PinPlace, Marked, netsAt, NetKept, SourceAdded, SinkAdded};
 ghost use Rattle.text.specs.Steps.{netLineAt, KeptAfter, netsReadAt, NetsEnd};
 use crate::bounds;
 use crate::fields;
 use crate::fields::LineFields;
+use search::NODES_MOST;
+use search::SINKS_MOST;
 
 pub enum PinLine {
     Pin { node: u16, next: usize },
@@ -40,7 +44,7 @@ pub enum NetsRead {
 
 // The S line of net i.
 fn source_line(text: &[u8], at: usize, kind: &[u8], nodes: usize, nets: usize, i: usize) -> PinLine
-    requires { ⌜ (nodes ≤ 4096) × (nodes ≤ length (now kind)) ⌝ }
+    requires { ⌜ (nodes ≤ nodesMost) × (nodes ≤ length (now kind)) ⌝ }
     ensures { λ r. do
       let read = sourceLine nodes nets i (drop at (now (text .entry)))
       ⌜ pinAt i (now (text .entry)) r ≡ ofKind sourceKind (now (kind .entry)) read ⌝ }
@@ -86,7 +90,7 @@ fn sink_line(
     seen: &[u16],
     stamp: u16,
 ) -> PinLine
-    requires { ⌜ (nodes ≤ 4096) × (nodes ≤ length (now seen)) × (nodes ≤ length (now kind)) ⌝ }
+    requires { ⌜ (nodes ≤ nodesMost) × (nodes ≤ length (now seen)) × (nodes ≤ length (now kind)) ⌝ }
     ensures { λ r. ⌜ ((pins : List ℕ) → Marked nodes stamp (now (seen .entry)) pins
         → pinAt i (now (text .entry)) r
         ≡ ofKind sinkKind (now (kind .entry)) (sinkLine nodes nets i pins count (drop at (now (text .entry))))) ⌝ }
@@ -114,7 +118,7 @@ fn sink_line(
     if seen[second as usize] == stamp {
         return PinLine::Refused(3);
     }
-    if bounds::SINKS_MOST <= count {
+    if SINKS_MOST <= count {
         return PinLine::Refused(3);
     }
     if !job::sink_kind(kind[second as usize]) {
@@ -137,8 +141,8 @@ fn add_source(
     first_sink: &mut [u32],
     seen: &mut [u16],
 ) -> NetStep
-    requires { ⌜ (c .at ≤ length (now text)) × (c .line ≤ c .at + 1) × (nodes ≤ 4096) × (nets ≤ 512)
-        × (c .sinks ≤ 4096) ⌝ }
+    requires { ⌜ (c .at ≤ length (now text)) × (c .line ≤ c .at + 1) × (nodes ≤ nodesMost) × (nets ≤ netsMost)
+        × (c .sinks ≤ sinksMost) ⌝ }
     requires { ⌜ (c .nets < nets) × (nets ≤ length (now source)) × (nets ≤ length (now «first_sink»))
         × (nodes ≤ length (now seen)) × (nodes ≤ length (now kind)) ⌝ }
     ensures { λ r. do
@@ -176,8 +180,8 @@ fn add_sink(
     sink: &mut [u16],
     seen: &mut [u16],
 ) -> NetStep
-    requires { ⌜ (c .at ≤ length (now text)) × (c .line ≤ c .at + 1) × (nodes ≤ 4096) × (nets ≤ 512) ⌝ }
-    requires { ⌜ (1 ≤ c .nets) × (c .nets ≤ nets) × (4096 ≤ length (now sink)) × (nodes ≤ length (now seen))
+    requires { ⌜ (c .at ≤ length (now text)) × (c .line ≤ c .at + 1) × (nodes ≤ nodesMost) × (nets ≤ netsMost) ⌝ }
+    requires { ⌜ (1 ≤ c .nets) × (c .nets ≤ nets) × (sinksMost ≤ length (now sink)) × (nodes ≤ length (now seen))
         × (nodes ≤ length (now kind)) ⌝ }
     ensures { λ r. ⌜ ((pins : List ℕ) → Marked nodes (c .nets) (now (seen .entry)) pins
         → SinkAdded nodes nets (now (text .entry)) c r (now (sink .entry)) (now (seen .entry)) (now (sink .exit)) (now (seen .exit))
@@ -274,16 +278,16 @@ pub fn read_nets(
     first_sink: &mut [u32],
     sink: &mut [u16],
 ) -> NetsRead
-    requires { ⌜ (from ≤ length (now text)) × («first_line» ≤ from + 1) × (nodes ≤ 4096) × (nets ≤ 512)
+    requires { ⌜ (from ≤ length (now text)) × («first_line» ≤ from + 1) × (nodes ≤ nodesMost) × (nets ≤ netsMost)
         × (nodes ≤ length (now kind)) ⌝ }
-    requires { ⌜ (nets ≤ length (now source)) × (nets + 1 ≤ length (now «first_sink»)) × (4096 ≤ length (now sink)) ⌝ }
+    requires { ⌜ (nets ≤ length (now source)) × (nets + 1 ≤ length (now «first_sink»)) × (sinksMost ≤ length (now sink)) ⌝ }
     ensures { λ r. do
       let bytes = drop from (now (text .entry))
       ⌜ netsReadAt nets r (now (source .exit)) (now («first_sink» .exit)) (now (sink .exit))
           ≡ netLines (length bytes) (now (kind .entry)) nodes nets (netLists [] [] []) «first_line» bytes ⌝ }
     ensures { λ r. ⌜ NetsEnd nets r (now («first_sink» .exit)) ⌝ }
 {
-    let mut seen = [0u16; 4096];
+    let mut seen = [0u16; NODES_MOST];
     let mut c = NetCursor {
         at: from,
         line: first_line,

@@ -3,6 +3,7 @@ ghost use mathlib.Core.List.{[]};
 ghost use mathlib.Core.Path.{_≡_};
 ghost use Prim.Native.Nat.{_+_, _≤_};
 ghost use lib.ListN.{length, take, drop};
+ghost use Rattle.price.specs.Bounds.{nodesMost};
 ghost use Rattle.text.specs.JobText.{nodeLine, nodeLists, nodeLines};
 ghost use Rattle.text.specs.Steps.{nodeAt, NodePlace, nodesAt, LinesPlace};
 use crate::bounds;
@@ -17,7 +18,7 @@ pub enum NodeLine {
 
 // The line of node v, of so many nodes.
 fn node_line(text: &[u8], at: usize, nodes: usize, v: usize) -> NodeLine
-    requires { ⌜ nodes ≤ 4096 ⌝ }
+    requires { ⌜ nodes ≤ nodesMost ⌝ }
     ensures { λ r. ⌜ nodeAt v (now (text .entry)) r ≡ nodeLine nodes v (drop at (now (text .entry))) ⌝ }
     ensures { λ r. ⌜ NodePlace at (now (text .entry)) r ⌝ }
 {
@@ -62,7 +63,7 @@ pub fn read_nodes(
     kind: &mut [u8],
     capacity: &mut [u8],
 ) -> Lines
-    requires { ⌜ (from ≤ length (now text)) × («first_line» ≤ from + 1) × (nodes ≤ 4096) ⌝ }
+    requires { ⌜ (from ≤ length (now text)) × («first_line» ≤ from + 1) × (nodes ≤ nodesMost) ⌝ }
     requires { ⌜ (nodes ≤ length (now kind)) × (nodes ≤ length (now capacity)) ⌝ }
     ensures { λ r. ⌜ nodesAt (now (text .entry)) r (take nodes (now (kind .exit))) (take nodes (now (capacity .exit)))
         ≡ nodeLines nodes nodes (nodeLists [] []) «first_line» (drop from (now (text .entry))) ⌝ }

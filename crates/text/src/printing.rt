@@ -5,7 +5,7 @@ ghost use lib.ListN.{length};
 ghost use Rattle.text.specs.Lines.{printFields, printLine};
 ghost use Rattle.text.specs.Routes.{capped};
 ghost use Rattle.text.specs.WriteSteps.{Put};
-ghost use Rattle.text.specs.LineReplies.{placeTold, lineReply};
+ghost use Rattle.text.specs.LineReplies.{placeReplyOf, lineReply};
 use crate::branches;
 use crate::decimal;
 
@@ -39,7 +39,7 @@ fn put_fields(fields: &[u64], buffer: &mut [u8], start: usize) -> usize
 // Prints a line with this letter and these fields from a place of the buffer on, and gives the place after it.
 // Where the line does not fit there, nothing is written and the place stays.
 pub fn print_line(letter: u8, fields: &[u64], buffer: &mut [u8], at: usize) -> usize
-    ensures answers { λ r. ⌜ placeTold r (now (buffer .exit)) ≡ lineReply letter (now (fields .entry)) at (now (buffer .entry)) ⌝ }
+    ensures answers { λ r. ⌜ placeReplyOf r (now (buffer .exit)) ≡ lineReply letter (now (fields .entry)) at (now (buffer .entry)) ⌝ }
 {
     if buffer.len() < at {
         return at;

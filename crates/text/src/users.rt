@@ -15,6 +15,8 @@ use crate::bounds;
 use crate::latest;
 use crate::log_check;
 use crate::log_check::LogCheck;
+use job::NETS_MOST;
+use search::NODES_MOST;
 
 // Counts each node between two places of the log that doesn't bear the stamp, and stamps it.
 fn count_path(
@@ -43,7 +45,7 @@ fn count_path(
 
 // Counts the nodes of a net's records in a sound log, each once.
 fn count_records(log: &[u32], net: u32, stamp: u16, users: &mut [u16], stamps: &mut [u16])
-    requires { ⌜ AllSound (now log) × (length (now users) ≡ 4096) × (length (now stamps) ≡ 4096) ⌝ }
+    requires { ⌜ AllSound (now log) × (length (now users) ≡ nodesMost) × (length (now stamps) ≡ nodesMost) ⌝ }
     requires { ⌜ FewUsers stamp (now users) (now stamps) ⌝ }
     ensures { λ _. ⌜ Counted stamp (pathNodes (ownRecords net (decode (now (log .entry))))) (now (users .entry)) (now (stamps .entry))
         (now (users .exit)) (now (stamps .exit)) ⌝ }
@@ -62,13 +64,13 @@ fn count_records(log: &[u32], net: u32, stamp: u16, users: &mut [u16], stamps: &
 // Counts every net's latest records, by their places.
 fn count_nets(log: &[u32], from: &[usize], to: &[usize], users: &mut [u16], stamps: &mut [u16])
     requires { ⌜ (length (now from) ≡ netsMost) × (length (now to) ≡ netsMost) × LatestPlaces (now log) (now from) (now to) ⌝ }
-    requires { ⌜ (length (now users) ≡ 4096) × (length (now stamps) ≡ 4096)
+    requires { ⌜ (length (now users) ≡ nodesMost) × (length (now stamps) ≡ nodesMost)
         × ((v : ℕ) → (getD (now users) v 0 ≡ 0) × (getD (now stamps) v 0 ≡ 0)) ⌝ }
-    ensures { λ _. ⌜ (length (now (users .exit)) ≡ 4096)
+    ensures { λ _. ⌜ (length (now (users .exit)) ≡ nodesMost)
         × ((v : ℕ) → getD (now (users .exit)) v 0 ≡ netsWith (decode (now (log .entry))) v) ⌝ }
 {
     let mut net = 0;
-    while net < 512 {
+    while net < NETS_MOST {
         count_records(
             &log[from[net]..to[net]],
             net as u32,
@@ -81,15 +83,15 @@ fn count_nets(log: &[u32], from: &[usize], to: &[usize], users: &mut [u16], stam
 }
 
 // Counts the users of every node of a sound log, whatever stood there.
-fn count_users(log: &[u32], users: &mut [u16; 4096])
+fn count_users(log: &[u32], users: &mut [u16; NODES_MOST])
     requires { ⌜ AllSound (now log) ⌝ }
     ensures { λ _. ⌜ now (users .exit) ≡ upTo (netsWith (decode (now (log .entry)))) nodesMost ⌝ }
 {
-    let mut from = [0usize; 512];
-    let mut to = [0usize; 512];
+    let mut from = [0usize; NETS_MOST];
+    let mut to = [0usize; NETS_MOST];
     latest::latest_records(log, &mut from, &mut to);
-    let mut stamps = [0u16; 4096];
-    *users = [0u16; 4096];
+    let mut stamps = [0u16; NODES_MOST];
+    *users = [0u16; NODES_MOST];
     count_nets(log, &from, &to, users, &mut stamps);
 }
 
@@ -97,19 +99,19 @@ fn count_users(log: &[u32], users: &mut [u16; 4096])
 fn few_nodes(nodes: usize) -> usize
     ensures { λ r. ⌜ r ≡ min nodes nodesMost ⌝ }
 {
-    if bounds::NODES_MOST as usize <= nodes {
-        return bounds::NODES_MOST as usize;
+    if NODES_MOST <= nodes {
+        return NODES_MOST;
     }
     nodes
 }
 
 // How many nets' final trees have each node, of a log whose records name nets below 512 and nodes below this bound and 4,096.
 // Of an unsound log nothing is counted.
-pub fn node_users(nodes: usize, log: &[u32], users: &mut [u16; 4096]) -> LogCheck
+pub fn node_users(nodes: usize, log: &[u32], users: &mut [u16; NODES_MOST]) -> LogCheck
     ensures answers { λ r. ⌜ usersReplyOf r (now (users .exit))
         ≡ usersReply (belowNodes nodes) (now (log .entry)) (now (users .entry)) ⌝ }
 {
-    let marks = [1u8; 512];
+    let marks = [1u8; NETS_MOST];
     match log_check::check_log(&marks, few_nodes(nodes), log) {
         LogCheck::Sound { iteration, turns } => {
             count_users(log, users);

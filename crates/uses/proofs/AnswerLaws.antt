@@ -10,7 +10,7 @@ use Rattle.search.specs.Block.{Block, blockOf, nodes}
 use Rattle.search.specs.Tables.{Sound}
 use Rattle.search.proofs.BlockLaws.{sound-of}
 use Rattle.text.specs.Routes.{WriteReply, notWritten, textReply}
-use Rattle.uses.specs.Uses.{logsMost, usesIn, nodesOf, capacityOf, Counts, countsRefusal, withLog, AddReply, addTold, testedReply, addReply, useLine, usesText, printReply}
+use Rattle.uses.specs.Uses.{logsMost, usesIn, nodesOf, capacityOf, Counts, countsRefusal, withLog, AddReply, addReplyWith, testedReply, addReply, useLine, usesText, printReply}
 use Rattle.uses.specs.Steps.{countMost, AtMost, testRefusal}
 use Rattle.uses.specs.declared.counts.CountsTest.{CountsTest}
 use Rattle.uses.specs.declared.counts.CountsTest.the-variants as t
@@ -24,9 +24,9 @@ unfolding nodesOf
 uses-low {b} {c} f k l =
     omega (arith, f .within k l, product-fits (f .few) (let most = kind-nodes-most (b .kinds) k in let few = few-nodes b (f .sound) in le-trans most few))
 
-module _ (b : Block) (c : Counts) {r : CountsTest} (told : testRefusal r ≡ countsRefusal b c) where
+module _ (b : Block) (c : Counts) {r : CountsTest} (answered : testRefusal r ≡ countsRefusal b c) where
   pub test-fine : r ≡ t.Fine → Fine b c
-  test-fine e = passes-fine b c (sym told ∙ ap testRefusal e)
+  test-fine e = passes-fine b c (sym answered ∙ ap testRefusal e)
 
   pub test-sound : r ≡ t.Fine → Sound b
   test-sound e = sound-of b (test-fine e .sound)
@@ -36,29 +36,29 @@ module _ (b : Block) (c : Counts) {r : CountsTest} (told : testRefusal r ≡ cou
   module _ (buffer : List ℕ) where
     pub print-table : {table : ℕ} → r ≡ t.BadTable table → notWritten (5 ∷ table ∷ []) buffer ≡ printReply b c buffer
     unfolding printReply
-    print-table e = rw (sym told ∙ ap testRefusal e)
+    print-table e = rw (sym answered ∙ ap testRefusal e)
 
     pub print-count : {kind : ℕ} → r ≡ t.BadCount kind → notWritten (13 ∷ kind ∷ []) buffer ≡ printReply b c buffer
     unfolding printReply
-    print-count e = rw (sym told ∙ ap testRefusal e)
+    print-count e = rw (sym answered ∙ ap testRefusal e)
 
     -- the text rests on kinds and capacities alone
     pub print-fine : {reply : WriteReply} → r ≡ t.Fine → reply ≡ textReply (usesText (blockOf (b .kinds) (b .capacities) [] []) c) buffer → reply ≡ printReply b c buffer
     unfolding printReply usesText useLine capacityOf
-    print-fine e is = is ∙ rw (sym told ∙ ap testRefusal e)
+    print-fine e is = is ∙ rw (sym answered ∙ ap testRefusal e)
 
   -- ---- adding
 
   module _ (log : List ℕ) where
-    pub add-table : {table : ℕ} → r ≡ t.BadTable table → addTold (5 ∷ table ∷ []) c ≡ addReply b c log
+    pub add-table : {table : ℕ} → r ≡ t.BadTable table → addReplyWith (5 ∷ table ∷ []) c ≡ addReply b c log
     unfolding addReply
-    add-table e = rw (sym told ∙ ap testRefusal e)
+    add-table e = rw (sym answered ∙ ap testRefusal e)
 
-    pub add-count : {kind : ℕ} → r ≡ t.BadCount kind → addTold (13 ∷ kind ∷ []) c ≡ addReply b c log
+    pub add-count : {kind : ℕ} → r ≡ t.BadCount kind → addReplyWith (13 ∷ kind ∷ []) c ≡ addReply b c log
     unfolding addReply
-    add-count e = rw (sym told ∙ ap testRefusal e)
+    add-count e = rw (sym answered ∙ ap testRefusal e)
 
     -- a log is added by the kinds alone
     pub add-fine : {reply : AddReply} → r ≡ t.Fine → reply ≡ testedReply (blockOf (b .kinds) [] [] []) c log → reply ≡ addReply b c log
     unfolding addReply testedReply withLog usesIn
-    add-fine e is = is ∙ rw (sym told ∙ ap testRefusal e)
+    add-fine e is = is ∙ rw (sym answered ∙ ap testRefusal e)

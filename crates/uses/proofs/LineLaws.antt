@@ -13,12 +13,12 @@ use Rattle.price.specs.Test.{choose}
 use Rattle.search.specs.Block.{Block, blockOf}
 use Rattle.search.specs.Tables.{kindsSound, capacitiesSound}
 use Rattle.search.proofs.BlockLaws.{kinds-few, capacities-long, capacity-most}
-use Rattle.text.specs.Printed.{joined}
+use Rattle.text.specs.Printed.{concatFrom}
 use Rattle.text.specs.Routes.{capped, textReply}
 use Rattle.text.specs.WriteSteps.{Put}
 use Rattle.text.proofs.DecimalLaws.{decimal-length, three-size}
 use Rattle.text.proofs.PlacedLaws.{placed-start}
-use Rattle.text.proofs.JoiningLaws.{joined-alike, joined-size}
+use Rattle.text.proofs.JoiningLaws.{concat-alike, concat-size}
 use Rattle.uses.specs.Uses.{kindCount, logsMost, letterU, overKind, capacityOf, countsOf, useLine, usesText, printReplyOf}
 use Rattle.uses.specs.declared.PrintAnswer.the-variants as p
 use Rattle.uses.specs.Steps.{tallied, totalLine}
@@ -68,10 +68,10 @@ module _ (kinds capacities : List ℕ) (ks : kindsSound kinds ≡ true) (cs : ca
 -- ---- the text
 
 -- it fits the place where it is written first
-pub lines-size : (uses totals : List ℕ) (logs : ℕ) → length (joined (totalLine uses totals logs) 0 kindCount) ≤ 4096
+pub lines-size : (uses totals : List ℕ) (logs : ℕ) → length (concatFrom (totalLine uses totals logs) 0 kindCount) ≤ 4096
 lines-size uses totals logs =
     let most =
-    joined-size (totalLine uses totals logs) 65 0 kindCount
+    concat-size (totalLine uses totals logs) 65 0 kindCount
     (λ k l. omega (
       arith,
       three-size letterU k (getD uses k 0) (getD totals k 0 * logs),
@@ -81,16 +81,16 @@ lines-size uses totals logs =
     )) in
     omega arith
 
-lines-are : (kinds capacities uses totals : List ℕ) (logs : ℕ) → Totals kinds capacities totals → joined (totalLine uses totals logs) 0 kindCount ≡ usesText (blockOf kinds capacities [] []) (countsOf uses logs)
+lines-are : (kinds capacities uses totals : List ℕ) (logs : ℕ) → Totals kinds capacities totals → concatFrom (totalLine uses totals logs) 0 kindCount ≡ usesText (blockOf kinds capacities [] []) (countsOf uses logs)
 unfolding usesText useLine
 lines-are kinds capacities uses totals logs t =
-    joined-alike (totalLine uses totals logs) (useLine (blockOf kinds capacities [] []) (countsOf uses logs)) 0 kindCount (λ k low l. rw (t .each k (omega arith)))
+    concat-alike (totalLine uses totals logs) (useLine (blockOf kinds capacities [] []) (countsOf uses logs)) 0 kindCount (λ k low l. rw (t .each k (omega arith)))
 
 -- ---- the answer
 
 module _ {kinds capacities totals : List ℕ} (uses : List ℕ) (logs : ℕ) (t : Totals kinds capacities totals) where
   abbrev text : List ℕ
-  text = joined (totalLine uses totals logs) 0 kindCount
+  text = concatFrom (totalLine uses totals logs) 0 kindCount
 
   abbrev asked : List ℕ
   asked = usesText (blockOf kinds capacities [] []) (countsOf uses logs)

@@ -11,16 +11,16 @@ use Rattle.negotiation.specs.Samples.{jobB}
 use Rattle.negotiation.proofs.SamplesHold as n-hold
 use Rattle.text.specs.Decimal.{digits, decimal}
 use Rattle.text.specs.Lines.{printFields, printLine}
-use Rattle.text.specs.Printed.{joined}
+use Rattle.text.specs.Printed.{concatFrom}
 use Rattle.text.specs.Routes.{pathSound, recordSound, soundUpTo, soundWords, logSound, notWritten, textReply}
 use Rattle.text.specs.Users.{netsWith}
-use Rattle.uses.specs.Uses.{sumBelow, overKind, usesIn, capacityOf, nodesOf, Counts, countsOf, tooMany, countsRefusal, withLog, addTold, testedReply, addReply, useLine, usesText, printReply}
+use Rattle.uses.specs.Uses.{sumBelow, overKind, usesIn, capacityOf, nodesOf, Counts, countsOf, tooMany, countsRefusal, withLog, addReplyWith, testedReply, addReply, useLine, usesText, printReply}
 use Rattle.uses.specs.Runs.{noCounts}
 
 -- all that closed counts and a closed log compute with
 computing : Unit {0}
 unfolding printReply usesText useLine addReply testedReply withLog countsRefusal tooMany nodesOf capacityOf usesIn netsWith overKind sumBelow
-    textReply logSound soundWords soundUpTo recordSound pathSound treeRead latest nodesIn decode decodeUpTo joined printLine printFields decimal digits
+    textReply logSound soundWords soundUpTo recordSound pathSound treeRead latest nodesIn decode decodeUpTo concatFrom printLine printFields decimal digits
     n-hold.computing
 computing = tt
 
@@ -56,32 +56,32 @@ beyond = 1 ∷ 0 ∷ 4 ∷ 0 ∷ 0 ∷ 3 ∷ 0 ∷ 3 ∷ 4 ∷ 1 ∷ 1 ∷ 5 ∷
 abbrev full : Counts
 full = countsOf (used 0 0 0 0) 65535
 
-pub first-added : addReply block noCounts log ≡ addTold [] (countsOf (used 2 2 1 1) 1)
+pub first-added : addReply block noCounts log ≡ addReplyWith [] (countsOf (used 2 2 1 1) 1)
 unfolding computing
 first-added = refl
 
-pub second-added : addReply block (countsOf (used 2 2 1 1) 1) twice ≡ addTold [] (countsOf (used 4 5 2 2) 2)
+pub second-added : addReply block (countsOf (used 2 2 1 1) 1) twice ≡ addReplyWith [] (countsOf (used 4 5 2 2) 2)
 unfolding computing
 second-added = refl
 
 -- 512 uses of the one node of kind 4 in one log may be, 513 may not
-pub kind-within : addReply block (countsOf (used 0 0 512 0) 1) log ≡ addTold [] (countsOf (used 2 2 513 1) 2)
+pub kind-within : addReply block (countsOf (used 0 0 512 0) 1) log ≡ addReplyWith [] (countsOf (used 2 2 513 1) 2)
 unfolding computing
 kind-within = refl
 
-pub kind-over : addReply block (countsOf (used 0 0 513 513) 1) log ≡ addTold (13 ∷ 4 ∷ []) (countsOf (used 0 0 513 513) 1)
+pub kind-over : addReply block (countsOf (used 0 0 513 513) 1) log ≡ addReplyWith (13 ∷ 4 ∷ []) (countsOf (used 0 0 513 513) 1)
 unfolding computing
 kind-over = refl
 
-pub logs-over : addReply block (countsOf (used 0 0 0 0) 65536) log ≡ addTold (13 ∷ 54 ∷ []) (countsOf (used 0 0 0 0) 65536)
+pub logs-over : addReply block (countsOf (used 0 0 0 0) 65536) log ≡ addReplyWith (13 ∷ 54 ∷ []) (countsOf (used 0 0 0 0) 65536)
 unfolding computing
 logs-over = refl
 
-pub node-beyond : addReply block full beyond ≡ addTold (10 ∷ 9 ∷ []) full
+pub node-beyond : addReply block full beyond ≡ addReplyWith (10 ∷ 9 ∷ []) full
 unfolding computing
 node-beyond = refl
 
-pub logs-full : addReply block full log ≡ addTold (16 ∷ 65535 ∷ []) full
+pub logs-full : addReply block full log ≡ addReplyWith (16 ∷ 65535 ∷ []) full
 unfolding computing
 logs-full = refl
 

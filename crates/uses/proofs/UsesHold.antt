@@ -25,7 +25,7 @@ use Rattle.negotiation.specs.Records.{Record, decode}
 use Rattle.negotiation.specs.Demand.{treeRead}
 use Rattle.text.specs.Routes.{logSound, soundWords}
 use Rattle.text.specs.Users.{netsWith}
-use Rattle.uses.specs.Uses.{kindCount, logsMost, sumBelow, overKind, usesIn, nodesOf, Counts, countsOf, tooMany, countsRefusal, withLog, ofBlock, AddReply, addTold, testedReply, addReply}
+use Rattle.uses.specs.Uses.{kindCount, logsMost, sumBelow, overKind, usesIn, nodesOf, Counts, countsOf, tooMany, countsRefusal, withLog, ofBlock, AddReply, addReplyWith, testedReply, addReply}
 use Rattle.uses.specs.Runs.{treeSize, UsesSum, UsesGrow, TreesWithin, noCounts, afterCalls, Accepted, Reordered, same, swap, under, through, OrderFree, StaysWithin, NeverOver}
 use Rattle.uses.proofs.TreeLaws.{tree-named}
 use Rattle.uses.proofs.SumLaws.{zeros-at, upTo-same, sum-same, sum-plus, sum-turned, count-sum, sum-one, kind-sum-most}
@@ -136,7 +136,7 @@ pub record Adds (b : Block) (c : Counts) (log : List ℕ) : Type 0 where
   pub room : c .logs < logsMost
 
 module _ (b : Block) (c : Counts) (log : List ℕ) where
-  pub adds-reply : Adds b c log → addReply b c log ≡ addTold [] (withLog b c (decode log))
+  pub adds-reply : Adds b c log → addReply b c log ≡ addReplyWith [] (withLog b c (decode log))
   unfolding addReply testedReply
   adds-reply h = rw (fine-passes b c (h .fine), h .log-sound, lt-leb logsMost (c .logs) (h .room))
 

@@ -13,7 +13,7 @@ use Rattle.search.specs.Tables.{faultyTable}
 use Rattle.job.specs.Tables.{netsMost}
 use Rattle.negotiation.specs.Records.{Record, decode}
 use Rattle.text.specs.Lines.{printLine}
-use Rattle.text.specs.Printed.{joined}
+use Rattle.text.specs.Printed.{concatFrom}
 use Rattle.text.specs.Users.{belowNodes, netsWith}
 use Rattle.text.specs.Routes.{Named, logSound, soundWords, WriteReply, notWritten, textReply}
 use Rattle.uses.specs.declared.AddAnswer.{AddAnswer}
@@ -93,18 +93,18 @@ pub record AddReply : Type 0 where
   pub refusal : List ℕ
   pub counts : Counts
 
-abbrev pub addTold : List ℕ → Counts → AddReply
-addTold refusal c = record { refusal = refusal; counts = c }
+abbrev pub addReplyWith : List ℕ → Counts → AddReply
+addReplyWith refusal c = record { refusal = refusal; counts = c }
 
 -- the reply of counts that pass: "Turned away: number 16 with 65,535 for a log beyond so many, after 10."
 unfoldable pub testedReply : Block → Counts → List ℕ → AddReply
 testedReply b c log =
-    choose (not (logSound (ofBlock b) log)) (addTold (10 ∷ soundWords (ofBlock b) log ∷ []) c)
-    (choose (leb logsMost (c .logs)) (addTold (16 ∷ logsMost ∷ []) c) (addTold [] (withLog b c (decode log))))
+    choose (not (logSound (ofBlock b) log)) (addReplyWith (10 ∷ soundWords (ofBlock b) log ∷ []) c)
+    (choose (leb logsMost (c .logs)) (addReplyWith (16 ∷ logsMost ∷ []) c) (addReplyWith [] (withLog b c (decode log))))
 
 -- "a refused log adds nothing"
 unfoldable pub addReply : Block → Counts → List ℕ → AddReply
-addReply b c log = choose (leb 1 (length (countsRefusal b c))) (addTold (countsRefusal b c) c) (testedReply b c log)
+addReply b c log = choose (leb 1 (length (countsRefusal b c))) (addReplyWith (countsRefusal b c) c) (testedReply b c log)
 
 -- 01's numbers for each case of the answer
 abbrev pub addRefusal : AddAnswer → List ℕ
@@ -124,7 +124,7 @@ logsAfter before (a.LogsFull most) = before
 
 -- the answer with the uses at the call's end
 abbrev pub addReplyOf : ℕ → AddAnswer → List ℕ → AddReply
-addReplyOf logs r uses = addTold (addRefusal r) (countsOf uses (logsAfter logs r))
+addReplyOf logs r uses = addReplyWith (addRefusal r) (countsOf uses (logsAfter logs r))
 
 -- ---- printing
 
@@ -134,7 +134,7 @@ unfoldable pub useLine : Block → Counts → ℕ → List ℕ
 useLine b c k = printLine letterU (k ∷ getD (c .uses) k 0 ∷ capacityOf b k * c .logs ∷ [])
 
 unfoldable pub usesText : Block → Counts → List ℕ
-usesText b c = joined (useLine b c) 0 kindCount
+usesText b c = concatFrom (useLine b c) 0 kindCount
 
 -- "A short text buffer is 11."
 unfoldable pub printReply : Block → Counts → List ℕ → WriteReply

@@ -10,6 +10,7 @@ ghost use Rattle.uses.specs.Steps.{AtMost, testRefusal, overNodes};
 use crate::KINDS;
 use crate::LOGS_MOST;
 use crate::tally;
+use search::NODES_MOST;
 
 pub enum CountsTest {
     Fine,
@@ -54,7 +55,7 @@ pub fn test_counts(
     if LOGS_MOST < logs {
         return CountsTest::BadCount(KINDS as u32);
     }
-    let ones = [1u16; 4096];
+    let ones = [1u16; NODES_MOST];
     let mut nodes = [0u64; 54];
     tally::tally(kind, &ones, &mut nodes);
     let over = first_over(uses, &nodes, logs);

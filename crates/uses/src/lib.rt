@@ -44,6 +44,7 @@ mod lines;
 mod tally;
 
 use counts::CountsTest;
+use search::NODES_MOST;
 use text::LogCheck;
 
 // Adds a log to counts that passed their test.
@@ -52,7 +53,7 @@ fn add_tested(kind: &[u8], uses: &mut [u64; 54], logs: u64, log: &[u32]) -> AddA
     ensures { λ r. ⌜ addReplyOf logs r (now (uses .exit))
         ≡ testedReply (blockOf (now (kind .entry)) [] [] []) (countsOf (now (uses .entry)) logs) (now (log .entry)) ⌝ }
 {
-    let mut users = [0u16; 4096];
+    let mut users = [0u16; NODES_MOST];
     match text::node_users(kind.len(), log, &mut users) {
         LogCheck::Unsound(word) => AddAnswer::Unsound(word),
         LogCheck::Sound {

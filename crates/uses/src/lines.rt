@@ -5,7 +5,7 @@ ghost use mathlib.Core.Path.{_≡_};
 ghost use Prim.Native.Nat.{ℕ, _*_, _^_, _≤_, _<_};
 ghost use lib.ListN.{length, getD};
 ghost use Rattle.search.specs.Block.{blockOf};
-ghost use Rattle.text.specs.Printed.{joined};
+ghost use Rattle.text.specs.Printed.{concatFrom};
 ghost use Rattle.text.specs.Routes.{textReply};
 ghost use Rattle.text.specs.WriteSteps.{Put};
 ghost use Rattle.search.specs.Tables.{kindsSound, capacitiesSound};
@@ -14,14 +14,15 @@ ghost use Rattle.uses.specs.Steps.{totalLine};
 use crate::KINDS;
 use crate::PrintAnswer;
 use crate::tally;
+use search::NODES_MOST;
 
 // Writes the lines of all kinds.
 fn put_lines(uses: &[u64], totals: &[u64], logs: u64, buffer: &mut [u8]) -> usize
     requires { ⌜ (length (now uses) ≡ kindCount) × (length (now totals) ≡ kindCount) ⌝ }
     requires { ⌜ ((k : ℕ) → k < kindCount → getD (now totals) k 0 * logs < 2 ^ 64) ⌝ }
-    requires { ⌜ length (joined (totalLine (now uses) (now totals) logs) 0 kindCount) ≤ length (now buffer) ⌝ }
+    requires { ⌜ length (concatFrom (totalLine (now uses) (now totals) logs) 0 kindCount) ≤ length (now buffer) ⌝ }
     ensures { λ r. do
-      let text = joined (totalLine (now (uses .entry)) (now (totals .entry)) logs) 0 kindCount
+      let text = concatFrom (totalLine (now (uses .entry)) (now (totals .entry)) logs) 0 kindCount
       ⌜ Put 0 text (now (buffer .entry)) (now (buffer .exit)) r ⌝ }
 {
     let mut at = 0;
@@ -47,7 +48,7 @@ pub fn put_uses(
       let text = usesText (blockOf (now (kind .entry)) (now (capacity .entry)) [] []) (countsOf (now (uses .entry)) logs)
       ⌜ printReplyOf r (now (buffer .exit)) ≡ textReply text (now (buffer .entry)) ⌝ }
 {
-    let mut wide = [0u16; 4096];
+    let mut wide = [0u16; NODES_MOST];
     tally::widen(capacity, &mut wide);
     let mut totals = [0u64; 54];
     tally::tally(kind, &wide, &mut totals);

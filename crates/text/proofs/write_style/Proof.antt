@@ -19,9 +19,6 @@ use Rattle.text.proofs.write_style.Tie as tie
 table : (c : tie.Else1) → sourcesSound nodesMost (c .before .before .before .before .before .args .source .now) ≡ true
 table c = sym (c .before .sources-sound .ensures) ∙ not-false _ (c .if1 .left)
 
-cast-sources-sound : tie.Need-cast-sources-sound
-cast-sources-sound c = search needs
-
 sources-sound-requires : tie.Need-sources-sound-requires
 sources-sound-requires c κs = search needs
 
@@ -33,9 +30,6 @@ first-marks-requires c κs = sources-few _ _ (table c)
 
 slice-aggregate-check-log : tie.Need-slice-aggregate-check-log
 slice-aggregate-check-log c = search needs
-
-cast-check-log : tie.Need-cast-check-log
-cast-check-log c = search needs
 
 check-log-requires : tie.Need-check-log-requires
 check-log-requires c κs = search needs
@@ -77,12 +71,10 @@ pub write-style-spec : {M : Type 1} → statement M
 write-style-spec =
     tie.close
     (tie.spec
-    cast-sources-sound
     sources-sound-requires
     returns
     first-marks-requires
     slice-aggregate-check-log
-    cast-check-log
     check-log-requires
     enum-known-iteration
     write-text-requires

@@ -3,7 +3,7 @@
 use mathlib.Core.Path.{refl}
 use borrow.Author.Needs.{needs}
 use Rattle.job.proofs.SinkMarkLaws.{unmarked-new}
-use Rattle.negotiation.proofs.KeepProgress.{up-to-is}
+use Rattle.price.proofs.ListLaws.{up-to-is}
 use Rattle.text.proofs.users.count_users.Statement.{statement}
 use Rattle.text.proofs.users.count_users.Tie as tie
 

@@ -4,7 +4,7 @@ use Prim.Native.Nat.{_+_, _-_, _≤_}
 use native.Mathlib.Omega.{arith}
 use lib.ListN.{length}
 use borrow.Author.Needs.{needs}
-use Rattle.text.specs.Printed.{joined}
+use Rattle.text.specs.Printed.{concatFrom}
 use Rattle.text.proofs.LineReplyLaws.{line-put}
 use Rattle.text.proofs.JoiningLaws.{Joining, joining-none, joining-room, joining-more, joining-all, joining-same, from-first}
 use Rattle.uses.specs.Uses.{kindCount, letterU}
@@ -19,7 +19,7 @@ abbrev μ-loop : tie.MeasureT-loop
 μ-loop uses totals logs buffer₀ at₀ k₀ buffer at k = kindCount - k
 
 -- the text has room
-room : (c : tie.Start Inv-loop μ-loop) → 0 + length (joined (totalLine (c .args .uses .now) (c .args .totals .now) (c .args .logs)) 0 (kindCount - 0)) ≤ length (c .args .buffer .now)
+room : (c : tie.Start Inv-loop μ-loop) → 0 + length (concatFrom (totalLine (c .args .uses .now) (c .args .totals .now) (c .args .logs)) 0 (kindCount - 0)) ≤ length (c .args .buffer .now)
 room c = from-first (totalLine (c .args .uses .now) (c .args .totals .now) (c .args .logs)) kindCount 0 (length (c .args .buffer .now)) (omega (arith, c .pre .1 .1))
 
 loop-holds : tie.Need-loop-holds Inv-loop μ-loop
