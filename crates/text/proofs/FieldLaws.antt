@@ -3,13 +3,10 @@
 --     digit-                a byte that is a digit or none
 --     Digits, digits-       the loop over the further digits of a number
 --     field-, comma-        one field
---     rest-                 what is left of a line's fields after one of them
---     FieldRead, field-     a field of a line, as its answer says it
---     fault-on, no-end      a line that is malformed
---     four-read             the fields of a line with its LF
+--     SoFar                 the first fields of a line as they are read: none-yet, field-more, fields-end
 -- Assumes nothing.
 use mathlib.Core.Bool.{Bool, true, false}
-use mathlib.Core.List.{List, [], _∷_}
+use mathlib.Core.List.{List, [], _∷_, _++_, append-nil}
 use mathlib.Core.Logic.{⊎-elim}
 use mathlib.Core.Path.{_≡_, refl, sym, _∙_, ap, subst}
 use Prim.Native.Nat.{ℕ, zero, suc, _+_, _*_, _-_, _^_, _≤_, _<_}
@@ -24,9 +21,11 @@ use Rattle.price.specs.Test.{choose}
 use Rattle.price.proofs.TestLaws.{both-left, both-right, le-or-lt, true≢false}
 use Rattle.text.specs.Decimal.{isDigit}
 use Rattle.text.specs.Lines.{lf, comma, Field, number, fault, digitsAfter, field, Fields, taken, malformed, withValue, afterField, fields, begins}
-use Rattle.text.specs.Steps.{commaField, After, fieldAt, FieldPlace, fieldOf, FieldOn}
+use Rattle.text.specs.Steps.{commaField, After, fieldAt, FieldPlace, placeAfter, noFields, withField, lineEnd, fieldsAt, FieldsPlace}
 use Rattle.text.specs.declared.fields.Field as fieldType
 use Rattle.text.specs.declared.fields.Field.the-variants as f
+use Rattle.text.specs.declared.fields.LineFields.{LineFields}
+use Rattle.text.specs.declared.fields.LineFields.the-variants as l
 
 -- ---- the byte at a place
 
@@ -191,50 +190,6 @@ unfolding fields commaField
 fields-suc k [] = refl
 fields-suc k (b ∷ bs) = comma-or-fault (eqb b comma) (field bs) (λ rest. fields k rest)
 
--- the others with this one before them, where the line has it
-abbrev withDue : Bool → ℕ → Fields → Fields
-withDue true v others = withValue v others
-withDue false v others = others
-
-due-malformed : (t : Bool) (v : ℕ) → withDue t v malformed ≡ malformed
-due-malformed true v = refl
-due-malformed false v = refl
-
--- a field that was read: what is left of the line goes on after it
-rest-read :
-    (k count v : ℕ) (bs rest : List ℕ) → fieldOf k count bs ≡ number v rest
-    → fields (count - k) bs ≡ withDue (ltb k count) v (fields (count - (k + 1)) rest)
-unfolding fieldOf
-rest-read k count v bs rest is =
-    ⊎-elim
-    (λ (past : count ≤ k).
-    let none : ltb k count ≡ false = le-ltb k count past in
-    let here : number 0 bs ≡ number v rest = rw none at is in
-    let same : bs ≡ rest = cc in
-    let left : count - k ≡ 0 = omega arith in
-    let less : count - (k + 1) ≡ 0 = omega arith in
-    rw (none, left, less, same))
-    (λ (due : k < count).
-    let some : ltb k count ≡ true = lt-ltb k count due in
-    let here : commaField bs ≡ number v rest = rw some at is in
-    let left : count - k ≡ suc (count - (k + 1)) = omega arith in
-    rw (some, left) (fields-suc (count - (k + 1)) bs ∙ rw here))
-    (le-or-lt count k)
-
-rest-fault : (k count : ℕ) (bs : List ℕ) → fieldOf k count bs ≡ fault → fields (count - k) bs ≡ malformed
-unfolding fieldOf
-rest-fault k count bs is =
-    ⊎-elim
-    (λ (past : count ≤ k).
-    let here : number 0 bs ≡ fault = rw (le-ltb k count past) at is in
-    let z : _≡_ {A = ℕ} 0 1 = cc in
-    absurd (omega arith))
-    (λ (due : k < count).
-    let here : commaField bs ≡ fault = rw (lt-ltb k count due) at is in
-    let left : count - k ≡ suc (count - (k + 1)) = omega arith in
-    rw left (fields-suc (count - (k + 1)) bs ∙ rw here))
-    (le-or-lt count k)
-
 pub fields-no-end : (bs : List ℕ) → begins lf bs ≡ false → fields 0 bs ≡ malformed
 unfolding begins fields
 fields-no-end [] e = refl
@@ -245,74 +200,96 @@ unfolding begins fields
 fields-nil [] e = absurd (true≢false (sym e))
 fields-nil (b ∷ bs) e = rw e
 
--- field k of so many, where the line has it and where it hasn't
-module _ (k count : ℕ) (bs : List ℕ) where
-  pub field-none : count ≤ k → number 0 bs ≡ fieldOf k count bs
-  unfolding fieldOf
-  field-none past = rw (le-ltb k count past)
+-- the fields read before these
+abbrev pub withValues : List ℕ → Fields → Fields
+withValues vs (taken ws rest) = taken (vs ++ ws) rest
+withValues vs malformed = malformed
 
-  pub field-due : {x : Field} → k < count → x ≡ commaField bs → x ≡ fieldOf k count bs
-  unfolding fieldOf
-  field-due due e = rw (lt-ltb k count due) e
+none-before : (x : Fields) → withValues [] x ≡ x
+none-before (taken ws rest) = refl
+none-before malformed = refl
 
-pub field-on : (at : ℕ) (text : List ℕ) (r : fieldType.Field) → FieldPlace at text r → FieldOn at r
-field-on at text (f.Number value next) p = p .0
-field-on at text f.Fault p = tt
+-- one value more: field k takes its place behind those before it
+one-more :
+    (k v a b c d : ℕ) (x : Fields) → k < 4
+    → withValues (take k (a ∷ b ∷ c ∷ d ∷ [])) (withValue v x)
+    ≡ withValues (take (k + 1) (choose (eqb k 0) v a ∷ choose (eqb k 1) v b ∷ choose (eqb k 2) v c ∷ choose (eqb k 3) v d ∷ [])) x
+one-more k v a b c d malformed few = refl
+one-more zero v a b c d (taken ws rest) few = refl
+one-more (suc zero) v a b c d (taken ws rest) few = refl
+one-more (suc (suc zero)) v a b c d (taken ws rest) few = refl
+one-more (suc (suc (suc zero))) v a b c d (taken ws rest) few = refl
+one-more (suc (suc (suc (suc k)))) v a b c d (taken ws rest) few = absurd (omega arith)
 
--- field k was read, from a place to the next
-pub record FieldRead (count k at : ℕ) (text : List ℕ) (value next : ℕ) : Type 0 where
-  pub is : fieldOf k count (drop at text) ≡ number value (drop next text)
-  pub on : at ≤ next
+-- the first k of a line's fields have been read, from one place to another; the line is the values and what is left
+abbrev pub SoFar : (count k from at : ℕ) (text : List ℕ) → LineFields → Type 0
+SoFar count k from at text (l.Fields a b c d next) =
+    (from ≤ at) × (count ≤ 4 → fields count (drop from text) ≡ withValues (take k (a ∷ b ∷ c ∷ d ∷ [])) (fields (count - k) (drop at text)))
+SoFar count k from at text l.Fault = count ≤ 4 → fields count (drop from text) ≡ malformed
 
-pub field-read :
-    {r : fieldType.Field} {k count value next at : ℕ} {text : List ℕ} → r ≡ f.Number value next
-    → (fieldAt text r ≡ fieldOf k count (drop at text)) × FieldOn at r → FieldRead count k at text value next
-field-read {at = at} {text = text} e p =
-    record { is = sym (p .0) ∙ ap (fieldAt text) e; on = subst (FieldOn at) e (p .1) }
+pub none-yet : (count at : ℕ) (text : List ℕ) → SoFar count 0 at at text noFields
+none-yet count at text =
+    let same : count - 0 ≡ count = omega arith in
+    (omega arith, λ few. rw same (sym (none-before (fields count (drop at text)))))
 
-pub field-missing :
-    {r : fieldType.Field} (k count : ℕ) (text bs : List ℕ) → r ≡ f.Fault → fieldAt text r ≡ fieldOf k count bs
-    → fields (count - k) bs ≡ malformed
-field-missing k count text bs e is = rest-fault k count bs (sym is ∙ ap (fieldAt text) e)
+module _ (count k from at : ℕ) (text : List ℕ) (due : k < count) where
+  -- what is left begins with a field
+  rest-is : fields (count - k) (drop at text) ≡ afterField (commaField (drop at text)) (λ rest. fields (count - (k + 1)) rest)
+  rest-is =
+      let left : count - k ≡ suc (count - (k + 1)) = omega arith in
+      rw left (fields-suc (count - (k + 1)) (drop at text))
 
--- a fault further on is a fault of the whole line
-pub fault-on :
-    {count k at value next : ℕ} {text : List ℕ} → FieldRead count k at text value next
-    → fields (count - (k + 1)) (drop next text) ≡ malformed → fields (count - k) (drop at text) ≡ malformed
-fault-on {count} {k} {at} {value} {next} {text} one e =
-    rest-read k count value (drop at text) (drop next text) (one .is) ∙ rw e (due-malformed (ltb k count) value)
+  -- field k is read
+  pub field-more :
+      (line : LineFields) (read : fieldType.Field) → fieldAt text read ≡ commaField (drop at text) → FieldPlace at text read
+      → SoFar count k from at text line → SoFar count (k + 1) from (placeAfter read at) text (withField line k read)
+  field-more l.Fault read e p so-far = so-far
+  field-more (l.Fields a b c d next) f.Fault e p so-far = λ few. so-far .1 few ∙ rw (rest-is, sym e)
+  field-more (l.Fields a b c d next) (f.Number v n) e p so-far = (
+    omega (arith, so-far .0, p .0),
+    λ few. so-far .1 few ∙ rw (rest-is, sym e) (one-more k v a b c d (fields (count - (k + 1)) (drop n text)) (omega arith)),
+  )
 
--- before the first field all are left
-pub all-fields : (count : ℕ) (bs : List ℕ) → fields count bs ≡ fields (count - 0) bs
-all-fields count bs = let same : count - 0 ≡ count = omega arith in rw same
+-- what the functions of a line's fields give, by their answers
+module _ {line : LineFields} {a b c d before : ℕ} (is : line ≡ l.Fields a b c d before) where
+  pub with-fault : (k : ℕ) {read : fieldType.Field} → read ≡ f.Fault → l.Fault ≡ withField line k read
+  with-fault k e = rw (is, e)
 
--- without an LF the line is malformed
-pub no-end : (count at : ℕ) (text : List ℕ) → count ≤ 4 → begins lf (drop at text) ≡ false → fields (count - 4) (drop at text) ≡ malformed
-no-end count at text few e = let none : count - 4 ≡ 0 = omega arith in rw none (fields-no-end (drop at text) e)
+  pub with-number :
+      (k : ℕ) {v next a' b' c' d' : ℕ} {read : fieldType.Field} → read ≡ f.Number v next → a' ≡ choose (eqb k 0) v a → b' ≡ choose (eqb k 1) v b
+      → c' ≡ choose (eqb k 2) v c → d' ≡ choose (eqb k 3) v d → l.Fields a' b' c' d' next ≡ withField line k read
+  with-number k e one two three four = rw (is, e, one, two, three, four)
 
--- so many of four values
-first-few :
-    (count a b c d : ℕ) (rest : List ℕ) → count ≤ 4
-    → withDue (ltb 0 count) a (withDue (ltb 1 count) b (withDue (ltb 2 count) c (withDue (ltb 3 count) d (taken [] rest))))
-    ≡ taken (take count (a ∷ b ∷ c ∷ d ∷ [])) rest
-first-few zero a b c d rest few = refl
-first-few (suc zero) a b c d rest few = refl
-first-few (suc (suc zero)) a b c d rest few = refl
-first-few (suc (suc (suc zero))) a b c d rest few = refl
-first-few (suc (suc (suc (suc zero)))) a b c d rest few = refl
-first-few (suc (suc (suc (suc (suc k))))) a b c d rest few = absurd (omega arith)
+  pub end-missing : (at : ℕ) (text : List ℕ) → begins lf (drop at text) ≡ false → l.Fault ≡ lineEnd text at line
+  end-missing at text e = rw (is, e)
 
--- four fields and the LF after them
-pub four-read :
-    {count at one two three four a b c d : ℕ} {text : List ℕ} → FieldRead count 0 at text a one → FieldRead count 1 one text b two
-    → FieldRead count 2 two text c three → FieldRead count 3 three text d four → count ≤ 4 → begins lf (drop four text) ≡ true
-    → taken (take count (a ∷ b ∷ c ∷ d ∷ [])) (drop (four + 1) text) ≡ fields count (drop at text)
-four-read {count} {at} {one} {two} {three} {four} {a} {b} {c} {d} {text} p q r s few e =
-    let none : count - 4 ≡ 0 = omega arith in
-    let end : fields (count - 4) (drop four text) ≡ taken [] (drop (four + 1) text) =
-    rw none (fields-nil (drop four text) e ∙ ap (taken []) (drop-drop 1 four text)) in
-    let last = rest-read 3 count d (drop three text) (drop four text) (s .is) ∙ ap (withDue (ltb 3 count) d) end in
-    let third = rest-read 2 count c (drop two text) (drop three text) (r .is) ∙ ap (withDue (ltb 2 count) c) last in
-    let second = rest-read 1 count b (drop one text) (drop two text) (q .is) ∙ ap (withDue (ltb 1 count) b) third in
-    let first = rest-read 0 count a (drop at text) (drop one text) (p .is) ∙ ap (withDue (ltb 0 count) a) second in
-    sym (all-fields count (drop at text) ∙ first ∙ first-few count a b c d (drop (four + 1) text) few)
+  pub end-there : (at : ℕ) (text : List ℕ) → begins lf (drop at text) ≡ true → l.Fields a b c d (at + 1) ≡ lineEnd text at line
+  end-there at text e = rw (is, e)
+
+-- all fields have been read, and the LF stands after them or doesn't
+module _ (count from at a b c d : ℕ) (text : List ℕ) (on : from ≤ at) (is : count ≤ 4 → fields count (drop from text) ≡ withValues (take count (a ∷ b ∷ c ∷ d ∷ [])) (fields (count - count) (drop at text))) where
+  abbrev Ends : LineFields → Type 0
+  Ends line = (count ≤ 4 → fieldsAt count text line ≡ fields count (drop from text)) × FieldsPlace from text line
+
+  ends-by : (t : Bool) → begins lf (drop at text) ≡ t → Ends (choose t (l.Fields a b c d (at + 1)) l.Fault)
+  ends-by true e =
+      let none : count - count ≡ 0 = omega arith in
+      let inside : at < length text = begins-within lf at text e in
+      let end : fields (count - count) (drop at text) ≡ taken [] (drop (at + 1) text) =
+      rw none (fields-nil (drop at text) e ∙ ap (taken []) (drop-drop 1 at text)) in
+      let vs = take count (a ∷ b ∷ c ∷ d ∷ []) in (
+        λ few. sym (is few ∙ ap (withValues vs) end ∙ ap (λ (ws : List ℕ). taken ws (drop (at + 1) text)) (append-nil vs)),
+        (omega arith, omega arith),
+      )
+  ends-by false e =
+      let none : count - count ≡ 0 = omega arith in
+      let vs = take count (a ∷ b ∷ c ∷ d ∷ []) in
+      let end : fields (count - count) (drop at text) ≡ malformed = rw none (fields-no-end (drop at text) e) in
+      (λ few. sym (is few ∙ ap (withValues vs) end), tt)
+
+pub fields-end :
+    (count from at : ℕ) (text : List ℕ) (line : LineFields) → SoFar count count from at text line
+    → (count ≤ 4 → fieldsAt count text (lineEnd text at line) ≡ fields count (drop from text)) × FieldsPlace from text (lineEnd text at line)
+fields-end count from at text l.Fault so-far = (λ few. sym (so-far few), tt)
+fields-end count from at text (l.Fields a b c d next) so-far =
+    ends-by count from at a b c d text (so-far .0) (so-far .1) (begins lf (drop at text)) refl

@@ -10,7 +10,7 @@ use Rattle.price.specs.Test.{choose}
 use Rattle.price.specs.Lists.{has}
 use Rattle.search.specs.Replies.{sinksMost}
 use Rattle.job.specs.declared.Terms.{Terms}
-use Rattle.text.specs.Lines.{Field, number, fault, Fields, taken, malformed, field, comma, begins, line}
+use Rattle.text.specs.Lines.{Field, number, fault, Fields, taken, malformed, field, lf as lineFeed, comma, begins, line}
 use Rattle.text.specs.JobText.{Reading, values, refused, Part, part, stopped, NodeLists, nodeLists, EdgeLists}
 use Rattle.text.specs.JobText.{NetLists, netLists, lastOf, sinksNow, firstPlaces}
 use Rattle.text.specs.declared.fields.Field as fieldType
@@ -56,13 +56,25 @@ abbrev pub FieldPlace : ℕ → List ℕ → fieldType.Field → Type 0
 FieldPlace at text (f.Number value next) = After at text next
 FieldPlace at text f.Fault = Unit {0}
 
--- field k of a line of so many; a line without it goes no further
-unfoldable pub fieldOf : ℕ → ℕ → List ℕ → Field
-fieldOf k count bs = choose (ltb k count) (commaField bs) (number 0 bs)
+-- the place after a field; a fault goes no further
+abbrev pub placeAfter : fieldType.Field → ℕ → ℕ
+placeAfter (f.Number value next) at = next
+placeAfter f.Fault at = at
 
-abbrev pub FieldOn : ℕ → fieldType.Field → Type 0
-FieldOn at (f.Number value next) = at ≤ next
-FieldOn at f.Fault = Unit {0}
+-- a line's fields as they are read: none, one more, and the LF after the last
+abbrev pub noFields : LineFields
+noFields = lf.Fields 0 0 0 0 0
+
+abbrev pub withField : LineFields → ℕ → fieldType.Field → LineFields
+withField (lf.Fields first second third fourth before) k (f.Number v next) =
+    lf.Fields (choose (eqb k 0) v first) (choose (eqb k 1) v second) (choose (eqb k 2) v third) (choose (eqb k 3) v fourth) next
+withField (lf.Fields first second third fourth before) k f.Fault = lf.Fault
+withField lf.Fault k read = lf.Fault
+
+abbrev pub lineEnd : List ℕ → ℕ → LineFields → LineFields
+lineEnd text at (lf.Fields first second third fourth before) =
+    choose (begins lineFeed (drop at text)) (lf.Fields first second third fourth (at + 1)) lf.Fault
+lineEnd text at lf.Fault = lf.Fault
 
 -- a line's fields by their count
 abbrev pub fieldsAt : ℕ → List ℕ → LineFields → Fields

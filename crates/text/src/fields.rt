@@ -4,7 +4,8 @@ ghost use Prim.Native.Nat.{_+_, _≤_, _<_};
 ghost use lib.ListN.{length, drop};
 ghost use Rattle.text.specs.Decimal.{isDigit};
 ghost use Rattle.text.specs.Lines.{digitsAfter, field, fields, line, begins};
-ghost use Rattle.text.specs.Steps.{commaField, fieldAt, FieldPlace, fieldOf, FieldOn, fieldsAt, FieldsPlace};
+ghost use Rattle.price.specs.Test.{choose};
+ghost use Rattle.text.specs.Steps.{commaField, fieldAt, FieldPlace, noFields, withField, placeAfter, lineEnd, fieldsAt, FieldsPlace};
 use crate::decimal::LF;
 
 pub enum Field {
@@ -114,51 +115,77 @@ fn comma_field(text: &[u8], at: usize) -> Field
     number(text, at + 1)
 }
 
-// Field k of a line of so many. A line without it gives 0 and goes no further.
-fn field_of(text: &[u8], at: usize, k: usize, count: usize) -> Field
-    ensures { λ r. ⌜ fieldAt (now (text .entry)) r ≡ fieldOf k count (drop at (now (text .entry))) ⌝ }
-    ensures { λ r. ⌜ FieldOn at r ⌝ }
+// A line none of whose fields has been read.
+fn no_fields() -> LineFields
+    ensures { λ r. ⌜ r ≡ noFields ⌝ }
 {
-    if count <= k {
-        return Field::Number { value: 0, next: at };
+    LineFields::Fields {
+        first: 0,
+        second: 0,
+        third: 0,
+        fourth: 0,
+        next: 0,
     }
-    comma_field(text, at)
 }
 
-// The fields of a line and its LF, at a place of the text.
-fn fields_at(text: &[u8], at: usize, count: usize) -> LineFields
-    ensures { λ r. ⌜ (count ≤ 4 → fieldsAt count (now (text .entry)) r ≡ fields count (drop at (now (text .entry)))) ⌝ }
-    ensures { λ r. ⌜ FieldsPlace at (now (text .entry)) r ⌝ }
+// This number or the other.
+fn one_of_two(first: bool, one: u32, other: u32) -> u32
+    ensures { λ r. ⌜ r ≡ choose first one other ⌝ }
 {
-    let Field::Number {
-        value: first,
-        next: one,
-    } = field_of(text, at, 0, count)
+    if first { one } else { other }
+}
+
+// The line with field k read. A fault, of this field or of one before it, is the line's.
+fn with_field(line: LineFields, k: usize, read: Field) -> LineFields
+    ensures { λ r. ⌜ r ≡ withField line k read ⌝ }
+{
+    let LineFields::Fields {
+        first,
+        second,
+        third,
+        fourth,
+        ..
+    } = line
     else {
         return LineFields::Fault;
     };
-    let Field::Number {
-        value: second,
-        next: two,
-    } = field_of(text, one, 1, count)
+    let Field::Number { value, next } = read else {
+        return LineFields::Fault;
+    };
+    LineFields::Fields {
+        first: one_of_two(k == 0, value, first),
+        second: one_of_two(k == 1, value, second),
+        third: one_of_two(k == 2, value, third),
+        fourth: one_of_two(k == 3, value, fourth),
+        next: next,
+    }
+}
+
+// The place after a field; a fault goes no further.
+fn place_after(read: Field, at: usize) -> usize
+    ensures { λ r. ⌜ r ≡ placeAfter read at ⌝ }
+{
+    match read {
+        Field::Number { next, .. } => next,
+        Field::Fault => at,
+    }
+}
+
+// The line's fields with the place after its LF, which stands here or is missing.
+fn line_end(text: &[u8], at: usize, line: LineFields) -> LineFields
+    ensures { λ r. ⌜ r ≡ lineEnd (now (text .entry)) at line ⌝ }
+{
+    let LineFields::Fields {
+        first,
+        second,
+        third,
+        fourth,
+        ..
+    } = line
     else {
         return LineFields::Fault;
     };
-    let Field::Number {
-        value: third,
-        next: three,
-    } = field_of(text, two, 2, count)
-    else {
-        return LineFields::Fault;
-    };
-    let Field::Number {
-        value: fourth,
-        next: four,
-    } = field_of(text, three, 3, count)
-    else {
-        return LineFields::Fault;
-    };
-    if !byte_is(text, four, LF) {
+    if !byte_is(text, at, LF) {
         return LineFields::Fault;
     }
     LineFields::Fields {
@@ -166,7 +193,7 @@ fn fields_at(text: &[u8], at: usize, count: usize) -> LineFields
         second: second,
         third: third,
         fourth: fourth,
-        next: four + 1,
+        next: at + 1,
     }
 }
 
@@ -177,14 +204,26 @@ fn reader_at<'a>(text: &'a [u8], at: usize) -> JobReader<'a>
     JobReader { text, at }
 }
 
-// The fields of the line that the reader has come to.
+// The fields of the line that the reader has come to: it moves from field to field, and no further after a fault.
 fn read_fields<'a>(r: JobReader<'a>, count: usize) -> LineFields
     ensures { λ f. do
       let bytes = drop (r .entry .at) (now (r .entry .text))
       ⌜ (count ≤ 4 → fieldsAt count (now (r .entry .text)) f ≡ fields count bytes) ⌝ }
     ensures { λ f. ⌜ FieldsPlace (r .entry .at) (now (r .entry .text)) f ⌝ }
 {
-    fields_at(r.text, r.at, count)
+    let mut reader = r;
+    let mut line = no_fields();
+    let mut k: usize = 0;
+    while k < count {
+        let read = comma_field(reader.text, reader.at);
+        line = with_field(line, k, read);
+        reader = JobReader {
+            text: reader.text,
+            at: place_after(read, reader.at),
+        };
+        k += 1;
+    }
+    line_end(reader.text, reader.at, line)
 }
 
 // The fields of a line, which a reader carries.
