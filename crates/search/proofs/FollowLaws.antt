@@ -7,7 +7,7 @@ use mathlib.Core.Bool.{true, false}
 use mathlib.Core.List.{List, [], _∷_}
 use mathlib.Core.Logic.{⊎-elim}
 use mathlib.Core.Path.{_≡_, refl, sym, _∙_, ap}
-use Prim.Native.Nat.{ℕ, zero, suc, _+_, _-_, _≤_, _<_}
+use Prim.Native.Nat.{ℕ, zero, suc, _+_, _-_, _%_, _≤_, _<_}
 use native.Mathlib.Nat.{not-suc-le-zero, le-of-suc-le-suc, eq-or-lt-of-le}
 use native.Mathlib.Omega.{arith}
 use lib.Dec.{leb}
@@ -205,7 +205,7 @@ module _ {n : ℕ} {marks w : List ℕ} {sink count : ℕ} {w′ : List ℕ} {v 
   pub writing-more : 1 < i → Writing n marks w sink count (set w′ (i - 1) v) (fromAt n (set w′ (i - 1) v) v) (i - 1)
   writing-more l =
       let same : SameBut 0 n w (set w′ (i - 1) v) = same-store 0 n w w′ (i - 1) v (omega arith) (omega (arith, s .most)) (s .same) in
-      let before : fromAt n (set w′ (i - 1) v) v ≡ fromAt n w v = same .high (n + v) (omega arith) in
+      let before : fromAt n (set w′ (i - 1) v) v ≡ fromAt n w v = ap (λ (x : ℕ). x % 65536) (same .high (n + v) (omega arith)) in
       let part : slice (i - 1) count (set w′ (i - 1) v) ≡ v ∷ slice i count w′ = slice-store w′ (i - 1) i count v (omega arith) (omega (arith, s .most)) (omega (arith, leads .long, s .same .long)) in
       record {
         least = omega arith;

@@ -3,8 +3,8 @@
 use mathlib.Core.Bool.{true, false}
 use mathlib.Core.List.{List, _++_}
 use mathlib.Core.Logic.{_⊎_, ⊎-elim, inl, inr}
-use mathlib.Core.Path.{_≡_, sym, _∙_}
-use Prim.Native.Nat.{ℕ, _+_, _-_, _*_, _≤_, _<_}
+use mathlib.Core.Path.{_≡_, sym, _∙_, ap}
+use Prim.Native.Nat.{ℕ, _+_, _-_, _*_, _/_, _≤_, _<_}
 use native.Mathlib.Omega.{arith}
 use lib.Dec.{leb, eqb}
 use lib.ListN.{length, getD, take, drop, replicate}
@@ -19,7 +19,7 @@ use Rattle.search.specs.Distance.{far, inTree}
 use Rattle.search.specs.Turn.{Congestion, turn}
 use Rattle.search.specs.Held.{heldPrice, Lent}
 use Rattle.search.specs.Replies.{workNeeded, fittingLengths, fitting, turnReply, pathReplyOf}
-use Rattle.search.specs.Labels.{goal, labelAt, waitAt, keyAt}
+use Rattle.search.specs.Labels.{goal, labelAt, waitAt, keyAt, besideAt}
 use Rattle.search.specs.Spread.{bare, bareCount, Spread, RunReady, Ran}
 use Rattle.search.specs.TurnWork.{Fitted, TreeMarked, GoalsMarked, LeastGoal, Read}
 use Rattle.search.specs.declared.PathAnswer.{PathAnswer}
@@ -109,7 +109,10 @@ module _ {n : ℕ} {marks sinks w₀ w₁ w₂ : List ℕ} {count : ℕ} (t : Tr
       (g .only v h)
 
   marked-wait : (i : ℕ) → waitAt n w₂ i ≡ waitAt n w₁ i
-  marked-wait i = g .same .high (2 * n + i) (omega arith)
+  marked-wait i = ap (λ (x : ℕ). x / 65536) (g .same .high (n + i) (omega arith))
+
+  marked-beside : (i : ℕ) → besideAt n w₂ i ≡ besideAt n w₁ i
+  marked-beside i = g .same .high (2 * n + i) (omega arith)
 
   marked-key : (i : ℕ) → i < count → keyAt n w₂ i ≡ 0
   marked-key i l =
@@ -144,6 +147,7 @@ marked-spread b price {marks} {sinks} {w₀} {w₁} {w₂} {count} t g long =
         few = omega arith;
         ordered = λ i c a e l. rw (marked-key t g i (omega arith), marked-key t g c l) (omega arith);
         nodes = λ i l. rw (marked-wait t g i) (t .nodes i l);
+        keyed = λ i l. marked-beside t g i ∙ t .beside i l ∙ sym (marked-key t g i l);
       };
       room = rw same room;
       waits-label = λ i l. rw (marked-key t g i l) (omega arith);

@@ -5,7 +5,7 @@
 use mathlib.Core.List.{List}
 use mathlib.Core.Logic.{_⊎_, ⊎-elim, inl, inr}
 use mathlib.Core.Path.{_≡_, refl, _∙_}
-use Prim.Native.Nat.{ℕ, _+_, _-_, _*_, _^_, _≤_, _<_, min}
+use Prim.Native.Nat.{ℕ, _+_, _-_, _*_, _/_, _^_, _≤_, _<_, min}
 use native.Mathlib.Nat.{le-refl, le-trans}
 use native.Mathlib.Omega.{arith}
 use lib.ListN.{length, getD}
@@ -192,8 +192,8 @@ raised level′ s above near = record {
 }
 
 -- the heap's first entry
-first-wait : (n : ℕ) (w : List ℕ) → waitAt n w 0 ≡ getD w (2 * n) 0
-first-wait n w = let z : 2 * n + 0 ≡ 2 * n = omega arith in rw z
+first-wait : (n : ℕ) (w : List ℕ) → waitAt n w 0 ≡ getD w n 0 / 65536
+first-wait n w = let z : n + 0 ≡ n = omega arith in rw z
 
 module _ {b : Block} {price : ℕ → ℕ} {w₀ w : List ℕ} {best count : ℕ} (r : Running b price w₀ w best count) where
   pub run-end : {step : ℕ} → count ≤ 0 → Ran b price step w₀ w best
@@ -206,30 +206,30 @@ module _ {b : Block} {price : ℕ → ℕ} {w₀ w : List ℕ} {best count : ℕ
   }
 
   module _ (some : 0 < count) where
-    pub run-node : getD w (2 * nodes b) 0 < nodes b
+    pub run-node : getD w (nodes b) 0 / 65536 < nodes b
     run-node = rw (first-wait (nodes b) w) at (r .spread .heap .nodes 0 some)
 
-    run-key : keyAt (nodes b) w 0 ≡ labelAt w (getD w (2 * nodes b) 0)
+    run-key : keyAt (nodes b) w 0 ≡ labelAt w (getD w (nodes b) 0 / 65536)
     run-key = rw (first-wait (nodes b) w)
 
-    run-label : labelAt w (getD w (2 * nodes b) 0) < goal
+    run-label : labelAt w (getD w (nodes b) 0 / 65536) < goal
     run-label = rw run-key at (r .spread .waits-label 0 some)
 
-    run-raised : Spread b price w count (labelAt w (getD w (2 * nodes b) 0)) (nodes b) 0
+    run-raised : Spread b price w count (labelAt w (getD w (nodes b) 0 / 65536)) (nodes b) 0
     run-raised =
-        let level : r .level ≤ labelAt w (getD w (2 * nodes b) 0) = rw run-key at (r .spread .waits-far 0 some) in
-        raised (labelAt w (getD w (2 * nodes b) 0)) (r .spread)
+        let level : r .level ≤ labelAt w (getD w (nodes b) 0 / 65536) = rw run-key at (r .spread .waits-far 0 some) in
+        raised (labelAt w (getD w (nodes b) 0 / 65536)) (r .spread)
         (λ i l. rw run-key at (heap-least (nodes b) count w (r .spread .heap .ordered) i l))
         (λ v h c l. le-trans (c .near) level)
 
-    pub run-fits : {step : ℕ} → nodes b ≤ nodesMost → step ≤ anyPriceMost → labelAt w (getD w (2 * nodes b) 0) + step < 2 ^ 64
+    pub run-fits : {step : ℕ} → nodes b ≤ nodesMost → step ≤ anyPriceMost → labelAt w (getD w (nodes b) 0 / 65536) + step < 2 ^ 64
     run-fits few small =
-        let m : labelAt w (getD w (2 * nodes b) 0) + bareCount (nodes b) w * priceMost ≤ nodes b * priceMost = r .spread .bound (getD w (2 * nodes b) 0) run-node run-label in
+        let m : labelAt w (getD w (nodes b) 0 / 65536) + bareCount (nodes b) w * priceMost ≤ nodes b * priceMost = r .spread .bound (getD w (nodes b) 0 / 65536) run-node run-label in
         let top : nodes b * priceMost < pathMost = path-most (nodes b) few in
         omega arith
 
-    pub run-early : {step : ℕ} → best < labelAt w (getD w (2 * nodes b) 0) + step → Ran b price step w₀ w best
-    run-early less = record { count = count; level = labelAt w (getD w (2 * nodes b) 0); spread = run-raised; onward = r .onward; stopped = inr less }
+    pub run-early : {step : ℕ} → best < labelAt w (getD w (nodes b) 0 / 65536) + step → Ran b price step w₀ w best
+    run-early less = record { count = count; level = labelAt w (getD w (nodes b) 0 / 65536); spread = run-raised; onward = r .onward; stopped = inr less }
 
     pub run-take : nodes b ≤ nodesMost → Heaped (nodes b) (count - 1 + 1) w × (nodes b < 65536)
     run-take few =
@@ -239,10 +239,10 @@ module _ {b : Block} {price : ℕ → ℕ} {w₀ w : List ℕ} {best count : ℕ
     -- the first entry is taken out
     module _ {w₁ : List ℕ} (t : Taken (nodes b) (count - 1) w w₁) where
       took-label : (x : ℕ) → x < nodes b → labelAt w₁ x ≡ labelAt w x
-      took-label x h = t .same .low x (omega arith)
+      took-label x h = t .moved .same .low x h
 
       took-from : (x : ℕ) → x < nodes b → fromAt (nodes b) w₁ x ≡ fromAt (nodes b) w x
-      took-from x h = t .same .low (nodes b + x) (omega arith)
+      took-from x h = t .moved .from x h
 
       took-bare : bareCount (nodes b) w₁ ≡ bareCount (nodes b) w
       took-bare = count-same (bare w₁) (bare w) (nodes b) (λ x k. rw (took-label x k))
@@ -279,16 +279,16 @@ module _ {b : Block} {price : ℕ → ℕ} {w₀ w : List ℕ} {best count : ℕ
                 rw at (f .lowest p′ (omega arith));
           }
 
-      took-spread : Spread b price w₁ (count - 1) (labelAt w (getD w (2 * nodes b) 0)) (getD w (2 * nodes b) 0) 0
+      took-spread : Spread b price w₁ (count - 1) (labelAt w (getD w (nodes b) 0 / 65536)) (getD w (nodes b) 0 / 65536) 0
       took-spread =
           let s = run-raised in
           record {
-            heap = record { long = rw (t .same .long) (s .heap .long); few = let f = s .heap .few in omega arith; ordered = t .ordered; nodes = took-node };
+            heap = record { long = rw (t .moved .same .long) (s .heap .long); few = let f = s .heap .few in omega arith; ordered = t .ordered; nodes = took-node; keyed = t .keyed };
             room = rw took-bare (let f = s .room in omega arith);
             waits-label = λ i l. let q = took-key i l in rw (q .2) (s .waits-label (q .0) (q .1));
             waits-far = λ i l. let q = took-key i l in rw (q .2) (s .waits-far (q .0) (q .1));
             bound = λ x h l. rw (took-label x h, took-bare) (s .bound x h (rw (took-label x h) at l));
-            came = λ x h p l. took-came (labelAt w (getD w (2 * nodes b) 0)) x h (s .came x h (rw (took-label x h) at p) (rw (took-label x h) at l));
+            came = λ x h p l. took-came (labelAt w (getD w (nodes b) 0 / 65536)) x h (s .came x h (rw (took-label x h) at p) (rw (took-label x h) at l));
             done = λ x h l.
                 ⊎-elim
                 (λ (q : Waits (nodes b) count w x).
@@ -306,15 +306,15 @@ module _ {b : Block} {price : ℕ → ℕ} {w₀ w : List ℕ} {best count : ℕ
                 (s .done x h (rw (took-label x h) at l));
           }
 
-      pub run-settle : length (b .firstEdges) ≡ nodes b + 1 → SettleReady b price w₁ (count - 1) (getD w (2 * nodes b) 0)
+      pub run-settle : length (b .firstEdges) ≡ nodes b + 1 → SettleReady b price w₁ (count - 1) (getD w (nodes b) 0 / 65536)
       run-settle long =
-          let same : labelAt w₁ (getD w (2 * nodes b) 0) ≡ labelAt w (getD w (2 * nodes b) 0) = took-label (getD w (2 * nodes b) 0) run-node in
+          let same : labelAt w₁ (getD w (nodes b) 0 / 65536) ≡ labelAt w (getD w (nodes b) 0 / 65536) = took-label (getD w (nodes b) 0 / 65536) run-node in
           record { firsts-long = long; node = run-node; labelled = rw same run-label; spread = rw same took-spread }
 
       took-onward : Onward (nodes b) w w₁ best best
       took-onward = record {
-        long = t .same .long;
-        high = λ j l. t .same .high j l;
+        long = t .moved .same .long;
+        high = λ j l. t .moved .same .high j l;
         kept = λ v h l. took-label v h;
         still = λ v h l m. took-label v h;
         pos = λ v h l. rw (took-label v h) (omega arith);

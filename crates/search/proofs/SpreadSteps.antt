@@ -8,8 +8,8 @@
 use mathlib.Core.Bool.{true, false}
 use mathlib.Core.List.{List}
 use mathlib.Core.Logic.{_⊎_, ⊎-elim, inl, inr}
-use mathlib.Core.Path.{_≡_, refl, sym, _∙_}
-use Prim.Native.Nat.{ℕ, _+_, _*_, _≤_, _<_}
+use mathlib.Core.Path.{_≡_, refl, sym, _∙_, ap}
+use Prim.Native.Nat.{ℕ, _+_, _*_, _/_, _%_, _≤_, _<_}
 use native.Mathlib.Nat.{le-refl, le-trans}
 use native.Mathlib.Omega.{arith}
 use lib.ListN.{length, getD, set, length-set}
@@ -19,25 +19,32 @@ use Rattle.price.proofs.TestLaws.{le-or-lt, true≢false}
 use Rattle.price.proofs.BelowLaws.{count-less, count-same}
 use Rattle.price.proofs.PriceLaws.{path-most}
 use Rattle.search.specs.Block.{Block, nodes, rowStart, hasEdge}
-use Rattle.search.specs.Labels.{goal, labelAt, fromAt, waitAt, keyAt, Waits, Heaped}
+use Rattle.search.specs.Labels.{goal, labelAt, fromAt, withFrom, waitAt, keyAt, besideAt, Waits, Heaped}
 use Rattle.search.specs.Spread.{bare, bareCount, Came, Passed, Looked, Spread, Onward, labelled, Labelled, ends, waits, GoalMet, lowered, stays, Relaxed, beyond, labels, lowers, tree, LabelReady}
 use Rattle.search.proofs.StoreLaws.{store-here, store-other}
 use Rattle.search.proofs.QueueLaws.{same-or-not}
+use Rattle.search.proofs.HeapLaws.{from-else, from-here, from-other, from-wait}
 
 -- ---- a label on a bare node
 
 module _ {n count u v : ℕ} {firsts w : List ℕ} (r : LabelReady n firsts w count u v) (d : ℕ) where
-  labelled-long : length (labelled n w u v d) ≡ length w
-  labelled-long = length-set (set w v d) (n + v) u ∙ length-set w v d
+  pub labelled-long : length (labelled n w u v d) ≡ length w
+  labelled-long = length-set (set w v d) (n + v) (waitAt n (set w v d) v * 65536 + u) ∙ length-set w v d
 
   labelled-other : (j : ℕ) → (j ≡ v → ⊥) → (j ≡ n + v → ⊥) → getD (labelled n w u v d) j 0 ≡ getD w j 0
-  labelled-other j a b = store-other (set w v d) (n + v) u j b ∙ store-other w v d j a
+  labelled-other j a b = from-else n (set w v d) u v j b ∙ store-other w v d j a
 
   labelled-here : labelAt (labelled n w u v d) v ≡ d
-  labelled-here = store-other (set w v d) (n + v) u v (λ e. omega (arith, r .v-node)) ∙ store-here w v d (omega (arith, r .heap .long, r .v-node))
+  labelled-here = from-else n (set w v d) u v v (λ e. omega (arith, r .v-node)) ∙ store-here w v d (omega (arith, r .heap .long, r .v-node))
+
+  label-small : u < 65536
+  label-small = omega (arith, r .few, r .u-node)
+
+  label-room : n + v < length (set w v d)
+  label-room = rw (length-set w v d) (omega (arith, r .heap .long, r .v-node))
 
   labelled-from : fromAt n (labelled n w u v d) v ≡ u
-  labelled-from = store-here (set w v d) (n + v) u (rw (length-set w v d) (omega (arith, r .heap .long, r .v-node)))
+  labelled-from = from-here n (set w v d) u v label-small label-room
 
   -- a waiting node has a label, so that it is not v
   waits-other : (i : ℕ) → i < count → waitAt n w i ≡ v → ⊥
@@ -47,7 +54,11 @@ module _ {n count u v : ℕ} {firsts w : List ℕ} (r : LabelReady n firsts w co
       omega (arith, r .v-bare)
 
   labelled-wait : (i : ℕ) → waitAt n (labelled n w u v d) i ≡ waitAt n w i
-  labelled-wait i = labelled-other (2 * n + i) (λ e. omega (arith, r .v-node)) (λ e. omega (arith, r .v-node))
+  labelled-wait i =
+      from-wait n (set w v d) u v label-small label-room i ∙ ap (λ (x : ℕ). x / 65536) (store-other w v d (n + i) (λ e. omega (arith, r .v-node)))
+
+  labelled-beside : (i : ℕ) → besideAt n (labelled n w u v d) i ≡ besideAt n w i
+  labelled-beside i = labelled-other (2 * n + i) (λ e. omega (arith, r .v-node)) (λ e. omega (arith, r .v-node))
 
   labelled-key : (i : ℕ) → i < count → keyAt n (labelled n w u v d) i ≡ keyAt n w i
   labelled-key i l =
@@ -62,10 +73,11 @@ module _ {n count u v : ℕ} {firsts w : List ℕ} (r : LabelReady n firsts w co
         let li : i < count = omega arith in
         rw (labelled-key i li, labelled-key c l) (r .heap .ordered i c a b l);
     nodes = λ i l. rw (labelled-wait i) (r .heap .nodes i l);
+    keyed = λ i l. labelled-beside i ∙ r .heap .keyed i l ∙ sym (labelled-key i l);
   }
 
-  pub label-heap : Heaped n count (labelled n w u v d) × ((count < n) × (v < n) × (n < 65536) × (labelAt (labelled n w u v d) v ≡ d))
-  label-heap = (labelled-heap, (r .more, r .v-node, omega (arith, r .few), labelled-here))
+  pub label-heap : {w₁ : List ℕ} → w₁ ≡ labelled n w u v d → Heaped n count w₁ × ((count < n) × (v < n) × (n < 65536) × (labelAt w₁ v ≡ d))
+  label-heap e = rw e (labelled-heap, (r .more, r .v-node, omega (arith, r .few), labelled-here))
 
 -- what a first label leaves: v has label d from u and nothing else has changed, but that v may wait
 record Fresh (n : ℕ) (firsts : List ℕ) (u v d : ℕ) (w w′ : List ℕ) (count count′ : ℕ) : Type 0 where
@@ -89,7 +101,7 @@ module _ {n count u v : ℕ} {firsts w : List ℕ} (r : LabelReady n firsts w co
     label-here = labelled-here r d;
     label-other = λ x h q. labelled-other r d x q (λ p. omega arith);
     from-here = labelled-from r d;
-    from-other = λ x h q. labelled-other r d (n + x) (λ p. omega (arith, r .v-node)) (λ p. q (omega arith));
+    from-other = λ x h q. ap (λ (y : ℕ). y % 65536) (labelled-other r d (n + x) (λ p. omega (arith, r .v-node)) (λ p. q (omega arith)));
     heap = labelled-heap r d;
     most = omega arith;
     all = λ i l. inr (i, l, sym (labelled-wait r d i));
@@ -97,14 +109,14 @@ module _ {n count u v : ℕ} {firsts w : List ℕ} (r : LabelReady n firsts w co
     out = inr empty;
   })
   fresh-of {w′} (waits a ec) = rw ec (record {
-    long = a .same .long ∙ labelled-long r d;
-    high = λ j l. a .same .high j l ∙ labelled-other r d j (λ q. omega (arith, r .v-node)) (λ q. omega (arith, r .v-node));
-    label-here = a .same .low v (omega (arith, r .v-node)) ∙ labelled-here r d;
-    label-other = λ x h q. a .same .low x (omega arith) ∙ labelled-other r d x q (λ p. omega arith);
-    from-here = a .same .low (n + v) (omega (arith, r .v-node)) ∙ labelled-from r d;
-    from-other = λ x h q. a .same .low (n + x) (omega arith) ∙ labelled-other r d (n + x) (λ p. omega (arith, r .v-node)) (λ p. q (omega arith));
+    long = a .moved .same .long ∙ labelled-long r d;
+    high = λ j l. a .moved .same .high j l ∙ labelled-other r d j (λ q. omega (arith, r .v-node)) (λ q. omega (arith, r .v-node));
+    label-here = a .moved .same .low v (r .v-node) ∙ labelled-here r d;
+    label-other = λ x h q. a .moved .same .low x h ∙ labelled-other r d x q (λ p. omega arith);
+    from-here = a .moved .from v (r .v-node) ∙ labelled-from r d;
+    from-other = λ x h q. a .moved .from x h ∙ ap (λ (y : ℕ). y % 65536) (labelled-other r d (n + x) (λ p. omega (arith, r .v-node)) (λ p. q (omega arith)));
     heap = record {
-      long = rw (a .same .long, labelled-long r d) (r .heap .long);
+      long = rw (a .moved .same .long, labelled-long r d) (r .heap .long);
       few = omega (arith, r .more);
       ordered = a .ordered;
       nodes = λ i l.
@@ -112,6 +124,7 @@ module _ {n count u v : ℕ} {firsts w : List ℕ} (r : LabelReady n firsts w co
           (λ (q : waitAt n w′ i ≡ v). rw q (r .v-node))
           (λ (q : Waits n count (labelled n w u v d) (waitAt n w′ i)). rw (q .2) at (labelled-heap r d .nodes (q .0) (q .1)))
           (a .all i l);
+      keyed = a .keyed;
     };
     most = omega arith;
     all = λ i l.
@@ -278,43 +291,46 @@ module _ {b : Block} {price : ℕ → ℕ} (fair : Low b price) {w : List ℕ} {
   -- a lower predecessor of v
   module _ (v : ℕ) (h : v < nodes b) (pos : 0 < labelAt w v) (l : labelAt w v < goal) (edge : hasEdge b u v ≡ true)
       (less : u < fromAt (nodes b) w v) (same : labelAt w (fromAt (nodes b) w v) ≡ d) where
-    low-label : (x : ℕ) → x < nodes b → labelAt (set w (nodes b + v) u) x ≡ labelAt w x
-    low-label x k = store-other w (nodes b + v) u x (λ e. omega arith)
+    low-label : (x : ℕ) → x < nodes b → labelAt (withFrom (nodes b) w u v) x ≡ labelAt w x
+    low-label x k = from-else (nodes b) w u v x (λ e. omega arith)
 
-    low-wait : (i : ℕ) → waitAt (nodes b) (set w (nodes b + v) u) i ≡ waitAt (nodes b) w i
-    low-wait i = store-other w (nodes b + v) u (2 * nodes b + i) (λ e. omega arith)
+    low-wait : (i : ℕ) → waitAt (nodes b) (withFrom (nodes b) w u v) i ≡ waitAt (nodes b) w i
+    low-wait i = from-wait (nodes b) w u v (omega arith) (omega (arith, s .heap .long)) i
 
-    low-key : (i : ℕ) → i < count → keyAt (nodes b) (set w (nodes b + v) u) i ≡ keyAt (nodes b) w i
+    low-beside : (i : ℕ) → besideAt (nodes b) (withFrom (nodes b) w u v) i ≡ besideAt (nodes b) w i
+    low-beside i = from-else (nodes b) w u v (2 * nodes b + i) (λ e. omega arith)
+
+    low-key : (i : ℕ) → i < count → keyAt (nodes b) (withFrom (nodes b) w u v) i ≡ keyAt (nodes b) w i
     low-key i k = rw (low-wait i) (low-label (waitAt (nodes b) w i) (s .heap .nodes i k))
 
-    low-bare : bareCount (nodes b) (set w (nodes b + v) u) ≡ bareCount (nodes b) w
-    low-bare = count-same (bare (set w (nodes b + v) u)) (bare w) (nodes b) (λ x k. rw (low-label x k))
+    low-bare : bareCount (nodes b) (withFrom (nodes b) w u v) ≡ bareCount (nodes b) w
+    low-bare = count-same (bare (withFrom (nodes b) w u v)) (bare w) (nodes b) (λ x k. rw (low-label x k))
 
-    low-here : fromAt (nodes b) (set w (nodes b + v) u) v ≡ u
-    low-here = store-here w (nodes b + v) u (omega (arith, s .heap .long))
+    low-here : fromAt (nodes b) (withFrom (nodes b) w u v) v ≡ u
+    low-here = from-here (nodes b) w u v (omega arith) (omega (arith, s .heap .long))
 
-    low-other : (x : ℕ) → (x ≡ v → ⊥) → fromAt (nodes b) (set w (nodes b + v) u) x ≡ fromAt (nodes b) w x
-    low-other x q = store-other w (nodes b + v) u (nodes b + x) (λ e. q (omega arith))
+    low-other : (x : ℕ) → (x ≡ v → ⊥) → fromAt (nodes b) (withFrom (nodes b) w u v) x ≡ fromAt (nodes b) w x
+    low-other x q = from-other (nodes b) w u v x q
 
     -- v has its label over u too
-    low-came : Came b price (set w (nodes b + v) u) d v
+    low-came : Came b price (withFrom (nodes b) w u v) d v
     low-came =
         let sum : labelAt w v ≡ labelAt w (fromAt (nodes b) w v) + price v = s .came v h pos l .sum in
-        let lu : labelAt (set w (nodes b + v) u) u ≡ labelAt w u = low-label u node in
-        let lv : labelAt (set w (nodes b + v) u) v ≡ labelAt w v = low-label v h in
+        let lu : labelAt (withFrom (nodes b) w u v) u ≡ labelAt w u = low-label u node in
+        let lv : labelAt (withFrom (nodes b) w u v) v ≡ labelAt w v = low-label v h in
         record { node = rw low-here node; near = rw low-here (omega arith); edge = rw low-here edge; sum = rw low-here (omega arith) }
 
-    low-came-other : (x : ℕ) → x < nodes b → (x ≡ v → ⊥) → Came b price w d x → Came b price (set w (nodes b + v) u) d x
+    low-came-other : (x : ℕ) → x < nodes b → (x ≡ v → ⊥) → Came b price w d x → Came b price (withFrom (nodes b) w u v) d x
     low-came-other x k q c =
-        let f : fromAt (nodes b) (set w (nodes b + v) u) x ≡ fromAt (nodes b) w x = low-other x q in
-        let lf : labelAt (set w (nodes b + v) u) (fromAt (nodes b) w x) ≡ labelAt w (fromAt (nodes b) w x) = low-label (fromAt (nodes b) w x) (c .node) in
+        let f : fromAt (nodes b) (withFrom (nodes b) w u v) x ≡ fromAt (nodes b) w x = low-other x q in
+        let lf : labelAt (withFrom (nodes b) w u v) (fromAt (nodes b) w x) ≡ labelAt w (fromAt (nodes b) w x) = low-label (fromAt (nodes b) w x) (c .node) in
         record { node = rw f (c .node); near = rw (f, lf) (c .near); edge = rw f (c .edge); sum = rw (f, lf, low-label x k) (c .sum) }
 
     -- what was looked at still is
-    low-looked : (x y : ℕ) → x < nodes b → y < nodes b → Looked (nodes b) price w x y → Looked (nodes b) price (set w (nodes b + v) u) x y
+    low-looked : (x y : ℕ) → x < nodes b → y < nodes b → Looked (nodes b) price w x y → Looked (nodes b) price (withFrom (nodes b) w u v) x y
     low-looked x y kx ky f =
-        let lx : labelAt (set w (nodes b + v) u) x ≡ labelAt w x = low-label x kx in
-        let ly : labelAt (set w (nodes b + v) u) y ≡ labelAt w y = low-label y ky in
+        let lx : labelAt (withFrom (nodes b) w u v) x ≡ labelAt w x = low-label x kx in
+        let ly : labelAt (withFrom (nodes b) w u v) y ≡ labelAt w y = low-label y ky in
         record {
           labelled = rw ly (f .labelled);
           near = rw (ly, lx) (f .near);
@@ -322,29 +338,30 @@ module _ {b : Block} {price : ℕ → ℕ} (fair : Low b price) {w : List ℕ} {
               let p′ : 0 < labelAt w y = rw ly at p in
               ⊎-elim
               (λ (q : y ≡ v).
-              let lu : labelAt (set w (nodes b + v) u) u ≡ labelAt w u = low-label u node in
-              let at : fromAt (nodes b) (set w (nodes b + v) u) y ≡ u = rw q low-here in
-              let e′ : labelAt (set w (nodes b + v) u) u ≡ labelAt (set w (nodes b + v) u) x = rw at at e in
+              let lu : labelAt (withFrom (nodes b) w u v) u ≡ labelAt w u = low-label u node in
+              let at : fromAt (nodes b) (withFrom (nodes b) w u v) y ≡ u = rw q low-here in
+              let e′ : labelAt (withFrom (nodes b) w u v) u ≡ labelAt (withFrom (nodes b) w u v) x = rw at at e in
               let old : labelAt w (fromAt (nodes b) w v) ≡ labelAt w x = omega arith in
               let lowest : fromAt (nodes b) w y ≤ x = f .lowest p′ (rw q old) in
               let lowest′ : fromAt (nodes b) w v ≤ x = rw q at lowest in
               rw at (omega arith))
               (λ (q : y ≡ v → ⊥).
-              let at : fromAt (nodes b) (set w (nodes b + v) u) y ≡ fromAt (nodes b) w y = low-other y q in
+              let at : fromAt (nodes b) (withFrom (nodes b) w u v) y ≡ fromAt (nodes b) w y = low-other y q in
               let c = s .came y ky p′ (f .labelled) in
-              let lf : labelAt (set w (nodes b + v) u) (fromAt (nodes b) w y) ≡ labelAt w (fromAt (nodes b) w y) = low-label (fromAt (nodes b) w y) (c .node) in
-              let e′ : labelAt (set w (nodes b + v) u) (fromAt (nodes b) w y) ≡ labelAt (set w (nodes b + v) u) x = rw at at e in
+              let lf : labelAt (withFrom (nodes b) w u v) (fromAt (nodes b) w y) ≡ labelAt w (fromAt (nodes b) w y) = low-label (fromAt (nodes b) w y) (c .node) in
+              let e′ : labelAt (withFrom (nodes b) w u v) (fromAt (nodes b) w y) ≡ labelAt (withFrom (nodes b) w u v) x = rw at at e in
               rw at (f .lowest p′ (omega arith)))
               (same-or-not y v);
         }
 
-    spread-lower : Spread b price (set w (nodes b + v) u) count d u place
+    spread-lower : Spread b price (withFrom (nodes b) w u v) count d u place
     spread-lower = record {
       heap = record {
-        long = rw (length-set w (nodes b + v) u) (s .heap .long);
+        long = rw (length-set w (nodes b + v) (waitAt (nodes b) w v * 65536 + u)) (s .heap .long);
         few = s .heap .few;
         ordered = λ i c a e k. let li : i < count = omega arith in rw (low-key i li, low-key c k) (s .heap .ordered i c a e k);
         nodes = λ i k. rw (low-wait i) (s .heap .nodes i k);
+        keyed = λ i k. low-beside i ∙ s .heap .keyed i k ∙ sym (low-key i k);
       };
       room = rw low-bare (s .room);
       waits-label = λ i k. rw (low-key i k) (s .waits-label i k);
@@ -363,24 +380,24 @@ module _ {b : Block} {price : ℕ → ℕ} (fair : Low b price) {w : List ℕ} {
           (s .done x k (rw (low-label x k) at m));
     }
 
-    lower-onward : (best : ℕ) → Onward (nodes b) w (set w (nodes b + v) u) best best
+    lower-onward : (best : ℕ) → Onward (nodes b) w (withFrom (nodes b) w u v) best best
     lower-onward best = record {
-      long = length-set w (nodes b + v) u;
-      high = λ j k. store-other w (nodes b + v) u j (λ e. omega arith);
+      long = length-set w (nodes b + v) (waitAt (nodes b) w v * 65536 + u);
+      high = λ j k. from-else (nodes b) w u v j (λ e. omega arith);
       kept = λ x k m. low-label x k;
       still = λ x k m m′. low-label x k;
       pos = λ x k m. rw (low-label x k) (omega arith);
       less = le-refl best;
-      least = λ x k e m. absurd (let z : labelAt (set w (nodes b + v) u) x ≡ labelAt w x = low-label x k in omega arith);
+      least = λ x k e m. absurd (let z : labelAt (withFrom (nodes b) w u v) x ≡ labelAt w x = low-label x k in omega arith);
       some = inl refl;
     }
 
-    lower-looked : Looked (nodes b) price (set w (nodes b + v) u) u v
+    lower-looked : Looked (nodes b) price (withFrom (nodes b) w u v) u v
     lower-looked =
         let c = s .came v h pos l in
         let sum : labelAt w v ≡ labelAt w (fromAt (nodes b) w v) + price v = c .sum in
-        let lu : labelAt (set w (nodes b + v) u) u ≡ labelAt w u = low-label u node in
-        let lv : labelAt (set w (nodes b + v) u) v ≡ labelAt w v = low-label v h in
+        let lu : labelAt (withFrom (nodes b) w u v) u ≡ labelAt w u = low-label u node in
+        let lv : labelAt (withFrom (nodes b) w u v) v ≡ labelAt w v = low-label v h in
         record { labelled = rw lv l; near = omega arith; lowest = λ p e. rw low-here (le-refl u) }
 
   -- a first label on v
@@ -558,8 +575,8 @@ module _ {b : Block} {price : ℕ → ℕ} (fair : Low b price) {w : List ℕ} {
   relax-at long v at edge (lowers h pos l (stays lowest e) ec eb) = rw (e, ec, eb) (kept-step (λ t. rw at (look-kept v h pos l lowest)))
   relax-at long v at edge {w′} {count′} {best} {best′} (lowers h pos l (lowered less same e) ec eb) =
       rw (e, ec, eb)
-      (let next : Spread b price (set w (nodes b + v) u) count d u place = spread-lower v h pos l edge less same in
-      let lu : labelAt (set w (nodes b + v) u) u ≡ d = low-label v h pos l edge less same u node ∙ here in
+      (let next : Spread b price (withFrom (nodes b) w u v) count d u place = spread-lower v h pos l edge less same in
+      let lu : labelAt (withFrom (nodes b) w u v) u ≡ d = low-label v h pos l edge less same u node ∙ here in
       record {
         spread = pass-on next lu v at (lower-looked v h pos l edge less same);
         here = lu;

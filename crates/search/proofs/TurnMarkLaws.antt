@@ -1,10 +1,10 @@
 -- What the loops before and after the labels keep from turn to turn: the tree's nodes, the goals, the least price of a goal, the first node of a label.
 -- Assumes nothing.
-use mathlib.Core.Bool.{false}
+use mathlib.Core.Bool.{Bool, true, false}
 use mathlib.Core.List.{List}
 use mathlib.Core.Logic.{⊎-elim, inl, inr, _⊎_}
-use mathlib.Core.Path.{_≡_, refl, sym, _∙_}
-use Prim.Native.Nat.{ℕ, _+_, _*_, _≤_, _<_}
+use mathlib.Core.Path.{_≡_, refl, sym, _∙_, ap}
+use Prim.Native.Nat.{ℕ, zero, suc, _+_, _-_, _*_, _/_, _≤_, _<_}
 use native.Mathlib.Numerals.{add-one}
 use native.Mathlib.Omega.{arith}
 use lib.ListN.{length, getD, set, length-set}
@@ -12,38 +12,108 @@ use borrow.Author.Tests.{le-leb, lt-leb}
 use Rattle.price.specs.Test.{choose}
 use Rattle.price.specs.Lists.{countBelow}
 use Rattle.price.proofs.BelowLaws.{count-same}
+use Rattle.price.proofs.TestLaws.{le-or-lt, true≢false}
 use Rattle.search.specs.Distance.{far, inTree}
 use Rattle.search.specs.Paths.{anyPriceMost}
-use Rattle.search.specs.Labels.{goal, labelAt, waitAt, Waits}
+use Rattle.search.specs.Labels.{goal, labelAt, waitAt, besideAt, put, Waits}
 use Rattle.search.specs.Spread.{bare, bareCount}
-use Rattle.search.specs.TurnWork.{TreeMarked, GoalsMarked, LeastGoal}
+use Rattle.search.specs.TurnWork.{Blank, Unmarked, Over, TreeMarked, GoalsMarked, LeastGoal}
 use Rattle.search.proofs.StoreLaws.{store-here, store-other, same-none, same-store}
 use Rattle.search.proofs.QueueLaws.{same-or-not}
 use Rattle.search.proofs.FillLaws.{first-tree, first-other}
+use Rattle.search.proofs.HeapLaws.{put-long, put-else, put-here, put-beside}
+
+-- ---- no labels
+
+pub blank-none : (n : ℕ) (w : List ℕ) → Blank n w w 0
+blank-none n w = record { same = same-none 0 n w; labels = λ v l. absurd (omega arith) }
+
+pub blank-more : {n : ℕ} {w w′ : List ℕ} {i : ℕ} → n ≤ length w → i < n → Blank n w w′ i → Blank n w (set w′ i far) (i + 1)
+blank-more {n} {w} {w′} {i} enough l s = record {
+  same = same-store 0 n w w′ i far (omega arith) l (s .same);
+  labels = λ v h.
+      ⊎-elim
+      (λ (e : v ≡ i). rw e (store-here w′ i far (omega (arith, s .same .long))))
+      (λ (d : v ≡ i → ⊥). store-other w′ i far v d ∙ s .labels v (omega arith))
+      (same-or-not v i);
+}
+
+pub blank-all : {n : ℕ} {w w′ : List ℕ} {i : ℕ} → n ≤ i → Blank n w w′ i → Blank n w w′ n
+blank-all l s = record { same = s .same; labels = λ v h. s .labels v (omega arith) }
+
+-- ---- stretches without a tree node
+
+-- `some` is true where a node from `from` to below v is in the tree
+pub record Seen (marks : List ℕ) (from to : ℕ) (some : Bool) (v : ℕ) : Type 0 where
+  pub least : from ≤ v
+  pub upto : v ≤ to
+  pub none : some ≡ false → Unmarked marks from v
+
+pub seen-none : (marks : List ℕ) (from to : ℕ) → from ≤ to → Seen marks from to false from
+seen-none marks from to l = record { least = omega arith; upto = l; none = λ e v a b. absurd (omega arith) }
+
+module _ {marks : List ℕ} {from to : ℕ} {some : Bool} {v : ℕ} (l : v < to) (s : Seen marks from to some v) where
+  pub seen-in : Seen marks from to true (v + 1)
+  seen-in = record { least = omega (arith, s .least); upto = omega arith; none = λ e. absurd (true≢false e) }
+
+  pub seen-out : (getD marks v 0 ≡ 1 → ⊥) → Seen marks from to some (v + 1)
+  seen-out mark = record {
+    least = omega (arith, s .least);
+    upto = omega arith;
+    none = λ e x a b.
+        ⊎-elim
+        (λ (q : x ≡ v). rw q mark)
+        (λ (d : x ≡ v → ⊥). s .none e x a (omega arith))
+        (same-or-not x v);
+  }
+
+pub seen-all : {marks : List ℕ} {from to : ℕ} {some : Bool} {v : ℕ} → to ≤ v → Seen marks from to some v → some ≡ false → Unmarked marks from to
+seen-all l s e x a b = s .none e x a (omega arith)
+
+pub over-none : (marks : List ℕ) (from n : ℕ) → from ≤ n → Over marks from n from
+over-none marks from n l = record { least = omega arith; most = l; none = λ x a b. absurd (omega arith) }
+
+pub over-on : {marks : List ℕ} {from n v : ℕ} (v′ : ℕ) → v ≤ v′ → v′ ≤ n → Unmarked marks v v′ → Over marks from n v → Over marks from n v′
+over-on {marks} {from} {n} {v} v′ l m none s = record {
+  least = omega (arith, s .least);
+  most = m;
+  none = λ x a b.
+      ⊎-elim
+      (λ (q : v ≤ x). none x q b)
+      (λ (q : x < v). s .none x a q)
+      (le-or-lt v x);
+}
+
+pub over-one : {marks : List ℕ} {from n v : ℕ} → v < n → (getD marks v 0 ≡ 1 → ⊥) → Over marks from n v → Over marks from n (v + 1)
+over-one {marks} {from} {n} {v} l mark s = over-on (v + 1) (omega arith) (omega arith) (λ x a b. let e : x ≡ v = omega arith in rw e mark) s
 
 -- ---- the tree
 
--- the nodes below i are marked
+-- the nodes below i are marked; the others have no label
 pub record TreeSoFar (n : ℕ) (marks w w′ : List ℕ) (count i : ℕ) : Type 0 where
   pub upto : i ≤ n
   pub long : length w′ ≡ length w
   pub high : (j : ℕ) → 3 * n ≤ j → getD w′ j 0 ≡ getD w j 0
   pub labels : (v : ℕ) → v < i → labelAt w′ v ≡ choose (inTree marks v) 0 far
+  pub blank : (v : ℕ) → i ≤ v → v < n → labelAt w′ v ≡ far
   pub room : count + bareCount i w′ ≤ i
   pub nodes : (k : ℕ) → k < count → waitAt n w′ k < i
   pub zero : (k : ℕ) → k < count → labelAt w′ (waitAt n w′ k) ≡ 0
+  pub beside : (k : ℕ) → k < count → besideAt n w′ k ≡ 0
   pub waits : (v : ℕ) → v < i → labelAt w′ v ≡ 0 → Waits n count w′ v
 
-pub tree-none : (n : ℕ) (marks w : List ℕ) → TreeSoFar n marks w w 0 0
+tree-none : {n : ℕ} (marks : List ℕ) {w₀ w : List ℕ} → Blank n w₀ w n → TreeSoFar n marks w w 0 0
 unfolding countBelow
-tree-none n marks w = record {
+tree-none marks s = record {
   upto = omega arith;
   long = refl;
   high = λ j l. refl;
   labels = λ v l. absurd (omega arith);
+  blank = λ v a b. s .labels v b;
   room = omega arith;
   nodes = λ k l. absurd (omega arith);
   zero = λ k l. absurd (omega arith);
+  beside = λ k l. absurd (omega arith);
   waits = λ v l. absurd (omega arith);
 }
 
@@ -51,37 +121,89 @@ count-on : (i : ℕ) (w : List ℕ) → bareCount (i + 1) w ≡ bareCount i w + 
 unfolding countBelow
 count-on i w = rw (add-one i)
 
-module _ {n : ℕ} {marks w w′ : List ℕ} {count i : ℕ} (enough : 3 * n ≤ length w) (l : i < n) (s : TreeSoFar n marks w w′ count i) where
-  pub tree-few : count ≤ i
+-- a node outside the tree is passed over
+tree-out : {n : ℕ} {marks w w′ : List ℕ} {count i : ℕ} → i < n → (getD marks i 0 ≡ 1 → ⊥) → TreeSoFar n marks w w′ count i → TreeSoFar n marks w w′ count (i + 1)
+tree-out {n} {marks} {w} {w′} {count} {i} l mark s =
+    let here : labelAt w′ i ≡ far = s .blank i (omega arith) l in
+    let up : bareCount (i + 1) w′ ≤ bareCount i w′ + 1 = rw (count-on i w′, le-leb goal (labelAt w′ i) (rw here (omega arith))) (omega arith) in
+    record {
+      upto = omega arith;
+      long = s .long;
+      high = s .high;
+      labels = λ v h.
+          ⊎-elim
+          (λ (e : v ≡ i). rw e (first-other marks i mark here))
+          (λ (d : v ≡ i → ⊥). s .labels v (omega arith))
+          (same-or-not v i);
+      blank = λ v a b. s .blank v (omega arith) b;
+      room = omega (arith, s .room);
+      nodes = λ k h. omega (arith, s .nodes k h);
+      zero = s .zero;
+      beside = s .beside;
+      waits = λ v h z.
+          ⊎-elim
+          (λ (e : v ≡ i). absurd (let f : labelAt w′ v ≡ far = rw e here in omega arith))
+          (λ (d : v ≡ i → ⊥). s .waits v (omega arith) z)
+          (same-or-not v i);
+    }
+
+tree-skip :
+    {n : ℕ} {marks w w′ : List ℕ} {count i : ℕ} (k : ℕ) → i + k ≤ n → Unmarked marks i (i + k) → TreeSoFar n marks w w′ count i
+    → TreeSoFar n marks w w′ count (i + k)
+tree-skip {n} {marks} {w} {w′} {count} {i} zero l none s = let e : i + 0 ≡ i = omega arith in rw e s
+tree-skip {n} {marks} {w} {w′} {count} {i} (suc k) l none s =
+    let e : i + suc k ≡ i + k + 1 = omega arith in
+    rw e (tree-out (omega arith) (none (i + k) (omega arith) (omega arith)) (tree-skip k (omega arith) (λ x a b. none x a (omega arith)) s))
+
+-- the nodes up to the next tree node are passed over
+pub tree-over : {n : ℕ} {marks w w′ : List ℕ} {count i r : ℕ} → Over marks i n r → TreeSoFar n marks w w′ count i → TreeSoFar n marks w w′ count r
+tree-over {n} {marks} {w} {w′} {count} {i} {r} o s =
+    let e : i + (r - i) ≡ r = omega (arith, o .least) in
+    let whole : TreeSoFar n marks w w′ count (i + (r - i)) = tree-skip (r - i) (rw e (o .most)) (rw e (o .none)) s in
+    rw e at whole
+
+pub tree-start : {n : ℕ} {marks w₀ w : List ℕ} {r : ℕ} → Blank n w₀ w n → Over marks 0 n r → TreeSoFar n marks w w 0 r
+tree-start {n} {marks} blank o = tree-over o (tree-none marks blank)
+
+module _ {n : ℕ} {marks w₀ w w′ : List ℕ} {count i : ℕ} (enough : 3 * n ≤ length w₀) (clean : Blank n w₀ w n) (l : i < n) (s : TreeSoFar n marks w w′ count i) where
+  pub tree-few : count < n
   tree-few = omega (arith, s .room)
 
-  tree-room : 3 * n ≤ length w′
-  tree-room = rw (s .long) enough
+  pub tree-room : 3 * n ≤ length w′
+  tree-room = rw (s .long, clean .same .long) enough
 
-  pub tree-in : getD marks i 0 ≡ 1 → TreeSoFar n marks w (set (set w′ i 0) (2 * n + count) i) (count + 1) (i + 1)
+  pub tree-put : 3 * n ≤ length (set w′ i 0)
+  tree-put = rw (length-set w′ i 0) tree-room
+
+  -- a tree node has label 0 and waits
+  pub tree-in : getD marks i 0 ≡ 1 → TreeSoFar n marks w (put n (set w′ i 0) count i 0) (count + 1) (i + 1)
   tree-in mark =
       let few = tree-few in
       let room = tree-room in
-      let long : length (set (set w′ i 0) (2 * n + count) i) ≡ length w′ = length-set (set w′ i 0) (2 * n + count) i ∙ length-set w′ i 0 in
-      let other : (j : ℕ) → (j ≡ i → ⊥) → (j ≡ 2 * n + count → ⊥) → getD (set (set w′ i 0) (2 * n + count) i) j 0 ≡ getD w′ j 0 =
-      λ j a b. store-other (set w′ i 0) (2 * n + count) i j b ∙ store-other w′ i 0 j a in
-      let here : labelAt (set (set w′ i 0) (2 * n + count) i) i ≡ 0 =
-      store-other (set w′ i 0) (2 * n + count) i i (λ e. omega arith) ∙ store-here w′ i 0 (omega arith) in
-      let last : waitAt n (set (set w′ i 0) (2 * n + count) i) count ≡ i = store-here (set w′ i 0) (2 * n + count) i (rw (length-set w′ i 0) (omega arith)) in
-      let label : (v : ℕ) → v < i → labelAt (set (set w′ i 0) (2 * n + count) i) v ≡ labelAt w′ v = λ v h. other v (λ e. omega arith) (λ e. omega arith) in
-      let wait : (k : ℕ) → k < count → waitAt n (set (set w′ i 0) (2 * n + count) i) k ≡ waitAt n w′ k = λ k h. other (2 * n + k) (λ e. omega arith) (λ e. omega arith) in
-      let same : bareCount i (set (set w′ i 0) (2 * n + count) i) ≡ bareCount i w′ = count-same (bare (set (set w′ i 0) (2 * n + count) i)) (bare w′) i (λ x h. rw (label x h)) in
-      let low : bare (set (set w′ i 0) (2 * n + count) i) i ≡ false = lt-leb goal (labelAt (set (set w′ i 0) (2 * n + count) i) i) (rw here (omega arith)) in
+      let w₁ : List ℕ = set w′ i 0 in
+      let least : count ≤ i = omega (arith, s .room) in
+      let other : (j : ℕ) → (j ≡ i → ⊥) → (j ≡ n + count → ⊥) → (j ≡ 2 * n + count → ⊥) → getD (put n (set w′ i 0) count i 0) j 0 ≡ getD w′ j 0 =
+      λ j a b c. put-else n w₁ count i 0 few tree-put j b c ∙ store-other w′ i 0 j a in
+      let here : labelAt (put n (set w′ i 0) count i 0) i ≡ 0 =
+      put-else n w₁ count i 0 few tree-put i (λ e. omega arith) (λ e. omega arith) ∙ store-here w′ i 0 (omega arith) in
+      let last : waitAt n (put n (set w′ i 0) count i 0) count ≡ i = put-here n w₁ count i 0 few tree-put in
+      let label : (v : ℕ) → v < n → (v ≡ i → ⊥) → labelAt (put n (set w′ i 0) count i 0) v ≡ labelAt w′ v = λ v h d. other v d (λ e. omega arith) (λ e. omega arith) in
+      let wait : (k : ℕ) → k < count → waitAt n (put n (set w′ i 0) count i 0) k ≡ waitAt n w′ k =
+      λ k h. ap (λ (x : ℕ). x / 65536) (other (n + k) (λ e. omega arith) (λ e. omega arith) (λ e. omega arith)) in
+      let same : bareCount i (put n (set w′ i 0) count i 0) ≡ bareCount i w′ =
+      count-same (bare (put n (set w′ i 0) count i 0)) (bare w′) i (λ x h. rw (label x (omega arith) (λ e. omega arith))) in
+      let low : bare (put n (set w′ i 0) count i 0) i ≡ false = lt-leb goal (labelAt (put n (set w′ i 0) count i 0) i) (rw here (omega arith)) in
       record {
         upto = omega arith;
-        long = long ∙ s .long;
-        high = λ j h. other j (λ e. omega arith) (λ e. omega arith) ∙ s .high j h;
+        long = put-long n w₁ count i 0 few tree-put ∙ length-set w′ i 0 ∙ s .long;
+        high = λ j h. other j (λ e. omega arith) (λ e. omega arith) (λ e. omega arith) ∙ s .high j h;
         labels = λ v h.
             ⊎-elim
             (λ (e : v ≡ i). rw e (first-tree marks i mark here))
-            (λ (d : v ≡ i → ⊥). label v (omega arith) ∙ s .labels v (omega arith))
+            (λ (d : v ≡ i → ⊥). label v (omega arith) d ∙ s .labels v (omega arith))
             (same-or-not v i);
-        room = rw (count-on i (set (set w′ i 0) (2 * n + count) i), low, same) (omega (arith, s .room));
+        blank = λ v a b. label v b (λ e. omega arith) ∙ s .blank v (omega arith) b;
+        room = rw (count-on i (put n (set w′ i 0) count i 0), low, same) (omega (arith, s .room));
         nodes = λ k h.
             ⊎-elim
             (λ (e : k ≡ count). rw (e, last) (omega arith))
@@ -92,60 +214,35 @@ module _ {n : ℕ} {marks w w′ : List ℕ} {count i : ℕ} (enough : 3 * n ≤
             (λ (e : k ≡ count). rw (e, last) here)
             (λ (d : k ≡ count → ⊥).
             let k′ : k < count = omega arith in
-            rw (wait k k′) (label (waitAt n w′ k) (s .nodes k k′) ∙ s .zero k k′))
+            let node : waitAt n w′ k < i = s .nodes k k′ in
+            rw (wait k k′) (label (waitAt n w′ k) (omega arith) (λ e. omega arith) ∙ s .zero k k′))
+            (same-or-not k count);
+        beside = λ k h.
+            ⊎-elim
+            (λ (e : k ≡ count). rw (e, put-beside n w₁ count i 0 few tree-put))
+            (λ (d : k ≡ count → ⊥). other (2 * n + k) (λ e. omega arith) (λ e. omega arith) (λ e. d (omega arith)) ∙ s .beside k (omega arith))
             (same-or-not k count);
         waits = λ v h z.
             ⊎-elim
             (λ (e : v ≡ i). (count, omega arith, last ∙ sym e))
             (λ (d : v ≡ i → ⊥).
             let h′ : v < i = omega arith in
-            let q = s .waits v h′ (sym (label v h′) ∙ z) in
+            let q = s .waits v h′ (sym (label v (omega arith) d) ∙ z) in
             (q .0, (let k = q .1 in omega arith), wait (q .0) (q .1) ∙ q .2))
             (same-or-not v i);
       }
 
-  pub tree-out : (getD marks i 0 ≡ 1 → ⊥) → TreeSoFar n marks w (set w′ i far) count (i + 1)
-  tree-out mark =
-      let few = tree-few in
-      let room = tree-room in
-      let other : (j : ℕ) → (j ≡ i → ⊥) → getD (set w′ i far) j 0 ≡ getD w′ j 0 = λ j a. store-other w′ i far j a in
-      let here : labelAt (set w′ i far) i ≡ far = store-here w′ i far (omega arith) in
-      let label : (v : ℕ) → v < i → labelAt (set w′ i far) v ≡ labelAt w′ v = λ v h. other v (λ e. omega arith) in
-      let wait : (k : ℕ) → waitAt n (set w′ i far) k ≡ waitAt n w′ k = λ k. other (2 * n + k) (λ e. omega arith) in
-      let same : bareCount i (set w′ i far) ≡ bareCount i w′ = count-same (bare (set w′ i far)) (bare w′) i (λ x h. rw (label x h)) in
-      let up : bareCount (i + 1) (set w′ i far) ≤ bareCount i w′ + 1 = rw (count-on i (set w′ i far), le-leb goal (labelAt (set w′ i far) i) (rw here (omega arith)), same) (omega arith) in
-      record {
-        upto = omega arith;
-        long = length-set w′ i far ∙ s .long;
-        high = λ j h. other j (λ e. omega arith) ∙ s .high j h;
-        labels = λ v h.
-            ⊎-elim
-            (λ (e : v ≡ i). rw e (first-other marks i mark here))
-            (λ (d : v ≡ i → ⊥). label v (omega arith) ∙ s .labels v (omega arith))
-            (same-or-not v i);
-        room = omega (arith, s .room);
-        nodes = λ k h. rw (wait k) (omega (arith, s .nodes k h));
-        zero = λ k h. rw (wait k) (label (waitAt n w′ k) (s .nodes k h) ∙ s .zero k h);
-        waits = λ v h z.
-            ⊎-elim
-            (λ (e : v ≡ i). absurd (let f : labelAt (set w′ i far) v ≡ far = rw e here in omega arith))
-            (λ (d : v ≡ i → ⊥).
-            let h′ : v < i = omega arith in
-            let q = s .waits v h′ (sym (label v h′) ∙ z) in
-            (q .0, q .1, wait (q .0) ∙ q .2))
-            (same-or-not v i);
-      }
-
-pub tree-all : {n : ℕ} {marks w w′ : List ℕ} {count i : ℕ} → n ≤ i → TreeSoFar n marks w w′ count i → TreeMarked n marks w w′ count
-tree-all {n} {marks} {w} {w′} {count} {i} l s =
+pub tree-all : {n : ℕ} {marks w₀ w w′ : List ℕ} {count i : ℕ} → n ≤ i → Blank n w₀ w n → TreeSoFar n marks w w′ count i → TreeMarked n marks w₀ w′ count
+tree-all {n} {marks} {w₀} {w} {w′} {count} {i} l clean s =
     let e : i ≡ n = omega (arith, s .upto) in
     record {
-      long = s .long;
-      high = s .high;
+      long = s .long ∙ clean .same .long;
+      high = λ j h. s .high j h ∙ clean .same .high j (omega arith);
       labels = λ v h. s .labels v (omega arith);
       room = rw e at (s .room);
       nodes = λ k h. rw e at (s .nodes k h);
       zero = s .zero;
+      beside = s .beside;
       waits = λ v h z. s .waits v (omega arith) z;
     }
 

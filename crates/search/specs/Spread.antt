@@ -16,7 +16,7 @@ use Rattle.search.specs.Distance.{far}
 use Rattle.search.specs.Turn.{Congestion}
 use Rattle.search.specs.Paths.{anyPriceMost}
 use Rattle.search.specs.Held.{Lent}
-use Rattle.search.specs.Labels.{goal, labelAt, fromAt, keyAt, Waits, Heaped, Added}
+use Rattle.search.specs.Labels.{goal, labelAt, fromAt, withFrom, keyAt, Waits, Heaped, Added}
 
 -- a node has no label yet; and how many have none
 abbrev pub bare : List ℕ → ℕ → Bool
@@ -72,7 +72,7 @@ pub record Onward (n : ℕ) (w w′ : List ℕ) (best best′ : ℕ) : Type 0 wh
 
 -- the work slice with label d on v, from u
 abbrev pub labelled : ℕ → List ℕ → ℕ → ℕ → ℕ → List ℕ
-labelled n w u v d = set (set w v d) (n + v) u
+labelled n w u v d = withFrom n (set w v d) u v
 
 -- v has got label d from u; it waits, unless its row is empty
 pub data Labelled (n : ℕ) (firsts : List ℕ) (u v d : ℕ) (w w′ : List ℕ) (count count′ : ℕ) : Type 0 where
@@ -87,7 +87,7 @@ pub record GoalMet (old d best best′ : ℕ) : Type 0 where
 
 -- u, of label d, has taken the place of v's predecessor, or is not as near and lower
 pub data Lowered (n u v d : ℕ) (w w′ : List ℕ) : Type 0 where
-  lowered : u < fromAt n w v → labelAt w (fromAt n w v) ≡ d → w′ ≡ set w (n + v) u → Lowered n u v d w w′
+  lowered : u < fromAt n w v → labelAt w (fromAt n w v) ≡ d → w′ ≡ withFrom n w u v → Lowered n u v d w w′
   stays : (labelAt w (fromAt n w v) ≡ d → fromAt n w v ≤ u) → w′ ≡ w → Lowered n u v d w w′
 
 -- what looking at the edge from u, of label d, to v does

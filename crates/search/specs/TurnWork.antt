@@ -16,7 +16,7 @@ use Rattle.search.specs.Turn.{Congestion}
 use Rattle.search.specs.Paths.{anyPriceMost}
 use Rattle.search.specs.Layout.{SameBut}
 use Rattle.search.specs.Replies.{workNeeded, sinksMost, readOff}
-use Rattle.search.specs.Labels.{goal, labelAt, fromAt, waitAt, Waits}
+use Rattle.search.specs.Labels.{goal, labelAt, fromAt, waitAt, besideAt, Waits}
 use Rattle.search.specs.Spread.{bareCount}
 use Rattle.search.specs.declared.PathAnswer.{PathAnswer}
 use Rattle.search.specs.declared.PathAnswer.the-variants.{Joins}
@@ -36,6 +36,26 @@ pub record Fitted (b : Block) (c : Congestion) (marks sinks work : List ℕ) : T
   pub marks-long : nodes b ≤ length marks
   pub sinks-few : length sinks ≤ sinksMost
 
+-- none of the nodes below `upto` has a label
+pub record Blank (n : ℕ) (w w′ : List ℕ) (upto : ℕ) : Type 0 where
+  pub same : SameBut 0 n w w′
+  pub labels : (v : ℕ) → v < upto → labelAt w′ v ≡ far
+
+-- no node from `from` to below `to` is in the tree
+abbrev pub Unmarked : List ℕ → ℕ → ℕ → Type 0
+Unmarked marks from to = (v : ℕ) → from ≤ v → v < to → getD marks v 0 ≡ 1 → ⊥
+
+-- r is a place from `from` on, with no tree node between
+pub record Over (marks : List ℕ) (from n r : ℕ) : Type 0 where
+  pub least : from ≤ r
+  pub most : r ≤ n
+  pub none : Unmarked marks from r
+
+-- r is the first tree node from `from` on, n where there is none
+pub record NextMarked (marks : List ℕ) (from n r : ℕ) : Type 0 where
+  pub over : Over marks from n r
+  pub marked : r < n → getD marks r 0 ≡ 1
+
 -- the tree's nodes have label 0 and wait, the others have none
 pub record TreeMarked (n : ℕ) (marks w w′ : List ℕ) (count : ℕ) : Type 0 where
   pub long : length w′ ≡ length w
@@ -44,6 +64,7 @@ pub record TreeMarked (n : ℕ) (marks w w′ : List ℕ) (count : ℕ) : Type 0
   pub room : count + bareCount n w′ ≤ n
   pub nodes : (i : ℕ) → i < count → waitAt n w′ i < n
   pub zero : (i : ℕ) → i < count → labelAt w′ (waitAt n w′ i) ≡ 0
+  pub beside : (i : ℕ) → i < count → besideAt n w′ i ≡ 0
   pub waits : (v : ℕ) → v < n → labelAt w′ v ≡ 0 → Waits n count w′ v
 
 -- the listed nodes without a label are goals

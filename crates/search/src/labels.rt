@@ -1,7 +1,7 @@
 // Labels spread from the tree along the edges, the nearest node first (Dijkstra). A step costs the price of the node that it leads to, so
 // the first label that a node gets is its distance; only a lower predecessor as near as the first one can still come.
 // Every number is read within its bounds: this is defined for all tables, and costs what it visits.
-// The work slice of n nodes: labels from 0, predecessors from n, the waiting nodes from 2n.
+// The work slice of n nodes: labels from 0, predecessors from n (the lower parts; the upper ones are the waiting nodes), their keys from 2n.
 ghost use mathlib.Core.Path.{_≡_};
 ghost use Prim.Native.Nat.{_+_, _*_, _≤_, _<_, min};
 ghost use lib.ListN.{length, getD};
@@ -9,7 +9,7 @@ ghost use Rattle.price.specs.Bounds.{nodesMost, priceMost};
 ghost use Rattle.search.specs.Block.{graphOf};
 ghost use Rattle.search.specs.Turn.{congestionOf};
 ghost use Rattle.search.specs.Held.{held as heldAt, heldPrice, Lent};
-ghost use Rattle.search.specs.Labels.{labelAt, fromAt};
+ghost use Rattle.search.specs.Labels.{labelAt, fromAt, withFrom};
 ghost use Rattle.search.specs.Spread.{Labelled, GoalMet, Lowered, Relaxed, LabelReady, RelaxReady};
 ghost use Rattle.search.specs.Spread.{SettleReady, Settled, RunReady, Ran};
 use crate::distances;
@@ -71,6 +71,14 @@ fn met(old: u64, d: u64, best: u64) -> u64
     if d < best { d } else { best }
 }
 
+// Node u comes before v.
+fn set_from(work: &mut [u64], n: usize, u: usize, v: usize)
+    requires { ⌜ (u < n) × (v < n) × (n ≤ nodesMost) × (3 * n ≤ length (now work)) ⌝ }
+    ensures { λ _. ⌜ now (work .exit) ≡ withFrom n (now (work .entry)) u v ⌝ }
+{
+    work[n + v] = work[n + v] / heap::UPPER * heap::UPPER + u as u64;
+}
+
 // Node v gets its label, d, from u. It waits, unless it has no edges.
 fn label(
     first_edge: &[u32],
@@ -87,7 +95,7 @@ fn label(
 {
     let best = met(work[v], d, r.best);
     work[v] = d;
-    work[n + v] = u as u64;
+    set_from(work, n, u, v);
     let count = r.count;
     if first_edge[v + 1] <= first_edge[v] {
         return Reach {
@@ -107,10 +115,10 @@ fn lower(work: &mut [u64], n: usize, u: usize, v: usize, d: u64)
     requires { ⌜ (u < n) × (v < n) × (n ≤ nodesMost) × (3 * n ≤ length (now work)) × (fromAt n (now work) v < n) ⌝ }
     ensures { λ _. ⌜ Lowered n u v d (now (work .entry)) (now (work .exit)) ⌝ }
 {
-    let w = work[n + v];
-    if (u as u64) < w {
-        if work[w as usize] == d {
-            work[n + v] = u as u64;
+    let w = (work[n + v] % heap::UPPER) as usize;
+    if u < w {
+        if work[w] == d {
+            set_from(work, n, u, v);
         }
     }
 }
@@ -243,7 +251,7 @@ pub fn settle_all(
         count: waits,
     };
     while 0 < r.count {
-        let u = work[2 * n] as usize;
+        let u = (work[n] / heap::UPPER) as usize;
         if r.best < work[u] + last_step {
             return r.best;
         }

@@ -1,4 +1,5 @@
 // One turn of a net: labels spread from its tree until its nearest sink is reached, and the path is read off.
+ghost use mathlib.Core.Bool.{false};
 ghost use mathlib.Core.Path.{_≡_};
 ghost use Prim.Native.Nat.{_*_, _≤_, _<_};
 ghost use lib.ListN.{length, take};
@@ -9,30 +10,90 @@ ghost use Rattle.search.specs.Held.{heldPrice, Lent};
 ghost use Rattle.search.specs.Replies.{turnReply, pathReplyOf};
 ghost use Rattle.search.specs.Layout.{SameBut};
 ghost use Rattle.search.specs.Labels.{labelAt};
+ghost use Rattle.search.specs.TurnWork.{Blank, Unmarked, Over, NextMarked};
 ghost use Rattle.search.specs.TurnWork.{Fitted, TreeMarked, GoalsMarked, LeastGoal, FirstAt, Leads, pathIn, Found, Read};
 use crate::PathAnswer;
 use crate::distances;
+use crate::heap;
 use crate::labels;
+
+// How many nodes are passed over at a time.
+const STRETCH: usize = 64;
 
 // Above every price.
 const ANY_PRICE_MOST: u64 = 1000000000000000000;
+
+// No node has a label. A loop of its own, which is compiled to a call that fills memory.
+fn fill_far(work: &mut [u64], n: usize)
+    requires { ⌜ n ≤ length (now work) ⌝ }
+    ensures { λ _. ⌜ Blank n (now (work .entry)) (now (work .exit)) n ⌝ }
+{
+    let mut v = 0;
+    while v < n {
+        work[v] = distances::FAR;
+        v += 1;
+    }
+}
+
+// Some node from `from` to below `to` is in the tree. Without early exit, so that it is vector code.
+fn some_marked(in_tree: &[u8], from: usize, to: usize) -> bool
+    requires { ⌜ (from ≤ to) × (to ≤ length (now «in_tree»)) ⌝ }
+    ensures { λ r. ⌜ (r ≡ false → Unmarked (now («in_tree» .entry)) from to) ⌝ }
+{
+    let mut some = false;
+    let mut v = from;
+    while v < to {
+        if in_tree[v] == 1 {
+            some = true;
+        }
+        v += 1;
+    }
+    some
+}
+
+// A place from `from` on, with no tree node between: passes over many nodes at a time.
+fn pass_over(in_tree: &[u8], from: usize, n: usize) -> usize
+    requires { ⌜ (from ≤ n) × (n ≤ nodesMost) × (n ≤ length (now «in_tree»)) ⌝ }
+    ensures { λ r. ⌜ Over (now («in_tree» .entry)) from n r ⌝ }
+{
+    let mut v = from;
+    while v + STRETCH <= n {
+        if some_marked(in_tree, v, v + STRETCH) {
+            return v;
+        }
+        v += STRETCH;
+    }
+    v
+}
+
+// The first tree node from `from` on, n where there is none.
+fn next_marked(in_tree: &[u8], from: usize, n: usize) -> usize
+    requires { ⌜ (from ≤ n) × (n ≤ nodesMost) × (n ≤ length (now «in_tree»)) ⌝ }
+    ensures { λ r. ⌜ NextMarked (now («in_tree» .entry)) from n r ⌝ }
+{
+    let mut v = pass_over(in_tree, from, n);
+    while v < n {
+        if in_tree[v] == 1 {
+            return v;
+        }
+        v += 1;
+    }
+    v
+}
 
 // Tree nodes have label 0 and wait, the others have none: how many wait.
 fn mark_tree(in_tree: &[u8], work: &mut [u64], n: usize) -> usize
     requires { ⌜ (n ≤ nodesMost) × (n ≤ length (now «in_tree»)) × (3 * n ≤ length (now work)) ⌝ }
     ensures { λ count. ⌜ TreeMarked n (now («in_tree» .entry)) (now (work .entry)) (now (work .exit)) count ⌝ }
 {
+    fill_far(work, n);
     let mut count = 0;
-    let mut v = 0;
+    let mut v = next_marked(in_tree, 0, n);
     while v < n {
-        if in_tree[v] == 1 {
-            work[v] = 0;
-            work[2 * n + count] = v as u64;
-            count += 1;
-        } else {
-            work[v] = distances::FAR;
-        }
-        v += 1;
+        work[v] = 0;
+        heap::put(work, n, count, v, 0);
+        count += 1;
+        v = next_marked(in_tree, v + 1, n);
     }
     count
 }
@@ -114,7 +175,7 @@ fn path_length(in_tree: &[u8], work: &[u64], n: usize, sink: usize) -> usize
     let mut v = sink;
     let mut count = 1;
     while in_tree[v] != 1 {
-        v = work[n + v] as usize;
+        v = (work[n + v] % heap::UPPER) as usize;
         count += 1;
     }
     count
@@ -134,7 +195,7 @@ fn write_path(in_tree: &[u8], work: &mut [u64], n: usize, sink: usize, count: us
         i -= 1;
         let at = v as usize;
         work[i] = v;
-        v = work[n + at];
+        v = work[n + at] % heap::UPPER;
     }
     work[0] = v;
 }

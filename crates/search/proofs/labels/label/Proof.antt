@@ -4,7 +4,7 @@ use mathlib.Core.Path.{refl, _∙_}
 use native.Mathlib.Omega.{arith}
 use lib.ListN.{length-set}
 use Rattle.search.specs.Spread.{ends, waits}
-use Rattle.search.proofs.SpreadSteps.{label-heap}
+use Rattle.search.proofs.SpreadSteps.{labelled-long, label-heap}
 use borrow.Author.Needs.{needs}
 use Rattle.search.proofs.labels.label.Statement.{statement}
 use Rattle.search.proofs.labels.label.Tie as tie
@@ -24,14 +24,8 @@ mul-work c = search needs
 slice-write-work : tie.Need-slice-write-work
 slice-write-work c = search needs
 
-add-work : tie.Need-add-work
-add-work c = search needs
-
-mul-work-2 : tie.Need-mul-work-2
-mul-work-2 c = search needs
-
-slice-write-work-2 : tie.Need-slice-write-work-2
-slice-write-work-2 c = simp length-set (omega arith)
+set-from-requires : tie.Need-set-from-requires
+set-from-requires c κs = search needs
 
 add-if1 : tie.Need-add-if1
 add-if1 c = search needs
@@ -49,22 +43,25 @@ shared-slice-read-if1-2 : tie.Need-shared-slice-read-if1-2
 shared-slice-read-if1-2 c = search needs
 
 same-length : tie.Need-same-length
-same-length c = search needs
+same-length c = let p = c .before .before .before .before .before .before .before .before .before .before .before .pre in let d = c .before .before .before .before .before .before .before .before .before .before .before .args .d in rw (c .before .before .before .before .before .set-from .ensures) (labelled-long p d)
 
 returns : tie.Need-returns
-returns c = (ends (c .if1 .taken) refl refl, c .before .before .before .met .ensures)
+returns c = (ends (c .if1 .taken) (c .before .before .before .before .before .set-from .ensures) refl, c .before .before .before .before .before .before .before .met .ensures)
 
 add-requires : tie.Need-add-requires
-add-requires c κs = label-heap (c .before .before .before .before .before .before .before .before .pre) (c .before .before .before .before .before .before .before .before .args .d)
+add-requires c κs = label-heap (c .before .before .before .before .before .before .before .before .before .before .before .before .pre) (c .before .before .before .before .before .before .before .before .before .before .before .before .args .d) (c .before .before .before .before .before .before .set-from .ensures)
 
 add-t10 : tie.Need-add-t10
 add-t10 c = search needs
 
 same-length-2 : tie.Need-same-length-2
-same-length-2 c = c .before .before .add .ensures .same .long ∙ simp length-set
+same-length-2 c =
+    let p = c .before .before .before .before .before .before .before .before .before .before .before .before .before .before .before .pre in
+    let d = c .before .before .before .before .before .before .before .before .before .before .before .before .before .before .before .args .d in
+    c .before .before .add .ensures .moved .same .long ∙ rw (c .before .before .before .before .before .before .before .before .before .set-from .ensures) (labelled-long p d)
 
 returns-2 : tie.Need-returns-2
-returns-2 c = (waits (c .before .before .add .ensures) refl, c .before .before .before .before .before .before .before .met .ensures)
+returns-2 c = (waits (rw (c .before .before .before .before .before .before .before .before .before .set-from .ensures) at (c .before .before .add .ensures)) refl, c .before .before .before .before .before .before .before .before .before .before .before .met .ensures)
 
 pub label-spec : {M : Type 1} → statement M
 label-spec =
@@ -75,9 +72,7 @@ label-spec =
     met-requires
     mul-work
     slice-write-work
-    add-work
-    mul-work-2
-    slice-write-work-2
+    set-from-requires
     add-if1
     mul-if1
     shared-slice-read-if1

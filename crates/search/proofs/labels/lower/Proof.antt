@@ -21,20 +21,14 @@ mul-if2 c = search needs
 slice-read-if2 : tie.Need-slice-read-if2
 slice-read-if2 c = search needs
 
-add-work : tie.Need-add-work
-add-work c = search needs
-
-mul-work : tie.Need-mul-work
-mul-work c = search needs
-
-slice-write-work : tie.Need-slice-write-work
-slice-write-work c = search needs
+set-from-requires : tie.Need-set-from-requires
+set-from-requires c κs = search needs
 
 same-length : tie.Need-same-length
 same-length c = search needs
 
 returns : tie.Need-returns
-returns c = lowered (c .before .before .if1 .taken) (c .if2 .taken) refl
+returns c = lowered (c .before .before .before .before .before .before .if1 .taken) (c .before .before .before .before .if2 .taken) (c .before .before .set-from .ensures)
 
 returns-2 : tie.Need-returns-2
 returns-2 c = stays (λ e. absurd (c .if2 .left e)) refl
@@ -51,9 +45,7 @@ lower-spec =
     slice-read-w
     mul-if2
     slice-read-if2
-    add-work
-    mul-work
-    slice-write-work
+    set-from-requires
     same-length
     returns
     returns-2

@@ -24,9 +24,6 @@ loop-holds c = run-start (c .before .before .before .before .before .before .bef
 mul-u : tie.Need-mul-u Inv-loop μ-loop
 mul-u c = let f = c .before .before .before .before .before .before .before .before .before .before .pre .0 .few in omega arith
 
-mul-u-2 : tie.Need-mul-u-2 Inv-loop μ-loop
-mul-u-2 c = let f = c .before .before .before .before .before .before .before .before .before .before .pre .0 .few in omega arith
-
 slice-read-u : tie.Need-slice-read-u Inv-loop μ-loop
 slice-read-u c = let i = c .before .before .before .loop .inv in let t = c .before .if1 .taken in let h = i .spread .heap .long in let f = i .spread .heap .few in omega arith
 
@@ -98,7 +95,6 @@ settle-all-spec =
     μ-loop
     loop-holds
     mul-u
-    mul-u-2
     slice-read-u
     mul-if2
     slice-read-if2

@@ -1,102 +1,81 @@
--- `search::turn::mark_tree` meets its contract. The invariant: the nodes below v are marked. The measure is what is left of them.
+-- `search::turn::mark_tree` meets its contract. The invariant: the nodes below v are marked, and v is in the tree. The measure is how many nodes are left.
 -- Assumes nothing.
-use mathlib.Core.Logic.{⊎-elim}
-use Prim.Native.Nat.{_-_}
+use mathlib.Core.Path.{_≡_, _∙_}
+use Prim.Native.Nat.{_-_, _<_}
 use native.Mathlib.Omega.{arith}
-use lib.ListN.{length-set}
-use Rattle.search.proofs.TurnMarkLaws.{TreeSoFar, tree-none, tree-few, tree-in, tree-out, tree-all}
+use lib.ListN.{getD}
+use Rattle.search.proofs.TurnMarkLaws.{TreeSoFar, tree-start, tree-few, tree-room, tree-put, tree-in, tree-over, tree-all}
+use borrow.Author.Needs.{needs}
 use Rattle.search.proofs.turn.mark_tree.Statement.{statement}
 use Rattle.search.proofs.turn.mark_tree.Tie as tie
 
 abbrev Inv-loop : tie.InvT-loop
-Inv-loop in-tree work₀ n count₀ v₀ work count v = TreeSoFar n in-tree work₀ work count v
+Inv-loop in-tree work₀ n count₀ v₀ work count v = TreeSoFar n in-tree work₀ work count v × (v < n → getD in-tree v 0 ≡ 1)
 
 abbrev μ-loop : tie.MeasureT-loop
 μ-loop in-tree work₀ n count₀ v₀ work count v = n - v
 
-loop-holds : tie.Need-loop-holds Inv-loop μ-loop
-loop-holds c = tree-none _ _ _
+fill-far-requires : tie.Need-fill-far-requires Inv-loop μ-loop
+fill-far-requires c κs = search needs
 
-shared-slice-read-if1 : tie.Need-shared-slice-read-if1 Inv-loop μ-loop
-shared-slice-read-if1 c = let t = c .before .loop-test .taken in let p = c .before .before .before .pre .1 in omega arith
+next-marked-requires : tie.Need-next-marked-requires Inv-loop μ-loop
+next-marked-requires c κs = search needs
+
+loop-holds : tie.Need-loop-holds Inv-loop μ-loop
+loop-holds c = (tree-start (c .before .before .before .fill-far .ensures) (c .next-marked .ensures .over), c .next-marked .ensures .marked)
 
 mul-work : tie.Need-mul-work Inv-loop μ-loop
-mul-work c = let t = c .before .before .loop-test .taken in let p = c .before .before .before .before .pre .0 in omega arith
+mul-work c = let p = c .before .before .before .before .before .before .before .before .before .pre .0 in let t = c .loop-test .taken in omega arith
 
 slice-write-work : tie.Need-slice-write-work Inv-loop μ-loop
-slice-write-work c = let t = c .before .before .loop-test .taken in let l = c .before .before .before .loop .inv .long in let p = c .before .before .before .before .pre .2 in omega arith
-
-mul-work-2 : tie.Need-mul-work-2 Inv-loop μ-loop
-mul-work-2 c = let p = c .before .before .before .before .pre .0 in omega arith
-
-add-work : tie.Need-add-work Inv-loop μ-loop
-add-work c =
-    let inside = c .before .before in
-    let head = inside .before in
-    let start = head .before in
-    let f = tree-few (start .pre .2) (inside .loop-test .taken) (head .loop .inv) in
-    let t = inside .loop-test .taken in
-    let p = start .pre .0 in
+slice-write-work c =
+    let p = c .before .before .before .before .before .before .before .before .before .pre in
+    let b = c .before .before .before .before .before .fill-far .ensures in
+    let t = c .loop-test .taken in
+    let i = c .before .loop .inv in
+    let m = tree-room (p .2) b t (i .0) in
     omega arith
 
-mul-work-3 : tie.Need-mul-work-3 Inv-loop μ-loop
-mul-work-3 c =
-    let inside = c .before .before in
-    let head = inside .before in
-    let start = head .before in
-    let f = tree-few (start .pre .2) (inside .loop-test .taken) (head .loop .inv) in
-    let t = inside .loop-test .taken in
-    let p = start .pre .0 in
-    omega arith
-
-slice-write-work-2 : tie.Need-slice-write-work-2 Inv-loop μ-loop
-slice-write-work-2 c =
-    let inside = c .before .before in
-    let head = inside .before in
-    let start = head .before in
-    let f = tree-few (start .pre .2) (inside .loop-test .taken) (head .loop .inv) in
-    let t = inside .loop-test .taken in
-    let l = head .loop .inv .long in
-    let p = start .pre .2 in
-    simp length-set (omega arith)
+put-requires : tie.Need-put-requires Inv-loop μ-loop
+put-requires c κs =
+    let p = c .before .before .before .before .before .before .before .before .before .before .pre in
+    let b = c .before .before .before .before .before .before .fill-far .ensures in
+    let t = c .before .loop-test .taken in
+    let i = c .before .before .loop .inv in
+    let small : c .before .before .before .before .before .before .before .before .before .before .args .n < 65536 = omega (arith, p .0) in
+    (tree-few (p .2) b t (i .0), t, small, tree-put (p .2) b t (i .0))
 
 add-count : tie.Need-add-count Inv-loop μ-loop
 add-count c =
-    let inside = c .before .before in
-    let head = inside .before in
-    let start = head .before in
-    let f = tree-few (start .pre .2) (inside .loop-test .taken) (head .loop .inv) in
-    let t = inside .loop-test .taken in
-    let p = start .pre .0 in
-    omega arith
+    let p = c .before .before .before .before .before .before .before .before .before .before .before .before .before .pre in
+    let b = c .before .before .before .before .before .before .before .before .before .fill-far .ensures in
+    let t = c .before .before .before .before .loop-test .taken in
+    let i = c .before .before .before .before .before .loop .inv in
+    let f = tree-few (p .2) b t (i .0) in
+    omega (arith, p .0)
 
-mul-work-4 : tie.Need-mul-work-4 Inv-loop μ-loop
-mul-work-4 c = let t = c .before .before .loop-test .taken in let p = c .before .before .before .before .pre .0 in omega arith
+add-next-marked : tie.Need-add-next-marked Inv-loop μ-loop
+add-next-marked c = let p = c .before .before .before .before .before .before .before .before .before .before .before .before .before .pre .0 in let t = c .before .before .before .before .loop-test .taken in omega arith
 
-slice-write-work-3 : tie.Need-slice-write-work-3 Inv-loop μ-loop
-slice-write-work-3 c = let t = c .before .before .loop-test .taken in let l = c .before .before .before .loop .inv .long in let p = c .before .before .before .before .pre .2 in omega arith
-
-add-v : tie.Need-add-v Inv-loop μ-loop
-add-v c = let t = c .before .before .loop-test .taken in let p = c .before .before .before .before .pre .0 in omega arith
+next-marked-requires-2 : tie.Need-next-marked-requires-2 Inv-loop μ-loop
+next-marked-requires-2 c κs = search needs
 
 loop-less : tie.Need-loop-less Inv-loop μ-loop
-loop-less c = let t = c .before .before .loop-test .taken in omega arith
+loop-less c = let o = c .next-marked2 .ensures .over .least in let t = c .before .before .before .before .before .loop-test .taken in omega arith
 
 loop-again : tie.Need-loop-again Inv-loop μ-loop
 loop-again c =
-    let p = c .before .before .before .before .pre .2 in
-    let t = c .before .before .loop-test .taken in
-    let i = c .before .before .before .loop .inv in
-    ⊎-elim
-    (λ w. rw (w .1, w .2) (tree-in p t i (w .0 .taken)))
-    (λ w. rw (w .1, w .2) (tree-out p t i (w .0 .left)))
-    (c .if1 .came)
+    let p = c .before .before .before .before .before .before .before .before .before .before .before .before .before .before .pre in
+    let b = c .before .before .before .before .before .before .before .before .before .before .fill-far .ensures in
+    let t = c .before .before .before .before .before .loop-test .taken in
+    let i = c .before .before .before .before .before .before .loop .inv in
+    (rw (c .before .before .before .put .ensures) (tree-over (c .next-marked2 .ensures .over) (tree-in (p .2) b t (i .0) (i .1 t))), c .next-marked2 .ensures .marked)
 
 same-length : tie.Need-same-length Inv-loop μ-loop
-same-length c = c .before .loop .inv .long
+same-length c = c .before .loop .inv .0 .long ∙ c .before .before .before .before .before .fill-far .ensures .same .long
 
 returns : tie.Need-returns Inv-loop μ-loop
-returns c = tree-all (c .loop-test .left) (c .before .loop .inv)
+returns c = tree-all (c .loop-test .left) (c .before .before .before .before .before .fill-far .ensures) (c .before .loop .inv .0)
 
 pub mark-tree-spec : {M : Type 1} → statement M
 mark-tree-spec =
@@ -104,18 +83,15 @@ mark-tree-spec =
     (tie.spec
     Inv-loop
     μ-loop
+    fill-far-requires
+    next-marked-requires
     loop-holds
-    shared-slice-read-if1
     mul-work
     slice-write-work
-    mul-work-2
-    add-work
-    mul-work-3
-    slice-write-work-2
+    put-requires
     add-count
-    mul-work-4
-    slice-write-work-3
-    add-v
+    add-next-marked
+    next-marked-requires-2
     loop-less
     loop-again
     same-length
