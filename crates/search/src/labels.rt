@@ -1,7 +1,7 @@
 // Labels spread from the tree along the edges, the nearest node first (Dijkstra). A step costs the price of the node that it leads to, so
 // the first label that a node gets is its distance; only a lower predecessor as near as the first one can still come.
 // Every number is read within its bounds: this is defined for all tables, and costs what it visits.
-// The work slice of n nodes: labels from 0, predecessors from n (the lower parts; the upper ones are the waiting nodes), their keys from 2n.
+// The work slice of n nodes: labels from 0, predecessors from n (lower parts) with the waiting nodes (upper parts), their keys from 2n.
 ghost use mathlib.Core.Path.{_≡_};
 ghost use Prim.Native.Nat.{_+_, _*_, _≤_, _<_, min};
 ghost use lib.ListN.{length, getD};

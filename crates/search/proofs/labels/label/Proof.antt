@@ -43,22 +43,28 @@ shared-slice-read-if1-2 : tie.Need-shared-slice-read-if1-2
 shared-slice-read-if1-2 c = search needs
 
 same-length : tie.Need-same-length
-same-length c = let p = c .before .before .before .before .before .before .before .before .before .before .before .pre in let d = c .before .before .before .before .before .before .before .before .before .before .before .args .d in rw (c .before .before .before .before .before .set-from .ensures) (labelled-long p d)
+same-length c =
+    let from = c .before .before .before .before .before in
+    let start = from .before .before .before .before .before .before in
+    rw (from .set-from .ensures) (labelled-long (start .pre) (start .args .d))
 
 returns : tie.Need-returns
 returns c = (ends (c .if1 .taken) (c .before .before .before .before .before .set-from .ensures) refl, c .before .before .before .before .before .before .before .met .ensures)
 
 add-requires : tie.Need-add-requires
-add-requires c κs = label-heap (c .before .before .before .before .before .before .before .before .before .before .before .before .pre) (c .before .before .before .before .before .before .before .before .before .before .before .before .args .d) (c .before .before .before .before .before .before .set-from .ensures)
+add-requires c κs =
+    let from = c .before .before .before .before .before .before in
+    let start = from .before .before .before .before .before .before in
+    label-heap (start .pre) (start .args .d) (from .set-from .ensures)
 
 add-t10 : tie.Need-add-t10
 add-t10 c = search needs
 
 same-length-2 : tie.Need-same-length-2
 same-length-2 c =
-    let p = c .before .before .before .before .before .before .before .before .before .before .before .before .before .before .before .pre in
-    let d = c .before .before .before .before .before .before .before .before .before .before .before .before .before .before .before .args .d in
-    c .before .before .add .ensures .moved .same .long ∙ rw (c .before .before .before .before .before .before .before .before .before .set-from .ensures) (labelled-long p d)
+    let from = c .before .before .before .before .before .before .before .before .before in
+    let start = from .before .before .before .before .before .before in
+    c .before .before .add .ensures .moved .same .long ∙ rw (from .set-from .ensures) (labelled-long (start .pre) (start .args .d))
 
 returns-2 : tie.Need-returns-2
 returns-2 c = (waits (rw (c .before .before .before .before .before .before .before .before .before .set-from .ensures) at (c .before .before .add .ensures)) refl, c .before .before .before .before .before .before .before .before .before .before .before .met .ensures)
