@@ -1,11 +1,14 @@
 // The lines of a case file: cases stand in blocks, parted by empty lines. Lines that begin with # and empty lines before a case say
 // nothing.
+ghost use mathlib.Core.Path.{_≡_};
 ghost use Prim.Native.Nat.{_<_, _≤_};
-ghost use lib.ListN.{length};
+ghost use lib.ListN.{length, drop};
+ghost use Rattle.cases.specs.Lines.{nextLine, lineFrom, emptyLine, callLetter};
 
 // The place after the line that is at this place, or the end of the text.
 fn next_line(text: &[u8], at: usize) -> usize
     requires { ⌜ at < length (now text) ⌝ }
+    ensures { λ r. ⌜ r ≡ nextLine (now (text .entry)) at ⌝ }
     ensures { λ r. ⌜ at < r ⌝ }
 {
     let mut k = at;
@@ -60,7 +63,9 @@ pub fn next_case(text: &[u8], at: usize) -> usize
 }
 
 // The place of a case's line, from 0; the case's name is line 0. The end of the text, if there is none.
-pub fn line(case: &[u8], number: usize) -> usize {
+pub fn line(case: &[u8], number: usize) -> usize
+    ensures { λ r. ⌜ r ≡ lineFrom (now (case .entry)) 0 number ⌝ }
+{
     let mut at = 0;
     let mut left = number;
     while left > 0 {
@@ -74,7 +79,9 @@ pub fn line(case: &[u8], number: usize) -> usize {
 }
 
 // Whether the line at this place is empty, or the text is at its end.
-pub fn is_empty(case: &[u8], at: usize) -> bool {
+pub fn is_empty(case: &[u8], at: usize) -> bool
+    ensures { λ r. ⌜ r ≡ emptyLine (drop at (now (case .entry))) ⌝ }
+{
     if case.len() <= at {
         return true;
     }
@@ -82,7 +89,9 @@ pub fn is_empty(case: &[u8], at: usize) -> bool {
 }
 
 // A letter, from 0, of the word that names the case's call, with which line 1 begins; 0, if there is none.
-pub fn call(case: &[u8], letter: usize) -> u8 {
+pub fn call(case: &[u8], letter: usize) -> u8
+    ensures { λ r. ⌜ r ≡ callLetter (now (case .entry)) letter ⌝ }
+{
     let at = line(case, 1);
     if case.len() <= at {
         return 0;

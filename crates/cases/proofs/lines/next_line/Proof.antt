@@ -1,19 +1,20 @@
--- `cases::lines::next_line` reads only bytes that the text has, and ends. The measure is what is left of the text.
+-- `cases::lines::next_line` meets its contract: it goes on to the first LF. The measure is what is left of the text.
 -- Assumes nothing.
-use Prim.Native.Nat.{_≤_, _-_}
+use Prim.Native.Nat.{_-_}
 use borrow.Author.Needs.{needs}
 use lib.ListN.{length}
+use Rattle.cases.proofs.LineLaws.{InLine, in-line, lf-found, in-line-on, text-ends}
 use Rattle.cases.proofs.lines.next_line.Statement.{statement}
 use Rattle.cases.proofs.lines.next_line.Tie as tie
 
 abbrev Inv-loop : tie.InvT-loop
-Inv-loop text at k₀ k = (k ≤ length text) × (at ≤ k)
+Inv-loop text at k₀ k = InLine text at k
 
 abbrev μ-loop : tie.MeasureT-loop
 μ-loop text at k₀ k = length text - k
 
 loop-holds : tie.Need-loop-holds Inv-loop μ-loop
-loop-holds c = search needs
+loop-holds c = in-line (c .pre)
 
 shared-slice-read-if1 : tie.Need-shared-slice-read-if1 Inv-loop μ-loop
 shared-slice-read-if1 c = search needs
@@ -22,7 +23,7 @@ add-result : tie.Need-add-result Inv-loop μ-loop
 add-result c = search needs
 
 returns : tie.Need-returns Inv-loop μ-loop
-returns c = search needs
+returns c = lf-found (c .before .before .before .loop .inv) (c .before .before .loop-test .taken) (c .if1 .taken)
 
 add-k : tie.Need-add-k Inv-loop μ-loop
 add-k c = search needs
@@ -31,10 +32,10 @@ loop-less : tie.Need-loop-less Inv-loop μ-loop
 loop-less c = search needs
 
 loop-again : tie.Need-loop-again Inv-loop μ-loop
-loop-again c = search needs
+loop-again c = in-line-on (c .before .before .before .loop .inv) (c .before .before .loop-test .taken) (c .if1 .left)
 
 returns-2 : tie.Need-returns-2 Inv-loop μ-loop
-returns-2 c = search needs
+returns-2 c = text-ends (c .before .loop .inv) (c .loop-test .left) (c .before .before .pre)
 
 pub next-line-spec : {M : Type 1} → statement M
 next-line-spec =
