@@ -1,10 +1,47 @@
 -- `flow::route_job` meets its contract: the words used fit the log, and each case of the outcome has its law.
 -- Assumes nothing.
-use mathlib.Core.Path.{refl}
+use mathlib.Core.List.{List, _∷_}
+use mathlib.Core.Path.{_≡_, refl}
+use Prim.Native.Nat.{ℕ}
 use borrow.Author.Needs.{needs}
+use Rattle.job.specs.Job.{Job, jobOf}
+use Rattle.negotiation.specs.Outcome.{routeRefusal}
+use Rattle.negotiation.specs.declared.Outcome.{Outcome}
+use Rattle.text.specs.ReadReplies.{Tables}
+use Rattle.flow.specs.RunReplies.{lentOf, runReplyWith, routeRun}
 use Rattle.flow.proofs.RunLaws.{words-fit, run-accepted, run-refused}
 use Rattle.flow.proofs.route_job.Statement.{statement}
 use Rattle.flow.proofs.route_job.Tie as tie
+
+-- the router's answer, before what the match needs
+abbrev routed : tie.After-slice-known5 → tie.After-route
+routed c = c .before .before .before .before
+
+-- the entry, and the job in it
+abbrev entry : tie.After-route → tie.Start
+entry c = c .before .before .before .before .before .before .before .before .before .before .before .before .before
+
+abbrev job : tie.Start → Job
+job c =
+    let a = c .args in
+    jobOf (a .kind .now) (a .capacity .now) (a .first-edge .now) (a .edge-target .now) (a .source .now) (a .first-sink .now) (a .sink .now) (a .terms)
+
+-- what the router leaves in work slice and log
+abbrev work-left : tie.After-route → List ℕ
+work-left c = c .route .last .1 .1 .1 .1 .1 .1 .1 .1 .0
+
+abbrev log-left : tie.After-route → List ℕ
+log-left c = c .route .last .1 .1 .1 .1 .1 .1 .1 .1 .1 .0
+
+-- a job that the router refuses
+refused :
+    (c : tie.After-route) (k : ℕ) (ks : List ℕ) (o : Outcome) → c .route .result .outcome ≡ o
+    → routeRefusal o (c .route .result .iteration) (c .route .result .turns) ≡ k ∷ ks → (t : Tables)
+    → runReplyWith (k ∷ ks) 0 (lentOf t (work-left c) (log-left c) (entry c .args .routes .now))
+    ≡ routeRun (entry c .args .style) (job (entry c)) t (entry c .args .work .now) (entry c .args .log .now) (entry c .args .routes .now)
+refused c =
+    let a = entry c .args in
+    run-refused (job (entry c)) (a .work .now) (a .log .now) (c .route .result) (work-left c) (log-left c) (c .route .ensures .0) (a .style) (a .routes .now)
 
 route-requires : tie.Need-route-requires
 route-requires c κs = search needs
@@ -13,7 +50,10 @@ enum-told : tie.Need-enum-told
 enum-told c = search needs
 
 write-used-requires : tie.Need-write-used-requires
-write-used-requires c κs = words-fit _ _ _ (c .before .before .before .before .before .before .before .before .route .result) _ _ (c .before .before .before .before .before .before .before .before .route .ensures .0)
+write-used-requires c κs =
+    let r = routed (c .before .before .before .before) in
+    let a = entry r .args in
+    words-fit (job (entry r)) (a .work .now) (a .log .now) (r .route .result) (work-left r) (log-left r) (r .route .ensures .0)
 
 enum-known-outcome : tie.Need-enum-known-outcome
 enum-known-outcome c = search needs
@@ -62,9 +102,12 @@ same-length-3 c = search needs
 
 returns : tie.Need-returns
 returns c =
-    let known-enum-told = c .before .before .before .before .before in
-    let after-route = known-enum-told .before .before .before .before .before .before in
-    run-accepted _ _ _ (after-route .route .result) _ _ (after-route .route .ensures .0) _ _ (c .before .before .write-used .result) _ (known-enum-told .enum-told .given .1) (c .before .before .write-used .ensures)
+    let written = c .before .before in
+    let told = written .before .before .before in
+    let r = routed (told .before .before) in
+    let a = entry r .args in
+    run-accepted (job (entry r)) (a .work .now) (a .log .now) (r .route .result) (work-left r) (log-left r) (r .route .ensures .0)
+    (a .style) (a .routes .now) (written .write-used .result) (written .write-used .last .1 .1 .1 .1 .0) (told .enum-told .given .1) (written .write-used .ensures)
 
 same-length-4 : tie.Need-same-length-4
 same-length-4 c = search needs
@@ -73,7 +116,7 @@ same-length-5 : tie.Need-same-length-5
 same-length-5 c = search needs
 
 returns-2 : tie.Need-returns-2
-returns-2 c = run-refused _ _ _ (c .before .before .before .before .before .before .before .route .result) _ _ (c .before .before .before .before .before .before .before .route .ensures .0) _ _ _ _ _ (c .before .outcome .given .1) refl
+returns-2 c = refused (routed (c .before .before .before)) _ _ _ (c .before .outcome .given .1) refl
 
 same-length-6 : tie.Need-same-length-6
 same-length-6 c = search needs
@@ -82,7 +125,7 @@ same-length-7 : tie.Need-same-length-7
 same-length-7 c = search needs
 
 returns-3 : tie.Need-returns-3
-returns-3 c = run-refused _ _ _ (c .before .before .before .before .before .before .before .route .result) _ _ (c .before .before .before .before .before .before .before .route .ensures .0) _ _ _ _ _ (c .before .enum-told2 .given .1) refl
+returns-3 c = refused (routed (c .before .before .before)) _ _ _ (c .before .enum-told2 .given .1) refl
 
 same-length-8 : tie.Need-same-length-8
 same-length-8 c = search needs
@@ -91,7 +134,7 @@ same-length-9 : tie.Need-same-length-9
 same-length-9 c = search needs
 
 returns-4 : tie.Need-returns-4
-returns-4 c = run-refused _ _ _ (c .before .before .before .before .before .before .before .before .route .result) _ _ (c .before .before .before .before .before .before .before .before .route .ensures .0) _ _ _ _ _ (c .before .before .outcome2 .given .1) refl
+returns-4 c = refused (routed (c .before .before .before .before)) _ _ _ (c .before .before .outcome2 .given .1) refl
 
 same-length-10 : tie.Need-same-length-10
 same-length-10 c = search needs
@@ -100,7 +143,7 @@ same-length-11 : tie.Need-same-length-11
 same-length-11 c = search needs
 
 returns-5 : tie.Need-returns-5
-returns-5 c = run-refused _ _ _ (c .before .before .before .before .before .before .before .route .result) _ _ (c .before .before .before .before .before .before .before .route .ensures .0) _ _ _ _ _ (c .before .outcome3 .given .1) refl
+returns-5 c = refused (routed (c .before .before .before)) _ _ _ (c .before .outcome3 .given .1) refl
 
 same-length-12 : tie.Need-same-length-12
 same-length-12 c = search needs
@@ -109,7 +152,7 @@ same-length-13 : tie.Need-same-length-13
 same-length-13 c = search needs
 
 returns-6 : tie.Need-returns-6
-returns-6 c = run-refused _ _ _ (c .before .before .before .before .before .before .before .route .result) _ _ (c .before .before .before .before .before .before .before .route .ensures .0) _ _ _ _ _ (c .before .outcome4 .given .1) refl
+returns-6 c = refused (routed (c .before .before .before)) _ _ _ (c .before .outcome4 .given .1) refl
 
 same-length-14 : tie.Need-same-length-14
 same-length-14 c = search needs
@@ -118,7 +161,7 @@ same-length-15 : tie.Need-same-length-15
 same-length-15 c = search needs
 
 returns-7 : tie.Need-returns-7
-returns-7 c = run-refused _ _ _ (c .before .before .before .before .before .before .before .route .result) _ _ (c .before .before .before .before .before .before .before .route .ensures .0) _ _ _ _ _ (c .before .outcome5 .given .1) refl
+returns-7 c = refused (routed (c .before .before .before)) _ _ _ (c .before .outcome5 .given .1) refl
 
 pub route-job-spec : {M : Type 1} → statement M
 route-job-spec =
