@@ -40,12 +40,12 @@
 --     RunLaws         a run of settlings, and where it stops
 --
 -- A turn: labels and a binary heap
---     HeapLaws        a node rises to its place in the heap, and one sinks
+--     HeapLaws        a node rises to its place in the heap, and one sinks; an entry shared by a predecessor and a waiting node
 --     SpreadSteps     what holds while labels spread, after an edge
 --     RelaxLaws       an edge, as its code has it
 --     SpreadRun       a row, and one node after the other
 --     SpreadExact     which labels and predecessors are final
---     TurnMarkLaws    loops that mark the tree and the goals, and look for a label
+--     TurnMarkLaws    loops that pass over marks, mark the tree and the goals, and look for a label
 --     FollowLaws      loops that follow predecessors
 --     FoundLaws       the path is read off the work slice
 --     HaltLaws        what labels that have stopped say of the turn
