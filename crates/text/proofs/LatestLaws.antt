@@ -433,8 +433,12 @@ module _ {log froms tos : List ℕ} {at : ℕ} (p : Finding log froms tos at) (l
             (same-or-not here i);
       }
 
-  pub finding-anew : either (eqb (getD tos here 0) 0) (not (eqb (getD log (getD froms here 0) 0) (getD log at 0))) ≡ true → Finding log (set froms here at) (set tos here (nextAt log at)) (nextAt log at)
-  finding-anew t =
+  -- a net's first record of a later iteration than its others, or not
+  abbrev Anew : Bool → Type 0
+  Anew r = r ≡ either (eqb (getD tos here 0) 0) (not (eqb (getD log (getD froms here 0) 0) (getD log at 0)))
+
+  pub finding-anew : {r : Bool} → Anew r → r ≡ true → Finding log (set froms here at) (set tos here (nextAt log at)) (nextAt log at)
+  finding-anew told t =
       let below = finding-net in
       let long = p .from-long in
       let long′ = p .to-long in
@@ -455,17 +459,17 @@ module _ {log froms tos : List ℕ} {at : ℕ} (p : Finding log froms tos at) (l
       (λ h. h)
       (le-or-lt (getD log at 0) (latest here (p .records))))
       (same-or-not (getD tos here 0) 0))
-      (anew-why (getD tos here 0) (getD log (getD froms here 0) 0) (getD log at 0) t) in
+      (anew-why (getD tos here 0) (getD log (getD froms here 0) 0) (getD log at 0) (sym told ∙ t)) in
       moved (length-set froms here at ∙ p .from-long) (length-set tos here (nextAt log at) ∙ p .to-long)
       (λ i e. (getD-set-other froms here i at 0 (λ q. e (sym q)), getD-set-other tos here i (nextAt log at) 0 (λ q. e (sym q))))
       (rw (getD-set-same froms here at 0 (omega arith), getD-set-same tos here (nextAt log at) 0 (omega arith))
       (standing-anew (p .rest .last) sound-now (p .records) refl older))
 
-  pub finding-same : either (eqb (getD tos here 0) 0) (not (eqb (getD log (getD froms here 0) 0) (getD log at 0))) ≡ false → Finding log froms (set tos here (nextAt log at)) (nextAt log at)
-  finding-same t =
+  pub finding-same : {r : Bool} → Anew r → r ≡ false → Finding log froms (set tos here (nextAt log at)) (nextAt log at)
+  finding-same told t =
       let below = finding-net in
       let long = p .to-long in
-      let why = same-why (getD tos here 0) (getD log (getD froms here 0) 0) (getD log at 0) t in
+      let why = same-why (getD tos here 0) (getD log (getD froms here 0) 0) (getD log at 0) (sym told ∙ t) in
       moved (p .from-long) (length-set tos here (nextAt log at) ∙ p .to-long)
       (λ i e. (refl, getD-set-other tos here i (nextAt log at) 0 (λ q. e (sym q))))
       (rw (getD-set-same tos here (nextAt log at) 0 (omega arith)) (standing-same (p .rest .last) sound-now (p .records) refl (why .0) (why .1) stands))

@@ -1,9 +1,9 @@
 -- The tests of a path and of a record at a place of the log, and what a record that passes them has.
 -- Assumes nothing.
-use mathlib.Core.Bool.{Bool, true, false}
+use mathlib.Core.Bool.{Bool, true, false, not}
 use mathlib.Core.List.{List}
 use mathlib.Core.Logic.{⊎-elim}
-use mathlib.Core.Path.{_≡_, _∙_}
+use mathlib.Core.Path.{_≡_, sym, _∙_}
 use Prim.Native.Nat.{ℕ, _+_, _-_, _≤_, _<_}
 use native.Mathlib.Nat.{add-zero, eq-or-lt-of-le}
 use native.Mathlib.Omega.{arith}
@@ -16,6 +16,7 @@ use Rattle.price.specs.Bounds.{nodesMost, limitMost}
 use Rattle.price.specs.Lists.{every}
 use Rattle.price.proofs.TestLaws.{both-left, both-right, both-true}
 use Rattle.price.proofs.ListLaws.{every-all, every-none}
+use Rattle.search.proofs.KeptLaws.{refused, passed}
 use Rattle.text.specs.JobText.{between}
 use Rattle.text.specs.Routes.{Named, pathIn, pathSound, recordSound}
 use Rattle.text.specs.WriteSteps.{netMarked}
@@ -97,15 +98,15 @@ module _ (nodes : ℕ) (log : List ℕ) (at n sink : ℕ) where
       )
 
   pub path-nodes :
-      2 ≤ n → n ≤ 4096 → 6 + n ≤ length log - at →
-      every (nodeSound nodes) (take (at + 6 + n - (at + 6)) (drop (at + 6) log)) ≡ false → pathSound nodes n sink (drop at log) ≡ false
-  path-nodes l m h e = path-whole l m h ∙ rw e
+      2 ≤ n → n ≤ 4096 → 6 + n ≤ length log - at → {r : Bool} →
+      r ≡ every (nodeSound nodes) (take (at + 6 + n - (at + 6)) (drop (at + 6) log)) → not r ≡ true → pathSound nodes n sink (drop at log) ≡ false
+  path-nodes l m h told e = path-whole l m h ∙ rw (refused told e)
 
   pub path-last :
-      2 ≤ n → n ≤ 4096 → 6 + n ≤ length log - at →
-      every (nodeSound nodes) (take (at + 6 + n - (at + 6)) (drop (at + 6) log)) ≡ true →
+      2 ≤ n → n ≤ 4096 → 6 + n ≤ length log - at → {r : Bool} →
+      r ≡ every (nodeSound nodes) (take (at + 6 + n - (at + 6)) (drop (at + 6) log)) → not r ≡ false →
       pathSound nodes n sink (drop at log) ≡ eqb (getD log (at + 6 + n - 1) 0) sink
-  path-last l m h e = path-whole l m h ∙ rw e
+  path-last l m h told e = path-whole l m h ∙ rw (passed told e)
 
 -- ---- the tests of a record
 
@@ -167,8 +168,10 @@ module _ (named : Named) (last : ℕ) (log : List ℕ) (at : ℕ) where
       pub record-other : named .net (getD log (at + 1) 0) ≡ false → recordSound named last (drop at log) ≡ false
       record-other h = record-net ∙ rw h
 
-      pub record-path : named .net (getD log (at + 1) 0) ≡ true → recordSound named last (drop at log) ≡ pathSound (named .nodes) (getD log (at + 5) 0) (getD log (at + 2) 0) (drop at log)
-      record-path h = record-net ∙ rw h
+      pub record-path :
+          {net path : Bool} → net ≡ named .net (getD log (at + 1) 0) → not net ≡ false
+          → path ≡ pathSound (named .nodes) (getD log (at + 5) 0) (getD log (at + 2) 0) (drop at log) → path ≡ recordSound named last (drop at log)
+      record-path told h is = is ∙ sym (record-net ∙ rw (passed told h))
 
 -- ---- what a sound record has
 

@@ -16,7 +16,7 @@ use Rattle.price.proofs.TestLaws.{both-left}
 use Rattle.job.specs.Tables.{netsMost, sourcesSound}
 use Rattle.job.specs.Join.{leads}
 use Rattle.job.proofs.JobLaws.{sources-few}
-use Rattle.text.specs.Routes.{Named, netWritable, writable, routeBranches, lastIteration, routesText, capped, notWritten, textReply, testedReply}
+use Rattle.text.specs.Routes.{WriteReply, Named, netWritable, writable, routeBranches, lastIteration, routesText, capped, notWritten, textReply, testedReply}
 use Rattle.text.specs.Dot.{dotText, styleText, textIn}
 use Rattle.text.specs.Users.{sound, unsound, logChecked}
 use Rattle.text.specs.WriteSteps.{Put, Filled, headText, tailText, netMarked, namedBy, Found}
@@ -122,8 +122,10 @@ module _ (text : List ℕ → List Record → List ℕ) (sources log buffer : Li
         let n = found-none (writable sources) log (rw by-marks at e) in
         rw (t, n .0, n .1)
 
-    pub write-sound : {iteration turns : ℕ} → sound iteration turns ≡ logChecked (namedBy marks nodesMost) log → textReply (text sources (decode log)) buffer ≡ testedReply text sources log buffer
+    pub write-sound :
+        {iteration turns : ℕ} {reply : WriteReply} → sound iteration turns ≡ logChecked (namedBy marks nodesMost) log
+        → reply ≡ textReply (text sources (decode log)) buffer → reply ≡ testedReply text sources log buffer
     unfolding testedReply
-    write-sound e =
+    write-sound e is =
         let n = found (writable sources) log (writable-few sources t) (omega arith) (rw by-marks at e) in
-        rw (t, n .0)
+        is ∙ rw (t, n .0)

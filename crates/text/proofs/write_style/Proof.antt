@@ -4,8 +4,8 @@ use mathlib.Core.Bool.{true}
 use mathlib.Core.Path.{_≡_, sym, _∙_, ap}
 use native.Mathlib.Omega.{arith}
 use borrow.Author.Needs.{needs}
-use borrow.Author.Tests.{not-true, not-false}
 use Rattle.price.specs.Bounds.{nodesMost}
+use Rattle.search.proofs.KeptLaws.{refused, passed}
 use Rattle.job.specs.Tables.{sourcesSound}
 use Rattle.job.proofs.JobLaws.{sources-few}
 use Rattle.text.specs.Users.{checkedAt}
@@ -17,13 +17,13 @@ use Rattle.text.proofs.write_style.Tie as tie
 
 -- table 5 keeps its rule
 table : (c : tie.Else1) → sourcesSound nodesMost (c .before .before .before .before .before .args .source .now) ≡ true
-table c = sym (c .before .sources-sound .ensures) ∙ not-false _ (c .if1 .left)
+table c = passed (c .before .sources-sound .ensures) (c .if1 .left)
 
 sources-sound-requires : tie.Need-sources-sound-requires
 sources-sound-requires c κs = search needs
 
 returns : tie.Need-returns
-returns c = write-table _ _ _ _ (sym (c .before .sources-sound .ensures) ∙ not-true _ (c .if1 .taken))
+returns c = write-table _ _ _ _ (refused (c .before .sources-sound .ensures) (c .if1 .taken))
 
 first-marks-requires : tie.Need-first-marks-requires
 first-marks-requires c κs = sources-few _ _ (table c)
@@ -56,9 +56,8 @@ returns-2 : tie.Need-returns-2
 returns-2 c =
     let arm = c .before .before .before .before .before in
     let marks = arm .before .before .before .before in
-    c .before .before .write-text .ensures
-    ∙ write-sound _ _ _ _ (marks .first-marks .result) (table (marks .before)) (marks .first-marks .ensures)
-    (ap checkedAt (sym (arm .iteration .given .1)) ∙ arm .before .before .check-log .ensures)
+    write-sound _ _ _ _ (marks .first-marks .result) (table (marks .before)) (marks .first-marks .ensures)
+    (ap checkedAt (sym (arm .iteration .given .1)) ∙ arm .before .before .check-log .ensures) (c .before .before .write-text .ensures)
 
 returns-3 : tie.Need-returns-3
 returns-3 c =

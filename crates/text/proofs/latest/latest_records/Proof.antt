@@ -96,8 +96,8 @@ loop-again : tie.Need-loop-again Inv-loop μ-loop
 loop-again c =
     let i = c .before .before .before .before .before .before in
     ⊎-elim
-    (λ w. rw (w .1) (finding-anew (i .before .loop .inv) (i .loop-test .taken) (sym (c .before .begins-anew .ensures) ∙ w .0 .taken)))
-    (λ w. rw (w .1) (finding-same (i .before .loop .inv) (i .loop-test .taken) (sym (c .before .begins-anew .ensures) ∙ w .0 .left)))
+    (λ w. rw (w .1) (finding-anew (i .before .loop .inv) (i .loop-test .taken) (c .before .begins-anew .ensures) (w .0 .taken)))
+    (λ w. rw (w .1) (finding-same (i .before .loop .inv) (i .loop-test .taken) (c .before .begins-anew .ensures) (w .0 .left)))
     (c .if1 .came)
 
 same-length : tie.Need-same-length Inv-loop μ-loop

@@ -1,8 +1,7 @@
 -- `text::log_check::path_sound` meets its contract: each test decides as the definition does.
 -- Assumes nothing.
-use mathlib.Core.Path.{sym, _∙_}
+use mathlib.Core.Path.{sym}
 use borrow.Author.Needs.{needs}
-use borrow.Author.Tests.{not-true, not-false}
 use Rattle.text.proofs.RecordTestLaws.{path-few, path-many, path-cut, path-nodes, path-last}
 use Rattle.text.proofs.log_check.path_sound.Statement.{statement}
 use Rattle.text.proofs.log_check.path_sound.Tie as tie
@@ -41,7 +40,7 @@ returns-4 : tie.Need-returns-4
 returns-4 c =
     let a = c .before .before .before .before .before .before .args in
     sym (path-nodes (a .nodes) (a .log .now) (a .at) _ _ (search needs) (search needs) (search needs)
-    (sym (c .before .nodes-sound .ensures) ∙ not-true _ (c .if4 .taken)))
+    (c .before .nodes-sound .ensures) (c .if4 .taken))
 
 sub-result : tie.Need-sub-result
 sub-result c = search needs
@@ -56,7 +55,7 @@ returns-5 : tie.Need-returns-5
 returns-5 c =
     let a = c .before .before .before .before .before .before .before .args in
     sym (path-last (a .nodes) (a .log .now) (a .at) _ _ (search needs) (search needs) (search needs)
-    (sym (c .before .before .nodes-sound .ensures) ∙ not-false _ (c .before .if4 .left)))
+    (c .before .before .nodes-sound .ensures) (c .before .if4 .left))
 
 pub path-sound-spec : {M : Type 1} → statement M
 path-sound-spec =

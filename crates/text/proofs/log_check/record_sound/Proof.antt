@@ -1,8 +1,8 @@
 -- `text::log_check::record_sound` meets its contract: each test decides as the definition does.
 -- Assumes nothing.
-use mathlib.Core.Path.{sym, _∙_}
+use mathlib.Core.Path.{sym}
 use borrow.Author.Needs.{needs}
-use borrow.Author.Tests.{not-true, not-false}
+use Rattle.search.proofs.KeptLaws.{refused}
 use Rattle.text.specs.WriteSteps.{namedBy}
 use Rattle.text.proofs.RecordTestLaws.{record-cut, record-none, record-late, record-falls, record-other, record-path}
 use Rattle.text.proofs.log_check.record_sound.Statement.{statement}
@@ -53,7 +53,7 @@ returns-5 : tie.Need-returns-5
 returns-5 c =
     let a = c .before .before .before .before .before .before .before .before .before .before .args in
     sym (record-other (namedBy (a .marks .now) (a .nodes)) (a .last) (a .log .now) (a .at) (search needs) (search needs) (search needs) (search needs)
-    (sym (c .before .net-marked .ensures) ∙ not-true _ (c .if5 .taken)))
+    (refused (c .before .net-marked .ensures) (c .if5 .taken)))
 
 add-path-sound : tie.Need-add-path-sound
 add-path-sound c = search needs
@@ -79,9 +79,8 @@ path-sound-requires c κs = search needs
 returns-6 : tie.Need-returns-6
 returns-6 c =
     let a = c .before .before .before .before .before .before .before .before .before .before .before .before .before .args in
-    c .path-sound .ensures
-    ∙ sym (record-path (namedBy (a .marks .now) (a .nodes)) (a .last) (a .log .now) (a .at) (search needs) (search needs) (search needs) (search needs)
-    (sym (c .before .before .before .before .net-marked .ensures) ∙ not-false _ (c .before .before .before .if5 .left)))
+    record-path (namedBy (a .marks .now) (a .nodes)) (a .last) (a .log .now) (a .at) (search needs) (search needs) (search needs) (search needs)
+    (c .before .before .before .before .net-marked .ensures) (c .before .before .before .if5 .left) (c .path-sound .ensures)
 
 pub record-sound-spec : {M : Type 1} → statement M
 record-sound-spec =
