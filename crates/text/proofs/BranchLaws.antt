@@ -16,8 +16,8 @@ use borrow.Author.Tests.{eq-eqb, ne-eqb}
 use Rattle.price.proofs.TestLaws.{either-way}
 use Rattle.negotiation.specs.Records.{Record, decode}
 use Rattle.text.specs.Routes.{Named, recordSound, soundWords, Branch, steps, passing, recordBranches, treeBranches, routeBranches}
-use Rattle.text.specs.WriteSteps.{Filled, AllSound, part, ownRecords, Latest}
-use Rattle.text.proofs.LogLaws.{soundAfter, sound-stop, nextAt, sound-at, long-at, fits-at, decode-at, decode-none}
+use Rattle.text.specs.WriteSteps.{nextAt, Filled, AllSound, part, ownRecords, Latest}
+use Rattle.text.proofs.LogLaws.{soundAfter, sound-stop, sound-at, long-at, fits-at, decode-at, decode-none}
 use Rattle.text.proofs.StepTextLaws.{filled-none, filled-then, FilledSoFar, so-far-none, so-far-more, so-far-all}
 use Rattle.text.proofs.StepListLaws.{flat-append}
 
@@ -63,15 +63,15 @@ abbrev pub textFrom : (Branch → List ℕ) → ℕ → List ℕ → ℕ → Lis
 textFrom line net log at = flatMap line (recordBranches (ownRecords net (decode (drop at log))))
 
 -- one of them
-abbrev pub recordText : (Branch → List ℕ) → ℕ → List ℕ → ℕ → List ℕ
-recordText line net log at = flatMap line (steps net (part log (at + 6) (nextAt log at)))
+abbrev pub recordText : (Branch → List ℕ) → ℕ → List ℕ → ℕ → ℕ → List ℕ
+recordText line net log at end = flatMap line (steps net (part log (at + 6) end))
 
 text-none : (line : Branch → List ℕ) (net : ℕ) (log : List ℕ) (at : ℕ) → length log ≤ at → textFrom line net log at ≡ []
 unfolding passing recordBranches flatMap
 text-none line net log at l = rw (drop-of-length-le log l, decode-none)
 
 module _ {log : List ℕ} {at : ℕ} (p : Rest log at) (l : at < length log) (line : Branch → List ℕ) (net : ℕ) where
-  text-met : getD log (at + 1) 0 ≡ net → textFrom line net log at ≡ recordText line net log at ++ textFrom line net log (nextAt log at)
+  text-met : getD log (at + 1) 0 ≡ net → textFrom line net log at ≡ recordText line net log at (nextAt log at) ++ textFrom line net log (nextAt log at)
   unfolding passing recordBranches
   text-met e =
       let long = long-at log at (p .named) (p .last) (sound-here p l) in
@@ -100,19 +100,21 @@ module _ {line : Branch → List ℕ} {net start next at : ℕ} {log before afte
   records-all l = so-far-all (rw (text-none line net log at l) at (p .writing))
 
   module _ (l : at < length log) where
-    pub records-passed : (getD log (at + 1) 0 ≡ net → ⊥) → PuttingRecords line net log start before after next (nextAt log at)
-    records-passed e =
-        record { rest = rest-next (p .rest) l; writing = rw (text-passed (p .rest) l line net e) at (p .writing) }
+    module _ {end : ℕ} (is : end ≡ nextAt log at) where
+      pub records-passed : (getD log (at + 1) 0 ≡ net → ⊥) → PuttingRecords line net log start before after next end
+      records-passed e =
+          rw is (record { rest = rest-next (p .rest) l; writing = rw (text-passed (p .rest) l line net e) at (p .writing) })
 
-    pub records-met :
-        {later : List ℕ} {further : ℕ} → getD log (at + 1) 0 ≡ net → Filled next (recordText line net log at) after later further
-        → PuttingRecords line net log start before later further (nextAt log at)
-    records-met e q =
-        record {
-          rest = rest-next (p .rest) l;
-          writing =
-              so-far-more (recordText line net log at) (textFrom line net log (nextAt log at)) (rw (text-met (p .rest) l line net e) at (p .writing)) q;
-        }
+      pub records-met :
+          {later : List ℕ} {further : ℕ} → getD log (at + 1) 0 ≡ net → Filled next (recordText line net log at end) after later further
+          → PuttingRecords line net log start before later further end
+      records-met e q =
+          rw is
+          (record {
+            rest = rest-next (p .rest) l;
+            writing =
+                so-far-more (recordText line net log at (nextAt log at)) (textFrom line net log (nextAt log at)) (rw (text-met (p .rest) l line net e) at (p .writing)) (rw is at q);
+          })
 
 -- ---- net after net
 

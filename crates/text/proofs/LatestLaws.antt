@@ -25,9 +25,9 @@ use Rattle.negotiation.specs.Records.{Record, decode}
 use Rattle.negotiation.specs.Demand.{latest}
 use Rattle.negotiation.proofs.FilterLaws.{latest-append}
 use Rattle.text.specs.Routes.{Named, pathIn, pathSound, recordSound, soundWords, soundUpTo, passing, recordsIn, finalRecords}
-use Rattle.text.specs.WriteSteps.{AllSound, part, ownRecords, LatestPlaces}
+use Rattle.text.specs.WriteSteps.{nextAt, AllSound, part, ownRecords, LatestPlaces}
 use Rattle.text.proofs.RecordTestLaws.{recordLength, sound-net, sound-some, sound-rises, sound-lower}
-use Rattle.text.proofs.LogLaws.{soundAfter, sound-next, firstRecord, recordAt, nextAt, first-at, record-at, decode-next, decode-none}
+use Rattle.text.proofs.LogLaws.{soundAfter, sound-next, firstRecord, recordAt, first-at, record-at, decode-next, decode-none}
 use Rattle.text.proofs.BranchLaws.{Rest, rest-next, sound-here}
 
 -- ---- records that pass a test
@@ -437,8 +437,8 @@ module _ {log froms tos : List ℕ} {at : ℕ} (p : Finding log froms tos at) (l
   abbrev Anew : Bool → Type 0
   Anew r = r ≡ either (eqb (getD tos here 0) 0) (not (eqb (getD log (getD froms here 0) 0) (getD log at 0)))
 
-  pub finding-anew : {r : Bool} → Anew r → r ≡ true → Finding log (set froms here at) (set tos here (nextAt log at)) (nextAt log at)
-  finding-anew told t =
+  pub finding-anew : {end : ℕ} {r : Bool} → end ≡ nextAt log at → Anew r → r ≡ true → Finding log (set froms here at) (set tos here end) end
+  finding-anew is told t =
       let below = finding-net in
       let long = p .from-long in
       let long′ = p .to-long in
@@ -460,19 +460,21 @@ module _ {log froms tos : List ℕ} {at : ℕ} (p : Finding log froms tos at) (l
       (le-or-lt (getD log at 0) (latest here (p .records))))
       (same-or-not (getD tos here 0) 0))
       (anew-why (getD tos here 0) (getD log (getD froms here 0) 0) (getD log at 0) (sym told ∙ t)) in
-      moved (length-set froms here at ∙ p .from-long) (length-set tos here (nextAt log at) ∙ p .to-long)
+      rw is
+      (moved (length-set froms here at ∙ p .from-long) (length-set tos here (nextAt log at) ∙ p .to-long)
       (λ i e. (getD-set-other froms here i at 0 (λ q. e (sym q)), getD-set-other tos here i (nextAt log at) 0 (λ q. e (sym q))))
       (rw (getD-set-same froms here at 0 (omega arith), getD-set-same tos here (nextAt log at) 0 (omega arith))
-      (standing-anew (p .rest .last) sound-now (p .records) refl older))
+      (standing-anew (p .rest .last) sound-now (p .records) refl older)))
 
-  pub finding-same : {r : Bool} → Anew r → r ≡ false → Finding log froms (set tos here (nextAt log at)) (nextAt log at)
-  finding-same told t =
+  pub finding-same : {end : ℕ} {r : Bool} → end ≡ nextAt log at → Anew r → r ≡ false → Finding log froms (set tos here end) end
+  finding-same is told t =
       let below = finding-net in
       let long = p .to-long in
       let why = same-why (getD tos here 0) (getD log (getD froms here 0) 0) (getD log at 0) (sym told ∙ t) in
-      moved (p .from-long) (length-set tos here (nextAt log at) ∙ p .to-long)
+      rw is
+      (moved (p .from-long) (length-set tos here (nextAt log at) ∙ p .to-long)
       (λ i e. (refl, getD-set-other tos here i (nextAt log at) 0 (λ q. e (sym q))))
-      (rw (getD-set-same tos here (nextAt log at) 0 (omega arith)) (standing-same (p .rest .last) sound-now (p .records) refl (why .0) (why .1) stands))
+      (rw (getD-set-same tos here (nextAt log at) 0 (omega arith)) (standing-same (p .rest .last) sound-now (p .records) refl (why .0) (why .1) stands)))
 
 -- after the last record
 pub finding-all : {log froms tos : List ℕ} {at : ℕ} → Finding log froms tos at → length log ≤ at → LatestPlaces log froms tos

@@ -17,7 +17,7 @@ use Rattle.job.specs.Tables.{netsMost}
 use Rattle.negotiation.specs.Records.{Record, recordOf, decodeUpTo, decode}
 use Rattle.text.specs.Routes.{Named, pathIn, recordSound, soundUpTo, soundWords, logSound, lastIteration}
 use Rattle.text.specs.Users.{sound, unsound, logChecked}
-use Rattle.text.specs.WriteSteps.{Found}
+use Rattle.text.specs.WriteSteps.{nextAt, Found}
 use Rattle.text.proofs.RecordTestLaws.{recordLength, sound-most, sound-fits}
 
 -- ---- sound words, record by record
@@ -121,10 +121,6 @@ decode-next ws h =
 
 -- ---- the record at a place
 
--- where the next record begins
-abbrev pub nextAt : List ℕ → ℕ → ℕ
-nextAt log at = at + 6 + getD log (at + 5) 0
-
 abbrev pub recordAt : List ℕ → ℕ → Record
 recordAt log at =
     recordOf (getD log at 0) (getD log (at + 1) 0) (getD log (at + 2) 0) (getD log (at + 3) 0 + getD log (at + 4) 0 * 2 ^ 32)
@@ -217,19 +213,20 @@ module _ {named : Named} {log : List ℕ} {at iteration turns : ℕ} (p : Checki
   pub checking-fits : recordSound named iteration (drop at log) ≡ true → nextAt log at ≤ length log
   checking-fits t = fits-at log at named iteration t (p .within)
 
-  pub checking-next : recordSound named iteration (drop at log) ≡ true → Checking named log (nextAt log at) (getD log at 0) (turns + 1)
+  pub checking-next : {end : ℕ} → recordSound named iteration (drop at log) ≡ true → end ≡ nextAt log at → Checking named log end (getD log at 0) (turns + 1)
   unfolding lastOr
-  checking-next t =
+  checking-next t is =
       let long = long-at log at named iteration t in
       let one : decode (drop at log) ≡ recordAt log at ∷ decode (drop (nextAt log at) log) = decode-at log at (omega arith) in
-      record {
+      rw is
+      (record {
         within = checking-fits t;
         sound-so-far = omega (arith, sound-at log at named iteration t, p .sound-so-far);
         counted = omega (arith, rw one at (p .counted));
         last-met = rw one at (p .last-met);
         few = omega arith;
         begun = λ e. absurd (omega arith);
-      }
+      })
 
   pub checked-unsound : at < length log → recordSound named iteration (drop at log) ≡ false → unsound at ≡ logChecked named log
   unfolding logChecked logSound

@@ -24,10 +24,10 @@ use Rattle.job.specs.Steps.{AllBelow}
 use Rattle.job.specs.Tables.{netsMost}
 use Rattle.job.proofs.MarkLaws.{stored-none, stored-one, stored-append}
 use Rattle.text.specs.Routes.{pathIn, passing}
-use Rattle.text.specs.WriteSteps.{AllSound, part, ownRecords, Latest}
+use Rattle.text.specs.WriteSteps.{nextAt, AllSound, part, ownRecords, Latest}
 use Rattle.text.specs.Users.{netsWith}
 use Rattle.text.specs.UserSteps.{Counted, FewUsers}
-use Rattle.text.proofs.LogLaws.{nextAt, long-at, decode-at, decode-none}
+use Rattle.text.proofs.LogLaws.{long-at, decode-at, decode-none}
 use Rattle.text.proofs.BranchLaws.{Rest, rest-none, sound-here, rest-next}
 use Rattle.text.proofs.ShortRecordLaws.{first-short}
 use Rattle.text.proofs.BranchHolds.{tree-read}
@@ -138,10 +138,11 @@ module _ {log : List ℕ} {at : ℕ} (p : Rest log at) (few : p .named .nodes �
   nodes-sound = first-short (p .named) (p .last) rest (sound-here p l) .nodes-below
 
   -- its nodes are numbers of nodes
-  pub path-below : AllBelow nodesMost (slice (at + 6) (nextAt log at) log)
-  path-below =
-      subst (AllBelow nodesMost) path-is
-      (λ k h. let low = ltb-true (getD path k 0) (p .named .nodes) (every-at (λ v. ltb v (p .named .nodes)) path nodes-sound k h) in omega arith)
+  pub path-below : {end : ℕ} → end ≡ nextAt log at → AllBelow nodesMost (slice (at + 6) end log)
+  path-below is =
+      rw is
+      (subst (AllBelow nodesMost) path-is
+      (λ k h. let low = ltb-true (getD path k 0) (p .named .nodes) (every-at (λ v. ltb v (p .named .nodes)) path nodes-sound k h) in omega arith))
 
 module _ {log : List ℕ} {at : ℕ} (p : Rest log at) (l : at < length log) (net : ℕ) where
   nodes-met : getD log (at + 1) 0 ≡ net → nodesFrom net log at ≡ slice (at + 6) (nextAt log at) log ++ nodesFrom net log (nextAt log at)
@@ -186,29 +187,30 @@ module _ {stamp net : ℕ} {log users stamps usersNow stampsNow : List ℕ} {at 
       p .whole usersNow stampsNow (rw none (counted-none stamp usersNow stampsNow))
 
   module _ (l : at < length log) where
-    pub records-passed : (getD log (at + 1) 0 ≡ net → ⊥) → CountingRecords stamp net log users stamps usersNow stampsNow (nextAt log at)
-    records-passed e =
-        record {
-          rest = rest-next (p .rest) l;
-          nodes-few = p .nodes-few;
-          few = p .few;
-          users-long = p .users-long;
-          stamps-long = p .stamps-long;
-          whole = λ u s c. p .whole u s (rw (nodes-passed (p .rest) l net e) c);
-        }
+    module _ {end : ℕ} (is : end ≡ nextAt log at) where
+      pub records-passed : (getD log (at + 1) 0 ≡ net → ⊥) → CountingRecords stamp net log users stamps usersNow stampsNow end
+      records-passed e =
+          record {
+            rest = rw is (rest-next (p .rest) l);
+            nodes-few = p .nodes-few;
+            few = p .few;
+            users-long = p .users-long;
+            stamps-long = p .stamps-long;
+            whole = λ u s c. p .whole u s (rw (nodes-passed (p .rest) l net e, ← is) c);
+          }
 
-    pub records-met :
-        {u s : List ℕ} → getD log (at + 1) 0 ≡ net → Counted stamp (slice (at + 6) (nextAt log at) log) usersNow stampsNow u s
-        → CountingRecords stamp net log users stamps u s (nextAt log at)
-    records-met e q =
-        record {
-          rest = rest-next (p .rest) l;
-          nodes-few = p .nodes-few;
-          few = few-counted (p .few) q;
-          users-long = q .users-long ∙ p .users-long;
-          stamps-long = q .stamps-set .long ∙ p .stamps-long;
-          whole = λ v t c. p .whole v t (rw (nodes-met (p .rest) l net e) (counted-append q c));
-        }
+      pub records-met :
+          {u s : List ℕ} → getD log (at + 1) 0 ≡ net → Counted stamp (slice (at + 6) end log) usersNow stampsNow u s
+          → CountingRecords stamp net log users stamps u s end
+      records-met e q =
+          record {
+            rest = rw is (rest-next (p .rest) l);
+            nodes-few = p .nodes-few;
+            few = few-counted (p .few) q;
+            users-long = q .users-long ∙ p .users-long;
+            stamps-long = q .stamps-set .long ∙ p .stamps-long;
+            whole = λ v t c. p .whole v t (rw (nodes-met (p .rest) l net e, ← is) (counted-append q c));
+          }
 
 -- ---- net after net
 

@@ -15,6 +15,10 @@ use Rattle.text.specs.Dot.{dotHead, dotEnd}
 use Rattle.text.specs.declared.Style.{Style}
 use Rattle.text.specs.declared.Style.the-variants as s
 
+-- the place after the record at a place of a log
+abbrev pub nextAt : List ℕ → ℕ → ℕ
+nextAt log at = at + 6 + getD log (at + 5) 0
+
 -- the buffer with these bytes from a place on
 unfoldable pub placed : ℕ → List ℕ → List ℕ → List ℕ
 placed at bytes buffer = take at buffer ++ (bytes ++ drop (at + length bytes) buffer)

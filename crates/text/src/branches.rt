@@ -10,6 +10,7 @@ ghost use Rattle.text.specs.Dot.{styleLine, styleText};
 ghost use Rattle.text.specs.WriteSteps.{Filled, AllSound, part, ownRecords, LatestPlaces};
 use crate::Style;
 use crate::bounds;
+use crate::log_check;
 use crate::parts;
 
 // The sum, or 2^64 − 1 where that is less.
@@ -75,10 +76,9 @@ fn put_records(style: Style, log: &[u32], net: u32, buffer: &mut [u8], start: u6
     let mut next = start;
     let mut at = 0;
     while at < log.len() {
-        let path = at + 6;
-        let end = path + log[at + 5] as usize;
+        let end = log_check::record_end(log, at);
         if log[at + 1] == net {
-            next = put_steps(style, log, path, end, net, buffer, next);
+            next = put_steps(style, log, at + 6, end, net, buffer, next);
         }
         at = end;
     }

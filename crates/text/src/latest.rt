@@ -7,6 +7,7 @@ ghost use lib.ListN.{length, getD};
 ghost use Rattle.price.specs.Test.{either};
 ghost use Rattle.job.specs.Tables.{netsMost};
 ghost use Rattle.text.specs.WriteSteps.{AllSound, LatestPlaces};
+use crate::log_check;
 
 // The net of the record at this place, whose records so far stand between two places, begins anew: it has none, or of another iteration.
 fn begins_anew(log: &[u32], at: usize, from: usize, to: usize) -> bool
@@ -30,7 +31,7 @@ pub fn latest_records(log: &[u32], from: &mut [usize], to: &mut [usize])
     let mut at = 0;
     while at < log.len() {
         let net = log[at + 1] as usize;
-        let end = at + 6 + log[at + 5] as usize;
+        let end = log_check::record_end(log, at);
         if begins_anew(log, at, from[net], to[net]) {
             from[net] = at;
         }

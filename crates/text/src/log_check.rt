@@ -6,7 +6,7 @@ ghost use lib.ListN.{length, take, drop};
 ghost use Rattle.price.specs.Lists.{every};
 ghost use Rattle.text.specs.Routes.{pathSound, recordSound};
 ghost use Rattle.text.specs.Users.{logChecked, checkedAt};
-ghost use Rattle.text.specs.WriteSteps.{netMarked, namedBy};
+ghost use Rattle.text.specs.WriteSteps.{nextAt, netMarked, namedBy};
 use crate::bounds;
 
 // What the test of a log answers.
@@ -89,6 +89,14 @@ fn record_sound(marks: &[u8], nodes: usize, log: &[u32], at: usize, last: u32) -
     path_sound(nodes, log, at, log[at + 5], log[at + 2])
 }
 
+// The place after a record that the log has whole.
+pub fn record_end(log: &[u32], at: usize) -> usize
+    requires { ⌜ nextAt (now log) at ≤ length (now log) ⌝ }
+    ensures { λ r. ⌜ r ≡ nextAt (now (log .entry)) at ⌝ }
+{
+    at + 6 + log[at + 5] as usize
+}
+
 // Goes from record to record, each of which is of a marked net and of nodes below the bound.
 pub fn check_log(marks: &[u8], nodes: usize, log: &[u32]) -> LogCheck
     ensures { λ r. ⌜ checkedAt r ≡ logChecked (namedBy (now (marks .entry)) nodes) (now (log .entry)) ⌝ }
@@ -101,7 +109,7 @@ pub fn check_log(marks: &[u8], nodes: usize, log: &[u32]) -> LogCheck
             return LogCheck::Unsound(at);
         }
         iteration = log[at];
-        at = at + 6 + log[at + 5] as usize;
+        at = record_end(log, at);
         turns += 1;
     }
     if turns == 0 {

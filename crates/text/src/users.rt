@@ -52,10 +52,9 @@ fn count_records(log: &[u32], net: u32, stamp: u16, users: &mut [u16], stamps: &
 {
     let mut at = 0;
     while at < log.len() {
-        let path = at + 6;
-        let end = path + log[at + 5] as usize;
+        let end = log_check::record_end(log, at);
         if log[at + 1] == net {
-            count_path(log, path, end, stamp, users, stamps);
+            count_path(log, at + 6, end, stamp, users, stamps);
         }
         at = end;
     }

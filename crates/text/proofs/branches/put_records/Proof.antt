@@ -5,7 +5,7 @@ use native.Mathlib.Omega.{arith}
 use lib.ListN.{length}
 use borrow.Author.Needs.{needs}
 use Rattle.text.specs.Dot.{styleLine}
-use Rattle.text.proofs.LogLaws.{nextAt}
+use Rattle.text.specs.WriteSteps.{nextAt}
 use Rattle.text.proofs.BranchLaws.{rest-fits, PuttingRecords, records-none, records-all, records-passed, records-met}
 use Rattle.text.proofs.branches.put_records.Statement.{statement}
 use Rattle.text.proofs.branches.put_records.Tie as tie
@@ -23,23 +23,8 @@ within c = rest-fits (c .before .loop .inv .rest) (c .loop-test .taken)
 loop-holds : tie.Need-loop-holds Inv-loop μ-loop
 loop-holds c = records-none _ _ _ _ _ (search needs) (c .before .before .pre)
 
-add-path : tie.Need-add-path Inv-loop μ-loop
-add-path c = omega (arith, within c)
-
-add-end : tie.Need-add-end Inv-loop μ-loop
-add-end c = omega (arith, within c)
-
-mul-end : tie.Need-mul-end Inv-loop μ-loop
-mul-end c = omega (arith, within c)
-
-shared-slice-read-end : tie.Need-shared-slice-read-end Inv-loop μ-loop
-shared-slice-read-end c = omega (arith, within (c .before))
-
-cast-end : tie.Need-cast-end Inv-loop μ-loop
-cast-end c = omega (arith, within (c .before))
-
-add-end-2 : tie.Need-add-end-2 Inv-loop μ-loop
-add-end-2 c = omega (arith, within (c .before))
+record-end-requires : tie.Need-record-end-requires Inv-loop μ-loop
+record-end-requires c κs = within c
 
 add-if1 : tie.Need-add-if1 Inv-loop μ-loop
 add-if1 c = omega (arith, within (c .before))
@@ -50,22 +35,31 @@ mul-if1 c = omega (arith, within (c .before))
 shared-slice-read-if1 : tie.Need-shared-slice-read-if1 Inv-loop μ-loop
 shared-slice-read-if1 c = omega (arith, within (c .before .before))
 
+add-put-steps : tie.Need-add-put-steps Inv-loop μ-loop
+add-put-steps c = omega (arith, within (c .before .before .before))
+
 put-steps-requires : tie.Need-put-steps-requires Inv-loop μ-loop
 put-steps-requires c κs =
-    let next = within (c .before .before .before .before) in
-    (omega arith, omega arith)
+    let end = c .before .before .before in
+    let is = end .record-end .ensures in
+    let next = within (end .before) in
+    (omega (arith, is), omega (arith, is, next))
 
 loop-less : tie.Need-loop-less Inv-loop μ-loop
-loop-less c = omega (arith, within (c .before .before .before .before .before .before .before))
+loop-less c = let end = c .before .before .before .before .before .before in omega (arith, end .record-end .ensures, within (end .before))
 
 loop-again : tie.Need-loop-again Inv-loop μ-loop
-loop-again c = records-met (c .before .before .before .before .before .before .before .before .loop .inv) (search needs) (c .before .before .before .before .if1 .taken) (c .before .before .put-steps .ensures)
+loop-again c =
+    let put = c .before .before in
+    let met = put .before .before in
+    let end = met .before .before in
+    records-met (end .before .before .loop .inv) (end .before .loop-test .taken) (end .record-end .ensures) (met .if1 .taken) (put .put-steps .ensures)
 
 loop-less-2 : tie.Need-loop-less-2 Inv-loop μ-loop
-loop-less-2 c = omega (arith, within (c .before .before .before))
+loop-less-2 c = let end = c .before .before in omega (arith, end .record-end .ensures, within (end .before))
 
 loop-again-2 : tie.Need-loop-again-2 Inv-loop μ-loop
-loop-again-2 c = records-passed (c .before .before .before .before .loop .inv) (search needs) (c .if1 .left)
+loop-again-2 c = let end = c .before .before in records-passed (end .before .before .loop .inv) (end .before .loop-test .taken) (end .record-end .ensures) (c .if1 .left)
 
 same-length : tie.Need-same-length Inv-loop μ-loop
 same-length c = c .before .loop .inv .writing .filled .kept
@@ -80,15 +74,11 @@ put-records-spec =
     Inv-loop
     μ-loop
     loop-holds
-    add-path
-    add-end
-    mul-end
-    shared-slice-read-end
-    cast-end
-    add-end-2
+    record-end-requires
     add-if1
     mul-if1
     shared-slice-read-if1
+    add-put-steps
     put-steps-requires
     loop-less
     loop-again

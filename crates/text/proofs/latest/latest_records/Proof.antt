@@ -7,7 +7,7 @@ use native.Mathlib.Omega.{arith}
 use lib.ListN.{length, getD}
 use borrow.Author.Needs.{needs}
 use Rattle.job.specs.Tables.{netsMost}
-use Rattle.text.proofs.LogLaws.{nextAt}
+use Rattle.text.specs.WriteSteps.{nextAt}
 use Rattle.text.proofs.BranchLaws.{rest-fits}
 use Rattle.text.proofs.LatestLaws.{Finding, finding-none, finding-net, finding-from, finding-anew, finding-same, finding-all}
 use Rattle.text.proofs.latest.latest_records.Statement.{statement}
@@ -44,23 +44,8 @@ shared-slice-read-net c = omega (arith, within (c .before))
 cast-net : tie.Need-cast-net Inv-loop μ-loop
 cast-net c = omega (arith, few (c .before))
 
-add-end : tie.Need-add-end Inv-loop μ-loop
-add-end c = omega (arith, within (c .before))
-
-add-end-2 : tie.Need-add-end-2 Inv-loop μ-loop
-add-end-2 c = omega (arith, within (c .before))
-
-mul-end : tie.Need-mul-end Inv-loop μ-loop
-mul-end c = omega (arith, within (c .before))
-
-shared-slice-read-end : tie.Need-shared-slice-read-end Inv-loop μ-loop
-shared-slice-read-end c = omega (arith, within (c .before .before))
-
-cast-end : tie.Need-cast-end Inv-loop μ-loop
-cast-end c = omega (arith, within (c .before .before))
-
-add-end-3 : tie.Need-add-end-3 Inv-loop μ-loop
-add-end-3 c = omega (arith, within (c .before .before))
+record-end-requires : tie.Need-record-end-requires Inv-loop μ-loop
+record-end-requires c κs = within (c .before)
 
 mul-begins-anew : tie.Need-mul-begins-anew Inv-loop μ-loop
 mul-begins-anew c = omega (arith, few (c .before .before))
@@ -90,14 +75,15 @@ slice-write-to : tie.Need-slice-write-to Inv-loop μ-loop
 slice-write-to c = omega (arith, few (c .before .before .before .before .before .before), c .before .before .before .before .before .before .before .loop .inv .to-long)
 
 loop-less : tie.Need-loop-less Inv-loop μ-loop
-loop-less c = omega (arith, within (c .before .before .before .before .before .before))
+loop-less c = let end = c .before .before .before .before in omega (arith, end .record-end .ensures, within (end .before .before))
 
 loop-again : tie.Need-loop-again Inv-loop μ-loop
 loop-again c =
-    let i = c .before .before .before .before .before .before in
+    let end = c .before .before .before .before in
+    let i = end .before .before in
     ⊎-elim
-    (λ w. rw (w .1) (finding-anew (i .before .loop .inv) (i .loop-test .taken) (c .before .begins-anew .ensures) (w .0 .taken)))
-    (λ w. rw (w .1) (finding-same (i .before .loop .inv) (i .loop-test .taken) (c .before .begins-anew .ensures) (w .0 .left)))
+    (λ w. rw (w .1) (finding-anew (i .before .loop .inv) (i .loop-test .taken) (end .record-end .ensures) (c .before .begins-anew .ensures) (w .0 .taken)))
+    (λ w. rw (w .1) (finding-same (i .before .loop .inv) (i .loop-test .taken) (end .record-end .ensures) (c .before .begins-anew .ensures) (w .0 .left)))
     (c .if1 .came)
 
 same-length : tie.Need-same-length Inv-loop μ-loop
@@ -120,12 +106,7 @@ latest-records-spec =
     mul-net
     shared-slice-read-net
     cast-net
-    add-end
-    add-end-2
-    mul-end
-    shared-slice-read-end
-    cast-end
-    add-end-3
+    record-end-requires
     mul-begins-anew
     slice-read-begins-anew
     mul-begins-anew-2

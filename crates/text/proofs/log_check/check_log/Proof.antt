@@ -8,8 +8,8 @@ use lib.ListN.{length, drop}
 use borrow.Author.Needs.{needs}
 use borrow.Author.Tests.{not-true, not-false}
 use Rattle.text.specs.Routes.{recordSound}
-use Rattle.text.specs.WriteSteps.{namedBy}
-use Rattle.text.proofs.LogLaws.{nextAt, Checking, checking-none, checking-fits, checking-next, checked-unsound, checked-none, checked-sound}
+use Rattle.text.specs.WriteSteps.{nextAt, namedBy}
+use Rattle.text.proofs.LogLaws.{Checking, checking-none, checking-fits, checking-next, checked-unsound, checked-none, checked-sound}
 use Rattle.text.proofs.log_check.check_log.Statement.{statement}
 use Rattle.text.proofs.log_check.check_log.Tie as tie
 
@@ -48,32 +48,17 @@ mul-iteration c = search needs
 shared-slice-read-iteration : tie.Need-shared-slice-read-iteration Inv-loop μ-loop
 shared-slice-read-iteration c = search needs
 
-add-at : tie.Need-add-at Inv-loop μ-loop
-add-at c = omega (arith, next (c .before))
-
-add-at-2 : tie.Need-add-at-2 Inv-loop μ-loop
-add-at-2 c = omega (arith, next (c .before))
-
-mul-at : tie.Need-mul-at Inv-loop μ-loop
-mul-at c = omega (arith, next (c .before))
-
-shared-slice-read-at : tie.Need-shared-slice-read-at Inv-loop μ-loop
-shared-slice-read-at c = omega (arith, next (c .before .before))
-
-cast-at : tie.Need-cast-at Inv-loop μ-loop
-cast-at c = omega (arith, next (c .before .before))
-
-add-at-3 : tie.Need-add-at-3 Inv-loop μ-loop
-add-at-3 c = omega (arith, next (c .before .before))
+record-end-requires : tie.Need-record-end-requires Inv-loop μ-loop
+record-end-requires c κs = next (c .before)
 
 add-turns : tie.Need-add-turns Inv-loop μ-loop
 add-turns c = omega (arith, next (c .before .before))
 
 loop-less : tie.Need-loop-less Inv-loop μ-loop
-loop-less c = omega (arith, next (c .before .before))
+loop-less c = omega (arith, c .record-end .ensures, next (c .before .before))
 
 loop-again : tie.Need-loop-again Inv-loop μ-loop
-loop-again c = checking-next (c .before .before .before .before .before .loop .inv) (here (c .before .before))
+loop-again c = checking-next (c .before .before .before .before .before .loop .inv) (here (c .before .before)) (c .record-end .ensures)
 
 returns-2 : tie.Need-returns-2 Inv-loop μ-loop
 returns-2 c = checked-none (c .before .before .loop .inv) (search needs) (search needs)
@@ -92,12 +77,7 @@ check-log-spec =
     returns
     mul-iteration
     shared-slice-read-iteration
-    add-at
-    add-at-2
-    mul-at
-    shared-slice-read-at
-    cast-at
-    add-at-3
+    record-end-requires
     add-turns
     loop-less
     loop-again

@@ -7,7 +7,7 @@ use lib.ListN.{length}
 use lib.Seq.{slice}
 use borrow.Author.Needs.{needs}
 use Rattle.job.specs.Steps.{AllBelow}
-use Rattle.text.proofs.LogLaws.{nextAt}
+use Rattle.text.specs.WriteSteps.{nextAt}
 use Rattle.text.proofs.BranchLaws.{rest-fits}
 use Rattle.text.proofs.UserLaws.{path-below, CountingRecords, records-none, records-all, records-passed, records-met}
 use Rattle.text.proofs.users.count_records.Statement.{statement}
@@ -26,23 +26,8 @@ within c = rest-fits (c .before .loop .inv .rest) (c .loop-test .taken)
 loop-holds : tie.Need-loop-holds Inv-loop μ-loop
 loop-holds c = records-none _ _ _ _ _ (c .before .before .before .pre .0 .0) (c .before .before .before .pre .1)
 
-add-path : tie.Need-add-path Inv-loop μ-loop
-add-path c = omega (arith, within c)
-
-add-end : tie.Need-add-end Inv-loop μ-loop
-add-end c = omega (arith, within c)
-
-mul-end : tie.Need-mul-end Inv-loop μ-loop
-mul-end c = omega (arith, within c)
-
-shared-slice-read-end : tie.Need-shared-slice-read-end Inv-loop μ-loop
-shared-slice-read-end c = omega (arith, within (c .before))
-
-cast-end : tie.Need-cast-end Inv-loop μ-loop
-cast-end c = omega (arith, within (c .before))
-
-add-end-2 : tie.Need-add-end-2 Inv-loop μ-loop
-add-end-2 c = omega (arith, within (c .before))
+record-end-requires : tie.Need-record-end-requires Inv-loop μ-loop
+record-end-requires c κs = within c
 
 add-if1 : tie.Need-add-if1 Inv-loop μ-loop
 add-if1 c = omega (arith, within (c .before))
@@ -53,28 +38,37 @@ mul-if1 c = omega (arith, within (c .before))
 shared-slice-read-if1 : tie.Need-shared-slice-read-if1 Inv-loop μ-loop
 shared-slice-read-if1 c = omega (arith, within (c .before .before))
 
+add-count-path : tie.Need-add-count-path Inv-loop μ-loop
+add-count-path c = omega (arith, within (c .before .before .before))
+
 count-path-requires : tie.Need-count-path-requires Inv-loop μ-loop
 count-path-requires c κs =
-    let inside = c .before .before .before .before .before in
+    let end = c .before .before .before .before in
+    let is = end .record-end .ensures in
+    let inside = end .before in
     let inv = inside .before .loop .inv in
     let start = inside .before .before .before .before .before in
     let next = within inside in
     let long : length (inside .before .loop .users) ≡ 4096 = inv .users-long ∙ start .pre .0 .1 in (
-      (omega arith, next, omega (arith, inv .users-long, inv .stamps-long, start .pre .0 .1, start .pre .0 .2)),
-      (subst (λ (n : ℕ). AllBelow n (slice (inside .before .loop .at + 6) (nextAt (start .args .log .now) (inside .before .loop .at)) (start .args .log .now))) (sym long) (path-below (inv .rest) (inv .nodes-few) (inside .loop-test .taken)), inv .few),
+      (omega (arith, is), omega (arith, is, next), omega (arith, inv .users-long, inv .stamps-long, start .pre .0 .1, start .pre .0 .2)),
+      (subst (λ (n : ℕ). AllBelow n (slice (inside .before .loop .at + 6) (end .record-end .result) (start .args .log .now))) (sym long) (path-below (inv .rest) (inv .nodes-few) (inside .loop-test .taken) is), inv .few),
     )
 
 loop-less : tie.Need-loop-less Inv-loop μ-loop
-loop-less c = omega (arith, within (c .before .before .before .before .before .before .before .before .before .before))
+loop-less c = let end = c .before .before .before .before .before .before .before .before .before in omega (arith, end .record-end .ensures, within (end .before))
 
 loop-again : tie.Need-loop-again Inv-loop μ-loop
-loop-again c = records-met (c .before .before .before .before .before .before .before .before .before .before .before .loop .inv) (search needs) (c .before .before .before .before .before .before .before .if1 .taken) (c .before .before .before .before .count-path .ensures)
+loop-again c =
+    let counted = c .before .before .before .before in
+    let met = counted .before .before .before in
+    let end = met .before .before in
+    records-met (end .before .before .loop .inv) (end .before .loop-test .taken) (end .record-end .ensures) (met .if1 .taken) (counted .count-path .ensures)
 
 loop-less-2 : tie.Need-loop-less-2 Inv-loop μ-loop
-loop-less-2 c = omega (arith, within (c .before .before .before))
+loop-less-2 c = let end = c .before .before in omega (arith, end .record-end .ensures, within (end .before))
 
 loop-again-2 : tie.Need-loop-again-2 Inv-loop μ-loop
-loop-again-2 c = records-passed (c .before .before .before .before .loop .inv) (search needs) (c .if1 .left)
+loop-again-2 c = let end = c .before .before in records-passed (end .before .before .loop .inv) (end .before .loop-test .taken) (end .record-end .ensures) (c .if1 .left)
 
 same-length : tie.Need-same-length Inv-loop μ-loop
 same-length c = c .before .loop .inv .users-long
@@ -92,15 +86,11 @@ count-records-spec =
     Inv-loop
     μ-loop
     loop-holds
-    add-path
-    add-end
-    mul-end
-    shared-slice-read-end
-    cast-end
-    add-end-2
+    record-end-requires
     add-if1
     mul-if1
     shared-slice-read-if1
+    add-count-path
     count-path-requires
     loop-less
     loop-again
