@@ -1,9 +1,22 @@
 -- `add_log` meets its contract: what the test of the counts refuses, else what the log gets.
 -- Assumes nothing.
-use Rattle.uses.proofs.AnswerLaws.{test-fine, test-sound, uses-low, add-table, add-count, add-fine}
+use Rattle.search.specs.Block.{Block, blockOf}
+use Rattle.search.proofs.BlockLaws.{sound-of}
+use Rattle.uses.specs.Uses.{Counts, countsOf}
+use Rattle.uses.proofs.AnswerLaws.{test-fine, uses-low, add-table, add-count, add-fine}
 use borrow.Author.Needs.{needs}
 use Rattle.uses.proofs.add_log.Statement.{statement}
 use Rattle.uses.proofs.add_log.Tie as tie
+
+-- the entry, and the block and the counts in it
+abbrev entry : tie.After-test-counts → tie.Start
+entry c = c .before .before .before .before .before .before .before
+
+abbrev block : tie.Start → Block
+block c = let a = c .args in blockOf (a .kind .now) (a .capacity .now) (a .first-edge .now) (a .edge-target .now)
+
+abbrev counts : tie.Start → Counts
+counts c = countsOf (c .args .uses .now) (c .args .logs)
 
 test-counts-requires : tie.Need-test-counts-requires
 test-counts-requires c κs = search needs
@@ -13,9 +26,11 @@ enum-told c = search needs
 
 add-tested-requires : tie.Need-add-tested-requires
 add-tested-requires c κs =
-    let told = c .before .before .before .test-counts .ensures in
-    let fine = c .before .enum-told .given .1 in
-    (test-sound _ _ told fine .kinds-sound, uses-low (test-fine _ _ told fine))
+    let tested = c .before .before .before in
+    let b = block (entry tested) in
+    let n = counts (entry tested) in
+    let fine = test-fine b n (tested .test-counts .ensures) (c .before .enum-told .given .1) in
+    (sound-of b (fine .sound) .kinds-sound, uses-low b n fine)
 
 enum-known-table : tie.Need-enum-known-table
 enum-known-table c = search needs

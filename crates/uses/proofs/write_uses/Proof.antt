@@ -2,9 +2,22 @@
 -- Assumes nothing.
 use native.Mathlib.Omega.{arith}
 use borrow.Author.Needs.{needs}
-use Rattle.uses.proofs.AnswerLaws.{test-fine, test-sound, print-table, print-count, print-fine}
+use Rattle.search.specs.Block.{Block, blockOf}
+use Rattle.search.proofs.BlockLaws.{sound-of}
+use Rattle.uses.specs.Uses.{Counts, countsOf}
+use Rattle.uses.proofs.AnswerLaws.{test-fine, print-table, print-count, print-fine}
 use Rattle.uses.proofs.write_uses.Statement.{statement}
 use Rattle.uses.proofs.write_uses.Tie as tie
+
+-- the entry, and the block and the counts in it
+abbrev entry : tie.After-test-counts → tie.Start
+entry c = c .before .before .before .before .before .before
+
+abbrev block : tie.Start → Block
+block c = let a = c .args in blockOf (a .kind .now) (a .capacity .now) (a .first-edge .now) (a .edge-target .now)
+
+abbrev counts : tie.Start → Counts
+counts c = countsOf (c .args .uses .now) (c .args .logs)
 
 test-counts-requires : tie.Need-test-counts-requires
 test-counts-requires c κs = search needs
@@ -14,10 +27,11 @@ enum-told c = search needs
 
 put-uses-requires : tie.Need-put-uses-requires
 put-uses-requires c κs =
-    let told = c .before .before .before .test-counts .ensures in
-    let fine = c .before .enum-told .given .1 in
-    let sound = test-sound _ _ told fine in
-    (sound .kinds-sound, sound .capacities-sound, omega (arith, test-fine _ _ told fine .few))
+    let tested = c .before .before .before in
+    let b = block (entry tested) in
+    let fine = test-fine b (counts (entry tested)) (tested .test-counts .ensures) (c .before .enum-told .given .1) in
+    let sound = sound-of b (fine .sound) in
+    (sound .kinds-sound, sound .capacities-sound, omega (arith, fine .few))
 
 enum-known-table : tie.Need-enum-known-table
 enum-known-table c = search needs

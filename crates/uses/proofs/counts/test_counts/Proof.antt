@@ -4,6 +4,7 @@ use mathlib.Core.Path.{refl}
 use Prim.Native.Nat.{ℕ}
 use native.Mathlib.Omega.{arith}
 use lib.ListN.{getD-replicate}
+use Rattle.search.specs.Block.{Block, blockOf}
 use Rattle.search.proofs.BlockLaws.{sound-of}
 use Rattle.uses.specs.Uses.{kindCount}
 use Rattle.uses.proofs.TallyLaws.{tallied-long}
@@ -11,6 +12,13 @@ use Rattle.uses.proofs.CountsLaws.{no-fault, few-nodes, found-most, ref
 use borrow.Author.Needs.{needs}
 use Rattle.uses.proofs.counts.test_counts.Statement.{statement}
 use Rattle.uses.proofs.counts.test_counts.Tie as tie
+
+-- the entry, and the block in it
+abbrev entry : tie.After-faulty-block → tie.Start
+entry c = c .before .before .before .before .before
+
+abbrev block : tie.Start → Block
+block c = let a = c .args in blockOf (a .kind .now) (a .capacity .now) (a .first-edge .now) (a .edge-target .now)
 
 faulty-block-requires : tie.Need-faulty-block-requires
 faulty-block-requires c κs = search needs
@@ -32,17 +40,21 @@ slice-aggregate-tally-2 c = search needs
 
 tally-requires : tie.Need-tally-requires
 tally-requires c κs =
-    let sound = no-fault _ (c .before .before .before .before .faulty-block .ensures) (search needs) in
-    ((sound-of _ sound .kinds-sound, few-nodes _ sound), (refl, λ k l. let zero = getD-replicate {A = ℕ} kindCount k 0 0 l in omega arith))
+    let tested = c .before .before .before .before in
+    let b = block (entry tested) in
+    let sound = no-fault b (tested .faulty-block .ensures) (search needs) in
+    ((sound-of b sound .kinds-sound, few-nodes b sound), (refl, λ k l. let zero = getD-replicate {A = ℕ} kindCount k 0 0 l in omega arith))
 
 slice-aggregate-first-over : tie.Need-slice-aggregate-first-over
 slice-aggregate-first-over c = search needs
 
 first-over-requires : tie.Need-first-over-requires
 first-over-requires c κs =
-    let sound = no-fault _ (c .before .before .before .before .before .before .before .before .faulty-block .ensures) (search needs) in
-    let found = c .before .before .before .tally .ensures in
-    (search needs, rw found (tallied-long _ _ _), found-most _ sound found, search needs)
+    let tallied = c .before .before .before in
+    let tested = tallied .before .before .before .before .before in
+    let b = block (entry tested) in
+    let sound = no-fault b (tested .faulty-block .ensures) (search needs) in
+    (search needs, rw (tallied .tally .ensures) (tallied-long _ _ _), found-most b sound (tallied .tally .ensures), search needs)
 
 cast-if3 : tie.Need-cast-if3
 cast-if3 c = search needs
