@@ -38,7 +38,7 @@ pub fn add_log(
       ⌜ (addReplyOf logs r (take kindCount (now (counts .exit))) ≡ reply)
           × (drop kindCount (now (counts .exit)) ≡ drop kindCount (now (counts .entry))) ⌝ }
 {
-    let mut all = [0u64; 54];
+    let mut all = [0u64; KINDS];
     copy_counts(counts, &mut all);
     let answer = uses::add_log(kind, capacity, first_edge, edge_target, &mut all, logs, log);
     copy_counts(&all, counts);
@@ -61,7 +61,7 @@ pub fn write_uses(
       ⌜ printReplyOf r (now (buffer .exit))
           ≡ printReply block (countsOf (take kindCount (now (counts .entry))) logs) (now (buffer .entry)) ⌝ }
 {
-    let mut all = [0u64; 54];
+    let mut all = [0u64; KINDS];
     copy_counts(counts, &mut all);
     uses::write_uses(kind, capacity, first_edge, edge_target, &all, logs, buffer)
 }

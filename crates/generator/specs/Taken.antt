@@ -21,8 +21,8 @@ pub record RouterTables (t : Tables) : Type 0 where
   pub sinks : 4096 ≤ length (t .sinks)
 
 -- the reader's reply where it has taken a job
-abbrev pub laidAll : Job → Tables → ReadReply
-laidAll j t = record { refusal = []; numbers = jobNumbers j; tables = tablesWith j t }
+abbrev pub readWhole : Job → Tables → ReadReply
+readWhole j t = record { refusal = []; numbers = jobNumbers j; tables = tablesWith j t }
 
 pub record LoadTaken (seed nodes nets : ℕ) : Type 0 where
   -- the tables keep their rules
@@ -32,7 +32,7 @@ pub record LoadTaken (seed nodes nets : ℕ) : Type 0 where
   -- "and gives those tables back", where what it is lent is long enough
   pub given-back :
       (t : Tables) → shortTable (loadJob seed nodes nets) t ≡ 0
-      → readReply (loadText seed nodes nets) t ≡ laidAll (loadJob seed nodes nets) t
+      → readReply (loadText seed nodes nets) t ≡ readWhole (loadJob seed nodes nets) t
   -- as the router's tables are, so that it never answers 4 to it
   pub enough : (t : Tables) → RouterTables t → shortTable (loadJob seed nodes nets) t ≡ 0
   -- nor 12: "65,536 bytes each for job, .."

@@ -1,8 +1,10 @@
 // The terms of a job, which a refusal counts as table 8.
 ghost use mathlib.Core.Path.{_≡_};
+ghost use Rattle.price.specs.Tuning.{tuningSound};
 ghost use Rattle.job.specs.Job.{plainTerms};
 ghost use Rattle.job.specs.Tables.{ruleSound, termsSound};
 use crate::Terms;
+use price::Tuning;
 
 // The largest limit of iterations.
 const LIMIT_MOST: u32 = 100;
@@ -20,6 +22,13 @@ pub fn plain_terms(limit: u32) -> Terms
         rule: 1,
         until: 1,
     }
+}
+
+// Each number of a tuning keeps its bounds.
+pub fn tuning_sound(tuning: Tuning) -> bool
+    ensures { λ r. ⌜ r ≡ tuningSound tuning ⌝ }
+{
+    price::tuning_sound(tuning)
 }
 
 // The rule is 1 or 2, and the last iteration before rule 2 is followed keeps its bounds.
@@ -48,7 +57,7 @@ pub fn terms_sound(terms: Terms) -> bool
     if LIMIT_MOST < terms.limit {
         return false;
     }
-    if !price::tuning_sound(terms.tuning) {
+    if !tuning_sound(terms.tuning) {
         return false;
     }
     rule_sound(terms.rule, terms.until)

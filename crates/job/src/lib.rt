@@ -23,6 +23,7 @@ pub use first_net::first_of;
 pub use job_terms::plain_terms;
 pub use job_terms::rule_sound;
 pub use job_terms::terms_sound;
+pub use job_terms::tuning_sound;
 pub use pins::sink_kind;
 pub use pins::source_kind;
 use price::Tuning;

@@ -16,7 +16,7 @@ use Rattle.price.specs.Test.{choose}
 use Rattle.price.specs.Lists.{has}
 use Rattle.price.proofs.TestLaws.{either-way, either-true, either-false}
 use Rattle.job.specs.Join.{placesFrom, entriesAt, taking}
-use Rattle.negotiation.specs.JoinSteps.{Held}
+use Rattle.negotiation.specs.JoinSteps.{PlacesTaken}
 use Rattle.job.specs.Steps.{AllBelow}
 use Rattle.negotiation.proofs.TakingLaws.{entries-more}
 
@@ -25,7 +25,7 @@ use Rattle.negotiation.proofs.TakingLaws.{entries-more}
 -- At place p: whoever takes the places left makes the whole.
 pub record Left (stamp : ℕ) (sinks before whole seen places : List ℕ) (count p to : ℕ) : Type 0 where
   pub taken : List ℕ
-  pub held : Held stamp sinks before taken seen places count
+  pub has-taken : PlacesTaken stamp sinks before taken seen places count
   pub left : taking sinks taken (placesFrom p (to - p)) ≡ whole
 
 -- The loop over a net's places: where it stands, and what holds of every beginning.
@@ -36,7 +36,7 @@ pub record Taking (stamp from to start : ℕ) (sinks seen₀ places₀ seen plac
   pub seen-long : length seen ≡ length seen₀
   pub places-long : length places ≡ length places₀
   pub goes :
-      (before taken : List ℕ) → Held stamp sinks before taken seen₀ places₀ start
+      (before taken : List ℕ) → PlacesTaken stamp sinks before taken seen₀ places₀ start
       → Left stamp sinks before (taking sinks taken (placesFrom from (to - from))) seen places count p to
 
 pub taking-none : (stamp from to start : ℕ) (sinks seen places : List ℕ) → from ≤ to → Taking stamp from to start sinks seen places seen places start from
@@ -47,7 +47,7 @@ taking-none stamp from to start sinks seen places h =
       most = omega arith;
       seen-long = refl;
       places-long = refl;
-      goes = λ before taken held. record { taken = taken; held = held; left = refl };
+      goes = λ before taken has-taken. record { taken = taken; has-taken = has-taken; left = refl };
     }
 
 -- the places left, of which p is the first
@@ -56,27 +56,27 @@ unfolding taking placesFrom
 taking-next sinks taken p to h = let e : to - p ≡ suc (to - (p + 1)) = omega arith in rw (e, add-one)
 
 -- a place whose sink is not stamped is taken
-held-more :
+has-taken-more :
     {stamp : ℕ} {sinks before taken seen places : List ℕ} {count : ℕ} (p : ℕ) → getD sinks p 0 < length seen → count < length places
-    → Held stamp sinks before taken seen places count
-    → Held stamp sinks before (taken ++ (p ∷ [])) (set seen (getD sinks p 0) stamp) (set places count p) (count + 1)
-held-more {stamp} {sinks} {before} {taken} {seen} {places} {count} p node room held =
+    → PlacesTaken stamp sinks before taken seen places count
+    → PlacesTaken stamp sinks before (taken ++ (p ∷ [])) (set seen (getD sinks p 0) stamp) (set places count p) (count + 1)
+has-taken-more {stamp} {sinks} {before} {taken} {seen} {places} {count} p node room has-taken =
     let sink = getD sinks p 0 in
     record {
       within = rw length-set (omega arith);
-      placed = rw (add-one, take-suc-set places count p room, held .placed) (append-assoc before taken (p ∷ []));
+      placed = rw (add-one, take-suc-set places count p room, has-taken .placed) (append-assoc before taken (p ∷ []));
       stamped = λ v h.
           ⊎-elim
           (λ (q : eqb v sink ≡ true).
           rw (entries-more sinks taken p v, q, either-true, eqb-true v sink q, getD-set-same seen sink stamp 0 node) (eq-eqb stamp stamp refl))
           (λ (q : eqb v sink ≡ false).
           rw (entries-more sinks taken p v, q, either-false, getD-set-other seen sink v stamp 0 (eqb-false v sink q))
-          (held .stamped v (rw length-set at h)))
+          (has-taken .stamped v (rw length-set at h)))
           (either-way (eqb v sink));
       stamps = λ v h.
           ⊎-elim
           (λ (q : eqb v sink ≡ true). rw (eqb-true v sink q, getD-set-same seen sink stamp 0 node) (le-refl stamp))
-          (λ (q : eqb v sink ≡ false). rw (getD-set-other seen sink v stamp 0 (eqb-false v sink q)) (held .stamps v (rw length-set at h)))
+          (λ (q : eqb v sink ≡ false). rw (getD-set-other seen sink v stamp 0 (eqb-false v sink q)) (has-taken .stamps v (rw length-set at h)))
           (either-way (eqb v sink));
     }
 
@@ -89,11 +89,11 @@ module _ {stamp from to start : ℕ} {sinks seen₀ places₀ seen places : List
         most = omega (arith, t .low, t .most);
         seen-long = t .seen-long;
         places-long = t .places-long;
-        goes = λ before taken held.
-            let l = t .goes before taken held in
+        goes = λ before taken has-taken.
+            let l = t .goes before taken has-taken in
             let seen-it : has (getD sinks p 0) (entriesAt sinks (l .taken)) ≡ true =
-            sym (l .held .stamped (getD sinks p 0) node) ∙ eq-eqb (getD seen (getD sinks p 0) 0) stamp e in
-            record { taken = l .taken; held = l .held; left = (rw seen-it at (sym (taking-next sinks (l .taken) p to h))) ∙ l .left };
+            sym (l .has-taken .stamped (getD sinks p 0) node) ∙ eq-eqb (getD seen (getD sinks p 0) 0) stamp e in
+            record { taken = l .taken; has-taken = l .has-taken; left = (rw seen-it at (sym (taking-next sinks (l .taken) p to h))) ∙ l .left };
       }
 
   pub taking-more : (getD seen (getD sinks p 0) 0 ≡ stamp → ⊥) → count < length places → Taking stamp from to start sinks seen₀ places₀ (set seen (getD sinks p 0) stamp) (set places count p) (count + 1) (p + 1)
@@ -104,13 +104,13 @@ module _ {stamp from to start : ℕ} {sinks seen₀ places₀ seen places : List
         most = omega (arith, t .low, t .most);
         seen-long = length-set seen (getD sinks p 0) stamp ∙ t .seen-long;
         places-long = length-set places count p ∙ t .places-long;
-        goes = λ before taken held.
-            let l = t .goes before taken held in
+        goes = λ before taken has-taken.
+            let l = t .goes before taken has-taken in
             let new : has (getD sinks p 0) (entriesAt sinks (l .taken)) ≡ false =
-            sym (l .held .stamped (getD sinks p 0) node) ∙ ne-eqb (getD seen (getD sinks p 0) 0) stamp n in
+            sym (l .has-taken .stamped (getD sinks p 0) node) ∙ ne-eqb (getD seen (getD sinks p 0) 0) stamp n in
             record {
               taken = l .taken ++ (p ∷ []);
-              held = held-more p node room (l .held);
+              has-taken = has-taken-more p node room (l .has-taken);
               left = (rw new at (sym (taking-next sinks (l .taken) p to h))) ∙ l .left;
             };
       }
@@ -118,13 +118,13 @@ module _ {stamp from to start : ℕ} {sinks seen₀ places₀ seen places : List
 pub taking-all :
     {stamp from to start : ℕ} {sinks seen₀ places₀ seen places : List ℕ} {count p : ℕ}
     → Taking stamp from to start sinks seen₀ places₀ seen places count p → to ≤ p
-    → (before taken : List ℕ) → Held stamp sinks before taken seen₀ places₀ start
-    → Held stamp sinks before (taking sinks taken (placesFrom from (to - from))) seen places count
+    → (before taken : List ℕ) → PlacesTaken stamp sinks before taken seen₀ places₀ start
+    → PlacesTaken stamp sinks before (taking sinks taken (placesFrom from (to - from))) seen places count
 unfolding taking placesFrom
-taking-all {to} {p} t end before taken held =
-    let l = t .goes before taken held in
+taking-all {to} {p} t end before taken has-taken =
+    let l = t .goes before taken has-taken in
     let e : to - p ≡ 0 = omega arith in
-    rw (rw e at (l .left)) at (l .held)
+    rw (rw e at (l .left)) at (l .has-taken)
 
 -- ---- the entries at places
 

@@ -19,7 +19,7 @@ use Rattle.search.specs.Replies.{sinksMost}
 use Rattle.job.specs.declared.Terms.{Terms}
 use Rattle.job.specs.Job.{Job}
 use Rattle.job.specs.Join.{firstOf, leads, placesFrom, listedPlaces, entriesAt, taking, placesOfFirst, joinedPlaces, placesBefore, joined}
-use Rattle.negotiation.specs.JoinSteps.{Joinable, JoinRoom, netsOnly, netsJob, listedCount, withListed, Held, Placed, JoinedPlaces, JoinedTables}
+use Rattle.negotiation.specs.JoinSteps.{Joinable, JoinRoom, netsOnly, netsJob, listedCount, withListed, PlacesTaken, Placed, JoinedPlaces, JoinedTables}
 use Rattle.job.specs.Steps.{AllBelow}
 use Rattle.negotiation.proofs.JoinLaws.{none-before, places-few, before-below, taking-room}
 use Rattle.job.proofs.SinkMarkLaws.{unmarked-new}
@@ -28,18 +28,20 @@ use Rattle.job.proofs.SinkMarkLaws.{unmarked-new}
 
 module _ (sources firstSinks : List ℕ) (net k : ℕ) {sinks before seen places : List ℕ} (taken : List ℕ) {count : ℕ} where
   -- net k has another source
-  pub held-other : (getD sources k 0 ≡ getD sources net 0 → ⊥) → Held (net + 1) sinks before taken seen places count → Held (net + 1) sinks before (withListed sources firstSinks sinks net k taken) seen places count
-  held-other n held = rw (ne-eqb (getD sources k 0) (getD sources net 0) n) held
+  pub has-taken-other : (getD sources k 0 ≡ getD sources net 0 → ⊥) → PlacesTaken (net + 1) sinks before taken seen places count → PlacesTaken (net + 1) sinks before (withListed sources firstSinks sinks net k taken) seen places count
+  has-taken-other n has-taken = rw (ne-eqb (getD sources k 0) (getD sources net 0) n) has-taken
 
   -- net k has the source
-  pub held-listed : getD sources k 0 ≡ getD sources net 0 → Held (net + 1) sinks before (taking sinks taken (placesFrom (getD firstSinks k 0) (listedCount firstSinks k))) seen places count → Held (net + 1) sinks before (withListed sources firstSinks sinks net k taken) seen places count
+  pub has-taken-listed :
+      getD sources k 0 ≡ getD sources net 0
+      → PlacesTaken (net + 1) sinks before (taking sinks taken (placesFrom (getD firstSinks k 0) (listedCount firstSinks k))) seen places count → PlacesTaken (net + 1) sinks before (withListed sources firstSinks sinks net k taken) seen places count
   unfolding listedPlaces
-  held-listed e held = rw (eq-eqb (getD sources k 0) (getD sources net 0) e) held
+  has-taken-listed e has-taken = rw (eq-eqb (getD sources k 0) (getD sources net 0) e) has-taken
 
 -- so many places are taken
-held-count : {stamp : ℕ} {sinks before taken seen places : List ℕ} {count : ℕ} → Held stamp sinks before taken seen places count → length before + length taken ≡ count
-held-count {before} {taken} {places} {count} held =
-    sym (length-append before taken) ∙ ap length (sym (held .placed)) ∙ length-take-le count places (held .within)
+has-taken-count : {stamp : ℕ} {sinks before taken seen places : List ℕ} {count : ℕ} → PlacesTaken stamp sinks before taken seen places count → length before + length taken ≡ count
+has-taken-count {before} {taken} {places} {count} has-taken =
+    sym (length-append before taken) ∙ ap length (sym (has-taken .placed)) ∙ length-take-le count places (has-taken .within)
 
 -- ---- all nets of a source
 
@@ -49,8 +51,8 @@ pub record TakingNets (sources firstSinks sinks : List ℕ) (net : ℕ) (seen₀
   pub seen-long : length seen ≡ length seen₀
   pub places-long : length places ≡ length places₀
   pub lead : leads sources net ≡ true
-  pub held :
-      Held (net + 1) sinks (placesBefore (netsOnly sources firstSinks sinks) net) (placesOfFirst (netsOnly sources firstSinks sinks) net k) seen places count
+  pub has-taken :
+      PlacesTaken (net + 1) sinks (placesBefore (netsOnly sources firstSinks sinks) net) (placesOfFirst (netsOnly sources firstSinks sinks) net k) seen places count
 
 -- the code's test of the first net
 pub is-first : (sources : List ℕ) (net first : ℕ) → first ≡ firstOf sources net → first ≡ net → leads sources net ≡ true
@@ -68,7 +70,7 @@ module _ {sources firstSinks sinks : List ℕ} {net : ℕ} where
     unfolding has
     nets-none h lead =
         let before = placesBefore (netsOnly sources firstSinks sinks) net in
-        let held : Held (net + 1) sinks before [] seen places start =
+        let has-taken : PlacesTaken (net + 1) sinks before [] seen places start =
         record {
           within = p .within;
           placed = p .placed ∙ sym (append-nil before);
@@ -80,7 +82,7 @@ module _ {sources firstSinks sinks : List ℕ} {net : ℕ} where
           seen-long = refl;
           places-long = refl;
           lead = lead;
-          held = rw (none-before (netsOnly sources firstSinks sinks) net h lead net (le-refl net)) held;
+          has-taken = rw (none-before (netsOnly sources firstSinks sinks) net h lead net (le-refl net)) has-taken;
         }
 
     -- a net that is not the first takes none
@@ -104,14 +106,14 @@ module _ {sources firstSinks sinks : List ℕ} {net : ℕ} where
     -- there is room for the places of the next net
     pub nets-room : Joinable sources firstSinks sinks → JoinRoom sinks seen₀ places₀ → k < length sources → getD sources k 0 ≡ getD sources net 0 → count + listedCount firstSinks k ≤ length places
     nets-room tables room h e =
-        let count-is = held-count (t .held) in
+        let count-is = has-taken-count (t .has-taken) in
         let few = taking-room (netsOnly sources firstSinks sinks) tables net k (t .lead) h e in
         omega (arith, room .places-room, t .places-long)
 
     pub nets-more :
         {seen′ places′ : List ℕ} {count′ : ℕ} → k < length sources → length seen′ ≡ length seen → length places′ ≡ length places
-        → ((before taken : List ℕ) → Held (net + 1) sinks before taken seen places count
-        → Held (net + 1) sinks before (withListed sources firstSinks sinks net k taken) seen′ places′ count′)
+        → ((before taken : List ℕ) → PlacesTaken (net + 1) sinks before taken seen places count
+        → PlacesTaken (net + 1) sinks before (withListed sources firstSinks sinks net k taken) seen′ places′ count′)
         → TakingNets sources firstSinks sinks net seen₀ places₀ seen′ places′ count′ (k + 1)
     unfolding placesOfFirst
     nets-more h seen-same places-same goes =
@@ -120,7 +122,7 @@ module _ {sources firstSinks sinks : List ℕ} {net : ℕ} where
           seen-long = seen-same ∙ t .seen-long;
           places-long = places-same ∙ t .places-long;
           lead = t .lead;
-          held = rw (add-one k) (goes _ _ (t .held));
+          has-taken = rw (add-one k) (goes _ _ (t .has-taken));
         }
 
     pub nets-all : length sources ≤ k → Placed sources firstSinks sinks seen places (net + 1) count
@@ -128,9 +130,9 @@ module _ {sources firstSinks sinks : List ℕ} {net : ℕ} where
     nets-all end =
         let e : k ≡ length sources = omega (arith, t .high) in
         record {
-          within = t .held .within;
-          placed = rw (add-one, t .lead, ← e) (t .held .placed);
-          stamps = t .held .stamps;
+          within = t .has-taken .within;
+          placed = rw (add-one, t .lead, ← e) (t .has-taken .placed);
+          stamps = t .has-taken .stamps;
         }
 
 -- ---- all nets

@@ -56,7 +56,9 @@
 --     AfterLimitHolds   request 2.8: so does the log of a run that refusal 9 ended, under a larger limit
 --     SamplesHold       the starred jobs
 -- The routing loops
---     TariffLaws, StepLaws, StepWithLaws   the tariff's steps, by hand
+--     TariffLaws        a tariff behind a `&mut`: what opens and closes the borrow
+--     StepLaws          a step that takes nothing but the `&mut`, and the function by value around it
+--     StepWithLaws      a step that takes plain data beside it
 --     RipLaws           a net's old tree dropped, its new one counted
 --     UserLaws          who uses a node: counts of nets by their trees
 --     OneTurnLaws       one turn, as the search's contract gives it
@@ -64,7 +66,10 @@
 --     KeepLaws          what holds at the head of each loop
 --     KeepPlaces        where each net's tree stands in the log
 --     KeepProgress      the lists over any progress: nets due, a tree dropped, grown and counted, histories moved on
---     KeepStart, KeepTurn, KeepNet, KeepEnd   that it holds at first, after a turn, a net and an iteration, and what each call asks
+--     KeepStart         that it holds where a run begins or goes on, nets due are marked and a net drops its old tree
+--     KeepTurn          after a turn
+--     KeepNet           after a net
+--     KeepEnd           after an iteration
 --     KeepLengths       the lists keep their lengths
 --     TakeTurnLaws      the turns of a net in a lent log, as a loop follows them
 --     TakeNetLaws       the nets of an iteration in it

@@ -127,12 +127,11 @@ module _ (start : Start) (j : Job) (work log : List ℕ) where
 
 -- ---- the two calls
 
-pub route-answered : (j : Job) (work log : List ℕ) (r : RouteReply) → Tests Anew j work log r → (r ≡ routeReply j work log) × Demand3 j work log r
+pub route-answered : (j : Job) (work log : List ℕ) (r : RouteReply) → Tests Anew j work log r → Demand3 j work log r
 unfolding routeReply
-route-answered j work log r e = (e, subst (Demand3 j work log) (sym e) (demand-3 j work log))
+route-answered j work log r e = subst (Demand3 j work log) (sym e) (demand-3 j work log)
 
 pub resume-answered :
-    (j : Job) (used : ℕ) (work log : List ℕ) (r : RouteReply) → Tests (After used) j work log r
-    → (r ≡ resumeReply j used work log) × Resumed j used work log r
+    (j : Job) (used : ℕ) (work log : List ℕ) (r : RouteReply) → Tests (After used) j work log r → Resumed j used work log r
 unfolding resumeReply
-resume-answered j used work log r e = (e, subst (Resumed j used work log) (sym e) (resumed j used work log))
+resume-answered j used work log r e = subst (Resumed j used work log) (sym e) (resumed j used work log)

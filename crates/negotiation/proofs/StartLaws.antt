@@ -11,7 +11,7 @@ use Rattle.job.specs.Job.{Job, nodes}
 use Rattle.negotiation.specs.Records.{Record, encode}
 use Rattle.negotiation.specs.Machine.{Progress, firstState}
 use Rattle.negotiation.specs.Outcome.{RouteReply, begun, logWith, continued, refusedAnswer, routeReplyOf}
-use Rattle.negotiation.specs.Kept.{Tallied, Ready, Stands}
+use Rattle.negotiation.specs.Kept.{Tallied, Ready, SomeReady}
 use Rattle.negotiation.specs.Resume.{Replay, on, off, replayFrom, replay, resumedReply, runFrom}
 use Rattle.negotiation.specs.TakeSteps.{LogTaken, StartOn, Started}
 use Rattle.negotiation.specs.declared.RouteAnswer.{RouteAnswer}
@@ -109,7 +109,7 @@ module _ (j : Job) (start : Start) (log : List ℕ) {r : Taken} {history users m
   started-on e = subst (λ (x : Taken). Started x start j history users marks from to dues log) e s
 
   -- it can go on,
-  pub start-stands : {t : Tariff} → r ≡ On t → Stands j t history users marks from to dues log
+  pub start-stands : {t : Tariff} → r ≡ On t → SomeReady j t history users marks from to dues log
   start-stands e = record { progress = started-on e .progress; ready = started-on e .ready }
 
   -- and its reply is that of a run which goes on from the same progress

@@ -39,7 +39,7 @@ withListed sources firstSinks sinks net k taken =
     choose (eqb (getD sources k 0) (getD sources net 0)) (taking sinks taken (listedPlaces (netsOnly sources firstSinks sinks) k)) taken
 
 -- While a net takes places: those of the nets before it stand first, then its own, and a sink that stands at one of its own is stamped.
-pub record Held (stamp : ℕ) (sinks before taken seen places : List ℕ) (count : ℕ) : Type 0 where
+pub record PlacesTaken (stamp : ℕ) (sinks before taken seen places : List ℕ) (count : ℕ) : Type 0 where
   pub within : count ≤ length places
   pub placed : take count places ≡ before ++ taken
   pub stamped : (v : ℕ) → v < length seen → eqb (getD seen v 0) stamp ≡ has v (entriesAt sinks taken)

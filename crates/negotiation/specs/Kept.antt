@@ -76,6 +76,6 @@ pub record Ready (j : Job) (p : Progress) (t : Tariff) (history users marks from
   pub tallied : Tallied (p .records) log t log
 
 -- they are those of some run
-pub record Stands (j : Job) (t : Tariff) (history users marks from to dues log : List ℕ) : Type 0 where
+pub record SomeReady (j : Job) (t : Tariff) (history users marks from to dues log : List ℕ) : Type 0 where
   pub progress : Progress
   pub ready : Ready j progress t history users marks from to dues log

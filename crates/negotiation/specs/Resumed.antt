@@ -82,7 +82,7 @@ pub record Resumed (j : Job) (used : ℕ) (work lent : List ℕ) (r : RouteReply
   pub as-resumed : r ≡ resumeReply j used work lent
   -- 01: "these words hold nothing else"
   pub nothing-else : encode (turnsLogged r) ≡ wordsUsed r
-  -- 01: "Whatever the outcome, the reported turn count is the number of logged turns."
+  -- demand 3: "Whatever the outcome, the reported turn count is the number of logged turns."
   pub turns-counted : r .turns ≡ length (turnsLogged r)
   pub lent-first : NotTakenUp lent r ⊎ LentFirst used lent r
   -- each at prices worked out from the job and all turns before it, lent or appended

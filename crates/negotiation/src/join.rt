@@ -6,7 +6,7 @@ ghost use lib.ListN.{length, getD, take};
 ghost use Rattle.search.specs.Replies.{sinksMost};
 ghost use Rattle.job.specs.Join.{entriesAt, placesFrom, taking};
 ghost use Rattle.negotiation.specs.JoinSteps.{Joinable, JoinRoom, netsOnly, listedCount};
-ghost use Rattle.negotiation.specs.JoinSteps.{withListed, Held, Placed, JoinedPlaces, JoinedTables};
+ghost use Rattle.negotiation.specs.JoinSteps.{withListed, PlacesTaken, Placed, JoinedPlaces, JoinedTables};
 ghost use Rattle.job.specs.Steps.{AllBelow};
 use search::NODES_MOST;
 use search::SINKS_MOST;
@@ -25,8 +25,8 @@ fn take_listed(
     requires { ⌜ AllBelow (length (now seen)) (now sink) ⌝ }
     requires { ⌜ start + (to - from) ≤ length (now places) ⌝ }
     ensures { λ r. ⌜ ((before : List ℕ) → (taken : List ℕ)
-        → Held stamp (now (sink .entry)) before taken (now (seen .entry)) (now (places .entry)) start
-        → Held stamp (now (sink .entry)) before (taking (now (sink .entry)) taken (placesFrom from (to - from)))
+        → PlacesTaken stamp (now (sink .entry)) before taken (now (seen .entry)) (now (places .entry)) start
+        → PlacesTaken stamp (now (sink .entry)) before (taking (now (sink .entry)) taken (placesFrom from (to - from)))
         (now (seen .exit)) (now (places .exit)) r) ⌝ }
 {
     let mut count = start;
@@ -58,8 +58,8 @@ fn take_net(
     requires { ⌜ (net < length (now source)) × (k < length (now source)) ⌝ }
     requires { ⌜ (getD (now source) k 0 ≡ getD (now source) net 0 → start + listedCount (now «first_sink») k ≤ length (now places)) ⌝ }
     ensures { λ r. ⌜ ((before : List ℕ) → (taken : List ℕ)
-        → Held (net + 1) (now (sink .entry)) before taken (now (seen .entry)) (now (places .entry)) start
-        → Held (net + 1) (now (sink .entry)) before
+        → PlacesTaken (net + 1) (now (sink .entry)) before taken (now (seen .entry)) (now (places .entry)) start
+        → PlacesTaken (net + 1) (now (sink .entry)) before
         (withListed (now (source .entry)) (now («first_sink» .entry)) (now (sink .entry)) net k taken)
         (now (seen .exit)) (now (places .exit)) r) ⌝ }
 {

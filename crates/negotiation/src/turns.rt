@@ -12,7 +12,7 @@ ghost use Rattle.negotiation.specs.Routable.{Routable};
 ghost use Rattle.negotiation.specs.Machine.{Progress};
 ghost use Rattle.negotiation.specs.Outcome.{unreachableNet, begun as unbegun, continued, routeReplyOf};
 ghost use Rattle.negotiation.specs.Steps.{SameFrom, TurnDone, CanTurn};
-ghost use Rattle.negotiation.specs.Kept.{Ready, Stands};
+ghost use Rattle.negotiation.specs.Kept.{Ready, SomeReady};
 ghost use Rattle.negotiation.specs.Resume.{runFrom};
 ghost use Rattle.negotiation.specs.TakeSteps.{SinksOnce, Started};
 use crate::Outcome;
@@ -162,7 +162,7 @@ fn go_on(
       ⌜ Routable job × (nets job ≤ unreachableNet job) × (8 * nodes job ≤ length (now work)) ⌝ }
     requires { do
       let job = jobOf (now kind) (now capacity) (now «first_edge») (now «edge_target») (now source) (now «first_sink») (now sink) terms
-      ⌜ Stands job begun (now history) (now users) (now «in_tree») (now «tree_from») (now «tree_to») (now due) (now log) ⌝ }
+      ⌜ SomeReady job begun (now history) (now users) (now «in_tree») (now «tree_from») (now «tree_to») (now due) (now log) ⌝ }
     ensures { λ r. do
       let job = jobOf (now (kind .entry)) (now (capacity .entry)) (now («first_edge» .entry)) (now («edge_target» .entry))
           (now (source .entry)) (now («first_sink» .entry)) (now (sink .entry)) terms

@@ -13,7 +13,7 @@ use Rattle.search.specs.Tables.{faultyTable, Sound}
 use Rattle.search.specs.Paths.{CheapestPath, NoPath, Fair}
 use Rattle.search.specs.Distance.{far, LeastCost, inTree, distances, distance}
 use Rattle.search.specs.Turn.{Congestion, priceAt, turn}
-use Rattle.search.specs.Held.{heldPrice}
+use Rattle.search.specs.Clamped.{clampedPrice}
 use Rattle.search.specs.Replies.{cleared, refusalOf, faultyWithSinks, SearchReply, searchUnlessRefused, searchReply, searchReplyOf, LeavesLeastCosts}
 use Rattle.search.specs.Replies.{PathReply, turnReply, fitting, pathDue, pathReply, pathRefusal, pathNumbers, pathReplyOf, JoinsCheapest}
 use Rattle.search.specs.declared.SearchAnswer.{SearchAnswer}
@@ -128,7 +128,7 @@ module _ (ks cs fs ts : List ℕ) (c : Congestion) (marks work : List ℕ) where
 
     -- where every length is right the turn is the reply
     pub path-turned :
-        (r : PathAnswer) (w′ : List ℕ) → fitting block c marks sinks work ≡ true → pathReplyOf r w′ ≡ turnReply (length ks) work (turn block (heldPrice ks cs c) marks sinks)
+        (r : PathAnswer) (w′ : List ℕ) → fitting block c marks sinks work ≡ true → pathReplyOf r w′ ≡ turnReply (length ks) work (turn block (clampedPrice ks cs c) marks sinks)
         → (pathReplyOf r w′ ≡ pathReply block c marks sinks work) × (pathDue block c marks sinks work ≡ [] → JoinsCheapest block price marks sinks r w′)
     unfolding pathReply
     path-turned r w′ t e =

@@ -17,7 +17,7 @@ use Rattle.search.specs.Block.{Block, nodes, blockOf, graphOf}
 use Rattle.search.specs.Tables.{edgesMost}
 use Rattle.search.specs.Distance.{far, inTree}
 use Rattle.search.specs.Turn.{Congestion, turn}
-use Rattle.search.specs.Held.{heldPrice, Lent}
+use Rattle.search.specs.Clamped.{clampedPrice, Lent}
 use Rattle.search.specs.Replies.{workNeeded, fittingLengths, fitting, turnReply, pathReplyOf}
 use Rattle.search.specs.Labels.{goal, labelAt, waitAt, keyAt, besideAt}
 use Rattle.search.specs.Spread.{bare, bareCount, Spread, RunReady, Ran}
@@ -25,7 +25,7 @@ use Rattle.search.specs.TurnWork.{Fitted, TreeMarked, GoalsMarked, Least
 use Rattle.search.specs.declared.PathAnswer.{PathAnswer}
 use Rattle.search.specs.declared.PathAnswer.the-variants.{Stuck}
 use Rattle.search.proofs.GraphLaws.{turn-same}
-use Rattle.search.proofs.SpreadRun.{fair-held}
+use Rattle.search.proofs.SpreadRun.{fair-clamped}
 use Rattle.search.proofs.HaltLaws.{OpenAt, Halted, halted-stuck, halted-joins}
 
 -- a test of all lengths that holds says each
@@ -164,18 +164,18 @@ marked-spread b price {marks} {sinks} {w₀} {w₁} {w₂} {count} t g long =
 
 module _ (ks cs fs ts : List ℕ) (c : Congestion) {marks sinks w₀ w₁ w₂ : List ℕ} {count step : ℕ} (f : Fitted (blockOf ks cs fs ts) c marks sinks w₀)
     (t : TreeMarked (length ks) marks w₀ w₁ count) (g : GoalsMarked (length ks) sinks w₁ w₂ (length sinks))
-    (m : LeastGoal (length ks) (heldPrice ks cs c) sinks w₂ (length sinks) step) where
-  pub join-ready : RunReady (graphOf ks fs ts) (heldPrice ks cs c) w₂ count step
+    (m : LeastGoal (length ks) (clampedPrice ks cs c) sinks w₂ (length sinks) step) where
+  pub join-ready : RunReady (graphOf ks fs ts) (clampedPrice ks cs c) w₂ count step
   join-ready = record {
     firsts-long = f .firsts-long;
-    spread = marked-spread (graphOf ks fs ts) (heldPrice ks cs c) t g (let e = f .enough in omega arith);
+    spread = marked-spread (graphOf ks fs ts) (clampedPrice ks cs c) t g (let e = f .enough in omega arith);
     small = m .most;
   }
 
-  pub join-halts : {w₃ : List ℕ} {best : ℕ} → Ran (graphOf ks fs ts) (heldPrice ks cs c) step w₂ w₃ best → Halted (graphOf ks fs ts) (heldPrice ks cs c) marks sinks w₀ w₃ best
+  pub join-halts : {w₃ : List ℕ} {best : ℕ} → Ran (graphOf ks fs ts) (clampedPrice ks cs c) step w₂ w₃ best → Halted (graphOf ks fs ts) (clampedPrice ks cs c) marks sinks w₀ w₃ best
   join-halts {w₃} {best} r = record {
     shaped = record { few = f .few; firsts-long = f .firsts-long };
-    fair = fair-held (graphOf ks fs ts) ks cs c (f .few);
+    fair = fair-clamped (graphOf ks fs ts) ks cs c (f .few);
     marks-long = f .marks-long;
     sinks-few = f .sinks-few;
     count = r .count;
@@ -219,9 +219,9 @@ module _ (ks cs fs ts : List ℕ) {c : Congestion} {marks sinks w₀ w₁ : List
         (omega arith, omega arith)
 
 -- what the turn answers then
-module _ (ks cs fs ts : List ℕ) (c : Congestion) {marks sinks w₀ w : List ℕ} {best : ℕ} (s : Halted (graphOf ks fs ts) (heldPrice ks cs c) marks sinks w₀ w best) where
-  pub join-stuck : best ≡ far → {w′ : List ℕ} → w′ ≡ take 0 w ++ (replicate (3 * length ks - 0) 0 ++ drop (3 * length ks) w) → pathReplyOf Stuck w′ ≡ turnReply (length ks) w₀ (turn (blockOf ks cs fs ts) (heldPrice ks cs c) marks sinks)
-  join-stuck none e = rw (← turn-same ks cs fs ts (heldPrice ks cs c) marks sinks) (halted-stuck s none e)
+module _ (ks cs fs ts : List ℕ) (c : Congestion) {marks sinks w₀ w : List ℕ} {best : ℕ} (s : Halted (graphOf ks fs ts) (clampedPrice ks cs c) marks sinks w₀ w best) where
+  pub join-stuck : best ≡ far → {w′ : List ℕ} → w′ ≡ take 0 w ++ (replicate (3 * length ks - 0) 0 ++ drop (3 * length ks) w) → pathReplyOf Stuck w′ ≡ turnReply (length ks) w₀ (turn (blockOf ks cs fs ts) (clampedPrice ks cs c) marks sinks)
+  join-stuck none e = rw (← turn-same ks cs fs ts (clampedPrice ks cs c) marks sinks) (halted-stuck s none e)
 
-  pub join-joins : (best ≡ far → ⊥) → {r : PathAnswer} {w′ : List ℕ} → Read (length ks) marks sinks w best r w′ → pathReplyOf r w′ ≡ turnReply (length ks) w₀ (turn (blockOf ks cs fs ts) (heldPrice ks cs c) marks sinks)
-  join-joins some d = rw (← turn-same ks cs fs ts (heldPrice ks cs c) marks sinks) (halted-joins s some d)
+  pub join-joins : (best ≡ far → ⊥) → {r : PathAnswer} {w′ : List ℕ} → Read (length ks) marks sinks w best r w′ → pathReplyOf r w′ ≡ turnReply (length ks) w₀ (turn (blockOf ks cs fs ts) (clampedPrice ks cs c) marks sinks)
+  join-joins some d = rw (← turn-same ks cs fs ts (clampedPrice ks cs c) marks sinks) (halted-joins s some d)

@@ -3,7 +3,7 @@
 -- Tables 1 to 4, the list of sinks, row 13
 --     BlockLaws       what each rule of a table says at an entry; edges by their places in table 4
 --     EdgeLaws        edges where tables 3 and 4 have their lengths but may break their rules
---     HeldLaws        numbers held within bounds, and the price over them
+--     ClampedLaws        numbers clamped within bounds, and the price over them
 --     KeptLaws        a function's answer and the test that it computes; a flag that is kept over a list
 --     TableLaws       how the tests of the tables decide
 --     RowLaws         a row of table 4 keeps its rule, by the places of the table
@@ -68,7 +68,7 @@ pub mod RowLaws
 pub mod RisingRowLaws
 pub mod NumberLaws
 pub mod PassLaws
-pub mod HeldLaws
+pub mod ClampedLaws
 pub mod DistinctLaws
 pub mod WalkLaws
 pub mod DistanceLaws

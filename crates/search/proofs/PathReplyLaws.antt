@@ -14,7 +14,7 @@ use Rattle.price.proofs.TestLaws.{both-left}
 use Rattle.search.specs.Block.{Block, nodes}
 use Rattle.search.specs.Tables.{edgesMost, edgeTargetsSound, Sound}
 use Rattle.search.specs.Turn.{Congestion, priceAt, Turn, joins, stuck, turn}
-use Rattle.search.specs.Held.{heldPrice}
+use Rattle.search.specs.Clamped.{clampedPrice}
 use Rattle.search.specs.Replies.{nodeSound, sinkListSound, PathReply, readOff, fittingLengths, fitting, turnReply, pathReply, pathReplyOf}
 use Rattle.search.specs.Ready.{Ready}
 use Rattle.search.specs.declared.PathAnswer.{PathAnswer}
@@ -23,9 +23,9 @@ use Rattle.search.proofs.BlockLaws.{graph-of, capacities-long, firstEdg
 use Rattle.search.proofs.EdgeLaws.{shape-of}
 use Rattle.search.proofs.ReadyLaws.{ready-price, ready-long}
 use Rattle.search.proofs.PathTestLaws.{sinks-few}
-use Rattle.search.proofs.HeldLaws.{held-is}
+use Rattle.search.proofs.ClampedLaws.{clamped-is}
 use Rattle.search.proofs.PriceSameLaws.{turn-price}
-use Rattle.search.proofs.SpreadRun.{fair-held}
+use Rattle.search.proofs.SpreadRun.{fair-clamped}
 
 -- what is left at the beginning of the work slice is read back
 pub read-front : (n : ℕ) {count : ℕ} (path work : List ℕ) {work′ : List ℕ} → count ≡ length path → work′ ≡ readOff n path work → take count work′ ≡ path
@@ -58,15 +58,15 @@ module _ (b : Block) (c : Congestion) (marks sinks work : List ℕ) where
           le-leb (length sinks) 4096 (sinks-few (nodes b) sinks t),
         )
 
-    -- a held price is the price
-    price-held : (v : ℕ) → v < nodes b → heldPrice (b .kinds) (b .capacities) c v ≡ priceAt b c v
-    price-held v h = held-is b c v (ready-price (b .kinds) (b .capacities) (b .firstEdges) (b .edgeTargets) c marks ready v h .bounds)
+    -- a clamped price is the price
+    price-clamped : (v : ℕ) → v < nodes b → clampedPrice (b .kinds) (b .capacities) c v ≡ priceAt b c v
+    price-clamped v h = clamped-is b c v (ready-price (b .kinds) (b .capacities) (b .firstEdges) (b .edgeTargets) c marks ready v h .bounds)
 
     pub path-turn : pathReply b c marks sinks work ≡ turnReply (nodes b) work (turn b (priceAt b c) marks sinks)
     unfolding pathReply
     path-turn =
         let g = graph-of b s in
-        rw (fitting-sound, turn-price b (heldPrice (b .kinds) (b .capacities) c) (priceAt b c) price-held marks (shape-of b g) (fair-held b (b .kinds) (b .capacities) c (g .few)) sinks)
+        rw (fitting-sound, turn-price b (clampedPrice (b .kinds) (b .capacities) c) (priceAt b c) price-clamped marks (shape-of b g) (fair-clamped b (b .kinds) (b .capacities) c (g .few)) sinks)
 
   module _ (n : ℕ) (w′ : List ℕ) (t : Turn) where
     pub joined-turn : (place cost count : ℕ) → pathReplyOf (Joins place cost count) w′ ≡ turnReply n work t → (path : List ℕ) × (t ≡ joins place cost path) × (count ≡ length path) × (w′ ≡ readOff n path work)

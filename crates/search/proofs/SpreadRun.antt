@@ -16,25 +16,25 @@ use Rattle.search.specs.Block.{Block, nodes, graphOf, rowStart}
 use Rattle.search.specs.Distance.{far}
 use Rattle.search.specs.Turn.{Congestion}
 use Rattle.search.specs.Paths.{anyPriceMost, Fair}
-use Rattle.search.specs.Held.{heldPrice, Lent}
+use Rattle.search.specs.Clamped.{clampedPrice, Lent}
 use Rattle.search.specs.Labels.{goal, labelAt, fromAt, waitAt, keyAt, Waits, Heaped, Taken}
 use Rattle.search.specs.Spread.{bare, bareCount, Came, Passed, Looked, Spread, Onward, Relaxed, RelaxReady, SettleReady, Settled, RunReady, Ran}
-use Rattle.search.proofs.HeldLaws.{held-pos, held-fair}
+use Rattle.search.proofs.ClampedLaws.{clamped-pos, clamped-fair}
 use Rattle.search.proofs.EdgeLaws.{place-edge}
 use Rattle.search.proofs.HeapLaws.{heap-least}
 use Rattle.search.proofs.SpreadSteps.{Low, spread-low, label-ready, relax-at, onward-none, onward-trans}
 
--- held prices are low, and fair
-pub low-held : (b : Block) (kinds capacities : List ℕ) (c : Congestion) → Low b (heldPrice kinds capacities c)
-low-held b kinds capacities c = record { pos = λ v h. held-pos kinds capacities c v; most = λ v h. held-fair kinds capacities c v }
+-- clamped prices are low, and fair
+pub low-clamped : (b : Block) (kinds capacities : List ℕ) (c : Congestion) → Low b (clampedPrice kinds capacities c)
+low-clamped b kinds capacities c = record { pos = λ v h. clamped-pos kinds capacities c v; most = λ v h. clamped-fair kinds capacities c v }
 
-pub fair-held : (b : Block) (kinds capacities : List ℕ) (c : Congestion) → nodes b ≤ nodesMost → Fair b (heldPrice kinds capacities c)
-fair-held b kinds capacities c few = record {
+pub fair-clamped : (b : Block) (kinds capacities : List ℕ) (c : Congestion) → nodes b ≤ nodesMost → Fair b (clampedPrice kinds capacities c)
+fair-clamped b kinds capacities c few = record {
   ceiling = priceMost;
   low = omega arith;
   fits = path-most (nodes b) few;
-  pos = λ v h. held-pos kinds capacities c v;
-  most = λ v h. held-fair kinds capacities c v;
+  pos = λ v h. clamped-pos kinds capacities c v;
+  most = λ v h. clamped-fair kinds capacities c v;
 }
 
 -- ---- one row
@@ -149,10 +149,10 @@ module _ {b : Block} {price : ℕ → ℕ} {u : ℕ} {w₀ : List ℕ} {count₀
 -- safe to look at the edge at place e
 pub row-ready :
     {ks cs fs ts : List ℕ} {c : Congestion} {u : ℕ} {w₀ w : List ℕ} {e count₀ count best₀ best to : ℕ} → Lent ks cs c
-    → SettleReady (graphOf ks fs ts) (heldPrice ks cs c) w₀ count₀ u → RowSoFar (graphOf ks fs ts) (heldPrice ks cs c) u w₀ w e count₀ count best₀ best
+    → SettleReady (graphOf ks fs ts) (clampedPrice ks cs c) w₀ count₀ u → RowSoFar (graphOf ks fs ts) (clampedPrice ks cs c) u w₀ w e count₀ count best₀ best
     → to ≡ min (getD fs (u + 1) 0) (length ts) → e < to → RelaxReady ks cs c fs w count u (getD ts e 0) (labelAt w₀ u)
 row-ready {ks} {cs} {fs} {ts} {c} {u} lent ready r is more =
-    let fair = low-held (graphOf ks fs ts) ks cs c in
+    let fair = low-clamped (graphOf ks fs ts) ks cs c in
     record {
       lent = lent;
       firsts-long = ready .firsts-long;

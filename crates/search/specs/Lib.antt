@@ -3,7 +3,7 @@ pub mod Tables
 pub mod Paths
 pub mod Distance
 pub mod Turn
-pub mod Held
+pub mod Clamped
 pub mod Replies
 pub mod Layout
 pub mod Frontier

@@ -13,7 +13,7 @@ use Rattle.search.specs.Tables.{edgesMost, faultyTable}
 use Rattle.search.specs.Paths.{CheapestPath, NoPath}
 use Rattle.search.specs.Distance.{LeastCost, inTree, distances}
 use Rattle.search.specs.Turn.{Congestion, priceAt, Turn, joins, stuck, turn}
-use Rattle.search.specs.Held.{heldPrice}
+use Rattle.search.specs.Clamped.{clampedPrice}
 use Rattle.search.specs.declared.SearchAnswer.{SearchAnswer}
 use Rattle.search.specs.declared.SearchAnswer.the-variants as s
 use Rattle.search.specs.declared.PathAnswer.{PathAnswer}
@@ -164,7 +164,7 @@ pathDue b c marks sinks work = refusalOf (faultyWithSinks b sinks) (nodes b) c m
 unfoldable pub pathReply : Block → Congestion → List ℕ → List ℕ → List ℕ → PathReply
 pathReply b c marks sinks work =
     choose (fitting b c marks sinks work)
-    (turnReply (nodes b) work (turn b (heldPrice (b .kinds) (b .capacities) c) marks sinks))
+    (turnReply (nodes b) work (turn b (clampedPrice (b .kinds) (b .capacities) c) marks sinks))
     (record { refusal = pathDue b c marks sinks work; joined = []; work = work })
 
 -- 01's numbers for each case of the answer

@@ -9,13 +9,13 @@ use mathlib.Core.Path.{_≡_}
 use Prim.Native.Nat.{ℕ, _+_, _*_, _≤_, _<_}
 use lib.Dec.{leb}
 use lib.ListN.{length, getD, set}
-use Rattle.price.specs.Bounds.{priceMost, pathMost}
+use Rattle.price.specs.Bounds.{nodesMost, priceMost, pathMost}
 use Rattle.price.specs.Lists.{countBelow}
 use Rattle.search.specs.Block.{Block, nodes, rowStart, hasEdge}
 use Rattle.search.specs.Distance.{far}
 use Rattle.search.specs.Turn.{Congestion}
 use Rattle.search.specs.Paths.{anyPriceMost}
-use Rattle.search.specs.Held.{Lent}
+use Rattle.search.specs.Clamped.{Lent}
 use Rattle.search.specs.Labels.{goal, labelAt, fromAt, withFrom, keyAt, Waits, Heaped, Added}
 
 -- a node has no label yet; and how many have none
@@ -103,7 +103,7 @@ pub data Relaxed (n : ℕ) (firsts : List ℕ) (price : ℕ → ℕ) (u v d : �
 
 -- safe to give v a label
 pub record LabelReady (n : ℕ) (firsts w : List ℕ) (count u v : ℕ) : Type 0 where
-  pub few : n ≤ 4096
+  pub few : n ≤ nodesMost
   pub firsts-long : length firsts ≡ n + 1
   pub heap : Heaped n count w
   pub labels-low : (i : ℕ) → i < count → keyAt n w i < goal

@@ -8,7 +8,7 @@ ghost use lib.ListN.{length, getD};
 ghost use Rattle.price.specs.Bounds.{nodesMost, priceMost};
 ghost use Rattle.search.specs.Block.{graphOf};
 ghost use Rattle.search.specs.Turn.{congestionOf};
-ghost use Rattle.search.specs.Held.{held as heldAt, heldPrice, Lent};
+ghost use Rattle.search.specs.Clamped.{clamped as clampedAt, clampedPrice, Lent};
 ghost use Rattle.search.specs.Labels.{labelAt, fromAt, withFrom};
 ghost use Rattle.search.specs.Spread.{Labelled, GoalMet, Lowered, Relaxed, LabelReady, RelaxReady};
 ghost use Rattle.search.specs.Spread.{SettleReady, Settled, RunReady, Ran};
@@ -26,8 +26,8 @@ pub struct Reach {
 }
 
 // x, but at least `low` and at most `high`.
-fn held(low: u32, high: u32, x: u32) -> u32
-    ensures { λ r. ⌜ r ≡ heldAt low high x ⌝ }
+fn clamped(low: u32, high: u32, x: u32) -> u32
+    ensures { λ r. ⌜ r ≡ clampedAt low high x ⌝ }
 {
     if x < low {
         return low;
@@ -36,7 +36,7 @@ fn held(low: u32, high: u32, x: u32) -> u32
 }
 
 // The price of node v, each number read within its bounds.
-pub fn held_price(
+pub fn clamped_price(
     kind: &[u8],
     capacity: &[u8],
     history: &[u32],
@@ -48,13 +48,13 @@ pub fn held_price(
     requires { ⌜ v < length (now kind) ⌝ }
     ensures { λ r. do
       let c = congestionOf factor (now (history .entry)) (now (others .entry))
-      ⌜ (r ≡ heldPrice (now (kind .entry)) (now (capacity .entry)) c v) × (r ≤ priceMost) ⌝ }
+      ⌜ (r ≡ clampedPrice (now (kind .entry)) (now (capacity .entry)) c v) × (r ≤ priceMost) ⌝ }
 {
-    let k = held(0, price::KIND_MOST, kind[v] as u32);
-    let f = held(0, price::FACTOR_MOST, factor);
-    let o = held(0, price::OTHERS_MOST, others[v] as u32);
-    let c = held(1, price::CAPACITY_MOST, capacity[v] as u32);
-    let h = held(1, price::HISTORY_MOST, history[v]);
+    let k = clamped(0, price::KIND_MOST, kind[v] as u32);
+    let f = clamped(0, price::FACTOR_MOST, factor);
+    let o = clamped(0, price::OTHERS_MOST, others[v] as u32);
+    let c = clamped(1, price::CAPACITY_MOST, capacity[v] as u32);
+    let h = clamped(1, price::HISTORY_MOST, history[v]);
     let PriceAnswer::Price(p) = price::price(k, f, o, c, h) else {
         return 0;
     };
@@ -142,7 +142,7 @@ fn relax(
       ⌜ RelaxReady (now kind) (now capacity) c (now «first_edge») (now work) (r .count) u v d ⌝ }
     ensures { λ s. do
       let c = congestionOf factor (now (history .entry)) (now (others .entry))
-      let price = heldPrice (now (kind .entry)) (now (capacity .entry)) c
+      let price = clampedPrice (now (kind .entry)) (now (capacity .entry)) c
       let n = length (now (kind .entry))
       let firsts = now («first_edge» .entry)
       ⌜ Relaxed n firsts price u v d (now (work .entry)) (now (work .exit)) (r .count) (s .count) (r .best) (s .best) ⌝ }
@@ -153,7 +153,7 @@ fn relax(
     }
     let old = work[v];
     if GOAL <= old {
-        let p = held_price(kind, capacity, history, others, factor, v);
+        let p = clamped_price(kind, capacity, history, others, factor, v);
         return label(first_edge, work, n, u, v, d + p, r);
     }
     if 0 < old {
@@ -187,12 +187,12 @@ fn settle(
     requires { ⌜ Lent (now kind) (now capacity) (congestionOf factor (now history) (now others)) ⌝ }
     requires { do
       let b = graphOf (now kind) (now «first_edge») (now «edge_target»)
-      let price = heldPrice (now kind) (now capacity) (congestionOf factor (now history) (now others))
+      let price = clampedPrice (now kind) (now capacity) (congestionOf factor (now history) (now others))
       ⌜ SettleReady b price (now work) (start .count) u ⌝ }
     ensures { λ r. do
       let b = graphOf (now (kind .entry)) (now («first_edge» .entry)) (now («edge_target» .entry))
       let c = congestionOf factor (now (history .entry)) (now (others .entry))
-      let price = heldPrice (now (kind .entry)) (now (capacity .entry)) c
+      let price = clampedPrice (now (kind .entry)) (now (capacity .entry)) c
       let level = labelAt (now (work .entry)) u
       ⌜ Settled b price level (now (work .entry)) (now (work .exit)) (start .count) (r .count) (start .best) (r .best) ⌝ }
 {
@@ -237,12 +237,12 @@ pub fn settle_all(
     requires { ⌜ Lent (now kind) (now capacity) (congestionOf factor (now history) (now others)) ⌝ }
     requires { do
       let b = graphOf (now kind) (now «first_edge») (now «edge_target»)
-      let price = heldPrice (now kind) (now capacity) (congestionOf factor (now history) (now others))
+      let price = clampedPrice (now kind) (now capacity) (congestionOf factor (now history) (now others))
       ⌜ RunReady b price (now work) waits «last_step» ⌝ }
     ensures { λ best. do
       let b = graphOf (now (kind .entry)) (now («first_edge» .entry)) (now («edge_target» .entry))
       let c = congestionOf factor (now (history .entry)) (now (others .entry))
-      let price = heldPrice (now (kind .entry)) (now (capacity .entry)) c
+      let price = clampedPrice (now (kind .entry)) (now (capacity .entry)) c
       ⌜ Ran b price «last_step» (now (work .entry)) (now (work .exit)) best ⌝ }
 {
     let n = kind.len();

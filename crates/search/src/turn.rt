@@ -6,7 +6,7 @@ ghost use lib.ListN.{length, take};
 ghost use Rattle.price.specs.Bounds.{nodesMost};
 ghost use Rattle.search.specs.Block.{blockOf};
 ghost use Rattle.search.specs.Turn.{congestionOf, turn};
-ghost use Rattle.search.specs.Held.{heldPrice, Lent};
+ghost use Rattle.search.specs.Clamped.{clampedPrice, Lent};
 ghost use Rattle.search.specs.Replies.{turnReply, pathReplyOf};
 ghost use Rattle.search.specs.Layout.{SameBut};
 ghost use Rattle.search.specs.Labels.{labelAt};
@@ -129,7 +129,7 @@ fn least_price(
     requires { ⌜ length (now kind) ≤ length (now work) ⌝ }
     ensures { λ r. do
       let c = congestionOf factor (now (history .entry)) (now (others .entry))
-      let price = heldPrice (now (kind .entry)) (now (capacity .entry)) c
+      let price = clampedPrice (now (kind .entry)) (now (capacity .entry)) c
       let list = now (sinks .entry)
       ⌜ LeastGoal (length (now (kind .entry))) price list (now (work .entry)) (length list) r ⌝ }
 {
@@ -140,7 +140,7 @@ fn least_price(
         let s = sinks[i] as usize;
         if s < n {
             if work[s] == labels::GOAL {
-                let p = labels::held_price(kind, capacity, history, others, factor, s);
+                let p = labels::clamped_price(kind, capacity, history, others, factor, s);
                 least = if p < least { p } else { least };
             }
         }
@@ -235,7 +235,8 @@ pub fn join(
       ⌜ Fitted b (congestionOf factor (now history) (now others)) (now «in_tree») (now sinks) (now work) ⌝ }
     ensures { λ r. do
       let b = blockOf (now (kind .entry)) (now (capacity .entry)) (now («first_edge» .entry)) (now («edge_target» .entry))
-      let price = heldPrice (now (kind .entry)) (now (capacity .entry)) (congestionOf factor (now (history .entry)) (now (others .entry)))
+      let congestion = congestionOf factor (now (history .entry)) (now (others .entry))
+      let price = clampedPrice (now (kind .entry)) (now (capacity .entry)) congestion
       let made = turn b price (now («in_tree» .entry)) (now (sinks .entry))
       ⌜ pathReplyOf r (now (work .exit)) ≡ turnReply (length (now (kind .entry))) (now (work .entry)) made ⌝ }
 {

@@ -42,6 +42,7 @@
 --     StepListLaws      path steps of the latest records as a list
 --     JoinListLaws      joined nets as a list
 --     PlacedLaws        bytes placed in a buffer
+--     LineReplyLaws     printing one line: its fields, where it fits, what a caller knows of it
 --     JoiningLaws       texts one after the other in a buffer
 --     DotLaws           the line of a branch in a picture
 --     StepTextLaws      the lines of one path

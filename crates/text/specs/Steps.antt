@@ -8,7 +8,9 @@ use lib.Dec.{ltb, eqb}
 use lib.ListN.{length, getD, take, drop, set}
 use Rattle.price.specs.Test.{choose}
 use Rattle.price.specs.Lists.{has}
+use Rattle.price.specs.Bounds.{nodesMost}
 use Rattle.search.specs.Replies.{sinksMost}
+use Rattle.job.specs.Tables.{netsMost}
 use Rattle.job.specs.declared.Terms.{Terms}
 use Rattle.text.specs.Lines.{Field, number, fault, Fields, taken, malformed, field, lf as lineFeed, comma, begins, line}
 use Rattle.text.specs.JobText.{Reading, values, refused, Part, part, stopped, NodeLists, nodeLists, EdgeLists}
@@ -177,8 +179,8 @@ netsAt c sources firstSinks sinks = netLists (take (c .nets) sources) (take (c .
 
 -- the room that the nets' tables have, and the bounds of the counts
 pub record NetRoom (n nets : ℕ) (sources firstSinks sinks seen : List ℕ) : Type 0 where
-  pub nodes-most : n ≤ 4096
-  pub nets-most : nets ≤ 512
+  pub nodes-most : n ≤ nodesMost
+  pub nets-most : nets ≤ netsMost
   pub sources-long : nets ≤ length sources
   pub firsts-long : nets + 1 ≤ length firstSinks
   pub sinks-long : sinksMost ≤ length sinks

@@ -125,7 +125,7 @@ fn short_table(
     0
 }
 
-// Lays the job that was read over the tables that were lent, or names the lowest that is too short for it.
+// Writes the job that was read into the tables that were lent, or names the lowest that is too short for it.
 fn store_job(
     nodes: usize,
     edges: usize,

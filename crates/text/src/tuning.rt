@@ -29,5 +29,5 @@ pub fn read_tuning(text: &[u8], at: usize, line: usize, terms: Terms) -> TermsRe
         until: terms.until,
     };
     let shape = found.shape;
-    optional::terms_after(shape, price::tuning_sound(tuning), terms, tuned, at, line)
+    optional::terms_after(shape, job::tuning_sound(tuning), terms, tuned, at, line)
 }

@@ -1,12 +1,15 @@
 -- Laws by subject.
+-- Counts and lines
 --     SumLaws           sums of numbers, counts as sums, sums over the nodes of a kind
 --     TallyLaws         sums by kind, as the loop makes them
 --     CountsLaws        the test of counts
 --     LineLaws          the U lines, their length, and what printing answers
---     AnswerLaws        what the two calls answer
+-- A log
 --     TreeLaws          the nodes of a sound log's final trees
 --     AddLaws           the uses of a log, and what is answered to it
---     UsesHold          theorem: the uses of a log sum to the size of its final trees; counts never pass 13's bounds; the order of logs is free
+--     AnswerLaws        what the two calls answer
+-- Theorems that CLAIMS cites
+--     UsesHold          the uses of a log sum to the size of its final trees; counts never pass 13's bounds; the order of logs is free
 --     SamplesHold       job B with two logs, computed
 -- Assumes nothing.
 pub mod SumLaws

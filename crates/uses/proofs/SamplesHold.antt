@@ -51,7 +51,10 @@ twice =
 
 -- its second record has node 6, which the block lacks
 abbrev beyond : List ℕ
-beyond = 1 ∷ 0 ∷ 4 ∷ 0 ∷ 0 ∷ 3 ∷ 0 ∷ 3 ∷ 4 ∷ 1 ∷ 1 ∷ 5 ∷ 0 ∷ 0 ∷ 3 ∷ 1 ∷ 6 ∷ 5 ∷ []
+beyond =
+    1 ∷ 0 ∷ 4 ∷ 0 ∷ 0 ∷ 3 ∷ 0 ∷ 3 ∷ 4
+    ∷ 1 ∷ 1 ∷ 5 ∷ 0 ∷ 0 ∷ 3 ∷ 1 ∷ 6 ∷ 5
+    ∷ []
 
 abbrev full : Counts
 full = countsOf (used 0 0 0 0) 65535

@@ -12,6 +12,9 @@ use crate::LOGS_MOST;
 use crate::tally;
 use search::NODES_MOST;
 
+// The most nets, which can each use a node once a log.
+const NETS_MOST: u64 = 512;
+
 pub enum CountsTest {
     Fine,
     // 5: this table breaks its rule.
@@ -20,14 +23,14 @@ pub enum CountsTest {
     BadCount(u32),
 }
 
-// The lowest kind that has more uses than 512 nets in so many logs can make, 54 where none has.
+// The lowest kind that has more uses than all nets in so many logs can make, 54 where none has.
 fn first_over(uses: &[u64], nodes: &[u64], logs: u64) -> u32
     requires { ⌜ (length (now uses) ≡ kindCount) × (length (now nodes) ≡ kindCount) × AtMost nodesMost (now nodes) × (logs ≤ logsMost) ⌝ }
     ensures { λ r. ⌜ r ≡ firstBelow (overNodes (now (uses .entry)) (now (nodes .entry)) logs) kindCount ⌝ }
 {
     let mut k = 0;
     while k < KINDS {
-        if 512 * logs * nodes[k] < uses[k] {
+        if NETS_MOST * logs * nodes[k] < uses[k] {
             return k as u32;
         }
         k += 1;
@@ -41,7 +44,7 @@ pub fn test_counts(
     capacity: &[u8],
     first_edge: &[u32],
     edge_target: &[u16],
-    uses: &[u64; 54],
+    uses: &[u64; KINDS],
     logs: u64,
 ) -> CountsTest
     ensures { λ r. do
@@ -56,7 +59,7 @@ pub fn test_counts(
         return CountsTest::BadCount(KINDS as u32);
     }
     let ones = [1u16; NODES_MOST];
-    let mut nodes = [0u64; 54];
+    let mut nodes = [0u64; KINDS];
     tally::tally(kind, &ones, &mut nodes);
     let over = first_over(uses, &nodes, logs);
     if over < KINDS as u32 {

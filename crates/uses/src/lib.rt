@@ -48,7 +48,7 @@ use search::NODES_MOST;
 use text::LogCheck;
 
 // Adds a log to counts that passed their test.
-fn add_tested(kind: &[u8], uses: &mut [u64; 54], logs: u64, log: &[u32]) -> AddAnswer
+fn add_tested(kind: &[u8], uses: &mut [u64; KINDS], logs: u64, log: &[u32]) -> AddAnswer
     requires { ⌜ (kindsSound (now kind) ≡ true) × AtMost countMost (now uses) ⌝ }
     ensures { λ r. ⌜ addReplyOf logs r (now (uses .exit))
         ≡ testedReply (blockOf (now (kind .entry)) [] [] []) (countsOf (now (uses .entry)) logs) (now (log .entry)) ⌝ }
@@ -75,7 +75,7 @@ pub fn add_log(
     capacity: &[u8],
     first_edge: &[u32],
     edge_target: &[u16],
-    uses: &mut [u64; 54],
+    uses: &mut [u64; KINDS],
     logs: u64,
     log: &[u32],
 ) -> AddAnswer
@@ -96,7 +96,7 @@ pub fn write_uses(
     capacity: &[u8],
     first_edge: &[u32],
     edge_target: &[u16],
-    uses: &[u64; 54],
+    uses: &[u64; KINDS],
     logs: u64,
     buffer: &mut [u8],
 ) -> PrintAnswer

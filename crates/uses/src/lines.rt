@@ -16,6 +16,9 @@ use crate::PrintAnswer;
 use crate::tally;
 use search::NODES_MOST;
 
+// More bytes than the lines of all kinds can have.
+const TEXT_MOST: usize = 4096;
+
 // Writes the lines of all kinds.
 fn put_lines(uses: &[u64], totals: &[u64], logs: u64, buffer: &mut [u8]) -> usize
     requires { ⌜ (length (now uses) ≡ kindCount) × (length (now totals) ≡ kindCount) ⌝ }
@@ -39,7 +42,7 @@ fn put_lines(uses: &[u64], totals: &[u64], logs: u64, buffer: &mut [u8]) -> usiz
 pub fn put_uses(
     kind: &[u8],
     capacity: &[u8],
-    uses: &[u64; 54],
+    uses: &[u64; KINDS],
     logs: u64,
     buffer: &mut [u8],
 ) -> PrintAnswer
@@ -50,9 +53,9 @@ pub fn put_uses(
 {
     let mut wide = [0u16; NODES_MOST];
     tally::widen(capacity, &mut wide);
-    let mut totals = [0u64; 54];
+    let mut totals = [0u64; KINDS];
     tally::tally(kind, &wide, &mut totals);
-    let mut trial = [0u8; 4096];
+    let mut trial = [0u8; TEXT_MOST];
     let needed = put_lines(uses, &totals, logs, &mut trial);
     if buffer.len() < needed {
         return PrintAnswer::ShortBuffer(needed as u64);

@@ -36,7 +36,7 @@ returns-2 c =
     let a = made .before .before .before .before .before .before .before .before .before .before .before .before .before .args in
     let job =
     jobOf (a .kind .now) (a .capacity .now) (a .first-edge .now) (a .edge-target .now) (a .source .now) (a .first-sink .now) (a .sink .now) (termsOf (a .terms .now)) in
-    let answers = rw (made .terms-of .ensures) at (asked .resume .ensures .0) in
+    let answers = rw (made .terms-of .ensures) at (asked .resume .ensures .as-resumed) in
     route-called (resumeReply job (a .used) _ _) _ _ _ _ _ _ (asked .resume .result) (made .before .if1 .left) answers (c .before .before .put-routed .ensures)
 
 pub arvumnao-resume-spec : {M : Type 1} → statement M

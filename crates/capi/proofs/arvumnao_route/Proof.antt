@@ -36,7 +36,7 @@ returns-2 c =
     let a = made .before .before .before .before .before .before .before .before .before .before .before .before .before .args in
     let job =
     jobOf (a .kind .now) (a .capacity .now) (a .first-edge .now) (a .edge-target .now) (a .source .now) (a .first-sink .now) (a .sink .now) (termsOf (a .terms .now)) in
-    let answers = rw (made .terms-of .ensures) at (asked .route .ensures .0) in
+    let answers = rw (made .terms-of .ensures) at (asked .route .ensures .as-negotiated) in
     route-called (routeReply job _ _) _ _ _ _ _ _ (asked .route .result) (made .before .if1 .left) answers (c .before .before .put-routed .ensures)
 
 pub arvumnao-route-spec : {M : Type 1} → statement M

@@ -4,7 +4,7 @@ use Prim.Native.Nat.{_+_}
 use native.Mathlib.Nat.{le-trans}
 use native.Mathlib.Omega.{arith}
 use borrow.Author.Needs.{needs}
-use Rattle.negotiation.proofs.JoiningLaws.{held-other, held-listed}
+use Rattle.negotiation.proofs.JoiningLaws.{has-taken-other, has-taken-listed}
 use Rattle.negotiation.proofs.join.take_net.Statement.{statement}
 use Rattle.negotiation.proofs.join.take_net.Tie as tie
 
@@ -23,7 +23,7 @@ shared-slice-read-if1-2 c = search needs
 returns : tie.Need-returns
 returns c =
     let args = c .before .before .before .before .before .before .before .before .args in
-    λ before taken held. held-other (args .source .now) (args .first-sink .now) (args .net) (args .k) taken (c .if1 .taken) held
+    λ before taken has-taken. has-taken-other (args .source .now) (args .first-sink .now) (args .net) (args .k) taken (c .if1 .taken) has-taken
 
 mul-from : tie.Need-mul-from
 mul-from c = search needs
@@ -71,8 +71,8 @@ returns-2 : tie.Need-returns-2
 returns-2 c =
     let called = c .before .before .before .before in
     let args = c .before .before .before .before .before .before .before .before .before .before .before .before .before .before .before .before .before .args in
-    λ before taken held.
-    held-listed (args .source .now) (args .first-sink .now) (args .net) (args .k) taken (called .before .before .before .before .before .if1 .left) (called .take-listed .ensures before taken held)
+    λ before taken has-taken.
+    has-taken-listed (args .source .now) (args .first-sink .now) (args .net) (args .k) taken (called .before .before .before .before .before .if1 .left) (called .take-listed .ensures before taken has-taken)
 
 pub take-net-spec : {M : Type 1} → statement M
 take-net-spec =

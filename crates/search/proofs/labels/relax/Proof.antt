@@ -17,11 +17,11 @@ mul-old c = search needs
 slice-read-old : tie.Need-slice-read-old
 slice-read-old c = search needs
 
-held-price-requires : tie.Need-held-price-requires
-held-price-requires c κs = (c .before .before .before .before .before .before .before .before .before .pre .lent, c .before .before .if1 .left)
+clamped-price-requires : tie.Need-clamped-price-requires
+clamped-price-requires c κs = (c .before .before .before .before .before .before .before .before .before .pre .lent, c .before .before .if1 .left)
 
 add-label : tie.Need-add-label
-add-label c = let p = c .before .held-price .ensures .1 in let r = c .before .before .before .before .before .before .before .before .before .before .before .pre .near in omega arith
+add-label c = let p = c .before .clamped-price .ensures .1 in let r = c .before .before .before .before .before .before .before .before .before .before .before .pre .near in omega arith
 
 label-requires : tie.Need-label-requires
 label-requires c κs = relax-label (c .before .before .before .before .before .before .before .before .before .before .before .pre) (c .before .before .before .before .if1 .left) (c .before .before .if2 .taken)
@@ -32,10 +32,10 @@ same-length c = search needs
 returns-2 : tie.Need-returns-2
 returns-2 c =
     let at-label = c .before .before in
-    let at-held-price = at-label .before .before in
-    let at-if2 = at-held-price .before in
+    let at-clamped-price = at-label .before .before in
+    let at-if2 = at-clamped-price .before in
     let at-if1 = at-if2 .before .before in
-    relax-labels (at-held-price .held-price .ensures .0) (at-if1 .if1 .left) (at-if2 .if2 .taken) (at-label .label .ensures .0) (at-label .label .ensures .1)
+    relax-labels (at-clamped-price .clamped-price .ensures .0) (at-if1 .if1 .left) (at-if2 .if2 .taken) (at-label .label .ensures .0) (at-label .label .ensures .1)
 
 lower-requires : tie.Need-lower-requires
 lower-requires c κs =
@@ -62,7 +62,7 @@ relax-spec =
     returns
     mul-old
     slice-read-old
-    held-price-requires
+    clamped-price-requires
     add-label
     label-requires
     same-length

@@ -4,13 +4,13 @@ use Prim.Native.Nat.{_-_}
 use native.Mathlib.Omega.{arith}
 use Rattle.search.specs.Block.{graphOf}
 use Rattle.search.specs.Turn.{congestionOf}
-use Rattle.search.specs.Held.{heldPrice}
-use Rattle.search.proofs.SpreadRun.{RowSoFar, low-held, row-begin, row-ready, row-more, row-end}
+use Rattle.search.specs.Clamped.{clampedPrice}
+use Rattle.search.proofs.SpreadRun.{RowSoFar, low-clamped, row-begin, row-ready, row-more, row-end}
 use Rattle.search.proofs.labels.settle.Statement.{statement}
 use Rattle.search.proofs.labels.settle.Tie as tie
 
 abbrev Inv-loop : tie.InvT-loop
-Inv-loop kind capacity history others factor first-edge edge-target work₀ u d to e₀ r₀ work e r = RowSoFar (graphOf kind first-edge edge-target) (heldPrice kind capacity (congestionOf factor history others)) u work₀ work e (r₀ .count) (r .count) (r₀ .best) (r .best)
+Inv-loop kind capacity history others factor first-edge edge-target work₀ u d to e₀ r₀ work e r = RowSoFar (graphOf kind first-edge edge-target) (clampedPrice kind capacity (congestionOf factor history others)) u work₀ work e (r₀ .count) (r .count) (r₀ .best) (r .best)
 
 abbrev μ-loop : tie.MeasureT-loop
 μ-loop kind capacity history others factor first-edge edge-target work₀ u d to e₀ r₀ work e r = to - e
@@ -74,7 +74,7 @@ loop-again c =
     let head = inside .before in
     let at-row-place = head .before .before in
     let start = at-row-place .before .before .before .before .before .before .before .before .before in
-    row-more (start .pre .1) (low-held _ _ _ _) (start .pre .0 .few) (head .loop .inv) (at-row-place .row-place .ensures) (inside .loop-test .taken)
+    row-more (start .pre .1) (low-clamped _ _ _ _) (start .pre .0 .few) (head .loop .inv) (at-row-place .row-place .ensures) (inside .loop-test .taken)
     (at-relax .relax .ensures)
 
 same-length : tie.Need-same-length Inv-loop μ-loop
@@ -85,7 +85,7 @@ returns c =
     let head = c .before in
     let at-row-place = head .before .before in
     let start = at-row-place .before .before .before .before .before .before .before .before .before in
-    row-end (start .pre .1) (low-held _ _ _ _) (start .pre .0 .few) (head .loop .inv) (at-row-place .row-place .ensures) (c .loop-test .left)
+    row-end (start .pre .1) (low-clamped _ _ _ _) (start .pre .0 .few) (head .loop .inv) (at-row-place .row-place .ensures) (c .loop-test .left)
 
 pub settle-spec : {M : Type 1} → statement M
 settle-spec =

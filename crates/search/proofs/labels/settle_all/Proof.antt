@@ -6,14 +6,14 @@ use native.Mathlib.Omega.{arith}
 use lib.ListN.{length}
 use Rattle.search.specs.Block.{graphOf}
 use Rattle.search.specs.Turn.{congestionOf}
-use Rattle.search.specs.Held.{heldPrice}
+use Rattle.search.specs.Clamped.{clampedPrice}
 use Rattle.search.specs.Spread.{bareCount}
 use Rattle.search.proofs.SpreadRun.{Running, run-start, run-node, run-fits, run-early, run-take, run-settle, run-more, run-falls, run-end}
 use Rattle.search.proofs.labels.settle_all.Statement.{statement}
 use Rattle.search.proofs.labels.settle_all.Tie as tie
 
 abbrev Inv-loop : tie.InvT-loop
-Inv-loop kind capacity history others factor first-edge edge-target work₀ waits last-step n r₀ work r = Running (graphOf kind first-edge edge-target) (heldPrice kind capacity (congestionOf factor history others)) work₀ work (r .best) (r .count)
+Inv-loop kind capacity history others factor first-edge edge-target work₀ waits last-step n r₀ work r = Running (graphOf kind first-edge edge-target) (clampedPrice kind capacity (congestionOf factor history others)) work₀ work (r .best) (r .count)
 
 abbrev μ-loop : tie.MeasureT-loop
 μ-loop kind capacity history others factor first-edge edge-target work₀ waits last-step n r₀ work r = 2 * bareCount (length kind) work + r .count

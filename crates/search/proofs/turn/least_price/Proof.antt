@@ -5,7 +5,7 @@ use Prim.Native.Nat.{_-_}
 use native.Mathlib.Omega.{arith}
 use lib.ListN.{length}
 use Rattle.search.specs.Turn.{congestionOf}
-use Rattle.search.specs.Held.{heldPrice}
+use Rattle.search.specs.Clamped.{clampedPrice}
 use Rattle.search.specs.TurnWork.{LeastGoal}
 use Rattle.search.proofs.TurnMarkLaws.{least-none, least-more, least-all}
 use borrow.Author.Needs.{needs}
@@ -13,7 +13,7 @@ use Rattle.search.proofs.turn.least_price.Statement.{statement}
 use Rattle.search.proofs.turn.least_price.Tie as tie
 
 abbrev Inv-loop : tie.InvT-loop
-Inv-loop kind capacity history others factor sinks work n least₀ i₀ least i = LeastGoal (length kind) (heldPrice kind capacity (congestionOf factor history others)) sinks work i least
+Inv-loop kind capacity history others factor sinks work n least₀ i₀ least i = LeastGoal (length kind) (clampedPrice kind capacity (congestionOf factor history others)) sinks work i least
 
 abbrev μ-loop : tie.MeasureT-loop
 μ-loop kind capacity history others factor sinks work n least₀ i₀ least i = length sinks - i
@@ -36,8 +36,8 @@ mul-if2 c = let t = c .if1 .taken in let p = c .before .before .before .before .
 shared-slice-read-if2 : tie.Need-shared-slice-read-if2 Inv-loop μ-loop
 shared-slice-read-if2 c = let t = c .before .if1 .taken in let p = c .before .before .before .before .before .before .before .before .before .before .before .pre .1 in omega arith
 
-held-price-requires : tie.Need-held-price-requires Inv-loop μ-loop
-held-price-requires c κs = (c .before .before .before .before .before .before .before .before .before .before .before .before .pre .0, c .before .before .if1 .taken)
+clamped-price-requires : tie.Need-clamped-price-requires Inv-loop μ-loop
+clamped-price-requires c κs = (c .before .before .before .before .before .before .before .before .before .before .before .before .pre .0, c .before .before .if1 .taken)
 
 add-i : tie.Need-add-i Inv-loop μ-loop
 add-i c = let t = c .before .before .loop-test .taken in omega arith
@@ -72,7 +72,7 @@ least-price-spec =
     cast-s
     mul-if2
     shared-slice-read-if2
-    held-price-requires
+    clamped-price-requires
     add-i
     loop-less
     loop-again

@@ -12,14 +12,14 @@ use Rattle.price.specs.Prices.{priceOf}
 use Rattle.search.specs.Turn.{Congestion}
 
 -- x, but at least `low` and at most `high`
-unfoldable pub held : ℕ → ℕ → ℕ → ℕ
-held low high x = choose (ltb x low) low (choose (ltb high x) high x)
+unfoldable pub clamped : ℕ → ℕ → ℕ → ℕ
+clamped low high x = choose (ltb x low) low (choose (ltb high x) high x)
 
--- the price of a node, each of the five numbers held within the bounds of row 13; where they keep them it is the price
-unfoldable pub heldPrice : List ℕ → List ℕ → Congestion → ℕ → ℕ
-heldPrice kinds capacities c v =
-    priceOf (held 0 kindMost (getD kinds v 0)) (held 0 factorMost (c .factor)) (held 0 othersMost (getD (c .others) v 0))
-    (held 1 capacityMost (getD capacities v 0)) (held 1 historyMost (getD (c .histories) v 0))
+-- the price of a node, each of the five numbers clamped within the bounds of row 13; where they keep them it is the price
+unfoldable pub clampedPrice : List ℕ → List ℕ → Congestion → ℕ → ℕ
+clampedPrice kinds capacities c v =
+    priceOf (clamped 0 kindMost (getD kinds v 0)) (clamped 0 factorMost (c .factor)) (clamped 0 othersMost (getD (c .others) v 0))
+    (clamped 1 capacityMost (getD capacities v 0)) (clamped 1 historyMost (getD (c .histories) v 0))
 
 -- every list has an entry for each node, and there are few enough nodes
 pub record Lent (kinds capacities : List ℕ) (c : Congestion) : Type 0 where
