@@ -6,6 +6,7 @@
  *     cc -Iinclude examples/route.c target/staticlib/libcapi.a -o target/route
  *     target/route < examples/job_b.txt
  *     sed 1s/2$/1/ examples/job_b.txt | target/route 2
+ *     target/route < examples/timed.txt
  */
 #include "arvumnao.h"
 
@@ -16,9 +17,9 @@
 enum { TEXT = 65536, ROUTES = 65536, NODES = 1024, EDGES = 8192, NETS = 512, SINKS = 4096, LOG = 16384 };
 
 /* one byte more than a text may have, to see whether the input is longer */
-static uint8_t text[TEXT + 1], kind[NODES], capacity[NODES], routes[ROUTES];
+static uint8_t text[TEXT + 1], kind[NODES], capacity[NODES], criticality[SINKS], routes[ROUTES];
 static uint32_t first_edge[NODES + 1], first_sink[NETS + 1], log_words[LOG];
-static uint16_t edge_target[EDGES], source[NETS], sink[SINKS];
+static uint16_t edge_target[EDGES], source[NETS], sink[SINKS], delay[NODES];
 static uint64_t work[ARVUMNAO_WORK(NODES)], out[ARVUMNAO_OUT];
 
 /* Prints the refusal in `out`, if there is one. */
@@ -28,7 +29,7 @@ static int refused(void)
     if (number == 0)
         return 0;
     printf("X,%" PRIu64 ",%" PRIu64, number, out[ARVUMNAO_REFUSAL_1]);
-    if (number >= ARVUMNAO_UNREACHABLE && number <= ARVUMNAO_LIMIT_REACHED)
+    if ((number >= ARVUMNAO_UNREACHABLE && number <= ARVUMNAO_LIMIT_REACHED) || number == ARVUMNAO_TOO_LARGE)
         printf(",%" PRIu64, out[ARVUMNAO_REFUSAL_2]);
     printf("\n");
     return 1;
@@ -46,7 +47,7 @@ int main(int count, char **arguments)
         return 1;
     }
     arvumnao_read(text, bytes, kind, NODES, capacity, NODES, first_edge, NODES + 1, edge_target, EDGES,
-                  source, NETS, first_sink, NETS + 1, sink, SINKS, out, ARVUMNAO_OUT);
+                  source, NETS, first_sink, NETS + 1, sink, SINKS, delay, NODES, criticality, SINKS, out, ARVUMNAO_OUT);
     if (refused())
         return 1;
     size_t nodes = (size_t)out[ARVUMNAO_READ_NODES], edges = (size_t)out[ARVUMNAO_READ_EDGES];
@@ -55,13 +56,13 @@ int main(int count, char **arguments)
     for (size_t place = 0; place < ARVUMNAO_TERMS; place++)
         terms[place] = (uint32_t)out[ARVUMNAO_READ_LIMIT + place];
     arvumnao_route(kind, nodes, capacity, nodes, first_edge, nodes + 1, edge_target, edges, source, nets,
-                   first_sink, nets + 1, sink, sinks, terms, ARVUMNAO_TERMS, work, ARVUMNAO_WORK(nodes),
-                   log_words, LOG, out, ARVUMNAO_OUT);
+                   first_sink, nets + 1, sink, sinks, delay, nodes, criticality, sinks, terms, ARVUMNAO_TERMS,
+                   work, ARVUMNAO_WORK(nodes), log_words, LOG, out, ARVUMNAO_OUT);
     if (out[ARVUMNAO_REFUSAL] == ARVUMNAO_LIMIT_REACHED && count > 1) {
         terms[ARVUMNAO_TERMS_LIMIT] = (uint32_t)strtoul(arguments[1], NULL, 10);
         arvumnao_resume(kind, nodes, capacity, nodes, first_edge, nodes + 1, edge_target, edges, source, nets,
-                        first_sink, nets + 1, sink, sinks, terms, ARVUMNAO_TERMS, out[ARVUMNAO_ROUTE_WORDS], work,
-                        ARVUMNAO_WORK(nodes), log_words, LOG, out, ARVUMNAO_OUT);
+                        first_sink, nets + 1, sink, sinks, delay, nodes, criticality, sinks, terms, ARVUMNAO_TERMS,
+                        out[ARVUMNAO_ROUTE_WORDS], work, ARVUMNAO_WORK(nodes), log_words, LOG, out, ARVUMNAO_OUT);
     }
     if (refused())
         return 1;

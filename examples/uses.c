@@ -26,9 +26,9 @@ struct block {
 };
 
 static struct block first, block;
-static uint8_t text[TEXT + 1], uses[ARVUMNAO_USES_BYTES];
+static uint8_t text[TEXT + 1], criticality[SINKS], uses[ARVUMNAO_USES_BYTES];
 static uint32_t first_sink[NETS + 1], terms[ARVUMNAO_TERMS];
-static uint16_t source[NETS], sink[SINKS];
+static uint16_t source[NETS], sink[SINKS], delay[NODES];
 static uint64_t work[ARVUMNAO_WORK(NODES)], counts[ARVUMNAO_COUNTS], logs, out[ARVUMNAO_OUT];
 static size_t nets, sinks, words;
 static uint32_t *log_words;
@@ -46,7 +46,7 @@ static void unless_refused(const char *path, const char *call)
     if (number == 0)
         return;
     fprintf(stderr, "%s: refused by %s: X,%" PRIu64 ",%" PRIu64, path, call, number, out[ARVUMNAO_REFUSAL_1]);
-    if (number >= ARVUMNAO_UNREACHABLE && number <= ARVUMNAO_LIMIT_REACHED)
+    if ((number >= ARVUMNAO_UNREACHABLE && number <= ARVUMNAO_LIMIT_REACHED) || number == ARVUMNAO_TOO_LARGE)
         fprintf(stderr, ",%" PRIu64, out[ARVUMNAO_REFUSAL_2]);
     fprintf(stderr, " (docs/FORMAT.md, section 6)\n");
     exit(1);
@@ -73,7 +73,7 @@ static void read_job(const char *path)
     size_t bytes = load(path);
     memset(&block, 0, sizeof block);
     arvumnao_read(text, bytes, block.kind, NODES, block.capacity, NODES, block.first_edge, NODES + 1, block.edge_target, EDGES,
-                  source, NETS, first_sink, NETS + 1, sink, SINKS, out, ARVUMNAO_OUT);
+                  source, NETS, first_sink, NETS + 1, sink, SINKS, delay, NODES, criticality, SINKS, out, ARVUMNAO_OUT);
     unless_refused(path, "the reader");
     block.nodes = (size_t)out[ARVUMNAO_READ_NODES];
     block.edges = (size_t)out[ARVUMNAO_READ_EDGES];
@@ -98,8 +98,9 @@ static void route_job(const char *path)
 {
     for (;;) {
         arvumnao_route(block.kind, block.nodes, block.capacity, block.nodes, block.first_edge, block.nodes + 1,
-                       block.edge_target, block.edges, source, nets, first_sink, nets + 1, sink, sinks, terms, ARVUMNAO_TERMS,
-                       work, ARVUMNAO_WORK(block.nodes), log_words, words, out, ARVUMNAO_OUT);
+                       block.edge_target, block.edges, source, nets, first_sink, nets + 1, sink, sinks, delay, block.nodes,
+                       criticality, sinks, terms, ARVUMNAO_TERMS, work, ARVUMNAO_WORK(block.nodes), log_words, words,
+                       out, ARVUMNAO_OUT);
         if (out[ARVUMNAO_REFUSAL] != ARVUMNAO_LOG_FULL)
             break;
         lengthen_log(path);

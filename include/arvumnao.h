@@ -19,7 +19,7 @@
  *         static uint64_t work[ARVUMNAO_WORK(3)], out[ARVUMNAO_OUT];
  *         static uint32_t log[64];
  *         arvumnao_route(kind, 3, capacity, 3, first_edge, 4, edge_target, 2, source, 1, first_sink, 2, sink, 1,
- *                        terms, 1, work, ARVUMNAO_WORK(3), log, 64, out, ARVUMNAO_OUT);
+ *                        NULL, 0, NULL, 0, terms, 1, work, ARVUMNAO_WORK(3), log, 64, out, ARVUMNAO_OUT);
  *         if (out[ARVUMNAO_REFUSAL] != 0)
  *             return 1;
  *         size_t words = (size_t)out[ARVUMNAO_ROUTE_WORDS];
@@ -59,8 +59,8 @@
  * A refused call's own numbers are 0, but for those of arvumnao_route and arvumnao_resume after ARVUMNAO_LOG_FULL and
  * ARVUMNAO_LIMIT_REACHED. A refused call leaves every other slice as it was, but where its comment says more.
  *
- * TABLES. A job is seven tables, and terms that count as an eighth. Nodes and nets are numbered from 0: a node has
- * an entry in table 1, a net in table 5.
+ * TABLES. A job is seven tables, and terms that count as an eighth; a timed job has two tables more. Nodes and nets are numbered
+ * from 0: a node has an entry in table 1, a net in table 5.
  *   1 kind         8 bits a node   1 to 4,096 nodes, ARVUMNAO_SOURCE to ARVUMNAO_KIND_MOST
  *   2 capacity     8 bits a node   how many nets may use it at once, 1 to 255
  *   3 first_edge   32 bits         nodes + 1 places in table 4, where each node's row begins: the first is 0, none
@@ -73,13 +73,21 @@
  *   7 sink         16 bits a sink  at most 4,096 nodes of kind ARVUMNAO_SINK or ARVUMNAO_INPUT_PIN: within a net
  *                                  none twice, none its source
  *   8 the terms    32 bits         limit, 1 to 100 iterations; first, 0 to 1,000; up, from down to 8; down, 1 to 4;
- *                                  step, 1 or 2; rule, 1 or 2; until, 1 to 99; in this order. Entries may be left out at the
- *                                  end, see arvumnao_route
+ *                                  step, 1 or 2; rule, 1 or 2; until, 1 to 99; timed, 0 or not 0; in this order. Entries may be
+ *                                  left out at the end, see arvumnao_route
+ *   9 delay        16 bits a node  of a timed job alone: 0 to 1,000
+ *  10 criticality  8 bits a sink   of a timed job alone: for each entry of table 7, 0 to 9, in tenths
  * A table of another length than it must have breaks its rule; where table 3 or 6 doesn't end with the length of table
  * 4 or 7, it is table 3 or 6 that does.
  *
  * NETS OF ONE SOURCE are joined into the first of them: it is routed, under its own number, to the sinks of all of them in
- * listed order, each once; the others make no turns.
+ * listed order, each once, with the criticality of its first listing; the others make no turns.
+ *
+ * TIMED JOBS have sinks that buy delay. A node's price for a sink is criticality x delay x 100 + (10 - criticality) x the price that
+ * arvumnao_price tells. A net's sinks are joined by falling criticality, ties as listed, each by a cheapest path at the prices for
+ * it. A path may pass other sinks of the net, which are then joined without a turn. A timed job has at most
+ * ARVUMNAO_TIMED_NODES_MOST nodes and a limit of at most ARVUMNAO_TIMED_LIMIT_MOST. Of a job that isn't timed tables 9 and 10 are
+ * neither measured nor read nor written: lend empty slices.
  */
 #ifndef ARVUMNAO_H
 #define ARVUMNAO_H
@@ -89,7 +97,7 @@
 
 /* The version of these declarations. The library itself carries none: header and library must be of one build.
  * Until 1.0.0 the second number rises with every change to a call, a place in `out` or a refusal. */
-#define ARVUMNAO_VERSION "0.4.0"
+#define ARVUMNAO_VERSION "0.5.0"
 
 /* The most that a job has. */
 #define ARVUMNAO_NODES_MOST 4096
@@ -97,6 +105,12 @@
 #define ARVUMNAO_NETS_MOST 512
 #define ARVUMNAO_SINKS_MOST 4096
 #define ARVUMNAO_LIMIT_MOST 100
+
+/* The most that a timed job has, and the largest entries of its tables 9 and 10. */
+#define ARVUMNAO_TIMED_NODES_MOST 1024
+#define ARVUMNAO_TIMED_LIMIT_MOST 40
+#define ARVUMNAO_DELAY_MOST 1000
+#define ARVUMNAO_CRITICALITY_MOST 9
 
 /* The kinds of a node. Their base costs are 20, 20, 20, 19, and 20 x length for a wire, which is 1 to 50 tiles long. */
 #define ARVUMNAO_SOURCE 0
@@ -107,7 +121,7 @@
 #define ARVUMNAO_KIND_MOST 53
 
 /* `terms`: its entries and their places, and the plain values of four of them. */
-#define ARVUMNAO_TERMS 7
+#define ARVUMNAO_TERMS 8
 #define ARVUMNAO_TERMS_LIMIT 0
 #define ARVUMNAO_TERMS_FIRST 1
 #define ARVUMNAO_TERMS_UP 2
@@ -115,6 +129,7 @@
 #define ARVUMNAO_TERMS_STEP 4
 #define ARVUMNAO_TERMS_RULE 5
 #define ARVUMNAO_TERMS_UNTIL 6
+#define ARVUMNAO_TERMS_TIMED 7
 #define ARVUMNAO_PLAIN_TUNING 50, 3, 2, 1
 
 /* The rules: in each iteration every net is routed again, or after iteration `until` only the nets whose tree has an overfull node. */
@@ -161,6 +176,8 @@
 #define ARVUMNAO_BAD_NUMBER 13   /* place: a number beyond its bounds; in counts the kind, or 54 for the number of logs */
 #define ARVUMNAO_DIVERGES 14     /* word: where the first record begins that doesn't follow the job; the words used if only the
                                     log's end is wrong; the log's length if the words used exceed it */
+#define ARVUMNAO_TOO_LARGE 15    /* nodes, limit: of a timed job that has more than 1,024 nodes or a limit above 40; limit 0 where
+                                    a timed search gives it */
 #define ARVUMNAO_COUNTS_FULL 16  /* 65535: counts are of so many logs already, and may be of no more */
 
 #ifdef __cplusplus
@@ -175,6 +192,14 @@ extern "C" {
 #define ARVUMNAO_PRICE_PRICE 3
 uint32_t arvumnao_price(uint32_t kind, uint32_t factor, uint32_t others, uint32_t capacity, uint32_t history,
                         uint64_t *out, size_t out_count);
+
+/* The price of a node for a sink of a timed job: criticality x delay x 100 + (10 - criticality) x the price that arvumnao_price tells.
+ *
+ * Bounds: those of arvumnao_price, delay 0 to 1,000, criticality 0 to 9.
+ * Refusals: ARVUMNAO_BAD_NUMBER with the place, 0 to 6, of the first of these seven that is beyond its bounds. */
+#define ARVUMNAO_TIMED_PRICE_PRICE 3
+uint32_t arvumnao_timed_price(uint32_t kind, uint32_t factor, uint32_t others, uint32_t capacity, uint32_t history, uint32_t delay,
+                              uint32_t criticality, uint64_t *out, size_t out_count);
 
 /* The distance of each node from the marked ones: the least sum of prices on a path from any of them, the path's first
  * node left out.
@@ -194,11 +219,26 @@ uint32_t arvumnao_search(const uint8_t *kind, size_t kind_count, const uint8_t *
                          const uint8_t *in_tree, size_t in_tree_count,
                          uint64_t *out, size_t out_count);
 
-/* Routes a job. Each table is lent in exactly its length.
+/* The same by the prices for a sink of a timed job.
  *
- * terms     limit, first, up, down, step, rule, until. Of a slice that is shorter the plain values stand for the rest: 0 for
- *           the limit, which is refused, then 50, 3, 2, 1, 1 and 1, those of a text without P and V lines. Entries past these
- *           seven are not read. So {100} is a job of 100 iterations and no more said.
+ * delay         table 9.
+ * criticality   the sink's, 0 to 9.
+ * history       here only to 39,859, which no timed job's exceeds.
+ * The other parameters are those of arvumnao_search.
+ * Refusals, tested in this order: ARVUMNAO_BAD_TABLE (1 to 4, and 9); ARVUMNAO_TOO_LARGE with the node count and 0;
+ * ARVUMNAO_SHORT_WORK; ARVUMNAO_BAD_NUMBER as in arvumnao_search, and at last with the node count + 1 for a bad criticality. */
+uint32_t arvumnao_timed_search(const uint8_t *kind, size_t kind_count, const uint8_t *capacity, size_t capacity_count,
+                               const uint32_t *first_edge, size_t first_edge_count, const uint16_t *edge_target, size_t edge_target_count,
+                               const uint16_t *delay, size_t delay_count, uint32_t factor, uint32_t criticality,
+                               uint64_t *work, size_t work_count, const uint32_t *history, size_t history_count,
+                               const uint16_t *others, size_t others_count, const uint8_t *in_tree, size_t in_tree_count,
+                               uint64_t *out, size_t out_count);
+
+/* Routes a job. Each table is lent in exactly its length; tables 9 and 10 only where it is timed.
+ *
+ * terms     limit, first, up, down, step, rule, until, timed. Of a slice that is shorter the plain values stand for the rest: 0 for
+ *           the limit, which is refused, then 50, 3, 2, 1, 1, 1 and 0, those of a text without P, V and W lines. Entries past these
+ *           eight are not read. So {100} is a job of 100 iterations and no more said.
  *           limit: the most iterations.
  *           first, up, down, step: the tariff. The congestion factor is 0 in iteration 1, `first` in iteration 2, and then
  *           each time factor x up / down, rounded down, at most 65,535; a node's history is 1 at first and grows after each
@@ -206,20 +246,22 @@ uint32_t arvumnao_search(const uint8_t *kind, size_t kind_count, const uint8_t *
  *           rule, until: under rule 1 every net drops its tree in each iteration and is routed again; under rule 2 that is so up
  *           to iteration `until`, and after it only the nets whose tree had an overfull node when the iteration began are. The
  *           other trees stay and count as users. `until` is the k of a line V,2,k; under rule 1 it is of no account.
+ *           timed: with any number but 0 the job is timed.
  * work      needs ARVUMNAO_WORK(nodes) entries. After acceptance and after refusals 7, 8 and 9 that many are 0, and those
  *           past them stay.
  * log       gets a record for each turn. After acceptance and after 8 and 9 the words used hold the records of the
  *           turns made, and those past them stay. How many it needs isn't known before: lend more after
  *           ARVUMNAO_LOG_FULL. The log of a run that was cut short by log or limit is the beginning of the longer run's.
- * Refusals, tested in this order: ARVUMNAO_BAD_TABLE, ARVUMNAO_SHORT_WORK, ARVUMNAO_UNREACHABLE; then ARVUMNAO_LOG_FULL and
- * ARVUMNAO_LIMIT_REACHED as they arise, for which the own numbers are told too. */
+ * Refusals, tested in this order: ARVUMNAO_BAD_TABLE, ARVUMNAO_TOO_LARGE, ARVUMNAO_SHORT_WORK, ARVUMNAO_UNREACHABLE; then
+ * ARVUMNAO_LOG_FULL and ARVUMNAO_LIMIT_REACHED as they arise, for which the own numbers are told too. */
 #define ARVUMNAO_ROUTE_ITERATION 3
 #define ARVUMNAO_ROUTE_TURNS 4
 #define ARVUMNAO_ROUTE_WORDS 5
 uint32_t arvumnao_route(const uint8_t *kind, size_t kind_count, const uint8_t *capacity, size_t capacity_count,
                         const uint32_t *first_edge, size_t first_edge_count, const uint16_t *edge_target, size_t edge_target_count,
                         const uint16_t *source, size_t source_count, const uint32_t *first_sink, size_t first_sink_count,
-                        const uint16_t *sink, size_t sink_count, const uint32_t *terms, size_t terms_count,
+                        const uint16_t *sink, size_t sink_count, const uint16_t *delay, size_t delay_count,
+                        const uint8_t *criticality, size_t criticality_count, const uint32_t *terms, size_t terms_count,
                         uint64_t *work, size_t work_count, uint32_t *log, size_t log_count,
                         uint64_t *out, size_t out_count);
 
@@ -232,30 +274,35 @@ uint32_t arvumnao_route(const uint8_t *kind, size_t kind_count, const uint8_t *c
  * log       follows the job when it has one or more whole iterations, from 1 on, each of which leaves a node over capacity, the
  *           last below the limit. In each the nets that are due make turns, in order, until their sinks are joined. Each turn's path
  *           goes along edges, no node twice; its first node, and no other, is in the net's tree; its last is the record's sink,
- *           not joined before, and no other unjoined sink is on it; its cost is the sum of its nodes' prices but the first's.
+ *           not joined before, and no other unjoined sink is on it; its cost is the sum of its nodes' prices but the first's. In a
+ *           timed job the record's sink is the one whose turn it is, and other unjoined sinks may be on the path.
  *           The lent words stay. After acceptance and after 8 and 9 the appended records follow them.
  * The other parameters and the own numbers are those of arvumnao_route, over the whole log: lent turns and words count.
- * Refusals, tested in this order: ARVUMNAO_BAD_TABLE, ARVUMNAO_SHORT_WORK, ARVUMNAO_UNREACHABLE, ARVUMNAO_DIVERGES, which leaves the
- * log as it was, the work memory 0 and the own numbers 0; then ARVUMNAO_LOG_FULL and ARVUMNAO_LIMIT_REACHED as they arise. */
+ * Refusals, tested in this order: ARVUMNAO_BAD_TABLE, ARVUMNAO_TOO_LARGE, ARVUMNAO_SHORT_WORK, ARVUMNAO_UNREACHABLE,
+ * ARVUMNAO_DIVERGES, which leaves the log as it was, the work memory 0 and the own numbers 0; then ARVUMNAO_LOG_FULL and
+ * ARVUMNAO_LIMIT_REACHED as they arise. */
 #define ARVUMNAO_RESUME_ITERATION 3
 #define ARVUMNAO_RESUME_TURNS 4
 #define ARVUMNAO_RESUME_WORDS 5
 uint32_t arvumnao_resume(const uint8_t *kind, size_t kind_count, const uint8_t *capacity, size_t capacity_count,
                          const uint32_t *first_edge, size_t first_edge_count, const uint16_t *edge_target, size_t edge_target_count,
                          const uint16_t *source, size_t source_count, const uint32_t *first_sink, size_t first_sink_count,
-                         const uint16_t *sink, size_t sink_count, const uint32_t *terms, size_t terms_count, uint64_t used,
+                         const uint16_t *sink, size_t sink_count, const uint16_t *delay, size_t delay_count,
+                         const uint8_t *criticality, size_t criticality_count, const uint32_t *terms, size_t terms_count, uint64_t used,
                          uint64_t *work, size_t work_count, uint32_t *log, size_t log_count,
                          uint64_t *out, size_t out_count);
 
-/* Reads a job text into the seven tables, and tells how much of each it filled, and the terms.
+/* Reads a job text into the seven tables, and into tables 9 and 10 where it is timed, and tells how much of each it filled, and the
+ * terms.
  *
  * text      of any length: the program's bound of 65,536 bytes isn't this call's.
  * tables    may be longer than the job needs; entries past what it has stay. Tables 3 and 6 need an entry more than there
- *           are nodes and nets. ARVUMNAO_NODES_MOST and the like are enough for every job.
+ *           are nodes and nets, table 10 as many as table 7. ARVUMNAO_NODES_MOST and the like are enough for every job.
  * The terms are told in the order in which arvumnao_route takes them, from ARVUMNAO_READ_LIMIT on. Without a P line the tuning
- * told is ARVUMNAO_PLAIN_TUNING, without a V line the rule is ARVUMNAO_RULE_ALL, without its second number `until` is 1.
+ * told is ARVUMNAO_PLAIN_TUNING, without a V line the rule is ARVUMNAO_RULE_ALL, without its second number `until` is 1; with a W
+ * line `timed` is 1, without it 0.
  * Refusals, tested in this order: the first faulty line by ARVUMNAO_BAD_SHAPE, else ARVUMNAO_BAD_VALUE, else
- * ARVUMNAO_BAD_ORDER; then ARVUMNAO_SHORT_TABLE. */
+ * ARVUMNAO_BAD_ORDER; then ARVUMNAO_SHORT_TABLE (1 to 7, 9 and 10); then ARVUMNAO_TOO_LARGE. */
 #define ARVUMNAO_READ_NODES 3
 #define ARVUMNAO_READ_EDGES 4
 #define ARVUMNAO_READ_NETS 5
@@ -267,10 +314,12 @@ uint32_t arvumnao_resume(const uint8_t *kind, size_t kind_count, const uint8_t *
 #define ARVUMNAO_READ_STEP 11
 #define ARVUMNAO_READ_RULE 12
 #define ARVUMNAO_READ_UNTIL 13
+#define ARVUMNAO_READ_TIMED 14
 uint32_t arvumnao_read(const uint8_t *text, size_t text_count, uint8_t *kind, size_t kind_count, uint8_t *capacity, size_t capacity_count,
                        uint32_t *first_edge, size_t first_edge_count, uint16_t *edge_target, size_t edge_target_count,
                        uint16_t *source, size_t source_count, uint32_t *first_sink, size_t first_sink_count,
-                       uint16_t *sink, size_t sink_count,
+                       uint16_t *sink, size_t sink_count, uint16_t *delay, size_t delay_count,
+                       uint8_t *criticality, size_t criticality_count,
                        uint64_t *out, size_t out_count);
 
 /* Writes the routes text of a log: an R line; net by net B lines, from its records of the latest iteration in which it has any;

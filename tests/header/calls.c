@@ -75,6 +75,36 @@ static void price(void)
     EXPECT(out[0] == OLD && out[14] == OLD);
 }
 
+static void timed_price(void)
+{
+    /* 8 x 13 x 100 + 2 x the usual price above; 10 x the largest; 9 x 1,000 x 100 + the largest */
+    const uint64_t usual = 141520, uncritical = 33883314238150000u, critical = 3388331424715000u;
+    lend_out();
+    EXPECT(arvumnao_timed_price(5, 7, 9, 3, 11, 13, 8, out, OUT) == 1);
+    EXPECT(told(0, 0, 0, &usual, 1));
+    EXPECT(arvumnao_timed_price(53, 65535, 511, 1, 101179, 1000, 0, out, OUT) == 1);
+    EXPECT(told(0, 0, 0, &uncritical, 1));
+    EXPECT(arvumnao_timed_price(53, 65535, 511, 1, 101179, ARVUMNAO_DELAY_MOST, ARVUMNAO_CRITICALITY_MOST, out, OUT) == 1);
+    EXPECT(told(0, 0, 0, &critical, 1));
+    arvumnao_timed_price(54, 65535, 511, 1, 101179, 1000, 9, out, OUT);
+    EXPECT(refused(13, 0, 0));
+    arvumnao_timed_price(53, 65536, 511, 1, 101179, 1000, 9, out, OUT);
+    EXPECT(refused(13, 1, 0));
+    arvumnao_timed_price(53, 65535, 512, 1, 101179, 1000, 9, out, OUT);
+    EXPECT(refused(13, 2, 0));
+    arvumnao_timed_price(53, 65535, 511, 0, 101179, 1000, 9, out, OUT);
+    EXPECT(refused(13, 3, 0));
+    arvumnao_timed_price(53, 65535, 511, 1, 101180, 1001, 10, out, OUT);
+    EXPECT(refused(13, 4, 0));
+    arvumnao_timed_price(53, 65535, 511, 1, 101179, 1001, 10, out, OUT);
+    EXPECT(refused(13, 5, 0));
+    arvumnao_timed_price(53, 65535, 511, 1, 101179, 1000, 10, out, OUT);
+    EXPECT(refused(13, 6, 0));
+    lend_out();
+    EXPECT(arvumnao_timed_price(5, 7, 9, 3, 11, 13, 8, out, 15) == 0);
+    EXPECT(out[0] == OLD && out[14] == OLD);
+}
+
 /* Node 0 is the tree; 1 costs 3 x 20 x (100 + 10 x 3), 2 costs 2 x 40 x 100, 3 costs 5 x 20 x (100 + 10 x 5); no edge leads to 4. */
 static void search(void)
 {
@@ -112,6 +142,76 @@ static void search(void)
     EXPECT(memcmp(work, expected, sizeof work) == 0);
 }
 
+/* The same block for a sink of criticality 7: 1 costs 7 x 50 x 100 + 3 x 7,800, 2 costs 7 x 8 x 100 + 3 x 8,000, 3 costs
+ * 7 x 20 x 100 + 3 x 15,000, and is nearer by 2, where the search above has it by 1. */
+static uint64_t timed_work[41];
+
+static uint32_t timed_search_in(size_t kinds, const uint16_t *delay, size_t delays, uint32_t factor, uint32_t criticality,
+                                uint32_t third_history, size_t entries)
+{
+    const uint8_t kind[] = { 0, 4, 5, 1, 6 };
+    const uint8_t capacity[] = { 1, 2, 1, 3, 9 };
+    const uint32_t first_edge[] = { 0, 2, 3, 4, 4, 4 };
+    const uint16_t edge_target[] = { 1, 2, 3, 3 };
+    const uint32_t history[] = { 1, 3, 2, third_history, 39859, 0 };
+    const uint16_t others[] = { 6, 4, 0, 7, 2, 999, 999 };
+    const uint8_t in_tree[] = { 1, 0, 0, 0, 0, 5, 5, 5 };
+    return arvumnao_timed_search(kind, kinds, capacity, COUNT(capacity), first_edge, COUNT(first_edge), edge_target,
+                                 COUNT(edge_target), delay, delays, factor, criticality, timed_work, entries, history,
+                                 COUNT(history), others, COUNT(others), in_tree, COUNT(in_tree), out, OUT);
+}
+
+static void timed_search(void)
+{
+    const uint16_t delay[] = { 9, 50, 8, 20, 1000, 30 }, slow[] = { 9, 50, 8, 1001, 1000 };
+    uint64_t expected[41] = { 0, 58400, 29600, 88600, UINT64_MAX };
+    timed_work[40] = expected[40] = OLD;
+    lend_out();
+    EXPECT(timed_search_in(5, delay, 5, 10, 7, 5, 41) == 1 && refused(0, 0, 0));
+    EXPECT(memcmp(timed_work, expected, sizeof expected) == 0);
+    EXPECT(timed_search_in(0, delay, 5, 10, 7, 5, 41) == 1 && refused(5, 1, 0));
+    EXPECT(timed_search_in(5, delay, 4, 10, 7, 5, 41) == 1 && refused(5, 9, 0));
+    EXPECT(timed_search_in(5, delay, 6, 10, 7, 5, 41) == 1 && refused(5, 9, 0));
+    EXPECT(timed_search_in(5, slow, 5, 10, 7, 5, 41) == 1 && refused(5, 9, 0));
+    EXPECT(timed_search_in(5, delay, 5, 65536, 10, 0, 39) == 1 && refused(6, 40, 0));
+    EXPECT(timed_search_in(5, delay, 5, 65536, 10, 39860, 41) == 1 && refused(13, 3, 0));
+    EXPECT(timed_search_in(5, delay, 5, 65536, 10, 39859, 41) == 1 && refused(13, 5, 0));
+    EXPECT(timed_search_in(5, delay, 5, 65535, 10, 39859, 41) == 1 && refused(13, 6, 0));
+    EXPECT(memcmp(timed_work, expected, sizeof expected) == 0);
+}
+
+/* A block without edges that has a node more than a timed job's may: 15, after 5 and before 6 and 13, tells the nodes, and no limit
+ * in a search. Without that node it is 6. */
+enum { MANY = ARVUMNAO_TIMED_NODES_MOST + 1 };
+
+static void too_many_nodes(void)
+{
+    static uint8_t kind[MANY], capacity[MANY];
+    static uint32_t first_edge[MANY + 1];
+    static uint16_t delay[MANY];
+    const uint16_t source[] = { 0 }, sink[] = { 1 };
+    const uint32_t first_sink[] = { 0, 1 }, terms[] = { 40, ARVUMNAO_PLAIN_TUNING, 1, 1, 1 };
+    const uint8_t criticality[] = { 0 };
+    kind[1] = 1;
+    memset(capacity, 1, sizeof capacity);
+    lend_out();
+    EXPECT(arvumnao_timed_search(kind, MANY, capacity, MANY, first_edge, MANY + 1, NULL, 0, delay, MANY, 65536, 10, NULL, 0,
+                                 NULL, 0, NULL, 0, NULL, 0, out, OUT) == 1 && refused(ARVUMNAO_TOO_LARGE, 1025, 0));
+    EXPECT(arvumnao_timed_search(kind, MANY, capacity, MANY, first_edge, MANY + 1, NULL, 0, delay, 1024, 65536, 10, NULL, 0,
+                                 NULL, 0, NULL, 0, NULL, 0, out, OUT) == 1 && refused(5, 9, 0));
+    EXPECT(arvumnao_timed_search(kind, 1024, capacity, 1024, first_edge, 1025, NULL, 0, delay, 1024, 65536, 10, NULL, 0,
+                                 NULL, 0, NULL, 0, NULL, 0, out, OUT) == 1 && refused(6, 8192, 0));
+    EXPECT(arvumnao_route(kind, MANY, capacity, MANY, first_edge, MANY + 1, NULL, 0, source, 1, first_sink, 2, sink, 1, delay, MANY,
+                          criticality, 1, terms, 8, NULL, 0, NULL, 0, out, OUT) == 1 && refused(15, 1025, 40));
+    EXPECT(arvumnao_resume(kind, MANY, capacity, MANY, first_edge, MANY + 1, NULL, 0, source, 1, first_sink, 2, sink, 1, delay, MANY,
+                           criticality, 1, terms, 8, 0, NULL, 0, NULL, 0, out, OUT) == 1 && refused(15, 1025, 40));
+    EXPECT(arvumnao_route(kind, 1024, capacity, 1024, first_edge, 1025, NULL, 0, source, 1, first_sink, 2, sink, 1, delay, 1024,
+                          criticality, 1, terms, 8, NULL, 0, NULL, 0, out, OUT) == 1 && refused(6, 8192, 0));
+    /* of a job that isn't timed neither is measured */
+    EXPECT(arvumnao_route(kind, MANY, capacity, MANY, first_edge, MANY + 1, NULL, 0, source, 1, first_sink, 2, sink, 1, NULL, 0,
+                          NULL, 0, terms, 7, NULL, 0, NULL, 0, out, OUT) == 1 && refused(6, 8200, 0));
+}
+
 /* Two nets that share wire 2 and never settle. It costs history x 20 x (100 + factor), with histories 1, 3, 5, 7 by a step of 2 and
  * factors 0, 100, 233, 543 by 7 / 3; the sinks cost 2,000 and 1,900. One net alone takes both sinks and settles, and so do two
  * of one source. */
@@ -144,26 +244,27 @@ static void route(void)
     lend_out();
     EXPECT(arvumnao_route(kind, COUNT(kind), capacity, COUNT(capacity), first_edge, COUNT(first_edge),
                           edge_target, COUNT(edge_target), source, COUNT(source), first_sink, COUNT(first_sink),
-                          sink, COUNT(sink), terms, COUNT(terms), work, COUNT(work), log, COUNT(log), out, OUT) == 1);
+                          sink, COUNT(sink), NULL, 0, NULL, 0, terms, COUNT(terms), work, COUNT(work), log, COUNT(log),
+                          out, OUT) == 1);
     EXPECT(told(9, 4, 1, ended, 3));
     EXPECT(memcmp(log, expected, sizeof log) == 0);
     EXPECT(memcmp(work, cleared, sizeof cleared) == 0 && work[40] == OLD);
     arvumnao_route(kind, 5, capacity, 5, first_edge, 6, edge_target, 4, source, 2, first_sink, 3, sink, 2,
-                   terms, 6, work, 39, log, 73, out, OUT);
+                   NULL, 0, NULL, 0, terms, 6, work, 39, log, 73, out, OUT);
     EXPECT(refused(6, 40, 0));
     arvumnao_route(kind, 5, capacity, 5, first_edge, 6, edge_target, 4, source, 2, first_sink, 3, sink, 2,
-                   terms, 6, work, 41, log, 8, out, OUT);
+                   NULL, 0, NULL, 0, terms, 6, work, 41, log, 8, out, OUT);
     EXPECT(told(8, 1, 0, begun, 3));
     arvumnao_route(kind, 0, capacity, 5, first_edge, 6, edge_target, 4, source, 2, first_sink, 3, sink, 2,
-                   terms, 6, work, 41, log, 73, out, OUT);
+                   NULL, 0, NULL, 0, terms, 6, work, 41, log, 73, out, OUT);
     EXPECT(refused(5, 1, 0));
     arvumnao_route(kind, 5, capacity, 5, first_edge, 6, edge_target, 4, source, 1, one_net, 2, sink, 2,
-                   terms, 6, work, 41, log, 73, out, OUT);
+                   NULL, 0, NULL, 0, terms, 6, work, 41, log, 73, out, OUT);
     EXPECT(told(0, 0, 0, settled, 3));
     EXPECT(memcmp(log, joined, sizeof joined) == 0);
     memset(log, 9, sizeof log);
     arvumnao_route(kind, 5, capacity, 5, first_edge, 6, edge_target, 4, one_source, 2, first_sink, 3, sink, 2,
-                   terms, 6, work, 41, log, 73, out, OUT);
+                   NULL, 0, NULL, 0, terms, 6, work, 41, log, 73, out, OUT);
     EXPECT(told(0, 0, 0, settled, 3));
     EXPECT(memcmp(log, joined, sizeof joined) == 0);
 }
@@ -179,8 +280,8 @@ static uint32_t resume_in(const uint16_t *source, size_t nets, const uint32_t *t
     const uint32_t first_sink[] = { 0, 1, 2 };
     const uint16_t sink[] = { 3, 4 };
     return arvumnao_resume(kind, COUNT(kind), capacity, COUNT(capacity), first_edge, COUNT(first_edge), edge_target,
-                           COUNT(edge_target), source, nets, first_sink, COUNT(first_sink), sink, COUNT(sink), terms, count,
-                           used, work, entries, log, words, out, OUT);
+                           COUNT(edge_target), source, nets, first_sink, COUNT(first_sink), sink, COUNT(sink), NULL, 0, NULL, 0,
+                           terms, count, used, work, entries, log, words, out, OUT);
 }
 
 /* It ends as the straight run. Under a limit of 2 the log has no iteration below it, a word less cuts its last record, and a cost
@@ -236,7 +337,7 @@ static void terms(void)
     const uint16_t edge_target[] = { 3, 4, 3, 5, 6, 7, 6, 8 };
     const uint16_t source[] = { 0, 1, 2 }, sink[] = { 6, 7, 8 };
     const uint32_t first_sink[] = { 0, 1, 2, 3 };
-    const uint32_t crowded[] = { 2, ARVUMNAO_PLAIN_TUNING, ARVUMNAO_RULE_CROWDED, 1, 100 };
+    const uint32_t crowded[] = { 2, ARVUMNAO_PLAIN_TUNING, ARVUMNAO_RULE_CROWDED, 1, 0, 100 };
     const uint32_t later[] = { 2, ARVUMNAO_PLAIN_TUNING, ARVUMNAO_RULE_CROWDED, 2 };
     const uint32_t no_factor[] = { 2, 0 }, bad[] = { 2, ARVUMNAO_PLAIN_TUNING, 3 }, bad_until[] = { 2, ARVUMNAO_PLAIN_TUNING, 1, 100 };
     const uint64_t by_all[] = { 2, 6, 54 }, by_crowded[] = { 2, 5, 45 };
@@ -251,7 +352,7 @@ static void terms(void)
         const uint64_t *own;
         size_t owned;
     } runs[] = {
-        { crowded, 8, 0, 0, 0, by_crowded, 3 }, { crowded, 6, 0, 0, 0, by_crowded, 3 }, { crowded, 5, 0, 0, 0, by_all, 3 },
+        { crowded, 9, 0, 0, 0, by_crowded, 3 }, { crowded, 6, 0, 0, 0, by_crowded, 3 }, { crowded, 5, 0, 0, 0, by_all, 3 },
         { crowded, 1, 0, 0, 0, by_all, 3 },     { crowded, 0, 5, 8, 0, by_all, 0 },     { no_factor, 2, 9, 2, 1, by_all, 3 },
         { bad, 6, 5, 8, 0, by_all, 0 },         { bad, 5, 0, 0, 0, by_all, 3 },         { crowded, 7, 0, 0, 0, by_crowded, 3 },
         { later, 7, 0, 0, 0, by_all, 3 },       { later, 6, 0, 0, 0, by_crowded, 3 },   { bad_until, 7, 5, 8, 0, by_all, 0 },
@@ -263,39 +364,152 @@ static void terms(void)
     lend_out();
     for (run = 0; run < COUNT(runs); run++) {
         EXPECT(arvumnao_route(kind, 9, capacity, 9, first_edge, 10, edge_target, 8, source, 3, first_sink, 4, sink, 3,
-                              runs[run].terms, runs[run].count, work, 72, log, 54, out, OUT) == 1);
+                              NULL, 0, NULL, 0, runs[run].terms, runs[run].count, work, 72, log, 54, out, OUT) == 1);
         EXPECT(told(runs[run].refusal, runs[run].first, runs[run].second, runs[run].own, runs[run].owned));
         if (run == 0)
             EXPECT(memcmp(log, expected, sizeof expected) == 0);
     }
 }
 
-/* Job B with capacities and terms of its own, read into tables longer than it needs. */
+/* A net of three sinks. The one of criticality 9 has its turn first, by wire 2, which is longer than wire 1 and quicker: 9,000 + 6,000,
+ * and 2,700 + 2,000 for node 4, a sink that the path passes and that makes no turn, and 900 + 1,900 for the sink itself. Then the one
+ * of criticality 2: 12,000 + 16,000 by wire 1, and 400 + 16,000. The same sinks as two nets of one source: where sink 3 stands again
+ * it has criticality 9, but its first listing counts. Not timed, all go by wire 1, the nearest first. */
+static void timed_route(void)
+{
+    const uint8_t kind[] = { 0, 4, 6, 1, 1, 3 };
+    const uint8_t capacity[] = { 1, 2, 3, 4, 5, 6 };
+    const uint32_t first_edge[] = { 0, 2, 4, 5, 5, 6, 6 };
+    const uint16_t edge_target[] = { 1, 2, 3, 4, 4, 5 };
+    const uint16_t source[] = { 0, 0 }, sink[] = { 3, 4, 5 }, split[] = { 3, 4, 3, 5 };
+    const uint32_t first_sink[] = { 0, 3 }, first_split[] = { 0, 1, 4 };
+    const uint16_t delay[] = { 700, 60, 10, 2, 3, 1 }, slow[] = { 700, 60, 10, 2, 3, 1001 };
+    const uint8_t criticality[] = { 2, 0, 9 }, split_criticality[] = { 2, 0, 9, 9 }, high[] = { 2, 0, 10 };
+    const uint32_t terms[] = { 40, 100, 7, 3, 2, 1, 9, 1 }, higher[] = { 41, 100, 7, 3, 2, 1, 9, UINT32_MAX };
+    const uint32_t no_limit[] = { 0, 100, 7, 3, 2, 1, 9, 1 };
+    const uint64_t settled[] = { 1, 2, 19 }, untimed[] = { 1, 3, 25 };
+    const uint32_t expected[] = { 1, 0, 5, 22500, 0, 4, 0, 2, 4, 5, 1, 0, 3, 44400, 0, 3, 0, 1, 3 };
+    const uint32_t nearest[] = { 1, 0, 3, 4000, 0, 3, 0, 1, 3, 1, 0, 4, 2000, 0, 2, 1, 4, 1, 0, 5, 1900, 0, 2, 4, 5 };
+    const struct {
+        const uint16_t *delay;
+        size_t delays;
+        const uint8_t *criticality;
+        size_t criticalities;
+        const uint32_t *terms;
+        size_t work;
+        uint64_t refusal, first, second;
+    } refusals[] = {
+        { delay, 5, criticality, 3, terms, 48, 5, 9, 0 },    { slow, 6, criticality, 3, terms, 48, 5, 9, 0 },
+        { delay, 6, criticality, 2, terms, 48, 5, 10, 0 },   { delay, 6, high, 3, higher, 48, 5, 10, 0 },
+        { slow, 6, high, 3, no_limit, 48, 5, 8, 0 },         { delay, 6, criticality, 3, higher, 47, 15, 6, 41 },
+        { delay, 6, criticality, 3, terms, 47, 6, 48, 0 },
+    };
+    const uint64_t cleared[48] = { 0 };
+    uint64_t work[49];
+    uint32_t log[26];
+    size_t run;
+    memset(work, 9, sizeof work);
+    work[48] = log[25] = OLD;
+    lend_out();
+    for (run = 0; run < COUNT(refusals); run++) {
+        EXPECT(arvumnao_route(kind, 6, capacity, 6, first_edge, 7, edge_target, 6, source, 1, first_sink, 2, sink, 3,
+                              refusals[run].delay, refusals[run].delays, refusals[run].criticality, refusals[run].criticalities,
+                              refusals[run].terms, 8, work, refusals[run].work, log, 26, out, OUT) == 1);
+        EXPECT(refused(refusals[run].refusal, refusals[run].first, refusals[run].second));
+        EXPECT(memcmp(work, cleared, sizeof work[0]) != 0);
+    }
+    EXPECT(arvumnao_route(kind, COUNT(kind), capacity, COUNT(capacity), first_edge, COUNT(first_edge), edge_target,
+                          COUNT(edge_target), source, 1, first_sink, COUNT(first_sink), sink, COUNT(sink), delay, COUNT(delay),
+                          criticality, COUNT(criticality), terms, COUNT(terms), work, COUNT(work), log, COUNT(log), out, OUT) == 1);
+    EXPECT(told(0, 0, 0, settled, 3));
+    EXPECT(memcmp(log, expected, sizeof expected) == 0 && log[25] == OLD);
+    EXPECT(memcmp(work, cleared, sizeof cleared) == 0 && work[48] == OLD);
+    memset(log, 9, sizeof log);
+    arvumnao_route(kind, 6, capacity, 6, first_edge, 7, edge_target, 6, source, 2, first_split, 3, split, 4, delay, 6,
+                   split_criticality, 4, terms, 8, work, 49, log, 26, out, OUT);
+    EXPECT(told(0, 0, 0, settled, 3));
+    EXPECT(memcmp(log, expected, sizeof expected) == 0);
+    /* tables 9 and 10 that would be refused, where the eighth term is left out */
+    arvumnao_route(kind, 6, capacity, 6, first_edge, 7, edge_target, 6, source, 1, first_sink, 2, sink, 3, slow, 5, high, 2,
+                   higher, 7, work, 49, log, 26, out, OUT);
+    EXPECT(told(0, 0, 0, untimed, 3));
+    EXPECT(memcmp(log, nearest, sizeof nearest) == 0);
+}
+
+/* Nets 0, with sinks 3 and 4, and 1, with sink 4, on wire 2, which has room for one: two iterations, gone on from after the first.
+ * A log of this length with so many words used. */
+static uint32_t timed_resume_in(const uint16_t *delay, size_t delays, const uint8_t *criticality, size_t criticalities,
+                                const uint32_t *terms, uint64_t used, uint64_t *work, uint32_t *log, size_t words)
+{
+    const uint8_t kind[] = { 0, 2, 4, 1, 3 };
+    const uint8_t capacity[] = { 5, 4, 1, 3, 2 };
+    const uint32_t first_edge[] = { 0, 1, 2, 4, 5, 5 };
+    const uint16_t edge_target[] = { 2, 2, 3, 4, 4 };
+    const uint16_t source[] = { 0, 1 }, sink[] = { 3, 4, 4 };
+    const uint32_t first_sink[] = { 0, 2, 3 };
+    return arvumnao_resume(kind, COUNT(kind), capacity, COUNT(capacity), first_edge, COUNT(first_edge), edge_target,
+                           COUNT(edge_target), source, COUNT(source), first_sink, COUNT(first_sink), sink, COUNT(sink), delay, delays,
+                           criticality, criticalities, terms, 8, used, work, 40, log, words, out, OUT);
+}
+
+/* Net 0's sink 4, of criticality 6, is due before 3, of criticality 4. Wire 2 costs 4,200 + 4 x 2,000 for it, and 10 x 2,000 for net 1,
+ * of criticality 0; in iteration 2 its price is 12,000. A lent path may pass sink 3 on its way to 4: that is then joined. */
+static void timed_resume(void)
+{
+    const uint16_t delay[] = { 5, 6, 7, 8, 9 };
+    const uint8_t criticality[] = { 4, 6, 0 };
+    const uint32_t terms[] = { 2, 100, 7, 3, 2, 1, 9, 1 }, higher[] = { 41, 100, 7, 3, 2, 1, 9, 1 };
+    const uint64_t ended[] = { 2, 6, 52 }, passed_ended[] = { 2, 5, 45 };
+    const uint32_t lent[] = { 1, 0, 4, 25200, 0, 3, 0, 2, 4, 1, 0, 3, 15200, 0, 2, 2, 3, 1, 1, 4, 39000, 0, 3, 1, 2, 4 };
+    const uint32_t passing[] = { 1, 0, 4, 38000, 0, 4, 0, 2, 3, 4, 1, 1, 4, 39000, 0, 3, 1, 2, 4 };
+    const uint32_t not_due[] = { 1, 0, 3, 30000, 0, 3, 0, 2, 3, 1, 0, 4, 13000, 0, 2, 2, 4, 1, 1, 4, 39000, 0, 3, 1, 2, 4 };
+    const uint32_t appended[] = { 2, 0, 4, 65200, 0, 3, 0, 2, 4, 2, 0, 3, 15200, 0, 2, 2, 3, 2, 1, 4, 139000, 0, 3, 1, 2, 4 };
+    uint64_t work[40];
+    uint32_t log[52];
+    memset(log, 9, sizeof log);
+    memcpy(log, lent, sizeof lent);
+    lend_out();
+    EXPECT(timed_resume_in(delay, 4, criticality, 3, terms, 26, work, log, 52) == 1 && refused(5, 9, 0));
+    EXPECT(timed_resume_in(delay, 5, criticality, 2, terms, 26, work, log, 52) == 1 && refused(5, 10, 0));
+    EXPECT(timed_resume_in(delay, 5, criticality, 3, higher, 26, work, log, 52) == 1 && refused(15, 5, 41));
+    EXPECT(timed_resume_in(delay, 5, criticality, 3, terms, 26, work, log, 52) == 1 && told(9, 2, 1, ended, 3));
+    EXPECT(memcmp(log, lent, sizeof lent) == 0 && memcmp(log + 26, appended, sizeof appended) == 0);
+    memcpy(log, passing, sizeof passing);
+    EXPECT(timed_resume_in(delay, 5, criticality, 3, terms, 19, work, log, 52) == 1 && told(9, 2, 1, passed_ended, 3));
+    EXPECT(memcmp(log, passing, sizeof passing) == 0 && memcmp(log + 19, appended, sizeof appended) == 0);
+    memcpy(log, not_due, sizeof not_due);
+    EXPECT(timed_resume_in(delay, 5, criticality, 3, terms, 26, work, log, 52) == 1 && refused(14, 0, 0));
+}
+
+/* Job B with capacities and terms of its own, and as a timed job, read into tables longer than it needs. */
 static const char job[] = "F,6,6,2,9\nP,100,7,3,1\nV,2,5\nN,0,0,2\nN,1,0,3\nN,2,4,1\nN,3,5,4\nN,4,1,5\nN,5,1,6\n"
                           "E,0,2\nE,0,3\nE,1,2\nE,2,4\nE,2,5\nE,3,4\nS,0,0\nT,0,4\nS,1,1\nT,1,5\n";
 
-static uint8_t kind_read[7], capacity_read[8], text_read[sizeof job - 1];
+static const char timed_job[] = "F,6,6,2,9\nP,100,7,3,1\nV,2,5\nW\nN,0,0,2,12\nN,1,0,3,11\nN,2,4,1,1000\nN,3,5,4,0\nN,4,1,5,8\n"
+                                "N,5,1,6,7\nE,0,2\nE,0,3\nE,1,2\nE,2,4\nE,2,5\nE,3,4\nS,0,0\nT,0,4,3\nS,1,1\nT,1,5,9\n";
+
+static uint8_t text_read[sizeof timed_job], kind_read[7], capacity_read[8], criticality_read[4];
 static uint32_t first_edge_read[9], first_sink_read[5];
-static uint16_t edge_target_read[10], source_read[4], sink_read[3];
+static uint16_t edge_target_read[10], source_read[4], sink_read[3], delay_read[11];
+static size_t bytes_read;
+
+static void lend_text(const char *text)
+{
+    bytes_read = strlen(text);
+    memcpy(text_read, text, bytes_read);
+}
 
 /* Reads it into tables of these lengths. */
 static uint32_t read_job(size_t kind, size_t capacity, size_t first_edge, size_t edge_target, size_t source,
-                         size_t first_sink, size_t sink)
+                         size_t first_sink, size_t sink, size_t delay, size_t criticality)
 {
-    return arvumnao_read(text_read, sizeof text_read, kind_read, kind, capacity_read, capacity, first_edge_read,
-                         first_edge, edge_target_read, edge_target, source_read, source, first_sink_read,
-                         first_sink, sink_read, sink, out, OUT);
+    return arvumnao_read(text_read, bytes_read, kind_read, kind, capacity_read, capacity, first_edge_read, first_edge,
+                         edge_target_read, edge_target, source_read, source, first_sink_read, first_sink, sink_read, sink,
+                         delay_read, delay, criticality_read, criticality, out, OUT);
 }
 
-static void read_text(void)
+static void clear_tables(void)
 {
-    const uint64_t counts[] = { 6, 6, 2, 2, 9, 100, 7, 3, 1, 2, 5 };
-    const uint8_t kind[] = { 0, 0, 4, 5, 1, 1, 255 }, capacity[] = { 2, 3, 1, 4, 5, 6, 255, 255 };
-    const uint32_t first_edge[] = { 0, 2, 3, 5, 6, 6, 6, UINT32_MAX, UINT32_MAX };
-    const uint16_t edge_target[] = { 2, 3, 2, 4, 5, 4, 65535, 65535, 65535, 65535 };
-    const uint16_t source[] = { 0, 1, 65535, 65535 }, sink[] = { 4, 5, 65535 };
-    const uint32_t first_sink[] = { 0, 1, 2, UINT32_MAX, UINT32_MAX };
-    memcpy(text_read, job, sizeof text_read);
     memset(kind_read, 255, sizeof kind_read);
     memset(capacity_read, 255, sizeof capacity_read);
     memset(first_edge_read, 255, sizeof first_edge_read);
@@ -303,25 +517,72 @@ static void read_text(void)
     memset(source_read, 255, sizeof source_read);
     memset(first_sink_read, 255, sizeof first_sink_read);
     memset(sink_read, 255, sizeof sink_read);
+    memset(delay_read, 255, sizeof delay_read);
+    memset(criticality_read, 255, sizeof criticality_read);
+}
+
+/* Whether tables 1 to 7 hold the job, and what is past it is as it was. */
+static int tables_read(void)
+{
+    const uint8_t kind[] = { 0, 0, 4, 5, 1, 1, 255 }, capacity[] = { 2, 3, 1, 4, 5, 6, 255, 255 };
+    const uint32_t first_edge[] = { 0, 2, 3, 5, 6, 6, 6, UINT32_MAX, UINT32_MAX };
+    const uint16_t edge_target[] = { 2, 3, 2, 4, 5, 4, 65535, 65535, 65535, 65535 };
+    const uint16_t source[] = { 0, 1, 65535, 65535 }, sink[] = { 4, 5, 65535 };
+    const uint32_t first_sink[] = { 0, 1, 2, UINT32_MAX, UINT32_MAX };
+    return memcmp(kind_read, kind, sizeof kind) == 0 && memcmp(capacity_read, capacity, sizeof capacity) == 0
+           && memcmp(first_edge_read, first_edge, sizeof first_edge) == 0
+           && memcmp(edge_target_read, edge_target, sizeof edge_target) == 0
+           && memcmp(source_read, source, sizeof source) == 0 && memcmp(first_sink_read, first_sink, sizeof first_sink) == 0
+           && memcmp(sink_read, sink, sizeof sink) == 0;
+}
+
+static void read_text(void)
+{
+    const uint64_t counts[] = { 6, 6, 2, 2, 9, 100, 7, 3, 1, 2, 5, 0 };
+    lend_text(job);
+    clear_tables();
     lend_out();
-    EXPECT(read_job(7, 8, 9, 10, 4, 5, 3) == 1);
+    EXPECT(read_job(7, 8, 9, 10, 4, 5, 3, 11, 4) == 1);
     EXPECT(told(0, 0, 0, counts, COUNT(counts)));
-    EXPECT(memcmp(kind_read, kind, sizeof kind) == 0);
-    EXPECT(memcmp(capacity_read, capacity, sizeof capacity) == 0);
-    EXPECT(memcmp(first_edge_read, first_edge, sizeof first_edge) == 0);
-    EXPECT(memcmp(edge_target_read, edge_target, sizeof edge_target) == 0);
-    EXPECT(memcmp(source_read, source, sizeof source) == 0);
-    EXPECT(memcmp(first_sink_read, first_sink, sizeof first_sink) == 0);
-    EXPECT(memcmp(sink_read, sink, sizeof sink) == 0);
-    EXPECT(read_job(5, 8, 9, 10, 4, 5, 3) == 1 && refused(4, 1, 0));
-    EXPECT(read_job(7, 5, 9, 10, 4, 5, 3) == 1 && refused(4, 2, 0));
-    EXPECT(read_job(7, 8, 6, 10, 4, 5, 3) == 1 && refused(4, 3, 0));
-    EXPECT(read_job(7, 8, 9, 5, 4, 5, 3) == 1 && refused(4, 4, 0));
-    EXPECT(read_job(7, 8, 9, 10, 1, 5, 3) == 1 && refused(4, 5, 0));
-    EXPECT(read_job(7, 8, 9, 10, 4, 2, 3) == 1 && refused(4, 6, 0));
-    EXPECT(read_job(7, 8, 9, 10, 4, 5, 1) == 1 && refused(4, 7, 0));
+    EXPECT(tables_read());
+    EXPECT(delay_read[0] == 65535 && criticality_read[0] == 255);
+    EXPECT(read_job(7, 8, 9, 10, 4, 5, 3, 0, 0) == 1 && told(0, 0, 0, counts, COUNT(counts)));
+    EXPECT(read_job(5, 8, 9, 10, 4, 5, 3, 0, 0) == 1 && refused(4, 1, 0));
+    EXPECT(read_job(7, 5, 9, 10, 4, 5, 3, 0, 0) == 1 && refused(4, 2, 0));
+    EXPECT(read_job(7, 8, 6, 10, 4, 5, 3, 0, 0) == 1 && refused(4, 3, 0));
+    EXPECT(read_job(7, 8, 9, 5, 4, 5, 3, 0, 0) == 1 && refused(4, 4, 0));
+    EXPECT(read_job(7, 8, 9, 10, 1, 5, 3, 0, 0) == 1 && refused(4, 5, 0));
+    EXPECT(read_job(7, 8, 9, 10, 4, 2, 3, 0, 0) == 1 && refused(4, 6, 0));
+    EXPECT(read_job(7, 8, 9, 10, 4, 5, 1, 0, 0) == 1 && refused(4, 7, 0));
     text_read[16] = '9';
-    EXPECT(read_job(7, 8, 9, 10, 4, 5, 3) == 1 && refused(2, 2, 0));
+    EXPECT(read_job(7, 8, 9, 10, 4, 5, 3, 0, 0) == 1 && refused(2, 2, 0));
+}
+
+/* Its limit made 49 is beyond a timed job's. */
+static void read_timed_text(void)
+{
+    const uint64_t counts[] = { 6, 6, 2, 2, 9, 100, 7, 3, 1, 2, 5, 1 };
+    const uint16_t delay[] = { 12, 11, 1000, 0, 8, 7, 65535, 65535, 65535, 65535, 65535 };
+    const uint8_t criticality[] = { 3, 9, 255, 255 };
+    const char limit[] = "F,6,6,2,49\n";
+    lend_text(timed_job);
+    clear_tables();
+    lend_out();
+    EXPECT(read_job(7, 8, 9, 10, 4, 5, 3, 11, 4) == 1);
+    EXPECT(told(0, 0, 0, counts, COUNT(counts)));
+    EXPECT(tables_read());
+    EXPECT(memcmp(delay_read, delay, sizeof delay) == 0);
+    EXPECT(memcmp(criticality_read, criticality, sizeof criticality) == 0);
+    EXPECT(read_job(7, 8, 9, 10, 4, 5, 1, 5, 1) == 1 && refused(4, 7, 0));
+    EXPECT(read_job(7, 8, 9, 10, 4, 5, 3, 5, 1) == 1 && refused(4, 9, 0));
+    EXPECT(read_job(7, 8, 9, 10, 4, 5, 3, 6, 1) == 1 && refused(4, 10, 0));
+    memcpy(text_read, limit, sizeof limit - 1);
+    memcpy(text_read + sizeof limit - 1, timed_job + 10, sizeof timed_job - 11);
+    bytes_read = sizeof timed_job;
+    clear_tables();
+    EXPECT(read_job(7, 8, 9, 10, 4, 5, 3, 6, 1) == 1 && refused(4, 10, 0));
+    EXPECT(read_job(7, 8, 9, 10, 4, 5, 3, 6, 2) == 1 && refused(15, 6, 49));
+    EXPECT(kind_read[0] == 255 && delay_read[0] == 65535 && criticality_read[0] == 255);
 }
 
 /* Job B's log. */
@@ -454,11 +715,17 @@ static void count_uses(void)
 int main(void)
 {
     price();
+    timed_price();
     search();
+    timed_search();
+    too_many_nodes();
     route();
     resume();
     terms();
+    timed_route();
+    timed_resume();
     read_text();
+    read_timed_text();
     write_routes();
     count_uses();
     return faults != 0;

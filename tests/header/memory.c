@@ -1,5 +1,6 @@
 /* What the header says about memory. Empty slices may have no pointer. And the stack: each call runs, on the largest job
- * there is, in a thread whose stack was painted; what is no longer painted afterwards was used. Prints the bytes. */
+ * there is and on the largest timed one, in a thread whose stack was painted; what is no longer painted afterwards was used. Prints
+ * the bytes. */
 #include "arvumnao.h"
 
 #include <pthread.h>
@@ -11,92 +12,118 @@ enum {
     NODES = ARVUMNAO_NODES_MOST,
     NETS = ARVUMNAO_NETS_MOST,
     SINKS = ARVUMNAO_SINKS_MOST,
+    TIMED_NODES = ARVUMNAO_TIMED_NODES_MOST,
+    TIMED_NETS = TIMED_NODES / 4,
     ROW = 8, /* edges a node */
-    EDGES = ROW * NODES - ROW * (ROW + 1) / 2,
+    EACH = SINKS / NETS, /* sinks a net */
+    EDGES = ROW * NODES,
     LOG = 1 << 22,
     BYTES = 1 << 20,
     PAINTED = 1 << 20,
     PAINT = 0xA5
 };
 
-static uint8_t text[BYTES], kind[NODES], capacity[NODES], routes[16 * BYTES], in_tree[NODES];
+static uint8_t text[BYTES], kind[NODES], capacity[NODES], criticality[SINKS], routes[16 * BYTES], in_tree[NODES];
 static uint32_t first_edge[NODES + 1], first_sink[NETS + 1], log_words[LOG], history[NODES];
-static uint16_t edge_target[EDGES], source[NETS], sink[SINKS], others[NODES];
-static const uint32_t terms[] = {1, ARVUMNAO_PLAIN_TUNING, ARVUMNAO_RULE_CROWDED, 1};
-static const uint32_t two[] = {2, ARVUMNAO_PLAIN_TUNING, ARVUMNAO_RULE_CROWDED, 1};
+static uint16_t edge_target[EDGES], source[NETS], sink[SINKS], delay[NODES], others[NODES];
+static uint32_t terms[] = {1, ARVUMNAO_PLAIN_TUNING, ARVUMNAO_RULE_CROWDED, 1, 0};
 static uint64_t work[ARVUMNAO_WORK(NODES)], counts[ARVUMNAO_COUNTS], out[ARVUMNAO_OUT];
-static size_t bytes, words;
+static size_t nodes, edges, nets, sinks, bytes, words;
 
-/* Each node has switches to the next few; 512 sources, then 512 sinks, then wires; every source has 8 of the sinks. */
-static void make_text(void)
+/* Each node has switches to the next few; first sources, one a net, then as many sinks, then wires; every source has 8 of the
+ * sinks. */
+static void make_text(int timed)
 {
     char *at = (char *)text;
-    at += sprintf(at, "F,%d,%d,%d,1\n", NODES, EDGES, NETS);
-    for (int v = 0; v < NODES; v++)
-        at += sprintf(at, "N,%d,%d,1\n", v, v < NETS ? 0 : v < 2 * NETS ? 1 : 4 + v % 50);
-    for (int v = 0; v < NODES; v++)
-        for (int to = v + 1; to <= v + ROW && to < NODES; to++)
-            at += sprintf(at, "E,%d,%d\n", v, to);
-    for (int net = 0; net < NETS; net++) {
-        at += sprintf(at, "S,%d,%d\n", net, net);
-        for (int place = 0; place < SINKS / NETS; place++)
-            at += sprintf(at, "T,%d,%d\n", net, NETS + (net + 61 * place) % NETS);
+    int node_count = timed ? TIMED_NODES : NODES, net_count = timed ? TIMED_NETS : NETS;
+    nodes = (size_t)node_count;
+    nets = (size_t)net_count;
+    edges = ROW * nodes - ROW * (ROW + 1) / 2;
+    sinks = EACH * nets;
+    at += sprintf(at, "F,%d,%d,%d,1\n%s", node_count, (int)edges, net_count, timed ? "W\n" : "");
+    for (int v = 0; v < node_count; v++) {
+        at += sprintf(at, "N,%d,%d,1", v, v < net_count ? 0 : v < 2 * net_count ? 1 : 4 + v % 50);
+        at += timed ? sprintf(at, ",%d\n", v % (ARVUMNAO_DELAY_MOST + 1)) : sprintf(at, "\n");
     }
+    for (int v = 0; v < node_count; v++)
+        for (int to = v + 1; to <= v + ROW && to < node_count; to++)
+            at += sprintf(at, "E,%d,%d\n", v, to);
+    for (int net = 0; net < net_count; net++) {
+        at += sprintf(at, "S,%d,%d\n", net, net);
+        for (int place = 0; place < EACH; place++) {
+            at += sprintf(at, "T,%d,%d", net, net_count + (net + 61 * place) % net_count);
+            at += timed ? sprintf(at, ",%d\n", (net + place) % (ARVUMNAO_CRITICALITY_MOST + 1)) : sprintf(at, "\n");
+        }
+    }
+    terms[ARVUMNAO_TERMS_TIMED] = (uint32_t)timed;
     bytes = (size_t)(at - (char *)text);
 }
 
 static void call_read(void)
 {
     arvumnao_read(text, bytes, kind, NODES, capacity, NODES, first_edge, NODES + 1, edge_target, EDGES,
-                  source, NETS, first_sink, NETS + 1, sink, SINKS, out, ARVUMNAO_OUT);
+                  source, NETS, first_sink, NETS + 1, sink, SINKS, delay, NODES, criticality, SINKS, out, ARVUMNAO_OUT);
 }
 
 static void call_route(void)
 {
-    arvumnao_route(kind, NODES, capacity, NODES, first_edge, NODES + 1, edge_target, EDGES, source, NETS,
-                   first_sink, NETS + 1, sink, SINKS, terms, ARVUMNAO_TERMS, work, ARVUMNAO_WORK(NODES),
-                   log_words, LOG, out, ARVUMNAO_OUT);
+    terms[ARVUMNAO_TERMS_LIMIT] = 1;
+    arvumnao_route(kind, nodes, capacity, nodes, first_edge, nodes + 1, edge_target, edges, source, nets,
+                   first_sink, nets + 1, sink, sinks, delay, nodes, criticality, sinks, terms, ARVUMNAO_TERMS,
+                   work, ARVUMNAO_WORK(nodes), log_words, LOG, out, ARVUMNAO_OUT);
 }
 
 /* Goes on from the log for a second iteration. */
 static void call_resume(void)
 {
-    arvumnao_resume(kind, NODES, capacity, NODES, first_edge, NODES + 1, edge_target, EDGES, source, NETS,
-                    first_sink, NETS + 1, sink, SINKS, two, ARVUMNAO_TERMS, words, work, ARVUMNAO_WORK(NODES),
-                    log_words, LOG, out, ARVUMNAO_OUT);
+    terms[ARVUMNAO_TERMS_LIMIT] = 2;
+    arvumnao_resume(kind, nodes, capacity, nodes, first_edge, nodes + 1, edge_target, edges, source, nets,
+                    first_sink, nets + 1, sink, sinks, delay, nodes, criticality, sinks, terms, ARVUMNAO_TERMS, words,
+                    work, ARVUMNAO_WORK(nodes), log_words, LOG, out, ARVUMNAO_OUT);
 }
 
 static void call_write(void)
 {
-    arvumnao_write(source, NETS, log_words, words, routes, sizeof routes, out, ARVUMNAO_OUT);
+    arvumnao_write(source, nets, log_words, words, routes, sizeof routes, out, ARVUMNAO_OUT);
 }
 
 static void call_dot(void)
 {
-    arvumnao_dot(source, NETS, log_words, words, routes, sizeof routes, out, ARVUMNAO_OUT);
+    arvumnao_dot(source, nets, log_words, words, routes, sizeof routes, out, ARVUMNAO_OUT);
 }
 
 static void call_uses_add(void)
 {
-    arvumnao_uses_add(kind, NODES, capacity, NODES, first_edge, NODES + 1, edge_target, EDGES, counts, ARVUMNAO_COUNTS, 0,
+    arvumnao_uses_add(kind, nodes, capacity, nodes, first_edge, nodes + 1, edge_target, edges, counts, ARVUMNAO_COUNTS, 0,
                       log_words, words, out, ARVUMNAO_OUT);
 }
 
 static void call_uses_write(void)
 {
-    arvumnao_uses_write(kind, NODES, capacity, NODES, first_edge, NODES + 1, edge_target, EDGES, counts, ARVUMNAO_COUNTS, 1,
+    arvumnao_uses_write(kind, nodes, capacity, nodes, first_edge, nodes + 1, edge_target, edges, counts, ARVUMNAO_COUNTS, 1,
                         routes, sizeof routes, out, ARVUMNAO_OUT);
 }
 
 static void call_search(void)
 {
-    arvumnao_search(kind, NODES, capacity, NODES, first_edge, NODES + 1, edge_target, EDGES, 65535,
-                    work, ARVUMNAO_WORK(NODES), history, NODES, others, NODES, in_tree, NODES, out, ARVUMNAO_OUT);
+    arvumnao_search(kind, nodes, capacity, nodes, first_edge, nodes + 1, edge_target, edges, 65535,
+                    work, ARVUMNAO_WORK(nodes), history, nodes, others, nodes, in_tree, nodes, out, ARVUMNAO_OUT);
+}
+
+static void call_timed_search(void)
+{
+    arvumnao_timed_search(kind, nodes, capacity, nodes, first_edge, nodes + 1, edge_target, edges, delay, nodes, 65535, 5,
+                          work, ARVUMNAO_WORK(nodes), history, nodes, others, nodes, in_tree, nodes, out, ARVUMNAO_OUT);
 }
 
 static void call_price(void)
 {
     arvumnao_price(53, 65535, 511, 1, 101179, out, ARVUMNAO_OUT);
+}
+
+static void call_timed_price(void)
+{
+    arvumnao_timed_price(53, 65535, 511, 1, 101179, 1000, 5, out, ARVUMNAO_OUT);
 }
 
 static void expect(const char *what, int held)
@@ -136,7 +163,7 @@ static void measure(const char *name, void (*call)(void), uint64_t refusal)
     while (stack[unused] == PAINT)
         unused++;
     size_t used = (size_t)(run.top - (uintptr_t)(stack + unused));
-    printf("%-10s %6zu bytes of stack\n", name, used);
+    printf("%-12s %6zu bytes of stack\n", name, used);
     expect("within ARVUMNAO_STACK", used <= ARVUMNAO_STACK);
     expect("the answer", out[0] == refusal);
     pthread_attr_destroy(&attributes);
@@ -148,15 +175,17 @@ static void empty(void)
 {
     arvumnao_search(NULL, 0, NULL, 0, NULL, 0, NULL, 0, 0, NULL, 0, NULL, 0, NULL, 0, NULL, 0, out, ARVUMNAO_OUT);
     expect("search of nothing", out[0] == ARVUMNAO_BAD_TABLE && out[1] == 1);
-    arvumnao_route(NULL, 0, NULL, 0, NULL, 0, NULL, 0, NULL, 0, NULL, 0, NULL, 0, NULL, 0, NULL, 0,
+    arvumnao_timed_search(NULL, 0, NULL, 0, NULL, 0, NULL, 0, NULL, 0, 0, 0, NULL, 0, NULL, 0, NULL, 0, NULL, 0, out, ARVUMNAO_OUT);
+    expect("timed search of nothing", out[0] == ARVUMNAO_BAD_TABLE && out[1] == 1);
+    arvumnao_route(NULL, 0, NULL, 0, NULL, 0, NULL, 0, NULL, 0, NULL, 0, NULL, 0, NULL, 0, NULL, 0, NULL, 0, NULL, 0,
                    NULL, 0, out, ARVUMNAO_OUT);
     expect("route of nothing", out[0] == ARVUMNAO_BAD_TABLE && out[1] == 1);
-    arvumnao_resume(NULL, 0, NULL, 0, NULL, 0, NULL, 0, NULL, 0, NULL, 0, NULL, 0, NULL, 0, 0, NULL, 0,
+    arvumnao_resume(NULL, 0, NULL, 0, NULL, 0, NULL, 0, NULL, 0, NULL, 0, NULL, 0, NULL, 0, NULL, 0, NULL, 0, 0, NULL, 0,
                     NULL, 0, out, ARVUMNAO_OUT);
     expect("resume of nothing", out[0] == ARVUMNAO_BAD_TABLE && out[1] == 1);
-    arvumnao_read(NULL, 0, NULL, 0, NULL, 0, NULL, 0, NULL, 0, NULL, 0, NULL, 0, NULL, 0, out, ARVUMNAO_OUT);
+    arvumnao_read(NULL, 0, NULL, 0, NULL, 0, NULL, 0, NULL, 0, NULL, 0, NULL, 0, NULL, 0, NULL, 0, NULL, 0, out, ARVUMNAO_OUT);
     expect("read of nothing", out[0] == ARVUMNAO_BAD_SHAPE && out[1] == 1);
-    arvumnao_read(text, bytes, NULL, 0, NULL, 0, NULL, 0, NULL, 0, NULL, 0, NULL, 0, NULL, 0, out, ARVUMNAO_OUT);
+    arvumnao_read(text, bytes, NULL, 0, NULL, 0, NULL, 0, NULL, 0, NULL, 0, NULL, 0, NULL, 0, NULL, 0, NULL, 0, out, ARVUMNAO_OUT);
     expect("read into nothing", out[0] == ARVUMNAO_SHORT_TABLE && out[1] == 1);
     arvumnao_write(NULL, 0, NULL, 0, NULL, 0, out, ARVUMNAO_OUT);
     expect("write of nothing", out[0] == ARVUMNAO_BAD_TABLE && out[1] == 5);
@@ -167,21 +196,29 @@ static void empty(void)
     expect("uses without counts", arvumnao_uses_add(NULL, 0, NULL, 0, NULL, 0, NULL, 0, NULL, 0, 0, NULL, 0, out, ARVUMNAO_OUT) == 0
            && arvumnao_uses_write(NULL, 0, NULL, 0, NULL, 0, NULL, 0, NULL, 0, 0, NULL, 0, out, ARVUMNAO_OUT) == 0);
     expect("price without out", arvumnao_price(0, 0, 0, 1, 1, NULL, 0) == 0);
+    expect("timed price without out", arvumnao_timed_price(0, 0, 0, 1, 1, 0, 0, NULL, 0) == 0);
     expect("write without out", arvumnao_write(NULL, 0, NULL, 0, NULL, 0, NULL, 0) == 0);
+}
+
+/* The calls on the job of the text. */
+static void measure_all(int timed)
+{
+    measure(timed ? "timed read" : "read", call_read, 0);
+    /* in one iteration, nets that meet on the last sources don't settle */
+    measure(timed ? "timed route" : "route", call_route, ARVUMNAO_LIMIT_REACHED);
+    words = (size_t)out[ARVUMNAO_ROUTE_WORDS];
+    uint64_t turns = out[ARVUMNAO_ROUTE_TURNS];
+    measure(timed ? "timed resume" : "resume", call_resume, ARVUMNAO_LIMIT_REACHED);
+    expect("turns of both runs", out[ARVUMNAO_RESUME_TURNS] > turns);
 }
 
 int main(void)
 {
-    make_text();
+    make_text(0);
     empty();
     for (int v = 0; v < NODES; v++)
         history[v] = 101179, others[v] = 511, in_tree[v] = v == 0;
-    measure("read", call_read, 0);
-    /* in one iteration, nets that meet on the last sources don't settle */
-    measure("route", call_route, ARVUMNAO_LIMIT_REACHED);
-    words = (size_t)out[ARVUMNAO_ROUTE_WORDS];
-    measure("resume", call_resume, ARVUMNAO_LIMIT_REACHED);
-    expect("turns of both runs", out[ARVUMNAO_RESUME_TURNS] > SINKS);
+    measure_all(0);
     measure("write", call_write, 0);
     measure("dot", call_dot, 0);
     measure("uses_add", call_uses_add, 0);
@@ -189,5 +226,11 @@ int main(void)
     expect("text within ARVUMNAO_USES_BYTES", out[ARVUMNAO_USES_WRITE_BYTES] <= ARVUMNAO_USES_BYTES);
     measure("search", call_search, 0);
     measure("price", call_price, 0);
+    make_text(1);
+    measure_all(1);
+    for (int v = 0; v < TIMED_NODES; v++)
+        history[v] = 39859;
+    measure("timed search", call_timed_search, 0);
+    measure("timed price", call_timed_price, 0);
     return 0;
 }

@@ -10,8 +10,7 @@ use borrow.Author.Tests.{lt-ltb, le-ltb}
 use Rattle.price.specs.Replies as p
 use Rattle.price.specs.declared.PriceAnswer.{PriceAnswer}
 use Rattle.search.specs.Block.{Block}
-use Rattle.search.specs.Turn.{Congestion}
-use Rattle.search.specs.Replies.{searchRefusal, searchReply, searchReplyOf}
+use Rattle.search.specs.Replies.{SearchReply, searchRefusal, searchReplyOf}
 use Rattle.search.specs.declared.SearchAnswer.{SearchAnswer}
 use Rattle.negotiation.specs.Outcome.{RouteReply, routeRefusal, routeReplyOf}
 use Rattle.negotiation.specs.declared.RouteAnswer.{RouteAnswer}
@@ -22,7 +21,7 @@ use Rattle.uses.specs.Uses.{kindCount, countsOf, AddReply, addRefusal, addReply
 use Rattle.uses.specs.declared.AddAnswer.{AddAnswer}
 use Rattle.uses.specs.declared.AddAnswer.the-variants as a
 use Rattle.uses.proofs.UsesHold.{counts-long}
-use Rattle.capi.specs.Calls.{Call, callOf, outWith, priceCall, searchDone, searchCall, routeDone, routedCall, readDone, readCall, WriteCall, writeDone, writtenCall}
+use Rattle.capi.specs.Calls.{Call, callOf, outWith, pricedCall, searchDone, searchedCall, routeDone, routedCall, readDone, readCall, WriteCall, writeDone, writtenCall}
 use Rattle.capi.specs.Calls.{addDone, logsAdded, logsReturned, addCall, usesCall}
 
 -- ---- numbers in `out`: stores over 16 entries of 0
@@ -33,37 +32,37 @@ pub six-put :
     ≡ outWith (number ∷ first ∷ second ∷ []) (a ∷ b ∷ c ∷ []) out
 six-put out start number first second a b c h = rw h
 
-pub eleven-put :
-    (out start : List ℕ) (a b c d e f g h i k l : ℕ) → start ≡ replicate 16 0 ++ drop 16 out
-    → set (set (set (set (set (set (set (set (set (set (set start 3 a) 4 b) 5 c) 6 d) 7 e) 8 f) 9 g) 10 h) 11 i) 12 k) 13 l
-    ≡ outWith [] (a ∷ b ∷ c ∷ d ∷ e ∷ f ∷ g ∷ h ∷ i ∷ k ∷ l ∷ []) out
-eleven-put out start a b c d e f g h i k l cleared = rw cleared
+pub twelve-put :
+    (out start : List ℕ) (a b c d e f g h i k l m t : ℕ) → start ≡ replicate 16 0 ++ drop 16 out → m ≡ t
+    → set (set (set (set (set (set (set (set (set (set (set (set start 3 a) 4 b) 5 c) 6 d) 7 e) 8 f) 9 g) 10 h) 11 i) 12 k) 13 l) 14 m
+    ≡ outWith [] (a ∷ b ∷ c ∷ d ∷ e ∷ f ∷ g ∷ h ∷ i ∷ k ∷ l ∷ t ∷ []) out
+twelve-put out start a b c d e f g h i k l m t cleared told = rw (cleared, told)
 
 -- ---- the price
 
-module _ (kind factor others capacity history : ℕ) (out : List ℕ) where
-  pub price-short : length out < 16 → callOf 0 out ≡ priceCall kind factor others capacity history out
-  unfolding priceCall
+module _ (reply : p.PriceReply) (out : List ℕ) where
+  pub price-short : length out < 16 → callOf 0 out ≡ pricedCall reply out
+  unfolding pricedCall
   price-short h = rw (lt-ltb (length out) 16 h)
 
   -- the price answered `r`, whose numbers were written; so of each call below
   pub price-called :
-      (call : Call) (r : PriceAnswer) → 16 ≤ length out → p.priceReplyOf r ≡ p.priceReply kind factor others capacity history
-      → call ≡ callOf 1 (outWith (p.priceReplyOf r .refusal) (p.priceReplyOf r .price ∷ []) out) → call ≡ priceCall kind factor others capacity history out
-  unfolding priceCall
+      (call : Call) (r : PriceAnswer) → 16 ≤ length out → p.priceReplyOf r ≡ reply
+      → call ≡ callOf 1 (outWith (p.priceReplyOf r .refusal) (p.priceReplyOf r .price ∷ []) out) → call ≡ pricedCall reply out
+  unfolding pricedCall
   price-called call r h answers put = rw (le-ltb (length out) 16 h, ← answers) put
 
 -- ---- the search
 
-module _ (b : Block) (c : Congestion) (marks work out : List ℕ) where
-  pub search-short : length out < 16 → searchDone (callOf 0 out) work ≡ searchCall b c marks work out
-  unfolding searchCall
+module _ (reply : SearchReply) (work out : List ℕ) where
+  pub search-short : length out < 16 → searchDone (callOf 0 out) work ≡ searchedCall reply work out
+  unfolding searchedCall
   search-short h = rw (lt-ltb (length out) 16 h)
 
   pub search-called :
-      (left : List ℕ) (call : Call) (r : SearchAnswer) → 16 ≤ length out → searchReplyOf r left ≡ searchReply b c marks work
-      → call ≡ callOf 1 (outWith (searchRefusal r) [] out) → searchDone call left ≡ searchCall b c marks work out
-  unfolding searchCall
+      (left : List ℕ) (call : Call) (r : SearchAnswer) → 16 ≤ length out → searchReplyOf r left ≡ reply
+      → call ≡ callOf 1 (outWith (searchRefusal r) [] out) → searchDone call left ≡ searchedCall reply work out
+  unfolding searchedCall
   search-called left call r h answers put = rw (le-ltb (length out) 16 h, ← answers, put)
 
 -- ---- the router

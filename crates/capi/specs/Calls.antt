@@ -6,9 +6,10 @@ use lib.Dec.{leb, ltb}
 use lib.ListN.{length, getD, take, drop, replicate}
 use Rattle.price.specs.Test.{choose}
 use Rattle.price.specs.Replies as p
+use Rattle.price.specs.Timed.{timedReply}
 use Rattle.search.specs.Block.{Block}
 use Rattle.search.specs.Turn.{Congestion}
-use Rattle.search.specs.Replies.{SearchReply, searchReply}
+use Rattle.search.specs.Replies.{SearchReply, searchReply, timedSearchReply}
 use Rattle.job.specs.Job.{Job}
 use Rattle.job.specs.declared.Terms.{Terms}
 use Rattle.negotiation.specs.Outcome.{RouteReply, routeReply}
@@ -43,9 +44,16 @@ callOf returned out = record { returned = returned; out = out }
 abbrev pub priceCallWith : p.PriceReply → List ℕ → Call
 priceCallWith r out = callOf 1 (outWith (r .refusal) (r .price ∷ []) out)
 
-unfoldable pub priceCall : ℕ → ℕ → ℕ → ℕ → ℕ → List ℕ → Call
-priceCall kind factor others capacity history out =
-    choose (ltb (length out) 16) (callOf 0 out) (priceCallWith (p.priceReply kind factor others capacity history) out)
+unfoldable pub pricedCall : p.PriceReply → List ℕ → Call
+pricedCall reply out = choose (ltb (length out) 16) (callOf 0 out) (priceCallWith reply out)
+
+abbrev pub priceCall : ℕ → ℕ → ℕ → ℕ → ℕ → List ℕ → Call
+priceCall kind factor others capacity history out = pricedCall (p.priceReply kind factor others capacity history) out
+
+-- timed_price: the same for a sink of a timed job
+abbrev pub timedPriceCall : ℕ → ℕ → ℕ → ℕ → ℕ → ℕ → ℕ → List ℕ → Call
+timedPriceCall kind factor others capacity history delay criticality out =
+    pricedCall (timedReply kind factor others capacity history delay criticality) out
 
 -- search, with the work slice afterwards
 pub record SearchCall : Type 0 where
@@ -58,12 +66,18 @@ searchDone call work = record { call = call; work = work }
 abbrev pub searchCallWith : SearchReply → List ℕ → SearchCall
 searchCallWith r out = searchDone (callOf 1 (outWith (r .refusal) [] out)) (r .work)
 
-unfoldable pub searchCall : Block → Congestion → List ℕ → List ℕ → List ℕ → SearchCall
-searchCall b c marks work out =
-    choose (ltb (length out) 16) (searchDone (callOf 0 out) work) (searchCallWith (searchReply b c marks work) out)
+unfoldable pub searchedCall : SearchReply → List ℕ → List ℕ → SearchCall
+searchedCall reply work out = choose (ltb (length out) 16) (searchDone (callOf 0 out) work) (searchCallWith reply out)
 
--- the terms of a job as one slice: 0 limit, 1 first, 2 up, 3 down, 4 step, 5 rule, 6 k. An entry that the slice lacks has its plain
--- value: no limit, which is below the least, and what holds without a P or a V line. Further entries aren't read
+abbrev pub searchCall : Block → Congestion → List ℕ → List ℕ → List ℕ → SearchCall
+searchCall b c marks work out = searchedCall (searchReply b c marks work) work out
+
+-- timed_search: the same for a sink of a timed job
+abbrev pub timedSearchCall : Block → Congestion → List ℕ → List ℕ → List ℕ → SearchCall
+timedSearchCall b c marks work out = searchedCall (timedSearchReply b c marks work) work out
+
+-- the terms of a job as one slice: 0 limit, 1 first, 2 up, 3 down, 4 step, 5 rule, 6 k, 7 timed where it isn't 0. An entry that the slice
+-- lacks has its plain value: no limit, which is below the least, and what holds without a P, V or W line. Further entries aren't read
 abbrev pub termsOf : List ℕ → Terms
 termsOf ts =
     record {
@@ -71,6 +85,7 @@ termsOf ts =
       tuning = record { first = getD ts 1 50; up = getD ts 2 3; down = getD ts 3 2; step = getD ts 4 1 };
       rule = getD ts 5 1;
       until = getD ts 6 1;
+      timed = leb 1 (getD ts 7 0);
     }
 
 -- route: 3 iteration, 4 turns, 5 words
@@ -95,7 +110,7 @@ routeCall j work log out = routedCall (routeReply j work log) work log out
 abbrev pub resumeCall : Job → ℕ → List ℕ → List ℕ → List ℕ → RouteCall
 resumeCall j used work log out = routedCall (resumeReply j used work log) work log out
 
--- read: 3 nodes, 4 edges, 5 nets, 6 sinks, 7 limit, 8 first, 9 up, 10 down, 11 step, 12 rule, 13 k
+-- read: 3 nodes, 4 edges, 5 nets, 6 sinks, 7 limit, 8 first, 9 up, 10 down, 11 step, 12 rule, 13 k, 14 timed
 pub record ReadCall : Type 0 where
   pub call : Call
   pub tables : Tables

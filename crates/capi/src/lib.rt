@@ -2,10 +2,11 @@
 ghost use mathlib.Core.Path.{_≡_};
 ghost use lib.ListN.{getD};
 ghost use Rattle.search.specs.Block.{blockOf};
-ghost use Rattle.search.specs.Turn.{congestionOf};
+ghost use Rattle.search.specs.Turn.{congestionOf, timedCongestion};
 ghost use Rattle.job.specs.Job.{jobOf};
 ghost use Rattle.text.specs.ReadReplies.{tablesOf};
-ghost use Rattle.capi.specs.Calls.{callOf, priceCall, searchDone, searchCall, termsOf, routeDone, routeCall, resumeCall};
+ghost use Rattle.capi.specs.Calls.{callOf, priceCall, timedPriceCall, searchDone, searchCall, timedSearchCall};
+ghost use Rattle.capi.specs.Calls.{termsOf, routeDone, routeCall, resumeCall};
 ghost use Rattle.capi.specs.Calls.{readDone, readCall, writeDone, writtenCall, writeCall, dotCall};
 ghost use Rattle.capi.specs.Calls.{addDone, addCall, usesCall};
 ghost use Rattle.text.specs.Dot.{styleReply};
@@ -35,6 +36,28 @@ pub extern "C" fn arvumnao_price(
         return 0;
     }
     out::put_price(price::price(kind, factor, others, capacity, history), out)
+}
+
+// The price of a node for a sink of a timed job.
+#[no_mangle]
+pub extern "C" fn arvumnao_timed_price(
+    kind: u32,
+    factor: u32,
+    others: u32,
+    capacity: u32,
+    history: u32,
+    delay: u32,
+    criticality: u32,
+    out: &mut [u64],
+) -> u32
+    ensures { λ r. ⌜ callOf r (now (out .exit))
+        ≡ timedPriceCall kind factor others capacity history delay criticality (now (out .entry)) ⌝ }
+{
+    if out.len() < OUT_ENTRIES {
+        return 0;
+    }
+    let answer = price::timed_price(kind, factor, others, capacity, history, delay, criticality);
+    out::put_price(answer, out)
 }
 
 // The distances of all nodes from the marked ones.
@@ -74,6 +97,47 @@ pub extern "C" fn arvumnao_search(
     out::put_search(answer, out)
 }
 
+// The same by the prices for a sink of a timed job.
+#[no_mangle]
+pub extern "C" fn arvumnao_timed_search(
+    kind: &[u8],
+    capacity: &[u8],
+    first_edge: &[u32],
+    edge_target: &[u16],
+    delay: &[u16],
+    factor: u32,
+    criticality: u32,
+    work: &mut [u64],
+    history: &[u32],
+    others: &[u16],
+    in_tree: &[u8],
+    out: &mut [u64],
+) -> u32
+    ensures { λ r. do
+      let block = blockOf (now (kind .entry)) (now (capacity .entry)) (now («first_edge» .entry)) (now («edge_target» .entry))
+      let congestion = timedCongestion criticality (now (delay .entry)) factor (now (history .entry)) (now (others .entry))
+      ⌜ searchDone (callOf r (now (out .exit))) (now (work .exit))
+          ≡ timedSearchCall block congestion (now («in_tree» .entry)) (now (work .entry)) (now (out .entry)) ⌝ }
+{
+    if out.len() < OUT_ENTRIES {
+        return 0;
+    }
+    let answer = search::timed_search(
+        kind,
+        capacity,
+        first_edge,
+        edge_target,
+        delay,
+        factor,
+        criticality,
+        work,
+        history,
+        others,
+        in_tree,
+    );
+    out::put_search(answer, out)
+}
+
 // The entry at this place of the terms, or its plain value where the slice is shorter.
 fn entry_or(terms: &[u32], place: usize, plain: u32) -> u32
     ensures { λ r. ⌜ r ≡ getD (now (terms .entry)) place plain ⌝ }
@@ -84,7 +148,8 @@ fn entry_or(terms: &[u32], place: usize, plain: u32) -> u32
     terms[place]
 }
 
-// The terms of a job, of a slice of plain numbers: limit, first, up, down, step, rule and the last iteration before rule 2 is followed.
+// The terms of a job, of a slice of plain numbers: limit, first, up, down, step, rule, the last iteration before rule 2 is followed, and
+// whether it is timed.
 fn terms_of(terms: &[u32]) -> Terms
     ensures { λ r. ⌜ r ≡ termsOf (now (terms .entry)) ⌝ }
 {
@@ -99,6 +164,7 @@ fn terms_of(terms: &[u32]) -> Terms
         tuning: tuning,
         rule: entry_or(terms, 5, 1),
         until: entry_or(terms, 6, 1),
+        timed: 1 <= entry_or(terms, 7, 0),
     }
 }
 
@@ -112,6 +178,8 @@ pub extern "C" fn arvumnao_route(
     source: &[u16],
     first_sink: &[u32],
     sink: &[u16],
+    delay: &[u16],
+    criticality: &[u8],
     terms: &[u32],
     work: &mut [u64],
     log: &mut [u32],
@@ -119,7 +187,8 @@ pub extern "C" fn arvumnao_route(
 ) -> u32
     ensures { λ r. do
       let job = jobOf (now (kind .entry)) (now (capacity .entry)) (now («first_edge» .entry)) (now («edge_target» .entry))
-          (now (source .entry)) (now («first_sink» .entry)) (now (sink .entry)) (termsOf (now (terms .entry)))
+          (now (source .entry)) (now («first_sink» .entry)) (now (sink .entry)) (now (delay .entry)) (now (criticality .entry))
+          (termsOf (now (terms .entry)))
       ⌜ routeDone (callOf r (now (out .exit))) (now (work .exit)) (now (log .exit))
           ≡ routeCall job (now (work .entry)) (now (log .entry)) (now (out .entry)) ⌝ }
 {
@@ -135,6 +204,8 @@ pub extern "C" fn arvumnao_route(
         source,
         first_sink,
         sink,
+        delay,
+        criticality,
         asked,
         work,
         log,
@@ -152,6 +223,8 @@ pub extern "C" fn arvumnao_resume(
     source: &[u16],
     first_sink: &[u32],
     sink: &[u16],
+    delay: &[u16],
+    criticality: &[u8],
     terms: &[u32],
     used: u64,
     work: &mut [u64],
@@ -160,7 +233,8 @@ pub extern "C" fn arvumnao_resume(
 ) -> u32
     ensures { λ r. do
       let job = jobOf (now (kind .entry)) (now (capacity .entry)) (now («first_edge» .entry)) (now («edge_target» .entry))
-          (now (source .entry)) (now («first_sink» .entry)) (now (sink .entry)) (termsOf (now (terms .entry)))
+          (now (source .entry)) (now («first_sink» .entry)) (now (sink .entry)) (now (delay .entry)) (now (criticality .entry))
+          (termsOf (now (terms .entry)))
       ⌜ routeDone (callOf r (now (out .exit))) (now (work .exit)) (now (log .exit))
           ≡ resumeCall job used (now (work .entry)) (now (log .entry)) (now (out .entry)) ⌝ }
 {
@@ -176,6 +250,8 @@ pub extern "C" fn arvumnao_resume(
         source,
         first_sink,
         sink,
+        delay,
+        criticality,
         asked,
         used,
         work,
@@ -184,7 +260,7 @@ pub extern "C" fn arvumnao_resume(
     out::put_routed(r, out)
 }
 
-// Reads a job text into the seven tables.
+// Reads a job text into the seven tables, and into tables 9 and 10 where it is timed.
 #[no_mangle]
 pub extern "C" fn arvumnao_read(
     text: &[u8],
@@ -195,13 +271,15 @@ pub extern "C" fn arvumnao_read(
     source: &mut [u16],
     first_sink: &mut [u32],
     sink: &mut [u16],
+    delay: &mut [u16],
+    criticality: &mut [u8],
     out: &mut [u64],
 ) -> u32
     ensures { λ r. do
       let tables = tablesOf (now (kind .entry)) (now (capacity .entry)) (now («first_edge» .entry)) (now («edge_target» .entry))
-          (now (source .entry)) (now («first_sink» .entry)) (now (sink .entry))
+          (now (source .entry)) (now («first_sink» .entry)) (now (sink .entry)) (now (delay .entry)) (now (criticality .entry))
       let left = tablesOf (now (kind .exit)) (now (capacity .exit)) (now («first_edge» .exit)) (now («edge_target» .exit))
-          (now (source .exit)) (now («first_sink» .exit)) (now (sink .exit))
+          (now (source .exit)) (now («first_sink» .exit)) (now (sink .exit)) (now (delay .exit)) (now (criticality .exit))
       ⌜ readDone (callOf r (now (out .exit))) left ≡ readCall (now (text .entry)) tables (now (out .entry)) ⌝ }
 {
     if out.len() < OUT_ENTRIES {
@@ -216,6 +294,8 @@ pub extern "C" fn arvumnao_read(
         source,
         first_sink,
         sink,
+        delay,
+        criticality,
     );
     out::put_read(answer, out)
 }

@@ -3,6 +3,7 @@ ghost use mathlib.Core.List.{[], _∷_, _++_};
 ghost use mathlib.Core.Path.{_≡_};
 ghost use Prim.Native.Nat.{_≤_};
 ghost use lib.ListN.{length, drop, replicate};
+ghost use Rattle.price.specs.Test.{choose};
 ghost use Rattle.price.specs.Replies.{priceReplyOf};
 ghost use Rattle.search.specs.Replies.{searchRefusal};
 ghost use Rattle.negotiation.specs.Outcome.{routeRefusal};
@@ -75,6 +76,7 @@ pub fn put_search(answer: SearchAnswer, out: &mut [u64]) -> u32
         SearchAnswer::BadTable(table) => put_numbers(out, 5, table as u64, 0, 0, 0, 0),
         SearchAnswer::ShortWork(needed) => put_numbers(out, 6, needed, 0, 0, 0, 0),
         SearchAnswer::BadNumber(place) => put_numbers(out, 13, place as u64, 0, 0, 0, 0),
+        SearchAnswer::TooLarge(nodes) => put_numbers(out, 15, nodes as u64, 0, 0, 0, 0),
     }
 }
 
@@ -100,7 +102,17 @@ pub fn put_routed(r: RouteAnswer, out: &mut [u64]) -> u32
         Outcome::BadTable(table) => put_numbers(out, 5, table as u64, 0, i, turns, used),
         Outcome::ShortWork(needed) => put_numbers(out, 6, needed, 0, i, turns, used),
         Outcome::Diverges(word) => put_numbers(out, 14, word, 0, i, turns, used),
+        Outcome::TooLarge { nodes, limit } => {
+            put_numbers(out, 15, nodes as u64, limit as u64, i, turns, used)
+        }
     }
+}
+
+// 1 for true, 0 for false.
+fn one_if(test: bool) -> u64
+    ensures { λ r. ⌜ r ≡ choose test 1 0 ⌝ }
+{
+    if test { 1 } else { 0 }
 }
 
 // Writes the counts of a job that was read and its terms, and answers 1.
@@ -129,6 +141,7 @@ fn put_job(
     out[11] = terms.tuning.step as u64;
     out[12] = terms.rule as u64;
     out[13] = terms.until as u64;
+    out[14] = one_if(terms.timed);
     1
 }
 
@@ -151,6 +164,9 @@ pub fn put_read(answer: ReadAnswer, out: &mut [u64]) -> u32
             put_numbers(out, number as u64, line as u64, 0, 0, 0, 0)
         }
         ReadAnswer::ShortTable(table) => put_numbers(out, 4, table as u64, 0, 0, 0, 0),
+        ReadAnswer::TooLarge { nodes, limit } => {
+            put_numbers(out, 15, nodes as u64, limit as u64, 0, 0, 0)
+        }
     }
 }
 

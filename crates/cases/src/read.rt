@@ -316,6 +316,25 @@ pub fn entries(case: &[u8], number: usize, into: &mut [u64]) -> usize
     k
 }
 
+// The list of a line that a case may leave out: none where it isn't there.
+pub fn bytes_if(there: bool, case: &[u8], number: usize, into: &mut [u8]) -> usize
+    ensures { λ r. ⌜ Counts r (now (into .exit)) ⌝ }
+{
+    if there {
+        return bytes(case, number, into);
+    }
+    0
+}
+
+pub fn halves_if(there: bool, case: &[u8], number: usize, into: &mut [u16]) -> usize
+    ensures { λ r. ⌜ Counts r (now (into .exit)) ⌝ }
+{
+    if there {
+        return halves(case, number, into);
+    }
+    0
+}
+
 // The text of the case's line of this number: how many bytes it has.
 pub fn text(case: &[u8], number: usize, into: &mut [u8]) -> usize
     ensures { λ r. ⌜ Counts r (now (into .exit)) ⌝ }

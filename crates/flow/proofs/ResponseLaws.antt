@@ -10,9 +10,9 @@ use lib.Dec.{leb, ltb}
 use lib.ListN.{length, take, drop, length-append}
 use Rattle.price.specs.Bounds.{nodesMost}
 use Rattle.price.proofs.TestLaws.{either-way}
-use Rattle.job.specs.Job.{Job}
+use Rattle.job.specs.Job.{Job, nodes}
 use Rattle.negotiation.specs.Records.{decode}
-use Rattle.job.specs.Tables.{sourcesSound}
+use Rattle.job.specs.Tables.{sourcesSound, exceeds}
 use Rattle.negotiation.specs.Outcome.{RouteReply, routeReply}
 use Rattle.text.specs.Lines.{letterX, printLine}
 use Rattle.text.specs.JobText.{Part, part, stopped, readText}
@@ -61,8 +61,12 @@ run-of-fits style (part j at rest) l =
     ⊎-elim
     (λ (e : leb 1 (shortTable j (l .tables)) ≡ true). rw e zero-le)
     (λ (e : leb 1 (shortTable j (l .tables)) ≡ false).
-    rw e
+    ⊎-elim
+    (λ (x : exceeds (nodes j) (j .terms) ≡ true). rw (e, x) zero-le)
+    (λ (x : exceeds (nodes j) (j .terms) ≡ false).
+    rw (e, x)
     (after-fits style (routeReply j (l .work) (l .log) .refusal) (j .sources) (tablesWith j (l .tables)) (routeReply j (l .work) (l .log)) (l .routes)))
+    (either-way (exceeds (nodes j) (j .terms))))
     (either-way (leb 1 (shortTable j (l .tables))))
 
 line-fits : (numbers : List ℕ) (l : Lent) → lineResponse (refusalLine numbers (l .routes)) l .bytes ≤ length (lineResponse (refusalLine numbers (l .routes)) l .lent .routes)

@@ -1,22 +1,23 @@
 -- From a job text to its routes text: the words used fit the log, the counts mark out the job in the tables, and each answer is the reply.
 -- Assumes nothing.
-use mathlib.Core.Bool.{true, false}
+use mathlib.Core.Bool.{Bool, true, false}
 use mathlib.Core.List.{List, [], _∷_}
 use mathlib.Core.Logic.{⊎-elim}
 use mathlib.Core.Path.{_≡_, refl, sym, _∙_, ap, subst}
 use Prim.Native.Nat.{ℕ, _+_, _≤_, _<_, zero-le}
 use native.Mathlib.Omega.{arith}
-use lib.Dec.{leb, ltb}
+use lib.Dec.{leb, ltb, eqb}
 use lib.ListN.{length, getD, take, drop, length-append}
 use lib.Seq.{take-at}
 use borrow.Author.Tests.{lt-ltb, le-ltb}
+use Rattle.price.specs.Test.{choose}
 use Rattle.price.specs.Bounds.{nodesMost}
 use Rattle.price.proofs.TestLaws.{either-way}
 use Rattle.search.specs.Replies.{workNeeded}
 use Rattle.search.proofs.BlockLaws.{kinds-few, capacities-long}
 use Rattle.search.proofs.BlockLaws as block
-use Rattle.job.specs.Tables.{netsMost, faultyJob, SoundJob}
-use Rattle.job.specs.Job.{Job, jobOf, nodes, nets}
+use Rattle.job.specs.Tables.{netsMost, faultyJob, exceeds, SoundJob}
+use Rattle.job.specs.Job.{Job, jobOf, ifTimed, nodes, nets}
 use Rattle.job.specs.Join.{joined}
 use Rattle.negotiation.specs.Records.{Record, encode}
 use Rattle.negotiation.specs.Machine.{Progress}
@@ -25,9 +26,11 @@ use Rattle.negotiation.specs.declared.RouteAnswer.{RouteAnswer}
 use Rattle.job.specs.declared.Terms.{Terms}
 use Rattle.negotiation.specs.declared.Outcome.{Outcome}
 use Rattle.negotiation.specs.declared.Outcome.the-variants.{Accepted}
+use Rattle.negotiation.specs.Routable.{Routable}
 use Rattle.negotiation.proofs.RoutableLaws.{routable-of}
 use Rattle.job.proofs.JobLaws as job
 use Rattle.text.specs.JobText.{Part, part, stopped, readText}
+use Rattle.text.specs.Printed.{PrintedAs}
 use Rattle.text.specs.ReadReplies.{Tables, shortTable, writtenOver, tablesWith, ReadReply, notRead, termsNumbers, jobNumbers, storedReply, replyTo, readReply}
 use Rattle.text.specs.Routes.{WriteReply}
 use Rattle.text.specs.Dot.{styleReply}
@@ -63,13 +66,17 @@ used-fits j work log =
     (λ (t : leb 1 (faultyJob j) ≡ true). rw t zero-le)
     (λ (t : leb 1 (faultyJob j) ≡ false).
     ⊎-elim
-    (λ (u : ltb (length work) (workNeeded (nodes j)) ≡ true). rw (t, u) zero-le)
+    (λ (x : exceeds (nodes j) (j .terms) ≡ true). rw (t, x) zero-le)
+    (λ (x : exceeds (nodes j) (j .terms) ≡ false).
+    ⊎-elim
+    (λ (u : ltb (length work) (workNeeded (nodes j)) ≡ true). rw (t, x, u) zero-le)
     (λ (u : ltb (length work) (workNeeded (nodes j)) ≡ false).
     ⊎-elim
-    (λ (v : ltb (unreachableNet (joined j)) (nets j) ≡ true). rw (t, u, v) zero-le)
-    (λ (v : ltb (unreachableNet (joined j)) (nets j) ≡ false). rw (t, u, v) (run-fits (joined j) (begun (joined j)) work log))
+    (λ (v : ltb (unreachableNet (joined j)) (nets j) ≡ true). rw (t, x, u, v) zero-le)
+    (λ (v : ltb (unreachableNet (joined j)) (nets j) ≡ false). rw (t, x, u, v) (run-fits (joined j) (begun (joined j)) work log))
     (either-way (ltb (unreachableNet (joined j)) (nets j))))
     (either-way (ltb (length work) (workNeeded (nodes j)))))
+    (either-way (exceeds (nodes j) (j .terms))))
     (either-way (leb 1 (faultyJob j)))
 
 module _ (j : Job) (work log : List ℕ) (r : RouteAnswer) (work′ log′ : List ℕ) (is : routeReplyOf r work′ log′ ≡ routeReply j work log) where
@@ -116,9 +123,15 @@ refused-of style (part j at rest) k ks t t′ work log routes e =
     let short : notRead (k ∷ ks) t′ ≡ notRead (4 ∷ shortTable j t ∷ []) t = rw h at e in
     rw h (ap (λ (x : ReadReply). runReplyWith (x .refusal) 0 (lentOf (x .tables) work log routes)) short))
     (λ (h : leb 1 (shortTable j t) ≡ false).
-    let none : (k ∷ ks) ≡ [] = ap (λ (x : ReadReply). x .refusal) (rw h at e) in
+    ⊎-elim
+    (λ (x : exceeds (nodes j) (j .terms) ≡ true).
+    let large : notRead (k ∷ ks) t′ ≡ notRead (15 ∷ nodes j ∷ j .terms .limit ∷ []) t = rw (h, x) at e in
+    rw (h, x) (ap (λ (y : ReadReply). runReplyWith (y .refusal) 0 (lentOf (y .tables) work log routes)) large))
+    (λ (x : exceeds (nodes j) (j .terms) ≡ false).
+    let none : (k ∷ ks) ≡ [] = ap (λ (y : ReadReply). y .refusal) (rw (h, x) at e) in
     let z : _≡_ {A = ℕ} 0 1 = cc in
     absurd (omega arith))
+    (either-way (exceeds (nodes j) (j .terms))))
     (either-way (leb 1 (shortTable j t)))
 
 pub read-refused :
@@ -133,7 +146,8 @@ readTaken numbers t = record { refusal = []; numbers = numbers; tables = t }
 
 taken-of :
     (p : Part Job) (numbers : List ℕ) (t t′ : Tables) → readTaken numbers t′ ≡ replyTo p t
-    → (j : Job) × (at : ℕ) × (rest : List ℕ) × (p ≡ part j at rest) × (leb 1 (shortTable j t) ≡ false) × (jobNumbers j ≡ numbers) × (tablesWith j t ≡ t′)
+    → (j : Job) × (at : ℕ) × (rest : List ℕ) × (p ≡ part j at rest) × (leb 1 (shortTable j t) ≡ false) × (exceeds (nodes j) (j .terms) ≡ false)
+    × (jobNumbers j ≡ numbers) × (tablesWith j t ≡ t′)
 unfolding storedReply
 taken-of (stopped k at) numbers t t′ e =
     let none : [] ≡ (k ∷ at ∷ []) = ap (λ (x : ReadReply). x .refusal) e in
@@ -146,15 +160,23 @@ taken-of (part j at rest) numbers t t′ e =
     let z : _≡_ {A = ℕ} 0 1 = cc in
     absurd (omega arith))
     (λ (h : leb 1 (shortTable j t) ≡ false).
-    let same : readTaken numbers t′ ≡ readTaken (jobNumbers j) (tablesWith j t) = rw h at e in (
+    ⊎-elim
+    (λ (x : exceeds (nodes j) (j .terms) ≡ true).
+    let none : [] ≡ (15 ∷ nodes j ∷ j .terms .limit ∷ []) = ap (λ (y : ReadReply). y .refusal) (rw (h, x) at e) in
+    let z : _≡_ {A = ℕ} 0 1 = cc in
+    absurd (omega arith))
+    (λ (x : exceeds (nodes j) (j .terms) ≡ false).
+    let same : readTaken numbers t′ ≡ readTaken (jobNumbers j) (tablesWith j t) = rw (h, x) at e in (
       j,
       at,
       rest,
       refl,
       h,
-      sym (ap (λ (x : ReadReply). x .numbers) same),
-      sym (ap (λ (x : ReadReply). x .tables) same),
+      x,
+      sym (ap (λ (y : ReadReply). y .numbers) same),
+      sym (ap (λ (y : ReadReply). y .tables) same),
     ))
+    (either-way (exceeds (nodes j) (j .terms))))
     (either-way (leb 1 (shortTable j t)))
 
 -- what the counts mark out in the tables afterwards: each part is within its table, and together they are the job that is run
@@ -168,11 +190,14 @@ pub record Taken (style : Style) (text : List ℕ) (n edges m count : ℕ) (term
   pub sources-fit : m ≤ length (t′ .sources)
   pub first-sinks-fit : m + 1 ≤ length (t′ .firstSinks)
   pub sinks-fit : count ≤ length (t′ .sinks)
+  pub delays-fit : (d : ℕ) → d ≡ choose (terms .timed) n 0 → d ≤ length (t′ .delays)
+  pub criticalities-fit : (k : ℕ) → k ≡ choose (terms .timed) count 0 → k ≤ length (t′ .criticalities)
   pub runs :
-      (work log routes : List ℕ)
+      (d k : ℕ) → d ≡ choose (terms .timed) n 0 → k ≡ choose (terms .timed) count 0 → (work log routes : List ℕ)
       → routeRun style
       (jobOf (take n (t′ .kinds)) (take n (t′ .capacities)) (take (n + 1) (t′ .firstEdges)) (take edges (t′ .edgeTargets))
-      (take m (t′ .sources)) (take (m + 1) (t′ .firstSinks)) (take count (t′ .sinks)) terms)
+      (take m (t′ .sources)) (take (m + 1) (t′ .firstSinks)) (take count (t′ .sinks))
+      (take d (t′ .delays)) (take k (t′ .criticalities)) terms)
       t′ work log routes
       ≡ runReply style text (lentOf t work log routes)
 
@@ -184,19 +209,34 @@ module _ (new old : List ℕ) (n : ℕ) (long : length new ≡ n) where
   unfolding writtenOver
   over-part = take-at new (drop (length new) old) n long
 
+-- a table that timed jobs alone have, of a job that was read: so many entries, which are all that is read
+if-timed :
+    (terms : Terms) (table : List ℕ) (n : ℕ) → (terms .timed ≡ true → length table ≡ n) → (terms .timed ≡ false → table ≡ [])
+    → (length table ≡ choose (terms .timed) n 0) × (ifTimed terms table ≡ table)
+if-timed terms table n long none =
+    ⊎-elim
+    (λ (e : terms .timed ≡ true). rw e (long e, refl))
+    (λ (e : terms .timed ≡ false). rw (e, none e) (refl, refl))
+    (either-way (terms .timed))
+
 job-taken :
     (style : Style) (text : List ℕ) (t : Tables) (j : Job) (at : ℕ) (rest : List ℕ) → readText text ≡ part j at rest → leb 1 (shortTable j t) ≡ false
+    → exceeds (nodes j) (j .terms) ≡ false
     → Taken style text (nodes j) (length (j .block .edgeTargets)) (nets j) (length (j .sinks)) (j .terms) t (tablesWith j t)
 unfolding tablesWith runReply
-job-taken style text t j at rest is long =
+job-taken style text t j at rest is long within =
     let s : SoundJob j = accepted-printed text j at rest is .0 in
+    let form : PrintedAs text j = accepted-printed text j at rest is .1 in
     let capacities-are : length (j .block .capacities) ≡ nodes j = capacities-long (nodes j) (j .block .capacities) (s .block-sound .capacities-sound) in
     let first-edges-are : length (j .block .firstEdges) ≡ nodes j + 1 =
     block.firsts-long (nodes j) (length (j .block .edgeTargets)) (j .block .firstEdges) (s .block-sound .firstEdges-sound) in
     let first-sinks-are : length (j .firstSinks) ≡ nets j + 1 = job.firsts-long (nets j) (length (j .sinks)) (j .firstSinks) (s .firstSinks-sound) in
+    let routable : Routable j = routable-of j s within in
+    let delays-are = if-timed (j .terms) (j .delays) (nodes j) (λ e. routable .timing e .delays-long) (form .no-delays) in
+    let criticalities-are = if-timed (j .terms) (j .criticalities) (length (j .sinks)) (λ e. routable .timing e .criticalities-long) (form .no-criticalities) in
     record {
       few-nodes = kinds-few (j .block .kinds) (s .block-sound .kinds-sound);
-      few-nets = routable-of j s .nets-few;
+      few-nets = routable .nets-few;
       kinds-fit = over-fits (j .block .kinds) (t .kinds) (nodes j) refl;
       capacities-fit = over-fits (j .block .capacities) (t .capacities) (nodes j) capacities-are;
       first-edges-fit = over-fits (j .block .firstEdges) (t .firstEdges) (nodes j + 1) first-edges-are;
@@ -204,10 +244,13 @@ job-taken style text t j at rest is long =
       sources-fit = over-fits (j .sources) (t .sources) (nets j) refl;
       first-sinks-fit = over-fits (j .firstSinks) (t .firstSinks) (nets j + 1) first-sinks-are;
       sinks-fit = over-fits (j .sinks) (t .sinks) (length (j .sinks)) refl;
-      runs = λ work log routes.
+      delays-fit = λ d e. over-fits (j .delays) (t .delays) d (delays-are .0 ∙ sym e);
+      criticalities-fit = λ k e. over-fits (j .criticalities) (t .criticalities) k (criticalities-are .0 ∙ sym e);
+      runs = λ d k e f work log routes.
           rw (
             is,
             long,
+            within,
             over-part (j .block .kinds) (t .kinds) (nodes j) refl,
             over-part (j .block .capacities) (t .capacities) (nodes j) capacities-are,
             over-part (j .block .firstEdges) (t .firstEdges) (nodes j + 1) first-edges-are,
@@ -215,6 +258,10 @@ job-taken style text t j at rest is long =
             over-part (j .sources) (t .sources) (nets j) refl,
             over-part (j .firstSinks) (t .firstSinks) (nets j + 1) first-sinks-are,
             over-part (j .sinks) (t .sinks) (length (j .sinks)) refl,
+            over-part (j .delays) (t .delays) d (delays-are .0 ∙ sym e),
+            over-part (j .criticalities) (t .criticalities) k (criticalities-are .0 ∙ sym f),
+            delays-are .1,
+            criticalities-are .1,
           );
     }
 
@@ -226,7 +273,16 @@ termsIn xs =
       tuning = record { first = getD xs 5 0; up = getD xs 6 0; down = getD xs 7 0; step = getD xs 8 0 };
       rule = getD xs 9 0;
       until = getD xs 10 0;
+      timed = eqb (getD xs 11 0) 1;
     }
+
+terms-back : (n edges m count : ℕ) (t : Terms) → termsIn (n ∷ edges ∷ m ∷ count ∷ termsNumbers t) ≡ t
+terms-back n edges m count t =
+    ap (λ (timed : Bool). record { limit = t .limit; tuning = t .tuning; rule = t .rule; until = t .until; timed = timed })
+    (⊎-elim
+    (λ (e : t .timed ≡ true). let is : eqb (choose (t .timed) 1 0) 1 ≡ t .timed = rw e in is)
+    (λ (e : t .timed ≡ false). let is : eqb (choose (t .timed) 1 0) 1 ≡ t .timed = rw e in is)
+    (either-way (t .timed)))
 
 pub read-taken :
     (style : Style) (text : List ℕ) (n edges m count : ℕ) (terms : Terms) (t t′ : Tables)
@@ -235,11 +291,13 @@ unfolding readReply jobNumbers
 read-taken style text n edges m count terms t t′ e =
     let got = taken-of (readText text) (n ∷ edges ∷ m ∷ count ∷ termsNumbers terms) t t′ e in
     let j : Job = got .0 in
-    subst (λ (x : Tables). Taken style text n edges m count terms t x) (got .6)
+    let terms-are : j .terms ≡ terms = sym (terms-back (nodes j) (length (j .block .edgeTargets)) (nets j) (length (j .sinks)) (j .terms)) ∙ ap termsIn (got .6) ∙ terms-back n edges m count terms in
+    subst (λ (x : Tables). Taken style text n edges m count terms t x) (got .7)
+    (subst (λ (x : Terms). Taken style text n edges m count x t (tablesWith j t)) terms-are
     (subst
-    (λ (x : List ℕ). Taken style text (getD x 0 0) (getD x 1 0) (getD x 2 0) (getD x 3 0) (termsIn x) t (tablesWith j t))
-    (got .5)
-    (job-taken style text t j (got .1) (got .2) (got .3) (got .4)))
+    (λ (x : List ℕ). Taken style text (getD x 0 0) (getD x 1 0) (getD x 2 0) (getD x 3 0) (j .terms) t (tablesWith j t))
+    (got .6)
+    (job-taken style text t j (got .1) (got .2) (got .3) (got .4) (got .5))))
 
 -- ---- the response
 

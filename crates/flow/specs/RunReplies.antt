@@ -6,7 +6,8 @@ use Prim.Native.Nat.{ℕ}
 use lib.Dec.{leb, ltb}
 use lib.ListN.{length, take}
 use Rattle.price.specs.Test.{choose}
-use Rattle.job.specs.Job.{Job}
+use Rattle.job.specs.Job.{Job, nodes}
+use Rattle.job.specs.Tables.{exceeds}
 use Rattle.negotiation.specs.Outcome.{RouteReply, routeReply}
 use Rattle.text.specs.JobText.{Part, part, stopped, readText}
 use Rattle.text.specs.ReadReplies.{Tables, shortTable, tablesWith}
@@ -53,7 +54,8 @@ abbrev pub runOf : Style → Part Job → Lent → RunReply
 runOf style (stopped k at) l = runReplyWith (k ∷ at ∷ []) 0 l
 runOf style (part j at rest) l =
     choose (leb 1 (shortTable j (l .tables))) (runReplyWith (4 ∷ shortTable j (l .tables) ∷ []) 0 l)
-    (routeRun style j (tablesWith j (l .tables)) (l .work) (l .log) (l .routes))
+    (choose (exceeds (nodes j) (j .terms)) (runReplyWith (15 ∷ nodes j ∷ j .terms .limit ∷ []) 0 l)
+    (routeRun style j (tablesWith j (l .tables)) (l .work) (l .log) (l .routes)))
 
 unfoldable pub runReply : Style → List ℕ → Lent → RunReply
 runReply style text l = runOf style (readText text) l
@@ -95,7 +97,7 @@ abbrev pub lineResponse : LineReply → Lent → Response
 lineResponse x l = responseOf (x .bytes) (lentOf (l .tables) (l .work) (l .log) (x .buffer))
 
 -- the routes text is in the buffer already, or the line of the refusal is put there: what a run leaves "untouched" by rows 1 to 6,
--- 10 and 11 is still as it was but for that line, which has to be somewhere to be printed
+-- 10, 11 and 15 is still as it was but for that line, which has to be somewhere to be printed
 abbrev pub answered : List ℕ → RunReply → Response
 answered [] r = responseOf (r .bytes) (r .lent)
 answered (k ∷ ks) r = lineResponse (refusalLine (k ∷ ks) (r .lent .routes)) (r .lent)

@@ -55,7 +55,7 @@ linesB limit =
     ∷ (84 ∷ 44 ∷ 49 ∷ 44 ∷ 53 ∷ [])
     ∷ []
 
--- what the program prints for a text, with tables of their exact length for job B, enough work memory, so long a log
+-- what the program prints for a text, with tables of their exact length for job B, which is untimed, enough work memory, so long a log
 -- and a long enough buffer
 abbrev pub printed : Response → List ℕ
 printed r = take (r .bytes) (r .lent .routes)
@@ -65,7 +65,7 @@ shown text room =
     printed
     (response s.Lines text
     (lentOf
-    (tablesOf (replicate 6 7) (replicate 6 7) (replicate 7 7) (replicate 6 7) (replicate 2 7) (replicate 3 7) (replicate 2 7))
+    (tablesOf (replicate 6 7) (replicate 6 7) (replicate 7 7) (replicate 6 7) (replicate 2 7) (replicate 3 7) (replicate 2 7) [] [])
     (replicate 48 7) (replicate room 7) (replicate 48 7)))
 
 -- "The program prints, one a line, `R,2,4` `B,0,0,3` `B,0,3,4` `B,1,1,2` `B,1,2,5`."

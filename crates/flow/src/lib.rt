@@ -2,6 +2,7 @@
 ghost use mathlib.Core.Path.{_≡_};
 ghost use Prim.Native.Nat.{_≤_};
 ghost use lib.ListN.{length, take};
+ghost use Rattle.price.specs.Test.{choose};
 ghost use Rattle.job.specs.Job.{jobOf};
 ghost use Rattle.text.specs.ReadReplies.{Tables, tablesOf};
 ghost use Rattle.flow.specs.Refusals.{lineReplyOf};
@@ -76,6 +77,8 @@ fn route_job(
     source: &[u16],
     first_sink: &[u32],
     sink: &[u16],
+    delay: &[u16],
+    criticality: &[u8],
     terms: Terms,
     work: &mut [u64],
     log: &mut [u32],
@@ -83,7 +86,7 @@ fn route_job(
 ) -> RunAnswer
     ensures { λ r. do
       let job = jobOf (now (kind .entry)) (now (capacity .entry)) (now («first_edge» .entry)) (now («edge_target» .entry))
-          (now (source .entry)) (now («first_sink» .entry)) (now (sink .entry)) terms
+          (now (source .entry)) (now («first_sink» .entry)) (now (sink .entry)) (now (delay .entry)) (now (criticality .entry)) terms
       ⌜ ((t : Tables) → runReplyOf r (lentOf t (now (work .exit)) (now (log .exit)) (now (routes .exit)))
           ≡ routeRun style job t (now (work .entry)) (now (log .entry)) (now (routes .entry))) ⌝ }
 {
@@ -95,6 +98,8 @@ fn route_job(
         source,
         first_sink,
         sink,
+        delay,
+        criticality,
         terms,
         work,
         log,
@@ -131,7 +136,19 @@ fn route_job(
             number: 14,
             value: word,
         },
+        Outcome::TooLarge { nodes, limit } => RunAnswer::Two {
+            number: 15,
+            first: nodes as u64,
+            second: limit as u64,
+        },
     }
+}
+
+// So many entries of a table that timed jobs alone have.
+fn if_timed(terms: Terms, count: usize) -> usize
+    ensures { λ r. ⌜ r ≡ choose (terms .timed) count 0 ⌝ }
+{
+    if terms.timed { count } else { 0 }
 }
 
 // Reads a job text, routes the job and writes its routes in this style. The tables, the work slice and the log are lent for it.
@@ -145,15 +162,17 @@ pub fn run(
     source: &mut [u16],
     first_sink: &mut [u32],
     sink: &mut [u16],
+    delay: &mut [u16],
+    criticality: &mut [u8],
     work: &mut [u64],
     log: &mut [u32],
     routes: &mut [u8],
 ) -> RunAnswer
     ensures answers { λ r. do
       let tables = tablesOf (now (kind .entry)) (now (capacity .entry)) (now («first_edge» .entry)) (now («edge_target» .entry))
-          (now (source .entry)) (now («first_sink» .entry)) (now (sink .entry))
+          (now (source .entry)) (now («first_sink» .entry)) (now (sink .entry)) (now (delay .entry)) (now (criticality .entry))
       let left = tablesOf (now (kind .exit)) (now (capacity .exit)) (now («first_edge» .exit)) (now («edge_target» .exit))
-          (now (source .exit)) (now («first_sink» .exit)) (now (sink .exit))
+          (now (source .exit)) (now («first_sink» .exit)) (now (sink .exit)) (now (delay .exit)) (now (criticality .exit))
       let lent = lentOf tables (now (work .entry)) (now (log .entry)) (now (routes .entry))
       let after = lentOf left (now (work .exit)) (now (log .exit)) (now (routes .exit))
       ⌜ runReplyOf r after ≡ runReply style (now (text .entry)) lent ⌝ }
@@ -167,6 +186,8 @@ pub fn run(
         source,
         first_sink,
         sink,
+        delay,
+        criticality,
     ) {
         ReadAnswer::Job {
             nodes,
@@ -177,6 +198,8 @@ pub fn run(
         } => {
             let places = nodes + 1;
             let firsts = nets + 1;
+            let delays = if_timed(terms, nodes);
+            let criticalities = if_timed(terms, sinks);
             route_job(
                 style,
                 &kind[..nodes],
@@ -186,6 +209,8 @@ pub fn run(
                 &source[..nets],
                 &first_sink[..firsts],
                 &sink[..sinks],
+                &delay[..delays],
+                &criticality[..criticalities],
                 terms,
                 work,
                 log,
@@ -199,6 +224,11 @@ pub fn run(
         ReadAnswer::ShortTable(table) => RunAnswer::One {
             number: 4,
             value: table as u64,
+        },
+        ReadAnswer::TooLarge { nodes, limit } => RunAnswer::Two {
+            number: 15,
+            first: nodes as u64,
+            second: limit as u64,
         },
     }
 }
@@ -230,15 +260,17 @@ pub fn respond(
     source: &mut [u16],
     first_sink: &mut [u32],
     sink: &mut [u16],
+    delay: &mut [u16],
+    criticality: &mut [u8],
     work: &mut [u64],
     log: &mut [u32],
     routes: &mut [u8],
 ) -> usize
     ensures answers { λ r. do
       let tables = tablesOf (now (kind .entry)) (now (capacity .entry)) (now («first_edge» .entry)) (now («edge_target» .entry))
-          (now (source .entry)) (now («first_sink» .entry)) (now (sink .entry))
+          (now (source .entry)) (now («first_sink» .entry)) (now (sink .entry)) (now (delay .entry)) (now (criticality .entry))
       let left = tablesOf (now (kind .exit)) (now (capacity .exit)) (now («first_edge» .exit)) (now («edge_target» .exit))
-          (now (source .exit)) (now («first_sink» .exit)) (now (sink .exit))
+          (now (source .exit)) (now («first_sink» .exit)) (now (sink .exit)) (now (delay .exit)) (now (criticality .exit))
       let lent = lentOf tables (now (work .entry)) (now (log .entry)) (now (routes .entry))
       let after = lentOf left (now (work .exit)) (now (log .exit)) (now (routes .exit))
       ⌜ responseOf r after ≡ response style (now (input .entry)) lent ⌝ }
@@ -256,6 +288,8 @@ pub fn respond(
         source,
         first_sink,
         sink,
+        delay,
+        criticality,
         work,
         log,
         routes,

@@ -43,6 +43,8 @@ fn tables(
     source: &[u16; 2],
     first_sink: &[u32; 3],
     sink: &[u16; 2],
+    delay: &[u16; 6],
+    criticality: &[u8; 2],
 ) {
     show::bytes(kind, 6);
     show::bytes(capacity, 6);
@@ -51,10 +53,12 @@ fn tables(
     show::halves(source, 2);
     show::words(first_sink, 3);
     show::halves(sink, 2);
+    show::halves(delay, 6);
+    show::bytes(criticality, 2);
 }
 
 // What the case lends of the work slice, the log and the routes buffer.
-fn memory(work: &[u64; 64], log: &[u32; 64], routes: &[u8; 64], n: [u32; 3]) {
+fn memory(work: &[u64; 64], log: &[u32; 64], routes: &[u8; 128], n: [u32; 3]) {
     show::entries(work, n[0] as usize);
     show::words(log, n[1] as usize);
     show::text(routes, n[2] as usize);
@@ -69,9 +73,11 @@ fn run_case(job: &[u8], n: [u32; 3]) {
     let mut source = [7u16; 2];
     let mut first_sink = [7u32; 3];
     let mut sink = [7u16; 2];
+    let mut delay = [7u16; 6];
+    let mut criticality = [7u8; 2];
     let mut work = [7u64; 64];
     let mut log = [7u32; 64];
-    let mut routes = [7u8; 64];
+    let mut routes = [7u8; 128];
     let entries = read::of_entries(n[0], &work);
     let words = read::of_words(n[1], &log);
     let size = read::of_bytes(n[2], &routes);
@@ -85,6 +91,8 @@ fn run_case(job: &[u8], n: [u32; 3]) {
         &mut source,
         &mut first_sink,
         &mut sink,
+        &mut delay,
+        &mut criticality,
         &mut work[..entries],
         &mut log[..words],
         &mut routes[..size],
@@ -97,6 +105,8 @@ fn run_case(job: &[u8], n: [u32; 3]) {
         &source,
         &first_sink,
         &sink,
+        &delay,
+        &criticality,
     );
     memory(&work, &log, &routes, n);
 }
@@ -110,9 +120,11 @@ fn respond_case(style: Style, job: &[u8], n: [u32; 3]) {
     let mut source = [7u16; 2];
     let mut first_sink = [7u32; 3];
     let mut sink = [7u16; 2];
+    let mut delay = [7u16; 6];
+    let mut criticality = [7u8; 2];
     let mut work = [7u64; 64];
     let mut log = [7u32; 64];
-    let mut routes = [7u8; 64];
+    let mut routes = [7u8; 128];
     let entries = read::of_entries(n[0], &work);
     let words = read::of_words(n[1], &log);
     let size = read::of_bytes(n[2], &routes);
@@ -126,6 +138,8 @@ fn respond_case(style: Style, job: &[u8], n: [u32; 3]) {
         &mut source,
         &mut first_sink,
         &mut sink,
+        &mut delay,
+        &mut criticality,
         &mut work[..entries],
         &mut log[..words],
         &mut routes[..size],
@@ -138,6 +152,8 @@ fn respond_case(style: Style, job: &[u8], n: [u32; 3]) {
         &source,
         &first_sink,
         &sink,
+        &delay,
+        &criticality,
     );
     memory(&work, &log, &routes, n);
 }

@@ -1,5 +1,6 @@
 -- Every load is sound, the reader takes its text for it and gives its tables back, and the text fits the router's buffer.
 -- Assumes nothing.
+use mathlib.Core.Bool.{false}
 use mathlib.Core.Path.{_≡_, refl}
 use Prim.Native.Nat.{ℕ, _+_, _≤_}
 use native.Mathlib.Omega.{arith}
@@ -7,8 +8,9 @@ use lib.ListN.{length}
 use borrow.Author.Tests.{le-ltb}
 use Rattle.price.proofs.ListLaws.{length-upTo}
 use Rattle.job.specs.Job.{Job, nodes, nets}
+use Rattle.job.specs.Tables.{exceeds}
 use Rattle.text.specs.Printed.{shortest, Accepts, PrintedAs}
-use Rattle.text.specs.ReadReplies.{Tables, lowestShort, shortTable, storedReply, readReply}
+use Rattle.text.specs.ReadReplies.{Tables, lowestShort, shortTimes, shortUntimed, shortTable, storedReply, readReply}
 use Rattle.text.proofs.TextHolds.{reader-exact}
 use Rattle.generator.specs.Load.{rowsFrom, netsFrom, loadSink, loadJob, loadText}
 use Rattle.generator.specs.Taken.{LoadTaken}
@@ -20,9 +22,10 @@ use Rattle.generator.proofs.LoadTextLaws.{load-size}
 long-enough :
     (j : Job) (t : Tables) → nodes j ≤ length (t .kinds) → nodes j ≤ length (t .capacities) → nodes j + 1 ≤ length (t .firstEdges)
     → length (j .block .edgeTargets) ≤ length (t .edgeTargets) → nets j ≤ length (t .sources) → nets j + 1 ≤ length (t .firstSinks)
-    → length (j .sinks) ≤ length (t .sinks) → shortTable j t ≡ 0
-unfolding shortTable lowestShort
-long-enough j t a b c d e f g =
+    → length (j .sinks) ≤ length (t .sinks) → length (j .delays) ≤ length (t .delays) → length (j .criticalities) ≤ length (t .criticalities)
+    → shortTable j t ≡ 0
+unfolding shortTable shortUntimed lowestShort shortTimes
+long-enough j t a b c d e f g h i =
     rw (
       le-ltb (length (t .kinds)) (nodes j) a,
       le-ltb (length (t .capacities)) (nodes j) b,
@@ -31,12 +34,21 @@ long-enough j t a b c d e f g =
       le-ltb (length (t .sources)) (nets j) e,
       le-ltb (length (t .firstSinks)) (nets j + 1) f,
       le-ltb (length (t .sinks)) (length (j .sinks)) g,
+      le-ltb (length (t .delays)) (length (j .delays)) h,
+      le-ltb (length (t .criticalities)) (length (j .criticalities)) i,
     )
 
 module _ (seed n count : ℕ) (least : 8 ≤ n) (most : n ≤ 256) (some : 1 ≤ count) (few : count ≤ 64) where
   printed : PrintedAs (loadText seed n count) (loadJob seed n count)
   unfolding loadText loadJob
-  printed = record { form = shortest; allowed = record { tuning = refl; rule = (refl, refl) }; is = refl }
+  printed =
+      record {
+        form = shortest;
+        allowed = record { tuning = refl; rule = (refl, refl) };
+        is = refl;
+        no-delays = λ e. refl;
+        no-criticalities = λ e. refl;
+      }
 
   taken : Accepts (loadText seed n count) (loadJob seed n count)
   taken = reader-exact (loadText seed n count) (loadJob seed n count) .all-printed (load-sound seed n count least most some few) printed
@@ -49,6 +61,19 @@ module _ (seed n count : ℕ) (least : 8 ≤ n) (most : n ≤ 256) (some : 1 ≤
   unfolding loadJob
   sinks-few = omega (arith, length-upTo (loadSink (netsFrom seed n) n) count)
 
+  -- an untimed job exceeds no bound, and needs no entry of tables 9 and 10
+  within : exceeds (nodes (loadJob seed n count)) (loadJob seed n count .terms) ≡ false
+  unfolding exceeds loadJob
+  within = refl
+
+  no-delays : length (loadJob seed n count .delays) ≡ 0
+  unfolding loadJob
+  no-delays = refl
+
+  no-criticalities : length (loadJob seed n count .criticalities) ≡ 0
+  unfolding loadJob
+  no-criticalities = refl
+
   pub load-taken : LoadTaken seed n count
   unfolding readReply storedReply
   load-taken =
@@ -58,9 +83,10 @@ module _ (seed n count : ℕ) (least : 8 ≤ n) (most : n ≤ 256) (some : 1 ≤
       record {
         sound = load-sound seed n count least most some few;
         accepted = taken;
-        given-back = λ t e. rw (taken .1, e);
+        given-back = λ t e. rw (taken .1, e, within);
         enough = λ t r.
             long-enough (loadJob seed n count) t (omega (arith, r .kinds)) (omega (arith, r .capacities)) (omega (arith, r .first-edges))
-            (omega (arith, r .edge-targets, edges-few)) (omega (arith, r .sources)) (omega (arith, r .first-sinks)) (omega (arith, r .sinks, sinks-few));
+            (omega (arith, r .edge-targets, edges-few)) (omega (arith, r .sources)) (omega (arith, r .first-sinks)) (omega (arith, r .sinks, sinks-few))
+            (omega (arith, no-delays)) (omega (arith, no-criticalities));
         fits = omega arith;
       }

@@ -16,7 +16,7 @@ use Rattle.price.specs.Test.{choose, both}
 use Rattle.price.specs.Bounds.{kindMost, capacityMost, nodesMost}
 use Rattle.price.specs.Lists.{every, neighbours, has, distinct, upTo}
 use Rattle.price.specs.Tuning.{tuningSound}
-use Rattle.price.proofs.TestLaws.{either-way, both-true, both-left, both-right}
+use Rattle.price.proofs.TestLaws.{either-way, true≢false, both-true, both-left, both-right}
 use Rattle.price.proofs.ListLaws.{every-all, neighbours-all, rises-last, getD-upTo, length-upTo}
 use Rattle.search.specs.Block.{row, rowStart}
 use Rattle.search.specs.Block as block
@@ -116,6 +116,11 @@ module _ (seed n count : ℕ) where
   pub net-count : nets job ≡ count
   unfolding loadJob
   net-count = length-upTo (loadSource (netsFrom seed n) n) count
+
+  -- it is untimed
+  pub untimed : job .terms .timed ≡ false
+  unfolding loadJob
+  untimed = refl
 
   -- a node's row of table 4 is what it drew
   pub row-is : (u : ℕ) → u < n → row (job .block) u ≡ loadRow (rowsFrom seed n) n u
@@ -270,4 +275,6 @@ module _ (seed n count : ℕ) where
           sinks-sound = sinks-fit;
           sink-pins = sink-pins-fit;
           terms-sound = terms-fit;
+          delays-sound = λ e. absurd (true≢false (sym e ∙ untimed));
+          criticalities-sound = λ e. absurd (true≢false (sym e ∙ untimed));
         }

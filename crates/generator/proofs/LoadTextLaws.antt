@@ -1,6 +1,6 @@
 -- A load's text: its four parts, one behind the other, and how long they are at most.
 -- Assumes nothing.
-use mathlib.Core.Bool.{true}
+use mathlib.Core.Bool.{Bool, true}
 use mathlib.Core.List.{List, [], _∷_, _++_, append-nil}
 use mathlib.Core.Path.{_≡_, sym, _∙_, ap, subst}
 use Prim.Native.Nat.{ℕ, zero, suc, _+_, _*_, _^_, _≤_, _<_}
@@ -12,20 +12,22 @@ use Rattle.price.specs.Lists.{every}
 use Rattle.price.proofs.TestLaws.{both-left, both-right}
 use Rattle.price.proofs.ListLaws.{getD-upTo, every-at, every-all}
 use Rattle.search.specs.Tables.{rowSound}
+use Rattle.job.specs.Job.{Job, source, netSinks, netCriticalities}
 use Rattle.text.specs.Decimal.{decimal}
 use Rattle.text.specs.Lines.{letterF, letterN, letterE, letterS, letterT, printFields, printLine}
-use Rattle.text.specs.Printed.{concatFrom, eachLine, nodeText, rowText, netText, lineIf, termsText, printJob}
+use Rattle.text.specs.Printed.{concatFrom, eachLine, sinkLines, nodeText, rowText, netText, lineIf, termsText, printJob}
 use Rattle.text.specs.WriteSteps.{Put}
 use Rattle.text.specs.LineReplies.{placeReplyOf, lineReply}
 use Rattle.text.proofs.DecimalLaws.{digits-enough, digits-few, two-size, three-size}
 use Rattle.text.proofs.LineReplyLaws.{line-put}
+use Rattle.text.proofs.NetTextLaws.{untimed-lines}
 use Rattle.text.proofs.JoiningLaws.{concat-alike, concat-size, part-first, part-rest, part-both}
 use Rattle.generator.specs.Draws.{stateAfter}
 use Rattle.generator.specs.Load.{loadKind, rowsFrom, netsFrom, loadRow, loadRows, loadSource, loadSink, loadJob, loadText}
 use Rattle.generator.specs.Steps.{nodeLine, rowLines, netLines}
 use Rattle.generator.proofs.NodeLaws.{kind-most}
 use Rattle.generator.proofs.RowLaws.{row-few, rows-few}
-use Rattle.generator.proofs.LoadLaws.{node-count, net-count, row-is, row-sound, source-is, sinks-are, source-low, sink-low}
+use Rattle.generator.proofs.LoadLaws.{node-count, net-count, untimed, row-is, row-sound, source-is, sinks-are, source-low, sink-low}
 
 -- ---- the parts
 
@@ -52,7 +54,14 @@ module _ (seed n count : ℕ) where
 
   net-text : (i : ℕ) → i < count → netText (loadJob seed n count) i ≡ netLines (netsFrom seed n) n i
   unfolding netText eachLine
-  net-text i l = rw (sinks-are seed n count i l, source-is seed n count i l, append-nil (printLine letterT (i ∷ loadSink (netsFrom seed n) n i ∷ [])))
+  net-text i l =
+      let j : Job = loadJob seed n count in
+      let source-line : List ℕ = printLine letterS (i ∷ source j i ∷ []) in
+      let listed : source-line ++ eachLine letterT i (netSinks j i) ≡ netLines (netsFrom seed n) n i =
+      rw (sinks-are seed n count i l, source-is seed n count i l, append-nil (printLine letterT (i ∷ loadSink (netsFrom seed n) n i ∷ []))) in
+      ap (λ (timed : Bool). source-line ++ sinkLines timed i (netSinks j i) (netCriticalities j i)) (untimed seed n count)
+      ∙ ap (λ (lines : List ℕ). source-line ++ lines) (untimed-lines i (netSinks j i) (netCriticalities j i))
+      ∙ listed
 
   load-parts :
       loadText seed n count

@@ -68,12 +68,13 @@ loadSink first n i = n - quarter n + drawAt first (2 * i + 1) (quarter n)
 
 -- ---- the job
 
--- "All capacities are 1." .. "The limit is 100."
+-- "All capacities are 1." .. "The limit is 100." Without a W line it is untimed, so it has no tables 9 and 10
 unfoldable pub loadJob : ℕ → ℕ → ℕ → Job
 loadJob seed n nets =
     jobOf (upTo (loadKind seed n) n) (replicate n 1)
     (upTo (λ u. length (loadRows (rowsFrom seed n) n u)) (n + 1)) (loadRows (rowsFrom seed n) n n)
-    (upTo (loadSource (netsFrom seed n) n) nets) (upTo (λ i. i) (nets + 1)) (upTo (loadSink (netsFrom seed n) n) nets) (plainTerms 100)
+    (upTo (loadSource (netsFrom seed n) n) nets) (upTo (λ i. i) (nets + 1)) (upTo (loadSink (netsFrom seed n) n) nets)
+    [] [] (plainTerms 100)
 
 -- "prints the job's text": the shortest, since its terms are the plain ones
 unfoldable pub loadText : ℕ → ℕ → ℕ → List ℕ

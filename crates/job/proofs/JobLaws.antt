@@ -1,4 +1,5 @@
--- Laws of sound jobs: the lowest table that breaks its rule, and what each rule of tables 5 to 8 says of a net.
+-- Laws of sound jobs: the lowest table that breaks its rule, and what each rule of tables 5 to 8 and of table 10 says of a net, and the
+-- bounds of a timed job.
 -- Assumes nothing.
 use mathlib.Core.Bool.{Bool, true, false}
 use mathlib.Core.List.{List}
@@ -10,16 +11,18 @@ use native.Mathlib.Numerals.{add-one}
 use native.Mathlib.Omega.{arith}
 use lib.Dec.{leb, ltb, eqb}
 use lib.ListN.{length, getD}
-use borrow.Author.Tests.{leb-true, leb-false, ltb-true, eqb-true}
-use Rattle.price.specs.Test.{choose, both}
+use borrow.Author.Tests.{leb-true, leb-false, ltb-true, ltb-false, eqb-true}
+use Rattle.price.specs.Test.{choose, both, either}
+use Rattle.price.specs.Bounds.{criticalityMost, timedNodesMost, timedLimitMost}
 use Rattle.price.specs.Lists.{neighbours, upTo}
-use Rattle.price.proofs.TestLaws.{either-way, both-left, both-right}
+use Rattle.price.proofs.TestLaws.{either-way, true≢false, both-left, both-right}
 use Rattle.price.proofs.ListLaws.{every-at, neighbours-at, length-upTo, getD-upTo}
-use Rattle.search.specs.Tables.{faultyTable}
+use Rattle.search.specs.Tables.{faultyTable, delaysSound}
 use Rattle.search.specs.Replies.{sinksMost}
 use Rattle.search.proofs.BlockLaws.{sound-of, faulty-of}
 use Rattle.job.specs.Job.{Job, nodes, nets, sinksBetween}
-use Rattle.job.specs.Tables.{sourcesSound, firstSinksSound, netSound, sinksSound, limitSound, termsSound, sourcePins, sinkPins, faultyNets, faultyJob, SoundJob, netsMost}
+use Rattle.job.specs.declared.Terms.{Terms}
+use Rattle.job.specs.Tables.{sourcesSound, firstSinksSound, netSound, sinksSound, limitSound, termsSound, sourcePins, sinkPins, faultyNets, criticalitiesSound, faultyTimes, faultyUntimed, faultyJob, exceeds, SoundJob, netsMost}
 
 -- ---- the lowest faulty table
 
@@ -41,10 +44,20 @@ first-none a b e =
     (omega arith, rw q at e))
     (either-way (leb 1 a))
 
+-- a timed job's tables 9 and 10 keep their rules
+times-sound :
+    (j : Job) → faultyTimes (j .terms) (nodes j) (length (j .sinks)) (j .delays) (j .criticalities) ≡ 0 → j .terms .timed ≡ true
+    → (delaysSound (nodes j) (j .delays) ≡ true) × (criticalitiesSound (length (j .sinks)) (j .criticalities) ≡ true)
+unfolding faultyTimes
+times-sound j e timed =
+    let nine = chosen (delaysSound (nodes j) (j .delays)) _ 8 (rw timed at e) in
+    (nine .0, chosen (criticalitiesSound (length (j .sinks)) (j .criticalities)) _ 9 (nine .1) .0)
+
 pub sound-job : (j : Job) → faultyJob j ≡ 0 → SoundJob j
-unfolding faultyJob faultyNets
+unfolding faultyJob faultyUntimed faultyNets
 sound-job j e =
-    let both-none = first-none (faultyTable (j .block)) _ e in
+    let all-none = first-none (faultyUntimed j) _ e in
+    let both-none = first-none (faultyTable (j .block)) _ (all-none .0) in
     let five = chosen (both (sourcesSound (nodes j) (j .sources)) (sourcePins (j .block .kinds) (j .sources))) _ 4 (both-none .1) in
     let six = chosen (firstSinksSound (nets j) (length (j .sinks)) (j .firstSinks)) _ 5 (five .1) in
     let seven =
@@ -57,14 +70,28 @@ sound-job j e =
       sinks-sound = both-left _ _ (seven .0);
       sink-pins = both-right (sinksSound (nodes j) (j .sources) (j .firstSinks) (j .sinks)) _ (seven .0);
       terms-sound = chosen (termsSound (j .terms)) _ 7 (seven .1) .0;
+      delays-sound = λ timed. times-sound j (all-none .1) timed .0;
+      criticalities-sound = λ timed. times-sound j (all-none .1) timed .1;
     }
 
-pub faulty-none : (j : Job) → SoundJob j → faultyJob j ≡ 0
-unfolding faultyJob faultyNets
-faulty-none j s =
+untimed-none : (j : Job) → SoundJob j → faultyUntimed j ≡ 0
+unfolding faultyUntimed faultyNets
+untimed-none j s =
     rw (faulty-of (j .block) (s .block-sound), s .sources-sound, s .source-pins, s .firstSinks-sound, s .sinks-sound, s .sink-pins, s .terms-sound)
 
--- ---- the rules of tables 5 to 8
+times-none : (j : Job) → SoundJob j → faultyTimes (j .terms) (nodes j) (length (j .sinks)) (j .delays) (j .criticalities) ≡ 0
+unfolding faultyTimes
+times-none j s =
+    ⊎-elim
+    (λ (q : j .terms .timed ≡ true). rw (q, s .delays-sound q, s .criticalities-sound q))
+    (λ (q : j .terms .timed ≡ false). rw q)
+    (either-way (j .terms .timed))
+
+pub faulty-none : (j : Job) → SoundJob j → faultyJob j ≡ 0
+unfolding faultyJob
+faulty-none j s = rw (untimed-none j s) (times-none j s)
+
+-- ---- the rules of tables 5 to 8 and 10
 
 pub sources-some : (n : ℕ) (ss : List ℕ) → sourcesSound n ss ≡ true → 1 ≤ length ss
 unfolding sourcesSound
@@ -118,3 +145,28 @@ net-rule n ss fs ts s i h =
 pub limit-least : (limit : ℕ) → limitSound limit ≡ true → 1 ≤ limit
 unfolding limitSound
 limit-least limit s = leb-true 1 limit (both-left _ _ s)
+
+pub criticalities-long : (m : ℕ) (cs : List ℕ) → criticalitiesSound m cs ≡ true → length cs ≡ m
+unfolding criticalitiesSound
+criticalities-long m cs s = eqb-true _ _ (both-left _ _ s)
+
+pub criticality-most : (m : ℕ) (cs : List ℕ) → criticalitiesSound m cs ≡ true → (i : ℕ) → i < length cs → getD cs i 0 ≤ criticalityMost
+unfolding criticalitiesSound
+criticality-most m cs s i h = leb-true _ _ (every-at (λ c. leb c criticalityMost) cs (both-right (eqb (length cs) m) _ s) i h)
+
+-- ---- a timed job that exceeds no bound
+
+neither : (a b : Bool) → either a b ≡ false → (a ≡ false) × (b ≡ false)
+neither true b e = absurd (true≢false e)
+neither false b e = (refl, e)
+
+module _ (n : ℕ) (t : Terms) (fits : exceeds n t ≡ false) (timed : t .timed ≡ true) where
+  within : (ltb timedNodesMost n ≡ false) × (ltb timedLimitMost (t .limit) ≡ false)
+  unfolding exceeds
+  within = neither _ _ (rw timed at fits)
+
+  pub timed-nodes : n ≤ timedNodesMost
+  timed-nodes = ltb-false _ _ (within .0)
+
+  pub timed-limit : t .limit ≤ timedLimitMost
+  timed-limit = ltb-false _ _ (within .1)

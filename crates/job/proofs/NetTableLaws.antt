@@ -1,15 +1,17 @@
--- How a pass over tables 5 to 8 decides their rules: by the entry that breaks one, or by every entry passed.
+-- How a pass over tables 5 to 10 decides their rules: by the entry that breaks one, or by every entry passed.
 --     sources-, stays-at, always-rises, firsts-     tables 5 and 6
 --     net-answer, Passing, passing-, nets-            table 7
 --     kind-, pin-bad, pins-all                      the pins' kinds
---     faulty-, block-few                            the lowest faulty table
---     named                                         tables 1 to 4, by what the cheapest path refuses
+--     criticalities-, times-                        tables 9 and 10
+--     exceeds-                                      the bounds of a timed job
+--     faulty-, block-                               the lowest faulty table
+--     named                                         tables 1 to 4 and 9, by what the cheapest path refuses
 -- Assumes nothing.
 use mathlib.Core.Bool.{Bool, true, false}
 use mathlib.Core.List.{List, [], _∷_}
 use mathlib.Core.Logic.{⊎-elim}
-use mathlib.Core.Path.{_≡_, sym, _∙_, ap}
-use Prim.Native.Nat.{ℕ, zero, suc, _+_, _*_, _-_, _≤_, _<_}
+use mathlib.Core.Path.{_≡_, refl, sym, _∙_, ap}
+use Prim.Native.Nat.{ℕ, zero, suc, _+_, _-_, _≤_, _<_}
 use native.Mathlib.Numerals.{unary-clauses}
 use native.Mathlib.Omega.{arith}
 use lib.Dec.{leb, ltb, eqb}
@@ -17,23 +19,24 @@ use lib.ListN.{length, getD, take, drop, replicate, length-replicate}
 use borrow.Author.Count.{below-none, below-more}
 use borrow.Author.Tests.{le-leb, lt-leb, lt-ltb, le-ltb, eq-eqb, ne-eqb}
 use Rattle.price.specs.Test.{choose, both}
-use Rattle.price.specs.Bounds.{nodesMost, limitMost}
+use Rattle.price.specs.Bounds.{nodesMost, limitMost, factorMost, criticalityMost, timedNodesMost, timedLimitMost}
 use Rattle.price.specs.Tuning.{tuningSound}
+use Rattle.price.specs.Timed.{untimed}
+use Rattle.price.specs.declared.Weighting.{Weighting}
 use Rattle.price.specs.Lists.{every, neighbours, upTo}
 use Rattle.price.proofs.TestLaws.{either-way, le-or-lt, both-true, both-false-right}
 use Rattle.price.proofs.ListLaws.{every-all, every-none, neighbours-all, neighbours-none, length-upTo, getD-upTo, part-slice}
 use Rattle.search.specs.Block.{Block}
 use Rattle.search.specs.Block as block
-use Rattle.search.specs.Tables.{faultyTable}
-use Rattle.search.specs.Turn.{congestionOf}
-use Rattle.search.specs.Replies.{sinksMost, faultyWithSinks, fitting, pathReplyOf, pathReply}
+use Rattle.search.specs.Tables.{faultyTable, delaysSound}
+use Rattle.search.specs.Turn.{Congestion, weighedCongestion}
+use Rattle.search.specs.Replies.{workNeeded, badNode, tooMany, badCriticality, refusalOf, sinksMost, faultyWithDelays, faultyWithSinks, fitting, pathReplyOf, pathReply}
 use Rattle.search.proofs.JoinLaws.{fitted}
 use Rattle.search.specs.Replies as search
 use Rattle.search.specs.declared.PathAnswer.{PathAnswer}
-use Rattle.search.proofs.BlockLaws.{sound-of, kinds-some, kinds-few}
-use Rattle.search.proofs.NumberLaws.{refusal-table, refusal-work}
-use Rattle.job.specs.Job.{Job, nodes, sinksBetween}
-use Rattle.job.specs.Tables.{netsMost, sourcesSound, firstSinksSound, netSound, sinksSound, limitSound, untilMost, ruleSound, termsSound, oneOf, pinsOf, sourcePins, sinkPins, faultyNets, faultyJob}
+use Rattle.search.proofs.BlockLaws.{sound-of, kinds-few}
+use Rattle.job.specs.Job.{Job, nodes, sinksBetween, ifTimed}
+use Rattle.job.specs.Tables.{netsMost, sourcesSound, firstSinksSound, netSound, sinksSound, limitSound, untilMost, ruleSound, termsSound, oneOf, pinsOf, sourcePins, sinkPins, faultyNets, criticalitiesSound, faultyTimes, faultyUntimed, faultyJob, exceeds}
 use Rattle.job.specs.declared.Terms.{Terms}
 use Rattle.job.proofs.SinkMarkLaws.{Unmarked, unmarked-new}
 
@@ -153,9 +156,8 @@ module _ (test : ℕ → Bool) (kinds ps : List ℕ) where
   unfolding pinsOf
   pins-all i end all = every-all (λ v. test (getD kinds v 0)) ps (λ k l. all k (omega arith))
 
--- ---- the lowest faulty table
+-- ---- table 8 and the lowest of tables 5 to 8
 
--- table 8
 module _ (rule until : ℕ) where
   pub until-low : until < 1 → ruleSound rule until ≡ false
   unfolding ruleSound
@@ -224,56 +226,181 @@ module _ (kinds ss fs ts : List ℕ) (terms : Terms) where
             unfolding faultyNets
             faulty-no-net e = rw (p, u, q, r, v, e)
 
+-- ---- tables 9 and 10
+
+module _ (m : ℕ) (cs : List ℕ) where
+  pub criticalities-length : (length cs ≡ m → ⊥) → criticalitiesSound m cs ≡ false
+  unfolding criticalitiesSound
+  criticalities-length h = rw (ne-eqb (length cs) m h)
+
+  pub criticalities-bad : (i : ℕ) → i < length cs → criticalityMost < getD cs i 0 → criticalitiesSound m cs ≡ false
+  unfolding criticalitiesSound
+  criticalities-bad i h l =
+      both-false-right (eqb (length cs) m) (every (λ c. leb c criticalityMost) cs)
+      (every-none (λ c. leb c criticalityMost) cs i h (lt-leb (getD cs i 0) criticalityMost l))
+
+  pub criticalities-all : (i : ℕ) → length cs ≡ m → length cs ≤ i → ((k : ℕ) → k < i → getD cs k 0 ≤ criticalityMost) → criticalitiesSound m cs ≡ true
+  unfolding criticalitiesSound
+  criticalities-all i long end all =
+      both-true (eq-eqb (length cs) m long)
+      (every-all (λ c. leb c criticalityMost) cs (λ k l. le-leb (getD cs k 0) criticalityMost (all k (omega arith))))
+
+-- an untimed job has none of what is lent
+times-lent : (t : Terms) (n m : ℕ) (ds cs : List ℕ) → faultyTimes t n m (ifTimed t ds) (ifTimed t cs) ≡ faultyTimes t n m ds cs
+unfolding faultyTimes
+times-lent t n m ds cs =
+    ⊎-elim (λ (q : t .timed ≡ true). rw q) (λ (q : t .timed ≡ false). rw q) (either-way (t .timed))
+
+pub times-untimed : (t : Terms) (n m : ℕ) (ds cs : List ℕ) → t .timed ≡ false → faultyTimes t n m ds cs ≡ 0
+unfolding faultyTimes
+times-untimed t n m ds cs u = rw u
+
+-- the tests one after the other, where the block is sound
+module _ (b : Block) (t : Terms) (m : ℕ) (ds cs : List ℕ) {delays : ℕ} (timed : t .timed ≡ true) (sound : faultyTable b ≡ 0)
+    (e : delays ≡ faultyWithDelays b (weighedCongestion (record { timed = true; criticality = 0 }) ds 0 [] [])) where
+  by-delays : delays ≡ choose (delaysSound (block.nodes b) ds) 0 9
+  unfolding faultyWithDelays
+  by-delays =
+      e
+      ∙ rw sound
+      (⊎-elim
+      (λ (q : delaysSound (block.nodes b) ds ≡ true). rw q)
+      (λ (q : delaysSound (block.nodes b) ds ≡ false). rw q)
+      (either-way (delaysSound (block.nodes b) ds)))
+
+  pub times-9 : 1 ≤ delays → faultyTimes t (block.nodes b) m ds cs ≡ delays
+  unfolding faultyTimes
+  times-9 h =
+      ⊎-elim
+      (λ (q : delaysSound (block.nodes b) ds ≡ true). absurd (let none : delays ≡ 0 = by-delays ∙ rw q in omega arith))
+      (λ (q : delaysSound (block.nodes b) ds ≡ false). rw (timed, q) (sym (by-delays ∙ rw q)))
+      (either-way (delaysSound (block.nodes b) ds))
+
+  module _ (h : delays < 1) where
+    delays-kept : delaysSound (block.nodes b) ds ≡ true
+    delays-kept =
+        ⊎-elim
+        (λ q. q)
+        (λ (q : delaysSound (block.nodes b) ds ≡ false). absurd (let nine : delays ≡ 9 = by-delays ∙ rw q in omega arith))
+        (either-way (delaysSound (block.nodes b) ds))
+
+    pub times-10 : criticalitiesSound m cs ≡ false → faultyTimes t (block.nodes b) m ds cs ≡ 10
+    unfolding faultyTimes
+    times-10 bad = rw (timed, delays-kept, bad)
+
+    pub times-kept : criticalitiesSound m cs ≡ true → faultyTimes t (block.nodes b) m ds cs ≡ 0
+    unfolding faultyTimes
+    times-kept kept = rw (timed, delays-kept, kept)
+
+-- ---- the bounds of a timed job
+
+module _ (n : ℕ) (t : Terms) where
+  pub exceeds-untimed : t .timed ≡ false → exceeds n t ≡ false
+  unfolding exceeds
+  exceeds-untimed u = rw u
+
+  pub exceeds-nodes : t .timed ≡ true → timedNodesMost < n → exceeds n t ≡ true
+  unfolding exceeds
+  exceeds-nodes timed h = rw (timed, lt-ltb timedNodesMost n h)
+
+  pub exceeds-limit : t .timed ≡ true → n ≤ timedNodesMost → exceeds n t ≡ ltb timedLimitMost (t .limit)
+  unfolding exceeds
+  exceeds-limit timed h = rw (timed, le-ltb timedNodesMost n h)
+
+-- ---- the lowest of all tables
+
 module _ {table : ℕ} (j : Job) (e : table ≡ faultyTable (j .block)) where
   pub faulty-by-block : 1 ≤ table → faultyJob j ≡ table
-  unfolding faultyJob
-  faulty-by-block h = rw (← e, le-leb 1 table h)
+  unfolding faultyJob faultyUntimed
+  faulty-by-block h = rw (← e, le-leb 1 table h, le-leb 1 table h)
 
-  pub faulty-by-nets :
-      {found : ℕ} → table < 1 → found ≡ faultyNets (j .block .kinds) (j .sources) (j .firstSinks) (j .sinks) (j .terms) → found ≡ faultyJob j
-  unfolding faultyJob
-  faulty-by-nets h is = is ∙ rw (← e, lt-leb 1 table h)
+  module _ (h : table < 1) where
+    pub block-none : faultyTable (j .block) ≡ 0
+    block-none = omega arith
 
-  pub block-few : table < 1 → nodes j ≤ nodesMost
-  block-few h =
-      let none : faultyTable (j .block) ≡ 0 = omega arith in
-      kinds-few (j .block .kinds) (sound-of (j .block) none .kinds-sound)
+    pub block-few : nodes j ≤ nodesMost
+    block-few = kinds-few (j .block .kinds) (sound-of (j .block) block-none .kinds-sound)
 
--- ---- tables 1 to 4 by the cheapest path's refusal
+    module _ {nets : ℕ} (is : nets ≡ faultyNets (j .block .kinds) (j .sources) (j .firstSinks) (j .sinks) (j .terms)) where
+      by-nets : faultyUntimed j ≡ nets
+      unfolding faultyUntimed
+      by-nets = rw (← e, lt-leb 1 table h) (sym is)
+
+      pub faulty-by-nets : 1 ≤ nets → faultyJob j ≡ nets
+      unfolding faultyJob
+      faulty-by-nets some = rw (by-nets, le-leb 1 nets some)
+
+      -- of the two tables that are lent, what the job has
+      pub faulty-by-times :
+          {found : ℕ} (ds cs : List ℕ) → nets < 1 → j .delays ≡ ifTimed (j .terms) ds → j .criticalities ≡ ifTimed (j .terms) cs
+          → found ≡ faultyTimes (j .terms) (nodes j) (length (j .sinks)) ds cs → found ≡ faultyJob j
+      unfolding faultyJob
+      faulty-by-times ds cs none d c times =
+          times ∙ sym (rw (by-nets, lt-leb 1 nets none, d, c) (times-lent (j .terms) (nodes j) (length (j .sinks)) ds cs))
+
+-- ---- the tables that the cheapest path tests, by its refusal
 
 -- the table that a refusal names, 0 where it names none
 abbrev pub tableNamed : List ℕ → ℕ
 tableNamed [] = 0
 tableNamed (k ∷ ks) = choose (eqb k 5) (getD ks 0 0) 0
 
--- with no sinks and one entry of work memory every call is refused, for a table or for the work slice
-module _ (b : Block) (factor : ℕ) (histories others marks work : List ℕ) (short : length work ≡ 1) where
+-- a test between two refusals that name no table
+unnamed : (t : Bool) (xs ys : List ℕ) → tableNamed xs ≡ 0 → tableNamed ys ≡ 0 → tableNamed (choose t xs ys) ≡ 0
+unnamed true xs ys p q = p
+unnamed false xs ys p q = q
+
+-- a refusal names the faulty table, whatever else is wrong
+named-table : (table n work : ℕ) (c : Congestion) (marks : List ℕ) → tableNamed (refusalOf table n c marks work) ≡ table
+unfolding refusalOf
+named-table table n work c marks =
+    ⊎-elim
+    (λ (h : 1 ≤ table). rw (le-leb 1 table h))
+    (λ (h : table < 1).
+    let none : 0 ≡ table = omega arith in
+    rw (lt-leb 1 table h)
+    (unnamed (tooMany (c .weighting) n) _ _ refl
+    (unnamed (ltb work (workNeeded n)) _ _ refl
+    (unnamed (ltb (badNode n c marks) n) _ _ refl
+    (unnamed (ltb factorMost (c .factor)) _ _ refl
+    (unnamed (badCriticality (c .weighting)) _ _ refl refl))))
+    ∙ none))
+    (le-or-lt 1 table)
+
+-- with no sinks and one entry of work memory every call is refused, for a table or for another reason
+module _ (b : Block) (w : Weighting) (ds : List ℕ) (factor : ℕ) (histories others marks work : List ℕ) (short : length work ≡ 1) where
+  abbrev priced : Congestion
+  priced = weighedCongestion w ds factor histories others
+
   -- one entry is too few for any job
-  unfit : fitting b (congestionOf factor histories others) marks [] work ≡ false
+  unfit : fitting b priced marks [] work ≡ false
   unfit =
       ⊎-elim
-      (λ (q : fitting b (congestionOf factor histories others) marks [] work ≡ true).
-      absurd (let f = fitted b (congestionOf factor histories others) marks [] work q in let some = f .some in let enough = f .enough in omega arith))
+      (λ (q : fitting b priced marks [] work ≡ true).
+      absurd (let f = fitted b priced marks [] work q in let some = f .some in let enough = f .enough in omega arith))
       (λ q. q)
-      (either-way (fitting b (congestionOf factor histories others) marks [] work))
+      (either-way (fitting b priced marks [] work))
 
-  refused-table : 1 ≤ faultyTable b → pathReply b (congestionOf factor histories others) marks [] work .refusal ≡ 5 ∷ faultyTable b ∷ []
-  unfolding pathReply faultyWithSinks
-  refused-table h =
-      rw (unfit, le-leb 1 (faultyTable b) h, refusal-table (faultyTable b) (block.nodes b) factor (length work) histories others marks h)
+  -- of what prices the turn the tables' test reads the delays alone
+  no-sinks : faultyWithSinks b priced [] ≡ faultyWithDelays b (weighedCongestion w ds 0 [] [])
+  unfolding faultyWithSinks faultyWithDelays search.sinkListSound every
+  no-sinks =
+      ⊎-elim (λ (q : leb 1 (faultyTable b) ≡ true). rw q) (λ (q : leb 1 (faultyTable b) ≡ false). rw q) (either-way (leb 1 (faultyTable b)))
 
-  refused-work : faultyTable b < 1 → pathReply b (congestionOf factor histories others) marks [] work .refusal ≡ 6 ∷ 8 * block.nodes b ∷ []
-  unfolding pathReply faultyWithSinks search.sinkListSound every
-  refused-work h =
-      let none : faultyTable b ≡ 0 = omega arith in
-      let some : 1 ≤ block.nodes b = kinds-some (b .kinds) (sound-of b none .kinds-sound) in
-      rw (unfit, lt-leb 1 (faultyTable b) h, refusal-work 0 (block.nodes b) factor (length work) histories others marks (omega arith) (omega arith))
+  refused : tableNamed (pathReply b priced marks [] work .refusal) ≡ faultyWithDelays b (weighedCongestion w ds 0 [] [])
+  unfolding pathReply
+  refused = rw unfit (named-table (faultyWithSinks b priced []) (block.nodes b) (length work) priced marks ∙ no-sinks)
 
-  pub named : {r answered : PathAnswer} (left : List ℕ) → pathReplyOf r left ≡ pathReply b (congestionOf factor histories others) marks [] work → r ≡ answered → tableNamed (pathReplyOf answered left .refusal) ≡ faultyTable b
-  named left e t =
-      ap (λ a. tableNamed (pathReplyOf a left .refusal)) (sym t)
-      ∙ ap (λ a. tableNamed (a .refusal)) e
-      ∙ ⊎-elim
-      (λ (h : 1 ≤ faultyTable b). ap tableNamed (refused-table h))
-      (λ (h : faultyTable b < 1). ap tableNamed (refused-work h) ∙ omega arith)
-      (le-or-lt 1 (faultyTable b))
+  pub named :
+      {r answered : PathAnswer} (left : List ℕ) → pathReplyOf r left ≡ pathReply b priced marks [] work → r ≡ answered
+      → tableNamed (pathReplyOf answered left .refusal) ≡ faultyWithDelays b (weighedCongestion w ds 0 [] [])
+  named left e t = ap (λ a. tableNamed (pathReplyOf a left .refusal)) (sym t) ∙ ap (λ a. tableNamed (a .refusal)) e ∙ refused
+
+pub named-untimed : {r : ℕ} (b : Block) (ds : List ℕ) → r ≡ faultyWithDelays b (weighedCongestion untimed ds 0 [] []) → r ≡ faultyTable b
+unfolding faultyWithDelays
+named-untimed b ds e =
+    e
+    ∙ ⊎-elim
+    (λ (h : 1 ≤ faultyTable b). rw (le-leb 1 (faultyTable b) h))
+    (λ (h : faultyTable b < 1). let none : 0 ≡ faultyTable b = omega arith in rw (lt-leb 1 (faultyTable b) h) none)
+    (le-or-lt 1 (faultyTable b))

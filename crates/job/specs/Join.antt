@@ -7,7 +7,7 @@ use lib.Dec.{eqb}
 use lib.ListN.{length, getD}
 use Rattle.price.specs.Test.{choose}
 use Rattle.price.specs.Lists.{has, upTo, placeOf}
-use Rattle.job.specs.Job.{Job, nets, source}
+use Rattle.job.specs.Job.{Job, nets, source, ifTimed}
 
 -- of table 5: the first net of net i's source
 unfoldable pub firstOf : List ℕ → ℕ → ℕ
@@ -51,7 +51,8 @@ unfoldable pub placesBefore : Job → ℕ → List ℕ
 placesBefore j zero = []
 placesBefore j (suc k) = placesBefore j k ++ joinedPlaces j k
 
--- the job of joined nets: "The joined net routes under the first one's number", with the same sources; the others have no sinks
+-- the job of joined nets: "The joined net routes under the first one's number", with the same sources; the others have no sinks. Request
+-- 2.9: "After a join of nets under 2.3 the first listing's criticality counts."
 abbrev pub joined : Job → Job
 joined j =
     record {
@@ -59,5 +60,7 @@ joined j =
       sources = j .sources;
       firstSinks = upTo (λ i. length (placesBefore j i)) (nets j + 1);
       sinks = entriesAt (j .sinks) (placesBefore j (nets j));
+      delays = j .delays;
+      criticalities = ifTimed (j .terms) (entriesAt (j .criticalities) (placesBefore j (nets j)));
       terms = j .terms;
     }

@@ -1,5 +1,5 @@
--- Document 01, "Tables and bounds", with the pins' kinds of request 2.5: the rules of tables 5 to 8, and the lowest table of all eight that
--- breaks its rule. A table's length is part of its rule.
+-- Document 01, "Tables and bounds", with the pins' kinds of request 2.5 and the two tables of timed jobs of request 2.9: the rules of
+-- tables 5 to 10, and the lowest table of all that breaks its rule. A table's length is part of its rule.
 -- Assumes nothing.
 use mathlib.Core.Bool.{Bool, true, not}
 use mathlib.Core.List.{List}
@@ -8,10 +8,10 @@ use Prim.Native.Nat.{ℕ, _+_}
 use lib.Dec.{leb, ltb, eqb}
 use lib.ListN.{length, getD}
 use Rattle.price.specs.Test.{choose, both, either}
-use Rattle.price.specs.Bounds.{limitMost}
+use Rattle.price.specs.Bounds.{limitMost, criticalityMost, timedNodesMost, timedLimitMost}
 use Rattle.price.specs.Lists.{every, neighbours, has, distinct, upTo}
 use Rattle.price.specs.Tuning.{tuningSound}
-use Rattle.search.specs.Tables.{faultyTable, Sound}
+use Rattle.search.specs.Tables.{faultyTable, delaysSound, Sound}
 use Rattle.search.specs.Replies.{sinksMost}
 use Rattle.job.specs.Job.{Job, nodes, nets, sinksBetween}
 use Rattle.job.specs.declared.Terms.{Terms}
@@ -90,11 +90,31 @@ faultyNets kinds sources firstSinks sinks terms =
     6)
     5
 
+-- request 2.9: "criticality 0 to 9 in tenths (table 10, a byte a sink)"
+unfoldable pub criticalitiesSound : ℕ → List ℕ → Bool
+criticalitiesSound sinks criticalities =
+    both (eqb (length criticalities) sinks) (every (λ c. leb c criticalityMost) criticalities)
+
+-- "In timed jobs alone 4 and 5 cover both.": 9 or 10, 0 where neither breaks its rule
+unfoldable pub faultyTimes : Terms → ℕ → ℕ → List ℕ → List ℕ → ℕ
+faultyTimes terms n sinks delays criticalities =
+    choose (terms .timed) (choose (delaysSound n delays) (choose (criticalitiesSound sinks criticalities) 0 10) 9) 0
+
+-- the lowest of tables 1 to 8 that breaks its rule, 0 where none does
+unfoldable pub faultyUntimed : Job → ℕ
+faultyUntimed j =
+    choose (leb 1 (faultyTable (j .block))) (faultyTable (j .block))
+    (faultyNets (j .block .kinds) (j .sources) (j .firstSinks) (j .sinks) (j .terms))
+
 -- "lowest table that breaks its rule", 0 where none does
 unfoldable pub faultyJob : Job → ℕ
 faultyJob j =
-    choose (leb 1 (faultyTable (j .block))) (faultyTable (j .block))
-    (faultyNets (j .block .kinds) (j .sources) (j .firstSinks) (j .sinks) (j .terms))
+    choose (leb 1 (faultyUntimed j)) (faultyUntimed j)
+    (faultyTimes (j .terms) (nodes j) (length (j .sinks)) (j .delays) (j .criticalities))
+
+-- "A timed job has at most 1,024 nodes and a limit of at most 40.": one that exceeds either, by its node count and its terms
+unfoldable pub exceeds : ℕ → Terms → Bool
+exceeds n terms = both (terms .timed) (either (ltb timedNodesMost n) (ltb timedLimitMost (terms .limit)))
 
 -- "Tables are sound when each numbered one has its length and keeps its rule."
 pub record SoundJob (j : Job) : Type 0 where
@@ -105,3 +125,5 @@ pub record SoundJob (j : Job) : Type 0 where
   pub sinks-sound : sinksSound (nodes j) (j .sources) (j .firstSinks) (j .sinks) ≡ true
   pub sink-pins : sinkPins (j .block .kinds) (j .sinks) ≡ true
   pub terms-sound : termsSound (j .terms) ≡ true
+  pub delays-sound : j .terms .timed ≡ true → delaysSound (nodes j) (j .delays) ≡ true
+  pub criticalities-sound : j .terms .timed ≡ true → criticalitiesSound (length (j .sinks)) (j .criticalities) ≡ true

@@ -1,18 +1,21 @@
 // The terms of a job, which a refusal counts as table 8.
 ghost use mathlib.Core.Path.{_≡_};
-ghost use Rattle.price.specs.Tuning.{tuningSound};
 ghost use Rattle.job.specs.Job.{plainTerms};
-ghost use Rattle.job.specs.Tables.{ruleSound, termsSound};
+ghost use Rattle.job.specs.Tables.{ruleSound, termsSound, exceeds as exceedsBounds};
 use crate::Terms;
-use price::Tuning;
+use crate::tuning_sound;
+use search::TIMED_NODES_MOST;
 
 // The largest limit of iterations.
 const LIMIT_MOST: u32 = 100;
 
+// The largest limit of a timed job.
+const TIMED_LIMIT_MOST: u32 = 40;
+
 // The largest iteration after which rule 2 may be followed.
 const UNTIL_MOST: u32 = 99;
 
-// The terms of a job that asks for no tuning and no rule.
+// The terms of a job that asks for no tuning and no rule and is not timed.
 pub fn plain_terms(limit: u32) -> Terms
     ensures { λ r. ⌜ r ≡ plainTerms limit ⌝ }
 {
@@ -21,14 +24,8 @@ pub fn plain_terms(limit: u32) -> Terms
         tuning: price::plain_tuning(),
         rule: 1,
         until: 1,
+        timed: false,
     }
-}
-
-// Each number of a tuning keeps its bounds.
-pub fn tuning_sound(tuning: Tuning) -> bool
-    ensures { λ r. ⌜ r ≡ tuningSound tuning ⌝ }
-{
-    price::tuning_sound(tuning)
 }
 
 // The rule is 1 or 2, and the last iteration before rule 2 is followed keeps its bounds.
@@ -61,4 +58,17 @@ pub fn terms_sound(terms: Terms) -> bool
         return false;
     }
     rule_sound(terms.rule, terms.until)
+}
+
+// A timed job has more nodes, or a larger limit, than it may.
+pub fn exceeds(nodes: usize, terms: Terms) -> bool
+    ensures { λ r. ⌜ r ≡ exceedsBounds nodes terms ⌝ }
+{
+    if !terms.timed {
+        return false;
+    }
+    if TIMED_NODES_MOST < nodes {
+        return true;
+    }
+    TIMED_LIMIT_MOST < terms.limit
 }

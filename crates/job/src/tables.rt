@@ -1,5 +1,6 @@
-// Tests of tables 5 to 8.
+// Tests of tables 5 to 10, and of all tables together.
 ghost use mathlib.Core.Bool.{true};
+ghost use mathlib.Core.List.{[]};
 ghost use mathlib.Core.Path.{_≡_};
 ghost use Prim.Native.Nat.{ℕ, _≤_, _<_};
 ghost use lib.Dec.{ltb};
@@ -8,14 +9,19 @@ ghost use Rattle.price.specs.Bounds.{nodesMost};
 ghost use Rattle.price.specs.Lists.{neighbours};
 ghost use Rattle.search.specs.Block.{blockOf};
 ghost use Rattle.search.specs.Tables.{faultyTable};
+ghost use Rattle.search.specs.Turn.{weighedCongestion};
+ghost use Rattle.search.specs.Replies.{faultyWithDelays};
 ghost use Rattle.job.specs.Job.{jobOf};
 ghost use Rattle.job.specs.Steps.{AllBelow, Stored, sinksFree};
-ghost use Rattle.job.specs.Tables.{netsMost, sourcesSound, firstSinksSound, netSound, sinksSound, faultyNets, faultyJob};
+ghost use Rattle.job.specs.Tables.{netsMost, sourcesSound, firstSinksSound, netSound, sinksSound, faultyNets};
+ghost use Rattle.job.specs.Tables.{criticalitiesSound, faultyTimes, faultyJob};
 use crate::NETS_MOST;
 use crate::Terms;
 use crate::job_terms;
 use crate::pins;
 use crate::pins::Pin;
+use price::CRITICALITY_MOST;
+use price::Weighting;
 use search::NODES_MOST;
 use search::PathAnswer;
 use search::SINKS_MOST;
@@ -170,12 +176,19 @@ fn faulty_nets(kind: &[u8], source: &[u16], first_sink: &[u32], sink: &[u16], te
     0
 }
 
-// The lowest of tables 1 to 4 that breaks its rule, 0 where none does: the cheapest path tests them first, and a work slice of one entry is
-// too short for any job.
-pub fn faulty_block(kind: &[u8], capacity: &[u8], first_edge: &[u32], edge_target: &[u16]) -> u32
+// The lowest of tables 1 to 4 that breaks its rule, else 9 for bad delays where they are weighed, 0 where none does: the cheapest path
+// tests them first, and a work slice of one entry is too short for any job.
+fn faulty_with_delays(
+    kind: &[u8],
+    capacity: &[u8],
+    first_edge: &[u32],
+    edge_target: &[u16],
+    weighting: Weighting,
+    delay: &[u16],
+) -> u32
     ensures { λ r. do
       let block = blockOf (now (kind .entry)) (now (capacity .entry)) (now («first_edge» .entry)) (now («edge_target» .entry))
-      ⌜ r ≡ faultyTable block ⌝ }
+      ⌜ r ≡ faultyWithDelays block (weighedCongestion weighting (now (delay .entry)) 0 [] []) ⌝ }
 {
     let mut none = [0u64; 1];
     let history = [0u32; 1];
@@ -187,6 +200,8 @@ pub fn faulty_block(kind: &[u8], capacity: &[u8], first_edge: &[u32], edge_targe
         capacity,
         first_edge,
         edge_target,
+        weighting,
+        delay,
         0,
         &mut none,
         &history,
@@ -197,6 +212,7 @@ pub fn faulty_block(kind: &[u8], capacity: &[u8], first_edge: &[u32], edge_targe
         PathAnswer::BadTable(table) => table,
         PathAnswer::ShortWork(_) => 0,
         PathAnswer::BadNumber(_) => 0,
+        PathAnswer::TooLarge(_) => 0,
         PathAnswer::Stuck => 0,
         PathAnswer::Joins {
             place: _,
@@ -206,7 +222,69 @@ pub fn faulty_block(kind: &[u8], capacity: &[u8], first_edge: &[u32], edge_targe
     }
 }
 
-// The lowest of all eight tables that breaks its rule, 0 where none does.
+// The lowest of tables 1 to 4 that breaks its rule, 0 where none does.
+pub fn faulty_block(kind: &[u8], capacity: &[u8], first_edge: &[u32], edge_target: &[u16]) -> u32
+    ensures { λ r. do
+      let block = blockOf (now (kind .entry)) (now (capacity .entry)) (now («first_edge» .entry)) (now («edge_target» .entry))
+      ⌜ r ≡ faultyTable block ⌝ }
+{
+    let untimed = Weighting {
+        timed: false,
+        criticality: 0,
+    };
+    let delay = [0u16; 1];
+    faulty_with_delays(kind, capacity, first_edge, edge_target, untimed, &delay)
+}
+
+// Table 10: a criticality a sink, each 0 to 9.
+fn criticalities_sound(sinks: usize, criticality: &[u8]) -> bool
+    ensures { λ r. ⌜ r ≡ criticalitiesSound sinks (now (criticality .entry)) ⌝ }
+{
+    if criticality.len() != sinks {
+        return false;
+    }
+    let mut i = 0;
+    while i < criticality.len() {
+        if CRITICALITY_MOST < criticality[i] as u32 {
+            return false;
+        }
+        i += 1;
+    }
+    true
+}
+
+// 9 or 10 where a timed job's table breaks its rule, once tables 1 to 4 keep theirs; 0 where none does.
+fn faulty_times(
+    kind: &[u8],
+    capacity: &[u8],
+    first_edge: &[u32],
+    edge_target: &[u16],
+    sinks: usize,
+    delay: &[u16],
+    criticality: &[u8],
+    terms: Terms,
+) -> u32
+    requires { ⌜ faultyTable (blockOf (now kind) (now capacity) (now «first_edge») (now «edge_target»)) ≡ 0 ⌝ }
+    ensures { λ r. ⌜ r ≡ faultyTimes terms (length (now (kind .entry))) sinks (now (delay .entry)) (now (criticality .entry)) ⌝ }
+{
+    if !terms.timed {
+        return 0;
+    }
+    let weighed = Weighting {
+        timed: true,
+        criticality: 0,
+    };
+    let delays = faulty_with_delays(kind, capacity, first_edge, edge_target, weighed, delay);
+    if 1 <= delays {
+        return delays;
+    }
+    if !criticalities_sound(sinks, criticality) {
+        return 10;
+    }
+    0
+}
+
+// The lowest of all tables that breaks its rule, 0 where none does. Tables 9 and 10 are read in timed jobs alone.
 pub fn faulty_job(
     kind: &[u8],
     capacity: &[u8],
@@ -215,16 +293,31 @@ pub fn faulty_job(
     source: &[u16],
     first_sink: &[u32],
     sink: &[u16],
+    delay: &[u16],
+    criticality: &[u8],
     terms: Terms,
 ) -> u32
     ensures { λ r. do
       let job = jobOf (now (kind .entry)) (now (capacity .entry)) (now («first_edge» .entry)) (now («edge_target» .entry))
-          (now (source .entry)) (now («first_sink» .entry)) (now (sink .entry)) terms
+          (now (source .entry)) (now («first_sink» .entry)) (now (sink .entry)) (now (delay .entry)) (now (criticality .entry)) terms
       ⌜ r ≡ faultyJob job ⌝ }
 {
     let table = faulty_block(kind, capacity, first_edge, edge_target);
     if 1 <= table {
         return table;
     }
-    faulty_nets(kind, source, first_sink, sink, terms)
+    let nets = faulty_nets(kind, source, first_sink, sink, terms);
+    if 1 <= nets {
+        return nets;
+    }
+    faulty_times(
+        kind,
+        capacity,
+        first_edge,
+        edge_target,
+        sink.len(),
+        delay,
+        criticality,
+        terms,
+    )
 }

@@ -1,6 +1,6 @@
 -- Request 2.8, of a run that refusal 9 ended: its log is the job's own under a larger limit, and taken up there it ends as the straight run.
 -- Assumes nothing.
-use mathlib.Core.Bool.{true}
+use mathlib.Core.Bool.{true, false}
 use mathlib.Core.List.{List, [], _∷_, _++_}
 use mathlib.Core.Logic.{⊎-elim}
 use mathlib.Core.Path.{_≡_, refl, sym, _∙_, ap, subst}
@@ -9,16 +9,16 @@ use native.Mathlib.Omega.{arith}
 use lib.ListN.{length, drop, length-append}
 use lib.Seq.{drop-append-add, drop-drop}
 use Rattle.price.specs.Lists.{firstBelow}
-use Rattle.price.proofs.TestLaws.{both-left, le-or-lt}
+use Rattle.price.proofs.TestLaws.{either-way, both-left, le-or-lt}
 use Rattle.price.proofs.BelowLaws.{firstBelow-below}
 use Rattle.search.specs.Replies.{workNeeded}
 use Rattle.job.specs.Job.{Job, nodes}
-use Rattle.job.specs.Tables.{limitSound, termsSound, faultyJob}
+use Rattle.job.specs.Tables.{limitSound, termsSound, faultyJob, exceeds}
 use Rattle.job.specs.Join.{joined}
 use Rattle.negotiation.specs.Records.{Record, encode, fitting}
 use Rattle.negotiation.specs.Machine.{State, Progress, firstState, recordsAfter, settlesAt}
 use Rattle.negotiation.specs.Outcome.{RouteReply, begun, allRecords, loggedRecords, endIteration, endNumbers, logWith, refusedReply, ranReply, continued, routeReply}
-use Rattle.negotiation.specs.Longer.{withLimit}
+use Rattle.negotiation.specs.Longer.{withLimit, AllowedLimit}
 use Rattle.negotiation.specs.Resume.{OwnLog}
 use Rattle.negotiation.specs.Resumed.{ResumedAfterLimit}
 use Rattle.job.proofs.JobLaws.{sound-job, limit-least}
@@ -26,7 +26,7 @@ use Rattle.negotiation.proofs.RecordLaws.{encode-append, fitting-all, f
 use Rattle.negotiation.proofs.TurnStepLaws.{log-length}
 use Rattle.negotiation.proofs.EndLaws.{whole-reply}
 use Rattle.negotiation.proofs.LimitLaws.{leftUnder, settles-alike, records-alike, first-alike, all-alike, none-settles, made-late, end-unsettled, raised-records}
-use Rattle.negotiation.proofs.RefusalLaws.{route-table, route-work}
+use Rattle.negotiation.proofs.RefusalLaws.{route-table, route-large, route-work}
 use Rattle.negotiation.proofs.ReplyLogLaws.{LogHas, log-words, ran-log, full-or-fits}
 use Rattle.negotiation.proofs.LongerHolds.{Refused, Runs, enough-alike, refused-or-runs, joined-limit, low-runs, low-refused, high-runs}
 use Rattle.negotiation.proofs.OwnResumeHolds.{own-resumed}
@@ -61,7 +61,7 @@ one-number : (n m : ℕ) (ns ms left log : List ℕ) (r : RouteReply) → r ≡ 
 one-number n m ns ms left log r e f = let both = sym (ap (λ (r : RouteReply). r .refusal) e) ∙ f in cc
 
 module _ (j : Job) (work log : List ℕ) (numbers : List ℕ) (limited : routeReply j work log .refusal ≡ 9 ∷ numbers) where
-  -- 5 and 6 have not come first
+  -- 5, 15 and 6 have not come first
   not-faulty : faultyJob j < 1
   not-faulty =
       ⊎-elim
@@ -71,12 +71,22 @@ module _ (j : Job) (work log : List ℕ) (numbers : List ℕ) (limited : routeRe
       (λ h. h)
       (le-or-lt 1 (faultyJob j))
 
+  not-large : exceeds (nodes j) (j .terms) ≡ false
+  not-large =
+      ⊎-elim
+      (λ (h : exceeds (nodes j) (j .terms) ≡ true).
+      let z : 15 ≡ 9 = one-number 15 9 (nodes j ∷ j .terms .limit ∷ []) numbers work log (routeReply j work log) (route-large j work log not-faulty h) limited in
+      absurd (omega arith))
+      (λ h. h)
+      (either-way (exceeds (nodes j) (j .terms)))
+
   not-short : workNeeded (nodes j) ≤ length work
   not-short =
       ⊎-elim
       (λ h. h)
       (λ (h : length work < workNeeded (nodes j)).
-      let z : 6 ≡ 9 = one-number 6 9 (workNeeded (nodes j) ∷ []) numbers work log (routeReply j work log) (route-work j work log not-faulty h) limited in
+      let z : 6 ≡ 9 =
+      one-number 6 9 (workNeeded (nodes j) ∷ []) numbers work log (routeReply j work log) (route-work j work log not-faulty not-large h) limited in
       absurd (omega arith))
       (le-or-lt (workNeeded (nodes j)) (length work))
 
@@ -146,23 +156,24 @@ module _ (k : Job) (low over : ℕ) (work log : List ℕ) (some : 1 ≤ low)
 pub resumed-after-limit : (j : Job) (low high : ℕ) (work log work′ : List ℕ) → ResumedAfterLimit j low high work log work′
 resumed-after-limit j low high work log work′ over limited h less enough′ =
     let a : RouteReply = routeReply (withLimit j low) work log in
-    let l : limitSound low ≡ true = limit-sound (withLimit j low) work log (low ∷ over ∷ []) limited in
+    let sound : limitSound low ≡ true = limit-sound (withLimit j low) work log (low ∷ over ∷ []) limited in
+    let l : AllowedLimit j low = record { sound = sound; within = not-large (withLimit j low) work log (low ∷ over ∷ []) limited } in
     let enough : workNeeded (nodes j) ≤ length work = not-short (withLimit j low) work log (low ∷ over ∷ []) limited in
     ⊎-elim
     (λ (r : Refused (withLimit j low) work work′).
-    let z : r .number ≡ 9 =
-    one-number (r .number) 9 (r .numbers) (low ∷ over ∷ []) (r .left) log a (low-refused j low high l h work log work′ log r) limited in
-    absurd (omega (arith, r .number-most)))
+    absurd
+    (r .not-limit
+    (one-number (r .number) 9 (r .numbers) (low ∷ over ∷ []) (r .left) log a (low-refused j low high l h work log work′ log r) limited)))
     (λ (r : Runs (withLimit j low) work work′).
     let k : Job = joined j in
     let left : a ≡ continued (withLimit k low) (begun k) work log = low-runs j low high l h work log work′ log r in
     let ended : continued (withLimit k low) (begun k) work log .refusal ≡ 9 ∷ low ∷ over ∷ [] = sym (ap (λ (r : RouteReply). r .refusal) left) ∙ limited in
     let own : OwnLog (joined (withLimit j high)) low (a .used) (a .log) =
     subst (λ (q : Job). OwnLog q low (a .used) (a .log)) (sym (joined-limit j high))
-    (subst (λ (r : RouteReply). OwnLog (withLimit k high) low (r .used) (r .log)) (sym left) (low-own k low over work log (limit-least low l) ended high less)) in
+    (subst (λ (r : RouteReply). OwnLog (withLimit k high) low (r .used) (r .log)) (sym left) (low-own k low over work log (limit-least low sound) ended high less)) in
     own-resumed (withLimit j high) low (a .used) work′ (a .log) own .in-place
     ∙ high-runs j low high l h work log work′ (a .log) r
     ∙ ap (λ (r : RouteReply). continued (withLimit k high) (begun k) work′ (r .log)) left
-    ∙ low-again k low over work log (limit-least low l) ended high less work′
+    ∙ low-again k low over work log (limit-least low sound) ended high less work′
     ∙ sym (high-runs j low high l h work log work′ log r))
     (refused-or-runs (withLimit j low) work work′ (enough-alike (withLimit j low) work work′ enough enough′))

@@ -10,13 +10,13 @@ use lib.Dec.{leb, ltb}
 use lib.ListN.{length}
 use borrow.Author.Tests.{leb-false, ltb-true, ltb-false}
 use Rattle.price.specs.Test.{choose}
-use Rattle.price.specs.Bounds.{limitMost, pathMost}
+use Rattle.price.specs.Bounds.{pathMost}
 use Rattle.price.specs.Lists.{firstBelow}
 use Rattle.price.proofs.TestLaws.{either-way}
 use Rattle.price.proofs.PriceLaws.{path-fits}
 use Rattle.search.specs.Replies.{workNeeded, cleared}
 use Rattle.job.specs.Job.{Job, nodes, nets}
-use Rattle.job.specs.Tables.{faultyJob, SoundJob}
+use Rattle.job.specs.Tables.{faultyJob, exceeds, SoundJob}
 use Rattle.negotiation.specs.Records.{Record, encode}
 use Rattle.negotiation.specs.Machine.{State, Progress, recordsAfter, settlesAt}
 use Rattle.negotiation.specs.Outcome.{RouteReply, wordsUsed, turnsLogged, refusedReply, unreachableNet, unreachablePlace, iterationsMade, begun, iterationsLeft, madeFrom, allRecords, loggedRecords, endNumbers, continued, negotiated, tested, routeReply}
@@ -111,7 +111,7 @@ module _ (j : Job) (work log : List ℕ) (r : RouteReply) (h : Facts j [] r) whe
       }
 
   costs-of : CostsFit r
-  costs-of = record { below = λ earlier later t e. h .each earlier later t (sym (logged-is j [] r h) ∙ e) .1; fits = path-fits }
+  costs-of = record { below = λ earlier later t e. h .each earlier later t (sym (logged-is j [] r h) ∙ e) .1; fits = path-fits; timed-fits = omega arith }
 
 -- ---- a run of joined nets
 
@@ -122,11 +122,10 @@ module _ (j : Job) (sound : Routable j) (all : Reached j) {m : ℕ} {rs : List R
   unfolding iterationsLeft
   made-some = let t = ran-iteration j r in some-made j s (iterationsLeft j s) (omega arith)
 
-  made-few : m + madeFrom j s ≤ limitMost
+  made-few : m + madeFrom j s ≤ j .terms .limit
   unfolding iterationsLeft
   made-few =
       let t = ran-iteration j r in
-      let few = sound .limit-few in
       let most = made-most j s (iterationsLeft j s) in
       omega arith
 
@@ -140,7 +139,7 @@ module _ (j : Job) (sound : Routable j) (all : Reached j) {m : ℕ} {rs : List R
   run-final e =
       let made : ℕ = madeFrom j s in
       let some : 1 ≤ made = made-some in
-      let few : m + made ≤ limitMost = made-few in
+      let few : m + made ≤ j .terms .limit = made-few in
       let last : made ≡ suc (made - 1) = omega arith in
       let settled : settlesAt j s (made - 1) ≡ true = chosen-none _ _ _ e in
       rw last (final-trees-hold j sound all r (made - 1) (omega arith) settled)
@@ -184,17 +183,21 @@ module _ (j : Job) (work log : List ℕ) where
       let none : faultyJob j < 1 = leb-false 1 (faultyJob j) t in
       let sound : SoundJob j = sound-job j (omega arith) in
       ⊎-elim
-      (λ (u : ltb (length work) (workNeeded (nodes j)) ≡ true). rw (t, u) (refused 6 (workNeeded (nodes j) ∷ []) work (λ _ z. omega arith)))
+      (λ (x : exceeds (nodes j) (j .terms) ≡ true). rw (t, x) (refused 15 (nodes j ∷ j .terms .limit ∷ []) work (λ _ z. omega arith)))
+      (λ (x : exceeds (nodes j) (j .terms) ≡ false).
+      ⊎-elim
+      (λ (u : ltb (length work) (workNeeded (nodes j)) ≡ true). rw (t, x, u) (refused 6 (workNeeded (nodes j) ∷ []) work (λ _ z. omega arith)))
       (λ (u : ltb (length work) (workNeeded (nodes j)) ≡ false).
       ⊎-elim
       (λ (v : ltb (unreachableNet (joined j)) (nets j) ≡ true).
-      rw (t, u, v)
+      rw (t, x, u, v)
       (refused 7 (unreachableNet (joined j) ∷ unreachablePlace (joined j) ∷ []) (cleared (nodes j) [] work)
-      (λ all _. none-unreachable (joined j) (joined-routable j sound) (joined-reachable j sound all) (ltb-true _ _ v))))
+      (λ all _. none-unreachable (joined j) (joined-routable j sound x) (joined-reachable j sound all) (ltb-true _ _ v))))
       (λ (v : ltb (unreachableNet (joined j)) (nets j) ≡ false).
-      rw (t, u, v) (runs (joined-routable j sound) (all-reached (joined j) (ltb-false _ _ v))))
+      rw (t, x, u, v) (runs (joined-routable j sound x) (all-reached (joined j) (ltb-false _ _ v))))
       (either-way (ltb (unreachableNet (joined j)) (nets j))))
       (either-way (ltb (length work) (workNeeded (nodes j)))))
+      (either-way (exceeds (nodes j) (j .terms))))
       (either-way (leb 1 (faultyJob j)))
 
   -- a refusal before any turn leaves no record

@@ -11,9 +11,10 @@ use lib.Dec.{ltb}
 use lib.ListN.{getD}
 use borrow.Author.Tests.{ltb-false, lt-ltb, eqb-true, eq-eqb, not-true, not-false}
 use Rattle.price.specs.Test.{choose}
-use Rattle.price.specs.Bounds.{limitMost, pathMost}
+use Rattle.price.specs.Bounds.{pathMost}
 use Rattle.price.specs.Lists.{every, has, upTo, firstBelow, countBelow, total}
 use Rattle.price.specs.Prices.{priceOf}
+use Rattle.price.specs.Timed.{weighed}
 use Rattle.price.proofs.TestLaws.{either-way, true≢false}
 use Rattle.price.proofs.ListLaws.{every-at, every-all, has-at, has-place, getD-upTo}
 use Rattle.price.proofs.BelowLaws.{firstBelow-below, firstBelow-holds}
@@ -22,7 +23,7 @@ use Rattle.search.specs.Block as block
 use Rattle.search.specs.Tables.{Graph}
 use Rattle.search.specs.Paths.{Walk, stay, step, pathCost, CheapestPath}
 use Rattle.search.specs.Distance.{inTree}
-use Rattle.search.specs.Turn.{priceAt}
+use Rattle.search.specs.Turn.{congestedAt, priceAt}
 use Rattle.search.proofs.BlockLaws.{graph-of, edge-to}
 use Rattle.search.proofs.DistinctLaws.{has-first}
 use Rattle.search.proofs.WalkLaws.{WalkEnd, step-cost, last-step}
@@ -30,13 +31,15 @@ use Rattle.search.proofs.EdgeLaws.{shaped}
 use Rattle.search.proofs.DistanceLaws.{path-near}
 use Rattle.job.specs.Job.{Job, nodes, nets, source, netSinks}
 use Rattle.negotiation.specs.Records.{Record}
+use Rattle.negotiation.specs.Order.{turnSinks, turnWeighting, turnCongestion}
+use Rattle.negotiation.specs.Resume.{turnPrice}
 use Rattle.negotiation.specs.Machine.{State, Progress, othersOf, usersOf, marksOf, congestionFor, netRecords, treeFrom, due, afterNets, iterate, overfull, overCount, moveOn, firstState, stateAfter, iterationAfter, recordsAfter, settlesAt}
 use Rattle.negotiation.specs.Outcome.{hasPath, unreachableNet}
-use Rattle.negotiation.specs.Demand.{ownTree, othersRead, historyRead, priceRead, TurnHolds, FinalTrees}
+use Rattle.negotiation.specs.Demand.{ownTree, othersRead, historyRead, congestedRead, priceRead, TurnHolds, FinalTrees}
 use Rattle.negotiation.specs.Unreachable.{AllReachable}
 use Rattle.negotiation.proofs.StateLaws.{route-if}
 use Rattle.negotiation.specs.Routable.{Routable}
-use Rattle.negotiation.proofs.NetLaws.{first-ready, turn-fair, NetTurn, turn-cost, net-turn}
+use Rattle.negotiation.proofs.NetLaws.{first-ready, congestion-fair, NetTurn, turn-cost, net-turn}
 use Rattle.negotiation.proofs.FilterLaws.{All, all-left, all-splits, Of}
 use Rattle.negotiation.proofs.RanLaws.{NetsRan, Ran, nets-iteration, nets-factor, ran-iteration, ran-factor, ran-users, ran-done, others-read, own-read, history-read}
 use Rattle.negotiation.proofs.MachineRan.{Reached, ran-ready, machine-nets, machine-ran}
@@ -165,7 +168,7 @@ walk-path j sound i x path h w =
     (last-step (λ (v : ℕ). 0) w) in
     lt-ltb _ _
     (path-near (j .block) (priceAt (j .block) (congestionFor j (firstState j) i)) (marksOf j (source j i ∷ [])) (shaped (j .block) (sound .block-sound))
-    (turn-fair j sound (firstState j) (first-ready j sound) i h) (source j i) x path node (mark-in j (source j i ∷ []) (source j i) at (has-first (source j i) [])) w)
+    (congestion-fair j sound (firstState j) (first-ready j sound) i h) (source j i) x path node (mark-in j (source j i ∷ []) (source j i) at (has-first (source j i) [])) w)
 
 -- where the first net with an unreachable sink is none, every sink has a path
 pub all-reached : (j : Job) → nets j ≤ unreachableNet j → Reached j
@@ -193,37 +196,44 @@ same-price kind capacity p q r = rw (p, q, r)
 -- a turn of net i in iteration k
 turn-of :
     (j : Job) (earlier before : List Record) (t : Record) (i k : ℕ) → t .net ≡ i → t .iteration ≡ k → earlier ≡ before
-    → CheapestPath (j .block) (priceRead j i k before) (λ v. has v (ownTree j i k before)) (netSinks j i) (t .sink) (t .cost) (t .path)
+    → CheapestPath (j .block) (priceRead j i k before) (λ v. has v (ownTree j i k before)) (turnSinks j i (ownTree j i k before)) (t .sink) (t .cost) (t .path)
     → TurnHolds j earlier t
 turn-of j earlier before t i k p q r c = rw (p, q, r) c
 
 -- the tree, by another list
 tree-as :
-    {b : Block} {price : ℕ → ℕ} {xs ys sinks : List ℕ} {sink cost : ℕ} {path : List ℕ} → xs ≡ ys
-    → CheapestPath b price (λ v. has v xs) sinks sink cost path → CheapestPath b price (λ v. has v ys) sinks sink cost path
-tree-as e c = rw e at c
+    (j : Job) (i : ℕ) {price : ℕ → ℕ} {xs ys : List ℕ} {sink cost : ℕ} {path : List ℕ} → xs ≡ ys
+    → CheapestPath (j .block) price (λ v. has v xs) (turnSinks j i xs) sink cost path → CheapestPath (j .block) price (λ v. has v ys) (turnSinks j i ys) sink cost path
+tree-as j i e c = rw e at c
 
 -- a turn of the machine's in a run: of net i, after its own records e and those before them in the run
-module _ (j : Job) (sound : Routable j) {m : ℕ} {rs : List Record} {s : State} (r : Ran j m rs s) (hm : m < limitMost)
+module _ (j : Job) (sound : Routable j) {m : ℕ} {rs : List Record} {s : State} (r : Ran j m rs s) (hm : m < j .terms .limit)
     {i : ℕ} {p : Progress} (n : NetsRan j s i p) (hi : i < nets j) where
-  -- the price read off the log is the state's
+  -- what is read off the log is the state's
   module _ (e : List Record) (own : All (Of i (m + 1)) e) where
     abbrev before : List Record
     before = (rs ++ p .records) ++ e
 
-    price-same : (v : ℕ) → v < nodes j → priceAt (j .block) (congestionFor j (p .state) i) v ≡ priceRead j i (m + 1) before v
-    unfolding priceAt congestionFor priceRead
-    price-same v h =
+    -- the net's own tree
+    own-same : treeFrom j i e ≡ ownTree j i (m + 1) before
+    unfolding ownTree
+    own-same = rw (own-read j r n hi e own)
+
+    -- a congestion price, and so a price
+    congested-same : (v : ℕ) → v < nodes j → congestedAt (j .block) (congestionFor j (p .state) i) v ≡ congestedRead j i (m + 1) before v
+    unfolding congestedAt congestionFor congestedRead
+    congested-same v h =
         let others : getD (upTo (othersOf j (p .state .trees) i) (nodes j)) v 0 ≡ othersRead j i before v =
         getD-upTo (othersOf j (p .state .trees) i) (nodes j) v 0 h ∙ sym (others-read j r n hi e own v) in
         let one : m + 1 - 1 ≡ m = omega arith in
         let history : getD (p .state .histories) v 0 ≡ historyRead j before (m + 1 - 1) v = rw one (sym (history-read j r n hi e own v h)) in
         same-price _ _ (nets-factor j n ∙ ran-factor j r) others history
 
-    -- and so is the net's own tree
-    own-same : treeFrom j i e ≡ ownTree j i (m + 1) before
-    unfolding ownTree
-    own-same = rw (own-read j r n hi e own)
+    price-same : (v : ℕ) → v < nodes j → turnPrice j (p .state) i (treeFrom j i e) v ≡ priceRead j i (m + 1) before v
+    unfolding priceAt congestedAt turnCongestion priceRead
+    price-same v h =
+        rw (← own-same)
+        (ap (weighed (turnWeighting j i (treeFrom j i e)) (getD (j .delays) v 0)) (congested-same v h))
 
   -- the records of the same net before a turn are of it and of this iteration
   own-all : (e rest : List Record) → netRecords j (p .state) i ≡ e ++ rest → All (Of i (m + 1)) e
@@ -243,7 +253,7 @@ module _ (j : Job) (sound : Routable j) {m : ℕ} {rs : List Record} {s : State}
       let own : All (Of i (m + 1)) e = own-all e (t ∷ rest) is in
       let turn : NetTurn j (p .state) i e t = net-turn j sound (p .state) (ran-ready j sound r n hm) i hi e rest t is in
       turn-of j earlier ((rs ++ p .records) ++ e) t i (m + 1) (turn .net-is) (turn .iteration-is ∙ nets-iteration j n ∙ ran-iteration j r) stands
-      (tree-as (own-same e own)
+      (tree-as j i (own-same e own)
       (cheapest-same (j .block) (graph-of (j .block) (sound .block-sound)) _ _ (price-same e own) (turn .cheapest)))
 
 regrouped :
@@ -252,7 +262,7 @@ regrouped rs earlier whole here nets own e f = rw (e, f) (simp append-assoc)
 
 -- whatever run leads to a state, the turns that the machine makes from there hold
 pub turn-holds :
-    (j : Job) → Routable j → Reached j → {m : ℕ} {rs : List Record} {s : State} → Ran j m rs s → (most : ℕ) → m + most ≤ limitMost
+    (j : Job) → Routable j → Reached j → {m : ℕ} {rs : List Record} {s : State} → Ran j m rs s → (most : ℕ) → m + most ≤ j .terms .limit
     → (earlier later : List Record) (t : Record) → recordsAfter j s most ≡ earlier ++ (t ∷ later) → TurnHolds j (rs ++ earlier) t
 turn-holds j sound all {m} {rs} {s} r most few earlier later t e =
     let c : RunSplit j s most earlier t = run-split j s most earlier later t e in
@@ -261,14 +271,14 @@ turn-holds j sound all {m} {rs} {s} r most few earlier later t e =
     let n : NetSplit j (stateAfter j s k) (nets j) (c .here) t = c .at in
     let i : ℕ = n .net in
     let net-below : i < nets j = n .below in
-    let hm : m + k < limitMost = omega arith in
+    let hm : m + k < j .terms .limit = omega arith in
     let ran : Ran j (m + k) (rs ++ recordsAfter j s k) (stateAfter j s k) = machine-ran j sound all r k (omega arith) in
     turn-here j sound ran hm (machine-nets j sound all ran hm i (omega arith)) net-below (n .own) (n .rest) t (n .is) (rs ++ earlier)
     (regrouped rs earlier (recordsAfter j s k) (c .here) (afterNets j (stateAfter j s k) i .records) (n .own) (c .before) (n .before))
 
 -- and their costs are below the bound on a path's
 pub turn-below :
-    (j : Job) → Routable j → Reached j → {m : ℕ} {rs : List Record} {s : State} → Ran j m rs s → (most : ℕ) → m + most ≤ limitMost
+    (j : Job) → Routable j → Reached j → {m : ℕ} {rs : List Record} {s : State} → Ran j m rs s → (most : ℕ) → m + most ≤ j .terms .limit
     → (earlier later : List Record) (t : Record) → recordsAfter j s most ≡ earlier ++ (t ∷ later) → t .cost < pathMost
 turn-below j sound all {m} {rs} {s} r most few earlier later t e =
     let c : RunSplit j s most earlier t = run-split j s most earlier later t e in
@@ -276,7 +286,7 @@ turn-below j sound all {m} {rs} {s} r most few earlier later t e =
     let below : k < most = c .below in
     let n : NetSplit j (stateAfter j s k) (nets j) (c .here) t = c .at in
     let net-below : n .net < nets j = n .below in
-    let hm : m + k < limitMost = omega arith in
+    let hm : m + k < j .terms .limit = omega arith in
     let ran : Ran j (m + k) (rs ++ recordsAfter j s k) (stateAfter j s k) = machine-ran j sound all r k (omega arith) in
     let ready = ran-ready j sound ran (machine-nets j sound all ran hm (n .net) (omega arith)) hm in
     turn-cost j sound _ ready (n .net) net-below (n .own) t (net-turn j sound _ ready (n .net) net-below (n .own) (n .rest) t (n .is))
@@ -293,7 +303,7 @@ settled-within j s m e v h =
 
 -- the trees after an iteration of the machine's that settles, whatever run leads there
 pub final-trees-hold :
-    (j : Job) → Routable j → Reached j → {m : ℕ} {rs : List Record} {s : State} → Ran j m rs s → (k : ℕ) → m + k < limitMost
+    (j : Job) → Routable j → Reached j → {m : ℕ} {rs : List Record} {s : State} → Ran j m rs s → (k : ℕ) → m + k < j .terms .limit
     → settlesAt j s k ≡ true → FinalTrees j (rs ++ recordsAfter j s (suc k))
 unfolding stateAfter moveOn
 final-trees-hold j sound all {m} {rs} {s} r k few settled =

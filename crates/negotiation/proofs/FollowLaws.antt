@@ -14,11 +14,11 @@ use Rattle.price.specs.Lists.{every, neighbours, has, distinct}
 use Rattle.price.proofs.TestLaws.{true≢false, both-left, both-right}
 use Rattle.search.specs.Block.{hasEdge}
 use Rattle.search.specs.Paths.{pathCost}
-use Rattle.search.specs.Turn.{priceAt}
-use Rattle.job.specs.Job.{Job, netSinks}
+use Rattle.job.specs.Job.{Job}
 use Rattle.negotiation.specs.Records.{words}
-use Rattle.negotiation.specs.Machine.{State, congestionFor}
-use Rattle.negotiation.specs.Resume.{pathIn, recordIn, wholeRecord, unjoined, firstAlone, endsAt, noOther, pathFollows, costFollows, turnFollows}
+use Rattle.negotiation.specs.Order.{turnSinks}
+use Rattle.negotiation.specs.Machine.{State}
+use Rattle.negotiation.specs.Resume.{pathIn, recordIn, wholeRecord, unjoined, firstAlone, endsAt, noOther, pathFollows, costFollows, turnPrice, turnFollows}
 
 -- ---- the path
 
@@ -29,16 +29,16 @@ pub record PathHolds (j : Job) (i : ℕ) (tree : List ℕ) (sink : ℕ) (path : 
   pub begins : has (getD path 0 0) tree ≡ true
   pub new-nodes : every (λ v. not (has v tree)) (drop 1 path) ≡ true
   pub ends : getD path (length path - 1) 0 ≡ sink
-  pub sink-listed : has sink (netSinks j i) ≡ true
+  pub sink-listed : has sink (turnSinks j i tree) ≡ true
   pub sink-open : has sink tree ≡ false
-  pub alone : noOther (netSinks j i) tree sink path ≡ true
+  pub alone : noOther (turnSinks j i tree) tree sink path ≡ true
 
 module _ (j : Job) (i : ℕ) (tree : List ℕ) (sink : ℕ) (path : List ℕ) where
   pub path-holds : pathFollows j i tree sink path ≡ true → PathHolds j i tree sink path
   unfolding pathFollows firstAlone endsAt unjoined
   path-holds f =
-      let others : Bool = noOther (netSinks j i) tree sink path in
-      let sinks : Bool = both (unjoined (netSinks j i) tree sink) others in
+      let others : Bool = noOther (turnSinks j i tree) tree sink path in
+      let sinks : Bool = both (unjoined (turnSinks j i tree) tree sink) others in
       let end : Bool = both (endsAt sink path) sinks in
       let first : Bool = both (firstAlone tree path) end in
       let nodes : Bool = both (distinct path) first in
@@ -47,16 +47,16 @@ module _ (j : Job) (i : ℕ) (tree : List ℕ) (sink : ℕ) (path : List ℕ) wh
       let with-end : end ≡ true = both-right (firstAlone tree path) end with-first in
       let with-sinks : sinks ≡ true = both-right (endsAt sink path) sinks with-end in
       let alone : firstAlone tree path ≡ true = both-left (firstAlone tree path) end with-first in
-      let lacking : unjoined (netSinks j i) tree sink ≡ true = both-left (unjoined (netSinks j i) tree sink) others with-sinks in
+      let lacking : unjoined (turnSinks j i tree) tree sink ≡ true = both-left (unjoined (turnSinks j i tree) tree sink) others with-sinks in
       record {
         edges = both-left (neighbours (hasEdge (j .block)) path) nodes f;
         once = both-left (distinct path) first with-nodes;
         begins = both-left (has (getD path 0 0) tree) (every (λ v. not (has v tree)) (drop 1 path)) alone;
         new-nodes = both-right (has (getD path 0 0) tree) (every (λ v. not (has v tree)) (drop 1 path)) alone;
         ends = eqb-true (getD path (length path - 1) 0) sink (both-left (endsAt sink path) sinks with-end);
-        sink-listed = both-left (has sink (netSinks j i)) (not (has sink tree)) lacking;
-        sink-open = not-true (has sink tree) (both-right (has sink (netSinks j i)) (not (has sink tree)) lacking);
-        alone = both-right (unjoined (netSinks j i) tree sink) others with-sinks;
+        sink-listed = both-left (has sink (turnSinks j i tree)) (not (has sink tree)) lacking;
+        sink-open = not-true (has sink tree) (both-right (has sink (turnSinks j i tree)) (not (has sink tree)) lacking);
+        alone = both-right (unjoined (turnSinks j i tree) tree sink) others with-sinks;
       }
 
   pub path-follows : PathHolds j i tree sink path → pathFollows j i tree sink path ≡ true
@@ -84,13 +84,13 @@ pub record Follows (j : Job) (s : State) (i : ℕ) (tree ws : List ℕ) : Type 0
   pub iteration-is : getD ws 0 0 ≡ s .iteration
   pub net-is : getD ws 1 0 ≡ i
   pub path : PathHolds j i tree (getD ws 2 0) (pathIn ws)
-  pub cost : costFollows (priceAt (j .block) (congestionFor j s i)) ws ≡ true
+  pub cost : costFollows (turnPrice j s i tree) ws ≡ true
 
 module _ (j : Job) (s : State) (i : ℕ) (tree ws : List ℕ) where
   pub follows-of : turnFollows j s i tree ws ≡ true → Follows j s i tree ws
   unfolding turnFollows
   follows-of f =
-      let cost : Bool = costFollows (priceAt (j .block) (congestionFor j s i)) ws in
+      let cost : Bool = costFollows (turnPrice j s i tree) ws in
       let path : Bool = pathFollows j i tree (getD ws 2 0) (pathIn ws) in
       let net : Bool = both (eqb (getD ws 1 0) i) (both path cost) in
       let names : Bool = both (eqb (getD ws 0 0) (s .iteration)) net in

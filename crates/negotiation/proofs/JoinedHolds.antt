@@ -1,4 +1,4 @@
--- Request 2.3's promises of joined nets, held for every sound job; that the joined job can be routed; where every sink has a path.
+-- The promises of requests 2.3 and 2.9 of joined nets, held for every sound job; that the joined job can be routed; where every sink has a path.
 -- Assumes nothing.
 use mathlib.Core.Bool.{true, false}
 use mathlib.Core.List.{List, [], _∷_}
@@ -10,6 +10,7 @@ use native.Mathlib.Numerals.{add-one}
 use native.Mathlib.Omega.{arith}
 use lib.ListN.{length, getD, length-map, length-append, List·getD-eq-default}
 use lib.Seq.{slice, slice-empty, slice-cons}
+use Rattle.price.specs.Bounds.{criticalityMost}
 use Rattle.price.specs.Lists.{neighbours, has, distinct, upTo}
 use Rattle.price.proofs.TestLaws.{either-way, true≢false, le-or-lt}
 use Rattle.price.proofs.ListLaws.{every-at, has-at, has-place, length-upTo, getD-upTo}
@@ -21,13 +22,15 @@ use Rattle.job.specs.Join.{firstOf, leads, placesFrom, listedPlaces, entriesAt,
 use Rattle.negotiation.specs.JoinSteps.{Joinable, listedCount}
 use Rattle.negotiation.specs.JoinedNets.{JoinedNets}
 use Rattle.negotiation.specs.Machine.{State, hasSinks, due}
-use Rattle.negotiation.specs.Routable.{Routable}
-use Rattle.job.specs.Tables.{SoundJob, sinkKind, oneOf, pinsOf}
+use Rattle.negotiation.specs.Routable.{Routable, Timing}
+use Rattle.job.specs.Tables.{SoundJob, exceeds, sinkKind, oneOf, pinsOf}
 use Rattle.negotiation.specs.Unreachable.{AllReachable}
 use Rattle.negotiation.proofs.DueLaws.{due-sinks}
-use Rattle.negotiation.proofs.RoutableLaws.{routable-of}
+use Rattle.negotiation.proofs.RoutableLaws.{nets-few, sinks-few, firsts-rise, no-source, routable-of}
+use Rattle.job.proofs.JobLaws.{firsts-long, firsts-most}
 use Rattle.job.proofs.FirstNetLaws.{first-below, first-source, first-leads}
 use Rattle.negotiation.proofs.JoinLaws.{ListedFor, joined-sinks, joined-for, first-once, first-rises, first-covers, before-more, places-few}
+use Rattle.negotiation.proofs.FirstListedLaws.{first-listed, joined-criticalities}
 use Rattle.negotiation.proofs.MemberLaws.{no-entry}
 use Rattle.negotiation.proofs.TakingLaws.{from-has, entry-has}
 
@@ -49,6 +52,19 @@ entries-place sinks (q ∷ qs) s h =
     (λ (e : s ≡ getD sinks q 0). (q, has-first q qs, sym e))
     (λ (r : has s (entriesAt sinks qs) ≡ true). let at = entries-place sinks qs s r in (at .0, has-rest (at .0) q qs (at .1), at .2))
     (has-cons s (getD sinks q 0) (entriesAt sinks qs) h)
+
+-- where no entry is above a bound, none at any place is, and none of those taken
+low-all : (most : ℕ) (cs : List ℕ) → ((p : ℕ) → p < length cs → getD cs p 0 ≤ most) → (p : ℕ) → getD cs p 0 ≤ most
+low-all most cs low p =
+    ⊎-elim
+    (λ (h : length cs ≤ p). rw (List·getD-eq-default cs 0 {n = p} h) (omega arith))
+    (λ (h : p < length cs). low p h)
+    (le-or-lt (length cs) p)
+
+entries-low : (most : ℕ) (cs : List ℕ) → ((p : ℕ) → getD cs p 0 ≤ most) → (ps : List ℕ) (k : ℕ) → getD (entriesAt cs ps) k 0 ≤ most
+entries-low most cs low [] k = omega arith
+entries-low most cs low (p ∷ ps) zero = low p
+entries-low most cs low (p ∷ ps) (suc k) = entries-low most cs low ps k
 
 -- ---- first nets and others
 
@@ -96,13 +112,12 @@ module _ (j : Job) (s : SoundJob j) where
 
   pub joinable-of : Joinable (j .sources) (j .firstSinks) (j .sinks)
   joinable-of =
-      let r = routable-of j s in
       record {
-        nets-few = r .nets-few;
-        firsts-long = r .firstSinks-long;
-        order = r .sinks-order;
-        end = r .sinks-end;
-        sinks-few = r .sinks-few;
+        nets-few = nets-few j s;
+        firsts-long = firsts-long _ _ _ (s .firstSinks-sound);
+        order = λ i h. let l = firsts-rise j s i h in omega (arith, l);
+        end = λ i h. firsts-most _ _ _ (s .firstSinks-sound) i h;
+        sinks-few = sinks-few j s;
         sinks-below = λ p h. le-trans (sink-node p h) (kinds-few (j .block .kinds) (s .block-sound .kinds-sound));
       }
 
@@ -155,14 +170,41 @@ module _ (j : Job) (s : SoundJob j) where
             (λ (q : leads (j .sources) i ≡ true). rw (joined-sinks j i h, joined-all j i q) (first-once j joinable-of i (nets j)))
             (λ (q : leads (j .sources) i ≡ false). rw (joined-others j i h q))
             (either-way (leads (j .sources) i));
+        criticalities-at = joined-criticalities j;
+        first-listed = first-listed j joinable-of;
       }
 
   -- ---- the joined job can be routed
 
-  pub joined-routable : Routable (joined j)
+  pub joined-no-source : (i : ℕ) → i < nets j → has (source j i) (netSinks (joined j) i) ≡ false
+  joined-no-source i h =
+      lacks (source j i) (netSinks (joined j) i)
+      (λ m.
+      let o = only-listed i (source j i) h m in
+      true≢false (sym (subst (λ (v : ℕ). has v (netSinks j (o .0)) ≡ true) (sym (o .2)) (o .3)) ∙ no-source j s (o .0) (o .1)))
+
+  -- a timed job's criticalities are taken from the same places as its sinks
+  joined-timing : exceeds (nodes j) (j .terms) ≡ false → j .terms .timed ≡ true → Timing (joined j)
+  joined-timing fits timed =
+      let r = routable-of j s fits .timing timed in
+      let places : List ℕ = placesBefore j (nets j) in
+      let cs : List ℕ = j .criticalities in
+      let here : joined j .criticalities ≡ entriesAt cs places = rw timed in
+      record {
+        delays-long = r .delays-long;
+        delay-most = r .delay-most;
+        criticalities-long =
+            ap length here ∙ length-map places (λ p. getD cs p 0) ∙ sym (length-map places (λ p. getD (j .sinks) p 0));
+        criticality-most =
+            λ p h. rw here (entries-low criticalityMost cs (low-all criticalityMost cs (λ q l. r .criticality-most q (rw (r .criticalities-long) at l))) places p);
+        nodes-few = r .nodes-few;
+        limit-low = r .limit-low;
+      }
+
+  pub joined-routable : exceeds (nodes j) (j .terms) ≡ false → Routable (joined j)
   unfolding placesBefore
-  joined-routable =
-      let r = routable-of j s in
+  joined-routable fits =
+      let r = routable-of j s fits in
       let count : (ℕ → ℕ) = λ i. length (placesBefore j i) in
       let begin : ((i : ℕ) → i ≤ nets j → getD (upTo count (nets j + 1)) i 0 ≡ count i) =
       λ i h. getD-upTo count (nets j + 1) i 0 (omega arith) in
@@ -184,15 +226,12 @@ module _ (j : Job) (s : SoundJob j) where
             let o = only-listed i (getD (netSinks (joined j) i) k 0) h (has-at (netSinks (joined j) i) k l) in
             let at = has-place (getD (netSinks (joined j) i) k 0) (netSinks j (o .0)) (o .3) in
             subst (λ (v : ℕ). v < nodes j) (at .2) (r .sink-node (o .0) (o .1) (at .0) (at .1));
-        source-no-sink = λ i h.
-            lacks (source j i) (netSinks (joined j) i)
-            (λ m.
-            let o = only-listed i (source j i) h m in
-            true≢false (sym (subst (λ (v : ℕ). has v (netSinks j (o .0)) ≡ true) (sym (o .2)) (o .3)) ∙ r .source-no-sink (o .0) (o .1)));
+        source-no-sink = joined-no-source;
         limit-some = r .limit-some;
         limit-few = r .limit-few;
         tuning-sound = r .tuning-sound;
         until-some = r .until-some;
+        timing = joined-timing fits;
       }
 
   -- where every listed sink has a path, every sink of a joined net has one

@@ -1,8 +1,9 @@
 -- Laws of the loops that join nets, one net after the other, and of the tables that they make.
 -- Assumes nothing.
-use mathlib.Core.Bool.{true, false}
+use mathlib.Core.Bool.{Bool, true, false}
 use mathlib.Core.List.{List, [], append-nil}
-use mathlib.Core.Path.{_≡_, refl, sym, _∙_, ap}
+use mathlib.Core.Logic.{⊎-elim}
+use mathlib.Core.Path.{_≡_, refl, sym, _∙_, ap, fun-ext}
 use Prim.Native.Nat.{ℕ, zero, suc, _+_, _≤_, _<_, zero-le}
 use native.Mathlib.Nat.{le-refl}
 use native.Mathlib.Numerals.{add-one}
@@ -13,13 +14,13 @@ use borrow.Author.Count.{below-none, below-more}
 use borrow.Author.Tests.{eq-eqb, ne-eqb}
 use Rattle.price.specs.Bounds.{nodesMost}
 use Rattle.price.specs.Lists.{has, upTo}
+use Rattle.price.proofs.TestLaws.{either-way}
 use Rattle.price.proofs.ListLaws.{has-at, length-upTo, getD-upTo}
-use Rattle.search.specs.Block.{Block}
 use Rattle.search.specs.Replies.{sinksMost}
 use Rattle.job.specs.declared.Terms.{Terms}
-use Rattle.job.specs.Job.{Job}
+use Rattle.job.specs.Job.{Job, ifTimed, jobOf}
 use Rattle.job.specs.Join.{firstOf, leads, placesFrom, listedPlaces, entriesAt, taking, placesOfFirst, joinedPlaces, placesBefore, joined}
-use Rattle.negotiation.specs.JoinSteps.{Joinable, JoinRoom, netsOnly, netsJob, listedCount, withListed, PlacesTaken, Placed, JoinedPlaces, JoinedTables}
+use Rattle.negotiation.specs.JoinSteps.{Joinable, JoinRoom, netsOnly, listedCount, withListed, PlacesTaken, Placed, JoinedPlaces, JoinedTables}
 use Rattle.job.specs.Steps.{AllBelow}
 use Rattle.negotiation.proofs.JoinLaws.{none-before, places-few, before-below, taking-room}
 use Rattle.job.proofs.SinkMarkLaws.{unmarked-new}
@@ -242,19 +243,53 @@ module _ {sources firstSinks sinks firsts places : List ℕ} {count : ℕ} (tabl
       rw (j .placed)
       (λ i h. before-below (netsOnly sources firstSinks sinks) tables (length sources) _ (has-at (placesBefore (netsOnly sources firstSinks sinks) (length sources)) i h))
 
-  pub tables-joined : {joint : List ℕ} → count ≤ length joint → length sources + 1 ≤ length firsts → take count joint ≡ entriesAt sinks (take count places) → JoinedTables sources firstSinks sinks firsts joint count
-  tables-joined room ends e =
+  pub tables-joined :
+      {criticalities joint jointly : List ℕ} {timed : Bool} → count ≤ length joint → count ≤ length jointly → length sources + 1 ≤ length firsts
+      → take count joint ≡ entriesAt sinks (take count places) → (timed ≡ true → take count jointly ≡ entriesAt criticalities (take count places))
+      → JoinedTables sources firstSinks sinks criticalities timed firsts joint jointly count
+  tables-joined {criticalities} room room-too ends e e-too =
       record {
         few = count-few;
         within = room;
+        criticalities-within = room-too;
         ends-within = ends;
-        firsts-are = λ b t. simp (places-same (netsJob b sources firstSinks sinks t) (netsOnly sources firstSinks sinks) refl refl refl) (j .firsts-are);
-        sinks-are = λ b t. e ∙ ap (entriesAt sinks) (j .placed ∙ sym (places-same (netsJob b sources firstSinks sinks t) (netsOnly sources firstSinks sinks) refl refl refl (length sources)));
+        firsts-are = j .firsts-are;
+        sinks-are = e ∙ ap (entriesAt sinks) (j .placed);
+        criticalities-are = λ t. e-too t ∙ ap (entriesAt criticalities) (j .placed);
       }
 
+-- a table that timed jobs alone have
+pub if-timed : (t : Terms) → t .timed ≡ true → (table : List ℕ) → ifTimed t table ≡ table
+if-timed t w table = rw w
+
+if-untimed : (t : Terms) → t .timed ≡ false → (table : List ℕ) → ifTimed t table ≡ []
+if-untimed t w table = rw w
+
 -- the joined job is that of the tables made
-pub joined-job :
-    {sources firstSinks sinks firsts joint : List ℕ} {count : ℕ} → JoinedTables sources firstSinks sinks firsts joint count → (b : Block) (t : Terms)
-    → netsJob b sources (take (length sources + 1) firsts) (take count joint) t ≡ joined (netsJob b sources firstSinks sinks t)
-joined-job {sources} tables b t =
-    rw (tables .firsts-are b t, tables .sinks-are b t)
+module _ {sources firstSinks sinks criticalities firsts joint jointly : List ℕ} {count : ℕ} (t : Terms)
+    (tables : JoinedTables sources firstSinks sinks criticalities (t .timed) firsts joint jointly count) (kinds capacities firstEdges edgeTargets delays : List ℕ) where
+  abbrev listed : Job
+  listed = jobOf kinds capacities firstEdges edgeTargets sources firstSinks sinks delays criticalities t
+
+  same : (n : ℕ) → placesBefore (netsOnly sources firstSinks sinks) n ≡ placesBefore listed n
+  same = places-same (netsOnly sources firstSinks sinks) listed refl refl refl
+
+  firsts-same : take (length sources + 1) firsts ≡ joined listed .firstSinks
+  firsts-same = tables .firsts-are ∙ ap (λ (f : ℕ → List ℕ). upTo (λ i. length (f i)) (length sources + 1)) (fun-ext same)
+
+  sinks-same : take count joint ≡ joined listed .sinks
+  sinks-same = tables .sinks-are ∙ ap (entriesAt sinks) (same (length sources))
+
+  criticalities-same : ifTimed t (take count jointly) ≡ joined listed .criticalities
+  criticalities-same =
+      ⊎-elim
+      (λ (w : t .timed ≡ true).
+      if-timed t w (take count jointly) ∙ tables .criticalities-are w ∙ ap (entriesAt criticalities) (same (length sources))
+      ∙ ap (λ (cs : List ℕ). entriesAt cs (placesBefore listed (length sources))) (sym (if-timed t w criticalities))
+      ∙ sym (if-timed t w (entriesAt (listed .criticalities) (placesBefore listed (length sources)))))
+      (λ (w : t .timed ≡ false).
+      if-untimed t w (take count jointly) ∙ sym (if-untimed t w (entriesAt (listed .criticalities) (placesBefore listed (length sources)))))
+      (either-way (t .timed))
+
+  pub joined-job : jobOf kinds capacities firstEdges edgeTargets sources (take (length sources + 1) firsts) (take count joint) delays (take count jointly) t ≡ joined listed
+  joined-job = rw (firsts-same, sinks-same, criticalities-same)

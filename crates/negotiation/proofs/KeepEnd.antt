@@ -12,10 +12,11 @@ use lib.ListN.{length, getD, drop, replicate}
 use borrow.Author.Tests.{eq-eqb, ne-eqb}
 use Rattle.price.specs.Lists.{upTo}
 use Rattle.price.specs.Prices.{nextFactor}
-use Rattle.search.specs.Turn.{joins, turn, congestionOf, priceAt}
-use Rattle.job.specs.Job.{Job, nodes, nets, netSinks}
+use Rattle.search.specs.Turn.{joins}
+use Rattle.job.specs.Job.{Job, nodes, nets}
 use Rattle.negotiation.specs.Routable.{Routable}
 use Rattle.negotiation.specs.Records.{Record, recordOf, words, encode}
+use Rattle.negotiation.specs.Order.{turnSinks}
 use Rattle.negotiation.specs.Machine.{State, Progress, congestionFor, turnOf, turnsOf, netRecords, treeFrom, afterNets, overCount, stateAfter, iterationAfter, recordsAfter, settlesAt, iterate, moveOn}
 use Rattle.negotiation.specs.Outcome.{continued, iterationsLeft, madeFrom, routeReplyOf, ranReply, routeRefusal, endNumbers}
 use Rattle.negotiation.specs.Steps.{SameFrom, Overflows, TurnDone}
@@ -30,7 +31,7 @@ use Rattle.negotiation.proofs.TurnStepLaws.{log-length}
 use Rattle.negotiation.proofs.EndLaws.{made-settled, unsettled-more, made-limit, all-split, full-reply, whole-reply, end-settled, end-limit, last-made, all-made, reply-same}
 use Rattle.negotiation.proofs.KeepLaws.{startOf, reached, Under, AtIteration, AtNet, AtTurn, AtTurns}
 use Rattle.negotiation.proofs.KeepProgress.{dues-long, overUsed, over-is, grow, kept-moved}
-use Rattle.negotiation.proofs.KeepTurn.{ready-state, same-twice, at-more, overflows}
+use Rattle.negotiation.proofs.KeepTurn.{Lent, triedBy, turnBy, ready-state, same-twice, at-more, overflows}
 
 -- the answer's numbers beside its outcome
 pub record Answers (r : RouteAnswer) (t : Tariff) : Type 0 where
@@ -53,7 +54,7 @@ module _ (j : Job) {p : Progress} {work₀ log₀ : List ℕ} {m i left : ℕ} {
   turn-first :
       (place cost : ℕ) (path : List ℕ) → turnOf j (congestionFor j here i) i (treeFrom j i (at .made)) ≡ joins place cost path
       → netRecords j here i
-      ≡ at .made ++ (recordOf last i (getD (netSinks j i) place 0) cost path
+      ≡ at .made ++ (recordOf last i (getD (turnSinks j i (treeFrom j i (at .made))) place 0) cost path
       ∷ turnsOf j last (congestionFor j here i) i left (treeFrom j i (at .made) ++ path))
   unfolding turnsOf
   turn-first place cost path e = at .rest-is ∙ rw e
@@ -64,7 +65,7 @@ module _ (j : Job) {p : Progress} {work₀ log₀ : List ℕ} {m i left : ℕ} {
       → routeReplyOf r (replicate (8 * nodes j) 0 ++ drop (8 * nodes j) work′) log′ ≡ continued j p work₀ log₀
   keep-full {log′} {work′} o kept r is a =
       let rs : List Record = reached j p m i .records ++ at .made in
-      let next : Record = recordOf last i (getD (netSinks j i) (o .place) 0) (o .cost) (o .path) in
+      let next : Record = recordOf last i (getD (turnSinks j i (treeFrom j i (at .made))) (o .place) 0) (o .cost) (o .path) in
       let split =
       all-split j p m i (at .under .below) (at .under .unsettled) (at .net) (at .taken) (at .made) next
       (turnsOf j last (congestionFor j here i) i left (treeFrom j i (at .made) ++ o .path))
@@ -82,13 +83,13 @@ module _ (j : Job) {p : Progress} {work₀ log₀ : List ℕ} {m i left : ℕ} {
 pub after-full :
     (j : Job) (sound : Routable j) {p : Progress} {work₀ log₀ : List ℕ} (enough : 8 * nodes j ≤ length work₀) {m i left : ℕ} {t : Tariff}
     {history users marks from to dues work log : List ℕ} {first : ℕ} (head : AtTurns j p work₀ log₀ m i left t history users marks from to dues work log first)
-    (some : 0 < left) (sinks : List ℕ) (is : sinks ≡ netSinks j i) (work′ log′ marks′ : List ℕ) (kept : SameFrom (8 * nodes j) work work′) (made : TurnMade)
-    (done : TurnDone made (turn (j .block) (priceAt (j .block) (congestionOf (t .factor) history users)) marks sinks) t i sinks log marks log′ marks′)
+    (some : 0 < left) {delays cs : List ℕ} (lent : Lent j delays cs) (work′ log′ marks′ : List ℕ) (kept : SameFrom (8 * nodes j) work work′) (made : TurnMade)
+    (done : TurnDone made (turnBy j i marks cs delays t history users) t i (triedBy j i marks cs) log marks log′ marks′)
     → made ≡ Full → (w : List ℕ) → w ≡ replicate (8 * nodes j) 0 ++ drop (8 * nodes j) work′ → (r : RouteAnswer) → r .outcome ≡ LogFull → Answers r t
     → routeReplyOf r w log′ ≡ continued j p work₀ log₀
-after-full j sound {p} {work₀} {log₀} enough head some sinks is work′ log′ marks′ kept made done e w q r o a =
+after-full j sound {p} {work₀} {log₀} enough head some lent work′ log′ marks′ kept made done e w q r o a =
     subst (λ (x : List ℕ). routeReplyOf r x log′ ≡ continued j p work₀ log₀) (sym q)
-    (keep-full j (at-more j sound enough head some sinks is) (overflows j sound enough head some sinks is work′ log′ marks′ kept made done e) kept r o a)
+    (keep-full j (at-more j sound enough head some lent) (overflows j sound enough head some lent work′ log′ marks′ kept made done e) kept r o a)
 
 -- ---- every net is routed
 

@@ -1,18 +1,36 @@
 -- A turn of a net that is due.
 -- Assumes nothing.
+use mathlib.Core.Bool.{Bool, true, false}
 use mathlib.Core.List.{List, [], _∷_, _++_, append-assoc}
 use mathlib.Core.Logic.{⊎-elim, inr}
 use mathlib.Core.Path.{_≡_, sym, _∙_, ap, subst}
 use Prim.Native.Nat.{ℕ, suc, _+_, _-_, _*_, _≤_, _<_}
+use native.Mathlib.Nat.{le-trans}
 use native.Mathlib.Omega.{arith}
-use lib.ListN.{length, getD, take, drop}
-use lib.Seq.{append-snoc}
-use Rattle.price.specs.Bounds.{limitMost}
+use lib.Dec.{leb, ltb}
+use lib.ListN.{length, getD, List·getD-eq-default}
+use lib.Seq.{slice, length-slice, append-snoc}
+use borrow.Author.Tests.{le-leb, eq-eqb}
+use Rattle.price.specs.Bounds.{limitMost, delayMost, criticalityMost}
 use Rattle.price.specs.Lists.{has, upTo}
-use Rattle.price.proofs.TestLaws.{one-most}
-use Rattle.price.proofs.ListLaws.{part-slice}
-use Rattle.search.specs.Turn.{Congestion, Turn, joins, stuck, turn, congestionOf, priceAt}
-use Rattle.job.specs.Job.{Job, nodes, netSinks}
+use Rattle.price.specs.Test.{choose}
+use Rattle.price.specs.Timed.{weighed, historyBound}
+use Rattle.price.specs.declared.Weighting.{Weighting}
+use Rattle.price.proofs.TestLaws.{either-way, le-or-lt, both-true, one-most}
+use Rattle.price.proofs.ListLaws.{every-all}
+use Rattle.search.specs.Block.{Block}
+use Rattle.search.specs.Distance.{inTree}
+use Rattle.search.specs.Tables.{delaysSound}
+use Rattle.search.specs.Replies.{sinksMost, sinkListSound}
+use Rattle.search.specs.Ready.{Weighable}
+use Rattle.search.specs.Turn.{Congestion, weighedCongestion, Turn, joins, stuck, turn, congestedAt, priceAt}
+use Rattle.search.proofs.BlockLaws.{kinds-some}
+use Rattle.search.proofs.PathTestLaws.{sinks-few}
+use Rattle.search.proofs.TableLaws.{sinks-all}
+use Rattle.job.specs.declared.Terms.{Terms}
+use Rattle.job.specs.Job.{Job, nodes, nets, jobOf, sinksBetween, netSinks, netCriticalities}
+use Rattle.negotiation.specs.Order.{placeDue, sinkDue, sinksTried, weightingDue, turnSinks, turnWeighting, turnCongestion}
+use Rattle.negotiation.specs.OrderSteps.{AimReady}
 use Rattle.negotiation.specs.Routable.{Routable}
 use Rattle.negotiation.specs.Records.{Record, recordOf}
 use Rattle.negotiation.specs.Machine.{State, Progress, othersOf, marksOf, congestionFor, turnOf, turnsOf, treeFrom}
@@ -21,21 +39,140 @@ use Rattle.negotiation.specs.Steps.{SameFrom, CanTurn, Skipped, Overflow
 use Rattle.negotiation.specs.declared.tariff.Tariff.{Tariff}
 use Rattle.negotiation.specs.declared.turns.TurnMade.{TurnMade}
 use Rattle.negotiation.specs.declared.turns.TurnMade.the-variants.{Nothing, Full, Logged}
+use Rattle.negotiation.proofs.OrderLaws.{untimed-sinks, timed-sinks, weighting-timed, criticality-low, turn-nodes}
+use Rattle.negotiation.proofs.AimLaws.{part-at, tried-alike, weighting-alike}
 use Rattle.negotiation.proofs.StateLaws.{nets-factor}
 use Rattle.negotiation.proofs.RoutableLaws.{sinks-searched}
 use Rattle.negotiation.proofs.RecordLaws.{records-few}
-use Rattle.negotiation.proofs.NetLaws.{StateReady, state-ready, tree-more}
+use Rattle.negotiation.proofs.NetLaws.{StateReady, state-ready, weighed-bounds, tree-more}
 use Rattle.negotiation.proofs.KeepLaws.{startOf, reached, Under, AtTurn, AtIdle, AtTurns}
 use Rattle.negotiation.proofs.KeepProgress.{others-below, others-at, others-long, tree-at, tree-long, opened-more}
-use Rattle.negotiation.proofs.TurnStepLaws.{node-sound, turns-stuck, turns-more, log-length, tallied-more}
+use Rattle.negotiation.proofs.TurnStepLaws.{node-sound, mark-at, turns-stuck, turns-more, log-length, tallied-more}
 
--- a turn by the same numbers
-same-turn :
-    (j : Job) (s : State) (i : ℕ) (tree : List ℕ) (factor : ℕ) (histories others marks : List ℕ)
-    → factor ≡ s .factor → histories ≡ s .histories → others ≡ upTo (othersOf j (s .trees) i) (nodes j) → marks ≡ marksOf j tree
-    → turn (j .block) (priceAt (j .block) (congestionOf factor histories others)) marks (netSinks j i) ≡ turnOf j (congestionFor j s i) i tree
-unfolding turnOf congestionFor
-same-turn j s i tree factor histories others marks p q r e = rw (p, q, r, e)
+-- ---- the turn that the code makes is the machine's
+
+-- tables 9 and 10 as they are lent are those of a timed job
+pub record Lent (j : Job) (delays cs : List ℕ) : Type 0 where
+  pub delays-are : j .terms .timed ≡ true → delays ≡ j .delays
+  pub criticalities-are : j .terms .timed ≡ true → cs ≡ j .criticalities
+
+-- what a turn of net i tries, and how it weighs delay, by these marks and criticalities; and the turn
+module _ (j : Job) (i : ℕ) (marks cs : List ℕ) where
+  abbrev pub triedBy : List ℕ
+  triedBy = sinksTried (j .terms .timed) (inTree marks) (sinksBetween (j .firstSinks) (j .sinks) i) (sinksBetween (j .firstSinks) cs i)
+
+  abbrev pub weightingBy : Weighting
+  weightingBy = weightingDue (j .terms .timed) (inTree marks) (sinksBetween (j .firstSinks) (j .sinks) i) (sinksBetween (j .firstSinks) cs i)
+
+  abbrev pub pricesBy : List ℕ → Tariff → (history users : List ℕ) → Congestion
+  pricesBy delays t history users = weighedCongestion weightingBy delays (t .factor) history users
+
+  abbrev pub turnBy : List ℕ → Tariff → (history users : List ℕ) → Turn
+  turnBy delays t history users = turn (j .block) (priceAt (j .block) (pricesBy delays t history users)) marks triedBy
+
+-- where delay isn't weighed it doesn't matter
+price-untimed :
+    (b : Block) (w : Weighting) (old new : List ℕ) (factor : ℕ) (histories others : List ℕ) → w .timed ≡ false
+    → priceAt b (weighedCongestion w old factor histories others) ≡ priceAt b (weighedCongestion w new factor histories others)
+unfolding priceAt congestedAt weighed
+price-untimed b w old new factor histories others e = rw e
+
+-- a sink due is one
+due-short : (joined : ℕ → Bool) (sinks cs : List ℕ) → length (sinkDue joined sinks cs) ≤ 1
+unfolding sinkDue
+due-short joined sinks cs =
+    ⊎-elim
+    (λ (q : ltb (placeDue joined sinks cs) (length sinks) ≡ true). rw q (omega arith))
+    (λ (q : ltb (placeDue joined sinks cs) (length sinks) ≡ false). rw q (omega arith))
+    (either-way (ltb (placeDue joined sinks cs) (length sinks)))
+
+module _ (j : Job) (sound : Routable j) (i : ℕ) (hi : i < nets j) (tree : List ℕ) where
+  -- the search takes the sinks that a turn tries
+  turn-searched : sinkListSound (nodes j) (turnSinks j i tree) ≡ true
+  turn-searched =
+      let few : length (turnSinks j i tree) ≤ sinksMost =
+      ⊎-elim
+      (λ (w : j .terms .timed ≡ true).
+      rw (timed-sinks j i tree w) (le-trans (due-short (λ s. has s tree) (netSinks j i) (netCriticalities j i)) (omega arith)))
+      (λ (w : j .terms .timed ≡ false). rw (untimed-sinks j i tree w) (sinks-few (nodes j) (netSinks j i) (sinks-searched j sound i hi)))
+      (either-way (j .terms .timed)) in
+      sinks-all (nodes j) (turnSinks j i tree) (length (turnSinks j i tree)) few (omega arith) (turn-nodes j sound i hi tree)
+
+  module _ {delays cs : List ℕ} (lent : Lent j delays cs) {marks : List ℕ} (marked : marks ≡ marksOf j tree) where
+    -- a sink's mark says whether the tree has it
+    marks-agree : (p : ℕ) → inTree marks (getD (netSinks j i) p 0) ≡ has (getD (netSinks j i) p 0) tree
+    unfolding inTree
+    marks-agree p =
+        let v : ℕ = getD (netSinks j i) p 0 in
+        let some : 1 ≤ nodes j = kinds-some (j .block .kinds) (sound .block-sound .kinds-sound) in
+        let node : v < nodes j =
+        ⊎-elim
+        (λ (l : length (netSinks j i) ≤ p). rw (List·getD-eq-default (netSinks j i) 0 l) (omega arith))
+        (λ (l : p < length (netSinks j i)). sound .sink-node i hi p l)
+        (le-or-lt (length (netSinks j i)) p) in
+        let is : getD marks v 0 ≡ choose (has v tree) 1 0 = ap (λ (l : List ℕ). getD l v 0) marked ∙ mark-at j tree v node in
+        rw is (⊎-elim (λ (q : has v tree ≡ true). rw q) (λ (q : has v tree ≡ false). rw q) (either-way (has v tree)))
+
+    pub tried-is : triedBy j i marks cs ≡ turnSinks j i tree
+    unfolding turnSinks netSinks netCriticalities
+    tried-is =
+        let sinks : List ℕ = sinksBetween (j .firstSinks) (j .sinks) i in
+        ⊎-elim
+        (λ (w : j .terms .timed ≡ true).
+        ap (λ (l : List ℕ). sinksTried (j .terms .timed) (inTree marks) sinks (sinksBetween (j .firstSinks) l i)) (lent .criticalities-are w)
+        ∙ tried-alike (inTree marks) (λ s. has s tree) sinks marks-agree (j .terms .timed) (sinksBetween (j .firstSinks) (j .criticalities) i))
+        (λ (w : j .terms .timed ≡ false). rw w)
+        (either-way (j .terms .timed))
+
+    pub weighting-is : weightingBy j i marks cs ≡ turnWeighting j i tree
+    unfolding turnWeighting netSinks netCriticalities
+    weighting-is =
+        let sinks : List ℕ = sinksBetween (j .firstSinks) (j .sinks) i in
+        ⊎-elim
+        (λ (w : j .terms .timed ≡ true).
+        ap (λ (l : List ℕ). weightingDue (j .terms .timed) (inTree marks) sinks (sinksBetween (j .firstSinks) l i)) (lent .criticalities-are w)
+        ∙ weighting-alike (inTree marks) (λ s. has s tree) sinks marks-agree (j .terms .timed) (sinksBetween (j .firstSinks) (j .criticalities) i))
+        (λ (w : j .terms .timed ≡ false). rw w)
+        (either-way (j .terms .timed))
+
+    -- the weighting is timed where the job is
+    timed-is : weightingBy j i marks cs .timed ≡ j .terms .timed
+    timed-is = ap (λ (w : Weighting). w .timed) weighting-is ∙ weighting-timed j i tree
+
+    -- so are the delays weighed
+    pub price-is :
+        (factor : ℕ) (histories others : List ℕ)
+        → priceAt (j .block) (weighedCongestion (weightingBy j i marks cs) delays factor histories others)
+        ≡ priceAt (j .block) (weighedCongestion (turnWeighting j i tree) (j .delays) factor histories others)
+    price-is factor histories others =
+        ⊎-elim
+        (λ (w : j .terms .timed ≡ true).
+        ap (λ (l : List ℕ). priceAt (j .block) (weighedCongestion (weightingBy j i marks cs) l factor histories others)) (lent .delays-are w))
+        (λ (w : j .terms .timed ≡ false).
+        price-untimed (j .block) (weightingBy j i marks cs) delays (j .delays) factor histories others (timed-is ∙ w))
+        (either-way (j .terms .timed))
+        ∙ ap (λ (x : Weighting). priceAt (j .block) (weighedCongestion x (j .delays) factor histories others)) weighting-is
+
+    -- a turn by the same numbers
+    same-turn :
+        (s : State) (t : Tariff) (histories others : List ℕ) → t .factor ≡ s .factor → histories ≡ s .histories → others ≡ upTo (othersOf j (s .trees) i) (nodes j)
+        → turnBy j i marks cs delays t histories others ≡ turnOf j (congestionFor j s i) i tree
+    unfolding turnOf congestionFor turnCongestion
+    same-turn s t histories others p q r = rw (price-is (t .factor) histories others, tried-is, marked, p, q, r)
+
+    -- the search can work with its delays and its criticality
+    weighable : (factor : ℕ) (histories others : List ℕ) → j .terms .timed ≡ true → Weighable (nodes j) (weighedCongestion (weightingBy j i marks cs) delays factor histories others)
+    unfolding delaysSound
+    weighable factor histories others w =
+        let timing = sound .timing w in
+        record {
+          few = timing .nodes-few;
+          delays-sound =
+              rw (lent .delays-are w)
+              (both-true (eq-eqb (length (j .delays)) (nodes j) (timing .delays-long))
+              (every-all (λ d. leb d delayMost) (j .delays) (λ v l. le-leb (getD (j .delays) v 0) delayMost (timing .delay-most v (rw (timing .delays-long) at l)))));
+          criticality-most = subst (λ (x : Weighting). x .criticality ≤ criticalityMost) (sym weighting-is) (criticality-low j sound i hi w tree);
+        }
 
 -- work memory past what a turn uses stays
 pub same-twice : {n : ℕ} {work₀ work work′ : List ℕ} → SameFrom n work₀ work → SameFrom n work work′ → SameFrom n work₀ work′
@@ -71,52 +208,63 @@ module _ (j : Job) (sound : Routable j) {p : Progress} {work₀ log₀ : List �
       let fits = at .tallied .fits in
       omega arith
 
-  -- nothing is refused
-  pub keep-can : CanTurn (j .block) t i (netSinks j i) history users marks work log
-  keep-can =
-      let history-long : length history ≡ nodes j = ap length (at .opened .history-is) ∙ state .long in
-      let users-long = others-long j (at .opened) in
-      let marks-long = tree-long j (at .opened) in
-      record {
-        ready =
-            record {
-              sound = sound .block-sound;
-              enough = let same = at .work-same .long in omega arith;
-              numbers =
-                  λ v h.
-                  let is : getD history v 0 ≡ getD (here .histories) v 0 = ap (λ (l : List ℕ). getD l v 0) (at .opened .history-is) in
-                  let least = state .history-least v h in
-                  let most = state .history-most v h in
-                  let others = others-at j (at .opened) v h in
-                  let few = others-below j sound (here .trees) i v (at .net) in
-                  let mark = tree-at j (at .opened) v h in
-                  let one = one-most (has v tree) in
-                  node-sound (congestionOf (t .factor) history users) marks v
-                  (omega arith) (omega arith) (omega arith) (omega arith) (omega arith) (omega arith) (omega arith);
-              factor-most = rw factor-same (state .factor-most);
-            };
-        marks-long = marks-long;
-        sinks-sound = sinks-searched j sound i (at .net);
-        within = words-within;
-        few-turns =
-            let few = records-few (reached j p m i .records ++ at .made) in
-            let words-are = at .tallied .words-is in
-            let turns-are = at .tallied .turns-is in
-            omega arith;
-      }
+  module _ {delays cs : List ℕ} (lent : Lent j delays cs) where
+    -- nothing is refused
+    pub keep-can : CanTurn (j .block) (pricesBy j i marks cs delays t history users) t (triedBy j i marks cs) marks work log
+    keep-can =
+        let history-long : length history ≡ nodes j = ap length (at .opened .history-is) ∙ state .long in
+        let users-long = others-long j (at .opened) in
+        let marks-long = tree-long j (at .opened) in
+        let marked = at .opened .marks-is in
+        record {
+          ready =
+              record {
+                sound = sound .block-sound;
+                enough = let same = at .work-same .long in omega arith;
+                numbers =
+                    λ v h.
+                    let is : getD history v 0 ≡ getD (here .histories) v 0 = ap (λ (l : List ℕ). getD l v 0) (at .opened .history-is) in
+                    let least = state .history-least v h in
+                    let bound : getD (here .histories) v 0 ≤ historyBound (weightingBy j i marks cs) =
+                    subst (λ (x : Weighting). getD (here .histories) v 0 ≤ historyBound x) (sym (weighting-is j sound i (at .net) tree lent marked))
+                    (weighed-bounds j sound here state i (at .net) tree v h .history-bound) in
+                    let most : getD history v 0 ≤ historyBound (weightingBy j i marks cs) = rw is bound in
+                    let others = others-at j (at .opened) v h in
+                    let few = others-below j sound (here .trees) i v (at .net) in
+                    let mark = tree-at j (at .opened) v h in
+                    let one = one-most (has v tree) in
+                    node-sound (pricesBy j i marks cs delays t history users) marks v
+                    (omega arith) (omega arith) most (omega arith) (omega arith) (omega arith) (omega arith);
+                factor-most = rw factor-same (state .factor-most);
+                weighable = λ w. weighable j sound i (at .net) tree lent marked (t .factor) history users (sym (timed-is j sound i (at .net) tree lent marked) ∙ w);
+              };
+          marks-long = marks-long;
+          sinks-sound =
+              subst (λ (l : List ℕ). sinkListSound (nodes j) l ≡ true) (sym (tried-is j sound i (at .net) tree lent marked)) (turn-searched j sound i (at .net) tree);
+          within = words-within;
+          few-turns =
+              let few = records-few (reached j p m i .records ++ at .made) in
+              let words-are = at .tallied .words-is in
+              let turns-are = at .tallied .turns-is in
+              omega arith;
+        }
 
-  -- the turn that the search makes
-  abbrev searched : Turn
-  searched = turn (j .block) (priceAt (j .block) (congestionOf (t .factor) history users)) marks (netSinks j i)
+    -- the turn that the search makes
+    abbrev searched : Turn
+    searched = turnBy j i marks cs delays t history users
 
-  -- is the machine's
-  pub keep-turn : searched ≡ turnOf j (congestionFor j here i) i tree
-  keep-turn = same-turn j here i tree (t .factor) history users marks factor-same (at .opened .history-is) (at .opened .users-is) (at .opened .marks-is)
+    -- is the machine's
+    pub keep-turn : searched ≡ turnOf j (congestionFor j here i) i tree
+    keep-turn = same-turn j sound i (at .net) tree lent (at .opened .marks-is) here t history users factor-same (at .opened .history-is) (at .opened .users-is)
+
+    -- for its sinks
+    pub keep-tried : triedBy j i marks cs ≡ turnSinks j i tree
+    keep-tried = tried-is j sound i (at .net) tree lent (at .opened .marks-is)
 
 -- one turn fewer is left
 module _ (j : Job) (sound : Routable j) {p : Progress} {work₀ log₀ : List ℕ} (enough : 8 * nodes j ≤ length work₀) {m i left : ℕ} {t : Tariff}
     {history users marks from to dues work log : List ℕ} {first : ℕ} (at : AtTurn j p work₀ log₀ m i (suc left) t history users marks from to dues work log first)
-    (work′ log′ marks′ : List ℕ) (kept : SameFrom (8 * nodes j) work work′) where
+    {delays cs : List ℕ} (lent : Lent j delays cs) (work′ log′ marks′ : List ℕ) (kept : SameFrom (8 * nodes j) work work′) where
   abbrev now : ℕ
   now = p .state .iteration + m
 
@@ -125,11 +273,11 @@ module _ (j : Job) (sound : Routable j) {p : Progress} {work₀ log₀ : List �
 
   -- no sink is left to be joined
   pub keep-skipped :
-      Skipped (searched j sound enough at) log marks log′ marks′
+      Skipped (searched j sound enough at lent) log marks log′ marks′
       → AtTurn j p work₀ log₀ m i left t history users marks′ from to dues work′ log′ first
   keep-skipped s =
       let made : List Record = at .made in
-      let none : turnOf j congestion i (treeFrom j i made) ≡ stuck = sym (keep-turn j sound enough at) ∙ s .is-stuck in
+      let none : turnOf j congestion i (treeFrom j i made) ≡ stuck = sym (keep-turn j sound enough at lent) ∙ s .is-stuck in
       record {
         under = at .under;
         net = at .net;
@@ -148,13 +296,13 @@ module _ (j : Job) (sound : Routable j) {p : Progress} {work₀ log₀ : List �
 
   -- the turn is logged
   pub keep-logged :
-      (t′ : Tariff) → TurnLogged (searched j sound enough at) t i (netSinks j i) log marks t′ log′ marks′
+      (t′ : Tariff) → TurnLogged (searched j sound enough at lent) t i (triedBy j i marks cs) log marks t′ log′ marks′
       → AtTurn j p work₀ log₀ m i left t′ history users marks′ from to dues work′ log′ first
   keep-logged t′ l =
       let made : List Record = at .made in
-      let r : Record = recordOf now i (getD (netSinks j i) (l .place) 0) (l .cost) (l .path) in
       let tree : List ℕ = treeFrom j i made in
-      let is : turnOf j congestion i tree ≡ joins (l .place) (l .cost) (l .path) = sym (keep-turn j sound enough at) ∙ l .is-turn in
+      let r : Record = recordOf now i (getD (turnSinks j i tree) (l .place) 0) (l .cost) (l .path) in
+      let is : turnOf j congestion i tree ≡ joins (l .place) (l .cost) (l .path) = sym (keep-turn j sound enough at lent) ∙ l .is-turn in
       record {
         under =
             rw (l .tariff-is)
@@ -174,7 +322,7 @@ module _ (j : Job) (sound : Routable j) {p : Progress} {work₀ log₀ : List �
             ∙ rw (tree-more j i made r) (sym (append-snoc made r (turnsOf j now congestion i left (treeFrom j i (made ++ (r ∷ []))))));
         tallied =
             rw (← append-assoc (reached j p m i .records) made (r ∷ []), l .tariff-is)
-            (tallied-more (reached j p m i .records ++ made) log₀ t log r log′ (at .tallied) (l .room) (rw (at .under .iteration-is) at (l .log-is)));
+            (tallied-more (reached j p m i .records ++ made) log₀ t log r log′ (at .tallied) (l .room) (rw (at .under .iteration-is, keep-tried j sound enough at lent) at (l .log-is)));
         first-is = at .first-is;
         opened = opened-more j (at .opened) r (l .marks-set);
         due-is = at .due-is;
@@ -183,14 +331,37 @@ module _ (j : Job) (sound : Routable j) {p : Progress} {work₀ log₀ : List �
 
 -- ---- the turn as the call asks for it and gives it
 
--- the part of table 7 that is lent is the net's list of sinks
-pub sinks-part : (j : Job) (i : ℕ) → take (getD (j .firstSinks) (i + 1) 0 - getD (j .firstSinks) i 0) (drop (getD (j .firstSinks) i 0) (j .sinks)) ≡ netSinks j i
+-- the tables that are lent as 9 and 10 are the job's
+pub lent-tables : (kinds capacities firstEdges edgeTargets sources firstSinks sinks delays cs : List ℕ) (terms : Terms) → Lent (jobOf kinds capacities firstEdges edgeTargets sources firstSinks sinks delays cs terms) delays cs
+lent-tables kinds capacities firstEdges edgeTargets sources firstSinks sinks delays cs terms = record { delays-are = λ w. rw w; criticalities-are = λ w. rw w }
+
+-- the net's part of tables 7 and 10 can be read
+pub aim-ready :
+    (j : Job) → Routable j → (i : ℕ) → i < nets j → {delays cs : List ℕ} → Lent j delays cs → (marks : List ℕ) → length marks ≡ nodes j
+    → AimReady (j .terms .timed) (j .sinks) cs (getD (j .firstSinks) i 0) (getD (j .firstSinks) (i + 1) 0) marks
 unfolding netSinks
-sinks-part j i = part-slice (getD (j .firstSinks) i 0) (getD (j .firstSinks) (i + 1) 0) (j .sinks)
+aim-ready j sound i hi lent marks long =
+    let begins : ℕ = getD (j .firstSinks) i 0 in
+    let ends : ℕ = getD (j .firstSinks) (i + 1) 0 in
+    let within : ends ≤ length (j .sinks) = sound .sinks-end (i + 1) (omega arith) in
+    let part : length (slice begins ends (j .sinks)) ≡ ends - begins = length-slice begins ends (j .sinks) within in
+    record {
+      order = sound .sinks-order i hi;
+      within = within;
+      nodes =
+          λ q least most.
+          let k : ℕ = q - begins in
+          let is : begins + k ≡ q = omega arith in
+          let node : getD (slice begins ends (j .sinks)) k 0 < nodes j = sound .sink-node i hi k (omega arith) in
+          let there : getD (slice begins ends (j .sinks)) k 0 ≡ getD (j .sinks) q 0 = part-at begins ends (j .sinks) k (omega arith) ∙ ap (λ (x : ℕ). getD (j .sinks) x 0) is in
+          rw (long, ← there) node;
+      criticalities-long = λ w. ap length (lent .criticalities-are w) ∙ sound .timing w .criticalities-long;
+      criticality-most = λ w q l. rw (lent .criticalities-are w) (sound .timing w .criticality-most q l);
+    }
 
 module _ (j : Job) (sound : Routable j) {p : Progress} {work₀ log₀ : List ℕ} (enough : 8 * nodes j ≤ length work₀) {m i left : ℕ} {t : Tariff}
     {history users marks from to dues work log : List ℕ} {first : ℕ} (head : AtTurns j p work₀ log₀ m i left t history users marks from to dues work log first)
-    (some : 0 < left) (sinks : List ℕ) (is : sinks ≡ netSinks j i) where
+    (some : 0 < left) {delays cs : List ℕ} (lent : Lent j delays cs) where
   -- a net with turns left is due
   pub at-more : AtTurn j p work₀ log₀ m i (suc (left - 1)) t history users marks from to dues work log first
   at-more =
@@ -201,29 +372,28 @@ module _ (j : Job) (sound : Routable j) {p : Progress} {work₀ log₀ : List �
       subst (λ (k : ℕ). AtTurn j p work₀ log₀ m i k t history users marks from to dues work log first) e at)
       head
 
-  pub call-turn : CanTurn (j .block) t i sinks history users marks work log
-  call-turn = subst (λ (l : List ℕ). CanTurn (j .block) t i l history users marks work log) (sym is) (keep-can j sound enough at-more)
+  -- what the call asks: the net's part of tables 7 and 10, and that nothing is refused
+  pub call-aim : AimReady (j .terms .timed) (j .sinks) cs (getD (j .firstSinks) i 0) (getD (j .firstSinks) (i + 1) 0) marks
+  call-aim = aim-ready j sound i (at-more .net) lent marks (tree-long j (at-more .opened))
+
+  pub call-turn : CanTurn (j .block) (pricesBy j i marks cs delays t history users) t (triedBy j i marks cs) marks work log
+  call-turn = keep-can j sound enough at-more lent
 
   -- what the attempt at a turn did, by its cases
   module _ (work′ log′ marks′ : List ℕ) (kept : SameFrom (8 * nodes j) work work′) (made : TurnMade)
-      (done : TurnDone made (turn (j .block) (priceAt (j .block) (congestionOf (t .factor) history users)) marks sinks) t i sinks log marks log′ marks′) where
-    -- with the net's list of sinks, in one case
-    case : (r : TurnMade) → made ≡ r → TurnDone r (searched j sound enough at-more) t i (netSinks j i) log marks log′ marks′
-    case r e =
-        subst (λ (x : TurnMade). TurnDone x (searched j sound enough at-more) t i (netSinks j i) log marks log′ marks′) e
-        (subst
-        (λ (l : List ℕ). TurnDone made (turn (j .block) (priceAt (j .block) (congestionOf (t .factor) history users)) marks l) t i l log marks log′ marks′)
-        is done)
+      (done : TurnDone made (turnBy j i marks cs delays t history users) t i (triedBy j i marks cs) log marks log′ marks′) where
+    case : (r : TurnMade) → made ≡ r → TurnDone r (turnBy j i marks cs delays t history users) t i (triedBy j i marks cs) log marks log′ marks′
+    case r e = subst (λ (x : TurnMade). TurnDone x (turnBy j i marks cs delays t history users) t i (triedBy j i marks cs) log marks log′ marks′) e done
 
     pub after-nothing : made ≡ Nothing → (t″ : Tariff) → t″ ≡ t → AtTurns j p work₀ log₀ m i (left - 1) t″ history users marks′ from to dues work′ log′ first
     after-nothing e t″ q =
         subst (λ (x : Tariff). AtTurns j p work₀ log₀ m i (left - 1) x history users marks′ from to dues work′ log′ first) (sym q)
-        (inr (keep-skipped j sound enough at-more work′ log′ marks′ kept (case Nothing e)))
+        (inr (keep-skipped j sound enough at-more lent work′ log′ marks′ kept (case Nothing e)))
 
     pub after-logged : (t′ : Tariff) → made ≡ Logged t′ → (t″ : Tariff) → t″ ≡ t′ → AtTurns j p work₀ log₀ m i (left - 1) t″ history users marks′ from to dues work′ log′ first
     after-logged t′ e t″ q =
         subst (λ (x : Tariff). AtTurns j p work₀ log₀ m i (left - 1) x history users marks′ from to dues work′ log′ first) (sym q)
-        (inr (keep-logged j sound enough at-more work′ log′ marks′ kept t′ (case (Logged t′) e)))
+        (inr (keep-logged j sound enough at-more lent work′ log′ marks′ kept t′ (case (Logged t′) e)))
 
     pub overflows : made ≡ Full → Overflows (turnOf j (congestionFor j (reached j p m i .state) i) i (treeFrom j i (at-more .made))) t log log′
-    overflows e = subst (λ (u : Turn). Overflows u t log log′) (keep-turn j sound enough at-more) (case Full e)
+    overflows e = subst (λ (u : Turn). Overflows u t log log′) (keep-turn j sound enough at-more lent) (case Full e)

@@ -5,6 +5,7 @@
 -- Joined nets
 --     TakingLaws        places that are taken in turn, but for a sink seen already
 --     JoinLaws          the places that a joined net takes, no place twice
+--     FirstListedLaws   each sink from the place that lists it first; criticalities from the same places
 --     JoinStepLaws      a net's places, and the entries at places, as the loops take them
 --     JoiningLaws       the loops over the nets, and the tables that they make
 -- Lists and records
@@ -19,6 +20,7 @@
 --     FloodLaws         the flood from a source
 --     TestedLaws        net after net, the first sink without a path
 -- The machine
+--     OrderLaws         which sinks a turn tries: in a timed job the one whose turn it is
 --     TreeLaws          a net's turns from its tree
 --     NetLaws           a net in an iteration: cheapest paths, costs, no node twice, every sink joined; paths from a source
 --     DueLaws           which nets an iteration takes: under rule 1, and up to iteration k, those with sinks
@@ -49,7 +51,7 @@
 -- Theorems
 --     DemandHolds       demand 3, and the bound on every logged cost
 --     UnreachableHolds  what refusal 7 means
---     JoinedHolds       request 2.3: joined nets; the joined job can be routed
+--     JoinedHolds       requests 2.3 and 2.9: joined nets; the joined job can be routed
 --     LongerHolds       request 2.6: two limits, two log lengths
 --     ResumeHolds       request 2.8: every resumed call: what is rebuilt, the lent words first, the appended turns as demand 3 asks
 --     OwnResumeHolds    request 2.8: a job's own log ends as the straight run
@@ -61,6 +63,7 @@
 --     StepWithLaws      a step that takes plain data beside it
 --     RipLaws           a net's old tree dropped, its new one counted
 --     UserLaws          who uses a node: counts of nets by their trees
+--     AimLaws           what a turn tries, as the code finds it: one pass over a net's sinks, and a part of table 7
 --     OneTurnLaws       one turn, as the search's contract gives it
 --     TurnStepLaws      a turn more of a net
 --     KeepLaws          what holds at the head of each loop
@@ -79,6 +82,7 @@
 pub mod RoutableLaws
 pub mod TakingLaws
 pub mod JoinLaws
+pub mod FirstListedLaws
 pub mod JoinStepLaws
 pub mod JoiningLaws
 pub mod RecordLaws
@@ -90,6 +94,8 @@ pub mod CrowdedLaws
 pub mod FilledLaws
 pub mod FloodLaws
 pub mod TestedLaws
+pub mod OrderLaws
+pub mod AimLaws
 pub mod TreeLaws
 pub mod NetLaws
 pub mod DueLaws
@@ -137,6 +143,7 @@ pub mod KeepTurn
 pub mod KeepNet
 pub mod KeepEnd
 pub mod KeepLengths
+pub mod TriedLaws
 pub mod TakeTurnLaws
 pub mod TakeNetLaws
 pub mod TakeLogLaws

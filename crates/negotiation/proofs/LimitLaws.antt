@@ -15,7 +15,8 @@ use Rattle.price.specs.Lists.{firstBelow}
 use Rattle.price.proofs.TestLaws.{either-way, le-or-lt, true≢false}
 use Rattle.price.proofs.BelowLaws.{firstBelow-holds, firstBelow-below, firstBelow-is}
 use Rattle.search.specs.Turn.{Congestion, Turn, joins, stuck}
-use Rattle.job.specs.Job.{Job, nets, source, netSinks}
+use Rattle.job.specs.Job.{Job, nets, source, netSinks, netCriticalities}
+use Rattle.negotiation.specs.Order.{turnSinks, turnWeighting, turnCongestion}
 use Rattle.negotiation.specs.Records.{Record}
 use Rattle.negotiation.specs.Machine.{State, Progress, othersOf, usersOf, marksOf, congestionFor, turnOf, logTurn, turnsOf, netRecords, hasSinks, allDue, crowded, due, routeIf, afterNets, iterate, overfull, overCount, moveOn, firstState, stateAfter, recordsAfter, settlesAt}
 use Rattle.negotiation.specs.Outcome.{iterationsMade, iterationsLeft, madeFrom, allRecords, endNumbers}
@@ -31,12 +32,12 @@ leftUnder limit s = limit + 1 - s .iteration
 module _ (j : Job) (limit : ℕ) where
   turn-alike : (t i : ℕ) (tree : List ℕ) (made : Turn) (rest rest′ : List ℕ → List Record) → ((tree : List ℕ) → rest tree ≡ rest′ tree)
       → logTurn (withLimit j limit) t i tree made rest ≡ logTurn j t i tree made rest′
-  unfolding netSinks
+  unfolding turnSinks netSinks netCriticalities
   turn-alike t i tree (joins place cost path) rest rest′ same = rw (same (tree ++ path))
   turn-alike t i tree stuck rest rest′ same = refl
 
   turns-alike : (t : ℕ) (c : Congestion) (i k : ℕ) (tree : List ℕ) → turnsOf (withLimit j limit) t c i k tree ≡ turnsOf j t c i k tree
-  unfolding turnsOf turnOf marksOf netSinks
+  unfolding turnsOf turnOf marksOf turnSinks turnWeighting turnCongestion netSinks netCriticalities
   turns-alike t c i zero tree = refl
   turns-alike t c i (suc k) tree = turn-alike t i tree (turnOf j c i tree) _ _ (turns-alike t c i k)
 

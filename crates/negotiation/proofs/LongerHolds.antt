@@ -12,12 +12,12 @@ use borrow.Author.Tests.{le-ltb}
 use Rattle.price.proofs.TestLaws.{either-way}
 use Rattle.search.specs.Replies.{workNeeded, cleared}
 use Rattle.job.specs.Job.{Job, nodes, nets, netSinks}
-use Rattle.job.specs.Tables.{limitSound, termsSound, faultyNets, faultyJob}
+use Rattle.job.specs.Tables.{limitSound, termsSound, faultyNets, faultyUntimed, faultyTimes, faultyJob, exceeds}
 use Rattle.job.specs.Join.{joined}
 use Rattle.negotiation.specs.Records.{Record, encode, fitting}
 use Rattle.negotiation.specs.Machine.{Progress, othersOf, marksOf, congestionFor, firstState}
 use Rattle.negotiation.specs.Outcome.{RouteReply, hasPath, unreachableNet, unreachablePlace, begun, endIteration, allRecords, endNumbers, refusedReply, ranReply, continued, negotiated, reachedReply, tested, routeReply}
-use Rattle.negotiation.specs.Longer.{withLimit, Begins, SameLog, LimitsCompared, RaisedInPlace, LogLengthened, LogsCompared}
+use Rattle.negotiation.specs.Longer.{withLimit, AllowedLimit, Begins, SameLog, LimitsCompared, RaisedInPlace, LogLengthened, LogsCompared}
 use Rattle.job.proofs.JobLaws.{limit-least}
 use Rattle.negotiation.proofs.JoiningLaws.{places-same}
 use Rattle.negotiation.proofs.RecordLaws.{fitting-begins, fitting-less, fitting-append}
@@ -34,14 +34,14 @@ Alike j work work′ = ltb (length work) (workNeeded (nodes j)) ≡ ltb (length 
 pub enough-alike : (j : Job) (work work′ : List ℕ) → workNeeded (nodes j) ≤ length work → workNeeded (nodes j) ≤ length work′ → Alike j work work′
 enough-alike j work work′ h k = le-ltb (length work) (workNeeded (nodes j)) h ∙ sym (le-ltb (length work′) (workNeeded (nodes j)) k)
 
--- a job is refused before any turn, by 5, 6 or 7, in both work slices, whatever the log and the run
+-- a job is refused before any turn, by 5, 15, 6 or 7, in both work slices, whatever the log and the run
 pub record Refused (j : Job) (work work′ : List ℕ) : Type 0 where
   pub number : ℕ
   pub numbers : List ℕ
   -- the work slices that are left
   pub left : List ℕ
   pub left′ : List ℕ
-  pub number-most : number ≤ 7
+  pub not-limit : number ≡ 9 → ⊥
   pub reply : (log : List ℕ) (run : RouteReply) → tested j work log run ≡ refusedReply (number ∷ numbers) left log
   pub reply′ : (log : List ℕ) (run : RouteReply) → tested j work′ log run ≡ refusedReply (number ∷ numbers) left′ log
 
@@ -60,11 +60,24 @@ refused-or-runs j work work′ alike =
       numbers = faultyJob j ∷ [];
       left = work;
       left′ = work′;
-      number-most = omega arith;
+      not-limit = λ z. omega arith;
       reply = λ log run. rw t;
       reply′ = λ log run. rw t;
     }))
     (λ (t : leb 1 (faultyJob j) ≡ false).
+    ⊎-elim
+    (λ (x : exceeds (nodes j) (j .terms) ≡ true).
+    inl
+    (record {
+      number = 15;
+      numbers = nodes j ∷ j .terms .limit ∷ [];
+      left = work;
+      left′ = work′;
+      not-limit = λ z. omega arith;
+      reply = λ log run. rw (t, x);
+      reply′ = λ log run. rw (t, x);
+    }))
+    (λ (x : exceeds (nodes j) (j .terms) ≡ false).
     ⊎-elim
     (λ (u : ltb (length work) (workNeeded (nodes j)) ≡ true).
     inl
@@ -73,9 +86,9 @@ refused-or-runs j work work′ alike =
       numbers = workNeeded (nodes j) ∷ [];
       left = work;
       left′ = work′;
-      number-most = omega arith;
-      reply = λ log run. rw (t, u);
-      reply′ = λ log run. rw (t, sym alike ∙ u);
+      not-limit = λ z. omega arith;
+      reply = λ log run. rw (t, x, u);
+      reply′ = λ log run. rw (t, x, sym alike ∙ u);
     }))
     (λ (u : ltb (length work) (workNeeded (nodes j)) ≡ false).
     ⊎-elim
@@ -86,14 +99,15 @@ refused-or-runs j work work′ alike =
       numbers = unreachableNet (joined j) ∷ unreachablePlace (joined j) ∷ [];
       left = cleared (nodes j) [] work;
       left′ = cleared (nodes j) [] work′;
-      number-most = omega arith;
-      reply = λ log run. rw (t, u, v);
-      reply′ = λ log run. rw (t, sym alike ∙ u, v);
+      not-limit = λ z. omega arith;
+      reply = λ log run. rw (t, x, u, v);
+      reply′ = λ log run. rw (t, x, sym alike ∙ u, v);
     }))
     (λ (v : ltb (unreachableNet (joined j)) (nets j) ≡ false).
-    inr (record { reply = λ log run. rw (t, u, v); reply′ = λ log run. rw (t, sym alike ∙ u, v) }))
+    inr (record { reply = λ log run. rw (t, x, u, v); reply′ = λ log run. rw (t, x, sym alike ∙ u, v) }))
     (either-way (ltb (unreachableNet (joined j)) (nets j))))
     (either-way (ltb (length work) (workNeeded (nodes j)))))
+    (either-way (exceeds (nodes j) (j .terms))))
     (either-way (leb 1 (faultyJob j)))
 
 -- two refusals by the same numbers
@@ -117,7 +131,7 @@ begun-records j limit = rw (joined-limit j limit, first-alike (joined j) limit)
 
 -- of the tests of tables only that of table 8 reads it
 faulty-alike : (j : Job) (low high : ℕ) → limitSound low ≡ true → limitSound high ≡ true → faultyJob (withLimit j high) ≡ faultyJob (withLimit j low)
-unfolding faultyJob faultyNets termsSound
+unfolding faultyJob faultyUntimed faultyTimes faultyNets termsSound
 faulty-alike j low high l h = rw (l, h)
 
 -- nor do paths
@@ -125,13 +139,13 @@ reached-alike : (j : Job) (low high : ℕ) (work log : List ℕ) (run : RouteRep
 unfolding unreachableNet unreachablePlace hasPath congestionFor othersOf firstState marksOf netSinks
 reached-alike j low high work log run = refl
 
-tested-alike : (j : Job) (low high : ℕ) → limitSound low ≡ true → limitSound high ≡ true → (work log : List ℕ) (run : RouteReply)
+tested-alike : (j : Job) (low high : ℕ) → AllowedLimit j low → AllowedLimit j high → (work log : List ℕ) (run : RouteReply)
     → tested (withLimit j high) work log run ≡ tested (withLimit j low) work log run
 tested-alike j low high l h work log run =
     let seven : reachedReply (joined (withLimit j high)) work log run ≡ reachedReply (joined (withLimit j low)) work log run =
     ap (λ (k : Job). reachedReply k work log run) (joined-limit j high) ∙ reached-alike (joined j) low high work log run
     ∙ sym (ap (λ (k : Job). reachedReply k work log run) (joined-limit j low)) in
-    rw (faulty-alike j low high l h, seven)
+    rw (faulty-alike j low high (l .sound) (h .sound), l .within, h .within, seven)
 
 -- ---- a longer log
 
@@ -289,7 +303,7 @@ unfolding firstState
 begins-below j limit h = h
 
 -- both replies under two allowed limits: refused alike, or the runs'
-module _ (j : Job) (low high : ℕ) (l : limitSound low ≡ true) (h : limitSound high ≡ true) (work log work′ log′ : List ℕ) where
+module _ (j : Job) (low high : ℕ) (l : AllowedLimit j low) (h : AllowedLimit j high) (work log work′ log′ : List ℕ) where
   pub low-refused : (r : Refused (withLimit j low) work work′) → routeReply (withLimit j low) work log ≡ refusedReply (r .number ∷ r .numbers) (r .left) log
   low-refused r = reply-tested (withLimit j low) work log ∙ r .reply log (negotiated (joined (withLimit j low)) work log)
 
@@ -325,7 +339,7 @@ limit-raised j low high work log work′ log′ l h more enough enough′ =
       same = λ _. rw (left, right) (refused-same (r .number ∷ r .numbers) (r .left) (r .left′) log log′);
       goes-on =
           λ over limited less.
-          absurd (let both = sym (ap (λ (r : RouteReply). r .refusal) left) ∙ limited in let z : r .number ≡ 9 = cc in omega (arith, r .number-most));
+          absurd (let both = sym (ap (λ (r : RouteReply). r .refusal) left) ∙ limited in r .not-limit (cc));
     })
     (λ (r : Runs (withLimit j low) work work′).
     let left = low-runs j low high l h work log work′ log′ r in
@@ -333,7 +347,7 @@ limit-raised j low high work log work′ log′ l h more enough enough′ =
     let p : Progress = begun (joined j) in
     let fits = rw (begun-records j low) at (enough .log-long) in
     let fits′ = rw (begun-records j high) at (enough′ .log-long) in
-    let some = begins-below (joined j) low (limit-least low l) in
+    let some = begins-below (joined j) low (limit-least low (l .sound)) in
     record {
       begins = rw (left, right) (raised-begins (joined j) p low high more work log work′ log′ fits fits′);
       same =
@@ -349,7 +363,7 @@ limit-raised j low high work log work′ log′ l h more enough enough′ =
 
 -- the same slices at any length
 pub raised-in-place :
-    (j : Job) (low high : ℕ) (work log : List ℕ) → limitSound low ≡ true → limitSound high ≡ true → low ≤ high
+    (j : Job) (low high : ℕ) (work log : List ℕ) → AllowedLimit j low → AllowedLimit j high → low ≤ high
     → RaisedInPlace j low high work log
 raised-in-place j low high work log l h more =
     ⊎-elim
@@ -363,7 +377,7 @@ raised-in-place j low high work log l h more =
     let right = high-runs j low high l h work log work log r in
     record {
       begins = rw (left, right) (placed-begins (joined j) (begun (joined j)) low high more work log);
-      same = λ accepted. right ∙ placed-same (joined j) (begun (joined j)) low high more (begins-below (joined j) low (limit-least low l)) work log (rw left at accepted) ∙ sym left;
+      same = λ accepted. right ∙ placed-same (joined j) (begun (joined j)) low high more (begins-below (joined j) low (limit-least low (l .sound))) work log (rw left at accepted) ∙ sym left;
     })
     (refused-or-runs (withLimit j low) work work refl)
   where

@@ -8,7 +8,6 @@ use Prim.Native.Nat.{ℕ, zero, suc, _+_, _≤_, _<_}
 use native.Mathlib.Nat.{le-refl}
 use native.Mathlib.Omega.{arith}
 use lib.ListN.{length}
-use Rattle.price.specs.Bounds.{limitMost}
 use Rattle.price.specs.Lists.{has}
 use Rattle.price.proofs.TestLaws.{either-way}
 use Rattle.job.specs.Job.{Job, nets, netSinks}
@@ -35,9 +34,9 @@ module _ (j : Job) (sound : Routable j) where
   ran-grown (next {m = m} {s = s} {p = p} r n) =
       grown-on j sound (p .state) m (grown-same j s (p .state) m (nets-histories j n) (nets-factor j n) (ran-grown r))
 
-  pub ran-ready : {m i : ℕ} {rs : List Record} {s : State} {p : Progress} → Ran j m rs s → NetsRan j s i p → m < limitMost → StateReady j (p .state)
+  pub ran-ready : {m i : ℕ} {rs : List Record} {s : State} {p : Progress} → Ran j m rs s → NetsRan j s i p → m < j .terms .limit → StateReady j (p .state)
   ran-ready {m = m} {s = s} {p = p} r n h =
-      grown-ready j (p .state) m h (grown-same j s (p .state) m (nets-histories j n) (nets-factor j n) (ran-grown r))
+      grown-ready j sound (p .state) m h (grown-same j s (p .state) m (nets-histories j n) (nets-factor j n) (ran-grown r))
 
   -- below the limit a run can go on from where it leads
   pub ran-can : {m : ℕ} {rs : List Record} {s : State} → Ran j m rs s → m < j .terms .limit → CanGoOn j (record { records = rs; state = s })
@@ -62,7 +61,7 @@ module _ (j : Job) (sound : Routable j) (all : Reached j) where
         once = net-distinct j sound s ready i h;
       }
 
-  pub machine-nets : {m : ℕ} {rs : List Record} {s : State} → Ran j m rs s → m < limitMost → (i : ℕ) → i ≤ nets j → NetsRan j s i (afterNets j s i)
+  pub machine-nets : {m : ℕ} {rs : List Record} {s : State} → Ran j m rs s → m < j .terms .limit → (i : ℕ) → i ≤ nets j → NetsRan j s i (afterNets j s i)
   unfolding afterNets
   machine-nets r h zero l = none
   machine-nets {s = s} r h (suc i) l =
@@ -77,7 +76,7 @@ module _ (j : Job) (sound : Routable j) (all : Reached j) where
 
   -- so many iterations more
   pub machine-ran :
-      {m : ℕ} {rs : List Record} {s : State} → Ran j m rs s → (n : ℕ) → m + n ≤ limitMost
+      {m : ℕ} {rs : List Record} {s : State} → Ran j m rs s → (n : ℕ) → m + n ≤ j .terms .limit
       → Ran j (m + n) (rs ++ recordsAfter j s n) (stateAfter j s n)
   unfolding recordsAfter stateAfter iterate
   machine-ran {m = m} {rs = rs} {s = s} r zero h =

@@ -3,8 +3,8 @@
 use mathlib.Core.Bool.{Bool, true, false, not}
 use mathlib.Core.List.{List, [], _∷_, _++_}
 use mathlib.Core.Logic.{_⊎_, ⊎-elim, inl, inr}
-use mathlib.Core.Path.{_≡_, refl, sym, _∙_, ap, subst}
-use Prim.Native.Nat.{ℕ, suc, _+_, _*_, _≤_, _<_}
+use mathlib.Core.Path.{_≡_, refl, sym, _∙_, ap}
+use Prim.Native.Nat.{ℕ, _+_, _*_, _≤_, _<_}
 use native.Mathlib.Nat.{le-refl, add-le-add}
 use native.Mathlib.Omega.{arith}
 use lib.ListN.{length, getD}
@@ -146,61 +146,5 @@ missing-less tree grown (y ∷ ys) x more m o n =
     omega arith)
     (λ (q : has x ys ≡ true).
     let rest : missing grown ys < missing tree ys = missing-less tree grown ys x more q o n in
-    omega arith)
-    (has-cons x y ys m)
-
--- a tree of one node that is none of them lacks all
-pub missing-first : (s : ℕ) (xs : List ℕ) → has s xs ≡ false → missing (s ∷ []) xs ≡ length xs
-unfolding total
-missing-first s [] e = refl
-missing-first s (x ∷ xs) e =
-    let out : has x (s ∷ []) ≡ false =
-    lacks x (s ∷ [])
-    (λ h.
-    ⊎-elim
-    (λ (q : x ≡ s). true≢false (sym (subst (λ (v : ℕ). has v (x ∷ xs) ≡ true) q (has-first x xs)) ∙ e))
-    (λ q. no-entry x q)
-    (has-cons x s [] h)) in
-    let here : lacking (s ∷ []) x ≡ 1 = rw out in
-    let rest : missing (s ∷ []) xs ≡ length xs = missing-first s xs (lacks s xs (λ h. true≢false (sym (has-rest s x xs h) ∙ e))) in
-    omega arith
-
--- one that has each lacks none
-pub missing-zero : (tree xs : List ℕ) → ((x : ℕ) → has x xs ≡ true → has x tree ≡ true) → missing tree xs ≡ 0
-unfolding total
-missing-zero tree [] all = refl
-missing-zero tree (x ∷ xs) all =
-    let here : lacking tree x ≡ 0 = rw (all x (has-first x xs)) in
-    let rest : missing tree xs ≡ 0 = missing-zero tree xs (λ v h. all v (has-rest v x xs h)) in
-    omega arith
-
-missing-same : (tree grown xs : List ℕ) → ((v : ℕ) → has v xs ≡ true → has v grown ≡ has v tree) → missing grown xs ≡ missing tree xs
-unfolding total
-missing-same tree grown [] same = refl
-missing-same tree grown (x ∷ xs) same =
-    let here : lacking grown x ≡ lacking tree x = rw (same x (has-first x xs)) in
-    let rest : missing grown xs ≡ missing tree xs = missing-same tree grown xs (λ v h. same v (has-rest v x xs h)) in
-    omega arith
-
--- a tree that has grown by one of them alone lacks one fewer
-pub missing-one :
-    (tree grown xs : List ℕ) (x : ℕ) → distinct xs ≡ true → has x xs ≡ true → has x tree ≡ false → has x grown ≡ true
-    → ((v : ℕ) → has v xs ≡ true → (v ≡ x → ⊥) → has v grown ≡ has v tree) → missing tree xs ≡ suc (missing grown xs)
-unfolding total
-missing-one tree grown [] x d m o n same = absurd (no-entry x m)
-missing-one tree grown (y ∷ ys) x d m o n same =
-    let once : has y ys ≡ false = distinct-first y ys d in
-    ⊎-elim
-    (λ (p : x ≡ y).
-    let old : lacking tree y ≡ 1 = rw (← p) (rw o) in
-    let new : lacking grown y ≡ 0 = rw (← p) (rw n) in
-    let rest : missing grown ys ≡ missing tree ys =
-    missing-same tree grown ys
-    (λ v h. same v (has-rest v y ys h) (λ (e : v ≡ x). true≢false (sym (subst (λ (u : ℕ). has u ys ≡ true) (e ∙ p) h) ∙ once))) in
-    omega arith)
-    (λ (q : has x ys ≡ true).
-    let other : y ≡ x → ⊥ = λ (e : y ≡ x). true≢false (sym (subst (λ (u : ℕ). has u ys ≡ true) (sym e) q) ∙ once) in
-    let here : lacking grown y ≡ lacking tree y = rw (same y (has-first y ys) other) in
-    let rest : missing tree ys ≡ suc (missing grown ys) = missing-one tree grown ys x (distinct-rest y ys d) q o n (λ v h. same v (has-rest v y ys h)) in
     omega arith)
     (has-cons x y ys m)

@@ -1,4 +1,5 @@
--- One net in an iteration: its turns are cheapest paths from its tree, they join every sink, and they reach no node twice.
+-- One net in an iteration: its turns are cheapest paths from its tree, they join every sink, and they reach no node twice. In a timed job a turn
+-- may join further sinks that its path passes, so that a net may make fewer turns than it has sinks.
 -- Assumes nothing.
 use mathlib.Core.Bool.{true, false, not}
 use mathlib.Core.List.{List, [], _∷_, _++_, append-nil}
@@ -11,17 +12,19 @@ use lib.Dec.{eqb}
 use lib.ListN.{length, getD, drop, length-append, length-replicate, getD-replicate}
 use lib.Seq.{append-snoc}
 use borrow.Author.Tests.{eq-eqb, ltb-true}
-use Rattle.price.specs.Bounds.{factorMost, historyMost, historyGain, othersMost, limitMost, priceMost, pathMost}
+use Rattle.price.specs.Bounds.{factorMost, historyMost, historyGain, othersMost, timedHistoryMost, priceMost, pathMost}
 use Rattle.price.specs.Test.{both}
 use Rattle.price.specs.Lists.{every, has, distinct, upTo}
 use Rattle.price.specs.Replies.{InBounds}
-use Rattle.price.proofs.TestLaws.{true≢false}
+use Rattle.price.specs.Timed.{weighed, WeighedInBounds, historyBound, weighedMost}
+use Rattle.price.proofs.TestLaws.{either-way, true≢false}
 use Rattle.price.proofs.ListLaws.{length-upTo, getD-upTo, has-at, has-place}
 use Rattle.price.proofs.BelowLaws.{count-most, count-less}
 use Rattle.price.proofs.PriceLaws as price
 use Rattle.price.proofs.PriceLaws.{price-pos, price-most, next-factor-most, history-grows, history-reach}
+use Rattle.price.proofs.TimedLaws.{timed-history-reach, bound-timed, bound-untimed, weighed-path, weighed-low, weighed-pos, weighed-most}
 use Rattle.search.specs.Paths.{Walk, CheapestPath, Fair}
-use Rattle.search.specs.Turn.{Congestion, priceAt}
+use Rattle.search.specs.Turn.{Congestion, congestedAt, priceAt}
 use Rattle.search.proofs.BlockLaws.{graph-of, kind-most, capacity-least, capacity-most}
 use Rattle.search.proofs.WalkLaws.{cost-most}
 use Rattle.search.proofs.EdgeLaws.{shaped}
@@ -30,6 +33,8 @@ use Rattle.search.proofs.DistinctLaws.{has-first, lacks, distinct-cons, distinc
 use Rattle.job.specs.Job.{Job, nodes, nets, source, netSinks}
 use Rattle.job.specs.Tables.{netsMost}
 use Rattle.negotiation.specs.Records.{Record, pathNodes}
+use Rattle.negotiation.specs.Order.{turnSinks, turnWeighting, turnCongestion}
+use Rattle.negotiation.specs.Resume.{turnPrice}
 use Rattle.negotiation.specs.Machine.{State, treeAt, othersOf, usersOf, marksOf, congestionFor, netRecords, treeFrom, afterNets, iterate, movedHistory, moveOn, firstState, stateAfter}
 use Rattle.negotiation.specs.Outcome.{hasPath}
 use Rattle.negotiation.specs.Unreachable.{Reachable}
@@ -39,13 +44,15 @@ use Rattle.negotiation.specs.Routable.{Routable}
 use Rattle.negotiation.proofs.RoutableLaws.{tuning-fits}
 use Rattle.negotiation.proofs.RecordLaws.{stepEnds, branchEnds, pathNodes-append}
 use Rattle.negotiation.proofs.MemberLaws.{no-entry, has-append-split, none-has, lacks-left, lacks-right, distinct-append, missing-most}
+use Rattle.negotiation.proofs.OrderLaws.{weighting-timed, criticality-low, turn-some, turn-nodes}
 use Rattle.negotiation.proofs.TreeLaws.{TreeNodes, mark-is, TreeTurn, Turns, none, stop, more, turns-are, turns-join, turns-source, only-entry}
 
--- factor and histories keep the bounds of row 13
+-- factor and histories keep the bounds of row 13, in a timed job the search's own of history
 pub record StateReady (j : Job) (s : State) : Type 0 where
   pub long : length (s .histories) ≡ nodes j
   pub history-least : (v : ℕ) → v < nodes j → 1 ≤ getD (s .histories) v 0
   pub history-most : (v : ℕ) → v < nodes j → getD (s .histories) v 0 ≤ historyMost
+  pub history-timed : j .terms .timed ≡ true → (v : ℕ) → v < nodes j → getD (s .histories) v 0 ≤ timedHistoryMost
   pub factor-most : s .factor ≤ factorMost
 
 -- what they have grown by after so many whole iterations hangs on histories and factor alone
@@ -94,21 +101,22 @@ grown j sound {s} {n} g (suc m) =
     let e : n + suc m ≡ suc (n + m) = omega arith in
     rw e (grown-on j sound _ (n + m) (grown-after j (stateAfter j s m) (n + m) (nets j) (grown j sound g m)))
 
--- below the largest limit it keeps the bounds
-pub grown-ready : (j : Job) (s : State) (m : ℕ) → m < limitMost → Grown j s m → StateReady j s
-grown-ready j s m h g =
+-- below the limit it keeps the bounds
+pub grown-ready : (j : Job) → Routable j → (s : State) (m : ℕ) → m < j .terms .limit → Grown j s m → StateReady j s
+grown-ready j sound s m h g =
     record {
       long = g .long;
       history-least = g .least;
-      history-most = λ v l. history-reach m _ (g .most v l) h;
+      history-most = λ v l. history-reach m _ (g .most v l) (le-trans h (sound .limit-few));
+      history-timed = λ t v l. timed-history-reach m _ (g .most v l) (le-trans h (sound .timing t .limit-low));
       factor-most = g .factor-most;
     }
 
 -- from such a state on, every state in which a net is routed keeps them
 pub state-ready :
-    (j : Job) → Routable j → {s : State} {n : ℕ} → Grown j s n → (m i : ℕ) → n + m < limitMost → StateReady j (afterNets j (stateAfter j s m) i .state)
+    (j : Job) → Routable j → {s : State} {n : ℕ} → Grown j s n → (m i : ℕ) → n + m < j .terms .limit → StateReady j (afterNets j (stateAfter j s m) i .state)
 state-ready j sound {s} {n} g m i h =
-    grown-ready j (afterNets j (stateAfter j s m) i .state) (n + m) h (grown-after j (stateAfter j s m) (n + m) i (grown j sound g m))
+    grown-ready j sound (afterNets j (stateAfter j s m) i .state) (n + m) h (grown-after j (stateAfter j s m) (n + m) i (grown j sound g m))
 
 -- fewer other nets have a node than there are nets
 pub others-few : (j : Job) (trees : List (List ℕ)) (i v : ℕ) → i < nets j → othersOf j trees i v < nets j
@@ -137,9 +145,10 @@ module _ (j : Job) (sound : Routable j) (s : State) (ready : StateReady j s) (i 
   others-at : (v : ℕ) → v < nodes j → getD (upTo (othersOf j (s .trees) i) (nodes j)) v 0 ≡ othersOf j (s .trees) i v
   others-at v h = getD-upTo (othersOf j (s .trees) i) (nodes j) v 0 h
 
-  pub turn-fair : Fair (j .block) (priceAt (j .block) (congestionFor j s i))
-  unfolding priceAt congestionFor
-  turn-fair =
+  -- with the congestion prices alone
+  pub congestion-fair : Fair (j .block) (priceAt (j .block) (congestionFor j s i))
+  unfolding priceAt congestedAt weighed congestionFor
+  congestion-fair =
       record {
         ceiling = priceMost;
         low = omega arith;
@@ -148,11 +157,47 @@ module _ (j : Job) (sound : Routable j) (s : State) (ready : StateReady j s) (i 
         most = λ v h. rw (others-at v h) (price-most (turn-bounds v h));
       }
 
+  -- a turn's prices, weighed or not
+  module _ (tree : List ℕ) where
+    weighs : turnWeighting j i tree .timed ≡ true → j .terms .timed ≡ true
+    weighs t = sym (weighting-timed j i tree) ∙ t
+
+    history-bounded : (v : ℕ) → v < nodes j → getD (s .histories) v 0 ≤ historyBound (turnWeighting j i tree)
+    history-bounded v h =
+        ⊎-elim
+        (λ (t : turnWeighting j i tree .timed ≡ true). rw (bound-timed (turnWeighting j i tree) t) (ready .history-timed (weighs t) v h))
+        (λ (t : turnWeighting j i tree .timed ≡ false). rw (bound-untimed (turnWeighting j i tree) t) (ready .history-most v h))
+        (either-way (turnWeighting j i tree .timed))
+
+    pub weighed-bounds :
+        (v : ℕ) → v < nodes j
+        → WeighedInBounds (turnWeighting j i tree) (getD (j .block .kinds) v 0) (s .factor) (othersOf j (s .trees) i v) (getD (j .block .capacities) v 0) (getD (s .histories) v 0) (getD (j .delays) v 0)
+    weighed-bounds v h =
+        record {
+          five = turn-bounds v h;
+          history-bound = history-bounded v h;
+          delay-most = λ t. sound .timing (weighs t) .delay-most v h;
+          criticality-most = λ t. criticality-low j sound i hi (weighs t) tree;
+        }
+
+    pub turn-fair : Fair (j .block) (turnPrice j s i tree)
+    unfolding priceAt congestedAt turnCongestion congestionFor
+    turn-fair =
+        record {
+          ceiling = weighedMost (turnWeighting j i tree);
+          low = omega (arith, weighed-low (turnWeighting j i tree));
+          fits =
+              weighed-path (turnWeighting j i tree) (nodes j) (graph-of (j .block) (sound .block-sound) .few) (λ t. sound .timing (weighs t) .nodes-few);
+          pos = λ v h. rw (others-at v h) (weighed-pos (weighed-bounds v h));
+          most = λ v h. rw (others-at v h) (weighed-most (weighed-bounds v h));
+        }
+
 -- a turn of net i in state s after its earlier ones of the same iteration
 pub record NetTurn (j : Job) (s : State) (i : ℕ) (earlier : List Record) (r : Record) : Type 0 where
   pub iteration-is : r .iteration ≡ s .iteration
   pub net-is : r .net ≡ i
-  pub cheapest : CheapestPath (j .block) (priceAt (j .block) (congestionFor j s i)) (λ v. has v (treeFrom j i earlier)) (netSinks j i) (r .sink) (r .cost) (r .path)
+  pub cheapest :
+      CheapestPath (j .block) (turnPrice j s i (treeFrom j i earlier)) (λ v. has v (treeFrom j i earlier)) (turnSinks j i (treeFrom j i earlier)) (r .sink) (r .cost) (r .path)
   -- its path begins in the tree, and the rest is new to it
   pub begins : has (getD (r .path) 0 0) (treeFrom j i earlier) ≡ true
   pub new-nodes : every (λ v. not (has v (treeFrom j i earlier))) (stepEnds r) ≡ true
@@ -167,7 +212,7 @@ pub turn-cost :
     → r .cost < pathMost
 turn-cost j sound s ready i hi earlier r t =
     rw (t .cheapest .costs)
-    (cost-most (priceAt (j .block) (congestionFor j s i)) (turn-fair j sound s ready i hi) (r .path) (t .path-nodes) (t .path-short))
+    (cost-most (turnPrice j s i (treeFrom j i earlier)) (turn-fair j sound s ready i hi (treeFrom j i earlier)) (r .path) (t .path-nodes) (t .path-short))
 
 -- the tree of the source alone
 source-alone : (j : Job) → Routable j → (i : ℕ) → i < nets j → TreeNodes j (source j i ∷ [])
@@ -176,7 +221,7 @@ source-alone j sound i hi v h = rw (only-entry v (source j i) h) (sound .source-
 -- the first state keeps its bounds
 pub first-ready : (j : Job) → Routable j → StateReady j (firstState j)
 unfolding afterNets stateAfter
-first-ready j sound = state-ready j sound (grown-first j sound) 0 0 (omega arith)
+first-ready j sound = state-ready j sound (grown-first j sound) 0 0 (sound .limit-some)
 
 -- a node that the test before iteration 1 finds has a path from the source
 pub path-from : (j : Job) → Routable j → (i : ℕ) → i < nets j → (x : ℕ) → x < nodes j → hasPath j i x ≡ true → Reachable j i x
@@ -184,7 +229,7 @@ unfolding hasPath
 path-from j sound i hi x node found =
     let p =
     some-path (j .block) (priceAt (j .block) (congestionFor j (firstState j) i)) (marksOf j (source j i ∷ [])) (shaped (j .block) (sound .block-sound))
-    (turn-fair j sound (firstState j) (first-ready j sound) i hi) x node (ltb-true _ _ found) in
+    (congestion-fair j sound (firstState j) (first-ready j sound) i hi) x node (ltb-true _ _ found) in
     let first : p .0 ≡ source j i =
     only-entry (p .0) (source j i) (sym (mark-is j (source j i ∷ []) (source-alone j sound i hi) (p .0)) ∙ p .3) in
     (p .1, subst (λ (u : ℕ). Walk (j .block) u (p .1) x) first (p .4))
@@ -274,7 +319,7 @@ module _ (j : Job) (sound : Routable j) (s : State) (ready : StateReady j s) (i 
   net-turns : Turns j (s .iteration) (congestionFor j s i) i (length (netSinks j i)) (source j i ∷ []) (netRecords j s i)
   unfolding netRecords
   net-turns =
-      turns-are j (congestionFor j s i) i (shaped (j .block) (sound .block-sound)) (turn-fair j sound s ready i hi) (sound .sink-node i hi)
+      turns-are j (congestionFor j s i) i (shaped (j .block) (sound .block-sound)) (turn-fair j sound s ready i hi) (turn-nodes j sound i hi)
       (s .iteration) (length (netSinks j i)) (source j i ∷ []) (source-alone j sound i hi)
 
   pub net-turn : (earlier later : List Record) (r : Record) → netRecords j s i ≡ earlier ++ (r ∷ later) → NetTurn j s i earlier r
@@ -293,8 +338,8 @@ module _ (j : Job) (sound : Routable j) (s : State) (ready : StateReady j s) (i 
     -- every sink is joined
     pub net-joins : (x : ℕ) → has x (netSinks j i) ≡ true → has x (treeFrom j i (netRecords j s i)) ≡ true
     net-joins x h =
-        turns-join j (congestionFor j s i) i (shaped (j .block) (sound .block-sound)) (turn-fair j sound s ready i hi) (sound .sink-node i hi)
-        net-turns (source-alone j sound i hi) (missing-most (source j i ∷ []) (netSinks j i)) (source j i) (has-first (source j i) [])
+        turns-join j (congestionFor j s i) i (shaped (j .block) (sound .block-sound)) (turn-fair j sound s ready i hi) (turn-nodes j sound i hi)
+        (turn-some j sound i hi) net-turns (source-alone j sound i hi) (missing-most (source j i ∷ []) (netSinks j i)) (source j i) (has-first (source j i) [])
         (λ y k. sink-path j sound i hi y k (all y k)) x h
 
     -- where the net has sinks there is a record, and the source is on its path

@@ -7,13 +7,14 @@ use native.Mathlib.Omega.{arith}
 use lib.ListN.{length, getD, take, drop, replicate, length-append, length-drop, length-replicate}
 use lib.Seq.{getD-append-add, getD-drop}
 use Rattle.price.specs.Bounds.{nodesMost}
+use Rattle.price.specs.Lists.{least}
 use Rattle.search.specs.Block as block
 use Rattle.search.specs.Block.{Block}
 use Rattle.search.specs.Paths.{Fair}
-use Rattle.search.specs.Turn.{Congestion, congestionOf, priceAt, Turn, joins, turn}
+use Rattle.search.specs.Turn.{Congestion, priceAt, Turn, joins, stuck, openDistances, turn}
 use Rattle.search.specs.Replies.{PathReply, readOff, turnReply, pathReply, pathReplyOf}
 use Rattle.search.specs.declared.PathAnswer.{PathAnswer}
-use Rattle.search.specs.declared.PathAnswer.the-variants.{Joins, Stuck, BadTable, ShortWork, BadNumber}
+use Rattle.search.specs.declared.PathAnswer.the-variants.{Joins, Stuck, BadTable, ShortWork, BadNumber, TooLarge}
 use Rattle.search.proofs.EdgeLaws.{Shaped, shaped}
 use Rattle.search.proofs.PathTestLaws.{sinks-nodes}
 use Rattle.search.proofs.ReadyLaws.{ready-fair}
@@ -60,21 +61,26 @@ pub record Joined (n : ℕ) (t : Turn) (sinks marks work work′ : List ℕ) (pl
   pub nodes-below : AllBelow (length marks) (take count work′)
   pub rest : SameFrom (8 * n) work work′
 
-module _ {b : Block} {tariff : Tariff} {net : ℕ} {sinks history users marks work log : List ℕ} (t : CanTurn b tariff net sinks history users marks work log) where
-  abbrev prices : Congestion
-  prices = congestionOf (tariff .factor) history users
-
+module _ {b : Block} {prices : Congestion} {tariff : Tariff} {sinks marks work log : List ℕ} (t : CanTurn b prices tariff sinks marks work log) where
   abbrev made : Turn
   made = turn b (priceAt b prices) marks sinks
 
   fair : Fair b (priceAt b prices)
   unfolding priceAt
   fair =
-      let f = ready-fair (b .kinds) (b .capacities) (b .firstEdges) (b .edgeTargets) prices marks (record { kinds-sound = t .ready .sound .kinds-sound; capacities-sound = t .ready .sound .capacities-sound; nodes-sound = t .ready .numbers; factor-most = t .ready .factor-most }) in
+      let f =
+      ready-fair (b .kinds) (b .capacities) (b .firstEdges) (b .edgeTargets) prices marks
+      (record {
+        kinds-sound = t .ready .sound .kinds-sound;
+        capacities-sound = t .ready .sound .capacities-sound;
+        nodes-sound = t .ready .numbers;
+        factor-most = t .ready .factor-most;
+        weighable = t .ready .weighable;
+      }) in
       record { ceiling = f .ceiling; low = f .low; fits = f .fits; pos = f .pos; most = f .most }
 
   reply : {x : PathReply} → x ≡ pathReply b prices marks sinks work → x ≡ turnReply (block.nodes b) work made
-  reply e = e ∙ path-turn b prices marks sinks work (t .ready .sound) (t .sinks-sound) (t .ready .enough) (t .ready .numbers) (t .ready .factor-most)
+  reply e = e ∙ path-turn b prices marks sinks work (t .ready .sound) (t .sinks-sound) (t .ready .enough) (t .ready .numbers) (t .ready .factor-most) (t .ready .weighable)
 
   pub turn-joined : {r : PathAnswer} {place cost count : ℕ} {work′ : List ℕ} → r ≡ Joins place cost count → pathReplyOf r work′ ≡ pathReply b prices marks sinks work → Joined (block.nodes b) made sinks marks work work′ place cost count
   turn-joined {r} {place} {cost} {count} {work′} is e =
@@ -116,6 +122,19 @@ module _ {b : Block} {tariff : Tariff} {net : ℕ} {sinks history users marks wo
   turn-other {work′} (BadTable k) other e = absurd (no-refusal b prices marks sinks work (block.nodes b) work′ made (BadTable k) 5 (k ∷ []) refl (reply e))
   turn-other {work′} (ShortWork k) other e = absurd (no-refusal b prices marks sinks work (block.nodes b) work′ made (ShortWork k) 6 (k ∷ []) refl (reply e))
   turn-other {work′} (BadNumber k) other e = absurd (no-refusal b prices marks sinks work (block.nodes b) work′ made (BadNumber k) 13 (k ∷ []) refl (reply e))
+  turn-other {work′} (TooLarge k) other e = absurd (no-refusal b prices marks sinks work (block.nodes b) work′ made (TooLarge k) 15 (k ∷ 0 ∷ []) refl (reply e))
+
+-- no sink is tried
+none-tried : (b : Block) (price : ℕ → ℕ) (marks sinks : List ℕ) → length sinks ≡ 0 → turn b price marks sinks ≡ stuck
+unfolding turn openDistances least
+none-tried b price marks [] e = refl
+none-tried b price marks (s ∷ sinks) e = absurd (omega arith)
+
+pub turn-none :
+    (b : Block) (price : ℕ → ℕ) (sinks marks : List ℕ) {work log : List ℕ} {n : ℕ} → length sinks ≡ 0
+    → Skipped (turn b price marks sinks) log marks log marks × SameFrom n work work
+turn-none b price sinks marks none =
+    (record { is-stuck = none-tried b price marks sinks none; log-same = refl; marks-same = refl }, record { long = refl; high = λ k l. refl })
 
 -- ---- what is logged
 

@@ -14,11 +14,11 @@ use borrow.Author.Tests.{le-leb, lt-leb}
 use Rattle.price.specs.Test.{either}
 use Rattle.price.proofs.TestLaws.{either-way}
 use Rattle.search.specs.Paths.{pathCost}
-use Rattle.search.specs.Turn.{Congestion, priceAt, Turn, joins, stuck}
+use Rattle.search.specs.Turn.{Congestion, Turn, joins, stuck}
 use Rattle.job.specs.Job.{Job, nets, source, netSinks}
 use Rattle.negotiation.specs.Records.{Record, words, encode}
 use Rattle.negotiation.specs.Machine.{State, Progress, congestionFor, turnOf, logTurn, turnsOf, netRecords, treeFrom, withNet, due, routeIf, afterNets, iterate, overCount, stateAfter, iterationAfter, recordsAfter, settlesAt}
-use Rattle.negotiation.specs.Resume.{recordIn, turnFollows, allJoined, on, after, replayTurns, replayNets, replayFrom}
+use Rattle.negotiation.specs.Resume.{recordIn, turnPrice, turnFollows, allJoined, on, after, replayTurns, replayNets, replayFrom}
 use Rattle.negotiation.proofs.RecordLaws.{encode-append, records-few}
 use Rattle.negotiation.proofs.EndLaws.{records-more}
 
@@ -27,7 +27,7 @@ use Rattle.negotiation.proofs.EndLaws.{records-more}
 -- the turns of a net that are left follow one after the other, and then its sinks are joined
 pub data Follow (j : Job) (s : State) (i : ℕ) : List Record → List Record → Type 0 where
   done : {made : List Record} → allJoined j i made ≡ true → Follow j s i made []
-  more : {made rest : List Record} {r : Record} → allJoined j i made ≡ false → r .cost ≡ pathCost (priceAt (j .block) (congestionFor j s i)) (r .path)
+  more : {made rest : List Record} {r : Record} → allJoined j i made ≡ false → r .cost ≡ pathCost (turnPrice j s i (treeFrom j i made)) (r .path)
       → ((ws : List ℕ) → turnFollows j s i (treeFrom j i made) (words r ++ ws) ≡ true)
       → Follow j s i (made ++ (r ∷ [])) rest → Follow j s i made (r ∷ rest)
 
@@ -62,7 +62,7 @@ module _ (j : Job) (ws later : List ℕ) (i : ℕ) (p : Progress) where
         t,
         there,
         f (encode rest ++ later),
-        record-there (priceAt (j .block) (congestionFor j (p .state) i)) r (encode rest ++ later) c,
+        record-there (turnPrice j (p .state) i (treeFrom j i made)) r (encode rest ++ later) c,
       )
       (own-turns g k (le-of-suc-le-suc h) again ∙ ap (λ (l : List Record). on (withNet j i p l)) (append-snoc made r rest))
 

@@ -10,20 +10,20 @@ use native.Mathlib.Omega.{arith}
 use lib.ListN.{length, getD, take, length-append}
 use lib.Seq.{take-append-seam, append-snoc}
 use borrow.Author.Tests.{eq-eqb, le-leb, le-ltb, eqb-false}
-use Rattle.price.specs.Bounds.{limitMost}
 use Rattle.price.specs.Lists.{every, has, neighbours}
 use Rattle.price.proofs.TestLaws.{either-way, true≢false}
 use Rattle.search.specs.Block.{Block, hasEdge}
 use Rattle.search.specs.Paths.{Walk, stay, step, pathCost}
-use Rattle.search.specs.Turn.{priceAt}
 use Rattle.search.proofs.BlockLaws.{graph-of}
 use Rattle.job.specs.Job.{Job, nets, netSinks}
 use Rattle.negotiation.specs.Records.{Record, words}
 use Rattle.negotiation.specs.Routable.{Routable}
-use Rattle.negotiation.specs.Machine.{State, congestionFor, netRecords, treeFrom, afterNets, iterate, overCount, firstState, stateAfter, iterationAfter, recordsAfter, settlesAt}
+use Rattle.negotiation.specs.Order.{turnSinks}
+use Rattle.negotiation.specs.Machine.{State, netRecords, treeFrom, afterNets, iterate, overCount, firstState, stateAfter, iterationAfter, recordsAfter, settlesAt}
 use Rattle.negotiation.specs.Outcome.{hasPath}
-use Rattle.negotiation.specs.Resume.{pathIn, wholeRecord, costFollows, turnFollows, allJoined, on, replay, OwnLog}
+use Rattle.negotiation.specs.Resume.{pathIn, wholeRecord, costFollows, turnPrice, turnFollows, allJoined, on, replay, OwnLog}
 use Rattle.negotiation.proofs.MemberLaws.{every-has, every-members}
+use Rattle.negotiation.proofs.OrderLaws.{turn-listed}
 use Rattle.negotiation.proofs.StateLaws.{nets-iteration}
 use Rattle.negotiation.proofs.NetLaws.{StateReady, NetTurn, turn-fair, net-turn, net-joins}
 use Rattle.negotiation.proofs.RanLaws.{Ran, start, ran-iteration}
@@ -62,13 +62,13 @@ module _ (j : Job) (s : State) (i : ℕ) (tree : List ℕ) (r : Record) (path : 
       let long = length-append (r .path) ws in
       rw (le-leb 6 (length (words r ++ ws)) (omega arith)) (le-leb (6 + length (r .path)) (length (words r ++ ws)) (omega arith))
 
-  words-cost : r .cost ≡ pathCost (priceAt (j .block) (congestionFor j s i)) (r .path) → costFollows (priceAt (j .block) (congestionFor j s i)) (words r ++ ws) ≡ true
+  words-cost : r .cost ≡ pathCost (turnPrice j s i tree) (r .path) → costFollows (turnPrice j s i tree) (words r ++ ws) ≡ true
   unfolding costFollows words
   words-cost costs =
       rw (path-in, ← costs, eq-eqb (r .cost % 2 ^ 32) (r .cost % 2 ^ 32) refl) (eq-eqb (r .cost / 2 ^ 32) (r .cost / 2 ^ 32) refl)
 
   words-follow :
-      r .iteration ≡ s .iteration → r .net ≡ i → r .cost ≡ pathCost (priceAt (j .block) (congestionFor j s i)) (r .path)
+      r .iteration ≡ s .iteration → r .net ≡ i → r .cost ≡ pathCost (turnPrice j s i tree) (r .path)
       → turnFollows j s i tree (words r ++ ws) ≡ true
   unfolding words
   words-follow at of costs =
@@ -89,8 +89,9 @@ module _ (j : Job) (sound : Routable j) (s : State) (ready : StateReady j s) (i 
         sink-listed = t .cheapest .sink-listed;
         sink-open = t .cheapest .sink-open;
         alone =
-            one-sink (j .block) (graph-of (j .block) (sound .block-sound)) (priceAt (j .block) (congestionFor j s i)) (turn-fair j sound s ready i hi .pos)
-            (treeFrom j i earlier) (netSinks j i) (r .sink) (r .cost) (r .path) (t .cheapest);
+            one-sink (j .block) (graph-of (j .block) (sound .block-sound)) (turnPrice j s i (treeFrom j i earlier))
+            (turn-fair j sound s ready i hi (treeFrom j i earlier) .pos) (treeFrom j i earlier) (turnSinks j i (treeFrom j i earlier)) (r .sink) (r .cost) (r .path)
+            (t .cheapest);
       }
 
   -- before a turn its sink is not joined
@@ -101,7 +102,7 @@ module _ (j : Job) (sound : Routable j) (s : State) (ready : StateReady j s) (i 
       (λ (q : every (λ x. has x (treeFrom j i earlier)) (netSinks j i) ≡ true).
       absurd
       (true≢false
-      (sym (every-has (λ x. has x (treeFrom j i earlier)) (netSinks j i) q (r .sink) (t .cheapest .sink-listed)) ∙ t .cheapest .sink-open)))
+      (sym (every-has (λ x. has x (treeFrom j i earlier)) (netSinks j i) q (r .sink) (turn-listed j i (treeFrom j i earlier) (r .sink) (t .cheapest .sink-listed))) ∙ t .cheapest .sink-open)))
       (λ q. q)
       (either-way (every (λ x. has x (treeFrom j i earlier)) (netSinks j i)))
 
@@ -122,13 +123,13 @@ module _ (j : Job) (sound : Routable j) (s : State) (ready : StateReady j s) (i 
 -- ---- whole iterations
 
 module _ (j : Job) (sound : Routable j) (all : Reached j) where
-  nets-follow : {m : ℕ} {rs : List Record} {s : State} → Ran j m rs s → m < limitMost → NetsFollow j s
+  nets-follow : {m : ℕ} {rs : List Record} {s : State} → Ran j m rs s → m < j .terms .limit → NetsFollow j s
   nets-follow {s = s} r h k l d =
       net-follow j sound (afterNets j s k .state) (ran-ready j sound r (machine-nets j sound all r h k (omega arith)) h) k l (λ x listed. all k x l listed)
       [] (netRecords j (afterNets j s k .state) k) refl
 
   -- the machine after so many whole iterations
-  ran-after : (n : ℕ) → n ≤ limitMost → Ran j n (recordsAfter j (firstState j) n) (stateAfter j (firstState j) n)
+  ran-after : (n : ℕ) → n ≤ j .terms .limit → Ran j n (recordsAfter j (firstState j) n) (stateAfter j (firstState j) n)
   ran-after n h =
       let e : 0 + n ≡ n = omega arith in
       subst (λ (k : ℕ). Ran j k (recordsAfter j (firstState j) n) (stateAfter j (firstState j) n)) e (machine-ran j sound all start n (omega arith))
@@ -137,7 +138,6 @@ module _ (j : Job) (sound : Routable j) (all : Reached j) where
     own-some : (k : ℕ) → k < n → 1 ≤ length (iterationAfter j (firstState j) k .records)
     unfolding settlesAt iterate
     own-some k h =
-        let most = sound .limit-few in
         let below = own .below in
         let ran = ran-after k (omega arith) in
         some-turn j ran (machine-nets j sound all ran (omega arith) (nets j) (le-refl (nets j)))
@@ -147,7 +147,6 @@ module _ (j : Job) (sound : Routable j) (all : Reached j) where
     unfolding iterate
     own-below k h =
         let now = nets-iteration j (stateAfter j (firstState j) k) (nets j) in
-        let most = sound .limit-few in
         let below = own .below in
         let at = ran-iteration j (ran-after k (omega arith)) in
         omega arith
@@ -155,7 +154,7 @@ module _ (j : Job) (sound : Routable j) (all : Reached j) where
     own-follows : OwnRun j (firstState j) n
     own-follows =
         record {
-          follow = λ k h. let most = sound .limit-few in let below = own .below in nets-follow (ran-after k (omega arith)) (omega arith);
+          follow = λ k h. let below = own .below in nets-follow (ran-after k (omega arith)) (omega arith);
           unsettled = own .unsettled;
           below = own-below;
           some = own-some;

@@ -3,7 +3,7 @@
 --     step-off, -marked, -goal, step-answer       the tests of one step
 --     price-found, price-block                    the price of the node that it goes to
 --     Passing, pass-first, -off, -out             the pass over the words, at first
---     step-strays, step-node, step-on             a step more
+--     step-strays, step-node, cost-fits, step-on  a step more
 --     pass-done, pass-marked                      and at the end
 -- Assumes nothing.
 use mathlib.Core.Bool.{Bool, true, false}
@@ -11,25 +11,26 @@ use mathlib.Core.List.{List, [], _∷_}
 use mathlib.Core.Logic.{⊎-elim}
 use mathlib.Core.Path.{_≡_, refl, sym, _∙_}
 use Prim.Native.Nat.{ℕ, suc, _+_, _-_, _*_, _≤_, _<_, zero-le}
-use native.Mathlib.Nat.{le-refl, eq-or-lt-of-le}
+use native.Mathlib.Nat.{le-refl, eq-or-lt-of-le, mul-le-mul, suc-mul}
 use native.Mathlib.Omega.{arith}
 use lib.Dec.{eqb, ltb}
 use lib.ListN.{length, getD, set, length-set, List·getD-eq-default}
 use lib.Seq.{slice, slice-cons, slice-empty}
 use borrow.Author.Tests.{eqb-true, eq-eqb, ne-eqb, lt-ltb, le-ltb}
 use Rattle.price.specs.Test.{choose}
-use Rattle.price.specs.Bounds.{priceMost}
+use Rattle.price.specs.Bounds.{pathMost}
 use Rattle.price.specs.Lists.{has}
-use Rattle.price.specs.Replies.{priceReplyOf, priceReply}
+use Rattle.price.specs.Replies.{priceReplyOf}
+use Rattle.price.specs.Timed.{weighedReply, weighedMost}
 use Rattle.price.specs.declared.PriceAnswer.{PriceAnswer}
 use Rattle.price.specs.declared.PriceAnswer.the-variants.{Price}
-use Rattle.price.proofs.PriceLaws.{price-most}
 use Rattle.price.proofs.TestLaws.{either-way, both-left}
+use Rattle.price.proofs.TimedLaws.{weighed-most, weighed-path}
 use Rattle.search.specs.Block.{Block, blockOf, graphOf, nodes, rowStart, row, hasEdge}
 use Rattle.search.specs.Tables.{Graph}
-use Rattle.search.specs.Turn.{Congestion, congestionOf, priceAt}
+use Rattle.search.specs.Turn.{Congestion, congestedAt, priceAt}
 use Rattle.search.specs.Frontier.{PriceReady}
-use Rattle.search.proofs.BlockLaws.{graph-of, row-order, row-end, edge-to}
+use Rattle.search.proofs.BlockLaws.{graph-of, row-order, row-end, edge-to, kinds-few}
 use Rattle.search.proofs.FillLaws.{answered-price}
 use Rattle.job.specs.Steps.{Stored}
 use Rattle.negotiation.specs.ResumeSteps.{lastMark, stepPasses, stepsCost, passCost, PassReady}
@@ -110,16 +111,17 @@ mark-last next to l = rw (le-ltb next to l)
 
 -- the price's answer to a node that is ready to be priced, within its bound
 pub price-found :
-    {kinds capacities histories others : List ℕ} {factor v : ℕ} → PriceReady kinds capacities histories others factor v → {r : PriceAnswer} {p : ℕ} → r ≡ Price p
-    → priceReplyOf r ≡ priceReply (getD kinds v 0) factor (getD others v 0) (getD capacities v 0) (getD histories v 0)
-    → (p ≡ priceAt (blockOf kinds capacities [] []) (congestionOf factor histories others) v) × (p ≤ priceMost)
-unfolding priceAt
-price-found ready q e = let is = answered-price ready q e in (is, rw is (price-most (ready .bounds)))
+    {kinds capacities : List ℕ} {c : Congestion} {v : ℕ} → PriceReady kinds capacities c v → {d : ℕ} → (c .weighting .timed ≡ true → d ≡ getD (c .delays) v 0)
+    → {r : PriceAnswer} {p : ℕ} → r ≡ Price p
+    → priceReplyOf r ≡ weighedReply (c .weighting) (getD kinds v 0) (c .factor) (getD (c .others) v 0) (getD capacities v 0) (getD (c .histories) v 0) d
+    → (p ≡ priceAt (blockOf kinds capacities [] []) c v) × (p ≤ weighedMost (c .weighting))
+unfolding priceAt congestedAt
+price-found ready read q e = let is = answered-price ready read q e in (is, rw is (weighed-most (ready .bounds)))
 
 -- tables 3 and 4 don't matter to it
 pub price-block :
     (ks cs fs ts : List ℕ) (c : Congestion) (v : ℕ) {p : ℕ} → p ≡ priceAt (blockOf ks cs [] []) c v → p ≡ priceAt (blockOf ks cs fs ts) c v
-unfolding priceAt
+unfolding priceAt congestedAt
 price-block ks cs fs ts c v e = e
 
 -- ---- the words of a path
@@ -131,7 +133,7 @@ pub record Passing (b : Block) (c : Congestion) (goals marks₀ log : List ℕ) 
   pub node : u < nodes b
   pub marks-long : length marks ≡ nodes b
   pub left-is : passCost b (priceAt b c) goals marks₀ (slice from to log) ≡ stepsCost b (priceAt b c) goals marks u cost (slice k to log)
-  pub cost-most : cost ≤ (k - from) * priceMost
+  pub cost-most : cost ≤ (k - from) * weighedMost (c .weighting)
   pub marked : Stored 1 (slice from k log) marks₀ marks
 
 -- the mark of a step by the place after it: that of the last one where no word is left
@@ -211,8 +213,23 @@ module _ {b : Block} {c : Congestion} {goals marks₀ log : List ℕ} {from to :
       unfolding stepPasses
       step-node on = edge-to b (graph-of b (ready .turn .sound)) u next (both-left (hasEdge b u next) _ on)
 
+      -- a price more is within the bound of one node more
+      cost-more : (p : ℕ) → p ≤ weighedMost (c .weighting) → cost + p ≤ (k + 1 - from) * weighedMost (c .weighting)
+      cost-more p low =
+          let least = s .least in
+          let one : k + 1 - from ≡ suc (k - from) = omega arith in
+          rw (one, suc-mul (k - from) (weighedMost (c .weighting))) (omega (arith, s .cost-most))
+
+      -- so the cost of a path fits
+      pub cost-fits : (p : ℕ) → p ≤ weighedMost (c .weighting) → cost + p < pathMost
+      cost-fits p low =
+          let most = ready .few in
+          let few : k + 1 - from ≤ nodes b = omega arith in
+          let all : (k + 1 - from) * weighedMost (c .weighting) ≤ nodes b * weighedMost (c .weighting) = mul-le-mul few (le-refl (weighedMost (c .weighting))) in
+          omega (arith, cost-more p low, weighed-path (c .weighting) (nodes b) (kinds-few _ (ready .turn .sound .kinds-sound)) (ready .turn .nodes-few))
+
       pub step-on :
-          (p : ℕ) → stepPasses b goals marks u next last ≡ true → p ≡ priceAt b c next → p ≤ priceMost
+          (p : ℕ) → stepPasses b goals marks u next last ≡ true → p ≡ priceAt b c next → p ≤ weighedMost (c .weighting)
           → Passing b c goals marks₀ log from to (set marks next 1) next (cost + p) (k + 1)
       unfolding stepsCost
       step-on p on is low =
@@ -221,14 +238,13 @@ module _ {b : Block} {c : Congestion} {goals marks₀ log : List ℕ} {from to :
           let node : next < nodes b = step-node on in
           let least = s .least in
           let long = s .marks-long in
-          let sum = s .cost-most in
           record {
             least = omega arith;
             most = omega arith;
             node = node;
             marks-long = length-set marks next 1 ∙ long;
             left-is = s .left-is ∙ rw (path-left, test, is);
-            cost-most = omega arith;
+            cost-most = cost-more p low;
             marked =
                 rw (slice-more from to k log (omega arith) (ready .turn .within) l)
                 (stored-append (s .marked) (stored-one 1 next marks (omega arith)));

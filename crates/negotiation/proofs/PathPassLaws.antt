@@ -1,5 +1,6 @@
 -- One pass over the path of a record tests what request 2.8 asks of it clause by clause.
---     path-cost, path-few, path-passed   a path that follows, as a pass over it
+--     path-nodes                         a path that follows goes over nodes
+--     path-cost, path-few, path-passed   as a pass over it
 --     turn-pass                          a record that follows
 -- Assumes nothing.
 use mathlib.Core.Bool.{Bool, true, false, not}
@@ -19,12 +20,12 @@ use Rattle.search.specs.Block.{hasEdge}
 use Rattle.search.specs.Block as block
 use Rattle.search.specs.Tables.{Graph}
 use Rattle.search.specs.Paths.{pathCost}
-use Rattle.search.specs.Turn.{priceAt}
 use Rattle.search.proofs.BlockLaws.{edge-to}
 use Rattle.search.proofs.DistinctLaws.{has-rest, has-cons, lacks, distinct-cons, distinct-rest, distinct-short}
-use Rattle.job.specs.Job.{Job, nodes, netSinks}
-use Rattle.negotiation.specs.Machine.{State, congestionFor}
-use Rattle.negotiation.specs.Resume.{pathIn, unjoined, noOther, costFollows, turnFollows}
+use Rattle.job.specs.Job.{Job, nodes}
+use Rattle.negotiation.specs.Order.{turnSinks}
+use Rattle.negotiation.specs.Machine.{State}
+use Rattle.negotiation.specs.Resume.{pathIn, unjoined, noOther, costFollows, turnPrice, turnFollows}
 use Rattle.negotiation.specs.ResumeSteps.{passCost, costIs, frameFollows, turnPasses}
 use Rattle.negotiation.proofs.MemberLaws.{every-has, every-members, none-has}
 use Rattle.negotiation.proofs.TreeLaws.{TreeNodes}
@@ -51,8 +52,16 @@ in-tree sinks tree v e = rw e (both-false-right (has v sinks) false refl)
 other-none : (sinks tree : List ℕ) (sink v : ℕ) → unjoined sinks tree v ≡ false → either (eqb v sink) (not (unjoined sinks tree v)) ≡ true
 other-none sinks tree sink v e = rw e (either-true (eqb v sink))
 
+-- its nodes are the job's
+pub path-nodes :
+    (j : Job) (g : Graph (j .block)) (i : ℕ) (tree : List ℕ) → TreeNodes j tree → (sink : ℕ) (path : List ℕ) → PathHolds j i tree sink path
+    → (k : ℕ) → k < length path → getD path k 0 < nodes j
+path-nodes j g i tree inside sink path h zero l = inside (getD path 0 0) (h .begins)
+path-nodes j g i tree inside sink path h (suc k) l =
+    edge-to (j .block) g (getD path k 0) (getD path (suc k) 0) (neighbours-at (hasEdge (j .block)) path (h .edges) k l)
+
 module _ (j : Job) (g : Graph (j .block)) (price : ℕ → ℕ) (i : ℕ) (tree goals marks : List ℕ) (inside : TreeNodes j tree)
-    (long : length marks ≡ nodes j) (marked : Marks tree marks) (goal : Marks (netSinks j i) goals) (sink : ℕ) where
+    (long : length marks ≡ nodes j) (marked : Marks tree marks) (goal : Marks (turnSinks j i tree) goals) (sink : ℕ) where
   -- its pass gives its cost
   module _ (u : ℕ) (rest : List ℕ) (h : PathHolds j i tree sink (u ∷ rest)) where
     new : (x : ℕ) → has x rest ≡ true → has x tree ≡ false
@@ -65,11 +74,11 @@ module _ (j : Job) (g : Graph (j .block)) (price : ℕ → ℕ) (i : ℕ) (tree 
     no-goal : (x : ℕ) → has x rest ≡ true → (x ≡ final u rest → ⊥) → getD goals x 0 ≡ 0
     unfolding noOther unjoined
     no-goal x on ne =
-        let test : either (eqb x sink) (not (unjoined (netSinks j i) tree x)) ≡ true =
-        every-has (λ v. either (eqb v sink) (not (unjoined (netSinks j i) tree v))) (u ∷ rest) (h .alone) x (has-rest x u rest on) in
-        let joined : not (both (has x (netSinks j i)) (not (has x tree))) ≡ true = rw (ne-eqb x sink (λ e. ne (e ∙ sym last))) at test in
-        let listed : not (both (has x (netSinks j i)) true) ≡ true = rw (new x on) at joined in
-        goal x ∙ rw (no-both (has x (netSinks j i)) listed)
+        let test : either (eqb x sink) (not (unjoined (turnSinks j i tree) tree x)) ≡ true =
+        every-has (λ v. either (eqb v sink) (not (unjoined (turnSinks j i tree) tree v))) (u ∷ rest) (h .alone) x (has-rest x u rest on) in
+        let joined : not (both (has x (turnSinks j i tree)) (not (has x tree))) ≡ true = rw (ne-eqb x sink (λ e. ne (e ∙ sym last))) at test in
+        let listed : not (both (has x (turnSinks j i tree)) true) ≡ true = rw (new x on) at joined in
+        goal x ∙ rw (no-both (has x (turnSinks j i tree)) listed)
 
     steps-on : Steps (j .block) goals tree u rest
     steps-on =
@@ -87,13 +96,8 @@ module _ (j : Job) (g : Graph (j .block)) (price : ℕ → ℕ) (i : ℕ) (tree 
       rw (eq-eqb (getD marks u 0) 1 (first-marked u rest h), ← sum) (steps-pass (j .block) g price goals (steps-on u rest h) marks long marked 0)
 
   -- it is no longer than there are nodes
-  pub path-nodes : (path : List ℕ) → PathHolds j i tree sink path → (k : ℕ) → k < length path → getD path k 0 < nodes j
-  path-nodes path h zero l = inside (getD path 0 0) (h .begins)
-  path-nodes path h (suc k) l =
-      edge-to (j .block) g (getD path k 0) (getD path (suc k) 0) (neighbours-at (hasEdge (j .block)) path (h .edges) k l)
-
   path-few : (path : List ℕ) → PathHolds j i tree sink path → length path ≤ nodes j
-  path-few path h = distinct-short (nodes j) path (h .once) (path-nodes path h)
+  path-few path h = distinct-short (nodes j) path (h .once) (path-nodes j g i tree inside sink path h)
 
   -- and a path that passes and ends in the sink follows
   module _ (u v : ℕ) (rest : List ℕ) (ends : getD (u ∷ v ∷ rest) (length (u ∷ v ∷ rest) - 1) 0 ≡ sink) (begins : has u tree ≡ true)
@@ -101,24 +105,24 @@ module _ (j : Job) (g : Graph (j .block)) (price : ℕ → ℕ) (i : ℕ) (tree 
     reached : final v rest ≡ sink
     reached = sym (final-is u (v ∷ rest)) ∙ ends
 
-    sink-listed : has sink (netSinks j i) ≡ true
-    sink-listed = mark-in (has sink (netSinks j i)) (sym (goal sink) ∙ rw (← reached) (steps-goal s))
+    sink-listed : has sink (turnSinks j i tree) ≡ true
+    sink-listed = mark-in (has sink (turnSinks j i tree)) (sym (goal sink) ∙ rw (← reached) (steps-goal s))
 
     sink-open : has sink tree ≡ false
     sink-open = steps-new s sink (rw (← reached) (final-on v rest))
 
-    alone : noOther (netSinks j i) tree sink (u ∷ v ∷ rest) ≡ true
+    alone : noOther (turnSinks j i tree) tree sink (u ∷ v ∷ rest) ≡ true
     unfolding noOther
     alone =
-        every-members (λ x. either (eqb x sink) (not (unjoined (netSinks j i) tree x))) (u ∷ v ∷ rest)
+        every-members (λ x. either (eqb x sink) (not (unjoined (turnSinks j i tree) tree x))) (u ∷ v ∷ rest)
         (λ x on.
         ⊎-elim
-        (λ (q : x ≡ u). other-none (netSinks j i) tree sink x (in-tree (netSinks j i) tree x (rw q begins)))
+        (λ (q : x ≡ u). other-none (turnSinks j i tree) tree sink x (in-tree (turnSinks j i tree) tree x (rw q begins)))
         (λ (q : has x (v ∷ rest) ≡ true).
         ⊎-elim
         (λ (e : x ≡ final v rest). rw (eq-eqb x sink (e ∙ reached)))
         (λ (e : getD goals x 0 ≡ 0).
-        other-none (netSinks j i) tree sink x (no-sink (netSinks j i) tree x (mark-out (has x (netSinks j i)) (sym (goal x) ∙ e))))
+        other-none (turnSinks j i tree) tree sink x (no-sink (turnSinks j i tree) tree x (mark-out (has x (turnSinks j i tree)) (sym (goal x) ∙ e))))
         (steps-others s x q))
         (has-cons x u (v ∷ rest) on))
 
@@ -158,9 +162,9 @@ same-test false true there back = back refl
 same-test false false there back = refl
 
 module _ (j : Job) (g : Graph (j .block)) (s : State) (i : ℕ) (tree goals marks : List ℕ) (inside : TreeNodes j tree)
-    (long : length marks ≡ nodes j) (marked : Marks tree marks) (goal : Marks (netSinks j i) goals) (ws : List ℕ) where
+    (long : length marks ≡ nodes j) (marked : Marks tree marks) (goal : Marks (turnSinks j i tree) goals) (ws : List ℕ) where
   abbrev price : ℕ → ℕ
-  price = priceAt (j .block) (congestionFor j s i)
+  price = turnPrice j s i tree
 
   abbrev costs : List ℕ
   costs = passCost (j .block) price goals marks (pathIn ws)

@@ -1,5 +1,6 @@
 -- The router's reply, refusal by refusal: which of its cases it is, by the tests in their order.
 -- Assumes nothing.
+use mathlib.Core.Bool.{true, false}
 use mathlib.Core.List.{List, [], _∷_}
 use mathlib.Core.Path.{_≡_, _∙_}
 use Prim.Native.Nat.{ℕ, _≤_, _<_}
@@ -7,7 +8,7 @@ use lib.ListN.{length}
 use borrow.Author.Tests.{le-leb, lt-leb, lt-ltb, le-ltb}
 use Rattle.search.specs.Replies.{workNeeded, cleared}
 use Rattle.job.specs.Job.{Job, nodes, nets}
-use Rattle.job.specs.Tables.{faultyJob}
+use Rattle.job.specs.Tables.{faultyJob, exceeds}
 use Rattle.job.specs.Join.{joined}
 use Rattle.negotiation.specs.Outcome.{RouteReply, unreachableNet, unreachablePlace, negotiated, refusedReply, reachedReply, tested, routeReply}
 
@@ -17,12 +18,16 @@ module _ (j : Job) (work log : List ℕ) (run : RouteReply) where
   tested-table h = rw (le-leb 1 (faultyJob j) h)
 
   module _ (sound : faultyJob j < 1) where
-    pub tested-work : length work < workNeeded (nodes j) → tested j work log run ≡ refusedReply (6 ∷ workNeeded (nodes j) ∷ []) work log
-    tested-work h = rw (lt-leb 1 (faultyJob j) sound, lt-ltb (length work) (workNeeded (nodes j)) h)
+    pub tested-large : exceeds (nodes j) (j .terms) ≡ true → tested j work log run ≡ refusedReply (15 ∷ nodes j ∷ j .terms .limit ∷ []) work log
+    tested-large x = rw (lt-leb 1 (faultyJob j) sound, x)
 
-    -- what stays is the reply of the joined nets
-    pub tested-joined : workNeeded (nodes j) ≤ length work → tested j work log run ≡ reachedReply (joined j) work log run
-    tested-joined enough = rw (lt-leb 1 (faultyJob j) sound, le-ltb (length work) (workNeeded (nodes j)) enough)
+    module _ (fits : exceeds (nodes j) (j .terms) ≡ false) where
+      pub tested-work : length work < workNeeded (nodes j) → tested j work log run ≡ refusedReply (6 ∷ workNeeded (nodes j) ∷ []) work log
+      tested-work h = rw (lt-leb 1 (faultyJob j) sound, fits, lt-ltb (length work) (workNeeded (nodes j)) h)
+
+      -- what stays is the reply of the joined nets
+      pub tested-joined : workNeeded (nodes j) ≤ length work → tested j work log run ≡ reachedReply (joined j) work log run
+      tested-joined enough = rw (lt-leb 1 (faultyJob j) sound, fits, le-ltb (length work) (workNeeded (nodes j)) enough)
 
 -- the router's run begins
 module _ (j : Job) (work log : List ℕ) where
@@ -31,17 +36,22 @@ module _ (j : Job) (work log : List ℕ) where
   route-table = tested-table j work log (negotiated (joined j) work log)
 
   module _ (sound : faultyJob j < 1) where
-    pub route-work : length work < workNeeded (nodes j) → routeReply j work log ≡ refusedReply (6 ∷ workNeeded (nodes j) ∷ []) work log
+    pub route-large : exceeds (nodes j) (j .terms) ≡ true → routeReply j work log ≡ refusedReply (15 ∷ nodes j ∷ j .terms .limit ∷ []) work log
     unfolding routeReply
-    route-work = tested-work j work log (negotiated (joined j) work log) sound
+    route-large = tested-large j work log (negotiated (joined j) work log) sound
 
-    module _ (enough : workNeeded (nodes j) ≤ length work) where
-      pub route-unreachable :
-          unreachableNet (joined j) < nets j
-          → routeReply j work log ≡ refusedReply (7 ∷ unreachableNet (joined j) ∷ unreachablePlace (joined j) ∷ []) (cleared (nodes j) [] work) log
+    module _ (fits : exceeds (nodes j) (j .terms) ≡ false) where
+      pub route-work : length work < workNeeded (nodes j) → routeReply j work log ≡ refusedReply (6 ∷ workNeeded (nodes j) ∷ []) work log
       unfolding routeReply
-      route-unreachable h = tested-joined j work log (negotiated (joined j) work log) sound enough ∙ rw (lt-ltb (unreachableNet (joined j)) (nets j) h)
+      route-work = tested-work j work log (negotiated (joined j) work log) sound fits
 
-      pub route-run : nets j ≤ unreachableNet (joined j) → routeReply j work log ≡ negotiated (joined j) work log
-      unfolding routeReply
-      route-run h = tested-joined j work log (negotiated (joined j) work log) sound enough ∙ rw (le-ltb (unreachableNet (joined j)) (nets j) h)
+      module _ (enough : workNeeded (nodes j) ≤ length work) where
+        pub route-unreachable :
+            unreachableNet (joined j) < nets j
+            → routeReply j work log ≡ refusedReply (7 ∷ unreachableNet (joined j) ∷ unreachablePlace (joined j) ∷ []) (cleared (nodes j) [] work) log
+        unfolding routeReply
+        route-unreachable h = tested-joined j work log (negotiated (joined j) work log) sound fits enough ∙ rw (lt-ltb (unreachableNet (joined j)) (nets j) h)
+
+        pub route-run : nets j ≤ unreachableNet (joined j) → routeReply j work log ≡ negotiated (joined j) work log
+        unfolding routeReply
+        route-run h = tested-joined j work log (negotiated (joined j) work log) sound fits enough ∙ rw (le-ltb (unreachableNet (joined j)) (nets j) h)

@@ -16,12 +16,11 @@ use Rattle.price.specs.Test.{choose, either}
 use Rattle.price.specs.Lists.{has, distinct}
 use Rattle.price.proofs.TestLaws.{either-way, true≢false}
 use Rattle.price.proofs.ListLaws.{has-at, has-append-left, has-append-right}
-use Rattle.search.specs.Turn.{priceAt}
 use Rattle.search.proofs.DistinctLaws.{has-first, has-rest, has-cons, lacks, distinct-rest}
 use Rattle.job.specs.Job.{Job, nets, source, netSinks}
 use Rattle.negotiation.specs.Records.{Record, words, encode, pathNodes}
-use Rattle.negotiation.specs.Machine.{State, Progress, congestionFor, treeFrom, withNet, due, overCount, moveOn, firstState}
-use Rattle.negotiation.specs.Resume.{recordIn, wholeRecord, costFollows, turnFollows, allJoined, Replay, on, off, andThen, after, replayTurns, replayNets, replayNext, replayFrom, replay}
+use Rattle.negotiation.specs.Machine.{State, Progress, treeFrom, withNet, due, overCount, moveOn, firstState}
+use Rattle.negotiation.specs.Resume.{recordIn, wholeRecord, costFollows, turnPrice, turnFollows, allJoined, Replay, on, off, andThen, after, replayTurns, replayNets, replayNext, replayFrom, replay}
 use Rattle.negotiation.proofs.DueLaws.{due-some}
 use Rattle.negotiation.proofs.RecordLaws.{stepEnds, branchEnds, encode-append, pathNodes-append}
 use Rattle.negotiation.proofs.MemberLaws.{every-has, has-append-split, no-entry, none-has, distinct-append}
@@ -179,7 +178,7 @@ module _ (j : Job) (ws : List ℕ) (i : ℕ) (p : Progress) where
       let now : on (withNet j i p made) ≡ on q = rw t at e in
       record { rs = made; is = cc; made = m; joined = t; begins = b })
       (λ (t : allJoined j i made ≡ false).
-      let price : (ℕ → ℕ) = priceAt (j .block) (congestionFor j (p .state) i) in
+      let price : (ℕ → ℕ) = turnPrice j (p .state) i (treeFrom j i made) in
       let there : List ℕ = after ws (p .records ++ made) in
       let c = chosen-on (turnFollows j (p .state) i (treeFrom j i made) there) (replayTurns j ws i p k (made ++ (recordIn price there ∷ []))) _ q (rw t at e) in
       let f : Follows j (p .state) i (treeFrom j i made) there = follows-of j (p .state) i (treeFrom j i made) there (c .0) in
@@ -190,7 +189,7 @@ module _ (j : Job) (ws : List ℕ) (i : ℕ) (p : Progress) where
 -- ---- the nets of an iteration
 
 -- a sink that is joined and is not the source is on a path
-joined-on :
+pub joined-on :
     (j : Job) (i : ℕ) (rs : List Record) → has (source j i) (netSinks j i) ≡ false → allJoined j i rs ≡ true
     → (x : ℕ) → has x (netSinks j i) ≡ true → has x (pathNodes rs) ≡ true
 unfolding allJoined

@@ -21,7 +21,7 @@ use Rattle.negotiation.proofs.RecordLaws.{decode-encode, encode-append,
 use Rattle.negotiation.proofs.LimitLaws.{not-accepted}
 use Rattle.negotiation.proofs.ReplyLogLaws.{LogHas, log-turns, run-log}
 use Rattle.negotiation.proofs.RanLaws.{Ran, ran-iteration, ran-factor, ran-read, ran-history}
-use Rattle.negotiation.proofs.JoinedHolds.{joined-routable}
+use Rattle.negotiation.proofs.JoinedHolds.{joined-no-source}
 use Rattle.negotiation.proofs.MachineRan.{Reached}
 use Rattle.negotiation.proofs.ReplayLaws.{TakenUp, taken-up}
 use Rattle.negotiation.proofs.DemandHolds.{Facts, logged-is, words-only, turns-are, tested-case, refused-facts, run-facts}
@@ -81,7 +81,7 @@ rebuilt-of j m p some below r =
 
 pub rebuilt-as-read : (j : Job) (used : ℕ) (log : List ℕ) → RebuiltAsRead j used log
 rebuilt-as-read j used log sound p e =
-    let taken : TakenUp (joined j) used log p = taken-up (joined j) (joined-routable j sound .source-no-sink) used log p e in (
+    let taken : TakenUp (joined j) used log p = taken-up (joined j) (joined-no-source j sound) used log p e in (
       taken .whole,
       subst (λ (rs : List Record). Rebuilt (joined j) (taken .whole) rs p) (sym (lent-is (joined j) used log p taken))
           (rebuilt-of (joined j) (taken .whole) p (taken .some) (taken .below) (taken .ran)),

@@ -1,5 +1,6 @@
 -- The answers of route and resume, refusal by refusal, and what is promised of them.
 -- Assumes nothing.
+use mathlib.Core.Bool.{true, false}
 use mathlib.Core.List.{List, [], _∷_, _++_}
 use mathlib.Core.Logic.{⊎-elim}
 use mathlib.Core.Path.{_≡_, refl, sym, _∙_, ap, subst}
@@ -10,7 +11,7 @@ use borrow.Author.Tests.{lt-ltb, le-ltb}
 use Rattle.price.proofs.TestLaws.{le-or-lt}
 use Rattle.search.specs.Replies.{workNeeded, cleared}
 use Rattle.job.specs.Job.{Job, nodes, nets}
-use Rattle.job.specs.Tables.{SoundJob, faultyJob}
+use Rattle.job.specs.Tables.{SoundJob, faultyJob, exceeds}
 use Rattle.job.specs.Join.{joined}
 use Rattle.negotiation.specs.Machine.{Progress}
 use Rattle.negotiation.specs.Outcome.{RouteReply, unreachableNet, unreachablePlace, begun, continued, refusedAnswer, refusedReply, routeReplyOf, reachedReply, tested, routeReply}
@@ -21,11 +22,11 @@ use Rattle.negotiation.specs.Steps.{SameFrom, missing, reachNumbers}
 use Rattle.negotiation.specs.declared.RouteAnswer.{RouteAnswer}
 use Rattle.negotiation.specs.declared.Start.{Start}
 use Rattle.negotiation.specs.declared.Start.the-variants.{Anew, After}
-use Rattle.negotiation.specs.declared.Outcome.the-variants.{BadTable, ShortWork, Unreachable}
+use Rattle.negotiation.specs.declared.Outcome.the-variants.{BadTable, ShortWork, TooLarge, Unreachable}
 use Rattle.negotiation.specs.declared.reach.Reach.{Reach}
 use Rattle.negotiation.specs.declared.reach.Reach.the-variants.{All, Missing}
 use Rattle.job.proofs.JobLaws.{sound-job}
-use Rattle.negotiation.proofs.RefusalLaws.{tested-table, tested-work, tested-joined}
+use Rattle.negotiation.proofs.RefusalLaws.{tested-table, tested-large, tested-work, tested-joined}
 use Rattle.negotiation.proofs.EndLaws.{cleared-same}
 use Rattle.negotiation.proofs.DemandHolds.{demand-3}
 use Rattle.negotiation.proofs.ResumeHolds.{resumed}
@@ -116,14 +117,19 @@ module _ (start : Start) (j : Job) (work log : List ℕ) where
       ∙ subst (λ (k : ℕ). Tests (refusedReply (5 ∷ k ∷ []) work log)) (sym e) (sym (tested-table j work log run (subst (λ (k : ℕ). 1 ≤ k) e h)))
 
   module _ (table : ℕ) (is : table ≡ faultyJob j) (none : table < 1) where
-    pub work-refused : (r : RouteAnswer) → length work < workNeeded (nodes j) → r ≡ refusedAnswer (ShortWork (workNeeded (nodes j))) → Tests (routeReplyOf r work log)
-    work-refused r h q = ap (λ (x : RouteAnswer). routeReplyOf x work log) q ∙ sym (tested-work j work log run (fine j table is none) h)
+    pub large-refused :
+        (r : RouteAnswer) → exceeds (nodes j) (j .terms) ≡ true → r ≡ refusedAnswer (TooLarge (nodes j) (j .terms .limit)) → Tests (routeReplyOf r work log)
+    large-refused r x q = ap (λ (y : RouteAnswer). routeReplyOf y work log) q ∙ sym (tested-large j work log run (fine j table is none) x)
 
-    -- the answer of the joined nets, which are a job of their own in the code
-    pub joined-answered :
-        workNeeded (nodes j) ≤ length work → (k : Job) → k ≡ joined j → (r : RouteReply) → Reaches start k work log r → Tests r
-    joined-answered enough k e r reached =
-        subst (λ (x : Job). Reaches start x work log r) e reached ∙ sym (tested-joined j work log run (fine j table is none) enough)
+    module _ (fits : exceeds (nodes j) (j .terms) ≡ false) where
+      pub work-refused : (r : RouteAnswer) → length work < workNeeded (nodes j) → r ≡ refusedAnswer (ShortWork (workNeeded (nodes j))) → Tests (routeReplyOf r work log)
+      work-refused r h q = ap (λ (x : RouteAnswer). routeReplyOf x work log) q ∙ sym (tested-work j work log run (fine j table is none) fits h)
+
+      -- the answer of the joined nets, which are a job of their own in the code
+      pub joined-answered :
+          workNeeded (nodes j) ≤ length work → (k : Job) → k ≡ joined j → (r : RouteReply) → Reaches start k work log r → Tests r
+      joined-answered enough k e r reached =
+          subst (λ (x : Job). Reaches start x work log r) e reached ∙ sym (tested-joined j work log run (fine j table is none) fits enough)
 
 -- ---- the two calls
 

@@ -30,7 +30,7 @@ use Rattle.negotiation.specs.Steps.{takes, DueReady}
 use Rattle.negotiation.specs.TariffSteps.{endedTariff, startedTariff}
 use Rattle.negotiation.specs.Kept.{CanGoOn, Ready}
 use Rattle.negotiation.specs.Resume.{Replay, on, off, andThen, replayNets, replayNext, replayFrom}
-use Rattle.negotiation.specs.TakeSteps.{SinksOnce, NetsOpen, NetsOn, NetsTaken, LogOn, LogTaken}
+use Rattle.negotiation.specs.TakeSteps.{NetsOpen, NetsOn, NetsTaken, LogOn, LogTaken}
 use Rattle.negotiation.specs.declared.tariff.Tariff.{Tariff}
 use Rattle.negotiation.specs.declared.take_up.Taken.{Taken}
 use Rattle.negotiation.specs.declared.take_up.Taken.the-variants.{On, Off}
@@ -125,19 +125,18 @@ module _ (j : Job) (sound : Routable j) {more : Bool} {t : Tariff} {history user
   pub growable : (v : ℕ) → v < length history → getD history v 0 < 2147483648
   growable v l =
       let h : v < nodes j = rw (taking-long j a .0) at l in
-      let most = can-ready j (sound .limit-few) (a .ready .can) .history-most v h in
+      let most = can-ready j sound (a .ready .can) .history-most v h in
       let is : getD history v 0 ≡ getD (here .state .histories) v 0 = ap (λ (xs : List ℕ). getD xs v 0) (a .ready .kept .history-is) in
       omega arith
 
   -- its nets are marked
   pub nets-open :
-      SinksOnce j → {dues′ : List ℕ}
+      {dues′ : List ℕ}
       → dues′ ≡ upTo (λ k. choose (takes (allDue (j .terms) (t .iteration)) (j .block .capacities) (j .firstSinks) log from to users k) 1 0) (length dues)
       → NetsOpen j here t history users marks from to dues′ log
-  nets-open once {dues′} e =
+  nets-open {dues′} e =
       record {
         routable = sound;
-        once = once;
         at = record { can = a .ready .can; iteration-is = a .ready .iteration-is; factor-is = a .ready .factor-is; tallied = a .ready .tallied };
         kept = a .ready .kept;
         due-is = due-marked j sound (a .ready .kept) (a .ready .tallied) (a .ready .iteration-is) dues dues′ (a .ready .due-long) e;

@@ -1,5 +1,5 @@
 -- The nets of an iteration in a lent log, as a loop follows them one after the other.
---     goals-on, goals-off                 the goals of a net's sinks, set and taken away, with what is asked for both
+--     net-tables                          the tables that its turns read
 --     nets-start, net-ready               the nets so far, and the next one begins
 --     net-asks                            its turns can be followed
 --     nets-off                            they stray, and so does the iteration
@@ -7,36 +7,31 @@
 --     nets-all                            all nets follow
 -- Assumes nothing.
 use mathlib.Core.Bool.{Bool, true, false}
-use mathlib.Core.List.{List, [], _++_}
+use mathlib.Core.List.{List, []}
 use mathlib.Core.Logic.{⊎-elim}
 use mathlib.Core.Path.{_≡_, refl, sym, _∙_, ap, subst}
 use Prim.Native.Nat.{ℕ, zero, suc, _+_, _-_, _≤_, _<_}
 use native.Mathlib.Nat.{le-antisymm}
 use native.Mathlib.Numerals.{add-one}
 use native.Mathlib.Omega.{arith}
-use lib.ListN.{length, getD, take, drop, replicate, length-append, length-replicate, getD-replicate, take-append-drop}
-use lib.Seq.{ext-getD, take-append-seam, drop-append-seam}
-use Rattle.price.specs.Bounds.{nodesMost}
+use lib.ListN.{length, getD}
 use Rattle.price.specs.Test.{choose}
-use Rattle.price.specs.Lists.{has}
 use Rattle.price.proofs.TestLaws.{either-way, true≢false}
-use Rattle.search.proofs.BlockLaws.{kinds-few}
-use Rattle.job.specs.Job.{Job, nodes, nets, netSinks}
+use Rattle.job.specs.Job.{Job, jobOf, nodes, nets, netSinks}
 use Rattle.negotiation.specs.Routable.{Routable}
 use Rattle.negotiation.specs.Records.{Record, pathNodes}
-use Rattle.negotiation.specs.Machine.{State, Progress, marksOf, withNet, due}
-use Rattle.job.specs.Steps.{AllBelow, Stored}
+use Rattle.negotiation.specs.Machine.{State, Progress, withNet, due}
 use Rattle.negotiation.specs.Steps.{BeginReady, Begun, Idle, EndReady, Ended, Passed}
 use Rattle.negotiation.specs.Resume.{Replay, on, off, replayTurns, replayNets}
-use Rattle.negotiation.specs.TakeSteps.{SinksOnce, NetOpens, NetOn, NetTaken, NetsOpen, NetsOn, NetsTaken}
+use Rattle.negotiation.specs.TakeSteps.{NetTables, NetOpens, NetOn, NetTaken, NetsOpen, NetsOn, NetsTaken}
+use Rattle.job.specs.declared.Terms.{Terms}
 use Rattle.negotiation.specs.declared.tariff.Tariff.{Tariff}
 use Rattle.negotiation.specs.declared.take_up.Taken.{Taken}
 use Rattle.negotiation.specs.declared.take_up.Taken.the-variants.{On, Off}
 use Rattle.negotiation.proofs.DueLaws.{due-some}
-use Rattle.negotiation.proofs.TurnStepLaws.{mark-at}
 use Rattle.negotiation.proofs.KeepLaws.{Opened, dueMarks}
-use Rattle.negotiation.proofs.KeepProgress.{marks-length, marks-are, users-long, marks-long, due-mark, dues-long, begin-ready, opens, countable, counted}
-use Rattle.negotiation.proofs.KeepStart.{take-replicate, sinks-count}
+use Rattle.negotiation.proofs.KeepProgress.{users-long, marks-long, due-mark, dues-long, begin-ready, opens, countable, counted}
+use Rattle.negotiation.proofs.KeepStart.{sinks-count}
 
 -- ---- answers by cases
 
@@ -54,83 +49,14 @@ tariffIn d (Off w) = d
 on-same : {t t′ : Tariff} → On t ≡ On t′ → t ≡ t′
 on-same {t} e = ap (tariffIn t) e
 
--- ---- goals
+-- ---- the tables of a net
 
-module _ (n : ℕ) (few : n ≤ nodesMost) {goals : List ℕ} (none : goals ≡ replicate nodesMost 0) where
-  first-none : take n goals ≡ replicate n 0
-  first-none = ap (λ (l : List ℕ). take n l) none ∙ take-replicate n nodesMost 0 few
-
-  first-long : length (take n goals) ≡ n
-  first-long = ap length first-none ∙ length-replicate n 0
-
-  first-zero : (v : ℕ) → v < n → getD (take n goals) v 0 ≡ 0
-  first-zero v h = ap (λ (l : List ℕ). getD l v 0) first-none ∙ getD-replicate n v 0 0 h
-
--- a list whose beginning was replaced
-module _ (n : ℕ) (ys goals : List ℕ) (long : length ys ≡ n) where
-  front-is : take n (ys ++ drop n goals) ≡ ys
-  front-is = subst (λ (k : ℕ). take k (ys ++ drop n goals) ≡ ys) long (take-append-seam ys (drop n goals))
-
-  back-is : drop n (ys ++ drop n goals) ≡ drop n goals
-  back-is = subst (λ (k : ℕ). drop k (ys ++ drop n goals) ≡ drop n goals) long (drop-append-seam ys (drop n goals))
-
-zero-twice : (t : Bool) → _≡_ {A = ℕ} (choose t 0 (choose t 1 0)) 0
-zero-twice true = refl
-zero-twice false = refl
-
-module _ (j : Job) (sound : Routable j) (i : ℕ) (hi : i < nets j) {goals part : List ℕ} (none : goals ≡ replicate nodesMost 0) (is : part ≡ netSinks j i) where
-  few : nodes j ≤ nodesMost
-  few = kinds-few _ (sound .block-sound .kinds-sound)
-
-  -- there is a goal mark for each node
-  pub goals-enough : nodes j ≤ length goals
-  goals-enough = let long : length goals ≡ nodesMost = ap length none ∙ length-replicate {A = ℕ} nodesMost 0 in let most = few in omega arith
-
-  part-below : (n : ℕ) → n ≡ nodes j → AllBelow n part
-  part-below n e = subst (λ (l : List ℕ). AllBelow n l) (sym is) (subst (λ (k : ℕ). AllBelow k (netSinks j i)) (sym e) (sound .sink-node i hi))
-
-  -- what is asked of the sinks
-  pub goals-asked : AllBelow (length (take (nodes j) goals)) part
-  goals-asked = part-below (length (take (nodes j) goals)) (first-long (nodes j) few none)
-
-  module _ {ys : List ℕ} (given : Stored 1 part (take (nodes j) goals) ys) where
-    stored : Stored 1 (netSinks j i) (take (nodes j) goals) ys
-    stored = subst (λ (l : List ℕ). Stored 1 l (take (nodes j) goals) ys) is given
-
-    goals-long : length ys ≡ nodes j
-    goals-long = stored .long ∙ first-long (nodes j) few none
-
-    goals-are : ys ≡ marksOf j (netSinks j i)
-    goals-are =
-        marks-are j (netSinks j i) ys goals-long
-        (λ v h. stored .at v ∙ ap (λ (k : ℕ). choose (has v (netSinks j i)) 1 k) (first-zero (nodes j) few none v h))
-
-    pub goals-fit : nodes j ≤ length (ys ++ drop (nodes j) goals)
-    goals-fit = let all = length-append ys (drop (nodes j) goals) in let long = goals-long in omega arith
-
-    -- those of the net are set
-    pub goals-on : take (nodes j) (ys ++ drop (nodes j) goals) ≡ marksOf j (netSinks j i)
-    goals-on = front-is (nodes j) ys goals goals-long ∙ goals-are
-
-    pub goals-again : AllBelow (length (take (nodes j) (ys ++ drop (nodes j) goals))) part
-    goals-again = part-below (length (take (nodes j) (ys ++ drop (nodes j) goals))) (ap length goals-on ∙ marks-length j (netSinks j i))
-
-    -- and taken away
-    pub goals-off :
-        {zs : List ℕ} → Stored 0 part (take (nodes j) (ys ++ drop (nodes j) goals)) zs
-        → zs ++ drop (nodes j) (ys ++ drop (nodes j) goals) ≡ replicate nodesMost 0
-    goals-off {zs} taken-away =
-        let cleared : Stored 0 (netSinks j i) (take (nodes j) (ys ++ drop (nodes j) goals)) zs =
-        subst (λ (l : List ℕ). Stored 0 l (take (nodes j) (ys ++ drop (nodes j) goals)) zs) is taken-away in
-        let zs-long : length zs ≡ nodes j = cleared .long ∙ ap length goals-on ∙ marks-length j (netSinks j i) in
-        let same : zs ≡ take (nodes j) goals =
-        ext-getD 0 zs (take (nodes j) goals) (zs-long ∙ sym (first-long (nodes j) few none))
-        (λ v l.
-        let h : v < nodes j = rw zs-long at l in
-        let mark : getD (take (nodes j) (ys ++ drop (nodes j) goals)) v 0 ≡ choose (has v (netSinks j i)) 1 0 =
-        ap (λ (xs : List ℕ). getD xs v 0) goals-on ∙ mark-at j (netSinks j i) v h in
-        cleared .at v ∙ ap (λ (k : ℕ). choose (has v (netSinks j i)) 0 k) mark ∙ zero-twice (has v (netSinks j i)) ∙ sym (first-zero (nodes j) few none v h)) in
-        rw (same, back-is (nodes j) ys goals goals-long) (take-append-drop (nodes j) goals ∙ none)
+pub net-tables :
+    (kinds capacities firstEdges edgeTargets sources firstSinks sinks delays criticalities : List ℕ) (terms : Terms) (i : ℕ) {timed : Bool} → timed ≡ terms .timed
+    → NetTables (jobOf kinds capacities firstEdges edgeTargets sources firstSinks sinks delays criticalities terms) i delays criticalities timed
+    (getD firstSinks i 0) (getD firstSinks (i + 1) 0)
+net-tables kinds capacities firstEdges edgeTargets sources firstSinks sinks delays criticalities terms i e =
+    record { timed-is = e; from-is = refl; to-is = refl; delays-are = λ w. rw (sym e ∙ w); criticalities-are = λ w. rw (sym e ∙ w) }
 
 -- ---- the nets so far
 
@@ -176,7 +102,7 @@ nets-long j at = (users-long j (at .kept), marks-long j (at .kept), at .kept .pl
 
 -- ---- the next net
 
-module _ (j : Job) (sound : Routable j) (once : SinksOnce j) {p : Progress} {i : ℕ} {t : Tariff} {history users marks from to dues log : List ℕ}
+module _ (j : Job) (sound : Routable j) {p : Progress} {i : ℕ} {t : Tariff} {history users marks from to dues log : List ℕ}
     (due-is : dues ≡ dueMarks j (p .state)) (at : NetsOn j p i t history users marks from to log) (hi : i < nets j) where
   abbrev here : Progress
   here = at .progress
@@ -204,30 +130,29 @@ module _ (j : Job) (sound : Routable j) (once : SinksOnce j) {p : Progress} {i :
     is-due some =
         ⊎-elim (λ d. d) (λ (d : due j (p .state) i ≡ false). absurd (let z = without (unmarked d) .none-left in omega arith)) (either-way (due j (p .state) i))
 
-    module _ {goals : List ℕ} (goals-are : goals ≡ marksOf j (netSinks j i)) where
-      net-opens : due j (p .state) i ≡ true → NetOpens j here i turns t history users′ goals marks′ log
+    module _ {delays criticalities : List ℕ} {timed : Bool} {low high : ℕ} (tables : NetTables j i delays criticalities timed low high) where
+      net-opens : due j (p .state) i ≡ true → NetOpens j here i delays criticalities timed low high turns t history users′ marks′ log
       unfolding pathNodes
       net-opens d =
           record {
             routable = sound;
-            once = once;
             net = hi;
+            tables = tables;
             at = at .at;
             some = let all = turns-are d in let sinks = due-some j (p .state) i d in omega arith;
             turns-is = turns-are d;
             history-is = opened d .history-is;
             users-is = opened d .users-is;
-            goals-is = goals-are;
             marks-is = opened d .marks-is;
           }
 
       -- its turns can be followed
-      pub net-asks : 0 < turns → NetOpens j here i turns t history users′ goals marks′ log
+      pub net-asks : 0 < turns → NetOpens j here i delays criticalities timed low high turns t history users′ marks′ log
       net-asks some = net-opens (is-due some)
 
       -- what they come to
       module _ {r : Taken} {marks″ : List ℕ} (none : turns ≡ 0 → (r ≡ On t) × (marks″ ≡ marks′))
-          (answer : NetOpens j here i turns t history users′ goals marks′ log → NetTaken r j here i marks″ log) where
+          (answer : NetOpens j here i delays criticalities timed low high turns t history users′ marks′ log → NetTaken r j here i marks″ log) where
         case : due j (p .state) i ≡ true → (x : Taken) → r ≡ x → NetTaken x j here i marks″ log
         case d x e = subst (λ (y : Taken). NetTaken y j here i marks″ log) e (answer (net-opens d))
 

@@ -1,53 +1,56 @@
--- The turns of a net in a lent log, as a loop follows them one after the other: as many as the net has sinks, since each joins one.
---     can-with                            a net more, in a run that can go on
+-- The turns of a net in a lent log, as a loop follows them one after the other until the tree lacks no sink.
+--     can-with, can-ready                 a net more, in a run that can go on
 --     begins-of, tallied-follows          the log begins with the records so far, and with one more
 --     marks-of                            marks by node
---     some-turns                          a net with a turn left
+--     missing-more                        the first sink that is missing, after a turn more
 --     Following, follow-start             the turns so far
---     follow-ready, follow-off, -more     the next one: it can be tested; it strays, or is one turn more
+--     part-                               the net's part of table 7
+--     follow-ready                        the next turn can be tested
+--     follow-out, -off, -more             where a sink is missing: no turn is left, or it strays, or is one turn more
 --     follow-room                         the tariff can count it
---     follow-on                           all are made
+--     follow-on                           where none is missing
 -- Assumes nothing.
-use mathlib.Core.Bool.{Bool, true, false, not}
+use mathlib.Core.Bool.{Bool, true, false}
 use mathlib.Core.List.{List, [], _∷_, _++_, append-assoc, append-nil}
 use mathlib.Core.Logic.{_⊎_, ⊎-elim, inl, inr}
 use mathlib.Core.Path.{_≡_, refl, sym, _∙_, ap, subst}
-use Prim.Native.Nat.{ℕ, suc, _+_, _-_, _≤_, _<_}
+use Prim.Native.Nat.{ℕ, zero, suc, _+_, _-_, _≤_, _<_}
 use native.Mathlib.Nat.{not-suc-le-zero, le-of-eq, le-trans}
 use native.Mathlib.Omega.{arith}
-use lib.Dec.{eqb}
 use lib.ListN.{length, getD, take, drop, length-append, length-drop, length-set, take-append-drop, List·getD-eq-default}
-use lib.Seq.{take-append-seam}
-use borrow.Author.Tests.{ne-eqb}
-use Rattle.price.specs.Bounds.{limitMost}
-use Rattle.price.specs.Test.{choose, both, either}
-use Rattle.price.specs.Lists.{every, has, distinct, upTo}
-use Rattle.price.proofs.TestLaws.{either-way, true≢false, le-or-lt, either-false}
-use Rattle.price.proofs.ListLaws.{has-at, has-place, has-append, has-append-left, has-append-right, length-upTo, getD-upTo}
+use lib.Seq.{length-slice, take-append-seam}
+use Rattle.price.specs.Test.{choose}
+use Rattle.price.specs.Lists.{every, has}
+use Rattle.price.proofs.TestLaws.{either-way, true≢false, le-or-lt}
+use Rattle.price.proofs.ListLaws.{part-slice, has-at, has-place}
+use Rattle.search.specs.Replies.{sinksMost}
 use Rattle.search.specs.Tables.{Graph}
-use Rattle.search.specs.Turn.{Congestion, congestionOf, priceAt}
-use Rattle.search.specs.Frontier.{PriceReady}
-use Rattle.search.proofs.BlockLaws.{graph-of, capacities-long}
+use Rattle.search.proofs.BlockLaws.{graph-of}
 use Rattle.search.proofs.DistinctLaws.{has-cons, lacks}
 use Rattle.job.specs.Job.{Job, nodes, source, netSinks}
 use Rattle.negotiation.specs.Records.{Record, encode, words, pathNodes}
-use Rattle.negotiation.specs.Machine.{State, Progress, othersOf, marksOf, congestionFor, treeFrom, withNet}
+use Rattle.negotiation.specs.Routable.{Routable}
+use Rattle.negotiation.specs.Order.{turnSinks}
+use Rattle.negotiation.specs.Machine.{State, Progress, marksOf, treeFrom, withNet}
+use Rattle.negotiation.specs.Flood.{FirstUnmarked}
 use Rattle.negotiation.specs.Outcome.{logWith}
 use Rattle.job.specs.Steps.{AllBelow, Stored}
 use Rattle.negotiation.specs.TariffSteps.{loggedTariff}
 use Rattle.negotiation.specs.Kept.{Tallied, CanGoOn}
-use Rattle.negotiation.specs.Resume.{pathIn, recordIn, wholeRecord, unjoined, noOther, costFollows, turnFollows, allJoined, on, off, after, replayTurns}
-use Rattle.negotiation.specs.ResumeSteps.{RecordReady, turnPasses}
-use Rattle.negotiation.specs.TakeSteps.{TakenTo, NetOpens, NetOn}
+use Rattle.negotiation.specs.Resume.{pathIn, recordIn, wholeRecord, costFollows, turnPrice, turnFollows, allJoined, on, off, after, replayTurns}
+use Rattle.negotiation.specs.ResumeSteps.{turnPasses}
+use Rattle.negotiation.specs.TakeSteps.{TakenTo, goalsOf, TryReady, triedPasses, NetOpens, NetOn}
 use Rattle.negotiation.specs.declared.tariff.Tariff.{Tariff}
-use Rattle.negotiation.proofs.MemberLaws.{every-has, every-members, missing, missing-none, missing-first, missing-zero, missing-one}
+use Rattle.negotiation.proofs.MemberLaws.{every-has, every-members, no-entry}
+use Rattle.negotiation.proofs.OrderLaws.{turn-nodes}
 use Rattle.negotiation.proofs.RecordLaws.{words-length, records-few, pathNodes-append}
 use Rattle.negotiation.proofs.TreeLaws.{TreeNodes}
-use Rattle.negotiation.proofs.NetLaws.{StateReady, grown-same, grown-ready, turn-bounds, tree-more}
-use Rattle.negotiation.proofs.FollowLaws.{PathHolds, path-two, Follows, follows-of, whole-long, path-long}
-use Rattle.negotiation.proofs.ReplayLaws.{Begins, begins-more, source-more}
-use Rattle.negotiation.proofs.StepPassLaws.{Marks}
+use Rattle.negotiation.proofs.NetLaws.{StateReady, grown-same, grown-ready}
+use Rattle.negotiation.proofs.FollowLaws.{Follows, follows-of, whole-long, path-long}
+use Rattle.negotiation.proofs.ReplayLaws.{Begins, begins-more, source-more, joined-on}
+use Rattle.negotiation.proofs.StepPassLaws.{Marks, mark-out}
 use Rattle.negotiation.proofs.PathPassLaws.{path-nodes, turn-pass}
+use Rattle.negotiation.proofs.TriedLaws.{sinks-here, tried-is, price-is, try-ready}
 use Rattle.negotiation.proofs.TurnStepLaws.{mark-at, encode-more, below-append}
 use Rattle.negotiation.proofs.KeepProgress.{marks-length, marks-grow}
 
@@ -65,8 +68,8 @@ can-with j i p rs c =
     }
 
 -- its state keeps its bounds
-pub can-ready : (j : Job) {p : Progress} → j .terms .limit ≤ limitMost → CanGoOn j p → StateReady j (p .state)
-can-ready j {p} few c = grown-ready j (p .state) (c .made) (le-trans (c .below) few) (c .grown)
+pub can-ready : (j : Job) {p : Progress} → Routable j → CanGoOn j p → StateReady j (p .state)
+can-ready j {p} sound c = grown-ready j sound (p .state) (c .made) (c .below) (c .grown)
 
 -- ---- the log begins with the records
 
@@ -124,56 +127,70 @@ marks-of j tree all e v =
     ap (λ (l : List ℕ). getD l v 0) e
     ∙ ⊎-elim (λ (h : nodes j ≤ v). no-mark j tree v all h) (λ (h : v < nodes j). mark-at j tree v h) (le-or-lt (nodes j) v)
 
--- ---- each turn joins one sink
+-- ---- the first sink that is missing
 
--- a path that follows joins no sink but its own
-others-stay :
-    (j : Job) (i : ℕ) (tree : List ℕ) (sink : ℕ) (path : List ℕ) → PathHolds j i tree sink path → (v : ℕ) → has v (netSinks j i) ≡ true
-    → (v ≡ sink → ⊥) → has v (tree ++ path) ≡ has v tree
-unfolding noOther unjoined
-others-stay j i tree sink path h v listed ne =
-    ⊎-elim
-    (λ (q : has v path ≡ true).
-    let test : either (eqb v sink) (not (both (has v (netSinks j i)) (not (has v tree)))) ≡ true =
-    every-has (λ u. either (eqb u sink) (not (unjoined (netSinks j i) tree u))) path (h .alone) v q in
-    let joined : not (not (has v tree)) ≡ true = rw (ne-eqb v sink ne, listed) at test in
-    let there : has v tree ≡ true =
-    ⊎-elim (λ t. t) (λ (t : has v tree ≡ false). absurd (let no : false ≡ true = rw t at joined in true≢false (sym no))) (either-way (has v tree)) in
-    has-append-left v tree path there ∙ sym there)
-    (λ (q : has v path ≡ false). has-append v tree path ∙ rw q (either-false (has v tree)))
-    (either-way (has v path))
+-- what the tree has stays marked
+pub missing-more :
+    {sinks path old new : List ℕ} {place place′ : ℕ} → FirstUnmarked old sinks 0 place → Stored 1 path old new → FirstUnmarked new sinks place place′
+    → FirstUnmarked new sinks 0 place′
+missing-more {sinks} {path} {old} {new} {place} a s r =
+    record {
+      within = r .within;
+      before = λ p l low.
+          ⊎-elim
+          (λ (h : place ≤ p). r .before p l h)
+          (λ (h : p < place).
+          let v : ℕ = getD sinks p 0 in
+          ⊎-elim
+          (λ (q : has v path ≡ true). rw (s .at v, q) (omega arith))
+          (λ (q : has v path ≡ false). rw (s .at v, q) (a .before p h (omega arith)))
+          (either-way (has v path)))
+          (le-or-lt place p);
+      here = r .here;
+    }
 
--- and joins that
-sink-on : (j : Job) (i : ℕ) (tree : List ℕ) (sink : ℕ) (path : List ℕ) → PathHolds j i tree sink path → has sink (tree ++ path) ≡ true
-sink-on j i tree sink path h =
-    let two = path-two j i tree sink path h in
-    has-append-right sink tree path (subst (λ (v : ℕ). has v path ≡ true) (h .ends) (has-at path (length path - 1) (omega arith)))
+mark-some : (t : Bool) → _<_ 0 (choose t 1 0) → t ≡ true
+mark-some true h = refl
+mark-some false h = absurd (omega arith)
 
-sinks-fewer :
-    (j : Job) (i : ℕ) (tree : List ℕ) (sink : ℕ) (path : List ℕ) → distinct (netSinks j i) ≡ true → PathHolds j i tree sink path
-    → missing tree (netSinks j i) ≡ suc (missing (tree ++ path) (netSinks j i))
-sinks-fewer j i tree sink path once h =
-    missing-one tree (tree ++ path) (netSinks j i) sink once (h .sink-listed) (h .sink-open) (sink-on j i tree sink path h)
-    (others-stay j i tree sink path h)
+module _ (j : Job) (i : ℕ) (made : List Record) {marks sinks : List ℕ} (marked : Marks (treeFrom j i made) marks) (is : sinks ≡ netSinks j i) {place : ℕ}
+    (first : FirstUnmarked marks sinks 0 place) where
+  -- all are joined where none is
+  all-joined : length sinks ≤ place → allJoined j i made ≡ true
+  unfolding allJoined
+  all-joined end =
+      every-members (λ x. has x (treeFrom j i made)) (netSinks j i)
+      (λ x h.
+      let at = has-place x sinks (rw is h) in
+      let some : 0 < getD marks x 0 = rw (at .2) at (first .before (at .0) (omega (arith, at .1)) (omega arith)) in
+      mark-some (has x (treeFrom j i made)) (rw (marked x) at some))
 
--- all are joined where none is missing
-all-joined : (j : Job) (i : ℕ) (made : List Record) → missing (treeFrom j i made) (netSinks j i) ≡ 0 → allJoined j i made ≡ true
-unfolding allJoined
-all-joined j i made e =
-    every-members (λ x. has x (treeFrom j i made)) (netSinks j i) (missing-none (treeFrom j i made) (netSinks j i) e)
+  not-joined : place < length sinks → allJoined j i made ≡ false
+  unfolding allJoined
+  not-joined l =
+      let x : ℕ = getD sinks place 0 in
+      let out : has x (treeFrom j i made) ≡ false = mark-out (has x (treeFrom j i made)) (sym (marked x) ∙ first .here l) in
+      ⊎-elim
+      (λ (t : every (λ x. has x (treeFrom j i made)) (netSinks j i) ≡ true).
+      absurd (true≢false (sym (every-has (λ x. has x (treeFrom j i made)) (netSinks j i) t x (rw (← is) (has-at sinks place l))) ∙ out)))
+      (λ t. t)
+      (either-way (every (λ x. has x (treeFrom j i made)) (netSinks j i)))
 
-not-joined : (j : Job) (i : ℕ) (made : List Record) → 1 ≤ missing (treeFrom j i made) (netSinks j i) → allJoined j i made ≡ false
-unfolding allJoined
-not-joined j i made some =
-    ⊎-elim
-    (λ (t : every (λ x. has x (treeFrom j i made)) (netSinks j i) ≡ true).
-    let none : missing (treeFrom j i made) (netSinks j i) ≡ 0 =
-    missing-zero (treeFrom j i made) (netSinks j i) (every-has (λ x. has x (treeFrom j i made)) (netSinks j i) t) in
-    absurd (omega arith))
-    (λ t. t)
-    (either-way (every (λ x. has x (treeFrom j i made)) (netSinks j i)))
+-- where all are joined the net makes no more turns
+turns-done :
+    (j : Job) (ws : List ℕ) (i : ℕ) (p : Progress) (k : ℕ) (made : List Record) → allJoined j i made ≡ true → replayTurns j ws i p k made ≡ on (withNet j i p made)
+unfolding replayTurns
+turns-done j ws i p zero made e = rw e
+turns-done j ws i p (suc k) made e = rw e
 
 -- ---- answers as numbers
+
+suc-of : (n : ℕ) → (n ≡ 0 → ⊥) → n ≡ suc (n - 1)
+suc-of zero some = absurd (some refl)
+suc-of (suc n) some = omega arith
+
+pub some-of : (n : ℕ) → (n ≡ 0 → ⊥) → 0 < n
+some-of n some = let e : n ≡ suc (n - 1) = suc-of n some in omega arith
 
 chosen-none : (t : Bool) (n : ℕ) → choose t (6 + n) 0 ≡ 0 → t ≡ false
 chosen-none true n e = absurd (omega arith)
@@ -183,64 +200,77 @@ chosen-some : (t : Bool) (n : ℕ) → (choose t (6 + n) 0 ≡ 0 → ⊥) → t 
 chosen-some true n e = refl
 chosen-some false n e = absurd (e refl)
 
--- a net that has a turn left had some
-pub some-turns : (turns left : ℕ) → (turns ≡ 0 → left ≡ 0) → 0 < left → 0 < turns
-some-turns turns left none some =
-    ⊎-elim (λ (h : turns ≤ 0). absurd (let z : left ≡ 0 = none (omega arith) in omega arith)) (λ h. h) (le-or-lt turns 0)
-
 -- ---- the turns so far
 
--- these turns follow, and so many sinks are left
+-- these turns follow, and so many more may be made
 pub record Following (j : Job) (p : Progress) (i left : ℕ) (t : Tariff) (marks log : List ℕ) : Type 0 where
   pub made : List Record
   pub rest-is : replayTurns j log i p (length (netSinks j i)) [] ≡ replayTurns j log i p left made
-  pub left-is : left ≡ missing (treeFrom j i made) (netSinks j i)
   pub at : TakenTo j (withNet j i p made) t log
   pub marks-is : marks ≡ marksOf j (treeFrom j i made)
   pub below : AllBelow (nodes j) (pathNodes made)
   pub source-on : (made ≡ []) ⊎ (has (source j i) (pathNodes made) ≡ true)
 
--- none, at first
-pub follow-start :
-    (j : Job) {p : Progress} {i turns : ℕ} {t : Tariff} {history users goals marks log : List ℕ} → NetOpens j p i turns t history users goals marks log
-    → Following j p i turns t marks log
-unfolding pathNodes
-follow-start j {p} {i} {t = t} {log = log} o =
-    record {
-      made = [];
-      rest-is = ap (λ (k : ℕ). replayTurns j log i p k []) (sym (o .turns-is));
-      left-is = o .turns-is ∙ sym (missing-first (source j i) (netSinks j i) (o .routable .source-no-sink i (o .net)));
-      at =
-          record {
-            can = can-with j i p [] (o .at .can);
-            iteration-is = o .at .iteration-is;
-            factor-is = o .at .factor-is;
-            tallied = subst (λ (rs : List Record). Tallied rs log t log) (sym (append-nil (p .records))) (o .at .tallied);
-          };
-      marks-is = o .marks-is;
-      below = λ k l. absurd (not-suc-le-zero l);
-      source-on = inl refl;
-    }
+module _ (j : Job) {p : Progress} {i : ℕ} {delays criticalities : List ℕ} {timed : Bool} {from to turns : ℕ} {t₀ : Tariff} {history users marks₀ log : List ℕ}
+    (o : NetOpens j p i delays criticalities timed from to turns t₀ history users marks₀ log) where
+  -- none, at first
+  pub follow-start : Following j p i turns t₀ marks₀ log
+  unfolding pathNodes
+  follow-start =
+      record {
+        made = [];
+        rest-is = ap (λ (k : ℕ). replayTurns j log i p k []) (sym (o .turns-is));
+        at =
+            record {
+              can = can-with j i p [] (o .at .can);
+              iteration-is = o .at .iteration-is;
+              factor-is = o .at .factor-is;
+              tallied = subst (λ (rs : List Record). Tallied rs log t₀ log) (sym (append-nil (p .records))) (o .at .tallied);
+            };
+        marks-is = o .marks-is;
+        below = λ k l. absurd (not-suc-le-zero l);
+        source-on = inl refl;
+      }
 
--- the numbers that price a turn
-same-congestion :
-    (j : Job) (s : State) (i factor : ℕ) (histories others : List ℕ) → factor ≡ s .factor → histories ≡ s .histories
-    → others ≡ upTo (othersOf j (s .trees) i) (nodes j) → congestionOf factor histories others ≡ congestionFor j s i
-unfolding congestionFor
-same-congestion j s i factor histories others a b c = rw (a, b, c)
+  -- the net's part of table 7
+  abbrev part : List ℕ
+  part = take (to - from) (drop from (j .sinks))
+
+  pub part-order : from ≤ to
+  part-order = rw (o .tables .from-is, o .tables .to-is) (o .routable .sinks-order i (o .net))
+
+  pub part-within : to ≤ length (j .sinks)
+  part-within = rw (o .tables .to-is) (o .routable .sinks-end (i + 1) (let h = o .net in omega arith))
+
+  pub part-small : to ≤ sinksMost
+  part-small = let within = part-within in let few = o .routable .sinks-few in omega arith
+
+  pub part-long : length part ≡ to - from
+  part-long = ap length (part-slice from to (j .sinks)) ∙ length-slice from to (j .sinks) part-within
+
+  -- its sinks are nodes
+  pub part-below : (n : ℕ) → n ≡ length marks₀ → AllBelow n part
+  part-below n same =
+      let long : length marks₀ ≡ nodes j = ap length (o .marks-is) ∙ marks-length j (source j i ∷ []) in
+      rw (same ∙ long, sinks-here (o .tables)) (o .routable .sink-node i (o .net))
 
 -- a record is tested by a pass
 same-test :
-    (j : Job) → Graph (j .block) → (s : State) (i : ℕ) (tree goals marks : List ℕ) → TreeNodes j tree → length marks ≡ nodes j → Marks tree marks
-    → Marks (netSinks j i) goals → (c : Congestion) (iteration : ℕ) (ws there : List ℕ) → c ≡ congestionFor j s i → iteration ≡ s .iteration → ws ≡ there
-    → turnPasses (j .block) (priceAt (j .block) c) goals marks iteration i ws ≡ turnFollows j s i tree there
-same-test j g s i tree goals marks inside long marked goal c iteration ws there a b e =
-    rw (a, b, e) (sym (turn-pass j g s i tree goals marks inside long marked goal there))
+    (j : Job) → Graph (j .block) → (s : State) (i : ℕ) (tree marks : List ℕ) → TreeNodes j tree → length marks ≡ nodes j → Marks tree marks
+    → TreeNodes j (turnSinks j i tree) → (price : ℕ → ℕ) (tried : List ℕ) (iteration : ℕ) (ws there : List ℕ) → price ≡ turnPrice j s i tree
+    → tried ≡ turnSinks j i tree → iteration ≡ s .iteration → ws ≡ there
+    → turnPasses (j .block) price (goalsOf (nodes j) tried) marks iteration i ws ≡ turnFollows j s i tree there
+unfolding marksOf
+same-test j g s i tree marks inside long marked goals price tried iteration ws there a q b e =
+    rw (a, q, b, e)
+    (sym
+    (turn-pass j g s i tree (goalsOf (nodes j) (turnSinks j i tree)) marks inside long marked (marks-of j (turnSinks j i tree) goals refl) there))
 
 -- ---- the next turn
 
-module _ (j : Job) {p : Progress} {i turns : ℕ} {t₀ : Tariff} {history users goals marks₀ log : List ℕ}
-    (o : NetOpens j p i turns t₀ history users goals marks₀ log) {left : ℕ} {t : Tariff} {marks : List ℕ} (f : Following j p i left t marks log) where
+module _ (j : Job) {p : Progress} {i : ℕ} {delays criticalities : List ℕ} {timed : Bool} {from to turns : ℕ} {t₀ : Tariff} {history users marks₀ log : List ℕ}
+    (o : NetOpens j p i delays criticalities timed from to turns t₀ history users marks₀ log) {left : ℕ} {t : Tariff} {marks : List ℕ}
+    (f : Following j p i left t marks log) where
   abbrev tree : List ℕ
   tree = treeFrom j i (f .made)
 
@@ -251,37 +281,10 @@ module _ (j : Job) {p : Progress} {i turns : ℕ} {t₀ : Tariff} {history users
   words-here = ap (λ (k : ℕ). drop k log) (f .at .tallied .words-is)
 
   state-ready : StateReady j (p .state)
-  state-ready = can-ready j (o .routable .limit-few) (o .at .can)
-
-  price-ready : (v : ℕ) → v < nodes j → PriceReady (j .block .kinds) (j .block .capacities) history users (t .factor) v
-  price-ready v h =
-      let others-long : length users ≡ nodes j = ap length (o .users-is) ∙ length-upTo (othersOf j (p .state .trees) i) (nodes j) in
-      let history-long : length history ≡ nodes j = ap length (o .history-is) ∙ state-ready .long in
-      let capacities : length (j .block .capacities) ≡ nodes j = capacities-long _ _ (o .routable .block-sound .capacities-sound) in
-      let others : getD users v 0 ≡ othersOf j (p .state .trees) i v =
-      ap (λ (l : List ℕ). getD l v 0) (o .users-is) ∙ getD-upTo (othersOf j (p .state .trees) i) (nodes j) v 0 h in
-      let grown : getD history v 0 ≡ getD (p .state .histories) v 0 = ap (λ (l : List ℕ). getD l v 0) (o .history-is) in
-      record {
-        has-kind = h;
-        has-capacity = omega arith;
-        has-history = omega arith;
-        has-others = omega arith;
-        bounds = rw (f .at .factor-is, others, grown) (turn-bounds j (o .routable) (p .state) state-ready i (o .net) v h);
-      }
+  state-ready = can-ready j (o .routable) (o .at .can)
 
   tree-long : length marks ≡ nodes j
   tree-long = ap length (f .marks-is) ∙ marks-length j tree
-
-  -- it can be tested
-  pub follow-ready : RecordReady (j .block) (congestionOf (t .factor) history users) goals marks log (t .words)
-  follow-ready =
-      record {
-        sound = o .routable .block-sound;
-        prices = price-ready;
-        marks-long = tree-long;
-        goals-long = ap length (o .goals-is) ∙ marks-length j (netSinks j i);
-        within = le-trans (le-of-eq (f .at .tallied .words-is)) (f .at .tallied .fits);
-      }
 
   inside : TreeNodes j tree
   inside = tree-nodes j i (f .made) (o .routable .source-node i (o .net)) (f .below)
@@ -292,156 +295,145 @@ module _ (j : Job) {p : Progress} {i turns : ℕ} {t₀ : Tariff} {history users
   tree-marked : Marks tree marks
   tree-marked = marks-of j tree inside (f .marks-is)
 
-  sinks-marked : Marks (netSinks j i) goals
-  sinks-marked = marks-of j (netSinks j i) (all-nodes (nodes j) (netSinks j i) (o .routable .sink-node i (o .net))) (o .goals-is)
+  -- it can be tested
+  pub follow-ready : TryReady (j .block) (j .sinks) delays criticalities timed from to t history users marks log
+  follow-ready =
+      try-ready (o .tables) (o .routable) (o .net) tree (f .marks-is) (p .state) t history users (f .at .factor-is) (o .history-is) (o .users-is) state-ready
+      (le-trans (le-of-eq (f .at .tallied .words-is)) (f .at .tallied .fits))
 
   -- what its test says
   abbrev passes : Bool
-  passes = turnPasses (j .block) (priceAt (j .block) (congestionOf (t .factor) history users)) goals marks (t .iteration) i (drop (t .words) log)
+  passes = triedPasses (j .block) (j .sinks) delays criticalities timed from to t i history users marks (drop (t .words) log)
 
   passes-is : passes ≡ turnFollows j (p .state) i tree there
   passes-is =
-      same-test j graph (p .state) i tree goals marks inside tree-long tree-marked sinks-marked (congestionOf (t .factor) history users) (t .iteration)
-      (drop (t .words) log) there (same-congestion j (p .state) i (t .factor) history users (f .at .factor-is) (o .history-is) (o .users-is))
-      (f .at .iteration-is) words-here
+      same-test j graph (p .state) i tree marks inside tree-long tree-marked
+      (all-nodes (nodes j) (turnSinks j i tree) (turn-nodes j (o .routable) i (o .net) tree)) _ _ (t .iteration) (drop (t .words) log) there
+      (price-is (o .tables) (o .routable) (o .net) tree (f .marks-is) (p .state) t history users (f .at .factor-is) (o .history-is) (o .users-is))
+      (tried-is (o .tables) (o .routable) (o .net) tree (f .marks-is)) (f .at .iteration-is) words-here
 
-  -- a turn is due
-  module _ (some : 0 < left) where
+  -- a sink is missing
+  module _ {place : ℕ} (first : FirstUnmarked marks (part j o) 0 place) (some : place < to - from) where
     still-open : allJoined j i (f .made) ≡ false
-    still-open = not-joined j i (f .made) (let is = f .left-is in omega arith)
+    still-open = not-joined j i (f .made) tree-marked (sinks-here (o .tables)) first (let long = part-long j o in omega arith)
 
-    more-left : replayTurns j log i p (length (netSinks j i)) [] ≡ replayTurns j log i p (suc (left - 1)) (f .made)
-    more-left =
-        let e : left ≡ suc (left - 1) = omega arith in
-        f .rest-is ∙ ap (λ (k : ℕ). replayTurns j log i p k (f .made)) e
-
-    -- it strays
-    strays : turnFollows j (p .state) i tree there ≡ false → replayTurns j log i p (length (netSinks j i)) [] ≡ off (t .words)
+    -- no turn is left
+    pub follow-out : left ≡ 0 → replayTurns j log i p (length (netSinks j i)) [] ≡ off (t .words)
     unfolding replayTurns
-    strays stray = more-left ∙ rw (still-open, stray) (ap off (sym (f .at .tallied .words-is)))
+    follow-out z =
+        f .rest-is ∙ ap (λ (k : ℕ). replayTurns j log i p k (f .made)) z ∙ rw still-open (ap off (sym (f .at .tallied .words-is)))
 
-    -- or follows
-    module _ (yes : turnFollows j (p .state) i tree there ≡ true) where
-      abbrev price : ℕ → ℕ
-      price = priceAt (j .block) (congestionFor j (p .state) i)
+    module _ (more : left ≡ 0 → ⊥) where
+      more-left : replayTurns j log i p (length (netSinks j i)) [] ≡ replayTurns j log i p (suc (left - 1)) (f .made)
+      more-left = f .rest-is ∙ ap (λ (k : ℕ). replayTurns j log i p k (f .made)) (suc-of left more)
 
-      abbrev r : Record
-      r = recordIn price there
-
-      follows : Follows j (p .state) i tree there
-      follows = follows-of j (p .state) i tree there yes
-
-      one-more : replayTurns j log i p (length (netSinks j i)) [] ≡ replayTurns j log i p (left - 1) (f .made ++ (r ∷ []))
+      -- it strays
+      strays : turnFollows j (p .state) i tree there ≡ false → replayTurns j log i p (length (netSinks j i)) [] ≡ off (t .words)
       unfolding replayTurns
-      one-more = more-left ∙ rw (still-open, yes)
+      strays stray = more-left ∙ rw (still-open, stray) (ap off (sym (f .at .tallied .words-is)))
 
-      one-fewer : left - 1 ≡ missing (treeFrom j i (f .made ++ (r ∷ []))) (netSinks j i)
-      one-fewer =
-          let is = f .left-is in
-          let fewer = sinks-fewer j i tree (getD there 2 0) (pathIn there) (o .once i (o .net)) (follows .path) in
-          rw (← tree-more j i (f .made) r) (omega arith)
+      -- or follows
+      module _ (yes : turnFollows j (p .state) i tree there ≡ true) where
+        abbrev price : ℕ → ℕ
+        price = turnPrice j (p .state) i tree
 
-      path-below : AllBelow (nodes j) (pathIn there)
-      path-below = path-nodes j graph price i tree goals marks inside tree-long tree-marked sinks-marked (getD there 2 0) (pathIn there) (follows .path)
+        abbrev r : Record
+        r = recordIn price there
 
-      nodes-below : AllBelow (nodes j) (pathNodes (f .made ++ (r ∷ [])))
-      unfolding pathNodes
-      nodes-below =
-          rw (pathNodes-append (f .made) (r ∷ []), append-nil (pathIn there))
-          (below-append (nodes j) (pathNodes (f .made)) (pathIn there) (f .below) path-below)
+        follows : Follows j (p .state) i tree there
+        follows = follows-of j (p .state) i tree there yes
 
-      counted : Tallied (p .records ++ (f .made ++ (r ∷ []))) log (loggedTariff t (6 + getD there 5 0)) log
-      counted =
-          rw (← append-assoc (p .records) (f .made) (r ∷ []))
-          (tallied-follows (p .records ++ f .made) log t price (f .at .tallied) (follows .is-whole) (follows .cost))
+        one-more : replayTurns j log i p (length (netSinks j i)) [] ≡ replayTurns j log i p (left - 1) (f .made ++ (r ∷ []))
+        unfolding replayTurns
+        one-more = more-left ∙ rw (still-open, yes)
 
-      one-turn : {marks′ : List ℕ} → Stored 1 (pathIn there) marks marks′ → Following j p i (left - 1) (loggedTariff t (6 + getD there 5 0)) marks′ log
-      one-turn stored =
-          record {
-            made = f .made ++ (r ∷ []);
-            rest-is = one-more;
-            left-is = one-fewer;
-            at =
-                record {
-                  can = can-with j i p (f .made ++ (r ∷ [])) (o .at .can);
-                  iteration-is = f .at .iteration-is;
-                  factor-is = f .at .factor-is;
-                  tallied = counted;
-                };
-            marks-is = marks-grow j i (f .made) r (f .marks-is) stored;
-            below = nodes-below;
-            source-on = inr (source-more j i (f .made) r (follows .path) (f .source-on));
-          }
+        path-below : AllBelow (nodes j) (pathIn there)
+        path-below = path-nodes j graph i tree inside (getD there 2 0) (pathIn there) (follows .path)
 
-    -- as the call answers
-    module _ {count : ℕ} (answer : count ≡ choose passes (6 + getD (drop (t .words) log) 5 0) 0) where
-      pub follow-off : count ≡ 0 → replayTurns j log i p (length (netSinks j i)) [] ≡ off (t .words)
-      follow-off none = strays (sym passes-is ∙ chosen-none passes (getD (drop (t .words) log) 5 0) (sym answer ∙ none))
+        nodes-below : AllBelow (nodes j) (pathNodes (f .made ++ (r ∷ [])))
+        unfolding pathNodes
+        nodes-below =
+            rw (pathNodes-append (f .made) (r ∷ []), append-nil (pathIn there))
+            (below-append (nodes j) (pathNodes (f .made)) (pathIn there) (f .below) path-below)
 
-      module _ (made-one : count ≡ 0 → ⊥) where
-        passed : passes ≡ true
-        passed = chosen-some passes (getD (drop (t .words) log) 5 0) (λ z. made-one (answer ∙ z))
+        counted : Tallied (p .records ++ (f .made ++ (r ∷ []))) log (loggedTariff t (6 + getD there 5 0)) log
+        counted =
+            rw (← append-assoc (p .records) (f .made) (r ∷ []))
+            (tallied-follows (p .records ++ f .made) log t price (f .at .tallied) (follows .is-whole) (follows .cost))
 
-        following : turnFollows j (p .state) i tree there ≡ true
-        following = sym passes-is ∙ passed
+        one-turn : {marks′ : List ℕ} → Stored 1 (pathIn there) marks marks′ → Following j p i (left - 1) (loggedTariff t (6 + getD there 5 0)) marks′ log
+        one-turn stored =
+            record {
+              made = f .made ++ (r ∷ []);
+              rest-is = one-more;
+              at =
+                  record {
+                    can = can-with j i p (f .made ++ (r ∷ [])) (o .at .can);
+                    iteration-is = f .at .iteration-is;
+                    factor-is = f .at .factor-is;
+                    tallied = counted;
+                  };
+              marks-is = marks-grow j i (f .made) r (f .marks-is) stored;
+              below = nodes-below;
+              source-on = inr (source-more j i (f .made) r (follows .path) (f .source-on));
+            }
 
-        count-is : count ≡ 6 + getD there 5 0
-        count-is =
-            answer ∙ ap (λ (b : Bool). choose b (6 + getD (drop (t .words) log) 5 0) 0) passed ∙ ap (λ (l : List ℕ). 6 + getD l 5 0) words-here
+      -- as the call answers
+      module _ {count : ℕ} (answer : count ≡ choose passes (6 + getD (drop (t .words) log) 5 0) 0) where
+        pub follow-off : count ≡ 0 → replayTurns j log i p (length (netSinks j i)) [] ≡ off (t .words)
+        follow-off none = strays (sym passes-is ∙ chosen-none passes (getD (drop (t .words) log) 5 0) (sym answer ∙ none))
 
-        pub follow-more :
-            {marks′ : List ℕ} → Stored 1 (pathIn (drop (t .words) log)) marks marks′ → {t′ : Tariff} → t′ ≡ loggedTariff t count
-            → Following j p i (left - 1) t′ marks′ log
-        follow-more {marks′} stored {t′} is =
-            subst (λ (x : Tariff). Following j p i (left - 1) x marks′ log) (sym (is ∙ ap (λ (k : ℕ). loggedTariff t k) count-is))
-            (one-turn following (subst (λ (l : List ℕ). Stored 1 (pathIn l) marks marks′) words-here stored))
+        module _ (made-one : count ≡ 0 → ⊥) where
+          passed : passes ≡ true
+          passed = chosen-some passes (getD (drop (t .words) log) 5 0) (λ z. made-one (answer ∙ z))
 
-        -- the tariff can count it
-        pub follow-room : {most : ℕ} → length log < most → (t .turns + 1 < most) × (t .words + count < most)
-        follow-room short =
-            let whole = whole-long there (follows following .is-whole) in
-            let rest : length there ≡ length log - length (encode (p .records ++ f .made)) = length-drop (length (encode (p .records ++ f .made))) log in
-            let few = records-few (p .records ++ f .made) in
-            let is = count-is in
-            let words-are = f .at .tallied .words-is in
-            let turns-are = f .at .tallied .turns-is in
-            let fits = f .at .tallied .fits in
-            (omega arith, omega arith)
+          following : turnFollows j (p .state) i tree there ≡ true
+          following = sym passes-is ∙ passed
 
--- ---- all turns are made
+          count-is : count ≡ 6 + getD there 5 0
+          count-is =
+              answer ∙ ap (λ (b : Bool). choose b (6 + getD (drop (t .words) log) 5 0) 0) passed ∙ ap (λ (l : List ℕ). 6 + getD l 5 0) words-here
 
-first-left : (j : Job) (i : ℕ) (made : List Record) → made ≡ [] → has (source j i) (netSinks j i) ≡ false → missing (treeFrom j i made) (netSinks j i) ≡ length (netSinks j i)
-unfolding pathNodes
-first-left j i made e other =
-    ap (λ (rs : List Record). missing (treeFrom j i rs) (netSinks j i)) e ∙ missing-first (source j i) (netSinks j i) other
+          pub follow-more :
+              {marks′ : List ℕ} → Stored 1 (pathIn (drop (t .words) log)) marks marks′ → {t′ : Tariff} → t′ ≡ loggedTariff t count
+              → Following j p i (left - 1) t′ marks′ log
+          follow-more {marks′} stored {t′} is =
+              subst (λ (x : Tariff). Following j p i (left - 1) x marks′ log) (sym (is ∙ ap (λ (k : ℕ). loggedTariff t k) count-is))
+              (one-turn following (subst (λ (l : List ℕ). Stored 1 (pathIn l) marks marks′) words-here stored))
 
-none-left :
-    (j : Job) (ws : List ℕ) (i : ℕ) (p : Progress) (k : ℕ) (made : List Record) → k ≡ 0 → missing (treeFrom j i made) (netSinks j i) ≡ 0
-    → replayTurns j ws i p k made ≡ on (withNet j i p made)
-unfolding replayTurns
-none-left j ws i p k made z e = rw (z, all-joined j i made e)
+          -- the tariff can count it
+          pub follow-room : {most : ℕ} → length log < most → (t .turns + 1 < most) × (t .words + count < most)
+          follow-room short =
+              let whole = whole-long there (follows following .is-whole) in
+              let rest : length there ≡ length log - length (encode (p .records ++ f .made)) = length-drop (length (encode (p .records ++ f .made))) log in
+              let few = records-few (p .records ++ f .made) in
+              let is = count-is in
+              let words-are = f .at .tallied .words-is in
+              let turns-are = f .at .tallied .turns-is in
+              let fits = f .at .tallied .fits in
+              (omega arith, omega arith)
 
-pub follow-on :
-    (j : Job) {p : Progress} {i turns : ℕ} {t₀ : Tariff} {history users goals marks₀ log : List ℕ} → NetOpens j p i turns t₀ history users goals marks₀ log
-    → {left : ℕ} {t : Tariff} {marks : List ℕ} → Following j p i left t marks log → left ≤ 0 → NetOn j p i t marks log
-follow-on j {p} {i} {log = log} o {left} f end =
-    let is = f .left-is in
-    let zero-left : left ≡ 0 = omega arith in
-    let none : missing (treeFrom j i (f .made)) (netSinks j i) ≡ 0 = omega arith in
-    record {
-      made = f .made;
-      is = f .rest-is ∙ none-left j log i p left (f .made) zero-left none;
-      at = f .at;
-      marks-is = f .marks-is;
-      below = f .below;
-      source-on =
-          ⊎-elim
-          (λ (e : f .made ≡ []).
-          absurd
-          (let all = first-left j i (f .made) e (o .routable .source-no-sink i (o .net)) in
-          let some = o .some in
-          let turns-are = o .turns-is in
-          omega arith))
-          (λ h. h)
-          (f .source-on);
-    }
+  -- none is missing
+  module _ {place : ℕ} (first : FirstUnmarked marks (part j o) 0 place) (none : to - from ≤ place) where
+    joined : allJoined j i (f .made) ≡ true
+    joined = all-joined j i (f .made) tree-marked (sinks-here (o .tables)) first (let long = part-long j o in omega arith)
+
+    -- the net has a sink, so it has made a turn
+    some-made : f .made ≡ [] → ⊥
+    unfolding pathNodes
+    some-made e =
+        let x : ℕ = getD (netSinks j i) 0 0 in
+        let listed : has x (netSinks j i) ≡ true = has-at (netSinks j i) 0 (let many = o .turns-is in let one = o .some in omega arith) in
+        let on-path : has x (pathNodes (f .made)) ≡ true = joined-on j i (f .made) (o .routable .source-no-sink i (o .net)) joined x listed in
+        no-entry x (subst (λ (rs : List Record). has x (pathNodes rs) ≡ true) e on-path)
+
+    pub follow-on : NetOn j p i t marks log
+    follow-on =
+        record {
+          made = f .made;
+          is = f .rest-is ∙ turns-done j log i p left (f .made) joined;
+          at = f .at;
+          marks-is = f .marks-is;
+          below = f .below;
+          source-on = ⊎-elim (λ (e : f .made ≡ []). absurd (some-made e)) (λ h. h) (f .source-on);
+        }

@@ -1,5 +1,5 @@
 -- The turns of one net from its tree: each joins a sink by a cheapest path that begins in the tree and is new to it, no node is reached twice,
--- and every sink that has a path from the source is joined.
+-- and every sink that has a path from the source is joined. In a timed job a turn tries the one sink whose turn it is.
 -- Assumes nothing.
 use mathlib.Core.Bool.{Bool, true, false, not}
 use mathlib.Core.List.{List, [], _∷_, _++_, append-assoc}
@@ -21,9 +21,11 @@ use Rattle.search.proofs.EdgeLaws.{Shaped}
 use Rattle.search.proofs.PathToLaws.{path-walk, path-distinct, path-one-tree-node, path-short, path-nodes}
 use Rattle.search.proofs.TurnLaws.{joins-within, joins-path, joins-near, joins-cheapest, stuck-no-path}
 use Rattle.job.specs.Job.{Job, nodes, netSinks}
+use Rattle.negotiation.specs.Order.{turnSinks, turnCongestion}
 use Rattle.negotiation.specs.Records.{Record, pathNodes}
 use Rattle.negotiation.specs.Machine.{marksOf, turnOf, logTurn, turnsOf}
 use Rattle.negotiation.proofs.MemberLaws.{no-entry, has-append-split, every-has, every-members, missing, missing-none, missing-less}
+use Rattle.negotiation.proofs.OrderLaws.{turn-listed}
 
 -- all nodes of a tree are nodes
 abbrev pub TreeNodes : Job → List ℕ → Type 0
@@ -68,7 +70,7 @@ walk-last (step {u = u} {v = v} {path = path} e w) = has-append-right v (u ∷ [
 
 -- a path that a turn of net i adds to its tree
 pub record TreeTurn (j : Job) (c : Congestion) (i : ℕ) (tree : List ℕ) (sink cost : ℕ) (path : List ℕ) : Type 0 where
-  pub cheapest : CheapestPath (j .block) (priceAt (j .block) c) (λ v. has v tree) (netSinks j i) sink cost path
+  pub cheapest : CheapestPath (j .block) (priceAt (j .block) (turnCongestion j c i tree)) (λ v. has v tree) (turnSinks j i tree) sink cost path
   pub begins : has (getD path 0 0) tree ≡ true
   pub new-nodes : every (λ v. not (has v tree)) (drop 1 path) ≡ true
   pub path-distinct : distinct path ≡ true
@@ -97,17 +99,17 @@ same-tree {sink = sink} same p =
       cheapest = λ t s other m l o w. p .cheapest t s other (same t ∙ m) l (same s ∙ o) w;
     }
 
-module _ (j : Job) (c : Congestion) (i : ℕ) (g : Shaped (j .block)) (fair : Fair (j .block) (priceAt (j .block) c)) (all-nodes : (k : ℕ) → k < length (netSinks j i) → getD (netSinks j i) k 0 < nodes j) where
+module _ (j : Job) (c : Congestion) (i : ℕ) (g : Shaped (j .block)) (fair : (tree : List ℕ) → Fair (j .block) (priceAt (j .block) (turnCongestion j c i tree))) (all-nodes : (tree : List ℕ) (k : ℕ) → k < length (turnSinks j i tree) → getD (turnSinks j i tree) k 0 < nodes j) where
   -- a turn that joins
   module _ (tree : List ℕ) (all : TreeNodes j tree) (place cost : ℕ) (path : List ℕ) (is : turnOf j c i tree ≡ joins place cost path) where
     abbrev price : ℕ → ℕ
-    price = priceAt (j .block) c
+    price = priceAt (j .block) (turnCongestion j c i tree)
 
     abbrev marks : List ℕ
     marks = marksOf j tree
 
     abbrev sinks : List ℕ
-    sinks = netSinks j i
+    sinks = turnSinks j i tree
 
     abbrev sink : ℕ
     sink = getD sinks place 0
@@ -117,35 +119,35 @@ module _ (j : Job) (c : Congestion) (i : ℕ) (g : Shaped (j .block)) (fair : Fa
     turn-is = is
 
     joined-path : path ≡ pathTo (j .block) price marks sink
-    joined-path = joins-path (j .block) price marks g fair sinks all-nodes place cost path turn-is
+    joined-path = joins-path (j .block) price marks g (fair tree) sinks (all-nodes tree) place cost path turn-is
 
     joined-node : sink < nodes j
-    joined-node = all-nodes place (joins-within (j .block) price marks g fair sinks all-nodes place cost path turn-is)
+    joined-node = all-nodes tree place (joins-within (j .block) price marks g (fair tree) sinks (all-nodes tree) place cost path turn-is)
 
     joined-near : distance (j .block) price marks sink < far
-    joined-near = joins-near (j .block) price marks g fair sinks all-nodes place cost path turn-is
+    joined-near = joins-near (j .block) price marks g (fair tree) sinks (all-nodes tree) place cost path turn-is
 
     joined-walk : (u : ℕ) × (u < nodes j) × (inTree marks u ≡ true) × Walk (j .block) u path sink
     joined-walk =
-        let w = path-walk (j .block) price marks g fair sink joined-node joined-near in
+        let w = path-walk (j .block) price marks g (fair tree) sink joined-node joined-near in
         (w .0, w .1, w .2, subst (λ (p : List ℕ). Walk (j .block) (w .0) p sink) (sym joined-path) (w .3))
 
     joined-new : every (λ v. not (has v tree)) (drop 1 path) ≡ true
     joined-new =
-        let out : every (λ v. not (inTree marks v)) (drop 1 path) ≡ true = subst (λ (p : List ℕ). every (λ v. not (inTree marks v)) (drop 1 p) ≡ true) (sym joined-path) (path-one-tree-node (j .block) price marks g fair sink joined-node joined-near) in
+        let out : every (λ v. not (inTree marks v)) (drop 1 path) ≡ true = subst (λ (p : List ℕ). every (λ v. not (inTree marks v)) (drop 1 p) ≡ true) (sym joined-path) (path-one-tree-node (j .block) price marks g (fair tree) sink joined-node joined-near) in
         every-members (λ v. not (has v tree)) (drop 1 path)
         (λ v m. ap not (sym (mark-is j tree all v)) ∙ every-has (λ u. not (inTree marks u)) (drop 1 path) out v m)
 
     turn-joins : TreeTurn j c i tree sink cost path
     turn-joins =
         record {
-          cheapest = same-tree (mark-is j tree all) (joins-cheapest (j .block) price marks g fair sinks all-nodes place cost path turn-is);
+          cheapest = same-tree (mark-is j tree all) (joins-cheapest (j .block) price marks g (fair tree) sinks (all-nodes tree) place cost path turn-is);
           begins = rw (walk-first (joined-walk .3)) (sym (mark-is j tree all (joined-walk .0)) ∙ joined-walk .2);
           new-nodes = joined-new;
-          path-distinct = subst (λ (p : List ℕ). distinct p ≡ true) (sym joined-path) (path-distinct (j .block) price marks g fair sink joined-node joined-near);
+          path-distinct = subst (λ (p : List ℕ). distinct p ≡ true) (sym joined-path) (path-distinct (j .block) price marks g (fair tree) sink joined-node joined-near);
           path-some = walk-some (joined-walk .3);
-          path-short = subst (λ (p : List ℕ). length p ≤ nodes j) (sym joined-path) (path-short (j .block) price marks g fair sink joined-node joined-near);
-          path-nodes = subst (λ (p : List ℕ). (k : ℕ) → k < length p → getD p k 0 < nodes j) (sym joined-path) (path-nodes (j .block) price marks g fair sink joined-node joined-near);
+          path-short = subst (λ (p : List ℕ). length p ≤ nodes j) (sym joined-path) (path-short (j .block) price marks g (fair tree) sink joined-node joined-near);
+          path-nodes = subst (λ (p : List ℕ). (k : ℕ) → k < length p → getD p k 0 < nodes j) (sym joined-path) (path-nodes (j .block) price marks g (fair tree) sink joined-node joined-near);
           ends = walk-last (joined-walk .3);
         }
 
@@ -171,31 +173,39 @@ module _ (j : Job) (c : Congestion) (i : ℕ) (g : Shaped (j .block)) (fair : Fa
   turns-are t zero tree all = none
   turns-are t (suc k) tree all = turns-step t k (turns-are t k) tree all (turnOf j c i tree) refl
 
-  -- a stuck turn leaves no path from the tree to a sink that it lacks
+  -- a stuck turn leaves no path from the tree to a sink that it tries and the tree lacks
   stuck-none :
       (tree : List ℕ) → TreeNodes j tree → turnOf j c i tree ≡ stuck
-      → (from x : ℕ) (path : List ℕ) → has from tree ≡ true → has x (netSinks j i) ≡ true → has x tree ≡ false → Walk (j .block) from path x → ⊥
+      → (from x : ℕ) (path : List ℕ) → has from tree ≡ true → has x (turnSinks j i tree) ≡ true → has x tree ≡ false → Walk (j .block) from path x → ⊥
   unfolding turnOf
   stuck-none tree all is from x path at m o w =
-      stuck-no-path (j .block) (priceAt (j .block) c) (marksOf j tree) g fair (netSinks j i) all-nodes is from x path (mark-is j tree all from ∙ at) m (mark-is j tree all x ∙ o) w
+      stuck-no-path (j .block) (priceAt (j .block) (turnCongestion j c i tree)) (marksOf j tree) g (fair tree) (turnSinks j i tree) (all-nodes tree) is from x path (mark-is j tree all from ∙ at) m (mark-is j tree all x ∙ o) w
 
-  -- every sink that has a path from a node of the tree is joined
+  -- every sink is joined where each has a path from a node of the tree, if a turn tries some sink as long as the tree lacks one
   pub turns-join :
-      {t k : ℕ} {tree : List ℕ} {rs : List Record} → Turns j t c i k tree rs → TreeNodes j tree → missing tree (netSinks j i) ≤ k
+      ((tree : List ℕ) (x : ℕ) → has x (netSinks j i) ≡ true → has x tree ≡ false → (y : ℕ) × (has y (turnSinks j i tree) ≡ true) × (has y tree ≡ false))
+      → {t k : ℕ} {tree : List ℕ} {rs : List Record} → Turns j t c i k tree rs → TreeNodes j tree → missing tree (netSinks j i) ≤ k
       → (from : ℕ) → has from tree ≡ true → ((x : ℕ) → has x (netSinks j i) ≡ true → (path : List ℕ) × Walk (j .block) from path x)
       → (x : ℕ) → has x (netSinks j i) ≡ true → has x (tree ++ pathNodes rs) ≡ true
   unfolding pathNodes
-  turns-join {tree = tree} none all few from at reach x m =
+  turns-join some {tree = tree} none all few from at reach x m =
       has-append-left x tree [] (missing-none tree (netSinks j i) (omega arith) x m)
-  turns-join {tree = tree} (stop is) all few from at reach x m =
+  turns-join some {tree = tree} (stop is) all few from at reach x m =
       has-append-left x tree []
-      (⊎-elim (λ q. q) (λ (q : has x tree ≡ false). absurd (stuck-none tree all is from x (reach x m .0) at m q (reach x m .1))) (either-way (has x tree)))
-  turns-join {tree = tree} (more {r = r} {rs = rs} a b joined rest) all few from at reach x m =
+      (⊎-elim
+      (λ q. q)
+      (λ (q : has x tree ≡ false).
+      let y = some tree x m q in
+      let p = reach (y .0) (turn-listed j i tree (y .0) (y .1)) in
+      absurd (stuck-none tree all is from (y .0) (p .0) at (y .1) (y .2) (p .1)))
+      (either-way (has x tree)))
+  turns-join some {tree = tree} (more {r = r} {rs = rs} a b joined rest) all few from at reach x m =
       let grown : List ℕ = tree ++ r .path in
       let less : missing grown (netSinks j i) < missing tree (netSinks j i) =
-      missing-less tree grown (netSinks j i) (r .sink) (λ v h. has-append-left v tree (r .path) h) (joined .cheapest .sink-listed) (joined .cheapest .sink-open) (has-append-right (r .sink) tree (r .path) (joined .ends)) in
+      missing-less tree grown (netSinks j i) (r .sink) (λ v h. has-append-left v tree (r .path) h)
+      (turn-listed j i tree (r .sink) (joined .cheapest .sink-listed)) (joined .cheapest .sink-open) (has-append-right (r .sink) tree (r .path) (joined .ends)) in
       subst (λ (l : List ℕ). has x l ≡ true) (append-assoc tree (r .path) (pathNodes rs))
-      (turns-join rest (grown-nodes tree (r .path) all (joined .path-nodes)) (omega arith) from (has-append-left from tree (r .path) at) reach x m)
+      (turns-join some rest (grown-nodes tree (r .path) all (joined .path-nodes)) (omega arith) from (has-append-left from tree (r .path) at) reach x m)
 
 -- an entry of a list of one
 pub only-entry : (x y : ℕ) → has x (y ∷ []) ≡ true → x ≡ y

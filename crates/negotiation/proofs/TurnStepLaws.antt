@@ -11,15 +11,17 @@ use native.Mathlib.Omega.{arith}
 use lib.ListN.{length, getD, take, drop, length-append, length-drop, List·getD-append}
 use lib.Seq.{slice, take-append-seam, drop-append-seam, drop-append-add, drop-drop, getD-append-add}
 use borrow.Author.Tests.{lt-ltb, le-leb}
-use Rattle.price.specs.Bounds.{historyMost, othersMost}
+use Rattle.price.specs.Bounds.{othersMost}
+use Rattle.price.specs.Timed.{historyBound}
 use Rattle.price.specs.Test.{choose}
 use Rattle.price.specs.Lists.{has}
 use Rattle.price.proofs.TestLaws.{either-way, le-or-lt, both-true}
 use Rattle.price.proofs.ListLaws.{has-append-left, has-append-right, getD-upTo}
 use Rattle.search.specs.Turn.{Congestion, joins, stuck}
 use Rattle.search.specs.Replies.{nodeSound}
-use Rattle.job.specs.Job.{Job, nodes, netSinks}
+use Rattle.job.specs.Job.{Job, nodes}
 use Rattle.negotiation.specs.Records.{Record, recordOf, words, encode, pathNodes}
+use Rattle.negotiation.specs.Order.{turnSinks}
 use Rattle.negotiation.specs.Machine.{State, marksOf, turnOf, turnsOf, due, afterNets}
 use Rattle.negotiation.specs.Outcome.{logWith}
 use Rattle.job.specs.Steps.{AllBelow}
@@ -33,7 +35,7 @@ use Rattle.negotiation.proofs.FilterLaws.{All}
 -- ---- what the search asks of a node
 
 pub node-sound :
-    (c : Congestion) (marks : List ℕ) (v : ℕ) → v < length (c .histories) → 1 ≤ getD (c .histories) v 0 → getD (c .histories) v 0 ≤ historyMost
+    (c : Congestion) (marks : List ℕ) (v : ℕ) → v < length (c .histories) → 1 ≤ getD (c .histories) v 0 → getD (c .histories) v 0 ≤ historyBound (c .weighting)
     → v < length (c .others) → getD (c .others) v 0 ≤ othersMost → v < length marks → getD marks v 0 ≤ 1 → nodeSound c marks v ≡ true
 unfolding nodeSound
 node-sound c marks v a least most b few d one =
@@ -67,7 +69,7 @@ turns-stuck j t c i (suc k) tree e = rw e
 
 pub turns-more :
     (j : Job) (t : ℕ) (c : Congestion) (i k : ℕ) (tree : List ℕ) (place cost : ℕ) (path : List ℕ) → turnOf j c i tree ≡ joins place cost path
-    → turnsOf j t c i (suc k) tree ≡ recordOf t i (getD (netSinks j i) place 0) cost path ∷ turnsOf j t c i k (tree ++ path)
+    → turnsOf j t c i (suc k) tree ≡ recordOf t i (getD (turnSinks j i tree) place 0) cost path ∷ turnsOf j t c i k (tree ++ path)
 unfolding turnsOf
 turns-more j t c i k tree place cost path e = rw e
 

@@ -62,6 +62,7 @@ module _ {b : Block} {c : Congestion} {goals marks log : List ℕ} {at : ℕ} (r
               record {
                 sound = ready .sound;
                 prices = ready .prices;
+                nodes-few = ready .nodes-few;
                 marks-long = ready .marks-long;
                 goals-long = ready .goals-long;
                 within = long;

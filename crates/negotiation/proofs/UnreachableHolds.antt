@@ -14,7 +14,7 @@ use Rattle.price.proofs.ListLaws.{every-at, every-all, every-none, has-at, has-
 use Rattle.price.proofs.BelowLaws.{firstBelow-below, firstBelow-holds, firstBelow-is}
 use Rattle.search.specs.Replies.{workNeeded}
 use Rattle.job.specs.Job.{Job, nodes, nets, netSinks}
-use Rattle.job.specs.Tables.{SoundJob, faultyJob}
+use Rattle.job.specs.Tables.{SoundJob, faultyJob, exceeds}
 use Rattle.negotiation.specs.Outcome.{RouteReply, hasPath, unreachableNet, unreachablePlace, begun}
 use Rattle.negotiation.specs.Unreachable.{Reachable, FirstUnreachable, UnreachableRefused}
 use Rattle.negotiation.specs.Routable.{Routable}
@@ -23,7 +23,7 @@ use Rattle.job.proofs.JobLaws.{sound-job, faulty-none}
 use Rattle.negotiation.proofs.JoinedHolds.{joined-routable}
 use Rattle.negotiation.proofs.NetLaws.{path-from, sink-path}
 use Rattle.negotiation.proofs.DemandLaws.{walk-path}
-use Rattle.negotiation.proofs.RefusalLaws.{route-table, route-work, route-unreachable, route-run}
+use Rattle.negotiation.proofs.RefusalLaws.{route-table, route-large, route-work, route-unreachable, route-run}
 use Rattle.negotiation.proofs.DemandHolds.{run-reached}
 
 module _ (j : Job) (sound : Routable j) where
@@ -132,25 +132,30 @@ unreachable-refused j work log =
           absurd (not-seven 5 net place _ (λ z. omega arith) (sym (refusal (route-table j work log h)) ∙ e)))
           (λ (h : faultyJob j < 1).
           ⊎-elim
+          (λ (x : exceeds (nodes j) (j .terms) ≡ true).
+          absurd (not-seven 15 net place _ (λ z. omega arith) (sym (refusal (route-large j work log h x)) ∙ e)))
+          (λ (x : exceeds (nodes j) (j .terms) ≡ false).
+          ⊎-elim
           (λ (enough : workNeeded (nodes j) ≤ length work).
           ⊎-elim
           (λ (all : nets j ≤ unreachableNet (joined j)).
-          absurd (run-reached (joined j) (begun (joined j)) work log net place (sym (refusal (route-run j work log h enough all)) ∙ e)))
+          absurd (run-reached (joined j) (begun (joined j)) work log net place (sym (refusal (route-run j work log h x enough all)) ∙ e)))
           (λ (some : unreachableNet (joined j) < nets j).
-          let same = sym (refusal (route-unreachable j work log h enough some)) ∙ e in
+          let same = sym (refusal (route-unreachable j work log h x enough some)) ∙ e in
           let at : unreachableNet (joined j) ≡ net = cc in
           let in-net : unreachablePlace (joined j) ≡ place = cc in
-          rw (← at, ← in-net) (first-unreachable (joined j) (joined-routable j (sound-job j (omega arith))) some))
+          rw (← at, ← in-net) (first-unreachable (joined j) (joined-routable j (sound-job j (omega arith)) x) some))
           (le-or-lt (nets j) (unreachableNet (joined j))))
           (λ (short : length work < workNeeded (nodes j)).
-          absurd (not-seven 6 net place _ (λ z. omega arith) (sym (refusal (route-work j work log h short)) ∙ e)))
+          absurd (not-seven 6 net place _ (λ z. omega arith) (sym (refusal (route-work j work log h x short)) ∙ e)))
           (le-or-lt (workNeeded (nodes j)) (length work)))
+          (either-way (exceeds (nodes j) (j .terms))))
           (le-or-lt 1 (faultyJob j));
-      given = λ sound enough net place f.
+      given = λ sound x enough net place f.
           let none : faultyJob j < 1 = rw (faulty-none j sound) (omega arith) in
-          let some : unreachableNet (joined j) < nets j = rw (is-net (joined j) (joined-routable j sound) net place f) (f .net-below) in
-          refusal (route-unreachable j work log none enough some)
-          ∙ rw (is-net (joined j) (joined-routable j sound) net place f, is-place (joined j) (joined-routable j sound) net place f);
+          let some : unreachableNet (joined j) < nets j = rw (is-net (joined j) (joined-routable j sound x) net place f) (f .net-below) in
+          refusal (route-unreachable j work log none x enough some)
+          ∙ rw (is-net (joined j) (joined-routable j sound x) net place f, is-place (joined j) (joined-routable j sound x) net place f);
     }
   where
     refusal : {a b : RouteReply} → a ≡ b → a .refusal ≡ b .refusal

@@ -8,13 +8,15 @@ use Prim.Native.Nat.{ℕ, zero, suc, _+_, _-_, _^_, _≤_, _<_, max}
 use lib.Dec.{eqb, leb}
 use lib.ListN.{length, getD, drop}
 use Rattle.price.specs.Test.{choose, both}
-use Rattle.price.specs.Bounds.{priceMost, pathMost}
+use Rattle.price.specs.Bounds.{priceMost, pathMost, timedPriceMost}
 use Rattle.price.specs.Lists.{has, distinct, countBelow}
 use Rattle.price.specs.Prices.{priceOf, factorAt, nextHistory}
+use Rattle.price.specs.Timed.{weighed}
 use Rattle.search.specs.Paths.{CheapestPath}
 use Rattle.job.specs.Job.{Job, nodes, nets, source, netSinks}
 use Rattle.job.specs.Join.{joined}
 use Rattle.negotiation.specs.Records.{Record, encode}
+use Rattle.negotiation.specs.Order.{turnSinks, turnWeighting}
 use Rattle.negotiation.specs.Outcome.{RouteReply, wordsUsed, turnsLogged, routeReply}
 use Rattle.negotiation.specs.Unreachable.{AllReachable}
 
@@ -60,21 +62,27 @@ historyRead j rs zero v = 1
 historyRead j rs (suc m) v =
     nextHistory (j .terms .tuning) (historyRead j rs m v) (usersRead j (upToIteration (suc m) rs) v) (getD (j .block .capacities) v 0)
 
--- the price of a node for net i in iteration t, "t gives the factor"
-unfoldable pub priceRead : Job → ℕ → ℕ → List Record → ℕ → ℕ
-priceRead j i t earlier v =
+-- the congestion price of a node for net i in iteration t, "t gives the factor"
+unfoldable pub congestedRead : Job → ℕ → ℕ → List Record → ℕ → ℕ
+congestedRead j i t earlier v =
     priceOf (getD (j .block .kinds) v 0) (factorAt (j .terms .tuning) t) (othersRead j i earlier v) (getD (j .block .capacities) v 0)
     (historyRead j earlier (t - 1) v)
+
+-- its price for the net's next turn: in a timed job weighed with its delay, for the sink whose turn it is
+unfoldable pub priceRead : Job → ℕ → ℕ → List Record → ℕ → ℕ
+priceRead j i t earlier v =
+    weighed (turnWeighting j i (ownTree j i t earlier)) (getD (j .delays) v 0) (congestedRead j i t earlier v)
 
 -- ---- the demand
 
 -- a logged turn: "the logged path follows edges from a node of that net's tree before the turn to one of its sinks not yet joined. The
 -- logged cost is that path's cost, at prices worked out from the job and the log's earlier turns alone. At these prices every other path in
--- the graph, from any node of that tree to any of the net's sinks not yet joined, costs at least as much."
+-- the graph, from any node of that tree to any of the net's sinks not yet joined, costs at least as much." Request 2.9: "The cheapest-path
+-- claim for timed jobs is about the sink whose turn it is", which is then the only one of `turnSinks`
 abbrev pub TurnHolds : Job → List Record → Record → Type 0
 TurnHolds j earlier r =
     CheapestPath (j .block) (priceRead j (r .net) (r .iteration) earlier) (λ v. has v (ownTree j (r .net) (r .iteration) earlier))
-    (netSinks j (r .net)) (r .sink) (r .cost) (r .path)
+    (turnSinks j (r .net) (ownTree j (r .net) (r .iteration) earlier)) (r .sink) (r .cost) (r .path)
 
 -- the nodes in which branches of net i end, of its records of iteration t: "The branches of a final tree are the path steps of the records
 -- that it is read from."
@@ -107,7 +115,8 @@ pub record Demand3 (j : Job) (work log : List ℕ) (r : RouteReply) : Type 0 whe
   pub turns-counted : r .turns ≡ length (turnsLogged r)
 
 -- "The new bound on a path's cost still fits 64 bits, with 2.1's step of 2 too": every logged turn's cost is below `pathMost`, which fits
--- 64 bits with one more price
+-- 64 bits with one more price, timed or not
 pub record CostsFit (r : RouteReply) : Type 0 where
   pub below : (earlier later : List Record) (t : Record) → turnsLogged r ≡ earlier ++ (t ∷ later) → t .cost < pathMost
   pub fits : pathMost + priceMost < 2 ^ 64
+  pub timed-fits : pathMost + timedPriceMost < 2 ^ 64

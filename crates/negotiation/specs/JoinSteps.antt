@@ -1,5 +1,6 @@
 -- What the private functions that join nets do to their lists. Only their contracts cite this file: no caller has to believe it.
 -- Assumes nothing.
+use mathlib.Core.Bool.{Bool, true}
 use mathlib.Core.List.{List, [], _++_}
 use mathlib.Core.Path.{_≡_}
 use Prim.Native.Nat.{ℕ, _+_, _-_, _≤_, _<_}
@@ -8,13 +9,11 @@ use lib.ListN.{length, getD, take}
 use Rattle.price.specs.Bounds.{nodesMost}
 use Rattle.price.specs.Test.{choose}
 use Rattle.price.specs.Lists.{has, upTo}
-use Rattle.search.specs.Block.{Block}
 use Rattle.search.specs.Replies.{sinksMost}
 use Rattle.job.specs.Job.{Job, nets, jobOf, plainTerms}
 use Rattle.job.specs.Join.{listedPlaces, entriesAt, taking, placesBefore, joined}
 use Rattle.job.specs.Steps.{AllBelow}
 use Rattle.job.specs.Tables.{netsMost}
-use Rattle.job.specs.declared.Terms.{Terms}
 
 -- What joining asks of tables 5 to 7. A sound job's have it.
 pub record Joinable (sources firstSinks sinks : List ℕ) : Type 0 where
@@ -27,7 +26,7 @@ pub record Joinable (sources firstSinks sinks : List ℕ) : Type 0 where
 
 -- the tables as a job of no block, since places depend on these three tables alone
 abbrev pub netsOnly : List ℕ → List ℕ → List ℕ → Job
-netsOnly sources firstSinks sinks = jobOf [] [] [] [] sources firstSinks sinks (plainTerms 1)
+netsOnly sources firstSinks sinks = jobOf [] [] [] [] sources firstSinks sinks [] [] (plainTerms 1)
 
 -- how many sinks net k lists
 abbrev pub listedCount : List ℕ → ℕ → ℕ
@@ -62,15 +61,14 @@ pub record JoinRoom (sinks seen places : List ℕ) : Type 0 where
   pub seen-room : nodesMost ≤ length seen
   pub places-room : length sinks ≤ length places
 
--- the job of a block, of three tables and of terms
-abbrev pub netsJob : Block → List ℕ → List ℕ → List ℕ → Terms → Job
-netsJob block sources firstSinks sinks terms =
-    record { block = block; sources = sources; firstSinks = firstSinks; sinks = sinks; terms = terms }
-
--- tables 6 and 7 of the joined nets, whatever the block and the terms: each stands at the front of its list
-pub record JoinedTables (sources firstSinks sinks firsts joint : List ℕ) (count : ℕ) : Type 0 where
+-- Tables 6 and 7 of the joined nets, in a timed job table 10 too: each stands at the front of its list. They depend on no other table.
+pub record JoinedTables (sources firstSinks sinks criticalities : List ℕ) (timed : Bool) (firsts joint jointly : List ℕ) (count : ℕ)
+    : Type 0 where
   pub few : count ≤ length sinks
   pub within : count ≤ length joint
+  pub criticalities-within : count ≤ length jointly
   pub ends-within : length sources + 1 ≤ length firsts
-  pub firsts-are : (b : Block) (t : Terms) → take (length sources + 1) firsts ≡ joined (netsJob b sources firstSinks sinks t) .firstSinks
-  pub sinks-are : (b : Block) (t : Terms) → take count joint ≡ joined (netsJob b sources firstSinks sinks t) .sinks
+  pub firsts-are : take (length sources + 1) firsts ≡ joined (netsOnly sources firstSinks sinks) .firstSinks
+  pub sinks-are : take count joint ≡ joined (netsOnly sources firstSinks sinks) .sinks
+  pub criticalities-are :
+      timed ≡ true → take count jointly ≡ entriesAt criticalities (placesBefore (netsOnly sources firstSinks sinks) (length sources))

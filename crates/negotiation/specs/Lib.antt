@@ -1,4 +1,5 @@
 pub mod Records
+pub mod Order
 pub mod Routable
 pub mod JoinedNets
 pub mod Machine
@@ -9,6 +10,7 @@ pub mod Longer
 pub mod Resume
 pub mod Resumed
 pub mod TariffSteps
+pub mod OrderSteps
 pub mod Steps
 pub mod Kept
 pub mod JoinSteps

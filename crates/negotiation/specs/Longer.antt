@@ -1,14 +1,14 @@
 -- Request 2.6: a job called again with another limit of iterations, or with a log of another length, and how the two answers and logs
 -- compare. Each of the two calls is lent its own work slice and log.
 -- Assumes nothing.
-use mathlib.Core.Bool.{true}
+use mathlib.Core.Bool.{true, false}
 use mathlib.Core.List.{List, [], _∷_, _++_}
 use mathlib.Core.Path.{_≡_}
 use Prim.Native.Nat.{ℕ, _≤_, _<_}
 use lib.ListN.{length, take}
 use Rattle.search.specs.Replies.{workNeeded}
 use Rattle.job.specs.Job.{Job, nodes}
-use Rattle.job.specs.Tables.{limitSound}
+use Rattle.job.specs.Tables.{limitSound, exceeds}
 use Rattle.job.specs.Join.{joined}
 use Rattle.negotiation.specs.Records.{Record, encode, fitting}
 use Rattle.negotiation.specs.Outcome.{RouteReply, wordsUsed, turnsLogged, begun, allRecords, routeReply}
@@ -21,8 +21,21 @@ withLimit j limit =
       sources = j .sources;
       firstSinks = j .firstSinks;
       sinks = j .sinks;
-      terms = record { limit = limit; tuning = j .terms .tuning; rule = j .terms .rule; until = j .terms .until };
+      delays = j .delays;
+      criticalities = j .criticalities;
+      terms = record {
+        limit = limit;
+        tuning = j .terms .tuning;
+        rule = j .terms .rule;
+        until = j .terms .until;
+        timed = j .terms .timed;
+      };
     }
+
+-- an allowed limit: 1 to 100, of a timed job at most 40
+pub record AllowedLimit (j : Job) (limit : ℕ) : Type 0 where
+  pub sound : limitSound limit ≡ true
+  pub within : exceeds (nodes j) (withLimit j limit .terms) ≡ false
 
 -- "work and log long enough": 8 × nodes entries, and the words of all turns of its joined nets
 pub record LongEnough (j : Job) (work log : List ℕ) : Type 0 where
@@ -55,7 +68,7 @@ pub record LimitRaised (low high : ℕ) (a b : RouteReply) : Type 0 where
 -- "for one job under two allowed limits, with work and log long enough for both"
 abbrev pub LimitsCompared : (j : Job) (low high : ℕ) (work log work′ log′ : List ℕ) → Type 0
 LimitsCompared j low high work log work′ log′ =
-    limitSound low ≡ true → limitSound high ≡ true → low ≤ high
+    AllowedLimit j low → AllowedLimit j high → low ≤ high
     → LongEnough (withLimit j low) work log → LongEnough (withLimit j high) work′ log′
     → LimitRaised low high (routeReply (withLimit j low) work log) (routeReply (withLimit j high) work′ log′)
 

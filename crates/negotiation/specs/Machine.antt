@@ -10,6 +10,7 @@ use Rattle.price.specs.Lists.{every, has, upTo, countBelow}
 use Rattle.price.specs.Prices.{nextFactor, nextHistory}
 use Rattle.search.specs.Turn.{Congestion, congestionOf, priceAt, Turn, joins, stuck, turn}
 use Rattle.job.specs.Job.{Job, nodes, nets, source, netSinks}
+use Rattle.negotiation.specs.Order.{turnSinks, turnCongestion}
 use Rattle.negotiation.specs.Records.{Record, pathNodes}
 use Rattle.job.specs.declared.Terms.{Terms}
 
@@ -40,14 +41,14 @@ marksOf j tree = upTo (λ v. choose (has v tree) 1 0) (nodes j)
 unfoldable pub congestionFor : Job → State → ℕ → Congestion
 congestionFor j s i = congestionOf (s .factor) (s .histories) (upTo (othersOf j (s .trees) i) (nodes j))
 
--- one turn of net i with this tree in an iteration
+-- one turn of net i with this tree in an iteration; by request 2.9 a timed job's is for the sink whose turn it is
 unfoldable pub turnOf : Job → Congestion → ℕ → List ℕ → Turn
-turnOf j c i tree = turn (j .block) (priceAt (j .block) c) (marksOf j tree) (netSinks j i)
+turnOf j c i tree = turn (j .block) (priceAt (j .block) (turnCongestion j c i tree)) (marksOf j tree) (turnSinks j i tree)
 
 -- a turn that joins is logged, "Its nodes join the tree", and the net goes on with the rest
 abbrev pub logTurn : Job → ℕ → ℕ → List ℕ → Turn → (List ℕ → List Record) → List Record
 logTurn j t i tree (joins place cost path) rest =
-    record { iteration = t; net = i; sink = getD (netSinks j i) place 0; cost = cost; path = path } ∷ rest (tree ++ path)
+    record { iteration = t; net = i; sink = getD (turnSinks j i tree) place 0; cost = cost; path = path } ∷ rest (tree ++ path)
 logTurn j t i tree stuck rest = []
 
 -- so many turns of net i, at most, from this tree

@@ -11,7 +11,7 @@ use Rattle.search.specs.Distance.{far, distance}
 use Rattle.search.specs.Turn.{priceAt}
 use Rattle.search.specs.Replies.{workNeeded, cleared}
 use Rattle.job.specs.Job.{Job, nodes, nets, source, netSinks}
-use Rattle.job.specs.Tables.{faultyJob}
+use Rattle.job.specs.Tables.{faultyJob, exceeds}
 use Rattle.job.specs.Join.{joined}
 use Rattle.negotiation.specs.Records.{Record, encode, decode, fitting}
 use Rattle.negotiation.specs.Machine.{State, Progress, marksOf, congestionFor, overCount}
@@ -79,7 +79,7 @@ wordsUsed r = take (r .used) (r .log)
 abbrev pub turnsLogged : RouteReply → List Record
 turnsLogged r = decode (wordsUsed r)
 
--- 01's numbers for each case of the outcome, and request 2.8's 14, beside iteration and turns
+-- 01's numbers for each case of the outcome, request 2.8's 14 and 2.9's 15, beside iteration and turns
 abbrev pub routeRefusal : Outcome → ℕ → ℕ → List ℕ
 routeRefusal o.Accepted iteration turns = []
 routeRefusal (o.Unreachable net place) iteration turns = 7 ∷ net ∷ place ∷ []
@@ -88,6 +88,7 @@ routeRefusal (o.Limit over) iteration turns = 9 ∷ iteration ∷ over ∷ []
 routeRefusal (o.BadTable table) iteration turns = 5 ∷ table ∷ []
 routeRefusal (o.ShortWork needed) iteration turns = 6 ∷ needed ∷ []
 routeRefusal (o.Diverges word) iteration turns = 14 ∷ word ∷ []
+routeRefusal (o.TooLarge count limit) iteration turns = 15 ∷ count ∷ limit ∷ []
 
 -- the answer with work slice and log at the call's end, as one value
 abbrev pub routeReplyOf : RouteAnswer → List ℕ → List ℕ → RouteReply
@@ -158,12 +159,14 @@ reachedReply j work log run =
     (refusedReply (7 ∷ unreachableNet j ∷ unreachablePlace j ∷ []) (cleared (nodes j) [] work) log)
     run
 
--- the same of a job as it is given, whose tables are tested with its nets as listed
+-- the same of a job as it is given, whose tables are tested with its nets as listed. Request 2.9: "number 15 with the node count and the
+-- limit when a timed job exceeds either, after 5"
 abbrev pub tested : Job → List ℕ → List ℕ → RouteReply → RouteReply
 tested j work log run =
     choose (leb 1 (faultyJob j)) (refusedReply (5 ∷ faultyJob j ∷ []) work log)
+    (choose (exceeds (nodes j) (j .terms)) (refusedReply (15 ∷ nodes j ∷ j .terms .limit ∷ []) work log)
     (choose (ltb (length work) (workNeeded (nodes j))) (refusedReply (6 ∷ workNeeded (nodes j) ∷ []) work log)
-    (reachedReply (joined j) work log run))
+    (reachedReply (joined j) work log run)))
 
 -- "The router tests 5, 6, 7, then 8 and 9 as they arise", and by request 2.3 "Negotiation and all of demand 3 are those of joined nets"
 unfoldable pub routeReply : Job → List ℕ → List ℕ → RouteReply

@@ -16,6 +16,7 @@ use Rattle.search.specs.Replies.{cleared}
 use Rattle.job.specs.Job.{Job, nodes, nets, netSinks}
 use Rattle.job.specs.Join.{joined}
 use Rattle.negotiation.specs.Records.{Record, recordOf, encode}
+use Rattle.negotiation.specs.Order.{turnSinks, turnCongestion}
 use Rattle.negotiation.specs.Machine.{State, Progress, congestionFor, treeFrom, withNet, due, overCount, moveOn, firstState}
 use Rattle.negotiation.specs.Machine.{recordsAfter, settlesAt}
 use Rattle.negotiation.specs.Outcome.{RouteReply, refusedReply, continued, negotiated, tested}
@@ -53,20 +54,25 @@ unfoldable pub noOther : List ℕ → List ℕ → ℕ → List ℕ → Bool
 noOther sinks tree sink path = every (λ v. either (eqb v sink) (not (unjoined sinks tree v))) path
 
 -- "each turn a path along edges, no node twice, its first node alone in the tree, its last the record's sink, unjoined, with no other
--- unjoined sink on it". Nothing asks that the path be cheapest or the sink nearest.
+-- unjoined sink on it". Nothing asks that the path be cheapest or the sink nearest. Request 2.9: in a timed job "a resumed record must join
+-- that sink", the one whose turn it is, "and any path may pass other unjoined ones"
 unfoldable pub pathFollows : Job → ℕ → List ℕ → ℕ → List ℕ → Bool
 pathFollows j i tree sink path =
     both (neighbours (hasEdge (j .block)) path)
     (both (distinct path)
     (both (firstAlone tree path)
     (both (endsAt sink path)
-    (both (unjoined (netSinks j i) tree sink)
-    (noOther (netSinks j i) tree sink path)))))
+    (both (unjoined (turnSinks j i tree) tree sink)
+    (noOther (turnSinks j i tree) tree sink path)))))
 
 -- "its cost the sum of its prices": the two words of a cost are that cost's
 unfoldable pub costFollows : (ℕ → ℕ) → List ℕ → Bool
 costFollows price ws =
     both (eqb (getD ws 3 0) (pathCost price (pathIn ws) % 2 ^ 32)) (eqb (getD ws 4 0) (pathCost price (pathIn ws) / 2 ^ 32))
+
+-- what a node costs in the next turn of net i, which has this tree, in this state
+abbrev pub turnPrice : Job → State → ℕ → List ℕ → ℕ → ℕ
+turnPrice j s i tree = priceAt (j .block) (turnCongestion j (congestionFor j s i) i tree)
 
 -- the words begin with a turn of net i, which has this tree, in this state
 unfoldable pub turnFollows : Job → State → ℕ → List ℕ → List ℕ → Bool
@@ -75,7 +81,7 @@ turnFollows j s i tree ws =
     (both (eqb (getD ws 0 0) (s .iteration))
     (both (eqb (getD ws 1 0) i)
     (both (pathFollows j i tree (getD ws 2 0) (pathIn ws))
-    (costFollows (priceAt (j .block) (congestionFor j s i)) ws))))
+    (costFollows (turnPrice j s i tree) ws))))
 
 -- ---- the log, record after record
 
@@ -106,7 +112,7 @@ replayTurns j ws i p zero made = choose (allJoined j i made) (on (withNet j i p 
 replayTurns j ws i p (suc k) made =
     choose (allJoined j i made) (on (withNet j i p made))
     (choose (turnFollows j (p .state) i (treeFrom j i made) (after ws (p .records ++ made)))
-    (replayTurns j ws i p k (made ++ (recordIn (priceAt (j .block) (congestionFor j (p .state) i)) (after ws (p .records ++ made)) ∷ [])))
+    (replayTurns j ws i p k (made ++ (recordIn (turnPrice j (p .state) i (treeFrom j i made)) (after ws (p .records ++ made)) ∷ [])))
     (offAfter (p .records ++ made)))
 
 -- "the nets due to be routed, in order": the first nets of an iteration from state s, after these records

@@ -1,12 +1,13 @@
 -- What the private functions that take up a lent log do: each record is tested in one pass over its path, with marks for the nodes of the
--- tree and those passed, and goals for the net's sinks. Only their contracts cite this file: no caller has to believe it.
+-- tree and those passed, and goals for the sinks that the turn tries. Only their contracts cite this file: no caller has to believe it.
 -- Assumes nothing.
-use mathlib.Core.Bool.{Bool, false}
+use mathlib.Core.Bool.{Bool, true, false}
 use mathlib.Core.List.{List, [], _∷_}
 use mathlib.Core.Path.{_≡_}
 use Prim.Native.Nat.{ℕ, _+_, _/_, _%_, _^_, _≤_, _<_}
 use lib.Dec.{eqb, leb}
 use lib.ListN.{length, getD, set}
+use Rattle.price.specs.Bounds.{timedNodesMost}
 use Rattle.price.specs.Test.{choose, both}
 use Rattle.search.specs.Block.{Block, nodes, hasEdge}
 use Rattle.search.specs.Tables.{Sound}
@@ -40,7 +41,8 @@ passCost b price goals marks (u ∷ rest) = choose (eqb (getD marks u 0) 1) (ste
 -- a turn can be tested: tables and numbers keep their rules, each node has its mark and goal, and the place is within the log
 pub record RecordReady (b : Block) (c : Congestion) (goals marks log : List ℕ) (at : ℕ) : Type 0 where
   pub sound : Sound b
-  pub prices : (v : ℕ) → v < nodes b → PriceReady (b .kinds) (b .capacities) (c .histories) (c .others) (c .factor) v
+  pub prices : (v : ℕ) → v < nodes b → PriceReady (b .kinds) (b .capacities) c v
+  pub nodes-few : c .weighting .timed ≡ true → nodes b ≤ timedNodesMost
   pub marks-long : length marks ≡ nodes b
   pub goals-long : length goals ≡ nodes b
   pub within : at ≤ length log

@@ -11,14 +11,14 @@ use Rattle.price.specs.Lists.{has}
 use Rattle.price.specs.Prices.{factorAt}
 use Rattle.search.specs.Replies.{workNeeded}
 use Rattle.job.specs.Job.{Job, nodes, nets}
-use Rattle.job.specs.Tables.{limitSound, SoundJob}
+use Rattle.job.specs.Tables.{SoundJob}
 use Rattle.job.specs.Join.{joined}
 use Rattle.negotiation.specs.Records.{Record, encode, decode}
 use Rattle.negotiation.specs.Machine.{Progress, treeAt}
 use Rattle.negotiation.specs.Outcome.{RouteReply, wordsUsed, turnsLogged, routeReply}
 use Rattle.negotiation.specs.Unreachable.{AllReachable}
 use Rattle.negotiation.specs.Demand.{treeRead, historyRead, TurnHolds, FinalTrees}
-use Rattle.negotiation.specs.Longer.{withLimit, SameLog}
+use Rattle.negotiation.specs.Longer.{withLimit, AllowedLimit, SameLog}
 use Rattle.negotiation.specs.Resume.{on, replay, OwnLog, resumeReply}
 
 -- ---- this job's own log
@@ -40,7 +40,7 @@ OwnResumed j m used work log = OwnLog (joined j) m used log → EndsStraight j u
 -- is long enough, end as the straight run under that limit
 abbrev pub ResumedAfterLimit : (j : Job) (low high : ℕ) (work log work′ : List ℕ) → Type 0
 ResumedAfterLimit j low high work log work′ =
-    (over : ℕ) → routeReply (withLimit j low) work log .refusal ≡ 9 ∷ low ∷ over ∷ [] → limitSound high ≡ true → low < high
+    (over : ℕ) → routeReply (withLimit j low) work log .refusal ≡ 9 ∷ low ∷ over ∷ [] → AllowedLimit j high → low < high
     → workNeeded (nodes j) ≤ length work′
     → resumeReply (withLimit j high) (routeReply (withLimit j low) work log .used) work′ (routeReply (withLimit j low) work log .log)
     ≡ routeReply (withLimit j high) work′ log

@@ -5,13 +5,22 @@ use mathlib.Core.Bool.{true, false}
 use mathlib.Core.Path.{_≡_}
 use Prim.Native.Nat.{ℕ, _+_, _≤_, _<_}
 use lib.ListN.{length, getD}
-use Rattle.price.specs.Bounds.{limitMost}
+use Rattle.price.specs.Bounds.{limitMost, delayMost, criticalityMost, timedNodesMost, timedLimitMost}
 use Rattle.price.specs.Lists.{has}
 use Rattle.price.specs.Tuning.{tuningSound}
 use Rattle.search.specs.Tables.{Sound}
 use Rattle.search.specs.Replies.{sinksMost}
 use Rattle.job.specs.Job.{Job, nodes, nets, source, netSinks}
 use Rattle.job.specs.Tables.{netsMost}
+
+-- what a timed job rests on besides
+pub record Timing (j : Job) : Type 0 where
+  pub delays-long : length (j .delays) ≡ nodes j
+  pub delay-most : (v : ℕ) → v < nodes j → getD (j .delays) v 0 ≤ delayMost
+  pub criticalities-long : length (j .criticalities) ≡ length (j .sinks)
+  pub criticality-most : (p : ℕ) → p < length (j .sinks) → getD (j .criticalities) p 0 ≤ criticalityMost
+  pub nodes-few : nodes j ≤ timedNodesMost
+  pub limit-low : j .terms .limit ≤ timedLimitMost
 
 -- A sound job has it. So has a job of which some nets have no sinks: its table 6 never falls, where that of a sound job strictly rises.
 pub record Routable (j : Job) : Type 0 where
@@ -28,3 +37,4 @@ pub record Routable (j : Job) : Type 0 where
   pub limit-few : j .terms .limit ≤ limitMost
   pub tuning-sound : tuningSound (j .terms .tuning) ≡ true
   pub until-some : 1 ≤ j .terms .until
+  pub timing : j .terms .timed ≡ true → Timing j

@@ -1,11 +1,13 @@
--- Document 01, "Sample jobs": the starred jobs, given as tables.
+-- Document 01, "Sample jobs": the starred jobs, given as tables; and one of request 2.9, timed and not.
 -- Assumes nothing.
+use mathlib.Core.Bool.{Bool, true, false}
 use mathlib.Core.List.{List, [], _∷_, _++_}
 use Prim.Native.Nat.{ℕ}
 use lib.ListN.{replicate}
 use Rattle.price.specs.Samples.{Sample}
+use Rattle.price.specs.Tuning.{plain}
 use Rattle.search.specs.Block.{blockOf}
-use Rattle.job.specs.Job.{Job, plainTerms}
+use Rattle.job.specs.Job.{Job, plainTerms, jobOf}
 use Rattle.negotiation.specs.Outcome.{RouteReply, wordsUsed, routeReply}
 
 -- job B, under a limit
@@ -20,6 +22,8 @@ jobB limit =
       sources = 0 ∷ 1 ∷ [];
       firstSinks = 0 ∷ 1 ∷ 2 ∷ [];
       sinks = 4 ∷ 5 ∷ [];
+      delays = [];
+      criticalities = [];
       terms = plainTerms limit;
     }
 
@@ -31,6 +35,8 @@ jobC =
       sources = 0 ∷ [];
       firstSinks = 0 ∷ 2 ∷ [];
       sinks = 3 ∷ 2 ∷ [];
+      delays = [];
+      criticalities = [];
       terms = plainTerms 1;
     }
 
@@ -42,6 +48,8 @@ jobCut =
       sources = 0 ∷ [];
       firstSinks = 0 ∷ 2 ∷ [];
       sinks = 3 ∷ 2 ∷ [];
+      delays = [];
+      criticalities = [];
       terms = plainTerms 1;
     }
 
@@ -53,8 +61,24 @@ jobDiamond =
       sources = 0 ∷ [];
       firstSinks = 0 ∷ 1 ∷ [];
       sinks = 3 ∷ [];
+      delays = [];
+      criticalities = [];
       terms = plainTerms 1;
     }
+
+-- request 2.9: one net with a delay for each node and a criticality for each sink
+abbrev pub jobWeighed : Bool → Job
+jobWeighed timed =
+    jobOf (0 ∷ 4 ∷ 5 ∷ 1 ∷ 3 ∷ 1 ∷ [])
+    (1 ∷ 2 ∷ 2 ∷ 2 ∷ 2 ∷ 2 ∷ [])
+    (0 ∷ 2 ∷ 5 ∷ 8 ∷ 8 ∷ 9 ∷ 9 ∷ [])
+    (1 ∷ 2 ∷ 3 ∷ 4 ∷ 5 ∷ 1 ∷ 3 ∷ 5 ∷ 5 ∷ [])
+    (0 ∷ [])
+    (0 ∷ 3 ∷ [])
+    (5 ∷ 3 ∷ 4 ∷ [])
+    (0 ∷ 900 ∷ 10 ∷ 0 ∷ 5 ∷ 1000 ∷ [])
+    (2 ∷ 9 ∷ 9 ∷ [])
+    (record { limit = 2; tuning = plain; rule = 1; until = 1; timed = timed })
 
 -- what a call with enough work memory and so long a log answers and logs: the refusal's numbers; iteration, turns, words used; these words
 abbrev pub answerOf : RouteReply → List ℕ
@@ -129,5 +153,31 @@ lowestFirst =
       defined = answer jobDiamond 40;
     }
 
+-- "Sinks go by falling criticality, ties as listed"
+abbrev pub criticalFirst : Sample
+criticalFirst =
+    record {
+      stated =
+          1 ∷ 3 ∷ 26
+          ∷ 1 ∷ 0 ∷ 3 ∷ 15000 ∷ 0 ∷ 3 ∷ 0 ∷ 2 ∷ 3
+          ∷ 1 ∷ 0 ∷ 4 ∷ 818400 ∷ 0 ∷ 3 ∷ 0 ∷ 1 ∷ 4
+          ∷ 1 ∷ 0 ∷ 5 ∷ 216000 ∷ 0 ∷ 2 ∷ 1 ∷ 5
+          ∷ [];
+      defined = answer (jobWeighed true) 60;
+    }
+
+-- the same job untimed
+abbrev pub unweighed : Sample
+unweighed =
+    record {
+      stated =
+          1 ∷ 3 ∷ 25
+          ∷ 1 ∷ 0 ∷ 4 ∷ 3900 ∷ 0 ∷ 3 ∷ 0 ∷ 1 ∷ 4
+          ∷ 1 ∷ 0 ∷ 5 ∷ 2000 ∷ 0 ∷ 2 ∷ 1 ∷ 5
+          ∷ 1 ∷ 0 ∷ 3 ∷ 2000 ∷ 0 ∷ 2 ∷ 1 ∷ 3
+          ∷ [];
+      defined = answer (jobWeighed false) 60;
+    }
+
 unfoldable pub samples : List Sample
-samples = settled ∷ limited ∷ filled ∷ nearestFirst ∷ cutOff ∷ lowestFirst ∷ []
+samples = settled ∷ limited ∷ filled ∷ nearestFirst ∷ cutOff ∷ lowestFirst ∷ criticalFirst ∷ unweighed ∷ []

@@ -13,8 +13,9 @@ use Rattle.price.specs.Bounds.{factorMost}
 use Rattle.search.specs.Block as block
 use Rattle.search.specs.Block.{Block}
 use Rattle.search.specs.Tables.{Sound}
-use Rattle.search.specs.Turn.{Congestion, congestionOf, Turn, joins, stuck}
+use Rattle.search.specs.Turn.{Congestion, Turn, joins, stuck}
 use Rattle.search.specs.Replies.{nodeSound, sinkListSound}
+use Rattle.search.specs.Ready.{Weighable}
 use Rattle.job.specs.Job.{Job, nets, jobOf}
 use Rattle.negotiation.specs.Routable.{Routable}
 use Rattle.negotiation.specs.Outcome.{unreachableNet, unreachablePlace}
@@ -68,6 +69,7 @@ pub record TurnReady (b : Block) (c : Congestion) (marks work : List ℕ) : Type
   pub enough : 8 * block.nodes b ≤ length work
   pub numbers : (v : ℕ) → v < block.nodes b → nodeSound c marks v ≡ true
   pub factor-most : c .factor ≤ factorMost
+  pub weighable : c .weighting .timed ≡ true → Weighable (block.nodes b) c
 
 -- the answer of the test before iteration 1: net and place of the first sink without a path, none where every sink has one
 abbrev pub missing : Job → List ℕ
@@ -77,19 +79,21 @@ abbrev pub reachNumbers : Reach → List ℕ
 reachNumbers All = []
 reachNumbers (Missing net place) = net ∷ place ∷ []
 
--- a capacity table and terms with which a job of these tables can be routed
+-- tables 2, 9 and 10 and terms with which a job of these tables can be routed
 pub record RoutableWith (kinds firstEdges edgeTargets sources firstSinks sinks : List ℕ) : Type 0 where
   pub capacities : List ℕ
+  pub delays : List ℕ
+  pub criticalities : List ℕ
   pub terms : Terms
-  pub routable : Routable (jobOf kinds capacities firstEdges edgeTargets sources firstSinks sinks terms)
+  pub routable : Routable (jobOf kinds capacities firstEdges edgeTargets sources firstSinks sinks delays criticalities terms)
 
--- the test answers for every capacity table and terms with which a job of these tables can be routed: whether a path is there depends on
--- neither
+-- the test answers for every tables 2, 9 and 10 and terms with which a job of these tables can be routed: whether a path is there depends
+-- on none of them
 abbrev pub FirstMissing : (kinds firstEdges edgeTargets sources firstSinks sinks : List ℕ) → Reach → Type 0
 FirstMissing kinds firstEdges edgeTargets sources firstSinks sinks found =
-    (capacities : List ℕ) (terms : Terms)
-    → Routable (jobOf kinds capacities firstEdges edgeTargets sources firstSinks sinks terms)
-    → reachNumbers found ≡ missing (jobOf kinds capacities firstEdges edgeTargets sources firstSinks sinks terms)
+    (capacities delays criticalities : List ℕ) (terms : Terms)
+    → Routable (jobOf kinds capacities firstEdges edgeTargets sources firstSinks sinks delays criticalities terms)
+    → reachNumbers found ≡ missing (jobOf kinds capacities firstEdges edgeTargets sources firstSinks sinks delays criticalities terms)
 
 -- ---- a net's old and new tree
 
@@ -242,8 +246,8 @@ TurnDone Full t tariff net sinks log marks log′ marks′ = Overflows t tariff 
 TurnDone (Logged tariff′) t tariff net sinks log marks log′ marks′ = TurnLogged t tariff net sinks log marks tariff′ log′ marks′
 
 -- a turn can be made: nothing is refused, the words written are within the log, and no count overflows
-pub record CanTurn (b : Block) (tariff : Tariff) (net : ℕ) (sinks history users marks work log : List ℕ) : Type 0 where
-  pub ready : TurnReady b (congestionOf (tariff .factor) history users) marks work
+pub record CanTurn (b : Block) (c : Congestion) (tariff : Tariff) (sinks marks work log : List ℕ) : Type 0 where
+  pub ready : TurnReady b c marks work
   pub marks-long : length marks ≡ block.nodes b
   pub sinks-sound : sinkListSound (block.nodes b) sinks ≡ true
   pub within : tariff .words ≤ length log

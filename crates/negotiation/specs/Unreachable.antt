@@ -1,6 +1,6 @@
 -- Which sinks have a path from their source, and what refusal 7 says of a job.
 -- Assumes nothing.
-use mathlib.Core.Bool.{true}
+use mathlib.Core.Bool.{true, false}
 use mathlib.Core.List.{List, [], _∷_}
 use mathlib.Core.Path.{_≡_}
 use Prim.Native.Nat.{ℕ, _≤_, _<_}
@@ -9,7 +9,7 @@ use Rattle.price.specs.Lists.{has}
 use Rattle.search.specs.Paths.{Walk}
 use Rattle.search.specs.Replies.{workNeeded}
 use Rattle.job.specs.Job.{Job, nodes, nets, source, netSinks}
-use Rattle.job.specs.Tables.{SoundJob}
+use Rattle.job.specs.Tables.{SoundJob, exceeds}
 use Rattle.job.specs.Join.{joined}
 use Rattle.negotiation.specs.Outcome.{routeReply}
 
@@ -29,10 +29,11 @@ pub record FirstUnreachable (j : Job) (net place : ℕ) : Type 0 where
   pub sinks-before : (p : ℕ) → p < place → Reachable j net (getD (netSinks j net) p 0)
   pub nets-before : (i s : ℕ) → i < net → has s (netSinks j i) ≡ true → Reachable j i s
 
--- what refusal 7 means, and that every job with sound tables and enough work memory of which this is so is refused by it. Request 2.3: "7
--- gives the first net's number and the place among its joined sinks"
+-- what refusal 7 means, and that every job with sound tables and enough work memory, not too large, of which this is so is refused by it.
+-- Request 2.3: "7 gives the first net's number and the place among its joined sinks"
 pub record UnreachableRefused (j : Job) (work log : List ℕ) : Type 0 where
   pub means : (net place : ℕ) → routeReply j work log .refusal ≡ 7 ∷ net ∷ place ∷ [] → FirstUnreachable (joined j) net place
   pub given :
-      SoundJob j → workNeeded (nodes j) ≤ length work → (net place : ℕ) → FirstUnreachable (joined j) net place
+      SoundJob j → exceeds (nodes j) (j .terms) ≡ false → workNeeded (nodes j) ≤ length work → (net place : ℕ)
+      → FirstUnreachable (joined j) net place
       → routeReply j work log .refusal ≡ 7 ∷ net ∷ place ∷ []

@@ -1,15 +1,16 @@
 // Taking up a lent log: whether a record's path follows the job, in one pass over it.
+ghost use mathlib.Core.Bool.{true};
 ghost use mathlib.Core.List.{[], _∷_};
 ghost use mathlib.Core.Path.{_≡_};
 ghost use Prim.Native.Nat.{_+_, _≤_, _<_};
 ghost use lib.Dec.{ltb};
 ghost use lib.ListN.{length, getD, drop};
 ghost use lib.Seq.{slice};
-ghost use Rattle.price.specs.Bounds.{priceMost};
 ghost use Rattle.price.specs.Test.{choose};
+ghost use Rattle.price.specs.Timed.{weighedMost};
 ghost use Rattle.search.specs.Block.{blockOf, graphOf, hasEdge};
 ghost use Rattle.search.specs.Tables.{Graph};
-ghost use Rattle.search.specs.Turn.{congestionOf, priceAt};
+ghost use Rattle.search.specs.Turn.{weighedCongestion, priceAt};
 ghost use Rattle.search.specs.Frontier.{PriceReady};
 ghost use Rattle.negotiation.specs.Resume.{pathIn};
 ghost use Rattle.negotiation.specs.ResumeSteps.{stepPasses, passCost, RecordReady, PassReady, costsOf, PathMarked};
@@ -17,6 +18,7 @@ ghost use Rattle.negotiation.specs.ResumeSteps.{costIs, frameFollows, tu
 ghost use Rattle.job.specs.Steps.{Stored};
 use crate::tariff::Tariff;
 use price::PriceAnswer;
+use price::Weighting;
 
 // What a pass over a path gives.
 pub enum PathCost {
@@ -42,26 +44,40 @@ fn has_edge(kind: &[u8], first_edge: &[u32], edge_target: &[u16], u: usize, v: u
     false
 }
 
+// The delay of node v; it is read only where it is weighed.
+fn delay_at(weighting: Weighting, delay: &[u16], v: usize) -> u32
+    requires { ⌜ (weighting .timed ≡ true → v < length (now delay)) ⌝ }
+    ensures { λ r. ⌜ (weighting .timed ≡ true → r ≡ getD (now (delay .entry)) v 0) ⌝ }
+{
+    if weighting.timed {
+        return delay[v] as u32;
+    }
+    0
+}
+
 // The price of node v.
 fn node_price(
     kind: &[u8],
     capacity: &[u8],
     history: &[u32],
     others: &[u16],
+    weighting: Weighting,
+    delay: &[u16],
     factor: u32,
     v: usize,
 ) -> u64
-    requires { ⌜ PriceReady (now kind) (now capacity) (now history) (now others) factor v ⌝ }
+    requires { ⌜ PriceReady (now kind) (now capacity) (weighedCongestion weighting (now delay) factor (now history) (now others)) v ⌝ }
     ensures { λ r. do
       let block = blockOf (now (kind .entry)) (now (capacity .entry)) [] []
-      let congestion = congestionOf factor (now (history .entry)) (now (others .entry))
-      ⌜ (r ≡ priceAt block congestion v) × (r ≤ priceMost) ⌝ }
+      let congestion = weighedCongestion weighting (now (delay .entry)) factor (now (history .entry)) (now (others .entry))
+      ⌜ (r ≡ priceAt block congestion v) × (r ≤ weighedMost weighting) ⌝ }
 {
     let k = kind[v] as u32;
     let c = capacity[v] as u32;
     let h = history[v];
     let o = others[v] as u32;
-    let PriceAnswer::Price(p) = price::price(k, factor, o, c, h) else {
+    let d = delay_at(weighting, delay, v);
+    let PriceAnswer::Price(p) = price::weighed_price(weighting, k, factor, o, c, h, d) else {
         return 0;
     };
     p
@@ -107,6 +123,8 @@ pub fn path_cost(
     capacity: &[u8],
     first_edge: &[u32],
     edge_target: &[u16],
+    weighting: Weighting,
+    delay: &[u16],
     factor: u32,
     history: &[u32],
     users: &[u16],
@@ -118,11 +136,11 @@ pub fn path_cost(
 ) -> PathCost
     requires { do
       let block = blockOf (now kind) (now capacity) (now «first_edge») (now «edge_target»)
-      let congestion = congestionOf factor (now history) (now users)
+      let congestion = weighedCongestion weighting (now delay) factor (now history) (now users)
       ⌜ PassReady block congestion (now goals) (now «in_tree») (now log) from to ⌝ }
     ensures { λ r. do
       let block = blockOf (now (kind .entry)) (now (capacity .entry)) (now («first_edge» .entry)) (now («edge_target» .entry))
-      let congestion = congestionOf factor (now (history .entry)) (now (users .entry))
+      let congestion = weighedCongestion weighting (now (delay .entry)) factor (now (history .entry)) (now (users .entry))
       let path = slice from to (now (log .entry))
       ⌜ costsOf r ≡ passCost block (priceAt block congestion) (now (goals .entry)) (now («in_tree» .entry)) path ⌝ }
     ensures { λ r. ⌜ PathMarked r (slice from to (now (log .entry))) (now («in_tree» .entry)) (now («in_tree» .exit)) ⌝ }
@@ -142,7 +160,7 @@ pub fn path_cost(
         if !step_passes(kind, first_edge, edge_target, goals, in_tree, u, v, last) {
             return PathCost::Strays;
         }
-        cost += node_price(kind, capacity, history, users, factor, v);
+        cost += node_price(kind, capacity, history, users, weighting, delay, factor, v);
         in_tree[v] = 1;
         u = v;
         k += 1;
@@ -194,6 +212,8 @@ pub fn follow_turn(
     capacity: &[u8],
     first_edge: &[u32],
     edge_target: &[u16],
+    weighting: Weighting,
+    delay: &[u16],
     net: u32,
     tariff: Tariff,
     history: &[u32],
@@ -204,13 +224,13 @@ pub fn follow_turn(
 ) -> usize
     requires { do
       let block = blockOf (now kind) (now capacity) (now «first_edge») (now «edge_target»)
-      let congestion = congestionOf (tariff .factor) (now history) (now users)
+      let congestion = weighedCongestion weighting (now delay) (tariff .factor) (now history) (now users)
       ⌜ RecordReady block congestion (now goals) (now «in_tree») (now log) (tariff .words) ⌝ }
     ensures { λ r. do
       let block = blockOf (now (kind .entry)) (now (capacity .entry)) (now («first_edge» .entry)) (now («edge_target» .entry))
-      let price = priceAt block (congestionOf (tariff .factor) (now (history .entry)) (now (users .entry)))
+      let congestion = weighedCongestion weighting (now (delay .entry)) (tariff .factor) (now (history .entry)) (now (users .entry))
       let ws = drop (tariff .words) (now (log .entry))
-      let passes = turnPasses block price (now (goals .entry)) (now («in_tree» .entry)) (tariff .iteration) net ws
+      let passes = turnPasses block (priceAt block congestion) (now (goals .entry)) (now («in_tree» .entry)) (tariff .iteration) net ws
       ⌜ r ≡ choose passes (6 + getD ws 5 0) 0 ⌝ }
     ensures { λ r. do
       let ws = drop (tariff .words) (now (log .entry))
@@ -227,6 +247,8 @@ pub fn follow_turn(
         capacity,
         first_edge,
         edge_target,
+        weighting,
+        delay,
         factor,
         history,
         users,

@@ -1,4 +1,5 @@
 // Nets of one source are joined into the first of them.
+ghost use mathlib.Core.Bool.{true};
 ghost use mathlib.Core.Path.{_≡_};
 ghost use mathlib.Core.List.{List};
 ghost use Prim.Native.Nat.{ℕ, _+_, _-_, _≤_, _<_};
@@ -139,21 +140,43 @@ fn gather(table: &[u16], places: &[u16], count: usize, entries: &mut [u16])
     }
 }
 
-// Tables 6 and 7 of the joined nets, each at the front of what is lent for it. Answers how many sinks there are.
+// The same of a table of bytes.
+fn gather_bytes(table: &[u8], places: &[u16], count: usize, entries: &mut [u8])
+    requires { ⌜ (count ≤ length (now places)) × (count ≤ length (now entries)) ⌝ }
+    requires { ⌜ AllBelow (length (now table)) (take count (now places)) ⌝ }
+    ensures { λ _. ⌜ take count (now (entries .exit)) ≡ entriesAt (now (table .entry)) (take count (now (places .entry))) ⌝ }
+{
+    let mut k = 0;
+    while k < count {
+        let p = places[k] as usize;
+        entries[k] = table[p];
+        k += 1;
+    }
+}
+
+// Tables 6 and 7 of the joined nets, in a timed job table 10 too, each at the front of what is lent for it. Answers how many sinks there
+// are.
 pub fn joined_tables(
     source: &[u16],
     first_sink: &[u32],
     sink: &[u16],
+    criticality: &[u8],
+    timed: bool,
     firsts: &mut [u32],
     sinks: &mut [u16],
+    criticalities: &mut [u8],
 ) -> usize
     requires { ⌜ Joinable (now source) (now «first_sink») (now sink) ⌝ }
     requires { ⌜ (length (now source) + 1 ≤ length (now firsts)) × (length (now sink) ≤ length (now sinks)) ⌝ }
-    ensures { λ r. ⌜ JoinedTables (now (source .entry)) (now («first_sink» .entry)) (now (sink .entry))
-        (now (firsts .exit)) (now (sinks .exit)) r ⌝ }
+    requires { ⌜ (timed ≡ true → length (now criticality) ≡ length (now sink)) × (length (now sink) ≤ length (now criticalities)) ⌝ }
+    ensures { λ r. ⌜ JoinedTables (now (source .entry)) (now («first_sink» .entry)) (now (sink .entry)) (now (criticality .entry)) timed
+        (now (firsts .exit)) (now (sinks .exit)) (now (criticalities .exit)) r ⌝ }
 {
     let mut places = [0u16; SINKS_MOST];
     let count = join_nets(source, first_sink, sink, firsts, &mut places);
     gather(sink, &places, count, sinks);
+    if timed {
+        gather_bytes(criticality, &places, count, criticalities);
+    }
     count
 }

@@ -9,7 +9,6 @@ ghost use Rattle.negotiation.specs.Demand.{Demand3};
 ghost use Rattle.job.specs.Join.{joined};
 ghost use Rattle.negotiation.specs.Resume.{runFrom};
 ghost use Rattle.negotiation.specs.Resumed.{Resumed};
-ghost use Rattle.negotiation.specs.TakeSteps.{SinksOnce};
 
 // How a run ends.
 pub enum Outcome {
@@ -27,6 +26,8 @@ pub enum Outcome {
     ShortWork(u64),
     // 14: the record at this word of a lent log does not follow the job.
     Diverges(u64),
+    // 15: a timed job has too many nodes or too high a limit.
+    TooLarge { nodes: u32, limit: u32 },
 }
 
 // The answer: how the run ended, beside iteration, turns made and words used.
@@ -51,6 +52,7 @@ mod flood;
 mod follow;
 mod join;
 mod nets;
+mod order;
 mod reach;
 mod records;
 mod take_up;
@@ -84,17 +86,20 @@ fn route_joined(
     source: &[u16],
     first_sink: &[u32],
     sink: &[u16],
+    delay: &[u16],
+    criticality: &[u8],
     terms: Terms,
     start: Start,
     work: &mut [u64],
     log: &mut [u32],
 ) -> RouteAnswer
     requires { do
-      let job = jobOf (now kind) (now capacity) (now «first_edge») (now «edge_target») (now source) (now «first_sink») (now sink) terms
-      ⌜ Routable job × SinksOnce job × (8 * nodes job ≤ length (now work)) ⌝ }
+      let job = jobOf (now kind) (now capacity) (now «first_edge») (now «edge_target») (now source) (now «first_sink») (now sink)
+          (now delay) (now criticality) terms
+      ⌜ Routable job × (8 * nodes job ≤ length (now work)) ⌝ }
     ensures { λ r. do
       let job = jobOf (now (kind .entry)) (now (capacity .entry)) (now («first_edge» .entry)) (now («edge_target» .entry))
-          (now (source .entry)) (now («first_sink» .entry)) (now (sink .entry)) terms
+          (now (source .entry)) (now («first_sink» .entry)) (now (sink .entry)) (now (delay .entry)) (now (criticality .entry)) terms
       let run = runFrom start job (now (work .entry)) (now (log .entry))
       ⌜ routeReplyOf r (now (work .exit)) (now (log .exit)) ≡ reachedReply job (now (work .entry)) (now (log .entry)) run ⌝ }
 {
@@ -122,6 +127,8 @@ fn route_joined(
             source,
             first_sink,
             sink,
+            delay,
+            criticality,
             terms,
             start,
             work,
@@ -130,7 +137,8 @@ fn route_joined(
     }
 }
 
-// Routes a job given as tables from a start: refusals 5 and 6; then nets of one source are joined, and the joined nets are routed.
+// Routes a job given as tables from a start: refusals 5, 15 and 6; then nets of one source are joined, and the joined
+// nets are routed.
 fn routed_from(
     kind: &[u8],
     capacity: &[u8],
@@ -139,6 +147,8 @@ fn routed_from(
     source: &[u16],
     first_sink: &[u32],
     sink: &[u16],
+    delay: &[u16],
+    criticality: &[u8],
     terms: Terms,
     start: Start,
     work: &mut [u64],
@@ -146,7 +156,7 @@ fn routed_from(
 ) -> RouteAnswer
     ensures { λ r. do
       let job = jobOf (now (kind .entry)) (now (capacity .entry)) (now («first_edge» .entry)) (now («edge_target» .entry))
-          (now (source .entry)) (now («first_sink» .entry)) (now (sink .entry)) terms
+          (now (source .entry)) (now («first_sink» .entry)) (now (sink .entry)) (now (delay .entry)) (now (criticality .entry)) terms
       let run = runFrom start (joined job) (now (work .entry)) (now (log .entry))
       ⌜ routeReplyOf r (now (work .exit)) (now (log .exit)) ≡ tested job (now (work .entry)) (now (log .entry)) run ⌝ }
 {
@@ -158,10 +168,18 @@ fn routed_from(
         source,
         first_sink,
         sink,
+        delay,
+        criticality,
         terms,
     );
     if 1 <= table {
         return refused(Outcome::BadTable(table));
+    }
+    if job::exceeds(kind.len(), terms) {
+        return refused(Outcome::TooLarge {
+            nodes: kind.len() as u32,
+            limit: terms.limit,
+        });
     }
     let needed = 8 * kind.len();
     if work.len() < needed {
@@ -169,8 +187,18 @@ fn routed_from(
     }
     let mut firsts = [0u32; FIRST_SINKS_MOST];
     let mut sinks = [0u16; SINKS_MOST];
+    let mut criticalities = [0u8; SINKS_MOST];
     let ends = source.len() + 1;
-    let count = join::joined_tables(source, first_sink, sink, &mut firsts, &mut sinks);
+    let count = join::joined_tables(
+        source,
+        first_sink,
+        sink,
+        criticality,
+        terms.timed,
+        &mut firsts,
+        &mut sinks,
+        &mut criticalities,
+    );
     route_joined(
         kind,
         capacity,
@@ -179,6 +207,8 @@ fn routed_from(
         source,
         &firsts[..ends],
         &sinks[..count],
+        delay,
+        &criticalities[..count],
         terms,
         start,
         work,
@@ -195,13 +225,15 @@ pub fn route(
     source: &[u16],
     first_sink: &[u32],
     sink: &[u16],
+    delay: &[u16],
+    criticality: &[u8],
     terms: Terms,
     work: &mut [u64],
     log: &mut [u32],
 ) -> RouteAnswer
     ensures demand { λ r. do
       let job = jobOf (now (kind .entry)) (now (capacity .entry)) (now («first_edge» .entry)) (now («edge_target» .entry))
-          (now (source .entry)) (now («first_sink» .entry)) (now (sink .entry)) terms
+          (now (source .entry)) (now («first_sink» .entry)) (now (sink .entry)) (now (delay .entry)) (now (criticality .entry)) terms
       ⌜ Demand3 job (now (work .entry)) (now (log .entry)) (routeReplyOf r (now (work .exit)) (now (log .exit))) ⌝ }
 {
     routed_from(
@@ -212,6 +244,8 @@ pub fn route(
         source,
         first_sink,
         sink,
+        delay,
+        criticality,
         terms,
         Start::Anew,
         work,
@@ -228,6 +262,8 @@ pub fn resume(
     source: &[u16],
     first_sink: &[u32],
     sink: &[u16],
+    delay: &[u16],
+    criticality: &[u8],
     terms: Terms,
     used: u64,
     work: &mut [u64],
@@ -235,7 +271,7 @@ pub fn resume(
 ) -> RouteAnswer
     ensures resumed { λ r. do
       let job = jobOf (now (kind .entry)) (now (capacity .entry)) (now («first_edge» .entry)) (now («edge_target» .entry))
-          (now (source .entry)) (now («first_sink» .entry)) (now (sink .entry)) terms
+          (now (source .entry)) (now («first_sink» .entry)) (now (sink .entry)) (now (delay .entry)) (now (criticality .entry)) terms
       ⌜ Resumed job used (now (work .entry)) (now (log .entry)) (routeReplyOf r (now (work .exit)) (now (log .exit))) ⌝ }
 {
     routed_from(
@@ -246,6 +282,8 @@ pub fn resume(
         source,
         first_sink,
         sink,
+        delay,
+        criticality,
         terms,
         Start::After(used as usize),
         work,

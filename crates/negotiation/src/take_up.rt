@@ -1,18 +1,23 @@
 // A lent log is taken up: its records are followed net by net and iteration by iteration, and the lists are those that its run left.
 ghost use mathlib.Core.Path.{_≡_};
-ghost use Prim.Native.Nat.{_<_};
-ghost use lib.ListN.{length};
+ghost use Prim.Native.Nat.{_+_, _<_};
+ghost use lib.ListN.{length, getD, drop};
+ghost use Rattle.price.specs.Test.{choose};
+ghost use Rattle.search.specs.Block.{blockOf};
 ghost use Rattle.job.specs.Job.{jobOf};
 ghost use Rattle.negotiation.specs.Routable.{Routable};
 ghost use Rattle.negotiation.specs.Outcome.{begun as unbegun};
 ghost use Rattle.job.specs.Steps.{AllBelow, Stored};
 ghost use Rattle.negotiation.specs.Kept.{Ready};
-ghost use Rattle.negotiation.specs.TakeSteps.{SinksOnce, SomeNet, NetAnswered, SomeNets, NetsAnswered, LogTaken};
+ghost use Rattle.negotiation.specs.Resume.{pathIn};
+ghost use Rattle.negotiation.specs.TakeSteps.{TryReady, triedPasses, SomeNet, NetAnswered, SomeNets, NetsAnswered, LogTaken};
 ghost use Rattle.negotiation.specs.declared.take_up.Taken.the-variants.{On};
 use crate::congestion;
 use crate::due;
+use crate::flood;
 use crate::follow;
 use crate::nets;
+use crate::order;
 use crate::tariff;
 use crate::tariff::Tariff;
 use job::Terms;
@@ -24,54 +29,127 @@ pub enum Taken {
     Off(usize),
 }
 
-// The sinks bear this goal mark.
-fn set_goals(sinks: &[u16], mark: u8, goals: &mut [u8])
+// The sinks are goals.
+fn set_goals(sinks: &[u16], goals: &mut [u8])
     requires { ⌜ AllBelow (length (now goals)) (now sinks) ⌝ }
-    ensures { λ _. ⌜ Stored mark (now (sinks .entry)) (now (goals .entry)) (now (goals .exit)) ⌝ }
+    ensures { λ _. ⌜ Stored 1 (now (sinks .entry)) (now (goals .entry)) (now (goals .exit)) ⌝ }
 {
     let mut k = 0;
     while k < sinks.len() {
-        goals[sinks[k] as usize] = mark;
+        goals[sinks[k] as usize] = 1;
         k += 1;
     }
 }
 
-// So many turns of a net.
+// The words of the next record of a net, whose sinks stand in table 7 from one place to below another, 0 where it doesn't follow; its path
+// is marked.
+fn follow_tried(
+    kind: &[u8],
+    capacity: &[u8],
+    first_edge: &[u32],
+    edge_target: &[u16],
+    sink: &[u16],
+    delay: &[u16],
+    criticality: &[u8],
+    timed: bool,
+    from: usize,
+    to: usize,
+    net: u32,
+    tariff: Tariff,
+    history: &[u32],
+    users: &[u16],
+    in_tree: &mut [u8],
+    log: &[u32],
+) -> usize
+    requires { do
+      let block = blockOf (now kind) (now capacity) (now «first_edge») (now «edge_target»)
+      ⌜ TryReady block (now sink) (now delay) (now criticality) timed from to tariff (now history) (now users) (now «in_tree») (now log) ⌝ }
+    ensures { λ r. do
+      let block = blockOf (now (kind .entry)) (now (capacity .entry)) (now («first_edge» .entry)) (now («edge_target» .entry))
+      let ws = drop (tariff .words) (now (log .entry))
+      let passes = triedPasses block (now (sink .entry)) (now (delay .entry)) (now (criticality .entry)) timed from to tariff net
+          (now (history .entry)) (now (users .entry)) (now («in_tree» .entry)) ws
+      ⌜ r ≡ choose passes (6 + getD ws 5 0) 0 ⌝ }
+    ensures { λ r. do
+      let ws = drop (tariff .words) (now (log .entry))
+      ⌜ ((r ≡ 0 → ⊥) → Stored 1 (pathIn ws) (now («in_tree» .entry)) (now («in_tree» .exit))) ⌝ }
+{
+    let n = kind.len();
+    let mut goals = [0u8; NODES_MOST];
+    let aim = order::next_aim(timed, sink, criticality, from, to, in_tree);
+    let a = aim.from;
+    let e = aim.to;
+    set_goals(&sink[a..e], &mut goals[..n]);
+    follow::follow_turn(
+        kind,
+        capacity,
+        first_edge,
+        edge_target,
+        aim.weighting,
+        delay,
+        net,
+        tariff,
+        history,
+        users,
+        &goals[..n],
+        in_tree,
+        log,
+    )
+}
+
+// So many turns of a net, at most, until its sinks are joined.
 fn follow_net(
     kind: &[u8],
     capacity: &[u8],
     first_edge: &[u32],
     edge_target: &[u16],
+    sink: &[u16],
+    delay: &[u16],
+    criticality: &[u8],
+    timed: bool,
+    from: usize,
+    to: usize,
     net: u32,
     begun: Tariff,
     turns: usize,
     history: &[u32],
     users: &[u16],
-    goals: &[u8],
     in_tree: &mut [u8],
     log: &[u32],
 ) -> Taken
     requires { ⌜ (0 < turns
-        → SomeNet (now kind) (now capacity) (now «first_edge») (now «edge_target») net turns begun (now history) (now users) (now goals)
-        (now «in_tree») (now log)) ⌝ }
+        → SomeNet (now kind) (now capacity) (now «first_edge») (now «edge_target») (now sink) (now delay) (now criticality) timed from to
+        net turns begun (now history) (now users) (now «in_tree») (now log)) ⌝ }
     ensures { λ r. ⌜ (turns ≡ 0 → (r ≡ On begun) × (now («in_tree» .exit) ≡ now («in_tree» .entry))) ⌝ }
-    ensures { λ r. ⌜ NetAnswered (now (kind .entry)) (now (capacity .entry)) (now («first_edge» .entry)) (now («edge_target» .entry)) net
-        turns begun (now (history .entry)) (now (users .entry)) (now (goals .entry)) (now («in_tree» .entry)) (now (log .entry)) r
-        (now («in_tree» .exit)) ⌝ }
+    ensures { λ r. ⌜ NetAnswered (now (kind .entry)) (now (capacity .entry)) (now («first_edge» .entry)) (now («edge_target» .entry))
+        (now (sink .entry)) (now (delay .entry)) (now (criticality .entry)) timed from to net turns begun (now (history .entry))
+        (now (users .entry)) (now («in_tree» .entry)) (now (log .entry)) r (now («in_tree» .exit)) ⌝ }
 {
+    if turns == 0 {
+        return Taken::On(begun);
+    }
     let mut tariff = begun;
     let mut left = turns;
-    while 0 < left {
-        let count = follow::follow_turn(
+    let mut place = flood::missing_sink(in_tree, &sink[from..to], 0);
+    while place < to - from {
+        if left == 0 {
+            return Taken::Off(tariff.words);
+        }
+        let count = follow_tried(
             kind,
             capacity,
             first_edge,
             edge_target,
+            sink,
+            delay,
+            criticality,
+            timed,
+            from,
+            to,
             net,
             tariff,
             history,
             users,
-            goals,
             in_tree,
             log,
         );
@@ -80,6 +158,7 @@ fn follow_net(
         }
         tariff = tariff::turn_logged(tariff, count);
         left -= 1;
+        place = flood::missing_sink(in_tree, &sink[from..to], place);
     }
     Taken::On(tariff)
 }
@@ -93,6 +172,9 @@ fn follow_nets(
     source: &[u16],
     first_sink: &[u32],
     sink: &[u16],
+    delay: &[u16],
+    criticality: &[u8],
+    timed: bool,
     begun: Tariff,
     history: &[u32],
     users: &mut [u16],
@@ -102,15 +184,15 @@ fn follow_nets(
     due: &[u8],
     log: &[u32],
 ) -> Taken
-    requires { ⌜ SomeNets (now kind) (now capacity) (now «first_edge») (now «edge_target») (now source) (now «first_sink») (now sink) begun
-        (now history) (now users) (now «in_tree») (now «tree_from») (now «tree_to») (now due) (now log) ⌝ }
+    requires { ⌜ SomeNets (now kind) (now capacity) (now «first_edge») (now «edge_target») (now source) (now «first_sink») (now sink)
+        (now delay) (now criticality) timed begun (now history) (now users) (now «in_tree») (now «tree_from») (now «tree_to») (now due)
+        (now log) ⌝ }
     ensures { λ r. ⌜ NetsAnswered (now (kind .entry)) (now (capacity .entry)) (now («first_edge» .entry)) (now («edge_target» .entry))
-        (now (source .entry)) (now («first_sink» .entry)) (now (sink .entry)) begun (now (history .entry)) (now (users .entry))
-        (now («in_tree» .entry)) (now («tree_from» .entry)) (now («tree_to» .entry)) (now (due .entry)) (now (log .entry)) r
-        (now (users .exit)) (now («in_tree» .exit)) (now («tree_from» .exit)) (now («tree_to» .exit)) ⌝ }
+        (now (source .entry)) (now («first_sink» .entry)) (now (sink .entry)) (now (delay .entry)) (now (criticality .entry)) timed begun
+        (now (history .entry)) (now (users .entry)) (now («in_tree» .entry)) (now («tree_from» .entry)) (now («tree_to» .entry))
+        (now (due .entry)) (now (log .entry)) r (now (users .exit)) (now («in_tree» .exit)) (now («tree_from» .exit))
+        (now («tree_to» .exit)) ⌝ }
 {
-    let n = kind.len();
-    let mut goals = [0u8; NODES_MOST];
     let mut tariff = begun;
     let mut net = 0;
     while net < source.len() {
@@ -128,18 +210,22 @@ fn follow_nets(
             users,
             in_tree,
         );
-        set_goals(&sink[from..to], 1, &mut goals[..n]);
         let taken = follow_net(
             kind,
             capacity,
             first_edge,
             edge_target,
+            sink,
+            delay,
+            criticality,
+            timed,
+            from,
+            to,
             net as u32,
             tariff,
             turns,
             history,
             users,
-            &goals[..n],
             in_tree,
             log,
         );
@@ -147,7 +233,6 @@ fn follow_nets(
             return taken;
         };
         tariff = t;
-        set_goals(&sink[from..to], 0, &mut goals[..n]);
         let until = tariff.words;
         nets::end_net(
             log,
@@ -174,6 +259,8 @@ pub fn take_up(
     source: &[u16],
     first_sink: &[u32],
     sink: &[u16],
+    delay: &[u16],
+    criticality: &[u8],
     terms: Terms,
     begun: Tariff,
     history: &mut [u32],
@@ -185,15 +272,18 @@ pub fn take_up(
     log: &[u32],
 ) -> Taken
     requires { do
-      let job = jobOf (now kind) (now capacity) (now «first_edge») (now «edge_target») (now source) (now «first_sink») (now sink) terms
-      ⌜ Routable job × SinksOnce job ⌝ }
+      let job = jobOf (now kind) (now capacity) (now «first_edge») (now «edge_target») (now source) (now «first_sink») (now sink)
+          (now delay) (now criticality) terms
+      ⌜ Routable job ⌝ }
     requires { do
-      let job = jobOf (now kind) (now capacity) (now «first_edge») (now «edge_target») (now source) (now «first_sink») (now sink) terms
+      let job = jobOf (now kind) (now capacity) (now «first_edge») (now «edge_target») (now source) (now «first_sink») (now sink)
+          (now delay) (now criticality) terms
       ⌜ Ready job (unbegun job) begun (now history) (now users) (now «in_tree») (now «tree_from») (now «tree_to») (now due)
           (now log) ⌝ }
     ensures { λ r. do
       let job = jobOf (now (kind .entry)) (now (capacity .entry)) (now («first_edge» .entry)) (now («edge_target» .entry))
-          (now (source .entry)) (now («first_sink» .entry)) (now (sink .entry)) terms
+          (now (source .entry)) (now («first_sink» .entry)) (now (sink .entry)) (now (delay .entry)) (now (criticality .entry))
+          terms
       ⌜ LogTaken r job (now (history .exit)) (now (users .exit)) (now («in_tree» .exit)) (now («tree_from» .exit))
           (now («tree_to» .exit)) (now (due .exit)) (now (log .entry)) ⌝ }
 {
@@ -219,6 +309,9 @@ pub fn take_up(
             source,
             first_sink,
             sink,
+            delay,
+            criticality,
+            terms.timed,
             tariff,
             history,
             users,

@@ -1,26 +1,32 @@
 // The negotiation itself: sinks within nets within iterations.
+ghost use mathlib.Core.Bool.{Bool};
 ghost use mathlib.Core.List.{_++_};
 ghost use mathlib.Core.Path.{_≡_};
-ghost use Prim.Native.Nat.{_+_, _*_, _≤_, _<_};
+ghost use Prim.Native.Nat.{ℕ, _+_, _*_, _≤_, _<_};
 ghost use lib.ListN.{length, drop, replicate};
+ghost use lib.Seq.{slice};
 ghost use Rattle.price.specs.Bounds.{limitMost};
 ghost use Rattle.price.specs.Prices.{nextFactor};
 ghost use Rattle.search.specs.Block.{blockOf};
-ghost use Rattle.search.specs.Turn.{congestionOf, priceAt, turn};
+ghost use Rattle.search.specs.Distance.{inTree};
+ghost use Rattle.search.specs.Turn.{weighedCongestion, priceAt, turn};
 ghost use Rattle.job.specs.Job.{jobOf, nodes, nets};
 ghost use Rattle.negotiation.specs.Routable.{Routable};
 ghost use Rattle.negotiation.specs.Machine.{Progress};
+ghost use Rattle.negotiation.specs.Order.{sinksTried, weightingDue};
+ghost use Rattle.negotiation.specs.OrderSteps.{AimReady};
 ghost use Rattle.negotiation.specs.Outcome.{unreachableNet, begun as unbegun, continued, routeReplyOf};
 ghost use Rattle.negotiation.specs.Steps.{SameFrom, TurnDone, CanTurn};
 ghost use Rattle.negotiation.specs.Kept.{Ready, SomeReady};
 ghost use Rattle.negotiation.specs.Resume.{runFrom};
-ghost use Rattle.negotiation.specs.TakeSteps.{SinksOnce, Started};
+ghost use Rattle.negotiation.specs.TakeSteps.{Started};
 use crate::Outcome;
 use crate::RouteAnswer;
 use crate::Start;
 use crate::congestion;
 use crate::due;
 use crate::nets;
+use crate::order;
 use crate::records;
 use crate::refused;
 use crate::take_up;
@@ -31,6 +37,7 @@ use crate::trees;
 use job::NETS_MOST;
 use job::Terms;
 use price::Tuning;
+use price::Weighting;
 use search::NODES_MOST;
 use search::PathAnswer;
 
@@ -77,12 +84,14 @@ pub fn clear(work: &mut [u64], to: usize)
     }
 }
 
-// One turn of a net: its record is written where it fits, and its path joins the tree.
+// One turn of a net for these sinks: its record is written where it fits, and its path joins the tree. Without sinks nothing is searched.
 fn one_turn(
     kind: &[u8],
     capacity: &[u8],
     first_edge: &[u32],
     edge_target: &[u16],
+    weighting: Weighting,
+    delay: &[u16],
     sinks: &[u16],
     net: u32,
     tariff: Tariff,
@@ -94,21 +103,27 @@ fn one_turn(
 ) -> TurnMade
     requires { do
       let block = blockOf (now kind) (now capacity) (now «first_edge») (now «edge_target»)
-      ⌜ CanTurn block tariff net (now sinks) (now history) (now users) (now «in_tree») (now work) (now log) ⌝ }
+      let congestion = weighedCongestion weighting (now delay) (tariff .factor) (now history) (now users)
+      ⌜ CanTurn block congestion tariff (now sinks) (now «in_tree») (now work) (now log) ⌝ }
     ensures { λ r. do
       let block = blockOf (now (kind .entry)) (now (capacity .entry)) (now («first_edge» .entry)) (now («edge_target» .entry))
-      let price = priceAt block (congestionOf (tariff .factor) (now (history .entry)) (now (users .entry)))
+      let congestion = weighedCongestion weighting (now (delay .entry)) (tariff .factor) (now (history .entry)) (now (users .entry))
       let marks = now («in_tree» .entry)
-      let made = turn block price marks (now (sinks .entry))
+      let made = turn block (priceAt block congestion) marks (now (sinks .entry))
       ⌜ TurnDone r made tariff net (now (sinks .entry)) (now (log .entry)) marks (now (log .exit)) (now («in_tree» .exit)) ⌝ }
     ensures { λ _. ⌜ SameFrom (8 * length (now (kind .entry))) (now (work .entry)) (now (work .exit)) ⌝ }
 {
+    if sinks.len() == 0 {
+        return TurnMade::Nothing;
+    }
     let factor = tariff.factor;
     let answer = search::cheapest_path(
         kind,
         capacity,
         first_edge,
         edge_target,
+        weighting,
+        delay,
         factor,
         work,
         history,
@@ -136,6 +151,71 @@ fn one_turn(
     TurnMade::Logged(tariff::turn_logged(tariff, 6 + count))
 }
 
+// The next turn of a net, whose sinks stand in table 7 from one place to below another: for all of them, in a timed job for the one whose
+// turn it is.
+fn net_turn(
+    kind: &[u8],
+    capacity: &[u8],
+    first_edge: &[u32],
+    edge_target: &[u16],
+    sink: &[u16],
+    criticality: &[u8],
+    from: usize,
+    to: usize,
+    timed: bool,
+    delay: &[u16],
+    net: u32,
+    tariff: Tariff,
+    work: &mut [u64],
+    log: &mut [u32],
+    history: &[u32],
+    users: &[u16],
+    in_tree: &mut [u8],
+) -> TurnMade
+    requires { ⌜ AimReady timed (now sink) (now criticality) from to (now «in_tree») ⌝ }
+    requires { do
+      let block = blockOf (now kind) (now capacity) (now «first_edge») (now «edge_target»)
+      let sinks = slice from to (now sink)
+      let criticalities = slice from to (now criticality)
+      let joined : (ℕ → Bool) = inTree (now «in_tree»)
+      let weighting = weightingDue timed joined sinks criticalities
+      let congestion = weighedCongestion weighting (now delay) (tariff .factor) (now history) (now users)
+      ⌜ CanTurn block congestion tariff (sinksTried timed joined sinks criticalities) (now «in_tree») (now work) (now log) ⌝ }
+    ensures { λ r. do
+      let block = blockOf (now (kind .entry)) (now (capacity .entry)) (now («first_edge» .entry)) (now («edge_target» .entry))
+      let sinks = slice from to (now (sink .entry))
+      let criticalities = slice from to (now (criticality .entry))
+      let marks = now («in_tree» .entry)
+      let joined : (ℕ → Bool) = inTree marks
+      let weighting = weightingDue timed joined sinks criticalities
+      let congestion = weighedCongestion weighting (now (delay .entry)) (tariff .factor) (now (history .entry)) (now (users .entry))
+      let tried = sinksTried timed joined sinks criticalities
+      let made = turn block (priceAt block congestion) marks tried
+      ⌜ TurnDone r made tariff net tried (now (log .entry)) marks (now (log .exit)) (now («in_tree» .exit)) ⌝ }
+    ensures { λ _. ⌜ SameFrom (8 * length (now (kind .entry))) (now (work .entry)) (now (work .exit)) ⌝ }
+{
+    let aim = order::next_aim(timed, sink, criticality, from, to, in_tree);
+    let weighting = aim.weighting;
+    let a = aim.from;
+    let e = aim.to;
+    one_turn(
+        kind,
+        capacity,
+        first_edge,
+        edge_target,
+        weighting,
+        delay,
+        &sink[a..e],
+        net,
+        tariff,
+        work,
+        log,
+        history,
+        users,
+        in_tree,
+    )
+}
+
 // The iterations of a run that goes on from where its lists stand: in each every net that is due, in order, drops its old tree and makes
 // turns until its sinks are joined. Routing stops inside a net at the first turn whose record does not fit.
 fn go_on(
@@ -146,6 +226,8 @@ fn go_on(
     source: &[u16],
     first_sink: &[u32],
     sink: &[u16],
+    delay: &[u16],
+    criticality: &[u8],
     terms: Terms,
     begun: Tariff,
     history: &mut [u32],
@@ -158,14 +240,16 @@ fn go_on(
     log: &mut [u32],
 ) -> RouteAnswer
     requires { do
-      let job = jobOf (now kind) (now capacity) (now «first_edge») (now «edge_target») (now source) (now «first_sink») (now sink) terms
+      let job = jobOf (now kind) (now capacity) (now «first_edge») (now «edge_target») (now source) (now «first_sink») (now sink)
+          (now delay) (now criticality) terms
       ⌜ Routable job × (nets job ≤ unreachableNet job) × (8 * nodes job ≤ length (now work)) ⌝ }
     requires { do
-      let job = jobOf (now kind) (now capacity) (now «first_edge») (now «edge_target») (now source) (now «first_sink») (now sink) terms
+      let job = jobOf (now kind) (now capacity) (now «first_edge») (now «edge_target») (now source) (now «first_sink») (now sink)
+          (now delay) (now criticality) terms
       ⌜ SomeReady job begun (now history) (now users) (now «in_tree») (now «tree_from») (now «tree_to») (now due) (now log) ⌝ }
     ensures { λ r. do
       let job = jobOf (now (kind .entry)) (now (capacity .entry)) (now («first_edge» .entry)) (now («edge_target» .entry))
-          (now (source .entry)) (now («first_sink» .entry)) (now (sink .entry)) terms
+          (now (source .entry)) (now («first_sink» .entry)) (now (sink .entry)) (now (delay .entry)) (now (criticality .entry)) terms
       ⌜ ((p : Progress)
           → Ready job p begun (now (history .entry)) (now (users .entry)) (now («in_tree» .entry)) (now («tree_from» .entry))
           (now («tree_to» .entry)) (now (due .entry)) (now (log .entry))
@@ -202,12 +286,17 @@ fn go_on(
                 in_tree,
             );
             while 0 < left {
-                match one_turn(
+                match net_turn(
                     kind,
                     capacity,
                     first_edge,
                     edge_target,
-                    &sink[from..to],
+                    sink,
+                    criticality,
+                    from,
+                    to,
+                    terms.timed,
+                    delay,
                     net as u32,
                     tariff,
                     work,
@@ -265,6 +354,8 @@ fn start_at(
     source: &[u16],
     first_sink: &[u32],
     sink: &[u16],
+    delay: &[u16],
+    criticality: &[u8],
     terms: Terms,
     start: Start,
     begun: Tariff,
@@ -277,15 +368,17 @@ fn start_at(
     log: &[u32],
 ) -> Taken
     requires { do
-      let job = jobOf (now kind) (now capacity) (now «first_edge») (now «edge_target») (now source) (now «first_sink») (now sink) terms
-      ⌜ Routable job × SinksOnce job ⌝ }
+      let job = jobOf (now kind) (now capacity) (now «first_edge») (now «edge_target») (now source) (now «first_sink») (now sink)
+          (now delay) (now criticality) terms
+      ⌜ Routable job ⌝ }
     requires { do
-      let job = jobOf (now kind) (now capacity) (now «first_edge») (now «edge_target») (now source) (now «first_sink») (now sink) terms
+      let job = jobOf (now kind) (now capacity) (now «first_edge») (now «edge_target») (now source) (now «first_sink») (now sink)
+          (now delay) (now criticality) terms
       ⌜ Ready job (unbegun job) begun (now history) (now users) (now «in_tree») (now «tree_from») (now «tree_to») (now due)
           (now log) ⌝ }
     ensures { λ r. do
       let job = jobOf (now (kind .entry)) (now (capacity .entry)) (now («first_edge» .entry)) (now («edge_target» .entry))
-          (now (source .entry)) (now («first_sink» .entry)) (now (sink .entry)) terms
+          (now (source .entry)) (now («first_sink» .entry)) (now (sink .entry)) (now (delay .entry)) (now (criticality .entry)) terms
       ⌜ Started r start job (now (history .exit)) (now (users .exit)) (now («in_tree» .exit)) (now («tree_from» .exit))
           (now («tree_to» .exit)) (now (due .exit)) (now (log .entry)) ⌝ }
 {
@@ -303,6 +396,8 @@ fn start_at(
                 source,
                 first_sink,
                 sink,
+                delay,
+                criticality,
                 terms,
                 begun,
                 history,
@@ -326,6 +421,8 @@ fn run_from(
     source: &[u16],
     first_sink: &[u32],
     sink: &[u16],
+    delay: &[u16],
+    criticality: &[u8],
     terms: Terms,
     start: Start,
     begun: Tariff,
@@ -339,15 +436,17 @@ fn run_from(
     log: &mut [u32],
 ) -> RouteAnswer
     requires { do
-      let job = jobOf (now kind) (now capacity) (now «first_edge») (now «edge_target») (now source) (now «first_sink») (now sink) terms
-      ⌜ Routable job × SinksOnce job × (nets job ≤ unreachableNet job) × (8 * nodes job ≤ length (now work)) ⌝ }
+      let job = jobOf (now kind) (now capacity) (now «first_edge») (now «edge_target») (now source) (now «first_sink») (now sink)
+          (now delay) (now criticality) terms
+      ⌜ Routable job × (nets job ≤ unreachableNet job) × (8 * nodes job ≤ length (now work)) ⌝ }
     requires { do
-      let job = jobOf (now kind) (now capacity) (now «first_edge») (now «edge_target») (now source) (now «first_sink») (now sink) terms
+      let job = jobOf (now kind) (now capacity) (now «first_edge») (now «edge_target») (now source) (now «first_sink») (now sink)
+          (now delay) (now criticality) terms
       ⌜ Ready job (unbegun job) begun (now history) (now users) (now «in_tree») (now «tree_from») (now «tree_to») (now due)
           (now log) ⌝ }
     ensures { λ r. do
       let job = jobOf (now (kind .entry)) (now (capacity .entry)) (now («first_edge» .entry)) (now («edge_target» .entry))
-          (now (source .entry)) (now («first_sink» .entry)) (now (sink .entry)) terms
+          (now (source .entry)) (now («first_sink» .entry)) (now (sink .entry)) (now (delay .entry)) (now (criticality .entry)) terms
       ⌜ routeReplyOf r (now (work .exit)) (now (log .exit)) ≡ runFrom start job (now (work .entry)) (now (log .entry)) ⌝ }
 {
     match start_at(
@@ -358,6 +457,8 @@ fn run_from(
         source,
         first_sink,
         sink,
+        delay,
+        criticality,
         terms,
         start,
         begun,
@@ -381,6 +482,8 @@ fn run_from(
             source,
             first_sink,
             sink,
+            delay,
+            criticality,
             terms,
             tariff,
             history,
@@ -404,17 +507,20 @@ pub fn negotiate(
     source: &[u16],
     first_sink: &[u32],
     sink: &[u16],
+    delay: &[u16],
+    criticality: &[u8],
     terms: Terms,
     start: Start,
     work: &mut [u64],
     log: &mut [u32],
 ) -> RouteAnswer
     requires { do
-      let job = jobOf (now kind) (now capacity) (now «first_edge») (now «edge_target») (now source) (now «first_sink») (now sink) terms
-      ⌜ Routable job × SinksOnce job × (nets job ≤ unreachableNet job) × (8 * nodes job ≤ length (now work)) ⌝ }
+      let job = jobOf (now kind) (now capacity) (now «first_edge») (now «edge_target») (now source) (now «first_sink») (now sink)
+          (now delay) (now criticality) terms
+      ⌜ Routable job × (nets job ≤ unreachableNet job) × (8 * nodes job ≤ length (now work)) ⌝ }
     ensures { λ r. do
       let job = jobOf (now (kind .entry)) (now (capacity .entry)) (now («first_edge» .entry)) (now («edge_target» .entry))
-          (now (source .entry)) (now («first_sink» .entry)) (now (sink .entry)) terms
+          (now (source .entry)) (now («first_sink» .entry)) (now (sink .entry)) (now (delay .entry)) (now (criticality .entry)) terms
       ⌜ routeReplyOf r (now (work .exit)) (now (log .exit)) ≡ runFrom start job (now (work .entry)) (now (log .entry)) ⌝ }
 {
     let n = kind.len();
@@ -439,6 +545,8 @@ pub fn negotiate(
         source,
         first_sink,
         sink,
+        delay,
+        criticality,
         terms,
         start,
         begun,

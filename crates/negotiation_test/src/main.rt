@@ -41,6 +41,9 @@ fn outcome(r: RouteAnswer) {
         Outcome::Diverges(word) => {
             one_number(14, word);
         }
+        Outcome::TooLarge { nodes, limit } => {
+            two_numbers(15, nodes as u64, limit as u64);
+        }
     }
 }
 
@@ -53,8 +56,18 @@ fn answer(r: RouteAnswer) {
     show::entry(r.used);
 }
 
-// The limit, the tuning, the rule and its k, as the numbers of line 1 have them.
-fn terms(n: [u32; 9]) -> Terms {
+// What line 2 says.
+struct Asked {
+    terms: Terms,
+    // The two numbers after the terms.
+    first: u32,
+    second: u32,
+    // Whether the terms have their last number. The case then has tables 9 and 10.
+    whole: bool,
+}
+
+// The limit, the tuning, the rule and its k, and whether the job is timed.
+fn terms(n: [u32; 10], timed: bool) -> Terms {
     let tuning = Tuning {
         first: n[1],
         up: n[2],
@@ -66,6 +79,26 @@ fn terms(n: [u32; 9]) -> Terms {
         tuning: tuning,
         rule: n[5],
         until: n[6],
+        timed: timed,
+    }
+}
+
+// The numbers of line 2, of which the last of the terms may be left out.
+fn said(n: [u32; 10], count: usize) -> Asked {
+    if count == 10 {
+        return Asked {
+            terms: terms(n, 1 <= n[7]),
+            first: n[8],
+            second: n[9],
+            whole: true,
+        };
+    }
+    read::exactly(count, 9);
+    Asked {
+        terms: terms(n, false),
+        first: n[7],
+        second: n[8],
+        whole: false,
     }
 }
 
@@ -78,6 +111,8 @@ fn line(
     source: &[u16],
     first_sink: &[u32],
     sink: &[u16],
+    delay: &[u16],
+    criticality: &[u8],
     terms: Terms,
     work: &mut [u64],
     log: &mut [u32],
@@ -90,6 +125,8 @@ fn line(
         source,
         first_sink,
         sink,
+        delay,
+        criticality,
         terms,
         work,
         log,
@@ -107,12 +144,14 @@ fn memory(
     source: &[u16],
     first_sink: &[u32],
     sink: &[u16],
-    n: [u32; 9],
+    delay: &[u16],
+    criticality: &[u8],
+    n: Asked,
 ) {
     let mut work = [7u64; 128];
     let mut log = [7u32; 256];
-    let entries = read::of_entries(n[7], &work);
-    let words = read::of_words(n[8], &log);
+    let entries = read::of_entries(n.first, &work);
+    let words = read::of_words(n.second, &log);
     line(
         kind,
         capacity,
@@ -121,7 +160,9 @@ fn memory(
         source,
         first_sink,
         sink,
-        terms(n),
+        delay,
+        criticality,
+        n.terms,
         &mut work[..entries],
         &mut log[..words],
     );
@@ -136,6 +177,8 @@ fn resume_line(
     source: &[u16],
     first_sink: &[u32],
     sink: &[u16],
+    delay: &[u16],
+    criticality: &[u8],
     terms: Terms,
     used: u64,
     work: &mut [u64],
@@ -149,6 +192,8 @@ fn resume_line(
         source,
         first_sink,
         sink,
+        delay,
+        criticality,
         terms,
         used,
         work,
@@ -156,6 +201,14 @@ fn resume_line(
     ));
     show::entries(work, work.len());
     show::words(log, log.len());
+}
+
+// The line after the tables.
+fn after_tables(whole: bool) -> usize {
+    if whole {
+        return 11;
+    }
+    9
 }
 
 // The work slice as long as the case says, the log as the case has it, and the call.
@@ -168,12 +221,14 @@ fn resume_memory(
     source: &[u16],
     first_sink: &[u32],
     sink: &[u16],
-    n: [u32; 9],
+    delay: &[u16],
+    criticality: &[u8],
+    n: Asked,
 ) {
     let mut work = [7u64; 128];
     let mut log = [0u32; 256];
-    let entries = read::of_entries(n[8], &work);
-    let words = read::words(case, 9, &mut log);
+    let entries = read::of_entries(n.second, &work);
+    let words = read::words(case, after_tables(n.whole), &mut log);
     resume_line(
         kind,
         capacity,
@@ -182,8 +237,10 @@ fn resume_memory(
         source,
         first_sink,
         sink,
-        terms(n),
-        n[7] as u64,
+        delay,
+        criticality,
+        n.terms,
+        n.first as u64,
         &mut work[..entries],
         &mut log[..words],
     );
@@ -194,12 +251,20 @@ fn resumes(case: &[u8]) -> bool {
     lines::call(case, 1) == b'e'
 }
 
-// How many lines the case has: that of a resume has a line for the log.
-fn line_count(case: &[u8]) -> usize {
-    if resumes(case) {
-        return 10;
+// The line after the log.
+fn after_log(whole: bool) -> usize {
+    if whole {
+        return 12;
     }
-    9
+    10
+}
+
+// How many lines the case has: that of a resume has a line for the log.
+fn line_count(case: &[u8], whole: bool) -> usize {
+    if resumes(case) {
+        return after_log(whole);
+    }
+    after_tables(whole)
 }
 
 // The call, by its name.
@@ -212,7 +277,9 @@ fn call(
     source: &[u16],
     first_sink: &[u32],
     sink: &[u16],
-    n: [u32; 9],
+    delay: &[u16],
+    criticality: &[u8],
+    n: Asked,
 ) {
     if resumes(case) {
         resume_memory(
@@ -224,6 +291,8 @@ fn call(
             source,
             first_sink,
             sink,
+            delay,
+            criticality,
             n,
         );
         return;
@@ -236,6 +305,39 @@ fn call(
         source,
         first_sink,
         sink,
+        delay,
+        criticality,
+        n,
+    );
+}
+
+// Tables 9 and 10, where the case has them, and the call.
+fn times(
+    case: &[u8],
+    kind: &[u8],
+    capacity: &[u8],
+    first_edge: &[u32],
+    edge_target: &[u16],
+    source: &[u16],
+    first_sink: &[u32],
+    sink: &[u16],
+    n: Asked,
+) {
+    let mut delay = [0u16; 64];
+    let mut criticality = [0u8; 64];
+    let nodes = read::halves_if(n.whole, case, 9, &mut delay);
+    let sinks = read::bytes_if(n.whole, case, 10, &mut criticality);
+    call(
+        case,
+        kind,
+        capacity,
+        first_edge,
+        edge_target,
+        source,
+        first_sink,
+        sink,
+        &delay[..nodes],
+        &criticality[..sinks],
         n,
     );
 }
@@ -247,7 +349,7 @@ fn nets(
     capacity: &[u8],
     first_edge: &[u32],
     edge_target: &[u16],
-    n: [u32; 9],
+    n: Asked,
 ) {
     let mut source = [0u16; 64];
     let mut first_sink = [0u32; 64];
@@ -255,7 +357,7 @@ fn nets(
     let sources = read::halves(case, 6, &mut source);
     let places = read::words(case, 7, &mut first_sink);
     let sinks = read::halves(case, 8, &mut sink);
-    call(
+    times(
         case,
         kind,
         capacity,
@@ -269,7 +371,7 @@ fn nets(
 }
 
 // The tables of the block, and the rest of the case.
-fn block(case: &[u8], n: [u32; 9]) {
+fn block(case: &[u8], n: Asked) {
     let mut kind = [0u8; 64];
     let mut capacity = [0u8; 64];
     let mut first_edge = [0u32; 64];
@@ -289,11 +391,11 @@ fn block(case: &[u8], n: [u32; 9]) {
 }
 
 fn one(case: &[u8]) {
-    let mut n = [0u32; 9];
+    let mut numbers = [0u32; 10];
     show::name(case);
-    let count = read::words(case, 1, &mut n);
-    read::exactly(count, 9);
-    read::end(case, line_count(case));
+    let count = read::words(case, 1, &mut numbers);
+    let n = said(numbers, count);
+    read::end(case, line_count(case, n.whole));
     block(case, n);
     show::line_end();
 }

@@ -8,6 +8,7 @@
 -- Prices
 --     PriceLaws     bounds of base cost, price, path cost, factor and history; the factor's steps
 --     ReplyLaws     which number is refused first, and the price where none is
+--     TimedLaws     a timed price and one that is weighed or not: bounds, and which number is refused first
 --     TuningLaws    a tuning's bounds, number by number
 --
 -- Lists and tests, for every crate
@@ -21,6 +22,7 @@ pub mod RunningHolds
 pub mod OlderHolds
 pub mod PriceLaws
 pub mod ReplyLaws
+pub mod TimedLaws
 pub mod TuningLaws
 pub mod TestLaws
 pub mod ListLaws

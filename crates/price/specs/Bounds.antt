@@ -1,5 +1,5 @@
 -- The bounds of document 01 that prices rest on ("Tables and bounds", "Prices", row 13 of "Numbers for a stopped call"), with those of
--- requests 2.1 and 2.2. How many edges, sinks and nets there may be stands with the rules of their tables.
+-- requests 2.1, 2.2 and 2.9. How many edges, sinks and nets there may be stands with the rules of their tables.
 -- Assumes nothing.
 use Prim.Native.Nat.{ℕ, _+_, _*_}
 
@@ -61,3 +61,26 @@ priceMost = historyMost * baseMost * (100 + factorMost * othersMost)
 -- a path's cost stays below this: "The new bound on a path's cost still fits 64 bits, with 2.1's step of 2 too"
 abbrev pub pathMost : ℕ
 pathMost = nodesMost * priceMost + 1
+
+-- request 2.9: "delay 0 to 1,000"
+abbrev pub delayMost : ℕ
+delayMost = 1000
+
+-- "criticality 0 to 9 in tenths"
+abbrev pub criticalityMost : ℕ
+criticalityMost = 9
+
+-- "A timed job has at most 1,024 nodes and a limit of at most 40."
+abbrev pub timedNodesMost : ℕ
+timedNodesMost = 1024
+
+abbrev pub timedLimitMost : ℕ
+timedLimitMost = 40
+
+-- "takes history to 39,859": what 39 iterations can add to 1
+abbrev pub timedHistoryMost : ℕ
+timedHistoryMost = 39859
+
+-- the largest price of a timed job: criticality 0 takes ten times the congestion price, which no delay makes up for
+abbrev pub timedPriceMost : ℕ
+timedPriceMost = 10 * (timedHistoryMost * baseMost * (100 + factorMost * othersMost))

@@ -5,5 +5,6 @@ pub mod Tuning
 pub mod Prices
 pub mod Replies
 pub mod Running
+pub mod Timed
 pub mod OlderKinds
 pub mod Samples

@@ -41,13 +41,17 @@ pub record InBounds (kind factor others capacity history : ℕ) : Type 0 where
 abbrev pub kept : Bool → ℕ → PriceReply → PriceReply
 kept inside place rest = choose inside rest (refused place)
 
--- "The price gives 13 with the place from 0 of the first bad number of kind, factor (0 to 65,535), others (0 to 511), capacity, history",
--- which 2.1 lets reach 101,179.
-unfoldable pub priceReply : ℕ → ℕ → ℕ → ℕ → ℕ → PriceReply
-priceReply kind factor others capacity history =
+-- "13 with the place from 0 of the first bad number of kind, factor (0 to 65,535), others (0 to 511), capacity, history", which 2.1 lets
+-- reach 101,179; else what comes after these five
+abbrev pub fiveKept : ℕ → ℕ → ℕ → ℕ → ℕ → PriceReply → PriceReply
+fiveKept kind factor others capacity history rest =
     kept (leb kind kindMost) 0
     (kept (leb factor factorMost) 1
     (kept (leb others othersMost) 2
     (kept (both (leb 1 capacity) (leb capacity capacityMost)) 3
-    (kept (both (leb 1 history) (leb history historyMost)) 4
-    (priced (priceOf kind factor others capacity history))))))
+    (kept (both (leb 1 history) (leb history historyMost)) 4 rest))))
+
+-- "The price gives 13 with the place from 0 of the first bad number of kind, factor (0 to 65,535), others (0 to 511), capacity, history"
+unfoldable pub priceReply : ℕ → ℕ → ℕ → ℕ → ℕ → PriceReply
+priceReply kind factor others capacity history =
+    fiveKept kind factor others capacity history (priced (priceOf kind factor others capacity history))

@@ -2,10 +2,11 @@
 // Document 01, "Prices". Every public function takes every input that its types allow.
 ghost use mathlib.Core.Path.{_≡_};
 ghost use Prim.Native.Nat.{_≤_};
-ghost use Rattle.price.specs.Bounds.{kindMost, factorMost, othersMost};
+ghost use Rattle.price.specs.Bounds.{kindMost, factorMost, othersMost, delayMost, criticalityMost, priceMost};
 ghost use Rattle.price.specs.Prices.{baseCost, nextFactor, nextHistory};
 ghost use Rattle.price.specs.Replies.{InBounds, priceReplyOf, priceReply};
 ghost use Rattle.price.specs.Running.{congestedCost, historicCost};
+ghost use Rattle.price.specs.Timed.{timedPrice, timedReply, weighedReply};
 ghost use Rattle.price.specs.Tuning.{plain, tuningSound};
 
 // The bounds of specs/Bounds.antt. The last kind is a wire of 50 tiles.
@@ -20,6 +21,14 @@ pub const CAPACITY_MOST: u32 = 255;
 
 // What 99 iterations can add to 1.
 pub const HISTORY_MOST: u32 = 101179;
+
+// Of a timed job.
+pub const DELAY_MOST: u32 = 1000;
+
+pub const CRITICALITY_MOST: u32 = 9;
+
+// What 39 iterations can add to 1.
+pub const TIMED_HISTORY_MOST: u32 = 39859;
 
 // The tuning's bounds.
 const FIRST_MOST: u32 = 1000;
@@ -42,6 +51,12 @@ pub struct Tuning {
     pub up: u32,
     pub down: u32,
     pub step: u32,
+}
+
+// How a turn weighs delay: not at all, or for a sink of this criticality.
+pub struct Weighting {
+    pub timed: bool,
+    pub criticality: u32,
 }
 
 // The tuning of a job that asks for none.
@@ -152,6 +167,65 @@ pub fn price(kind: u32, factor: u32, others: u32, capacity: u32, history: u32) -
         return PriceAnswer::Refused(4);
     }
     PriceAnswer::Price(historic_cost(kind, factor, others, capacity, history))
+}
+
+// The congestion price and the delay of a node, weighed for a sink of this criticality.
+fn weigh(criticality: u32, delay: u32, congestion: u64) -> u64
+    requires { ⌜ (criticality ≤ criticalityMost) × (delay ≤ delayMost) × (congestion ≤ priceMost) ⌝ }
+    ensures { λ r. ⌜ r ≡ timedPrice criticality delay congestion ⌝ }
+{
+    criticality as u64 * delay as u64 * 100 + (10 - criticality) as u64 * congestion
+}
+
+// The price of a node of this delay for a sink of this criticality. 13 names the first of the seven that is beyond its bounds.
+pub fn timed_price(
+    kind: u32,
+    factor: u32,
+    others: u32,
+    capacity: u32,
+    history: u32,
+    delay: u32,
+    criticality: u32,
+) -> PriceAnswer
+    ensures { λ r. ⌜ priceReplyOf r ≡ timedReply kind factor others capacity history delay criticality ⌝ }
+{
+    let answer = price(kind, factor, others, capacity, history);
+    let PriceAnswer::Price(congestion) = answer else {
+        return answer;
+    };
+    if DELAY_MOST < delay {
+        return PriceAnswer::Refused(5);
+    }
+    if CRITICALITY_MOST < criticality {
+        return PriceAnswer::Refused(6);
+    }
+    PriceAnswer::Price(weigh(criticality, delay, congestion))
+}
+
+// The price of a node of this delay, timed or not.
+pub fn weighed_price(
+    w: Weighting,
+    kind: u32,
+    factor: u32,
+    others: u32,
+    capacity: u32,
+    history: u32,
+    delay: u32,
+) -> PriceAnswer
+    ensures { λ r. ⌜ priceReplyOf r ≡ weighedReply w kind factor others capacity history delay ⌝ }
+{
+    if w.timed {
+        return timed_price(
+            kind,
+            factor,
+            others,
+            capacity,
+            history,
+            delay,
+            w.criticality,
+        );
+    }
+    price(kind, factor, others, capacity, history)
 }
 
 // The present congestion factor of the iteration after `iteration`, whose own factor is `factor`.

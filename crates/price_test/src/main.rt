@@ -1,5 +1,5 @@
-// Prices, factors, histories and tunings, a line for each case of the file stdin, which docs/CASES.md describes. The expected lines stand
-// in the file stdout.
+// Prices, timed or not, factors, histories and tunings, a line for each case of the file stdin, which docs/CASES.md describes. The
+// expected lines stand in the file stdout.
 use cases::lines;
 use cases::read;
 use cases::show;
@@ -23,6 +23,12 @@ fn price_answer(answer: PriceAnswer) {
 fn price_case(count: usize, n: [u32; 7]) {
     read::exactly(count, 5);
     price_answer(price::price(n[0], n[1], n[2], n[3], n[4]));
+}
+
+// A price of a timed job: the same, then delay and criticality.
+fn timed_price_case(count: usize, n: [u32; 7]) {
+    read::exactly(count, 7);
+    price_answer(price::timed_price(n[0], n[1], n[2], n[3], n[4], n[5], n[6]));
 }
 
 // A tuning, as the first four numbers of a line have it.
@@ -56,12 +62,14 @@ fn history_case(count: usize, n: [u32; 7]) {
     show::entry(price::next_history(tuning(n), n[4], n[5], n[6]));
 }
 
+// The call that the case names, by its third letter.
 fn call(letter: u8, count: usize, n: [u32; 7]) {
     match letter {
-        b'p' => price_case(count, n),
-        b't' => tuning_case(count, n),
-        b'f' => factor_case(count, n),
-        b'h' => history_case(count, n),
+        b'i' => price_case(count, n),
+        b'm' => timed_price_case(count, n),
+        b'n' => tuning_case(count, n),
+        b'c' => factor_case(count, n),
+        b's' => history_case(count, n),
         _ => show::malformed(),
     }
 }
@@ -70,7 +78,7 @@ fn one(case: &[u8]) {
     let mut n = [0u32; 7];
     show::name(case);
     let count = read::words(case, 1, &mut n);
-    call(lines::call(case, 0), count, n);
+    call(lines::call(case, 2), count, n);
     read::end(case, 2);
     show::line_end();
 }

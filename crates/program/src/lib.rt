@@ -13,6 +13,8 @@ pub fn answer_input(style: Style) {
     let mut source = [0u16; 512];
     let mut first_sink = [0u32; 513];
     let mut sink = [0u16; 4096];
+    let mut delay = [0u16; 1024];
+    let mut criticality = [0u8; 4096];
     let mut work = [0u64; 8192];
     let mut log = [0u32; 16384];
     let mut routes = [0u8; 65536];
@@ -27,6 +29,8 @@ pub fn answer_input(style: Style) {
         &mut source,
         &mut first_sink,
         &mut sink,
+        &mut delay,
+        &mut criticality,
         &mut work,
         &mut log,
         &mut routes,

@@ -9,21 +9,22 @@ use native.Mathlib.Nat.{not-suc-le-zero, le-of-suc-le-suc}
 use native.Mathlib.Omega.{arith}
 use lib.ListN.{length, getD, take, drop, replicate, List·getD-append}
 use Rattle.search.specs.Block.{Block, blockOf, nodes}
-use Rattle.search.specs.Tables.{faultyTable, Sound}
+use Rattle.search.specs.Tables.{Sound}
 use Rattle.search.specs.Paths.{CheapestPath, NoPath, Fair}
 use Rattle.search.specs.Distance.{far, LeastCost, inTree, distances, distance}
 use Rattle.search.specs.Turn.{Congestion, priceAt, turn}
 use Rattle.search.specs.Clamped.{clampedPrice}
-use Rattle.search.specs.Replies.{cleared, refusalOf, faultyWithSinks, SearchReply, searchUnlessRefused, searchReply, searchReplyOf, LeavesLeastCosts}
+use Rattle.search.specs.Replies.{cleared, refusalOf, faultyWithDelays, faultyWithSinks, SearchReply, searchUnlessRefused, timedSearchReply, searchReplyOf, LeavesLeastCosts}
 use Rattle.search.specs.Replies.{PathReply, turnReply, fitting, pathDue, pathReply, pathRefusal, pathNumbers, pathReplyOf, JoinsCheapest}
 use Rattle.search.specs.declared.SearchAnswer.{SearchAnswer}
 use Rattle.search.specs.declared.SearchAnswer.the-variants as s
 use Rattle.search.specs.declared.PathAnswer.{PathAnswer}
 use Rattle.search.specs.declared.PathAnswer.the-variants as p
 use Rattle.price.proofs.TestLaws.{true≢false}
-use Rattle.search.proofs.BlockLaws.{graph-of, sound-of}
+use Rattle.search.proofs.BlockLaws.{graph-of}
 use Rattle.search.proofs.EdgeLaws.{Shaped, shape-of}
-use Rattle.search.proofs.ReadyLaws.{refusal-none, passed-ready, ready-block-fair}
+use Rattle.search.proofs.ReadyLaws.{ready-block-fair}
+use Rattle.search.proofs.SearchTestLaws.{passed-search}
 use Rattle.search.proofs.DistanceLaws.{length-distances, distance-least}
 use Rattle.search.proofs.TurnLaws.{joins-cheapest, stuck-no-path}
 use Rattle.search.proofs.PathTestLaws.{sinks-nodes, path-ready}
@@ -53,13 +54,13 @@ module _ (ks cs fs ts : List ℕ) (c : Congestion) (marks work : List ℕ) where
   -- ---- the search
 
   -- the distances at the beginning of the work slice are least costs
-  least-left : refusalOf (faultyTable block) (nodes block) c marks (length work) ≡ [] → {w′ : List ℕ} → w′ ≡ cleared (nodes block) (distances block price marks) work
+  least-left : refusalOf (faultyWithDelays block c) (nodes block) c marks (length work) ≡ [] → {w′ : List ℕ} → w′ ≡ cleared (nodes block) (distances block price marks) work
       → (v : ℕ) → v < nodes block → LeastCost block price (inTree marks) v (getD w′ v 0)
   unfolding cleared
   least-left none {w′} end v h =
-      let passed = refusal-none _ _ c marks _ none in
-      let sound : Sound block = sound-of block (passed .table-sound) in
-      let fair : Fair block price = ready-block-fair ks cs fs ts c marks (passed-ready ks cs fs ts c marks sound passed) in
+      let passed = passed-search ks cs fs ts c marks (length work) none in
+      let sound : Sound block = passed .1 .0 in
+      let fair : Fair block price = ready-block-fair ks cs fs ts c marks (passed .0) in
       let ds : List ℕ = distances block price marks in
       let long : length ds ≡ nodes block = length-distances block price marks in
       let l : v < length ds = omega arith in
@@ -67,33 +68,34 @@ module _ (ks cs fs ts : List ℕ) (c : Congestion) (marks work : List ℕ) where
       ap (λ (xs : List ℕ). getD xs v 0) end ∙ List·getD-append ds (replicate (8 * nodes block - length ds) 0 ++ drop (8 * nodes block) work) 0 v l ∙ within-entry ds 0 far v l in
       rw here (distance-least block price marks (shape-of block (graph-of block sound)) fair v h)
 
-  pub search-least : (r : SearchAnswer) (w′ : List ℕ) → searchReplyOf r w′ ≡ searchReply block c marks work → LeavesLeastCosts block price marks r w′
-  unfolding searchReply
+  pub search-least : (r : SearchAnswer) (w′ : List ℕ) → searchReplyOf r w′ ≡ timedSearchReply block c marks work → LeavesLeastCosts block price marks r w′
+  unfolding timedSearchReply
   search-least s.Done w′ e =
-      let u = search-unrefused (refusalOf (faultyTable block) (nodes block) c marks (length work)) _ work e refl in
+      let u = search-unrefused (refusalOf (faultyWithDelays block c) (nodes block) c marks (length work)) _ work e refl in
       least-left (u .0) (u .1)
   search-least (s.BadTable table) w′ e = tt
   search-least (s.ShortWork needed) w′ e = tt
   search-least (s.BadNumber place) w′ e = tt
+  search-least (s.TooLarge n) w′ e = tt
 
-  pub search-both : (r : SearchAnswer) (w′ : List ℕ) → searchReplyOf r w′ ≡ searchReply block c marks work → (searchReplyOf r w′ ≡ searchReply block c marks work) × LeavesLeastCosts block price marks r w′
+  pub search-both : (r : SearchAnswer) (w′ : List ℕ) → searchReplyOf r w′ ≡ timedSearchReply block c marks work → (searchReplyOf r w′ ≡ timedSearchReply block c marks work) × LeavesLeastCosts block price marks r w′
   search-both r w′ e = (e, search-least r w′ e)
 
   -- ---- the cheapest path
 
   module _ (sinks : List ℕ) where
-    module _ (none : refusalOf (faultyWithSinks block sinks) (nodes block) c marks (length work) ≡ []) where
+    module _ (none : refusalOf (faultyWithSinks block c sinks) (nodes block) c marks (length work) ≡ []) where
       sound : Sound block
-      sound = path-ready ks cs fs ts sinks refl c marks work refl none .1 .0
+      sound = path-ready ks cs fs ts c sinks marks work none .1 .0
 
       graph : Shaped block
       graph = shape-of block (graph-of block sound)
 
       fair : Fair block price
-      fair = ready-block-fair ks cs fs ts c marks (path-ready ks cs fs ts sinks refl c marks work refl none .0)
+      fair = ready-block-fair ks cs fs ts c marks (path-ready ks cs fs ts c sinks marks work none .0)
 
       all-nodes : (i : ℕ) → i < length sinks → getD sinks i 0 < nodes block
-      all-nodes = sinks-nodes (nodes block) sinks (path-ready ks cs fs ts sinks refl c marks work refl none .1 .1 .1)
+      all-nodes = sinks-nodes (nodes block) sinks (path-ready ks cs fs ts c sinks marks work none .1 .1 .1)
 
       joined-cheapest : (place cost n : ℕ) (w′ : List ℕ) → pathReplyOf (p.Joins place cost n) w′ ≡ turnReply (nodes block) work (turn block price marks sinks)
           → CheapestPath block price (inTree marks) sinks (getD sinks place 0) cost (take n w′)
@@ -110,8 +112,8 @@ module _ (ks cs fs ts : List ℕ) (c : Congestion) (marks work : List ℕ) where
       -- the turn is the reply
       reply : {x : PathReply} → x ≡ pathReply block c marks sinks work → x ≡ turnReply (nodes block) work (turn block price marks sinks)
       reply e =
-          let r = path-ready ks cs fs ts sinks refl c marks work refl none in
-          e ∙ path-turn block c marks sinks work sound (r .1 .1 .1) (r .1 .1 .0) (r .0 .nodes-sound) (r .0 .factor-most)
+          let r = path-ready ks cs fs ts c sinks marks work none in
+          e ∙ path-turn block c marks sinks work sound (r .1 .1 .1) (r .1 .1 .0) (r .0 .nodes-sound) (r .0 .factor-most) (r .0 .weighable)
 
       pub path-cheapest : (r : PathAnswer) (w′ : List ℕ) → pathReplyOf r w′ ≡ pathReply block c marks sinks work → JoinsCheapest block price marks sinks r w′
       path-cheapest (p.Joins place cost n) w′ e = joined-cheapest place cost n w′ (reply e)
@@ -119,12 +121,13 @@ module _ (ks cs fs ts : List ℕ) (c : Congestion) (marks work : List ℕ) where
       path-cheapest (p.BadTable table) w′ e = tt
       path-cheapest (p.ShortWork needed) w′ e = tt
       path-cheapest (p.BadNumber place) w′ e = tt
+      path-cheapest (p.TooLarge n) w′ e = tt
 
       -- and every length is right
       pub due-fitting : fitting block c marks sinks work ≡ true
       due-fitting =
-          let r = path-ready ks cs fs ts sinks refl c marks work refl none in
-          fitting-sound block c marks sinks work sound (r .1 .1 .1) (r .1 .1 .0) (r .0 .nodes-sound) (r .0 .factor-most)
+          let r = path-ready ks cs fs ts c sinks marks work none in
+          fitting-sound block c marks sinks work sound (r .1 .1 .1) (r .1 .1 .0) (r .0 .nodes-sound) (r .0 .factor-most) (r .0 .weighable)
 
     -- where every length is right the turn is the reply
     pub path-turned :

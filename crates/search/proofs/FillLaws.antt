@@ -5,6 +5,7 @@
 --     first-tree, first-other                   the first distance of a node
 --     Pricing, Starting                         the loops that fill a part, a node a turn
 -- Assumes nothing.
+use mathlib.Core.Bool.{true}
 use mathlib.Core.List.{List, [], _∷_, _++_, append-assoc}
 use mathlib.Core.Path.{_≡_, refl, sym, _∙_, ap, subst}
 use Prim.Native.Nat.{ℕ, suc, _+_, _-_, _*_, _≤_, _<_}
@@ -16,12 +17,13 @@ use lib.Seq.{length-take-le, drop-cons, getD-append-add, getD-set-same, getD-set
 use borrow.Author.Count.{below-more}
 use borrow.Author.Tests.{eq-eqb, ne-eqb}
 use Rattle.price.specs.Test.{choose}
-use Rattle.price.specs.Replies.{PriceReply, priced, priceReplyOf, priceReply}
+use Rattle.price.specs.Replies.{PriceReply, priced, priceReplyOf}
+use Rattle.price.specs.Timed.{weighedReply}
 use Rattle.price.specs.declared.PriceAnswer.{PriceAnswer}
 use Rattle.price.specs.declared.PriceAnswer.the-variants.{Price, Refused}
-use Rattle.price.proofs.ReplyLaws.{reply-priced}
+use Rattle.price.proofs.TimedLaws.{reply-delay, weighed-priced}
 use Rattle.search.specs.Block.{blockOf}
-use Rattle.search.specs.Turn.{congestionOf, priceAt}
+use Rattle.search.specs.Turn.{Congestion, congestedAt, priceAt}
 use Rattle.search.specs.Frontier.{PriceReady}
 use Rattle.search.specs.Distance.{far, inTree}
 use Rattle.search.specs.Layout.{distAt, leafAt, priceIn, SameBut, Started, Priced}
@@ -85,15 +87,23 @@ module _ {w′ : List ℕ} (w : List ℕ) (from to : ℕ) (e : w′ ≡ cleared 
 
 -- ---- what the price's answer says of a node that is ready to be priced
 
-module _ {kinds capacities histories others : List ℕ} {factor v : ℕ} (ready : PriceReady kinds capacities histories others factor v) where
-  reply : priceReply (getD kinds v 0) factor (getD others v 0) (getD capacities v 0) (getD histories v 0) ≡ priced (priceAt (blockOf kinds capacities [] []) (congestionOf factor histories others) v)
-  unfolding priceAt
-  reply = reply-priced (getD kinds v 0) factor (getD others v 0) (getD capacities v 0) (getD histories v 0) (ready .bounds)
+-- the delay is read only where it is weighed
+module _ {kinds capacities : List ℕ} {c : Congestion} {v : ℕ} (ready : PriceReady kinds capacities c v) {d : ℕ} (read : c .weighting .timed ≡ true → d ≡ getD (c .delays) v 0) where
+  reply :
+      weighedReply (c .weighting) (getD kinds v 0) (c .factor) (getD (c .others) v 0) (getD capacities v 0) (getD (c .histories) v 0) d
+      ≡ priced (priceAt (blockOf kinds capacities [] []) c v)
+  unfolding priceAt congestedAt
+  reply = reply-delay (c .weighting) _ _ _ _ _ d read ∙ weighed-priced (c .weighting) _ _ _ _ _ _ (ready .bounds)
 
-  pub answered-price : {r : PriceAnswer} {p : ℕ} → r ≡ Price p → priceReplyOf r ≡ priceReply (getD kinds v 0) factor (getD others v 0) (getD capacities v 0) (getD histories v 0) → p ≡ priceAt (blockOf kinds capacities [] []) (congestionOf factor histories others) v
+  pub answered-price :
+      {r : PriceAnswer} {p : ℕ} → r ≡ Price p
+      → priceReplyOf r ≡ weighedReply (c .weighting) (getD kinds v 0) (c .factor) (getD (c .others) v 0) (getD capacities v 0) (getD (c .histories) v 0) d
+      → p ≡ priceAt (blockOf kinds capacities [] []) c v
   answered-price q e = ap (λ (x : PriceReply). x .price) (sym (ap priceReplyOf q) ∙ e ∙ reply)
 
-  pub answered-refused : {r : PriceAnswer} {place : ℕ} → r ≡ Refused place → priceReplyOf r ≡ priceReply (getD kinds v 0) factor (getD others v 0) (getD capacities v 0) (getD histories v 0) → ⊥
+  pub answered-refused :
+      {r : PriceAnswer} {place : ℕ} → r ≡ Refused place
+      → priceReplyOf r ≡ weighedReply (c .weighting) (getD kinds v 0) (c .factor) (getD (c .others) v 0) (getD capacities v 0) (getD (c .histories) v 0) d → ⊥
   answered-refused {r} {place} q e =
       let refusal : 13 ∷ place ∷ [] ≡ [] = ap (λ (x : PriceReply). x .refusal) (sym (ap priceReplyOf q) ∙ e ∙ reply) in
       let z : _≡_ {A = ℕ} 0 1 = cc in

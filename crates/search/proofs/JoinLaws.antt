@@ -1,24 +1,26 @@
 -- A turn, step by step: the lists have their lengths, tree and goals are marked, the labels have spread and stopped; and what the turn answers then.
 -- Assumes nothing.
-use mathlib.Core.Bool.{true, false}
+use mathlib.Core.Bool.{Bool, true, false}
 use mathlib.Core.List.{List, _++_}
 use mathlib.Core.Logic.{_⊎_, ⊎-elim, inl, inr}
 use mathlib.Core.Path.{_≡_, sym, _∙_, ap}
 use Prim.Native.Nat.{ℕ, _+_, _-_, _*_, _/_, _≤_, _<_}
+use native.Mathlib.Nat.{mul-le-mul-right}
 use native.Mathlib.Omega.{arith}
 use lib.Dec.{leb, eqb}
 use lib.ListN.{length, getD, take, drop, replicate}
 use borrow.Author.Tests.{leb-true, eqb-true, le-leb}
-use Rattle.price.specs.Bounds.{nodesMost}
-use Rattle.price.proofs.TestLaws.{either-way, both-left, both-right}
+use Rattle.price.specs.Bounds.{nodesMost, timedNodesMost}
+use Rattle.price.proofs.TestLaws.{either-way, true≢false, both-left, both-right}
 use Rattle.price.proofs.BelowLaws.{count-same}
 use Rattle.price.proofs.ListLaws.{drop-same}
 use Rattle.search.specs.Block.{Block, nodes, blockOf, graphOf}
 use Rattle.search.specs.Tables.{edgesMost}
 use Rattle.search.specs.Distance.{far, inTree}
+use Rattle.search.specs.Paths.{Fair}
 use Rattle.search.specs.Turn.{Congestion, turn}
 use Rattle.search.specs.Clamped.{clampedPrice, Lent}
-use Rattle.search.specs.Replies.{workNeeded, fittingLengths, fitting, turnReply, pathReplyOf}
+use Rattle.search.specs.Replies.{workNeeded, timedFitting, fittingLengths, lengthsFitting, fitting, turnReply, pathReplyOf}
 use Rattle.search.specs.Labels.{goal, labelAt, waitAt, keyAt, besideAt}
 use Rattle.search.specs.Spread.{bare, bareCount, Spread, RunReady, Ran}
 use Rattle.search.specs.TurnWork.{Fitted, TreeMarked, GoalsMarked, LeastGoal, Read}
@@ -28,10 +30,17 @@ use Rattle.search.proofs.GraphLaws.{turn-same}
 use Rattle.search.proofs.SpreadRun.{fair-clamped}
 use Rattle.search.proofs.HaltLaws.{OpenAt, Halted, halted-stuck, halted-joins}
 
+-- the lengths of a timed turn
+timed-fitted : (timed : Bool) (n delays : ℕ) → timedFitting timed n delays ≡ true → timed ≡ true → (n ≤ timedNodesMost) × (n ≤ delays)
+timed-fitted false n delays t e = absurd (true≢false (sym e))
+timed-fitted true n delays t e = (leb-true n timedNodesMost (both-left _ _ t), leb-true n delays (both-right (leb n timedNodesMost) _ t))
+
 -- a test of all lengths that holds says each
 pub fitted : (b : Block) (c : Congestion) (marks sinks work : List ℕ) → fitting b c marks sinks work ≡ true → Fitted b c marks sinks work
 unfolding fittingLengths
-fitted b c marks sinks work t₀ =
+fitted b c marks sinks work t =
+    let t₀ = both-left (lengthsFitting b c marks sinks work) _ t in
+    let timed = timed-fitted (c .weighting .timed) (nodes b) (length (c .delays)) (both-right (lengthsFitting b c marks sinks work) _ t) in
     let t₁ = both-right (leb 1 (nodes b)) _ t₀ in
     let t₂ = both-right (leb (nodes b) nodesMost) _ t₁ in
     let t₃ = both-right (eqb (length (b .capacities)) (nodes b)) _ t₂ in
@@ -51,10 +60,19 @@ fitted b c marks sinks work t₀ =
       others-long = leb-true _ _ (both-left _ _ t₇);
       marks-long = leb-true _ _ (both-left _ _ t₈);
       sinks-few = leb-true _ _ (both-right (leb (nodes b) (length marks)) _ t₈);
+      timed-few = λ e. timed e .0;
+      delays-long = λ e. timed e .1;
     }
 
 pub fitted-lent : (ks cs fs ts : List ℕ) {c : Congestion} {marks sinks work : List ℕ} → Fitted (blockOf ks cs fs ts) c marks sinks work → Lent ks cs c
-fitted-lent ks cs fs ts f = record { few = f .few; capacities-long = f .capacities-long; histories-long = f .histories-long; others-long = f .others-long }
+fitted-lent ks cs fs ts f = record {
+  few = f .few;
+  capacities-long = f .capacities-long;
+  histories-long = f .histories-long;
+  others-long = f .others-long;
+  delays-long = f .delays-long;
+  timed-few = f .timed-few;
+}
 
 -- the work slice has room for labels, predecessors and waiting nodes
 pub fitted-room : (ks cs fs ts : List ℕ) {c : Congestion} {marks sinks work : List ℕ} → Fitted (blockOf ks cs fs ts) c marks sinks work → 3 * length ks ≤ length work
@@ -137,11 +155,12 @@ module _ {n : ℕ} {marks sinks w₀ w₁ w₂ : List ℕ} {count : ℕ} (t : Tr
 -- nothing has spread yet
 marked-spread :
     (b : Block) (price : ℕ → ℕ) {marks sinks w₀ w₁ w₂ : List ℕ} {count : ℕ} → TreeMarked (nodes b) marks w₀ w₁ count → GoalsMarked (nodes b) sinks w₁ w₂ (length sinks)
-    → 3 * nodes b ≤ length w₀ → Spread b price w₂ count 0 (nodes b) 0
-marked-spread b price {marks} {sinks} {w₀} {w₁} {w₂} {count} t g long =
+    → 3 * nodes b ≤ length w₀ → Fair b price → Spread b price w₂ count 0 (nodes b) 0
+marked-spread b price {marks} {sinks} {w₀} {w₁} {w₂} {count} t g long fair =
     let same : bareCount (nodes b) w₂ ≡ bareCount (nodes b) w₁ = count-same (bare w₂) (bare w₁) (nodes b) (bare-same t g) in
     let room = t .room in
     record {
+      fair = fair;
       heap = record {
         long = rw (marked-long t g) long;
         few = omega arith;
@@ -152,7 +171,7 @@ marked-spread b price {marks} {sinks} {w₀} {w₁} {w₂} {count} t g long =
       room = rw same room;
       waits-label = λ i l. rw (marked-key t g i l) (omega arith);
       waits-far = λ i l. omega arith;
-      bound = λ v h l. let z = marked-low t g v h l .1 in omega arith;
+      bound = λ v h l. let z = marked-low t g v h l .1 in let most : bareCount (nodes b) w₂ * fair .ceiling ≤ nodes b * fair .ceiling = mul-le-mul-right (fair .ceiling) (omega arith) in omega arith;
       came = λ v h p l. absurd (let z = marked-low t g v h l .1 in omega arith);
       done = λ u h l.
           let z = marked-low t g u h l in
@@ -165,17 +184,20 @@ marked-spread b price {marks} {sinks} {w₀} {w₁} {w₂} {count} t g long =
 module _ (ks cs fs ts : List ℕ) (c : Congestion) {marks sinks w₀ w₁ w₂ : List ℕ} {count step : ℕ} (f : Fitted (blockOf ks cs fs ts) c marks sinks w₀)
     (t : TreeMarked (length ks) marks w₀ w₁ count) (g : GoalsMarked (length ks) sinks w₁ w₂ (length sinks))
     (m : LeastGoal (length ks) (clampedPrice ks cs c) sinks w₂ (length sinks) step) where
+  join-fair : Fair (graphOf ks fs ts) (clampedPrice ks cs c)
+  join-fair = fair-clamped (graphOf ks fs ts) ks cs c (f .few) (f .timed-few)
+
   pub join-ready : RunReady (graphOf ks fs ts) (clampedPrice ks cs c) w₂ count step
   join-ready = record {
     firsts-long = f .firsts-long;
-    spread = marked-spread (graphOf ks fs ts) (clampedPrice ks cs c) t g (let e = f .enough in omega arith);
+    spread = marked-spread (graphOf ks fs ts) (clampedPrice ks cs c) t g (let e = f .enough in omega arith) join-fair;
     small = m .most;
   }
 
   pub join-halts : {w₃ : List ℕ} {best : ℕ} → Ran (graphOf ks fs ts) (clampedPrice ks cs c) step w₂ w₃ best → Halted (graphOf ks fs ts) (clampedPrice ks cs c) marks sinks w₀ w₃ best
   join-halts {w₃} {best} r = record {
     shaped = record { few = f .few; firsts-long = f .firsts-long };
-    fair = fair-clamped (graphOf ks fs ts) ks cs c (f .few);
+    fair = join-fair;
     marks-long = f .marks-long;
     sinks-few = f .sinks-few;
     count = r .count;

@@ -1,7 +1,7 @@
 -- A pass over a list that never leaves early: its flag tells whether every entry passes the test. Three such passes tell whether a node is bad.
 -- Assumes nothing.
 use mathlib.Core.Bool.{Bool, true, false, not}
-use mathlib.Core.List.{List}
+use mathlib.Core.List.{List, []}
 use mathlib.Core.Logic.{_⊎_, ⊎-elim}
 use mathlib.Core.Path.{_≡_, refl, sym, _∙_, ap}
 use Prim.Native.Nat.{ℕ, _+_, _≤_, _<_}
@@ -11,11 +11,13 @@ use lib.ListN.{length, getD}
 use borrow.Author.Tests.{leb-true, leb-false, le-leb, lt-leb, lt-ltb, le-ltb, not-true, not-false}
 use borrow.Author.Count.{below-none, below-more}
 use Rattle.price.specs.Test.{both}
-use Rattle.price.specs.Bounds.{othersMost, historyMost}
+use Rattle.price.specs.Bounds.{othersMost}
+use Rattle.price.specs.Timed.{historyBound}
+use Rattle.price.specs.declared.Weighting.{Weighting}
 use Rattle.price.specs.Lists.{firstBelow}
 use Rattle.price.proofs.TestLaws.{true≢false, both-true, both-false-left, both-false-right, both-left, both-right, le-or-lt}
 use Rattle.price.proofs.BelowLaws.{firstBelow-below, firstBelow-all}
-use Rattle.search.specs.Turn.{Congestion, congestionOf}
+use Rattle.search.specs.Turn.{Congestion, weighedCongestion}
 use Rattle.search.specs.Replies.{bounded, historyBounded, nodeSound, badNode}
 use Rattle.search.specs.Ready.{allBelow}
 
@@ -127,18 +129,20 @@ module _ (xs : List ℕ) {n v : ℕ} (h : v < n) (long : n ≤ length xs) {T F :
             (p .tells);
       }
 
-  pub history-more : {T₂ F₂ : Type 0} {last : Bool} → (T → getD xs v 0 < 1) → (F → 1 ≤ getD xs v 0) → (T₂ × (last ≡ false)) ⊎ (F₂ × (last ≡ next)) → (T₂ → historyMost < getD xs v 0) → (F₂ → getD xs v 0 ≤ historyMost) → Passing (historyBounded xs) n v fine → Passing (historyBounded xs) n (v + 1) last
-  history-more low some came₂ high few p =
-      let fails : both (leb 1 (getD xs v 0)) (leb (getD xs v 0) historyMost) ≡ false → failsAt (historyBounded xs) n < n =
-      λ e. one-fails (historyBounded xs) n v h (both-false-right (ltb v (length xs)) (both (leb 1 (getD xs v 0)) (leb (getD xs v 0) historyMost)) e) in
+  pub history-more :
+      (most : ℕ) {T₂ F₂ : Type 0} {last : Bool} → (T → getD xs v 0 < 1) → (F → 1 ≤ getD xs v 0) → (T₂ × (last ≡ false)) ⊎ (F₂ × (last ≡ next))
+      → (T₂ → most < getD xs v 0) → (F₂ → getD xs v 0 ≤ most) → Passing (historyBounded most xs) n v fine → Passing (historyBounded most xs) n (v + 1) last
+  history-more most low some came₂ high few p =
+      let fails : both (leb 1 (getD xs v 0)) (leb (getD xs v 0) most) ≡ false → failsAt (historyBounded most xs) n < n =
+      λ e. one-fails (historyBounded most xs) n v h (both-false-right (ltb v (length xs)) (both (leb 1 (getD xs v 0)) (leb (getD xs v 0) most)) e) in
       record {
         within = omega arith;
         tells =
             tells-more came₂
-            (λ w. fails (both-false-right (leb 1 (getD xs v 0)) (leb (getD xs v 0) historyMost) (lt-leb (getD xs v 0) historyMost (high w))))
-            (λ w (s : (1 ≤ getD xs v 0) × ((k : ℕ) → k < v → historyBounded xs k ≡ true)).
+            (λ w. fails (both-false-right (leb 1 (getD xs v 0)) (leb (getD xs v 0) most) (lt-leb (getD xs v 0) most (high w))))
+            (λ w (s : (1 ≤ getD xs v 0) × ((k : ℕ) → k < v → historyBounded most xs k ≡ true)).
             below-more _ _ (s .1)
-            (both-true (lt-ltb v (length xs) (omega arith)) (both-true (le-leb 1 (getD xs v 0) (s .0)) (le-leb (getD xs v 0) historyMost (few w)))))
+            (both-true (lt-ltb v (length xs) (omega arith)) (both-true (le-leb 1 (getD xs v 0) (s .0)) (le-leb (getD xs v 0) most (few w)))))
             (tells-more came (λ w. fails (rw (lt-leb 1 (getD xs v 0) (low w)))) (λ w all. (some w, all)) (p .tells));
       }
 
@@ -150,19 +154,23 @@ unfolding badNode
 sound-below n c marks l = none-fails (nodeSound c marks) n l
 
 -- by the three lists
-module _ (n : ℕ) (hs os ms : List ℕ) where
-  lists-all : both (allBelow n (historyBounded hs)) (both (allBelow n (bounded othersMost os)) (allBelow n (bounded 1 ms))) ≡ leb n (badNode n (congestionOf 0 hs os) ms)
+module _ (n : ℕ) (w : Weighting) (hs os ms : List ℕ) where
+  lists-all : both (allBelow n (historyBounded (historyBound w) hs)) (both (allBelow n (bounded othersMost os)) (allBelow n (bounded 1 ms))) ≡ leb n (badNode n (weighedCongestion w [] 0 hs os) ms)
   unfolding badNode nodeSound
   lists-all =
-      ap (both (allBelow n (historyBounded hs))) (all-both (bounded othersMost os) (bounded 1 ms) n)
-      ∙ all-both (historyBounded hs) (λ v. both (bounded othersMost os v) (bounded 1 ms v)) n
+      ap (both (allBelow n (historyBounded (historyBound w) hs))) (all-both (bounded othersMost os) (bounded 1 ms) n)
+      ∙ all-both (historyBounded (historyBound w) hs) (λ v. both (bounded othersMost os v) (bounded 1 ms v)) n
 
-  pub bad-history : allBelow n (historyBounded hs) ≡ false → false ≡ leb n (badNode n (congestionOf 0 hs os) ms)
-  bad-history e = sym (both-false-left (allBelow n (historyBounded hs)) _ e) ∙ lists-all
+  pub bad-history : {most : ℕ} → most ≡ historyBound w → allBelow n (historyBounded most hs) ≡ false → false ≡ leb n (badNode n (weighedCongestion w [] 0 hs os) ms)
+  bad-history {most} is e =
+      sym (both-false-left (allBelow n (historyBounded (historyBound w) hs)) _ (ap (λ (m : ℕ). allBelow n (historyBounded m hs)) (sym is) ∙ e)) ∙ lists-all
 
-  module _ (h : allBelow n (historyBounded hs) ≡ true) where
-    pub bad-others : allBelow n (bounded othersMost os) ≡ false → false ≡ leb n (badNode n (congestionOf 0 hs os) ms)
+  module _ {most : ℕ} (is : most ≡ historyBound w) (fine : allBelow n (historyBounded most hs) ≡ true) where
+    h : allBelow n (historyBounded (historyBound w) hs) ≡ true
+    h = ap (λ (m : ℕ). allBelow n (historyBounded m hs)) (sym is) ∙ fine
+
+    pub bad-others : allBelow n (bounded othersMost os) ≡ false → false ≡ leb n (badNode n (weighedCongestion w [] 0 hs os) ms)
     bad-others e = sym (rw (h, e)) ∙ lists-all
 
-    pub marks-left : {r : Bool} → allBelow n (bounded othersMost os) ≡ true → r ≡ allBelow n (bounded 1 ms) → r ≡ leb n (badNode n (congestionOf 0 hs os) ms)
+    pub marks-left : {r : Bool} → allBelow n (bounded othersMost os) ≡ true → r ≡ allBelow n (bounded 1 ms) → r ≡ leb n (badNode n (weighedCongestion w [] 0 hs os) ms)
     marks-left o e = e ∙ sym (rw (h, o)) ∙ lists-all

@@ -8,19 +8,19 @@ use Prim.Native.Nat.{ℕ, _*_, _≤_, _<_}
 use native.Mathlib.Omega.{arith}
 use lib.Dec.{leb, ltb}
 use lib.ListN.{length, getD}
-use borrow.Author.Tests.{leb-true, leb-false, ltb-true}
+use borrow.Author.Tests.{leb-true, ltb-true}
 use Rattle.price.specs.Test.{choose}
 use Rattle.price.specs.Bounds.{nodesMost}
 use Rattle.price.proofs.TestLaws.{either-way, both-left, both-right}
 use Rattle.price.proofs.ListLaws.{every-at}
 use Rattle.search.specs.Block.{Block, blockOf, nodes}
-use Rattle.search.specs.Tables.{faultyTable, Sound}
+use Rattle.search.specs.Tables.{faultyTable, delaysSound, Sound}
 use Rattle.search.specs.Turn.{Congestion}
-use Rattle.search.specs.Replies.{refusalOf, searchRefusal, sinksMost, sinkListSound, faultyWithSinks}
+use Rattle.search.specs.Replies.{refusalOf, searchRefusal, sinksMost, sinkListSound, faultyWithDelays, faultyWithSinks}
 use Rattle.search.specs.Ready.{Ready}
 use Rattle.search.specs.declared.SearchAnswer.{SearchAnswer}
 use Rattle.search.proofs.BlockLaws.{sound-of, kinds-few}
-use Rattle.search.proofs.ReadyLaws.{Passed, refusal-none, passed-ready}
+use Rattle.search.proofs.ReadyLaws.{refusal-none, fault-none, delays-kept, passed-ready}
 
 -- ---- a list of sinks that keeps its rule
 
@@ -36,50 +36,40 @@ module _ (n : ℕ) (sinks : List ℕ) (s : sinkListSound n sinks ≡ true) where
 -- ---- the tests before a turn
 
 -- where neither a table nor the list of sinks is faulty, each keeps its rule
-no-fault : (b : Block) (sinks : List ℕ) → faultyWithSinks b sinks ≡ 0 → (faultyTable b ≡ 0) × (sinkListSound (nodes b) sinks ≡ true)
+no-fault : (b : Block) (c : Congestion) (sinks : List ℕ) → faultyWithSinks b c sinks ≡ 0 → (faultyWithDelays b c ≡ 0) × (sinkListSound (nodes b) sinks ≡ true)
 unfolding faultyWithSinks
-no-fault b sinks e =
+no-fault b c sinks e =
+    let rest : choose (sinkListSound (nodes b) sinks) (faultyWithDelays b c) 7 ≡ 0 = fault-none (faultyTable b) _ e .1 in
     ⊎-elim
-    (λ (q : leb 1 (faultyTable b) ≡ true).
-    let some : 1 ≤ faultyTable b = leb-true _ _ q in
-    let none : faultyTable b ≡ 0 = rw q at e in
-    absurd (omega arith))
-    (λ (q : leb 1 (faultyTable b) ≡ false).
-    let none : faultyTable b < 1 = leb-false _ _ q in
-    let rest : choose (sinkListSound (nodes b) sinks) 0 7 ≡ 0 = rw q at e in (
-      omega arith,
-      ⊎-elim
-          (λ s. s)
-          (λ (s : sinkListSound (nodes b) sinks ≡ false). absurd (let z : _≡_ {A = ℕ} 7 0 = rw s at rest in omega arith))
-          (either-way (sinkListSound (nodes b) sinks)),
-    ))
-    (either-way (leb 1 (faultyTable b)))
+    (λ (s : sinkListSound (nodes b) sinks ≡ true). (rw s at rest, s))
+    (λ (s : sinkListSound (nodes b) sinks ≡ false). absurd (let z : _≡_ {A = ℕ} 7 0 = rw s at rest in omega arith))
+    (either-way (sinkListSound (nodes b) sinks))
 
-module _ (ks cs fs ts sinks : List ℕ) {table : ℕ} (found : table ≡ faultyWithSinks (blockOf ks cs fs ts) sinks) where
-  pub path-few : table ≡ 0 → length ks ≤ nodesMost
-  path-few e = kinds-few ks (sound-of (blockOf ks cs fs ts) (no-fault (blockOf ks cs fs ts) sinks (sym found ∙ e) .0) .kinds-sound)
+module _ (ks cs fs ts : List ℕ) (c : Congestion) (sinks : List ℕ) where
+  path-kept :
+      faultyWithSinks (blockOf ks cs fs ts) c sinks ≡ 0
+      → Sound (blockOf ks cs fs ts) × (c .weighting .timed ≡ true → delaysSound (length ks) (c .delays) ≡ true) × (sinkListSound (length ks) sinks ≡ true)
+  path-kept e =
+      let z = no-fault (blockOf ks cs fs ts) c sinks e in
+      let k = delays-kept (blockOf ks cs fs ts) c (z .0) in
+      (sound-of (blockOf ks cs fs ts) (k .0), k .1, z .1)
 
-  -- what is refused is due
-  pub refused-is :
-      (c : Congestion) (marks : List ℕ) (entries : ℕ) {r answer : SearchAnswer} → searchRefusal r ≡ refusalOf table (length ks) c marks entries → r ≡ answer
-      → searchRefusal answer ≡ refusalOf (faultyWithSinks (blockOf ks cs fs ts) sinks) (length ks) c marks entries
-  refused-is c marks entries {r} {answer} e is = ap searchRefusal (sym is) ∙ e ∙ ap (λ (t : ℕ). refusalOf t (length ks) c marks entries) found
+  pub path-few : {table : ℕ} → table ≡ faultyWithSinks (blockOf ks cs fs ts) c sinks → table ≡ 0 → length ks ≤ nodesMost
+  path-few found e = kinds-few ks (path-kept (sym found ∙ e) .0 .kinds-sound)
 
-  -- with the numbers of the first refusal that is due
-  module _ (c : Congestion) (marks work : List ℕ) {numbers : List ℕ} (checked : numbers ≡ refusalOf table (length ks) c marks (length work)) where
-    due : refusalOf (faultyWithSinks (blockOf ks cs fs ts) sinks) (length ks) c marks (length work) ≡ numbers
-    due = rw found at (sym checked)
+  -- where nothing is refused every rule is kept
+  pub path-ready :
+      (marks work : List ℕ) → refusalOf (faultyWithSinks (blockOf ks cs fs ts) c sinks) (length ks) c marks (length work) ≡ []
+      → Ready ks cs c marks × (Sound (blockOf ks cs fs ts) × ((8 * length ks ≤ length work) × (sinkListSound (length ks) sinks ≡ true)))
+  path-ready marks work none =
+      let passed = refusal-none _ _ _ _ _ none in
+      let kept = path-kept (passed .table-sound) in
+      (passed-ready ks cs fs ts c marks (kept .0) (kept .1) passed, (kept .0, (passed .work-long, kept .2)))
 
-    module _ (fine : numbers ≡ []) where
-      passed : Passed (faultyWithSinks (blockOf ks cs fs ts) sinks) (length ks) c marks (length work)
-      passed = refusal-none _ _ _ _ _ (due ∙ fine)
-
-      sound-tables : Sound (blockOf ks cs fs ts)
-      sound-tables = sound-of (blockOf ks cs fs ts) (no-fault (blockOf ks cs fs ts) sinks (passed .table-sound) .0)
-
-      -- where nothing is refused every rule is kept
-      pub path-ready : Ready ks cs c marks × (Sound (blockOf ks cs fs ts) × ((8 * length ks ≤ length work) × (sinkListSound (length ks) sinks ≡ true)))
-      path-ready = (
-        passed-ready ks cs fs ts c marks sound-tables passed,
-        (sound-tables, (passed .work-long, no-fault (blockOf ks cs fs ts) sinks (passed .table-sound) .1)),
-      )
+-- what is refused is due
+pub refused-is :
+    (ks cs fs ts : List ℕ) (c : Congestion) (sinks marks : List ℕ) (entries : ℕ) {table : ℕ} {r answer : SearchAnswer} → table ≡ faultyWithSinks (blockOf ks cs fs ts) c sinks
+    → searchRefusal r ≡ refusalOf table (length ks) c marks entries → r ≡ answer
+    → searchRefusal answer ≡ refusalOf (faultyWithSinks (blockOf ks cs fs ts) c sinks) (length ks) c marks entries
+refused-is ks cs fs ts c sinks marks entries found e is =
+    ap searchRefusal (sym is) ∙ e ∙ ap (λ (t : ℕ). refusalOf t (length ks) c marks entries) found

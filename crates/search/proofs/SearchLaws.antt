@@ -18,7 +18,7 @@ use Rattle.price.proofs.ListLaws.{drop-same}
 use Rattle.search.specs.Block.{blockOf, graphOf}
 use Rattle.search.specs.Tables.{Sound}
 use Rattle.search.specs.Distance.{far, inTree, distances, distance}
-use Rattle.search.specs.Turn.{Congestion, congestionOf, priceAt}
+use Rattle.search.specs.Turn.{Congestion, congestedAt, priceAt}
 use Rattle.search.specs.Replies.{cleared}
 use Rattle.search.specs.Layout.{distAt, entryAt, leafAt, priceIn, goalAt, Heap, SameBut, Started, Priced}
 use Rattle.search.specs.Frontier.{Waiting, BestGoal, LastStep, InProgress, Ran}
@@ -32,8 +32,8 @@ use Rattle.search.proofs.ReadyLaws.{sound-graph, ready-fair}
 
 -- ---- the work slice before the queue is built: prices, then first distances, then no goals
 
-module _ (ks cs : List ℕ) (factor : ℕ) (hs os marks w₀ w₁ w₂ w₃ : List ℕ) (long : 8 * length ks ≤ length w₀)
-    (p : Priced (length ks) (priceAt (blockOf ks cs [] []) (congestionOf factor hs os)) w₀ w₁) (s : Started (length ks) marks w₁ w₂)
+module _ (ks cs : List ℕ) (c : Congestion) (marks w₀ w₁ w₂ w₃ : List ℕ) (long : 8 * length ks ≤ length w₀)
+    (p : Priced (length ks) (priceAt (blockOf ks cs [] []) c) w₀ w₁) (s : Started (length ks) marks w₁ w₂)
     (e : w₃ ≡ take (5 * length ks) w₂ ++ (replicate (6 * length ks - 5 * length ks) 0 ++ drop (6 * length ks) w₂)) where
   started-long : 6 * length ks ≤ length w₂
   started-long = omega (arith, s .long, p .same .long)
@@ -45,7 +45,7 @@ module _ (ks cs : List ℕ) (factor : ℕ) (hs os marks w₀ w₁ w₂ w₃ : Li
   before-goals : (j : ℕ) → j < 5 * length ks → getD w₃ j 0 ≡ getD w₂ j 0
   before-goals = cleared-low w₂ _ _ e in-order started-long
 
-  pub prepared : Prepared (length ks) (priceAt (blockOf ks cs [] []) (congestionOf factor hs os)) marks w₀ w₃
+  pub prepared : Prepared (length ks) (priceAt (blockOf ks cs [] []) c) marks w₀ w₃
   prepared =
       record {
         long = cleared-length w₂ _ _ e in-order started-long ∙ s .long ∙ p .same .long;
@@ -65,7 +65,7 @@ module _ (ks cs fs ts : List ℕ) (c : Congestion) (marks w : List ℕ)
     (dist : (v : ℕ) → v < length ks → distAt w v ≡ choose (inTree marks v) 0 far)
     (leaf : (v : ℕ) → v < length ks → leafAt (length ks) w v ≡ choose (inTree marks v) 0 far) where
   pub waiting-from : Waiting (graphOf ks fs ts) (priceAt (blockOf ks cs fs ts) c) marks w
-  unfolding priceAt
+  unfolding priceAt congestedAt
   waiting-from = start-waiting (graphOf ks fs ts) (priceAt (blockOf ks cs fs ts) c) marks w long heap prices dist leaf
 
   pub stands-from : InProgress (graphOf ks fs ts) w

@@ -2,6 +2,7 @@
 --     RowSoFar, row-..      the row of a node that is being settled, looked at up to a place
 --     Running, run-..       the nodes settled so far, and where that stops
 -- Assumes nothing.
+use mathlib.Core.Bool.{true}
 use mathlib.Core.List.{List}
 use mathlib.Core.Logic.{_⊎_, ⊎-elim, inl, inr}
 use mathlib.Core.Path.{_≡_, refl, _∙_}
@@ -9,9 +10,10 @@ use Prim.Native.Nat.{ℕ, _+_, _-_, _*_, _/_, _^_, _≤_, _<_, min}
 use native.Mathlib.Nat.{le-refl, le-trans}
 use native.Mathlib.Omega.{arith}
 use lib.ListN.{length, getD}
-use Rattle.price.specs.Bounds.{priceMost, pathMost, nodesMost}
+use Rattle.price.specs.Bounds.{pathMost, nodesMost, timedNodesMost}
+use Rattle.price.specs.Timed.{weighedMost}
 use Rattle.price.proofs.BelowLaws.{count-same}
-use Rattle.price.proofs.PriceLaws.{path-most}
+use Rattle.price.proofs.TimedLaws.{weighed-path, weighed-low}
 use Rattle.search.specs.Block.{Block, nodes, graphOf, rowStart}
 use Rattle.search.specs.Distance.{far}
 use Rattle.search.specs.Turn.{Congestion}
@@ -22,17 +24,15 @@ use Rattle.search.specs.Spread.{bare, bareCount, Came, Passed, Looked, S
 use Rattle.search.proofs.ClampedLaws.{clamped-pos, clamped-fair}
 use Rattle.search.proofs.EdgeLaws.{place-edge}
 use Rattle.search.proofs.HeapLaws.{heap-least}
-use Rattle.search.proofs.SpreadSteps.{Low, spread-low, label-ready, relax-at, onward-none, onward-trans}
+use Rattle.search.proofs.SpreadSteps.{spread-low, label-ready, relax-at, onward-none, onward-trans}
 
--- clamped prices are low, and fair
-pub low-clamped : (b : Block) (kinds capacities : List ℕ) (c : Congestion) → Low b (clampedPrice kinds capacities c)
-low-clamped b kinds capacities c = record { pos = λ v h. clamped-pos kinds capacities c v; most = λ v h. clamped-fair kinds capacities c v }
-
-pub fair-clamped : (b : Block) (kinds capacities : List ℕ) (c : Congestion) → nodes b ≤ nodesMost → Fair b (clampedPrice kinds capacities c)
-fair-clamped b kinds capacities c few = record {
-  ceiling = priceMost;
-  low = omega arith;
-  fits = path-most (nodes b) few;
+-- clamped prices are fair
+pub fair-clamped :
+    (b : Block) (kinds capacities : List ℕ) (c : Congestion) → nodes b ≤ nodesMost → (c .weighting .timed ≡ true → nodes b ≤ timedNodesMost) → Fair b (clampedPrice kinds capacities c)
+fair-clamped b kinds capacities c few timed-few = record {
+  ceiling = weighedMost (c .weighting);
+  low = let most = weighed-low (c .weighting) in omega arith;
+  fits = weighed-path (c .weighting) (nodes b) few timed-few;
   pos = λ v h. clamped-pos kinds capacities c v;
   most = λ v h. clamped-fair kinds capacities c v;
 }
@@ -53,6 +53,7 @@ module _ {b : Block} {price : ℕ → ℕ} {u : ℕ} {w₀ : List ℕ} {count₀
       let s = ready .spread in
       record {
         spread = record {
+          fair = s .fair;
           heap = s .heap;
           room = s .room;
           waits-label = s .waits-label;
@@ -85,7 +86,7 @@ module _ {b : Block} {price : ℕ → ℕ} {u : ℕ} {w₀ : List ℕ} {count₀
         from = rw is (le-refl _);
       }
 
-  module _ (fair : Low b price) (few : nodes b ≤ nodesMost) {w : List ℕ} {e count best₀ best to : ℕ} (r : RowSoFar b price u w₀ w e count₀ count best₀ best)
+  module _ (few : nodes b ≤ nodesMost) {w : List ℕ} {e count best₀ best to : ℕ} (r : RowSoFar b price u w₀ w e count₀ count best₀ best)
       (is : to ≡ min (rowStart b (u + 1)) (length (b .edgeTargets))) where
     module _ (more : e < to) where
       row-from : rowStart b u ≤ e
@@ -98,11 +99,11 @@ module _ {b : Block} {price : ℕ → ℕ} {u : ℕ} {w₀ : List ℕ} {count₀
       row-within = omega arith
 
       pub row-low : labelAt w₀ u < pathMost
-      row-low = spread-low fair (r .spread) few (ready .node) (r .here) (ready .labelled)
+      row-low = spread-low (r .spread) few (ready .node) (r .here) (ready .labelled)
 
       pub row-more : {w′ : List ℕ} {count′ best′ : ℕ} → Relaxed (nodes b) (b .firstEdges) price u (getD (b .edgeTargets) e 0) (labelAt w₀ u) w w′ count count′ best best′ → RowSoFar b price u w₀ w′ (e + 1) count₀ count′ best₀ best′
       row-more made =
-          let t = relax-at fair (r .spread) few (ready .node) (r .here) (ready .labelled) (ready .firsts-long) (getD (b .edgeTargets) e 0) refl
+          let t = relax-at (r .spread) few (ready .node) (r .here) (ready .labelled) (ready .firsts-long) (getD (b .edgeTargets) e 0) refl
           (place-edge b u e row-from row-below row-within) made in
           record {
             spread = t .spread;
@@ -117,6 +118,7 @@ module _ {b : Block} {price : ℕ → ℕ} {u : ℕ} {w₀ : List ℕ} {count₀
         let s = r .spread in
         record {
           spread = record {
+            fair = s .fair;
             heap = s .heap;
             room = s .room;
             waits-label = s .waits-label;
@@ -152,15 +154,14 @@ pub row-ready :
     → SettleReady (graphOf ks fs ts) (clampedPrice ks cs c) w₀ count₀ u → RowSoFar (graphOf ks fs ts) (clampedPrice ks cs c) u w₀ w e count₀ count best₀ best
     → to ≡ min (getD fs (u + 1) 0) (length ts) → e < to → RelaxReady ks cs c fs w count u (getD ts e 0) (labelAt w₀ u)
 row-ready {ks} {cs} {fs} {ts} {c} {u} lent ready r is more =
-    let fair = low-clamped (graphOf ks fs ts) ks cs c in
     record {
       lent = lent;
       firsts-long = ready .firsts-long;
       heap = r .spread .heap;
       labels-low = r .spread .waits-label;
-      near = row-low ready fair (lent .few) r is more;
+      near = row-low ready (lent .few) r is more;
       u-node = ready .node;
-      more = λ h l. label-ready fair (r .spread) (lent .few) (ready .node) (r .here) (ready .labelled) (ready .firsts-long) _ h l .more;
+      more = λ h l. label-ready (r .spread) (lent .few) (ready .node) (r .here) (ready .labelled) (ready .firsts-long) _ h l .more;
       from-node = λ h p l. r .spread .came _ h p l .node;
     }
 
@@ -180,6 +181,7 @@ raised : {b : Block} {price : ℕ → ℕ} {w : List ℕ} {count level cur place
     → ((i : ℕ) → i < count → level′ ≤ keyAt (nodes b) w i) → ((v : ℕ) → v < nodes b → Came b price w level v → labelAt w v < goal → labelAt w (fromAt (nodes b) w v) ≤ level′)
     → Spread b price w count level′ cur place
 raised level′ s above near = record {
+  fair = s .fair;
   heap = s .heap;
   room = s .room;
   waits-label = s .waits-label;
@@ -222,10 +224,10 @@ module _ {b : Block} {price : ℕ → ℕ} {w₀ w : List ℕ} {best count : ℕ
         (λ i l. rw run-key at (heap-least (nodes b) count w (r .spread .heap .ordered) i l))
         (λ v h c l. le-trans (c .near) level)
 
-    pub run-fits : {step : ℕ} → nodes b ≤ nodesMost → step ≤ anyPriceMost → labelAt w (getD w (nodes b) 0 / 65536) + step < 2 ^ 64
-    run-fits few small =
-        let m : labelAt w (getD w (nodes b) 0 / 65536) + bareCount (nodes b) w * priceMost ≤ nodes b * priceMost = r .spread .bound (getD w (nodes b) 0 / 65536) run-node run-label in
-        let top : nodes b * priceMost < pathMost = path-most (nodes b) few in
+    pub run-fits : {step : ℕ} → step ≤ anyPriceMost → labelAt w (getD w (nodes b) 0 / 65536) + step < 2 ^ 64
+    run-fits small =
+        let m = r .spread .bound (getD w (nodes b) 0 / 65536) run-node run-label in
+        let top : nodes b * r .spread .fair .ceiling < pathMost = r .spread .fair .fits in
         omega arith
 
     pub run-early : {step : ℕ} → best < labelAt w (getD w (nodes b) 0 / 65536) + step → Ran b price step w₀ w best
@@ -283,6 +285,7 @@ module _ {b : Block} {price : ℕ → ℕ} {w₀ w : List ℕ} {best count : ℕ
       took-spread =
           let s = run-raised in
           record {
+            fair = s .fair;
             heap = record { long = rw (t .moved .same .long) (s .heap .long); few = let f = s .heap .few in omega arith; ordered = t .ordered; nodes = took-node; keyed = t .keyed };
             room = rw took-bare (let f = s .room in omega arith);
             waits-label = λ i l. let q = took-key i l in rw (q .2) (s .waits-label (q .0) (q .1));

@@ -9,15 +9,14 @@ use mathlib.Core.Bool.{true, false}
 use mathlib.Core.List.{List}
 use mathlib.Core.Logic.{_⊎_, ⊎-elim, inl, inr}
 use mathlib.Core.Path.{_≡_, refl, sym, _∙_, ap}
-use Prim.Native.Nat.{ℕ, _+_, _*_, _/_, _%_, _≤_, _<_}
-use native.Mathlib.Nat.{le-refl, le-trans}
+use Prim.Native.Nat.{ℕ, suc, _+_, _*_, _/_, _%_, _≤_, _<_}
+use native.Mathlib.Nat.{le-refl, le-trans, mul-le-mul-right, suc-mul}
 use native.Mathlib.Omega.{arith}
 use lib.ListN.{length, getD, set, length-set}
 use borrow.Author.Tests.{le-leb, lt-leb, leb-true}
-use Rattle.price.specs.Bounds.{priceMost, pathMost, nodesMost}
+use Rattle.price.specs.Bounds.{pathMost, nodesMost}
 use Rattle.price.proofs.TestLaws.{le-or-lt, true≢false}
 use Rattle.price.proofs.BelowLaws.{count-less, count-same}
-use Rattle.price.proofs.PriceLaws.{path-most}
 use Rattle.search.specs.Block.{Block, nodes, rowStart, hasEdge}
 use Rattle.search.specs.Labels.{goal, labelAt, fromAt, withFrom, waitAt, keyAt, besideAt, Waits, Heaped}
 use Rattle.search.specs.Spread.{bare, bareCount, Came, Passed, Looked, Spread, Onward, labelled, Labelled, ends, waits, GoalMet, lowered, stays, Relaxed, beyond, labels, lowers, tree, LabelReady}
@@ -198,11 +197,6 @@ onward-trans {n} {w} {w₁} {w₂} {best} {best₁} {best₂} a c =
 
 -- ---- the steps
 
--- prices above 0 and at most the largest under row 13's bounds
-pub record Low (b : Block) (price : ℕ → ℕ) : Type 0 where
-  pub pos : (v : ℕ) → v < nodes b → 0 < price v
-  pub most : (v : ℕ) → v < nodes b → price v ≤ priceMost
-
 -- a bare node counts
 pub bare-some : (n : ℕ) (w : List ℕ) (v : ℕ) → v < n → goal ≤ labelAt w v → 0 < bareCount n w
 bare-some n w v h l =
@@ -223,6 +217,12 @@ bare-fewer n w w′ v h l m same =
     (same-or-not x v))
     h (le-leb goal (labelAt w v) l) (lt-leb goal (labelAt w′ v) m)
 
+-- one bare node less leaves room for a price more
+more-room : (m n c : ℕ) → m < n → m * c + c ≤ n * c
+more-room m n c l =
+    let z : suc m * c ≤ n * c = mul-le-mul-right c l in
+    rw (suc-mul m c) at z
+
 -- what looking at one edge of u, of label d, does
 pub record Stepped (b : Block) (price : ℕ → ℕ) (d u place : ℕ) (w w′ : List ℕ) (count count′ best best′ : ℕ) : Type 0 where
   pub spread : Spread b price w′ count′ d u place
@@ -235,6 +235,7 @@ passed :
     {b : Block} {price : ℕ → ℕ} {w : List ℕ} {count d u place : ℕ} → Spread b price w count d u place
     → (getD (b .edgeTargets) place 0 < nodes b → Looked (nodes b) price w u (getD (b .edgeTargets) place 0)) → Spread b price w count d u (place + 1)
 passed {b} {price} {w} {count} {d} {u} {place} s look = record {
+  fair = s .fair;
   heap = s .heap;
   room = s .room;
   waits-label = s .waits-label;
@@ -264,13 +265,13 @@ pass-on :
     → (v : ℕ) → getD (b .edgeTargets) place 0 ≡ v → Looked (nodes b) price w u v → Spread b price w count d u (place + 1)
 pass-on {b} {price} {w} {count} {d} {u} {place} s here v at look = passed s (λ t. rw at look)
 
-module _ {b : Block} {price : ℕ → ℕ} (fair : Low b price) {w : List ℕ} {count d u place : ℕ}
+module _ {b : Block} {price : ℕ → ℕ} {w : List ℕ} {count d u place : ℕ}
     (s : Spread b price w count d u place) (few : nodes b ≤ nodesMost) (node : u < nodes b) (here : labelAt w u ≡ d) (low : d < goal) where
   -- a label is far below `goal`
   pub spread-low : d < pathMost
   spread-low =
-      let m : labelAt w u + bareCount (nodes b) w * priceMost ≤ nodes b * priceMost = s .bound u node (omega arith) in
-      let top : nodes b * priceMost < pathMost = path-most (nodes b) few in
+      let m = s .bound u node (omega arith) in
+      let top : nodes b * s .fair .ceiling < pathMost = s .fair .fits in
       omega arith
 
   look-tree : (v : ℕ) → labelAt w v ≡ 0 → Looked (nodes b) price w u v
@@ -356,6 +357,7 @@ module _ {b : Block} {price : ℕ → ℕ} (fair : Low b price) {w : List ℕ} {
 
     spread-lower : Spread b price (withFrom (nodes b) w u v) count d u place
     spread-lower = record {
+      fair = s .fair;
       heap = record {
         long = rw (length-set w (nodes b + v) (waitAt (nodes b) w v * 65536 + u)) (s .heap .long);
         few = s .heap .few;
@@ -407,7 +409,7 @@ module _ {b : Block} {price : ℕ → ℕ} (fair : Low b price) {w : List ℕ} {
     v-node = r .v-node
 
     new-low : d + price v < goal
-    new-low = let k = spread-low in let m = fair .most v v-node in omega arith
+    new-low = let k = spread-low in let m = s .fair .most v v-node in let most = s .fair .low in omega arith
 
     -- a node with a label is not v
     not-v : (x : ℕ) → labelAt w x < goal → x ≡ v → ⊥
@@ -470,6 +472,7 @@ module _ {b : Block} {price : ℕ → ℕ} (fair : Low b price) {w : List ℕ} {
     spread-label =
         let fewer : bareCount (nodes b) w′ < bareCount (nodes b) w = new-bare in
         record {
+          fair = s .fair;
           heap = f .heap;
           room = omega (arith, s .room, f .most);
           waits-label = λ i k.
@@ -485,13 +488,15 @@ module _ {b : Block} {price : ℕ → ℕ} (fair : Low b price) {w : List ℕ} {
           bound = λ x k m.
               ⊎-elim
               (λ (q : x ≡ v).
-              let bu : labelAt w u + bareCount (nodes b) w * priceMost ≤ nodes b * priceMost = s .bound u node (omega arith) in
-              let most : price v ≤ priceMost = fair .most v v-node in
+              let bu : labelAt w u + bareCount (nodes b) w * s .fair .ceiling ≤ nodes b * s .fair .ceiling = s .bound u node (omega arith) in
+              let most : price v ≤ s .fair .ceiling = s .fair .most v v-node in
               let is : labelAt w′ x ≡ d + price v = rw q (f .label-here) in
+              let room : bareCount (nodes b) w′ * s .fair .ceiling + s .fair .ceiling ≤ bareCount (nodes b) w * s .fair .ceiling = more-room _ _ (s .fair .ceiling) fewer in
               omega arith)
               (λ (q : x ≡ v → ⊥).
               let is : labelAt w′ x ≡ labelAt w x = f .label-other x k q in
-              let bx : labelAt w x + bareCount (nodes b) w * priceMost ≤ nodes b * priceMost = s .bound x k (omega arith) in
+              let bx : labelAt w x + bareCount (nodes b) w * s .fair .ceiling ≤ nodes b * s .fair .ceiling = s .bound x k (omega arith) in
+              let room : bareCount (nodes b) w′ * s .fair .ceiling + s .fair .ceiling ≤ bareCount (nodes b) w * s .fair .ceiling = more-room _ _ (s .fair .ceiling) fewer in
               omega arith)
               (same-or-not x v);
           came = λ x k p m.
@@ -532,7 +537,7 @@ module _ {b : Block} {price : ℕ → ℕ} (fair : Low b price) {w : List ℕ} {
           f .label-other x k (λ q. let z : labelAt w′ x ≡ d + price v = rw q (f .label-here) in let n = new-low in omega arith);
       pos = λ x k m.
           ⊎-elim
-          (λ (q : x ≡ v). let z : labelAt w′ x ≡ d + price v = rw q (f .label-here) in let p = fair .pos v v-node in omega arith)
+          (λ (q : x ≡ v). let z : labelAt w′ x ≡ d + price v = rw q (f .label-here) in let p = s .fair .pos v v-node in omega arith)
           (λ (q : x ≡ v → ⊥). rw (f .label-other x k q) (omega arith))
           (same-or-not x v);
       less = g .less;

@@ -4,9 +4,10 @@
 --     edges-                            table 4 by its rows
 --     faulty-                           the lowest faulty table
 --     sinks-                            a list of sinks
---     with-sinks-                       the lowest faulty table, sinks counted
+--     delays-                           table 9
+--     with-delays-, with-sinks-         the lowest faulty table, delays and sinks counted
 -- Assumes nothing.
-use mathlib.Core.Bool.{Bool, true, false}
+use mathlib.Core.Bool.{Bool, true, false, not}
 use mathlib.Core.List.{List}
 use mathlib.Core.Path.{_≡_, refl, sym, _∙_}
 use Prim.Native.Nat.{ℕ, suc, _+_, _-_, _≤_, _<_}
@@ -16,13 +17,15 @@ use lib.ListN.{length, getD, drop, length-drop}
 use lib.Seq.{drop-cons}
 use borrow.Author.Tests.{le-leb, lt-leb, lt-ltb, le-ltb, eq-eqb, ne-eqb}
 use Rattle.price.specs.Test.{both}
-use Rattle.price.specs.Bounds.{kindMost, capacityMost, nodesMost}
+use Rattle.price.specs.Bounds.{kindMost, capacityMost, nodesMost, delayMost}
 use Rattle.price.specs.Lists.{every, neighbours, upTo}
+use Rattle.price.specs.declared.Weighting.{Weighting}
 use Rattle.price.proofs.TestLaws.{both-true, both-false-right}
 use Rattle.price.proofs.ListLaws.{every-all, every-none, neighbours-all, length-upTo, getD-upTo}
 use Rattle.search.specs.Block.{Block, blockOf, graphOf, nodes, row}
-use Rattle.search.specs.Tables.{kindsSound, capacitiesSound, firstEdgesSound, rowSound, edgeTargetsSound, edgesMost, faultyTable}
-use Rattle.search.specs.Replies.{sinksMost, sinkListSound, faultyWithSinks}
+use Rattle.search.specs.Tables.{kindsSound, capacitiesSound, firstEdgesSound, rowSound, edgeTargetsSound, edgesMost, faultyTable, delaysSound}
+use Rattle.search.specs.Turn.{Congestion}
+use Rattle.search.specs.Replies.{sinksMost, sinkListSound, faultyDelays, faultyWithDelays, faultyWithSinks}
 use Rattle.search.proofs.BlockLaws.{faulty-of}
 
 -- ---- table 1
@@ -170,18 +173,55 @@ unfolding sinkListSound
 sinks-all n ss i few end all =
     both-true (le-leb (length ss) sinksMost few) (every-all (λ s. ltb s n) ss (λ k l. lt-ltb (getD ss k 0) n (all k (omega arith))))
 
--- ---- the lowest faulty table, sinks counted
+-- ---- table 9
 
-module _ (ks cs fs ts sinks : List ℕ) {table : ℕ} (lowest : table ≡ faultyTable (blockOf ks cs fs ts)) where
-  pub with-sinks-table : 1 ≤ table → table ≡ faultyWithSinks (blockOf ks cs fs ts) sinks
-  unfolding faultyWithSinks
-  with-sinks-table h = rw (← lowest, le-leb 1 table h)
+-- the test of a delay
+abbrev pub delaySound : ℕ → Bool
+delaySound d = leb d delayMost
 
-  module _ (none : table < 1) {sound : Bool} (answer : sound ≡ sinkListSound (length ks) sinks) where
-    pub with-sinks-none : sound ≡ true → 0 ≡ faultyWithSinks (blockOf ks cs fs ts) sinks
+pub delays-length : (n : ℕ) (ds : List ℕ) → (length ds ≡ n → ⊥) → delaysSound n ds ≡ false
+unfolding delaysSound
+delays-length n ds h = rw (ne-eqb (length ds) n h)
+
+-- all but the delays themselves
+pub delays-each : (n : ℕ) (ds : List ℕ) → length ds ≡ n → delaysSound n ds ≡ every delaySound ds
+unfolding delaysSound
+delays-each n ds h = rw (eq-eqb (length ds) n h)
+
+-- ---- the lowest faulty table, delays and sinks counted
+
+-- a timed turn's delays
+module _ (w : Weighting) (n : ℕ) (ds : List ℕ) where
+  pub fault-untimed : w .timed ≡ false → 0 ≡ faultyDelays w n ds
+  fault-untimed t = rw t
+
+  module _ (timed : w .timed ≡ true) {sound : Bool} (answer : sound ≡ delaysSound n ds) where
+    pub fault-none : not sound ≡ false → 0 ≡ faultyDelays w n ds
+    fault-none t = rw (timed, ← answer, t)
+
+    pub fault-delays : not sound ≡ true → 9 ≡ faultyDelays w n ds
+    fault-delays t = rw (timed, ← answer, t)
+
+module _ (ks cs fs ts : List ℕ) (c : Congestion) {table : ℕ} (lowest : table ≡ faultyTable (blockOf ks cs fs ts)) where
+  pub with-delays-table : 1 ≤ table → table ≡ faultyWithDelays (blockOf ks cs fs ts) c
+  unfolding faultyWithDelays
+  with-delays-table h = rw (← lowest, le-leb 1 table h)
+
+  pub with-delays-rest : {r : ℕ} → table < 1 → r ≡ faultyDelays (c .weighting) (length ks) (c .delays) → r ≡ faultyWithDelays (blockOf ks cs fs ts) c
+  unfolding faultyWithDelays
+  with-delays-rest none e = e ∙ rw (← lowest, lt-leb 1 table none)
+
+  module _ (sinks : List ℕ) where
+    pub with-sinks-table : 1 ≤ table → table ≡ faultyWithSinks (blockOf ks cs fs ts) c sinks
     unfolding faultyWithSinks
-    with-sinks-none t = rw (← lowest, lt-leb 1 table none, ← answer, t)
+    with-sinks-table h = rw (← lowest, le-leb 1 table h)
 
-    pub with-sinks-bad : sound ≡ false → 7 ≡ faultyWithSinks (blockOf ks cs fs ts) sinks
-    unfolding faultyWithSinks
-    with-sinks-bad t = rw (← lowest, lt-leb 1 table none, ← answer, t)
+    module _ (none : table < 1) {sound : Bool} (answer : sound ≡ sinkListSound (length ks) sinks) where
+      pub with-sinks-none :
+          {r : ℕ} → sound ≡ true → r ≡ faultyDelays (c .weighting) (length ks) (c .delays) → r ≡ faultyWithSinks (blockOf ks cs fs ts) c sinks
+      unfolding faultyWithSinks
+      with-sinks-none t e = with-delays-rest none e ∙ rw (← lowest, lt-leb 1 table none, ← answer, t)
+
+      pub with-sinks-bad : sound ≡ false → 7 ≡ faultyWithSinks (blockOf ks cs fs ts) c sinks
+      unfolding faultyWithSinks
+      with-sinks-bad t = rw (← lowest, lt-leb 1 table none, ← answer, t)

@@ -10,11 +10,12 @@ use lib.Dec.{eqb, ltb}
 use lib.ListN.{length, getD}
 use Rattle.price.specs.Test.{both}
 use Rattle.price.specs.Bounds.{pathMost}
-use Rattle.price.specs.Replies.{InBounds}
+use Rattle.price.specs.Timed.{WeighedInBounds}
 use Rattle.search.specs.Block.{Block, nodes, rowStart, hasEdge}
 use Rattle.search.specs.Tables.{Graph}
 use Rattle.search.specs.Paths.{anyPriceMost, Fair}
 use Rattle.search.specs.Distance.{far, inTree}
+use Rattle.search.specs.Turn.{Congestion}
 use Rattle.search.specs.Layout.{distAt, entryAt, leafAt, priceIn, predAt, goalAt, Heap}
 
 -- an open node waits in the queue at its distance so far, `far` where it has none
@@ -78,13 +79,16 @@ pub record LastStep (n step : ℕ) (w : List ℕ) : Type 0 where
 abbrev pub Stopped : ℕ → List ℕ → ℕ → Type 0
 Stopped n w best = (entryAt n w 1 ≡ far) ⊎ ((best < far) × ((v : ℕ) → v < n → goalAt n w v ≡ 1 → best < entryAt n w 1 + priceIn n w v))
 
--- the numbers that price node v are there and keep the bounds of row 13
-pub record PriceReady (kinds capacities histories others : List ℕ) (factor v : ℕ) : Type 0 where
+-- the numbers that price node v are there and keep the bounds of row 13; its delay only where it is weighed
+pub record PriceReady (kinds capacities : List ℕ) (c : Congestion) (v : ℕ) : Type 0 where
   pub has-kind : v < length kinds
   pub has-capacity : v < length capacities
-  pub has-history : v < length histories
-  pub has-others : v < length others
-  pub bounds : InBounds (getD kinds v 0) factor (getD others v 0) (getD capacities v 0) (getD histories v 0)
+  pub has-history : v < length (c .histories)
+  pub has-others : v < length (c .others)
+  pub has-delay : c .weighting .timed ≡ true → v < length (c .delays)
+  pub bounds :
+      WeighedInBounds (c .weighting) (getD kinds v 0) (c .factor) (getD (c .others) v 0) (getD capacities v 0) (getD (c .histories) v 0)
+      (getD (c .delays) v 0)
 
 -- a search is in progress: with some prices and tree marks this is its work slice
 pub record InProgress (b : Block) (w : List ℕ) : Type 0 where

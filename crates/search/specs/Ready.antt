@@ -8,10 +8,10 @@ use Prim.Native.Nat.{ℕ, _*_, _≤_, _<_}
 use lib.Dec.{leb}
 use lib.ListN.{length, getD}
 use Rattle.price.specs.Test.{choose}
-use Rattle.price.specs.Bounds.{factorMost}
+use Rattle.price.specs.Bounds.{factorMost, criticalityMost, timedNodesMost}
 use Rattle.price.specs.Lists.{firstBelow}
 use Rattle.search.specs.Distance.{far, inTree}
-use Rattle.search.specs.Tables.{kindsSound, capacitiesSound}
+use Rattle.search.specs.Tables.{kindsSound, capacitiesSound, delaysSound}
 use Rattle.search.specs.Turn.{Congestion}
 use Rattle.search.specs.Replies.{nodeSound}
 use Rattle.search.specs.Layout.{distAt, leafAt, priceIn, goalAt}
@@ -20,12 +20,19 @@ use Rattle.search.specs.Layout.{distAt, leafAt, priceIn, goalAt}
 abbrev pub allBelow : ℕ → (ℕ → Bool) → Bool
 allBelow n t = leb n (firstBelow (λ v. not (t v)) n)
 
+-- a timed turn over so many nodes: these are few enough, and the delays and the criticality keep their bounds
+pub record Weighable (n : ℕ) (c : Congestion) : Type 0 where
+  pub few : n ≤ timedNodesMost
+  pub delays-sound : delaysSound n (c .delays) ≡ true
+  pub criticality-most : c .weighting .criticality ≤ criticalityMost
+
 -- every number that prices a turn keeps its bounds
 pub record Ready (kinds capacities : List ℕ) (c : Congestion) (marks : List ℕ) : Type 0 where
   pub kinds-sound : kindsSound kinds ≡ true
   pub capacities-sound : capacitiesSound (length kinds) capacities ≡ true
   pub nodes-sound : (v : ℕ) → v < length kinds → nodeSound c marks v ≡ true
   pub factor-most : c .factor ≤ factorMost
+  pub weighable : c .weighting .timed ≡ true → Weighable (length kinds) c
 
 -- prices and first distances stand in their places, and no node is a goal
 pub record Prepared (n : ℕ) (price : ℕ → ℕ) (marks w w′ : List ℕ) : Type 0 where

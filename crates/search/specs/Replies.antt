@@ -1,15 +1,17 @@
 -- What the calls of the search answer and leave in the work slice, as the numbers of document 01's table "Numbers for a stopped call".
 -- Assumes nothing.
-use mathlib.Core.Bool.{Bool, not}
+use mathlib.Core.Bool.{Bool, true, false, not}
 use mathlib.Core.List.{List, [], _∷_, _++_}
 use Prim.Native.Nat.{ℕ, _+_, _*_, _-_, _<_}
 use lib.Dec.{leb, ltb, eqb}
 use lib.ListN.{length, getD, take, drop, replicate}
 use Rattle.price.specs.Test.{choose, both}
-use Rattle.price.specs.Bounds.{factorMost, othersMost, historyMost, nodesMost}
+use Rattle.price.specs.Bounds.{factorMost, othersMost, nodesMost, criticalityMost, timedNodesMost}
 use Rattle.price.specs.Lists.{every, firstBelow}
+use Rattle.price.specs.Timed.{historyBound}
+use Rattle.price.specs.declared.Weighting.{Weighting}
 use Rattle.search.specs.Block.{Block, nodes}
-use Rattle.search.specs.Tables.{edgesMost, faultyTable}
+use Rattle.search.specs.Tables.{edgesMost, faultyTable, delaysSound}
 use Rattle.search.specs.Paths.{CheapestPath, NoPath}
 use Rattle.search.specs.Distance.{LeastCost, inTree, distances}
 use Rattle.search.specs.Turn.{Congestion, priceAt, Turn, joins, stuck, turn}
@@ -31,13 +33,14 @@ cleared n first work = first ++ (replicate (workNeeded n - length first) 0 ++ dr
 abbrev pub bounded : ℕ → List ℕ → ℕ → Bool
 bounded most xs v = both (ltb v (length xs)) (leb (getD xs v 0) most)
 
--- the list has a history at this place, and it is within its bounds
-abbrev pub historyBounded : List ℕ → ℕ → Bool
-historyBounded xs v = both (ltb v (length xs)) (both (leb 1 (getD xs v 0)) (leb (getD xs v 0) historyMost))
+-- the list has a history at this place, from 1 to so much
+abbrev pub historyBounded : ℕ → List ℕ → ℕ → Bool
+historyBounded most xs v = both (ltb v (length xs)) (both (leb 1 (getD xs v 0)) (leb (getD xs v 0) most))
 
 -- row 13 for a node: its history, others and tree mark are there and within their bounds
 unfoldable pub nodeSound : Congestion → List ℕ → ℕ → Bool
-nodeSound c marks v = both (historyBounded (c .histories) v) (both (bounded othersMost (c .others) v) (bounded 1 marks v))
+nodeSound c marks v =
+    both (historyBounded (historyBound (c .weighting)) (c .histories) v) (both (bounded othersMost (c .others) v) (bounded 1 marks v))
 
 -- "the lowest node whose history or others is bad or whose tree mark isn't 0 or 1, or that one of the lists lacks"; the node count where
 -- there is none
@@ -54,14 +57,29 @@ shortWork needed = 6 ∷ needed ∷ []
 abbrev pub badNumber : ℕ → List ℕ
 badNumber place = 13 ∷ place ∷ []
 
+-- request 2.9: "number 15 with the node count and the limit when a timed job exceeds either"; a timed search "gives 15 with limit 0"
+abbrev pub tooLarge : ℕ → List ℕ
+tooLarge n = 15 ∷ n ∷ 0 ∷ []
+
+-- "A timed job has at most 1,024 nodes"
+abbrev pub tooMany : Weighting → ℕ → Bool
+tooMany w n = both (w .timed) (ltb timedNodesMost n)
+
+-- a timed turn's criticality is beyond its bound
+abbrev pub badCriticality : Weighting → Bool
+badCriticality w = both (w .timed) (ltb criticalityMost (w .criticality))
+
 -- the first refusal that is due, none where nothing is refused, for the faulty table or 0, and so many nodes and work entries:
--- 5, 6, 13 for a node, "then 13 with the node count for a bad factor"
+-- 5, 15 "after 5 in router, resume and search", 6, 13 for a node, "then 13 with the node count for a bad factor"; "a timed search alone
+-- gives a bad criticality place nodes + 1"
 unfoldable pub refusalOf : ℕ → ℕ → Congestion → List ℕ → ℕ → List ℕ
 refusalOf table n c marks workLength =
     choose (leb 1 table) (badTable table)
+    (choose (tooMany (c .weighting) n) (tooLarge n)
     (choose (ltb workLength (workNeeded n)) (shortWork (workNeeded n))
     (choose (ltb (badNode n c marks) n) (badNumber (badNode n c marks))
-    (choose (ltb factorMost (c .factor)) (badNumber n) [])))
+    (choose (ltb factorMost (c .factor)) (badNumber n)
+    (choose (badCriticality (c .weighting)) (badNumber (n + 1)) [])))))
 
 -- ---- the search called alone
 
@@ -76,6 +94,7 @@ searchRefusal s.Done = []
 searchRefusal (s.BadTable table) = badTable table
 searchRefusal (s.ShortWork needed) = shortWork needed
 searchRefusal (s.BadNumber place) = badNumber place
+searchRefusal (s.TooLarge n) = tooLarge n
 
 -- the distances unless something is refused; a refusal leaves the work slice as it was
 abbrev pub searchUnlessRefused : List ℕ → List ℕ → List ℕ → SearchReply
@@ -89,6 +108,22 @@ searchReply b c marks work =
     (cleared (nodes b) (distances b (priceAt b c) marks) work)
     work
 
+-- 9 for bad delays in a timed turn, else 0
+abbrev pub faultyDelays : Weighting → ℕ → List ℕ → ℕ
+faultyDelays w n delays = choose (both (w .timed) (not (delaysSound n delays))) 9 0
+
+-- the lowest of tables 1 to 4 that breaks its rule, in a timed search else 9 for bad delays, 0 where all is sound: "In timed jobs alone 4
+-- and 5 cover both."
+unfoldable pub faultyWithDelays : Block → Congestion → ℕ
+faultyWithDelays b c = choose (leb 1 (faultyTable b)) (faultyTable b) (faultyDelays (c .weighting) (nodes b) (c .delays))
+
+-- the same search in a timed job, for a sink of one criticality
+unfoldable pub timedSearchReply : Block → Congestion → List ℕ → List ℕ → SearchReply
+timedSearchReply b c marks work =
+    searchUnlessRefused (refusalOf (faultyWithDelays b c) (nodes b) c marks (length work))
+    (cleared (nodes b) (distances b (priceAt b c) marks) work)
+    work
+
 -- the answer with the work slice at the call's end
 abbrev pub searchReplyOf : SearchAnswer → List ℕ → SearchReply
 searchReplyOf r work = record { refusal = searchRefusal r; work = work }
@@ -99,6 +134,7 @@ LeavesLeastCosts b price marks s.Done work = (v : ℕ) → v < nodes b → Least
 LeavesLeastCosts b price marks (s.BadTable table) work = Unit {0}
 LeavesLeastCosts b price marks (s.ShortWork needed) work = Unit {0}
 LeavesLeastCosts b price marks (s.BadNumber place) work = Unit {0}
+LeavesLeastCosts b price marks (s.TooLarge n) work = Unit {0}
 
 -- ---- the cheapest path of one turn
 
@@ -110,9 +146,11 @@ sinksMost = 4096
 unfoldable pub sinkListSound : ℕ → List ℕ → Bool
 sinkListSound n sinks = both (leb (length sinks) sinksMost) (every (λ s. ltb s n) sinks)
 
--- the lowest of tables 1 to 4 that breaks its rule, else 7 for a bad list of sinks, 0 where all is sound
-unfoldable pub faultyWithSinks : Block → List ℕ → ℕ
-faultyWithSinks b sinks = choose (leb 1 (faultyTable b)) (faultyTable b) (choose (sinkListSound (nodes b) sinks) 0 7)
+-- the lowest of tables 1 to 4 that breaks its rule, else 7 for a bad list of sinks, else 9 for bad delays in a timed job, 0 where all is
+-- sound
+unfoldable pub faultyWithSinks : Block → Congestion → List ℕ → ℕ
+faultyWithSinks b c sinks =
+    choose (leb 1 (faultyTable b)) (faultyTable b) (choose (sinkListSound (nodes b) sinks) (faultyWithDelays b c) 7)
 
 -- the refusal's numbers; place, cost and path length of the joined sink, none where there is none; and the work slice afterwards
 pub record PathReply : Type 0 where
@@ -136,6 +174,11 @@ readOff n path work = path ++ (replicate (3 * n - length path) 0 ++ drop (3 * n)
 abbrev pub turnReply : ℕ → List ℕ → Turn → PathReply
 turnReply n work t = record { refusal = []; joined = turnNumbers t; work = readOff n (turnPath t) work }
 
+-- in a timed job: few enough nodes, and a delay for each
+abbrev pub timedFitting : Bool → ℕ → ℕ → Bool
+timedFitting false n delays = true
+timedFitting true n delays = both (leb n timedNodesMost) (leb n delays)
+
 -- every list has the length that its rule asks: tables 1 to 4, the work slice, the lists of the nodes, and the sinks
 unfoldable pub fittingLengths : ℕ → ℕ → ℕ → ℕ → ℕ → ℕ → ℕ → ℕ → ℕ → Bool
 fittingLengths n capacities firstEdges edgeTargets work histories others marks sinks =
@@ -149,14 +192,19 @@ fittingLengths n capacities firstEdges edgeTargets work histories others marks s
     (both (leb n others)
     (both (leb n marks) (leb sinks sinksMost)))))))))
 
-abbrev pub fitting : Block → Congestion → List ℕ → List ℕ → List ℕ → Bool
-fitting b c marks sinks work =
+-- the same of the lists themselves, without the delays and with them
+abbrev pub lengthsFitting : Block → Congestion → List ℕ → List ℕ → List ℕ → Bool
+lengthsFitting b c marks sinks work =
     fittingLengths (nodes b) (length (b .capacities)) (length (b .firstEdges)) (length (b .edgeTargets)) (length work)
     (length (c .histories)) (length (c .others)) (length marks) (length sinks)
 
+abbrev pub fitting : Block → Congestion → List ℕ → List ℕ → List ℕ → Bool
+fitting b c marks sinks work =
+    both (lengthsFitting b c marks sinks work) (timedFitting (c .weighting .timed) (nodes b) (length (c .delays)))
+
 -- what the search and the rule of the sinks refuse; none where they refuse nothing
 abbrev pub pathDue : Block → Congestion → List ℕ → List ℕ → List ℕ → List ℕ
-pathDue b c marks sinks work = refusalOf (faultyWithSinks b sinks) (nodes b) c marks (length work)
+pathDue b c marks sinks work = refusalOf (faultyWithSinks b c sinks) (nodes b) c marks (length work)
 
 -- Where every length is right, the turn, whatever the entries are: a number that prices a node is read within its bounds, a target or a
 -- sink that is no node is passed over, a row ends where table 4 does, and a node is in the tree where its mark is 1. Where a length is
@@ -174,6 +222,7 @@ pathRefusal p.Stuck = []
 pathRefusal (p.BadTable table) = badTable table
 pathRefusal (p.ShortWork needed) = shortWork needed
 pathRefusal (p.BadNumber place) = badNumber place
+pathRefusal (p.TooLarge n) = tooLarge n
 
 abbrev pub pathNumbers : PathAnswer → List ℕ
 pathNumbers (p.Joins place cost n) = place ∷ cost ∷ n ∷ []
@@ -181,6 +230,7 @@ pathNumbers p.Stuck = []
 pathNumbers (p.BadTable table) = []
 pathNumbers (p.ShortWork needed) = []
 pathNumbers (p.BadNumber place) = []
+pathNumbers (p.TooLarge n) = []
 
 -- the answer with the work slice at the call's end
 abbrev pub pathReplyOf : PathAnswer → List ℕ → PathReply
@@ -195,3 +245,4 @@ JoinsCheapest b price marks sinks p.Stuck work = NoPath b (inTree marks) sinks
 JoinsCheapest b price marks sinks (p.BadTable table) work = Unit {0}
 JoinsCheapest b price marks sinks (p.ShortWork needed) work = Unit {0}
 JoinsCheapest b price marks sinks (p.BadNumber place) work = Unit {0}
+JoinsCheapest b price marks sinks (p.TooLarge n) work = Unit {0}

@@ -9,12 +9,12 @@ use mathlib.Core.Path.{_≡_}
 use Prim.Native.Nat.{ℕ, _+_, _*_, _≤_, _<_}
 use lib.Dec.{leb}
 use lib.ListN.{length, getD, set}
-use Rattle.price.specs.Bounds.{nodesMost, priceMost, pathMost}
+use Rattle.price.specs.Bounds.{nodesMost, pathMost}
 use Rattle.price.specs.Lists.{countBelow}
 use Rattle.search.specs.Block.{Block, nodes, rowStart, hasEdge}
 use Rattle.search.specs.Distance.{far}
 use Rattle.search.specs.Turn.{Congestion}
-use Rattle.search.specs.Paths.{anyPriceMost}
+use Rattle.search.specs.Paths.{anyPriceMost, Fair}
 use Rattle.search.specs.Clamped.{Lent}
 use Rattle.search.specs.Labels.{goal, labelAt, fromAt, withFrom, keyAt, Waits, Heaped, Added}
 
@@ -48,11 +48,13 @@ pub record Looked (n : ℕ) (price : ℕ → ℕ) (w : List ℕ) (u v : ℕ) : T
 -- `count` nodes wait, each at least `level` far; every other node that has a label has spread it, but cur only up to `place`. Tree nodes
 -- have label 0.
 pub record Spread (b : Block) (price : ℕ → ℕ) (w : List ℕ) (count level cur place : ℕ) : Type 0 where
+  pub fair : Fair b price
   pub heap : Heaped (nodes b) count w
   pub room : count + bareCount (nodes b) w ≤ nodes b
   pub waits-label : (i : ℕ) → i < count → keyAt (nodes b) w i < goal
   pub waits-far : (i : ℕ) → i < count → level ≤ keyAt (nodes b) w i
-  pub bound : (v : ℕ) → v < nodes b → labelAt w v < goal → labelAt w v + bareCount (nodes b) w * priceMost ≤ nodes b * priceMost
+  pub bound :
+      (v : ℕ) → v < nodes b → labelAt w v < goal → labelAt w v + bareCount (nodes b) w * fair .ceiling ≤ nodes b * fair .ceiling
   pub came : (v : ℕ) → v < nodes b → 0 < labelAt w v → labelAt w v < goal → Came b price w level v
   pub done :
       (u : ℕ) → u < nodes b → labelAt w u < goal

@@ -8,7 +8,7 @@ use Prim.Native.Nat.{ℕ, _+_, _≤_}
 use lib.Dec.{leb, ltb, eqb}
 use lib.ListN.{length, getD}
 use Rattle.price.specs.Test.{choose, both}
-use Rattle.price.specs.Bounds.{kindMost, capacityMost, nodesMost}
+use Rattle.price.specs.Bounds.{kindMost, capacityMost, nodesMost, delayMost}
 use Rattle.price.specs.Lists.{every, neighbours, upTo}
 use Rattle.search.specs.Block.{Block, nodes, row}
 
@@ -51,6 +51,10 @@ faultyTable b =
     3)
     2)
     1
+
+-- request 2.9: "delay 0 to 1,000 (table 9, 16 bits a node)"
+unfoldable pub delaysSound : ℕ → List ℕ → Bool
+delaysSound n delays = both (eqb (length delays) n) (every (λ d. leb d delayMost) delays)
 
 -- tables 1 to 4 keep their rules
 pub record Sound (b : Block) : Type 0 where

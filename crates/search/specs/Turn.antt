@@ -1,5 +1,6 @@
 -- Document 01, "One turn": which sink is joined, by which path, at which cost.
 -- Assumes nothing.
+use mathlib.Core.Bool.{true}
 use mathlib.Core.List.{List, [], _∷_, map}
 use Prim.Native.Nat.{ℕ, zero, suc, _+_}
 use lib.Dec.{eqb}
@@ -7,23 +8,43 @@ use lib.ListN.{getD}
 use Rattle.price.specs.Test.{choose, both}
 use Rattle.price.specs.Lists.{firstBelow, least, placeOf}
 use Rattle.price.specs.Prices.{priceOf}
+use Rattle.price.specs.Timed.{untimed, weighed}
+use Rattle.price.specs.declared.Weighting.{Weighting}
 use Rattle.search.specs.Block.{Block, nodes, hasEdge}
 use Rattle.search.specs.Paths.{pathCost}
 use Rattle.search.specs.Distance.{far, inTree, distances}
 
--- what prices a turn beside the block: the factor, and of each node its history and how many other nets have it
+-- what prices a turn beside the block: the factor, and of each node its history and how many other nets have it; in a timed job the
+-- criticality of the sink whose turn it is, and each node's delay
 pub record Congestion : Type 0 where
   pub factor : ℕ
   pub histories : List ℕ
   pub others : List ℕ
+  pub weighting : Weighting
+  pub delays : List ℕ
 
+-- a turn that weighs delay so
+abbrev pub weighedCongestion : Weighting → List ℕ → ℕ → List ℕ → List ℕ → Congestion
+weighedCongestion w delays factor histories others =
+    record { factor = factor; histories = histories; others = others; weighting = w; delays = delays }
+
+-- a turn of an untimed job
 abbrev pub congestionOf : ℕ → List ℕ → List ℕ → Congestion
-congestionOf factor histories others = record { factor = factor; histories = histories; others = others }
+congestionOf factor histories others = weighedCongestion untimed [] factor histories others
 
--- the price of a node for the net whose turn it is
-unfoldable pub priceAt : Block → Congestion → ℕ → ℕ
-priceAt b c v =
+-- a turn of a timed job, for a sink of this criticality
+abbrev pub timedCongestion : ℕ → List ℕ → ℕ → List ℕ → List ℕ → Congestion
+timedCongestion criticality delays factor histories others =
+    weighedCongestion (record { timed = true; criticality = criticality }) delays factor histories others
+
+-- the congestion price of a node for the net whose turn it is
+unfoldable pub congestedAt : Block → Congestion → ℕ → ℕ
+congestedAt b c v =
     priceOf (getD (b .kinds) v 0) (c .factor) (getD (c .others) v 0) (getD (b .capacities) v 0) (getD (c .histories) v 0)
+
+-- its price: the congestion price, in a timed job weighed with the delay
+unfoldable pub priceAt : Block → Congestion → ℕ → ℕ
+priceAt b c v = weighed (c .weighting) (getD (c .delays) v 0) (congestedAt b c v)
 
 -- what one turn does: it joins the sink at a place of the net's list by a path at a cost, or no unjoined sink has a path
 pub data Turn : Type 0 where

@@ -1,14 +1,14 @@
 -- A turn's work slice before its labels spread and once they have stopped: tree and goals are marked, and the path is read off along the
 -- predecessors. Only the contracts of private functions cite this file: no caller has to believe it.
 -- Assumes nothing.
-use mathlib.Core.Bool.{false}
+use mathlib.Core.Bool.{true, false}
 use mathlib.Core.List.{List, [], _∷_}
 use mathlib.Core.Logic.{_⊎_}
 use mathlib.Core.Path.{_≡_}
 use Prim.Native.Nat.{ℕ, zero, suc, _+_, _-_, _*_, _≤_, _<_}
 use lib.ListN.{length, getD}
 use Rattle.price.specs.Test.{choose}
-use Rattle.price.specs.Bounds.{nodesMost}
+use Rattle.price.specs.Bounds.{nodesMost, timedNodesMost}
 use Rattle.search.specs.Block.{Block, nodes}
 use Rattle.search.specs.Tables.{edgesMost}
 use Rattle.search.specs.Distance.{far, inTree}
@@ -35,6 +35,8 @@ pub record Fitted (b : Block) (c : Congestion) (marks sinks work : List ℕ) : T
   pub others-long : nodes b ≤ length (c .others)
   pub marks-long : nodes b ≤ length marks
   pub sinks-few : length sinks ≤ sinksMost
+  pub timed-few : c .weighting .timed ≡ true → nodes b ≤ timedNodesMost
+  pub delays-long : c .weighting .timed ≡ true → nodes b ≤ length (c .delays)
 
 -- none of the nodes below `upto` has a label
 pub record Blank (n : ℕ) (w w′ : List ℕ) (upto : ℕ) : Type 0 where

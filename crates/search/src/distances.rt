@@ -5,11 +5,13 @@ ghost use Prim.Native.Nat.{ℕ, _+_, _-_, _*_, _^_, _≤_, _<_};
 ghost use lib.ListN.{length, take, drop, replicate};
 ghost use Rattle.search.specs.Block.{blockOf, graphOf, rowStart};
 ghost use Rattle.search.specs.Distance.{far};
-ghost use Rattle.search.specs.Turn.{congestionOf, priceAt};
+ghost use Rattle.search.specs.Turn.{weighedCongestion, priceAt};
 ghost use Rattle.search.specs.Layout.{distAt, priceIn, Heap, Shortened, Relaxed, TakenOut, Started, Priced};
 ghost use Rattle.search.specs.Frontier.{PriceReady, RowReady, RowDone, BestGoal, LastStep, InProgress, Ran};
 use crate::queue;
+use crate::weighing;
 use price::PriceAnswer;
+use price::Weighting;
 
 // No path.
 pub const FAR: u64 = 18446744073709551615;
@@ -20,20 +22,25 @@ fn node_price(
     capacity: &[u8],
     history: &[u32],
     others: &[u16],
+    weighting: Weighting,
+    delay: &[u16],
     factor: u32,
     v: usize,
 ) -> u64
-    requires { ⌜ PriceReady (now kind) (now capacity) (now history) (now others) factor v ⌝ }
+    requires { do
+      let congestion = weighedCongestion weighting (now delay) factor (now history) (now others)
+      ⌜ PriceReady (now kind) (now capacity) congestion v ⌝ }
     ensures { λ r. do
       let block = blockOf (now (kind .entry)) (now (capacity .entry)) [] []
-      let congestion = congestionOf factor (now (history .entry)) (now (others .entry))
+      let congestion = weighedCongestion weighting (now (delay .entry)) factor (now (history .entry)) (now (others .entry))
       ⌜ r ≡ priceAt block congestion v ⌝ }
 {
     let k = kind[v] as u32;
     let c = capacity[v] as u32;
     let h = history[v];
     let o = others[v] as u32;
-    let PriceAnswer::Price(p) = price::price(k, factor, o, c, h) else {
+    let d = weighing::delay_at(weighting, delay, v);
+    let PriceAnswer::Price(p) = price::weighed_price(weighting, k, factor, o, c, h, d) else {
         return 0;
     };
     p
@@ -45,20 +52,24 @@ pub fn fill_prices(
     capacity: &[u8],
     history: &[u32],
     others: &[u16],
+    weighting: Weighting,
+    delay: &[u16],
     factor: u32,
     work: &mut [u64],
 )
-    requires { ⌜ ((v : ℕ) → v < length (now kind) → PriceReady (now kind) (now capacity) (now history) (now others) factor v) ⌝ }
+    requires { do
+      let congestion = weighedCongestion weighting (now delay) factor (now history) (now others)
+      ⌜ ((v : ℕ) → v < length (now kind) → PriceReady (now kind) (now capacity) congestion v) ⌝ }
     requires { ⌜ 8 * length (now kind) ≤ length (now work) ⌝ }
     ensures { λ _. do
       let block = blockOf (now (kind .entry)) (now (capacity .entry)) [] []
-      let congestion = congestionOf factor (now (history .entry)) (now (others .entry))
+      let congestion = weighedCongestion weighting (now (delay .entry)) factor (now (history .entry)) (now (others .entry))
       ⌜ Priced (length (now (kind .entry))) (priceAt block congestion) (now (work .entry)) (now (work .exit)) ⌝ }
 {
     let n = kind.len();
     let mut v = 0;
     while v < n {
-        let p = node_price(kind, capacity, history, others, factor, v);
+        let p = node_price(kind, capacity, history, others, weighting, delay, factor, v);
         work[3 * n + v] = p;
         v += 1;
     }

@@ -5,16 +5,19 @@
 ghost use mathlib.Core.Path.{_≡_};
 ghost use Prim.Native.Nat.{_+_, _*_, _≤_, _<_, min};
 ghost use lib.ListN.{length, getD};
-ghost use Rattle.price.specs.Bounds.{nodesMost, priceMost};
+ghost use Rattle.price.specs.Bounds.{nodesMost};
+ghost use Rattle.price.specs.Timed.{weighedMost};
 ghost use Rattle.search.specs.Block.{graphOf};
-ghost use Rattle.search.specs.Turn.{congestionOf};
-ghost use Rattle.search.specs.Clamped.{clamped as clampedAt, clampedPrice, Lent};
+ghost use Rattle.search.specs.Turn.{weighedCongestion};
+ghost use Rattle.search.specs.Clamped.{clamped as clampedAt, clampedWeighting, clampedPrice, Lent};
 ghost use Rattle.search.specs.Labels.{labelAt, fromAt, withFrom};
 ghost use Rattle.search.specs.Spread.{Labelled, GoalMet, Lowered, Relaxed, LabelReady, RelaxReady};
 ghost use Rattle.search.specs.Spread.{SettleReady, Settled, RunReady, Ran};
 use crate::distances;
 use crate::heap;
+use crate::weighing;
 use price::PriceAnswer;
+use price::Weighting;
 
 // No label yet on a goal; elsewhere it is FAR. Every label is below both.
 pub const GOAL: u64 = 18446744073709551614;
@@ -35,27 +38,46 @@ fn clamped(low: u32, high: u32, x: u32) -> u32
     if high < x { high } else { x }
 }
 
+// How delay is weighed, with the criticality read within its bounds.
+fn clamped_weighting(weighting: Weighting) -> Weighting
+    ensures { λ r. ⌜ r ≡ clampedWeighting weighting ⌝ }
+{
+    let criticality = clamped(0, price::CRITICALITY_MOST, weighting.criticality);
+    Weighting {
+        timed: weighting.timed,
+        criticality: criticality,
+    }
+}
+
 // The price of node v, each number read within its bounds.
 pub fn clamped_price(
     kind: &[u8],
     capacity: &[u8],
     history: &[u32],
     others: &[u16],
+    weighting: Weighting,
+    delay: &[u16],
     factor: u32,
     v: usize,
 ) -> u64
-    requires { ⌜ Lent (now kind) (now capacity) (congestionOf factor (now history) (now others)) ⌝ }
+    requires { ⌜ Lent (now kind) (now capacity) (weighedCongestion weighting (now delay) factor (now history) (now others)) ⌝ }
     requires { ⌜ v < length (now kind) ⌝ }
     ensures { λ r. do
-      let c = congestionOf factor (now (history .entry)) (now (others .entry))
-      ⌜ (r ≡ clampedPrice (now (kind .entry)) (now (capacity .entry)) c v) × (r ≤ priceMost) ⌝ }
+      let c = weighedCongestion weighting (now (delay .entry)) factor (now (history .entry)) (now (others .entry))
+      ⌜ (r ≡ clampedPrice (now (kind .entry)) (now (capacity .entry)) c v) × (r ≤ weighedMost weighting) ⌝ }
 {
     let k = clamped(0, price::KIND_MOST, kind[v] as u32);
     let f = clamped(0, price::FACTOR_MOST, factor);
     let o = clamped(0, price::OTHERS_MOST, others[v] as u32);
     let c = clamped(1, price::CAPACITY_MOST, capacity[v] as u32);
-    let h = clamped(1, price::HISTORY_MOST, history[v]);
-    let PriceAnswer::Price(p) = price::price(k, f, o, c, h) else {
+    let h = clamped(1, weighing::history_bound(weighting), history[v]);
+    let d = clamped(
+        0,
+        price::DELAY_MOST,
+        weighing::delay_at(weighting, delay, v),
+    );
+    let PriceAnswer::Price(p) = price::weighed_price(clamped_weighting(weighting), k, f, o, c, h, d)
+    else {
         return 0;
     };
     p
@@ -129,6 +151,8 @@ fn relax(
     capacity: &[u8],
     history: &[u32],
     others: &[u16],
+    weighting: Weighting,
+    delay: &[u16],
     factor: u32,
     first_edge: &[u32],
     work: &mut [u64],
@@ -138,10 +162,10 @@ fn relax(
     r: Reach,
 ) -> Reach
     requires { do
-      let c = congestionOf factor (now history) (now others)
+      let c = weighedCongestion weighting (now delay) factor (now history) (now others)
       ⌜ RelaxReady (now kind) (now capacity) c (now «first_edge») (now work) (r .count) u v d ⌝ }
     ensures { λ s. do
-      let c = congestionOf factor (now (history .entry)) (now (others .entry))
+      let c = weighedCongestion weighting (now (delay .entry)) factor (now (history .entry)) (now (others .entry))
       let price = clampedPrice (now (kind .entry)) (now (capacity .entry)) c
       let n = length (now (kind .entry))
       let firsts = now («first_edge» .entry)
@@ -153,7 +177,7 @@ fn relax(
     }
     let old = work[v];
     if GOAL <= old {
-        let p = clamped_price(kind, capacity, history, others, factor, v);
+        let p = clamped_price(kind, capacity, history, others, weighting, delay, factor, v);
         return label(first_edge, work, n, u, v, d + p, r);
     }
     if 0 < old {
@@ -177,6 +201,8 @@ fn settle(
     capacity: &[u8],
     history: &[u32],
     others: &[u16],
+    weighting: Weighting,
+    delay: &[u16],
     factor: u32,
     first_edge: &[u32],
     edge_target: &[u16],
@@ -184,14 +210,14 @@ fn settle(
     u: usize,
     start: Reach,
 ) -> Reach
-    requires { ⌜ Lent (now kind) (now capacity) (congestionOf factor (now history) (now others)) ⌝ }
+    requires { ⌜ Lent (now kind) (now capacity) (weighedCongestion weighting (now delay) factor (now history) (now others)) ⌝ }
     requires { do
       let b = graphOf (now kind) (now «first_edge») (now «edge_target»)
-      let price = clampedPrice (now kind) (now capacity) (congestionOf factor (now history) (now others))
+      let price = clampedPrice (now kind) (now capacity) (weighedCongestion weighting (now delay) factor (now history) (now others))
       ⌜ SettleReady b price (now work) (start .count) u ⌝ }
     ensures { λ r. do
       let b = graphOf (now (kind .entry)) (now («first_edge» .entry)) (now («edge_target» .entry))
-      let c = congestionOf factor (now (history .entry)) (now (others .entry))
+      let c = weighedCongestion weighting (now (delay .entry)) factor (now (history .entry)) (now (others .entry))
       let price = clampedPrice (now (kind .entry)) (now (capacity .entry)) c
       let level = labelAt (now (work .entry)) u
       ⌜ Settled b price level (now (work .entry)) (now (work .exit)) (start .count) (r .count) (start .best) (r .best) ⌝ }
@@ -207,6 +233,8 @@ fn settle(
             capacity,
             history,
             others,
+            weighting,
+            delay,
             factor,
             first_edge,
             work,
@@ -227,6 +255,8 @@ pub fn settle_all(
     capacity: &[u8],
     history: &[u32],
     others: &[u16],
+    weighting: Weighting,
+    delay: &[u16],
     factor: u32,
     first_edge: &[u32],
     edge_target: &[u16],
@@ -234,14 +264,14 @@ pub fn settle_all(
     waits: usize,
     last_step: u64,
 ) -> u64
-    requires { ⌜ Lent (now kind) (now capacity) (congestionOf factor (now history) (now others)) ⌝ }
+    requires { ⌜ Lent (now kind) (now capacity) (weighedCongestion weighting (now delay) factor (now history) (now others)) ⌝ }
     requires { do
       let b = graphOf (now kind) (now «first_edge») (now «edge_target»)
-      let price = clampedPrice (now kind) (now capacity) (congestionOf factor (now history) (now others))
+      let price = clampedPrice (now kind) (now capacity) (weighedCongestion weighting (now delay) factor (now history) (now others))
       ⌜ RunReady b price (now work) waits «last_step» ⌝ }
     ensures { λ best. do
       let b = graphOf (now (kind .entry)) (now («first_edge» .entry)) (now («edge_target» .entry))
-      let c = congestionOf factor (now (history .entry)) (now (others .entry))
+      let c = weighedCongestion weighting (now (delay .entry)) factor (now (history .entry)) (now (others .entry))
       let price = clampedPrice (now (kind .entry)) (now (capacity .entry)) c
       ⌜ Ran b price «last_step» (now (work .entry)) (now (work .exit)) best ⌝ }
 {
@@ -263,6 +293,8 @@ pub fn settle_all(
             capacity,
             history,
             others,
+            weighting,
+            delay,
             factor,
             first_edge,
             edge_target,

@@ -1,11 +1,14 @@
 // The search: tests of tables 1 to 4, distances from a tree, and the cheapest path of one turn.
-ghost use mathlib.Core.List.{[]};
+ghost use mathlib.Core.List.{List, []};
 ghost use mathlib.Core.Path.{_≡_};
+ghost use Prim.Native.Nat.{ℕ};
+ghost use Rattle.price.specs.Test.{both};
 ghost use lib.ListN.{length};
 ghost use Rattle.search.specs.Block.{blockOf};
-ghost use Rattle.search.specs.Turn.{congestionOf, priceAt};
-ghost use Rattle.search.specs.Replies.{searchReplyOf, searchReply, LeavesLeastCosts};
-ghost use Rattle.search.specs.Replies.{refusalOf, faultyWithSinks, fittingLengths, pathDue};
+ghost use Rattle.search.specs.Turn.{Congestion, weighedCongestion, congestionOf, timedCongestion, priceAt};
+ghost use Rattle.search.specs.Replies.{searchReplyOf, searchReply, timedSearchReply, LeavesLeastCosts};
+ghost use Rattle.search.specs.Replies.{refusalOf, faultyDelays, faultyWithDelays, faultyWithSinks, pathDue};
+ghost use Rattle.search.specs.Replies.{timedFitting, fittingLengths};
 ghost use Rattle.search.specs.Replies.{pathRefusal, pathNumbers, pathReplyOf, pathReply, JoinsCheapest};
 
 // What a call of the search answers: the distances stand in the work slice, or one of 01's refusals.
@@ -18,6 +21,8 @@ pub enum SearchAnswer {
     ShortWork(u64),
     // 13: at this place a number is beyond its bounds.
     BadNumber(u32),
+    // 15: a timed search takes fewer nodes than these.
+    TooLarge(u32),
 }
 
 // What a call of the cheapest path answers.
@@ -26,10 +31,11 @@ pub enum PathAnswer {
     Joins { place: u32, cost: u64, length: u32 },
     // No unjoined sink has a path.
     Stuck,
-    // 5, 6 and 13, as for the search.
+    // 5, 6, 13 and 15, as for the search.
     BadTable(u32),
     ShortWork(u64),
     BadNumber(u32),
+    TooLarge(u32),
 }
 
 // The most nodes of a block, places of its rows and edges.
@@ -42,6 +48,9 @@ pub const EDGES_MOST: usize = 32768;
 // The most sinks of all nets.
 pub const SINKS_MOST: usize = 4096;
 
+// The most nodes of a timed job.
+pub const TIMED_NODES_MOST: usize = 1024;
+
 mod distances;
 mod heap;
 mod labels;
@@ -50,6 +59,100 @@ mod queue;
 mod run;
 mod tables;
 mod turn;
+mod weighing;
+
+use price::Weighting;
+
+// 9 for bad delays in a timed turn, else 0.
+fn faulty_delays(weighting: Weighting, n: usize, delay: &[u16]) -> u32
+    ensures { λ r. ⌜ r ≡ faultyDelays weighting n (now (delay .entry)) ⌝ }
+{
+    if weighting.timed {
+        if !tables::delays_sound(n, delay) {
+            return 9;
+        }
+    }
+    0
+}
+
+// The lowest of tables 1 to 4 that breaks its rule, in a timed turn else 9 for bad delays, 0 where all is sound.
+fn faulty_with_delays(
+    kind: &[u8],
+    capacity: &[u8],
+    first_edge: &[u32],
+    edge_target: &[u16],
+    weighting: Weighting,
+    delay: &[u16],
+) -> u32
+    ensures { λ r. do
+      let block = blockOf (now (kind .entry)) (now (capacity .entry)) (now («first_edge» .entry)) (now («edge_target» .entry))
+      let turn : (ℕ → List ℕ → List ℕ → Congestion) = weighedCongestion weighting (now (delay .entry))
+      ⌜ ((factor : ℕ) (histories others : List ℕ) → r ≡ faultyWithDelays block (turn factor histories others)) ⌝ }
+{
+    let table = tables::faulty_table(kind, capacity, first_edge, edge_target);
+    if 1 <= table {
+        return table;
+    }
+    faulty_delays(weighting, kind.len(), delay)
+}
+
+// The search of both kinds: the tests of the tables, then the node count of a timed turn, the work slice and the numbers that price a turn;
+// where none fails the distances of all nodes from the marked ones stand at the beginning of the work slice.
+fn searched(
+    kind: &[u8],
+    capacity: &[u8],
+    first_edge: &[u32],
+    edge_target: &[u16],
+    weighting: Weighting,
+    delay: &[u16],
+    factor: u32,
+    work: &mut [u64],
+    history: &[u32],
+    others: &[u16],
+    in_tree: &[u8],
+) -> SearchAnswer
+    ensures answers { λ r. do
+      let block = blockOf (now (kind .entry)) (now (capacity .entry)) (now («first_edge» .entry)) (now («edge_target» .entry))
+      let congestion = weighedCongestion weighting (now (delay .entry)) factor (now (history .entry)) (now (others .entry))
+      ⌜ searchReplyOf r (now (work .exit)) ≡ timedSearchReply block congestion (now («in_tree» .entry)) (now (work .entry)) ⌝ }
+    ensures distances { λ r. do
+      let block = blockOf (now (kind .entry)) (now (capacity .entry)) (now («first_edge» .entry)) (now («edge_target» .entry))
+      let congestion = weighedCongestion weighting (now (delay .entry)) factor (now (history .entry)) (now (others .entry))
+      ⌜ LeavesLeastCosts block (priceAt block congestion) (now («in_tree» .entry)) r (now (work .exit)) ⌝ }
+{
+    let table = faulty_with_delays(kind, capacity, first_edge, edge_target, weighting, delay);
+    match numbers::first_refusal(
+        table,
+        kind.len(),
+        weighting,
+        factor,
+        work.len(),
+        history,
+        others,
+        in_tree,
+    ) {
+        SearchAnswer::BadTable(t) => SearchAnswer::BadTable(t),
+        SearchAnswer::TooLarge(n) => SearchAnswer::TooLarge(n),
+        SearchAnswer::ShortWork(needed) => SearchAnswer::ShortWork(needed),
+        SearchAnswer::BadNumber(place) => SearchAnswer::BadNumber(place),
+        SearchAnswer::Done => {
+            run::distances_from_tree(
+                kind,
+                capacity,
+                first_edge,
+                edge_target,
+                weighting,
+                delay,
+                factor,
+                work,
+                history,
+                others,
+                in_tree,
+            );
+            SearchAnswer::Done
+        }
+    }
+}
 
 // The tests of tables 1 to 4, then the work slice, then the numbers that price a turn; where none fails the distances of all nodes
 // from the marked ones stand at the beginning of the work slice.
@@ -73,54 +176,90 @@ pub fn search(
       let congestion = congestionOf factor (now (history .entry)) (now (others .entry))
       ⌜ LeavesLeastCosts block (priceAt block congestion) (now («in_tree» .entry)) r (now (work .exit)) ⌝ }
 {
-    let table = tables::faulty_table(kind, capacity, first_edge, edge_target);
-    match numbers::first_refusal(
-        table,
-        kind.len(),
+    let weighting = Weighting {
+        timed: false,
+        criticality: 0,
+    };
+    searched(
+        kind,
+        capacity,
+        first_edge,
+        edge_target,
+        weighting,
+        &edge_target[..0],
         factor,
-        work.len(),
+        work,
         history,
         others,
         in_tree,
-    ) {
-        SearchAnswer::BadTable(t) => SearchAnswer::BadTable(t),
-        SearchAnswer::ShortWork(needed) => SearchAnswer::ShortWork(needed),
-        SearchAnswer::BadNumber(place) => SearchAnswer::BadNumber(place),
-        SearchAnswer::Done => {
-            run::distances_from_tree(
-                kind,
-                capacity,
-                first_edge,
-                edge_target,
-                factor,
-                work,
-                history,
-                others,
-                in_tree,
-            );
-            SearchAnswer::Done
-        }
-    }
+    )
 }
 
-// The lowest of tables 1 to 4 that breaks its rule, else 7 for a bad list of sinks, 0 where all is sound.
+// The same in a timed job: table 9 is tested with tables 1 to 4, and the prices are those for a sink of this criticality.
+pub fn timed_search(
+    kind: &[u8],
+    capacity: &[u8],
+    first_edge: &[u32],
+    edge_target: &[u16],
+    delay: &[u16],
+    factor: u32,
+    criticality: u32,
+    work: &mut [u64],
+    history: &[u32],
+    others: &[u16],
+    in_tree: &[u8],
+) -> SearchAnswer
+    ensures answers { λ r. do
+      let block = blockOf (now (kind .entry)) (now (capacity .entry)) (now («first_edge» .entry)) (now («edge_target» .entry))
+      let congestion = timedCongestion criticality (now (delay .entry)) factor (now (history .entry)) (now (others .entry))
+      ⌜ searchReplyOf r (now (work .exit)) ≡ timedSearchReply block congestion (now («in_tree» .entry)) (now (work .entry)) ⌝ }
+    ensures distances { λ r. do
+      let block = blockOf (now (kind .entry)) (now (capacity .entry)) (now («first_edge» .entry)) (now («edge_target» .entry))
+      let congestion = timedCongestion criticality (now (delay .entry)) factor (now (history .entry)) (now (others .entry))
+      ⌜ LeavesLeastCosts block (priceAt block congestion) (now («in_tree» .entry)) r (now (work .exit)) ⌝ }
+{
+    let weighting = Weighting {
+        timed: true,
+        criticality: criticality,
+    };
+    searched(
+        kind,
+        capacity,
+        first_edge,
+        edge_target,
+        weighting,
+        delay,
+        factor,
+        work,
+        history,
+        others,
+        in_tree,
+    )
+}
+
+// The lowest of tables 1 to 4 that breaks its rule, else 7 for a bad list of sinks, in a timed turn else 9 for bad delays, 0 where all is
+// sound.
 fn faulty_with_sinks(
     kind: &[u8],
     capacity: &[u8],
     first_edge: &[u32],
     edge_target: &[u16],
+    weighting: Weighting,
+    delay: &[u16],
     sinks: &[u16],
 ) -> u32
     ensures { λ r. do
       let block = blockOf (now (kind .entry)) (now (capacity .entry)) (now («first_edge» .entry)) (now («edge_target» .entry))
-      ⌜ r ≡ faultyWithSinks block (now (sinks .entry)) ⌝ }
+      let listed = now (sinks .entry)
+      let turn : (ℕ → List ℕ → List ℕ → Congestion) = weighedCongestion weighting (now (delay .entry))
+      ⌜ ((factor : ℕ) (histories others : List ℕ) → r ≡ faultyWithSinks block (turn factor histories others) listed) ⌝ }
 {
     let table = tables::faulty_table(kind, capacity, first_edge, edge_target);
     if 1 <= table {
         return table;
     }
     if tables::sink_list_sound(kind.len(), sinks) {
-        return 0;
+        return faulty_delays(weighting, kind.len(), delay);
     }
     7
 }
@@ -131,6 +270,8 @@ fn refused(
     capacity: &[u8],
     first_edge: &[u32],
     edge_target: &[u16],
+    weighting: Weighting,
+    delay: &[u16],
     factor: u32,
     entries: usize,
     history: &[u32],
@@ -140,14 +281,32 @@ fn refused(
 ) -> PathAnswer
     ensures { λ r. do
       let block = blockOf (now (kind .entry)) (now (capacity .entry)) (now («first_edge» .entry)) (now («edge_target» .entry))
-      let congestion = congestionOf factor (now (history .entry)) (now (others .entry))
-      let table = faultyWithSinks block (now (sinks .entry))
+      let congestion = weighedCongestion weighting (now (delay .entry)) factor (now (history .entry)) (now (others .entry))
+      let table = faultyWithSinks block congestion (now (sinks .entry))
       let due = refusalOf table (length (now (kind .entry))) congestion (now («in_tree» .entry)) entries
       ⌜ (pathRefusal r ≡ due) × (pathNumbers r ≡ []) ⌝ }
 {
-    let table = faulty_with_sinks(kind, capacity, first_edge, edge_target, sinks);
-    match numbers::first_refusal(table, kind.len(), factor, entries, history, others, in_tree) {
+    let table = faulty_with_sinks(
+        kind,
+        capacity,
+        first_edge,
+        edge_target,
+        weighting,
+        delay,
+        sinks,
+    );
+    match numbers::first_refusal(
+        table,
+        kind.len(),
+        weighting,
+        factor,
+        entries,
+        history,
+        others,
+        in_tree,
+    ) {
         SearchAnswer::BadTable(t) => PathAnswer::BadTable(t),
+        SearchAnswer::TooLarge(n) => PathAnswer::TooLarge(n),
         SearchAnswer::ShortWork(needed) => PathAnswer::ShortWork(needed),
         SearchAnswer::BadNumber(place) => PathAnswer::BadNumber(place),
         SearchAnswer::Done => PathAnswer::Stuck,
@@ -198,6 +357,22 @@ fn fits(
     sinks <= SINKS_MOST
 }
 
+// The other lengths fit, and in a timed turn there are few enough nodes and a delay for each.
+fn fits_timed(fit: bool, timed: bool, n: usize, delay: usize) -> bool
+    ensures { λ r. ⌜ r ≡ both fit (timedFitting timed n delay) ⌝ }
+{
+    if !fit {
+        return false;
+    }
+    if !timed {
+        return true;
+    }
+    if TIMED_NODES_MOST < n {
+        return false;
+    }
+    n <= delay
+}
+
 // One turn: the cheapest path from the marked nodes to the nearest unmarked sink. Only lengths are compared: every number is read within
 // its bounds, so that the call costs what it visits. Where a length is wrong the tests of the search and of the sinks say what is refused.
 pub fn cheapest_path(
@@ -205,6 +380,8 @@ pub fn cheapest_path(
     capacity: &[u8],
     first_edge: &[u32],
     edge_target: &[u16],
+    weighting: Weighting,
+    delay: &[u16],
     factor: u32,
     work: &mut [u64],
     history: &[u32],
@@ -214,16 +391,16 @@ pub fn cheapest_path(
 ) -> PathAnswer
     ensures answers { λ r. do
       let block = blockOf (now (kind .entry)) (now (capacity .entry)) (now («first_edge» .entry)) (now («edge_target» .entry))
-      let congestion = congestionOf factor (now (history .entry)) (now (others .entry))
+      let congestion = weighedCongestion weighting (now (delay .entry)) factor (now (history .entry)) (now (others .entry))
       let reply = pathReply block congestion (now («in_tree» .entry)) (now (sinks .entry)) (now (work .entry))
       ⌜ pathReplyOf r (now (work .exit)) ≡ reply ⌝ }
     ensures cheapest { λ r. do
       let block = blockOf (now (kind .entry)) (now (capacity .entry)) (now («first_edge» .entry)) (now («edge_target» .entry))
-      let congestion = congestionOf factor (now (history .entry)) (now (others .entry))
+      let congestion = weighedCongestion weighting (now (delay .entry)) factor (now (history .entry)) (now (others .entry))
       let due = pathDue block congestion (now («in_tree» .entry)) (now (sinks .entry)) (now (work .entry))
       ⌜ (due ≡ [] → JoinsCheapest block (priceAt block congestion) (now («in_tree» .entry)) (now (sinks .entry)) r (now (work .exit))) ⌝ }
 {
-    if fits(
+    let fit = fits(
         kind.len(),
         capacity.len(),
         first_edge.len(),
@@ -233,12 +410,15 @@ pub fn cheapest_path(
         others.len(),
         in_tree.len(),
         sinks.len(),
-    ) {
+    );
+    if fits_timed(fit, weighting.timed, kind.len(), delay.len()) {
         return turn::join(
             kind,
             capacity,
             first_edge,
             edge_target,
+            weighting,
+            delay,
             factor,
             work,
             history,
@@ -252,6 +432,8 @@ pub fn cheapest_path(
         capacity,
         first_edge,
         edge_target,
+        weighting,
+        delay,
         factor,
         work.len(),
         history,

@@ -6,11 +6,12 @@ ghost use lib.ListN.{length};
 ghost use Rattle.search.specs.Block.{blockOf};
 ghost use Rattle.search.specs.Tables.{Sound};
 ghost use Rattle.search.specs.Distance.{distances as distancesOf};
-ghost use Rattle.search.specs.Turn.{congestionOf, priceAt};
+ghost use Rattle.search.specs.Turn.{weighedCongestion, priceAt};
 ghost use Rattle.search.specs.Replies.{cleared};
 ghost use Rattle.search.specs.Ready.{Ready, Prepared};
 use crate::distances;
 use crate::queue;
+use price::Weighting;
 
 // Prices, first distances and no goals.
 fn prepare(
@@ -18,20 +19,33 @@ fn prepare(
     capacity: &[u8],
     history: &[u32],
     others: &[u16],
+    weighting: Weighting,
+    delay: &[u16],
     factor: u32,
     in_tree: &[u8],
     work: &mut [u64],
 )
-    requires { ⌜ Ready (now kind) (now capacity) (congestionOf factor (now history) (now others)) (now «in_tree») ⌝ }
+    requires { do
+      let congestion = weighedCongestion weighting (now delay) factor (now history) (now others)
+      ⌜ Ready (now kind) (now capacity) congestion (now «in_tree») ⌝ }
     requires { ⌜ 8 * length (now kind) ≤ length (now work) ⌝ }
     ensures { λ _. do
       let block = blockOf (now (kind .entry)) (now (capacity .entry)) [] []
-      let congestion = congestionOf factor (now (history .entry)) (now (others .entry))
+      let congestion = weighedCongestion weighting (now (delay .entry)) factor (now (history .entry)) (now (others .entry))
       let n = length (now (kind .entry))
       ⌜ Prepared n (priceAt block congestion) (now («in_tree» .entry)) (now (work .entry)) (now (work .exit)) ⌝ }
 {
     let n = kind.len();
-    distances::fill_prices(kind, capacity, history, others, factor, work);
+    distances::fill_prices(
+        kind,
+        capacity,
+        history,
+        others,
+        weighting,
+        delay,
+        factor,
+        work,
+    );
     distances::fill_distances(in_tree, work, n);
     distances::clear(work, 5 * n, 6 * n);
 }
@@ -42,23 +56,37 @@ pub fn distances_from_tree(
     capacity: &[u8],
     first_edge: &[u32],
     edge_target: &[u16],
+    weighting: Weighting,
+    delay: &[u16],
     factor: u32,
     work: &mut [u64],
     history: &[u32],
     others: &[u16],
     in_tree: &[u8],
 )
-    requires { ⌜ Ready (now kind) (now capacity) (congestionOf factor (now history) (now others)) (now «in_tree») ⌝ }
+    requires { do
+      let congestion = weighedCongestion weighting (now delay) factor (now history) (now others)
+      ⌜ Ready (now kind) (now capacity) congestion (now «in_tree») ⌝ }
     requires { ⌜ Sound (blockOf (now kind) (now capacity) (now «first_edge») (now «edge_target»)) ⌝ }
     requires { ⌜ 8 * length (now kind) ≤ length (now work) ⌝ }
     ensures { λ _. do
       let block = blockOf (now (kind .entry)) (now (capacity .entry)) (now («first_edge» .entry)) (now («edge_target» .entry))
-      let congestion = congestionOf factor (now (history .entry)) (now (others .entry))
+      let congestion = weighedCongestion weighting (now (delay .entry)) factor (now (history .entry)) (now (others .entry))
       let found = distancesOf block (priceAt block congestion) (now («in_tree» .entry))
       ⌜ now (work .exit) ≡ cleared (length (now (kind .entry))) found (now (work .entry)) ⌝ }
 {
     let n = kind.len();
-    prepare(kind, capacity, history, others, factor, in_tree, work);
+    prepare(
+        kind,
+        capacity,
+        history,
+        others,
+        weighting,
+        delay,
+        factor,
+        in_tree,
+        work,
+    );
     queue::build(work, n);
     distances::settle_all(kind, first_edge, edge_target, work, 0);
     distances::clear(work, n, 8 * n);

@@ -1,4 +1,4 @@
-// Tests of tables 1 to 4 and of a list of sinks.
+// Tests of tables 1 to 4 and 9, and of a list of sinks.
 // A loop over a table's entries goes to their end and keeps `fine`: without an early exit it becomes vector code.
 ghost use mathlib.Core.Path.{_≡_};
 ghost use mathlib.Core.Bool.{true};
@@ -10,13 +10,16 @@ ghost use Rattle.price.specs.Bounds.{nodesMost};
 ghost use Rattle.price.specs.Lists.{neighbours};
 ghost use Rattle.search.specs.Block.{blockOf, graphOf};
 ghost use Rattle.search.specs.Tables.{kindsSound, capacitiesSound, firstEdgesSound, edgeTargetsSound, rowSound, faultyTable};
+ghost use Rattle.search.specs.Tables.{delaysSound};
 ghost use Rattle.search.specs.Replies.{sinkListSound};
 use crate::EDGES_MOST;
 use crate::NODES_MOST;
 use crate::SINKS_MOST;
 
-// The largest kind.
+// The largest kind, and the largest delay.
 const KIND_MOST: u8 = 53;
+
+const DELAY_MOST: u16 = 1000;
 
 fn kinds_sound(kind: &[u8]) -> bool
     ensures { λ r. ⌜ r ≡ kindsSound (now (kind .entry)) ⌝ }
@@ -148,6 +151,22 @@ pub fn faulty_table(kind: &[u8], capacity: &[u8], first_edge: &[u32], edge_targe
         return 4;
     }
     0
+}
+
+// Table 9.
+pub fn delays_sound(n: usize, delay: &[u16]) -> bool
+    ensures { λ r. ⌜ r ≡ delaysSound n (now (delay .entry)) ⌝ }
+{
+    if delay.len() != n {
+        return false;
+    }
+    let mut fine = true;
+    let mut v = 0;
+    while v < delay.len() {
+        fine = if DELAY_MOST < delay[v] { false } else { fine };
+        v += 1;
+    }
+    fine
 }
 
 // A list of sinks is short enough, and each is a node.

@@ -5,7 +5,7 @@ ghost use Prim.Native.Nat.{_*_, _≤_, _<_};
 ghost use lib.ListN.{length, take};
 ghost use Rattle.price.specs.Bounds.{nodesMost};
 ghost use Rattle.search.specs.Block.{blockOf};
-ghost use Rattle.search.specs.Turn.{congestionOf, turn};
+ghost use Rattle.search.specs.Turn.{weighedCongestion, turn};
 ghost use Rattle.search.specs.Clamped.{clampedPrice, Lent};
 ghost use Rattle.search.specs.Replies.{turnReply, pathReplyOf};
 ghost use Rattle.search.specs.Layout.{SameBut};
@@ -16,6 +16,7 @@ use crate::PathAnswer;
 use crate::distances;
 use crate::heap;
 use crate::labels;
+use price::Weighting;
 
 // How many nodes are passed over at a time.
 const STRETCH: usize = 64;
@@ -121,14 +122,16 @@ fn least_price(
     capacity: &[u8],
     history: &[u32],
     others: &[u16],
+    weighting: Weighting,
+    delay: &[u16],
     factor: u32,
     sinks: &[u16],
     work: &[u64],
 ) -> u64
-    requires { ⌜ Lent (now kind) (now capacity) (congestionOf factor (now history) (now others)) ⌝ }
+    requires { ⌜ Lent (now kind) (now capacity) (weighedCongestion weighting (now delay) factor (now history) (now others)) ⌝ }
     requires { ⌜ length (now kind) ≤ length (now work) ⌝ }
     ensures { λ r. do
-      let c = congestionOf factor (now (history .entry)) (now (others .entry))
+      let c = weighedCongestion weighting (now (delay .entry)) factor (now (history .entry)) (now (others .entry))
       let price = clampedPrice (now (kind .entry)) (now (capacity .entry)) c
       let list = now (sinks .entry)
       ⌜ LeastGoal (length (now (kind .entry))) price list (now (work .entry)) (length list) r ⌝ }
@@ -140,7 +143,16 @@ fn least_price(
         let s = sinks[i] as usize;
         if s < n {
             if work[s] == labels::GOAL {
-                let p = labels::clamped_price(kind, capacity, history, others, factor, s);
+                let p = labels::clamped_price(
+                    kind,
+                    capacity,
+                    history,
+                    others,
+                    weighting,
+                    delay,
+                    factor,
+                    s,
+                );
                 least = if p < least { p } else { least };
             }
         }
@@ -223,6 +235,8 @@ pub fn join(
     capacity: &[u8],
     first_edge: &[u32],
     edge_target: &[u16],
+    weighting: Weighting,
+    delay: &[u16],
     factor: u32,
     work: &mut [u64],
     history: &[u32],
@@ -232,23 +246,35 @@ pub fn join(
 ) -> PathAnswer
     requires { do
       let b = blockOf (now kind) (now capacity) (now «first_edge») (now «edge_target»)
-      ⌜ Fitted b (congestionOf factor (now history) (now others)) (now «in_tree») (now sinks) (now work) ⌝ }
+      ⌜ Fitted b (weighedCongestion weighting (now delay) factor (now history) (now others)) (now «in_tree») (now sinks) (now work) ⌝ }
     ensures { λ r. do
       let b = blockOf (now (kind .entry)) (now (capacity .entry)) (now («first_edge» .entry)) (now («edge_target» .entry))
-      let congestion = congestionOf factor (now (history .entry)) (now (others .entry))
-      let price = clampedPrice (now (kind .entry)) (now (capacity .entry)) congestion
+      let c = weighedCongestion weighting (now (delay .entry)) factor (now (history .entry)) (now (others .entry))
+      let price = clampedPrice (now (kind .entry)) (now (capacity .entry)) c
       let made = turn b price (now («in_tree» .entry)) (now (sinks .entry))
       ⌜ pathReplyOf r (now (work .exit)) ≡ turnReply (length (now (kind .entry))) (now (work .entry)) made ⌝ }
 {
     let n = kind.len();
     let waits = mark_tree(in_tree, work, n);
     mark_goals(sinks, work, n);
-    let last_step = least_price(kind, capacity, history, others, factor, sinks, work);
+    let last_step = least_price(
+        kind,
+        capacity,
+        history,
+        others,
+        weighting,
+        delay,
+        factor,
+        sinks,
+        work,
+    );
     let cost = labels::settle_all(
         kind,
         capacity,
         history,
         others,
+        weighting,
+        delay,
         factor,
         first_edge,
         edge_target,

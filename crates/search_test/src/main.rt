@@ -1,14 +1,20 @@
-// The search and the cheapest path, a line each for every case of the file stdin, which docs/CASES.md describes: the answer and the whole
-// work slice afterwards. The expected lines stand in the file stdout.
+// The search, timed or not, and the cheapest path, a line each for every case of the file stdin, which docs/CASES.md describes: the answer
+// and the whole work slice afterwards. The expected lines stand in the file stdout.
 use cases::lines;
 use cases::read;
 use cases::show;
+use price::Weighting;
 use search::PathAnswer;
 use search::SearchAnswer;
 
 fn refused(row: u64, value: u64) {
     show::refused(row);
     show::value(value);
+}
+
+fn too_large(nodes: u64) {
+    refused(15, nodes);
+    show::value(0);
 }
 
 fn joined(place: u32, cost: u64, length: u32) {
@@ -24,6 +30,7 @@ fn search_answer(answer: SearchAnswer) {
         SearchAnswer::BadTable(table) => refused(5, table as u64),
         SearchAnswer::ShortWork(needed) => refused(6, needed),
         SearchAnswer::BadNumber(place) => refused(13, place as u64),
+        SearchAnswer::TooLarge(nodes) => too_large(nodes as u64),
     }
 }
 
@@ -39,7 +46,16 @@ fn path_answer(answer: PathAnswer) {
         PathAnswer::BadTable(table) => refused(5, table as u64),
         PathAnswer::ShortWork(needed) => refused(6, needed),
         PathAnswer::BadNumber(place) => refused(13, place as u64),
+        PathAnswer::TooLarge(nodes) => too_large(nodes as u64),
     }
+}
+
+// A line of the case that stands after tables 1 to 4, which is one later where table 9 is there too.
+fn line(weighting: Weighting, number: u32) -> usize {
+    if weighting.timed {
+        return number as usize + 1;
+    }
+    number as usize
 }
 
 // Calls the search and prints its line.
@@ -72,6 +88,40 @@ fn search_line(
     show::line_end();
 }
 
+// Calls the timed search and prints its line.
+fn timed_search_line(
+    case: &[u8],
+    kind: &[u8],
+    capacity: &[u8],
+    first_edge: &[u32],
+    edge_target: &[u16],
+    delay: &[u16],
+    factor: u32,
+    criticality: u32,
+    history: &[u32],
+    others: &[u16],
+    in_tree: &[u8],
+    work: &mut [u64],
+) {
+    show::name(case);
+    show::call(b"search");
+    search_answer(search::timed_search(
+        kind,
+        capacity,
+        first_edge,
+        edge_target,
+        delay,
+        factor,
+        criticality,
+        work,
+        history,
+        others,
+        in_tree,
+    ));
+    show::entries(work, work.len());
+    show::line_end();
+}
+
 // Calls the cheapest path and prints its line.
 fn path_line(
     case: &[u8],
@@ -79,6 +129,8 @@ fn path_line(
     capacity: &[u8],
     first_edge: &[u32],
     edge_target: &[u16],
+    weighting: Weighting,
+    delay: &[u16],
     factor: u32,
     history: &[u32],
     others: &[u16],
@@ -93,6 +145,8 @@ fn path_line(
         capacity,
         first_edge,
         edge_target,
+        weighting,
+        delay,
         factor,
         work,
         history,
@@ -111,25 +165,44 @@ fn search_case(
     capacity: &[u8],
     first_edge: &[u32],
     edge_target: &[u16],
+    weighting: Weighting,
+    delay: &[u16],
     factor: u32,
     history: &[u32],
     others: &[u16],
     in_tree: &[u8],
 ) {
-    let mut work = [0u64; 128];
-    let size = read::entries(case, 10, &mut work);
-    search_line(
-        case,
-        kind,
-        capacity,
-        first_edge,
-        edge_target,
-        factor,
-        history,
-        others,
-        in_tree,
-        &mut work[..size],
-    );
+    let mut work = [0u64; 8192];
+    let size = read::entries(case, line(weighting, 10), &mut work);
+    if weighting.timed {
+        timed_search_line(
+            case,
+            kind,
+            capacity,
+            first_edge,
+            edge_target,
+            delay,
+            factor,
+            weighting.criticality,
+            history,
+            others,
+            in_tree,
+            &mut work[..size],
+        );
+    } else {
+        search_line(
+            case,
+            kind,
+            capacity,
+            first_edge,
+            edge_target,
+            factor,
+            history,
+            others,
+            in_tree,
+            &mut work[..size],
+        );
+    }
 }
 
 // The cheapest path to the case's sinks, on the work slice as the case has it.
@@ -139,21 +212,25 @@ fn path_case(
     capacity: &[u8],
     first_edge: &[u32],
     edge_target: &[u16],
+    weighting: Weighting,
+    delay: &[u16],
     factor: u32,
     history: &[u32],
     others: &[u16],
     in_tree: &[u8],
 ) {
     let mut sinks = [0u16; 4097];
-    let mut work = [0u64; 128];
-    let listed = read::halves(case, 9, &mut sinks);
-    let size = read::entries(case, 10, &mut work);
+    let mut work = [0u64; 8192];
+    let listed = read::halves(case, line(weighting, 9), &mut sinks);
+    let size = read::entries(case, line(weighting, 10), &mut work);
     path_line(
         case,
         kind,
         capacity,
         first_edge,
         edge_target,
+        weighting,
+        delay,
         factor,
         history,
         others,
@@ -170,6 +247,8 @@ fn both(
     capacity: &[u8],
     first_edge: &[u32],
     edge_target: &[u16],
+    weighting: Weighting,
+    delay: &[u16],
     factor: u32,
     history: &[u32],
     others: &[u16],
@@ -181,6 +260,8 @@ fn both(
         capacity,
         first_edge,
         edge_target,
+        weighting,
+        delay,
         factor,
         history,
         others,
@@ -192,6 +273,8 @@ fn both(
         capacity,
         first_edge,
         edge_target,
+        weighting,
+        delay,
         factor,
         history,
         others,
@@ -206,20 +289,24 @@ fn lists(
     capacity: &[u8],
     first_edge: &[u32],
     edge_target: &[u16],
+    weighting: Weighting,
+    delay: &[u16],
     factor: u32,
 ) {
-    let mut history = [0u32; 256];
-    let mut others = [0u16; 256];
-    let mut in_tree = [0u8; 256];
-    let histories = read::words(case, 6, &mut history);
-    let uses = read::halves(case, 7, &mut others);
-    let marks = read::bytes(case, 8, &mut in_tree);
+    let mut history = [0u32; 1025];
+    let mut others = [0u16; 1025];
+    let mut in_tree = [0u8; 1025];
+    let histories = read::words(case, line(weighting, 6), &mut history);
+    let uses = read::halves(case, line(weighting, 7), &mut others);
+    let marks = read::bytes(case, line(weighting, 8), &mut in_tree);
     both(
         case,
         kind,
         capacity,
         first_edge,
         edge_target,
+        weighting,
+        delay,
         factor,
         &history[..histories],
         &others[..uses],
@@ -227,8 +314,45 @@ fn lists(
     );
 }
 
+// Table 9 of a timed case, and then the rest of the case.
+fn delays(
+    case: &[u8],
+    kind: &[u8],
+    capacity: &[u8],
+    first_edge: &[u32],
+    edge_target: &[u16],
+    weighting: Weighting,
+    factor: u32,
+) {
+    let mut delay = [0u16; 1025];
+    if weighting.timed {
+        let count = read::halves(case, 6, &mut delay);
+        lists(
+            case,
+            kind,
+            capacity,
+            first_edge,
+            edge_target,
+            weighting,
+            &delay[..count],
+            factor,
+        );
+    } else {
+        lists(
+            case,
+            kind,
+            capacity,
+            first_edge,
+            edge_target,
+            weighting,
+            &delay[..0],
+            factor,
+        );
+    }
+}
+
 // The tables, and then the rest of the case.
-fn tables(case: &[u8], factor: u32) {
+fn tables(case: &[u8], weighting: Weighting, factor: u32) {
     let mut kind = [0u8; 4097];
     let mut capacity = [0u8; 4097];
     let mut first_edge = [0u32; 4098];
@@ -237,22 +361,46 @@ fn tables(case: &[u8], factor: u32) {
     let capacities = read::bytes(case, 3, &mut capacity);
     let places = read::words(case, 4, &mut first_edge);
     let edges = read::halves(case, 5, &mut edge_target);
-    lists(
+    delays(
         case,
         &kind[..kinds],
         &capacity[..capacities],
         &first_edge[..places],
         &edge_target[..edges],
+        weighting,
         factor,
     );
 }
 
-fn one(case: &[u8]) {
-    let mut n = [0u32; 1];
-    let count = read::words(case, 1, &mut n);
+fn untimed(case: &[u8], count: usize, factor: u32) {
     read::exactly(count, 1);
     read::end(case, 11);
-    tables(case, n[0]);
+    let weighting = Weighting {
+        timed: false,
+        criticality: 0,
+    };
+    tables(case, weighting, factor);
+}
+
+fn timed(case: &[u8], count: usize, factor: u32, criticality: u32) {
+    read::exactly(count, 2);
+    read::end(case, 12);
+    let weighting = Weighting {
+        timed: true,
+        criticality: criticality,
+    };
+    tables(case, weighting, factor);
+}
+
+// The case by its call's first letter.
+fn one(case: &[u8]) {
+    let mut n = [0u32; 2];
+    let count = read::words(case, 1, &mut n);
+    if lines::call(case, 0) == b't' {
+        timed(case, count, n[0], n[1]);
+    } else {
+        untimed(case, count, n[0]);
+    }
 }
 
 fn all(file: &[u8]) {

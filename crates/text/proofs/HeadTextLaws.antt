@@ -128,7 +128,7 @@ module _ (c : Counts) (rest : List ℕ) (h : HeadBounds c) where
   pub head-printed :
       (form : Form) → Allowed form (c .terms) → begins letterN rest ≡ true
       → headPart (printLine letterF (c .nodes ∷ c .edges ∷ c .nets ∷ c .terms .limit ∷ []) ++ (termsText form (c .terms) ++ rest))
-      ≡ part c (linesAfter form 2) rest
+      ≡ part c (linesAfter form (c .terms .timed) 2) rest
   unfolding headPart headLine
   head-printed form allowed next =
       rw (

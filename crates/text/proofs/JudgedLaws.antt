@@ -3,6 +3,8 @@
 --     line-taken, line-malformed, line-place the fields of a line, as their answer says them
 --     judged-beyond, -wrong, -taken          fields that are tested
 --     judged-values                          values that are given passed both tests
+--     taking-taking, onward-taking           values that are taken through a function
+--     taking-values                          what they were taken of
 -- Assumes nothing.
 use mathlib.Core.Bool.{Bool, true, false}
 use mathlib.Core.List.{List, [], _∷_}
@@ -14,7 +16,7 @@ use lib.ListN.{take, drop}
 use lib.Seq.{drop-drop}
 use Rattle.price.proofs.TestLaws.{either-way, true≢false}
 use Rattle.text.specs.Lines.{Fields, taken, malformed, fields, line, begins}
-use Rattle.text.specs.JobText.{values, refused, judged}
+use Rattle.text.specs.JobText.{Reading, values, refused, judged, Part, onward, taking}
 use Rattle.text.specs.Steps.{After, fieldsAt, FieldsPlace}
 use Rattle.text.specs.declared.fields.LineFields.{LineFields}
 use Rattle.text.specs.declared.fields.LineFields.the-variants as lf
@@ -85,3 +87,23 @@ judged-values within ordered (taken us mid) vs rest e =
     let bad : refused 2 ≡ values vs rest = rw p at e in
     let z : _≡_ {A = ℕ} 0 1 = cc in absurd (omega arith))
     (either-way (within us))
+
+-- ---- values that are taken through a function
+
+pub onward-taking : {A B C : Type 0} (f : A → B) (r : Reading A) (at : ℕ) (next : B → List ℕ → Part C) → onward (taking f r) at next ≡ onward r at (λ x rest. next (f x) rest)
+onward-taking f (values x rest) at next = refl
+onward-taking f (refused k) at next = refl
+
+pub taking-taking : {A B C : Type 0} (f : A → B) (g : B → C) (r : Reading A) → taking g (taking f r) ≡ taking (λ x. g (f x)) r
+taking-taking f g (values x rest) = refl
+taking-taking f g (refused k) = refl
+
+-- a reading that gives values, and what they were made of
+pub record Took {A B : Type 0} (f : A → B) (r : Reading A) (l : B) (rest : List ℕ) : Type 0 where
+  pub given : A
+  pub is : r ≡ values given rest
+  pub made : l ≡ f given
+
+pub taking-values : {A B : Type 0} (f : A → B) (r : Reading A) (l : B) (rest : List ℕ) → taking f r ≡ values l rest → Took f r l rest
+taking-values f (values x rs) l rest e = let left : rs ≡ rest = cc in record { given = x; is = rw left; made = cc }
+taking-values f (refused k) l rest e = absurd (let z : _≡_ {A = ℕ} 0 1 = cc in omega arith)

@@ -5,13 +5,13 @@
 --     BranchHolds       the branches of any sound log's routes are those of its nets' final trees
 --     ListedHolds       the B lines list exactly the path steps of each net's latest records, the J lines the nets joined into another
 --     PictureHolds      the picture and the routes text of a sound log list the same branches, and each text determines its list
---     SamplesHold       a record with a node at the bound of nodes is unsound, a small log's users, and V lines, computed
+--     SamplesHold       a record with a node at the bound of nodes is unsound, a small log's users, V and W lines, and a timed text, computed
 -- A line at a place of the text, for the functions that read it:
 --     FieldLaws         a byte, a number, a field, the fields of a line
 --     SideLaws          two clauses of a contract in a walk by hand
 --     JudgedLaws        a line's letter, and its judgement by 1, 2 or 3
 --     HeadLineLaws      the F line, and the lines before the nodes
---     OptionalLineLaws  a line that may be left out: P and V
+--     OptionalLineLaws  a line that may be left out: P, V and W
 --     NodeLineLaws      an N line, and the loop over them
 --     EdgeLineLaws      an E line, and the loop over them
 --     NetLineLaws       an S or a T line
@@ -20,13 +20,13 @@
 -- The whole text, for the functions that read it:
 --     ReaderLaws        stage after stage is the whole text
 --     CopyLaws          copying the first entries of a table
---     ReadJobLaws       row 4, and the tables afterwards
+--     ReadJobLaws       row 4, then 15, and the tables afterwards
 -- What is read against what is printed, for TextHolds:
 --     LastLaws          a list with one entry more
 --     DecimalLaws       a number's digits, printed and counted
 --     PrintLaws         a field and a line
 --     HeadTextLaws      the F line
---     OptionalTextLaws  the P and the V line
+--     OptionalTextLaws  the P, the V and the W line
 --     NodeTextLaws      the N lines
 --     FirstPlaceLaws    first places of rows
 --     EdgeRisingLaws    rising edges and sound rows

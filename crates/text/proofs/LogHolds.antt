@@ -26,7 +26,7 @@ use Rattle.negotiation.proofs.JoinedHolds.{joined-routable}
 use Rattle.negotiation.proofs.RecordLaws.{words-length, records-few}
 use Rattle.negotiation.proofs.FilterLaws.{All, all-map}
 use Rattle.text.specs.Routes.{Named, pathIn, pathSound, recordSound, soundUpTo, soundWords, logSound, writable}
-use Rattle.text.proofs.TurnedLaws.{Turned, TurnedUpTo, iteration-turned, run-turned, Accepted, accepted, SomeSinks, joined-some, joined-passes, run-some}
+use Rattle.text.proofs.TurnedLaws.{Turned, TurnedUpTo, iteration-turned, run-turned, Accepted, accepted-fits, accepted, SomeSinks, joined-some, joined-passes, run-some}
 
 -- ---- iterations that never fall
 
@@ -46,7 +46,7 @@ rising-append :
 rising-append t last [] ss l up most same = rising-same t last ss l same
 rising-append t last (r ∷ rs) ss l up most same = (up .0, rising-append t (r .iteration) rs ss (most .0) (up .1) (most .1) same)
 
-run-rising : (j : Job) → Routable j → (m : ℕ) → m ≤ limitMost → Rising 0 (recordsAfter j (firstState j) m)
+run-rising : (j : Job) → Routable j → (m : ℕ) → m ≤ j .terms .limit → Rising 0 (recordsAfter j (firstState j) m)
 unfolding recordsAfter
 run-rising j rests zero h = tt
 run-rising j rests (suc m) h =
@@ -74,12 +74,12 @@ pub record Passes (named : Named) (j : Job) : Type 0 where
   pub nets-pass : (i : ℕ) → i < nets j → hasSinks j i ≡ true → named .net i ≡ true
   pub nodes-pass : nodes j ≤ named .nodes
 
-turn-writable : (named : Named) (j : Job) → Routable j → Passes named j → (m : ℕ) → m ≤ limitMost → (r : Record) → TurnedUpTo j m r → Writable named r
+turn-writable : (named : Named) (j : Job) → Routable j → Passes named j → (m : ℕ) → m ≤ j .terms .limit → (r : Record) → TurnedUpTo j m r → Writable named r
 turn-writable named j rests passes m h r b =
     let few : nodes j ≤ nodesMost = kinds-few (j .block .kinds) (rests .block-sound .kinds-sound) in
     record {
       iteration-least = omega (arith, b .t-least, b .turned .iteration-is);
-      iteration-most = omega (arith, b .t-most, b .turned .iteration-is);
+      iteration-most = omega (arith, b .t-most, b .turned .iteration-is, rests .limit-few);
       net-passes = passes .nets-pass (r .net) (b .turned .net-below) (b .turned .has-sinks);
       path-long = b .turned .path-long;
       path-short = omega (arith, b .turned .path-short);
@@ -167,7 +167,7 @@ pub accepted-sound :
     (j : Job) (work log : List ℕ) → SoundJob j → 8 * nodes j ≤ length work → routeReply j work log .refusal ≡ []
     → logSound (writable (j .sources)) (take (routeReply j work log .used) (routeReply j work log .log)) ≡ true
 accepted-sound j work log sound enough e =
-    let rests : Routable (joined j) = joined-routable j sound in
+    let rests : Routable (joined j) = joined-routable j sound (accepted-fits j work log sound e) in
     let few : nodes (joined j) ≤ nodesMost = kinds-few (joined j .block .kinds) (rests .block-sound .kinds-sound) in
     reply-sound (writable (j .sources)) (joined j) rests (joined-some j sound) (record { nets-pass = joined-passes j; nodes-pass = few }) (routeReply j work log)
     (accepted j work log sound enough e)

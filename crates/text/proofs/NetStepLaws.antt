@@ -22,12 +22,13 @@ use Rattle.price.proofs.ListLaws.{has-append, has-append-right}
 use Rattle.search.specs.Replies.{sinksMost}
 use Rattle.text.specs.Lines.{letterS, letterT}
 use Rattle.job.specs.Tables.{sourceKind, sinkKind}
-use Rattle.text.specs.JobText.{values, refused, NetLists, lastOf, sinksNow, sourceDue, sinkDue, withSource, withSink, taking, sourceLine, sinkLine, ofKind, nextSource, nextSink, netLine}
-use Rattle.text.specs.Steps.{Marked, netsAt, NetKept, SourceAdded, SinkAdded, netLineAt, KeptAfter}
+use Rattle.text.specs.JobText.{Reading, values, refused, NetLists, lastOf, sinksNow, sourceDue, sinkDue, withSource, withSink, taking, sourceLine, sinkLine, ofKind, nextSource, nextSink, netLine}
+use Rattle.text.specs.Steps.{threeOf, Marked, netsAt, NetKept, SourceAdded, SinkAdded, netLineAt, KeptAfter}
 use Rattle.text.specs.declared.nets.NetCursor.{NetCursor}
 use Rattle.text.specs.declared.nets.NetStep.{NetStep}
 use Rattle.text.specs.declared.nets.NetStep.the-variants as ns
-use Rattle.text.proofs.NetLineLaws.{sink-few}
+use Rattle.text.proofs.NetLineLaws.{three-of-kind, sink-few}
+use Rattle.text.proofs.JudgedLaws.{taking-taking}
 use Rattle.text.proofs.LastLaws.{last-more}
 
 -- ---- another net is due
@@ -95,74 +96,74 @@ sink-marks n k node seen pins l m v b =
 
 -- ---- a line of the nets by its letter
 
-module _ (kinds : List ℕ) (n nets : ℕ) (l : NetLists) {b : ℕ} {rest bs : List ℕ} (h : bs ≡ b ∷ rest) where
-  line-source : b ≡ letterS → sourceDue nets l ≡ true → netLine kinds n nets l bs ≡ taking (withSource l) (nextSource kinds n nets l bs)
+module _ (timed : Bool) (kinds : List ℕ) (n nets : ℕ) (l : NetLists) {b : ℕ} {rest bs : List ℕ} (h : bs ≡ b ∷ rest) where
+  line-source : b ≡ letterS → sourceDue nets l ≡ true → netLine timed kinds n nets l bs ≡ taking (withSource l) (nextSource kinds n nets l bs)
   unfolding netLine
   line-source e d = rw (h, eq-eqb b letterS e, d)
 
-  line-undue : b ≡ letterS → sourceDue nets l ≡ false → netLine kinds n nets l bs ≡ refused 1
+  line-undue : b ≡ letterS → sourceDue nets l ≡ false → netLine timed kinds n nets l bs ≡ refused 1
   unfolding netLine
   line-undue e d = rw (h, eq-eqb b letterS e, d, ne-eqb b letterT (λ q. omega arith))
 
-  line-sink : (b ≡ letterS → ⊥) → b ≡ letterT → sinkDue l ≡ true → netLine kinds n nets l bs ≡ taking (withSink l) (nextSink kinds n nets l bs)
+  line-sink : (b ≡ letterS → ⊥) → b ≡ letterT → sinkDue l ≡ true → netLine timed kinds n nets l bs ≡ taking (withSink l) (nextSink timed kinds n nets l bs)
   unfolding netLine
   line-sink f e d = rw (h, ne-eqb b letterS f, eq-eqb b letterT e, d)
 
-  line-unknown : (b ≡ letterS → ⊥) → (b ≡ letterT → ⊥) → netLine kinds n nets l bs ≡ refused 1
+  line-unknown : (b ≡ letterS → ⊥) → (b ≡ letterT → ⊥) → netLine timed kinds n nets l bs ≡ refused 1
   unfolding netLine
   line-unknown f e = rw (h, ne-eqb b letterS f, ne-eqb b letterT e)
 
-  line-early : (b ≡ letterS → ⊥) → sinkDue l ≡ false → netLine kinds n nets l bs ≡ refused 1
+  line-early : (b ≡ letterS → ⊥) → sinkDue l ≡ false → netLine timed kinds n nets l bs ≡ refused 1
   unfolding netLine
   line-early f d = rw (h, ne-eqb b letterS f, both-false-right (eqb b letterT) (sinkDue l) d)
 
 -- ---- the steps
 
-module _ {n nets : ℕ} {text : List ℕ} {c : NetCursor} {sources firstSinks sinks seen : List ℕ} (k : NetKept n nets text c sources firstSinks sinks seen) where
+module _ {n nets : ℕ} {text : List ℕ} {c : NetCursor} {sources firstSinks sinks criticalities seen : List ℕ} (k : NetKept n nets text c sources firstSinks sinks criticalities seen) where
   pub sources-now : length (take (c .nets) sources) ≡ c .nets
   sources-now = length-take-le (c .nets) sources (omega arith)
 
   all-sinks-now : length (take (c .sinks) sinks) ≡ c .sinks
   all-sinks-now = length-take-le (c .sinks) sinks (omega arith)
 
-  pub sinks-now : length (sinksNow (netsAt c sources firstSinks sinks)) ≡ c .sinks - c .first
+  pub sinks-now : length (sinksNow (netsAt c sources firstSinks sinks criticalities)) ≡ c .sinks - c .first
   unfolding sinksNow
   sinks-now = rw (← k .first-is) (length-drop (c .first) (take (c .sinks) sinks) ∙ ap (λ (m : ℕ). m - c .first) all-sinks-now)
 
-  pub due-is : sourceDue nets (netsAt c sources firstSinks sinks) ≡ both (ltb (c .nets) nets) (either (eqb (c .nets) 0) (ltb (c .first) (c .sinks)))
+  pub due-is : sourceDue nets (netsAt c sources firstSinks sinks criticalities) ≡ both (ltb (c .nets) nets) (either (eqb (c .nets) 0) (ltb (c .first) (c .sinks)))
   unfolding sourceDue
   due-is = rw (sources-now, sinks-now, some-left (c .first) (c .sinks))
 
-  module _ (kinds : List ℕ) (inside : c .at < length text) where
+  module _ (timed : Bool) (kinds : List ℕ) (inside : c .at < length text) where
     here : drop (c .at) text ≡ getD text (c .at) 0 ∷ drop (suc (c .at)) text
     here = drop-cons text (c .at) 0 inside
 
     -- an S line
     source-line-is :
-        getD text (c .at) 0 ≡ letterS → sourceDue nets (netsAt c sources firstSinks sinks) ≡ true
-        → netLine kinds n nets (netsAt c sources firstSinks sinks) (drop (c .at) text)
-        ≡ taking (withSource (netsAt c sources firstSinks sinks)) (ofKind sourceKind kinds (sourceLine n nets (c .nets) (drop (c .at) text)))
+        getD text (c .at) 0 ≡ letterS → sourceDue nets (netsAt c sources firstSinks sinks criticalities) ≡ true
+        → netLine timed kinds n nets (netsAt c sources firstSinks sinks criticalities) (drop (c .at) text)
+        ≡ taking (withSource (netsAt c sources firstSinks sinks criticalities)) (ofKind sourceKind kinds (sourceLine n nets (c .nets) (drop (c .at) text)))
     unfolding nextSource
     source-line-is e d =
-        line-source kinds n nets (netsAt c sources firstSinks sinks) here e d
-        ∙ ap (λ (i : ℕ). taking (withSource (netsAt c sources firstSinks sinks)) (ofKind sourceKind kinds (sourceLine n nets i (drop (c .at) text)))) sources-now
+        line-source timed kinds n nets (netsAt c sources firstSinks sinks criticalities) here e d
+        ∙ ap (λ (i : ℕ). taking (withSource (netsAt c sources firstSinks sinks criticalities)) (ofKind sourceKind kinds (sourceLine n nets i (drop (c .at) text)))) sources-now
 
     pub source-step :
         (step : NetStep) (sources' firstSinks' seen' : List ℕ) → getD text (c .at) 0 ≡ letterS
-        → sourceDue nets (netsAt c sources firstSinks sinks) ≡ true → c .nets < nets
+        → sourceDue nets (netsAt c sources firstSinks sinks criticalities) ≡ true → c .nets < nets
         → SourceAdded n nets text c step sources firstSinks seen sources' firstSinks' seen' (ofKind sourceKind kinds (sourceLine n nets (c .nets) (drop (c .at) text)))
-        → (netLineAt text step sources' firstSinks' sinks ≡ netLine kinds n nets (netsAt c sources firstSinks sinks) (drop (c .at) text)) × KeptAfter
-        n nets text c step sources' firstSinks' sinks seen'
+        → (netLineAt text step sources' firstSinks' sinks criticalities ≡ netLine timed kinds n nets (netsAt c sources firstSinks sinks criticalities) (drop (c .at) text)) × KeptAfter
+        n nets text c step sources' firstSinks' sinks criticalities seen'
     unfolding sinksNow
-    source-step (ns.Stopped number) sources' firstSinks' seen' e d b a = (sym (source-line-is e d ∙ ap (taking (withSource (netsAt c sources firstSinks sinks))) a), tt)
+    source-step (ns.Stopped number) sources' firstSinks' seen' e d b a = (sym (source-line-is e d ∙ ap (taking (withSource (netsAt c sources firstSinks sinks criticalities))) a), tt)
     source-step (ns.On next) sources' firstSinks' seen' e d b a =
         let node : ℕ = a .0 in
         let in-seen : node < length seen = omega (arith, k .room .seen-long, a .2) in
         let s : take (next .nets) sources' ≡ take (c .nets) sources ++ (node ∷ []) = rw (a .5, a .8) (take-more sources (c .nets) node (omega arith)) in
         let f : take (next .nets) firstSinks' ≡ take (c .nets) firstSinks ++ (c .sinks ∷ []) = rw (a .5, a .9) (take-more firstSinks (c .nets) (c .sinks) (omega arith)) in
         let none : drop (c .sinks) (take (c .sinks) sinks) ≡ [] = drop-of-length-le (take (c .sinks) sinks) {i = c .sinks} (omega (arith, all-sinks-now)) in
-        let lists : netsAt next sources' firstSinks' sinks ≡ withSource (netsAt c sources firstSinks sinks) (c .nets ∷ node ∷ []) = rw (s, f, a .6, all-sinks-now) in (
-          ap (λ (l : NetLists). values l (drop (next .at) text)) lists ∙ sym (source-line-is e d ∙ ap (taking (withSource (netsAt c sources firstSinks sinks))) (a .1)),
+        let lists : netsAt next sources' firstSinks' sinks criticalities ≡ withSource (netsAt c sources firstSinks sinks criticalities) (c .nets ∷ node ∷ []) = rw (s, f, a .6, all-sinks-now) in (
+          ap (λ (l : NetLists). values l (drop (next .at) text)) lists ∙ sym (source-line-is e d ∙ ap (taking (withSource (netsAt c sources firstSinks sinks criticalities))) (a .1)),
           (
             omega (arith, a .3),
             a .4,
@@ -173,6 +174,7 @@ module _ {n nets : ℕ} {text : List ℕ} {c : NetCursor} {sources firstSinks si
                 sources-long = rw (a .8, length-set) (k .room .sources-long);
                 firsts-long = rw (a .9, length-set) (k .room .firsts-long);
                 sinks-long = k .room .sinks-long;
+                criticalities-long = k .room .criticalities-long;
                 seen-long = rw (a .10, length-set) (k .room .seen-long);
               };
               at-most = a .3 .1;
@@ -187,71 +189,92 @@ module _ {n nets : ℕ} {text : List ℕ} {c : NetCursor} {sources firstSinks si
           ),
         )
 
-    pub source-undue : getD text (c .at) 0 ≡ letterS → sourceDue nets (netsAt c sources firstSinks sinks) ≡ false → refused 1 ≡ netLine kinds n nets (netsAt c sources firstSinks sinks) (drop (c .at) text)
-    source-undue e d = sym (line-undue kinds n nets (netsAt c sources firstSinks sinks) here e d)
+    pub source-undue : getD text (c .at) 0 ≡ letterS → sourceDue nets (netsAt c sources firstSinks sinks criticalities) ≡ false → refused 1 ≡ netLine timed kinds n nets (netsAt c sources firstSinks sinks criticalities) (drop (c .at) text)
+    source-undue e d = sym (line-undue timed kinds n nets (netsAt c sources firstSinks sinks criticalities) here e d)
 
-    pub other-letter : (getD text (c .at) 0 ≡ letterS → ⊥) → (getD text (c .at) 0 ≡ letterT → ⊥) → refused 1 ≡ netLine kinds n nets (netsAt c sources firstSinks sinks) (drop (c .at) text)
-    other-letter f e = sym (line-unknown kinds n nets (netsAt c sources firstSinks sinks) here f e)
+    pub other-letter : (getD text (c .at) 0 ≡ letterS → ⊥) → (getD text (c .at) 0 ≡ letterT → ⊥) → refused 1 ≡ netLine timed kinds n nets (netsAt c sources firstSinks sinks criticalities) (drop (c .at) text)
+    other-letter f e = sym (line-unknown timed kinds n nets (netsAt c sources firstSinks sinks criticalities) here f e)
 
-    pub no-net : (getD text (c .at) 0 ≡ letterS → ⊥) → c .nets < 1 → refused 1 ≡ netLine kinds n nets (netsAt c sources firstSinks sinks) (drop (c .at) text)
+    pub no-net : (getD text (c .at) 0 ≡ letterS → ⊥) → c .nets < 1 → refused 1 ≡ netLine timed kinds n nets (netsAt c sources firstSinks sinks criticalities) (drop (c .at) text)
     unfolding sinkDue
-    no-net f h = sym (line-early kinds n nets (netsAt c sources firstSinks sinks) here f (lt-leb 1 (length (take (c .nets) sources)) (omega (arith, sources-now))))
+    no-net f h = sym (line-early timed kinds n nets (netsAt c sources firstSinks sinks criticalities) here f (lt-leb 1 (length (take (c .nets) sources)) (omega (arith, sources-now))))
 
     -- the sinks of the last net after a T line
-    one-sink-more : (node : ℕ) → sinksNow (withSink (netsAt c sources firstSinks sinks) ((c .nets - 1) ∷ node ∷ [])) ≡ sinksNow (netsAt c sources firstSinks sinks) ++ (node ∷ [])
+    one-sink-more :
+        (node tenths : ℕ)
+        → sinksNow (withSink (netsAt c sources firstSinks sinks criticalities) ((c .nets - 1) ∷ node ∷ tenths ∷ []))
+        ≡ sinksNow (netsAt c sources firstSinks sinks criticalities) ++ (node ∷ [])
     unfolding sinksNow
-    one-sink-more node = rw (← k .first-is) (drop-append-le (c .first) (take (c .sinks) sinks) (node ∷ []) (omega (arith, all-sinks-now)))
+    one-sink-more node tenths = rw (← k .first-is) (drop-append-le (c .first) (take (c .sinks) sinks) (node ∷ []) (omega (arith, all-sinks-now)))
+
+    -- what a T line gives, by three of its values
+    three-values :
+        (r : Reading (List ℕ))
+        → taking (withSink (netsAt c sources firstSinks sinks criticalities)) (ofKind sinkKind kinds r)
+        ≡ taking (withSink (netsAt c sources firstSinks sinks criticalities)) (ofKind sinkKind kinds (taking threeOf r))
+    three-values r =
+        sym (taking-taking threeOf (withSink (netsAt c sources firstSinks sinks criticalities)) (ofKind sinkKind kinds r))
+        ∙ ap (taking (withSink (netsAt c sources firstSinks sinks criticalities))) (three-of-kind sinkKind kinds r)
 
     -- a T line
     sink-line-is :
         (getD text (c .at) 0 ≡ letterS → ⊥) → getD text (c .at) 0 ≡ letterT → 1 ≤ c .nets
-        → netLine kinds n nets (netsAt c sources firstSinks sinks) (drop (c .at) text)
-        ≡ taking (withSink (netsAt c sources firstSinks sinks))
-        (ofKind sinkKind kinds (sinkLine n nets (c .nets - 1) (lastOf (take (c .nets) sources) ∷ sinksNow (netsAt c sources firstSinks sinks)) (c .sinks) (drop (c .at) text)))
+        → netLine timed kinds n nets (netsAt c sources firstSinks sinks criticalities) (drop (c .at) text)
+        ≡ taking (withSink (netsAt c sources firstSinks sinks criticalities))
+        (ofKind sinkKind kinds
+        (taking threeOf (sinkLine timed n nets (c .nets - 1) (lastOf (take (c .nets) sources) ∷ sinksNow (netsAt c sources firstSinks sinks criticalities)) (c .sinks) (drop (c .at) text))))
     unfolding nextSink sinkDue
     sink-line-is f e h =
-        line-sink kinds n nets (netsAt c sources firstSinks sinks) here f e (le-leb 1 (length (take (c .nets) sources)) (omega (arith, sources-now)))
+        line-sink timed kinds n nets (netsAt c sources firstSinks sinks criticalities) here f e (le-leb 1 (length (take (c .nets) sources)) (omega (arith, sources-now)))
+        ∙ three-values
+        (sinkLine timed n nets (length (take (c .nets) sources) - 1) (lastOf (take (c .nets) sources) ∷ sinksNow (netsAt c sources firstSinks sinks criticalities)) (length (take (c .sinks) sinks))
+        (drop (c .at) text))
         ∙ rw (sources-now, all-sinks-now)
 
     pub sink-step :
-        (step : NetStep) (sinks' seen' : List ℕ) → (getD text (c .at) 0 ≡ letterS → ⊥) → getD text (c .at) 0 ≡ letterT → 1 ≤ c .nets
+        (step : NetStep) (sinks' criticalities' seen' : List ℕ) → (getD text (c .at) 0 ≡ letterS → ⊥) → getD text (c .at) 0 ≡ letterT → 1 ≤ c .nets
         →
-        ((pins : List ℕ) → Marked n (c .nets) seen pins → SinkAdded n nets text c step sinks seen sinks' seen' (ofKind sinkKind kinds (sinkLine n nets (c .nets - 1) pins (c .sinks) (drop (c .at) text))))
-        → (netLineAt text step sources firstSinks sinks' ≡ netLine kinds n nets (netsAt c sources firstSinks sinks) (drop (c .at) text)) × KeptAfter n
-        nets text c step sources firstSinks sinks' seen'
-    sink-step (ns.Stopped number) sinks' seen' f e h added =
-        let a = added (lastOf (take (c .nets) sources) ∷ sinksNow (netsAt c sources firstSinks sinks)) (k .marked h) in
-        (sym (sink-line-is f e h ∙ ap (taking (withSink (netsAt c sources firstSinks sinks))) a), tt)
-    sink-step (ns.On next) sinks' seen' f e h added =
-        let pins : List ℕ = lastOf (take (c .nets) sources) ∷ sinksNow (netsAt c sources firstSinks sinks) in
+        ((pins : List ℕ) → Marked n (c .nets) seen pins
+        → SinkAdded n nets text c step sinks criticalities seen sinks' criticalities' seen'
+        (ofKind sinkKind kinds (taking threeOf (sinkLine timed n nets (c .nets - 1) pins (c .sinks) (drop (c .at) text)))))
+        → (netLineAt text step sources firstSinks sinks' criticalities' ≡ netLine timed kinds n nets (netsAt c sources firstSinks sinks criticalities) (drop (c .at) text)) × KeptAfter n
+        nets text c step sources firstSinks sinks' criticalities' seen'
+    sink-step (ns.Stopped number) sinks' criticalities' seen' f e h added =
+        let a = added (lastOf (take (c .nets) sources) ∷ sinksNow (netsAt c sources firstSinks sinks criticalities)) (k .marked h) in
+        (sym (sink-line-is f e h ∙ ap (taking (withSink (netsAt c sources firstSinks sinks criticalities))) a), tt)
+    sink-step (ns.On next) sinks' criticalities' seen' f e h added =
+        let pins : List ℕ = lastOf (take (c .nets) sources) ∷ sinksNow (netsAt c sources firstSinks sinks criticalities) in
         let a = added pins (k .marked h) in
         let node : ℕ = a .0 in
-        let few : c .sinks < sinksMost = sink-few kinds n nets (c .nets - 1) pins (c .sinks) (drop (c .at) text) (a .1) in
-        let in-seen : node < length seen = omega (arith, k .room .seen-long, a .2) in
-        let t : take (next .sinks) sinks' ≡ take (c .sinks) sinks ++ (node ∷ []) = rw (a .6, a .8) (take-more sinks (c .sinks) node (omega arith)) in
-        let lists : netsAt next sources firstSinks sinks' ≡ withSink (netsAt c sources firstSinks sinks) ((c .nets - 1) ∷ node ∷ []) = rw (t, a .5) in
-        let now : sinksNow (netsAt next sources firstSinks sinks') ≡ sinksNow (netsAt c sources firstSinks sinks) ++ (node ∷ []) = rw lists (one-sink-more node) in (
-          ap (λ (l : NetLists). values l (drop (next .at) text)) lists ∙ sym (sink-line-is f e h ∙ ap (taking (withSink (netsAt c sources firstSinks sinks))) (a .1)),
+        let tenths : ℕ = a .1 in
+        let few : c .sinks < sinksMost = sink-few timed kinds n nets (c .nets - 1) pins (c .sinks) (drop (c .at) text) (a .2) in
+        let in-seen : node < length seen = omega (arith, k .room .seen-long, a .3) in
+        let t : take (next .sinks) sinks' ≡ take (c .sinks) sinks ++ (node ∷ []) = rw (a .7, a .9) (take-more sinks (c .sinks) node (omega arith)) in
+        let u : take (next .sinks) criticalities' ≡ take (c .sinks) criticalities ++ (tenths ∷ []) = rw (a .7, a .10) (take-more criticalities (c .sinks) tenths (omega arith)) in
+        let lists : netsAt next sources firstSinks sinks' criticalities' ≡ withSink (netsAt c sources firstSinks sinks criticalities) ((c .nets - 1) ∷ node ∷ tenths ∷ []) = rw (t, u, a .6) in
+        let now : sinksNow (netsAt next sources firstSinks sinks' criticalities') ≡ sinksNow (netsAt c sources firstSinks sinks criticalities) ++ (node ∷ []) = rw lists (one-sink-more node tenths) in (
+          ap (λ (l : NetLists). values l (drop (next .at) text)) lists ∙ sym (sink-line-is f e h ∙ ap (taking (withSink (netsAt c sources firstSinks sinks criticalities))) (a .2)),
           (
-            omega (arith, a .3),
-            a .4,
+            omega (arith, a .4),
+            a .5,
             record {
               room = record {
                 nodes-most = k .room .nodes-most;
                 nets-most = k .room .nets-most;
                 sources-long = k .room .sources-long;
                 firsts-long = k .room .firsts-long;
-                sinks-long = rw (a .8, length-set) (k .room .sinks-long);
-                seen-long = rw (a .9, length-set) (k .room .seen-long);
+                sinks-long = rw (a .9, length-set) (k .room .sinks-long);
+                criticalities-long = rw (a .10, length-set) (k .room .criticalities-long);
+                seen-long = rw (a .11, length-set) (k .room .seen-long);
               };
-              at-most = a .3 .1;
-              line-most = omega (arith, a .3, a .4);
-              nets-read = omega (arith, a .5);
-              sinks-read = omega (arith, a .6);
-              first-is = rw (a .5, a .7) (k .first-is);
-              first-most = omega (arith, a .6, a .7);
-              stamps = λ v g. rw (a .5, a .9) (set-most (c .nets) node (c .nets) v seen in-seen (omega arith) (k .stamps v g));
-              marked = λ g. rw (now, a .5, a .9) (sink-marks n (c .nets) node seen pins in-seen (k .marked h));
+              at-most = a .4 .1;
+              line-most = omega (arith, a .4, a .5);
+              nets-read = omega (arith, a .6);
+              sinks-read = omega (arith, a .7);
+              first-is = rw (a .6, a .8) (k .first-is);
+              first-most = omega (arith, a .7, a .8);
+              stamps = λ v g. rw (a .6, a .11) (set-most (c .nets) node (c .nets) v seen in-seen (omega arith) (k .stamps v g));
+              marked = λ g. rw (now, a .6, a .11) (sink-marks n (c .nets) node seen pins in-seen (k .marked h));
             },
           ),
         )

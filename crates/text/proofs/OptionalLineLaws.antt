@@ -2,11 +2,11 @@
 --     optional-given, read-place             the terms by the line's shape and bounds, and where the line after it begins
 --     rule-alone, -none, -one, -both         the V line, which has one number or two
 --     left-out, wrong-shape, alone-shaped    what it is by its shape as a line of one number
---     terms-on, terms-stopped                the lines that may follow F, one after the other
+--     further-, terms-on, terms-stopped      the lines that may follow F, one after the other
 -- Assumes nothing.
 use mathlib.Core.Bool.{Bool, true, false}
 use mathlib.Core.List.{List, [], _∷_}
-use mathlib.Core.Path.{_≡_, refl, _∙_, ap, subst}
+use mathlib.Core.Path.{_≡_, refl, _∙_, subst}
 use Prim.Native.Nat.{ℕ, _+_, _≤_}
 use native.Mathlib.Omega.{arith}
 use lib.ListN.{length, getD, drop}
@@ -15,7 +15,7 @@ use Rattle.price.specs.Test.{choose}
 use Rattle.job.specs.Job.{plainTerms}
 use Rattle.job.specs.declared.Terms.{Terms}
 use Rattle.text.specs.Lines.{letterV, begins, Fields, taken, malformed, line}
-use Rattle.text.specs.JobText.{values, refused, judged, ruleFields, part, stopped, onward, optional, tuningPart, rulePart, termsPart}
+use Rattle.text.specs.JobText.{values, refused, judged, ruleFields, Part, part, stopped, onward, andThen, optional, tuningPart, rulePart, timedPart, termsPart}
 use Rattle.text.specs.Steps.{Shaped, termsAfter, termsAt, TermsPlace}
 use Rattle.text.specs.declared.optional.Shape.{Shape}
 use Rattle.text.specs.declared.optional.Shape.the-variants as sh
@@ -99,15 +99,36 @@ module _ (at : ℕ) (text : List ℕ) (rule : ℕ) (s : Shape) (shaped : Shaped 
 
 -- ---- the lines that may follow F
 
+-- one line after the other: the terms are read on, or a line before them was refused
+module _ (text : List ℕ) (y : TermsRead) {p : Part Terms} (asked : termsAt text y ≡ p) (f : Terms → ℕ → List ℕ → Part Terms) where
+  then-on :
+      {t : Terms} {place next : ℕ} (z : TermsRead) → y ≡ tr.Read t place next → termsAt text z ≡ f t next (drop place text)
+      → termsAt text z ≡ andThen p f
+  then-on z is read = read ∙ rw (← asked, is)
+
+  then-stopped : {k next : ℕ} → y ≡ tr.Stopped k next → stopped k next ≡ andThen p f
+  then-stopped is = rw (← asked, is)
+
+-- V, then W
+module _ (at l : ℕ) (text : List ℕ) (t₀ : Terms) (y : TermsRead) (ruled : termsAt text y ≡ rulePart t₀ l (drop at text)) where
+  pub further-on :
+      {t : Terms} {place next : ℕ} (z : TermsRead) → y ≡ tr.Read t place next → termsAt text z ≡ timedPart t next (drop place text)
+      → termsAt text z ≡ andThen (rulePart t₀ l (drop at text)) timedPart
+  further-on z is timed = then-on text y ruled timedPart z is timed
+
+  pub further-stopped : {k next : ℕ} → y ≡ tr.Stopped k next → stopped k next ≡ andThen (rulePart t₀ l (drop at text)) timedPart
+  further-stopped is = then-stopped text y ruled timedPart is
+
+-- P before both
 module _
     (limit at l : ℕ) (text : List ℕ) (start : Terms) (plain : start ≡ plainTerms limit)
     (y : TermsRead) (tuned : termsAt text y ≡ tuningPart start l (drop at text)) where
   pub terms-on :
-      {t : Terms} {place next : ℕ} (z : TermsRead) → y ≡ tr.Read t place next → termsAt text z ≡ rulePart t next (drop place text)
-      → termsAt text z ≡ termsPart limit l (drop at text)
+      {t : Terms} {place next : ℕ} (z : TermsRead) → y ≡ tr.Read t place next
+      → termsAt text z ≡ andThen (rulePart t next (drop place text)) timedPart → termsAt text z ≡ termsPart limit l (drop at text)
   unfolding termsPart
-  terms-on z is ruled = ruled ∙ rw (← plain, ← tuned, is)
+  terms-on z is further = rw (← plain) (then-on text y tuned (λ t l rest. andThen (rulePart t l rest) timedPart) z is further)
 
   pub terms-stopped : {k next : ℕ} → y ≡ tr.Stopped k next → stopped k next ≡ termsPart limit l (drop at text)
   unfolding termsPart
-  terms-stopped is = rw (← plain, ← tuned, is)
+  terms-stopped is = rw (← plain) (then-stopped text y tuned (λ t l rest. andThen (rulePart t l rest) timedPart) is)

@@ -20,12 +20,12 @@ use Rattle.price.proofs.TuningLaws.{TuningWithin, tuning-within}
 use Rattle.job.specs.Job.{plainTerms}
 use Rattle.job.specs.Tables.{oneOf, untilMost, ruleSound}
 use Rattle.job.specs.declared.Terms.{Terms}
-use Rattle.text.specs.Lines.{letterP, letterV, letterN, begins, Fields, taken, malformed, line, printLine}
-use Rattle.text.specs.JobText.{judged, part, optional, tuningWithin, tuningLine, withTuning, tuningPart, termsPart}
-use Rattle.text.specs.JobText.{oneOrTwo, ruleFields, ruleWithin, ruleLine, withRule, rulePart}
+use Rattle.text.specs.Lines.{letterP, letterV, letterW, letterN, begins, Fields, taken, malformed, line, printLine}
+use Rattle.text.specs.JobText.{judged, part, andThen, optional, tuningWithin, tuningLine, withTuning, tuningPart, termsPart}
+use Rattle.text.specs.JobText.{oneOrTwo, ruleFields, ruleWithin, ruleLine, withRule, rulePart, timedLine, withTimes, timedPart}
 use Rattle.text.specs.Printed.{RuleForm, unwritten, alone, whole, Form, lineIf, tuningText, ruleText, termsText, Written, RuleWritten, Allowed}
 use Rattle.text.proofs.JudgedLaws.{Judged, judged-values}
-use Rattle.text.proofs.PrintLaws.{line-printed, line-longer, printed-line, one-of, two-of, four-of, onward-part, then-part}
+use Rattle.text.proofs.PrintLaws.{line-printed, line-longer, printed-line, none-of, one-of, two-of, four-of, onward-part, then-part}
 use Rattle.text.proofs.OptionalLineLaws.{rule-alone, rule-both}
 
 -- ---- any line: its letter, how it is read, the bounds of its values, and how it changes the terms
@@ -65,11 +65,12 @@ module _ (letter : ℕ) (read : List ℕ → Fields) (within : List ℕ → Bool
 
 -- ---- from reading
 
--- the P line, or none: rule and k are still those of a job without a V line
+-- the P line, or none: rule and k are still those of a job without a V line, and no W line has come
 pub record TuningGiven (limit : ℕ) (bs : List ℕ) (t : Terms) (rest : List ℕ) : Type 0 where
   pub limit-is : t .limit ≡ limit
   pub rule-is : t .rule ≡ 1
   pub until-is : t .until ≡ 1
+  pub untimed : t .timed ≡ false
   pub tuned : tuningSound (t .tuning) ≡ true
   pub written : Bool
   pub may : Written written plain (t .tuning)
@@ -85,12 +86,22 @@ tuning-given limit at at′ bs rest t e =
       limit-is = refl;
       rule-is = refl;
       until-is = refl;
+      untimed = refl;
       tuned = answered .bounds;
       written = true;
       may = tt;
       text = printed .1 ∙ ap (λ (us : List ℕ). printLine letterP us ++ mid) (four-of vs (printed .0));
     })
-    (record { limit-is = refl; rule-is = refl; until-is = refl; tuned = refl; written = false; may = refl; text = refl }) e
+    (record {
+      limit-is = refl;
+      rule-is = refl;
+      until-is = refl;
+      untimed = refl;
+      tuned = refl;
+      written = false;
+      may = refl;
+      text = refl;
+    }) e
 
 -- a rule that keeps its bounds is 1, or else 2
 rule-two : (rule until : ℕ) → ruleSound rule until ≡ true → (rule ≡ 1 → ⊥) → rule ≡ 2
@@ -148,6 +159,7 @@ rule-read bs vs rest malformed malformed e f is s =
 pub record RuleGiven (start : Terms) (bs : List ℕ) (t : Terms) (rest : List ℕ) : Type 0 where
   pub limit-is : t .limit ≡ start .limit
   pub tuning-is : t .tuning ≡ start .tuning
+  pub timed-is : t .timed ≡ start .timed
   pub ruled : ruleSound (t .rule) (t .until) ≡ true
   pub form : RuleForm
   pub may : RuleWritten form (t .rule) (t .until)
@@ -164,15 +176,39 @@ rule-given start at at′ bs rest t one k e =
     optional-read letterV ruleFields ruleWithin (withRule start) start at at′ bs rest t (RuleGiven start bs)
     (λ vs mid answered.
     let r : RuleRead bs vs mid = rule-read bs vs mid (line letterV 1 bs) (line letterV 2 bs) refl refl (answered .is) (answered .bounds) in
-    record { limit-is = refl; tuning-is = refl; ruled = answered .bounds; form = r .form; may = r .may; text = r .text })
+    record { limit-is = refl; tuning-is = refl; timed-is = refl; ruled = answered .bounds; form = r .form; may = r .may; text = r .text })
     (record {
       limit-is = refl;
       tuning-is = refl;
+      timed-is = refl;
       ruled = plain-ruled (start .rule) (start .until) one k;
       form = unwritten;
       may = (one, k);
       text = refl;
     }) e
+
+-- the W line after untimed terms, or none
+pub record TimedGiven (start : Terms) (bs : List ℕ) (t : Terms) (rest : List ℕ) : Type 0 where
+  pub limit-is : t .limit ≡ start .limit
+  pub tuning-is : t .tuning ≡ start .tuning
+  pub rule-is : t .rule ≡ start .rule
+  pub until-is : t .until ≡ start .until
+  pub text : bs ≡ lineIf (t .timed) letterW [] ++ rest
+
+timed-given : (start : Terms) (at at′ : ℕ) (bs rest : List ℕ) (t : Terms) → start .timed ≡ false → timedPart start at bs ≡ part t at′ rest → TimedGiven start bs t rest
+unfolding timedPart timedLine lineIf
+timed-given start at at′ bs rest t untimed e =
+    optional-read letterW (line letterW 0) (λ vs. true) (withTimes start) start at at′ bs rest t (TimedGiven start bs)
+    (λ vs mid answered.
+    let printed = printed-line letterW 0 bs vs mid (answered .is) in
+    record {
+      limit-is = refl;
+      tuning-is = refl;
+      rule-is = refl;
+      until-is = refl;
+      text = printed .1 ∙ ap (λ (us : List ℕ). printLine letterW us ++ mid) (none-of vs (printed .0));
+    })
+    (record { limit-is = refl; tuning-is = refl; rule-is = refl; until-is = refl; text = rw untimed }) e
 
 -- all lines that may follow F
 pub record TermsGiven (limit : ℕ) (bs : List ℕ) (t : Terms) (rest : List ℕ) : Type 0 where
@@ -183,28 +219,39 @@ pub record TermsGiven (limit : ℕ) (bs : List ℕ) (t : Terms) (rest : List ℕ
   pub allowed : Allowed form t
   pub text : bs ≡ termsText form t ++ rest
 
-lines-given : (limit : ℕ) (bs mid rest : List ℕ) (s t : Terms) → TuningGiven limit bs s mid → RuleGiven s mid t rest → TermsGiven limit bs t rest
+-- three texts one after the other
+three-texts : (xs ys zs rest : List ℕ) → xs ++ (ys ++ (zs ++ rest)) ≡ (xs ++ (ys ++ zs)) ++ rest
+three-texts xs ys zs rest = ap (λ (r : List ℕ). xs ++ r) (sym (append-assoc ys zs rest)) ∙ sym (append-assoc xs (ys ++ zs) rest)
+
+lines-given :
+    (limit : ℕ) (bs mid mid′ rest : List ℕ) (s r t : Terms) → TuningGiven limit bs s mid → RuleGiven s mid r mid′ → TimedGiven r mid′ t rest → TermsGiven limit bs t rest
 unfolding termsText
-lines-given limit bs mid rest s t p v =
+lines-given limit bs mid mid′ rest s r t p v w =
+    let tuning : t .tuning ≡ s .tuning = w .tuning-is ∙ v .tuning-is in
     record {
-      limit-is = v .limit-is ∙ p .limit-is;
-      tuned = rw (v .tuning-is) (p .tuned);
-      ruled = v .ruled;
+      limit-is = w .limit-is ∙ v .limit-is ∙ p .limit-is;
+      tuned = rw tuning (p .tuned);
+      ruled = rw (w .rule-is, w .until-is) (v .ruled);
       form = record { tuning = p .written; rule = v .form };
-      allowed = record { tuning = rw (v .tuning-is) (p .may); rule = v .may };
+      allowed = record { tuning = rw tuning (p .may); rule = rw (w .rule-is, w .until-is) (v .may) };
       text =
           p .text
-          ∙ rw (v .text, ← v .tuning-is) (sym (append-assoc (tuningText (p .written) (t .tuning)) (ruleText (v .form) (t .rule) (t .until)) rest));
+          ∙ rw (v .text, w .text, ← tuning, ← w .rule-is, ← w .until-is)
+          (three-texts (tuningText (p .written) (t .tuning)) (ruleText (v .form) (t .rule) (t .until)) (lineIf (t .timed) letterW []) rest);
     }
 
 pub terms-read : (limit at at′ : ℕ) (bs rest : List ℕ) (t : Terms) → termsPart limit at bs ≡ part t at′ rest → TermsGiven limit bs t rest
 unfolding termsPart
 terms-read limit at at′ bs rest t e =
-    let r = then-part (tuningPart (plainTerms limit) at bs) rulePart t at′ rest e in
-    let s : Terms = r .0 in
-    let mid : List ℕ = r .2 in
-    let answered : TuningGiven limit bs s mid = tuning-given limit at (r .1) bs mid s (r .3) in
-    lines-given limit bs mid rest s t answered (rule-given s (r .1) at′ mid rest t (answered .rule-is) (answered .until-is) (r .4))
+    let a = then-part (tuningPart (plainTerms limit) at bs) (λ t l rest. andThen (rulePart t l rest) timedPart) t at′ rest e in
+    let s : Terms = a .0 in
+    let mid : List ℕ = a .2 in
+    let tuning : TuningGiven limit bs s mid = tuning-given limit at (a .1) bs mid s (a .3) in
+    let b = then-part (rulePart s (a .1) mid) timedPart t at′ rest (a .4) in
+    let r : Terms = b .0 in
+    let mid′ : List ℕ = b .2 in
+    let rule : RuleGiven s mid r mid′ = rule-given s (a .1) (b .1) mid mid′ r (tuning .rule-is) (tuning .until-is) (b .3) in
+    lines-given limit bs mid mid′ rest s r t tuning rule (timed-given r (b .1) at′ mid′ rest t (rule .timed-is ∙ tuning .untimed) (b .4))
 
 -- ---- from printing
 
@@ -223,13 +270,20 @@ ruleAfter unwritten at = at
 ruleAfter alone at = at + 1
 ruleAfter whole at = at + 1
 
-abbrev pub linesAfter : Form → ℕ → ℕ
-linesAfter form at = ruleAfter (form .rule) (lineAfter (form .tuning) at)
+abbrev pub linesAfter : Form → Bool → ℕ → ℕ
+linesAfter form timed at = lineAfter timed (ruleAfter (form .rule) (lineAfter (form .tuning) at))
 
--- neither line's letter is that of a node
-rule-begins : (form : RuleForm) (rule until : ℕ) (rest : List ℕ) → begins letterN rest ≡ true → begins letterP (ruleText form rule until ++ rest) ≡ false
+-- what follows a line that is left out begins with no letter of it
+timed-begins :
+    (letter : ℕ) (written : Bool) (rest : List ℕ) → begins letterN rest ≡ true → eqb letterN letter ≡ false → eqb letterW letter ≡ false
+    → begins letter (lineIf written letterW [] ++ rest) ≡ false
+unfolding begins printLine lineIf
+timed-begins letter true rest e n w = w
+timed-begins letter false rest e n w = begins-other letterN letter rest e n
+
+rule-begins : (form : RuleForm) (rule until : ℕ) (rest : List ℕ) → begins letterP rest ≡ false → begins letterP (ruleText form rule until ++ rest) ≡ false
 unfolding begins printLine
-rule-begins unwritten rule until rest e = begins-other letterN letterP rest e refl
+rule-begins unwritten rule until rest e = e
 rule-begins alone rule until rest e = refl
 rule-begins whole rule until rest e = refl
 
@@ -259,7 +313,7 @@ module _ (t : Terms) where
 
   -- the terms after the P line
   abbrev tuned : Terms
-  tuned = record { limit = t .limit; tuning = t .tuning; rule = 1; until = 1 }
+  tuned = record { limit = t .limit; tuning = t .tuning; rule = 1; until = 1; timed = false }
 
   tuned-plain : t .tuning ≡ plain → plainTerms (t .limit) ≡ tuned
   tuned-plain may = rw may
@@ -276,13 +330,20 @@ module _ (t : Terms) where
       ∙ ap (λ (x : Terms). part x at after) (tuned-plain may)
 
   -- the terms after the V line
-  ruled-plain : t .rule ≡ 1 → t .until ≡ 1 → tuned ≡ t
-  ruled-plain one k =
-      ap (λ (rule : ℕ). record { limit = t .limit; tuning = t .tuning; rule = rule; until = 1 }) (sym one)
-      ∙ ap (λ (until : ℕ). record { limit = t .limit; tuning = t .tuning; rule = t .rule; until = until }) (sym k)
+  abbrev ruled : Terms
+  ruled = record { limit = t .limit; tuning = t .tuning; rule = t .rule; until = t .until; timed = false }
 
-  ruled-alone : t .until ≡ 1 → withRule tuned (t .rule ∷ 1 ∷ []) ≡ t
-  ruled-alone k = ap (λ (until : ℕ). record { limit = t .limit; tuning = t .tuning; rule = t .rule; until = until }) (sym k)
+  ruled-plain : t .rule ≡ 1 → t .until ≡ 1 → tuned ≡ ruled
+  ruled-plain one k =
+      ap (λ (rule : ℕ). record { limit = t .limit; tuning = t .tuning; rule = rule; until = 1; timed = false }) (sym one)
+      ∙ ap (λ (until : ℕ). record { limit = t .limit; tuning = t .tuning; rule = t .rule; until = until; timed = false }) (sym k)
+
+  ruled-alone : t .until ≡ 1 → withRule tuned (t .rule ∷ 1 ∷ []) ≡ ruled
+  ruled-alone k = ap (λ (until : ℕ). record { limit = t .limit; tuning = t .tuning; rule = t .rule; until = until; timed = false }) (sym k)
+
+  -- and after the W line
+  timed-so : (timed : Bool) → t .timed ≡ timed → record { limit = t .limit; tuning = t .tuning; rule = t .rule; until = t .until; timed = timed } ≡ t
+  timed-so timed e = ap (λ (x : Bool). record { limit = t .limit; tuning = t .tuning; rule = t .rule; until = t .until; timed = x }) (sym e)
 
   rule-small : ruleSound (t .rule) (t .until) ≡ true → t .rule < 10 ^ 6
   rule-small s = omega (arith, rule-few (t .rule) (t .until) s)
@@ -291,11 +352,11 @@ module _ (t : Terms) where
   until-small s = omega (arith, until-few (t .rule) (t .until) s)
 
   rule-printed :
-      (form : RuleForm) (at : ℕ) (rest : List ℕ) → RuleWritten form (t .rule) (t .until) → ruleSound (t .rule) (t .until) ≡ true → begins letterN rest ≡ true
-      → rulePart tuned at (ruleText form (t .rule) (t .until) ++ rest) ≡ part t (ruleAfter form at) rest
+      (form : RuleForm) (at : ℕ) (rest : List ℕ) → RuleWritten form (t .rule) (t .until) → ruleSound (t .rule) (t .until) ≡ true → begins letterV rest ≡ false
+      → rulePart tuned at (ruleText form (t .rule) (t .until) ++ rest) ≡ part ruled (ruleAfter form at) rest
   unfolding rulePart ruleLine ruleWithin begins printLine every
   rule-printed unwritten at rest may s next =
-      optional-unwritten letterV ruleFields ruleWithin (withRule tuned) tuned at rest (begins-other letterN letterV rest next refl)
+      optional-unwritten letterV ruleFields ruleWithin (withRule tuned) tuned at rest next
       ∙ ap (λ (x : Terms). part x at rest) (ruled-plain (may .0) (may .1))
   rule-printed alone at rest may s next =
       let bs : List ℕ = printLine letterV (t .rule ∷ []) ++ rest in
@@ -312,15 +373,29 @@ module _ (t : Terms) where
       optional-written letterV ruleFields ruleWithin (withRule tuned) tuned at bs (t .rule ∷ t .until ∷ []) rest refl
       (rule-both bs (line-longer letterV (t .rule) (t .until) [] rest (rule-small s)) two (λ (one : t .rule ≡ 1). omega arith)) s
 
+  timed-printed :
+      (timed : Bool) (at : ℕ) (rest : List ℕ) → t .timed ≡ timed → begins letterN rest ≡ true
+      → timedPart ruled at (lineIf timed letterW [] ++ rest) ≡ part t (lineAfter timed at) rest
+  unfolding timedPart timedLine lineIf begins printLine every
+  timed-printed true at rest is next =
+      optional-written letterW (line letterW 0) (λ vs. true) (withTimes ruled) ruled at (printLine letterW [] ++ rest) [] rest refl (line-printed letterW [] rest refl) refl
+      ∙ ap (λ (x : Terms). part x (at + 1) rest) (timed-so true is)
+  timed-printed false at rest is next =
+      optional-unwritten letterW (line letterW 0) (λ vs. true) (withTimes ruled) ruled at rest (begins-other letterN letterW rest next refl)
+      ∙ ap (λ (x : Terms). part x at rest) (timed-so false is)
+
   -- a node's line follows
   pub terms-printed :
       (form : Form) → Allowed form t → (rest : List ℕ) (at : ℕ) → tuningSound (t .tuning) ≡ true → ruleSound (t .rule) (t .until) ≡ true → begins letterN rest ≡ true
-      → termsPart (t .limit) at (termsText form t ++ rest) ≡ part t (linesAfter form at) rest
+      → termsPart (t .limit) at (termsText form t ++ rest) ≡ part t (linesAfter form (t .timed) at) rest
   unfolding termsPart termsText
   terms-printed form allowed rest at s r next =
-      let after : List ℕ = ruleText (form .rule) (t .rule) (t .until) ++ rest in
+      let last : List ℕ = lineIf (t .timed) letterW [] in
+      let after : List ℕ = ruleText (form .rule) (t .rule) (t .until) ++ (last ++ rest) in
       rw (
-        append-assoc (tuningText (form .tuning) (t .tuning)) (ruleText (form .rule) (t .rule) (t .until)) rest,
-        tuning-printed (form .tuning) at after (allowed .tuning) s (rule-begins (form .rule) (t .rule) (t .until) rest next),
-        rule-printed (form .rule) (lineAfter (form .tuning) at) rest (allowed .rule) r next,
+        ← three-texts (tuningText (form .tuning) (t .tuning)) (ruleText (form .rule) (t .rule) (t .until)) last rest,
+        tuning-printed (form .tuning) at after (allowed .tuning) s
+            (rule-begins (form .rule) (t .rule) (t .until) (last ++ rest) (timed-begins letterP (t .timed) rest next refl refl)),
+        rule-printed (form .rule) (lineAfter (form .tuning) at) (last ++ rest) (allowed .rule) r (timed-begins letterV (t .timed) rest next refl refl),
+        timed-printed (t .timed) (ruleAfter (form .rule) (lineAfter (form .tuning) at)) rest refl next,
       )

@@ -2,7 +2,8 @@
 --     field-printed, printed-field        a field
 --     line-printed, printed-line          a line; line-longer, one that has too many fields
 --     line-judged, judged-line            a line whose values are tested
---     one-of, two-of, four-of             the values of a line with one, two or four fields
+--     none-of, one-of, .., four-of        the values of a line by its count of fields
+--     last-of-four, last-of-three         those of a line whose last field timed jobs alone have; last-is, that field
 --     onward-part, then-part              what comes after a line, and after a part
 -- Assumes nothing.
 use mathlib.Core.Bool.{Bool, true, false}
@@ -15,11 +16,13 @@ use native.Mathlib.Omega.{arith}
 use lib.Dec.{ltb, eqb}
 use lib.ListN.{length, getD}
 use borrow.Author.Tests.{le-leb, ltb-true, eq-eqb, ne-eqb, eqb-true, eqb-false}
+use Rattle.price.specs.Test.{choose}
 use Rattle.price.specs.Lists.{every}
 use Rattle.price.proofs.TestLaws.{either-way, both-true, both-left, both-right, le-or-lt}
 use Rattle.text.specs.Decimal.{zeroByte, isDigit, decimal}
 use Rattle.text.specs.Lines.{Field, number, fault, digitsAfter, field, lf, comma, Fields, taken, malformed, withValue, afterField, fields, line, printFields, printLine}
 use Rattle.text.specs.JobText.{Reading, values, refused, judged, Part, part, stopped, onward, andThen}
+use Rattle.text.specs.Printed.{further}
 use Rattle.text.proofs.DecimalLaws.{decimal-small, decimal-next}
 use Rattle.text.proofs.FieldLaws.{digit-least, digit-most, after-other, after-digit}
 use Rattle.text.proofs.JudgedLaws.{judged-values}
@@ -243,6 +246,10 @@ module _ (within ordered : List ℕ → Bool) where
   line-judged letter vs rest small p q = rw (line-printed letter vs rest small, p, q)
 
 -- the values by their count
+pub none-of : (vs : List ℕ) → length vs ≡ 0 → vs ≡ []
+none-of [] e = refl
+none-of (x ∷ xs) e = absurd (omega arith)
+
 pub one-of : (vs : List ℕ) → length vs ≡ 1 → vs ≡ getD vs 0 0 ∷ []
 one-of [] e = absurd (omega arith)
 one-of (x ∷ []) e = refl
@@ -254,6 +261,13 @@ two-of (x ∷ []) e = absurd (omega arith)
 two-of (x ∷ y ∷ []) e = refl
 two-of (x ∷ y ∷ z ∷ zs) e = absurd (omega arith)
 
+pub three-of : (vs : List ℕ) → length vs ≡ 3 → vs ≡ getD vs 0 0 ∷ getD vs 1 0 ∷ getD vs 2 0 ∷ []
+three-of [] e = absurd (omega arith)
+three-of (a ∷ []) e = absurd (omega arith)
+three-of (a ∷ b ∷ []) e = absurd (omega arith)
+three-of (a ∷ b ∷ c ∷ []) e = refl
+three-of (a ∷ b ∷ c ∷ d ∷ ds) e = absurd (omega arith)
+
 pub four-of : (vs : List ℕ) → length vs ≡ 4 → vs ≡ getD vs 0 0 ∷ getD vs 1 0 ∷ getD vs 2 0 ∷ getD vs 3 0 ∷ []
 four-of [] e = absurd (omega arith)
 four-of (a ∷ []) e = absurd (omega arith)
@@ -261,6 +275,20 @@ four-of (a ∷ b ∷ []) e = absurd (omega arith)
 four-of (a ∷ b ∷ c ∷ []) e = absurd (omega arith)
 four-of (a ∷ b ∷ c ∷ d ∷ []) e = refl
 four-of (a ∷ b ∷ c ∷ d ∷ x ∷ xs) e = absurd (omega arith)
+
+-- whose last field timed jobs alone have
+pub last-of-four : (timed : Bool) (vs : List ℕ) → length vs ≡ choose timed 4 3 → vs ≡ getD vs 0 0 ∷ getD vs 1 0 ∷ getD vs 2 0 ∷ further timed (getD vs 3 0)
+last-of-four true vs e = four-of vs e
+last-of-four false vs e = three-of vs e
+
+pub last-of-three : (timed : Bool) (vs : List ℕ) → length vs ≡ choose timed 3 2 → vs ≡ getD vs 0 0 ∷ getD vs 1 0 ∷ further timed (getD vs 2 0)
+last-of-three true vs e = three-of vs e
+last-of-three false vs e = two-of vs e
+
+-- that field, which in an untimed job counts as 0
+pub last-is : (timed : Bool) (x : ℕ) → (timed ≡ false → x ≡ 0) → getD (further timed x) 0 0 ≡ x
+last-is true x none = refl
+last-is false x none = sym (none refl)
 
 -- ---- what comes after
 

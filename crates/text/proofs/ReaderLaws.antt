@@ -1,5 +1,6 @@
 -- The lines of a job text in their order: what each stage gives is what the whole text gives.
 -- Assumes nothing.
+use mathlib.Core.Bool.{Bool}
 use mathlib.Core.List.{List, [], _∷_, _++_}
 use mathlib.Core.Path.{_≡_, refl, sym, _∙_, ap, subst}
 use Prim.Native.Nat.{ℕ, _+_, _≤_}
@@ -24,77 +25,77 @@ use Rattle.text.specs.declared.reader.JobLines.{JobLines}
 
 -- the nets as they stand in the tables, with the entry after the last net's
 with-nets :
-    (n edges nets : ℕ) (r : NetsRead) (firstEdges edgeTargets sources firstSinks sinks : List ℕ) → NetsEnd nets r firstSinks
+    (n edges nets : ℕ) (r : NetsRead) (firstEdges edgeTargets sources firstSinks sinks criticalities : List ℕ) → NetsEnd nets r firstSinks
     → nets + 1 ≤ length firstSinks → sinksMost ≤ length sinks
-    → edgesNetsAt n edges nets r firstEdges edgeTargets sources firstSinks sinks
-    ≡ withNets (take (n + 1) firstEdges) (take edges edgeTargets) (netsReadAt nets r sources firstSinks sinks)
-with-nets n edges nets (nr.Read count line) firstEdges edgeTargets sources firstSinks sinks end long room =
+    → edgesNetsAt n edges nets r firstEdges edgeTargets sources firstSinks sinks criticalities
+    ≡ withNets (take (n + 1) firstEdges) (take edges edgeTargets) (netsReadAt nets r sources firstSinks sinks criticalities)
+with-nets n edges nets (nr.Read count line) firstEdges edgeTargets sources firstSinks sinks criticalities end long room =
     let one : take (nets + 1) firstSinks ≡ take nets firstSinks ++ (count ∷ []) =
     rw (add-one, take-suc firstSinks nets 0 (omega arith), end .1) refl in
     rw (one, length-take-le count sinks (omega (arith, end .0)))
-with-nets n edges nets (nr.Stopped k line) firstEdges edgeTargets sources firstSinks sinks end long room = refl
+with-nets n edges nets (nr.Stopped k line) firstEdges edgeTargets sources firstSinks sinks criticalities end long room = refl
 
 -- edges, then nets
 pub edges-nets :
-    (kinds : List ℕ) (n edges nets line at next : ℕ) (text bs : List ℕ) (x : Lines) (r : NetsRead) (firstEdges edgeTargets sources firstSinks sinks : List ℕ)
+    (timed : Bool) (kinds : List ℕ) (n edges nets line at next : ℕ) (text bs : List ℕ) (x : Lines) (r : NetsRead) (firstEdges edgeTargets sources firstSinks sinks criticalities : List ℕ)
     → x ≡ ls.Read at next
     → edgesAt text x (take (n + 1) firstEdges) (take edges edgeTargets) ≡ edgeTables n (edgeLines n edges (edgeLists [] []) line bs)
-    → netsReadAt nets r sources firstSinks sinks ≡ netLines (length (drop at text)) kinds n nets (netLists [] [] []) next (drop at text)
+    → netsReadAt nets r sources firstSinks sinks criticalities ≡ netLines (length (drop at text)) timed kinds n nets (netLists [] [] [] []) next (drop at text)
     → NetsEnd nets r firstSinks → nets + 1 ≤ length firstSinks → sinksMost ≤ length sinks
-    → edgesNetsAt n edges nets r firstEdges edgeTargets sources firstSinks sinks ≡ bodyAfterNodes kinds n edges nets line bs
+    → edgesNetsAt n edges nets r firstEdges edgeTargets sources firstSinks sinks criticalities ≡ bodyAfterNodes timed kinds n edges nets line bs
 unfolding bodyAfterNodes
-edges-nets kinds n edges nets line at next text bs x r firstEdges edgeTargets sources firstSinks sinks is read nets-are end long room =
-    with-nets n edges nets r firstEdges edgeTargets sources firstSinks sinks end long room
+edges-nets timed kinds n edges nets line at next text bs x r firstEdges edgeTargets sources firstSinks sinks criticalities is read nets-are end long room =
+    with-nets n edges nets r firstEdges edgeTargets sources firstSinks sinks criticalities end long room
     ∙ ap (withNets (take (n + 1) firstEdges) (take edges edgeTargets)) nets-are
-    ∙ ap (netsAfter kinds n nets) (ap (λ (y : Lines). edgesAt text y (take (n + 1) firstEdges) (take edges edgeTargets)) (sym is) ∙ read)
+    ∙ ap (netsAfter timed kinds n nets) (ap (λ (y : Lines). edgesAt text y (take (n + 1) firstEdges) (take edges edgeTargets)) (sym is) ∙ read)
 
 -- a faulty E line
 pub edges-stop :
-    (kinds : List ℕ) (n edges nets line k at : ℕ) (text bs : List ℕ) (x : Lines) (firstEdges edgeTargets : List ℕ) → x ≡ ls.Stopped k at
+    (timed : Bool) (kinds : List ℕ) (n edges nets line k at : ℕ) (text bs : List ℕ) (x : Lines) (firstEdges edgeTargets : List ℕ) → x ≡ ls.Stopped k at
     → edgesAt text x firstEdges edgeTargets ≡ edgeTables n (edgeLines n edges (edgeLists [] []) line bs)
-    → stopped k at ≡ bodyAfterNodes kinds n edges nets line bs
+    → stopped k at ≡ bodyAfterNodes timed kinds n edges nets line bs
 unfolding bodyAfterNodes
-edges-stop kinds n edges nets line k at text bs x firstEdges edgeTargets is read =
-    ap (netsAfter kinds n nets) (ap (λ (y : Lines). edgesAt text y firstEdges edgeTargets) (sym is) ∙ read)
+edges-stop timed kinds n edges nets line k at text bs x firstEdges edgeTargets is read =
+    ap (netsAfter timed kinds n nets) (ap (λ (y : Lines). edgesAt text y firstEdges edgeTargets) (sym is) ∙ read)
 
 with-wires :
-    (n edges nets : ℕ) (r : NetsRead) (kinds capacities firstEdges edgeTargets sources firstSinks sinks : List ℕ)
-    → bodyAt n edges nets r kinds capacities firstEdges edgeTargets sources firstSinks sinks
-    ≡ withWires (take n kinds) (take n capacities) (edgesNetsAt n edges nets r firstEdges edgeTargets sources firstSinks sinks)
-with-wires n edges nets (nr.Read count line) kinds capacities firstEdges edgeTargets sources firstSinks sinks = refl
-with-wires n edges nets (nr.Stopped k line) kinds capacities firstEdges edgeTargets sources firstSinks sinks = refl
+    (n edges nets : ℕ) (r : NetsRead) (kinds capacities firstEdges edgeTargets sources firstSinks sinks delays criticalities : List ℕ)
+    → bodyAt n edges nets r kinds capacities firstEdges edgeTargets sources firstSinks sinks delays criticalities
+    ≡ withWires (nodeLists (take n kinds) (take n capacities) (take n delays)) (edgesNetsAt n edges nets r firstEdges edgeTargets sources firstSinks sinks criticalities)
+with-wires n edges nets (nr.Read count line) kinds capacities firstEdges edgeTargets sources firstSinks sinks delays criticalities = refl
+with-wires n edges nets (nr.Stopped k line) kinds capacities firstEdges edgeTargets sources firstSinks sinks delays criticalities = refl
 
 -- nodes, then edges and nets
 pub nodes-wires :
-    (n edges nets line at next : ℕ) (text bs : List ℕ) (x : Lines) (r : NetsRead) (kinds capacities firstEdges edgeTargets sources firstSinks sinks : List ℕ)
-    → x ≡ ls.Read at next → nodesAt text x (take n kinds) (take n capacities) ≡ nodeLines n n (nodeLists [] []) line bs
-    → edgesNetsAt n edges nets r firstEdges edgeTargets sources firstSinks sinks ≡ bodyAfterNodes (take n kinds) n edges nets next (drop at text)
-    → bodyAt n edges nets r kinds capacities firstEdges edgeTargets sources firstSinks sinks ≡ bodyAfterHead n edges nets line bs
+    (timed : Bool) (n edges nets line at next : ℕ) (text bs : List ℕ) (x : Lines) (r : NetsRead) (kinds capacities firstEdges edgeTargets sources firstSinks sinks delays criticalities : List ℕ)
+    → x ≡ ls.Read at next → nodesAt text x (take n kinds) (take n capacities) (take n delays) ≡ nodeLines timed n n (nodeLists [] [] []) line bs
+    → edgesNetsAt n edges nets r firstEdges edgeTargets sources firstSinks sinks criticalities ≡ bodyAfterNodes timed (take n kinds) n edges nets next (drop at text)
+    → bodyAt n edges nets r kinds capacities firstEdges edgeTargets sources firstSinks sinks delays criticalities ≡ bodyAfterHead timed n edges nets line bs
 unfolding bodyAfterHead
-nodes-wires n edges nets line at next text bs x r kinds capacities firstEdges edgeTargets sources firstSinks sinks is read wires =
-    with-wires n edges nets r kinds capacities firstEdges edgeTargets sources firstSinks sinks
-    ∙ ap (withWires (take n kinds) (take n capacities)) wires
-    ∙ ap (wiresAfter n edges nets) (ap (λ (y : Lines). nodesAt text y (take n kinds) (take n capacities)) (sym is) ∙ read)
+nodes-wires timed n edges nets line at next text bs x r kinds capacities firstEdges edgeTargets sources firstSinks sinks delays criticalities is read wires =
+    with-wires n edges nets r kinds capacities firstEdges edgeTargets sources firstSinks sinks delays criticalities
+    ∙ ap (withWires (nodeLists (take n kinds) (take n capacities) (take n delays))) wires
+    ∙ ap (wiresAfter timed n edges nets) (ap (λ (y : Lines). nodesAt text y (take n kinds) (take n capacities) (take n delays)) (sym is) ∙ read)
 
 -- a faulty N line
 pub nodes-stop :
-    (n edges nets line k at : ℕ) (text bs : List ℕ) (x : Lines) (kinds capacities : List ℕ) → x ≡ ls.Stopped k at
-    → nodesAt text x kinds capacities ≡ nodeLines n n (nodeLists [] []) line bs → stopped k at ≡ bodyAfterHead n edges nets line bs
+    (timed : Bool) (n edges nets line k at : ℕ) (text bs : List ℕ) (x : Lines) (kinds capacities delays : List ℕ) → x ≡ ls.Stopped k at
+    → nodesAt text x kinds capacities delays ≡ nodeLines timed n n (nodeLists [] [] []) line bs → stopped k at ≡ bodyAfterHead timed n edges nets line bs
 unfolding bodyAfterHead
-nodes-stop n edges nets line k at text bs x kinds capacities is read =
-    ap (wiresAfter n edges nets) (ap (λ (y : Lines). nodesAt text y kinds capacities) (sym is) ∙ read)
+nodes-stop timed n edges nets line k at text bs x kinds capacities delays is read =
+    ap (wiresAfter timed n edges nets) (ap (λ (y : Lines). nodesAt text y kinds capacities delays) (sym is) ∙ read)
 
 -- the job of the tables that were read
 abbrev jobAfter : Terms → Part Tables → Part Job
 jobAfter terms (part t at rest) =
-    part (jobOf (t .kinds) (t .capacities) (t .firstEdges) (t .edgeTargets) (t .sources) (t .firstSinks) (t .sinks) terms) at rest
+    part (jobOf (t .kinds) (t .capacities) (t .firstEdges) (t .edgeTargets) (t .sources) (t .firstSinks) (t .sinks) (t .delays) (t .criticalities) terms) at rest
 jobAfter terms (stopped k at) = stopped k at
 
 -- one stage after the other is the whole text, once the lines before the nodes are read
 module _ (c : Counts) where
   last-stage :
       (ns : NodeLists) (es : EdgeLists) (x : Part NetLists)
-      → jobAfter (c .terms) (withWires (ns .kinds) (ns .capacities) (withNets (firstPlaces (c .nodes) (es .froms)) (es .targets) x))
+      → jobAfter (c .terms) (withWires ns (withNets (firstPlaces (c .nodes) (es .froms)) (es .targets) x))
       ≡ andThen x (λ ts at rest. part (jobRead c ns es ts) at rest)
   unfolding jobRead
   last-stage ns es (part ts at rest) = refl
@@ -102,46 +103,46 @@ module _ (c : Counts) where
 
   edge-stage :
       (ns : NodeLists) (x : Part EdgeLists)
-      → jobAfter (c .terms) (withWires (ns .kinds) (ns .capacities) (netsAfter (ns .kinds) (c .nodes) (c .nets) (edgeTables (c .nodes) x)))
+      → jobAfter (c .terms) (withWires ns (netsAfter (c .terms .timed) (ns .kinds) (c .nodes) (c .nets) (edgeTables (c .nodes) x)))
       ≡ andThen x
-      (λ es at rest. andThen (netLines (length rest) (ns .kinds) (c .nodes) (c .nets) (netLists [] [] []) at rest) (λ ts at2 rest2. part (jobRead c ns es ts) at2 rest2))
-  edge-stage ns (part es at rest) = last-stage ns es (netLines (length rest) (ns .kinds) (c .nodes) (c .nets) (netLists [] [] []) at rest)
+      (λ es at rest. andThen (netLines (length rest) (c .terms .timed) (ns .kinds) (c .nodes) (c .nets) (netLists [] [] [] []) at rest) (λ ts at2 rest2. part (jobRead c ns es ts) at2 rest2))
+  edge-stage ns (part es at rest) = last-stage ns es (netLines (length rest) (c .terms .timed) (ns .kinds) (c .nodes) (c .nets) (netLists [] [] [] []) at rest)
   edge-stage ns (stopped k at) = refl
 
   node-stage :
       (x : Part NodeLists)
-      → jobAfter (c .terms) (wiresAfter (c .nodes) (c .edges) (c .nets) x)
+      → jobAfter (c .terms) (wiresAfter (c .terms .timed) (c .nodes) (c .edges) (c .nets) x)
       ≡ andThen x
-      (λ ns at rest. andThen (edgeLines (c .nodes) (c .edges) (edgeLists [] []) at rest) (λ es at2 rest2. andThen (netLines (length rest2) (ns .kinds) (c .nodes) (c .nets) (netLists [] [] []) at2 rest2) (λ ts at3 rest3. part (jobRead c ns es ts) at3 rest3)))
+      (λ ns at rest. andThen (edgeLines (c .nodes) (c .edges) (edgeLists [] []) at rest) (λ es at2 rest2. andThen (netLines (length rest2) (c .terms .timed) (ns .kinds) (c .nodes) (c .nets) (netLists [] [] [] []) at2 rest2) (λ ts at3 rest3. part (jobRead c ns es ts) at3 rest3)))
   unfolding bodyAfterNodes
   node-stage (part ns at rest) = edge-stage ns (edgeLines (c .nodes) (c .edges) (edgeLists [] []) at rest)
   node-stage (stopped k at) = refl
 
 -- the lines before the nodes, then those from the nodes on
-module _ (n edges nets : ℕ) (terms : Terms) (at line : ℕ) (text : List ℕ) (x : HeadRead) (kinds capacities firstEdges edgeTargets sources firstSinks sinks : List ℕ) (is : x ≡ hr.Counts n edges nets terms at line) (read : headReadAt text x ≡ headPart text) where
+module _ (n edges nets : ℕ) (terms : Terms) (at line : ℕ) (text : List ℕ) (x : HeadRead) (kinds capacities firstEdges edgeTargets sources firstSinks sinks delays criticalities : List ℕ) (is : x ≡ hr.Counts n edges nets terms at line) (read : headReadAt text x ≡ headPart text) where
   text-body :
       (r : NetsRead)
-      → bodyAt n edges nets r kinds capacities firstEdges edgeTargets sources firstSinks sinks ≡ bodyAfterHead n edges nets line (drop at text)
-      → jobAfter terms (bodyAt n edges nets r kinds capacities firstEdges edgeTargets sources firstSinks sinks) ≡ readText text
+      → bodyAt n edges nets r kinds capacities firstEdges edgeTargets sources firstSinks sinks delays criticalities ≡ bodyAfterHead (terms .timed) n edges nets line (drop at text)
+      → jobAfter terms (bodyAt n edges nets r kinds capacities firstEdges edgeTargets sources firstSinks sinks delays criticalities) ≡ readText text
   unfolding readText bodyAfterHead
   text-body r body =
       ap (jobAfter terms) body
-      ∙ node-stage (record { nodes = n; edges = edges; nets = nets; terms = terms }) (nodeLines n n (nodeLists [] []) line (drop at text))
+      ∙ node-stage (record { nodes = n; edges = edges; nets = nets; terms = terms }) (nodeLines (terms .timed) n n (nodeLists [] [] []) line (drop at text))
       ∙ rw (← read, is)
 
   job-body :
       (r : NetsRead)
-      → jobAt (jobLines n edges nets terms r) kinds capacities firstEdges edgeTargets sources firstSinks sinks
-      ≡ jobAfter terms (bodyAt n edges nets r kinds capacities firstEdges edgeTargets sources firstSinks sinks)
+      → jobAt (jobLines n edges nets terms r) kinds capacities firstEdges edgeTargets sources firstSinks sinks delays criticalities
+      ≡ jobAfter terms (bodyAt n edges nets r kinds capacities firstEdges edgeTargets sources firstSinks sinks delays criticalities)
   job-body (nr.Read count end) = refl
   job-body (nr.Stopped k end) = refl
 
   pub text-read :
       (r : NetsRead) (j : JobLines) → j ≡ jobLines n edges nets terms r
-      → bodyAt n edges nets r kinds capacities firstEdges edgeTargets sources firstSinks sinks ≡ bodyAfterHead n edges nets line (drop at text)
-      → jobAt j kinds capacities firstEdges edgeTargets sources firstSinks sinks ≡ readText text
+      → bodyAt n edges nets r kinds capacities firstEdges edgeTargets sources firstSinks sinks delays criticalities ≡ bodyAfterHead (terms .timed) n edges nets line (drop at text)
+      → jobAt j kinds capacities firstEdges edgeTargets sources firstSinks sinks delays criticalities ≡ readText text
   text-read r j e body =
-      ap (λ (y : JobLines). jobAt y kinds capacities firstEdges edgeTargets sources firstSinks sinks) e ∙ job-body r ∙ text-body r body
+      ap (λ (y : JobLines). jobAt y kinds capacities firstEdges edgeTargets sources firstSinks sinks delays criticalities) e ∙ job-body r ∙ text-body r body
 
 -- the counts of a text that was read are within their bounds
 module _ (n edges nets : ℕ) (terms : Terms) (firstSinks : List ℕ) (within : CountsWithin n edges nets) where

@@ -1,7 +1,7 @@
 -- The turns of a run, as the writer sees them: what each record has, and that an accepted job's log has one.
 --     Turned, iteration-turned      the records of one iteration
 --     TurnedUpTo, run-turned        those of a run
---     Accepted, accepted            the log of an accepted job
+--     Accepted, accepted-           the log of an accepted job
 --     SomeSinks, run-some           a job of which a net makes turns, so that its run has a record
 -- Assumes nothing.
 use mathlib.Core.Bool.{true, false}
@@ -15,14 +15,13 @@ use lib.Dec.{ltb}
 use lib.ListN.{length, getD, take, drop, length-append}
 use lib.Seq.{take-append-seam}
 use borrow.Author.Tests.{le-leb, lt-ltb, leb-true}
-use Rattle.price.specs.Bounds.{limitMost}
 use Rattle.price.specs.Lists.{has}
 use Rattle.price.proofs.TestLaws.{either-way, both-true, true≢false, le-or-lt}
 use Rattle.price.proofs.ListLaws.{has-at, has-place}
 use Rattle.search.specs.Block.{Block}
 use Rattle.search.specs.Paths.{Walk, stay, step}
 use Rattle.job.specs.Job.{Job, nodes, nets, netSinks}
-use Rattle.job.specs.Tables.{SoundJob}
+use Rattle.job.specs.Tables.{exceeds, SoundJob}
 use Rattle.negotiation.specs.Routable.{Routable}
 use Rattle.job.specs.Join.{firstOf, joined}
 use Rattle.negotiation.specs.Records.{Record, encode}
@@ -41,7 +40,7 @@ use Rattle.negotiation.proofs.MachineRan.{Reached, machine-nets}
 use Rattle.negotiation.proofs.DemandHolds.{made-most}
 use Rattle.negotiation.proofs.DemandLaws.{all-reached}
 use Rattle.negotiation.proofs.EndLaws.{left-first, made-least, all-made}
-use Rattle.negotiation.proofs.RefusalLaws.{route-unreachable, route-run}
+use Rattle.negotiation.proofs.RefusalLaws.{route-large, route-unreachable, route-run}
 use Rattle.text.specs.Routes.{netWritable}
 use Rattle.job.proofs.FirstNetLaws.{first-below}
 
@@ -92,7 +91,7 @@ net-turned j s i t earlier r hi sinks at turn =
     }
 
 -- the records of the iteration after m whole ones
-module _ (j : Job) (rests : Routable j) (m : ℕ) (hm : m < limitMost) where
+module _ (j : Job) (rests : Routable j) (m : ℕ) (hm : m < j .terms .limit) where
   nets-turned : (i : ℕ) → i ≤ nets j → All (Turned j (m + 1)) (afterNets j (stateAfter j (firstState j) m) i .records)
   unfolding afterNets
   nets-turned zero h = tt
@@ -122,7 +121,7 @@ pub record TurnedUpTo (j : Job) (m : ℕ) (r : Record) : Type 0 where
   pub t-most : t ≤ m
   pub turned : Turned j t r
 
-pub run-turned : (j : Job) → Routable j → (m : ℕ) → m ≤ limitMost → All (TurnedUpTo j m) (recordsAfter j (firstState j) m)
+pub run-turned : (j : Job) → Routable j → (m : ℕ) → m ≤ j .terms .limit → All (TurnedUpTo j m) (recordsAfter j (firstState j) m)
 unfolding recordsAfter
 run-turned j rests zero h = tt
 run-turned j rests (suc m) h =
@@ -139,7 +138,7 @@ run-turned j rests (suc m) h =
 -- the words used hold the records of the iterations up to the one after `whole`
 pub record Accepted (j : Job) (r : RouteReply) : Type 0 where
   pub whole : ℕ
-  pub below : whole < limitMost
+  pub below : whole < j .terms .limit
   pub words-are : take (r .used) (r .log) ≡ encode (recordsAfter j (firstState j) (suc whole))
   pub reached : Reached j
 
@@ -163,7 +162,6 @@ run-accepted j work log rests h e =
     let left = left-first j in
     let one = rests .limit-some in
     let some = made-least j (firstState j) (iterationsLeft j (firstState j)) 0 (omega arith) (λ k l. absurd (not-suc-le-zero l)) in
-    let few = rests .limit-few in
     let most = made-most j (firstState j) (iterationsLeft j (firstState j)) in
     let last : ℕ = madeFrom j (firstState j) - 1 in
     let made : madeFrom j (firstState j) ≡ last + 1 = omega arith in
@@ -174,18 +172,32 @@ run-accepted j work log rests h e =
       reached = all-reached j h;
     }
 
+-- a timed job that is accepted exceeds no bound
+pub accepted-fits : (j : Job) (work log : List ℕ) → SoundJob j → routeReply j work log .refusal ≡ [] → exceeds (nodes j) (j .terms) ≡ false
+accepted-fits j work log sound e =
+    let fine = faulty-none j sound in
+    ⊎-elim
+    (λ (h : exceeds (nodes j) (j .terms) ≡ true).
+    let is = route-large j work log (omega arith) h in
+    let none : (15 ∷ nodes j ∷ j .terms .limit ∷ []) ≡ [] = rw is at e in
+    let z : _≡_ {A = ℕ} 0 1 = cc in
+    absurd (omega arith))
+    (λ (h : exceeds (nodes j) (j .terms) ≡ false). h)
+    (either-way (exceeds (nodes j) (j .terms)))
+
 -- an accepted job's reply is that of the joined job's run
 pub accepted :
     (j : Job) (work log : List ℕ) → SoundJob j → 8 * nodes j ≤ length work → routeReply j work log .refusal ≡ []
     → Accepted (joined j) (routeReply j work log)
 accepted j work log sound enough e =
     let fine = faulty-none j sound in
+    let fits = accepted-fits j work log sound e in
     ⊎-elim
     (λ (h : nets j ≤ unreachableNet (joined j)).
-    let is = route-run j work log (omega arith) enough h in
-    rw is (run-accepted (joined j) work log (joined-routable j sound) h (rw is at e)))
+    let is = route-run j work log (omega arith) fits enough h in
+    rw is (run-accepted (joined j) work log (joined-routable j sound fits) h (rw is at e)))
     (λ (h : unreachableNet (joined j) < nets j).
-    let is = route-unreachable j work log (omega arith) enough h in
+    let is = route-unreachable j work log (omega arith) fits enough h in
     let none : (7 ∷ unreachableNet (joined j) ∷ unreachablePlace (joined j) ∷ []) ≡ [] = rw is at e in
     let z : _≡_ {A = ℕ} 0 1 = cc in
     absurd (omega arith))
@@ -232,7 +244,7 @@ some-latest k t [] e = absurd (omega arith)
 some-latest k t (r ∷ rs) e = suc-le-suc zero-le
 
 -- the first iteration takes every net with sinks, under either rule
-pub run-some : (j : Job) → Routable j → SomeSinks j → Reached j → (m : ℕ) → m < limitMost → 1 ≤ length (recordsAfter j (firstState j) (suc m))
+pub run-some : (j : Job) → Routable j → SomeSinks j → Reached j → (m : ℕ) → m < j .terms .limit → 1 ≤ length (recordsAfter j (firstState j) (suc m))
 unfolding recordsAfter stateAfter firstState iterate
 run-some j rests one reached zero h =
     some-latest (one .net) 0 (iterationAfter j (firstState j) 0 .records)

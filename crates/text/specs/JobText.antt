@@ -1,5 +1,5 @@
--- Document 01, "Job text" and rows 1 to 3 of "Numbers for a stopped call", with the P line of request 2.1, the pins' kinds of 2.5 and
--- the V line of 2.7 and 2.8: what a text gives, line by line, or the first faulty line.
+-- Document 01, "Job text" and rows 1 to 3 of "Numbers for a stopped call", with the P line of request 2.1, the pins' kinds of 2.5, the V
+-- line of 2.7 and 2.8 and the timed jobs of 2.9: what a text gives, line by line, or the first faulty line.
 -- Assumes nothing.
 use mathlib.Core.Bool.{Bool, true, not}
 use mathlib.Core.List.{List, [], _∷_, _++_}
@@ -7,7 +7,7 @@ use Prim.Native.Nat.{ℕ, zero, suc, _+_, _-_}
 use lib.Dec.{leb, ltb, eqb}
 use lib.ListN.{length, getD, drop}
 use Rattle.price.specs.Test.{choose, both, either}
-use Rattle.price.specs.Bounds.{nodesMost, kindMost, capacityMost, limitMost}
+use Rattle.price.specs.Bounds.{nodesMost, kindMost, capacityMost, limitMost, delayMost, criticalityMost}
 use Rattle.price.specs.Lists.{has, upTo, total}
 use Rattle.price.specs.Tuning.{tuningSound}
 use Rattle.price.specs.declared.Tuning.{Tuning}
@@ -16,7 +16,8 @@ use Rattle.search.specs.Replies.{sinksMost}
 use Rattle.job.specs.Tables.{netsMost, ruleSound, sourceKind, sinkKind}
 use Rattle.job.specs.Job.{Job, jobOf, plainTerms}
 use Rattle.job.specs.declared.Terms.{Terms}
-use Rattle.text.specs.Lines.{letterF, letterP, letterV, letterN, letterE, letterS, letterT, begins, Fields, taken, malformed, line}
+use Rattle.text.specs.Lines.{letterF, letterP, letterV, letterW, letterN, letterE, letterS, letterT}
+use Rattle.text.specs.Lines.{begins, Fields, taken, malformed, line}
 
 -- ---- a line
 
@@ -72,12 +73,19 @@ ruleWithin vs = ruleSound (getD vs 0 0) (getD vs 1 0)
 unfoldable pub ruleLine : List ℕ → Reading (List ℕ)
 ruleLine bs = judged ruleWithin (λ vs. true) (ruleFields bs)
 
--- "`N,node,kind,capacity` in order": of n nodes, node v is due
-unfoldable pub nodeWithin : ℕ → List ℕ → Bool
-nodeWithin n vs = both (ltb (getD vs 0 0) n) (both (leb (getD vs 1 0) kindMost) (between 1 capacityMost (getD vs 2 0)))
+-- request 2.9: "A line `W` after F and any P and V makes a job timed."
+unfoldable pub timedLine : List ℕ → Reading (List ℕ)
+timedLine bs = judged (λ vs. true) (λ vs. true) (line letterW 0 bs)
 
-unfoldable pub nodeLine : ℕ → ℕ → List ℕ → Reading (List ℕ)
-nodeLine n v bs = judged (nodeWithin n) (λ vs. eqb (getD vs 0 0) v) (line letterN 3 bs)
+-- "`N,node,kind,capacity` in order": of n nodes, node v is due. In a timed job "N lines then have a fourth number, delay 0 to 1,000"; in
+-- any other it counts as 0
+unfoldable pub nodeWithin : ℕ → List ℕ → Bool
+nodeWithin n vs =
+    both (ltb (getD vs 0 0) n)
+    (both (leb (getD vs 1 0) kindMost) (both (between 1 capacityMost (getD vs 2 0)) (leb (getD vs 3 0) delayMost)))
+
+unfoldable pub nodeLine : Bool → ℕ → ℕ → List ℕ → Reading (List ℕ)
+nodeLine timed n v bs = judged (nodeWithin n) (λ vs. eqb (getD vs 0 0) v) (line letterN (choose timed 4 3) bs)
 
 -- "`E,from,to` rising by from, then to": after so many edges, the last of which is from `lastFrom` to `lastTo`
 unfoldable pub rises : ℕ → ℕ → ℕ → ℕ → ℕ → Bool
@@ -107,8 +115,13 @@ sourceLine n nets i bs = judged (pinWithin n nets) (λ vs. eqb (getD vs 0 0) i) 
 unfoldable pub sinkOrdered : ℕ → List ℕ → ℕ → List ℕ → Bool
 sinkOrdered i pins count vs = both (eqb (getD vs 0 0) i) (both (not (has (getD vs 1 0) pins)) (ltb count sinksMost))
 
-unfoldable pub sinkLine : ℕ → ℕ → ℕ → List ℕ → ℕ → List ℕ → Reading (List ℕ)
-sinkLine n nets i pins count bs = judged (pinWithin n nets) (sinkOrdered i pins count) (line letterT 2 bs)
+-- "and T lines a third, criticality 0 to 9 in tenths"
+unfoldable pub sinkWithin : ℕ → ℕ → List ℕ → Bool
+sinkWithin n nets vs = both (pinWithin n nets vs) (leb (getD vs 2 0) criticalityMost)
+
+unfoldable pub sinkLine : Bool → ℕ → ℕ → ℕ → List ℕ → ℕ → List ℕ → Reading (List ℕ)
+sinkLine timed n nets i pins count bs =
+    judged (sinkWithin n nets) (sinkOrdered i pins count) (line letterT (choose timed 3 2) bs)
 
 -- ---- lines one after the other
 
@@ -140,21 +153,28 @@ optional letter read change t at bs =
 
 -- "A line `P,first,up,down,step` may follow F"
 abbrev pub withTuning : Terms → List ℕ → Terms
-withTuning t vs = record { limit = t .limit; tuning = tuningOf vs; rule = t .rule; until = t .until }
+withTuning t vs = record { limit = t .limit; tuning = tuningOf vs; rule = t .rule; until = t .until; timed = t .timed }
 
 unfoldable pub tuningPart : Terms → ℕ → List ℕ → Part Terms
 tuningPart t at bs = optional letterP (tuningLine bs) (withTuning t) t at bs
 
 -- "A line `V,1` or `V,2` may follow F and any P."
 abbrev pub withRule : Terms → List ℕ → Terms
-withRule t vs = record { limit = t .limit; tuning = t .tuning; rule = getD vs 0 0; until = getD vs 1 0 }
+withRule t vs = record { limit = t .limit; tuning = t .tuning; rule = getD vs 0 0; until = getD vs 1 0; timed = t .timed }
 
 unfoldable pub rulePart : Terms → ℕ → List ℕ → Part Terms
 rulePart t at bs = optional letterV (ruleLine bs) (withRule t) t at bs
 
+-- "A line `W` after F and any P and V makes a job timed."
+abbrev pub withTimes : Terms → List ℕ → Terms
+withTimes t vs = record { limit = t .limit; tuning = t .tuning; rule = t .rule; until = t .until; timed = true }
+
+unfoldable pub timedPart : Terms → ℕ → List ℕ → Part Terms
+timedPart t at bs = optional letterW (timedLine bs) (withTimes t) t at bs
+
 -- the lines that may follow F. "Without the line it is 50,3,2,1.", and "Under rule 1, or without the line"
 unfoldable pub termsPart : ℕ → ℕ → List ℕ → Part Terms
-termsPart limit at bs = andThen (tuningPart (plainTerms limit) at bs) rulePart
+termsPart limit at bs = andThen (tuningPart (plainTerms limit) at bs) (λ t l rest. andThen (rulePart t l rest) timedPart)
 
 -- the counts of the F line, with these terms
 abbrev pub countsOf : List ℕ → Terms → Counts
@@ -170,15 +190,19 @@ headPart bs =
 pub record NodeLists : Type 0 where
   pub kinds : List ℕ
   pub capacities : List ℕ
+  pub delays : List ℕ
 
-abbrev pub nodeLists : List ℕ → List ℕ → NodeLists
-nodeLists kinds capacities = record { kinds = kinds; capacities = capacities }
+abbrev pub nodeLists : List ℕ → List ℕ → List ℕ → NodeLists
+nodeLists kinds capacities delays = record { kinds = kinds; capacities = capacities; delays = delays }
 
-unfoldable pub nodeLines : ℕ → ℕ → NodeLists → ℕ → List ℕ → Part NodeLists
-nodeLines n zero l at bs = part l at bs
-nodeLines n (suc k) l at bs =
-    onward (nodeLine n (length (l .kinds)) bs) at
-    (λ vs rest. nodeLines n k (nodeLists (l .kinds ++ (getD vs 1 0 ∷ [])) (l .capacities ++ (getD vs 2 0 ∷ []))) (at + 1) rest)
+abbrev pub withNode : NodeLists → List ℕ → NodeLists
+withNode l vs =
+    nodeLists (l .kinds ++ (getD vs 1 0 ∷ [])) (l .capacities ++ (getD vs 2 0 ∷ [])) (l .delays ++ (getD vs 3 0 ∷ []))
+
+unfoldable pub nodeLines : Bool → ℕ → ℕ → NodeLists → ℕ → List ℕ → Part NodeLists
+nodeLines timed n zero l at bs = part l at bs
+nodeLines timed n (suc k) l at bs =
+    onward (nodeLine timed n (length (l .kinds)) bs) at (λ vs rest. nodeLines timed n k (withNode l vs) (at + 1) rest)
 
 -- the edges read so far
 pub record EdgeLists : Type 0 where
@@ -194,14 +218,16 @@ edgeLines n (suc k) l at bs =
     onward (edgeLine n (length (l .targets)) (lastOf (l .froms)) (lastOf (l .targets)) bs) at
     (λ vs rest. edgeLines n k (edgeLists (l .froms ++ (getD vs 0 0 ∷ [])) (l .targets ++ (getD vs 1 0 ∷ []))) (at + 1) rest)
 
--- the nets read so far: sources, of each net the number of sinks before its own, and all sinks
+-- the nets read so far: sources, of each net the number of sinks before its own, and all sinks with their criticalities
 pub record NetLists : Type 0 where
   pub sources : List ℕ
   pub firstSinks : List ℕ
   pub sinks : List ℕ
+  pub criticalities : List ℕ
 
-abbrev pub netLists : List ℕ → List ℕ → List ℕ → NetLists
-netLists sources firstSinks sinks = record { sources = sources; firstSinks = firstSinks; sinks = sinks }
+abbrev pub netLists : List ℕ → List ℕ → List ℕ → List ℕ → NetLists
+netLists sources firstSinks sinks criticalities =
+    record { sources = sources; firstSinks = firstSinks; sinks = sinks; criticalities = criticalities }
 
 -- the sinks so far of the last net
 unfoldable pub sinksNow : NetLists → List ℕ
@@ -225,10 +251,10 @@ netEnd nets l at = choose (complete nets l) (part l at []) (stopped 1 at)
 
 abbrev pub withSource : NetLists → List ℕ → NetLists
 withSource l vs =
-    netLists (l .sources ++ (getD vs 1 0 ∷ [])) (l .firstSinks ++ (length (l .sinks) ∷ [])) (l .sinks)
+    netLists (l .sources ++ (getD vs 1 0 ∷ [])) (l .firstSinks ++ (length (l .sinks) ∷ [])) (l .sinks) (l .criticalities)
 
 abbrev pub withSink : NetLists → List ℕ → NetLists
-withSink l vs = netLists (l .sources) (l .firstSinks) (l .sinks ++ (getD vs 1 0 ∷ []))
+withSink l vs = netLists (l .sources) (l .firstSinks) (l .sinks ++ (getD vs 1 0 ∷ [])) (l .criticalities ++ (getD vs 2 0 ∷ []))
 
 -- request 2.5: a pin whose kind does not pass the test is "refusal 3 at the S or T line"
 abbrev pub ofKind : (ℕ → Bool) → List ℕ → Reading (List ℕ) → Reading (List ℕ)
@@ -240,9 +266,9 @@ unfoldable pub nextSource : List ℕ → ℕ → ℕ → NetLists → List ℕ �
 nextSource kinds n nets l bs = ofKind sourceKind kinds (sourceLine n nets (length (l .sources)) bs)
 
 -- a T line of the last net: "a sink of kind 1 or 3"
-unfoldable pub nextSink : List ℕ → ℕ → ℕ → NetLists → List ℕ → Reading (List ℕ)
-nextSink kinds n nets l bs =
-    ofKind sinkKind kinds (sinkLine n nets (length (l .sources) - 1) (lastOf (l .sources) ∷ sinksNow l) (length (l .sinks)) bs)
+unfoldable pub nextSink : Bool → List ℕ → ℕ → ℕ → NetLists → List ℕ → Reading (List ℕ)
+nextSink timed kinds n nets l bs =
+    ofKind sinkKind kinds (sinkLine timed n nets (length (l .sources) - 1) (lastOf (l .sources) ∷ sinksNow l) (length (l .sinks)) bs)
 
 -- the lists with what a line gives
 abbrev pub taking : {A B : Type 0} → (A → B) → Reading A → Reading B
@@ -250,19 +276,19 @@ taking f (values given rest) = values (f given) rest
 taking f (refused k) = refused k
 
 -- one line of the nets: "A letter that can't come there .. is 1"
-unfoldable pub netLine : List ℕ → ℕ → ℕ → NetLists → List ℕ → Reading NetLists
-netLine kinds n nets l [] = refused 1
-netLine kinds n nets l (b ∷ bs) =
+unfoldable pub netLine : Bool → List ℕ → ℕ → ℕ → NetLists → List ℕ → Reading NetLists
+netLine timed kinds n nets l [] = refused 1
+netLine timed kinds n nets l (b ∷ bs) =
     choose (both (eqb b letterS) (sourceDue nets l)) (taking (withSource l) (nextSource kinds n nets l (b ∷ bs)))
-    (choose (both (eqb b letterT) (sinkDue l)) (taking (withSink l) (nextSink kinds n nets l (b ∷ bs))) (refused 1))
+    (choose (both (eqb b letterT) (sinkDue l)) (taking (withSink l) (nextSink timed kinds n nets l (b ∷ bs))) (refused 1))
 
 -- the lines of the nets, at most so many: no text has more lines than bytes
-unfoldable pub netLines : ℕ → List ℕ → ℕ → ℕ → NetLists → ℕ → List ℕ → Part NetLists
-netLines zero kinds n nets l at [] = netEnd nets l at
-netLines zero kinds n nets l at (b ∷ bs) = stopped 1 at
-netLines (suc k) kinds n nets l at [] = netEnd nets l at
-netLines (suc k) kinds n nets l at (b ∷ bs) =
-    onward (netLine kinds n nets l (b ∷ bs)) at (λ next rest. netLines k kinds n nets next (at + 1) rest)
+unfoldable pub netLines : ℕ → Bool → List ℕ → ℕ → ℕ → NetLists → ℕ → List ℕ → Part NetLists
+netLines zero timed kinds n nets l at [] = netEnd nets l at
+netLines zero timed kinds n nets l at (b ∷ bs) = stopped 1 at
+netLines (suc k) timed kinds n nets l at [] = netEnd nets l at
+netLines (suc k) timed kinds n nets l at (b ∷ bs) =
+    onward (netLine timed kinds n nets l (b ∷ bs)) at (λ next rest. netLines k timed kinds n nets next (at + 1) rest)
 
 -- ---- the whole text
 
@@ -274,12 +300,12 @@ firstPlaces n froms = upTo (λ u. total (λ from. choose (ltb from u) 1 0) froms
 unfoldable pub jobRead : Counts → NodeLists → EdgeLists → NetLists → Job
 jobRead c ns es ts =
     jobOf (ns .kinds) (ns .capacities) (firstPlaces (c .nodes) (es .froms)) (es .targets)
-    (ts .sources) (ts .firstSinks ++ (length (ts .sinks) ∷ [])) (ts .sinks) (c .terms)
+    (ts .sources) (ts .firstSinks ++ (length (ts .sinks) ∷ [])) (ts .sinks) (ns .delays) (ts .criticalities) (c .terms)
 
 unfoldable pub readText : List ℕ → Part Job
 readText bs =
     andThen (headPart bs) (λ c at rest.
-    andThen (nodeLines (c .nodes) (c .nodes) (nodeLists [] []) at rest) (λ ns at2 rest2.
+    andThen (nodeLines (c .terms .timed) (c .nodes) (c .nodes) (nodeLists [] [] []) at rest) (λ ns at2 rest2.
     andThen (edgeLines (c .nodes) (c .edges) (edgeLists [] []) at2 rest2) (λ es at3 rest3.
-    andThen (netLines (length rest3) (ns .kinds) (c .nodes) (c .nets) (netLists [] [] []) at3 rest3) (λ ts at4 rest4.
+    andThen (netLines (length rest3) (c .terms .timed) (ns .kinds) (c .nodes) (c .nets) (netLists [] [] [] []) at3 rest3) (λ ts at4 rest4.
     part (jobRead c ns es ts) at4 rest4))))

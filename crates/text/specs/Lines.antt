@@ -13,7 +13,7 @@ lf = 10
 abbrev pub comma : ℕ
 comma = 44
 
--- ASCII codes of the line letters: F, P, V, N, E, S and T of a job text, R, B and J of a routes text, X of a refusal
+-- ASCII codes of the line letters: F, P, V, W, N, E, S and T of a job text, R, B and J of a routes text, X of a refusal
 abbrev pub letterF : ℕ
 letterF = 70
 
@@ -22,6 +22,9 @@ letterP = 80
 
 abbrev pub letterV : ℕ
 letterV = 86
+
+abbrev pub letterW : ℕ
+letterW = 87
 
 abbrev pub letterN : ℕ
 letterN = 78

@@ -1,18 +1,19 @@
--- Document 01, "Job text", with the P line of request 2.1 and the V line of 2.7 and 2.8: a job's printed forms, line by line in 01's order.
+-- Document 01, "Job text", with the P line of request 2.1, the V line of 2.7 and 2.8 and the timed jobs of 2.9: a job's printed forms, line
+-- by line in 01's order.
 -- Assumes nothing.
 use mathlib.Core.Bool.{Bool, true, false}
 use mathlib.Core.List.{List, [], _∷_, _++_}
 use mathlib.Core.Path.{_≡_}
 use Prim.Native.Nat.{ℕ, zero, suc}
-use lib.ListN.{length, getD}
+use lib.ListN.{length, getD, drop}
 use Rattle.price.specs.Test.{choose}
 use Rattle.price.specs.Tuning.{plain}
 use Rattle.price.specs.declared.Tuning.{Tuning}
 use Rattle.search.specs.Block.{row}
-use Rattle.job.specs.Job.{Job, nodes, nets, source, netSinks}
+use Rattle.job.specs.Job.{Job, nodes, nets, source, netSinks, netCriticalities}
 use Rattle.job.specs.Tables.{SoundJob}
 use Rattle.job.specs.declared.Terms.{Terms}
-use Rattle.text.specs.Lines.{letterF, letterP, letterV, letterN, letterE, letterS, letterT, printLine}
+use Rattle.text.specs.Lines.{letterF, letterP, letterV, letterW, letterN, letterE, letterS, letterT, printLine}
 use Rattle.text.specs.JobText.{part, readText}
 
 -- the texts of m, m + 1, .., one after the other, so many of them
@@ -25,17 +26,29 @@ unfoldable pub eachLine : ℕ → ℕ → List ℕ → List ℕ
 eachLine letter first [] = []
 eachLine letter first (x ∷ xs) = printLine letter (first ∷ x ∷ []) ++ eachLine letter first xs
 
--- "`N,node,kind,capacity` in order"
+-- a number that timed jobs' lines alone have
+abbrev pub further : Bool → ℕ → List ℕ
+further timed number = choose timed (number ∷ []) []
+
+-- "`N,node,kind,capacity` in order", in timed jobs with "a fourth number, delay"
 unfoldable pub nodeText : Job → ℕ → List ℕ
-nodeText j v = printLine letterN (v ∷ getD (j .block .kinds) v 0 ∷ getD (j .block .capacities) v 0 ∷ [])
+nodeText j v =
+    printLine letterN
+    (v ∷ getD (j .block .kinds) v 0 ∷ getD (j .block .capacities) v 0 ∷ further (j .terms .timed) (getD (j .delays) v 0))
 
 -- "`E,from,to` rising by from, then to"
 unfoldable pub rowText : Job → ℕ → List ℕ
 rowText j u = eachLine letterE u (row (j .block) u)
 
+-- a T line for each sink, in timed jobs with "a third, criticality", which stands at the same place of another list
+unfoldable pub sinkLines : Bool → ℕ → List ℕ → List ℕ → List ℕ
+sinkLines timed i [] cs = []
+sinkLines timed i (s ∷ ss) cs = printLine letterT (i ∷ s ∷ further timed (getD cs 0 0)) ++ sinkLines timed i ss (drop 1 cs)
+
 -- "per net in order `S,net,node`, then one or more `T,net,node`"
 unfoldable pub netText : Job → ℕ → List ℕ
-netText j i = printLine letterS (i ∷ source j i ∷ []) ++ eachLine letterT i (netSinks j i)
+netText j i =
+    printLine letterS (i ∷ source j i ∷ []) ++ sinkLines (j .terms .timed) i (netSinks j i) (netCriticalities j i)
 
 -- how a V line is written: not at all, with the rule alone, or with rule and k
 pub data RuleForm : Type 0 where
@@ -66,8 +79,10 @@ ruleText unwritten rule until = []
 ruleText alone rule until = printLine letterV (rule ∷ [])
 ruleText whole rule until = printLine letterV (rule ∷ until ∷ [])
 
+-- "A line `W` after F and any P and V makes a job timed.", so it stands exactly where the job is
 unfoldable pub termsText : Form → Terms → List ℕ
-termsText form t = tuningText (form .tuning) (t .tuning) ++ ruleText (form .rule) (t .rule) (t .until)
+termsText form t =
+    tuningText (form .tuning) (t .tuning) ++ (ruleText (form .rule) (t .rule) (t .until) ++ lineIf (t .timed) letterW [])
 
 -- a line may be left out only where it says what holds without it
 abbrev pub Written : {A : Type 0} → Bool → A → A → Type 0
@@ -96,11 +111,13 @@ printJob form j =
 abbrev pub Accepts : List ℕ → Job → Type 0
 Accepts bs j = (at : ℕ) × (readText bs ≡ part j at [])
 
--- the text is a printed form of the job
+-- the text is a printed form of the job; that of an untimed job has neither delays nor criticalities
 pub record PrintedAs (bs : List ℕ) (j : Job) : Type 0 where
   pub form : Form
   pub allowed : Allowed form (j .terms)
   pub is : bs ≡ printJob form j
+  pub no-delays : j .terms .timed ≡ false → j .delays ≡ []
+  pub no-criticalities : j .terms .timed ≡ false → j .criticalities ≡ []
 
 -- the reader takes a text for a job exactly where the job is sound and the text is a printed form of it
 pub record Exactly (bs : List ℕ) (j : Job) : Type 0 where

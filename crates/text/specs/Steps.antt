@@ -4,7 +4,7 @@ use mathlib.Core.Bool.{Bool, true, false}
 use mathlib.Core.List.{List, [], _∷_}
 use mathlib.Core.Path.{_≡_}
 use Prim.Native.Nat.{ℕ, _+_, _-_, _≤_, _<_}
-use lib.Dec.{ltb, eqb}
+use lib.Dec.{eqb}
 use lib.ListN.{length, getD, take, drop, set}
 use Rattle.price.specs.Test.{choose}
 use Rattle.price.specs.Lists.{has}
@@ -33,6 +33,8 @@ use Rattle.text.specs.declared.edges.EdgeLine.{EdgeLine}
 use Rattle.text.specs.declared.edges.EdgeLine.the-variants as el
 use Rattle.text.specs.declared.nets.PinLine.{PinLine}
 use Rattle.text.specs.declared.nets.PinLine.the-variants as pl
+use Rattle.text.specs.declared.nets.SinkLine.{SinkLine}
+use Rattle.text.specs.declared.nets.SinkLine.the-variants as sl
 use Rattle.text.specs.declared.nets.NetCursor.{NetCursor}
 use Rattle.text.specs.declared.nets.NetStep.{NetStep}
 use Rattle.text.specs.declared.nets.NetStep.the-variants as ns
@@ -124,17 +126,24 @@ abbrev pub LinesPlace : List ℕ → Lines → Type 0
 LinesPlace text (ls.Read at line) = (at ≤ length text) × (line ≤ at + 1)
 LinesPlace text (ls.Stopped k line) = Unit {0}
 
+-- a line's values, 0 for those that it has not
+abbrev pub threeOf : List ℕ → List ℕ
+threeOf vs = getD vs 0 0 ∷ getD vs 1 0 ∷ getD vs 2 0 ∷ []
+
+abbrev pub fourOf : List ℕ → List ℕ
+fourOf vs = getD vs 0 0 ∷ getD vs 1 0 ∷ getD vs 2 0 ∷ getD vs 3 0 ∷ []
+
 abbrev pub nodeAt : ℕ → List ℕ → NodeLine → Reading (List ℕ)
-nodeAt v text (nl.Node kind capacity next) = values (v ∷ kind ∷ capacity ∷ []) (drop next text)
+nodeAt v text (nl.Node kind capacity delay next) = values (v ∷ kind ∷ capacity ∷ delay ∷ []) (drop next text)
 nodeAt v text (nl.Refused k) = refused k
 
 abbrev pub NodePlace : ℕ → List ℕ → NodeLine → Type 0
-NodePlace at text (nl.Node kind capacity next) = After (at + 1) text next
+NodePlace at text (nl.Node kind capacity delay next) = After (at + 1) text next
 NodePlace at text (nl.Refused k) = Unit {0}
 
-abbrev pub nodesAt : List ℕ → Lines → List ℕ → List ℕ → Part NodeLists
-nodesAt text (ls.Read at line) kinds capacities = part (nodeLists kinds capacities) line (drop at text)
-nodesAt text (ls.Stopped k line) kinds capacities = stopped k line
+abbrev pub nodesAt : List ℕ → Lines → List ℕ → List ℕ → List ℕ → Part NodeLists
+nodesAt text (ls.Read at line) kinds capacities delays = part (nodeLists kinds capacities delays) line (drop at text)
+nodesAt text (ls.Stopped k line) kinds capacities delays = stopped k line
 
 abbrev pub edgeAt : List ℕ → EdgeLine → Reading (List ℕ)
 edgeAt text (el.Edge from to next) = values (from ∷ to ∷ []) (drop next text)
@@ -169,26 +178,36 @@ abbrev pub PinPlace : ℕ → ℕ → List ℕ → PinLine → Type 0
 PinPlace n at text (pl.Pin node next) = After (at + 1) text next × (node < n)
 PinPlace n at text (pl.Refused k) = Unit {0}
 
+abbrev pub sinkAt : ℕ → List ℕ → SinkLine → Reading (List ℕ)
+sinkAt i text (sl.Sink node criticality next) = values (i ∷ node ∷ criticality ∷ []) (drop next text)
+sinkAt i text (sl.Refused k) = refused k
+
+abbrev pub SinkPlace : ℕ → ℕ → List ℕ → SinkLine → Type 0
+SinkPlace n at text (sl.Sink node criticality next) = After (at + 1) text next × (node < n)
+SinkPlace n at text (sl.Refused k) = Unit {0}
+
 -- the nodes that bear this stamp are the net's pins
 abbrev pub Marked : ℕ → ℕ → List ℕ → List ℕ → Type 0
 Marked n stamp seen pins = (v : ℕ) → v < n → eqb (getD seen v 0) stamp ≡ has v pins
 
 -- the lists that the cursor's numbers mark out in the tables
-abbrev pub netsAt : NetCursor → List ℕ → List ℕ → List ℕ → NetLists
-netsAt c sources firstSinks sinks = netLists (take (c .nets) sources) (take (c .nets) firstSinks) (take (c .sinks) sinks)
+abbrev pub netsAt : NetCursor → List ℕ → List ℕ → List ℕ → List ℕ → NetLists
+netsAt c sources firstSinks sinks criticalities =
+    netLists (take (c .nets) sources) (take (c .nets) firstSinks) (take (c .sinks) sinks) (take (c .sinks) criticalities)
 
 -- the room that the nets' tables have, and the bounds of the counts
-pub record NetRoom (n nets : ℕ) (sources firstSinks sinks seen : List ℕ) : Type 0 where
+pub record NetRoom (n nets : ℕ) (sources firstSinks sinks criticalities seen : List ℕ) : Type 0 where
   pub nodes-most : n ≤ nodesMost
   pub nets-most : nets ≤ netsMost
   pub sources-long : nets ≤ length sources
   pub firsts-long : nets + 1 ≤ length firstSinks
   pub sinks-long : sinksMost ≤ length sinks
+  pub criticalities-long : sinksMost ≤ length criticalities
   pub seen-long : n ≤ length seen
 
 -- what holds between two lines of the nets
-pub record NetKept (n nets : ℕ) (text : List ℕ) (c : NetCursor) (sources firstSinks sinks seen : List ℕ) : Type 0 where
-  pub room : NetRoom n nets sources firstSinks sinks seen
+pub record NetKept (n nets : ℕ) (text : List ℕ) (c : NetCursor) (sources firstSinks sinks criticalities seen : List ℕ) : Type 0 where
+  pub room : NetRoom n nets sources firstSinks sinks criticalities seen
   pub at-most : c .at ≤ length text
   pub line-most : c .line ≤ c .at + 1
   pub nets-read : c .nets ≤ nets
@@ -196,7 +215,9 @@ pub record NetKept (n nets : ℕ) (text : List ℕ) (c : NetCursor) (sources fir
   pub first-is : c .first ≡ lastOf (take (c .nets) firstSinks)
   pub first-most : c .first ≤ c .sinks
   pub stamps : (v : ℕ) → v < n → getD seen v 0 ≤ c .nets
-  pub marked : 1 ≤ c .nets → Marked n (c .nets) seen (lastOf (take (c .nets) sources) ∷ sinksNow (netsAt c sources firstSinks sinks))
+  pub marked :
+      1 ≤ c .nets
+      → Marked n (c .nets) seen (lastOf (take (c .nets) sources) ∷ sinksNow (netsAt c sources firstSinks sinks criticalities))
 
 -- what an S line does to the tables
 abbrev pub SourceAdded :
@@ -211,29 +232,33 @@ SourceAdded n nets text c (ns.Stopped k) sources firstSinks seen sources' firstS
 
 -- what a T line does to the tables
 abbrev pub SinkAdded :
-    (n nets : ℕ) (text : List ℕ) (c : NetCursor) → NetStep → (sinks seen sinks' seen' : List ℕ) → Reading (List ℕ) → Type 0
-SinkAdded n nets text c (ns.On d) sinks seen sinks' seen' r =
-    (node : ℕ) × (r ≡ values ((c .nets - 1) ∷ node ∷ []) (drop (d .at) text)) × (node < n) × After (c .at + 1) text (d .at)
+    (n nets : ℕ) (text : List ℕ) (c : NetCursor) → NetStep → (sinks criticalities seen sinks' criticalities' seen' : List ℕ)
+    → Reading (List ℕ) → Type 0
+SinkAdded n nets text c (ns.On d) sinks criticalities seen sinks' criticalities' seen' r =
+    (node : ℕ) × (tenths : ℕ) × (r ≡ values ((c .nets - 1) ∷ node ∷ tenths ∷ []) (drop (d .at) text)) × (node < n)
+    × After (c .at + 1) text (d .at)
     × (d .line ≡ c .line + 1) × (d .nets ≡ c .nets) × (d .sinks ≡ c .sinks + 1) × (d .first ≡ c .first)
-    × (sinks' ≡ set sinks (c .sinks) node) × (seen' ≡ set seen node (c .nets))
-SinkAdded n nets text c (ns.Stopped k) sinks seen sinks' seen' r = r ≡ refused k
+    × (sinks' ≡ set sinks (c .sinks) node) × (criticalities' ≡ set criticalities (c .sinks) tenths)
+    × (seen' ≡ set seen node (c .nets))
+SinkAdded n nets text c (ns.Stopped k) sinks criticalities seen sinks' criticalities' seen' r = r ≡ refused k
 
 -- a line of the nets, as the tables stand after it
-abbrev pub netLineAt : List ℕ → NetStep → List ℕ → List ℕ → List ℕ → Reading NetLists
-netLineAt text (ns.On d) sources firstSinks sinks = values (netsAt d sources firstSinks sinks) (drop (d .at) text)
-netLineAt text (ns.Stopped k) sources firstSinks sinks = refused k
+abbrev pub netLineAt : List ℕ → NetStep → List ℕ → List ℕ → List ℕ → List ℕ → Reading NetLists
+netLineAt text (ns.On d) sources firstSinks sinks criticalities =
+    values (netsAt d sources firstSinks sinks criticalities) (drop (d .at) text)
+netLineAt text (ns.Stopped k) sources firstSinks sinks criticalities = refused k
 
 abbrev pub KeptAfter :
-    (n nets : ℕ) (text : List ℕ) (c : NetCursor) → NetStep → (sources firstSinks sinks seen : List ℕ) → Type 0
-KeptAfter n nets text c (ns.On d) sources firstSinks sinks seen =
-    (c .at < d .at) × (d .line ≡ c .line + 1) × NetKept n nets text d sources firstSinks sinks seen
-KeptAfter n nets text c (ns.Stopped k) sources firstSinks sinks seen = Unit {0}
+    (n nets : ℕ) (text : List ℕ) (c : NetCursor) → NetStep → (sources firstSinks sinks criticalities seen : List ℕ) → Type 0
+KeptAfter n nets text c (ns.On d) sources firstSinks sinks criticalities seen =
+    (c .at < d .at) × (d .line ≡ c .line + 1) × NetKept n nets text d sources firstSinks sinks criticalities seen
+KeptAfter n nets text c (ns.Stopped k) sources firstSinks sinks criticalities seen = Unit {0}
 
 -- all nets, as the tables stand at the end: the entry after the last net's in table 6 is the sink count
-abbrev pub netsReadAt : ℕ → NetsRead → List ℕ → List ℕ → List ℕ → Part NetLists
-netsReadAt nets (nr.Read count line) sources firstSinks sinks =
-    part (netLists (take nets sources) (take nets firstSinks) (take count sinks)) line []
-netsReadAt nets (nr.Stopped k line) sources firstSinks sinks = stopped k line
+abbrev pub netsReadAt : ℕ → NetsRead → List ℕ → List ℕ → List ℕ → List ℕ → Part NetLists
+netsReadAt nets (nr.Read count line) sources firstSinks sinks criticalities =
+    part (netLists (take nets sources) (take nets firstSinks) (take count sinks) (take count criticalities)) line []
+netsReadAt nets (nr.Stopped k line) sources firstSinks sinks criticalities = stopped k line
 
 abbrev pub NetsEnd : ℕ → NetsRead → List ℕ → Type 0
 NetsEnd nets (nr.Read count line) firstSinks = (count ≤ sinksMost) × (getD firstSinks nets 0 ≡ count)

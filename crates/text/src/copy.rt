@@ -86,3 +86,20 @@ pub fn copy_nets(
     copy_words(first_sinks, nets + 1, first_sink);
     copy_halves(sinks, count, sink);
 }
+
+// Copies tables 9 and 10.
+pub fn copy_times(
+    nodes: usize,
+    count: usize,
+    delays: &[u16],
+    criticalities: &[u8],
+    delay: &mut [u16],
+    criticality: &mut [u8],
+)
+    requires { ⌜ Fits nodes (now delays) (now delay) × Fits count (now criticalities) (now criticality) ⌝ }
+    ensures { λ _. ⌜ Over nodes (now (delays .entry)) (now (delay .entry)) (now (delay .exit))
+        × Over count (now (criticalities .entry)) (now (criticality .entry)) (now (criticality .exit)) ⌝ }
+{
+    copy_halves(delays, nodes, delay);
+    copy_bytes(criticalities, count, criticality);
+}

@@ -129,7 +129,7 @@ fn no_fields() -> LineFields
 }
 
 // This number or the other.
-fn one_of_two(first: bool, one: u32, other: u32) -> u32
+pub fn one_of_two(first: bool, one: u32, other: u32) -> u32
     ensures { λ r. ⌜ r ≡ choose first one other ⌝ }
 {
     if first { one } else { other }

@@ -2,9 +2,10 @@
 ghost use mathlib.Core.Path.{_≡_};
 ghost use Rattle.search.specs.Replies.{sinksMost};
 ghost use Rattle.price.specs.Bounds.{nodesMost};
-ghost use Rattle.text.specs.ReadReplies.{tablesOf, lowestShort, storedReply, readReply, readReplyOf};
+ghost use Rattle.price.specs.Test.{choose};
+ghost use Rattle.text.specs.ReadReplies.{tablesOf, lowestShort, shortTimes, storedReply, readReply, readReplyOf};
 ghost use Prim.Native.Nat.{_≤_};
-ghost use Rattle.text.specs.ReadSteps.{RoomForAll, CountsWithin, jobTaken};
+ghost use Rattle.text.specs.ReadSteps.{lowestOfNine, RoomForAll, CountsWithin, jobTaken};
 ghost use Rattle.text.specs.Routes.{textReply, writeReply, writeReplyOf};
 ghost use Rattle.text.specs.Dot.{textIn, dotReply, styleReply};
 ghost use Rattle.text.specs.WriteSteps.{Found, LatestPlaces};
@@ -29,6 +30,11 @@ pub enum ReadAnswer {
     },
     // 4: this table is too short for the job.
     ShortTable(u32),
+    // 15: a timed job has more nodes, or a larger limit, than it may.
+    TooLarge {
+        nodes: usize,
+        limit: u32,
+    },
 }
 
 // The two texts of a log: the lines of its routes, or their picture.
@@ -67,6 +73,7 @@ mod parts;
 mod printing;
 mod reader;
 mod rule;
+mod timed;
 mod tuning;
 mod users;
 
@@ -83,7 +90,7 @@ use search::NODES_MOST;
 use search::SINKS_MOST;
 pub use users::node_users;
 
-// The lowest table that is shorter than the job needs, 0 where each is long enough.
+// The lowest of tables 1 to 7 that is shorter than the job needs, 0 where each is long enough.
 fn short_table(
     nodes: usize,
     edges: usize,
@@ -125,7 +132,69 @@ fn short_table(
     0
 }
 
-// Writes the job that was read into the tables that were lent, or names the lowest that is too short for it.
+// The same of tables 9 and 10.
+fn short_times(nodes: usize, sinks: usize, delay: usize, criticality: usize) -> u32
+    ensures { λ r. ⌜ r ≡ shortTimes nodes sinks delay criticality ⌝ }
+{
+    if delay < nodes {
+        return 9;
+    }
+    if criticality < sinks {
+        return 10;
+    }
+    0
+}
+
+// The lowest of all tables, of which 9 and 10 need so many delays and criticalities.
+fn lowest_short(
+    nodes: usize,
+    edges: usize,
+    nets: usize,
+    sinks: usize,
+    delays: usize,
+    criticalities: usize,
+    kind: usize,
+    capacity: usize,
+    first_edge: usize,
+    edge_target: usize,
+    source: usize,
+    first_sink: usize,
+    sink: usize,
+    delay: usize,
+    criticality: usize,
+) -> u32
+    requires { ⌜ (nodes ≤ nodesMost) × (nets ≤ netsMost) ⌝ }
+    ensures { λ r. do
+      let first = lowestShort nodes edges nets sinks kind capacity «first_edge» «edge_target» source «first_sink» sink
+      ⌜ r ≡ lowestOfNine first (shortTimes delays criticalities delay criticality) ⌝ }
+{
+    let table = short_table(
+        nodes,
+        edges,
+        nets,
+        sinks,
+        kind,
+        capacity,
+        first_edge,
+        edge_target,
+        source,
+        first_sink,
+        sink,
+    );
+    if 1 <= table {
+        return table;
+    }
+    short_times(delays, criticalities, delay, criticality)
+}
+
+// So many entries of a table that timed jobs alone have.
+fn if_timed(timed: bool, count: usize) -> usize
+    ensures { λ r. ⌜ r ≡ choose timed count 0 ⌝ }
+{
+    if timed { count } else { 0 }
+}
+
+// Writes the job that was read into the tables that were lent, or names the lowest that is too short for it. A timed job may be too large.
 fn store_job(
     nodes: usize,
     edges: usize,
@@ -139,6 +208,8 @@ fn store_job(
     sources: &[u16],
     first_sinks: &[u32],
     sinks: &[u16],
+    delays: &[u16],
+    criticalities: &[u8],
     kind: &mut [u8],
     capacity: &mut [u8],
     first_edge: &mut [u32],
@@ -146,24 +217,31 @@ fn store_job(
     source: &mut [u16],
     first_sink: &mut [u32],
     sink: &mut [u16],
+    delay: &mut [u16],
+    criticality: &mut [u8],
 ) -> ReadAnswer
     requires { ⌜ RoomForAll (now kinds) (now capacities) (now «first_edges») (now «edge_targets»)
-        (now sources) (now «first_sinks») (now sinks) ⌝ }
+        (now sources) (now «first_sinks») (now sinks) (now delays) (now criticalities) ⌝ }
     requires { ⌜ CountsWithin nodes edges nets × (count ≤ sinksMost) ⌝ }
     ensures { λ r. do
       let job = jobTaken nodes edges nets count terms (now (kinds .entry)) (now (capacities .entry)) (now («first_edges» .entry))
           (now («edge_targets» .entry)) (now (sources .entry)) (now («first_sinks» .entry)) (now (sinks .entry))
+          (now (delays .entry)) (now (criticalities .entry))
       let tables = tablesOf (now (kind .entry)) (now (capacity .entry)) (now («first_edge» .entry)) (now («edge_target» .entry))
-          (now (source .entry)) (now («first_sink» .entry)) (now (sink .entry))
+          (now (source .entry)) (now («first_sink» .entry)) (now (sink .entry)) (now (delay .entry)) (now (criticality .entry))
       let left = tablesOf (now (kind .exit)) (now (capacity .exit)) (now («first_edge» .exit)) (now («edge_target» .exit))
-          (now (source .exit)) (now («first_sink» .exit)) (now (sink .exit))
+          (now (source .exit)) (now («first_sink» .exit)) (now (sink .exit)) (now (delay .exit)) (now (criticality .exit))
       ⌜ readReplyOf r left ≡ storedReply job tables ⌝ }
 {
-    let table = short_table(
+    let delays_due = if_timed(terms.timed, nodes);
+    let criticalities_due = if_timed(terms.timed, count);
+    let table = lowest_short(
         nodes,
         edges,
         nets,
         count,
+        delays_due,
+        criticalities_due,
         kind.len(),
         capacity.len(),
         first_edge.len(),
@@ -171,9 +249,17 @@ fn store_job(
         source.len(),
         first_sink.len(),
         sink.len(),
+        delay.len(),
+        criticality.len(),
     );
     if 1 <= table {
         return ReadAnswer::ShortTable(table);
+    }
+    if job::exceeds(nodes, terms) {
+        return ReadAnswer::TooLarge {
+            nodes: nodes,
+            limit: terms.limit,
+        };
     }
     copy::copy_block(
         nodes,
@@ -197,6 +283,14 @@ fn store_job(
         first_sink,
         sink,
     );
+    copy::copy_times(
+        delays_due,
+        criticalities_due,
+        delays,
+        criticalities,
+        delay,
+        criticality,
+    );
     ReadAnswer::Job {
         nodes: nodes,
         edges: edges,
@@ -206,7 +300,8 @@ fn store_job(
     }
 }
 
-// Reads a job text into the seven tables, each of which may be longer than the job needs.
+// Reads a job text into the nine tables, each of which may be longer than the job needs. Delays and criticalities are written for a timed
+// job alone.
 pub fn read_job(
     text: &[u8],
     kind: &mut [u8],
@@ -216,12 +311,14 @@ pub fn read_job(
     source: &mut [u16],
     first_sink: &mut [u32],
     sink: &mut [u16],
+    delay: &mut [u16],
+    criticality: &mut [u8],
 ) -> ReadAnswer
     ensures answers { λ r. do
       let tables = tablesOf (now (kind .entry)) (now (capacity .entry)) (now («first_edge» .entry)) (now («edge_target» .entry))
-          (now (source .entry)) (now («first_sink» .entry)) (now (sink .entry))
+          (now (source .entry)) (now («first_sink» .entry)) (now (sink .entry)) (now (delay .entry)) (now (criticality .entry))
       let left = tablesOf (now (kind .exit)) (now (capacity .exit)) (now («first_edge» .exit)) (now («edge_target» .exit))
-          (now (source .exit)) (now («first_sink» .exit)) (now (sink .exit))
+          (now (source .exit)) (now («first_sink» .exit)) (now (sink .exit)) (now (delay .exit)) (now (criticality .exit))
       ⌜ readReplyOf r left ≡ readReply (now (text .entry)) tables ⌝ }
 {
     let mut kinds = [0u8; NODES_MOST];
@@ -231,6 +328,8 @@ pub fn read_job(
     let mut sources = [0u16; NETS_MOST];
     let mut first_sinks = [0u32; FIRST_SINKS_MOST];
     let mut sinks_read = [0u16; SINKS_MOST];
+    let mut delays = [0u16; NODES_MOST];
+    let mut criticalities = [0u8; SINKS_MOST];
     match reader::read_lines(
         text,
         &mut kinds,
@@ -240,6 +339,8 @@ pub fn read_job(
         &mut sources,
         &mut first_sinks,
         &mut sinks_read,
+        &mut delays,
+        &mut criticalities,
     ) {
         JobLines::Counts {
             nodes,
@@ -261,6 +362,8 @@ pub fn read_job(
             &sources,
             &first_sinks,
             &sinks_read,
+            &delays,
+            &criticalities,
             kind,
             capacity,
             first_edge,
@@ -268,6 +371,8 @@ pub fn read_job(
             source,
             first_sink,
             sink,
+            delay,
+            criticality,
         ),
         JobLines::Stopped { number, line } => ReadAnswer::BadLine {
             number: number,

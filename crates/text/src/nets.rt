@@ -8,8 +8,8 @@ ghost use Rattle.search.specs.Replies.{sinksMost};
 ghost use Rattle.price.specs.Bounds.{nodesMost};
 ghost use Rattle.price.specs.Test.{both, either};
 ghost use Rattle.job.specs.Tables.{netsMost, sourceKind, sinkKind};
-ghost use Rattle.text.specs.JobText.{sourceLine, sinkLine, ofKind, netLists, netLine, netLines};
-ghost use Rattle.text.specs.Steps.{pinAt, PinPlace, Marked, netsAt, NetKept, SourceAdded, SinkAdded};
+ghost use Rattle.text.specs.JobText.{sourceLine, sinkLine, ofKind, taking, netLists, netLine, netLines};
+ghost use Rattle.text.specs.Steps.{pinAt, PinPlace, threeOf, sinkAt, SinkPlace, Marked, netsAt, NetKept, SourceAdded, SinkAdded};
 ghost use Rattle.text.specs.Steps.{netLineAt, KeptAfter, netsReadAt, NetsEnd};
 use crate::bounds;
 use crate::fields;
@@ -19,6 +19,15 @@ use search::SINKS_MOST;
 
 pub enum PinLine {
     Pin { node: u16, next: usize },
+    Refused(u32),
+}
+
+pub enum SinkLine {
+    Sink {
+        node: u16,
+        criticality: u8,
+        next: usize,
+    },
     Refused(u32),
 }
 
@@ -78,54 +87,62 @@ fn source_line(text: &[u8], at: usize, kind: &[u8], nodes: usize, nets: usize, i
     }
 }
 
-// A T line of net i after so many sinks. The net's pins so far bear its stamp.
+// A T line of net i after so many sinks. The net's pins so far bear its stamp. An untimed line has no criticality, which counts as 0.
 fn sink_line(
     text: &[u8],
     at: usize,
     kind: &[u8],
     nodes: usize,
     nets: usize,
+    timed: bool,
     i: usize,
     count: usize,
     seen: &[u16],
     stamp: u16,
-) -> PinLine
+) -> SinkLine
     requires { ⌜ (nodes ≤ nodesMost) × (nodes ≤ length (now seen)) × (nodes ≤ length (now kind)) ⌝ }
     ensures { λ r. ⌜ ((pins : List ℕ) → Marked nodes stamp (now (seen .entry)) pins
-        → pinAt i (now (text .entry)) r
-        ≡ ofKind sinkKind (now (kind .entry)) (sinkLine nodes nets i pins count (drop at (now (text .entry))))) ⌝ }
-    ensures { λ r. ⌜ PinPlace nodes at (now (text .entry)) r ⌝ }
+        → sinkAt i (now (text .entry)) r
+        ≡ ofKind sinkKind (now (kind .entry))
+        (taking threeOf (sinkLine timed nodes nets i pins count (drop at (now (text .entry)))))) ⌝ }
+    ensures { λ r. ⌜ SinkPlace nodes at (now (text .entry)) r ⌝ }
 {
+    let numbers = fields::one_of_two(timed, 3, 2) as usize;
     let LineFields::Fields {
         first,
         second,
-        third: _,
+        third,
         fourth: _,
         next,
-    } = fields::line_fields(text, at, b'T', 2)
+    } = fields::line_fields(text, at, b'T', numbers)
     else {
-        return PinLine::Refused(1);
+        return SinkLine::Refused(1);
     };
     if nets <= first as usize {
-        return PinLine::Refused(2);
+        return SinkLine::Refused(2);
     }
     if nodes <= second as usize {
-        return PinLine::Refused(2);
+        return SinkLine::Refused(2);
+    }
+    let criticality = fields::one_of_two(timed, third, 0);
+    if bounds::CRITICALITY_MOST < criticality {
+        return SinkLine::Refused(2);
     }
     if first as usize != i {
-        return PinLine::Refused(3);
+        return SinkLine::Refused(3);
     }
     if seen[second as usize] == stamp {
-        return PinLine::Refused(3);
+        return SinkLine::Refused(3);
     }
     if SINKS_MOST <= count {
-        return PinLine::Refused(3);
+        return SinkLine::Refused(3);
     }
     if !job::sink_kind(kind[second as usize]) {
-        return PinLine::Refused(3);
+        return SinkLine::Refused(3);
     }
-    PinLine::Pin {
+    SinkLine::Sink {
         node: second as u16,
+        criticality: criticality as u8,
         next: next,
     }
 }
@@ -170,22 +187,25 @@ fn add_source(
     }
 }
 
-// Reads a T line into table 7, and stamps the sink.
+// Reads a T line into tables 7 and 10, and stamps the sink.
 fn add_sink(
     text: &[u8],
     c: NetCursor,
     kind: &[u8],
     nodes: usize,
     nets: usize,
+    timed: bool,
     sink: &mut [u16],
+    criticality: &mut [u8],
     seen: &mut [u16],
 ) -> NetStep
     requires { ⌜ (c .at ≤ length (now text)) × (c .line ≤ c .at + 1) × (nodes ≤ nodesMost) × (nets ≤ netsMost) ⌝ }
-    requires { ⌜ (1 ≤ c .nets) × (c .nets ≤ nets) × (sinksMost ≤ length (now sink)) × (nodes ≤ length (now seen))
-        × (nodes ≤ length (now kind)) ⌝ }
+    requires { ⌜ (1 ≤ c .nets) × (c .nets ≤ nets) × (sinksMost ≤ length (now sink)) × (sinksMost ≤ length (now criticality))
+        × (nodes ≤ length (now seen)) × (nodes ≤ length (now kind)) ⌝ }
     ensures { λ r. ⌜ ((pins : List ℕ) → Marked nodes (c .nets) (now (seen .entry)) pins
-        → SinkAdded nodes nets (now (text .entry)) c r (now (sink .entry)) (now (seen .entry)) (now (sink .exit)) (now (seen .exit))
-        (ofKind sinkKind (now (kind .entry)) (sinkLine nodes nets (c .nets - 1) pins (c .sinks) (drop (c .at) (now (text .entry)))))) ⌝ }
+        → SinkAdded nodes nets (now (text .entry)) c r (now (sink .entry)) (now (criticality .entry)) (now (seen .entry))
+        (now (sink .exit)) (now (criticality .exit)) (now (seen .exit)) (ofKind sinkKind (now (kind .entry))
+        (taking threeOf (sinkLine timed nodes nets (c .nets - 1) pins (c .sinks) (drop (c .at) (now (text .entry))))))) ⌝ }
 {
     let at = c.at;
     let net = c.nets;
@@ -196,13 +216,19 @@ fn add_sink(
         kind,
         nodes,
         nets,
+        timed,
         net - 1,
         sinks,
         seen,
         net as u16,
     ) {
-        PinLine::Pin { node, next } => {
+        SinkLine::Sink {
+            node,
+            criticality: tenths,
+            next,
+        } => {
             sink[sinks] = node;
+            criticality[sinks] = tenths;
             seen[node as usize] = net as u16;
             NetStep::On(NetCursor {
                 at: next,
@@ -212,7 +238,7 @@ fn add_sink(
                 first: c.first,
             })
         }
-        PinLine::Refused(number) => NetStep::Stopped(number),
+        SinkLine::Refused(number) => NetStep::Stopped(number),
     }
 }
 
@@ -223,19 +249,21 @@ fn net_line(
     kind: &[u8],
     nodes: usize,
     nets: usize,
+    timed: bool,
     source: &mut [u16],
     first_sink: &mut [u32],
     sink: &mut [u16],
+    criticality: &mut [u8],
     seen: &mut [u16],
 ) -> NetStep
-    requires { ⌜ NetKept nodes nets (now text) c (now source) (now «first_sink») (now sink) (now seen)
+    requires { ⌜ NetKept nodes nets (now text) c (now source) (now «first_sink») (now sink) (now criticality) (now seen)
         × (c .at < length (now text)) × (nodes ≤ length (now kind)) ⌝ }
     ensures { λ r. do
-      let before = netsAt c (now (source .entry)) (now («first_sink» .entry)) (now (sink .entry))
-      ⌜ netLineAt (now (text .entry)) r (now (source .exit)) (now («first_sink» .exit)) (now (sink .exit))
-          ≡ netLine (now (kind .entry)) nodes nets before (drop (c .at) (now (text .entry))) ⌝ }
+      let before = netsAt c (now (source .entry)) (now («first_sink» .entry)) (now (sink .entry)) (now (criticality .entry))
+      ⌜ netLineAt (now (text .entry)) r (now (source .exit)) (now («first_sink» .exit)) (now (sink .exit)) (now (criticality .exit))
+          ≡ netLine timed (now (kind .entry)) nodes nets before (drop (c .at) (now (text .entry))) ⌝ }
     ensures { λ r. ⌜ KeptAfter nodes nets (now (text .entry)) c r
-        (now (source .exit)) (now («first_sink» .exit)) (now (sink .exit)) (now (seen .exit)) ⌝ }
+        (now (source .exit)) (now («first_sink» .exit)) (now (sink .exit)) (now (criticality .exit)) (now (seen .exit)) ⌝ }
 {
     let at = c.at;
     let b = text[at];
@@ -247,7 +275,7 @@ fn net_line(
     }
     if b == b'T' {
         if 1 <= c.nets {
-            return add_sink(text, c, kind, nodes, nets, sink, seen);
+            return add_sink(text, c, kind, nodes, nets, timed, sink, criticality, seen);
         }
     }
     NetStep::Stopped(1)
@@ -266,7 +294,7 @@ fn source_due(c: NetCursor, nets: usize) -> bool
     c.first < c.sinks
 }
 
-// Reads all nets to the end of the text into tables 5, 6 and 7.
+// Reads all nets to the end of the text into tables 5, 6, 7 and 10.
 pub fn read_nets(
     text: &[u8],
     from: usize,
@@ -274,17 +302,20 @@ pub fn read_nets(
     kind: &[u8],
     nodes: usize,
     nets: usize,
+    timed: bool,
     source: &mut [u16],
     first_sink: &mut [u32],
     sink: &mut [u16],
+    criticality: &mut [u8],
 ) -> NetsRead
     requires { ⌜ (from ≤ length (now text)) × («first_line» ≤ from + 1) × (nodes ≤ nodesMost) × (nets ≤ netsMost)
         × (nodes ≤ length (now kind)) ⌝ }
-    requires { ⌜ (nets ≤ length (now source)) × (nets + 1 ≤ length (now «first_sink»)) × (sinksMost ≤ length (now sink)) ⌝ }
+    requires { ⌜ (nets ≤ length (now source)) × (nets + 1 ≤ length (now «first_sink»)) × (sinksMost ≤ length (now sink))
+        × (sinksMost ≤ length (now criticality)) ⌝ }
     ensures { λ r. do
       let bytes = drop from (now (text .entry))
-      ⌜ netsReadAt nets r (now (source .exit)) (now («first_sink» .exit)) (now (sink .exit))
-          ≡ netLines (length bytes) (now (kind .entry)) nodes nets (netLists [] [] []) «first_line» bytes ⌝ }
+      ⌜ netsReadAt nets r (now (source .exit)) (now («first_sink» .exit)) (now (sink .exit)) (now (criticality .exit))
+          ≡ netLines (length bytes) timed (now (kind .entry)) nodes nets (netLists [] [] [] []) «first_line» bytes ⌝ }
     ensures { λ r. ⌜ NetsEnd nets r (now («first_sink» .exit)) ⌝ }
 {
     let mut seen = [0u16; NODES_MOST];
@@ -302,9 +333,11 @@ pub fn read_nets(
             kind,
             nodes,
             nets,
+            timed,
             source,
             first_sink,
             sink,
+            criticality,
             &mut seen,
         ) {
             NetStep::On(next) => {

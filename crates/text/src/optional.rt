@@ -4,11 +4,12 @@ ghost use mathlib.Core.Path.{_≡_};
 ghost use Prim.Native.Nat.{_+_, _^_, _≤_};
 ghost use lib.ListN.{length, take, drop};
 ghost use Rattle.text.specs.Lines.{line};
-ghost use Rattle.text.specs.JobText.{termsPart};
+ghost use Rattle.text.specs.JobText.{andThen, rulePart, timedPart, termsPart};
 ghost use Rattle.text.specs.Steps.{Shaped, termsAfter, termsAt, TermsPlace};
 use crate::fields;
 use crate::fields::LineFields;
 use crate::rule;
+use crate::timed;
 use crate::tuning;
 use job::Terms;
 
@@ -119,7 +120,29 @@ pub fn terms_after(
     }
 }
 
-// The terms of this limit, with those of the P and the V line where these stand, else the plain ones.
+// The terms with those of the V and the W line where these stand, else as they are.
+fn read_further(text: &[u8], at: usize, line: usize, terms: Terms) -> TermsRead
+    requires { ⌜ (at ≤ length (now text)) × (line ≤ at + 1) ⌝ }
+    ensures { λ r. ⌜ termsAt (now (text .entry)) r ≡ andThen (rulePart terms line (drop at (now (text .entry)))) timedPart ⌝ }
+    ensures { λ r. ⌜ TermsPlace (now (text .entry)) r ⌝ }
+{
+    match rule::read_rule(text, at, line, terms) {
+        TermsRead::Read {
+            terms: ruled,
+            at: place,
+            line: next,
+        } => timed::read_times(text, place, next, ruled),
+        TermsRead::Stopped {
+            number,
+            line: faulty,
+        } => TermsRead::Stopped {
+            number: number,
+            line: faulty,
+        },
+    }
+}
+
+// The terms of this limit, with those of the P, the V and the W line where these stand, else the plain ones.
 pub fn read_terms(text: &[u8], at: usize, line: usize, limit: u32) -> TermsRead
     requires { ⌜ (at ≤ length (now text)) × (line ≤ at + 1) ⌝ }
     ensures { λ r. ⌜ termsAt (now (text .entry)) r ≡ termsPart limit line (drop at (now (text .entry))) ⌝ }
@@ -130,7 +153,7 @@ pub fn read_terms(text: &[u8], at: usize, line: usize, limit: u32) -> TermsRead
             terms,
             at: place,
             line: next,
-        } => rule::read_rule(text, place, next, terms),
+        } => read_further(text, place, next, terms),
         TermsRead::Stopped {
             number,
             line: faulty,

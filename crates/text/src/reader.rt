@@ -40,18 +40,21 @@ fn read_edges_nets(
     nodes: usize,
     edges: usize,
     nets: usize,
+    timed: bool,
     first_edge: &mut [u32],
     edge_target: &mut [u16],
     source: &mut [u16],
     first_sink: &mut [u32],
     sink: &mut [u16],
+    criticality: &mut [u8],
 ) -> NetsRead
     requires { ⌜ CountsWithin nodes edges nets × (from ≤ length (now text)) × (line ≤ from + 1)
         × (nodes ≤ length (now kind)) ⌝ }
-    requires { ⌜ EdgeRoom (now «first_edge») (now «edge_target») × NetTablesRoom (now source) (now «first_sink») (now sink) ⌝ }
+    requires { ⌜ EdgeRoom (now «first_edge») (now «edge_target»)
+        × NetTablesRoom (now source) (now «first_sink») (now sink) (now criticality) ⌝ }
     ensures { λ r. ⌜ edgesNetsAt nodes edges nets r (now («first_edge» .exit)) (now («edge_target» .exit))
-        (now (source .exit)) (now («first_sink» .exit)) (now (sink .exit))
-        ≡ bodyAfterNodes (now (kind .entry)) nodes edges nets line (drop from (now (text .entry))) ⌝ }
+        (now (source .exit)) (now («first_sink» .exit)) (now (sink .exit)) (now (criticality .exit))
+        ≡ bodyAfterNodes timed (now (kind .entry)) nodes edges nets line (drop from (now (text .entry))) ⌝ }
     ensures { λ r. ⌜ NetsEnd nets r (now («first_sink» .exit)) ⌝ }
 {
     match edges::read_edges(text, from, line, nodes, edges, first_edge, edge_target) {
@@ -62,9 +65,11 @@ fn read_edges_nets(
             kind,
             nodes,
             nets,
+            timed,
             source,
             first_sink,
             sink,
+            criticality,
         ),
         Lines::Stopped { number, line: at } => NetsRead::Stopped {
             number: number,
@@ -81,6 +86,7 @@ fn read_body(
     nodes: usize,
     edges: usize,
     nets: usize,
+    timed: bool,
     kind: &mut [u8],
     capacity: &mut [u8],
     first_edge: &mut [u32],
@@ -88,16 +94,19 @@ fn read_body(
     source: &mut [u16],
     first_sink: &mut [u32],
     sink: &mut [u16],
+    delay: &mut [u16],
+    criticality: &mut [u8],
 ) -> NetsRead
     requires { ⌜ RoomForAll (now kind) (now capacity) (now «first_edge») (now «edge_target»)
-        (now source) (now «first_sink») (now sink) ⌝ }
+        (now source) (now «first_sink») (now sink) (now delay) (now criticality) ⌝ }
     requires { ⌜ CountsWithin nodes edges nets × (from ≤ length (now text)) × (line ≤ from + 1) ⌝ }
     ensures { λ r. ⌜ bodyAt nodes edges nets r (now (kind .exit)) (now (capacity .exit)) (now («first_edge» .exit))
         (now («edge_target» .exit)) (now (source .exit)) (now («first_sink» .exit)) (now (sink .exit))
-        ≡ bodyAfterHead nodes edges nets line (drop from (now (text .entry))) ⌝ }
+        (now (delay .exit)) (now (criticality .exit))
+        ≡ bodyAfterHead timed nodes edges nets line (drop from (now (text .entry))) ⌝ }
     ensures { λ r. ⌜ NetsEnd nets r (now («first_sink» .exit)) ⌝ }
 {
-    match nodes::read_nodes(text, from, line, nodes, kind, capacity) {
+    match nodes::read_nodes(text, from, line, nodes, timed, kind, capacity, delay) {
         Lines::Read { at, line: next } => read_edges_nets(
             text,
             at,
@@ -106,11 +115,13 @@ fn read_body(
             nodes,
             edges,
             nets,
+            timed,
             first_edge,
             edge_target,
             source,
             first_sink,
             sink,
+            criticality,
         ),
         Lines::Stopped { number, line } => NetsRead::Stopped {
             number: number,
@@ -149,11 +160,14 @@ pub fn read_lines(
     source: &mut [u16],
     first_sink: &mut [u32],
     sink: &mut [u16],
+    delay: &mut [u16],
+    criticality: &mut [u8],
 ) -> JobLines
     requires { ⌜ RoomForAll (now kind) (now capacity) (now «first_edge») (now «edge_target»)
-        (now source) (now «first_sink») (now sink) ⌝ }
+        (now source) (now «first_sink») (now sink) (now delay) (now criticality) ⌝ }
     ensures { λ r. ⌜ jobAt r (now (kind .exit)) (now (capacity .exit)) (now («first_edge» .exit)) (now («edge_target» .exit))
-        (now (source .exit)) (now («first_sink» .exit)) (now (sink .exit)) ≡ readText (now (text .entry)) ⌝ }
+        (now (source .exit)) (now («first_sink» .exit)) (now (sink .exit)) (now (delay .exit)) (now (criticality .exit))
+        ≡ readText (now (text .entry)) ⌝ }
     ensures { λ r. ⌜ JobPlace r ⌝ }
 {
     match head::read_head(text) {
@@ -172,6 +186,7 @@ pub fn read_lines(
                 nodes,
                 edges,
                 nets,
+                terms.timed,
                 kind,
                 capacity,
                 first_edge,
@@ -179,6 +194,8 @@ pub fn read_lines(
                 source,
                 first_sink,
                 sink,
+                delay,
+                criticality,
             );
             job_lines(nodes, edges, nets, terms, body)
         }

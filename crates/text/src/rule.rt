@@ -93,6 +93,7 @@ pub fn read_rule(text: &[u8], at: usize, line: usize, terms: Terms) -> TermsRead
         tuning: tuning,
         rule: rule,
         until: until,
+        timed: terms.timed,
     };
     let shape = found.shape;
     optional::terms_after(shape, job::rule_sound(rule, until), terms, ruled, at, line)

@@ -27,6 +27,7 @@ pub fn read_tuning(text: &[u8], at: usize, line: usize, terms: Terms) -> TermsRe
         tuning: tuning,
         rule: terms.rule,
         until: terms.until,
+        timed: terms.timed,
     };
     let shape = found.shape;
     optional::terms_after(shape, job::tuning_sound(tuning), terms, tuned, at, line)

@@ -20,6 +20,10 @@ fn tuning(g: Tuning) {
     show::entry(g.step as u64);
 }
 
+fn flag(on: bool) {
+    show::entry(if on { 1 } else { 0 });
+}
+
 fn counts(nodes: usize, edges: usize, nets: usize, sinks: usize, terms: Terms) {
     show::answered();
     show::entry(nodes as u64);
@@ -30,6 +34,12 @@ fn counts(nodes: usize, edges: usize, nets: usize, sinks: usize, terms: Terms) {
     tuning(terms.tuning);
     show::entry(terms.rule as u64);
     show::entry(terms.until as u64);
+    flag(terms.timed);
+}
+
+fn too_large(nodes: usize, limit: u32) {
+    refused(15, nodes as u64);
+    show::value(limit as u64);
 }
 
 fn read_answer(a: ReadAnswer) {
@@ -43,6 +53,7 @@ fn read_answer(a: ReadAnswer) {
         } => counts(nodes, edges, nets, sinks, terms),
         ReadAnswer::BadLine { number, line } => refused(number as u64, line as u64),
         ReadAnswer::ShortTable(table) => refused(4, table as u64),
+        ReadAnswer::TooLarge { nodes, limit } => too_large(nodes, limit),
     }
 }
 
@@ -73,7 +84,9 @@ fn tables(
     source: &[u16; 16],
     first_sink: &[u32; 16],
     sink: &[u16; 16],
-    n: [u32; 7],
+    delay: &[u16; 16],
+    criticality: &[u8; 16],
+    n: [u32; 9],
 ) {
     show::bytes(kind, length(n[0]));
     show::bytes(capacity, length(n[1]));
@@ -82,10 +95,12 @@ fn tables(
     show::halves(source, length(n[4]));
     show::words(first_sink, length(n[5]));
     show::halves(sink, length(n[6]));
+    show::halves(delay, length(n[7]));
+    show::bytes(criticality, length(n[8]));
 }
 
 // A job text into tables of 7s, as long as the case says.
-fn read_tables(job: &[u8], n: [u32; 7]) {
+fn read_tables(job: &[u8], n: [u32; 9]) {
     let mut kind = [7u8; 16];
     let mut capacity = [7u8; 16];
     let mut first_edge = [7u32; 16];
@@ -93,6 +108,8 @@ fn read_tables(job: &[u8], n: [u32; 7]) {
     let mut source = [7u16; 16];
     let mut first_sink = [7u32; 16];
     let mut sink = [7u16; 16];
+    let mut delay = [7u16; 16];
+    let mut criticality = [7u8; 16];
     let kinds = read::of_bytes(n[0], &kind);
     let capacities = read::of_bytes(n[1], &capacity);
     let rows = read::of_words(n[2], &first_edge);
@@ -100,6 +117,8 @@ fn read_tables(job: &[u8], n: [u32; 7]) {
     let sources = read::of_halves(n[4], &source);
     let nets = read::of_words(n[5], &first_sink);
     let sinks = read::of_halves(n[6], &sink);
+    let delays = read::of_halves(n[7], &delay);
+    let criticalities = read::of_bytes(n[8], &criticality);
     read_answer(text::read_job(
         job,
         &mut kind[..kinds],
@@ -109,6 +128,8 @@ fn read_tables(job: &[u8], n: [u32; 7]) {
         &mut source[..sources],
         &mut first_sink[..nets],
         &mut sink[..sinks],
+        &mut delay[..delays],
+        &mut criticality[..criticalities],
     ));
     tables(
         &kind,
@@ -118,14 +139,23 @@ fn read_tables(job: &[u8], n: [u32; 7]) {
         &source,
         &first_sink,
         &sink,
+        &delay,
+        &criticality,
         n,
     );
 }
 
+// Lengths for tables 1 to 7, or for 9 and 10 too, which are empty without.
+fn lengths(count: usize) {
+    if count != 7 {
+        read::exactly(count, 9);
+    }
+}
+
 // The reader on the job text of line 2.
-fn read_case(case: &[u8], count: usize, n: [u32; 7]) {
+fn read_case(case: &[u8], count: usize, n: [u32; 9]) {
     let mut job = [0u8; 1024];
-    read::exactly(count, 7);
+    lengths(count);
     let size = read::text(case, 2, &mut job);
     read_tables(&job[..size], n);
     read::end(case, 3);
@@ -146,7 +176,7 @@ fn write_line(letter: u8, source: &[u16], log: &[u32], routes: &mut [u8]) {
 }
 
 // The writer on table 5 and the log of lines 2 and 3, with a routes buffer of 7s.
-fn write_case(letter: u8, case: &[u8], count: usize, n: [u32; 7]) {
+fn write_case(letter: u8, case: &[u8], count: usize, n: [u32; 9]) {
     let mut source = [0u16; 520];
     let mut log = [0u32; 4200];
     let mut routes = [7u8; 64];
@@ -158,7 +188,7 @@ fn write_case(letter: u8, case: &[u8], count: usize, n: [u32; 7]) {
     read::end(case, 4);
 }
 
-fn call(case: &[u8], count: usize, n: [u32; 7]) {
+fn call(case: &[u8], count: usize, n: [u32; 9]) {
     let letter = lines::call(case, 0);
     match letter {
         b'r' => read_case(case, count, n),
@@ -168,7 +198,7 @@ fn call(case: &[u8], count: usize, n: [u32; 7]) {
 }
 
 fn one(case: &[u8]) {
-    let mut n = [0u32; 7];
+    let mut n = [0u32; 9];
     show::name(case);
     let count = read::words(case, 1, &mut n);
     call(case, count, n);

@@ -13,6 +13,11 @@ pub const NETS: usize = 512;
 /// The most sinks of all nets together.
 pub const SINKS: usize = 4_096;
 
+/// The most nodes of a timed job.
+pub const TIMED_NODES: usize = 1_024;
+/// The highest limit of a timed job.
+pub const TIMED_LIMIT: u32 = 40;
+
 /// The words of the log that [`Job::route`] begins with.
 const LOG: usize = 16_384;
 
@@ -56,7 +61,7 @@ pub struct Nets {
 /// ```
 #[derive(Clone, Copy, Debug, PartialEq, Eq)]
 pub struct Terms {
-    /// The most iterations, 1 to 100.
+    /// The most iterations, 1 to 100; of a timed job at most [`TIMED_LIMIT`].
     pub limit: u32,
     /// The congestion factor in iteration 2, in hundredths, 0 to 1,000.
     pub first: u32,
@@ -71,6 +76,32 @@ pub struct Terms {
     pub rule: u32,
     /// 1 to 99; of no account under rule 1. It is the k of a line `V,2,k`.
     pub until: u32,
+}
+
+/// What makes a job timed: each node's delay, and how critical each sink is.
+///
+/// A node's price for a sink is criticality × delay × 100 + (10 − criticality) × its price in a job that isn't timed. A net's sinks are
+/// joined by falling criticality, each by a cheapest path at the prices for it; one that such a path passes is joined without a turn. A
+/// timed job has at most [`TIMED_NODES`] nodes and a limit of at most [`TIMED_LIMIT`].
+///
+/// ```
+/// use arvumnao::{Job, Timing};
+///
+/// let mut job = Job::read(include_bytes!("../../../examples/timed.txt"))?;
+/// assert_eq!(job.timing, Some(Timing { delay: vec![0, 60, 10, 0, 0], criticality: vec![0, 9] }));
+/// // sink 4 is critical: it goes first, by the longer and quicker wire 2
+/// assert_eq!(job.route()?.log.routes(&job.nets)?, "R,1,2\nB,0,0,2\nB,0,2,4\nB,0,0,1\nB,0,1,3\n");
+/// job.timing = None;
+/// assert_eq!(job.route()?.log.routes(&job.nets)?, "R,1,2\nB,0,0,1\nB,0,1,3\nB,0,1,4\n");
+/// # Ok::<(), arvumnao::Refusal>(())
+/// ```
+#[derive(Clone, Debug, Default, PartialEq, Eq)]
+pub struct Timing {
+    /// Table 9: each node's delay, 0 to 1,000.
+    pub delay: Vec<u16>,
+    /// Table 10: the criticality of each entry of [`Nets::sink`], 0 to 9, in tenths. Where nets of one source have a sink in common
+    /// its first listing counts.
+    pub criticality: Vec<u8>,
 }
 
 /// A job: what is routed.
@@ -97,6 +128,8 @@ pub struct Job {
     pub nets: Nets,
     /// Limit, tuning and rule.
     pub terms: Terms,
+    /// Tables 9 and 10, which a timed job has.
+    pub timing: Option<Timing>,
 }
 
 /// A job that was accepted: no wire is overfull.
@@ -128,7 +161,13 @@ impl Block {
 
     /// The refusal of one of its tables.
     pub(crate) fn faulty(&self, table: u64) -> Refusal {
-        let job = Job { block: self.clone(), ..Job::default() };
+        self.faulty_with(&[], table)
+    }
+
+    /// The same where table 9 is lent with them.
+    pub(crate) fn faulty_with(&self, delay: &[u16], table: u64) -> Refusal {
+        let timing = Some(Timing { delay: delay.to_vec(), ..Timing::default() });
+        let job = Job { block: self.clone(), timing, ..Job::default() };
         Refusal::Table(TableFault::find(&job, table as u32))
     }
 }
@@ -189,11 +228,11 @@ impl Default for Terms {
     }
 }
 
-impl Terms {
-    /// In the order in which the library takes them.
-    fn numbers(&self) -> [u32; 7] {
-        let &Terms { limit, first, up, down, step, rule, until } = self;
-        [limit, first, up, down, step, rule, until]
+impl Timing {
+    /// Cuts the tables to a job of so many nodes and sinks.
+    fn cut(&mut self, nodes: usize, sinks: usize) {
+        self.delay.truncate(nodes);
+        self.criticality.truncate(sinks);
     }
 }
 
@@ -208,7 +247,7 @@ fn growing(mut words: usize, run: impl Fn(usize) -> Result<Answer, Refusal>) -> 
 }
 
 impl Job {
-    /// Reads a job text. Refused by [`Refusal::Line`], which says what is wrong with which line.
+    /// Reads a job text. Refused by [`Refusal::Line`], which says what is wrong with which line, and by [`Refusal::TooLarge`].
     ///
     /// ```
     /// let text = b"F,2,1,1,1\nN,0,0,1\nN,1,1,0\nE,0,1\nS,0,0\nT,0,1\n";
@@ -218,6 +257,7 @@ impl Job {
     /// ```
     pub fn read(text: &[u8]) -> Result<Job, Refusal> {
         let mut job = Job::longest();
+        let mut timing = Timing { delay: vec![0; NODES], criticality: vec![0; SINKS] };
         let Job { block, nets, .. } = &mut job;
         let told = out(|out| {
             raw::read(
@@ -229,29 +269,32 @@ impl Job {
                 &mut nets.source,
                 &mut nets.first_sink,
                 &mut nets.sink,
+                &mut timing.delay,
+                &mut timing.criticality,
                 out,
             )
         });
         match *raw::refusal(&told) {
             [] => {}
             [number @ 1..=3, line] => return Err(Refusal::Line(LineFault::find(text, number, line))),
+            [15, nodes, limit] => return Err(Refusal::too_large(nodes, limit)),
             ref numbers => return Err(Refusal::unexpected(numbers)),
         }
-        job.cut(raw::own(&told));
+        job.cut(raw::own(&told), timing);
         Ok(job)
     }
 
-    /// Tables that are long enough for every job.
+    /// Tables 1 to 7 that are long enough for every job.
     fn longest() -> Job {
         let (kind, capacity) = (vec![0; NODES], vec![0; NODES]);
         let (first_edge, edge_target) = (vec![0; NODES + 1], vec![0; EDGES]);
         let (source, first_sink, sink) = (vec![0; NETS], vec![0; NETS + 1], vec![0; SINKS]);
         let block = Block { kind, capacity, first_edge, edge_target };
-        Job { block, nets: Nets { source, first_sink, sink }, terms: Terms::default() }
+        Job { block, nets: Nets { source, first_sink, sink }, ..Job::default() }
     }
 
-    /// Cuts the tables to what the reader filled, and takes the terms that it read.
-    fn cut(&mut self, numbers: &[u64; 11]) {
+    /// Cuts the tables to what the reader filled, and takes the terms that it read, and the timing of a timed job.
+    fn cut(&mut self, numbers: &[u64; 12], mut timing: Timing) {
         let [nodes, edges, nets, sinks, ..] = numbers.map(|number| number as usize);
         self.block.kind.truncate(nodes);
         self.block.capacity.truncate(nodes);
@@ -260,11 +303,25 @@ impl Job {
         self.nets.source.truncate(nets);
         self.nets.first_sink.truncate(nets + 1);
         self.nets.sink.truncate(sinks);
-        let [.., limit, first, up, down, step, rule, until] = numbers.map(|number| number as u32);
+        let [.., limit, first, up, down, step, rule, until, timed] = numbers.map(|number| number as u32);
         self.terms = Terms { limit, first, up, down, step, rule, until };
+        timing.cut(nodes, sinks);
+        self.timing = (timed != 0).then_some(timing);
     }
 
-    /// Routes the job in a log as long as it needs. Refused by [`Refusal::Table`], [`Refusal::Unreachable`] or [`Refusal::Limit`].
+    /// The terms in the order in which the library takes them.
+    fn numbers(&self) -> [u32; 8] {
+        let Terms { limit, first, up, down, step, rule, until } = self.terms;
+        [limit, first, up, down, step, rule, until, self.timing.is_some().into()]
+    }
+
+    /// Tables 9 and 10, empty where the job isn't timed.
+    fn timed_tables(&self) -> (&[u16], &[u8]) {
+        self.timing.as_ref().map_or((&[], &[]), |timing| (&timing.delay, &timing.criticality))
+    }
+
+    /// Routes the job in a log as long as it needs. Refused by [`Refusal::Table`], [`Refusal::TooLarge`], [`Refusal::Unreachable`] or
+    /// [`Refusal::Limit`].
     ///
     /// It begins with a log of 16,384 words and tries again with twice as many when one is full; the job's outcome and log are
     /// those of any log that is long enough. A log needs at most limit × sinks × (nodes + 6) words.
@@ -274,7 +331,8 @@ impl Job {
 
     /// Routes the job in a log of so many words. Refused as [`Job::route`] is, and by [`Refusal::LogFull`].
     pub fn route_in(&self, words: usize) -> Result<Answer, Refusal> {
-        let Job { block, nets, terms } = self;
+        let Job { block, nets, .. } = self;
+        let (delay, criticality) = self.timed_tables();
         let mut work = self.work();
         let mut log = vec![0; words];
         let told = out(|out| {
@@ -286,7 +344,9 @@ impl Job {
                 &nets.source,
                 &nets.first_sink,
                 &nets.sink,
-                &terms.numbers(),
+                delay,
+                criticality,
+                &self.numbers(),
                 &mut work,
                 &mut log,
                 out,
@@ -300,7 +360,7 @@ impl Job {
     /// [`Refusal::Diverges`] unless the log follows the job. The answer is about the whole log.
     ///
     /// From the job's own log it ends as [`Job::route`] does, without making its turns again. Any other log that follows the job is gone on
-    /// from as it is: its paths need not be the cheapest.
+    /// from as it is: its paths need not be the cheapest. In a timed job each of its turns must join the sink that is due.
     ///
     /// ```
     /// use arvumnao::{Job, Refusal};
@@ -320,7 +380,8 @@ impl Job {
     /// The same in a log of so many words, or of as many as it has where that is more. Refused as [`Job::resume`] is, and by
     /// [`Refusal::LogFull`].
     pub fn resume_in(&self, log: impl AsRef<[u32]>, words: usize) -> Result<Answer, Refusal> {
-        let Job { block, nets, terms } = self;
+        let Job { block, nets, .. } = self;
+        let (delay, criticality) = self.timed_tables();
         let mut log = log.as_ref().to_vec();
         let used = log.len();
         log.resize(words.max(used), 0);
@@ -334,7 +395,9 @@ impl Job {
                 &nets.source,
                 &nets.first_sink,
                 &nets.sink,
-                &terms.numbers(),
+                delay,
+                criticality,
+                &self.numbers(),
                 used as u64,
                 &mut work,
                 &mut log,
@@ -360,6 +423,7 @@ impl Job {
         match *raw::refusal(told) {
             [] => Ok(Answer { iteration, turns, log }),
             [5, table] => Err(Refusal::Table(TableFault::find(self, table as u32))),
+            [15, nodes, limit] => Err(Refusal::too_large(nodes, limit)),
             [7, net, place] => Err(self.unreachable(net as u32, place as u32)),
             [8, iteration, turns] => Err(Refusal::LogFull { iteration: iteration as u32, turns, log }),
             [9, iteration, over] => {

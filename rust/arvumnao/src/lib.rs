@@ -36,6 +36,8 @@
 //! # Ok::<(), Refusal>(())
 //! ```
 //!
+//! A job with a [`Timing`] is timed: its critical sinks pay for delay rather than for room.
+//!
 //! `docs/FORMAT.md` describes the texts, the log and every refusal. [`raw`] has the library's calls themselves, for callers with
 //! memory of their own.
 //!
@@ -58,7 +60,7 @@ mod table;
 mod uses;
 
 pub use alone::{Congestion, Use};
-pub use job::{Answer, Block, Job, Nets, Terms, EDGES, NETS, NODES, SINKS};
+pub use job::{Answer, Block, Job, Nets, Terms, Timing, EDGES, NETS, NODES, SINKS, TIMED_LIMIT, TIMED_NODES};
 pub use log::{Log, Record, Records};
 pub use refusal::{LineFault, Refusal, TableFault};
 pub use uses::UseCounts;

@@ -38,13 +38,18 @@ pub(crate) fn reason(text: &[u8], number: u64, line: u64) -> Option<String> {
 
 /// The numbers of a line of sound shape.
 fn numbers(line: &[u8]) -> Option<Vec<u32>> {
+    if line == b"W" {
+        return Some(Vec::new());
+    }
     let fields = line.get(1..)?.strip_prefix(b",")?;
     fields.split(|byte| *byte == b',').map(|field| std::str::from_utf8(field).ok()?.parse().ok()).collect()
 }
 
 /// The names of a line's numbers.
-fn names(letter: u8) -> &'static [&'static str] {
+fn names(letter: u8, timed: bool) -> &'static [&'static str] {
     match letter {
+        b'N' if timed => &["node", "kind", "capacity", "delay"],
+        b'T' if timed => &["net", "node", "criticality"],
         b'F' => &["nodes", "edges", "nets", "limit"],
         b'P' => &["first", "up", "down", "step"],
         b'V' => &["rule", "k"],
@@ -55,14 +60,6 @@ fn names(letter: u8) -> &'static [&'static str] {
     }
 }
 
-/// How many of them a line must have.
-fn fewest(letter: u8) -> usize {
-    match letter {
-        b'V' => 1,
-        _ => names(letter).len(),
-    }
-}
-
 /// What the lines before the faulty one give.
 #[derive(Default)]
 struct Before {
@@ -70,6 +67,7 @@ struct Before {
     counts: Option<[u32; 4]>,
     tuned: bool,
     ruled: bool,
+    timed: bool,
     kinds: Vec<u32>,
     edges: usize,
     last_edge: (u32, u32),
@@ -87,7 +85,8 @@ impl Before {
             (b'F', &[nodes, edges, nets, limit]) => self.counts = Some([nodes, edges, nets, limit]),
             (b'P', _) => self.tuned = true,
             (b'V', _) => self.ruled = true,
-            (b'N', &[_, kind, _]) => self.kinds.push(kind),
+            (b'W', _) => self.timed = true,
+            (b'N', &[_, kind, ..]) => self.kinds.push(kind),
             (b'E', &[from, to]) => {
                 self.edges += 1;
                 self.last_edge = (from, to);
@@ -97,7 +96,7 @@ impl Before {
                 self.source = node;
                 self.sinks.clear();
             }
-            (b'T', &[_, node]) => {
+            (b'T', &[_, node, ..]) => {
                 self.sinks.push(node);
                 self.all_sinks += 1;
             }
@@ -110,10 +109,8 @@ impl Before {
     fn due(&self) -> (&'static [u8], String) {
         let Some([nodes, edges, nets, _]) = self.counts else { return (b"F", String::from("the F line")) };
         let (node, last) = (self.kinds.len(), self.nets.saturating_sub(1));
-        if node == 0 && !self.tuned && !self.ruled {
-            (b"PVN", String::from("a P line, a V line or the N line of node 0"))
-        } else if node == 0 && !self.ruled {
-            (b"VN", String::from("a V line or the N line of node 0"))
+        if node == 0 && !self.timed {
+            self.due_first()
         } else if node < nodes as usize {
             (b"N", format!("the N line of node {node}"))
         } else if self.edges < edges as usize {
@@ -129,6 +126,17 @@ impl Before {
         }
     }
 
+    /// The same before any N line and the W line.
+    fn due_first(&self) -> (&'static [u8], String) {
+        if self.ruled {
+            (b"WN", String::from("a W line or the N line of node 0"))
+        } else if self.tuned {
+            (b"VWN", String::from("a V line, a W line or the N line of node 0"))
+        } else {
+            (b"PVWN", String::from("a P line, a V line, a W line or the N line of node 0"))
+        }
+    }
+
     /// What is wrong with the shape of a line.
     fn shape(&self, line: Option<(&[u8], bool)>) -> Option<String> {
         let (letters, due) = self.due();
@@ -141,24 +149,30 @@ impl Before {
         if !letters.contains(letter) {
             return Some(format!("begins with {} where {due} should come", shown(*letter)));
         }
-        let (names, fewest) = (names(*letter), fewest(*letter));
-        let letter = char::from(*letter);
-        let Some(fields) = bytes[1..].strip_prefix(b",") else {
-            return Some(format!("the letter {letter} is not followed by a comma"));
+        let fault = if *letter == b'W' { alone(&bytes[1..]) } else { self.fields(*letter, &bytes[1..]) };
+        fault.or_else(|| (!ended).then(|| String::from("the last line is not ended by LF")))
+    }
+
+    /// What is wrong with what follows a letter that takes numbers.
+    fn fields(&self, letter: u8, rest: &[u8]) -> Option<String> {
+        let (names, shown) = (names(letter, self.timed), char::from(letter));
+        let Some(fields) = rest.strip_prefix(b",") else {
+            return Some(format!("the letter {shown} is not followed by a comma"));
         };
         let fields: Vec<&[u8]> = fields.split(|byte| *byte == b',').collect();
         if let Some(fault) = fields.iter().zip(names).find_map(|(field, name)| digits(field, name)) {
             return Some(fault);
         }
-        if !(fewest..=names.len()).contains(&fields.len()) {
-            let (has, most) = (fields.len(), names.len());
+        let (has, most) = (fields.len(), names.len());
+        let fewest = if letter == b'V' { 1 } else { most };
+        if !(fewest..=most).contains(&has) {
             let takes = if fewest < most { format!("{fewest} to {most}") } else { most.to_string() };
-            return Some(format!("has {has} numbers, where {letter} takes {takes}: {}", names.join(", ")));
+            return Some(format!("has {has} numbers, where {shown} takes {takes}: {}", names.join(", ")));
         }
-        if let ('V', [b"1", _]) = (letter, &fields[..]) {
+        if let (b'V', [b"1", _]) = (letter, &fields[..]) {
             return Some(String::from("has a second number, which rule 1 takes none of"));
         }
-        (!ended).then(|| String::from("the last line is not ended by LF"))
+        None
     }
 
     /// Which value of a line is beyond its bounds.
@@ -166,7 +180,7 @@ impl Before {
         let values = numbers(line)?;
         let letter = *line.first()?;
         let bounds = self.bounds(letter, &values)?;
-        let mut listed = names(letter).iter().zip(values).zip(bounds);
+        let mut listed = names(letter, self.timed).iter().zip(values).zip(bounds);
         let ((name, value), bounds) = listed.find(|((_, value), bounds)| !bounds.contains(value))?;
         Some(format!("{name} {value} is beyond {} to {}", bounds.start(), bounds.end()))
     }
@@ -185,9 +199,9 @@ impl Before {
                 1..=2,
             ],
             b'V' => vec![1..=2, 1..=99],
-            b'N' => vec![node, 0..=kind::MOST.into(), 1..=255],
+            b'N' => vec![node, 0..=kind::MOST.into(), 1..=255, 0..=1_000],
             b'E' => vec![node.clone(), node],
-            b'S' | b'T' => vec![net, node],
+            b'S' | b'T' => vec![net, node, 0..=9],
             _ => return None,
         })
     }
@@ -202,16 +216,18 @@ impl Before {
                 Some(format!("net {net} out of order: net {} is due", self.nets))
             }
             (b'S', &[_, node]) => self.pin(node, "source", "0 or 2"),
-            (b'T', &[net, _]) if net + 1 != self.nets => Some(format!(
+            (b'T', &[net, ..]) if net + 1 != self.nets => Some(format!(
                 "net {net} is not that of the S line above, net {}",
                 self.nets.saturating_sub(1)
             )),
-            (b'T', &[_, node]) if node == self.source => Some(format!("node {node} is the net's own source")),
-            (b'T', &[_, node]) if self.sinks.contains(&node) => {
+            (b'T', &[_, node, ..]) if node == self.source => {
+                Some(format!("node {node} is the net's own source"))
+            }
+            (b'T', &[_, node, ..]) if self.sinks.contains(&node) => {
                 Some(format!("node {node} is a sink of this net already"))
             }
             (b'T', _) if self.all_sinks >= SINKS => Some(format!("a job has at most {SINKS} sinks")),
-            (b'T', &[_, node]) => self.pin(node, "sink", "1 or 3"),
+            (b'T', &[_, node, ..]) => self.pin(node, "sink", "1 or 3"),
             _ => None,
         }
     }
@@ -235,6 +251,12 @@ impl Before {
         let name = kind::name(u8::try_from(kind).ok()?);
         Some(format!("node {node} is {name}, of kind {kind}; a {role} must be of kind {kinds}"))
     }
+}
+
+/// What is wrong with what follows the letter of a W line.
+fn alone(rest: &[u8]) -> Option<String> {
+    let byte = rest.first()?;
+    Some(format!("{} after the letter W, which stands alone in its line", shown(*byte)))
 }
 
 /// What is wrong with a number's digits.

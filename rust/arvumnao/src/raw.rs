@@ -57,6 +57,20 @@ call! {
 }
 
 call! {
+    /// The price of a node for a sink of a timed job. Own number: the price.
+    fn timed_price = arvumnao_timed_price(
+        kind: u32,
+        factor: u32,
+        others: u32,
+        capacity: u32,
+        history: u32,
+        delay: u32,
+        criticality: u32,
+        out: &mut [u64],
+    )
+}
+
+call! {
     /// The distances of all nodes from those marked. No own numbers.
     fn search = arvumnao_search(
         kind: &[u8],
@@ -73,10 +87,29 @@ call! {
 }
 
 call! {
+    /// The same by the prices for a sink of a timed job. No own numbers.
+    fn timed_search = arvumnao_timed_search(
+        kind: &[u8],
+        capacity: &[u8],
+        first_edge: &[u32],
+        edge_target: &[u16],
+        delay: &[u16],
+        factor: u32,
+        criticality: u32,
+        work: &mut [u64],
+        history: &[u32],
+        others: &[u16],
+        in_tree: &[u8],
+        out: &mut [u64],
+    )
+}
+
+call! {
     /// Routes a job. Own numbers: iteration, turns, words used of the log.
     ///
-    /// The terms are limit, first, up, down, step, rule, until; of a slice that is shorter the plain values stand for the rest (0, which
-    /// is no limit, then 50, 3, 2, 1, 1 and 1), and entries past these seven are not read.
+    /// The terms are limit, first, up, down, step, rule, until, timed; of a slice that is shorter the plain values stand for the rest (0,
+    /// which is no limit, then 50, 3, 2, 1, 1, 1 and 0), and entries past these eight are not read. Where `timed` is 0, `delay` and
+    /// `criticality` are of no account.
     fn route = arvumnao_route(
         kind: &[u8],
         capacity: &[u8],
@@ -85,6 +118,8 @@ call! {
         source: &[u16],
         first_sink: &[u32],
         sink: &[u16],
+        delay: &[u16],
+        criticality: &[u8],
         terms: &[u32],
         work: &mut [u64],
         log: &mut [u32],
@@ -103,6 +138,8 @@ call! {
         source: &[u16],
         first_sink: &[u32],
         sink: &[u16],
+        delay: &[u16],
+        criticality: &[u8],
         terms: &[u32],
         used: u64,
         work: &mut [u64],
@@ -112,7 +149,7 @@ call! {
 }
 
 call! {
-    /// Reads a job text. Own numbers: nodes, edges, nets, sinks, limit, first, up, down, step, rule, until.
+    /// Reads a job text. Own numbers: nodes, edges, nets, sinks, limit, first, up, down, step, rule, until, timed.
     fn read = arvumnao_read(
         text: &[u8],
         kind: &mut [u8],
@@ -122,6 +159,8 @@ call! {
         source: &mut [u16],
         first_sink: &mut [u32],
         sink: &mut [u16],
+        delay: &mut [u16],
+        criticality: &mut [u8],
         out: &mut [u64],
     )
 }
@@ -168,7 +207,7 @@ call! {
 pub fn refusal(out: &[u64; OUT]) -> &[u64] {
     match out[0] {
         0 => &[],
-        7..=9 => &out[..3],
+        7..=9 | 15 => &out[..3],
         _ => &out[..2],
     }
 }

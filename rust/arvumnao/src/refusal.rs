@@ -1,6 +1,6 @@
 //! Why a call was refused, in numbers and in words.
 
-use crate::job::Job;
+use crate::job::{Job, TIMED_LIMIT, TIMED_NODES};
 use crate::log::Log;
 use crate::{line, table};
 use std::error::Error;
@@ -56,8 +56,9 @@ pub enum Refusal {
     },
     /// 13: a number given to the price or the search, or one of the counts of uses, is beyond its bounds.
     Number {
-        /// Its place among the price's five numbers, or the node in the search; the node count for the search's factor. In counts
-        /// the kind, or 54 for the number of logs.
+        /// Its place among the price's five numbers, after which a timed price has delay and criticality, or the node in the search; the
+        /// node count for the search's factor, one more for the criticality of a timed search. In counts the kind, or 54 for the
+        /// number of logs.
         place: u64,
         /// What is wrong with it.
         reason: String,
@@ -68,6 +69,13 @@ pub enum Refusal {
         word: u64,
         /// The log's words.
         words: u64,
+    },
+    /// 15: a timed job, or the block of a timed search, is larger than such may be.
+    TooLarge {
+        /// Its nodes, at most [`TIMED_NODES`].
+        nodes: u32,
+        /// Its limit, at most [`TIMED_LIMIT`]; 0 for a search.
+        limit: u32,
     },
     /// 16: counts of uses are of as many logs as they may be of.
     CountsFull {
@@ -94,7 +102,7 @@ pub struct LineFault {
 /// What is wrong with a job's tables.
 #[derive(Clone, Debug, PartialEq, Eq)]
 pub struct TableFault {
-    /// The lowest table that breaks its rule, 1 to 7, or 8 for the terms.
+    /// The lowest table that breaks its rule: 1 to 7, 8 for the terms, 9 or 10 of a timed job.
     pub table: u32,
     /// The first entry that breaks it. None only if none does.
     pub reason: Option<String>,
@@ -112,9 +120,15 @@ impl Refusal {
             Refusal::Record { word } => vec![10, *word],
             Refusal::Number { place, .. } => vec![13, *place],
             Refusal::Diverges { word, .. } => vec![14, *word],
+            Refusal::TooLarge { nodes, limit } => vec![15, (*nodes).into(), (*limit).into()],
             Refusal::CountsFull { logs } => vec![16, *logs],
             Refusal::Unexpected(numbers) => numbers.clone(),
         }
+    }
+
+    /// That of a timed job.
+    pub(crate) fn too_large(nodes: u64, limit: u64) -> Refusal {
+        Refusal::TooLarge { nodes: nodes as u32, limit: limit as u32 }
     }
 
     /// A refusal that the call's slices leave no room for.
@@ -156,7 +170,7 @@ impl fmt::Display for LineFault {
 
 impl fmt::Display for TableFault {
     fn fmt(&self, f: &mut fmt::Formatter<'_>) -> fmt::Result {
-        let (name, rule) = table::NAMES_AND_RULES[(self.table as usize).saturating_sub(1).min(7)];
+        let (name, rule) = table::NAMES_AND_RULES[(self.table as usize).saturating_sub(1).min(9)];
         match &self.reason {
             Some(reason) => write!(f, "table {} ({name}): {reason}", self.table),
             None => write!(f, "table {} ({name}) breaks its rule: {rule}", self.table),
@@ -194,6 +208,13 @@ impl fmt::Display for Refusal {
                 f,
                 "the log follows the job to its end, at word {word}, but can't be gone on from: its last iteration is not whole, \
                  leaves no node over capacity, or is the limit"
+            ),
+            Refusal::TooLarge { nodes, limit: 0 } => {
+                write!(f, "{nodes} nodes: a timed search takes at most {TIMED_NODES}")
+            }
+            Refusal::TooLarge { nodes, limit } => write!(
+                f,
+                "{nodes} nodes and a limit of {limit}: a timed job has at most {TIMED_NODES} nodes and a limit of at most {TIMED_LIMIT}"
             ),
             Refusal::CountsFull { logs } => {
                 write!(f, "the counts are of {logs} logs already, and may be of no more: begin new ones")

@@ -4,7 +4,7 @@ use crate::job::{Job, EDGES, NETS, NODES, SINKS};
 use crate::kind;
 
 /// The name and the rule of each table.
-pub(crate) const NAMES_AND_RULES: [(&str, &str); 8] = [
+pub(crate) const NAMES_AND_RULES: [(&str, &str); 10] = [
     ("kind", "1 to 4,096 nodes, each of kind 0 to 53"),
     ("capacity", "an entry for each node, 1 to 255"),
     ("first_edge", "nodes + 1 entries: begins with 0, never falls, ends with the length of edge_target"),
@@ -13,6 +13,8 @@ pub(crate) const NAMES_AND_RULES: [(&str, &str); 8] = [
     ("first_sink", "nets + 1 entries: begins with 0, rises, ends with the length of sink"),
     ("sink", "at most 4,096 nodes of kind 1 or 3, within a net none twice and none its source"),
     ("terms", "limit 1 to 100, first 0 to 1,000, down 1 to 4, up from down to 8, step 1 or 2, rule 1 or 2, until 1 to 99"),
+    ("delay", "an entry for each node, 0 to 1,000"),
+    ("criticality", "an entry for each entry of sink, 0 to 9"),
 ];
 
 /// The first entry of a table that breaks its rule, if the tables below keep theirs.
@@ -37,6 +39,8 @@ pub(crate) fn reason(job: &Job, table: u32) -> Option<String> {
         6 => places(&nets.first_sink, nets.source.len(), nets.sink.len(), 1),
         7 => length(nets.sink.len(), 0, SINKS).or_else(|| sinks(job)),
         8 => terms(job),
+        9 => bounded(&job.timing.as_ref()?.delay, block.kind.len(), "delay", 1_000),
+        10 => bounded(&job.timing.as_ref()?.criticality, nets.sink.len(), "criticality", 9),
         _ => None,
     }
 }
@@ -65,6 +69,16 @@ fn length(length: usize, least: usize, most: usize) -> Option<String> {
 fn entry<T: Copy>(table: &[T], fault: impl Fn(usize, T) -> Option<String>) -> Option<String> {
     let found = table.iter().enumerate().find_map(|(place, entry)| Some((place, fault(place, *entry)?)));
     found.map(|(place, fault)| format!("entry {place}: {fault}"))
+}
+
+/// A table of numbers from 0 to so many, with an entry for each of its owners.
+fn bounded<T: Copy + Into<u32>>(table: &[T], owners: usize, name: &str, most: u32) -> Option<String> {
+    length(table.len(), owners, owners).or_else(|| {
+        entry(table, |_, number| {
+            let number: u32 = number.into();
+            (number > most).then(|| format!("{name} {number} is beyond 0 to {most}"))
+        })
+    })
 }
 
 /// A table of places into another, each at least so much above the one before.

@@ -1,9 +1,10 @@
 //! Jobs that are accepted, and what a caller does with the answer.
 
-use arvumnao::{kind, raw, Job, Log, Nets, Refusal, Terms, UseCounts};
+use arvumnao::{kind, raw, Job, Log, Nets, Refusal, Terms, Timing, UseCounts};
 use std::thread;
 
 const JOB_B: &[u8] = include_bytes!("../../../examples/job_b.txt");
+const TIMED: &[u8] = include_bytes!("../../../examples/timed.txt");
 
 #[test]
 fn job_b() {
@@ -120,6 +121,71 @@ fn job_b_resumed() {
     assert_eq!(job.resume(longer).unwrap_err().numbers(), [14, 18]);
 }
 
+/// The turns of a log, each as its sink, cost and path.
+fn turns(log: &Log) -> Vec<(u32, u64, &[u32])> {
+    log.records().map(|turn| (turn.sink, turn.cost, turn.path)).collect()
+}
+
+/// The critical sink goes first, by the longer and quicker wire. Costs were worked out by hand.
+#[test]
+fn a_timed_job() {
+    let mut job = Job::read(TIMED).unwrap();
+    let log = job.route().unwrap().log;
+    assert_eq!(turns(&log), [(4, 17_000, &[0, 2, 4][..]), (3, 40_000, &[0, 1, 3])]);
+
+    // no delay, no criticality: ten times the prices of the job that isn't timed, sinks as listed
+    job.timing = Some(Timing { delay: vec![0; 5], criticality: vec![0; 2] });
+    let log = job.route().unwrap().log;
+    assert_eq!(turns(&log), [(3, 40_000, &[0, 1, 3][..]), (4, 20_000, &[1, 4])]);
+    job.timing = None;
+    let log = job.route().unwrap().log;
+    assert_eq!(turns(&log), [(3, 4_000, &[0, 1, 3][..]), (4, 2_000, &[1, 4])]);
+}
+
+/// A path to the sink that is due passes another, which is joined without a turn.
+#[test]
+fn a_sink_passed() {
+    let mut job = Job { terms: Terms { limit: 40, ..Terms::default() }, ..Job::default() };
+    job.block.add(kind::SOURCE, 1, &[1]);
+    job.block.add(kind::SINK, 1, &[2]);
+    job.block.add(kind::INPUT_PIN, 1, &[]);
+    job.nets.add(0, &[1, 2]);
+    job.timing = Some(Timing { delay: vec![0, 7, 0], criticality: vec![3, 5] });
+    let answer = job.route().unwrap();
+    // 5 × 700 + 5 × 2,000, and 5 × 1,900
+    assert_eq!(turns(&answer.log), [(2, 23_000, &[0, 1, 2][..])]);
+    assert_eq!(answer.log.routes(&job.nets).unwrap(), "R,1,1\nB,0,0,1\nB,0,1,2\n");
+}
+
+/// Nets of one source that have a sink in common: the criticality of its first listing counts.
+#[test]
+fn first_listing_counts() {
+    let mut job = Job { terms: Terms { limit: 1, ..Terms::default() }, ..Job::default() };
+    job.block.add(kind::SOURCE, 1, &[1, 2]);
+    job.block.add(kind::SINK, 1, &[]);
+    job.block.add(kind::SINK, 1, &[]);
+    job.nets.add(0, &[1]);
+    job.nets.add(0, &[2, 1]);
+    job.timing = Some(Timing { delay: vec![0; 3], criticality: vec![2, 5, 9] });
+    let answer = job.route().unwrap();
+    assert_eq!(turns(&answer.log), [(2, 10_000, &[0, 2][..]), (1, 16_000, &[0, 1])]);
+}
+
+/// Job B as a timed one, of which net 0's sink is critical and wire 3 slow, stopped by a limit of 1 and gone on from.
+#[test]
+fn a_timed_job_resumed() {
+    let mut job = Job::read(JOB_B).unwrap();
+    job.timing = Some(Timing { delay: vec![0, 0, 0, 3, 0, 0], criticality: vec![5, 0] });
+    let straight = job.route().unwrap();
+    let costs: Vec<u64> = straight.log.records().map(|turn| turn.cost).collect();
+    // in iteration 2 wire 2 would cost net 0 5 × 6,000, wire 3 costs it 5 × 300 + 5 × 4,000
+    assert_eq!(costs, [20_000, 40_000, 31_500, 60_000]);
+    job.terms.limit = 1;
+    let Err(Refusal::Limit { log, .. }) = job.route() else { panic!("one iteration is not enough") };
+    job.terms.limit = 2;
+    assert_eq!(job.resume(&log).unwrap(), straight);
+}
+
 /// The uses of two jobs of one block, in either order: trees 0, 3, 4 and 1, 2, 5, then 0, 2, 4 alone.
 #[test]
 fn uses_of_two_jobs() {
@@ -163,7 +229,7 @@ fn threads() {
     threads.into_iter().for_each(|thread| assert_eq!(thread.join().unwrap(), expected));
 }
 
-/// Terms that a slice lacks are plain, and entries past the seventh are not read.
+/// Terms that a slice lacks are plain, and entries past the eighth are not read. Only where that isn't 0 tables 9 and 10 are due.
 #[test]
 fn terms_as_a_slice() {
     let Job { block, nets, .. } = Job::read(include_bytes!("../../../examples/job_crowded.txt")).unwrap();
@@ -178,6 +244,8 @@ fn terms_as_a_slice() {
             &nets.source,
             &nets.first_sink,
             &nets.sink,
+            &[],
+            &[],
             terms,
             &mut work,
             &mut log,
@@ -190,6 +258,8 @@ fn terms_as_a_slice() {
     assert_eq!(run(&[2, 0]), (vec![9, 2, 1], [2, 6, 54]));
     assert_eq!(run(&[9, 50, 3, 2, 1, 2]), (vec![], [2, 5, 45]));
     assert_eq!(run(&[9, 50, 3, 2, 1, 2, 1, 0, 0]), (vec![], [2, 5, 45]));
+    assert_eq!(run(&[9, 50, 3, 2, 1, 2, 1, 1]), (vec![5, 9], [0; 3]));
+    assert_eq!(run(&[9, 50, 3, 2, 1, 2, 1, u32::MAX]), (vec![5, 9], [0; 3]));
     assert_eq!(run(&[9, 50, 3, 2, 1, 2, 2]), (vec![], [2, 6, 54]));
     assert_eq!(run(&[9, 50, 3, 2, 1, 3]), (vec![5, 8], [0; 3]));
     assert_eq!(run(&[9, 50, 3, 2, 1, 2, 0]), (vec![5, 8], [0; 3]));

@@ -77,13 +77,18 @@ fn document(path: &str) -> String {
 
 #[test]
 fn format() {
-    assert_eq!(jobs(&document("docs/FORMAT.md")), 11);
+    assert_eq!(jobs(&document("docs/FORMAT.md")), 13);
 }
 
 /// The jobs shown are the files named with them.
 #[test]
 fn jobs_are_the_examples() {
-    let shown = [("job_b", "README.md"), ("job_b", "docs/FORMAT.md"), ("job_crowded", "docs/FORMAT.md")];
+    let shown = [
+        ("job_b", "README.md"),
+        ("job_b", "docs/FORMAT.md"),
+        ("job_crowded", "docs/FORMAT.md"),
+        ("timed", "docs/FORMAT.md"),
+    ];
     for (job, path) in shown {
         let text = document(&format!("examples/{job}.txt"));
         assert!(blocks(&document(path)).contains(&("job", text)), "{job} in {path}");

@@ -1,14 +1,20 @@
 //! Every refusal in its numbers and its sentence.
 
-use arvumnao::{kind, Block, Congestion, Job, Log, Nets, Refusal, Terms, Use, UseCounts};
+use arvumnao::{kind, Block, Congestion, Job, Log, Nets, Refusal, Terms, Timing, Use, UseCounts};
 
 const JOB_B: &str = include_str!("../../../examples/job_b.txt");
+const TIMED: &str = include_str!("../../../examples/timed.txt");
+
+/// A text with one line put in the place of another.
+fn with(text: &str, from: &str, to: &str) -> String {
+    let other = text.replace(from, to);
+    assert_ne!(other, text);
+    other
+}
 
 /// Job B with one line put in the place of another.
 fn changed(from: &str, to: &str) -> String {
-    let text = JOB_B.replace(from, to);
-    assert_ne!(text, JOB_B);
-    text
+    with(JOB_B, from, to)
 }
 
 fn refused(text: &str, numbers: [u64; 2], sentence: &str) {
@@ -23,17 +29,17 @@ fn lines_that_are_due() {
     refused(
         "F,6,6,2,2\n",
         [1, 2],
-        "line 2: the text ends where a P line, a V line or the N line of node 0 should come",
+        "line 2: the text ends where a P line, a V line, a W line or the N line of node 0 should come",
     );
     refused(
         "F,6,6,2,2\nP,50,3,2,1\nP,50,3,2,1\n",
         [1, 3],
-        "line 3: begins with 'P' where a V line or the N line of node 0 should come: \"P,50,3,2,1\"",
+        "line 3: begins with 'P' where a V line, a W line or the N line of node 0 should come: \"P,50,3,2,1\"",
     );
     refused(
         "F,6,6,2,2\nV,2\nP,50,3,2,1\n",
         [1, 3],
-        "line 3: begins with 'P' where the N line of node 0 should come: \"P,50,3,2,1\"",
+        "line 3: begins with 'P' where a W line or the N line of node 0 should come: \"P,50,3,2,1\"",
     );
     refused(
         "F,6,6,2,2\nV,2,1,1\n",
@@ -177,12 +183,113 @@ fn orders() {
     );
 }
 
+/// Faulty lines of a timed job, and those of its lines that no other job has.
+#[test]
+fn timed_lines() {
+    refused(
+        "F,6,6,2,2\nW\nW\n",
+        [1, 3],
+        "line 3: begins with 'W' where the N line of node 0 should come: \"W\"",
+    );
+    refused(
+        "F,6,6,2,2\nW\nV,2\n",
+        [1, 3],
+        "line 3: begins with 'V' where the N line of node 0 should come: \"V,2\"",
+    );
+    refused("F,6,6,2,2\nW", [1, 2], "line 2: the last line is not ended by LF: \"W\"");
+    let timed = |from: &str, to: &str, numbers: [u64; 2], sentence: &str| {
+        refused(&with(TIMED, from, to), numbers, sentence);
+    };
+    let alone = "after the letter W, which stands alone in its line";
+    timed("W\n", "W,\n", [1, 2], &format!("line 2: ',' {alone}: \"W,\""));
+    timed("W\n", "W1\n", [1, 2], &format!("line 2: '1' {alone}: \"W1\""));
+    timed("W\n", "W\r\n", [1, 2], &format!("line 2: a carriage return {alone}: \"W\\r\""));
+    timed("W\n", "", [1, 2], "line 2: has 4 numbers, where N takes 3: node, kind, capacity: \"N,0,0,1,0\"");
+    timed(
+        "N,1,4,1,60\n",
+        "N,1,4,1\n",
+        [1, 4],
+        "line 4: has 3 numbers, where N takes 4: node, kind, capacity, delay: \"N,1,4,1\"",
+    );
+    timed("N,1,4,1,60\n", "N,1,4,1,\n", [1, 4], "line 4: delay has no digits: \"N,1,4,1,\"");
+    timed(
+        "T,0,4,9\n",
+        "T,0,4\n",
+        [1, 15],
+        "line 15: has 2 numbers, where T takes 3: net, node, criticality: \"T,0,4\"",
+    );
+    timed("S,0,0\n", "S,0,0,0\n", [1, 13], "line 13: has 3 numbers, where S takes 2: net, node: \"S,0,0,0\"");
+    timed(
+        "N,1,4,1,60\n",
+        "N,1,4,1,1001\n",
+        [2, 4],
+        "line 4: delay 1001 is beyond 0 to 1000: \"N,1,4,1,1001\"",
+    );
+    timed("T,0,4,9\n", "T,0,4,10\n", [2, 15], "line 15: criticality 10 is beyond 0 to 9: \"T,0,4,10\"");
+    timed(
+        "N,1,4,1,60\n",
+        "N,2,4,1,60\n",
+        [3, 4],
+        "line 4: node 2 out of order: node 1 is due: \"N,2,4,1,60\"",
+    );
+    timed("T,0,4,9\n", "T,0,3,9\n", [3, 15], "line 15: node 3 is a sink of this net already: \"T,0,3,9\"");
+    timed("T,0,4,9\n", "T,0,0,9\n", [3, 15], "line 15: node 0 is the net's own source: \"T,0,0,9\"");
+    timed(
+        "T,0,4,9\n",
+        "T,0,1,9\n",
+        [3, 15],
+        "line 15: node 1 is a wire of length 1, of kind 4; a sink must be of kind 1 or 3: \"T,0,1,9\"",
+    );
+}
+
+/// Timed jobs beyond their bounds, read, routed and resumed, and a timed search; jobs that aren't timed have none of these.
+#[test]
+fn too_large() {
+    let told = |refusal: Refusal, numbers: [u64; 3], sentence: &str| {
+        assert_eq!((refusal.numbers(), refusal.to_string()), (numbers.to_vec(), String::from(sentence)));
+    };
+    let most = "a timed job has at most 1024 nodes and a limit of at most 40";
+    let limited = |limit: u32| with(TIMED, "F,5,5,1,10\n", &format!("F,5,5,1,{limit}\n"));
+    let refusal = Job::read(limited(41).as_bytes()).unwrap_err();
+    told(refusal, [15, 5, 41], &format!("5 nodes and a limit of 41: {most}"));
+    let mut job = Job::read(limited(40).as_bytes()).unwrap();
+    assert!(job.route().is_ok());
+    job.terms.limit = 100;
+    told(job.route().unwrap_err(), [15, 5, 100], &format!("5 nodes and a limit of 100: {most}"));
+    told(
+        job.resume(Log::default()).unwrap_err(),
+        [15, 5, 100],
+        &format!("5 nodes and a limit of 100: {most}"),
+    );
+    let untimed = Job { timing: None, ..job };
+    assert!(untimed.route().is_ok());
+
+    let mut wide = Job { terms: Terms { limit: 1, ..Terms::default() }, ..Job::default() };
+    wide.block.add(kind::SOURCE, 1, &[1]);
+    (1..1_025).for_each(|_| wide.block.add(kind::SINK, 1, &[]));
+    wide.nets.add(0, &[1]);
+    assert!(wide.route().is_ok());
+    let delay = vec![0; 1_025];
+    wide.timing = Some(Timing { delay: delay.clone(), criticality: vec![0] });
+    told(wide.route().unwrap_err(), [15, 1_025, 1], &format!("1025 nodes and a limit of 1: {most}"));
+    let refusal = wide.block.timed_distances(&Congestion::default(), &delay, 10).unwrap_err();
+    told(refusal, [15, 1_025, 0], "1025 nodes: a timed search takes at most 1024");
+
+    let nodes: String = (0..1_025).map(|node| format!("N,{node},{},1,0\n", (node > 0) as u8)).collect();
+    let text = format!("F,1025,1,1,40\nW\n{nodes}E,0,1\nS,0,0\nT,0,1,0\n");
+    let refusal = Job::read(text.as_bytes()).unwrap_err();
+    told(refusal, [15, 1_025, 40], &format!("1025 nodes and a limit of 40: {most}"));
+}
+
 fn job_b() -> Job {
     Job::read(JOB_B.as_bytes()).unwrap()
 }
 
 fn table_refused(change: impl Fn(&mut Job), table: u64, sentence: &str) {
-    let mut job = job_b();
+    faulty(job_b(), change, table, sentence);
+}
+
+fn faulty(mut job: Job, change: impl Fn(&mut Job), table: u64, sentence: &str) {
     change(&mut job);
     let refusal = job.route().unwrap_err();
     assert_eq!(
@@ -224,6 +331,28 @@ fn tables() {
     table_refused(|job| job.terms = Terms { up: 1, ..job.terms }, 8, "(terms): up 1 is beyond 2 to 8");
     table_refused(|job| job.terms.rule = 3, 8, "(terms): rule 3 is beyond 1 to 2");
     table_refused(|job| job.terms.until = 100, 8, "(terms): until 100 is beyond 1 to 99");
+}
+
+/// Table 9 comes after the terms, and table 10 after it.
+#[test]
+fn timed_tables() {
+    let timed = |change: fn(&mut Timing, &mut Terms), table, sentence| {
+        let job = Job::read(TIMED.as_bytes()).unwrap();
+        faulty(job, |job| change(job.timing.as_mut().unwrap(), &mut job.terms), table, sentence);
+    };
+    timed(|timing, _| timing.delay[2] = 1_001, 9, "(delay): entry 2: delay 1001 is beyond 0 to 1000");
+    timed(|timing, _| timing.delay.push(0), 9, "(delay): has 6 entries, and should have 5");
+    timed(
+        |timing, _| timing.criticality[1] = 10,
+        10,
+        "(criticality): entry 1: criticality 10 is beyond 0 to 9",
+    );
+    timed(|timing, _| timing.criticality.clear(), 10, "(criticality): has 0 entries, and should have 2");
+    timed(|timing, _| *timing = Timing::default(), 9, "(delay): has 0 entries, and should have 5");
+    let limit = |timing: &mut Timing, terms: &mut Terms| (timing.delay[0], terms.limit) = (1_001, 0);
+    timed(limit, 8, "(terms): limit 0 is beyond 1 to 100");
+    let limit = |timing: &mut Timing, terms: &mut Terms| (timing.delay[0], terms.limit) = (1_001, 41);
+    timed(limit, 9, "(delay): entry 0: delay 1001 is beyond 0 to 1000");
 }
 
 #[test]
@@ -301,6 +430,30 @@ fn resumes() {
     assert_eq!(one.resume(&whole).unwrap_err().numbers(), [5, 8]);
 }
 
+/// In a timed job a lent record must join the sink that is due.
+#[test]
+fn timed_resumes() {
+    let mut job = Job { terms: Terms { limit: 2, ..Terms::default() }, ..Job::default() };
+    job.block.add(kind::SOURCE, 1, &[2]);
+    job.block.add(kind::SOURCE, 1, &[2]);
+    job.block.add(kind::wire(1), 1, &[3, 4]);
+    job.block.add(kind::SINK, 2, &[4]);
+    job.block.add(kind::SINK, 2, &[]);
+    job.nets.add(0, &[3, 4]);
+    job.nets.add(1, &[4]);
+    job.timing = Some(Timing { delay: vec![0; 5], criticality: vec![0, 9, 0] });
+    // sink 4 by sink 3, which is joined by that; net 0's nodes cost 2,000 each for it, net 1's 20,000
+    let passing = [1, 0, 4, 6_000, 0, 4, 0, 2, 3, 4, 1, 1, 4, 40_000, 0, 3, 1, 2, 4];
+    let refusal = job.resume(passing).unwrap_err();
+    assert_eq!(refusal.numbers(), [9, 2, 1]);
+    let Refusal::Limit { turns, log, .. } = refusal else { panic!() };
+    assert_eq!((turns, &log.words()[..19]), (5, &passing[..]));
+    // sink 3 first, though both records cost what they should
+    let not_due =
+        [1, 0, 3, 40_000, 0, 3, 0, 2, 3, 1, 0, 4, 2_000, 0, 2, 2, 4, 1, 1, 4, 40_000, 0, 3, 1, 2, 4];
+    assert_eq!(job.resume(not_due).unwrap_err().numbers(), [14, 0]);
+}
+
 #[test]
 fn stored_logs() {
     let mut nets = job_b().nets;
@@ -359,6 +512,50 @@ fn numbers_called_alone() {
     );
     block.capacity[0] = 0;
     assert_eq!(block.distances(&Congestion::default()).unwrap_err().numbers(), [5, 2]);
+}
+
+#[test]
+fn timed_numbers_called_alone() {
+    let refused = |refusal: Refusal, numbers: [u64; 2], sentence: &str| {
+        assert_eq!((refusal.numbers(), refusal.to_string()), (numbers.to_vec(), String::from(sentence)));
+    };
+    let wire = Use { kind: 4, factor: 0, others: 0, capacity: 1, history: 101_179 };
+    assert_eq!(wire.timed_price(1_000, 9).unwrap(), 900_000 + 202_358_000);
+    refused(wire.timed_price(1_001, 10).unwrap_err(), [13, 5], "delay 1001 is beyond 0 to 1000");
+    refused(wire.timed_price(1_000, 10).unwrap_err(), [13, 6], "criticality 10 is beyond 0 to 9");
+    let far = Use { history: 101_180, ..wire };
+    refused(far.timed_price(1_001, 10).unwrap_err(), [13, 4], "history 101180 is beyond 1 to 101179");
+
+    let mut block = Block::default();
+    block.add(kind::SOURCE, 1, &[1]);
+    block.add(kind::SINK, 1, &[]);
+    let start = |factor, history| Congestion {
+        factor,
+        history: vec![1, history],
+        others: vec![0, 0],
+        in_tree: vec![1, 0],
+    };
+    let timed =
+        |start: &Congestion, delay: &[u16], criticality| block.timed_distances(start, delay, criticality);
+    assert_eq!(timed(&start(0, 39_859), &[0, 3], 9).unwrap(), [Some(0), Some(2_700 + 79_718_000)]);
+    refused(
+        timed(&start(65_536, 39_860), &[0, 3], 10).unwrap_err(),
+        [13, 1],
+        "node 1: history 39860, of 1 to 39859, others 0, of 0 to 511, and tree mark 0, of 0 and 1: one of them is bad",
+    );
+    refused(timed(&start(65_536, 1), &[0, 3], 10).unwrap_err(), [13, 2], "factor 65536 is beyond 0 to 65535");
+    refused(timed(&start(0, 1), &[0, 3], 10).unwrap_err(), [13, 3], "criticality 10 is beyond 0 to 9");
+    refused(
+        timed(&start(0, 0), &[0], 10).unwrap_err(),
+        [5, 9],
+        "table 9 (delay): has 1 entries, and should have 2",
+    );
+    refused(
+        timed(&start(0, 0), &[0, 1_001], 10).unwrap_err(),
+        [5, 9],
+        "table 9 (delay): entry 1: delay 1001 is beyond 0 to 1000",
+    );
+    assert_eq!(block.distances(&start(0, 101_179)).unwrap(), [Some(0), Some(202_358_000)]);
 }
 
 /// Adding a log and printing refuse the same counts, by the same sentence.

@@ -58,6 +58,8 @@ fn numbers_agree() {
     assert_eq!(defined("ARVUMNAO_EDGES_MOST"), arvumnao::EDGES);
     assert_eq!(defined("ARVUMNAO_NETS_MOST"), arvumnao::NETS);
     assert_eq!(defined("ARVUMNAO_SINKS_MOST"), arvumnao::SINKS);
+    assert_eq!(defined("ARVUMNAO_TIMED_NODES_MOST"), arvumnao::TIMED_NODES);
+    assert_eq!(defined("ARVUMNAO_TIMED_LIMIT_MOST"), arvumnao::TIMED_LIMIT as usize);
     assert_eq!(defined("ARVUMNAO_KIND_MOST"), arvumnao::kind::MOST.into());
     assert_eq!(defined("ARVUMNAO_SOURCE"), arvumnao::kind::SOURCE.into());
     assert_eq!(defined("ARVUMNAO_SINK"), arvumnao::kind::SINK.into());

@@ -208,6 +208,8 @@ mod tests {
                     &job.source,
                     &job.first_sink,
                     &job.sink,
+                    &job.delay,
+                    &job.criticality,
                     &job.terms(),
                     &mut vec![0; 8 * nodes],
                     &mut [],

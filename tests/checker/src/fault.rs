@@ -20,6 +20,7 @@ pub enum Fault {
     EndNotSink { turn: u64, end: usize, sink: u32 },
     NotSinkOfNet { turn: u64, sink: usize },
     SinkJoined { turn: u64, sink: usize },
+    OtherTurn { turn: u64, sink: usize, due: usize },
     Cost { turn: u64, logged: u64, path: u128 },
     CheaperPath { turn: u64, logged: u64, least: u64 },
 
@@ -69,6 +70,7 @@ impl Fault {
             | EndNotSink { turn, .. }
             | NotSinkOfNet { turn, .. }
             | SinkJoined { turn, .. }
+            | OtherTurn { turn, .. }
             | Cost { turn, .. }
             | CheaperPath { turn, .. } => Some(turn),
             _ => None,
@@ -96,6 +98,7 @@ impl Fault {
             }
             NotSinkOfNet { sink, .. } => write!(f, "{sink} is no sink of the net"),
             SinkJoined { sink, .. } => write!(f, "sink {sink} is joined already"),
+            OtherTurn { sink, due, .. } => write!(f, "sink {sink} is joined, it is the turn of {due}"),
             Cost { logged, path, .. } => write!(f, "cost {logged} logged, the path costs {path}"),
             CheaperPath { logged, least, .. } => {
                 write!(f, "cost {logged} logged, another path costs {least}")

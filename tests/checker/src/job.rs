@@ -9,7 +9,14 @@ pub struct Tuning {
     pub step: u32,
 }
 
-/// A job: tables 1 to 7, the limit of iterations and the tuning.
+/// Tables 9 and 10.
+#[derive(Clone, Copy)]
+pub struct Timing<'a> {
+    pub delay: &'a [u16],
+    pub criticality: &'a [u8],
+}
+
+/// A job: tables 1 to 7, the limit of iterations and the tuning, and what a timed job alone has.
 pub struct Job<'a> {
     pub kind: &'a [u8],
     pub capacity: &'a [u8],
@@ -20,6 +27,7 @@ pub struct Job<'a> {
     pub sink: &'a [u16],
     pub limit: u32,
     pub tuning: Tuning,
+    pub timing: Option<Timing<'a>>,
 }
 
 impl<'a> Job<'a> {
@@ -42,7 +50,12 @@ impl<'a> Job<'a> {
 
     /// The net's sinks as listed.
     pub fn sinks(&self, net: usize) -> &'a [u16] {
-        &self.sink[self.first_sink[net] as usize..self.first_sink[net + 1] as usize]
+        &self.sink[self.sink_places(net)]
+    }
+
+    /// The places of the net's sinks in table 7, as listed.
+    pub fn sink_places(&self, net: usize) -> std::ops::Range<usize> {
+        self.first_sink[net] as usize..self.first_sink[net + 1] as usize
     }
 
     pub fn has_edge(&self, from: usize, to: usize) -> bool {

@@ -1,5 +1,6 @@
 //! A checker of demand 3: one statement about a job's whole log and its
-//! answer, the same under either rule. It routes nothing; which of several
+//! answer, the same under either rule; in a timed job it is about the sink whose
+//! turn it is. It routes nothing; which of several
 //! cheapest paths was taken, which nets are due and in what order, are left to
 //! the comparison with a plain router.
 
@@ -14,7 +15,7 @@ pub mod trees;
 mod turns;
 
 pub use fault::Fault;
-pub use job::{Job, Tuning};
+pub use job::{Job, Timing, Tuning};
 
 /// Checks the answer to a job with sound tables and enough work memory, whose
 /// nets of one source are joined here. `log` is the whole lent log, `words` the words used, `refusal` 01's

@@ -4,25 +4,56 @@ use std::cmp::Reverse;
 use std::collections::BinaryHeap;
 
 use crate::job::Job;
-use crate::prices::Prices;
+use crate::prices::{weighed, Prices};
 use crate::trees::Trees;
 
-/// A net before one of its turns.
+/// A net before one of its turns; in a timed job with the sink whose turn it is, if one is left.
 pub struct View<'a> {
     pub job: &'a Job<'a>,
     pub trees: &'a Trees,
     pub prices: &'a Prices,
     pub net: usize,
+    pub aim: Option<Aim<'a>>,
 }
 
-impl View<'_> {
+/// A sink of a timed job, and what the prices for it are weighed with.
+pub struct Aim<'a> {
+    pub sink: usize,
+    pub criticality: u8,
+    pub delay: &'a [u16],
+}
+
+impl<'a> View<'a> {
+    pub fn new(job: &'a Job<'a>, trees: &'a Trees, prices: &'a Prices, net: usize) -> View<'a> {
+        let mut view = View { job, trees, prices, net, aim: None };
+        view.aim = view.due();
+        view
+    }
+
+    /// Of the sinks that the tree lacks the one of the highest criticality, the first listed of equals.
+    fn due(&self) -> Option<Aim<'a>> {
+        let timing = self.job.timing?;
+        let mut due: Option<Aim> = None;
+        for place in self.job.sink_places(self.net) {
+            let (sink, criticality) = (usize::from(self.job.sink[place]), timing.criticality[place]);
+            if !self.in_tree(sink) && due.as_ref().is_none_or(|due| criticality > due.criticality) {
+                due = Some(Aim { sink, criticality, delay: timing.delay });
+            }
+        }
+        due
+    }
+
     /// Whether the net's tree has the node; the source is always in it.
     pub fn in_tree(&self, node: usize) -> bool {
         node == self.job.source_of(self.net) || self.trees.has(self.net, node)
     }
 
     pub fn price(&self, node: usize) -> u64 {
-        self.prices.of(self.job, self.trees, self.net, node)
+        let price = self.prices.of(self.job, self.trees, self.net, node);
+        match &self.aim {
+            Some(aim) => weighed(price, aim.delay[node], aim.criticality),
+            None => price,
+        }
     }
 
     /// The prices of the path's nodes but the first. A logged path may be so
@@ -31,9 +62,11 @@ impl View<'_> {
         path.iter().skip(1).map(|&node| u128::from(self.price(node))).sum()
     }
 
-    fn unjoined(&self) -> impl Iterator<Item = usize> + '_ {
+    /// The sinks that the turn may join: those not yet joined, in a timed job the one whose turn it is.
+    fn goals(&self) -> impl Iterator<Item = usize> + '_ {
         let sinks = self.job.sinks(self.net).iter().map(|&sink| usize::from(sink));
-        sinks.filter(|&sink| !self.in_tree(sink))
+        let other = |sink: usize| self.aim.as_ref().is_some_and(|aim| aim.sink != sink);
+        sinks.filter(move |&sink| !self.in_tree(sink) && !other(sink))
     }
 }
 
@@ -55,7 +88,7 @@ impl Search {
         Search { distance: vec![0; nodes], goal: vec![false; nodes], heap: BinaryHeap::new() }
     }
 
-    /// The least cost of a path from the net's tree to any unjoined sink.
+    /// The least cost of a path from the net's tree to any sink that the turn may join.
     pub fn least(&mut self, view: &View) -> Option<u64> {
         self.begin(view);
         while let Some(Reverse((distance, node))) = self.heap.pop() {
@@ -78,7 +111,7 @@ impl Search {
         self.distance.fill(u64::MAX);
         self.goal.fill(false);
         self.heap.clear();
-        for sink in view.unjoined() {
+        for sink in view.goals() {
             self.goal[sink] = true;
         }
         self.offer(view.job.source_of(view.net), 0);

@@ -29,6 +29,11 @@ pub fn price(kind: u8, factor: u64, others: u32, capacity: u8, history: u64) -> 
     history * base(kind) * (100 + factor * over)
 }
 
+/// A timed job's price for a sink: criticality × delay × 100 and the other tenths of the congestion price.
+pub fn weighed(price: u64, delay: u16, criticality: u8) -> u64 {
+    u64::from(criticality) * u64::from(delay) * 100 + (10 - u64::from(criticality)) * price
+}
+
 /// What the earlier iterations leave to an iteration.
 pub struct Prices {
     pub iteration: u32,

@@ -17,7 +17,7 @@ pub fn walk(job: &Job, records: &[Record], lent: u64) -> Result<Trees, Fault> {
         let net = net(job, turn, record)?;
         let path = path(job, turn, record)?;
         trees.begin(net, record.iteration);
-        let view = View { job, trees: &trees, prices: &prices, net };
+        let view = View::new(job, &trees, &prices, net);
         follows(&view, turn, &path)?;
         joins(&view, turn, record.sink, &path)?;
         costs(&view, turn, record.cost, &path)?;
@@ -71,7 +71,7 @@ fn follows(view: &View, turn: u64, path: &[usize]) -> Result<(), Fault> {
     }
 }
 
-/// The path ends in the record's sink, one of the net's not yet joined.
+/// The path ends in the record's sink, one of the net's not yet joined, in a timed job the one whose turn it is.
 fn joins(view: &View, turn: u64, sink: u32, path: &[usize]) -> Result<(), Fault> {
     let &end = path.last().ok_or(Fault::EmptyPath { turn })?;
     if u32::try_from(end) != Ok(sink) {
@@ -83,7 +83,10 @@ fn joins(view: &View, turn: u64, sink: u32, path: &[usize]) -> Result<(), Fault>
     if view.in_tree(end) {
         return Err(Fault::SinkJoined { turn, sink: end });
     }
-    Ok(())
+    match &view.aim {
+        Some(aim) if aim.sink != end => Err(Fault::OtherTurn { turn, sink: end, due: aim.sink }),
+        _ => Ok(()),
+    }
 }
 
 /// The logged cost is the path's.

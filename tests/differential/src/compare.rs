@@ -11,17 +11,56 @@ pub struct Answer {
     pub numbers: Vec<u64>,
 }
 
-/// One call with all that is lent to it: the search and the calls about uses have a job's graph, tables 1 to 4, the reader its seven
-/// tables. The router is lent so many of the job's terms; where the words used of the log are told, it resumes. The writer writes the routes text, or the picture.
+/// One call with all that is lent to it: the search and the calls about uses have a job's graph, tables 1 to 4, the reader the tables that it
+/// fills. A price with delay and criticality and a search with a criticality are timed; the search has table 9 then. The router is lent so many of the job's terms; where the words used of the log are told, it resumes. The writer writes the routes text, or the picture.
 #[derive(Clone, Debug, PartialEq, Eq)]
 pub enum Case {
-    Price { kind: u32, factor: u32, others: u32, capacity: u32, history: u32 },
-    Search { graph: Job, factor: u32, work: Vec<u64>, history: Vec<u32>, others: Vec<u16>, in_tree: Vec<u8> },
-    Route { job: Job, terms: usize, used: Option<u64>, work: Vec<u64>, log: Vec<u32> },
-    Read { text: Vec<u8>, tables: Job },
-    Write { picture: bool, source: Vec<u16>, log: Vec<u32>, buffer: Vec<u8> },
-    AddUses { graph: Job, counts: Vec<u64>, logs: u64, log: Vec<u32> },
-    WriteUses { graph: Job, counts: Vec<u64>, logs: u64, buffer: Vec<u8> },
+    Price {
+        kind: u32,
+        factor: u32,
+        others: u32,
+        capacity: u32,
+        history: u32,
+        timing: Option<[u32; 2]>,
+    },
+    Search {
+        graph: Job,
+        factor: u32,
+        criticality: Option<u32>,
+        work: Vec<u64>,
+        history: Vec<u32>,
+        others: Vec<u16>,
+        in_tree: Vec<u8>,
+    },
+    Route {
+        job: Job,
+        terms: usize,
+        used: Option<u64>,
+        work: Vec<u64>,
+        log: Vec<u32>,
+    },
+    Read {
+        text: Vec<u8>,
+        tables: Job,
+    },
+    Write {
+        picture: bool,
+        source: Vec<u16>,
+        log: Vec<u32>,
+        buffer: Vec<u8>,
+    },
+    AddUses {
+        graph: Job,
+        counts: Vec<u64>,
+        logs: u64,
+        log: Vec<u32>,
+    },
+    WriteUses {
+        graph: Job,
+        counts: Vec<u64>,
+        logs: u64,
+        buffer: Vec<u8>,
+    },
 }
 
 /// Whether the call does nothing, for its counts are too short.
@@ -36,7 +75,7 @@ pub fn own(case: &Case) -> usize {
         Case::Price { .. } | Case::Write { .. } => 1,
         Case::Search { .. } => 0,
         Case::Route { .. } => 3,
-        Case::Read { .. } => 11,
+        Case::Read { .. } => 12,
     }
 }
 
@@ -92,6 +131,8 @@ macro_rules! guards {
                     $one(&mut tables.source, 77);
                     $one(&mut tables.first_sink, 77);
                     $one(&mut tables.sink, 77);
+                    $one(&mut tables.delay, 77);
+                    $one(&mut tables.criticality, 77);
                 }
                 Case::Write { buffer, .. } | Case::WriteUses { buffer, .. } => $one(buffer, 77),
                 Case::AddUses { counts, .. } => $one(counts, 77),
@@ -107,10 +148,13 @@ guards!(narrow_all, narrow);
 macro_rules! call {
     ($side:ident, $case:ident $(, $out:ident)?) => {
         match $case {
-            Case::Price { kind, factor, others, capacity, history } => {
+            Case::Price { kind, factor, others, capacity, history, timing: None } => {
                 $side::price(*kind, *factor, *others, *capacity, *history $(, $out)?)
             }
-            Case::Search { graph, factor, work, history, others, in_tree } => $side::search(
+            Case::Price { kind, factor, others, capacity, history, timing: Some([delay, criticality]) } => {
+                $side::timed_price(*kind, *factor, *others, *capacity, *history, *delay, *criticality $(, $out)?)
+            }
+            Case::Search { graph, factor, criticality: None, work, history, others, in_tree } => $side::search(
                 &graph.kind,
                 &graph.capacity,
                 &graph.first_edge,
@@ -122,6 +166,22 @@ macro_rules! call {
                 in_tree,
                 $($out)?
             ),
+            Case::Search { graph, factor, criticality: Some(criticality), work, history, others, in_tree } => {
+                $side::timed_search(
+                    &graph.kind,
+                    &graph.capacity,
+                    &graph.first_edge,
+                    &graph.edge_target,
+                    &graph.delay,
+                    *factor,
+                    *criticality,
+                    lend(work),
+                    history,
+                    others,
+                    in_tree,
+                    $($out)?
+                )
+            }
             Case::Route { job, terms, used: None, work, log } => $side::route(
                 &job.kind,
                 &job.capacity,
@@ -130,6 +190,8 @@ macro_rules! call {
                 &job.source,
                 &job.first_sink,
                 &job.sink,
+                &job.delay,
+                &job.criticality,
                 &lent_terms(job, *terms),
                 lend(work),
                 lend(log),
@@ -143,6 +205,8 @@ macro_rules! call {
                 &job.source,
                 &job.first_sink,
                 &job.sink,
+                &job.delay,
+                &job.criticality,
                 &lent_terms(job, *terms),
                 *used,
                 lend(work),
@@ -158,6 +222,8 @@ macro_rules! call {
                 lend(&mut tables.source),
                 lend(&mut tables.first_sink),
                 lend(&mut tables.sink),
+                lend(&mut tables.delay),
+                lend(&mut tables.criticality),
                 $($out)?
             ),
             Case::Write { picture: false, source, log, buffer } => $side::write(source, log, lend(buffer) $(, $out)?),
@@ -286,6 +352,7 @@ fn slices(case: &Case) -> Vec<(&'static str, Vec<u64>)> {
                 ("history", wide(history)),
                 ("others", wide(others)),
                 ("in_tree", wide(in_tree)),
+                ("delay", wide(&graph.delay)),
             ]);
             list
         }
@@ -330,6 +397,8 @@ fn job_slices(job: &Job) -> Vec<(&'static str, Vec<u64>)> {
         ("source", wide(&job.source)),
         ("first_sink", wide(&job.first_sink)),
         ("sink", wide(&job.sink)),
+        ("delay", wide(&job.delay)),
+        ("criticality", wide(&job.criticality)),
     ]);
     list
 }
@@ -357,7 +426,13 @@ fn memory(before: &Case, after: &After) -> Result<(), String> {
             let nodes = graph.kind.len();
             cleared(work, work_after, nodes, 8 * nodes)
         }
-        (Case::Read { text, .. }, Case::Read { text: text_after, .. }) if refusal == 0 => text == text_after,
+        (Case::Read { text, tables }, Case::Read { text: text_after, tables: tables_after })
+            if refusal == 0 =>
+        {
+            let untimed = after.answer.numbers[11] == 0;
+            let same = tables.delay == tables_after.delay && tables.criticality == tables_after.criticality;
+            text == text_after && (same || !untimed)
+        }
         (Case::Write { source, log, .. }, Case::Write { source: source_after, log: log_after, .. })
             if refusal == 0 =>
         {
@@ -394,7 +469,7 @@ fn cleared(before: &[u64], after: &[u64], from: usize, end: usize) -> bool {
 fn check(after: &After) -> Result<(), String> {
     let Case::Route { job, terms, used, log, .. } = &after.case else { return Ok(()) };
     let Answer { refusal, numbers } = &after.answer;
-    if matches!(refusal.first(), Some(5 | 6 | 14)) {
+    if matches!(refusal.first(), Some(5 | 6 | 14 | 15)) {
         return Ok(());
     }
     let lent = used.filter(|_| refusal.first() != Some(&7)).unwrap_or(0);
@@ -416,6 +491,9 @@ pub fn checked(job: &Job) -> checker::Job<'_> {
         sink: &job.sink,
         limit: job.limit,
         tuning: checker::Tuning { first, up, down, step },
+        timing: job
+            .is_timed()
+            .then_some(checker::Timing { delay: &job.delay, criticality: &job.criticality }),
     }
 }
 
@@ -517,6 +595,39 @@ pub mod inject {
         (0..job.source.len()).any(|net| logs::repeats_sink(job, net))
     }
 
+    /// Faults of timed calls.
+    fn of_timed(fault: u32, before: &Case, after: &mut Case, answer: &mut Answer) {
+        match (fault, before, after, &answer.refusal[..]) {
+            // the dearest tenth of a delay is left out
+            (24, Case::Price { timing: Some([delay, 9]), .. }, _, []) if *delay > 0 => {
+                answer.numbers[0] -= 100
+            }
+            // a bad criticality has the place of the factor
+            (25, Case::Search { graph, criticality: Some(_), .. }, _, &[13, place])
+                if place == graph.kind.len() as u64 + 1 =>
+            {
+                answer.refusal[1] -= 1
+            }
+            // table 10 goes unseen
+            (26, Case::Route { .. }, _, [5, 10]) => answer.refusal = vec![6, 8],
+            // a sink that a path passes is told as a turn
+            (27, Case::Route { job, used: None, terms: 8, .. }, Case::Route { log, .. }, [])
+                if job.is_timed() && logs::passes_sink(job, &log[..answer.numbers[2] as usize]) =>
+            {
+                answer.numbers[1] += 1
+            }
+            // a short table 9 is named as table 8
+            (28, Case::Read { .. }, _, [4, 9]) => answer.refusal[1] = 8,
+            // the limit is told before the nodes
+            (29, Case::Read { .. }, _, &[15, nodes, limit]) => answer.refusal = vec![15, limit, nodes],
+            // a log that a timed job does not follow is taken up
+            (30, Case::Route { job, used: Some(_), .. }, _, [14, _]) if job.is_timed() => {
+                answer.refusal.clear()
+            }
+            _ => {}
+        }
+    }
+
     /// Faults of resume.
     fn of_resumes(fault: u32, before: &Case, answer: &mut Answer) {
         let Case::Route { job, used: Some(used), log, .. } = before else { return };
@@ -535,7 +646,8 @@ pub mod inject {
     }
 
     /// Faults of the tuning, the pins, joined nets, the rule and the bounds of counts.
-    fn of_requests(fault: u32, before: &Case, after: &Case, answer: &mut Answer) {
+    fn of_requests(fault: u32, before: &Case, after: &mut Case, answer: &mut Answer) {
+        of_timed(fault, before, after, answer);
         of_resumes(fault, before, answer);
         match (fault, before) {
             // a step of 2 counts a turn too many
@@ -559,7 +671,9 @@ pub mod inject {
                 answer.numbers[0] -= 6
             }
             // under rule 2 a net without an overfull node makes a turn all the same
-            (13, Case::Route { .. }) if logs::passes_over(log(after, answer)) => answer.numbers[1] += 1,
+            (13, Case::Route { used: None, .. }) if logs::passes_over(log(after, answer)) => {
+                answer.numbers[1] += 1
+            }
             // another rule in a V line is taken for a wrong shape
             (14, Case::Read { text, .. })
                 if answer.refusal == [2, 2]

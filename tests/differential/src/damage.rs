@@ -6,7 +6,7 @@ use job::{jobs, Job, Rng, Tuning};
 pub fn damage(rng: &mut Rng, job: &mut Job) {
     let times = rng.pick(&[1, 1, 1, 1, 2, 3]);
     for _ in 0..times {
-        match rng.below(13) {
+        match rng.below(if job.is_timed() { 19 } else { 13 }) {
             0..=3 => one_of_graph(rng, job),
             4 => sources(rng, job),
             5 => firsts(rng, &mut job.first_sink),
@@ -14,6 +14,10 @@ pub fn damage(rng: &mut Rng, job: &mut Job) {
             7 => tuning(rng, &mut job.tuning),
             8 | 9 => pin(rng, job),
             12 => job.until = rng.pick(&[0, 100, 101, 256, 257, 65_537, u32::MAX]),
+            13 | 14 => delays(rng, job),
+            15 | 16 => criticalities(rng, job),
+            17 => too_large(rng, job),
+            18 => job.timed = rng.pick(&[0, 2, 256, 65_536, u32::MAX]),
             10 => job.rule = rng.pick(&[0, 3, 4, 256, 257, 258, 65_537, 65_538, u32::MAX]),
             _ => job.limit = rng.pick(&[0, 101, 102, 256, 257, 65_536, 65_537, u32::MAX]),
         }
@@ -85,6 +89,41 @@ fn capacities(rng: &mut Rng, job: &mut Job) {
         length(rng, &mut job.capacity, 1);
     } else {
         put(rng, &mut job.capacity, 0);
+    }
+}
+
+/// Table 9: wrong length or a delay beyond its bounds.
+pub fn delays(rng: &mut Rng, job: &mut Job) {
+    if rng.percent(50) {
+        length(rng, &mut job.delay, 0);
+    } else {
+        let delay = rng.pick(&[1_001, 1_002, 32_768, u16::MAX]);
+        put(rng, &mut job.delay, delay);
+    }
+}
+
+/// Table 10: wrong length or a criticality beyond its bounds.
+fn criticalities(rng: &mut Rng, job: &mut Job) {
+    if rng.percent(50) {
+        length(rng, &mut job.criticality, 0);
+    } else {
+        let criticality = rng.pick(&[10, 11, 100, 128, 255]);
+        put(rng, &mut job.criticality, criticality);
+    }
+}
+
+/// More nodes or a higher limit than a timed job may have, or both; at times just as many.
+fn too_large(rng: &mut Rng, job: &mut Job) {
+    if rng.percent(60) {
+        let nodes = rng.pick(&[1_024, 1_025, 1_025, 1_026, 4_096]);
+        let last = job.edge_target.len() as u32;
+        job.kind.resize(nodes, 4);
+        job.capacity.resize(nodes, 1);
+        job.first_edge.resize(nodes + 1, last);
+        job.delay.resize(nodes, 1_000);
+    }
+    if rng.percent(60) {
+        job.limit = rng.pick(&[40, 41, 42, 99, 100]);
     }
 }
 

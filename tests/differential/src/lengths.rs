@@ -1,15 +1,16 @@
 //! Lengths of lent slices: enough, just too short, longer.
 
-use job::{Job, Rng};
+use job::{Job, Lengths, Rng};
 
-/// What a job needs of each table.
-pub fn needed(job: &Job) -> [usize; 7] {
-    let (nodes, nets) = (job.kind.len(), job.source.len());
-    [nodes, nodes, nodes + 1, job.edge_target.len(), nets, nets + 1, job.sink.len()]
+/// What a job needs of each table: of tables 9 and 10 nothing, if it is untimed.
+pub fn needed(job: &Job) -> Lengths {
+    let (nodes, nets, sinks) = (job.kind.len(), job.source.len(), job.sink.len());
+    let (delays, criticalities) = if job.is_timed() { (nodes, sinks) } else { (0, 0) };
+    [nodes, nodes, nodes + 1, job.edge_target.len(), nets, nets + 1, sinks, delays, criticalities]
 }
 
 /// Lengths that mostly are enough, at times in none or some of the tables.
-pub fn lengths(rng: &mut Rng, needed: [usize; 7]) -> [usize; 7] {
+pub fn lengths(rng: &mut Rng, needed: Lengths) -> Lengths {
     let way = rng.below(10);
     needed.map(|length| match way {
         0..=3 => length,

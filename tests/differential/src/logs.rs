@@ -99,6 +99,26 @@ pub fn forks(log: &[u32]) -> bool {
     })
 }
 
+/// Whether some path of a job's log passes an unjoined sink of its net, which is joined without a turn.
+pub fn passes_sink(job: &Job, log: &[u32]) -> bool {
+    let places = records(log);
+    let mut tree = (0, 0, Vec::new());
+    places.windows(2).any(|two| {
+        let record = &log[two[0]..two[1]];
+        if (tree.0, tree.1) != (record[0], record[1]) {
+            tree = (record[0], record[1], Vec::new());
+        }
+        let source = job.source.get(record[1] as usize);
+        let same = (0..job.source.len()).filter(|net| Some(&job.source[*net]) == source);
+        let sinks: Vec<u32> = same.flat_map(|net| job.sinks(net)).map(|sink| u32::from(*sink)).collect();
+        let path = &record[6..];
+        let before = &path[..path.len().saturating_sub(1)];
+        let passes = before.iter().any(|node| sinks.contains(node) && !tree.2.contains(node));
+        tree.2.extend_from_slice(path);
+        passes
+    })
+}
+
 /// Whether the record at the front of these words is whole, sound by 01, and has a node from a block's node count on.
 pub fn lacks(words: &[u32], nodes: usize) -> bool {
     let &[1..=100, 0..512, sink, _, _, length @ 2..=4_096, ref rest @ ..] = words else { return false };

@@ -1,12 +1,12 @@
 //! The outcomes that calls come to, counted, and those that a whole run must come to.
 
-use crate::compare::{idle, After, Case};
+use crate::compare::{self, idle, After, Case};
 use crate::logs;
 use crate::resumes::Lent;
 use job::{texts, Counts, Job, Tuning};
 
 /// Every outcome that a whole run must come to.
-const EXPECTED: [&str; 237] = [
+const EXPECTED: [&str; 316] = [
     "price accepted",
     "price 13,0",
     "price 13,1",
@@ -208,6 +208,7 @@ const EXPECTED: [&str; 237] = [
     "terms of 7 entries",
     "terms of 8 entries",
     "terms of 9 entries",
+    "terms of 10 entries",
     "V,1 line accepted",
     "V,2 line accepted",
     "V line 1,2",
@@ -241,6 +242,84 @@ const EXPECTED: [&str; 237] = [
     "T line of kind 0 3",
     "T line of kind 2 3",
     "T line of a wire 3",
+    "timed price accepted",
+    "timed price 13,0",
+    "timed price 13,1",
+    "timed price 13,2",
+    "timed price 13,3",
+    "timed price 13,4",
+    "timed price 13,5",
+    "timed price 13,6",
+    "timed search accepted",
+    "timed search 5,1",
+    "timed search 5,2",
+    "timed search 5,3",
+    "timed search 5,4",
+    "timed search 5,9",
+    "timed search 6",
+    "timed search 13",
+    "timed search 13 with the node count",
+    "timed search 13 with the node count + 1",
+    "timed search 15 by nodes",
+    "timed search 15 before 6",
+    "timed search 5,9 before 15",
+    "timed search with a distance over 2^63",
+    "route 5,9",
+    "route 5,10",
+    "route 15 by nodes",
+    "route 15 by the limit",
+    "route 15 by nodes and the limit",
+    "resume 5,9",
+    "resume 5,10",
+    "resume 15 by nodes",
+    "resume 15 by the limit",
+    "read 4,9",
+    "read 4,10",
+    "read 15 by nodes",
+    "read 15 by the limit",
+    "timed job accepted",
+    "timed job 7",
+    "timed job 8",
+    "timed job 9",
+    "timed job 15",
+    "timed job in iteration 3 or later accepted",
+    "timed job with joined nets accepted",
+    "timed job with joined nets 7",
+    "timed job with a sink of two criticalities accepted",
+    "timed job with a tree kept accepted",
+    "timed job with a sink joined without a turn accepted",
+    "timed job with costs over 32 bits 9",
+    "timed job with a delay of 1,000 accepted",
+    "timed job with a criticality of 9 accepted",
+    "timed job with a limit of 40 accepted",
+    "timed job of 1,024 nodes accepted",
+    "untimed job with tables 9 and 10 accepted",
+    "straight run's end by a resume, accepted, timed",
+    "straight run's end by a resume, 8, timed",
+    "straight run's end by a resume, 9, timed",
+    "log out of turn 14",
+    "log of a timed job taken up",
+    "log of a timed job with joined nets taken up",
+    "log of a timed job over another sink taken up",
+    "W line accepted",
+    "W line 1,2",
+    "W line 1,3",
+    "W line 1,4",
+    "W line after a P line accepted",
+    "W line after a V line accepted",
+    "W line after P and V lines accepted",
+    "N line of a timed text too short 1",
+    "N line of a timed text too long 1",
+    "N line of an untimed text too long 1",
+    "N line of a timed text 2",
+    "N line of a timed text one beyond its bound 2",
+    "N line of a timed text 2 before 3",
+    "T line of a timed text too short 1",
+    "T line of a timed text too long 1",
+    "T line of an untimed text too long 1",
+    "T line of a timed text 2",
+    "T line of a timed text one beyond its bound 2",
+    "T line of a timed text 2 before 3",
     "out of 15 entries",
     "out of 16 entries",
     "out of 17 entries",
@@ -269,10 +348,12 @@ impl Outcomes {
     /// Counts how a call ends.
     pub fn count_call(&mut self, after: &After) {
         let call = match &after.case {
-            Case::Price { .. } => "price",
-            Case::Search { graph, work, .. } => {
-                self.count_search(after, graph.kind.len(), work);
-                "search"
+            Case::Price { timing: None, .. } => "price",
+            Case::Price { .. } => "timed price",
+            Case::Search { graph, work, criticality, .. } => {
+                let call = if criticality.is_some() { "timed search" } else { "search" };
+                self.count_search(call, after, graph.kind.len(), work);
+                call
             }
             Case::Route { used: Some(_), .. } => "resume",
             Case::Route { job, log, .. } => {
@@ -284,6 +365,7 @@ impl Outcomes {
             Case::Read { text, .. } => {
                 self.count_pin_line(after, text);
                 self.count_term_lines(after, text);
+                self.count_timed_lines(after, text);
                 "read"
             }
             Case::Write { picture, source, log, .. } => {
@@ -301,7 +383,8 @@ impl Outcomes {
             [] if idle(&after.case) => format!("{call} with short counts"),
             [] => format!("{call} accepted"),
             [number @ (4 | 5), table] => format!("{call} {number},{table}"),
-            [13, place] if call == "price" => format!("{call} 13,{place}"),
+            [13, place] if call.ends_with("price") => format!("{call} 13,{place}"),
+            [15, nodes, limit] => format!("{call} 15{}", too_large(nodes, limit)),
             [13, 54] if call.starts_with("uses") => format!("{call} 13,54"),
             [number, ..] => format!("{call} {number}"),
         };
@@ -374,7 +457,7 @@ impl Outcomes {
         self.count(format!("{}{whole} {}", lent.name, end(after)));
         match after.answer.refusal[..] {
             [14, word] => self.count_diverging(lent, word),
-            [5..=7, ..] => {}
+            [5..=7 | 15, ..] => {}
             _ => self.count_taken_up(lent),
         }
     }
@@ -404,6 +487,9 @@ impl Outcomes {
             (last >= 3, "log of three iterations and more"),
             (logs::has_long_cost(&lent.words), "log with costs over 32 bits"),
             (logs::has_joined(&job.source), "log of joined nets"),
+            (job.is_timed(), "log of a timed job"),
+            (job.is_timed() && logs::has_joined(&job.source), "log of a timed job with joined nets"),
+            (job.is_timed() && logs::passes_sink(job, &lent.words), "log of a timed job over another sink"),
         ];
         self.count(if job.rule == 1 { format!("{rule} taken up") } else { String::from(rule) });
         for (_, name) in names.into_iter().filter(|name| name.0) {
@@ -412,20 +498,31 @@ impl Outcomes {
     }
 
     /// Counts what few searches come to.
-    fn count_search(&mut self, after: &After, nodes: usize, work: &[u64]) {
-        if after.answer.refusal.is_empty() && work[..nodes].iter().any(|far| (1 << 61..1 << 62).contains(far))
-        {
-            self.count("search with a distance over 2^61");
+    fn count_search(&mut self, call: &str, after: &After, nodes: usize, work: &[u64]) {
+        let refusal = &after.answer.refusal;
+        let far = work[..nodes.min(work.len())].iter().copied().filter(|far| *far != u64::MAX).max();
+        for (bound, name) in [(1 << 61, "2^61"), (1 << 63, "2^63")] {
+            if refusal.is_empty() && far.is_some_and(|far| far > bound) {
+                self.count(format!("{call} with a distance over {name}"));
+            }
         }
-        if after.answer.refusal == [13, nodes as u64] {
-            self.count("search 13 with the node count");
+        match refusal[..] {
+            [15, ..] if work.len() < 8 * nodes => self.count(format!("{call} 15 before 6")),
+            [5, 9] if nodes > 1_024 => self.count(format!("{call} 5,9 before 15")),
+            _ => {}
+        }
+        if *refusal == [13, nodes as u64] {
+            self.count(format!("{call} 13 with the node count"));
+        }
+        if *refusal == [13, nodes as u64 + 1] {
+            self.count(format!("{call} 13 with the node count + 1"));
         }
     }
 
     /// Counts how a sound job with nets of one source ends.
     fn count_joined(&mut self, after: &After, job: &Job) {
         let refusal = &after.answer.refusal;
-        if matches!(refusal.first(), Some(5 | 6)) || !logs::has_joined(&job.source) {
+        if matches!(refusal.first(), Some(5 | 6 | 15)) || !logs::has_joined(&job.source) {
             return;
         }
         let end = end(after);
@@ -535,13 +632,17 @@ impl Outcomes {
         }
     }
 
-    /// Counts how a text with P or V lines ends, as far as that may be the lines' doing.
+    /// Counts how a text with P, V or W lines ends, as far as that may be the lines' doing.
     fn count_term_lines(&mut self, after: &After, text: &[u8]) {
         let holds = |begin: &[u8]| text.windows(begin.len()).any(|bytes| bytes == begin);
         let after_tuning = holds(b"\nP") && holds(b"\nV");
         let names = [
             (holds(b"\nP"), "P line"),
             (holds(b"\nV"), "V line"),
+            (holds(b"\nW"), "W line"),
+            (holds(b"\nP") && !holds(b"\nV") && holds(b"\nW"), "W line after a P line"),
+            (!holds(b"\nP") && holds(b"\nV") && holds(b"\nW"), "W line after a V line"),
+            (after_tuning && holds(b"\nW"), "W line after P and V lines"),
             (holds(b"\nV,1\n"), "V,1 line"),
             (holds(b"\nV,2\n"), "V,2 line"),
             (holds(b"\nV,1,"), "V,1,k line"),
@@ -554,6 +655,72 @@ impl Outcomes {
                 [number @ (1 | 2), line @ (2..=4)] => self.count(format!("{name} {number},{line}")),
                 _ => {}
             }
+        }
+    }
+
+    /// Counts which delay or criticality a text is refused for, as far as it can be told from the line.
+    fn count_timed_lines(&mut self, after: &After, text: &[u8]) {
+        let [number @ (1 | 2), line] = after.answer.refusal[..] else { return };
+        let lines: Vec<&[u8]> = text.split(|byte| *byte == b'\n').collect();
+        let fields = |line: &[u8]| -> Option<Vec<u64>> {
+            let fields = line.split(|byte| *byte == b',').skip(1);
+            fields.map(|field| std::str::from_utf8(field).ok()?.parse().ok()).collect()
+        };
+        let Some(at) = lines.get(line as usize - 1) else { return };
+        let Some(found) = fields(at) else { return };
+        let timed = lines[..line as usize - 1].contains(&&b"W"[..]);
+        let (name, count, most) = match at.first() {
+            Some(b'N') => ("N line", 3, 1_000),
+            Some(b'T') => ("T line", 2, 9),
+            _ => return,
+        };
+        match (number, timed) {
+            (1, true) if found.len() == count => self.count(format!("{name} of a timed text too short 1")),
+            (1, true) if found.len() == count + 2 => self.count(format!("{name} of a timed text too long 1")),
+            (1, false) if found.len() == count + 1 => {
+                self.count(format!("{name} of an untimed text too long 1"))
+            }
+            (2, true) if found.last().is_some_and(|last| *last > most) => {
+                self.count(format!("{name} of a timed text 2"));
+                if found.last() == Some(&(most + 1)) {
+                    self.count(format!("{name} of a timed text one beyond its bound 2"));
+                }
+                if refusal_without(&lines, line) == [3, line] {
+                    self.count(format!("{name} of a timed text 2 before 3"));
+                }
+            }
+            _ => {}
+        }
+    }
+
+    /// Counts how a timed job that is else sound ends, and an untimed one that is lent tables 9 and 10.
+    pub fn count_timed(&mut self, job: &Job, after: &After) {
+        let (iteration, words) = (after.answer.numbers[0], after.answer.numbers[2] as usize);
+        let Case::Route { log, .. } = &after.case else { return };
+        let (log, end) = (&log[..words], end(after));
+        if !job.is_timed() {
+            if !job.delay.is_empty() && !job.criticality.is_empty() {
+                self.count(format!("untimed job with tables 9 and 10 {end}"));
+            }
+            return;
+        }
+        let bounds = [job.delay.contains(&1_000), job.criticality.contains(&9), job.limit == 40];
+        let short = words < 3_000;
+        let names = [
+            (true, ""),
+            (iteration > 2, " in iteration 3 or later"),
+            (logs::has_joined(&job.source), " with joined nets"),
+            (unlike_listings(job), " with a sink of two criticalities"),
+            (short && job.rule == 2 && logs::passes_over(log), " with a tree kept"),
+            (short && logs::passes_sink(job, log), " with a sink joined without a turn"),
+            (logs::has_long_cost(log), " with costs over 32 bits"),
+            (bounds[0], " with a delay of 1,000"),
+            (bounds[1], " with a criticality of 9"),
+            (bounds[2], " with a limit of 40"),
+            (job.kind.len() == 1_024, " of 1,024 nodes"),
+        ];
+        for (_, name) in names.into_iter().filter(|name| name.0) {
+            self.count(format!("timed job{name} {end}"));
         }
     }
 
@@ -640,6 +807,39 @@ impl Outcomes {
 /// How a call ends: accepted, or the refusal's number.
 pub fn end(after: &After) -> String {
     after.answer.refusal.first().map_or(String::from("accepted"), u64::to_string)
+}
+
+/// What the plain reader refuses a text for if the last number of one of its lines is 0.
+fn refusal_without(lines: &[&[u8]], line: u64) -> Vec<u64> {
+    let mut lines: Vec<Vec<u8>> = lines.iter().map(|line| line.to_vec()).collect();
+    let changed = &mut lines[line as usize - 1];
+    let last = changed.iter().rposition(|byte| *byte == b',').map_or(0, |comma| comma + 1);
+    changed.splice(last.., *b"0");
+    let case = Case::Read { text: lines.join(&b'\n'), tables: Job::unread([0; 9]) };
+    compare::plain(&case).answer.refusal
+}
+
+/// Which of a timed job's two bounds is passed; a search has no limit.
+fn too_large(nodes: u64, limit: u64) -> &'static str {
+    match (nodes > 1_024, limit > 40) {
+        (true, true) => " by nodes and the limit",
+        (true, false) => " by nodes",
+        _ => " by the limit",
+    }
+}
+
+/// Whether nets of one source list a sink with different criticalities.
+fn unlike_listings(job: &Job) -> bool {
+    let listings = (0..job.source.len()).flat_map(|net| {
+        let places = job.first_sink[net] as usize..job.first_sink[net + 1] as usize;
+        places.map(move |place| (job.source[net], job.sink[place], job.criticality[place]))
+    });
+    let mut first = std::collections::BTreeMap::new();
+    let mut unlike = false;
+    for (source, sink, criticality) in listings {
+        unlike |= *first.entry((source, sink)).or_insert(criticality) != criticality;
+    }
+    unlike
 }
 
 /// Words for a pin's kind, the same for all wires.

@@ -131,14 +131,16 @@ fn beyond(rng: &mut Rng, words: &[u32]) -> u64 {
     rng.pick(&[length + 1, length + 9, length + (1 << 32), 1 << 63, u64::MAX])
 }
 
-/// The job's own log, taken up under another rule, k or tuning.
+/// The job's own log, taken up under another rule, k or tuning; if it is timed, by other criticalities or as an untimed one.
 fn other_terms(rng: &mut Rng, job: &Job, whole: &[u32]) -> Lent {
     let mut other = job.clone();
-    other.limit = (job.limit + 2).min(100);
-    match rng.below(3) {
+    other.limit = (job.limit + 2).min(if job.is_timed() { 40 } else { 100 });
+    match rng.below(if job.is_timed() { 5 } else { 3 }) {
         0 => other.rule = 3 - job.rule,
         1 => other.until = jobs::until(rng),
-        _ => other.tuning = jobs::tuning(rng),
+        2 => other.tuning = jobs::tuning(rng),
+        3 => rng.shuffle(&mut other.criticality),
+        _ => other.timed = 0,
     }
     let words = logs::first_iterations(whole, rng.within(1, 4) as u32).to_vec();
     Lent::new("log of other terms", &other, words)
@@ -154,6 +156,10 @@ fn wandering(rng: &mut Rng, job: &Job, name: &'static str, stray: Option<Stray>)
 
 /// A log that breaks one clause of what a path must be.
 fn straying(rng: &mut Rng, job: &Job) -> Lent {
+    if job.is_timed() && rng.percent(50) {
+        let own_prices = rng.percent(50);
+        return wandering(rng, job, "log out of turn", Some(Stray::Turn { own_prices }));
+    }
     let (name, stray) = rng.pick(&[
         ("log over another sink", Stray::Sink),
         ("log through a tree", Stray::Tree),

@@ -8,7 +8,7 @@ use crate::logs;
 use crate::outcomes::{self, Outcomes};
 use crate::resumes::{self, Lent};
 use crate::uses::{self, Counts};
-use job::{jobs, texts, Job, Rng, TERMS};
+use job::{jobs, texts, Job, Lengths, Rng, TERMS};
 
 /// A case that fails, and how.
 pub struct Failure {
@@ -76,6 +76,7 @@ impl Run {
             0 => jobs::full(182, 32_768),
             1 => jobs::many_sinks(&mut self.rng, 4_096),
             2 => jobs::line(4_096),
+            3..=8 => self.timed_line(),
             _ => jobs::job(&mut self.rng),
         };
         let words = self.whole(&job)?;
@@ -87,11 +88,21 @@ impl Run {
         self.resumes(&job)?;
         let search = alone::search(&mut self.rng);
         self.case(search)?;
+        if self.rng.percent(50) {
+            let search = alone::timed_search(&mut self.rng);
+            self.case(search)?;
+        }
         for _ in 0..4 {
             let price = alone::price(&mut self.rng);
             self.case(price)?;
         }
         Ok(())
+    }
+
+    /// A timed line of as many nodes as there may be, or one or two more.
+    fn timed_line(&mut self) -> Job {
+        let job = jobs::line(self.rng.pick(&[1_024, 1_024, 1_025, 1_026]));
+        jobs::timed(&mut self.rng, job)
     }
 
     /// The job with as much log as it can need, as far as that is not too much; the words used.
@@ -105,6 +116,7 @@ impl Run {
         self.outcomes.count_whole(&after);
         self.outcomes.count_tuning(job.tuning, &after);
         self.outcomes.count_rule(job, &after);
+        self.outcomes.count_timed(job, &after);
         Ok(after.answer.numbers[2] as usize)
     }
 
@@ -154,7 +166,7 @@ impl Run {
         if self.rng.percent(75) {
             return Ok(());
         }
-        let count = self.rng.below(10);
+        let count = self.rng.below(11);
         let words = self.rng.pick(&[40, 400, 2_000]);
         let log = self.old_log(words);
         let work = work(8 * job.kind.len());
@@ -202,7 +214,8 @@ impl Run {
             straight.answer == after.answer && log == other,
             "an own log doesn't end as the straight run"
         );
-        self.outcomes.count(format!("straight run's end by a resume, {}", outcomes::end(after)));
+        let timed = if lent.job.is_timed() { ", timed" } else { "" };
+        self.outcomes.count(format!("straight run's end by a resume, {}{timed}", outcomes::end(after)));
     }
 
     /// The same with something wrong that is told before the log is looked at.
@@ -210,7 +223,7 @@ impl Run {
         let mut case = lent.case();
         let Case::Route { job, terms, work, .. } = &mut case else { return Ok(()) };
         match self.rng.below(4) {
-            0 => *terms = self.rng.below(10),
+            0 => *terms = self.rng.below(11),
             1 => work.truncate(self.rng.below(8 * job.kind.len())),
             2 => *job = jobs::small(&mut self.rng),
             _ => damage::damage(&mut self.rng, job),
@@ -242,7 +255,8 @@ impl Run {
             0 => jobs::full(182, 32_768),
             1 | 2 => return self.sinks_text(),
             3 => jobs::line(4_096),
-            4..=150 => jobs::job(&mut self.rng),
+            4..=9 => self.timed_line(),
+            10..=150 => jobs::job(&mut self.rng),
             _ => jobs::small(&mut self.rng),
         };
         self.reads(&job)?;
@@ -253,10 +267,11 @@ impl Run {
         Ok(())
     }
 
-    /// A text of 4,096 or 4,097 sinks, then without its last LF, and with no node as its last sink.
+    /// A text of 4,096 or 4,097 sinks, then without its last LF, and with no node as its last sink, or a bad criticality if it is timed.
     fn sinks_text(&mut self) -> Result<(), Failure> {
         let sinks = self.rng.within(4_096, 4_097);
         let job = jobs::many_sinks(&mut self.rng, sinks);
+        let job = jobs::perhaps_timed(&mut self.rng, job);
         let text = texts::text(&job);
         let after = self.sinks_read(&text)?;
         match after.answer.refusal.first() {
@@ -273,7 +288,7 @@ impl Run {
 
     /// Reads a text into tables that are long enough for it.
     fn sinks_read(&mut self, text: &[u8]) -> Result<After, Failure> {
-        self.case(Case::Read { text: text.to_vec(), tables: Job::unread([4_200; 7]) })
+        self.case(Case::Read { text: text.to_vec(), tables: Job::unread([4_200; 9]) })
     }
 
     /// Sound and changed texts of a job.
@@ -295,19 +310,19 @@ impl Run {
         }
         if self.rng.once_in(40) {
             let odd = texts::odd(&mut self.rng);
-            self.read(odd, [2; 7])?;
+            self.read(odd, [2; 9])?;
         }
         Ok(())
     }
 
-    fn read(&mut self, text: Vec<u8>, needed: [usize; 7]) -> Result<After, Failure> {
+    fn read(&mut self, text: Vec<u8>, needed: Lengths) -> Result<After, Failure> {
         let tables = Job::unread(lengths::lengths(&mut self.rng, needed));
         self.case(Case::Read { text, tables })
     }
 
     /// Each table in turn one too short, just long enough, and one longer.
-    fn each_table(&mut self, text: &[u8], needed: [usize; 7]) -> Result<(), Failure> {
-        for table in 0..7 {
+    fn each_table(&mut self, text: &[u8], needed: Lengths) -> Result<(), Failure> {
+        for table in 0..needed.len() {
             for more in 0..3 {
                 let mut lengths = needed;
                 lengths[table] = (lengths[table] + more).saturating_sub(1);

@@ -22,6 +22,8 @@ enum Step {
     Rule,
     /// Sets the k of a V line without one.
     Until,
+    /// Makes a timed job an untimed one without tables 9 and 10.
+    Untimed,
     /// Lends so many iterations of the job's own log.
     Own(u32),
     /// Lends all terms and no entry more.
@@ -68,7 +70,8 @@ pub fn shrink(case: &Case, fails: &dyn Fn(&Case) -> bool) -> Case {
 
 /// All steps worth trying, coarse ones first.
 fn steps(case: &Case) -> Vec<Step> {
-    let mut list = vec![Step::Plain, Step::Rule, Step::Until, Step::Terms, Step::Own(1), Step::Own(2)];
+    let mut list = vec![Step::Plain, Step::Rule, Step::Until, Step::Untimed, Step::Terms];
+    list.extend([Step::Own(1), Step::Own(2)]);
     let (nodes, edges, nets, sinks) = sizes(case);
     list.extend(spans(nets).into_iter().map(|(from, count)| Step::Nets(from, count)));
     list.extend(spans(nodes).into_iter().map(|(from, count)| Step::Nodes(from, count)));
@@ -202,14 +205,26 @@ fn job_sizes(job: &Job) -> (usize, usize, usize, usize) {
     (job.kind.len(), job.edge_target.len(), job.source.len(), job.sink.len())
 }
 
-/// The job that a text holds by the plain reader, if it holds one.
+/// The text with another limit in its first line.
+fn with_limit(text: &[u8], limit: u32) -> Option<Vec<u8>> {
+    let end = text.iter().position(|byte| *byte == b'\n')?;
+    let comma = text[..end].iter().rposition(|byte| *byte == b',')?;
+    Some([&text[..=comma], limit.to_string().as_bytes(), &text[end..]].concat())
+}
+
+/// The job that a text holds by the plain reader, if it holds one; a timed one may have a higher limit than it is read with.
 fn read_back(text: &[u8]) -> Option<Job> {
     let lines = text.iter().filter(|byte| **byte == b'\n').count() + 2;
-    let tables = Job::unread([lines; 7]);
+    let tables = Job::unread([lines; 9]);
     let after = crate::compare::plain(&Case::Read { text: text.to_vec(), tables });
     let Case::Read { tables: mut filled, .. } = after.case else { return None };
-    if !after.answer.refusal.is_empty() {
-        return None;
+    match after.answer.refusal[..] {
+        [] => {}
+        [15, 0..=1_024, limit] => {
+            let job = read_back(&with_limit(text, 40)?)?;
+            return Some(Job { limit: limit as u32, ..job });
+        }
+        _ => return None,
     }
     filled.take_numbers(&after.answer.numbers);
     Some(filled)
@@ -330,8 +345,15 @@ fn drop_from_job(job: &mut Job, step: Step) -> Option<()> {
         Step::Plain => (job.tuning != Tuning::PLAIN).then(|| job.tuning = Tuning::PLAIN),
         Step::Rule => (job.rule != PLAIN_RULE).then(|| job.rule = PLAIN_RULE),
         Step::Until => (job.until != PLAIN_UNTIL).then(|| job.until = PLAIN_UNTIL),
+        Step::Untimed => job.is_timed().then(|| make_untimed(job)),
         _ => None,
     }
+}
+
+fn make_untimed(job: &mut Job) {
+    job.timed = 0;
+    job.delay.clear();
+    job.criticality.clear();
 }
 
 /// Takes entries out, as far as they are there.
@@ -356,8 +378,11 @@ fn drop_edges(graph: &mut Job, from: usize, count: usize) -> Option<()> {
     (0..count).try_for_each(|_| drop_place(&mut graph.first_edge, &mut graph.edge_target, from))
 }
 
+/// Drops a sink with its criticality.
 fn drop_sink(job: &mut Job, place: usize) -> Option<()> {
-    drop_place(&mut job.first_sink, &mut job.sink, place)
+    drop_place(&mut job.first_sink, &mut job.sink, place)?;
+    cut(&mut job.criticality, place, 1);
+    Some(())
 }
 
 /// Drops a net with its sinks.
@@ -395,6 +420,7 @@ fn drop_node(graph: &mut Job, node: usize) -> Option<()> {
     number_anew(&mut graph.edge_target, node);
     graph.kind.remove(node);
     graph.capacity.remove(node);
+    cut(&mut graph.delay, node, 1);
     graph.first_edge.remove(node + 1);
     Some(())
 }
@@ -450,7 +476,8 @@ macro_rules! with_slice {
             (Case::Search { work: $slice, .. }, 4) => $body,
             (Case::Search { history: $slice, .. }, 5) => $body,
             (Case::Search { others: $slice, .. }, 6) => $body,
-            (Case::Search { in_tree: $slice, .. }, _) => $body,
+            (Case::Search { in_tree: $slice, .. }, 7) => $body,
+            (Case::Search { graph: Job { delay: $slice, .. }, .. }, _) => $body,
             (Case::Route { job: Job { kind: $slice, .. }, .. }, 0) => $body,
             (Case::Route { job: Job { capacity: $slice, .. }, .. }, 1) => $body,
             (Case::Route { job: Job { first_edge: $slice, .. }, .. }, 2) => $body,
@@ -459,7 +486,9 @@ macro_rules! with_slice {
             (Case::Route { job: Job { first_sink: $slice, .. }, .. }, 5) => $body,
             (Case::Route { job: Job { sink: $slice, .. }, .. }, 6) => $body,
             (Case::Route { work: $slice, .. }, 7) => $body,
-            (Case::Route { log: $slice, .. }, _) => $body,
+            (Case::Route { log: $slice, .. }, 8) => $body,
+            (Case::Route { job: Job { delay: $slice, .. }, .. }, 9) => $body,
+            (Case::Route { job: Job { criticality: $slice, .. }, .. }, _) => $body,
             (Case::Read { text: $slice, .. }, 0) => $body,
             (Case::Read { tables: Job { kind: $slice, .. }, .. }, 1) => $body,
             (Case::Read { tables: Job { capacity: $slice, .. }, .. }, 2) => $body,
@@ -467,7 +496,9 @@ macro_rules! with_slice {
             (Case::Read { tables: Job { edge_target: $slice, .. }, .. }, 4) => $body,
             (Case::Read { tables: Job { source: $slice, .. }, .. }, 5) => $body,
             (Case::Read { tables: Job { first_sink: $slice, .. }, .. }, 6) => $body,
-            (Case::Read { tables: Job { sink: $slice, .. }, .. }, _) => $body,
+            (Case::Read { tables: Job { sink: $slice, .. }, .. }, 7) => $body,
+            (Case::Read { tables: Job { delay: $slice, .. }, .. }, 8) => $body,
+            (Case::Read { tables: Job { criticality: $slice, .. }, .. }, _) => $body,
             (Case::Write { source: $slice, .. }, 0) => $body,
             (Case::Write { log: $slice, .. }, 1) => $body,
             (Case::Write { buffer: $slice, .. }, _) => $body,
@@ -482,9 +513,9 @@ macro_rules! with_slice {
 fn slice_count(case: &Case) -> usize {
     match case {
         Case::Price { .. } => 0,
-        Case::Search { .. } => 8,
-        Case::Route { .. } => 9,
-        Case::Read { .. } => 8,
+        Case::Search { criticality, .. } => 8 + usize::from(criticality.is_some()),
+        Case::Route { .. } => 11,
+        Case::Read { .. } => 10,
         Case::Write { .. } => 3,
         Case::AddUses { .. } | Case::WriteUses { .. } => 6,
     }
@@ -542,10 +573,13 @@ fn lowered(job: &Job) -> usize {
 /// The single numbers of a case.
 fn numbers(case: &Case) -> Vec<u64> {
     match case {
-        Case::Price { kind, factor, others, capacity, history } => {
-            [kind, factor, others, capacity, history].map(|number| u64::from(*number)).to_vec()
+        Case::Price { kind, factor, others, capacity, history, timing } => {
+            let numbers = [*kind, *factor, *others, *capacity, *history];
+            numbers.into_iter().chain(timing.iter().flatten().copied()).map(u64::from).collect()
         }
-        Case::Search { factor, .. } => vec![u64::from(*factor)],
+        Case::Search { factor, criticality, .. } => {
+            [Some(*factor), *criticality].into_iter().flatten().map(u64::from).collect()
+        }
         Case::AddUses { logs, .. } | Case::WriteUses { logs, .. } => vec![*logs],
         Case::Route { job, used, .. } => {
             let terms = job.terms().into_iter().take(lowered(job)).map(u64::from);
@@ -557,10 +591,13 @@ fn numbers(case: &Case) -> Vec<u64> {
 
 fn set_number(case: &mut Case, number: usize, value: u64) -> Option<()> {
     let place = match case {
-        Case::Price { kind, factor, others, capacity, history } => {
-            [kind, factor, others, capacity, history].into_iter().nth(number)?
+        Case::Price { kind, factor, others, capacity, history, timing } => {
+            [kind, factor, others, capacity, history]
+                .into_iter()
+                .chain(timing.iter_mut().flatten())
+                .nth(number)?
         }
-        Case::Search { factor, .. } => factor,
+        Case::Search { factor, criticality, .. } => [factor].into_iter().chain(criticality).nth(number)?,
         Case::AddUses { logs, .. } | Case::WriteUses { logs, .. } => return reduce(logs, value),
         Case::Route { job, used, .. } if number == lowered(job) => return reduce(used.as_mut()?, value),
         // the tuning is the plain one since the steps were listed: it stays
@@ -586,6 +623,7 @@ pub fn literal(case: &Case) -> String {
             ("history", "u32"),
             ("others", "u16"),
             ("in_tree", "u8"),
+            ("delay", "u16"),
         ],
         Case::Route { .. } => &[
             ("kind", "u8"),
@@ -597,6 +635,8 @@ pub fn literal(case: &Case) -> String {
             ("sink", "u16"),
             ("mut work", "u64"),
             ("mut log", "u32"),
+            ("delay", "u16"),
+            ("criticality", "u8"),
         ],
         Case::Read { .. } => &[
             ("text", "u8"),
@@ -607,6 +647,8 @@ pub fn literal(case: &Case) -> String {
             ("mut source", "u16"),
             ("mut first_sink", "u32"),
             ("mut sink", "u16"),
+            ("mut delay", "u16"),
+            ("mut criticality", "u8"),
         ],
         Case::Write { .. } => &[("source", "u16"), ("log", "u32"), ("mut buffer", "u8")],
         Case::AddUses { .. } => &[
@@ -627,7 +669,7 @@ pub fn literal(case: &Case) -> String {
         ],
     };
     let mut text = String::new();
-    for (number, (name, kind)) in names.iter().enumerate() {
+    for (number, (name, kind)) in names.iter().enumerate().take(slice_count(case)) {
         let entries: Vec<u64> = with_slice!(case, number, slice => slice.iter().copied().map(wide).collect());
         text += &format!("let {name}: [{kind}; {}] = {};\n", entries.len(), list(name, &entries));
     }
@@ -651,21 +693,27 @@ fn list(name: &str, entries: &[u64]) -> String {
 /// The call itself.
 fn call(case: &Case) -> String {
     match case {
-        Case::Price { kind, factor, others, capacity, history } => {
+        Case::Price { kind, factor, others, capacity, history, timing: None } => {
             format!("price({kind}, {factor}, {others}, {capacity}, {history})")
         }
-        Case::Search { factor, .. } => format!(
+        Case::Price { kind, factor, others, capacity, history, timing: Some([delay, criticality]) } => {
+            format!("timed_price({kind}, {factor}, {others}, {capacity}, {history}, {delay}, {criticality})")
+        }
+        Case::Search { factor, criticality: None, .. } => format!(
             "search(&kind, &capacity, &first_edge, &edge_target, {factor}, &mut work, &history, &others, &in_tree)"
+        ),
+        Case::Search { factor, criticality: Some(criticality), .. } => format!(
+            "timed_search(&kind, &capacity, &first_edge, &edge_target, &delay, {factor}, {criticality}, &mut work, &history, &others, &in_tree)"
         ),
         Case::Route { job, terms, used, .. } => {
             let (name, terms) = (if used.is_some() { "resume" } else { "route" }, lent_terms(job, *terms));
             let used = used.map_or(String::new(), |used| format!("{used}, "));
             format!(
-                "{name}(&kind, &capacity, &first_edge, &edge_target, &source, &first_sink, &sink, &{terms:?}, {used}&mut work, &mut log)"
+                "{name}(&kind, &capacity, &first_edge, &edge_target, &source, &first_sink, &sink, &delay, &criticality, &{terms:?}, {used}&mut work, &mut log)"
             )
         }
         Case::Read { .. } => String::from(
-            "read(&text, &mut kind, &mut capacity, &mut first_edge, &mut edge_target, &mut source, &mut first_sink, &mut sink)",
+            "read(&text, &mut kind, &mut capacity, &mut first_edge, &mut edge_target, &mut source, &mut first_sink, &mut sink, &mut delay, &mut criticality)",
         ),
         Case::Write { picture, .. } => {
             let name = if *picture { "dot" } else { "write" };
@@ -703,6 +751,24 @@ mod tests {
         smallest
     }
 
+    fn timed_faults_are_made_small() {
+        let Case::Price { timing: Some([1, 9]), history: 1, .. } = smallest(24) else { panic!("fault 24") };
+        let Case::Search { graph, criticality: Some(10), .. } = smallest(25) else { panic!("fault 25") };
+        assert!(graph.kind.len() == 1 && graph.edge_target.is_empty());
+        let Case::Route { job, work, log, .. } = smallest(26) else { panic!("fault 26") };
+        assert!(
+            job.is_timed() && job.kind.len() <= 3 && job.sink.len() == 1 && work.is_empty() && log.is_empty()
+        );
+        let Case::Route { job, .. } = smallest(27) else { panic!("fault 27") };
+        assert!(job.is_timed() && job.kind.len() == 3 && job.sink.len() == 2 && job.limit == 1);
+        let Case::Read { text, tables } = smallest(28) else { panic!("fault 28") };
+        assert!(text.len() < 70 && tables.delay.is_empty(), "{}", text.escape_ascii());
+        let Case::Read { text, .. } = smallest(29) else { panic!("fault 29") };
+        assert!(text.starts_with(b"F,2,0,1,41\nW\n") && text.len() < 50, "{}", text.escape_ascii());
+        let Case::Route { job, used, .. } = smallest(30) else { panic!("fault 30") };
+        assert!(job.is_timed() && job.source.len() <= 2 && used.is_some_and(|used| used <= 20));
+    }
+
     /// One test for all faults, since they are put in for all threads.
     #[test]
     fn faults_are_found_and_made_small() {
@@ -719,7 +785,11 @@ mod tests {
         assert!(log.len() == 21 || log.len() == 22 || log.len() == 24);
         let Case::Search { graph, .. } = smallest(6) else { panic!("fault 6") };
         assert!(graph.kind.len() <= 5 && graph.edge_target.is_empty());
-        assert_eq!(smallest(7), Case::Price { kind: 0, factor: 65_535, others: 0, capacity: 1, history: 1 });
+        let Case::Price { kind: 0, factor: 65_535, others: 0, capacity: 1, history: 1, timing } = smallest(7)
+        else {
+            panic!("fault 7")
+        };
+        assert!(matches!(timing, None | Some([0, 0])));
         let Case::Route { job, .. } = smallest(8) else { panic!("fault 8") };
         assert!(job.limit == 2 && job.tuning == Tuning { first: 0, up: 1, down: 1, step: 2 });
         let Case::Read { text, .. } = smallest(9) else { panic!("fault 9") };
@@ -752,6 +822,7 @@ mod tests {
         assert!(used.is_some_and(|used| used <= 20));
         let Case::Route { job, used, .. } = smallest(23) else { panic!("fault 23") };
         assert!(job.rule == 2 && job.until > 1 && job.limit == 2 && used.is_some_and(|used| used <= 18));
+        timed_faults_are_made_small();
         FAULT.store(0, Ordering::Relaxed);
         assert!(first_failure().is_none());
     }

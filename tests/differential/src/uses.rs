@@ -87,8 +87,13 @@ fn of_block(rng: &mut Rng, job: &Job) -> Job {
     nets.truncate(rng.within(1, nets.len()));
     let rule = rng.pick(&[1, 2]);
     let mut other = Job { source: Vec::new(), first_sink: vec![0], sink: Vec::new(), rule, ..job.clone() };
+    other.criticality.clear();
     for net in nets {
         other.add_net(job.source[net], job.sinks(net));
+        if job.is_timed() {
+            let places = job.first_sink[net] as usize..job.first_sink[net + 1] as usize;
+            other.criticality.extend(&job.criticality[places]);
+        }
     }
     other
 }

@@ -1,7 +1,7 @@
 //! The wrapper's types beside the library's calls: it gives the same answers, and a reason for each refused line and table.
 
 use crate::compare::{idle, taken, After, Answer, Case};
-use arvumnao::{Block, Congestion, LineFault, Log, Nets, Refusal, TableFault, Terms, Use, UseCounts};
+use arvumnao::{Block, Congestion, LineFault, Log, Nets, Refusal, TableFault, Terms, Timing, Use, UseCounts};
 use job::Job;
 
 /// What is wrong with the wrapper's word on a call that the library has answered.
@@ -9,10 +9,13 @@ pub fn check(before: &Case, after: &After) -> Result<(), String> {
     let Answer { refusal, numbers } = &after.answer;
     let reason = match (before, &refusal[..]) {
         (Case::Read { text, .. }, &[number @ 1..=3, line]) => LineFault::find(text, number, line).reason,
-        (
-            Case::Search { graph, .. } | Case::AddUses { graph, .. } | Case::WriteUses { graph, .. },
-            &[5, table],
-        ) => TableFault::find(&typed(graph), table as u32).reason,
+        (Case::Search { graph, criticality, .. }, &[5, table]) => {
+            let timed = Job { timed: criticality.is_some().into(), ..graph.clone() };
+            TableFault::find(&typed(&timed), table as u32).reason
+        }
+        (Case::AddUses { graph, .. } | Case::WriteUses { graph, .. }, &[5, table]) => {
+            TableFault::find(&typed(graph), table as u32).reason
+        }
         (Case::Route { job, terms, .. }, &[5, table]) => {
             TableFault::find(&typed(&taken(job, *terms)), table as u32).reason
         }
@@ -33,8 +36,12 @@ fn same(before: &Case, after: &Case, refusal: &[u64], numbers: &[u64]) -> Option
     }
     let accepted = |given: Vec<u64>| (refusal.to_vec(), if refusal.is_empty() { given } else { Vec::new() });
     Some(match (before, after) {
-        (&Case::Price { kind, factor, others, capacity, history }, _) => {
-            let price = Use { kind, factor, others, capacity, history }.price();
+        (&Case::Price { kind, factor, others, capacity, history, timing }, _) => {
+            let node = Use { kind, factor, others, capacity, history };
+            let price = match timing {
+                None => node.price(),
+                Some([delay, criticality]) => node.timed_price(delay, criticality),
+            };
             told(price.map(|price| vec![price])) == accepted(numbers.to_vec())
         }
         (Case::Search { graph, .. }, Case::Search { work, .. }) => {
@@ -90,10 +97,16 @@ fn use_counts(counts: &[u64], logs: u64) -> UseCounts {
 
 /// The distances of a search by the wrapper.
 fn distances(case: &Case) -> Result<Vec<u64>, Refusal> {
-    let Case::Search { graph, factor, history, others, in_tree, .. } = case else { return Ok(Vec::new()) };
+    let Case::Search { graph, factor, criticality, history, others, in_tree, .. } = case else {
+        return Ok(Vec::new());
+    };
     let lists = (history.clone(), others.clone(), in_tree.clone());
     let start = Congestion { factor: *factor, history: lists.0, others: lists.1, in_tree: lists.2 };
-    let distances = typed(graph).block.distances(&start)?;
+    let block = typed(graph).block;
+    let distances = match criticality {
+        None => block.distances(&start)?,
+        Some(criticality) => block.timed_distances(&start, &graph.delay, *criticality)?,
+    };
     Ok(distances.into_iter().map(|distance| distance.unwrap_or(u64::MAX)).collect())
 }
 
@@ -133,7 +146,8 @@ fn run(refusal: &Refusal) -> Option<(u64, u64, &Log)> {
 
 /// The job in the wrapper's types.
 fn typed(job: &Job) -> arvumnao::Job {
-    let [limit, first, up, down, step, rule, until] = job.terms();
+    let [limit, first, up, down, step, rule, until, timed] = job.terms();
+    let timing = Timing { delay: job.delay.clone(), criticality: job.criticality.clone() };
     arvumnao::Job {
         block: Block {
             kind: job.kind.clone(),
@@ -143,5 +157,6 @@ fn typed(job: &Job) -> arvumnao::Job {
         },
         nets: Nets { source: job.source.clone(), first_sink: job.first_sink.clone(), sink: job.sink.clone() },
         terms: Terms { limit, first, up, down, step, rule, until },
+        timing: (timed != 0).then_some(timing),
     }
 }

@@ -2,11 +2,18 @@
 
 use crate::cases::{Case, Fault};
 use crate::show::{answer, line, numbers, slice};
-use plain::Tuning;
+use plain::{Tuning, Weighting};
 
 pub fn price(case: &mut Case) -> Result<(), Fault> {
     let [kind, factor, others, capacity, history] = case.numbers("price")?;
     let got = plain::price(kind, factor, others, capacity, history);
+    line(case, &[answer(&got)]);
+    Ok(())
+}
+
+pub fn timed_price(case: &mut Case) -> Result<(), Fault> {
+    let [kind, factor, others, capacity, history, delay, criticality] = case.numbers("timed_price")?;
+    let got = plain::timed_price(kind, factor, others, capacity, history, delay, criticality);
     line(case, &[answer(&got)]);
     Ok(())
 }
@@ -43,30 +50,56 @@ pub fn history(case: &mut Case) -> Result<(), Fault> {
     Ok(())
 }
 
-/// The search and the cheapest path, each on the work slice as the case has it.
 pub fn search(case: &mut Case) -> Result<(), Fault> {
     let [factor] = case.numbers("search")?;
+    both(case, factor, Weighting::UNTIMED)
+}
+
+pub fn timed_search(case: &mut Case) -> Result<(), Fault> {
+    let [factor, criticality] = case.numbers("timed_search")?;
+    both(case, factor, Weighting { timed: true, criticality })
+}
+
+/// The search and the cheapest path, each on the work slice as the case has it. A timed case has table 9 after table 4.
+fn both(case: &mut Case, factor: u32, weighting: Weighting) -> Result<(), Fault> {
     let kind: Vec<u8> = case.list("kind")?;
     let capacity: Vec<u8> = case.list("capacity")?;
     let first_edge: Vec<u32> = case.list("first_edge")?;
     let edge_target: Vec<u16> = case.list("edge_target")?;
+    let delay: Vec<u16> = if weighting.timed { case.list("delay")? } else { Vec::new() };
     let history: Vec<u32> = case.list("history")?;
     let others: Vec<u16> = case.list("others")?;
     let in_tree: Vec<u8> = case.list("in_tree")?;
     let sinks: Vec<u16> = case.list("sinks")?;
     let work: Vec<u64> = case.list("work")?;
     let mut left = work.clone();
-    let got = plain::search(
-        &kind,
-        &capacity,
-        &first_edge,
-        &edge_target,
-        factor,
-        &mut left,
-        &history,
-        &others,
-        &in_tree,
-    );
+    let got = if weighting.timed {
+        plain::timed_search(
+            &kind,
+            &capacity,
+            &first_edge,
+            &edge_target,
+            &delay,
+            factor,
+            weighting.criticality,
+            &mut left,
+            &history,
+            &others,
+            &in_tree,
+        )
+    } else {
+        plain::search(
+            &kind,
+            &capacity,
+            &first_edge,
+            &edge_target,
+            factor,
+            &mut left,
+            &history,
+            &others,
+            &in_tree,
+        )
+    };
     line(case, &[" search".into(), answer(&got), slice(&left)]);
     let mut left = work;
     let got = plain::cheapest_path(
@@ -74,6 +107,8 @@ pub fn search(case: &mut Case) -> Result<(), Fault> {
         &capacity,
         &first_edge,
         &edge_target,
+        weighting,
+        &delay,
         factor,
         &mut left,
         &history,

@@ -50,6 +50,15 @@ impl<'a> Case<'a> {
         Ok(entries)
     }
 
+    /// The entries of a list that may be left out, and is empty then.
+    pub fn list_or_none<T: TryFrom<u64>>(&mut self, name: &str) -> Result<Vec<T>, Fault> {
+        if self.call() == name {
+            self.list(name)
+        } else {
+            Ok(Vec::new())
+        }
+    }
+
     /// So many numbers.
     pub fn numbers<const N: usize>(&mut self, name: &str) -> Result<[u32; N], Fault> {
         let list = self.list(name)?;

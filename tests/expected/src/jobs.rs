@@ -12,7 +12,7 @@ fn lent<T: From<u8> + Clone>(length: u32) -> Vec<T> {
     vec![T::from(BEFORE); length as usize]
 }
 
-/// The terms, of which k may be left out, then the lengths of the work slice and the log.
+/// The terms, of which the last may be left out, then the lengths of the work slice and the log.
 pub fn route(case: &mut Case) -> Result<(), Fault> {
     let said: Vec<u32> = case.list("route")?;
     let [ref terms @ .., entries, words] = said[..] else {
@@ -26,9 +26,13 @@ pub fn route(case: &mut Case) -> Result<(), Fault> {
     Ok(())
 }
 
-/// All terms, then the words used and the length of the work slice. The log, whole, stands after the tables.
+/// The terms, of which the last may be left out, then the words used and the length of the work slice. The log, whole, stands after the
+/// tables.
 pub fn resume(case: &mut Case) -> Result<(), Fault> {
-    let [ref terms @ .., used, entries] = case.numbers::<9>("resume")?;
+    let said: Vec<u32> = case.list("resume")?;
+    let [ref terms @ .., used, entries] = said[..] else {
+        return Err(String::from("resume has the words used and a length"));
+    };
     let tables = Tables::of(case)?;
     let mut work: Vec<u64> = lent(entries);
     let mut log: Vec<u32> = case.list("log")?;
@@ -38,11 +42,19 @@ pub fn resume(case: &mut Case) -> Result<(), Fault> {
 }
 
 pub fn read(case: &mut Case) -> Result<(), Fault> {
-    let mut tables = Tables::before(case.numbers("read")?);
+    let mut tables = Tables::before(lengths(case.list("read")?)?);
     let job = case.text("job")?;
     let got = tables.read(&job);
     line(case, &[answer(&got), tables.show()]);
     Ok(())
+}
+
+/// The lengths of tables 1 to 7, 9 and 10; without the last two these are empty.
+fn lengths(mut said: Vec<u32>) -> Result<[u32; 9], Fault> {
+    if said.len() == 7 {
+        said.extend([0, 0]);
+    }
+    said.try_into().map_err(|said: Vec<u32>| format!("read has {} lengths for 7 or 9", said.len()))
 }
 
 /// The writer of either text.
@@ -59,7 +71,7 @@ pub fn write(case: &mut Case, call: &str, writer: Writer) -> Result<(), Fault> {
 }
 
 /// The tables of `flow_test`: for six nodes, seven edges, two nets and two sinks.
-const FLOW_TABLES: [u32; 7] = [6, 6, 7, 7, 2, 3, 2];
+const FLOW_TABLES: [u32; 9] = [6, 6, 7, 7, 2, 3, 2, 6, 2];
 
 /// What a run is lent.
 struct Lent {
@@ -94,9 +106,10 @@ impl Lent {
             return read;
         }
         let [nodes, edges, nets, sinks, ref terms @ ..] = read.numbers[..] else {
-            panic!("the reader has eleven numbers");
+            panic!("the reader has twelve numbers");
         };
-        let job = self.tables.cut([nodes, edges, nets, sinks].map(|count| count as usize));
+        let timed = terms.last() == Some(&1);
+        let job = self.tables.cut([nodes, edges, nets, sinks].map(|count| count as usize), timed);
         let terms: Vec<u32> = terms.iter().map(|number| *number as u32).collect();
         let routed = job.route(&terms, &mut self.work, &mut self.log);
         if !routed.refusal.is_empty() {
@@ -140,7 +153,7 @@ pub fn respond(case: &mut Case, call: &str, writer: Writer) -> Result<(), Fault>
     Ok(())
 }
 
-/// The seven tables.
+/// Tables 1 to 7, 9 and 10.
 struct Tables {
     kind: Vec<u8>,
     capacity: Vec<u8>,
@@ -149,9 +162,12 @@ struct Tables {
     source: Vec<u16>,
     first_sink: Vec<u32>,
     sink: Vec<u16>,
+    delay: Vec<u16>,
+    criticality: Vec<u8>,
 }
 
 impl Tables {
+    /// Those of a case, of which 9 and 10 may be left out.
     fn of(case: &mut Case) -> Result<Tables, Fault> {
         Ok(Tables {
             kind: case.list("kind")?,
@@ -161,11 +177,13 @@ impl Tables {
             source: case.list("source")?,
             first_sink: case.list("first_sink")?,
             sink: case.list("sink")?,
+            delay: case.list_or_none("delay")?,
+            criticality: case.list_or_none("criticality")?,
         })
     }
 
     /// Tables of these lengths before they are read into.
-    fn before(lengths: [u32; 7]) -> Tables {
+    fn before(lengths: [u32; 9]) -> Tables {
         Tables {
             kind: lent(lengths[0]),
             capacity: lent(lengths[1]),
@@ -174,11 +192,13 @@ impl Tables {
             source: lent(lengths[4]),
             first_sink: lent(lengths[5]),
             sink: lent(lengths[6]),
+            delay: lent(lengths[7]),
+            criticality: lent(lengths[8]),
         }
     }
 
-    /// What a job of so many nodes, edges, nets and sinks has of them.
-    fn cut(&self, [nodes, edges, nets, sinks]: [usize; 4]) -> Tables {
+    /// What a job of so many nodes, edges, nets and sinks has of them; an untimed one has nothing of the last two.
+    fn cut(&self, [nodes, edges, nets, sinks]: [usize; 4], timed: bool) -> Tables {
         Tables {
             kind: self.kind[..nodes].to_vec(),
             capacity: self.capacity[..nodes].to_vec(),
@@ -187,6 +207,8 @@ impl Tables {
             source: self.source[..nets].to_vec(),
             first_sink: self.first_sink[..=nets].to_vec(),
             sink: self.sink[..sinks].to_vec(),
+            delay: if timed { self.delay[..nodes].to_vec() } else { vec![] },
+            criticality: if timed { self.criticality[..sinks].to_vec() } else { vec![] },
         }
     }
 
@@ -198,6 +220,8 @@ impl Tables {
             + &slice(&self.source)
             + &slice(&self.first_sink)
             + &slice(&self.sink)
+            + &slice(&self.delay)
+            + &slice(&self.criticality)
     }
 
     fn read(&mut self, job: &[u8]) -> Answer {
@@ -210,6 +234,8 @@ impl Tables {
             &mut self.source,
             &mut self.first_sink,
             &mut self.sink,
+            &mut self.delay,
+            &mut self.criticality,
         )
     }
 
@@ -222,6 +248,8 @@ impl Tables {
             &self.source,
             &self.first_sink,
             &self.sink,
+            &self.delay,
+            &self.criticality,
             terms,
             work,
             log,
@@ -237,6 +265,8 @@ impl Tables {
             &self.source,
             &self.first_sink,
             &self.sink,
+            &self.delay,
+            &self.criticality,
             terms,
             used.into(),
             work,

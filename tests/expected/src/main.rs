@@ -14,10 +14,12 @@ use std::process::ExitCode;
 fn one(case: &mut Case) -> Result<(), Fault> {
     match case.call() {
         "price" => alone::price(case),
+        "timed_price" => alone::timed_price(case),
         "tuning" => alone::sound(case),
         "factor" => alone::factor(case),
         "history" => alone::history(case),
         "search" => alone::search(case),
+        "timed_search" => alone::timed_search(case),
         "route" => jobs::route(case),
         "resume" => jobs::resume(case),
         "read" => jobs::read(case),

@@ -63,16 +63,73 @@ impl Plan {
     }
 }
 
-/// A sound job.
+/// A sound job, timed or not.
 pub fn job(rng: &mut Rng) -> Job {
-    plan(rng).job()
+    let plan = plan(rng);
+    perhaps_timed(rng, plan.job())
 }
 
-/// A sound job of few nodes.
+/// A sound job of few nodes, timed or not.
 pub fn small(rng: &mut Rng) -> Job {
     let mut plan = untuned_small(rng);
     finish(rng, &mut plan);
-    plan.job()
+    perhaps_timed(rng, plan.job())
+}
+
+/// One in four jobs is timed. Of the others some have tables 9 and 10 all the same, of any length with anything in them.
+pub fn perhaps_timed(rng: &mut Rng, mut job: Job) -> Job {
+    if rng.percent(25) {
+        return timed(rng, job);
+    }
+    if rng.once_in(4) {
+        job.delay = vec![rng.draw() as u16; rng.below(20)];
+        job.criticality = vec![rng.draw() as u8; rng.below(20)];
+    }
+    job
+}
+
+/// The same job with delays and criticalities. Its limit is one that a timed job may have, but for a few.
+pub fn timed(rng: &mut Rng, mut job: Job) -> Job {
+    let delays = rng.pick(&[Delays::None, Delays::Even, Delays::Few, Delays::Any, Delays::Bounds]);
+    job.delay = job.kind.iter().map(|_| delays.draw(rng)).collect();
+    let tenths: &[u8] = match rng.below(6) {
+        0 => &[0],
+        1 => &[9],
+        2 => &[0, 9],
+        3 => &[5],
+        4 => &[4, 5, 5, 6],
+        _ => &[0, 1, 2, 3, 4, 5, 6, 7, 8, 9],
+    };
+    job.criticality = job.sink.iter().map(|_| rng.pick(tenths)).collect();
+    job.timed = 1;
+    job.limit = match rng.below(40) {
+        0 => rng.pick(&[40, 41, 42, 99, 100]),
+        _ => job.limit.min(40),
+    };
+    job
+}
+
+/// What a job's delays are like.
+#[derive(Clone, Copy)]
+enum Delays {
+    None,
+    /// Such as make a path with delay as dear as one with a longer wire.
+    Even,
+    Few,
+    Any,
+    Bounds,
+}
+
+impl Delays {
+    fn draw(self, rng: &mut Rng) -> u16 {
+        match self {
+            Delays::None => 0,
+            Delays::Even => rng.pick(&[0, 0, 20, 40, 60]),
+            Delays::Few => rng.pick(&[0, 1, 1, 2]),
+            Delays::Any => rng.below(1_001) as u16,
+            Delays::Bounds => rng.pick(&[0, 1, 999, 1_000]),
+        }
+    }
 }
 
 /// A sound job's lists.
@@ -374,7 +431,7 @@ pub fn endless(rng: &mut Rng) -> Job {
     let mut plan = wired(rng, nets, wires);
     plan.limit = rng.within(60, 100) as u32;
     finish(rng, &mut plan);
-    plan.job()
+    perhaps_timed(rng, plan.job())
 }
 
 /// Gives the nodes other numbers.
@@ -702,5 +759,22 @@ mod tests {
             repeated += usize::from((0..nets.len()).any(twice));
         }
         assert!(shared > 150 && by_three > 100 && repeated > 100, "{shared} {by_three} {repeated}");
+    }
+
+    /// Timed jobs come often enough to be met, with joined nets, under both rules, and beyond the limit too.
+    #[test]
+    fn some_jobs_are_timed() {
+        let mut rng = Rng::new(1);
+        let jobs: Vec<Job> = (0..2_000).map(|_| job(&mut rng)).collect();
+        let timed: Vec<&Job> = jobs.iter().filter(|job| job.is_timed()).collect();
+        assert!(timed.iter().all(|job| job.delay.len() == job.kind.len()));
+        assert!(timed.iter().all(|job| job.criticality.len() == job.sink.len()));
+        let count = |met: fn(&Job) -> bool| timed.iter().filter(|job| met(job)).count();
+        let joined =
+            |job: &Job| (1..job.source.len()).any(|net| job.source[..net].contains(&job.source[net]));
+        let met = [timed.len(), count(joined), count(|job| job.rule == 2), count(|job| job.limit > 40)];
+        assert!(met[0] > 400 && met[1] > 100 && met[2] > 100 && met[3] > 3, "{met:?}");
+        let lent = jobs.iter().filter(|job| !job.is_timed() && !job.delay.is_empty()).count();
+        assert!(lent > 100, "{lent}");
     }
 }

@@ -38,8 +38,8 @@ impl Tuning {
     }
 }
 
-/// Tables 1 to 7, as 01 numbers them, the limit of iterations, the tuning, and the rule by which nets are routed again: rule 2 holds
-/// after iteration `until`.
+/// Tables 1 to 7, as 01 numbers them, 9 and 10, the limit of iterations, the tuning, the rule by which nets are routed again, where rule 2
+/// holds after iteration `until`, and whether the job is timed: tables 9 and 10 of one that isn't may hold anything.
 #[derive(Clone, Debug, PartialEq, Eq)]
 pub struct Job {
     pub kind: Vec<u8>,
@@ -49,11 +49,17 @@ pub struct Job {
     pub source: Vec<u16>,
     pub first_sink: Vec<u32>,
     pub sink: Vec<u16>,
+    pub delay: Vec<u16>,
+    pub criticality: Vec<u8>,
     pub limit: u32,
     pub tuning: Tuning,
     pub rule: u32,
     pub until: u32,
+    pub timed: u32,
 }
+
+/// How long tables 1 to 7, 9 and 10 are, in this order.
+pub type Lengths = [usize; 9];
 
 /// The rule of a job text without a V line.
 pub const PLAIN_RULE: u32 = 1;
@@ -62,13 +68,13 @@ pub const PLAIN_RULE: u32 = 1;
 pub const PLAIN_UNTIL: u32 = 1;
 
 /// How many terms a call may be lent.
-pub const TERMS: usize = 7;
+pub const TERMS: usize = 8;
 
 /// The terms of a call whose slice lacks all of them.
-const PLAIN_TERMS: [u32; TERMS] = [0, 50, 3, 2, 1, PLAIN_RULE, PLAIN_UNTIL];
+const PLAIN_TERMS: [u32; TERMS] = [0, 50, 3, 2, 1, PLAIN_RULE, PLAIN_UNTIL, 0];
 
 impl Job {
-    /// Nodes only: rows and nets are still to be added. Tuning and rule are the plain ones.
+    /// Nodes only: rows and nets are still to be added. Tuning and rule are the plain ones, and the job is untimed.
     pub fn bare(kind: Vec<u8>, capacity: Vec<u8>, limit: u32) -> Job {
         Job {
             kind,
@@ -78,10 +84,13 @@ impl Job {
             source: Vec::new(),
             first_sink: vec![0],
             sink: Vec::new(),
+            delay: Vec::new(),
+            criticality: Vec::new(),
             limit,
             tuning: Tuning::PLAIN,
             rule: PLAIN_RULE,
             until: PLAIN_UNTIL,
+            timed: 0,
         }
     }
 
@@ -116,6 +125,16 @@ impl Job {
         self.first_sink.push(self.sink.len() as u32);
     }
 
+    /// The same job with these delays and criticalities, timed.
+    pub fn timed(self, delay: &[u16], criticality: &[u8]) -> Job {
+        Job { delay: delay.to_vec(), criticality: criticality.to_vec(), timed: 1, ..self }
+    }
+
+    /// Any number but 0 says so.
+    pub fn is_timed(&self) -> bool {
+        self.timed != 0
+    }
+
     /// A node's targets, if the tables are sound.
     pub fn row(&self, node: usize) -> &[u16] {
         &self.edge_target[self.first_edge[node] as usize..self.first_edge[node + 1] as usize]
@@ -127,8 +146,8 @@ impl Job {
     }
 
     /// Tables of so many entries for the reader to fill, none of them 0.
-    pub fn unread(lengths: [usize; 7]) -> Job {
-        let [kind, capacity, first_edge, edge_target, source, first_sink, sink] = lengths;
+    pub fn unread(lengths: Lengths) -> Job {
+        let [kind, capacity, first_edge, edge_target, source, first_sink, sink, delay, criticality] = lengths;
         Job {
             kind: vec![0xa1; kind],
             capacity: vec![0xa2; capacity],
@@ -137,24 +156,27 @@ impl Job {
             source: vec![0xa5a5; source],
             first_sink: vec![0xa6a6_a6a6; first_sink],
             sink: vec![0xa7a7; sink],
+            delay: vec![0xa9a9; delay],
+            criticality: vec![0xaa; criticality],
             limit: 0,
             tuning: Tuning { first: 0, up: 0, down: 0, step: 0 },
             rule: 0,
             until: 0,
+            timed: 0,
         }
     }
 
-    /// What a call is lent as table 8: limit, first, up, down, step, rule, until.
+    /// What a call is lent as table 8: limit, first, up, down, step, rule, until, and after that whether the job is timed.
     pub fn terms(&self) -> [u32; TERMS] {
         let Tuning { first, up, down, step } = self.tuning;
-        [self.limit, first, up, down, step, self.rule, self.until]
+        [self.limit, first, up, down, step, self.rule, self.until, self.timed]
     }
 
     /// Sets all of them.
     pub fn set_terms(&mut self, terms: [u32; TERMS]) {
-        let [limit, first, up, down, step, rule, until] = terms;
+        let [limit, first, up, down, step, rule, until, timed] = terms;
         self.tuning = Tuning { first, up, down, step };
-        (self.limit, self.rule, self.until) = (limit, rule, until);
+        (self.limit, self.rule, self.until, self.timed) = (limit, rule, until, timed);
     }
 
     /// Sets them to what a call takes from a slice: an entry that it lacks has its plain value.
@@ -164,7 +186,7 @@ impl Job {
         self.set_terms(terms);
     }
 
-    /// Takes the reader's eleven numbers: cuts the tables to what it filled, sets the terms.
+    /// Takes the reader's twelve numbers: cuts the tables to what it filled, sets the terms. An untimed text fills nothing of tables 9 and 10.
     pub fn take_numbers(&mut self, numbers: &[u64]) {
         let counts: Vec<usize> = numbers.iter().map(|number| *number as usize).collect();
         self.kind.truncate(counts[0]);
@@ -174,7 +196,9 @@ impl Job {
         self.source.truncate(counts[2]);
         self.first_sink.truncate(counts[2] + 1);
         self.sink.truncate(counts[3]);
-        self.set_terms([4, 5, 6, 7, 8, 9, 10].map(|place| counts[place] as u32));
+        self.set_terms([4, 5, 6, 7, 8, 9, 10, 11].map(|place| counts[place] as u32));
+        self.delay.truncate(if self.is_timed() { counts[0] } else { 0 });
+        self.criticality.truncate(if self.is_timed() { counts[3] } else { 0 });
     }
 }
 
@@ -199,10 +223,13 @@ mod tests {
             source: vec![0, 1],
             first_sink: vec![0, 2, 4],
             sink: vec![2, 1, 0, 2],
+            delay: vec![],
+            criticality: vec![],
             limit: 9,
             tuning: Tuning { first: 50, up: 3, down: 2, step: 1 },
             rule: 1,
             until: 1,
+            timed: 0,
         };
         assert_eq!(job, tables);
         assert_eq!((job.row(0), job.row(1), job.row(2)), (&[1, 2][..], &[][..], &[0][..]));
@@ -211,21 +238,25 @@ mod tests {
 
     #[test]
     fn numbers_cut_unread_tables() {
-        let mut job = Job::unread([9; 7]);
-        job.take_numbers(&[2, 3, 4, 6, 7, 1000, 8, 4, 3, 2, 99]);
-        let tuning = Tuning { first: 1000, up: 8, down: 4, step: 3 };
-        assert_eq!(job, Job { limit: 7, tuning, rule: 2, until: 99, ..Job::unread([2, 2, 3, 3, 4, 5, 6]) });
-        assert_eq!(job.terms(), [7, 1000, 8, 4, 3, 2, 99]);
+        for (timed, delays, criticalities) in [(0, 0, 0), (1, 2, 6)] {
+            let mut job = Job::unread([9; 9]);
+            job.take_numbers(&[2, 3, 4, 6, 7, 1000, 8, 4, 3, 2, 99, timed.into()]);
+            let tuning = Tuning { first: 1000, up: 8, down: 4, step: 3 };
+            let cut = Job::unread([2, 2, 3, 3, 4, 5, 6, delays, criticalities]);
+            assert_eq!(job, Job { limit: 7, tuning, rule: 2, until: 99, timed, ..cut });
+            assert_eq!(job.terms(), [7, 1000, 8, 4, 3, 2, 99, timed]);
+        }
     }
 
     #[test]
     fn entries_that_a_slice_lacks_are_plain() {
-        let mut job = Job::unread([0; 7]);
+        let mut job = Job::unread([0; 9]);
         for (slice, terms) in [
-            (&[][..], [0, 50, 3, 2, 1, 1, 1]),
-            (&[9], [9, 50, 3, 2, 1, 1, 1]),
-            (&[9, 8, 7, 6], [9, 8, 7, 6, 1, 1, 1]),
-            (&[9, 8, 7, 6, 5, 4, 3, 2], [9, 8, 7, 6, 5, 4, 3]),
+            (&[][..], [0, 50, 3, 2, 1, 1, 1, 0]),
+            (&[9], [9, 50, 3, 2, 1, 1, 1, 0]),
+            (&[9, 8, 7, 6], [9, 8, 7, 6, 1, 1, 1, 0]),
+            (&[9, 8, 7, 6, 5, 4, 3], [9, 8, 7, 6, 5, 4, 3, 0]),
+            (&[9, 8, 7, 6, 5, 4, 3, 2, 1], [9, 8, 7, 6, 5, 4, 3, 2]),
         ] {
             job.take_terms(slice);
             assert_eq!(job.terms(), terms);

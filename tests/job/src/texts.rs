@@ -17,7 +17,7 @@ struct Said {
     until: bool,
 }
 
-/// The lines of a job's text. Under rule 1 it has no place for the second number.
+/// The lines of a job's text. Under rule 1 it has no place for the second number, and an untimed one none for delay and criticality.
 fn lines(job: &Job, said: Said) -> Vec<Line> {
     let (nodes, nets) = (job.kind.len(), job.source.len());
     let mut list = Vec::new();
@@ -34,8 +34,17 @@ fn lines(job: &Job, said: Said) -> Vec<Line> {
     } else if said.rule {
         add(b'V', &fields[..1]);
     }
+    if job.is_timed() {
+        add(b'W', &[]);
+    }
+    // How many numbers a line has that has one more in a timed job.
+    let count = |fields: usize| fields + usize::from(job.is_timed());
+    let further = |table: &[usize], place: usize| if job.is_timed() { table[place] } else { 0 };
+    let delay: Vec<usize> = job.delay.iter().map(|delay| *delay as usize).collect();
+    let criticality: Vec<usize> = job.criticality.iter().map(|criticality| *criticality as usize).collect();
     for node in 0..nodes {
-        add(b'N', &[node, job.kind[node] as usize, job.capacity[node] as usize]);
+        let fields = [node, job.kind[node] as usize, job.capacity[node] as usize, further(&delay, node)];
+        add(b'N', &fields[..count(3)]);
     }
     for node in 0..nodes {
         for to in job.row(node) {
@@ -44,8 +53,9 @@ fn lines(job: &Job, said: Said) -> Vec<Line> {
     }
     for net in 0..nets {
         add(b'S', &[net, job.source[net] as usize]);
-        for sink in job.sinks(net) {
-            add(b'T', &[net, *sink as usize]);
+        for place in job.first_sink[net] as usize..job.first_sink[net + 1] as usize {
+            let fields = [net, job.sink[place] as usize, further(&criticality, place)];
+            add(b'T', &fields[..count(2)]);
         }
     }
     list
@@ -86,6 +96,12 @@ pub fn changed(rng: &mut Rng, job: &Job) -> Vec<u8> {
         change_term(rng, &mut list);
         return print(&list);
     }
+    if rng.once_in(if job.is_timed() { 4 } else { 40 }) {
+        change_timing(rng, &mut list);
+        if rng.percent(80) {
+            return print(&list);
+        }
+    }
     if rng.once_in(8) {
         change_pin(rng, &mut list);
         if rng.percent(70) {
@@ -111,7 +127,7 @@ pub fn changed(rng: &mut Rng, job: &Job) -> Vec<u8> {
 
 /// Texts that hardly hold a job at all.
 pub fn odd(rng: &mut Rng) -> Vec<u8> {
-    let choices: [&[u8]; 28] = [
+    let choices: [&[u8]; 34] = [
         b"",
         b"\n",
         b"F",
@@ -140,6 +156,12 @@ pub fn odd(rng: &mut Rng) -> Vec<u8> {
         b"F,1,0,1,1\nV,2,1",
         b"F,1,0,1,1\nV,1,100\n",
         b"F,1,0,1,1\nV,2,2,2\n",
+        b"F,1,0,1,1\nW",
+        b"F,1,0,1,1\nW\n",
+        b"F,1,0,1,1\nW,\n",
+        b"F,1,0,1,41\nW\n",
+        b"F,1025,0,1,1\nV,2\nW\n",
+        b"W\n",
     ];
     rng.pick(&choices).to_vec()
 }
@@ -153,7 +175,7 @@ fn change_lines(rng: &mut Rng, list: &mut Vec<Line>) {
     match rng.below(16) {
         0..=5 => change_field(rng, &mut list[place]),
         6 => copy_field(rng, list, place),
-        7 => list[place].letter = rng.pick(b"FPVNESTRBXfn ,\n0"),
+        7 => list[place].letter = rng.pick(b"FPVWNESTRBXfn ,\n0"),
         8 => drop(list[place].fields.pop()),
         9 => {
             let field = rng.below(9) as u64;
@@ -178,11 +200,11 @@ fn change_lines(rng: &mut Rng, list: &mut Vec<Line>) {
     }
 }
 
-/// A P or V line of another shape, with a bad value, twice or elsewhere. There is one afterwards even if there was none.
+/// A P, V or W line of another shape, with a bad value, twice or elsewhere. There is one afterwards even if there was none.
 fn change_term(rng: &mut Rng, list: &mut Vec<Line>) {
-    let letter = rng.pick(b"PV");
+    let letter = rng.pick(b"PVW");
     let at = term_place(rng, list, letter);
-    match rng.below(14) {
+    match rng.below(if letter == b'W' { 8 } else { 14 }) {
         0 => list.insert(at, list[at].clone()),
         1 => list.swap(at - 1, at),
         2 => list.swap(at, at + 1),
@@ -192,11 +214,12 @@ fn change_term(rng: &mut Rng, list: &mut Vec<Line>) {
         }
         4 => list.insert(rng.within(at + 1, list.len()), list[at].clone()),
         5 => list[at].fields.push(rng.below(4) as u64),
+        6 if letter == b'W' => drop(list.remove(at)),
         6 => {
             let kept = rng.below(list[at].fields.len());
             list[at].fields.truncate(kept);
         }
-        7 => list[at].letter = rng.pick(b"pvNFPVWR"),
+        7 => list[at].letter = rng.pick(b"pvwNFPVWR"),
         8 => change_field(rng, &mut list[at]),
         9 if letter == b'P' => {
             let down = rng.within(1, 4) as u64;
@@ -212,11 +235,13 @@ fn change_term(rng: &mut Rng, list: &mut Vec<Line>) {
     }
 }
 
-/// The place of a sound text's P or V line, which is put there if it is missing.
+/// The place of a sound text's P, V or W line, which is put there if it is missing.
 fn term_place(rng: &mut Rng, list: &mut Vec<Line>, letter: u8) -> usize {
-    let at = 1 + usize::from(letter == b'V' && list[1].letter == b'P');
+    let before = b"PVW".split(|term| *term == letter).next().unwrap_or(&[]);
+    let at = (1..list.len()).find(|place| !before.contains(&list[*place].letter)).unwrap_or(1);
     if list[at].letter != letter {
         let fields = match letter {
+            b'W' => vec![],
             b'P' => jobs::tuning(rng).numbers().to_vec(),
             _ if rng.once_in(3) => vec![2, jobs::until(rng)],
             _ => vec![jobs::rule(rng)],
@@ -224,6 +249,35 @@ fn term_place(rng: &mut Rng, list: &mut Vec<Line>, letter: u8) -> usize {
         list.insert(at, Line { letter, fields: fields.into_iter().map(u64::from).collect() });
     }
     at
+}
+
+/// A delay or a criticality that is missing, too many, beyond its bounds or at them: in one line, at times beside a number of another line
+/// like it, or in all of a letter. In an untimed text every one is too many.
+fn change_timing(rng: &mut Rng, list: &mut [Line]) {
+    let (letter, count, bounds) =
+        rng.pick(&[(b'N', 3, [0, 999, 1_000, 1_001, 1_002]), (b'T', 2, [0, 8, 9, 10, 11])]);
+    let value = match rng.below(4) {
+        0 => rng.pick(&[255, 256, 265, 65_535, 65_536, 66_536, 999_999]),
+        _ => rng.pick(&bounds),
+    };
+    let places: Vec<usize> = (0..list.len()).filter(|place| list[*place].letter == letter).collect();
+    let one = rng.pick(&places);
+    let (all, way) = (rng.once_in(6), rng.below(6));
+    if rng.once_in(3) {
+        let (field, other) = (rng.below(2), rng.pick(&places));
+        list[one].fields[field] = list[other].fields[field];
+    }
+    for place in places.into_iter().filter(|place| all || *place == one) {
+        let fields = &mut list[place].fields;
+        match way {
+            0 => fields.truncate(count),
+            1 => fields.push(value),
+            _ => {
+                fields.truncate(count);
+                fields.push(value);
+            }
+        }
+    }
 }
 
 /// A source or sink of any kind: its N line gets the kind, or its own line another node.
@@ -256,7 +310,7 @@ pub fn pin(text: &[u8], line: u64) -> Option<(u8, u8)> {
 
 /// Some line, with each letter about as often.
 fn some_line(rng: &mut Rng, list: &[Line]) -> usize {
-    let letter = rng.pick(b"FPVNEST");
+    let letter = rng.pick(b"FPVWNEST");
     let same: Vec<usize> = (0..list.len()).filter(|place| list[*place].letter == letter).collect();
     if same.is_empty() {
         rng.below(list.len())
@@ -282,6 +336,9 @@ fn change_field(rng: &mut Rng, line: &mut Line) {
             5,
             53,
             54,
+            10,
+            40,
+            41,
             100,
             101,
             255,
@@ -289,6 +346,8 @@ fn change_field(rng: &mut Rng, line: &mut Line) {
             511,
             512,
             513,
+            1_024,
+            1_025,
             4_095,
             4_096,
             4_097,
@@ -327,8 +386,8 @@ fn copy_field(rng: &mut Rng, list: &mut [Line], place: usize) {
 
 /// A line after the end.
 fn extra(rng: &mut Rng) -> Line {
-    let letter = rng.pick(b"FPVNESTT");
-    let fields = (0..rng.within(1, 4)).map(|_| rng.below(8) as u64).collect();
+    let letter = rng.pick(b"FPVWNESTT");
+    let fields = (0..rng.within(usize::from(letter != b'W'), 4)).map(|_| rng.below(8) as u64).collect();
     Line { letter, fields }
 }
 
@@ -363,7 +422,7 @@ fn change_bytes(rng: &mut Rng, text: &mut Vec<u8>) {
 /// A byte, mostly one that job texts have.
 fn byte(rng: &mut Rng) -> u8 {
     if rng.percent(85) {
-        rng.pick(b"0123456789,,\n\n\rFPVNEST -+.\"")
+        rng.pick(b"0123456789,,\n\n\rFPVWNEST -+.\"")
     } else {
         rng.draw() as u8
     }
@@ -404,5 +463,23 @@ fn leading_early(rng: &mut Rng, text: &mut Vec<u8>) {
     if let [first, second, third] = ends[..] {
         let (from, end) = rng.pick(&[(first, second), (second, third)]);
         leading_within(rng, text, b"0", from, end);
+    }
+}
+
+#[cfg(test)]
+mod tests {
+    use super::*;
+
+    #[test]
+    fn a_timed_text_has_further_numbers() {
+        let job = Job::new(vec![0, 1, 1], vec![1; 3], &[vec![1, 2], vec![], vec![]], &[(0, [2, 1])], 3);
+        let untimed = "F,3,2,1,3\nN,0,0,1\nN,1,1,1\nN,2,1,1\nE,0,1\nE,0,2\nS,0,0\nT,0,2\nT,0,1\n";
+        assert_eq!(text(&job), untimed.as_bytes());
+        // Tables 9 and 10 of an untimed job are no part of its text.
+        assert_eq!(text(&Job { delay: vec![1; 9], criticality: vec![1], ..job.clone() }), untimed.as_bytes());
+        let timed = Job { rule: 2, ..job.timed(&[0, 7, 1_000], &[9, 0]) };
+        let lines =
+            "F,3,2,1,3\nV,2\nW\nN,0,0,1,0\nN,1,1,1,7\nN,2,1,1,1000\nE,0,1\nE,0,2\nS,0,0\nT,0,2,9\nT,0,1,0\n";
+        assert_eq!(text(&timed), lines.as_bytes());
     }
 }

@@ -1,9 +1,9 @@
 //! What the router's program prints for a job's text, by the plain router with the program's sizes.
 
-use job::Job;
+use job::{Job, Lengths};
 
 /// "tables for 1,024 nodes, 8,192 edges, 512 nets and 4,096 sinks"
-const TABLES: [usize; 7] = [1_024, 1_024, 1_025, 8_192, 512, 513, 4_096];
+const TABLES: Lengths = [1_024, 1_024, 1_025, 8_192, 512, 513, 4_096, 1_024, 4_096];
 
 fn refusal(numbers: &[u64]) -> String {
     let fields: String = numbers.iter().map(|n| format!(",{n}")).collect();
@@ -21,6 +21,8 @@ pub fn answer(text: &[u8]) -> String {
         &mut t.source,
         &mut t.first_sink,
         &mut t.sink,
+        &mut t.delay,
+        &mut t.criticality,
     );
     if !read.refusal.is_empty() {
         return refusal(&read.refusal);
@@ -36,6 +38,8 @@ pub fn answer(text: &[u8]) -> String {
         &t.source,
         &t.first_sink,
         &t.sink,
+        &t.delay,
+        &t.criticality,
         &t.terms(),
         &mut work,
         &mut log,

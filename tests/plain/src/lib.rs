@@ -11,11 +11,11 @@ mod tables;
 mod uses;
 mod writer;
 
-pub use price::{price, Tuning};
+pub use price::{price, timed_price, Tuning};
 pub use reader::read;
 pub use resume::resume;
 pub use route::route;
-pub use search::{cheapest_path, search};
+pub use search::{cheapest_path, search, timed_search, Weighting};
 pub use uses::{uses_add, uses_write, KINDS};
 pub use writer::{dot, write};
 

@@ -7,6 +7,12 @@ pub const MAX_FACTOR: u32 = 65_535;
 pub const MAX_OTHERS: u32 = 511;
 pub const MAX_HISTORY: u32 = 101_179;
 
+/// What a timed search alone takes a history to.
+pub const MAX_TIMED_HISTORY: u32 = 39_859;
+
+pub const MAX_DELAY: u32 = 1_000;
+pub const MAX_CRITICALITY: u32 = 9;
+
 /// Factor in iteration 2, growth up / down, and what a history grows by for each net too many.
 #[derive(Clone, Copy)]
 pub struct Tuning {
@@ -67,6 +73,11 @@ pub fn price_of(kind: u32, factor: u32, others: u32, capacity: u32, history: u32
     history as u64 * base(kind) * (100 + factor as u64 * over)
 }
 
+/// A price that is weighed for a sink: its criticality, in tenths, buys delay, and the rest is the congestion price.
+pub fn weighed(congestion: u64, delay: u32, criticality: u32) -> u64 {
+    criticality as u64 * delay as u64 * 100 + (10 - criticality as u64) * congestion
+}
+
 pub fn factor_is_good(factor: u32) -> bool {
     factor <= MAX_FACTOR
 }
@@ -79,17 +90,50 @@ pub fn history_is_good(history: u32) -> bool {
     (1..=MAX_HISTORY).contains(&history)
 }
 
+pub fn delay_is_good(delay: u32) -> bool {
+    delay <= MAX_DELAY
+}
+
+pub fn criticality_is_good(criticality: u32) -> bool {
+    criticality <= MAX_CRITICALITY
+}
+
 /// The price alone, or 13 with the place of the first bad number.
 pub fn price(kind: u32, factor: u32, others: u32, capacity: u32, history: u32) -> Answer {
-    let good = [
+    let good = price_is_good(kind, factor, others, capacity, history);
+    unless_bad(&good, || price_of(kind, factor, others, capacity, history))
+}
+
+/// The timed price alone; delay and criticality follow history.
+pub fn timed_price(
+    kind: u32,
+    factor: u32,
+    others: u32,
+    capacity: u32,
+    history: u32,
+    delay: u32,
+    criticality: u32,
+) -> Answer {
+    let untimed = price_is_good(kind, factor, others, capacity, history);
+    let good = [&untimed[..], &[delay_is_good(delay), criticality_is_good(criticality)]].concat();
+    unless_bad(&good, || weighed(price_of(kind, factor, others, capacity, history), delay, criticality))
+}
+
+/// Which of the price's numbers keep their bounds.
+fn price_is_good(kind: u32, factor: u32, others: u32, capacity: u32, history: u32) -> [bool; 5] {
+    [
         kind <= MAX_KIND,
         factor_is_good(factor),
         others_is_good(others),
         (1..=255).contains(&capacity),
         history_is_good(history),
-    ];
-    match good.iter().position(|g| !g) {
+    ]
+}
+
+/// 13 with the place of the first number that isn't good, or else the price.
+fn unless_bad(good: &[bool], price: impl Fn() -> u64) -> Answer {
+    match good.iter().position(|good| !good) {
         Some(place) => Answer::refused(&[13, place as u64], 1),
-        None => Answer::good(&[price_of(kind, factor, others, capacity, history)]),
+        None => Answer::good(&[price()]),
     }
 }

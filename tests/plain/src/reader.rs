@@ -1,8 +1,9 @@
 //! The job text into tables.
 
-use crate::price::{Tuning, MAX_KIND};
+use crate::price::{criticality_is_good, delay_is_good, Tuning, MAX_KIND};
 use crate::tables::{may_be_sink, may_be_source, rule_is_sound};
 use crate::tables::{MAX_EDGES, MAX_LIMIT, MAX_NETS, MAX_NODES, MAX_SINKS, PLAIN_RULE, PLAIN_UNTIL};
+use crate::tables::{MAX_TIMED_LIMIT, MAX_TIMED_NODES};
 use crate::Answer;
 
 /// A refusal: its number and the line.
@@ -15,7 +16,7 @@ struct Lines<'a> {
     line: u64,
 }
 
-/// The values of a sound text.
+/// The values of a sound text. An untimed one has no delay and no criticality.
 struct Job {
     kind: Vec<u8>,
     capacity: Vec<u8>,
@@ -24,14 +25,17 @@ struct Job {
     source: Vec<u16>,
     first_sink: Vec<u32>,
     sink: Vec<u16>,
+    delay: Vec<u16>,
+    criticality: Vec<u8>,
     limit: u32,
     tuning: Tuning,
     rule: u32,
     until: u32,
+    timed: bool,
 }
 
 /// The own numbers of the reader.
-const NUMBERS: usize = 11;
+const NUMBERS: usize = 12;
 
 /// The counts that the F line gives.
 struct Counts {
@@ -136,15 +140,31 @@ fn read_rule(lines: &mut Lines) -> Result<(u32, u32), Fault> {
     Ok((rule, until))
 }
 
+/// The W line, which may be missing: whether the job is timed.
+fn read_timed(lines: &mut Lines) -> Result<bool, Fault> {
+    let timed = lines.rest().first() == Some(&b'W');
+    if timed {
+        lines.take(b'W', 0)?;
+    }
+    Ok(timed)
+}
+
+/// In a timed job the line has one number more, the last.
+fn take_timed(lines: &mut Lines, letter: u8, fields: usize, timed: bool) -> Result<Vec<u32>, Fault> {
+    lines.take(letter, fields + usize::from(timed))
+}
+
 fn read_nodes(lines: &mut Lines, counts: &Counts, job: &mut Job) -> Result<(), Fault> {
     for node in 0..counts.nodes {
-        let f = lines.take(b'N', 3)?;
+        let f = take_timed(lines, b'N', 3, job.timed)?;
         lines.bounds(f[0] < counts.nodes)?;
         lines.bounds(f[1] <= MAX_KIND)?;
         lines.bounds((1..=255).contains(&f[2]))?;
+        lines.bounds(f[3..].iter().all(|&delay| delay_is_good(delay)))?;
         lines.order(f[0] == node)?;
         job.kind.push(f[1] as u8);
         job.capacity.push(f[2] as u8);
+        job.delay.extend(f[3..].iter().map(|&delay| delay as u16));
     }
     Ok(())
 }
@@ -171,14 +191,13 @@ fn read_nets(lines: &mut Lines, counts: &Counts, job: &mut Job) -> Result<(), Fa
         job.first_sink.push(job.sink.len() as u32);
         let source = read_source(lines, counts, job, net)?;
         job.source.push(source);
-        let mut sinks = Vec::new();
+        let before = job.sink.len();
         loop {
-            read_sink(lines, counts, job, net, source, &mut sinks)?;
+            read_sink(lines, counts, job, net, source, before)?;
             if lines.rest().first() != Some(&b'T') {
                 break;
             }
         }
-        job.sink.extend(sinks);
     }
     job.first_sink.push(job.sink.len() as u32);
     Ok(())
@@ -192,23 +211,25 @@ fn read_source(lines: &mut Lines, counts: &Counts, job: &Job, net: u32) -> Resul
     Ok(f[1] as u16)
 }
 
-/// One T line; `job` has the sinks of earlier nets, `sinks` those of this one.
+/// One T line; of the sinks in `job` so many are of earlier nets, the others of this one.
 fn read_sink(
     lines: &mut Lines,
     counts: &Counts,
-    job: &Job,
+    job: &mut Job,
     net: u32,
     source: u16,
-    sinks: &mut Vec<u16>,
+    before: usize,
 ) -> Result<(), Fault> {
-    let f = lines.take(b'T', 2)?;
+    let f = take_timed(lines, b'T', 2, job.timed)?;
     lines.bounds(f[0] < counts.nets && f[1] < counts.nodes)?;
+    lines.bounds(f[2..].iter().all(|&criticality| criticality_is_good(criticality)))?;
     let sink = f[1] as u16;
     lines.order(f[0] == net)?;
-    lines.order(sink != source && !sinks.contains(&sink))?;
+    lines.order(sink != source && !job.sink[before..].contains(&sink))?;
     lines.order(may_be_sink(job.kind[f[1] as usize]))?;
-    lines.order(job.sink.len() + sinks.len() < MAX_SINKS)?;
-    sinks.push(sink);
+    lines.order(job.sink.len() < MAX_SINKS)?;
+    job.sink.push(sink);
+    job.criticality.extend(f[2..].iter().map(|&criticality| criticality as u8));
     Ok(())
 }
 
@@ -218,6 +239,7 @@ fn read_job(text: &[u8]) -> Result<Job, Fault> {
     let counts = read_counts(&mut lines)?;
     let tuning = read_tuning(&mut lines)?;
     let (rule, until) = read_rule(&mut lines)?;
+    let timed = read_timed(&mut lines)?;
     let mut job = Job {
         kind: Vec::new(),
         capacity: Vec::new(),
@@ -226,10 +248,13 @@ fn read_job(text: &[u8]) -> Result<Job, Fault> {
         source: Vec::new(),
         first_sink: Vec::new(),
         sink: Vec::new(),
+        delay: Vec::new(),
+        criticality: Vec::new(),
         limit: counts.limit,
         tuning,
         rule,
         until,
+        timed,
     };
     read_nodes(&mut lines, &counts, &mut job)?;
     read_edges(&mut lines, &counts, &mut job)?;
@@ -255,10 +280,17 @@ fn numbers(job: &Job) -> [u64; NUMBERS] {
         step as u64,
         job.rule as u64,
         job.until as u64,
+        job.timed as u64,
     ]
 }
 
-/// The reader: 1, 2 or 3 for the first faulty line, then 4 for the lowest table too short.
+/// A timed text has more nodes or a higher limit than it may.
+fn too_large(job: &Job) -> bool {
+    job.timed && (job.kind.len() > MAX_TIMED_NODES || job.limit > MAX_TIMED_LIMIT)
+}
+
+/// The reader: 1, 2 or 3 for the first faulty line, then 4 for the lowest table too short, then 15. An untimed text has no entries for
+/// tables 9 and 10.
 pub fn read(
     text: &[u8],
     kind: &mut [u8],
@@ -268,22 +300,29 @@ pub fn read(
     source: &mut [u16],
     first_sink: &mut [u32],
     sink: &mut [u16],
+    delay: &mut [u16],
+    criticality: &mut [u8],
 ) -> Answer {
     let job = match read_job(text) {
         Ok(job) => job,
         Err(fault) => return Answer::refused(&fault, NUMBERS),
     };
     let too_short = [
-        kind.len() < job.kind.len(),
-        capacity.len() < job.capacity.len(),
-        first_edge.len() < job.first_edge.len(),
-        edge_target.len() < job.edge_target.len(),
-        source.len() < job.source.len(),
-        first_sink.len() < job.first_sink.len(),
-        sink.len() < job.sink.len(),
+        (1, kind.len() < job.kind.len()),
+        (2, capacity.len() < job.capacity.len()),
+        (3, first_edge.len() < job.first_edge.len()),
+        (4, edge_target.len() < job.edge_target.len()),
+        (5, source.len() < job.source.len()),
+        (6, first_sink.len() < job.first_sink.len()),
+        (7, sink.len() < job.sink.len()),
+        (9, delay.len() < job.delay.len()),
+        (10, criticality.len() < job.criticality.len()),
     ];
-    if let Some(place) = too_short.iter().position(|&short| short) {
-        return Answer::refused(&[4, place as u64 + 1], NUMBERS);
+    if let Some((table, _)) = too_short.iter().find(|(_, short)| *short) {
+        return Answer::refused(&[4, *table], NUMBERS);
+    }
+    if too_large(&job) {
+        return Answer::refused(&[15, job.kind.len() as u64, job.limit as u64], NUMBERS);
     }
     kind[..job.kind.len()].copy_from_slice(&job.kind);
     capacity[..job.capacity.len()].copy_from_slice(&job.capacity);
@@ -292,5 +331,7 @@ pub fn read(
     source[..job.source.len()].copy_from_slice(&job.source);
     first_sink[..job.first_sink.len()].copy_from_slice(&job.first_sink);
     sink[..job.sink.len()].copy_from_slice(&job.sink);
+    delay[..job.delay.len()].copy_from_slice(&job.delay);
+    criticality[..job.criticality.len()].copy_from_slice(&job.criticality);
     Answer::good(&numbers(&job))
 }

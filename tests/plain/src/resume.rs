@@ -1,8 +1,8 @@
 //! Going on from a finished log: whether it follows the job, what is rebuilt from it, and the turns after it.
 
+use crate::join::Sink;
 use crate::route::{negotiated, tested, Joined, Log, State, Terms};
-use crate::search::prices;
-use crate::tables::{Graph, Nets};
+use crate::tables::{Graph, Nets, Timing};
 use crate::Answer;
 use std::collections::BTreeSet;
 
@@ -34,12 +34,13 @@ struct Replay<'a> {
     turns: u64,
 }
 
-/// A net with its tree before one of its turns.
+/// A net with its tree before one of its turns, and the sinks that the turn may join: in a timed job the one whose turn it is.
 struct Turn<'a> {
     graph: &'a Graph<'a>,
+    nets: &'a Joined<'a>,
     state: &'a State,
     net: usize,
-    sinks: &'a [u16],
+    open: Vec<Sink>,
 }
 
 impl Turn<'_> {
@@ -47,12 +48,8 @@ impl Turn<'_> {
         self.state.trees[self.net].contains(&node)
     }
 
-    fn unjoined(&self, node: usize) -> bool {
-        self.sinks.iter().any(|&sink| sink as usize == node) && !self.in_tree(node)
-    }
-
-    fn all_joined(&self) -> bool {
-        self.sinks.iter().all(|&sink| self.in_tree(sink as usize))
+    fn is_open(&self, node: usize) -> bool {
+        self.open.iter().any(|sink| sink.node == node)
     }
 
     /// The path of a record, if the record can be this turn.
@@ -64,8 +61,8 @@ impl Turn<'_> {
             && no_node_twice(&path)
             && self.first_alone_in_tree(&path)
             && path.last() == Some(&(lent.sink as usize))
-            && self.unjoined(lent.sink as usize)
-            && self.no_other_unjoined(lent.sink as usize, &path)
+            && self.is_open(lent.sink as usize)
+            && self.no_other_open(lent.sink as usize, &path)
             && lent.cost == self.cost(&path);
         good.then_some(path)
     }
@@ -80,14 +77,14 @@ impl Turn<'_> {
         in_tree.map(|(place, _)| place).eq([0])
     }
 
-    fn no_other_unjoined(&self, sink: usize, path: &[usize]) -> bool {
-        path.iter().all(|&node| node == sink || !self.unjoined(node))
+    /// In a timed job no other sink is open, so that a path may pass any.
+    fn no_other_open(&self, sink: usize, path: &[usize]) -> bool {
+        path.iter().all(|&node| node == sink || !self.is_open(node))
     }
 
     /// The sum of the prices of a path's nodes but the first.
     fn cost(&self, path: &[usize]) -> u64 {
-        let others = self.state.users(Some(self.net));
-        let prices = prices(self.graph, self.state.factor, &self.state.histories, &others);
+        let prices = self.nets.prices(self.graph, self.state, self.net, &self.open);
         path.iter().skip(1).map(|&node| prices[node]).sum()
     }
 }
@@ -101,8 +98,8 @@ impl Replay<'_> {
     fn net(&mut self, graph: &Graph, nets: &Joined, net: usize, state: &mut State) -> Result<(), Off> {
         state.trees[net] = BTreeSet::from([nets.source[net] as usize]);
         loop {
-            let turn = Turn { graph, state, net, sinks: &nets.sinks[net] };
-            if turn.all_joined() {
+            let turn = Turn { graph, nets, state, net, open: nets.open(net, &state.trees[net]) };
+            if turn.open.is_empty() {
                 return Ok(());
             }
             let lent = Lent::of(&self.words[self.place..]).ok_or(Off(self.place))?;
@@ -143,7 +140,7 @@ fn take_up(graph: &Graph, nets: &Joined, state: &mut State, used: u64, log: &[u3
     Ok(replay.turns)
 }
 
-/// Resume: tests 5, 6, 7, then 14, then 8 and 9 as they arise. The lent log is the words used, and turns are appended to it.
+/// Resume: tests 5, 15, 6, 7, then 14, then 8 and 9 as they arise. The lent log is the words used, and turns are appended to it.
 pub fn resume(
     kind: &[u8],
     capacity: &[u8],
@@ -152,6 +149,8 @@ pub fn resume(
     source: &[u16],
     first_sink: &[u32],
     sink: &[u16],
+    delay: &[u16],
+    criticality: &[u8],
     terms: &[u32],
     used: u64,
     work: &mut [u64],
@@ -159,7 +158,8 @@ pub fn resume(
 ) -> Answer {
     let graph = Graph { kind, capacity, first_edge, edge_target };
     let nets = Nets { source, first_sink, sink };
-    let (nets, mut state) = match tested(&graph, &nets, Terms::of(terms), work) {
+    let timing = Timing { delay, criticality };
+    let (nets, mut state) = match tested(&graph, &nets, timing, Terms::of(terms), work) {
         Ok(begun) => begun,
         Err(refused) => return refused,
     };

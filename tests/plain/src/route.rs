@@ -1,19 +1,22 @@
 //! The negotiation as a machine, with its log.
 
-use crate::join::joined;
+use crate::join::{joined, Sink};
 use crate::price::Tuning;
-use crate::search::{distances, path, prices, NO_PATH};
-use crate::tables::{rule_is_sound, Graph, Nets, MAX_LIMIT, PLAIN_RULE, PLAIN_UNTIL};
+use crate::search::{distances, path, prices, weighed_prices, NO_PATH};
+use crate::tables::{rule_is_sound, Graph, Nets, Timing, MAX_LIMIT, PLAIN_RULE, PLAIN_UNTIL};
+use crate::tables::{MAX_TIMED_LIMIT, MAX_TIMED_NODES};
 use crate::Answer;
+use std::cmp::Reverse;
 use std::collections::BTreeSet;
 
-/// Limit, tuning, rule and k, which count as table 8.
+/// Limit, tuning, rule and k, which count as table 8, and whether the job is timed.
 #[derive(Clone, Copy)]
 pub struct Terms {
     pub limit: u32,
     tuning: Tuning,
     rule: u32,
     until: u32,
+    timed: bool,
 }
 
 impl Terms {
@@ -31,6 +34,7 @@ impl Terms {
             },
             rule: entry(5, PLAIN_RULE),
             until: entry(6, PLAIN_UNTIL),
+            timed: entry(7, 0) != 0,
         }
     }
 
@@ -148,9 +152,11 @@ fn reached_from(graph: &Graph, from: usize) -> BTreeSet<usize> {
 }
 
 /// What is routed: each net's source, and its sinks after the nets of one source are joined. Those joined into another have none.
+/// A timed job has delays.
 pub struct Joined<'a> {
     pub source: &'a [u16],
-    pub sinks: Vec<Vec<u16>>,
+    sinks: Vec<Vec<Sink>>,
+    delay: Option<&'a [u16]>,
 }
 
 impl Joined<'_> {
@@ -158,13 +164,33 @@ impl Joined<'_> {
     fn routed(&self) -> impl Iterator<Item = usize> + '_ {
         (0..self.sinks.len()).filter(|&net| !self.sinks[net].is_empty())
     }
+
+    /// The sinks that a net's next turn may join: those that its tree lacks, in a timed job the most critical of them alone, the
+    /// first listed of equals.
+    pub fn open(&self, net: usize, tree: &BTreeSet<usize>) -> Vec<Sink> {
+        let unjoined = self.sinks[net].iter().filter(|sink| !tree.contains(&sink.node)).copied();
+        if self.delay.is_none() {
+            return unjoined.collect();
+        }
+        unjoined.min_by_key(|sink| Reverse(sink.criticality)).into_iter().collect()
+    }
+
+    /// Every node's price in a net's next turn, by the sinks that it may join.
+    pub fn prices(&self, graph: &Graph, state: &State, net: usize, open: &[Sink]) -> Vec<u64> {
+        let others = state.users(Some(net));
+        let prices = prices(graph, state.factor, &state.histories, &others);
+        match (self.delay, open) {
+            (Some(delay), [sink, ..]) => weighed_prices(&prices, delay, sink.criticality as u32),
+            _ => prices,
+        }
+    }
 }
 
 /// The first net and the first sink place in it without a path from the source.
 fn unreachable(graph: &Graph, nets: &Joined) -> Option<(usize, usize)> {
     for net in nets.routed() {
         let reached = reached_from(graph, nets.source[net] as usize);
-        let missing = nets.sinks[net].iter().position(|&s| !reached.contains(&(s as usize)));
+        let missing = nets.sinks[net].iter().position(|sink| !reached.contains(&sink.node));
         if let Some(place) = missing {
             return Some((net, place));
         }
@@ -172,19 +198,19 @@ fn unreachable(graph: &Graph, nets: &Joined) -> Option<(usize, usize)> {
     None
 }
 
-/// The unjoined sink of least distance, the first listed of equals.
-fn nearest(sinks: &[u16], distance: &[u64], tree: &BTreeSet<usize>) -> Option<usize> {
-    let unjoined = sinks.iter().map(|&s| s as usize).filter(|s| !tree.contains(s));
-    unjoined.filter(|&s| distance[s] != NO_PATH).min_by_key(|&s| distance[s])
+/// The sink of least distance, the first listed of equals.
+fn nearest(open: &[Sink], distance: &[u64]) -> Option<usize> {
+    let nodes = open.iter().map(|sink| sink.node);
+    nodes.filter(|&node| distance[node] != NO_PATH).min_by_key(|&node| distance[node])
 }
 
-/// One turn: joins the nearest sink; false if none was left.
+/// One turn: joins the nearest of the sinks that it may join; false if none was left.
 fn turn(graph: &Graph, nets: &Joined, net: usize, state: &mut State, log: &mut Log) -> Result<bool, Full> {
-    let others = state.users(Some(net));
-    let prices = prices(graph, state.factor, &state.histories, &others);
+    let open = nets.open(net, &state.trees[net]);
+    let prices = nets.prices(graph, state, net, &open);
     let tree = &mut state.trees[net];
     let distance = distances(graph, &prices, tree);
-    let Some(sink) = nearest(&nets.sinks[net], &distance, tree) else {
+    let Some(sink) = nearest(&open, &distance) else {
         return Ok(false);
     };
     let path = path(graph, &prices, &distance, tree, sink);
@@ -220,27 +246,40 @@ fn negotiate(graph: &Graph, nets: &Joined, state: &mut State, log: &mut Log) -> 
     }
 }
 
-/// The lowest of tables 1 to 8 that breaks its rule; the terms are table 8.
-fn broken(graph: &Graph, nets: &Nets, terms: Terms) -> Option<u64> {
-    graph.broken().or_else(|| nets.broken(graph.kind)).or(if terms.is_sound() { None } else { Some(8) })
+/// The lowest table that breaks its rule; the terms are table 8, and an untimed job has none above it.
+fn broken(graph: &Graph, nets: &Nets, timing: Option<&Timing>, terms: Terms) -> Option<u64> {
+    let tables = graph.broken().or_else(|| nets.broken(graph.kind));
+    let terms = if terms.is_sound() { None } else { Some(8) };
+    tables.or(terms).or_else(|| timing.and_then(|timing| timing.broken(graph.nodes(), nets.sink.len())))
 }
 
-/// Tests 5, 6 and 7, and zeroes the work once it is long enough: the joined nets and the machine's first state, or the refusal.
+/// A timed job has more nodes or a higher limit than it may.
+fn too_large(graph: &Graph, terms: Terms) -> bool {
+    terms.timed && (graph.nodes() > MAX_TIMED_NODES || terms.limit > MAX_TIMED_LIMIT)
+}
+
+/// Tests 5, 15, 6 and 7, and zeroes the work once it is long enough: the joined nets and the machine's first state, or the refusal.
 pub fn tested<'a>(
     graph: &Graph,
     nets: &Nets<'a>,
+    timing: Timing<'a>,
     terms: Terms,
     work: &mut [u64],
 ) -> Result<(Joined<'a>, State), Answer> {
     let nodes = graph.nodes();
-    if let Some(table) = broken(graph, nets, terms) {
+    let timing = terms.timed.then_some(timing);
+    if let Some(table) = broken(graph, nets, timing.as_ref(), terms) {
         return Err(Answer::refused(&[5, table], 3));
+    }
+    if too_large(graph, terms) {
+        return Err(Answer::refused(&[15, nodes as u64, terms.limit as u64], 3));
     }
     if work.len() < 8 * nodes {
         return Err(Answer::refused(&[6, 8 * nodes as u64], 3));
     }
     work[..8 * nodes].fill(0);
-    let joined = Joined { source: nets.source, sinks: joined(nets) };
+    let sinks = joined(nets, timing.as_ref());
+    let joined = Joined { source: nets.source, sinks, delay: timing.map(|timing| timing.delay) };
     if let Some((net, place)) = unreachable(graph, &joined) {
         return Err(Answer::refused(&[7, net as u64, place as u64], 3));
     }
@@ -259,7 +298,8 @@ pub fn negotiated(graph: &Graph, nets: &Joined, state: &mut State, log: &mut Log
     Answer { refusal, numbers: vec![iteration, log.turns, log.words as u64] }
 }
 
-/// The router: tests 5, 6, 7, then 8 and 9 as they arise. The terms are limit, first, up, down, step, rule, k.
+/// The router: tests 5, 15, 6, 7, then 8 and 9 as they arise. The terms are limit, first, up, down, step, rule, k, and a number that
+/// isn't 0 for a timed job.
 pub fn route(
     kind: &[u8],
     capacity: &[u8],
@@ -268,13 +308,15 @@ pub fn route(
     source: &[u16],
     first_sink: &[u32],
     sink: &[u16],
+    delay: &[u16],
+    criticality: &[u8],
     terms: &[u32],
     work: &mut [u64],
     log: &mut [u32],
 ) -> Answer {
     let graph = Graph { kind, capacity, first_edge, edge_target };
     let nets = Nets { source, first_sink, sink };
-    match tested(&graph, &nets, Terms::of(terms), work) {
+    match tested(&graph, &nets, Timing { delay, criticality }, Terms::of(terms), work) {
         Err(refused) => refused,
         Ok((nets, mut state)) => {
             negotiated(&graph, &nets, &mut state, &mut Log { space: log, words: 0, turns: 0 })

@@ -1,8 +1,10 @@
 //! Distances from a tree, the cheapest path back to it, and both as calls.
 
-use crate::price::{factor_is_good, history_is_good, others_is_good, price_of};
-use crate::price::{MAX_FACTOR, MAX_HISTORY, MAX_KIND, MAX_OTHERS};
-use crate::tables::{Graph, MAX_EDGES, MAX_NODES, MAX_SINKS};
+use crate::price::{criticality_is_good, factor_is_good, others_is_good, price_of, weighed};
+use crate::price::{
+    MAX_CRITICALITY, MAX_DELAY, MAX_FACTOR, MAX_HISTORY, MAX_KIND, MAX_OTHERS, MAX_TIMED_HISTORY,
+};
+use crate::tables::{delays_are_sound, Graph, MAX_EDGES, MAX_NODES, MAX_SINKS, MAX_TIMED_NODES};
 use crate::Answer;
 use std::collections::BTreeSet;
 
@@ -13,6 +15,40 @@ pub fn prices(graph: &Graph, factor: u32, history: &[u32], others: &[u32]) -> Ve
     let price =
         |v: usize| price_of(graph.kind[v] as u32, factor, others[v], graph.capacity[v] as u32, history[v]);
     (0..graph.nodes()).map(price).collect()
+}
+
+/// Every node's price for a sink of this criticality.
+pub fn weighed_prices(prices: &[u64], delay: &[u16], criticality: u32) -> Vec<u64> {
+    prices.iter().zip(delay).map(|(&price, &delay)| weighed(price, delay as u32, criticality)).collect()
+}
+
+/// Whether prices are weighed with delays, and then the criticality of the sink that they are for.
+#[derive(Clone, Copy)]
+pub struct Weighting {
+    pub timed: bool,
+    pub criticality: u32,
+}
+
+impl Weighting {
+    pub const UNTIMED: Weighting = Weighting { timed: false, criticality: 0 };
+
+    /// What a call alone takes a history to.
+    fn most_history(self) -> u32 {
+        if self.timed {
+            MAX_TIMED_HISTORY
+        } else {
+            MAX_HISTORY
+        }
+    }
+
+    /// Congestion prices as they are, or weighed.
+    fn of(self, prices: Vec<u64>, delay: &[u16]) -> Vec<u64> {
+        if self.timed {
+            weighed_prices(&prices, delay, self.criticality)
+        } else {
+            prices
+        }
+    }
 }
 
 /// Every node's distance from the tree: rounds over all edges until nothing changes.
@@ -72,32 +108,39 @@ fn before(graph: &Graph, prices: &[u64], distance: &[u64], v: usize) -> Option<u
 }
 
 /// The lowest node for which a list has a bad entry or none.
-fn bad_node(nodes: usize, history: &[u32], others: &[u16], in_tree: &[u8]) -> Option<usize> {
+fn bad_node(nodes: usize, most: u32, history: &[u32], others: &[u16], in_tree: &[u8]) -> Option<usize> {
     (0..nodes).find(|&v| {
-        let history_good = history.get(v).is_some_and(|&h| history_is_good(h));
+        let history_good = history.get(v).is_some_and(|h| (1..=most).contains(h));
         let others_good = others.get(v).is_some_and(|&o| others_is_good(o as u32));
         let mark_good = in_tree.get(v).is_some_and(|&m| m <= 1);
         !(history_good && others_good && mark_good)
     })
 }
 
-/// What the search refuses once its tables are sound: 6, then 13.
+/// What the search refuses once its tables are sound: 15 if it is timed, 6, then 13.
 fn refusal(
     nodes: usize,
+    weighting: Weighting,
     work: &[u64],
     factor: u32,
     history: &[u32],
     others: &[u16],
     in_tree: &[u8],
-) -> Option<[u64; 2]> {
-    if work.len() < 8 * nodes {
-        return Some([6, 8 * nodes as u64]);
+) -> Option<Vec<u64>> {
+    if weighting.timed && nodes > MAX_TIMED_NODES {
+        return Some(vec![15, nodes as u64, 0]);
     }
-    if let Some(node) = bad_node(nodes, history, others, in_tree) {
-        return Some([13, node as u64]);
+    if work.len() < 8 * nodes {
+        return Some(vec![6, 8 * nodes as u64]);
+    }
+    if let Some(node) = bad_node(nodes, weighting.most_history(), history, others, in_tree) {
+        return Some(vec![13, node as u64]);
     }
     if !factor_is_good(factor) {
-        return Some([13, nodes as u64]);
+        return Some(vec![13, nodes as u64]);
+    }
+    if weighting.timed && !criticality_is_good(weighting.criticality) {
+        return Some(vec![13, nodes as u64 + 1]);
     }
     None
 }
@@ -120,15 +163,55 @@ pub fn search(
     in_tree: &[u8],
 ) -> Answer {
     let graph = Graph { kind, capacity, first_edge, edge_target };
+    searched(&graph, &[], Weighting::UNTIMED, factor, work, history, others, in_tree)
+}
+
+/// The timed search alone: tests 5, of tables 1 to 4 and 9, then 15, 6, 13.
+pub fn timed_search(
+    kind: &[u8],
+    capacity: &[u8],
+    first_edge: &[u32],
+    edge_target: &[u16],
+    delay: &[u16],
+    factor: u32,
+    criticality: u32,
+    work: &mut [u64],
+    history: &[u32],
+    others: &[u16],
+    in_tree: &[u8],
+) -> Answer {
+    let graph = Graph { kind, capacity, first_edge, edge_target };
+    let weighting = Weighting { timed: true, criticality };
+    searched(&graph, delay, weighting, factor, work, history, others, in_tree)
+}
+
+/// Table 9 where it is read, that is in a timed call, after tables 1 to 4.
+fn broken(graph: &Graph, weighting: Weighting, delay: &[u16]) -> Option<u64> {
+    let delays = !weighting.timed || delays_are_sound(delay, graph.nodes());
+    graph.broken().or(if delays { None } else { Some(9) })
+}
+
+/// Either search.
+fn searched(
+    graph: &Graph,
+    delay: &[u16],
+    weighting: Weighting,
+    factor: u32,
+    work: &mut [u64],
+    history: &[u32],
+    others: &[u16],
+    in_tree: &[u8],
+) -> Answer {
     let nodes = graph.nodes();
-    if let Some(table) = graph.broken() {
+    if let Some(table) = broken(graph, weighting, delay) {
         return Answer::refused(&[5, table], 0);
     }
-    if let Some(refusal) = refusal(nodes, work, factor, history, others, in_tree) {
+    if let Some(refusal) = refusal(nodes, weighting, work, factor, history, others, in_tree) {
         return Answer::refused(&refusal, 0);
     }
     let others: Vec<u32> = others.iter().map(|&o| o as u32).collect();
-    let found = distances(&graph, &prices(&graph, factor, history, &others), &marked(nodes, in_tree));
+    let prices = weighting.of(prices(graph, factor, history, &others), delay);
+    let found = distances(graph, &prices, &marked(nodes, in_tree));
     work[..nodes].copy_from_slice(&found);
     work[nodes..8 * nodes].fill(0);
     Answer::good(&[])
@@ -176,9 +259,12 @@ impl Read {
     }
 }
 
-/// Every list that a turn is lent has the length that its rule asks.
+/// Every list that a turn is lent has the length that its rule asks. Of the lists with an entry a node, delays too, entries past the node
+/// count are unread.
 fn lengths_are_right(
     graph: &Graph,
+    weighting: Weighting,
+    delay: &[u16],
     work: &[u64],
     history: &[u32],
     others: &[u16],
@@ -193,9 +279,10 @@ fn lengths_are_right(
         && work.len() >= 8 * nodes
         && [history.len(), others.len(), in_tree.len()].iter().all(|&long| long >= nodes)
         && sinks.len() <= MAX_SINKS
+        && (!weighting.timed || (nodes <= MAX_TIMED_NODES && delay.len() >= nodes))
 }
 
-/// One turn alone. Where a length is wrong it tests 5 (the sinks as table 7), 6, 13, as the search does. Otherwise it reads every
+/// One turn alone. Where a length is wrong it tests 5 (the sinks as table 7), 15, 6, 13, as the search does. Otherwise it reads every
 /// number within its bounds, passes over sinks that are no nodes, and leaves the path and zeros in 3 × nodes entries of the work slice.
 /// Its numbers are the joined sink's place, the cost and the path's length, or none if no unjoined sink has a path.
 pub fn cheapest_path(
@@ -203,6 +290,8 @@ pub fn cheapest_path(
     capacity: &[u8],
     first_edge: &[u32],
     edge_target: &[u16],
+    weighting: Weighting,
+    delay: &[u16],
     factor: u32,
     work: &mut [u64],
     history: &[u32],
@@ -212,21 +301,26 @@ pub fn cheapest_path(
 ) -> Answer {
     let lent = Graph { kind, capacity, first_edge, edge_target };
     let nodes = lent.nodes();
-    if !lengths_are_right(&lent, work, history, others, in_tree, sinks) {
+    if !lengths_are_right(&lent, weighting, delay, work, history, others, in_tree, sinks) {
         if let Some(table) = lent.broken() {
             return Answer::refused(&[5, table], 0);
         }
         if !sinks_are_sound(nodes, sinks) {
             return Answer::refused(&[5, 7], 0);
         }
-        let refusal = refusal(nodes, work, factor, history, others, in_tree);
+        if let Some(table) = broken(&lent, weighting, delay) {
+            return Answer::refused(&[5, table], 0);
+        }
+        let refusal = refusal(nodes, weighting, work, factor, history, others, in_tree);
         return Answer::refused(&refusal.expect("a wrong length is refused"), 0);
     }
     let read = Read::new(&lent);
     let graph = read.graph();
     let others: Vec<u32> = others.iter().map(|&o| (o as u32).min(MAX_OTHERS)).collect();
-    let history: Vec<u32> = history.iter().map(|&h| h.clamp(1, MAX_HISTORY)).collect();
-    let prices = prices(&graph, factor.min(MAX_FACTOR), &history, &others);
+    let history: Vec<u32> = history.iter().map(|&h| h.clamp(1, weighting.most_history())).collect();
+    let delay: Vec<u16> = delay.iter().map(|&d| d.min(MAX_DELAY as u16)).collect();
+    let weighting = Weighting { criticality: weighting.criticality.min(MAX_CRITICALITY), ..weighting };
+    let prices = weighting.of(prices(&graph, factor.min(MAX_FACTOR), &history, &others), &delay);
     let tree = marked(nodes, in_tree);
     let distance = distances(&graph, &prices, &tree);
     work[..3 * nodes].fill(0);

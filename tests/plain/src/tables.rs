@@ -1,10 +1,16 @@
-//! The seven tables and their rules. A table's length is part of its rule.
+//! The tables and their rules. A table's length is part of its rule.
+
+use crate::price::{criticality_is_good, delay_is_good};
 
 pub const MAX_NODES: usize = 4_096;
 pub const MAX_EDGES: usize = 32_768;
 pub const MAX_NETS: usize = 512;
 pub const MAX_SINKS: usize = 4_096;
 pub const MAX_LIMIT: u32 = 100;
+
+/// What a timed job has at most.
+pub const MAX_TIMED_NODES: usize = 1_024;
+pub const MAX_TIMED_LIMIT: u32 = 40;
 
 /// Rule 1 reroutes every net, rule 2 after iteration k the crowded ones alone. That of a text without a V line is 1.
 pub const PLAIN_RULE: u32 = 1;
@@ -40,6 +46,34 @@ pub struct Nets<'a> {
     pub source: &'a [u16],
     pub first_sink: &'a [u32],
     pub sink: &'a [u16],
+}
+
+/// Tables 9 and 10, which a timed job alone has.
+pub struct Timing<'a> {
+    pub delay: &'a [u16],
+    pub criticality: &'a [u8],
+}
+
+impl Timing<'_> {
+    /// The lower of the two that breaks its rule, beside tables of so many nodes and sinks.
+    pub fn broken(&self, nodes: usize, sinks: usize) -> Option<u64> {
+        if !delays_are_sound(self.delay, nodes) {
+            Some(9)
+        } else if !self.criticality_is_sound(sinks) {
+            Some(10)
+        } else {
+            None
+        }
+    }
+
+    fn criticality_is_sound(&self, sinks: usize) -> bool {
+        self.criticality.len() == sinks && self.criticality.iter().all(|&c| criticality_is_good(c as u32))
+    }
+}
+
+/// Table 9: a delay a node.
+pub fn delays_are_sound(delay: &[u16], nodes: usize) -> bool {
+    delay.len() == nodes && delay.iter().all(|&d| delay_is_good(d as u32))
 }
 
 impl Graph<'_> {

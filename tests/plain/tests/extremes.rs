@@ -54,10 +54,13 @@ fn sized(nodes: usize, edges: usize, nets: usize, sinks: usize) -> Job {
         source: vec![0; nets],
         first_sink,
         sink: (0..sinks).map(sink).collect(),
+        delay: vec![],
+        criticality: vec![],
         limit: 1,
         tuning: Tuning::PLAIN,
         rule: PLAIN_RULE,
         until: PLAIN_UNTIL,
+        timed: 0,
     }
 }
 

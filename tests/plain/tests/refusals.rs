@@ -69,8 +69,8 @@ fn the_4097th_sink() {
         job += &format!("T,0,{v}\n");
     }
     job += "S,1,0\nT,1,1\n";
-    let mut t = Job::unread([4096, 4096, 4097, 0, 2, 3, 4096]);
-    assert_eq!(read_into(job.as_bytes(), &mut t).numbers, [4096, 0, 2, 4096, 1, 50, 3, 2, 1, 1, 1]);
+    let mut t = Job::unread([4096, 4096, 4097, 0, 2, 3, 4096, 0, 0]);
+    assert_eq!(read_into(job.as_bytes(), &mut t).numbers, [4096, 0, 2, 4096, 1, 50, 3, 2, 1, 1, 1, 0]);
     assert_eq!(refusal(&(job.clone() + "T,1,4096\n")), [2, 8196]);
     assert_eq!(refusal(&(job + "T,1,2\n")), [3, 8196]);
 }
@@ -101,7 +101,7 @@ fn pins_of_other_kinds_in_a_text() {
 
 #[test]
 fn tables_too_short() {
-    let enough = [6, 6, 7, 6, 2, 3, 2];
+    let enough = [6, 6, 7, 6, 2, 3, 2, 0, 0];
     assert!(read_into(text(B).as_bytes(), &mut Job::unread(enough)).refusal.is_empty());
     for table in 0..7 {
         let mut sizes = enough;
@@ -249,12 +249,17 @@ fn nothing_panics() {
         (state >> 33) % below
     };
     let sound = tables(&text(B));
-    let bytes = text(&B.replace("F,6,6,2,2", "F,6,6,2,2 P,50,3,2,1 V,2,1")).into_bytes();
+    let untimed = B.replace("F,6,6,2,2", "F,6,6,2,2 P,50,3,2,1 V,2,1");
+    let timed = "F,3,2,1,9 P,50,3,2,1 V,2,1 W N,0,0,1,7 N,1,4,1,0 N,2,1,1,9 E,0,1 E,1,2 S,0,0 T,0,2,5";
+    let texts = [untimed, String::from(timed)].map(|lines| text(&lines).into_bytes());
     for _ in 0..20_000 {
         let mut t = sound.clone();
         let value = [0, 1, 2, 3, 5, 6, 255, 65535][next(8) as usize];
         let place = next(9) as usize;
-        match next(11) {
+        if next(2) == 0 {
+            t = t.timed(&[7; 6], &[3; 2]);
+        }
+        match next(13) {
             0 => t.kind.resize(place, value as u8),
             1 => t.capacity.resize(place, value as u8),
             2 => t.first_edge[place % 7] = value,
@@ -265,6 +270,8 @@ fn nothing_panics() {
             7 => t.tuning.down = value,
             8 => t.rule = value,
             9 => t.until = value,
+            10 => t.delay.resize(place, value as u16),
+            11 => t.criticality.resize(place, value as u8),
             _ => t.limit = value,
         }
         let mut log = vec![0; next(60) as usize];
@@ -274,11 +281,12 @@ fn nothing_panics() {
         }
         resume_with(&t, next(40), &mut vec![0; next(80) as usize], &mut log.clone());
         write(&t.source, &log, &mut vec![0; next(80) as usize]);
+        let bytes = &texts[next(2) as usize];
         let mut damaged = bytes.clone();
         for _ in 0..=next(3) {
-            damaged[next(bytes.len() as u64) as usize] = b"0123456789,\nFPVNEST\r\xff"[next(21) as usize];
+            damaged[next(bytes.len() as u64) as usize] = b"0123456789,\nFPVWNEST\r\xff"[next(22) as usize];
         }
         damaged.truncate(bytes.len() - next(4) as usize);
-        read_into(&damaged, &mut Job::unread([next(9) as usize; 7]));
+        read_into(&damaged, &mut Job::unread([next(9) as usize; 9]));
     }
 }

@@ -9,15 +9,15 @@ use plain::Answer;
 #[test]
 fn the_line_is_read() {
     for (lines, terms) in [
-        ("", [2, 50, 3, 2, 1, 1, 1]),
-        ("V,1", [2, 50, 3, 2, 1, 1, 1]),
-        ("V,2", [2, 50, 3, 2, 1, 2, 1]),
-        ("V,2,1", [2, 50, 3, 2, 1, 2, 1]),
-        ("V,2,2", [2, 50, 3, 2, 1, 2, 2]),
-        ("V,2,99", [2, 50, 3, 2, 1, 2, 99]),
-        ("P,7,4,4,2 V,1", [2, 7, 4, 4, 2, 1, 1]),
-        ("P,7,4,4,2 V,2", [2, 7, 4, 4, 2, 2, 1]),
-        ("P,7,4,4,2 V,2,7", [2, 7, 4, 4, 2, 2, 7]),
+        ("", [2, 50, 3, 2, 1, 1, 1, 0]),
+        ("V,1", [2, 50, 3, 2, 1, 1, 1, 0]),
+        ("V,2", [2, 50, 3, 2, 1, 2, 1, 0]),
+        ("V,2,1", [2, 50, 3, 2, 1, 2, 1, 0]),
+        ("V,2,2", [2, 50, 3, 2, 1, 2, 2, 0]),
+        ("V,2,99", [2, 50, 3, 2, 1, 2, 99, 0]),
+        ("P,7,4,4,2 V,1", [2, 7, 4, 4, 2, 1, 1, 0]),
+        ("P,7,4,4,2 V,2", [2, 7, 4, 4, 2, 2, 1, 0]),
+        ("P,7,4,4,2 V,2,7", [2, 7, 4, 4, 2, 2, 7, 0]),
     ] {
         assert_eq!(tables(&b_with(lines)).terms(), terms, "{lines}");
     }
@@ -98,7 +98,7 @@ fn terms_that_the_slice_lacks_are_plain() {
     for count in 1..=7 {
         assert_eq!(by_terms(&plain[..count]).numbers, [2, 4, 36]);
     }
-    // Entries past k aren't read.
+    // An entry past k that is 0 says that the job is untimed; entries past that aren't read.
     assert_eq!(by_terms(&[2, 50, 3, 2, 1, 1, 1, 0, u32::MAX]).numbers, [2, 4, 36]);
     // A factor of 0 in iteration 2 doesn't part the nets, a bad one is told.
     assert_eq!(by_terms(&[2, 0]).refusal, [9, 2, 1]);

@@ -17,11 +17,11 @@ fn answer(refusal: &[u64], numbers: &[u64]) -> Answer {
 
 #[test]
 fn job_b_is_read() {
-    let mut t = Job::unread([7; 7]);
+    let mut t = Job::unread([7; 9]);
     let got = read_into(text(B).as_bytes(), &mut t);
-    assert_eq!(got, answer(&[], &[6, 6, 2, 2, 2, 50, 3, 2, 1, 1, 1]));
+    assert_eq!(got, answer(&[], &[6, 6, 2, 2, 2, 50, 3, 2, 1, 1, 1, 0]));
     // Entries past those needed stay as they were.
-    let mut wanted = Job::unread([7; 7]);
+    let mut wanted = Job::unread([7; 9]);
     wanted.kind[..6].copy_from_slice(&[0, 0, 4, 5, 1, 1]);
     wanted.capacity[..6].fill(1);
     wanted.first_edge.copy_from_slice(&[0, 2, 3, 5, 6, 6, 6]);

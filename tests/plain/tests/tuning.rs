@@ -15,10 +15,10 @@ fn the_line_is_read() {
         ("P,7,4,4,2", [7, 4, 4, 2]),
         ("P,7,8,1,1", [7, 8, 1, 1]),
     ] {
-        let mut t = Job::unread([7; 7]);
+        let mut t = Job::unread([7; 9]);
         let answer = read_into(b_with(line).as_bytes(), &mut t);
         assert_eq!(answer.refusal, [0; 0]);
-        assert_eq!(answer.numbers, [&[6, 6, 2, 2, 2][..], &numbers, &[1, 1]].concat());
+        assert_eq!(answer.numbers, [&[6, 6, 2, 2, 2][..], &numbers, &[1, 1, 0]].concat());
     }
 }
 

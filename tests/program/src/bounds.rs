@@ -1,7 +1,7 @@
 //! Texts at the programs' bounds and just past them, each with what the answer to it begins with.
 
 use crate::expected::{BYTES, EDGES, NETS, NODES, SINKS, WORDS};
-use job::{jobs, texts, Job};
+use job::{jobs, texts, Job, Rng};
 
 /// A text at a bound.
 pub struct Bound {
@@ -16,9 +16,10 @@ fn bound(name: &'static str, text: Vec<u8>, answer: &'static str) -> Bound {
     Bound { name, text, picture: false, answer }
 }
 
-/// All of them, for tables first, then input, log, routes and picture.
+/// All of them, for tables first, then timed jobs, input, log, routes and picture.
 pub fn all() -> Vec<Bound> {
     let mut list = tables();
+    list.extend(timed());
     list.extend(input());
     list.extend(log());
     list.extend(routes());
@@ -42,6 +43,24 @@ fn tables() -> Vec<Bound> {
         bound("513 nets", texts::text(&nets(NETS + 1, NETS + 1)), "X,2,1\n"),
         bound("4,096 sinks", texts::text(&last_unreached(nets(NETS, SINKS))), "X,7,511,7\n"),
         bound("4,097 sinks", texts::text(&nets(NETS, SINKS + 1)), "X,3,5679\n"),
+    ]
+}
+
+/// Timed jobs: their nodes, limit, delays and criticalities, and as many sinks as table 10 has entries.
+fn timed() -> Vec<Bound> {
+    let line = |nodes: usize, limit: u32, delay: u16, criticality: u8| {
+        texts::text(&Job { limit, ..jobs::line(nodes).timed(&vec![delay; nodes], &[criticality]) })
+    };
+    let many = jobs::many_sinks(&mut Rng::new(1), SINKS);
+    let nodes = many.kind.len();
+    vec![
+        bound("1,024 timed nodes", line(NODES, 40, 1_000, 9), "R,1,1\nB,0,0,1\n"),
+        bound("1,025 timed nodes", line(NODES + 1, 40, 1_000, 9), "X,4,1\n"),
+        bound("a timed limit of 41", line(NODES, 41, 1_000, 9), "X,15,1024,41\n"),
+        bound("a timed limit of 100", line(2, 100, 0, 0), "X,15,2,100\n"),
+        bound("a delay of 1,001", line(NODES, 40, 1_001, 9), "X,2,3\n"),
+        bound("a criticality of 10", line(2, 40, 1_000, 10), "X,2,7\n"),
+        bound("4,096 timed sinks", texts::text(&many.timed(&vec![7; nodes], &[5; SINKS])), "R,1,"),
     ]
 }
 

@@ -72,7 +72,7 @@ pub fn keeps_tree(input: &[u8]) -> bool {
 
 /// The job of a text, if the program's tables can hold it.
 fn read(text: &[u8]) -> Result<Job, Vec<u64>> {
-    let mut job = Job::unread([NODES, NODES, NODES + 1, EDGES, NETS, NETS + 1, SINKS]);
+    let mut job = Job::unread([NODES, NODES, NODES + 1, EDGES, NETS, NETS + 1, SINKS, NODES, SINKS]);
     let answer = plain::read(
         text,
         &mut job.kind,
@@ -82,6 +82,8 @@ fn read(text: &[u8]) -> Result<Job, Vec<u64>> {
         &mut job.source,
         &mut job.first_sink,
         &mut job.sink,
+        &mut job.delay,
+        &mut job.criticality,
     );
     job.take_numbers(&numbers(answer)?);
     Ok(job)
@@ -99,6 +101,8 @@ fn route(job: &Job) -> Result<Vec<u32>, Vec<u64>> {
         &job.source,
         &job.first_sink,
         &job.sink,
+        &job.delay,
+        &job.criticality,
         &job.terms(),
         &mut work,
         &mut log,
@@ -156,6 +160,12 @@ mod tests {
         prints(&JOB_CROWDED.replace("V,2\n", "V,2,2\n"), &format!("R,2,6\n{routes}"));
         prints(&JOB_CROWDED.replace("V,2\n", "V,1,2\n"), "X,1,2\n");
         assert!(keeps_tree(JOB_CROWDED.as_bytes()) && !keeps_tree(JOB_B.as_bytes()));
+        // Timed, with delay on wire 2: the critical sink of net 0 is joined over wire 3 at once.
+        let timed = "F,6,6,2,2\nW\nN,0,0,1,0\nN,1,0,1,0\nN,2,4,1,9\nN,3,5,1,0\nN,4,1,1,0\nN,5,1,1,0\n\
+            E,0,2\nE,0,3\nE,1,2\nE,2,4\nE,2,5\nE,3,4\nS,0,0\nT,0,4,9\nS,1,1\nT,1,5,0\n";
+        prints(timed, "R,1,2\nB,0,0,3\nB,0,3,4\nB,1,1,2\nB,1,2,5\n");
+        prints(&timed.replace("T,0,4,9", "T,0,4,0"), "R,2,4\nB,0,0,3\nB,0,3,4\nB,1,1,2\nB,1,2,5\n");
+        prints(&timed.replace("F,6,6,2,2", "F,6,6,2,41"), "X,15,6,41\n");
         // Net 1 becomes one of net 0's source.
         prints(&JOB_B.replace("S,1,1", "S,1,0"), "R,1,2\nB,0,0,2\nB,0,2,4\nB,0,2,5\nJ,1,0\n");
     }

@@ -6,7 +6,7 @@ use job::Counts;
 
 /// Every outcome that a whole run must come to. 5, 6 and 10 can't come: the reader's tables are sound, the work slice is enough for
 /// all that the tables hold, and the router's logs are sound. Of 4 there are tables 1 and 4 alone, since no text has too many nets or sinks.
-const EXPECTED: [&str; 28] = [
+const EXPECTED: [&str; 33] = [
     "accepted in iteration 1",
     "accepted in iteration 2",
     "accepted in iteration 3 or later",
@@ -15,6 +15,9 @@ const EXPECTED: [&str; 28] = [
     "accepted in iteration 3 or later, with a V,2,k line",
     "accepted, with branches of an earlier iteration",
     "accepted, with a J line",
+    "accepted, timed",
+    "accepted in iteration 3 or later, timed",
+    "accepted, timed, with a J line",
     "X,1",
     "X,2",
     "X,3",
@@ -26,6 +29,8 @@ const EXPECTED: [&str; 28] = [
     "X,9, with a P line",
     "X,9, with a V,2 line",
     "X,9, with a V,2,k line",
+    "X,9, timed",
+    "X,15",
     "X,11",
     "X,12",
     "drawn",
@@ -61,12 +66,19 @@ impl Outcomes {
             for (_, name) in lines.iter().filter(|one| one.0) {
                 self.0.count(format!("{answer}, with a {name} line"));
             }
+            if holds(b"\nW\n") {
+                self.0.count(format!("{answer}, timed"));
+            }
         }
         if expected::keeps_tree(text) {
             self.0.count("accepted, with branches of an earlier iteration");
         }
+        let timed = if holds(b"\nW\n") { ", timed" } else { "" };
         if printed.windows(2).any(|two| two == b"\nJ") {
-            self.0.count("accepted, with a J line");
+            self.0.count(format!("accepted{timed}, with a J line"));
+        }
+        if answer.starts_with("accepted") && !timed.is_empty() {
+            self.0.count("accepted, timed");
         }
         self.0.count(answer);
     }

@@ -39,7 +39,8 @@ pub enum Way {
 
 pub const WAYS: [Way; 3] = [Way::Heap, Way::Pruned, Way::Carried];
 
-/// Routes a job with sound tables and terms: limit, first, up, down, step, rule, and the last iteration before rule 2 holds.
+/// Routes an untimed job with sound tables and terms: limit, first, up, down, step, rule, the last iteration before rule 2 holds, and the
+/// 0 that says so.
 pub fn route(
     way: Way,
     kind: &[u8],
@@ -49,10 +50,11 @@ pub fn route(
     source: &[u16],
     first_sink: &[u32],
     sink: &[u16],
-    terms: [u32; 7],
+    terms: [u32; 8],
     log: &mut [u32],
 ) -> Outcome {
-    let [limit, first, up, down, step, rule, until] = terms;
+    let [limit, first, up, down, step, rule, until, timed] = terms;
+    assert_eq!(timed, 0, "timed jobs aren't routed here");
     let rule_1 = if rule == 1 { limit } else { until };
     let [first, up, down, step] = [first, up, down, step].map(u64::from);
     let prices = Prices::new(kind, capacity, Tuning { first, up, down, step });

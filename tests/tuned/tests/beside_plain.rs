@@ -205,6 +205,8 @@ fn run_plain(job: &Job, words: usize) -> (Outcome, Vec<u32>) {
         &job.source,
         &job.first_sink,
         &job.sink,
+        &job.delay,
+        &job.criticality,
         &job.terms(),
         &mut work,
         &mut log,

@@ -6,7 +6,7 @@ use Rattle.capi.proofs.arvumnao_price.Statement.{statement}
 use Rattle.capi.proofs.arvumnao_price.Tie as tie
 
 returns : tie.Need-returns
-returns c = price-short _ _ _ _ _ _ (c .if1 .taken)
+returns c = price-short _ _ (c .if1 .taken)
 
 price-requires : tie.Need-price-requires
 price-requires c κs = search needs
@@ -20,7 +20,7 @@ same-length c = search needs
 returns-2 : tie.Need-returns-2
 returns-2 c =
     let asked = c .before .before .before .before in
-    price-called _ _ _ _ _ _ _ (asked .price .result) (asked .before .if1 .left) (asked .price .ensures) (c .before .before .put-price .ensures)
+    price-called _ _ _ (asked .price .result) (asked .before .if1 .left) (asked .price .ensures) (c .before .before .put-price .ensures)
 
 pub arvumnao-price-spec : {M : Type 1} → statement M
 arvumnao-price-spec =

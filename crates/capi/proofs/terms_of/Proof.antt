@@ -3,6 +3,7 @@
 use mathlib.Core.List.{List}
 use mathlib.Core.Path.{_≡_}
 use Prim.Native.Nat.{ℕ}
+use lib.Dec.{leb}
 use lib.ListN.{getD}
 use borrow.Author.Needs.{needs}
 use Rattle.job.specs.declared.Terms.{Terms}
@@ -12,10 +13,10 @@ use Rattle.capi.proofs.terms_of.Tie as tie
 
 -- in the order in which the code reads the entries
 each-in-its-field :
-    (ts : List ℕ) {first up down step limit rule until : ℕ} → first ≡ getD ts 1 50 → up ≡ getD ts 2 3 → down ≡ getD ts 3 2 → step ≡ getD ts 4 1
-    → limit ≡ getD ts 0 0 → rule ≡ getD ts 5 1 → until ≡ getD ts 6 1
-    → _≡_ {A = Terms} (record { limit = limit; tuning = record { first = first; up = up; down = down; step = step }; rule = rule; until = until }) (termsOf ts)
-each-in-its-field ts first up down step limit rule until = rw (first, up, down, step, limit, rule, until)
+    (ts : List ℕ) {first up down step limit rule until timed : ℕ} → first ≡ getD ts 1 50 → up ≡ getD ts 2 3 → down ≡ getD ts 3 2 → step ≡ getD ts 4 1
+    → limit ≡ getD ts 0 0 → rule ≡ getD ts 5 1 → until ≡ getD ts 6 1 → timed ≡ getD ts 7 0
+    → _≡_ {A = Terms} (record { limit = limit; tuning = record { first = first; up = up; down = down; step = step }; rule = rule; until = until; timed = leb 1 timed }) (termsOf ts)
+each-in-its-field ts first up down step limit rule until timed = rw (first, up, down, step, limit, rule, until, timed)
 
 entry-or-requires : tie.Need-entry-or-requires
 entry-or-requires c κs = search needs
@@ -38,16 +39,20 @@ entry-or-requires-6 c κs = search needs
 entry-or-requires-7 : tie.Need-entry-or-requires-7
 entry-or-requires-7 c κs = search needs
 
+entry-or-requires-8 : tie.Need-entry-or-requires-8
+entry-or-requires-8 c κs = search needs
+
 returns : tie.Need-returns
 returns c =
-    each-in-its-field (c .before .before .before .before .before .before .before .before .args .terms .now)
-    (c .before .before .before .before .before .before .entry-or .ensures)
-    (c .before .before .before .before .before .entry-or2 .ensures)
-    (c .before .before .before .before .entry-or3 .ensures)
-    (c .before .before .before .entry-or4 .ensures)
-    (c .before .before .entry-or5 .ensures)
-    (c .before .entry-or6 .ensures)
-    (c .entry-or7 .ensures)
+    each-in-its-field (c .before .before .before .before .before .before .before .before .before .args .terms .now)
+    (c .before .before .before .before .before .before .before .entry-or .ensures)
+    (c .before .before .before .before .before .before .entry-or2 .ensures)
+    (c .before .before .before .before .before .entry-or3 .ensures)
+    (c .before .before .before .before .entry-or4 .ensures)
+    (c .before .before .before .entry-or5 .ensures)
+    (c .before .before .entry-or6 .ensures)
+    (c .before .entry-or7 .ensures)
+    (c .entry-or8 .ensures)
 
 pub terms-of-spec : {M : Type 1} → statement M
 terms-of-spec =
@@ -60,4 +65,5 @@ terms-of-spec =
     entry-or-requires-5
     entry-or-requires-6
     entry-or-requires-7
+    entry-or-requires-8
     returns)

@@ -9,8 +9,8 @@ use Rattle.flow.proofs.respond.Statement.{statement}
 use Rattle.flow.proofs.respond.Tie as tie
 
 -- the call of `run` before the last return
-abbrev ran : tie.After-slice-known22 → tie.After-run
-ran c = c .before .before .before .before .before .before .before .before .before .before .before .before .before .before .before .before .before .before .before .before .before .before .before .before
+abbrev ran : tie.After-slice-known26 → tie.After-run
+ran c = c .before .before .before .before .before .before .before .before .before .before .before .before .before .before .before .before .before .before .before .before .before .before .before .before .before .before .before .before
 
 write-refusal-requires : tie.Need-write-refusal-requires
 write-refusal-requires c κs = search needs
@@ -55,18 +55,26 @@ same-length-10 : tie.Need-same-length-10
 same-length-10 c = ran c .run .kept .1 .1 .1 .1 .1 .1 .1 .1 .1 .1 .0
 
 same-length-11 : tie.Need-same-length-11
-same-length-11 c = c .before .before .put-answer .kept .1 .0 ∙ ran c .run .kept .1 .1 .1 .1 .1 .1 .1 .1 .1 .1 .1 .0
+same-length-11 c = ran c .run .kept .1 .1 .1 .1 .1 .1 .1 .1 .1 .1 .1 .0
+
+same-length-12 : tie.Need-same-length-12
+same-length-12 c = ran c .run .kept .1 .1 .1 .1 .1 .1 .1 .1 .1 .1 .1 .1 .0
+
+same-length-13 : tie.Need-same-length-13
+same-length-13 c = c .before .before .put-answer .kept .1 .0 ∙ ran c .run .kept .1 .1 .1 .1 .1 .1 .1 .1 .1 .1 .1 .1 .1 .0
 
 returns-2 : tie.Need-returns-2
 returns-2 c =
-    let asked = ran c .before .before .before .before .before .before .before .before .before .before .before in
-    let a = asked .before .before .before .before .before .before .before .before .before .before .before .before .args in
+    let asked = ran c .before .before .before .before .before .before .before .before .before .before .before .before .before in
+    let a = asked .before .before .before .before .before .before .before .before .before .before .before .before .before .before .args in
     let run = ran c .run in
     let r = run .last .1 .1 in
     let put = c .before .before .put-answer in
-    let tables = tablesOf (a .kind .now) (a .capacity .now) (a .first-edge .now) (a .edge-target .now) (a .source .now) (a .first-sink .now) (a .sink .now) in
-    let left = tablesOf (r .0) (r .1 .0) (r .1 .1 .0) (r .1 .1 .1 .0) (r .1 .1 .1 .1 .0) (r .1 .1 .1 .1 .1 .0) (r .1 .1 .1 .1 .1 .1 .0) in
-    let others = r .1 .1 .1 .1 .1 .1 .1 in
+    let tables = tablesOf (a .kind .now) (a .capacity .now) (a .first-edge .now) (a .edge-target .now) (a .source .now) (a .first-sink .now) (a .sink .now)
+    (a .delay .now) (a .criticality .now) in
+    let left = tablesOf (r .0) (r .1 .0) (r .1 .1 .0) (r .1 .1 .1 .0) (r .1 .1 .1 .1 .0) (r .1 .1 .1 .1 .1 .0) (r .1 .1 .1 .1 .1 .1 .0)
+    (r .1 .1 .1 .1 .1 .1 .1 .0) (r .1 .1 .1 .1 .1 .1 .1 .1 .0) in
+    let others = r .1 .1 .1 .1 .1 .1 .1 .1 .1 in
     shown-out (a .style) (a .input .now) (lentOf tables (a .work .now) (a .log .now) (a .routes .now)) (asked .if1 .left) (run .result)
     left (others .0) (others .1 .0) (others .1 .1 .0) (put .result) (put .last .1 .0) (run .ensures) (put .ensures)
 
@@ -89,4 +97,6 @@ respond-spec =
     same-length-9
     same-length-10
     same-length-11
+    same-length-12
+    same-length-13
     returns-2)

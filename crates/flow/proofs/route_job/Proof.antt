@@ -19,19 +19,20 @@ routed c = c .before .before .before .before
 
 -- the entry, and the job in it
 abbrev entry : tie.After-route → tie.Start
-entry c = c .before .before .before .before .before .before .before .before .before .before .before .before .before
+entry c = c .before .before .before .before .before .before .before .before .before .before .before .before .before .before .before
 
 abbrev job : tie.Start → Job
 job c =
     let a = c .args in
-    jobOf (a .kind .now) (a .capacity .now) (a .first-edge .now) (a .edge-target .now) (a .source .now) (a .first-sink .now) (a .sink .now) (a .terms)
+    jobOf (a .kind .now) (a .capacity .now) (a .first-edge .now) (a .edge-target .now) (a .source .now) (a .first-sink .now) (a .sink .now)
+    (a .delay .now) (a .criticality .now) (a .terms)
 
 -- what the router leaves in work slice and log
 abbrev work-left : tie.After-route → List ℕ
-work-left c = c .route .last .1 .1 .1 .1 .1 .1 .1 .1 .0
+work-left c = c .route .last .1 .1 .1 .1 .1 .1 .1 .1 .1 .1 .0
 
 abbrev log-left : tie.After-route → List ℕ
-log-left c = c .route .last .1 .1 .1 .1 .1 .1 .1 .1 .1 .0
+log-left c = c .route .last .1 .1 .1 .1 .1 .1 .1 .1 .1 .1 .1 .0
 
 -- a job that the router refuses
 refused :
@@ -58,38 +59,47 @@ write-used-requires c κs =
 enum-known-outcome : tie.Need-enum-known-outcome
 enum-known-outcome c = search needs
 
-cast-t31 : tie.Need-cast-t31
-cast-t31 c = search needs
+cast-t35 : tie.Need-cast-t35
+cast-t35 c = search needs
 
-cast-t32 : tie.Need-cast-t32
-cast-t32 c = search needs
+cast-t36 : tie.Need-cast-t36
+cast-t36 c = search needs
 
 enum-told-2 : tie.Need-enum-told-2
 enum-told-2 c = search needs
 
-cast-t33 : tie.Need-cast-t33
-cast-t33 c = search needs
+cast-t37 : tie.Need-cast-t37
+cast-t37 c = search needs
 
 enum-known-outcome-2 : tie.Need-enum-known-outcome-2
 enum-known-outcome-2 c = search needs
 
-cast-t34 : tie.Need-cast-t34
-cast-t34 c = search needs
+cast-t38 : tie.Need-cast-t38
+cast-t38 c = search needs
 
-cast-t35 : tie.Need-cast-t35
-cast-t35 c = search needs
+cast-t39 : tie.Need-cast-t39
+cast-t39 c = search needs
 
 enum-known-outcome-3 : tie.Need-enum-known-outcome-3
 enum-known-outcome-3 c = search needs
 
-cast-t36 : tie.Need-cast-t36
-cast-t36 c = search needs
+cast-t40 : tie.Need-cast-t40
+cast-t40 c = search needs
 
 enum-known-outcome-4 : tie.Need-enum-known-outcome-4
 enum-known-outcome-4 c = search needs
 
 enum-known-outcome-5 : tie.Need-enum-known-outcome-5
 enum-known-outcome-5 c = search needs
+
+enum-known-outcome-6 : tie.Need-enum-known-outcome-6
+enum-known-outcome-6 c = search needs
+
+cast-t41 : tie.Need-cast-t41
+cast-t41 c = search needs
+
+cast-t42 : tie.Need-cast-t42
+cast-t42 c = search needs
 
 same-length : tie.Need-same-length
 same-length c = search needs
@@ -163,6 +173,15 @@ same-length-15 c = search needs
 returns-7 : tie.Need-returns-7
 returns-7 c = refused (routed (c .before .before .before)) _ _ _ (c .before .outcome5 .given .1) refl
 
+same-length-16 : tie.Need-same-length-16
+same-length-16 c = search needs
+
+same-length-17 : tie.Need-same-length-17
+same-length-17 c = search needs
+
+returns-8 : tie.Need-returns-8
+returns-8 c = refused (routed (c .before .before .before)) _ _ _ (c .before .outcome6 .given .1) refl
+
 pub route-job-spec : {M : Type 1} → statement M
 route-job-spec =
     tie.close
@@ -171,17 +190,20 @@ route-job-spec =
     enum-told
     write-used-requires
     enum-known-outcome
-    cast-t31
-    cast-t32
-    enum-told-2
-    cast-t33
-    enum-known-outcome-2
-    cast-t34
     cast-t35
-    enum-known-outcome-3
     cast-t36
+    enum-told-2
+    cast-t37
+    enum-known-outcome-2
+    cast-t38
+    cast-t39
+    enum-known-outcome-3
+    cast-t40
     enum-known-outcome-4
     enum-known-outcome-5
+    enum-known-outcome-6
+    cast-t41
+    cast-t42
     same-length
     same-length-2
     same-length-3
@@ -203,4 +225,7 @@ route-job-spec =
     returns-6
     same-length-14
     same-length-15
-    returns-7)
+    returns-7
+    same-length-16
+    same-length-17
+    returns-8)

@@ -1,7 +1,9 @@
 -- `flow::run` meets its contract: the reader's answer says which parts of the tables are the job's, and the routing of these is the run's.
 -- Assumes nothing.
 use mathlib.Core.Path.{sym, _∙_}
+use Prim.Native.Nat.{_≤_}
 use native.Mathlib.Omega.{arith}
+use lib.ListN.{length}
 use lib.Seq.{length-take-le}
 use borrow.Author.Needs.{needs}
 use Rattle.text.specs.ReadReplies.{Tables, tablesOf}
@@ -11,28 +13,40 @@ use Rattle.flow.proofs.run.Tie as tie
 
 -- the entry, the tables there, and as the reader leaves them
 abbrev entry : tie.After-read-job → tie.Start
-entry c = c .before .before .before .before .before .before .before .before .before .before .before .before .before .before .before .before .before .before .before
+entry c = c .before .before .before .before .before .before .before .before .before .before .before .before .before .before .before .before .before .before .before .before .before .before .before
 
 abbrev lent : tie.After-read-job → Tables
 lent c =
     let a = entry c .args in
     tablesOf (a .kind .now) (a .capacity .now) (a .first-edge .now) (a .edge-target .now) (a .source .now) (a .first-sink .now) (a .sink .now)
+    (a .delay .now) (a .criticality .now)
 
 abbrev left : tie.After-read-job → Tables
 left c =
     let l = c .read-job .last .1 in
     tablesOf (l .0) (l .1 .0) (l .1 .1 .0) (l .1 .1 .1 .0) (l .1 .1 .1 .1 .0) (l .1 .1 .1 .1 .1 .0) (l .1 .1 .1 .1 .1 .1 .0)
+    (l .1 .1 .1 .1 .1 .1 .1 .0) (l .1 .1 .1 .1 .1 .1 .1 .1 .0)
 
 -- the job that was read
 abbrev asked : tie.After-known-told → tie.After-read-job
-asked c = c .before .before .before .before .before .before .before .before .before .before .before .before .before .before .before .before .before
+asked c = c .before .before .before .before .before .before .before .before .before .before .before .before .before .before .before .before .before .before .before .before .before
 
 taken :
     (c : tie.After-known-told)
     → Taken (entry (asked c) .args .style) (entry (asked c) .args .text .now) (c .before .nodes .given .0 .0) (c .before .nodes .given .0 .1 .0)
     (c .before .nodes .given .0 .1 .1 .0) (c .before .nodes .given .0 .1 .1 .1 .0) (c .before .nodes .given .0 .1 .1 .1 .1 .0)
     (lent (asked c)) (left (asked c))
-taken c = read-taken _ _ _ _ _ _ _ _ _ (rw (c .before .nodes .given .1) at (c .before .before .before .before .before .before .before .before .before .before .before .before .before .before .before .before .before .read-job .ensures))
+taken c = read-taken _ _ _ _ _ _ _ _ _ (rw (c .before .nodes .given .1) at (c .before .before .before .before .before .before .before .before .before .before .before .before .before .before .before .before .before .before .before .before .before .read-job .ensures))
+
+-- the same once the entries of tables 9 and 10 are counted
+abbrev counted : tie.After-if-timed2 → tie.After-known-told
+counted c = c .before .before
+
+delays-fit : (c : tie.After-if-timed2) → c .before .if-timed .result ≤ length (left (asked (counted c)) .delays)
+delays-fit c = taken (counted c) .delays-fit _ (c .before .if-timed .ensures)
+
+criticalities-fit : (c : tie.After-if-timed2) → c .if-timed2 .result ≤ length (left (asked (counted c)) .criticalities)
+criticalities-fit c = taken (counted c) .criticalities-fit _ (c .if-timed2 .ensures)
 
 read-job-requires : tie.Need-read-job-requires
 read-job-requires c κs = search needs
@@ -46,47 +60,65 @@ add-places c = let f = taken c .few-nodes in omega arith
 add-firsts : tie.Need-add-firsts
 add-firsts c = let f = taken c .few-nets in omega arith
 
+if-timed-requires : tie.Need-if-timed-requires
+if-timed-requires c κs = search needs
+
+if-timed-requires-2 : tie.Need-if-timed-requires-2
+if-timed-requires-2 c κs = search needs
+
 slice-reshare-prefix-route-job : tie.Need-slice-reshare-prefix-route-job
-slice-reshare-prefix-route-job c = taken c .kinds-fit
+slice-reshare-prefix-route-job c = taken (counted c) .kinds-fit
 
 slice-aggregate-route-job : tie.Need-slice-aggregate-route-job
-slice-aggregate-route-job c = sym (length-take-le _ _ (taken (c .before) .kinds-fit))
+slice-aggregate-route-job c = sym (length-take-le _ _ (taken (counted (c .before)) .kinds-fit))
 
 slice-reshare-prefix-route-job-2 : tie.Need-slice-reshare-prefix-route-job-2
-slice-reshare-prefix-route-job-2 c = taken (c .before) .capacities-fit
+slice-reshare-prefix-route-job-2 c = taken (counted (c .before)) .capacities-fit
 
 slice-aggregate-route-job-2 : tie.Need-slice-aggregate-route-job-2
-slice-aggregate-route-job-2 c = sym (length-take-le _ _ (taken (c .before .before) .capacities-fit))
+slice-aggregate-route-job-2 c = sym (length-take-le _ _ (taken (counted (c .before .before)) .capacities-fit))
 
 slice-reshare-prefix-route-job-3 : tie.Need-slice-reshare-prefix-route-job-3
-slice-reshare-prefix-route-job-3 c = taken (c .before .before) .first-edges-fit
+slice-reshare-prefix-route-job-3 c = taken (counted (c .before .before)) .first-edges-fit
 
 slice-aggregate-route-job-3 : tie.Need-slice-aggregate-route-job-3
-slice-aggregate-route-job-3 c = sym (length-take-le _ _ (taken (c .before .before .before) .first-edges-fit))
+slice-aggregate-route-job-3 c = sym (length-take-le _ _ (taken (counted (c .before .before .before)) .first-edges-fit))
 
 slice-reshare-prefix-route-job-4 : tie.Need-slice-reshare-prefix-route-job-4
-slice-reshare-prefix-route-job-4 c = taken (c .before .before .before) .edge-targets-fit
+slice-reshare-prefix-route-job-4 c = taken (counted (c .before .before .before)) .edge-targets-fit
 
 slice-aggregate-route-job-4 : tie.Need-slice-aggregate-route-job-4
-slice-aggregate-route-job-4 c = sym (length-take-le _ _ (taken (c .before .before .before .before) .edge-targets-fit))
+slice-aggregate-route-job-4 c = sym (length-take-le _ _ (taken (counted (c .before .before .before .before)) .edge-targets-fit))
 
 slice-reshare-prefix-route-job-5 : tie.Need-slice-reshare-prefix-route-job-5
-slice-reshare-prefix-route-job-5 c = taken (c .before .before .before .before) .sources-fit
+slice-reshare-prefix-route-job-5 c = taken (counted (c .before .before .before .before)) .sources-fit
 
 slice-aggregate-route-job-5 : tie.Need-slice-aggregate-route-job-5
-slice-aggregate-route-job-5 c = sym (length-take-le _ _ (taken (c .before .before .before .before .before) .sources-fit))
+slice-aggregate-route-job-5 c = sym (length-take-le _ _ (taken (counted (c .before .before .before .before .before)) .sources-fit))
 
 slice-reshare-prefix-route-job-6 : tie.Need-slice-reshare-prefix-route-job-6
-slice-reshare-prefix-route-job-6 c = taken (c .before .before .before .before .before) .first-sinks-fit
+slice-reshare-prefix-route-job-6 c = taken (counted (c .before .before .before .before .before)) .first-sinks-fit
 
 slice-aggregate-route-job-6 : tie.Need-slice-aggregate-route-job-6
-slice-aggregate-route-job-6 c = sym (length-take-le _ _ (taken (c .before .before .before .before .before .before) .first-sinks-fit))
+slice-aggregate-route-job-6 c = sym (length-take-le _ _ (taken (counted (c .before .before .before .before .before .before)) .first-sinks-fit))
 
 slice-reshare-prefix-route-job-7 : tie.Need-slice-reshare-prefix-route-job-7
-slice-reshare-prefix-route-job-7 c = taken (c .before .before .before .before .before .before) .sinks-fit
+slice-reshare-prefix-route-job-7 c = taken (counted (c .before .before .before .before .before .before)) .sinks-fit
 
 slice-aggregate-route-job-7 : tie.Need-slice-aggregate-route-job-7
-slice-aggregate-route-job-7 c = sym (length-take-le _ _ (taken (c .before .before .before .before .before .before .before) .sinks-fit))
+slice-aggregate-route-job-7 c = sym (length-take-le _ _ (taken (counted (c .before .before .before .before .before .before .before)) .sinks-fit))
+
+slice-reshare-prefix-route-job-8 : tie.Need-slice-reshare-prefix-route-job-8
+slice-reshare-prefix-route-job-8 c = delays-fit (c .before .before .before .before .before .before .before)
+
+slice-aggregate-route-job-8 : tie.Need-slice-aggregate-route-job-8
+slice-aggregate-route-job-8 c = sym (length-take-le _ _ (delays-fit (c .before .before .before .before .before .before .before .before)))
+
+slice-reshare-prefix-route-job-9 : tie.Need-slice-reshare-prefix-route-job-9
+slice-reshare-prefix-route-job-9 c = criticalities-fit (c .before .before .before .before .before .before .before .before)
+
+slice-aggregate-route-job-9 : tie.Need-slice-aggregate-route-job-9
+slice-aggregate-route-job-9 c = sym (length-take-le _ _ (criticalities-fit (c .before .before .before .before .before .before .before .before .before)))
 
 route-job-requires : tie.Need-route-job-requires
 route-job-requires c κs = search needs
@@ -97,21 +129,33 @@ enum-known-number c = search needs
 enum-known-table : tie.Need-enum-known-table
 enum-known-table c = search needs
 
-cast-t60 : tie.Need-cast-t60
-cast-t60 c = search needs
+cast-t74 : tie.Need-cast-t74
+cast-t74 c = search needs
 
--- the calls before the three returns, which leave the lengths of the slices as they were
-abbrev routed : tie.After-slice-known20 → tie.After-route-job
+enum-known-nodes-2 : tie.Need-enum-known-nodes-2
+enum-known-nodes-2 c = search needs
+
+cast-t76 : tie.Need-cast-t76
+cast-t76 c = search needs
+
+-- the calls before the four returns, which leave the lengths of the slices as they were
+abbrev routed : tie.After-slice-known24 → tie.After-route-job
 routed c = c .before .before .before .before .before .before
 
-abbrev read : tie.After-slice-known20 → tie.After-read-job
-read c = c .before .before .before .before .before .before .before .before .before .before .before .before .before .before .before .before .before .before .before .before .before .before .before .before .before .before .before .before .before .before .before .before .before .before
+abbrev lengths : tie.After-slice-known24 → tie.After-if-timed2
+lengths c = routed c .before .before .before .before .before .before .before .before .before .before .before .before .before
+
+abbrev read : tie.After-slice-known24 → tie.After-read-job
+read c = asked (counted (lengths c))
 
 abbrev misread : tie.After-known-told2 → tie.After-read-job
-misread c = c .before .before .before .before .before .before .before .before .before .before .before .before .before .before .before .before .before
+misread c = c .before .before .before .before .before .before .before .before .before .before .before .before .before .before .before .before .before .before .before .before .before
 
 abbrev short : tie.After-known-told3 → tie.After-read-job
-short c = c .before .before .before .before .before .before .before .before .before .before .before .before .before .before .before .before .before
+short c = c .before .before .before .before .before .before .before .before .before .before .before .before .before .before .before .before .before .before .before .before .before
+
+abbrev large : tie.After-known-told4 → tie.After-read-job
+large c = c .before .before .before .before .before .before .before .before .before .before .before .before .before .before .before .before .before .before .before .before .before
 
 same-length : tie.Need-same-length
 same-length c = read c .read-job .kept .1 .0
@@ -135,64 +179,120 @@ same-length-7 : tie.Need-same-length-7
 same-length-7 c = read c .read-job .kept .1 .1 .1 .1 .1 .1 .1 .0
 
 same-length-8 : tie.Need-same-length-8
-same-length-8 c = routed c .route-job .kept .1 .1 .1 .1 .1 .1 .1 .1 .1 .0
+same-length-8 c = read c .read-job .kept .1 .1 .1 .1 .1 .1 .1 .1 .0
 
 same-length-9 : tie.Need-same-length-9
-same-length-9 c = routed c .route-job .kept .1 .1 .1 .1 .1 .1 .1 .1 .1 .1 .0
+same-length-9 c = read c .read-job .kept .1 .1 .1 .1 .1 .1 .1 .1 .1 .0
 
 same-length-10 : tie.Need-same-length-10
 same-length-10 c = routed c .route-job .kept .1 .1 .1 .1 .1 .1 .1 .1 .1 .1 .1 .0
 
-returns : tie.Need-returns
-returns c = routed c .route-job .ensures (left (read c)) ∙ taken (c .before .before .before .before .before .before .before .before .before .before .before .before .before .before .before .before .before) .runs _ _ _
-
 same-length-11 : tie.Need-same-length-11
-same-length-11 c = misread c .read-job .kept .1 .0
+same-length-11 c = routed c .route-job .kept .1 .1 .1 .1 .1 .1 .1 .1 .1 .1 .1 .1 .0
 
 same-length-12 : tie.Need-same-length-12
-same-length-12 c = misread c .read-job .kept .1 .1 .0
+same-length-12 c = routed c .route-job .kept .1 .1 .1 .1 .1 .1 .1 .1 .1 .1 .1 .1 .1 .0
+
+returns : tie.Need-returns
+returns c =
+    let counts = lengths c in
+    routed c .route-job .ensures (left (read c)) ∙ taken (counted counts) .runs _ _ (counts .before .if-timed .ensures) (counts .if-timed2 .ensures) _ _ _
 
 same-length-13 : tie.Need-same-length-13
-same-length-13 c = misread c .read-job .kept .1 .1 .1 .0
+same-length-13 c = misread c .read-job .kept .1 .0
 
 same-length-14 : tie.Need-same-length-14
-same-length-14 c = misread c .read-job .kept .1 .1 .1 .1 .0
+same-length-14 c = misread c .read-job .kept .1 .1 .0
 
 same-length-15 : tie.Need-same-length-15
-same-length-15 c = misread c .read-job .kept .1 .1 .1 .1 .1 .0
+same-length-15 c = misread c .read-job .kept .1 .1 .1 .0
 
 same-length-16 : tie.Need-same-length-16
-same-length-16 c = misread c .read-job .kept .1 .1 .1 .1 .1 .1 .0
+same-length-16 c = misread c .read-job .kept .1 .1 .1 .1 .0
 
 same-length-17 : tie.Need-same-length-17
-same-length-17 c = misread c .read-job .kept .1 .1 .1 .1 .1 .1 .1 .0
-
-returns-2 : tie.Need-returns-2
-returns-2 c = read-refused _ _ _ _ (lent (misread c)) (left (misread c)) _ _ _ (rw (c .before .number .given .1) at (c .before .before .before .before .before .before .before .before .before .before .before .before .before .before .before .before .before .read-job .ensures))
+same-length-17 c = misread c .read-job .kept .1 .1 .1 .1 .1 .0
 
 same-length-18 : tie.Need-same-length-18
-same-length-18 c = short c .read-job .kept .1 .0
+same-length-18 c = misread c .read-job .kept .1 .1 .1 .1 .1 .1 .0
 
 same-length-19 : tie.Need-same-length-19
-same-length-19 c = short c .read-job .kept .1 .1 .0
+same-length-19 c = misread c .read-job .kept .1 .1 .1 .1 .1 .1 .1 .0
 
 same-length-20 : tie.Need-same-length-20
-same-length-20 c = short c .read-job .kept .1 .1 .1 .0
+same-length-20 c = misread c .read-job .kept .1 .1 .1 .1 .1 .1 .1 .1 .0
 
 same-length-21 : tie.Need-same-length-21
-same-length-21 c = short c .read-job .kept .1 .1 .1 .1 .0
+same-length-21 c = misread c .read-job .kept .1 .1 .1 .1 .1 .1 .1 .1 .1 .0
+
+returns-2 : tie.Need-returns-2
+returns-2 c =
+    read-refused _ _ _ _ (lent (misread c)) (left (misread c)) _ _ _
+    (rw (c .before .number .given .1) at (c .before .before .before .before .before .before .before .before .before .before .before .before .before .before .before .before .before .before .before .before .before .read-job .ensures))
 
 same-length-22 : tie.Need-same-length-22
-same-length-22 c = short c .read-job .kept .1 .1 .1 .1 .1 .0
+same-length-22 c = short c .read-job .kept .1 .0
 
 same-length-23 : tie.Need-same-length-23
-same-length-23 c = short c .read-job .kept .1 .1 .1 .1 .1 .1 .0
+same-length-23 c = short c .read-job .kept .1 .1 .0
 
 same-length-24 : tie.Need-same-length-24
-same-length-24 c = short c .read-job .kept .1 .1 .1 .1 .1 .1 .1 .0
+same-length-24 c = short c .read-job .kept .1 .1 .1 .0
+
+same-length-25 : tie.Need-same-length-25
+same-length-25 c = short c .read-job .kept .1 .1 .1 .1 .0
+
+same-length-26 : tie.Need-same-length-26
+same-length-26 c = short c .read-job .kept .1 .1 .1 .1 .1 .0
+
+same-length-27 : tie.Need-same-length-27
+same-length-27 c = short c .read-job .kept .1 .1 .1 .1 .1 .1 .0
+
+same-length-28 : tie.Need-same-length-28
+same-length-28 c = short c .read-job .kept .1 .1 .1 .1 .1 .1 .1 .0
+
+same-length-29 : tie.Need-same-length-29
+same-length-29 c = short c .read-job .kept .1 .1 .1 .1 .1 .1 .1 .1 .0
+
+same-length-30 : tie.Need-same-length-30
+same-length-30 c = short c .read-job .kept .1 .1 .1 .1 .1 .1 .1 .1 .1 .0
 
 returns-3 : tie.Need-returns-3
-returns-3 c = read-refused _ _ _ _ (lent (short c)) (left (short c)) _ _ _ (rw (c .before .table .given .1) at (c .before .before .before .before .before .before .before .before .before .before .before .before .before .before .before .before .before .read-job .ensures))
+returns-3 c =
+    read-refused _ _ _ _ (lent (short c)) (left (short c)) _ _ _
+    (rw (c .before .table .given .1) at (c .before .before .before .before .before .before .before .before .before .before .before .before .before .before .before .before .before .before .before .before .before .read-job .ensures))
+
+same-length-31 : tie.Need-same-length-31
+same-length-31 c = large c .read-job .kept .1 .0
+
+same-length-32 : tie.Need-same-length-32
+same-length-32 c = large c .read-job .kept .1 .1 .0
+
+same-length-33 : tie.Need-same-length-33
+same-length-33 c = large c .read-job .kept .1 .1 .1 .0
+
+same-length-34 : tie.Need-same-length-34
+same-length-34 c = large c .read-job .kept .1 .1 .1 .1 .0
+
+same-length-35 : tie.Need-same-length-35
+same-length-35 c = large c .read-job .kept .1 .1 .1 .1 .1 .0
+
+same-length-36 : tie.Need-same-length-36
+same-length-36 c = large c .read-job .kept .1 .1 .1 .1 .1 .1 .0
+
+same-length-37 : tie.Need-same-length-37
+same-length-37 c = large c .read-job .kept .1 .1 .1 .1 .1 .1 .1 .0
+
+same-length-38 : tie.Need-same-length-38
+same-length-38 c = large c .read-job .kept .1 .1 .1 .1 .1 .1 .1 .1 .0
+
+same-length-39 : tie.Need-same-length-39
+same-length-39 c = large c .read-job .kept .1 .1 .1 .1 .1 .1 .1 .1 .1 .0
+
+returns-4 : tie.Need-returns-4
+returns-4 c =
+    read-refused _ _ _ _ (lent (large c)) (left (large c)) _ _ _
+    (rw (c .before .nodes2 .given .1) at (c .before .before .before .before .before .before .before .before .before .before .before .before .before .before .before .before .before .before .before .before .before .read-job .ensures))
 
 pub run-spec : {M : Type 1} → statement M
 run-spec =
@@ -202,6 +302,8 @@ run-spec =
     enum-known-nodes
     add-places
     add-firsts
+    if-timed-requires
+    if-timed-requires-2
     slice-reshare-prefix-route-job
     slice-aggregate-route-job
     slice-reshare-prefix-route-job-2
@@ -216,10 +318,16 @@ run-spec =
     slice-aggregate-route-job-6
     slice-reshare-prefix-route-job-7
     slice-aggregate-route-job-7
+    slice-reshare-prefix-route-job-8
+    slice-aggregate-route-job-8
+    slice-reshare-prefix-route-job-9
+    slice-aggregate-route-job-9
     route-job-requires
     enum-known-number
     enum-known-table
-    cast-t60
+    cast-t74
+    enum-known-nodes-2
+    cast-t76
     same-length
     same-length-2
     same-length-3
@@ -230,20 +338,36 @@ run-spec =
     same-length-8
     same-length-9
     same-length-10
-    returns
     same-length-11
     same-length-12
+    returns
     same-length-13
     same-length-14
     same-length-15
     same-length-16
     same-length-17
-    returns-2
     same-length-18
     same-length-19
     same-length-20
     same-length-21
+    returns-2
     same-length-22
     same-length-23
     same-length-24
-    returns-3)
+    same-length-25
+    same-length-26
+    same-length-27
+    same-length-28
+    same-length-29
+    same-length-30
+    returns-3
+    same-length-31
+    same-length-32
+    same-length-33
+    same-length-34
+    same-length-35
+    same-length-36
+    same-length-37
+    same-length-38
+    same-length-39
+    returns-4)

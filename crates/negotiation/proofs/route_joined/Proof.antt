@@ -1,8 +1,11 @@
 -- `negotiation::route_joined` meets its contract: refusal 7 by its law, the run by the negotiation's contract.
 -- Assumes nothing.
-use mathlib.Core.Path.{sym}
+use mathlib.Core.Path.{_≡_, sym}
 use native.Mathlib.Nat.{le-of-eq, le-trans}
+use native.Mathlib.Omega.{arith}
+use Rattle.search.proofs.BlockLaws.{kinds-few}
 use Rattle.job.specs.Job.{Job, jobOf}
+use Rattle.negotiation.specs.Steps.{missing, reachNumbers}
 use Rattle.negotiation.proofs.RouteLaws.{unreachable-refused, none-missing, run-answered}
 use borrow.Author.Needs.{needs}
 use Rattle.negotiation.proofs.route_joined.Statement.{statement}
@@ -12,16 +15,38 @@ use Rattle.negotiation.proofs.route_joined.Tie as tie
 abbrev job : tie.Start → Job
 job e =
     jobOf (e .args .kind .now) (e .args .capacity .now) (e .args .first-edge .now) (e .args .edge-target .now)
-    (e .args .source .now) (e .args .first-sink .now) (e .args .sink .now) (e .args .terms)
+    (e .args .source .now) (e .args .first-sink .now) (e .args .sink .now) (e .args .delay .now) (e .args .criticality .now) (e .args .terms)
+
+-- the test of its sinks answers for it
+abbrev reached : tie.After-unreachable → tie.Start
+reached u = u .before .before .before .before .before .before .before .before .before .before .before .before .before
+
+test : (u : tie.After-unreachable) → reachNumbers (u .unreachable .result) ≡ missing (job (reached u))
+test u =
+    let e : tie.Start = reached u in
+    u .unreachable .ensures .0 (e .args .capacity .now) (e .args .delay .now) (e .args .criticality .now) (e .args .terms) (e .pre .0)
 
 unreachable-requires : tie.Need-unreachable-requires
-unreachable-requires c κs = search needs
+unreachable-requires c κs =
+    let e : tie.Start = c .before .before .before .before .before .before .before .before .before .before .before .before in (
+      record {
+        capacities = e .args .capacity .now;
+        delays = e .args .delay .now;
+        criticalities = e .args .criticality .now;
+        terms = e .args .terms;
+        routable = e .pre .0;
+      },
+      e .pre .1,
+    )
 
 enum-known-net : tie.Need-enum-known-net
 enum-known-net c = search needs
 
 mul-clear : tie.Need-mul-clear
-mul-clear c = search needs
+mul-clear c =
+    let e : tie.Start = reached (c .before .before .before .before .before .before) in
+    let few = kinds-few (e .args .kind .now) (e .pre .0 .block-sound .kinds-sound) in
+    omega arith
 
 clear-requires : tie.Need-clear-requires
 clear-requires c κs = search needs
@@ -34,12 +59,11 @@ enum-told c = search needs
 
 negotiate-requires : tie.Need-negotiate-requires
 negotiate-requires c κs =
-    let e : tie.Start = c .before .before .before .before .before .before .before .before .before .before .before .before .before .before .before .before .before in
-    let reached = c .before .before .before .before .before .before in (
+    let u : tie.After-unreachable = c .before .before .before .before .before .before in
+    let e : tie.Start = reached u in (
       e .pre .0,
-      e .pre .1,
-      none-missing (job e) _ (reached .unreachable .ensures .0 _ _ (e .pre .0)) (c .before .before .enum-told .given .1),
-      le-trans (e .pre .2) (le-of-eq (sym (reached .unreachable .ensures .1 .long))),
+      none-missing (job e) _ (test u) (c .before .before .enum-told .given .1),
+      le-trans (e .pre .1) (le-of-eq (sym (u .unreachable .ensures .1 .long))),
     )
 
 same-length : tie.Need-same-length
@@ -47,9 +71,9 @@ same-length c = search needs
 
 returns : tie.Need-returns
 returns c =
-    let e : tie.Start = c .before .before .before .before .before .before .before .before .before .before .before .before .before .before .before .before .before .before .before .before .before in
-    let reached = c .before .before .before .before .before .before .before .before .before .before in
-    unreachable-refused (e .args .start) (job e) _ _ _ (reached .unreachable .ensures .0 _ _ (e .pre .0)) _ (reached .unreachable .ensures .1)
+    let u : tie.After-unreachable = c .before .before .before .before .before .before .before .before .before .before in
+    let e : tie.Start = reached u in
+    unreachable-refused (e .args .start) (job e) _ _ _ (test u) _ (u .unreachable .ensures .1)
     _ _ _ _ (c .before .before .before .before .before .before .net .given .1) (c .refused .ensures) (c .before .before .before .clear .ensures)
 
 same-length-2 : tie.Need-same-length-2
@@ -60,11 +84,11 @@ same-length-3 c = search needs
 
 returns-2 : tie.Need-returns-2
 returns-2 c =
-    let e : tie.Start = c .before .before .before .before .before .before .before .before .before .before .before .before .before .before .before .before .before .before .before .before .before .before in
-    let reached = c .before .before .before .before .before .before .before .before .before .before .before in
+    let u : tie.After-unreachable = c .before .before .before .before .before .before .before .before .before .before .before in
+    let e : tie.Start = reached u in
     let ran = c .before .before .before .before in
-    run-answered (e .args .start) (job e) _ _ _ (reached .unreachable .ensures .0 _ _ (e .pre .0)) _ (reached .unreachable .ensures .1)
-    (ran .negotiate .result) (ran .negotiate .last .1 .1 .1 .1 .1 .1 .1 .1 .1 .0) (ran .negotiate .last .1 .1 .1 .1 .1 .1 .1 .1 .1 .1 .0)
+    run-answered (e .args .start) (job e) _ _ _ (test u) _ (u .unreachable .ensures .1)
+    (ran .negotiate .result) (ran .negotiate .last .1 .1 .1 .1 .1 .1 .1 .1 .1 .1 .1 .0) (ran .negotiate .last .1 .1 .1 .1 .1 .1 .1 .1 .1 .1 .1 .1 .0)
     (c .before .before .before .before .before .before .before .enum-told .given .1) (ran .negotiate .ensures)
 
 pub route-joined-spec : {M : Type 1} → statement M

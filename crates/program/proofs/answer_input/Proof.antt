@@ -49,14 +49,20 @@ slice-aggregate-respond-10 c = search needs
 slice-aggregate-respond-11 : tie.Need-slice-aggregate-respond-11
 slice-aggregate-respond-11 c = search needs
 
+slice-aggregate-respond-12 : tie.Need-slice-aggregate-respond-12
+slice-aggregate-respond-12 c = search needs
+
+slice-aggregate-respond-13 : tie.Need-slice-aggregate-respond-13
+slice-aggregate-respond-13 c = search needs
+
 respond-requires : tie.Need-respond-requires
 respond-requires c κs = search needs
 
 array-share-prefix-routes : tie.Need-array-share-prefix-routes
-array-share-prefix-routes c = bytes-fit _ _ _ _ _ (c .before .before .before .before .before .before .before .before .before .before .respond .ensures)
+array-share-prefix-routes c = bytes-fit _ _ _ _ _ (c .before .before .before .before .before .before .before .before .before .before .before .before .respond .ensures)
 
 slice-aggregate-write-all : tie.Need-slice-aggregate-write-all
-slice-aggregate-write-all c = let r = c .before .before .before .before .before .before .before .before .before .before .before .respond in sym (length-take-le (r .result) (r .last .1 .1 .1 .1 .1 .1 .1 .1 .1 .1 .1 .0) (bytes-fit _ _ _ _ _ (r .ensures)))
+slice-aggregate-write-all c = let r = c .before .before .before .before .before .before .before .before .before .before .before .before .before .respond in sym (length-take-le (r .result) (r .last .1 .1 .1 .1 .1 .1 .1 .1 .1 .1 .1 .1 .1 .0) (bytes-fit _ _ _ _ _ (r .ensures)))
 
 write-all-requires : tie.Need-write-all-requires
 write-all-requires c κs = search needs
@@ -82,6 +88,8 @@ answer-input-spec =
     slice-aggregate-respond-9
     slice-aggregate-respond-10
     slice-aggregate-respond-11
+    slice-aggregate-respond-12
+    slice-aggregate-respond-13
     respond-requires
     array-share-prefix-routes
     slice-aggregate-write-all

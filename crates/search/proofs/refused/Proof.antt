@@ -1,5 +1,6 @@
 -- `search::refused` meets its contract: what the tests refuse is due.
 -- Assumes nothing.
+use mathlib.Core.List.{[]}
 use mathlib.Core.Path.{refl}
 use Rattle.search.proofs.PathTestLaws.{path-few, refused-is}
 use borrow.Author.Needs.{needs}
@@ -10,10 +11,13 @@ faulty-with-sinks-requires : tie.Need-faulty-with-sinks-requires
 faulty-with-sinks-requires c κs = search needs
 
 first-refusal-requires : tie.Need-first-refusal-requires
-first-refusal-requires c κs = path-few _ _ _ _ _ (c .faulty-with-sinks .ensures)
+first-refusal-requires c κs = path-few _ _ _ _ _ _ (c .faulty-with-sinks .ensures 0 [] [])
 
 enum-known-t : tie.Need-enum-known-t
 enum-known-t c = search needs
+
+enum-known-n : tie.Need-enum-known-n
+enum-known-n c = search needs
 
 enum-known-needed : tie.Need-enum-known-needed
 enum-known-needed c = search needs
@@ -25,16 +29,29 @@ enum-told : tie.Need-enum-told
 enum-told c = search needs
 
 returns : tie.Need-returns
-returns c = (refused-is _ _ _ _ _ (c .before .before .before .before .faulty-with-sinks .ensures) _ _ _ (c .before .before .before .first-refusal .ensures) (c .before .t .given .1), refl)
+returns c =
+    let tested = c .before .before .before in
+    (refused-is _ _ _ _ _ _ _ _ (tested .before .faulty-with-sinks .ensures _ _ _) (tested .first-refusal .ensures _) (c .before .t .given .1), refl)
 
 returns-2 : tie.Need-returns-2
-returns-2 c = (refused-is _ _ _ _ _ (c .before .before .before .before .faulty-with-sinks .ensures) _ _ _ (c .before .before .before .first-refusal .ensures) (c .before .needed .given .1), refl)
+returns-2 c =
+    let tested = c .before .before .before in
+    (refused-is _ _ _ _ _ _ _ _ (tested .before .faulty-with-sinks .ensures _ _ _) (tested .first-refusal .ensures _) (c .before .n .given .1), refl)
 
 returns-3 : tie.Need-returns-3
-returns-3 c = (refused-is _ _ _ _ _ (c .before .before .before .before .faulty-with-sinks .ensures) _ _ _ (c .before .before .before .first-refusal .ensures) (c .before .place .given .1), refl)
+returns-3 c =
+    let tested = c .before .before .before in
+    (refused-is _ _ _ _ _ _ _ _ (tested .before .faulty-with-sinks .ensures _ _ _) (tested .first-refusal .ensures _) (c .before .needed .given .1), refl)
 
 returns-4 : tie.Need-returns-4
-returns-4 c = (refused-is _ _ _ _ _ (c .before .before .before .faulty-with-sinks .ensures) _ _ _ (c .before .before .first-refusal .ensures) (c .enum-told .given .1), refl)
+returns-4 c =
+    let tested = c .before .before .before in
+    (refused-is _ _ _ _ _ _ _ _ (tested .before .faulty-with-sinks .ensures _ _ _) (tested .first-refusal .ensures _) (c .before .place .given .1), refl)
+
+returns-5 : tie.Need-returns-5
+returns-5 c =
+    let tested = c .before .before in
+    (refused-is _ _ _ _ _ _ _ _ (tested .before .faulty-with-sinks .ensures _ _ _) (tested .first-refusal .ensures _) (c .enum-told .given .1), refl)
 
 pub refused-spec : {M : Type 1} → statement M
 refused-spec =
@@ -43,10 +60,12 @@ refused-spec =
     faulty-with-sinks-requires
     first-refusal-requires
     enum-known-t
+    enum-known-n
     enum-known-needed
     enum-known-place
     enum-told
     returns
     returns-2
     returns-3
-    returns-4)
+    returns-4
+    returns-5)

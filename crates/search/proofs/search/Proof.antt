@@ -1,80 +1,22 @@
--- `search::search` meets its contract: a refusal is the one that is due, and where none is due the distances are left, which are least costs.
+-- `search::search` meets its contract: the search of both kinds, without delays.
 -- Assumes nothing.
+use mathlib.Core.Path.{refl}
+use Rattle.search.proofs.SearchTestLaws.{untimed-reply}
 use borrow.Author.Needs.{needs}
-use Rattle.search.proofs.SearchTestLaws.{few-nodes, search-ready, search-table, search-work, search-number, search-done}
-use Rattle.search.specs.declared.SearchAnswer.the-variants.{Done}
-use Rattle.search.proofs.AnswersHold.{search-both}
 use Rattle.search.proofs.search.Statement.{statement}
 use Rattle.search.proofs.search.Tie as tie
 
-faulty-table-requires : tie.Need-faulty-table-requires
-faulty-table-requires c κs = search needs
+slice-aggregate-searched : tie.Need-slice-aggregate-searched
+slice-aggregate-searched c = refl
 
-first-refusal-requires : tie.Need-first-refusal-requires
-first-refusal-requires c κs = few-nodes _ _ _ _ (c .faulty-table .ensures)
-
-enum-known-t : tie.Need-enum-known-t
-enum-known-t c = search needs
-
-enum-known-needed : tie.Need-enum-known-needed
-enum-known-needed c = search needs
-
-enum-known-place : tie.Need-enum-known-place
-enum-known-place c = search needs
-
-enum-told : tie.Need-enum-told
-enum-told c = search needs
-
-distances-from-tree-requires : tie.Need-distances-from-tree-requires
-distances-from-tree-requires c κs =
-    let tested = c .before .before .before in
-    search-ready _ _ _ _ _ _ _ _ (tested .before .faulty-table .ensures) (c .before .enum-told .given .1) (tested .first-refusal .ensures)
-
-returns : tie.Need-returns
-returns c =
-    let tested = c .before .before .before in (
-      search-table _ _ _ _ _ _ _ _ _ (tested .before .faulty-table .ensures) (tested .first-refusal .ensures) (c .before .t .given .1),
-      tt,
-    )
-
-returns-2 : tie.Need-returns-2
-returns-2 c =
-    let tested = c .before .before .before in (
-      search-work _ _ _ _ _ _ _ _ _ (tested .before .faulty-table .ensures) (tested .first-refusal .ensures) (c .before .needed .given .1),
-      tt,
-    )
-
-returns-3 : tie.Need-returns-3
-returns-3 c =
-    let tested = c .before .before .before in (
-      search-number _ _ _ _ _ _ _ _ _ (tested .before .faulty-table .ensures) (tested .first-refusal .ensures) (c .before .place .given .1),
-      tt,
-    )
+searched-requires : tie.Need-searched-requires
+searched-requires c κs = search needs
 
 same-length : tie.Need-same-length
 same-length c = search needs
 
-returns-4 : tie.Need-returns-4
-returns-4 c =
-    let ran = c .before .before in
-    let tested = ran .before .before .before .before in
-    search-both _ _ _ _ _ _ _ Done _
-    (search-done _ _ _ _ _ _ _ _ _ (tested .before .faulty-table .ensures) (tested .first-refusal .ensures) (ran .before .before .enum-told .given .1)
-    (ran .distances-from-tree .ensures))
+returns : tie.Need-returns
+returns c = let done = c .before .before .searched .ensures in (untimed-reply _ _ _ _ _ _ (done .0), done .1)
 
 pub search-spec : {M : Type 1} → statement M
-search-spec =
-    tie.close
-    (tie.spec
-    faulty-table-requires
-    first-refusal-requires
-    enum-known-t
-    enum-known-needed
-    enum-known-place
-    enum-told
-    distances-from-tree-requires
-    returns
-    returns-2
-    returns-3
-    same-length
-    returns-4)
+search-spec = tie.close (tie.spec slice-aggregate-searched searched-requires same-length returns)

@@ -2,10 +2,27 @@
 -- Assumes nothing.
 use native.Mathlib.Omega.{arith}
 use borrow.Author.Needs.{needs}
-use Rattle.text.specs.ReadReplies.{tablesOf, readReplyOf}
+use Rattle.text.specs.ReadReplies.{Tables, tablesOf, readReplyOf}
 use Rattle.text.proofs.ReadJobLaws.{job-read, job-stopped, job-counts}
 use Rattle.text.proofs.read_job.Statement.{statement}
 use Rattle.text.proofs.read_job.Tie as tie
+
+-- the entry, the tables that were lent, and the reading of all lines
+abbrev entry : tie.After-read-lines → tie.Start
+entry c = c .before .before .before .before .before .before .before .before .before .before .before .before .before .before .before .before .before .before .before .before
+
+abbrev lent : tie.Start → Tables
+lent s = let a = s .args in tablesOf (a .kind .now) (a .capacity .now) (a .first-edge .now) (a .edge-target .now) (a .source .now) (a .first-sink .now) (a .sink .now) (a .delay .now) (a .criticality .now)
+
+abbrev lines-read : tie.After-known-told → tie.After-read-lines
+lines-read c = c .before .before .before .before .before .before .before .before .before .before .before .before
+
+-- the call of `store_job` before the return, which leaves the lengths of the tables as they were
+abbrev over : tie.After-slice-known18 → tie.After-store-job
+over c = c .before .before .before .before .before .before .before .before .before .before .before .before .before .before .before .before .before .before
+
+abbrev known : tie.After-store-job → tie.After-known-told
+known c = c .before .before .before .before .before .before .before .before .before .before .before .before .before .before .before .before .before .before .before
 
 slice-aggregate-read-lines : tie.Need-slice-aggregate-read-lines
 slice-aggregate-read-lines c = search needs
@@ -27,6 +44,12 @@ slice-aggregate-read-lines-6 c = search needs
 
 slice-aggregate-read-lines-7 : tie.Need-slice-aggregate-read-lines-7
 slice-aggregate-read-lines-7 c = search needs
+
+slice-aggregate-read-lines-8 : tie.Need-slice-aggregate-read-lines-8
+slice-aggregate-read-lines-8 c = search needs
+
+slice-aggregate-read-lines-9 : tie.Need-slice-aggregate-read-lines-9
+slice-aggregate-read-lines-9 c = search needs
 
 read-lines-requires : tie.Need-read-lines-requires
 read-lines-requires c κs = search needs
@@ -55,15 +78,29 @@ slice-aggregate-store-job-6 c = search needs
 slice-aggregate-store-job-7 : tie.Need-slice-aggregate-store-job-7
 slice-aggregate-store-job-7 c = search needs
 
+slice-aggregate-store-job-8 : tie.Need-slice-aggregate-store-job-8
+slice-aggregate-store-job-8 c = search needs
+
+slice-aggregate-store-job-9 : tie.Need-slice-aggregate-store-job-9
+slice-aggregate-store-job-9 c = search needs
+
 store-job-requires : tie.Need-store-job-requires
-store-job-requires c κs = let lines = c .before .before .before .before .before .before .before .before .before .before .before .before .before .before .before .before .before .before .before .before .before .before .before .before .read-lines in
+store-job-requires c κs =
+    let told : tie.After-known-told = c .before .before .before .before .before .before .before .before .before .before .before .before .before .before .before .before .before .before in
+    let lines = lines-read told .read-lines in
     let k = lines .kept .1 in
-    let counts = job-counts (lines .result) _ _ _ _ _ _ (c .before .before .before .before .before .before .before .before .before .before .before .before .before .before .before .nodes .given .1) (lines .ensures .1) in (
+    let counts = job-counts (lines .result) _ _ _ _ _ _ (told .before .nodes .given .1) (lines .ensures .1) in (
       record {
         kinds-long = omega (arith, k .0);
         capacities-long = omega (arith, k .1 .0);
+        delays-long = omega (arith, k .1 .1 .1 .1 .1 .1 .1 .0);
         edge-room = record { firsts-long = omega (arith, k .1 .1 .0); targets-long = omega (arith, k .1 .1 .1 .0) };
-        net-room = record { sources-long = omega (arith, k .1 .1 .1 .1 .0); firsts-long = omega (arith, k .1 .1 .1 .1 .1 .0); sinks-long = omega (arith, k .1 .1 .1 .1 .1 .1 .0) };
+        net-room = record {
+          sources-long = omega (arith, k .1 .1 .1 .1 .0);
+          firsts-long = omega (arith, k .1 .1 .1 .1 .1 .0);
+          sinks-long = omega (arith, k .1 .1 .1 .1 .1 .1 .0);
+          criticalities-long = omega (arith, k .1 .1 .1 .1 .1 .1 .1 .1 .0);
+        };
       },
       (counts .0, counts .1),
     )
@@ -71,62 +108,57 @@ store-job-requires c κs = let lines = c .before .before .before .before .before
 enum-known-number : tie.Need-enum-known-number
 enum-known-number c = search needs
 
--- the call of `store_job` before the return, which leaves the lengths of the tables as they were
-abbrev over : tie.After-slice-known14 → tie.After-store-job
-over c = c .before .before .before .before .before .before .before .before .before .before .before .before .before .before
-
 same-length : tie.Need-same-length
-same-length c = over c .store-job .kept .1 .1 .1 .1 .1 .1 .1 .1 .1 .1 .1 .1 .0
+same-length c = over c .store-job .kept .1 .1 .1 .1 .1 .1 .1 .1 .1 .1 .1 .1 .1 .1 .0
 
 same-length-2 : tie.Need-same-length-2
-same-length-2 c = over c .store-job .kept .1 .1 .1 .1 .1 .1 .1 .1 .1 .1 .1 .1 .1 .0
+same-length-2 c = over c .store-job .kept .1 .1 .1 .1 .1 .1 .1 .1 .1 .1 .1 .1 .1 .1 .1 .0
 
 same-length-3 : tie.Need-same-length-3
-same-length-3 c = over c .store-job .kept .1 .1 .1 .1 .1 .1 .1 .1 .1 .1 .1 .1 .1 .1 .0
+same-length-3 c = over c .store-job .kept .1 .1 .1 .1 .1 .1 .1 .1 .1 .1 .1 .1 .1 .1 .1 .1 .0
 
 same-length-4 : tie.Need-same-length-4
-same-length-4 c = over c .store-job .kept .1 .1 .1 .1 .1 .1 .1 .1 .1 .1 .1 .1 .1 .1 .1 .0
+same-length-4 c = over c .store-job .kept .1 .1 .1 .1 .1 .1 .1 .1 .1 .1 .1 .1 .1 .1 .1 .1 .1 .0
 
 same-length-5 : tie.Need-same-length-5
-same-length-5 c = over c .store-job .kept .1 .1 .1 .1 .1 .1 .1 .1 .1 .1 .1 .1 .1 .1 .1 .1 .0
+same-length-5 c = over c .store-job .kept .1 .1 .1 .1 .1 .1 .1 .1 .1 .1 .1 .1 .1 .1 .1 .1 .1 .1 .0
 
 same-length-6 : tie.Need-same-length-6
-same-length-6 c = over c .store-job .kept .1 .1 .1 .1 .1 .1 .1 .1 .1 .1 .1 .1 .1 .1 .1 .1 .1 .0
+same-length-6 c = over c .store-job .kept .1 .1 .1 .1 .1 .1 .1 .1 .1 .1 .1 .1 .1 .1 .1 .1 .1 .1 .1 .0
 
 same-length-7 : tie.Need-same-length-7
-same-length-7 c = over c .store-job .kept .1 .1 .1 .1 .1 .1 .1 .1 .1 .1 .1 .1 .1 .1 .1 .1 .1 .1 .0
+same-length-7 c = over c .store-job .kept .1 .1 .1 .1 .1 .1 .1 .1 .1 .1 .1 .1 .1 .1 .1 .1 .1 .1 .1 .1 .0
 
--- the reading of all lines, before the job is stored
-abbrev lines-read : tie.After-store-job → tie.After-read-lines
-lines-read c = c .before .before .before .before .before .before .before .before .before .before .before .before .before .before .before .before .before .before .before .before .before .before .before .before .before
+same-length-8 : tie.Need-same-length-8
+same-length-8 c = over c .store-job .kept .1 .1 .1 .1 .1 .1 .1 .1 .1 .1 .1 .1 .1 .1 .1 .1 .1 .1 .1 .1 .1 .0
 
--- the function's entry
-abbrev entry : tie.After-read-lines → tie.Start
-entry c = c .before .before .before .before .before .before .before .before .before .before .before .before .before .before .before .before
+same-length-9 : tie.Need-same-length-9
+same-length-9 c = over c .store-job .kept .1 .1 .1 .1 .1 .1 .1 .1 .1 .1 .1 .1 .1 .1 .1 .1 .1 .1 .1 .1 .1 .1 .0
 
 returns : tie.Need-returns
 returns c =
-    let lines = lines-read (over c) .read-lines in
+    let told = known (over c) in
+    let lines = lines-read told .read-lines in
     let l = lines .last .1 in
-    let a = entry (lines-read (over c)) .args in
-    let known = over c .before .before .before .before .before .before .before .before .before .before .before .before .before .before .before .before .nodes .given in
-    let counts = known .0 in
-    let left = over c .store-job .last .1 .1 .1 .1 .1 .1 .1 .1 .1 .1 .1 .1 in
-    job-read (a .text .now) (lines .result) (counts .0) (counts .1 .0) (counts .1 .1 .0) (counts .1 .1 .1 .0) (counts .1 .1 .1 .1 .0) (counts .1 .1 .1 .1 .1 .0)
-    (l .0) (l .1 .0) (l .1 .1 .0) (l .1 .1 .1 .0) (l .1 .1 .1 .1 .0) (l .1 .1 .1 .1 .1 .0) (l .1 .1 .1 .1 .1 .1 .0)
-    (tablesOf (a .kind .now) (a .capacity .now) (a .first-edge .now) (a .edge-target .now) (a .source .now) (a .first-sink .now) (a .sink .now))
-    (readReplyOf (over c .store-job .result) (tablesOf (left .0) (left .1 .0) (left .1 .1 .0) (left .1 .1 .1 .0) (left .1 .1 .1 .1 .0) (left .1 .1 .1 .1 .1 .0) (left .1 .1 .1 .1 .1 .1 .0)))
-    (known .1) (lines .ensures .0) (over c .store-job .ensures)
+    let s = entry (lines-read told) in
+    let given = told .before .nodes .given in
+    let counts = given .0 in
+    let left = over c .store-job .last .1 .1 .1 .1 .1 .1 .1 .1 .1 .1 .1 .1 .1 .1 in
+    job-read (s .args .text .now) (lines .result) (counts .0) (counts .1 .0) (counts .1 .1 .0) (counts .1 .1 .1 .0) (counts .1 .1 .1 .1 .0) (counts .1 .1 .1 .1 .1 .0)
+    (l .0) (l .1 .0) (l .1 .1 .0) (l .1 .1 .1 .0) (l .1 .1 .1 .1 .0) (l .1 .1 .1 .1 .1 .0) (l .1 .1 .1 .1 .1 .1 .0) (l .1 .1 .1 .1 .1 .1 .1 .0) (l .1 .1 .1 .1 .1 .1 .1 .1 .0)
+    (lent s)
+    (readReplyOf (over c .store-job .result)
+    (tablesOf (left .0) (left .1 .0) (left .1 .1 .0) (left .1 .1 .1 .0) (left .1 .1 .1 .1 .0) (left .1 .1 .1 .1 .1 .0) (left .1 .1 .1 .1 .1 .1 .0) (left .1 .1 .1 .1 .1 .1 .1 .0) (left .1 .1 .1 .1 .1 .1 .1 .1 .0)))
+    (given .1) (lines .ensures .0) (over c .store-job .ensures)
 
 returns-2 : tie.Need-returns-2
 returns-2 c =
-    let read = c .before .before .before .before .before .before .before .before .before .before in
+    let read : tie.After-read-lines = c .before .before .before .before .before .before .before .before .before .before .before .before in
     let lines = read .read-lines in
     let l = lines .last .1 in
-    let a = entry read .args in
-    let tables = tablesOf (a .kind .now) (a .capacity .now) (a .first-edge .now) (a .edge-target .now) (a .source .now) (a .first-sink .now) (a .sink .now) in
-    job-stopped (a .text .now) (lines .result) _ _ (l .0) (l .1 .0) (l .1 .1 .0) (l .1 .1 .1 .0) (l .1 .1 .1 .1 .0) (l .1 .1 .1 .1 .1 .0) (l .1 .1 .1 .1 .1 .1 .0)
-    tables (c .before .number .given .1) (lines .ensures .0)
+    let s = entry read in
+    job-stopped (s .args .text .now) (lines .result) _ _ (l .0) (l .1 .0) (l .1 .1 .0) (l .1 .1 .1 .0) (l .1 .1 .1 .1 .0) (l .1 .1 .1 .1 .1 .0) (l .1 .1 .1 .1 .1 .1 .0) (l .1 .1 .1 .1 .1 .1 .1 .0) (l .1 .1 .1 .1 .1 .1 .1 .1 .0)
+    (lent s) (c .before .number .given .1) (lines .ensures .0)
 
 pub read-job-spec : {M : Type 1} → statement M
 read-job-spec =
@@ -139,6 +171,8 @@ read-job-spec =
     slice-aggregate-read-lines-5
     slice-aggregate-read-lines-6
     slice-aggregate-read-lines-7
+    slice-aggregate-read-lines-8
+    slice-aggregate-read-lines-9
     read-lines-requires
     enum-known-nodes
     slice-aggregate-store-job
@@ -148,6 +182,8 @@ read-job-spec =
     slice-aggregate-store-job-5
     slice-aggregate-store-job-6
     slice-aggregate-store-job-7
+    slice-aggregate-store-job-8
+    slice-aggregate-store-job-9
     store-job-requires
     enum-known-number
     same-length
@@ -157,5 +193,7 @@ read-job-spec =
     same-length-5
     same-length-6
     same-length-7
+    same-length-8
+    same-length-9
     returns
     returns-2)

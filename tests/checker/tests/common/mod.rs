@@ -1,7 +1,7 @@
 //! Jobs of 01 and small changes of them.
 #![allow(dead_code)]
 
-use checker::{check, Fault};
+use checker::{check, Fault, Timing};
 use job::Job;
 
 /// Edges rising by from, then to; nets as source and sinks; capacities 1.
@@ -39,6 +39,7 @@ impl Checked for Job {
             sink: &self.sink,
             limit: self.limit,
             tuning: tuning(self.tuning.numbers()),
+            timing: self.is_timed().then_some(Timing { delay: &self.delay, criticality: &self.criticality }),
         }
     }
 }

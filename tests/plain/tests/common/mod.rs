@@ -30,12 +30,14 @@ pub fn read_into(text: &[u8], t: &mut Job) -> Answer {
         &mut t.source,
         &mut t.first_sink,
         &mut t.sink,
+        &mut t.delay,
+        &mut t.criticality,
     )
 }
 
 /// Reads a sound text into tables of exactly their length.
 pub fn tables(text: &str) -> Job {
-    let mut t = Job::unread([40; 7]);
+    let mut t = Job::unread([40; 9]);
     let answer = read_into(text.as_bytes(), &mut t);
     assert_eq!(answer.refusal, Vec::<u64>::new());
     t.take_numbers(&answer.numbers);
@@ -44,10 +46,10 @@ pub fn tables(text: &str) -> Job {
 
 /// The reader's refusal of a text; the tables must stay untouched.
 pub fn refusal(text: &str) -> Vec<u64> {
-    let mut t = Job::unread([40; 7]);
+    let mut t = Job::unread([40; 9]);
     let answer = read_into(text.as_bytes(), &mut t);
-    assert_eq!(answer.numbers, vec![0; 11]);
-    assert_eq!(t, Job::unread([40; 7]));
+    assert_eq!(answer.numbers, vec![0; 12]);
+    assert_eq!(t, Job::unread([40; 9]));
     answer.refusal
 }
 
@@ -65,6 +67,8 @@ pub fn route_by(t: &Job, terms: &[u32], work: &mut [u64], log: &mut [u32]) -> An
         &t.source,
         &t.first_sink,
         &t.sink,
+        &t.delay,
+        &t.criticality,
         terms,
         work,
         log,
@@ -81,6 +85,8 @@ pub fn resume_with(t: &Job, used: u64, work: &mut [u64], log: &mut [u32]) -> Ans
         &t.source,
         &t.first_sink,
         &t.sink,
+        &t.delay,
+        &t.criticality,
         &t.terms(),
         used,
         work,

@@ -1,4 +1,4 @@
--- `out::put_job` meets its contract: eleven stores over cleared entries are the numbers.
+-- `out::put_job` meets its contract: twelve stores over cleared entries are the numbers.
 -- Assumes nothing.
 use mathlib.Core.List.{List}
 use mathlib.Core.Path.{ap}
@@ -7,7 +7,7 @@ use native.Mathlib.Omega.{arith}
 use lib.ListN.{length-set}
 use borrow.Author.Needs.{needs}
 use Rattle.capi.specs.Calls.{callOf}
-use Rattle.capi.proofs.CallLaws.{eleven-put}
+use Rattle.capi.proofs.CallLaws.{twelve-put}
 use Rattle.capi.proofs.out.put_job.Statement.{statement}
 use Rattle.capi.proofs.out.put_job.Tie as tie
 
@@ -68,13 +68,23 @@ cast-out-7 c = search needs
 slice-write-out-11 : tie.Need-slice-write-out-11
 slice-write-out-11 c = simp length-set (omega arith)
 
+one-if-requires : tie.Need-one-if-requires
+one-if-requires c κs = search needs
+
+slice-write-out-12 : tie.Need-slice-write-out-12
+slice-write-out-12 c =
+    let long = c .before .before .before .before .before .before .before .before .before .before .before .before .before .pre in
+    let kept = c .before .before .before .before .before .before .before .before .before .before .clear .kept in
+    simp length-set (omega arith)
+
 same-length : tie.Need-same-length
 same-length c = simp length-set (omega arith)
 
 returns : tie.Need-returns
 returns c =
-    let cleared = c .before .before .before .before .before .before .before .before .before in
-    ap (λ (out : List ℕ). callOf 1 out) (eleven-put (cleared .before .before .before .args .out .now) _ _ _ _ _ _ _ _ _ _ _ _ (cleared .clear .ensures))
+    let cleared = c .before .before .before .before .before .before .before .before .before .before in
+    ap (λ (out : List ℕ). callOf 1 out)
+    (twelve-put (cleared .before .before .before .args .out .now) _ _ _ _ _ _ _ _ _ _ _ _ _ _ (cleared .clear .ensures) (c .one-if .ensures))
 
 pub put-job-spec : {M : Type 1} → statement M
 put-job-spec =
@@ -99,5 +109,7 @@ put-job-spec =
     slice-write-out-10
     cast-out-7
     slice-write-out-11
+    one-if-requires
+    slice-write-out-12
     same-length
     returns)

@@ -28,6 +28,15 @@ cast-put-numbers-2 c = search needs
 put-numbers-requires-2 : tie.Need-put-numbers-requires-2
 put-numbers-requires-2 c κs = search needs
 
+enum-known-answer-4 : tie.Need-enum-known-answer-4
+enum-known-answer-4 c = search needs
+
+cast-put-numbers-3 : tie.Need-cast-put-numbers-3
+cast-put-numbers-3 c = search needs
+
+put-numbers-requires-3 : tie.Need-put-numbers-requires-3
+put-numbers-requires-3 c κs = search needs
+
 same-length : tie.Need-same-length
 same-length c = search needs
 
@@ -46,6 +55,12 @@ same-length-3 c = search needs
 returns-3 : tie.Need-returns-3
 returns-3 c = rw (c .before .before .before .before .before .answer3 .given .1) (c .before .before .put-numbers2 .ensures)
 
+same-length-4 : tie.Need-same-length-4
+same-length-4 c = search needs
+
+returns-4 : tie.Need-returns-4
+returns-4 c = rw (c .before .before .before .before .before .answer4 .given .1) (c .before .before .put-numbers3 .ensures)
+
 pub put-read-spec : {M : Type 1} → statement M
 put-read-spec =
     tie.close
@@ -58,9 +73,14 @@ put-read-spec =
     enum-known-answer-3
     cast-put-numbers-2
     put-numbers-requires-2
+    enum-known-answer-4
+    cast-put-numbers-3
+    put-numbers-requires-3
     same-length
     returns
     same-length-2
     returns-2
     same-length-3
-    returns-3)
+    returns-3
+    same-length-4
+    returns-4)

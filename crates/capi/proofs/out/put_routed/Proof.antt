@@ -61,6 +61,18 @@ enum-known-outcome-5 c = search needs
 put-numbers-requires-7 : tie.Need-put-numbers-requires-7
 put-numbers-requires-7 c κs = search needs
 
+enum-known-outcome-6 : tie.Need-enum-known-outcome-6
+enum-known-outcome-6 c = search needs
+
+cast-put-numbers-5 : tie.Need-cast-put-numbers-5
+cast-put-numbers-5 c = search needs
+
+cast-put-numbers-6 : tie.Need-cast-put-numbers-6
+cast-put-numbers-6 c = search needs
+
+put-numbers-requires-8 : tie.Need-put-numbers-requires-8
+put-numbers-requires-8 c κs = search needs
+
 same-length : tie.Need-same-length
 same-length c = search needs
 
@@ -103,6 +115,12 @@ same-length-7 c = search needs
 returns-7 : tie.Need-returns-7
 returns-7 c = rw (c .before .before .before .before .before .outcome5 .given .1) (c .before .before .put-numbers7 .ensures)
 
+same-length-8 : tie.Need-same-length-8
+same-length-8 c = search needs
+
+returns-8 : tie.Need-returns-8
+returns-8 c = rw (c .before .before .before .before .before .outcome6 .given .1) (c .before .before .put-numbers8 .ensures)
+
 pub put-routed-spec : {M : Type 1} → statement M
 put-routed-spec =
     tie.close
@@ -126,6 +144,10 @@ put-routed-spec =
     put-numbers-requires-6
     enum-known-outcome-5
     put-numbers-requires-7
+    enum-known-outcome-6
+    cast-put-numbers-5
+    cast-put-numbers-6
+    put-numbers-requires-8
     same-length
     returns
     same-length-2
@@ -139,4 +161,6 @@ put-routed-spec =
     same-length-6
     returns-6
     same-length-7
-    returns-7)
+    returns-7
+    same-length-8
+    returns-8)

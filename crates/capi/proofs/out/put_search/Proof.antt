@@ -34,6 +34,15 @@ cast-put-numbers-2 c = search needs
 put-numbers-requires-4 : tie.Need-put-numbers-requires-4
 put-numbers-requires-4 c κs = search needs
 
+enum-known-answer-4 : tie.Need-enum-known-answer-4
+enum-known-answer-4 c = search needs
+
+cast-put-numbers-3 : tie.Need-cast-put-numbers-3
+cast-put-numbers-3 c = search needs
+
+put-numbers-requires-5 : tie.Need-put-numbers-requires-5
+put-numbers-requires-5 c κs = search needs
+
 same-length : tie.Need-same-length
 same-length c = search needs
 
@@ -58,6 +67,12 @@ same-length-4 c = search needs
 returns-4 : tie.Need-returns-4
 returns-4 c = rw (c .before .before .before .before .before .answer3 .given .1) (c .before .before .put-numbers4 .ensures)
 
+same-length-5 : tie.Need-same-length-5
+same-length-5 c = search needs
+
+returns-5 : tie.Need-returns-5
+returns-5 c = rw (c .before .before .before .before .before .answer4 .given .1) (c .before .before .put-numbers5 .ensures)
+
 pub put-search-spec : {M : Type 1} → statement M
 put-search-spec =
     tie.close
@@ -72,6 +87,9 @@ put-search-spec =
     enum-known-answer-3
     cast-put-numbers-2
     put-numbers-requires-4
+    enum-known-answer-4
+    cast-put-numbers-3
+    put-numbers-requires-5
     same-length
     returns
     same-length-2
@@ -79,4 +97,6 @@ put-search-spec =
     same-length-3
     returns-3
     same-length-4
-    returns-4)
+    returns-4
+    same-length-5
+    returns-5)

@@ -1,81 +1,18 @@
--- `tables::faulty_block` meets its contract: with no sinks and one entry of work memory the cheapest path is refused, for the faulty table or for the work slice.
+-- `tables::faulty_block` meets its contract: where delay is not weighed, tables 1 to 4 alone are named.
 -- Assumes nothing.
-use mathlib.Core.List.{[], _∷_}
-use mathlib.Core.Path.{refl}
 use borrow.Author.Needs.{needs}
-use Rattle.job.proofs.NetTableLaws.{named}
+use Rattle.job.proofs.NetTableLaws.{named-untimed}
 use Rattle.job.proofs.tables.faulty_block.Statement.{statement}
 use Rattle.job.proofs.tables.faulty_block.Tie as tie
 
-slice-aggregate-cheapest-path : tie.Need-slice-aggregate-cheapest-path
-slice-aggregate-cheapest-path c = search needs
+slice-aggregate-faulty-with-delays : tie.Need-slice-aggregate-faulty-with-delays
+slice-aggregate-faulty-with-delays c = search needs
 
-slice-aggregate-cheapest-path-2 : tie.Need-slice-aggregate-cheapest-path-2
-slice-aggregate-cheapest-path-2 c = search needs
-
-slice-aggregate-cheapest-path-3 : tie.Need-slice-aggregate-cheapest-path-3
-slice-aggregate-cheapest-path-3 c = search needs
-
-slice-aggregate-cheapest-path-4 : tie.Need-slice-aggregate-cheapest-path-4
-slice-aggregate-cheapest-path-4 c = search needs
-
-array-share-prefix-sinks : tie.Need-array-share-prefix-sinks
-array-share-prefix-sinks c = search needs
-
-slice-aggregate-cheapest-path-5 : tie.Need-slice-aggregate-cheapest-path-5
-slice-aggregate-cheapest-path-5 c = search needs
-
-cheapest-path-requires : tie.Need-cheapest-path-requires
-cheapest-path-requires c κs = search needs
-
-enum-known-table : tie.Need-enum-known-table
-enum-known-table c = search needs
-
-enum-told : tie.Need-enum-told
-enum-told c = search needs
-
-enum-told-2 : tie.Need-enum-told-2
-enum-told-2 c = search needs
-
-enum-told-3 : tie.Need-enum-told-3
-enum-told-3 c = search needs
-
-enum-told-4 : tie.Need-enum-told-4
-enum-told-4 c = search needs
+faulty-with-delays-requires : tie.Need-faulty-with-delays-requires
+faulty-with-delays-requires c κs = search needs
 
 returns : tie.Need-returns
-returns c = named _ _ _ _ _ (0 ∷ []) refl _ (c .before .before .before .before .cheapest-path .ensures .0) (c .before .table .given .1)
-
-returns-2 : tie.Need-returns-2
-returns-2 c = named _ _ _ _ _ (0 ∷ []) refl _ (c .before .before .before .cheapest-path .ensures .0) (c .enum-told .given .1)
-
-returns-3 : tie.Need-returns-3
-returns-3 c = named _ _ _ _ _ (0 ∷ []) refl _ (c .before .before .before .cheapest-path .ensures .0) (c .enum-told2 .given .1)
-
-returns-4 : tie.Need-returns-4
-returns-4 c = named _ _ _ _ _ (0 ∷ []) refl _ (c .before .before .before .cheapest-path .ensures .0) (c .enum-told3 .given .1)
-
-returns-5 : tie.Need-returns-5
-returns-5 c = named _ _ _ _ _ (0 ∷ []) refl _ (c .before .before .before .cheapest-path .ensures .0) (c .enum-told4 .given .1)
+returns c = named-untimed _ _ (c .faulty-with-delays .ensures)
 
 pub faulty-block-spec : {M : Type 1} → statement M
-faulty-block-spec =
-    tie.close
-    (tie.spec
-    slice-aggregate-cheapest-path
-    slice-aggregate-cheapest-path-2
-    slice-aggregate-cheapest-path-3
-    slice-aggregate-cheapest-path-4
-    array-share-prefix-sinks
-    slice-aggregate-cheapest-path-5
-    cheapest-path-requires
-    enum-known-table
-    enum-told
-    enum-told-2
-    enum-told-3
-    enum-told-4
-    returns
-    returns-2
-    returns-3
-    returns-4
-    returns-5)
+faulty-block-spec = tie.close (tie.spec slice-aggregate-faulty-with-delays faulty-with-delays-requires returns)

@@ -15,7 +15,7 @@ use Rattle.negotiation.proofs.follow.follow_turn.Tie as tie
 
 -- the entry, once the frame is tested
 abbrev entry : tie.After-frame-follows → tie.Start
-entry c = c .before .before .before .before .before .before .before .before .before .before
+entry c = c .before .before .before .before .before .before .before .before .before .before .before
 
 -- where the frame follows, from the pass, and the pass, from its answer
 abbrev framed : tie.After-path-cost → tie.Else1
@@ -61,7 +61,7 @@ shared-slice-read-to : tie.Need-shared-slice-read-to
 shared-slice-read-to c = let long = frame (c .before) .long in omega arith
 
 cast-to : tie.Need-cast-to
-cast-to c = omega (arith, c .shared-slice-known9 .given (entry (c .before .before) .args .tariff .words + 5))
+cast-to c = omega (arith, c .shared-slice-known10 .given (entry (c .before .before) .args .tariff .words + 5))
 
 add-to-3 : tie.Need-add-to-3
 add-to-3 c = let long = frame (c .before) .long in omega arith

@@ -33,8 +33,11 @@ shared-slice-read-o c = search needs
 cast-o : tie.Need-cast-o
 cast-o c = search needs
 
-price-requires : tie.Need-price-requires
-price-requires c κs = search needs
+delay-at-requires : tie.Need-delay-at-requires
+delay-at-requires c κs = c .before .before .before .before .before .before .before .before .before .pre .has-delay
+
+weighed-price-requires : tie.Need-weighed-price-requires
+weighed-price-requires c κs = search needs
 
 enum-known-p : tie.Need-enum-known-p
 enum-known-p c = search needs
@@ -43,10 +46,18 @@ enum-told : tie.Need-enum-told
 enum-told c = search needs
 
 returns : tie.Need-returns
-returns c = absurd (answered-refused (c .before .before .before .before .before .before .before .before .before .before .before .pre) (c .enum-told .given .1) (c .before .before .price .ensures))
+returns c =
+    let priced = c .before .before in
+    let read = priced .before in
+    let start = read .before .before .before .before .before .before .before .before .before .before in
+    absurd (answered-refused (start .pre) (read .delay-at .ensures) (c .enum-told .given .1) (priced .weighed-price .ensures))
 
 returns-2 : tie.Need-returns-2
-returns-2 c = price-found (c .before .before .before .before .before .before .before .before .before .before .before .before .pre) (c .before .p .given .1) (c .before .before .before .price .ensures)
+returns-2 c =
+    let priced = c .before .before .before in
+    let read = priced .before in
+    let start = read .before .before .before .before .before .before .before .before .before .before in
+    price-found (start .pre) (read .delay-at .ensures) (c .before .p .given .1) (priced .weighed-price .ensures)
 
 pub node-price-spec : {M : Type 1} → statement M
 node-price-spec =
@@ -61,7 +72,8 @@ node-price-spec =
     mul-o
     shared-slice-read-o
     cast-o
-    price-requires
+    delay-at-requires
+    weighed-price-requires
     enum-known-p
     enum-told
     returns

@@ -9,20 +9,20 @@ use lib.Dec.{ltb}
 use lib.ListN.{length, getD}
 use Rattle.price.specs.Test.{choose}
 use Rattle.search.specs.Block.{blockOf}
-use Rattle.search.specs.Turn.{congestionOf}
-use Rattle.search.proofs.BlockLaws.{kinds-few}
+use Rattle.search.specs.Turn.{congestionOf, weighedCongestion}
 use Rattle.search.proofs.ReadyLaws.{sound-graph}
 use Rattle.search.proofs.KeptLaws.{refused, passed}
 use Rattle.negotiation.specs.ResumeSteps.{stepPasses}
-use Rattle.negotiation.proofs.PassLoopLaws.{step-answer, price-block, Passing, pass-off, pass-out, pass-first, step-strays, step-node, step-on, pass-done, pass-marked}
+use Rattle.negotiation.proofs.PassLoopLaws.{step-answer, price-block, Passing, pass-off, pass-out, pass-first, step-strays, step-node, cost-fits, step-on, pass-done, pass-marked}
 use Rattle.negotiation.proofs.follow.path_cost.Statement.{statement}
 use Rattle.negotiation.proofs.follow.path_cost.Tie as tie
 
 abbrev Inv-loop : tie.InvT-loop
-Inv-loop kind capacity first-edge edge-target factor history users goals in-tree₀ log from to u₀ cost₀ k₀ in-tree u cost k = Passing (blockOf kind capacity first-edge edge-target) (congestionOf factor history users) goals in-tree₀ log from to in-tree u cost k
+Inv-loop kind capacity first-edge edge-target weighting delay factor history users goals in-tree₀ log from to u₀ cost₀ k₀ in-tree u cost k =
+    Passing (blockOf kind capacity first-edge edge-target) (weighedCongestion weighting delay factor history users) goals in-tree₀ log from to in-tree u cost k
 
 abbrev μ-loop : tie.MeasureT-loop
-μ-loop kind capacity first-edge edge-target factor history users goals in-tree₀ log from to u₀ cost₀ k₀ in-tree u cost k = to - k
+μ-loop kind capacity first-edge edge-target weighting delay factor history users goals in-tree₀ log from to u₀ cost₀ k₀ in-tree u cost k = to - k
 
 abbrev Entry : Type 0
 Entry = tie.Start Inv-loop μ-loop
@@ -32,7 +32,7 @@ Turn = tie.In-loop Inv-loop μ-loop
 
 -- the entry, where the loop begins and from a turn
 abbrev begun : tie.Else2 Inv-loop μ-loop → Entry
-begun c = c .before .before .before .before .before .before .before .before .before .before .before .before .before
+begun c = c .before .before .before .before .before .before .before .before .before .before .before .before .before .before
 
 abbrev entry : Turn → Entry
 entry t = begun (t .before .before)
@@ -66,32 +66,32 @@ reached c =
 
 mul-u : tie.Need-mul-u Inv-loop μ-loop
 mul-u c =
-    let r = c .before .before .before .before .before .before .before .before .before .pre in
+    let r = c .before .before .before .before .before .before .before .before .before .before .pre in
     let some = r .some in
     let within = r .turn .within in
     omega arith
 
 shared-slice-read-u : tie.Need-shared-slice-read-u Inv-loop μ-loop
 shared-slice-read-u c =
-    let r = c .before .before .before .before .before .before .before .before .before .before .pre in
+    let r = c .before .before .before .before .before .before .before .before .before .before .before .pre in
     let some = r .some in
     let within = r .turn .within in
     omega arith
 
 cast-u : tie.Need-cast-u Inv-loop μ-loop
-cast-u c = omega (arith, c .shared-slice-known9 .given (c .before .before .before .before .before .before .before .before .before .before .args .from))
+cast-u c = omega (arith, c .shared-slice-known10 .given (c .before .before .before .before .before .before .before .before .before .before .before .args .from))
 
 returns : tie.Need-returns Inv-loop μ-loop
-returns c = (pass-out (c .before .before .before .before .before .before .before .before .before .before .before .pre) (c .if1 .taken), tt)
+returns c = (pass-out (c .before .before .before .before .before .before .before .before .before .before .before .before .pre) (c .if1 .taken), tt)
 
 slice-read-if2 : tie.Need-slice-read-if2 Inv-loop μ-loop
 slice-read-if2 c =
-    let long = c .before .before .before .before .before .before .before .before .before .before .before .before .pre .turn .marks-long in
+    let long = c .before .before .before .before .before .before .before .before .before .before .before .before .before .pre .turn .marks-long in
     let below = c .before .if1 .left in
     omega arith
 
 returns-2 : tie.Need-returns-2 Inv-loop μ-loop
-returns-2 c = (pass-off (c .before .before .before .before .before .before .before .before .before .before .before .before .before .pre) (c .if2 .taken), tt)
+returns-2 c = (pass-off (c .before .before .before .before .before .before .before .before .before .before .before .before .before .before .pre) (c .if2 .taken), tt)
 
 add-k : tie.Need-add-k Inv-loop μ-loop
 add-k c =
@@ -112,7 +112,7 @@ shared-slice-read-v c =
     omega arith
 
 cast-v : tie.Need-cast-v Inv-loop μ-loop
-cast-v c = omega (arith, c .shared-slice-known10 .given (c .before .before .loop .k))
+cast-v c = omega (arith, c .shared-slice-known11 .given (c .before .before .loop .k))
 
 add-last-mark : tie.Need-add-last-mark Inv-loop μ-loop
 add-last-mark c = omega arith
@@ -143,13 +143,7 @@ node-price-requires c κs = entry (turn (c .before)) .pre .turn .prices _ (reach
 add-cost : tie.Need-add-cost Inv-loop μ-loop
 add-cost c =
     let t : Turn = turn (c .before .before) in
-    let s = t .before .loop .inv in
-    let r = entry t .pre in
-    let sum = s .cost-most in
-    let least = s .least in
-    let few = r .few in
-    let nodes = kinds-few _ (r .turn .sound .kinds-sound) in
-    let low = c .node-price .ensures .1 in
+    let fits = cost-fits (entry t .pre) (t .before .loop .inv) (t .loop-test .taken) _ (c .node-price .ensures .1) in
     omega arith
 
 slice-write-in-tree : tie.Need-slice-write-in-tree Inv-loop μ-loop

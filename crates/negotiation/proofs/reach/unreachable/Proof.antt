@@ -18,22 +18,23 @@ use Rattle.negotiation.proofs.reach.unreachable.Tie as tie
 
 abbrev Inv-loop : tie.InvT-loop
 Inv-loop kind first-edge edge-target source first-sink sink work₀ n reached₀ net₀ work reached net =
-    (capacities : List ℕ) (terms : Terms)
-    → Routable (jobOf kind capacities first-edge edge-target source first-sink sink terms)
-    → Tested (jobOf kind capacities first-edge edge-target source first-sink sink terms) 4096 work₀ work reached net
+    (capacities delays criticalities : List ℕ) (terms : Terms)
+    → Routable (jobOf kind capacities first-edge edge-target source first-sink sink delays criticalities terms)
+    → Tested (jobOf kind capacities first-edge edge-target source first-sink sink delays criticalities terms) 4096 work₀ work reached net
 
 abbrev μ-loop : tie.MeasureT-loop
 μ-loop kind first-edge edge-target source first-sink sink work₀ n reached₀ net₀ work reached net =
     length source - net
 
--- the entry's tables as a job, with any capacity table and terms
-abbrev jobWith : tie.Start Inv-loop μ-loop → List ℕ → Terms → Job
-jobWith s capacities terms =
-    jobOf (s .args .kind .now) capacities (s .args .first-edge .now) (s .args .edge-target .now) (s .args .source .now) (s .args .first-sink .now) (s .args .sink .now) terms
+-- the entry's tables as a job, with any tables 2, 9 and 10 and terms
+abbrev jobWith : tie.Start Inv-loop μ-loop → (capacities delays criticalities : List ℕ) → Terms → Job
+jobWith s capacities delays criticalities terms =
+    jobOf (s .args .kind .now) capacities (s .args .first-edge .now) (s .args .edge-target .now) (s .args .source .now) (s .args .first-sink .now) (s .args .sink .now)
+    delays criticalities terms
 
 -- with those of the precondition it can be routed
 abbrev job : tie.Start Inv-loop μ-loop → Job
-job s = jobWith s (s .pre .0 .capacities) (s .pre .0 .terms)
+job s = jobWith s (s .pre .0 .capacities) (s .pre .0 .delays) (s .pre .0 .criticalities) (s .pre .0 .terms)
 
 sound : (s : tie.Start Inv-loop μ-loop) → Routable (job s)
 sound s = s .pre .0 .routable
@@ -47,7 +48,9 @@ start l = l .before .before .before .before .before .before .before .before
 
 -- what is tested where the loop's test is made, of the precondition's job
 tested : (l : tie.At-loop Inv-loop μ-loop) → Tested (job (start l)) 4096 (start l .args .work .now) (l .loop .work) (l .loop .reached) (l .loop .net)
-tested l = l .loop .inv _ _ (sound (start l))
+tested l =
+    let w = start l .pre .0 in
+    l .loop .inv (w .capacities) (w .delays) (w .criticalities) (w .terms) (w .routable)
 
 -- the entry, from a turn
 abbrev entry : tie.In-loop Inv-loop μ-loop → tie.Start Inv-loop μ-loop
@@ -78,7 +81,7 @@ marks-enough : (t : tie.In-loop Inv-loop μ-loop) → length (entry t .args .kin
 marks-enough t = omega (arith, few (entry t), tested (t .before) .marks-long)
 
 loop-holds : tie.Need-loop-holds Inv-loop μ-loop
-loop-holds c capacities terms s =
+loop-holds c capacities delays criticalities terms s =
     record {
       within = omega arith;
       same = same-from-refl _ _;
@@ -193,8 +196,8 @@ returns c =
     let f = flooded (c .before) in
     let t = turn f in
     let call = c .before .missing-sink in (
-      λ capacities terms s.
-          tested-found (jobWith (entry t) capacities terms) s (net t) (t .loop-test .taken) (few (entry t)) (entry t .pre .1) (t .before .loop .inv capacities terms s) (f .flood .ensures) (call .result) (call .ensures) (c .if1 .taken),
+      λ capacities delays criticalities terms s.
+          tested-found (jobWith (entry t) capacities delays criticalities terms) s (net t) (t .loop-test .taken) (few (entry t)) (entry t .pre .1) (t .before .loop .inv capacities delays criticalities terms s) (f .flood .ensures) (call .result) (call .ensures) (c .if1 .taken),
       tested-same (job (entry t)) (sound (entry t)) (net t) (t .loop-test .taken) (few (entry t)) (entry t .pre .1) (tested (t .before)) (f .flood .ensures),
     )
 
@@ -205,18 +208,18 @@ loop-less : tie.Need-loop-less Inv-loop μ-loop
 loop-less c = omega (arith, turn (flooded (c .before)) .loop-test .taken)
 
 loop-again : tie.Need-loop-again Inv-loop μ-loop
-loop-again c capacities terms s =
+loop-again c capacities delays criticalities terms s =
     let f = flooded (c .before) in
     let t = turn f in
     let call = c .before .missing-sink in
-    tested-more (jobWith (entry t) capacities terms) s (net t) (t .loop-test .taken) (few (entry t)) (entry t .pre .1) (t .before .loop .inv capacities terms s) (f .flood .ensures) (call .result) (call .ensures) (c .if1 .left)
+    tested-more (jobWith (entry t) capacities delays criticalities terms) s (net t) (t .loop-test .taken) (few (entry t)) (entry t .pre .1) (t .before .loop .inv capacities delays criticalities terms s) (f .flood .ensures) (call .result) (call .ensures) (c .if1 .left)
 
 same-length-2 : tie.Need-same-length-2 Inv-loop μ-loop
 same-length-2 c = tested (c .before) .same .long
 
 returns-2 : tie.Need-returns-2 Inv-loop μ-loop
 returns-2 c =
-    (λ capacities terms s. tested-all (c .loop-test .left) (c .before .loop .inv capacities terms s), tested (c .before) .same)
+    (λ capacities delays criticalities terms s. tested-all (c .loop-test .left) (c .before .loop .inv capacities delays criticalities terms s), tested (c .before) .same)
 
 pub unreachable-spec : {M : Type 1} → statement M
 unreachable-spec =

@@ -1,121 +1,200 @@
--- `negotiation::take_up::follow_net` meets its contract: from any net that opens so, the turns made so far follow and the others are left (`TakeTurnLaws`). What is
--- safe rests on the one that is asked for. A net without turns leaves all as it is.
+-- `negotiation::take_up::follow_net` meets its contract: from any net that opens so, the turns made so far follow and so many more may be made, and the place is
+-- that of the first sink that the tree lacks (`TakeTurnLaws`). What is safe rests on the one that is asked for. A net without turns leaves all as it is.
 -- Assumes nothing.
 use mathlib.Core.List.{List}
-use mathlib.Core.Path.{_≡_, refl, _∙_, ap}
-use Prim.Native.Nat.{ℕ, _<_, _^_}
+use mathlib.Core.Path.{_≡_, refl, _∙_}
+use Prim.Native.Nat.{ℕ, _-_, _<_, _^_, zero-le}
 use native.Mathlib.Omega.{arith}
-use lib.ListN.{length}
+use lib.ListN.{length, take, drop}
 use Rattle.job.specs.Job.{jobOf}
 use Rattle.negotiation.specs.Machine.{Progress}
+use Rattle.negotiation.specs.Flood.{FirstUnmarked}
 use Rattle.negotiation.specs.TakeSteps.{NetOpens, SomeNet}
 use Rattle.job.specs.declared.Terms.{Terms}
-use Rattle.negotiation.specs.declared.take_up.Taken.the-variants.{On}
-use Rattle.negotiation.proofs.TakeTurnLaws.{some-turns, Following, follow-start, follow-ready, follow-off, follow-more, follow-room, follow-on}
+use Rattle.negotiation.proofs.TakeTurnLaws.{some-of, missing-more, Following, follow-start, part-order, part-within, part-small, part-below, follow-ready, follow-out, follow-off, follow-more, follow-room, follow-on}
 use Rattle.negotiation.proofs.take_up.follow_net.Statement.{statement}
 use Rattle.negotiation.proofs.take_up.follow_net.Tie as tie
 
 abbrev Inv-loop : tie.InvT-loop
-Inv-loop kind capacity first-edge edge-target net turns history users goals in-tree₀ log tariff₀ left₀ in-tree tariff left =
-    ((sources firstSinks sinks : List ℕ) (terms : Terms) (p : Progress)
-    → NetOpens (jobOf kind capacity first-edge edge-target sources firstSinks sinks terms) p net turns tariff₀ history users goals in-tree₀ log
-    → Following (jobOf kind capacity first-edge edge-target sources firstSinks sinks terms) p net left tariff in-tree log)
-    × (turns ≡ 0 → (left ≡ 0) × (tariff ≡ tariff₀) × (in-tree ≡ in-tree₀))
+Inv-loop kind capacity first-edge edge-target sink delay criticality timed from to net turns history users in-tree₀ log tariff₀ left₀ place₀ in-tree tariff left place =
+    ((sources firstSinks : List ℕ) (terms : Terms) (p : Progress)
+    → NetOpens (jobOf kind capacity first-edge edge-target sources firstSinks sink delay criticality terms) p net delay criticality timed from to turns tariff₀ history
+    users in-tree₀ log
+    → Following (jobOf kind capacity first-edge edge-target sources firstSinks sink delay criticality terms) p net left tariff in-tree log)
+    × FirstUnmarked in-tree (take (to - from) (drop from sink)) 0 place
     × (length in-tree ≡ length in-tree₀)
 
 abbrev μ-loop : tie.MeasureT-loop
-μ-loop kind capacity first-edge edge-target net turns history users goals in-tree₀ log tariff₀ left₀ in-tree tariff left = left
+μ-loop kind capacity first-edge edge-target sink delay criticality timed from to net turns history users in-tree₀ log tariff₀ left₀ place₀ in-tree tariff left place =
+    left
 
-abbrev Entry : Type 0
-Entry = tie.Start Inv-loop μ-loop
+-- ---- the entry and a turn
+
+-- the net has turns
+abbrev Some : Type 0
+Some = tie.Else1 Inv-loop μ-loop
+
+module _ (c : Some) where
+  abbrev entry : tie.Start Inv-loop μ-loop
+  entry = c .before .before .before .before .before .before .before .before .before .before .before .before
+
+  -- the one that is asked for
+  asked :
+      SomeNet (entry .args .kind .now) (entry .args .capacity .now) (entry .args .first-edge .now) (entry .args .edge-target .now) (entry .args .sink .now)
+      (entry .args .delay .now) (entry .args .criticality .now) (entry .args .timed) (entry .args .from) (entry .args .to) (entry .args .net) (entry .args .turns)
+      (entry .args .begun) (entry .args .history .now) (entry .args .users .now) (entry .args .in-tree .now) (entry .args .log .now)
+  asked = entry .pre (some-of (entry .args .turns) (c .if1 .left))
 
 abbrev Head : Type 0
 Head = tie.At-loop Inv-loop μ-loop
 
-abbrev entry : Head → Entry
-entry c = c .before .before .before .before .before .before .before .before .before .before
+abbrev begun : Head → Some
+begun c = c .before .before .before .before
 
 abbrev Turn : Type 0
 Turn = tie.In-loop Inv-loop μ-loop
 
-module _ (c : Turn) where
-  has-turns : 0 < entry (c .before) .args .turns
-  has-turns = some-turns (entry (c .before) .args .turns) (c .before .loop .left) (λ z. c .before .loop .inv .1 z .0) (c .loop-test .taken)
+abbrev start : Turn → Some
+start c = begun (c .before)
 
-  abbrev begun : Entry
-  begun = entry (c .before)
+-- one is left
+abbrev Left : Type 0
+Left = tie.Else2 Inv-loop μ-loop
 
-  -- the net that is asked for
-  some :
-      SomeNet (begun .args .kind .now) (begun .args .capacity .now) (begun .args .first-edge .now) (begun .args .edge-target .now) (begun .args .net)
-      (begun .args .turns) (begun .args .begun) (begun .args .history .now) (begun .args .users .now) (begun .args .goals .now) (begun .args .in-tree .now)
-      (begun .args .log .now)
-  some = begun .pre has-turns
-
--- a turn is tested
+-- it is tested
 abbrev Tested : Type 0
-Tested = tie.After-follow-turn Inv-loop μ-loop
+Tested = tie.After-follow-tried Inv-loop μ-loop
 
-abbrev turn : Tested → Turn
-turn c = c .before .before
+module _ (c : Tested) where
+  abbrev left : Left
+  left = c .before .before
 
-loop-holds : tie.Need-loop-holds Inv-loop μ-loop
-loop-holds c = (λ sources firstSinks sinks terms p o. follow-start _ o, (λ z. (z, refl, refl)), refl)
+  abbrev turn : Turn
+  turn = left .before
 
-follow-turn-requires : tie.Need-follow-turn-requires Inv-loop μ-loop
-follow-turn-requires c κs =
-    let t : Turn = c .before in
-    let o = some t .opens in
-    follow-ready _ o (t .before .loop .inv .0 _ _ _ _ _ o)
+  abbrev marks : List ℕ
+  marks = c .follow-tried .last .1 .1 .1 .1 .1 .1 .1 .1 .1 .1 .1 .1 .1 .1 .0
 
-same-length : tie.Need-same-length Inv-loop μ-loop
-same-length c =
-    let tested : Tested = c .before .before .before in
-    tested .follow-turn .kept .1 .1 .1 .1 .1 .1 .1 .1 .1 .0 ∙ turn tested .before .loop .inv .2
+  marks-long : length marks ≡ length (entry (start turn) .args .in-tree .now)
+  marks-long = c .follow-tried .kept .1 .1 .1 .1 .1 .1 .1 .1 .1 .1 .1 .1 .1 .1 .0 ∙ turn .before .loop .inv .2
+
+-- and follows
+abbrev Follows : Type 0
+Follows = tie.Else3 Inv-loop μ-loop
+
+abbrev tested : Follows → Tested
+tested c = c .before .before .before
+
+-- ---- the needs
 
 returns : tie.Need-returns Inv-loop μ-loop
-returns c =
-    let tested : Tested = c .before .before .before in
-    let t : Turn = turn tested in (
-      (λ z. absurd (let some = has-turns t in omega arith)),
-      (λ sources firstSinks sinks terms p o.
-          follow-off _ o (t .before .loop .inv .0 _ _ _ _ _ o) (t .loop-test .taken) (tested .follow-turn .ensures .0) (c .if1 .taken)),
+returns c = ((λ z. (refl, refl)), λ sources firstSinks terms p o. absurd (let some = o .some in let none = c .if1 .taken in omega arith))
+
+mul-missing-sink : tie.Need-mul-missing-sink Inv-loop μ-loop
+mul-missing-sink c = let o = asked (c .before) .opens in omega (arith, part-order _ o, part-small _ o)
+
+sub-missing-sink : tie.Need-sub-missing-sink Inv-loop μ-loop
+sub-missing-sink c = part-order _ (asked (c .before) .opens)
+
+part-missing-sink-start : tie.Need-part-missing-sink-start Inv-loop μ-loop
+part-missing-sink-start c = part-order _ (asked (c .before) .opens)
+
+part-missing-sink-end : tie.Need-part-missing-sink-end Inv-loop μ-loop
+part-missing-sink-end c = part-within _ (asked (c .before) .opens)
+
+missing-sink-requires : tie.Need-missing-sink-requires Inv-loop μ-loop
+missing-sink-requires c κs = (part-below _ (asked (c .before .before) .opens) _ refl, zero-le)
+
+loop-holds : tie.Need-loop-holds Inv-loop μ-loop
+loop-holds c = ((λ sources firstSinks terms p o. follow-start _ o), c .missing-sink .ensures, refl)
+
+sub-loop : tie.Need-sub-loop Inv-loop μ-loop
+sub-loop c = part-order _ (asked (begun c) .opens)
+
+same-length : tie.Need-same-length Inv-loop μ-loop
+same-length c = let t : Turn = c .before in t .before .loop .inv .2
+
+returns-2 : tie.Need-returns-2 Inv-loop μ-loop
+returns-2 c =
+    let t : Turn = c .before in
+    let inv = t .before .loop .inv in (
+      (λ z. absurd (start t .if1 .left z)),
+      λ sources firstSinks terms p o. follow-out _ o (inv .0 _ _ _ _ o) (inv .1) (t .loop-test .taken) (c .if2 .taken),
+    )
+
+follow-tried-requires : tie.Need-follow-tried-requires Inv-loop μ-loop
+follow-tried-requires c κs =
+    let t : Turn = c .before .before in
+    let o = asked (start t) .opens in
+    follow-ready _ o (t .before .loop .inv .0 _ _ _ _ o)
+
+same-length-2 : tie.Need-same-length-2 Inv-loop μ-loop
+same-length-2 c = marks-long (c .before .before .before)
+
+returns-3 : tie.Need-returns-3 Inv-loop μ-loop
+returns-3 c =
+    let f : Tested = c .before .before .before in
+    let t : Turn = turn f in
+    let inv = t .before .loop .inv in (
+      (λ z. absurd (start t .if1 .left z)),
+      λ sources firstSinks terms p o.
+          follow-off _ o (inv .0 _ _ _ _ o) (inv .1) (t .loop-test .taken) (left f .if2 .left) (f .follow-tried .ensures .0) (c .if3 .taken),
     )
 
 turn-logged-requires : tie.Need-turn-logged-requires Inv-loop μ-loop
 turn-logged-requires c κs =
-    let tested : Tested = c .before .before .before in
-    let t : Turn = turn tested in
-    let o = some t .opens in
-    let short : length (begun t .args .log .now) < 2 ^ 64 = omega (arith, begun t .good .1 .1 .1 .1 .1 .1 .1 .1 .1 .1 .1 .0 .1) in
-    follow-room _ o (t .before .loop .inv .0 _ _ _ _ _ o) (t .loop-test .taken) (tested .follow-turn .ensures .0) (c .if1 .left) short
+    let f : Tested = tested c in
+    let t : Turn = turn f in
+    let inv = t .before .loop .inv in
+    let o = asked (start t) .opens in
+    let short : length (entry (start t) .args .log .now) < 2 ^ 64 = omega (arith, entry (start t) .good .1 .1 .1 .1 .1 .1 .1 .1 .1 .1 .1 .1 .1 .1 .1 .1 .0 .1) in
+    follow-room _ o (inv .0 _ _ _ _ o) (inv .1) (t .loop-test .taken) (left f .if2 .left) (f .follow-tried .ensures .0) (c .if3 .left) short
 
 sub-left : tie.Need-sub-left Inv-loop μ-loop
-sub-left c = turn (c .before .before .before .before) .loop-test .taken
+sub-left c = some-of _ (left (tested (c .before)) .if2 .left)
+
+mul-missing-sink-2 : tie.Need-mul-missing-sink-2 Inv-loop μ-loop
+mul-missing-sink-2 c = let o = asked (start (turn (tested (c .before .before)))) .opens in omega (arith, part-order _ o, part-small _ o)
+
+sub-missing-sink-2 : tie.Need-sub-missing-sink-2 Inv-loop μ-loop
+sub-missing-sink-2 c = part-order _ (asked (start (turn (tested (c .before .before)))) .opens)
+
+part-missing-sink-start-2 : tie.Need-part-missing-sink-start-2 Inv-loop μ-loop
+part-missing-sink-start-2 c = part-order _ (asked (start (turn (tested (c .before .before)))) .opens)
+
+part-missing-sink-end-2 : tie.Need-part-missing-sink-end-2 Inv-loop μ-loop
+part-missing-sink-end-2 c = part-within _ (asked (start (turn (tested (c .before .before)))) .opens)
+
+missing-sink-requires-2 : tie.Need-missing-sink-requires-2 Inv-loop μ-loop
+missing-sink-requires-2 c κs =
+    let f : Tested = tested (c .before .before .before) in
+    (part-below _ (asked (start (turn f)) .opens) _ (marks-long f), turn f .before .loop .inv .1 .within)
 
 loop-less : tie.Need-loop-less Inv-loop μ-loop
-loop-less c = let h = turn (c .before .before .before .before) .loop-test .taken in omega arith
+loop-less c = let some = some-of _ (left (tested (c .before .before .before .before)) .if2 .left) in omega arith
 
 loop-again : tie.Need-loop-again Inv-loop μ-loop
 loop-again c =
-    let tested : Tested = c .before .before .before .before in
-    let t : Turn = turn tested in
+    let logged = c .before .before .before in
+    let e : Follows = logged .before in
+    let f : Tested = tested e in
+    let t : Turn = turn f in
     let inv = t .before .loop .inv in (
-      (λ sources firstSinks sinks terms p o.
-          follow-more _ o (inv .0 _ _ _ _ _ o) (t .loop-test .taken) (tested .follow-turn .ensures .0) (c .before .if1 .left)
-          (tested .follow-turn .ensures .1 (c .before .if1 .left)) (c .turn-logged .ensures)),
-      (λ z. absurd (let some = has-turns t in omega arith)),
-      tested .follow-turn .kept .1 .1 .1 .1 .1 .1 .1 .1 .1 .0 ∙ inv .2,
+      (λ sources firstSinks terms p o.
+          follow-more _ o (inv .0 _ _ _ _ o) (inv .1) (t .loop-test .taken) (left f .if2 .left) (f .follow-tried .ensures .0) (e .if3 .left)
+          (f .follow-tried .ensures .1 (e .if3 .left)) (logged .turn-logged .ensures)),
+      missing-more (inv .1) (f .follow-tried .ensures .1 (e .if3 .left)) (c .missing-sink2 .ensures),
+      marks-long f,
     )
 
-same-length-2 : tie.Need-same-length-2 Inv-loop μ-loop
-same-length-2 c = c .before .loop .inv .2
+same-length-3 : tie.Need-same-length-3 Inv-loop μ-loop
+same-length-3 c = c .before .loop .inv .2
 
-returns-2 : tie.Need-returns-2 Inv-loop μ-loop
-returns-2 c =
+returns-4 : tie.Need-returns-4 Inv-loop μ-loop
+returns-4 c =
     let inv = c .before .loop .inv in (
-      (λ z. (ap On (inv .1 z .1), inv .1 z .2)),
-      (λ sources firstSinks sinks terms p o. follow-on _ o (inv .0 _ _ _ _ _ o) (c .loop-test .left)),
+      (λ z. absurd (begun (c .before) .if1 .left z)),
+      λ sources firstSinks terms p o. follow-on _ o (inv .0 _ _ _ _ o) (inv .1) (c .loop-test .left),
     )
 
 pub follow-net-spec : {M : Type 1} → statement M
@@ -124,13 +203,27 @@ follow-net-spec =
     (tie.spec
     Inv-loop
     μ-loop
-    loop-holds
-    follow-turn-requires
-    same-length
     returns
+    mul-missing-sink
+    sub-missing-sink
+    part-missing-sink-start
+    part-missing-sink-end
+    missing-sink-requires
+    loop-holds
+    sub-loop
+    same-length
+    returns-2
+    follow-tried-requires
+    same-length-2
+    returns-3
     turn-logged-requires
     sub-left
+    mul-missing-sink-2
+    sub-missing-sink-2
+    part-missing-sink-start-2
+    part-missing-sink-end-2
+    missing-sink-requires-2
     loop-less
     loop-again
-    same-length-2
-    returns-2)
+    same-length-3
+    returns-4)

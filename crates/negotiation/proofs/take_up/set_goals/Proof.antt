@@ -1,4 +1,4 @@
--- `negotiation::take_up::set_goals` meets its contract. The loop's invariant: the entries at the sinks passed hold the mark, the others are as before.
+-- `negotiation::take_up::set_goals` meets its contract. The loop's invariant: the entries at the sinks passed are 1, the others are as before.
 -- Assumes nothing.
 use Prim.Native.Nat.{_-_}
 use native.Mathlib.Omega.{arith}
@@ -10,10 +10,10 @@ use Rattle.negotiation.proofs.take_up.set_goals.Statement.{statement}
 use Rattle.negotiation.proofs.take_up.set_goals.Tie as tie
 
 abbrev Inv-loop : tie.InvT-loop
-Inv-loop sinks mark goals₀ k₀ goals k = Stored mark (take k sinks) goals₀ goals
+Inv-loop sinks goals₀ k₀ goals k = Stored 1 (take k sinks) goals₀ goals
 
 abbrev μ-loop : tie.MeasureT-loop
-μ-loop sinks mark goals₀ k₀ goals k = length sinks - k
+μ-loop sinks goals₀ k₀ goals k = length sinks - k
 
 loop-holds : tie.Need-loop-holds Inv-loop μ-loop
 loop-holds c = stored-none _ _

@@ -24,11 +24,11 @@ use Rattle.negotiation.proofs.take_up.take_up.Statement.{statement}
 use Rattle.negotiation.proofs.take_up.take_up.Tie as tie
 
 abbrev Inv-loop : tie.InvT-loop
-Inv-loop kind capacity first-edge edge-target source first-sink sink terms history₀ users₀ in-tree₀ tree-from₀ tree-to₀ due₀ log tariff₀ more₀ history users in-tree tree-from tree-to due tariff more =
-    Taking (jobOf kind capacity first-edge edge-target source first-sink sink terms) more tariff history users in-tree tree-from tree-to due log
+Inv-loop kind capacity first-edge edge-target source first-sink sink delay criticality terms history₀ users₀ in-tree₀ tree-from₀ tree-to₀ due₀ log tariff₀ more₀ history users in-tree tree-from tree-to due tariff more =
+    Taking (jobOf kind capacity first-edge edge-target source first-sink sink delay criticality terms) more tariff history users in-tree tree-from tree-to due log
 
 abbrev μ-loop : tie.MeasureT-loop
-μ-loop kind capacity first-edge edge-target source first-sink sink terms history₀ users₀ in-tree₀ tree-from₀ tree-to₀ due₀ log tariff₀ more₀ history users in-tree tree-from tree-to due tariff more =
+μ-loop kind capacity first-edge edge-target source first-sink sink delay criticality terms history₀ users₀ in-tree₀ tree-from₀ tree-to₀ due₀ log tariff₀ more₀ history users in-tree tree-from tree-to due tariff more =
     terms .limit - tariff .iteration
 
 -- ---- the entry and the loop's head
@@ -40,10 +40,10 @@ module _ (e : Entry) where
   abbrev job : Job
   job =
       jobOf (e .args .kind .now) (e .args .capacity .now) (e .args .first-edge .now) (e .args .edge-target .now) (e .args .source .now) (e .args .first-sink .now)
-      (e .args .sink .now) (e .args .terms)
+      (e .args .sink .now) (e .args .delay .now) (e .args .criticality .now) (e .args .terms)
 
   routable : Routable job
-  routable = e .pre .0 .0
+  routable = e .pre .0
 
   few-nodes : nodes job ≤ 4096
   few-nodes = kinds-few _ (routable .block-sound .kinds-sound)
@@ -61,7 +61,7 @@ Head = tie.At-loop Inv-loop μ-loop
 
 module _ (c : Head) where
   abbrev entry : Entry
-  entry = c .before .before .before .before .before .before .before .before .before .before .before .before .before .before .before
+  entry = c .before .before .before .before .before .before .before .before .before .before .before .before .before .before .before .before .before
 
   -- the lists keep their lengths
   long :
@@ -96,7 +96,7 @@ module _ (c : Marked) where
       NetsOpen (job (start marked-in)) (marked-in .before .loop .inv .progress) (marked-in .before .loop .tariff) (marked-in .before .loop .history)
       (marked-in .before .loop .users) (marked-in .before .loop .in-tree) (marked-in .before .loop .tree-from) (marked-in .before .loop .tree-to) dues
       (start marked-in .args .log .now)
-  opened = nets-open _ (routable (start marked-in)) (marked-in .before .loop .inv) (start marked-in .pre .0 .1) (c .mark-due .ensures)
+  opened = nets-open _ (routable (start marked-in)) (marked-in .before .loop .inv) (c .mark-due .ensures)
 
 -- they are followed
 abbrev Followed : Type 0
@@ -110,33 +110,33 @@ module _ (c : Followed) where
   iteration = marked-in marked
 
   abbrev users : List ℕ
-  users = c .follow-nets .last .1 .1 .1 .1 .1 .1 .1 .1 .1 .0
+  users = c .follow-nets .last .1 .1 .1 .1 .1 .1 .1 .1 .1 .1 .1 .1 .0
 
   abbrev marks : List ℕ
-  marks = c .follow-nets .last .1 .1 .1 .1 .1 .1 .1 .1 .1 .1 .0
+  marks = c .follow-nets .last .1 .1 .1 .1 .1 .1 .1 .1 .1 .1 .1 .1 .1 .0
 
   abbrev from : List ℕ
-  from = c .follow-nets .last .1 .1 .1 .1 .1 .1 .1 .1 .1 .1 .1 .0
+  from = c .follow-nets .last .1 .1 .1 .1 .1 .1 .1 .1 .1 .1 .1 .1 .1 .1 .0
 
   abbrev to : List ℕ
-  to = c .follow-nets .last .1 .1 .1 .1 .1 .1 .1 .1 .1 .1 .1 .1 .0
+  to = c .follow-nets .last .1 .1 .1 .1 .1 .1 .1 .1 .1 .1 .1 .1 .1 .1 .1 .0
 
   came :
       NetsTaken (c .follow-nets .result) (job (start iteration)) (iteration .before .loop .inv .progress) (iteration .before .loop .history) users marks from to
       (start iteration .args .log .now)
-  came = c .follow-nets .ensures _ _ (opened marked)
+  came = c .follow-nets .ensures _ _ refl (opened marked)
 
   same-users : length users ≡ length (start iteration .args .users .now)
-  same-users = c .follow-nets .kept .1 .1 .1 .1 .1 .1 .1 .1 .1 .0 ∙ long (iteration .before) .1
+  same-users = c .follow-nets .kept .1 .1 .1 .1 .1 .1 .1 .1 .1 .1 .1 .1 .0 ∙ long (iteration .before) .1
 
   same-marks : length marks ≡ length (start iteration .args .in-tree .now)
-  same-marks = c .follow-nets .kept .1 .1 .1 .1 .1 .1 .1 .1 .1 .1 .0 ∙ long (iteration .before) .2
+  same-marks = c .follow-nets .kept .1 .1 .1 .1 .1 .1 .1 .1 .1 .1 .1 .1 .1 .0 ∙ long (iteration .before) .2
 
   same-from : length from ≡ length (start iteration .args .tree-from .now)
-  same-from = c .follow-nets .kept .1 .1 .1 .1 .1 .1 .1 .1 .1 .1 .1 .0 ∙ long (iteration .before) .3
+  same-from = c .follow-nets .kept .1 .1 .1 .1 .1 .1 .1 .1 .1 .1 .1 .1 .1 .1 .0 ∙ long (iteration .before) .3
 
   same-to : length to ≡ length (start iteration .args .tree-to .now)
-  same-to = c .follow-nets .kept .1 .1 .1 .1 .1 .1 .1 .1 .1 .1 .1 .1 .0 ∙ long (iteration .before) .4
+  same-to = c .follow-nets .kept .1 .1 .1 .1 .1 .1 .1 .1 .1 .1 .1 .1 .1 .1 .1 .0 ∙ long (iteration .before) .4
 
   same-due : length (dues marked) ≡ length (start iteration .args .due .now)
   same-due = marked .mark-due .kept .1 .1 .1 .1 .1 .1 .1 .1 .0 ∙ long (iteration .before) .5
@@ -215,13 +215,13 @@ started-is c = c .iteration-started .ensures ∙ ap startedTariff (c .before .it
 -- ---- the needs
 
 loop-holds : tie.Need-loop-holds Inv-loop μ-loop
-loop-holds c = begins (c .before .before .before .before .before .before .before .before .before .before .before .before .before .before)
+loop-holds c = begins (c .before .before .before .before .before .before .before .before .before .before .before .before .before .before .before .before)
 
 mark-due-requires : tie.Need-mark-due-requires Inv-loop μ-loop
 mark-due-requires c κs = let t : Iteration = c .before .before .before .before in due-asks _ (routable (start t)) (t .before .loop .inv)
 
 follow-nets-requires : tie.Need-follow-nets-requires Inv-loop μ-loop
-follow-nets-requires c κs = let m : Marked = c .before .before .before .before .before .before .before .before in record { terms = _; progress = _; open-so = opened m }
+follow-nets-requires c κs = let m : Marked = c .before .before .before .before .before .before .before .before in record { terms = _; timed-is = refl; progress = _; open-so = opened m }
 
 enum-known-taken : tie.Need-enum-known-taken Inv-loop μ-loop
 enum-known-taken c = c .match .keys1

@@ -9,10 +9,10 @@ use Prim.Native.Nat.{ℕ, _+_, _-_, _*_, _≤_, _<_}
 use native.Mathlib.Nat.{le-of-eq, le-trans}
 use native.Mathlib.Omega.{arith}
 use lib.Dec.{ltb}
-use lib.ListN.{length, getD, take, drop}
+use lib.ListN.{length, getD}
 use Rattle.price.specs.Lists.{countBelow}
 use Rattle.search.proofs.BlockLaws.{kinds-few, capacities-long}
-use Rattle.job.specs.Job.{Job, jobOf, nodes, netSinks}
+use Rattle.job.specs.Job.{Job, jobOf, nodes}
 use Rattle.negotiation.specs.Routable.{Routable}
 use Rattle.negotiation.specs.Machine.{Progress}
 use Rattle.negotiation.specs.Kept.{Ready}
@@ -22,7 +22,7 @@ use Rattle.negotiation.proofs.DemandLaws.{all-reached}
 use Rattle.negotiation.proofs.KeepLaws.{AtIteration, AtNet, AtTurns}
 use Rattle.negotiation.proofs.KeepProgress.{due-ready, overUsed}
 use Rattle.negotiation.proofs.KeepStart.{keep-start, keep-due, keep-ready, keep-begun}
-use Rattle.negotiation.proofs.KeepTurn.{sinks-part, call-turn, after-nothing, after-logged}
+use Rattle.negotiation.proofs.KeepTurn.{Lent, lent-tables, call-aim, call-turn, after-nothing, after-logged}
 use Rattle.negotiation.proofs.KeepNet.{keep-end-ready, keep-ended}
 use Rattle.negotiation.proofs.KeepEnd.{after-full, all-routed, keep-accepted, keep-limit, keep-growable, keep-below, keep-next}
 use Rattle.negotiation.proofs.KeepLengths.{Long, net-long, turn-long, start-long}
@@ -30,33 +30,33 @@ use Rattle.negotiation.proofs.turns.go_on.Statement.{statement}
 use Rattle.negotiation.proofs.turns.go_on.Tie as tie
 
 abbrev Inv-loop2 : tie.InvT-loop2
-Inv-loop2 kind capacity first-edge edge-target source first-sink sink terms history users in-tree₀ tree-from tree-to due work₀ log₀ n tariff₀ net from to first left₀ in-tree work log tariff left =
+Inv-loop2 kind capacity first-edge edge-target source first-sink sink delay criticality terms history users in-tree₀ tree-from tree-to due work₀ log₀ n tariff₀ net from to first left₀ in-tree work log tariff left =
     (p : Progress) (W L : List ℕ) (m : ℕ) → 8 * length kind ≤ length W
-    → AtTurns (jobOf kind capacity first-edge edge-target source first-sink sink terms) p W L m net left₀ tariff₀ history users in-tree₀ tree-from tree-to due work₀ log₀ first
-    → AtTurns (jobOf kind capacity first-edge edge-target source first-sink sink terms) p W L m net left tariff history users in-tree tree-from tree-to due work log first
+    → AtTurns (jobOf kind capacity first-edge edge-target source first-sink sink delay criticality terms) p W L m net left₀ tariff₀ history users in-tree₀ tree-from tree-to due work₀ log₀ first
+    → AtTurns (jobOf kind capacity first-edge edge-target source first-sink sink delay criticality terms) p W L m net left tariff history users in-tree tree-from tree-to due work log first
 
 abbrev μ-loop2 : tie.MeasureT-loop2
-μ-loop2 kind capacity first-edge edge-target source first-sink sink terms history users in-tree₀ tree-from tree-to due work₀ log₀ n tariff₀ net from to first left₀ in-tree work log tariff left =
+μ-loop2 kind capacity first-edge edge-target source first-sink sink delay criticality terms history users in-tree₀ tree-from tree-to due work₀ log₀ n tariff₀ net from to first left₀ in-tree work log tariff left =
     left
 
 abbrev Inv-loop : tie.InvT-loop
-Inv-loop kind capacity first-edge edge-target source first-sink sink terms history users₀ in-tree₀ tree-from₀ tree-to₀ due work₀ log₀ n tariff₀ net₀ users in-tree tree-from tree-to work log tariff net =
+Inv-loop kind capacity first-edge edge-target source first-sink sink delay criticality terms history users₀ in-tree₀ tree-from₀ tree-to₀ due work₀ log₀ n tariff₀ net₀ users in-tree tree-from tree-to work log tariff net =
     (p : Progress) (W L : List ℕ) (m : ℕ) → 8 * length kind ≤ length W
-    → AtNet (jobOf kind capacity first-edge edge-target source first-sink sink terms) p W L m 0 tariff₀ history users₀ in-tree₀ tree-from₀ tree-to₀ due work₀ log₀
-    → AtNet (jobOf kind capacity first-edge edge-target source first-sink sink terms) p W L m net tariff history users in-tree tree-from tree-to due work log
+    → AtNet (jobOf kind capacity first-edge edge-target source first-sink sink delay criticality terms) p W L m 0 tariff₀ history users₀ in-tree₀ tree-from₀ tree-to₀ due work₀ log₀
+    → AtNet (jobOf kind capacity first-edge edge-target source first-sink sink delay criticality terms) p W L m net tariff history users in-tree tree-from tree-to due work log
 
 abbrev μ-loop : tie.MeasureT-loop
-μ-loop kind capacity first-edge edge-target source first-sink sink terms history users₀ in-tree₀ tree-from₀ tree-to₀ due work₀ log₀ n tariff₀ net₀ users in-tree tree-from tree-to work log tariff net =
+μ-loop kind capacity first-edge edge-target source first-sink sink delay criticality terms history users₀ in-tree₀ tree-from₀ tree-to₀ due work₀ log₀ n tariff₀ net₀ users in-tree tree-from tree-to work log tariff net =
     length source - net
 
 abbrev Inv-iterations : tie.InvT-iterations
-Inv-iterations kind capacity first-edge edge-target source first-sink sink terms history₀ users₀ in-tree₀ tree-from₀ tree-to₀ due₀ work₀ log₀ n tariff₀ history users in-tree tree-from tree-to due work log tariff =
+Inv-iterations kind capacity first-edge edge-target source first-sink sink delay criticality terms history₀ users₀ in-tree₀ tree-from₀ tree-to₀ due₀ work₀ log₀ n tariff₀ history users in-tree tree-from tree-to due work log tariff =
     (p : Progress)
-    → Ready (jobOf kind capacity first-edge edge-target source first-sink sink terms) p tariff₀ history₀ users₀ in-tree₀ tree-from₀ tree-to₀ due₀ log₀
-    → (m : ℕ) × AtIteration (jobOf kind capacity first-edge edge-target source first-sink sink terms) p work₀ log₀ m tariff history users in-tree tree-from tree-to due work log
+    → Ready (jobOf kind capacity first-edge edge-target source first-sink sink delay criticality terms) p tariff₀ history₀ users₀ in-tree₀ tree-from₀ tree-to₀ due₀ log₀
+    → (m : ℕ) × AtIteration (jobOf kind capacity first-edge edge-target source first-sink sink delay criticality terms) p work₀ log₀ m tariff history users in-tree tree-from tree-to due work log
 
 abbrev μ-iterations : tie.MeasureT-iterations
-μ-iterations kind capacity first-edge edge-target source first-sink sink terms history₀ users₀ in-tree₀ tree-from₀ tree-to₀ due₀ work₀ log₀ n tariff₀ history users in-tree tree-from tree-to due work log tariff =
+μ-iterations kind capacity first-edge edge-target source first-sink sink delay criticality terms history₀ users₀ in-tree₀ tree-from₀ tree-to₀ due₀ work₀ log₀ n tariff₀ history users in-tree tree-from tree-to due work log tariff =
     terms .limit - tariff .iteration
 
 -- ---- the entry and the loops' heads
@@ -68,7 +68,7 @@ module _ (e : Entry) where
   abbrev job : Job
   job =
       jobOf (e .args .kind .now) (e .args .capacity .now) (e .args .first-edge .now) (e .args .edge-target .now) (e .args .source .now) (e .args .first-sink .now)
-      (e .args .sink .now) (e .args .terms)
+      (e .args .sink .now) (e .args .delay .now) (e .args .criticality .now) (e .args .terms)
 
   routable : Routable job
   routable = e .pre .0 .0
@@ -104,7 +104,7 @@ abbrev Iteration : Type 0
 Iteration = tie.At-iterations Inv-loop2 μ-loop2 Inv-loop μ-loop Inv-iterations μ-iterations
 
 abbrev entry : Iteration → Entry
-entry c = c .before .before .before .before .before .before .before .before .before .before .before .before .before .before .before .before
+entry c = c .before .before .before .before .before .before .before .before .before .before .before .before .before .before .before .before .before .before
 
 abbrev Net : Type 0
 Net = tie.At-loop Inv-loop2 μ-loop2 Inv-loop μ-loop Inv-iterations μ-iterations
@@ -189,11 +189,9 @@ module _ (c : Turn) where
   net-below : net c .loop .net < length (turn-entry .args .source .now)
   net-below = c .before .before .before .before .before .before .before .before .before .before .before .before .before .before .loop-test .taken
 
-  -- the part of table 7 that the turn is lent
-  own-sinks :
-      take (getD (job turn-entry .firstSinks) (net c .loop .net + 1) 0 - getD (job turn-entry .firstSinks) (net c .loop .net) 0)
-      (drop (getD (job turn-entry .firstSinks) (net c .loop .net) 0) (job turn-entry .sinks)) ≡ netSinks (job turn-entry) (net c .loop .net)
-  own-sinks = sinks-part (job turn-entry) (net c .loop .net)
+  -- tables 9 and 10
+  tables : Lent (job turn-entry) (turn-entry .args .delay .now) (turn-entry .args .criticality .now)
+  tables = lent-tables _ _ _ _ _ _ _ _ _ _
 
 -- past the last net
 module _ (c : tie.After-loop Inv-loop2 μ-loop2 Inv-loop μ-loop Inv-iterations μ-iterations) where
@@ -250,7 +248,7 @@ shared-slice-read-from c = let l = routable (net-entry (c .before .before)) .fir
 
 cast-from :
     tie.Need-cast-from Inv-loop2 μ-loop2 Inv-loop μ-loop Inv-iterations μ-iterations
-cast-from c = omega (arith, c .shared-slice-known8 .given (c .before .before .loop .net))
+cast-from c = omega (arith, c .shared-slice-known10 .given (c .before .before .loop .net))
 
 add-to :
     tie.Need-add-to Inv-loop2 μ-loop2 Inv-loop μ-loop Inv-iterations μ-iterations
@@ -266,7 +264,7 @@ shared-slice-read-to c = let l = routable (net-entry (c .before .before .before)
 
 cast-to :
     tie.Need-cast-to Inv-loop2 μ-loop2 Inv-loop μ-loop Inv-iterations μ-iterations
-cast-to c = omega (arith, c .shared-slice-known9 .given (c .before .before .before .loop .net + 1))
+cast-to c = omega (arith, c .shared-slice-known11 .given (c .before .before .before .loop .net + 1))
 
 begin-net-requires :
     tie.Need-begin-net-requires Inv-loop2 μ-loop2 Inv-loop μ-loop Inv-iterations μ-iterations
@@ -278,49 +276,22 @@ loop2-holds :
     tie.Need-loop2-holds Inv-loop2 μ-loop2 Inv-loop μ-loop Inv-iterations μ-iterations
 loop2-holds c = λ p W L m e at. at
 
-mul-one-turn :
-    tie.Need-mul-one-turn Inv-loop2 μ-loop2 Inv-loop μ-loop Inv-iterations μ-iterations
-mul-one-turn c =
+cast-net-turn :
+    tie.Need-cast-net-turn Inv-loop2 μ-loop2 Inv-loop μ-loop Inv-iterations μ-iterations
+cast-net-turn c =
     let at : Turn = c .before in
-    let o = routable (turn-entry at) .sinks-order (net at .loop .net) (net-below at) in
-    let k = net-below at in
-    let h = routable (turn-entry at) .sinks-end (net at .loop .net + 1) (omega arith) in
-    let f = routable (turn-entry at) .sinks-few in
-    omega arith
-
-sub-one-turn :
-    tie.Need-sub-one-turn Inv-loop2 μ-loop2 Inv-loop μ-loop Inv-iterations μ-iterations
-sub-one-turn c =
-    let at : Turn = c .before in
-    let h = routable (turn-entry at) .sinks-order (net at .loop .net) (net-below at) in
-    omega arith
-
-part-one-turn-start :
-    tie.Need-part-one-turn-start Inv-loop2 μ-loop2 Inv-loop μ-loop Inv-iterations μ-iterations
-part-one-turn-start c =
-    let at : Turn = c .before in
-    let h = routable (turn-entry at) .sinks-order (net at .loop .net) (net-below at) in
-    omega arith
-
-part-one-turn-end :
-    tie.Need-part-one-turn-end Inv-loop2 μ-loop2 Inv-loop μ-loop Inv-iterations μ-iterations
-part-one-turn-end c =
-    let at : Turn = c .before in
-    routable (turn-entry at) .sinks-end (net at .loop .net + 1) (let h = net-below at in omega arith)
-
-cast-one-turn :
-    tie.Need-cast-one-turn Inv-loop2 μ-loop2 Inv-loop μ-loop Inv-iterations μ-iterations
-cast-one-turn c =
-    let at : Turn = c .before .before in
     let f = routable (turn-entry at) .nets-few in
     let h = net-below at in
     omega arith
 
-one-turn-requires :
-    tie.Need-one-turn-requires Inv-loop2 μ-loop2 Inv-loop μ-loop Inv-iterations μ-iterations
-one-turn-requires c κs =
-    let at : Turn = c .before .before .before .before .before .before .before in
-    call-turn _ (routable (turn-entry at)) (enough (turn-entry at)) (turn-safe at) (c .before .before .before .before .before .before .loop2-test .taken) _ (own-sinks at)
+net-turn-requires :
+    tie.Need-net-turn-requires Inv-loop2 μ-loop2 Inv-loop μ-loop Inv-iterations μ-iterations
+net-turn-requires c κs =
+    let at : Turn = c .before .before .before .before .before .before in
+    let some = c .before .before .before .before .before .loop2-test .taken in (
+      call-aim _ (routable (turn-entry at)) (enough (turn-entry at)) (turn-safe at) some (tables at),
+      call-turn _ (routable (turn-entry at)) (enough (turn-entry at)) (turn-safe at) some (tables at),
+    )
 
 enum-told :
     tie.Need-enum-told Inv-loop2 μ-loop2 Inv-loop μ-loop Inv-iterations μ-iterations
@@ -336,23 +307,23 @@ enum-known-t c = c .match .keys3
 
 sub-left :
     tie.Need-sub-left Inv-loop2 μ-loop2 Inv-loop μ-loop Inv-iterations μ-iterations
-sub-left c = c .before .before .before .before .before .before .before .before .before .before .before .before .before .before .loop2-test .taken
+sub-left c = c .before .before .before .before .before .before .before .before .before .before .before .before .before .loop2-test .taken
 
 loop2-less :
     tie.Need-loop2-less Inv-loop2 μ-loop2 Inv-loop μ-loop Inv-iterations μ-iterations
-loop2-less c = let h = c .before .before .before .before .before .before .before .before .before .before .before .before .before .before .loop2-test .taken in omega arith
+loop2-less c = let h = c .before .before .before .before .before .before .before .before .before .before .before .before .before .loop2-test .taken in omega arith
 
 loop2-again :
     tie.Need-loop2-again Inv-loop2 μ-loop2 Inv-loop μ-loop Inv-iterations μ-iterations
 loop2-again c = λ p W L m e o.
-    let at : Turn = c .before .before .before .before .before .before .before .before .before .before .before .before .before .before .before in
+    let at : Turn = c .before .before .before .before .before .before .before .before .before .before .before .before .before .before in
     ⊎-elim
     (λ w.
-    after-nothing _ (routable (turn-entry at)) e (at .loop2 .inv p W L m e o) (c .before .before .before .before .before .before .before .before .before .before .before .before .before .before .loop2-test .taken) _ (own-sinks at) _ _ _
-    (c .before .before .before .before .before .before .before .one-turn .ensures .1) _ (c .before .before .before .before .before .before .before .one-turn .ensures .0) (w .1 .given .1) _ (w .2))
+    after-nothing _ (routable (turn-entry at)) e (at .loop2 .inv p W L m e o) (c .before .before .before .before .before .before .before .before .before .before .before .before .before .loop2-test .taken) (tables at) _ _ _
+    (c .before .before .before .before .before .before .before .net-turn .ensures .1) _ (c .before .before .before .before .before .before .before .net-turn .ensures .0) (w .1 .given .1) _ (w .2))
     (λ w.
-    after-logged _ (routable (turn-entry at)) e (at .loop2 .inv p W L m e o) (c .before .before .before .before .before .before .before .before .before .before .before .before .before .before .loop2-test .taken) _ (own-sinks at) _ _ _
-    (c .before .before .before .before .before .before .before .one-turn .ensures .1) _ (c .before .before .before .before .before .before .before .one-turn .ensures .0) _ (w .1 .given .1) _ (w .3))
+    after-logged _ (routable (turn-entry at)) e (at .loop2 .inv p W L m e o) (c .before .before .before .before .before .before .before .before .before .before .before .before .before .loop2-test .taken) (tables at) _ _ _
+    (c .before .before .before .before .before .before .before .net-turn .ensures .1) _ (c .before .before .before .before .before .before .before .net-turn .ensures .0) _ (w .1 .given .1) _ (w .3))
     (c .match .came)
 
 end-net-requires :
@@ -570,14 +541,14 @@ iterations-again c =
 
 mul-clear-3 :
     tie.Need-mul-clear-3 Inv-loop2 μ-loop2 Inv-loop μ-loop Inv-iterations μ-iterations
-mul-clear-3 c = let f = few-nodes (turn-entry (c .before .before .before .before .before .before .before .before .before .before .before .before .before .before .before .before .before)) in omega arith
+mul-clear-3 c = let f = few-nodes (turn-entry (c .before .before .before .before .before .before .before .before .before .before .before .before .before .before .before .before)) in omega arith
 
 clear-requires-3 :
     tie.Need-clear-requires-3 Inv-loop2 μ-loop2 Inv-loop μ-loop Inv-iterations μ-iterations
 clear-requires-3 c κs =
-    let at : Turn = c .before .before .before .before .before .before .before .before .before .before .before .before .before .before .before .before .before in
+    let at : Turn = c .before .before .before .before .before .before .before .before .before .before .before .before .before .before .before .before in
     let e = enough (turn-entry at) in
-    let a = c .before .before .before .before .before .before .before .before .before .one-turn .ensures .1 .long in
+    let a = c .before .before .before .before .before .before .before .before .before .net-turn .ensures .1 .long in
     let l = turn-lengths at .work-long in
     omega arith
 
@@ -588,59 +559,59 @@ answer-requires-3 c κs = tt
 same-length-17 :
     tie.Need-same-length-17 Inv-loop2 μ-loop2 Inv-loop μ-loop Inv-iterations μ-iterations
 same-length-17 c =
-    let at : Turn = c .before .before .before .before .before .before .before .before .before .before .before .before .before .before .before .before .before .before .before .before .before in
+    let at : Turn = c .before .before .before .before .before .before .before .before .before .before .before .before .before .before .before .before .before .before .before .before in
     turn-lengths at .history-long ∙ sym (entry-long (turn-entry at) .history-long)
 
 same-length-18 :
     tie.Need-same-length-18 Inv-loop2 μ-loop2 Inv-loop μ-loop Inv-iterations μ-iterations
 same-length-18 c =
-    let at : Turn = c .before .before .before .before .before .before .before .before .before .before .before .before .before .before .before .before .before .before .before .before .before in
+    let at : Turn = c .before .before .before .before .before .before .before .before .before .before .before .before .before .before .before .before .before .before .before .before in
     turn-lengths at .users-long ∙ sym (entry-long (turn-entry at) .users-long)
 
 same-length-19 :
     tie.Need-same-length-19 Inv-loop2 μ-loop2 Inv-loop μ-loop Inv-iterations μ-iterations
 same-length-19 c =
-    let at : Turn = c .before .before .before .before .before .before .before .before .before .before .before .before .before .before .before .before .before .before .before .before .before in
-    c .before .before .before .before .before .before .before .before .before .before .before .before .before .one-turn .kept .1 .1 .1 .1 .1 .1 .1 .1 .1 .1 .1 .0 ∙ turn-lengths at .marks-long ∙ sym (entry-long (turn-entry at) .marks-long)
+    let at : Turn = c .before .before .before .before .before .before .before .before .before .before .before .before .before .before .before .before .before .before .before .before in
+    c .before .before .before .before .before .before .before .before .before .before .before .before .before .net-turn .kept .1 .1 .1 .1 .1 .1 .1 .1 .1 .1 .1 .1 .1 .1 .1 .1 .0 ∙ turn-lengths at .marks-long ∙ sym (entry-long (turn-entry at) .marks-long)
 
 same-length-20 :
     tie.Need-same-length-20 Inv-loop2 μ-loop2 Inv-loop μ-loop Inv-iterations μ-iterations
 same-length-20 c =
-    let at : Turn = c .before .before .before .before .before .before .before .before .before .before .before .before .before .before .before .before .before .before .before .before .before in
+    let at : Turn = c .before .before .before .before .before .before .before .before .before .before .before .before .before .before .before .before .before .before .before .before in
     turn-lengths at .from-long ∙ sym (entry-long (turn-entry at) .from-long)
 
 same-length-21 :
     tie.Need-same-length-21 Inv-loop2 μ-loop2 Inv-loop μ-loop Inv-iterations μ-iterations
 same-length-21 c =
-    let at : Turn = c .before .before .before .before .before .before .before .before .before .before .before .before .before .before .before .before .before .before .before .before .before in
+    let at : Turn = c .before .before .before .before .before .before .before .before .before .before .before .before .before .before .before .before .before .before .before .before in
     turn-lengths at .to-long ∙ sym (entry-long (turn-entry at) .to-long)
 
 same-length-22 :
     tie.Need-same-length-22 Inv-loop2 μ-loop2 Inv-loop μ-loop Inv-iterations μ-iterations
 same-length-22 c =
-    let at : Turn = c .before .before .before .before .before .before .before .before .before .before .before .before .before .before .before .before .before .before .before .before .before in
+    let at : Turn = c .before .before .before .before .before .before .before .before .before .before .before .before .before .before .before .before .before .before .before .before in
     turn-lengths at .due-long ∙ sym (entry-long (turn-entry at) .due-long)
 
 same-length-23 :
     tie.Need-same-length-23 Inv-loop2 μ-loop2 Inv-loop μ-loop Inv-iterations μ-iterations
 same-length-23 c =
-    let at : Turn = c .before .before .before .before .before .before .before .before .before .before .before .before .before .before .before .before .before .before .before .before .before in
-    c .before .before .before .clear3 .kept .0 ∙ c .before .before .before .before .before .before .before .before .before .before .before .before .before .one-turn .ensures .1 .long ∙ turn-lengths at .work-long
+    let at : Turn = c .before .before .before .before .before .before .before .before .before .before .before .before .before .before .before .before .before .before .before .before in
+    c .before .before .before .clear3 .kept .0 ∙ c .before .before .before .before .before .before .before .before .before .before .before .before .before .net-turn .ensures .1 .long ∙ turn-lengths at .work-long
 
 same-length-24 :
     tie.Need-same-length-24 Inv-loop2 μ-loop2 Inv-loop μ-loop Inv-iterations μ-iterations
 same-length-24 c =
-    let at : Turn = c .before .before .before .before .before .before .before .before .before .before .before .before .before .before .before .before .before .before .before .before .before in
-    c .before .before .before .before .before .before .before .before .before .before .before .before .before .one-turn .kept .1 .1 .1 .1 .1 .1 .1 .1 .0 ∙ turn-lengths at .log-long
+    let at : Turn = c .before .before .before .before .before .before .before .before .before .before .before .before .before .before .before .before .before .before .before .before in
+    c .before .before .before .before .before .before .before .before .before .before .before .before .before .net-turn .kept .1 .1 .1 .1 .1 .1 .1 .1 .1 .1 .1 .1 .1 .0 ∙ turn-lengths at .log-long
 
 returns-3 :
     tie.Need-returns-3 Inv-loop2 μ-loop2 Inv-loop μ-loop Inv-iterations μ-iterations
 returns-3 c =
-    let at : Turn = c .before .before .before .before .before .before .before .before .before .before .before .before .before .before .before .before .before .before .before .before .before in
+    let at : Turn = c .before .before .before .before .before .before .before .before .before .before .before .before .before .before .before .before .before .before .before .before in
     λ p r.
-    after-full _ (routable (turn-entry at)) (enough (turn-entry at)) (turn-at at p r) (c .before .before .before .before .before .before .before .before .before .before .before .before .before .before .before .before .before .before .before .before .loop2-test .taken) _ (own-sinks at) _ _ _
-    (c .before .before .before .before .before .before .before .before .before .before .before .before .before .one-turn .ensures .1) _
-    (c .before .before .before .before .before .before .before .before .before .before .before .before .before .one-turn .ensures .0) (c .before .before .before .before .before .enum-told2 .given .1) _ (c .before .before .before .clear3 .ensures)
+    after-full _ (routable (turn-entry at)) (enough (turn-entry at)) (turn-at at p r) (c .before .before .before .before .before .before .before .before .before .before .before .before .before .before .before .before .before .before .before .loop2-test .taken) (tables at) _ _ _
+    (c .before .before .before .before .before .before .before .before .before .before .before .before .before .net-turn .ensures .1) _
+    (c .before .before .before .before .before .before .before .before .before .before .before .before .before .net-turn .ensures .0) (c .before .before .before .before .before .enum-told2 .given .1) _ (c .before .before .before .clear3 .ensures)
     (c .answer3 .result) (c .answer3 .ensures .0)
     (record { iteration-is = c .answer3 .ensures .1; turns-is = c .answer3 .ensures .2; words-is = c .answer3 .ensures .3 })
 
@@ -666,12 +637,8 @@ go-on-spec =
     cast-to
     begin-net-requires
     loop2-holds
-    mul-one-turn
-    sub-one-turn
-    part-one-turn-start
-    part-one-turn-end
-    cast-one-turn
-    one-turn-requires
+    cast-net-turn
+    net-turn-requires
     enum-told
     enum-told-2
     enum-known-t

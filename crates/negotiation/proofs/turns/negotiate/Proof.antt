@@ -25,7 +25,7 @@ module _ (e : tie.Start) where
   abbrev job : Job
   job =
       jobOf (e .args .kind .now) (e .args .capacity .now) (e .args .first-edge .now) (e .args .edge-target .now) (e .args .source .now) (e .args .first-sink .now)
-      (e .args .sink .now) (e .args .terms)
+      (e .args .sink .now) (e .args .delay .now) (e .args .criticality .now) (e .args .terms)
 
   -- what is lent is ready for a run that begins
   ready :
@@ -49,46 +49,46 @@ module _ (e : tie.Start) where
       log
 
 array-borrow-prefix-history : tie.Need-array-borrow-prefix-history
-array-borrow-prefix-history c = few-nodes (c .before .before .before .before .before .before .before .before .before)
+array-borrow-prefix-history c = few-nodes (c .before .before .before .before .before .before .before .before .before .before .before)
 
 slice-aggregate-run-from : tie.Need-slice-aggregate-run-from
-slice-aggregate-run-from c = sym (length-take-le _ _ (few-nodes (c .before .before .before .before .before .before .before .before .before .before)))
+slice-aggregate-run-from c = sym (length-take-le _ _ (few-nodes (c .before .before .before .before .before .before .before .before .before .before .before .before)))
 
 array-borrow-prefix-users : tie.Need-array-borrow-prefix-users
-array-borrow-prefix-users c = few-nodes (c .before .before .before .before .before .before .before .before .before .before)
+array-borrow-prefix-users c = few-nodes (c .before .before .before .before .before .before .before .before .before .before .before .before)
 
 slice-aggregate-run-from-2 : tie.Need-slice-aggregate-run-from-2
-slice-aggregate-run-from-2 c = sym (length-take-le _ _ (few-nodes (c .before .before .before .before .before .before .before .before .before .before .before)))
+slice-aggregate-run-from-2 c = sym (length-take-le _ _ (few-nodes (c .before .before .before .before .before .before .before .before .before .before .before .before .before)))
 
 array-borrow-prefix-in-tree : tie.Need-array-borrow-prefix-in-tree
-array-borrow-prefix-in-tree c = few-nodes (c .before .before .before .before .before .before .before .before .before .before .before)
+array-borrow-prefix-in-tree c = few-nodes (c .before .before .before .before .before .before .before .before .before .before .before .before .before)
 
 slice-aggregate-run-from-3 : tie.Need-slice-aggregate-run-from-3
-slice-aggregate-run-from-3 c = sym (length-take-le _ _ (few-nodes (c .before .before .before .before .before .before .before .before .before .before .before .before)))
+slice-aggregate-run-from-3 c = sym (length-take-le _ _ (few-nodes (c .before .before .before .before .before .before .before .before .before .before .before .before .before .before)))
 
 array-borrow-prefix-tree-from : tie.Need-array-borrow-prefix-tree-from
-array-borrow-prefix-tree-from c = few-nets (c .before .before .before .before .before .before .before .before .before .before .before .before)
+array-borrow-prefix-tree-from c = few-nets (c .before .before .before .before .before .before .before .before .before .before .before .before .before .before)
 
 slice-aggregate-run-from-4 : tie.Need-slice-aggregate-run-from-4
-slice-aggregate-run-from-4 c = sym (length-take-le _ _ (few-nets (c .before .before .before .before .before .before .before .before .before .before .before .before .before)))
+slice-aggregate-run-from-4 c = sym (length-take-le _ _ (few-nets (c .before .before .before .before .before .before .before .before .before .before .before .before .before .before .before)))
 
 array-borrow-prefix-tree-to : tie.Need-array-borrow-prefix-tree-to
-array-borrow-prefix-tree-to c = few-nets (c .before .before .before .before .before .before .before .before .before .before .before .before .before)
+array-borrow-prefix-tree-to c = few-nets (c .before .before .before .before .before .before .before .before .before .before .before .before .before .before .before)
 
 slice-aggregate-run-from-5 : tie.Need-slice-aggregate-run-from-5
-slice-aggregate-run-from-5 c = sym (length-take-le _ _ (few-nets (c .before .before .before .before .before .before .before .before .before .before .before .before .before .before)))
+slice-aggregate-run-from-5 c = sym (length-take-le _ _ (few-nets (c .before .before .before .before .before .before .before .before .before .before .before .before .before .before .before .before)))
 
 array-borrow-prefix-due : tie.Need-array-borrow-prefix-due
-array-borrow-prefix-due c = few-nets (c .before .before .before .before .before .before .before .before .before .before .before .before .before .before)
+array-borrow-prefix-due c = few-nets (c .before .before .before .before .before .before .before .before .before .before .before .before .before .before .before .before)
 
 slice-aggregate-run-from-6 : tie.Need-slice-aggregate-run-from-6
-slice-aggregate-run-from-6 c = sym (length-take-le _ _ (few-nets (c .before .before .before .before .before .before .before .before .before .before .before .before .before .before .before)))
+slice-aggregate-run-from-6 c = sym (length-take-le _ _ (few-nets (c .before .before .before .before .before .before .before .before .before .before .before .before .before .before .before .before .before)))
 
 -- the counts stand apart: an edit of one fails at its own equation
 run-from-requires : tie.Need-run-from-requires
 unfolding encode
 run-from-requires c κs =
-    let e : tie.Start = c .before .before .before .before .before .before .before .before .before .before .before .before .before .before .before .before .before in
+    let e : tie.Start = c .before .before .before .before .before .before .before .before .before .before .before .before .before .before .before .before .before .before .before in
     let r = ready e (e .args .log .now) in (
       e .pre,
       record {

@@ -1,12 +1,19 @@
--- `negotiation::turns::one_turn` meets its contract: nothing is refused, so the search's answer is the turn, and where its record fits it is logged and marked.
+-- `negotiation::turns::one_turn` meets its contract: without sinks no turn is made; nothing is refused, so the search's answer is the turn, and where its record fits it is logged and marked.
 -- Assumes nothing.
 use mathlib.Core.List.{[], _∷_}
 use native.Mathlib.Omega.{arith}
 use types.Run.{miss}
 use borrow.Author.Needs.{needs}
-use Rattle.negotiation.proofs.OneTurnLaws.{turn-joined, turn-other, turn-full, turn-logs}
+use Rattle.negotiation.proofs.OneTurnLaws.{turn-none, turn-joined, turn-other, turn-full, turn-logs}
 use Rattle.negotiation.proofs.turns.one_turn.Statement.{statement}
 use Rattle.negotiation.proofs.turns.one_turn.Tie as tie
+
+-- the entry, from the search's answer
+abbrev start : tie.After-cheapest-path → tie.Start
+start c = c .before .before .before .before .before .before .before .before .before .before .before .before .before .before .before
+
+returns : tie.Need-returns
+returns c = turn-none _ _ _ _ (c .if1 .taken)
 
 cheapest-path-requires : tie.Need-cheapest-path-requires
 cheapest-path-requires c κs = search needs
@@ -20,21 +27,21 @@ same-length c = search needs
 same-length-2 : tie.Need-same-length-2
 same-length-2 c = search needs
 
-returns : tie.Need-returns
-returns c =
+returns-2 : tie.Need-returns-2
+returns-2 c =
     let called = c .before .before .before in
-    let entry = called .before .before .before .before .before .before .before .before .before .before .before .before .before in
+    let entry = start called in
     turn-other (entry .pre) (called .cheapest-path .result)
-    (λ place cost count e. miss (1 ∷ 2 ∷ 3 ∷ 4 ∷ []) 0 tt (rw e at (c .match .keys2))) (called .cheapest-path .ensures .0)
+    (λ place cost count e. miss (1 ∷ 2 ∷ 3 ∷ 4 ∷ 5 ∷ []) 0 tt (rw e at (c .match .keys2))) (called .cheapest-path .ensures .0)
 
 cast-count : tie.Need-cast-count
 cast-count c = search needs
 
-sub-if1 : tie.Need-sub-if1
-sub-if1 c = search needs
+sub-if2 : tie.Need-sub-if2
+sub-if2 c = search needs
 
-add-if1 : tie.Need-add-if1
-add-if1 c = search needs
+add-if2 : tie.Need-add-if2
+add-if2 c = search needs
 
 same-length-3 : tie.Need-same-length-3
 same-length-3 c = search needs
@@ -42,13 +49,13 @@ same-length-3 c = search needs
 same-length-4 : tie.Need-same-length-4
 same-length-4 c = search needs
 
-returns-2 : tie.Need-returns-2
-returns-2 c =
+returns-3 : tie.Need-returns-3
+returns-3 c =
     let answered = c .before .before in
     let called = answered .before .before .before .before in
-    let entry = called .before .before .before .before .before .before .before .before .before .before .before .before .before in
+    let entry = start called in
     let j = turn-joined (entry .pre) (answered .answer .given .1) (called .cheapest-path .ensures .0) in
-    (turn-full j (c .if1 .taken) (entry .pre .within), j .rest)
+    (turn-full j (c .if2 .taken) (entry .pre .within), j .rest)
 
 cast-p : tie.Need-cast-p
 cast-p c = search needs
@@ -60,26 +67,26 @@ shared-slice-read-write-record : tie.Need-shared-slice-read-write-record
 shared-slice-read-write-record c =
     let answered = c .before .before .before .before in
     let called = answered .before .before .before .before in
-    let entry = called .before .before .before .before .before .before .before .before .before .before .before .before .before in
+    let entry = start called in
     turn-joined (entry .pre) (answered .answer .given .1) (called .cheapest-path .ensures .0) .within
 
 cast-write-record : tie.Need-cast-write-record
-cast-write-record c = omega (arith, c .shared-slice-known8 .given (c .before .before .before .before .answer .given .0 .0))
+cast-write-record c = omega (arith, c .shared-slice-known9 .given (c .before .before .before .before .answer .given .0 .0))
 
 write-record-requires : tie.Need-write-record-requires
 write-record-requires c κs =
     let tested = c .before .before .before in
     let answered = tested .before .before in
     let called = answered .before .before .before .before in
-    let entry = called .before .before .before .before .before .before .before .before .before .before .before .before .before in
+    let entry = start called in
     let j = turn-joined (entry .pre) (answered .answer .given .1) (called .cheapest-path .ensures .0) in
-    ((j .long, omega (arith, tested .if1 .left, entry .pre .within), omega (arith, j .few)), j .small)
+    ((j .long, omega (arith, tested .if2 .left, entry .pre .within), omega (arith, j .few)), j .small)
 
 mark-path-requires : tie.Need-mark-path-requires
 mark-path-requires c κs =
     let answered = c .before .before .before .before .before .before .before .before .before .before in
     let called = answered .before .before .before .before in
-    let entry = called .before .before .before .before .before .before .before .before .before .before .before .before .before in
+    let entry = start called in
     let j = turn-joined (entry .pre) (answered .answer .given .1) (called .cheapest-path .ensures .0) in
     (j .long, j .nodes-below)
 
@@ -89,10 +96,10 @@ add-turn-logged c = search needs
 turn-logged-requires : tie.Need-turn-logged-requires
 turn-logged-requires c κs =
     let tested = c .before .before .before .before .before .before .before .before .before .before .before in
-    let entry = tested .before .before .before .before .before .before .before .before .before .before .before .before .before .before .before .before .before .before .before in
-    let log-short = entry .good .1 .1 .1 .1 .1 .1 .1 .1 .0 .1 in (
-      omega (arith, tested .if1 .left, entry .pre .within, log-short, entry .pre .few-turns),
-      omega (arith, tested .if1 .left, entry .pre .within, log-short),
+    let entry = tested .before .before .before .before .before .before .before .before .before .before .before .before .before .before .before .before .before .before .before .before .before in
+    let log-short = entry .good .1 .1 .1 .1 .1 .1 .1 .1 .1 .1 .0 .1 in (
+      omega (arith, tested .if2 .left, entry .pre .within, log-short, entry .pre .few-turns),
+      omega (arith, tested .if2 .left, entry .pre .within, log-short),
     )
 
 same-length-5 : tie.Need-same-length-5
@@ -104,32 +111,33 @@ same-length-6 c = search needs
 same-length-7 : tie.Need-same-length-7
 same-length-7 c = search needs
 
-returns-3 : tie.Need-returns-3
-returns-3 c =
+returns-4 : tie.Need-returns-4
+returns-4 c =
     let marked = c .before .before .before in
     let written = marked .before .before .before .before .before in
     let tested = written .before .before .before .before in
     let answered = tested .before .before in
     let called = answered .before .before .before .before in
-    let entry = called .before .before .before .before .before .before .before .before .before .before .before .before .before in
+    let entry = start called in
     let j = turn-joined (entry .pre) (answered .answer .given .1) (called .cheapest-path .ensures .0) in
-    (turn-logs j (omega (arith, tested .if1 .left, entry .pre .within)) (written .write-record .ensures) (marked .mark-path .ensures) (c .turn-logged .ensures), j .rest)
+    (turn-logs j (omega (arith, tested .if2 .left, entry .pre .within)) (written .write-record .ensures) (marked .mark-path .ensures) (c .turn-logged .ensures), j .rest)
 
 pub one-turn-spec : {M : Type 1} → statement M
 one-turn-spec =
     tie.close
     (tie.spec
+    returns
     cheapest-path-requires
     enum-known-answer
     same-length
     same-length-2
-    returns
+    returns-2
     cast-count
-    sub-if1
-    add-if1
+    sub-if2
+    add-if2
     same-length-3
     same-length-4
-    returns-2
+    returns-3
     cast-p
     mul-write-record
     shared-slice-read-write-record
@@ -141,4 +149,4 @@ one-turn-spec =
     same-length-5
     same-length-6
     same-length-7
-    returns-3)
+    returns-4)

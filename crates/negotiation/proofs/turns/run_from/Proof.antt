@@ -14,11 +14,11 @@ use Rattle.negotiation.proofs.turns.run_from.Tie as tie
 abbrev job : tie.Start → Job
 job e =
     jobOf (e .args .kind .now) (e .args .capacity .now) (e .args .first-edge .now) (e .args .edge-target .now) (e .args .source .now)
-    (e .args .first-sink .now) (e .args .sink .now) (e .args .terms)
+    (e .args .first-sink .now) (e .args .sink .now) (e .args .delay .now) (e .args .criticality .now) (e .args .terms)
 
 -- the start is answered
 abbrev lent : tie.After-start-at → tie.Start
-lent s = s .before .before .before .before .before .before .before .before .before .before .before .before .before .before .before .before .before .before .before .before .before .before .before
+lent s = s .before .before .before .before .before .before .before .before .before .before .before .before .before .before .before .before .before .before .before .before .before .before .before .before .before
 
 -- the lent log is turned away
 abbrev away : tie.After-word → tie.After-start-at
@@ -39,8 +39,8 @@ ran c = c .before .before .before .before .before .before .before .before .befor
 
 start-at-requires : tie.Need-start-at-requires
 start-at-requires c κs =
-    let e : tie.Start = c .before .before .before .before .before .before .before .before .before .before .before .before .before .before .before .before .before .before .before .before .before .before in
-    ((e .pre .0 .0, e .pre .0 .1), e .pre .1)
+    let e : tie.Start = c .before .before .before .before .before .before .before .before .before .before .before .before .before .before .before .before .before .before .before .before .before .before .before .before in
+    (e .pre .0 .0, e .pre .1)
 
 enum-known-word : tie.Need-enum-known-word
 enum-known-word c = search needs
@@ -53,7 +53,7 @@ mul-clear c =
 
 clear-requires : tie.Need-clear-requires
 clear-requires c κs =
-    let enough = lent (away (c .before .before)) .pre .0 .3 in
+    let enough = lent (away (c .before .before)) .pre .0 .2 in
     omega arith
 
 refused-requires : tie.Need-refused-requires
@@ -66,25 +66,25 @@ go-on-requires : tie.Need-go-on-requires
 go-on-requires c κs =
     let at : tie.After-tariff = c .before .before .before .before .before .before .before .before .before in
     let e : tie.Start = lent (onward at) in
-    ((e .pre .0 .0, e .pre .0 .2, e .pre .0 .3), start-stands (job e) (e .args .start) (e .args .log .now) (onward at .start-at .ensures) (at .tariff .given .1))
+    (e .pre .0, start-stands (job e) (e .args .start) (e .args .log .now) (onward at .start-at .ensures) (at .tariff .given .1))
 
 same-length : tie.Need-same-length
-same-length c = away (refused-at c) .start-at .kept .1 .1 .1 .1 .1 .1 .1 .1 .1 .1 .0
+same-length c = away (refused-at c) .start-at .kept .1 .1 .1 .1 .1 .1 .1 .1 .1 .1 .1 .1 .0
 
 same-length-2 : tie.Need-same-length-2
-same-length-2 c = away (refused-at c) .start-at .kept .1 .1 .1 .1 .1 .1 .1 .1 .1 .1 .1 .0
+same-length-2 c = away (refused-at c) .start-at .kept .1 .1 .1 .1 .1 .1 .1 .1 .1 .1 .1 .1 .1 .0
 
 same-length-3 : tie.Need-same-length-3
-same-length-3 c = away (refused-at c) .start-at .kept .1 .1 .1 .1 .1 .1 .1 .1 .1 .1 .1 .1 .0
+same-length-3 c = away (refused-at c) .start-at .kept .1 .1 .1 .1 .1 .1 .1 .1 .1 .1 .1 .1 .1 .1 .0
 
 same-length-4 : tie.Need-same-length-4
-same-length-4 c = away (refused-at c) .start-at .kept .1 .1 .1 .1 .1 .1 .1 .1 .1 .1 .1 .1 .1 .0
+same-length-4 c = away (refused-at c) .start-at .kept .1 .1 .1 .1 .1 .1 .1 .1 .1 .1 .1 .1 .1 .1 .1 .0
 
 same-length-5 : tie.Need-same-length-5
-same-length-5 c = away (refused-at c) .start-at .kept .1 .1 .1 .1 .1 .1 .1 .1 .1 .1 .1 .1 .1 .1 .0
+same-length-5 c = away (refused-at c) .start-at .kept .1 .1 .1 .1 .1 .1 .1 .1 .1 .1 .1 .1 .1 .1 .1 .1 .0
 
 same-length-6 : tie.Need-same-length-6
-same-length-6 c = away (refused-at c) .start-at .kept .1 .1 .1 .1 .1 .1 .1 .1 .1 .1 .1 .1 .1 .1 .1 .0
+same-length-6 c = away (refused-at c) .start-at .kept .1 .1 .1 .1 .1 .1 .1 .1 .1 .1 .1 .1 .1 .1 .1 .1 .1 .0
 
 same-length-7 : tie.Need-same-length-7
 same-length-7 c = c .before .before .before .clear .kept .0
@@ -100,35 +100,35 @@ returns c =
     (c .refused .result) (c .refused .ensures) _ (c .before .before .before .clear .ensures)
 
 same-length-9 : tie.Need-same-length-9
-same-length-9 c = ran c .go-on .kept .1 .1 .1 .1 .1 .1 .1 .1 .1 .0 ∙ onward (called (ran c)) .start-at .kept .1 .1 .1 .1 .1 .1 .1 .1 .1 .1 .0
+same-length-9 c = ran c .go-on .kept .1 .1 .1 .1 .1 .1 .1 .1 .1 .1 .1 .0 ∙ onward (called (ran c)) .start-at .kept .1 .1 .1 .1 .1 .1 .1 .1 .1 .1 .1 .1 .0
 
 same-length-10 : tie.Need-same-length-10
-same-length-10 c = ran c .go-on .kept .1 .1 .1 .1 .1 .1 .1 .1 .1 .1 .0 ∙ onward (called (ran c)) .start-at .kept .1 .1 .1 .1 .1 .1 .1 .1 .1 .1 .1 .0
+same-length-10 c = ran c .go-on .kept .1 .1 .1 .1 .1 .1 .1 .1 .1 .1 .1 .1 .0 ∙ onward (called (ran c)) .start-at .kept .1 .1 .1 .1 .1 .1 .1 .1 .1 .1 .1 .1 .1 .0
 
 same-length-11 : tie.Need-same-length-11
-same-length-11 c = ran c .go-on .kept .1 .1 .1 .1 .1 .1 .1 .1 .1 .1 .1 .0 ∙ onward (called (ran c)) .start-at .kept .1 .1 .1 .1 .1 .1 .1 .1 .1 .1 .1 .1 .0
+same-length-11 c = ran c .go-on .kept .1 .1 .1 .1 .1 .1 .1 .1 .1 .1 .1 .1 .1 .0 ∙ onward (called (ran c)) .start-at .kept .1 .1 .1 .1 .1 .1 .1 .1 .1 .1 .1 .1 .1 .1 .0
 
 same-length-12 : tie.Need-same-length-12
-same-length-12 c = ran c .go-on .kept .1 .1 .1 .1 .1 .1 .1 .1 .1 .1 .1 .1 .0 ∙ onward (called (ran c)) .start-at .kept .1 .1 .1 .1 .1 .1 .1 .1 .1 .1 .1 .1 .1 .0
+same-length-12 c = ran c .go-on .kept .1 .1 .1 .1 .1 .1 .1 .1 .1 .1 .1 .1 .1 .1 .0 ∙ onward (called (ran c)) .start-at .kept .1 .1 .1 .1 .1 .1 .1 .1 .1 .1 .1 .1 .1 .1 .1 .0
 
 same-length-13 : tie.Need-same-length-13
-same-length-13 c = ran c .go-on .kept .1 .1 .1 .1 .1 .1 .1 .1 .1 .1 .1 .1 .1 .0 ∙ onward (called (ran c)) .start-at .kept .1 .1 .1 .1 .1 .1 .1 .1 .1 .1 .1 .1 .1 .1 .0
+same-length-13 c = ran c .go-on .kept .1 .1 .1 .1 .1 .1 .1 .1 .1 .1 .1 .1 .1 .1 .1 .0 ∙ onward (called (ran c)) .start-at .kept .1 .1 .1 .1 .1 .1 .1 .1 .1 .1 .1 .1 .1 .1 .1 .1 .0
 
 same-length-14 : tie.Need-same-length-14
-same-length-14 c = ran c .go-on .kept .1 .1 .1 .1 .1 .1 .1 .1 .1 .1 .1 .1 .1 .1 .0 ∙ onward (called (ran c)) .start-at .kept .1 .1 .1 .1 .1 .1 .1 .1 .1 .1 .1 .1 .1 .1 .1 .0
+same-length-14 c = ran c .go-on .kept .1 .1 .1 .1 .1 .1 .1 .1 .1 .1 .1 .1 .1 .1 .1 .1 .0 ∙ onward (called (ran c)) .start-at .kept .1 .1 .1 .1 .1 .1 .1 .1 .1 .1 .1 .1 .1 .1 .1 .1 .1 .0
 
 same-length-15 : tie.Need-same-length-15
-same-length-15 c = ran c .go-on .kept .1 .1 .1 .1 .1 .1 .1 .1 .1 .1 .1 .1 .1 .1 .1 .0
+same-length-15 c = ran c .go-on .kept .1 .1 .1 .1 .1 .1 .1 .1 .1 .1 .1 .1 .1 .1 .1 .1 .1 .0
 
 same-length-16 : tie.Need-same-length-16
-same-length-16 c = ran c .go-on .kept .1 .1 .1 .1 .1 .1 .1 .1 .1 .1 .1 .1 .1 .1 .1 .1 .0
+same-length-16 c = ran c .go-on .kept .1 .1 .1 .1 .1 .1 .1 .1 .1 .1 .1 .1 .1 .1 .1 .1 .1 .1 .0
 
 returns-2 : tie.Need-returns-2
 returns-2 c =
     let at : tie.After-go-on = ran c in
     let e : tie.Start = lent (onward (called at)) in
     start-ran (job e) (e .args .start) (e .args .log .now) (onward (called at) .start-at .ensures) (called at .tariff .given .1) (e .args .work .now)
-    (routeReplyOf (at .go-on .result) (at .go-on .last .1 .1 .1 .1 .1 .1 .1 .1 .1 .1 .1 .1 .1 .1 .1 .0) (at .go-on .last .1 .1 .1 .1 .1 .1 .1 .1 .1 .1 .1 .1 .1 .1 .1 .1 .0)) (at .go-on .ensures)
+    (routeReplyOf (at .go-on .result) (at .go-on .last .1 .1 .1 .1 .1 .1 .1 .1 .1 .1 .1 .1 .1 .1 .1 .1 .1 .0) (at .go-on .last .1 .1 .1 .1 .1 .1 .1 .1 .1 .1 .1 .1 .1 .1 .1 .1 .1 .1 .0)) (at .go-on .ensures)
 
 pub run-from-spec : {M : Type 1} → statement M
 run-from-spec =

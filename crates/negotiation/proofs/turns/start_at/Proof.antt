@@ -13,7 +13,7 @@ use Rattle.negotiation.proofs.turns.start_at.Tie as tie
 abbrev job : tie.Start → Job
 job e =
     jobOf (e .args .kind .now) (e .args .capacity .now) (e .args .first-edge .now) (e .args .edge-target .now) (e .args .source .now)
-    (e .args .first-sink .now) (e .args .sink .now) (e .args .terms)
+    (e .args .first-sink .now) (e .args .sink .now) (e .args .delay .now) (e .args .criticality .now) (e .args .terms)
 
 -- the lent log is taken up
 abbrev taken : tie.After-slice-known12 → tie.After-take-up
@@ -27,7 +27,7 @@ enum-known-start c = search needs
 
 returns : tie.Need-returns
 returns c =
-    let e : tie.Start = c .before .before .before .before .before .before .before .before .before .before .before .before .before .before .before .before .before .before in
+    let e : tie.Start = c .before .before .before .before .before .before .before .before .before .before .before .before .before .before .before .before .before .before .before .before in
     start-beyond (job e) (e .args .start) (e .args .log .now) _ (c .before .before .start .given .1) (c .if1 .taken) _ _ _ _ _ _
 
 slice-aggregate-take-up : tie.Need-slice-aggregate-take-up
@@ -35,36 +35,36 @@ slice-aggregate-take-up c = sym (length-take-le _ _ (c .before .before .before .
 
 take-up-requires : tie.Need-take-up-requires
 take-up-requires c κs =
-    let e : tie.Start = c .before .before .before .before .before .before .before .before .before .before .before .before .before .before .before .before .before .before .before .before .before .before .before .before .before in
+    let e : tie.Start = c .before .before .before .before .before .before .before .before .before .before .before .before .before .before .before .before .before .before .before .before .before .before .before .before .before .before .before in
     (e .pre .0, begun-over (job e) (e .pre .1) (take (c .before .before .before .before .before .before .before .before .before .start .given .0 .0) (e .args .log .now)))
 
 returns-2 : tie.Need-returns-2
 returns-2 c =
-    let e : tie.Start = c .before .before .before .before .before .before .before .before .before .before .before .before .before .before .before .before in
+    let e : tie.Start = c .before .before .before .before .before .before .before .before .before .before .before .before .before .before .before .before .before .before in
     start-anew (job e) (e .args .start) (e .args .log .now) (c .enum-told .given .1) (e .pre .1)
 
 same-length : tie.Need-same-length
-same-length c = taken c .take-up .kept .1 .1 .1 .1 .1 .1 .1 .1 .1 .0
+same-length c = taken c .take-up .kept .1 .1 .1 .1 .1 .1 .1 .1 .1 .1 .1 .0
 
 same-length-2 : tie.Need-same-length-2
-same-length-2 c = taken c .take-up .kept .1 .1 .1 .1 .1 .1 .1 .1 .1 .1 .0
+same-length-2 c = taken c .take-up .kept .1 .1 .1 .1 .1 .1 .1 .1 .1 .1 .1 .1 .0
 
 same-length-3 : tie.Need-same-length-3
-same-length-3 c = taken c .take-up .kept .1 .1 .1 .1 .1 .1 .1 .1 .1 .1 .1 .0
+same-length-3 c = taken c .take-up .kept .1 .1 .1 .1 .1 .1 .1 .1 .1 .1 .1 .1 .1 .0
 
 same-length-4 : tie.Need-same-length-4
-same-length-4 c = taken c .take-up .kept .1 .1 .1 .1 .1 .1 .1 .1 .1 .1 .1 .1 .0
+same-length-4 c = taken c .take-up .kept .1 .1 .1 .1 .1 .1 .1 .1 .1 .1 .1 .1 .1 .1 .0
 
 same-length-5 : tie.Need-same-length-5
-same-length-5 c = taken c .take-up .kept .1 .1 .1 .1 .1 .1 .1 .1 .1 .1 .1 .1 .1 .0
+same-length-5 c = taken c .take-up .kept .1 .1 .1 .1 .1 .1 .1 .1 .1 .1 .1 .1 .1 .1 .1 .0
 
 same-length-6 : tie.Need-same-length-6
-same-length-6 c = taken c .take-up .kept .1 .1 .1 .1 .1 .1 .1 .1 .1 .1 .1 .1 .1 .1 .0
+same-length-6 c = taken c .take-up .kept .1 .1 .1 .1 .1 .1 .1 .1 .1 .1 .1 .1 .1 .1 .1 .1 .0
 
 returns-3 : tie.Need-returns-3
 returns-3 c =
     let t : tie.After-take-up = taken c in
-    let e : tie.Start = t .before .before .before .before .before .before .before .before .before .before .before .before .before .before .before .before .before .before .before .before .before .before .before .before .before .before in
+    let e : tie.Start = t .before .before .before .before .before .before .before .before .before .before .before .before .before .before .before .before .before .before .before .before .before .before .before .before .before .before .before .before in
     start-taken (job e) (e .args .start) (e .args .log .now) _ (t .before .before .before .before .before .before .before .before .before .before .start .given .1) (t .before .before .before .before .before .before .before .before .if1 .left)
     (t .take-up .result) _ _ _ _ _ _ (t .take-up .ensures)
 

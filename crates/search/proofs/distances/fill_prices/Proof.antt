@@ -4,22 +4,22 @@ use mathlib.Core.List.{[]}
 use Prim.Native.Nat.{_-_}
 use native.Mathlib.Omega.{arith}
 use Rattle.search.specs.Block.{blockOf}
-use Rattle.search.specs.Turn.{congestionOf, priceAt}
+use Rattle.search.specs.Turn.{weighedCongestion, priceAt}
 use Rattle.search.proofs.FillLaws.{Pricing, pricing-none, pricing-more, pricing-all}
 use Rattle.search.proofs.distances.fill_prices.Statement.{statement}
 use Rattle.search.proofs.distances.fill_prices.Tie as tie
 
 abbrev Inv-loop : tie.InvT-loop
-Inv-loop kind capacity history others factor work₀ n v₀ work v = Pricing n (priceAt (blockOf kind capacity [] []) (congestionOf factor history others)) work₀ work v
+Inv-loop kind capacity history others weighting delay factor work₀ n v₀ work v = Pricing n (priceAt (blockOf kind capacity [] []) (weighedCongestion weighting delay factor history others)) work₀ work v
 
 abbrev μ-loop : tie.MeasureT-loop
-μ-loop kind capacity history others factor work₀ n v₀ work v = n - v
+μ-loop kind capacity history others weighting delay factor work₀ n v₀ work v = n - v
 
 loop-holds : tie.Need-loop-holds Inv-loop μ-loop
 loop-holds c = pricing-none _ _ _
 
 node-price-requires : tie.Need-node-price-requires Inv-loop μ-loop
-node-price-requires c κs = c .before .before .before .before .before .before .before .pre .0 _ (c .loop-test .taken)
+node-price-requires c κs = c .before .before .before .before .before .before .before .before .pre .0 _ (c .loop-test .taken)
 
 mul-work : tie.Need-mul-work Inv-loop μ-loop
 mul-work c = omega arith
@@ -40,7 +40,7 @@ loop-less : tie.Need-loop-less Inv-loop μ-loop
 loop-less c = omega arith
 
 loop-again : tie.Need-loop-again Inv-loop μ-loop
-loop-again c = pricing-more _ (c .before .before .before .before .before .before .before .before .pre .1) (c .before .loop-test .taken) (c .node-price .ensures) (c .before .before .loop .inv)
+loop-again c = pricing-more _ (c .before .before .before .before .before .before .before .before .before .pre .1) (c .before .loop-test .taken) (c .node-price .ensures) (c .before .before .loop .inv)
 
 same-length : tie.Need-same-length Inv-loop μ-loop
 same-length c = omega arith

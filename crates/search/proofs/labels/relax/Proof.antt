@@ -5,6 +5,7 @@ use mathlib.Core.Path.{refl}
 use Rattle.search.specs.Spread.{beyond, lowers, tree}
 use Rattle.search.proofs.RelaxLaws.{relax-label, relax-labels}
 use borrow.Author.Needs.{needs}
+use Rattle.price.proofs.TimedLaws.{weighed-low}
 use Rattle.search.proofs.labels.relax.Statement.{statement}
 use Rattle.search.proofs.labels.relax.Tie as tie
 
@@ -18,13 +19,18 @@ slice-read-old : tie.Need-slice-read-old
 slice-read-old c = search needs
 
 clamped-price-requires : tie.Need-clamped-price-requires
-clamped-price-requires c κs = (c .before .before .before .before .before .before .before .before .before .pre .lent, c .before .before .if1 .left)
+clamped-price-requires c κs = (c .before .before .before .before .before .before .before .before .before .before .pre .lent, c .before .before .if1 .left)
 
 add-label : tie.Need-add-label
-add-label c = let p = c .before .clamped-price .ensures .1 in let r = c .before .before .before .before .before .before .before .before .before .before .before .pre .near in omega arith
+add-label c =
+    let start = c .before .before .before .before .before .before .before .before .before .before .before .before in
+    let most = weighed-low (start .args .weighting) in
+    let p = c .before .clamped-price .ensures .1 in
+    let r = start .pre .near in
+    omega arith
 
 label-requires : tie.Need-label-requires
-label-requires c κs = relax-label (c .before .before .before .before .before .before .before .before .before .before .before .pre) (c .before .before .before .before .if1 .left) (c .before .before .if2 .taken)
+label-requires c κs = relax-label (c .before .before .before .before .before .before .before .before .before .before .before .before .pre) (c .before .before .before .before .if1 .left) (c .before .before .if2 .taken)
 
 same-length : tie.Need-same-length
 same-length c = search needs
@@ -42,7 +48,7 @@ lower-requires c κs =
     let at-if3 = c .before in
     let at-if2 = at-if3 .before in
     let at-if1 = at-if2 .before .before in
-    let start = at-if1 .before .before .before .before .before .before .before in
+    let start = at-if1 .before .before .before .before .before .before .before .before in
     let r = start .pre in
     (r .u-node, at-if1 .if1 .left, r .lent .few, r .heap .long, r .from-node (at-if1 .if1 .left) (at-if3 .if3 .taken) (at-if2 .if2 .left))
 

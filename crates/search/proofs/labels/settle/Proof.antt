@@ -3,39 +3,40 @@
 use Prim.Native.Nat.{_-_}
 use native.Mathlib.Omega.{arith}
 use Rattle.search.specs.Block.{graphOf}
-use Rattle.search.specs.Turn.{congestionOf}
+use Rattle.search.specs.Turn.{weighedCongestion}
 use Rattle.search.specs.Clamped.{clampedPrice}
-use Rattle.search.proofs.SpreadRun.{RowSoFar, low-clamped, row-begin, row-ready, row-more, row-end}
+use Rattle.search.proofs.SpreadRun.{RowSoFar, row-begin, row-ready, row-more, row-end}
 use Rattle.search.proofs.labels.settle.Statement.{statement}
 use Rattle.search.proofs.labels.settle.Tie as tie
 
 abbrev Inv-loop : tie.InvT-loop
-Inv-loop kind capacity history others factor first-edge edge-target work₀ u d to e₀ r₀ work e r = RowSoFar (graphOf kind first-edge edge-target) (clampedPrice kind capacity (congestionOf factor history others)) u work₀ work e (r₀ .count) (r .count) (r₀ .best) (r .best)
+Inv-loop kind capacity history others weighting delay factor first-edge edge-target work₀ u d to e₀ r₀ work e r =
+    RowSoFar (graphOf kind first-edge edge-target) (clampedPrice kind capacity (weighedCongestion weighting delay factor history others)) u work₀ work e (r₀ .count) (r .count) (r₀ .best) (r .best)
 
 abbrev μ-loop : tie.MeasureT-loop
-μ-loop kind capacity history others factor first-edge edge-target work₀ u d to e₀ r₀ work e r = to - e
+μ-loop kind capacity history others weighting delay factor first-edge edge-target work₀ u d to e₀ r₀ work e r = to - e
 
 mul-d : tie.Need-mul-d Inv-loop μ-loop
-mul-d c = let n = c .before .before .before .before .before .before .before .pre .1 .node in let f = c .before .before .before .before .before .before .before .pre .0 .few in omega arith
+mul-d c = let n = c .before .before .before .before .before .before .before .before .pre .1 .node in let f = c .before .before .before .before .before .before .before .before .pre .0 .few in omega arith
 
 slice-read-d : tie.Need-slice-read-d Inv-loop μ-loop
-slice-read-d c = let n = c .before .before .before .before .before .before .before .before .pre .1 .node in let l = c .before .before .before .before .before .before .before .before .pre .1 .spread .heap .long in omega arith
+slice-read-d c = let n = c .before .before .before .before .before .before .before .before .before .pre .1 .node in let l = c .before .before .before .before .before .before .before .before .before .pre .1 .spread .heap .long in omega arith
 
 add-row-place : tie.Need-add-row-place Inv-loop μ-loop
-add-row-place c = let n = c .before .before .before .before .before .before .before .before .pre .1 .node in let f = c .before .before .before .before .before .before .before .before .pre .0 .few in omega arith
+add-row-place c = let n = c .before .before .before .before .before .before .before .before .before .pre .1 .node in let f = c .before .before .before .before .before .before .before .before .before .pre .0 .few in omega arith
 
 row-place-requires : tie.Need-row-place-requires Inv-loop μ-loop
-row-place-requires c κs = let n = c .before .before .before .before .before .before .before .before .pre .1 .node in let f = c .before .before .before .before .before .before .before .before .pre .1 .firsts-long in omega arith
+row-place-requires c κs = let n = c .before .before .before .before .before .before .before .before .before .pre .1 .node in let f = c .before .before .before .before .before .before .before .before .before .pre .1 .firsts-long in omega arith
 
 row-place-requires-2 : tie.Need-row-place-requires-2 Inv-loop μ-loop
 row-place-requires-2 c κs =
-    let start = c .before .before .before .before .before .before .before .before .before in
+    let start = c .before .before .before .before .before .before .before .before .before .before in
     let n = start .pre .1 .node in
     let f = start .pre .1 .firsts-long in
     omega arith
 
 loop-holds : tie.Need-loop-holds Inv-loop μ-loop
-loop-holds c = row-begin (c .before .before .before .before .before .before .before .before .before .before .pre .1) (c .row-place2 .ensures)
+loop-holds c = row-begin (c .before .before .before .before .before .before .before .before .before .before .before .pre .1) (c .row-place2 .ensures)
 
 mul-v : tie.Need-mul-v Inv-loop μ-loop
 mul-v c = let t = c .before .before .before .row-place .ensures in let l = c .loop-test .taken in omega arith
@@ -44,21 +45,21 @@ shared-slice-read-v : tie.Need-shared-slice-read-v Inv-loop μ-loop
 shared-slice-read-v c = let t = c .before .before .before .before .row-place .ensures in let l = c .before .loop-test .taken in omega arith
 
 cast-v : tie.Need-cast-v Inv-loop μ-loop
-cast-v c = omega (arith, c .shared-slice-known7 .given (c .before .before .loop .e))
+cast-v c = omega (arith, c .shared-slice-known8 .given (c .before .before .loop .e))
 
 relax-requires : tie.Need-relax-requires Inv-loop μ-loop
 relax-requires c κs =
     let inside = c .before .before in
     let head = inside .before in
     let at-row-place = head .before .before in
-    let start = at-row-place .before .before .before .before .before .before .before .before .before in
+    let start = at-row-place .before .before .before .before .before .before .before .before .before .before in
     row-ready (start .pre .0) (start .pre .1) (head .loop .inv) (at-row-place .row-place .ensures) (inside .loop-test .taken)
 
 add-e : tie.Need-add-e Inv-loop μ-loop
 add-e c =
     let inside = c .before .before .before .before .before in
     let at-row-place = inside .before .before .before in
-    let at-good = at-row-place .before .before .before .before .before .before .before .before .before in
+    let at-good = at-row-place .before .before .before .before .before .before .before .before .before .before in
     let t = at-row-place .row-place .ensures in
     let l = inside .loop-test .taken in
     let g = at-good .good in
@@ -73,8 +74,8 @@ loop-again c =
     let inside = at-relax .before .before .before in
     let head = inside .before in
     let at-row-place = head .before .before in
-    let start = at-row-place .before .before .before .before .before .before .before .before .before in
-    row-more (start .pre .1) (low-clamped _ _ _ _) (start .pre .0 .few) (head .loop .inv) (at-row-place .row-place .ensures) (inside .loop-test .taken)
+    let start = at-row-place .before .before .before .before .before .before .before .before .before .before in
+    row-more (start .pre .1) (start .pre .0 .few) (head .loop .inv) (at-row-place .row-place .ensures) (inside .loop-test .taken)
     (at-relax .relax .ensures)
 
 same-length : tie.Need-same-length Inv-loop μ-loop
@@ -84,8 +85,8 @@ returns : tie.Need-returns Inv-loop μ-loop
 returns c =
     let head = c .before in
     let at-row-place = head .before .before in
-    let start = at-row-place .before .before .before .before .before .before .before .before .before in
-    row-end (start .pre .1) (low-clamped _ _ _ _) (start .pre .0 .few) (head .loop .inv) (at-row-place .row-place .ensures) (c .loop-test .left)
+    let start = at-row-place .before .before .before .before .before .before .before .before .before .before in
+    row-end (start .pre .1) (start .pre .0 .few) (head .loop .inv) (at-row-place .row-place .ensures) (c .loop-test .left)
 
 pub settle-spec : {M : Type 1} → statement M
 settle-spec =

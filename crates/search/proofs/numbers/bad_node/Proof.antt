@@ -1,11 +1,12 @@
 -- `numbers::bad_node` meets its contract. The loop's invariant: every node passed is sound.
 -- Assumes nothing.
+use mathlib.Core.List.{[]}
 use mathlib.Core.Bool.{true}
 use mathlib.Core.Path.{_≡_, sym}
 use Prim.Native.Nat.{ℕ, _-_, _<_, _≤_}
 use borrow.Author.Needs.{needs}
 use borrow.Author.Count.{below-none, below-more}
-use Rattle.search.specs.Turn.{congestionOf}
+use Rattle.search.specs.Turn.{weighedCongestion}
 use Rattle.search.specs.Replies.{nodeSound}
 use Rattle.search.proofs.KeptLaws.{refused, passed}
 use Rattle.search.proofs.NumberLaws.{bad-here, bad-nowhere}
@@ -13,10 +14,10 @@ use Rattle.search.proofs.numbers.bad_node.Statement.{statement}
 use Rattle.search.proofs.numbers.bad_node.Tie as tie
 
 abbrev Inv-loop : tie.InvT-loop
-Inv-loop n history others in-tree v₀ v = (v ≤ n) × ((k : ℕ) → k < v → nodeSound (congestionOf 0 history others) in-tree k ≡ true)
+Inv-loop n weighting history others in-tree v₀ v = (v ≤ n) × ((k : ℕ) → k < v → nodeSound (weighedCongestion weighting [] 0 history others) in-tree k ≡ true)
 
 abbrev μ-loop : tie.MeasureT-loop
-μ-loop n history others in-tree v₀ v = n - v
+μ-loop n weighting history others in-tree v₀ v = n - v
 
 loop-holds : tie.Need-loop-holds Inv-loop μ-loop
 loop-holds c = (search needs, below-none _)

@@ -5,20 +5,19 @@ use lib.Dec.{leb}
 use lib.ListN.{getD}
 use borrow.Author.Needs.{needs}
 use Rattle.price.specs.Test.{both}
-use Rattle.price.specs.Bounds.{historyMost}
 use Rattle.search.specs.Replies.{historyBounded}
 use Rattle.search.proofs.PassLaws.{Passing, passing-none, passing-all, short-fails, history-more}
 use Rattle.search.proofs.numbers.histories_sound.Statement.{statement}
 use Rattle.search.proofs.numbers.histories_sound.Tie as tie
 
 abbrev Inv-loop : tie.InvT-loop
-Inv-loop n history fine₀ v₀ fine v = Passing (historyBounded history) n v fine
+Inv-loop n most history fine₀ v₀ fine v = Passing (historyBounded most history) n v fine
 
 abbrev μ-loop : tie.MeasureT-loop
-μ-loop n history fine₀ v₀ fine v = n - v
+μ-loop n most history fine₀ v₀ fine v = n - v
 
 returns : tie.Need-returns Inv-loop μ-loop
-returns c = short-fails _ (c .before .args .history .now) (λ v. both (leb 1 (getD (c .before .args .history .now) v 0)) (leb (getD (c .before .args .history .now) v 0) historyMost)) (c .if1 .taken)
+returns c = short-fails _ (c .before .args .history .now) (λ v. both (leb 1 (getD (c .before .args .history .now) v 0)) (leb (getD (c .before .args .history .now) v 0) (c .before .args .most))) (c .if1 .taken)
 
 loop-holds : tie.Need-loop-holds Inv-loop μ-loop
 loop-holds c = passing-none _ _
@@ -45,7 +44,7 @@ loop-again : tie.Need-loop-again Inv-loop μ-loop
 loop-again c =
     let tested = c .before .before .before .before in
     let head = tested .before in
-    history-more (head .before .before .args .history .now) (tested .loop-test .taken) (head .before .if1 .left) (c .before .before .if2 .came) (λ w. w .taken) (λ w. w .left)
+    history-more (head .before .before .args .history .now) (tested .loop-test .taken) (head .before .if1 .left) (c .before .before .if2 .came) _ (λ w. w .taken) (λ w. w .left)
     (c .if3 .came) (λ w. w .taken) (λ w. w .left) (head .loop .inv)
 
 returns-2 : tie.Need-returns-2 Inv-loop μ-loop

@@ -6,6 +6,9 @@ use Rattle.search.proofs.NumberLaws.{history-missing, history-low, hist
 use Rattle.search.proofs.numbers.node_sound.Statement.{statement}
 use Rattle.search.proofs.numbers.node_sound.Tie as tie
 
+history-bound-requires : tie.Need-history-bound-requires
+history-bound-requires c κs = search needs
+
 returns : tie.Need-returns
 returns c = sym (history-missing _ _ _ (search needs))
 
@@ -52,6 +55,7 @@ pub node-sound-spec : {M : Type 1} → statement M
 node-sound-spec =
     tie.close
     (tie.spec
+    history-bound-requires
     returns
     mul-if2
     shared-slice-read-if2

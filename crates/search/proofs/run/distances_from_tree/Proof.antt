@@ -17,7 +17,7 @@ settle-all-requires : tie.Need-settle-all-requires
 settle-all-requires c κs =
     let built = c .before .before .before in
     let ready = built .before .before .before .before in
-    let start = ready .before .before .before .before .before .before .before .before .before .before in
+    let start = ready .before .before .before .before .before .before .before .before .before .before .before in
     let pre = start .pre in
     let heap = built .build .ensures in (
       built-in-progress _ _ _ _ _ _ _ _ _ (pre .1 .0) (pre .0) (pre .1 .1) (ready .prepare .ensures) (heap .0) (heap .1),
@@ -25,7 +25,7 @@ settle-all-requires c κs =
     )
 
 mul-clear : tie.Need-mul-clear
-mul-clear c = omega (arith, kinds-few _ (c .before .before .before .before .before .before .before .before .before .before .before .before .before .before .before .before .before .before .before .before .before .pre .0 .kinds-sound))
+mul-clear c = omega (arith, kinds-few _ (c .before .before .before .before .before .before .before .before .before .before .before .before .before .before .before .before .before .before .before .before .before .before .pre .0 .kinds-sound))
 
 clear-requires : tie.Need-clear-requires
 clear-requires c κs = search needs
@@ -39,7 +39,7 @@ returns c =
     let ran = ended .before .before .before .before in
     let built = ran .before .before .before .before in
     let ready = built .before .before .before .before in
-    let start = ready .before .before .before .before .before .before .before .before .before .before in
+    let start = ready .before .before .before .before .before .before .before .before .before .before .before in
     search-leaves _ _ _ _ _ _ _ _ _ (start .pre .1 .0) (start .pre .0) (start .pre .1 .1) (ready .prepare .ensures) (built .build .ensures .0) (built .build .ensures .1) _ _ _ (ran .settle-all .ensures) (ended .clear .ensures)
 
 pub distances-from-tree-spec : {M : Type 1} → statement M

@@ -10,13 +10,13 @@ use Rattle.search.proofs.run.prepare.Tie as tie
 
 fill-prices-requires : tie.Need-fill-prices-requires
 fill-prices-requires c κs =
-    let start = c .before .before .before .before .before .before .before in
+    let start = c .before .before .before .before .before .before .before .before in
     (ready-price _ _ [] [] _ _ (start .pre .0), start .pre .1)
 
 fill-distances-requires : tie.Need-fill-distances-requires
 fill-distances-requires c κs =
     let filled = c .before .before .before in
-    let start = filled .before .before .before .before .before .before .before .before in
+    let start = filled .before .before .before .before .before .before .before .before .before in
     (omega (arith, ready-marks _ _ [] [] _ _ (start .pre .0)), omega (arith, start .pre .1, filled .fill-prices .ensures .same .long))
 
 mul-clear : tie.Need-mul-clear
@@ -36,8 +36,8 @@ returns c =
     let ended = c .before .before in
     let measured = ended .before .before .before .before in
     let filled = measured .before .before .before .before in
-    let start = filled .before .before .before .before .before .before .before .before in
-    prepared _ _ _ _ _ _ _ _ _ _ (start .pre .1) (filled .fill-prices .ensures) (measured .fill-distances .ensures) (ended .clear .ensures)
+    let start = filled .before .before .before .before .before .before .before .before .before in
+    prepared _ _ _ _ _ _ _ _ (start .pre .1) (filled .fill-prices .ensures) (measured .fill-distances .ensures) (ended .clear .ensures)
 
 pub prepare-spec : {M : Type 1} → statement M
 prepare-spec =

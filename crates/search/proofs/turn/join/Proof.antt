@@ -10,16 +10,16 @@ use Rattle.search.proofs.turn.join.Statement.{statement}
 use Rattle.search.proofs.turn.join.Tie as tie
 
 mark-tree-requires : tie.Need-mark-tree-requires
-mark-tree-requires c κs = let f = c .before .before .before .before .before .before .before .before .before .before .pre in (f .few, f .marks-long, fitted-room _ _ _ _ f)
+mark-tree-requires c κs = let f = c .before .before .before .before .before .before .before .before .before .before .before .pre in (f .few, f .marks-long, fitted-room _ _ _ _ f)
 
 mark-goals-requires : tie.Need-mark-goals-requires
-mark-goals-requires c κs = let f = c .before .before .before .before .before .before .before .before .before .before .before .before .before .before .pre in (f .few, tree-room _ _ _ _ f (c .before .before .before .mark-tree .ensures))
+mark-goals-requires c κs = let f = c .before .before .before .before .before .before .before .before .before .before .before .before .before .before .before .pre in (f .few, tree-room _ _ _ _ f (c .before .before .before .mark-tree .ensures))
 
 least-price-requires : tie.Need-least-price-requires
 least-price-requires c κs =
     let at-mark-goals = c .before .before .before in
     let at-mark-tree = at-mark-goals .before .before .before .before in
-    let start = at-mark-tree .before .before .before .before .before .before .before .before .before .before .before in
+    let start = at-mark-tree .before .before .before .before .before .before .before .before .before .before .before .before in
     let f = start .pre in
     (fitted-lent _ _ _ _ f, goals-room _ _ _ _ f (at-mark-tree .mark-tree .ensures) (at-mark-goals .mark-goals .ensures))
 
@@ -28,13 +28,13 @@ settle-all-requires c κs =
     let at-least-price = c .before in
     let at-mark-goals = at-least-price .before .before .before .before in
     let at-mark-tree = at-mark-goals .before .before .before .before in
-    let start = at-mark-tree .before .before .before .before .before .before .before .before .before .before .before in
+    let start = at-mark-tree .before .before .before .before .before .before .before .before .before .before .before .before in
     let f = start .pre in
     (fitted-lent _ _ _ _ f, join-ready _ _ _ _ _ f (at-mark-tree .mark-tree .ensures) (at-mark-goals .mark-goals .ensures) (at-least-price .least-price .ensures))
 
 mul-clear : tie.Need-mul-clear
 mul-clear c =
-    let start = c .before .before .before .before .before .before .before .before .before .before .before .before .before .before .before .before .before .before .before .before .before .before .before .before .before in
+    let start = c .before .before .before .before .before .before .before .before .before .before .before .before .before .before .before .before .before .before .before .before .before .before .before .before .before .before in
     let few : length (start .args .kind .now) ≤ 4096 = start .pre .few in
     omega arith
 
@@ -43,7 +43,7 @@ clear-requires c κs =
     let at-settle-all = c .before .before .before .before in
     let at-mark-goals = at-settle-all .before .before .before .before .before .before in
     let at-mark-tree = at-mark-goals .before .before .before .before in
-    let start = at-mark-tree .before .before .before .before .before .before .before .before .before .before .before in
+    let start = at-mark-tree .before .before .before .before .before .before .before .before .before .before .before .before in
     run-room _ _ _ _ (start .pre) (at-mark-tree .mark-tree .ensures) (at-mark-goals .mark-goals .ensures) (at-settle-all .settle-all .ensures)
 
 same-length : tie.Need-same-length
@@ -57,7 +57,7 @@ returns c =
     let at-least-price = at-settle-all .before .before in
     let at-mark-goals = at-least-price .before .before .before .before in
     let at-mark-tree = at-mark-goals .before .before .before .before in
-    let start = at-mark-tree .before .before .before .before .before .before .before .before .before .before .before in
+    let start = at-mark-tree .before .before .before .before .before .before .before .before .before .before .before .before in
     let f = start .pre in
     let h = join-halts _ _ _ _ _ f (at-mark-tree .mark-tree .ensures) (at-mark-goals .mark-goals .ensures) (at-least-price .least-price .ensures)
     (at-settle-all .settle-all .ensures) in
@@ -70,7 +70,7 @@ read-path-requires c κs =
     let at-least-price = at-settle-all .before .before in
     let at-mark-goals = at-least-price .before .before .before .before in
     let at-mark-tree = at-mark-goals .before .before .before .before in
-    let start = at-mark-tree .before .before .before .before .before .before .before .before .before .before .before in
+    let start = at-mark-tree .before .before .before .before .before .before .before .before .before .before .before .before in
     let f = start .pre in
     let h = join-halts _ _ _ _ _ f (at-mark-tree .mark-tree .ensures) (at-mark-goals .mark-goals .ensures) (at-least-price .least-price .ensures)
     (at-settle-all .settle-all .ensures) in
@@ -87,7 +87,7 @@ returns-2 c =
     let at-least-price = at-settle-all .before .before in
     let at-mark-goals = at-least-price .before .before .before .before in
     let at-mark-tree = at-mark-goals .before .before .before .before in
-    let start = at-mark-tree .before .before .before .before .before .before .before .before .before .before .before in
+    let start = at-mark-tree .before .before .before .before .before .before .before .before .before .before .before .before in
     let f = start .pre in
     let h = join-halts _ _ _ _ _ f (at-mark-tree .mark-tree .ensures) (at-mark-goals .mark-goals .ensures) (at-least-price .least-price .ensures)
     (at-settle-all .settle-all .ensures) in

@@ -4,7 +4,7 @@ use mathlib.Core.Logic.{⊎-elim}
 use Prim.Native.Nat.{_-_}
 use native.Mathlib.Omega.{arith}
 use lib.ListN.{length}
-use Rattle.search.specs.Turn.{congestionOf}
+use Rattle.search.specs.Turn.{weighedCongestion}
 use Rattle.search.specs.Clamped.{clampedPrice}
 use Rattle.search.specs.TurnWork.{LeastGoal}
 use Rattle.search.proofs.TurnMarkLaws.{least-none, least-more, least-all}
@@ -13,10 +13,10 @@ use Rattle.search.proofs.turn.least_price.Statement.{statement}
 use Rattle.search.proofs.turn.least_price.Tie as tie
 
 abbrev Inv-loop : tie.InvT-loop
-Inv-loop kind capacity history others factor sinks work n least₀ i₀ least i = LeastGoal (length kind) (clampedPrice kind capacity (congestionOf factor history others)) sinks work i least
+Inv-loop kind capacity history others weighting delay factor sinks work n least₀ i₀ least i = LeastGoal (length kind) (clampedPrice kind capacity (weighedCongestion weighting delay factor history others)) sinks work i least
 
 abbrev μ-loop : tie.MeasureT-loop
-μ-loop kind capacity history others factor sinks work n least₀ i₀ least i = length sinks - i
+μ-loop kind capacity history others weighting delay factor sinks work n least₀ i₀ least i = length sinks - i
 
 loop-holds : tie.Need-loop-holds Inv-loop μ-loop
 loop-holds c = least-none _ _ _ _
@@ -28,16 +28,16 @@ shared-slice-read-s : tie.Need-shared-slice-read-s Inv-loop μ-loop
 shared-slice-read-s c = search needs
 
 cast-s : tie.Need-cast-s Inv-loop μ-loop
-cast-s c = omega (arith, c .shared-slice-known7 .given (c .before .before .loop .i))
+cast-s c = omega (arith, c .shared-slice-known8 .given (c .before .before .loop .i))
 
 mul-if2 : tie.Need-mul-if2 Inv-loop μ-loop
-mul-if2 c = let t = c .if1 .taken in let p = c .before .before .before .before .before .before .before .before .before .before .pre .0 .few in omega arith
+mul-if2 c = let t = c .if1 .taken in let p = c .before .before .before .before .before .before .before .before .before .before .before .pre .0 .few in omega arith
 
 shared-slice-read-if2 : tie.Need-shared-slice-read-if2 Inv-loop μ-loop
-shared-slice-read-if2 c = let t = c .before .if1 .taken in let p = c .before .before .before .before .before .before .before .before .before .before .before .pre .1 in omega arith
+shared-slice-read-if2 c = let t = c .before .if1 .taken in let p = c .before .before .before .before .before .before .before .before .before .before .before .before .pre .1 in omega arith
 
 clamped-price-requires : tie.Need-clamped-price-requires Inv-loop μ-loop
-clamped-price-requires c κs = (c .before .before .before .before .before .before .before .before .before .before .before .before .pre .0, c .before .before .if1 .taken)
+clamped-price-requires c κs = (c .before .before .before .before .before .before .before .before .before .before .before .before .before .pre .0, c .before .before .if1 .taken)
 
 add-i : tie.Need-add-i Inv-loop μ-loop
 add-i c = let t = c .before .before .loop-test .taken in omega arith

@@ -13,18 +13,40 @@ use Rattle.text.proofs.nets.read_nets.Statement.{statement}
 use Rattle.text.proofs.nets.read_nets.Tie as tie
 
 abbrev Inv-loop : tie.InvT-loop
-Inv-loop text from first-line kind nodes nets source₀ first-sink₀ sink₀ seen₀ c₀ source first-sink sink seen c =
-    Going kind nodes nets text (netLines (length (drop from text)) kind nodes nets (netLists [] [] []) first-line (drop from text)) c source first-sink sink seen × (length source ≡ length source₀) × (length first-sink ≡ length first-sink₀) × (length sink ≡ length sink₀) × (length seen ≡ 4096)
+Inv-loop text from first-line kind nodes nets timed source₀ first-sink₀ sink₀ criticality₀ seen₀ c₀ source first-sink sink criticality seen c =
+    Going timed kind nodes nets text (netLines (length (drop from text)) timed kind nodes nets (netLists [] [] [] []) first-line (drop from text)) c source first-sink sink criticality seen
+    × (length source ≡ length source₀) × (length first-sink ≡ length first-sink₀) × (length sink ≡ length sink₀) × (length criticality ≡ length criticality₀) × (length seen ≡ 4096)
 
 abbrev μ-loop : tie.MeasureT-loop
-μ-loop text from first-line kind nodes nets source₀ first-sink₀ sink₀ seen₀ c₀ source first-sink sink seen c =
+μ-loop text from first-line kind nodes nets timed source₀ first-sink₀ sink₀ criticality₀ seen₀ c₀ source first-sink sink criticality seen c =
     length text - c .at
+
+-- the loop's head before a turn, and the call of `net_line` in it
+abbrev head : tie.Then1 Inv-loop μ-loop → tie.At-loop Inv-loop μ-loop
+head c = c .before .before
+
+abbrev turn : tie.After-net-line Inv-loop μ-loop → tie.Then1 Inv-loop μ-loop
+turn c = c .before .before .before .before .before .before
+
+abbrev read-on : tie.After-known-told Inv-loop μ-loop → tie.After-net-line Inv-loop μ-loop
+read-on c = c .before .before .before .before .before .before .before .before .before .before .before .before
+
+abbrev stopped : tie.After-known-told2 Inv-loop μ-loop → tie.After-net-line Inv-loop μ-loop
+stopped c = c .before .before .before .before .before .before .before .before .before .before .before .before
 
 loop-holds : tie.Need-loop-holds Inv-loop μ-loop
 loop-holds c =
-    let s = c .before .before .before .before .before in
+    let s = c .before .before .before .before .before .before in
     let a = s .args in
-    (going-first (a .kind .now) (a .nodes) (a .nets) (a .text .now) (a .from) (a .first-line) (a .source .now) (a .first-sink .now) (a .sink .now) (s .pre .0 .0, s .pre .0 .1, s .pre .0 .2, s .pre .0 .3) (s .pre .1), refl, refl, refl, refl)
+    let pre = s .pre in (
+      going-first (a .timed) (a .kind .now) (a .nodes) (a .nets) (a .text .now) (a .from) (a .first-line) (a .source .now) (a .first-sink .now) (a .sink .now) (a .criticality .now)
+          (pre .0 .0, pre .0 .1, pre .0 .2, pre .0 .3) (pre .1),
+      refl,
+      refl,
+      refl,
+      refl,
+      refl,
+    )
 
 slice-aggregate-net-line : tie.Need-slice-aggregate-net-line Inv-loop μ-loop
 slice-aggregate-net-line c = search needs
@@ -37,24 +59,22 @@ enum-known-next c = search needs
 
 loop-less : tie.Need-loop-less Inv-loop μ-loop
 loop-less c =
-    let there = c .before .before .before .before .before .before .before .before .before .before in
-    let past-if1 = there .before .before .before .before .before in
-    let head = past-if1 .before .before in
+    let there = read-on c in
     let call = there .net-line in
-    going-later (head .loop .inv .0) (past-if1 .if1 .taken) (call .result) _ _ _ _ (c .before .next .given .1) (call .ensures .1)
+    going-later (head (turn there) .loop .inv .0) (turn there .if1 .taken) (call .result) _ _ _ _ _ (c .before .next .given .1) (call .ensures .1)
 
 loop-again : tie.Need-loop-again Inv-loop μ-loop
 loop-again c =
-    let there = c .before .before .before .before .before .before .before .before .before .before in
-    let past-if1 = there .before .before .before .before .before in
-    let head = past-if1 .before .before in
+    let there = read-on c in
     let call = there .net-line in
-    let inv = head .loop .inv in (
-      going-more (inv .0) (past-if1 .if1 .taken) (call .result) _ _ _ _ (c .before .next .given .1) (call .ensures .0) (call .ensures .1),
-      call .kept .1 .1 .1 .1 .1 .0 ∙ inv .1,
-      call .kept .1 .1 .1 .1 .1 .1 .0 ∙ inv .2,
-      call .kept .1 .1 .1 .1 .1 .1 .1 .0 ∙ inv .3,
-      call .kept .1 .1 .1 .1 .1 .1 .1 .1 .0 ∙ inv .4,
+    let inv = head (turn there) .loop .inv in
+    let kept = call .kept .1 .1 .1 .1 .1 .1 in (
+      going-more (inv .0) (turn there .if1 .taken) (call .result) _ _ _ _ _ (c .before .next .given .1) (call .ensures .0) (call .ensures .1),
+      kept .0 ∙ inv .1,
+      kept .1 .0 ∙ inv .2,
+      kept .1 .1 .0 ∙ inv .3,
+      kept .1 .1 .1 .0 ∙ inv .4,
+      kept .1 .1 .1 .1 .0 ∙ inv .5,
     )
 
 enum-known-number : tie.Need-enum-known-number Inv-loop μ-loop
@@ -69,16 +89,14 @@ same-length-2 c = search needs
 same-length-3 : tie.Need-same-length-3 Inv-loop μ-loop
 same-length-3 c = search needs
 
-returns : tie.Need-returns Inv-loop μ-loop
-returns c =
-    let there = c .before .before .before .before .before .before .before .before .before .before in
-    let past-if1 = there .before .before .before .before .before in
-    let head = past-if1 .before .before in
-    let call = there .net-line in
-    (going-stops (head .loop .inv .0) (past-if1 .if1 .taken) (call .result) _ _ _ (c .before .number .given .1) (call .ensures .0), tt)
-
 same-length-4 : tie.Need-same-length-4 Inv-loop μ-loop
 same-length-4 c = search needs
+
+returns : tie.Need-returns Inv-loop μ-loop
+returns c =
+    let there = stopped c in
+    let call = there .net-line in
+    (going-stops (head (turn there) .loop .inv .0) (turn there .if1 .taken) (call .result) _ _ _ _ (c .before .number .given .1) (call .ensures .0), tt)
 
 same-length-5 : tie.Need-same-length-5 Inv-loop μ-loop
 same-length-5 c = search needs
@@ -86,17 +104,26 @@ same-length-5 c = search needs
 same-length-6 : tie.Need-same-length-6 Inv-loop μ-loop
 same-length-6 c = search needs
 
-returns-2 : tie.Need-returns-2 Inv-loop μ-loop
-returns-2 c = (going-short (c .before .before .before .before .loop .inv .0) (c .before .before .if1 .left) (c .if2 .taken), tt)
-
 same-length-7 : tie.Need-same-length-7 Inv-loop μ-loop
 same-length-7 c = search needs
 
 same-length-8 : tie.Need-same-length-8 Inv-loop μ-loop
 same-length-8 c = search needs
 
+returns-2 : tie.Need-returns-2 Inv-loop μ-loop
+returns-2 c = (going-short (c .before .before .before .before .loop .inv .0) (c .before .before .if1 .left) (c .if2 .taken), tt)
+
 same-length-9 : tie.Need-same-length-9 Inv-loop μ-loop
 same-length-9 c = search needs
+
+same-length-10 : tie.Need-same-length-10 Inv-loop μ-loop
+same-length-10 c = search needs
+
+same-length-11 : tie.Need-same-length-11 Inv-loop μ-loop
+same-length-11 c = search needs
+
+same-length-12 : tie.Need-same-length-12 Inv-loop μ-loop
+same-length-12 c = search needs
 
 returns-3 : tie.Need-returns-3 Inv-loop μ-loop
 returns-3 c = (going-empty (c .before .before .before .before .before .before .loop .inv .0) (c .before .before .before .before .if1 .left) (c .if3 .taken), tt)
@@ -110,23 +137,26 @@ mul-first-sink c = search needs
 slice-write-first-sink : tie.Need-slice-write-first-sink Inv-loop μ-loop
 slice-write-first-sink c = search needs
 
-same-length-10 : tie.Need-same-length-10 Inv-loop μ-loop
-same-length-10 c = search needs
+same-length-13 : tie.Need-same-length-13 Inv-loop μ-loop
+same-length-13 c = search needs
 
-same-length-11 : tie.Need-same-length-11 Inv-loop μ-loop
-same-length-11 c = search needs
+same-length-14 : tie.Need-same-length-14 Inv-loop μ-loop
+same-length-14 c = search needs
 
-same-length-12 : tie.Need-same-length-12 Inv-loop μ-loop
-same-length-12 c = search needs
+same-length-15 : tie.Need-same-length-15 Inv-loop μ-loop
+same-length-15 c = search needs
+
+same-length-16 : tie.Need-same-length-16 Inv-loop μ-loop
+same-length-16 c = search needs
 
 returns-4 : tie.Need-returns-4 Inv-loop μ-loop
 returns-4 c =
     let past-if2 = c .before .before .before in
     let past-if1 = past-if2 .before .before in
-    let head = past-if1 .before .before in
-    let entry = head .before .before .before .before .before .before in
-    let inv = head .loop .inv in
-    (going-done (inv .0) (past-if1 .if1 .left) (past-if2 .if2 .left) (c .before .if3 .left), (inv .0 .kept .sinks-read, getD-set-same (head .loop .first-sink) (entry .args .nets) (head .loop .c .sinks) 0 (omega (arith, inv .0 .kept .room .firsts-long))))
+    let at-end = past-if1 .before .before in
+    let entry = at-end .before .before .before .before .before .before .before in
+    let inv = at-end .loop .inv in
+    (going-done (inv .0) (past-if1 .if1 .left) (past-if2 .if2 .left) (c .before .if3 .left), (inv .0 .kept .sinks-read, getD-set-same (at-end .loop .first-sink) (entry .args .nets) (at-end .loop .c .sinks) 0 (omega (arith, inv .0 .kept .room .firsts-long))))
 
 pub read-nets-spec : {M : Type 1} → statement M
 read-nets-spec =
@@ -144,19 +174,23 @@ read-nets-spec =
     same-length
     same-length-2
     same-length-3
-    returns
     same-length-4
+    returns
     same-length-5
     same-length-6
-    returns-2
     same-length-7
     same-length-8
+    returns-2
     same-length-9
+    same-length-10
+    same-length-11
+    same-length-12
     returns-3
     cast-first-sink
     mul-first-sink
     slice-write-first-sink
-    same-length-10
-    same-length-11
-    same-length-12
+    same-length-13
+    same-length-14
+    same-length-15
+    same-length-16
     returns-4)

@@ -1,16 +1,33 @@
 -- `text::nets::sink_line` meets its contract: each answer follows from the tests before it, where the stamps tell the net's pins.
 -- Assumes nothing.
+use mathlib.Core.Path.{refl}
 use Prim.Native.Nat.{_+_}
 use borrow.Author.Needs.{needs}
 use Rattle.search.proofs.KeptLaws.{refused, passed}
 use Rattle.job.specs.Tables.{sinkKind}
 use Rattle.text.proofs.JudgedLaws.{line-place}
-use Rattle.text.proofs.NetLineLaws.{sink-fault, sink-net, sink-node, sink-order, sink-seen, sink-many, sink-pin, of-refused, of-none, of-one}
+use Rattle.text.proofs.NetLineLaws.{sink-numbers, sink-fault, sink-net, sink-node, sink-tenths, sink-order, sink-seen, sink-many, sink-pin, of-refused, of-none, of-one}
 use Rattle.text.proofs.nets.sink_line.Statement.{statement}
 use Rattle.text.proofs.nets.sink_line.Tie as tie
 
+-- the entry, where the line's numbers are known, and where they have passed the tests of their bounds
+abbrev entry : tie.After-line-fields → tie.Start
+entry d = d .before .before .before .before .before
+
+abbrev lined : tie.After-known-told → tie.After-line-fields
+lined k = k .before .before .before
+
+abbrev known : tie.Else3 → tie.After-known-told
+known p = p .before .before .before .before
+
+one-of-two-requires : tie.Need-one-of-two-requires
+one-of-two-requires c κs = search needs
+
+cast-numbers : tie.Need-cast-numbers
+cast-numbers c = search needs
+
 line-fields-requires : tie.Need-line-fields-requires
-line-fields-requires c κs = search needs
+line-fields-requires c κs = rw (c .one-of-two .ensures) (sink-numbers (c .before .before .before .before .args .timed))
 
 enum-known-first : tie.Need-enum-known-first
 enum-known-first c = search needs
@@ -20,64 +37,87 @@ enum-told c = search needs
 
 returns : tie.Need-returns
 returns c =
-    let a = c .before .before .before .before .before .before .args in
-    (λ pins m. of-refused sinkKind (a .kind .now) (sink-fault _ _ _ (a .at) _ (a .text .now) _ (c .before .before .line-fields .ensures .0) pins (c .enum-told .given .1)), tt)
+    let d : tie.After-line-fields = c .before .before in
+    let a = entry d .args in
+    (λ pins m. of-refused sinkKind (a .kind .now) (sink-fault (a .timed) _ _ _ (a .at) _ (a .text .now) (d .before .one-of-two .ensures) (d .line-fields .ensures .0) pins (c .enum-told .given .1)), tt)
 
 cast-if1 : tie.Need-cast-if1
 cast-if1 c = search needs
 
 returns-2 : tie.Need-returns-2
 returns-2 c =
-    let a = c .before .before .before .before .before .before .before .before .args in
-    (λ pins m. of-refused sinkKind (a .kind .now) (sink-net _ _ _ (a .at) _ (a .text .now) _ (c .before .before .before .before .line-fields .ensures .0) (c .before .before .first .given .1) pins (c .if1 .taken)), tt)
+    let k : tie.After-known-told = c .before in
+    let d = lined k in
+    let a = entry d .args in
+    (λ pins m. of-refused sinkKind (a .kind .now) (sink-net (a .timed) _ _ _ (a .at) _ (a .text .now) (d .before .one-of-two .ensures) (d .line-fields .ensures .0) (k .before .first .given .1) refl pins (c .if1 .taken)), tt)
 
 cast-if2 : tie.Need-cast-if2
 cast-if2 c = search needs
 
 returns-3 : tie.Need-returns-3
 returns-3 c =
-    let a = c .before .before .before .before .before .before .before .before .before .args in
-    (λ pins m. of-refused sinkKind (a .kind .now) (sink-node _ _ _ (a .at) _ (a .text .now) _ (c .before .before .before .before .before .line-fields .ensures .0) (c .before .before .before .first .given .1) pins (c .if2 .taken)), tt)
+    let k : tie.After-known-told = c .before .before in
+    let d = lined k in
+    let a = entry d .args in
+    (λ pins m. of-refused sinkKind (a .kind .now) (sink-node (a .timed) _ _ _ (a .at) _ (a .text .now) (d .before .one-of-two .ensures) (d .line-fields .ensures .0) (k .before .first .given .1) refl pins (c .if2 .taken)), tt)
 
-cast-if3 : tie.Need-cast-if3
-cast-if3 c = search needs
+one-of-two-requires-2 : tie.Need-one-of-two-requires-2
+one-of-two-requires-2 c κs = search needs
 
 returns-4 : tie.Need-returns-4
 returns-4 c =
-    let known-first = c .before .before .before .before in
-    let after-line-fields = known-first .before .before in
-    let entry = after-line-fields .before .before .before .before in
-    let a = entry .args in
-    (λ pins m. of-refused sinkKind (a .kind .now) (sink-order _ _ _ (a .at) _ (a .text .now) _ (after-line-fields .line-fields .ensures .0) (known-first .first .given .1) (c .before .before .if1 .left) (c .before .if2 .left) pins (c .if3 .taken)), tt)
+    let k : tie.After-known-told = c .before .before .before .before in
+    let d = lined k in
+    let a = entry d .args in
+    (λ pins m. of-refused sinkKind (a .kind .now) (sink-tenths (a .timed) _ _ _ (a .at) _ (a .text .now) (d .before .one-of-two .ensures) (d .line-fields .ensures .0) (k .before .first .given .1) (c .before .one-of-two2 .ensures) pins (c .if3 .taken)), tt)
 
 cast-if4 : tie.Need-cast-if4
 cast-if4 c = search needs
 
-mul-if4 : tie.Need-mul-if4
-mul-if4 c = search needs
-
-shared-slice-read-if4 : tie.Need-shared-slice-read-if4
-shared-slice-read-if4 c = search needs
-
 returns-5 : tie.Need-returns-5
 returns-5 c =
-    let past-if2 = c .before .before .before in
-    let past-if1 = past-if2 .before in
-    let known-first = past-if1 .before .before in
-    let after-line-fields = known-first .before .before in
-    let entry = after-line-fields .before .before .before .before in
-    let a = entry .args in
-    (λ pins m. of-refused sinkKind (a .kind .now) (sink-seen _ _ _ (a .at) _ (a .text .now) _ (after-line-fields .line-fields .ensures .0) (known-first .first .given .1) (past-if1 .if1 .left) (past-if2 .if2 .left) (a .stamp) (a .seen .now) pins m (c .if4 .taken)), tt)
+    let p : tie.Else3 = c .before in
+    let b : tie.Else2 = p .before .before in
+    let k = known p in
+    let d = lined k in
+    let a = entry d .args in (
+      λ pins m. of-refused sinkKind (a .kind .now) (sink-order (a .timed) _ _ _ (a .at) _ (a .text .now) (d .before .one-of-two .ensures) (d .line-fields .ensures .0) (k .before .first .given .1) (p .before .one-of-two2 .ensures)
+          (b .before .if1 .left) (b .if2 .left) (p .if3 .left) pins (c .if4 .taken)),
+      tt,
+    )
+
+cast-if5 : tie.Need-cast-if5
+cast-if5 c = search needs
+
+mul-if5 : tie.Need-mul-if5
+mul-if5 c = search needs
+
+shared-slice-read-if5 : tie.Need-shared-slice-read-if5
+shared-slice-read-if5 c = search needs
 
 returns-6 : tie.Need-returns-6
 returns-6 c =
-    let past-if2 = c .before .before .before .before in
-    let past-if1 = past-if2 .before in
-    let known-first = past-if1 .before .before in
-    let after-line-fields = known-first .before .before in
-    let entry = after-line-fields .before .before .before .before in
-    let a = entry .args in
-    (λ pins m. of-refused sinkKind (a .kind .now) (sink-many _ _ _ (a .at) _ (a .text .now) _ (after-line-fields .line-fields .ensures .0) (known-first .first .given .1) (past-if1 .if1 .left) (past-if2 .if2 .left) pins (c .if5 .taken)), tt)
+    let p : tie.Else3 = c .before .before .before in
+    let b : tie.Else2 = p .before .before in
+    let k = known p in
+    let d = lined k in
+    let a = entry d .args in (
+      λ pins m. of-refused sinkKind (a .kind .now) (sink-seen (a .timed) _ _ _ (a .at) _ (a .text .now) (d .before .one-of-two .ensures) (d .line-fields .ensures .0) (k .before .first .given .1) (p .before .one-of-two2 .ensures)
+          (b .before .if1 .left) (b .if2 .left) (p .if3 .left) (a .stamp) (a .seen .now) pins m (c .if5 .taken)),
+      tt,
+    )
+
+returns-7 : tie.Need-returns-7
+returns-7 c =
+    let p : tie.Else3 = c .before .before .before .before in
+    let b : tie.Else2 = p .before .before in
+    let k = known p in
+    let d = lined k in
+    let a = entry d .args in (
+      λ pins m. of-refused sinkKind (a .kind .now) (sink-many (a .timed) _ _ _ (a .at) _ (a .text .now) (d .before .one-of-two .ensures) (d .line-fields .ensures .0) (k .before .first .given .1) (p .before .one-of-two2 .ensures)
+          (b .before .if1 .left) (b .if2 .left) (p .if3 .left) pins (c .if6 .taken)),
+      tt,
+    )
 
 cast-sink-kind : tie.Need-cast-sink-kind
 cast-sink-kind c = search needs
@@ -88,45 +128,48 @@ shared-slice-read-sink-kind c = search needs
 sink-kind-requires : tie.Need-sink-kind-requires
 sink-kind-requires c κs = search needs
 
-returns-7 : tie.Need-returns-7
-returns-7 c =
-    let past-if5 = c .before .before .before in
-    let past-if4 = past-if5 .before in
-    let past-if3 = past-if4 .before .before in
-    let past-if2 = past-if3 .before in
-    let past-if1 = past-if2 .before in
-    let known-first = past-if1 .before .before in
-    let after-line-fields = known-first .before .before in
-    let entry = after-line-fields .before .before .before .before in
-    let a = entry .args in (
-      λ pins m. of-none sinkKind (a .kind .now) (sink-pin _ _ _ (a .at) _ (a .text .now) _ (after-line-fields .line-fields .ensures .0) (known-first .first .given .1) (past-if1 .if1 .left)
-          (past-if2 .if2 .left) (a .stamp) (a .seen .now) pins m (past-if3 .if3 .left) (past-if4 .if4 .left) (past-if5 .if5 .left)) (refused (c .before .sink-kind .ensures) (c .if6 .taken)),
+returns-8 : tie.Need-returns-8
+returns-8 c =
+    let q : tie.Else6 = c .before .before .before in
+    let o : tie.Else5 = q .before in
+    let n : tie.Else4 = o .before .before in
+    let p : tie.Else3 = n .before in
+    let b : tie.Else2 = p .before .before in
+    let k = known p in
+    let d = lined k in
+    let a = entry d .args in (
+      λ pins m. of-none sinkKind (a .kind .now) (sink-pin (a .timed) _ _ _ (a .at) _ (a .text .now) (d .before .one-of-two .ensures) (d .line-fields .ensures .0) (k .before .first .given .1) (p .before .one-of-two2 .ensures)
+          (b .before .if1 .left) (b .if2 .left) (p .if3 .left) (a .stamp) (a .seen .now) pins m (n .if4 .left) (o .if5 .left) (q .if6 .left)) (refused (c .before .sink-kind .ensures) (c .if7 .taken)),
       tt,
     )
 
-cast-t18 : tie.Need-cast-t18
-cast-t18 c = search needs
+cast-t23 : tie.Need-cast-t23
+cast-t23 c = search needs
 
-returns-8 : tie.Need-returns-8
-returns-8 c =
-    let past-if5 = c .before .before .before in
-    let past-if4 = past-if5 .before in
-    let past-if3 = past-if4 .before .before in
-    let past-if2 = past-if3 .before in
-    let past-if1 = past-if2 .before in
-    let known-first = past-if1 .before .before in
-    let after-line-fields = known-first .before .before in
-    let entry = after-line-fields .before .before .before .before in
-    let a = entry .args in (
-      λ pins m. of-one sinkKind (a .kind .now) (sink-pin _ _ _ (a .at) _ (a .text .now) _ (after-line-fields .line-fields .ensures .0) (known-first .first .given .1) (past-if1 .if1 .left)
-          (past-if2 .if2 .left) (a .stamp) (a .seen .now) pins m (past-if3 .if3 .left) (past-if4 .if4 .left) (past-if5 .if5 .left)) (passed (c .before .sink-kind .ensures) (c .if6 .left)),
-      (line-place (a .at + 1) (a .text .now) (known-first .first .given .1) (after-line-fields .line-fields .ensures .1), past-if2 .if2 .left),
+cast-t25 : tie.Need-cast-t25
+cast-t25 c = search needs
+
+returns-9 : tie.Need-returns-9
+returns-9 c =
+    let q : tie.Else6 = c .before .before .before in
+    let o : tie.Else5 = q .before in
+    let n : tie.Else4 = o .before .before in
+    let p : tie.Else3 = n .before in
+    let b : tie.Else2 = p .before .before in
+    let k = known p in
+    let d = lined k in
+    let a = entry d .args in (
+      λ pins m. of-one sinkKind (a .kind .now) (sink-pin (a .timed) _ _ _ (a .at) _ (a .text .now) (d .before .one-of-two .ensures) (d .line-fields .ensures .0) (k .before .first .given .1) (p .before .one-of-two2 .ensures)
+          (b .before .if1 .left) (b .if2 .left) (p .if3 .left) (a .stamp) (a .seen .now) pins m (n .if4 .left) (o .if5 .left) (q .if6 .left)) (passed (c .before .sink-kind .ensures) (c .if7 .left)),
+      (line-place (a .at + 1) (a .text .now) (k .before .first .given .1) (d .line-fields .ensures .1), b .if2 .left),
     )
 
 pub sink-line-spec : {M : Type 1} → statement M
 sink-line-spec =
     tie.close
     (tie.spec
+    one-of-two-requires
+    cast-numbers
     line-fields-requires
     enum-known-first
     enum-told
@@ -135,16 +178,19 @@ sink-line-spec =
     returns-2
     cast-if2
     returns-3
-    cast-if3
+    one-of-two-requires-2
     returns-4
     cast-if4
-    mul-if4
-    shared-slice-read-if4
     returns-5
+    cast-if5
+    mul-if5
+    shared-slice-read-if5
     returns-6
+    returns-7
     cast-sink-kind
     shared-slice-read-sink-kind
     sink-kind-requires
-    returns-7
-    cast-t18
-    returns-8)
+    returns-8
+    cast-t23
+    cast-t25
+    returns-9)

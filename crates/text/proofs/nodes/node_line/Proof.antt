@@ -1,23 +1,34 @@
 -- `nodes::node_line` meets its contract: each return is one of the judgements of an N line, in their order.
 -- Assumes nothing.
-use mathlib.Core.List.{List}
-use Prim.Native.Nat.{ℕ}
-use denote.Ref.{now}
+use mathlib.Core.Path.{refl}
+use Prim.Native.Nat.{_+_}
+use native.Mathlib.Omega.{arith}
 use borrow.Author.Needs.{needs}
 use Rattle.text.proofs.JudgedLaws.{line-place}
-use Rattle.text.proofs.NodeLineLaws.{node-beyond-count, node-beyond-kind, node-beyond-least, node-beyond-most, node-within, node-shape, node-beyond, node-wrong, node-taken}
+use Rattle.text.proofs.NodeLineLaws.{node-beyond-count, node-beyond-kind, node-beyond-least, node-beyond-most, node-beyond-delay, node-within}
+use Rattle.text.proofs.NodeLineLaws.{node-numbers, node-shape, node-beyond, node-wrong, node-taken}
 use Rattle.text.proofs.nodes.node_line.Statement.{statement}
 use Rattle.text.proofs.nodes.node_line.Tie as tie
 
--- where the line is read
-abbrev at-of : tie.After-line-fields → ℕ
-at-of d = d .before .before .args .at
+-- the entry, and where the line's numbers are known
+abbrev entry : tie.After-line-fields → tie.Start
+entry d = d .before .before .before
 
-abbrev text-of : tie.After-line-fields → List ℕ
-text-of d = now (d .before .before .args .text)
+abbrev lined : tie.After-known-told → tie.After-line-fields
+lined k = k .before .before .before
+
+-- the tests that the numbers pass one after the other
+abbrev known-4 : tie.Else4 → tie.After-known-told
+known-4 c = c .before .before .before .before
+
+one-of-two-requires : tie.Need-one-of-two-requires
+one-of-two-requires c κs = search needs
+
+cast-count : tie.Need-cast-count
+cast-count c = search needs
 
 line-fields-requires : tie.Need-line-fields-requires
-line-fields-requires c κs = search needs
+line-fields-requires c κs = rw (c .one-of-two .ensures) (node-numbers (c .before .before .args .timed))
 
 enum-known-first : tie.Need-enum-known-first
 enum-known-first c = search needs
@@ -27,73 +38,109 @@ enum-told c = search needs
 
 returns : tie.Need-returns
 returns c =
-    let d = c .before .before in
-    (node-shape _ _ (at-of d) (text-of d) (d .line-fields .ensures .0) (c .enum-told .given .1), tt)
+    let d : tie.After-line-fields = c .before .before in
+    let a = entry d .args in
+    (node-shape (a .timed) (a .nodes) (a .v) (a .at) (a .text .now) (d .before .one-of-two .ensures) (d .line-fields .ensures .0) (c .enum-told .given .1), tt)
 
 cast-if1 : tie.Need-cast-if1
 cast-if1 c = search needs
 
 returns-2 : tie.Need-returns-2
 returns-2 c =
-    let d = c .before .before .before .before in (
-      node-beyond _ _ (at-of d) (text-of d) (d .line-fields .ensures .0) (c .before .before .first .given .1)
-          (node-beyond-count _ _ _ _ (c .if1 .taken)),
+    let k : tie.After-known-told = c .before in
+    let d = lined k in
+    let a = entry d .args in (
+      node-beyond (a .timed) (a .nodes) (a .v) (a .at) (a .text .now) (d .before .one-of-two .ensures) (d .line-fields .ensures .0) (k .before .first .given .1) refl
+          (node-beyond-count _ _ _ _ _ (c .if1 .taken)),
       tt,
     )
 
 returns-3 : tie.Need-returns-3
 returns-3 c =
-    let d = c .before .before .before .before .before in (
-      node-beyond _ _ (at-of d) (text-of d) (d .line-fields .ensures .0) (c .before .before .before .first .given .1)
-          (node-beyond-kind _ _ _ _ (c .before .if1 .left) (c .if2 .taken)),
+    let k : tie.After-known-told = c .before .before in
+    let d = lined k in
+    let a = entry d .args in (
+      node-beyond (a .timed) (a .nodes) (a .v) (a .at) (a .text .now) (d .before .one-of-two .ensures) (d .line-fields .ensures .0) (k .before .first .given .1) refl
+          (node-beyond-kind _ _ _ _ _ (c .before .if1 .left) (c .if2 .taken)),
       tt,
     )
 
 returns-4 : tie.Need-returns-4
 returns-4 c =
-    let d = c .before .before .before .before .before .before in (
-      node-beyond _ _ (at-of d) (text-of d) (d .line-fields .ensures .0) (c .before .before .before .before .first .given .1)
-          (node-beyond-least _ _ _ _ (c .before .before .if1 .left) (c .before .if2 .left) (c .if3 .taken)),
+    let k : tie.After-known-told = c .before .before .before in
+    let d = lined k in
+    let a = entry d .args in (
+      node-beyond (a .timed) (a .nodes) (a .v) (a .at) (a .text .now) (d .before .one-of-two .ensures) (d .line-fields .ensures .0) (k .before .first .given .1) refl
+          (node-beyond-least _ _ _ _ _ (c .before .before .if1 .left) (c .before .if2 .left) (c .if3 .taken)),
       tt,
     )
 
 returns-5 : tie.Need-returns-5
 returns-5 c =
-    let d = c .before .before .before .before .before .before .before in (
-      node-beyond _ _ (at-of d) (text-of d) (d .line-fields .ensures .0) (c .before .before .before .before .before .first .given .1)
-          (node-beyond-most _ _ _ _ (c .before .before .before .if1 .left) (c .before .before .if2 .left) (c .before .if3 .left) (c .if4 .taken)),
+    let k : tie.After-known-told = c .before .before .before .before in
+    let d = lined k in
+    let a = entry d .args in (
+      node-beyond (a .timed) (a .nodes) (a .v) (a .at) (a .text .now) (d .before .one-of-two .ensures) (d .line-fields .ensures .0) (k .before .first .given .1) refl
+          (node-beyond-most _ _ _ _ _ (c .before .before .before .if1 .left) (c .before .before .if2 .left) (c .before .if3 .left) (c .if4 .taken)),
       tt,
     )
 
-cast-if5 : tie.Need-cast-if5
-cast-if5 c = search needs
+one-of-two-requires-2 : tie.Need-one-of-two-requires-2
+one-of-two-requires-2 c κs = search needs
 
 returns-6 : tie.Need-returns-6
 returns-6 c =
-    let d = c .before .before .before .before .before .before .before .before in (
-      node-wrong _ _ (at-of d) (text-of d) (d .line-fields .ensures .0) (c .before .before .before .before .before .before .first .given .1)
-          (node-within _ _ _ _ (c .before .before .before .before .if1 .left) (c .before .before .before .if2 .left) (c .before .before .if3 .left) (c .before .if4 .left)) (c .if5 .taken),
+    let p : tie.Else4 = c .before .before in
+    let k = known-4 p in
+    let d = lined k in
+    let a = entry d .args in (
+      node-beyond (a .timed) (a .nodes) (a .v) (a .at) (a .text .now) (d .before .one-of-two .ensures) (d .line-fields .ensures .0) (k .before .first .given .1) (c .before .one-of-two2 .ensures)
+          (node-beyond-delay _ _ _ _ _ (p .before .before .before .if1 .left) (p .before .before .if2 .left) (p .before .if3 .left) (p .if4 .left) (omega (arith, c .if5 .taken))),
       tt,
     )
 
-cast-t12 : tie.Need-cast-t12
-cast-t12 c = search needs
-
-cast-t13 : tie.Need-cast-t13
-cast-t13 c = search needs
+cast-if6 : tie.Need-cast-if6
+cast-if6 c = search needs
 
 returns-7 : tie.Need-returns-7
 returns-7 c =
-    let d = c .before .before .before .before .before .before .before .before in (
-      node-taken _ _ (at-of d) (text-of d) (d .line-fields .ensures .0) (c .before .before .before .before .before .before .first .given .1)
-          (node-within _ _ _ _ (c .before .before .before .before .if1 .left) (c .before .before .before .if2 .left) (c .before .before .if3 .left) (c .before .if4 .left)) (c .if5 .left),
-      line-place _ (text-of d) (c .before .before .before .before .before .before .first .given .1) (d .line-fields .ensures .1),
+    let q : tie.Else5 = c .before in
+    let p : tie.Else4 = q .before .before in
+    let k = known-4 p in
+    let d = lined k in
+    let a = entry d .args in (
+      node-wrong (a .timed) (a .nodes) (a .v) (a .at) (a .text .now) (d .before .one-of-two .ensures) (d .line-fields .ensures .0) (k .before .first .given .1) (q .before .one-of-two2 .ensures)
+          (node-within _ _ _ _ _ (p .before .before .before .if1 .left) (p .before .before .if2 .left) (p .before .if3 .left) (p .if4 .left) (omega (arith, q .if5 .left))) (c .if6 .taken),
+      tt,
+    )
+
+cast-t17 : tie.Need-cast-t17
+cast-t17 c = search needs
+
+cast-t18 : tie.Need-cast-t18
+cast-t18 c = search needs
+
+cast-t19 : tie.Need-cast-t19
+cast-t19 c = search needs
+
+returns-8 : tie.Need-returns-8
+returns-8 c =
+    let q : tie.Else5 = c .before in
+    let p : tie.Else4 = q .before .before in
+    let k = known-4 p in
+    let d = lined k in
+    let a = entry d .args in (
+      node-taken (a .timed) (a .nodes) (a .v) (a .at) (a .text .now) (d .before .one-of-two .ensures) (d .line-fields .ensures .0) (k .before .first .given .1) (q .before .one-of-two2 .ensures)
+          (node-within _ _ _ _ _ (p .before .before .before .if1 .left) (p .before .before .if2 .left) (p .before .if3 .left) (p .if4 .left) (omega (arith, q .if5 .left))) (c .if6 .left),
+      line-place (a .at + 1) (a .text .now) (k .before .first .given .1) (d .line-fields .ensures .1),
     )
 
 pub node-line-spec : {M : Type 1} → statement M
 node-line-spec =
     tie.close
     (tie.spec
+    one-of-two-requires
+    cast-count
     line-fields-requires
     enum-known-first
     enum-told
@@ -103,8 +150,11 @@ node-line-spec =
     returns-3
     returns-4
     returns-5
-    cast-if5
+    one-of-two-requires-2
     returns-6
-    cast-t12
-    cast-t13
-    returns-7)
+    cast-if6
+    returns-7
+    cast-t17
+    cast-t18
+    cast-t19
+    returns-8)

@@ -8,14 +8,23 @@ use Rattle.text.proofs.nodes.read_nodes.Statement.{statement}
 use Rattle.text.proofs.nodes.read_nodes.Tie as tie
 
 abbrev Inv-loop : tie.InvT-loop
-Inv-loop text from first-line nodes kind₀ capacity₀ at₀ line₀ v₀ kind capacity at line v =
-    NodesRead text from first-line nodes kind₀ capacity₀ kind capacity at line v
+Inv-loop text from first-line nodes timed kind₀ capacity₀ delay₀ at₀ line₀ v₀ kind capacity delay at line v =
+    NodesRead timed text from first-line nodes kind₀ capacity₀ delay₀ kind capacity delay at line v
 
 abbrev μ-loop : tie.MeasureT-loop
-μ-loop text from first-line nodes kind₀ capacity₀ at₀ line₀ v₀ kind capacity at line v = nodes - v
+μ-loop text from first-line nodes timed kind₀ capacity₀ delay₀ at₀ line₀ v₀ kind capacity delay at line v = nodes - v
+
+-- the entry, and the loop's head before an answer that refuses a line
+abbrev entry : tie.At-loop Inv-loop μ-loop → tie.Start Inv-loop μ-loop
+entry c = c .before .before .before .before .before
+
+abbrev refused : tie.After-known-told2 Inv-loop μ-loop → tie.After-node-line Inv-loop μ-loop
+refused c = c .before .before .before
 
 loop-holds : tie.Need-loop-holds Inv-loop μ-loop
-loop-holds c = nodes-none _ _ _ _ _ _ (c .before .before .before .pre .0 .0) (c .before .before .before .pre .0 .1)
+loop-holds c =
+    let pre = c .before .before .before .before .pre in
+    nodes-none _ _ _ _ _ _ _ _ (pre .0 .0) (pre .0 .1)
 
 node-line-requires : tie.Need-node-line-requires Inv-loop μ-loop
 node-line-requires c κs = search needs
@@ -29,6 +38,12 @@ slice-write-kind c = search needs
 slice-write-capacity : tie.Need-slice-write-capacity Inv-loop μ-loop
 slice-write-capacity c = search needs
 
+mul-delay : tie.Need-mul-delay Inv-loop μ-loop
+mul-delay c = search needs
+
+slice-write-delay : tie.Need-slice-write-delay Inv-loop μ-loop
+slice-write-delay c = search needs
+
 add-line : tie.Need-add-line Inv-loop μ-loop
 add-line c = search needs
 
@@ -40,34 +55,41 @@ loop-less c = search needs
 
 loop-again : tie.Need-loop-again Inv-loop μ-loop
 loop-again c =
-    let after-node-line = c .before .before .before in
-    let there = after-node-line .before in
-    let head = there .before in
-    let entry = head .before .before .before .before in
-    nodes-more (entry .pre .1) (head .loop .inv) (there .loop-test .taken) (c .before .k .given .1) (after-node-line .node-line .ensures .0) (after-node-line .node-line .ensures .1)
+    let answered = c .before .before .before in
+    let head = answered .before .before in
+    nodes-more (entry head .pre .1) (head .loop .inv) (answered .before .loop-test .taken) (c .before .k .given .1) (answered .node-line .ensures .0) (answered .node-line .ensures .1)
 
 enum-known-number : tie.Need-enum-known-number Inv-loop μ-loop
 enum-known-number c = search needs
 
 same-length : tie.Need-same-length Inv-loop μ-loop
-same-length c = c .before .before .before .before .before .loop .inv .kinds-same
+same-length c = refused c .before .before .loop .inv .kinds-same
 
 same-length-2 : tie.Need-same-length-2 Inv-loop μ-loop
-same-length-2 c = c .before .before .before .before .before .loop .inv .capacities-same
+same-length-2 c = refused c .before .before .loop .inv .capacities-same
+
+same-length-3 : tie.Need-same-length-3 Inv-loop μ-loop
+same-length-3 c = refused c .before .before .loop .inv .delays-same
 
 returns : tie.Need-returns Inv-loop μ-loop
 returns c =
-    (nodes-stop (c .before .before .before .before .before .before .before .before .before .pre .1) (c .before .before .before .before .before .loop .inv) (c .before .before .before .before .loop-test .taken) (c .before .number .given .1) (c .before .before .before .node-line .ensures .0), tt)
-
-same-length-3 : tie.Need-same-length-3 Inv-loop μ-loop
-same-length-3 c = c .before .loop .inv .kinds-same
+    let answered = refused c in
+    let head = answered .before .before in
+    (nodes-stop (entry head .pre .1) (head .loop .inv) (answered .before .loop-test .taken) (c .before .number .given .1) (answered .node-line .ensures .0), tt)
 
 same-length-4 : tie.Need-same-length-4 Inv-loop μ-loop
-same-length-4 c = c .before .loop .inv .capacities-same
+same-length-4 c = c .before .loop .inv .kinds-same
+
+same-length-5 : tie.Need-same-length-5 Inv-loop μ-loop
+same-length-5 c = c .before .loop .inv .capacities-same
+
+same-length-6 : tie.Need-same-length-6 Inv-loop μ-loop
+same-length-6 c = c .before .loop .inv .delays-same
 
 returns-2 : tie.Need-returns-2 Inv-loop μ-loop
 returns-2 c =
-    (nodes-end (c .before .before .before .before .before .pre .1) (c .before .loop .inv) (c .loop-test .left), (c .before .loop .inv .at-most, c .before .loop .inv .line-most))
+    let head = c .before in
+    (nodes-end (entry head .pre .1) (head .loop .inv) (c .loop-test .left), (head .loop .inv .at-most, head .loop .inv .line-most))
 
 pub read-nodes-spec : {M : Type 1} → statement M
 read-nodes-spec =
@@ -80,6 +102,8 @@ read-nodes-spec =
     enum-known-k
     slice-write-kind
     slice-write-capacity
+    mul-delay
+    slice-write-delay
     add-line
     add-v
     loop-less
@@ -87,7 +111,9 @@ read-nodes-spec =
     enum-known-number
     same-length
     same-length-2
-    returns
     same-length-3
+    returns
     same-length-4
+    same-length-5
+    same-length-6
     returns-2)

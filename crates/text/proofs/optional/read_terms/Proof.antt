@@ -1,4 +1,4 @@
--- `optional::read_terms` meets its contract: the P line after the plain terms, then the V line after these.
+-- `optional::read_terms` meets its contract: the P line after the plain terms, then the V and the W line after these.
 -- Assumes nothing.
 use borrow.Author.Needs.{needs}
 use Rattle.text.proofs.OptionalLineLaws.{read-place, terms-on, terms-stopped}
@@ -18,8 +18,8 @@ read-tuning-requires c κs = search needs
 enum-known-terms : tie.Need-enum-known-terms
 enum-known-terms c = search needs
 
-read-rule-requires : tie.Need-read-rule-requires
-read-rule-requires c κs =
+read-further-requires : tie.Need-read-further-requires
+read-further-requires c κs =
     let d : tie.After-read-tuning = c .before .before .before in
     read-place (start d .args .text .now) (d .read-tuning .result) (c .before .terms .given .1) (d .read-tuning .ensures .1)
 
@@ -32,8 +32,8 @@ returns c =
     let d : tie.After-read-tuning = known .before .before in
     let s : tie.Start = start d in (
       terms-on (s .args .limit) (s .args .at) (s .args .line) (s .args .text .now) _ (d .before .plain-terms .ensures) (d .read-tuning .result) (d .read-tuning .ensures .0)
-          (c .read-rule .result) (known .terms .given .1) (c .read-rule .ensures .0),
-      c .read-rule .ensures .1,
+          (c .read-further .result) (known .terms .given .1) (c .read-further .ensures .0),
+      c .read-further .ensures .1,
     )
 
 returns-2 : tie.Need-returns-2
@@ -52,7 +52,7 @@ read-terms-spec =
     plain-terms-requires
     read-tuning-requires
     enum-known-terms
-    read-rule-requires
+    read-further-requires
     enum-known-number
     returns
     returns-2)
