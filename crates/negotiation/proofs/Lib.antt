@@ -56,7 +56,7 @@
 --     ResumeHolds       request 2.8: every resumed call: what is rebuilt, the lent words first, the appended turns as demand 3 asks
 --     OwnResumeHolds    request 2.8: a job's own log ends as the straight run
 --     AfterLimitHolds   request 2.8: so does the log of a run that refusal 9 ended, under a larger limit
---     SamplesHold       the starred jobs
+--     SamplesHold       the starred jobs, and one of request 2.9, timed and not
 -- The routing loops
 --     TariffLaws        a tariff behind a `&mut`: what opens and closes the borrow
 --     StepLaws          a step that takes nothing but the `&mut`, and the function by value around it
@@ -74,6 +74,7 @@
 --     KeepNet           after a net
 --     KeepEnd           after an iteration
 --     KeepLengths       the lists keep their lengths
+--     TriedLaws         the turn that a net of a lent log makes next: the sinks that it tries are goals, and they weigh its prices
 --     TakeTurnLaws      the turns of a net in a lent log, as a loop follows them
 --     TakeNetLaws       the nets of an iteration in it
 --     TakeLogLaws       its iterations

@@ -168,6 +168,7 @@ tested j work log run =
     (choose (ltb (length work) (workNeeded (nodes j))) (refusedReply (6 ∷ workNeeded (nodes j) ∷ []) work log)
     (reachedReply (joined j) work log run)))
 
--- "The router tests 5, 6, 7, then 8 and 9 as they arise", and by request 2.3 "Negotiation and all of demand 3 are those of joined nets"
+-- "The router tests 5, 6, 7, then 8 and 9 as they arise", with 15 after 5, and by request 2.3 "Negotiation and all of demand 3 are those of
+-- joined nets"
 unfoldable pub routeReply : Job → List ℕ → List ℕ → RouteReply
 routeReply j work log = tested j work log (negotiated (joined j) work log)

@@ -1,4 +1,4 @@
--- What routing rests on: less than the rules of tables 5 to 8 say, so that a job whose nets of one source are joined has it too. Only
+-- What routing rests on: less than the rules of tables 5 to 10 say, so that a job whose nets of one source are joined has it too. Only
 -- contracts of private functions cite this file: no caller has to believe it.
 -- Assumes nothing.
 use mathlib.Core.Bool.{true, false}

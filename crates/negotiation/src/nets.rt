@@ -30,7 +30,7 @@ fn count_tree(log: &[u32], from: usize, to: usize, users: &mut [u16], in_tree: &
     trees::add_records(log, from, to, users, in_tree);
 }
 
-// A net that is due drops its old tree and marks its source. The answer is how many turns it makes: none where it is not due.
+// A net that is due drops its old tree and marks its source. The answer is how many turns it makes at most: none where it is not due.
 pub fn begin_net(
     log: &[u32],
     source: &[u16],

@@ -23,7 +23,7 @@ fn place_due(sinks: &[u16], criticality: &[u8], in_tree: &[u8]) -> usize
     ensures { λ r. ⌜ r ≡ placeDue (inTree (now («in_tree» .entry))) (now (sinks .entry)) (now (criticality .entry)) ⌝ }
 {
     let mut due = sinks.len();
-    // what a sink must have to come before the one found so far
+    // What a sink must have to come before the one found so far.
     let mut least: u8 = 0;
     let mut place = 0;
     while place < sinks.len() {

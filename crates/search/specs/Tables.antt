@@ -1,5 +1,5 @@
--- Document 01, "Tables and bounds": the rules of tables 1 to 4, and the lowest table that breaks its rule. A table's length is part of its
--- rule.
+-- Document 01, "Tables and bounds": the rules of tables 1 to 4 and of table 9 of request 2.9, and the lowest of 1 to 4 that breaks its
+-- rule. A table's length is part of its rule.
 -- Assumes nothing.
 use mathlib.Core.Bool.{Bool, true, not}
 use mathlib.Core.List.{List}

@@ -1,4 +1,5 @@
--- Document 01, "Job text" and rows 1 to 4 of "Numbers for a stopped call": what the reader answers and leaves in the tables.
+-- Document 01, "Job text" and rows 1 to 4 of "Numbers for a stopped call", with 15 of request 2.9: what the reader answers and leaves in
+-- the tables.
 -- Assumes nothing.
 use mathlib.Core.List.{List, [], _∷_, _++_}
 use Prim.Native.Nat.{ℕ, _+_}

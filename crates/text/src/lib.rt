@@ -194,7 +194,8 @@ fn if_timed(timed: bool, count: usize) -> usize
     if timed { count } else { 0 }
 }
 
-// Writes the job that was read into the tables that were lent, or names the lowest that is too short for it. A timed job may be too large.
+// Writes the job that was read into the tables that were lent, or names the lowest that is too short for it. A timed job that exceeds its
+// bounds is refused after that.
 fn store_job(
     nodes: usize,
     edges: usize,
