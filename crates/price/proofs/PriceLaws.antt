@@ -1,5 +1,6 @@
 -- Laws of prices, factors and histories over the bounds of row 13. The crates above cite these and not the definitions' text.
 --     price-pos, price-most     a price is above 0 and at most `priceMost`
+--     price-least               and at least 100 × base cost
 --     path-most, path-fits      so many prices as a path has nodes add up to less than `pathMost`, which fits 64 bits
 --     factor-steps, factor-most the factor of the next iteration is the stepped one, and at most `factorMost`
 --     history-reach             what history can reach before iteration t
@@ -7,7 +8,7 @@
 use mathlib.Core.Path.{_≡_, refl, _∙_}
 use mathlib.Core.Logic.{_⊎_, ⊎-elim, inl, inr}
 use Prim.Native.Nat.{ℕ, zero, suc, _+_, _-_, _*_, _/_, _^_, _≤_, _<_, min}
-use native.Mathlib.Nat.{mul-le-mul, mul-pos, min-le-right, div-zero}
+use native.Mathlib.Nat.{mul-le-mul, mul-pos, min-le-right, div-zero, le-refl}
 use native.Mathlib.Numerals.{add-one}
 use native.Mathlib.Omega.{arith}
 use borrow.Author.Tests.{lt-ltb, le-ltb, eq-eqb, ne-eqb}
@@ -72,6 +73,14 @@ price-most {k} {f} {o} {c} {h} b =
 pub price-pos : (k f o c h : ℕ) → 1 ≤ h → 0 < priceOf k f o c h
 unfolding priceOf
 price-pos k f o c h l = mul-pos (mul-pos l (base-pos k)) (omega arith)
+
+-- never below what base cost alone asks
+pub price-least : (k f o c h : ℕ) → 1 ≤ h → 100 * baseCost k ≤ priceOf k f o c h
+unfolding priceOf
+price-least k f o c h l =
+    let low : 1 * baseCost k ≤ h * baseCost k = mul-le-mul l (le-refl (baseCost k)) in
+    let alone : 1 * baseCost k * 100 ≤ h * baseCost k * (100 + f * overuse o c) = mul-le-mul low (omega arith) in
+    omega arith
 
 pub path-most : (n : ℕ) → n ≤ nodesMost → n * priceMost < pathMost
 path-most n h = omega arith

@@ -54,6 +54,11 @@ timed-pos c d p hc hp =
     let share : 0 < (10 - c) * p = mul-pos (omega arith) hp in
     omega arith
 
+-- never below the congestion price's share, whatever the delay
+pub timed-share : (c d p : ℕ) → (10 - c) * p ≤ timedPrice c d p
+unfolding timedPrice
+timed-share c d p = omega arith
+
 -- 1,024 such prices add up to less than the bound of every path
 pub timed-path-most : (n : ℕ) → n ≤ timedNodesMost → n * timedPriceMost < pathMost
 timed-path-most n h = omega arith

@@ -1,6 +1,6 @@
 -- The files of laws, by subject. A folder beside them proves the function of its name.
 --
--- Tables 1 to 4, the list of sinks, row 13
+-- Tables 1 to 4 and 9, the list of sinks, row 13
 --     BlockLaws       what each rule of a table says at an entry; edges by their places in table 4
 --     EdgeLaws        edges where tables 3 and 4 have their lengths but may break their rules
 --     ClampedLaws        numbers clamped within bounds, and the price over them
@@ -22,6 +22,14 @@
 --     TurnLaws        theorem: a turn joins by a cheapest path, and where it is stuck there is none
 --     GraphLaws       distances and turns without capacities are the same
 --     PriceSameLaws   prices that are the same on nodes make the same turn
+--
+-- The aimed search
+--     AimedLaws       the estimate is a least cost and consistent; which nodes a turn expands, path and ties among them
+--     AimedExact      why its two passes are right, over labels and settled nodes as functions
+--     AimedSample     the definitions compute, on a block of five nodes
+--     LinkLaws        the edges by their target, as linked lists
+--     EstimateLaws    the estimates in the work slice
+--     EstimateSteps   the nodes before a node get their estimates, edge by edge
 --
 -- The work slice
 --     StoreLaws       a store at one place of a list
@@ -79,10 +87,16 @@ pub mod NearestLaws
 pub mod TurnLaws
 pub mod GraphLaws
 pub mod PriceSameLaws
+pub mod AimedLaws
+pub mod AimedExact
+pub mod AimedSample
 pub mod StoreLaws
 pub mod FillLaws
 pub mod QueueLaws
 pub mod LevelLaws
+pub mod LinkLaws
+pub mod EstimateLaws
+pub mod EstimateSteps
 pub mod Exactness
 pub mod BestLaws
 pub mod FrontierSteps

@@ -24,7 +24,7 @@ pub record Nearest (b : Block) (price : ℕ → ℕ) (marks sinks : List ℕ) (p
   pub here : distance b price marks (getD sinks place 0) ≡ nearestDistance b price marks sinks
 
 -- an entry of a mapped list
-getD-map-lt : (f : ℕ → ℕ) (xs : List ℕ) (i : ℕ) → i < length xs → getD (map f xs) i 0 ≡ f (getD xs i 0)
+pub getD-map-lt : (f : ℕ → ℕ) (xs : List ℕ) (i : ℕ) → i < length xs → getD (map f xs) i 0 ≡ f (getD xs i 0)
 getD-map-lt f [] i l = absurd (not-suc-le-zero l)
 getD-map-lt f (x ∷ xs) zero l = refl
 getD-map-lt f (x ∷ xs) (suc i) l = getD-map-lt f xs i (le-of-suc-le-suc l)

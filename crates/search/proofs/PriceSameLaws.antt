@@ -34,7 +34,7 @@ total-same p q (x ∷ xs) same =
     omega arith
 
 -- what is no node has no distance
-beyond : (b : Block) (price : ℕ → ℕ) (marks : List ℕ) (v : ℕ) → distance b price marks v < far → v < nodes b
+pub beyond : (b : Block) (price : ℕ → ℕ) (marks : List ℕ) (v : ℕ) → distance b price marks v < far → v < nodes b
 beyond b price marks v near =
     ⊎-elim
     (λ (h : nodes b ≤ v).

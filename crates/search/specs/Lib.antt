@@ -4,6 +4,7 @@ pub mod Paths
 pub mod Distance
 pub mod Turn
 pub mod Clamped
+pub mod Aimed
 pub mod Replies
 pub mod Layout
 pub mod Frontier
@@ -11,3 +12,5 @@ pub mod Ready
 pub mod Labels
 pub mod Spread
 pub mod TurnWork
+pub mod Links
+pub mod Estimates

@@ -1,4 +1,4 @@
-// The search: tests of tables 1 to 4, distances from a tree, and the cheapest path of one turn.
+// The search: tests of tables 1 to 4 and 9, distances from a tree, and the cheapest path of one turn.
 ghost use mathlib.Core.List.{List, []};
 ghost use mathlib.Core.Path.{_≡_};
 ghost use Prim.Native.Nat.{ℕ};
@@ -52,8 +52,10 @@ pub const SINKS_MOST: usize = 4096;
 pub const TIMED_NODES_MOST: usize = 1024;
 
 mod distances;
+mod estimate;
 mod heap;
 mod labels;
+mod links;
 mod numbers;
 mod queue;
 mod run;

@@ -1,0 +1,176 @@
+-- Steps of the estimates: the nodes before a node get theirs, edge by edge.
+--     reguess-none, reguess-more    no edge has been looked at, one more has
+--     Following                     the loop that follows the places of v, with its steps and its end
+-- Assumes nothing.
+use mathlib.Core.Bool.{true}
+use mathlib.Core.List.{List}
+use mathlib.Core.Logic.{_⊎_, ⊎-elim, inl, inr}
+use mathlib.Core.Path.{_≡_, refl, sym, _∙_, ap, subst}
+use Prim.Native.Nat.{ℕ, _+_, _-_, _*_, _≤_, _<_}
+use native.Mathlib.Omega.{arith}
+use lib.ListN.{length, getD}
+use Rattle.price.proofs.TestLaws.{le-or-lt}
+use Rattle.search.specs.Block.{Block, nodes, hasEdge}
+use Rattle.search.specs.Tables.{Graph}
+use Rattle.search.specs.Distance.{far, inTree}
+use Rattle.search.specs.Layout.{Heap}
+use Rattle.search.specs.Links.{InRow, Linked}
+use Rattle.search.specs.Estimates.{keyMost, guessAt, Guessed, Tried, has-one, gets-one, Reguessed, kept, fresh, TreeGuessed, Reguessing, GuessedBefore}
+use Rattle.search.proofs.BlockLaws.{edge-from, edge-place}
+use Rattle.search.proofs.QueueLaws.{same-or-not}
+use Rattle.search.proofs.LinkLaws.{row-place, row-unique, last-next, earlier-next, from-linked}
+
+-- ---- one node
+
+module _ {n : ℕ} {weight : ℕ → ℕ} {marks : List ℕ} {u guess cost : ℕ} {w w′ : List ℕ} {bound bound′ : ℕ} (small : guess < far) where
+  -- it has an estimate afterwards, and so has every node that had one
+  tried-here : Tried n weight marks u guess cost w w′ bound bound′ → guessAt n w′ u ≡ far → ⊥
+  tried-here (has-one some same same-bound) e = some (rw same at e)
+  tried-here (gets-one blank t bounds) e = absurd (omega (arith, t .guess-here))
+
+  tried-other : Tried n weight marks u guess cost w w′ bound bound′ → (x : ℕ) → x < n → (guessAt n w x ≡ far → ⊥) → guessAt n w′ x ≡ far → ⊥
+  tried-other (has-one some same same-bound) x h had e = had (rw same at e)
+  tried-other (gets-one blank t bounds) x h had e =
+      ⊎-elim
+      (λ (q : x ≡ u). had (ap (guessAt n w) q ∙ blank))
+      (λ (d : x ≡ u → ⊥). had (sym (t .guess-other x h d) ∙ e))
+      (same-or-not x u)
+
+module _ {b : Block} {weight : ℕ → ℕ} {v guess cost : ℕ} {w w′ : List ℕ} where
+  -- a node that has no estimate yet had none before
+  was-blank : {u : ℕ} → Reguessed b weight v guess cost w w′ u → guessAt (nodes b) w′ u ≡ far → guessAt (nodes b) w u ≡ far
+  was-blank (kept p q r) e = sym p ∙ e
+  was-blank (fresh p q r s t) e = p
+
+  -- a node that the last step left alone
+  still :
+      {w″ : List ℕ} {u x : ℕ} → x < nodes b → (x ≡ u → ⊥) → Guessed (nodes b) weight u guess cost w′ w″ → Reguessed b weight v guess cost w w′ x
+      → Reguessed b weight v guess cost w w″ x
+  still {w″} {u} {x} h d s (kept p q r) = kept (s .guess-other x h d ∙ p) (s .walk-other x h d ∙ q) (s .leaf-other x h d ∙ r)
+  still {w″} {u} {x} h d s (fresh p e q r t) = fresh p e (s .guess-other x h d ∙ q) (s .walk-other x h d ∙ r) (s .leaf-other x h d ∙ t)
+
+-- the tree node that gave the bound keeps its estimate
+tree-still :
+    {n : ℕ} {weight : ℕ → ℕ} {marks : List ℕ} {u guess cost : ℕ} {w w′ w″ : List ℕ} → guessAt n w′ u ≡ far → Guessed n weight u guess cost w′ w″
+    → TreeGuessed n marks cost w w′ → TreeGuessed n marks cost w w″
+tree-still {n} {u = u} {w′ = w′} blank t g =
+    let d : g .tree ≡ u → ⊥ = λ e. let z : guessAt n w′ (g .tree) ≡ far = ap (guessAt n w′) e ∙ blank in omega (arith, g .near) in
+    record {
+      tree = g .tree;
+      node = g .node;
+      marked = g .marked;
+      blank = g .blank;
+      near = rw (t .guess-other (g .tree) (g .node) d) (g .near);
+      cost-here = t .walk-other (g .tree) (g .node) d ∙ g .cost-here;
+    }
+
+-- ---- the nodes with an edge to v
+
+module _ {b : Block} {weight : ℕ → ℕ} {marks : List ℕ} {v guess cost : ℕ} where
+  pub reguess-none : {w : List ℕ} {bound : ℕ} → Heap (nodes b) w → Reguessing b weight marks v guess cost w w bound bound
+  reguess-none heap =
+      record {
+        long = refl;
+        heap = heap;
+        each = λ u h. kept refl refl refl;
+        low = λ j l. refl;
+        middle = λ j l m. refl;
+        bounds = inl refl;
+      }
+
+  -- one more edge to v
+  pub reguess-more :
+      {w w′ w″ : List ℕ} {bound bound₁ bound₂ u : ℕ} → guess < far → Reguessing b weight marks v guess cost w w′ bound bound₁ → u < nodes b → hasEdge b u v ≡ true
+      → Tried (nodes b) weight marks u guess cost w′ w″ bound₁ bound₂ → Reguessing b weight marks v guess cost w w″ bound bound₂
+  reguess-more small s h e (has-one some same same-bound) = rw (same, same-bound) s
+  reguess-more {w} {w′} {w″} {bound} {bound₁} {bound₂} {u} small s h e (gets-one blank t bounds) =
+      let old : guessAt (nodes b) w u ≡ far = was-blank (s .each u h) blank in
+      record {
+        long = t .long ∙ s .long;
+        heap = t .heap;
+        each = λ x l.
+            ⊎-elim
+            (λ (q : x ≡ u). rw q (fresh old e (t .guess-here) (t .walk-here) (t .leaf-here)))
+            (λ (d : x ≡ u → ⊥). still l d t (s .each x l))
+            (same-or-not x u);
+        low = λ j l. t .low j l ∙ s .low j l;
+        middle = λ j l m. t .middle j l m ∙ s .middle j l m;
+        bounds =
+            ⊎-elim
+            (λ (q : bound₂ ≡ bound₁).
+            ⊎-elim
+            (λ (p : bound₁ ≡ bound). inl (q ∙ p))
+            (λ (p : (bound₁ ≡ cost) × TreeGuessed (nodes b) marks cost w w′). inr (q ∙ p .0, tree-still blank t (p .1)))
+            (s .bounds))
+            (λ (q : (bound₂ ≡ cost) × (inTree marks u ≡ true)).
+            inr (q .0, record { tree = u; node = h; marked = q .1; blank = old; near = rw (t .guess-here) small; cost-here = t .walk-here }))
+            bounds;
+      }
+
+-- ---- the places of v, the last first
+
+-- those from k on have been passed: the nodes in whose rows they stand have an estimate. Place k − 1 comes next, none where k is 0
+pub record Following (b : Block) (from : List ℕ) (v : ℕ) (w : List ℕ) (k : ℕ) : Type 0 where
+  pub most : k ≤ length (b .edgeTargets)
+  pub here : 0 < k → getD (b .edgeTargets) (k - 1) 0 ≡ v
+  pub passed : (j : ℕ) → k ≤ j → j < length (b .edgeTargets) → getD (b .edgeTargets) j 0 ≡ v → guessAt (nodes b) w (getD from j 0) ≡ far → ⊥
+
+module _ {b : Block} (g : Graph b) {last earlier from : List ℕ} (links : Linked b (length (b .edgeTargets)) last earlier from) {v : ℕ} where
+  pub follow-none : (w : List ℕ) → v < nodes b → Following b from v w (getD last v 0)
+  follow-none w h =
+      let n = last-next b g links v h in
+      record { most = n .most; here = n .here; passed = λ j l m e. absurd (n .none j l m e) }
+
+  -- the node in whose row the next place stands
+  pub follow-node :
+      {w : List ℕ} {k : ℕ} → 0 < k → Following b from v w k → (k - 1 < length (b .edgeTargets)) × (getD from (k - 1) 0 < nodes b) × (hasEdge b (getD from (k - 1) 0) v ≡ true)
+  follow-node {w} {k} p s =
+      let l : k - 1 < length (b .edgeTargets) = omega (arith, s .most) in
+      let f = from-linked b g links v (k - 1) l (s .here p) in
+      (l, f .0, f .1)
+
+  pub follow-more :
+      {weight : ℕ → ℕ} {marks w w′ : List ℕ} {k guess cost bound bound′ : ℕ} → guess < far → 0 < k → Following b from v w k
+      → Tried (nodes b) weight marks (getD from (k - 1) 0) guess cost w w′ bound bound′ → Following b from v w′ (getD earlier (k - 1) 0)
+  follow-more {weight} {marks} {w} {w′} {k} {guess} {cost} {bound} {bound′} small p s t =
+      let l : k - 1 < length (b .edgeTargets) = omega (arith, s .most) in
+      let n = earlier-next b g links v (k - 1) l (s .here p) in
+      record {
+        most = omega (arith, n .most);
+        here = n .here;
+        passed = λ j low high e.
+            ⊎-elim
+            (λ (q : k ≤ j). tried-other small t (getD from j 0) (from-linked b g links v j high e .0) (s .passed j q high e))
+            (λ (q : j < k).
+            ⊎-elim
+            (λ (r : j ≡ k - 1). rw r (tried-here small t))
+            (λ (r : j ≡ k - 1 → ⊥). absurd (n .none j low (omega arith) e))
+            (same-or-not j (k - 1)))
+            (le-or-lt k j);
+      }
+
+  -- the next place is lower
+  pub follow-falls : {w : List ℕ} {k : ℕ} → 0 < k → Following b from v w k → getD earlier (k - 1) 0 < k
+  follow-falls {w} {k} p s =
+      let l : k - 1 < length (b .edgeTargets) = omega (arith, s .most) in
+      omega (arith, earlier-next b g links v (k - 1) l (s .here p) .most)
+
+  -- at the end every node with an edge to v has one
+  pub follow-all : {w : List ℕ} {k : ℕ} → k ≤ 0 → Following b from v w k → (u : ℕ) → hasEdge b u v ≡ true → guessAt (nodes b) w u ≡ far → ⊥
+  follow-all {w} {k} z s u e =
+      let h : u < nodes b = edge-from b g u v e in
+      let p = edge-place b g u v h e in
+      let r : InRow b u (p .0) = record { node = h; from = p .1; below = p .2 } in
+      let l : p .0 < length (b .edgeTargets) = row-place b g r in
+      let same : getD from (p .0) 0 ≡ u = row-unique b g (links .from-row (p .0) l) r in
+      rw same at (s .passed (p .0) (omega arith) l (p .3))
+
+  pub follow-end :
+      {weight : ℕ → ℕ} {marks w w′ : List ℕ} {guess cost cost′ bound bound′ k : ℕ} → cost ≡ cost′ → k ≤ 0 → Reguessing b weight marks v guess cost w w′ bound bound′
+      → Following b from v w′ k → GuessedBefore b weight marks v guess cost′ w w′ bound bound′
+  follow-end {weight} {marks} {w} {w′} {guess} {cost} {cost′} {bound} {bound′} e z s f =
+      subst (λ (x : ℕ). GuessedBefore b weight marks v guess x w w′ bound bound′) e (record { some = s; all = follow-all z f })
+
+-- an estimate with its node's weight is below `far`
+pub key-small : {key : ℕ} → key ≤ keyMost → key < far
+key-small l = omega arith

@@ -1,0 +1,134 @@
+// The estimates: they spread from the unjoined sinks against the edges, at base costs alone. Nodes leave the queue by estimate and own
+// weight together, so that the first estimate of a node is final.
+// The work slice of n nodes: the queue from n, prices from 3n, goal marks from 5n, estimates from 6n, and from 7n what the walk that each
+// of them stands for costs at the turn's prices.
+ghost use mathlib.Core.List.{[]};
+ghost use mathlib.Core.Path.{_≡_};
+ghost use Prim.Native.Nat.{_+_, _*_, _≤_, _<_, min};
+ghost use lib.ListN.{length};
+ghost use Rattle.price.specs.Bounds.{nodesMost};
+ghost use Rattle.search.specs.Block.{graphOf};
+ghost use Rattle.search.specs.Distance.{far};
+ghost use Rattle.search.specs.Layout.{priceIn, Heap};
+ghost use Rattle.search.specs.Links.{Links};
+ghost use Rattle.search.specs.Aimed.{weightAt};
+ghost use Rattle.search.specs.Estimates.{weightMost, keyMost, walkAt, WeightReady, Queued, Guessed, Tried, GuessedBefore};
+use crate::distances;
+use crate::queue;
+use price::PriceAnswer;
+use price::Weighting;
+
+// What node v weighs: its price at history 1 with nobody else there and no delay.
+fn weight(kind: &[u8], weighting: Weighting, v: usize) -> u64
+    requires { ⌜ WeightReady (now kind) weighting × (v < length (now kind)) ⌝ }
+    ensures { λ r. ⌜ (r ≡ weightAt (graphOf (now (kind .entry)) [] []) weighting v) × (r ≤ weightMost) ⌝ }
+{
+    let k = kind[v] as u32;
+    let PriceAnswer::Price(p) = price::weighed_price(weighting, k, 0, 0, 1, 1, 0) else {
+        return 0;
+    };
+    p
+}
+
+// The sum, at most FAR.
+fn capped_sum(a: u64, b: u64) -> u64
+    ensures { λ r. ⌜ r ≡ min (a + b) far ⌝ }
+{
+    if distances::FAR - a < b {
+        return distances::FAR;
+    }
+    a + b
+}
+
+// Node v waits in the queue at this key.
+fn wait(work: &mut [u64], n: usize, v: usize, key: u64)
+    requires { ⌜ (v < n) × (8 * n ≤ length (now work)) × Heap n (now work) ⌝ }
+    ensures { λ _. ⌜ Queued n v key (now (work .entry)) (now (work .exit)) ⌝ }
+{
+    work[2 * n + v] = key;
+    queue::carry_up(work, n, (n + v) / 2);
+}
+
+// Node u gets its estimate, by a walk of this cost, and waits.
+fn guess(kind: &[u8], weighting: Weighting, work: &mut [u64], u: usize, estimate: u64, cost: u64)
+    requires { ⌜ WeightReady (now kind) weighting × (u < length (now kind)) × (length (now kind) ≤ nodesMost) ⌝ }
+    requires { ⌜ (8 * length (now kind) ≤ length (now work)) × Heap (length (now kind)) (now work) × (estimate ≤ keyMost) ⌝ }
+    ensures { λ _. do
+      let n = length (now (kind .entry))
+      let weight = weightAt (graphOf (now (kind .entry)) [] []) weighting
+      ⌜ Guessed n weight u estimate cost (now (work .entry)) (now (work .exit)) ⌝ }
+{
+    let n = kind.len();
+    let own = weight(kind, weighting, u);
+    wait(work, n, u, estimate + own);
+    work[6 * n + u] = estimate;
+    work[7 * n + u] = cost;
+}
+
+// Node u, with an edge to a node over which it has this estimate by a walk of this cost: it gets it, unless it has one. Answers the least
+// cost of a walk from a tree node so far; it was `bound` before.
+fn guess_over(
+    kind: &[u8],
+    weighting: Weighting,
+    in_tree: &[u8],
+    work: &mut [u64],
+    u: usize,
+    estimate: u64,
+    cost: u64,
+    bound: u64,
+) -> u64
+    requires { ⌜ WeightReady (now kind) weighting × (u < length (now kind)) × (length (now kind) ≤ nodesMost) ⌝ }
+    requires { ⌜ (8 * length (now kind) ≤ length (now work)) × Heap (length (now kind)) (now work) × (estimate ≤ keyMost) ⌝ }
+    requires { ⌜ length (now kind) ≤ length (now «in_tree») ⌝ }
+    ensures { λ r. do
+      let n = length (now (kind .entry))
+      let weight = weightAt (graphOf (now (kind .entry)) [] []) weighting
+      ⌜ Tried n weight (now («in_tree» .entry)) u estimate cost (now (work .entry)) (now (work .exit)) bound r ⌝ }
+{
+    let n = kind.len();
+    if work[6 * n + u] != distances::FAR {
+        return bound;
+    }
+    guess(kind, weighting, work, u, estimate, cost);
+    if in_tree[u] != 1 {
+        return bound;
+    }
+    if cost < bound { cost } else { bound }
+}
+
+// The nodes that have an edge to v get this estimate, unless they have one. Answers the least cost of a walk from a tree node so far; it
+// was `bound` before.
+fn guess_before(
+    kind: &[u8],
+    weighting: Weighting,
+    last: &[u16],
+    earlier: &[u16],
+    from: &[u16],
+    in_tree: &[u8],
+    work: &mut [u64],
+    v: usize,
+    estimate: u64,
+    bound: u64,
+) -> u64
+    requires { ⌜ WeightReady (now kind) weighting × (v < length (now kind)) × Links (now kind) (now last) (now earlier) (now from) ⌝ }
+    requires { ⌜ (8 * length (now kind) ≤ length (now work)) × Heap (length (now kind)) (now work) × (estimate ≤ keyMost) ⌝ }
+    requires { ⌜ length (now kind) ≤ length (now «in_tree») ⌝ }
+    ensures { λ r. do
+      let kinds = now (kind .entry)
+      let weight = weightAt (graphOf kinds [] []) weighting
+      let cost = min (walkAt (length kinds) (now (work .entry)) v + priceIn (length kinds) (now (work .entry)) v) far
+      ⌜ ((l : Links kinds (now (last .entry)) (now (earlier .entry)) (now (from .entry))) → do
+        let graph = graphOf kinds (l .firsts) (l .targets)
+        GuessedBefore graph weight (now («in_tree» .entry)) v estimate cost (now (work .entry)) (now (work .exit)) bound r) ⌝ }
+{
+    let n = kind.len();
+    let cost = capped_sum(work[7 * n + v], work[3 * n + v]);
+    let mut least = bound;
+    let mut k = last[v] as usize;
+    while 0 < k {
+        let u = from[k - 1] as usize;
+        least = guess_over(kind, weighting, in_tree, work, u, estimate, cost, least);
+        k = earlier[k - 1] as usize;
+    }
+    least
+}
