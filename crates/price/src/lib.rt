@@ -96,15 +96,18 @@ pub fn tuning_sound(g: Tuning) -> bool
     g.step <= STEP_MOST
 }
 
-// The first running product, b_v in document 003: the base cost of a node of this kind.
+// The first running product, b_v in document 003: the base cost of a node of this kind. A wire's cost stands before the match, whose arms
+// are then numbers alone, so that it is compiled without a branch.
 fn base_cost(kind: u32) -> u16
     requires { ⌜ kind ≤ kindMost ⌝ }
     ensures { λ r. ⌜ r ≡ baseCost kind ⌝ }
 {
+    let tiles = if kind < 3 { 0 } else { kind - 3 };
+    let wire = 20 * (tiles as u16);
     match kind {
         0 | 1 | 2 => 20,
         3 => 19,
-        4..=KIND_MOST => 20 * ((kind - 3) as u16),
+        4..=KIND_MOST => wire,
         _ => 0,
     }
 }

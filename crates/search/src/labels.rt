@@ -132,14 +132,15 @@ fn label(
     }
 }
 
-// Node v has its label already, from its predecessor; u, of label d, takes that one's place where it is as near and lower.
+// Node v has its label already, from its predecessor; u, of label d, takes that one's place where it is as near and lower. That it is as
+// near comes first: it is rare, so that the processor foresees it, and which of two numbers is lower it doesn't.
 fn lower(work: &mut [u64], n: usize, u: usize, v: usize, d: u64)
     requires { ⌜ (u < n) × (v < n) × (n ≤ nodesMost) × (3 * n ≤ length (now work)) × (fromAt n (now work) v < n) ⌝ }
     ensures { λ _. ⌜ Lowered n u v d (now (work .entry)) (now (work .exit)) ⌝ }
 {
     let w = (work[n + v] % heap::UPPER) as usize;
-    if u < w {
-        if work[w] == d {
+    if work[w] == d {
+        if u < w {
             set_from(work, n, u, v);
         }
     }

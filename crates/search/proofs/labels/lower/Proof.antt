@@ -15,11 +15,11 @@ mul-w c = search needs
 slice-read-w : tie.Need-slice-read-w
 slice-read-w c = search needs
 
-mul-if2 : tie.Need-mul-if2
-mul-if2 c = search needs
+mul-if1 : tie.Need-mul-if1
+mul-if1 c = search needs
 
-slice-read-if2 : tie.Need-slice-read-if2
-slice-read-if2 c = search needs
+slice-read-if1 : tie.Need-slice-read-if1
+slice-read-if1 c = search needs
 
 set-from-requires : tie.Need-set-from-requires
 set-from-requires c κs = search needs
@@ -28,13 +28,13 @@ same-length : tie.Need-same-length
 same-length c = search needs
 
 returns : tie.Need-returns
-returns c = lowered (c .before .before .before .before .before .before .if1 .taken) (c .before .before .before .before .if2 .taken) (c .before .before .set-from .ensures)
+returns c = lowered (c .before .before .before .before .if2 .taken) (c .before .before .before .before .before .if1 .taken) (c .before .before .set-from .ensures)
 
 returns-2 : tie.Need-returns-2
-returns-2 c = stays (λ e. absurd (c .if2 .left e)) refl
+returns-2 c = stays (λ _. c .if2 .left) refl
 
 returns-3 : tie.Need-returns-3
-returns-3 c = stays (λ _. c .if1 .left) refl
+returns-3 c = stays (λ e. absurd (c .if1 .left e)) refl
 
 pub lower-spec : {M : Type 1} → statement M
 lower-spec =
@@ -43,8 +43,8 @@ lower-spec =
     add-w
     mul-w
     slice-read-w
-    mul-if2
-    slice-read-if2
+    mul-if1
+    slice-read-if1
     set-from-requires
     same-length
     returns
