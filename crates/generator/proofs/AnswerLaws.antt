@@ -23,12 +23,12 @@ shown-is input buffer what {bytes} {after} e p =
     let long : bytes ≡ length (shownFor what) = p .next-is ∙ omega arith in
     rw (e, long, p .written, placed-start (shownFor what) buffer)
 
-module _ {r : Ask} (input : List ℕ) (told : askedOf r ≡ askedIn input) where
+module _ {r : Ask} (input : List ℕ) (answered : askedOf r ≡ askedIn input) where
   pub shown-load : {seed nodes nets bytes : ℕ} {buffer after : List ℕ} → r ≡ a.Load seed nodes nets → Put 0 (loadText seed nodes nets) buffer after bytes → shownReplyOf bytes after ≡ shownReply input buffer
-  shown-load {seed} {nodes} {nets} {buffer = buffer} e p = shown-is input buffer (asked seed nodes nets) (sym told ∙ ap askedOf e) p
+  shown-load {seed} {nodes} {nets} {buffer = buffer} e p = shown-is input buffer (asked seed nodes nets) (sym answered ∙ ap askedOf e) p
 
   pub shown-away : {place bytes : ℕ} {buffer after : List ℕ} → r ≡ a.TurnedAway place → Put 0 (printLine letterX (17 ∷ place ∷ [])) buffer after bytes → shownReplyOf bytes after ≡ shownReply input buffer
-  shown-away {place} {buffer = buffer} e p = shown-is input buffer (turnedAway place) (sym told ∙ ap askedOf e) p
+  shown-away {place} {buffer = buffer} e p = shown-is input buffer (turnedAway place) (sym answered ∙ ap askedOf e) p
 
 pub load-within : {r : Ask} {seed nodes nets : ℕ} → r ≡ a.Load seed nodes nets → AskWithin r → (8 ≤ nodes) × (nodes ≤ 256) × (1 ≤ nets) × (nets ≤ 64)
 load-within e w = subst AskWithin e w

@@ -151,10 +151,10 @@ unfolding nextField
 next-comma more low high at input e = rw e (ap (wholeField more low high) (drop-drop 1 at input))
 
 -- what an answer says of the field
-pub read-is : (input : List ℕ) {r : fieldType.Field} {value next : ℕ} {told : Field} → r ≡ f.Number value next → fieldAt input r ≡ told → told ≡ number value (drop next input)
+pub read-is : (input : List ℕ) {r : fieldType.Field} {value next : ℕ} {said : Field} → r ≡ f.Number value next → fieldAt input r ≡ said → said ≡ number value (drop next input)
 read-is input e p = sym p ∙ ap (fieldAt input) e
 
-pub read-fault : (input : List ℕ) {r : fieldType.Field} {told : Field} → r ≡ f.Fault → fieldAt input r ≡ told → told ≡ fault
+pub read-fault : (input : List ℕ) {r : fieldType.Field} {said : Field} → r ≡ f.Fault → fieldAt input r ≡ said → said ≡ fault
 read-fault input e p = sym p ∙ ap (fieldAt input) e
 
 pub read-place : (input : List ℕ) {r : fieldType.Field} {value next : ℕ} → r ≡ f.Number value next → FieldPlace input r → next ≤ length input

@@ -94,9 +94,9 @@ module _
   room : 0 + length (headPart n edges count ++ rest) ≤ length before
   room = let l = ap length (load-is seed n count r s e) in omega arith
 
-  module _ {b₁ : List ℕ} {p : ℕ} (told : placeReplyOf p b₁ ≡ lineReply 70 (n ∷ edges ∷ count ∷ 100 ∷ []) 0 before) where
+  module _ {b₁ : List ℕ} {p : ℕ} (printed : placeReplyOf p b₁ ≡ lineReply 70 (n ∷ edges ∷ count ∷ 100 ∷ []) 0 before) where
     head-put : Put 0 (headPart n edges count) before b₁ p
-    head-put = line-put 70 (n ∷ edges ∷ count ∷ 100 ∷ []) told (part-first 0 (headPart n edges count) rest before room)
+    head-put = line-put 70 (n ∷ edges ∷ count ∷ 100 ∷ []) printed (part-first 0 (headPart n edges count) rest before room)
 
     rest-room : p + length rest ≤ length b₁
     rest-room = part-rest (headPart n edges count) rest room head-put

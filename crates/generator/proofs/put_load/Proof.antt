@@ -5,6 +5,20 @@ use Rattle.generator.proofs.LoadTextLaws.{load-nodes-room, load-rows-ro
 use Rattle.generator.proofs.put_load.Statement.{statement}
 use Rattle.generator.proofs.put_load.Tie as tie
 
+-- the first line is printed; what was computed for it, and the entry
+module _ (c : tie.After-print-line) where
+  abbrev start : tie.Start
+  start = c .before .before .before .before .before .before .before
+
+  abbrev nodes-step : tie.After-steps
+  nodes-step = c .before .before .before .before .before
+
+  abbrev rows-step : tie.After-steps2
+  rows-step = c .before .before .before .before
+
+  abbrev counted : tie.After-edge-count
+  counted = c .before .before .before
+
 mul-steps : tie.Need-mul-steps
 mul-steps c = search needs
 
@@ -34,53 +48,41 @@ print-line-requires c κs = search needs
 
 put-nodes-requires : tie.Need-put-nodes-requires
 put-nodes-requires c κs =
-    load-nodes-room (c .before .before .before .before .before .before .before .before .before .before .args .seed)
-    (c .before .before .before .before .before .before .before .before .before .before .args .nodes) (c .before .before .before .before .before .before .before .before .before .before .args .nets)
-    (c .before .before .before .before .before .before .before .before .steps .ensures) (c .before .before .before .before .before .before .before .steps2 .ensures)
-    (c .before .before .before .before .before .before .edge-count .ensures) (c .before .before .before .before .before .before .before .before .before .before .args .buffer .now) (search needs)
-    (c .before .before .before .print-line .ensures)
+    let head : tie.After-print-line = c .before .before .before in
+    load-nodes-room (start head .args .seed) (start head .args .nodes) (start head .args .nets) (nodes-step head .steps .ensures) (rows-step head .steps2 .ensures)
+    (counted head .edge-count .ensures) (start head .args .buffer .now) (start head .pre .2) (head .print-line .ensures)
 
 put-rows-requires : tie.Need-put-rows-requires
-put-rows-requires c κs = (
-  search needs,
-  load-rows-room (c .before .before .before .before .before .before .before .before .before .before .before .before .before .before .args .seed)
-      (c .before .before .before .before .before .before .before .before .before .before .before .before .before .before .args .nodes)
-      (c .before .before .before .before .before .before .before .before .before .before .before .before .before .before .args .nets)
-      (c .before .before .before .before .before .before .before .before .before .before .before .before .steps .ensures)
-      (c .before .before .before .before .before .before .before .before .before .before .before .steps2 .ensures)
-      (c .before .before .before .before .before .before .before .before .before .before .edge-count .ensures)
-      (c .before .before .before .before .before .before .before .before .before .before .before .before .before .before .args .buffer .now) (search needs)
-      (c .before .before .before .before .before .before .before .print-line .ensures) (c .before .before .before .put-nodes .ensures),
-)
+put-rows-requires c κs =
+    let put : tie.After-put-nodes = c .before .before .before in
+    let head : tie.After-print-line = put .before .before .before .before in (
+      search needs,
+      load-rows-room (start head .args .seed) (start head .args .nodes) (start head .args .nets) (nodes-step head .steps .ensures) (rows-step head .steps2 .ensures)
+          (counted head .edge-count .ensures) (start head .args .buffer .now) (start head .pre .2) (head .print-line .ensures) (put .put-nodes .ensures),
+    )
 
 put-nets-requires : tie.Need-put-nets-requires
-put-nets-requires c κs = (
-  search needs,
-  load-nets-room (c .before .before .before .before .before .before .before .before .before .before .before .before .before .before .before .before .before .before .args .seed)
-      (c .before .before .before .before .before .before .before .before .before .before .before .before .before .before .before .before .before .before .args .nodes)
-      (c .before .before .before .before .before .before .before .before .before .before .before .before .before .before .before .before .before .before .args .nets)
-      (c .before .before .before .before .before .before .before .before .before .before .before .before .before .before .before .before .steps .ensures)
-      (c .before .before .before .before .before .before .before .before .before .before .before .before .before .before .before .steps2 .ensures)
-      (c .before .before .before .before .before .before .before .before .before .before .before .before .before .before .edge-count .ensures)
-      (c .before .before .before .before .before .before .before .before .before .before .before .before .before .before .before .before .before .before .args .buffer .now) (search needs)
-      (c .before .before .before .before .before .before .before .before .before .before .before .print-line .ensures) (c .before .before .before .before .before .before .before .put-nodes .ensures)
-      (c .before .before .before .put-rows .ensures),
-)
+put-nets-requires c κs =
+    let rows : tie.After-put-rows = c .before .before .before in
+    let nodes : tie.After-put-nodes = rows .before .before .before .before in
+    let head : tie.After-print-line = nodes .before .before .before .before in (
+      search needs,
+      load-nets-room (start head .args .seed) (start head .args .nodes) (start head .args .nets) (nodes-step head .steps .ensures) (rows-step head .steps2 .ensures)
+          (counted head .edge-count .ensures) (start head .args .buffer .now) (start head .pre .2) (head .print-line .ensures) (nodes .put-nodes .ensures) (rows .put-rows .ensures),
+    )
 
 same-length : tie.Need-same-length
 same-length c = search needs
 
 returns : tie.Need-returns
 returns c =
-    load-put (c .before .before .before .before .before .before .before .before .before .before .before .before .before .before .before .before .before .before .before .before .before .args .seed)
-    (c .before .before .before .before .before .before .before .before .before .before .before .before .before .before .before .before .before .before .before .before .before .args .nodes)
-    (c .before .before .before .before .before .before .before .before .before .before .before .before .before .before .before .before .before .before .before .before .before .args .nets)
-    (c .before .before .before .before .before .before .before .before .before .before .before .before .before .before .before .before .before .before .before .steps .ensures)
-    (c .before .before .before .before .before .before .before .before .before .before .before .before .before .before .before .before .before .before .steps2 .ensures)
-    (c .before .before .before .before .before .before .before .before .before .before .before .before .before .before .before .before .before .edge-count .ensures)
-    (c .before .before .before .before .before .before .before .before .before .before .before .before .before .before .before .before .before .before .before .before .before .args .buffer .now) (search needs)
-    (c .before .before .before .before .before .before .before .before .before .before .before .before .before .before .print-line .ensures)
-    (c .before .before .before .before .before .before .before .before .before .before .put-nodes .ensures) (c .before .before .before .before .before .before .put-rows .ensures) (c .before .before .put-nets .ensures)
+    let nets : tie.After-put-nets = c .before .before in
+    let rows : tie.After-put-rows = nets .before .before .before .before in
+    let nodes : tie.After-put-nodes = rows .before .before .before .before in
+    let head : tie.After-print-line = nodes .before .before .before .before in
+    load-put (start head .args .seed) (start head .args .nodes) (start head .args .nets) (nodes-step head .steps .ensures) (rows-step head .steps2 .ensures)
+    (counted head .edge-count .ensures) (start head .args .buffer .now) (start head .pre .2) (head .print-line .ensures) (nodes .put-nodes .ensures) (rows .put-rows .ensures)
+    (nets .put-nets .ensures)
 
 pub put-load-spec : {M : Type 1} → statement M
 put-load-spec =

@@ -12,7 +12,11 @@ use Rattle.generator.proofs.AskLaws.{number-past, number-zero, number-o
 use Rattle.generator.proofs.ask.number.Statement.{statement}
 use Rattle.generator.proofs.ask.number.Tie as tie
 
-digit : (c : tie.Else3) → isDigit (getD (c .before .before .before .before .before .before .args .input .now) (c .before .before .before .before .before .before .args .at) 0) ≡ true
+-- the entry from the third test, and what it says
+abbrev start : tie.After-is-digit → tie.Start
+start c = c .before .before .before .before .before
+
+digit : (c : tie.Else3) → isDigit (getD (start (c .before) .args .input .now) (start (c .before) .args .at) 0) ≡ true
 digit c = passed (c .before .is-digit .ensures) (c .if3 .left)
 
 returns : tie.Need-returns
@@ -31,11 +35,9 @@ is-digit-requires : tie.Need-is-digit-requires
 is-digit-requires c κs = search needs
 
 returns-3 : tie.Need-returns-3
-returns-3 c = (
-  sym (number-other _ (c .before .before .before .before .before .before .args .at) (c .before .before .before .before .before .before .args .input .now) (search needs) (search needs)
-      (refused (c .before .is-digit .ensures) (c .if3 .taken))),
-  tt,
-)
+returns-3 c =
+    let from : tie.Start = start (c .before) in
+    (sym (number-other _ (from .args .at) (from .args .input .now) (search needs) (search needs) (refused (c .before .is-digit .ensures) (c .if3 .taken))), tt)
 
 add-further-digits : tie.Need-add-further-digits
 add-further-digits c = search needs
@@ -50,11 +52,11 @@ further-digits-requires : tie.Need-further-digits-requires
 further-digits-requires c κs = (search needs, omega (arith, digit-most _ (digit c)), search needs)
 
 returns-4 : tie.Need-returns-4
-returns-4 c = (
-  c .further-digits .ensures .0 ∙ sym (number-digits _ (c .before .before .before .before .before .before .before .args .at)
-      (c .before .before .before .before .before .before .before .args .input .now) (search needs) (search needs) (digit (c .before))),
-  c .further-digits .ensures .1,
-)
+returns-4 c =
+    let from : tie.Start = start (c .before .before) in (
+      c .further-digits .ensures .0 ∙ sym (number-digits _ (from .args .at) (from .args .input .now) (search needs) (search needs) (digit (c .before))),
+      c .further-digits .ensures .1,
+    )
 
 pub number-spec : {M : Type 1} → statement M
 number-spec =

@@ -10,10 +10,14 @@ use Rattle.generator.proofs.AskLaws.{whole-fault, whole-open, whole-low
 use Rattle.generator.proofs.ask.whole_field.Statement.{statement}
 use Rattle.generator.proofs.ask.whole_field.Tie as tie
 
--- the number that was read
-is-read : (c : tie.After-known-told) → numberUpTo (c .before .before .before .before .before .args .more) (drop (c .before .before .before .before .before .args .at)
-    (c .before .before .before .before .before .args .input .now)) ≡ lines.number (c .before .value .given .0 .0) (drop (c .before .value .given .0 .1 .0) (c .before .before .before .before .before .args .input .now))
-is-read c = read-is (c .before .before .before .before .before .args .input .now) (c .before .value .given .1) (c .before .before .before .number .ensures .0)
+-- the entry, and the number that was read
+module _ (c : tie.After-known-told) where
+  abbrev start : tie.Start
+  start = c .before .before .before .before .before
+
+  is-read : numberUpTo (start .args .more) (drop (start .args .at) (start .args .input .now))
+      ≡ lines.number (c .before .value .given .0 .0) (drop (c .before .value .given .0 .1 .0) (start .args .input .now))
+  is-read = read-is (start .args .input .now) (c .before .value .given .1) (c .before .before .before .number .ensures .0)
 
 number-requires : tie.Need-number-requires
 number-requires c κs = search needs
@@ -40,15 +44,11 @@ returns-4 : tie.Need-returns-4
 returns-4 c = (sym (whole-high _ _ _ _ (is-read (c .before .before .before .before)) (search needs)), tt)
 
 returns-5 : tie.Need-returns-5
-returns-5 c = (
-  sym (whole-is _ _ _ _ (is-read (c .before .before .before .before)) (passed (c .before .before .before .field-ends .ensures) (c .before .before .if1 .left)) (search needs) (search needs)),
-  (
-    read-place (c .before .before .before .before .before .before .before .before .before .args .input .now) (c .before .before .before .before .before .value .given .1)
-        (c .before .before .before .before .before .before .before .number .ensures .1),
-    search needs,
-    search needs,
-  ),
-)
+returns-5 c =
+    let read : tie.After-known-told = c .before .before .before .before in (
+      sym (whole-is _ _ _ _ (is-read read) (passed (c .before .before .before .field-ends .ensures) (c .before .before .if1 .left)) (search needs) (search needs)),
+      (read-place (start read .args .input .now) (read .before .value .given .1) (read .before .before .before .number .ensures .1), search needs, search needs),
+    )
 
 pub whole-field-spec : {M : Type 1} → statement M
 whole-field-spec =

@@ -27,11 +27,13 @@ same-length c = search needs
 
 returns : tie.Need-returns
 returns c =
-    let a = c .before .before .before .before .before .before .before .before .before .before .before .args in
+    let first : tie.After-print-line = c .before .before .before .before .before .before .before in
+    let entry : tie.Start = first .before .before .before .before in
+    let a = entry .args in
     let from : List ℕ = printLine letterS (a .net ∷ a .source ∷ []) in
     let to : List ℕ = printLine letterT (a .net ∷ a .sink ∷ []) in
-    let fits : a .start + length (from ++ to) ≤ length (a .buffer .now) = c .before .before .before .before .before .before .before .before .before .before .before .pre in
-    let one = line-put 83 _ (c .before .before .before .before .before .before .before .print-line .ensures) (part-first (a .start) from to (a .buffer .now) fits) in
+    let fits : a .start + length (from ++ to) ≤ length (a .buffer .now) = entry .pre in
+    let one = line-put 83 _ (first .print-line .ensures) (part-first (a .start) from to (a .buffer .now) fits) in
     part-both from to fits one (line-put 84 _ (c .before .before .print-line2 .ensures) (part-rest from to fits one))
 
 pub put-net-spec : {M : Type 1} → statement M

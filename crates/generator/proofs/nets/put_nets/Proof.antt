@@ -19,11 +19,17 @@ Inv-loop first nodes nets buffer₀ start quarter at₀ state₀ i₀ buffer at 
 abbrev μ-loop : tie.MeasureT-loop
 μ-loop first nodes nets buffer₀ start quarter at₀ state₀ i₀ buffer at state i = nets - i
 
--- what the net has drawn
-drew : (c : tie.After-drawn2 Inv-loop μ-loop) → NetDrawn (c .before .before .before .before .before .before .before .args .first)
-    (c .before .before .before .before .before .before .before .args .nodes) (c .before .before .before .before .before .loop .i) (c .before .before .step2 .result) (c .before .drawn .result)
-    (c .before .before .before .before .before .before .before .args .nodes - c .before .before .before .before .before .before .before .args .nodes / 4 + c .drawn2 .result)
-drew c = net-drawn _ _ _ (c .before .before .before .before .before .loop .inv .0) (c .before .before .before .step .ensures) (c .before .before .step2 .ensures) (c .before .drawn .ensures) (c .drawn2 .ensures) refl
+-- the loop's head, and what the net has drawn there
+module _ (c : tie.After-drawn2 Inv-loop μ-loop) where
+  abbrev head : tie.At-loop Inv-loop μ-loop
+  head = c .before .before .before .before .before
+
+  abbrev entry : tie.Start Inv-loop μ-loop
+  entry = head .before .before
+
+  drew : NetDrawn (entry .args .first) (entry .args .nodes) (head .loop .i) (c .before .before .step2 .result) (c .before .drawn .result)
+      (entry .args .nodes - entry .args .nodes / 4 + c .drawn2 .result)
+  drew = net-drawn _ _ _ (head .loop .inv .0) (c .before .before .before .step .ensures) (c .before .before .step2 .ensures) (c .before .drawn .ensures) (c .drawn2 .ensures) refl
 
 loop-holds : tie.Need-loop-holds Inv-loop μ-loop
 loop-holds c = (state-none _, joining-none _ _ _ _ _ (from-first _ _ _ _ (search needs)) (search needs))
@@ -45,11 +51,11 @@ drawn-requires-2 c κs = search needs
 
 add-sink : tie.Need-add-sink Inv-loop μ-loop
 add-sink c =
-    let small = drawn-small (c .before .before .step2 .result) (c .before .before .before .before .before .before .before .args .nodes / 4) (search needs) (c .drawn2 .ensures) in
+    let small = drawn-small (c .before .before .step2 .result) (entry c .args .nodes / 4) (search needs) (c .drawn2 .ensures) in
     search needs
 
 put-net-requires : tie.Need-put-net-requires Inv-loop μ-loop
-put-net-requires c κs = net-room (drew (c .before)) _ _ (joining-room _ _ _ _ _ (from-first _ _ _ _ (search needs)) (c .before .before .before .before .before .before .loop .inv .1) (search needs))
+put-net-requires c κs = net-room (drew (c .before)) _ _ (joining-room _ _ _ _ _ (from-first _ _ _ _ (search needs)) (head (c .before) .loop .inv .1) (search needs))
 
 add-i : tie.Need-add-i Inv-loop μ-loop
 add-i c = search needs
@@ -59,8 +65,9 @@ loop-less c = search needs
 
 loop-again : tie.Need-loop-again Inv-loop μ-loop
 loop-again c =
-    let d = drew (c .before .before .before .before) in
-    (d .on, joining-more _ _ _ _ _ (from-first _ _ _ _ (search needs)) (c .before .before .before .before .before .before .before .before .before .loop .inv .1) (search needs) (net-put d (c .before .before .put-net .ensures)))
+    let at : tie.After-drawn2 Inv-loop μ-loop = c .before .before .before .before in
+    let d = drew at in
+    (d .on, joining-more _ _ _ _ _ (from-first _ _ _ _ (search needs)) (head at .loop .inv .1) (search needs) (net-put d (c .before .before .put-net .ensures)))
 
 same-length : tie.Need-same-length Inv-loop μ-loop
 same-length c = joining-same _ _ _ _ _ (from-first _ _ _ _ (search needs)) (c .before .loop .inv .1)

@@ -5,6 +5,13 @@ use Rattle.generator.proofs.NodeLaws.{sources-room, wires-room, sinks-r
 use Rattle.generator.proofs.nodes.put_nodes.Statement.{statement}
 use Rattle.generator.proofs.nodes.put_nodes.Tie as tie
 
+-- the parts that are written, and the entry
+abbrev start : tie.After-put-pins → tie.Start
+start c = c .before .before .before
+
+abbrev sources : tie.After-put-wires → tie.After-put-pins
+sources c = c .before .before .before .before
+
 put-pins-requires : tie.Need-put-pins-requires
 put-pins-requires c κs = (search needs, sources-room _ _ _ (c .before .before .args .buffer .now) (c .before .before .pre))
 
@@ -12,25 +19,23 @@ sub-put-wires : tie.Need-sub-put-wires
 sub-put-wires c = search needs
 
 put-wires-requires : tie.Need-put-wires-requires
-put-wires-requires c κs = (search needs, wires-room _ _ _ _ (c .before .before .before .before .before .before .pre) (c .before .before .before .put-pins .ensures))
+put-wires-requires c κs = (search needs, wires-room _ _ _ _ (start (c .before .before .before) .pre) (c .before .before .before .put-pins .ensures))
 
 sub-put-pins : tie.Need-sub-put-pins
 sub-put-pins c = search needs
 
 put-pins-requires-2 : tie.Need-put-pins-requires-2
-put-pins-requires-2 c κs = (
-  search needs,
-  sinks-room _ _ _ _ (c .before .before .before .before .before .before .before .before .before .before .pre)
-      (c .before .before .before .before .before .before .before .put-pins .ensures) (c .before .before .before .put-wires .ensures),
-)
+put-pins-requires-2 c κs =
+    let wires : tie.After-put-wires = c .before .before .before in
+    (search needs, sinks-room _ _ _ _ (start (sources wires) .pre) (sources wires .put-pins .ensures) (wires .put-wires .ensures))
 
 same-length : tie.Need-same-length
 same-length c = search needs
 
 returns : tie.Need-returns
 returns c =
-    nodes-put _ _ _ _ (c .before .before .before .before .before .before .before .before .before .before .before .before .before .pre)
-    (c .before .before .before .before .before .before .before .before .before .before .put-pins .ensures) (c .before .before .before .before .before .before .put-wires .ensures) (c .before .before .put-pins2 .ensures)
+    let wires : tie.After-put-wires = c .before .before .before .before .before .before in
+    nodes-put _ _ _ _ (start (sources wires) .pre) (sources wires .put-pins .ensures) (wires .put-wires .ensures) (c .before .before .put-pins2 .ensures)
 
 pub put-nodes-spec : {M : Type 1} → statement M
 put-nodes-spec =

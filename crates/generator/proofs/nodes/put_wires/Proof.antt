@@ -51,9 +51,10 @@ loop-less c = search needs
 
 loop-again : tie.Need-loop-again Inv-loop μ-loop
 loop-again c =
-    let v = c .before .before .before .before .before .before .before .before .loop .v in
-    let inv = c .before .before .before .before .before .before .before .before .loop .inv in
-    let d = wire-drawn _ _ _ (search needs) (inv .0) (c .before .before .before .before .before .before .step .ensures) (c .before .before .before .before .before .drawn .ensures) in (
+    let at : tie.After-drawn Inv-loop μ-loop = c .before .before .before .before .before in
+    let v = at .before .before .before .loop .v in
+    let inv = at .before .before .before .loop .inv in
+    let d = wire-drawn _ _ _ (search needs) (inv .0) (at .before .step .ensures) (at .drawn .ensures) in (
       d .on,
       joining-more _ _ _ _ _ (search needs) (inv .1) (search needs) (line-put-as 78 (ap (λ (k : ℕ). v ∷ k ∷ 1 ∷ []) (d .kind-is)) (c .before .before .print-line .ensures)
           (joining-room _ _ _ _ _ (search needs) (inv .1) (search needs))),
