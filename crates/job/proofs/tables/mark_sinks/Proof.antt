@@ -15,6 +15,10 @@ Inv-loop n sinks seen₀ i₀ seen i = Marking n sinks seen₀ seen i
 abbrev μ-loop : tie.MeasureT-loop
 μ-loop n sinks seen₀ i₀ seen i = length sinks - i
 
+-- the loop's head, from where a turn looks at its sink's mark
+abbrev head : tie.After-slice-known Inv-loop μ-loop → tie.At-loop Inv-loop μ-loop
+head c = c .before .before .before .before
+
 loop-holds : tie.Need-loop-holds Inv-loop μ-loop
 loop-holds c = marking-none _ _ _
 
@@ -34,16 +38,16 @@ returns : tie.Need-returns Inv-loop μ-loop
 returns c = (sym (marking-bad (c .before .before .before .loop .inv) (omega arith) (omega arith)), λ e. absurd (true≢false (sym e)))
 
 slice-read-if2 : tie.Need-slice-read-if2 Inv-loop μ-loop
-slice-read-if2 c = omega (arith, c .before .before .before .before .loop .inv .stored .long)
+slice-read-if2 c = omega (arith, head c .loop .inv .stored .long)
 
 same-length-2 : tie.Need-same-length-2 Inv-loop μ-loop
-same-length-2 c = c .before .before .before .before .before .loop .inv .stored .long
+same-length-2 c = head (c .before) .loop .inv .stored .long
 
 returns-2 : tie.Need-returns-2 Inv-loop μ-loop
-returns-2 c = (sym (marking-twice (c .before .before .before .before .before .loop .inv) (omega arith) (c .if2 .taken)), λ e. absurd (true≢false (sym e)))
+returns-2 c = (sym (marking-twice (head (c .before) .loop .inv) (omega arith) (c .if2 .taken)), λ e. absurd (true≢false (sym e)))
 
 slice-write-seen : tie.Need-slice-write-seen Inv-loop μ-loop
-slice-write-seen c = omega (arith, c .before .before .before .before .before .loop .inv .stored .long)
+slice-write-seen c = omega (arith, head (c .before) .loop .inv .stored .long)
 
 add-i : tie.Need-add-i Inv-loop μ-loop
 add-i c = omega arith
@@ -52,7 +56,7 @@ loop-less : tie.Need-loop-less Inv-loop μ-loop
 loop-less c = omega arith
 
 loop-again : tie.Need-loop-again Inv-loop μ-loop
-loop-again c = marking-more (c .before .before .before .before .before .loop .inv) (omega arith) (omega arith) (omega arith) (c .if2 .left)
+loop-again c = marking-more (head (c .before) .loop .inv) (omega arith) (omega arith) (omega arith) (c .if2 .left)
 
 same-length-3 : tie.Need-same-length-3 Inv-loop μ-loop
 same-length-3 c = c .before .loop .inv .stored .long

@@ -16,6 +16,19 @@ Inv-loop n source first-sink sink seen₀ i₀ seen i = Passing n source first-s
 abbrev μ-loop : tie.MeasureT-loop
 μ-loop n source first-sink sink seen₀ i₀ seen i = length source - i
 
+-- ---- the entry, the loop's head, and the head from where a turn has read its net
+abbrev Entry : Type 0
+Entry = tie.Start Inv-loop μ-loop
+
+abbrev Head : Type 0
+Head = tie.At-loop Inv-loop μ-loop
+
+abbrev entry : Head → Entry
+entry c = c .before .before .before .before .before
+
+abbrev turn : tie.After-shared-slice-known6 Inv-loop μ-loop → Head
+turn c = c .before .before .before .before
+
 returns : tie.Need-returns Inv-loop μ-loop
 returns c = sym (nets-many _ _ _ _ (omega arith))
 
@@ -23,10 +36,10 @@ loop-holds : tie.Need-loop-holds Inv-loop μ-loop
 loop-holds c = passing-none _ _ _ _
 
 mul-from : tie.Need-mul-from Inv-loop μ-loop
-mul-from c = omega (arith, firsts-long _ _ _ (c .before .before .before .before .before .before .pre .1 .1))
+mul-from c = omega (arith, firsts-long _ _ _ (entry (c .before) .pre .1 .1))
 
 shared-slice-read-from : tie.Need-shared-slice-read-from Inv-loop μ-loop
-shared-slice-read-from c = omega (arith, firsts-long _ _ _ (c .before .before .before .before .before .before .before .pre .1 .1))
+shared-slice-read-from c = omega (arith, firsts-long _ _ _ (entry (c .before .before) .pre .1 .1))
 
 cast-from : tie.Need-cast-from Inv-loop μ-loop
 cast-from c = omega (arith, c .shared-slice-known4 .given (c .before .before .loop .i))
@@ -35,10 +48,10 @@ add-to : tie.Need-add-to Inv-loop μ-loop
 add-to c = omega arith
 
 mul-to : tie.Need-mul-to Inv-loop μ-loop
-mul-to c = omega (arith, firsts-long _ _ _ (c .before .before .before .before .before .before .before .pre .1 .1))
+mul-to c = omega (arith, firsts-long _ _ _ (entry (c .before .before) .pre .1 .1))
 
 shared-slice-read-to : tie.Need-shared-slice-read-to Inv-loop μ-loop
-shared-slice-read-to c = omega (arith, firsts-long _ _ _ (c .before .before .before .before .before .before .before .before .pre .1 .1))
+shared-slice-read-to c = omega (arith, firsts-long _ _ _ (entry (c .before .before .before) .pre .1 .1))
 
 cast-to : tie.Need-cast-to Inv-loop μ-loop
 cast-to c = omega (arith, c .shared-slice-known5 .given (c .before .before .before .loop .i + 1))
@@ -50,31 +63,33 @@ shared-slice-read-net-sound : tie.Need-shared-slice-read-net-sound Inv-loop μ-l
 shared-slice-read-net-sound c = omega arith
 
 mul-net-sound-2 : tie.Need-mul-net-sound-2 Inv-loop μ-loop
-mul-net-sound-2 c = omega (arith, firsts-most _ _ _ (c .before .before .before .before .before .before .before .before .before .pre .1 .1) (c .before .before .before .before .loop .i) (omega arith))
+mul-net-sound-2 c = omega (arith, firsts-most _ _ _ (entry (turn c) .pre .1 .1) (turn c .loop .i) (omega arith))
 
 sub-net-sound : tie.Need-sub-net-sound Inv-loop μ-loop
-sub-net-sound c = omega (arith, firsts-order _ _ _ (c .before .before .before .before .before .before .before .before .before .pre .1 .1) (c .before .before .before .before .loop .i) (omega arith))
+sub-net-sound c = omega (arith, firsts-order _ _ _ (entry (turn c) .pre .1 .1) (turn c .loop .i) (omega arith))
 
 part-net-sound-start : tie.Need-part-net-sound-start Inv-loop μ-loop
-part-net-sound-start c = omega (arith, firsts-order _ _ _ (c .before .before .before .before .before .before .before .before .before .pre .1 .1) (c .before .before .before .before .loop .i) (omega arith))
+part-net-sound-start c = omega (arith, firsts-order _ _ _ (entry (turn c) .pre .1 .1) (turn c .loop .i) (omega arith))
 
 part-net-sound-end : tie.Need-part-net-sound-end Inv-loop μ-loop
-part-net-sound-end c = firsts-most _ _ _ (c .before .before .before .before .before .before .before .before .before .pre .1 .1) (c .before .before .before .before .loop .i + 1) (omega arith)
+part-net-sound-end c = firsts-most _ _ _ (entry (turn c) .pre .1 .1) (turn c .loop .i + 1) (omega arith)
 
 slice-aggregate-net-sound : tie.Need-slice-aggregate-net-sound Inv-loop μ-loop
-slice-aggregate-net-sound c = sym (c .before .before .before .before .before .before .loop .inv .long)
+slice-aggregate-net-sound c = sym (turn (c .before .before) .loop .inv .long)
 
 net-sound-requires : tie.Need-net-sound-requires Inv-loop μ-loop
 net-sound-requires c κs =
-    let turn = c .before .before .before .before .before .before in
-    let s = c .before .before .before .before .before .before .before .before .before .before .before in
-    ((omega (arith, turn .loop .inv .long, s .pre .0), source-below _ _ (s .pre .1 .0) (turn .loop .i) (omega arith)), turn .loop .inv .unmarked)
+    let at : Head = turn (c .before .before) in
+    let s : Entry = entry at in
+    ((omega (arith, at .loop .inv .long, s .pre .0), source-below _ _ (s .pre .1 .0) (at .loop .i) (omega arith)), at .loop .inv .unmarked)
 
 returns-2 : tie.Need-returns-2 Inv-loop μ-loop
 returns-2 c =
-    let s = c .before .before .before .before .before .before .before .before .before .before .before .before .before .before in
-    let told = net-answer (s .args .n) (s .args .source .now) (s .args .first-sink .now) (s .args .sink .now) (c .before .before .before .before .before .before .before .before .before .loop .i) (c .before .before .net-sound .ensures .0) in
-    sym (nets-bad _ _ _ _ (c .before .before .before .before .before .before .before .before .before .loop .i) (c .before .before .before .before .before .before .before .before .loop-test .taken) (refused told (c .if2 .taken)))
+    let read : tie.After-shared-slice-known6 Inv-loop μ-loop = c .before .before .before .before .before in
+    let i = turn read .loop .i in
+    let a = entry (turn read) .args in
+    let answer = net-answer (a .n) (a .source .now) (a .first-sink .now) (a .sink .now) i (c .before .before .net-sound .ensures .0) in
+    sym (nets-bad _ _ _ _ i (read .before .before .before .loop-test .taken) (refused answer (c .if2 .taken)))
 
 add-i : tie.Need-add-i Inv-loop μ-loop
 add-i c = omega arith
@@ -84,11 +99,12 @@ loop-less c = omega arith
 
 loop-again : tie.Need-loop-again Inv-loop μ-loop
 loop-again c =
-    let s = c .before .before .before .before .before .before .before .before .before .before .before .before .before .before in
+    let at : Head = turn (c .before .before .before .before .before) in
+    let a = entry at .args in
     let tested = c .before .before .net-sound in
-    let told = net-answer (s .args .n) (s .args .source .now) (s .args .first-sink .now) (s .args .sink .now) (c .before .before .before .before .before .before .before .before .before .loop .i) (tested .ensures .0) in
-    let sound = passed told (c .if2 .left) in
-    passing-more (c .before .before .before .before .before .before .before .before .before .loop .i) (c .before .before .before .before .before .before .before .before .before .loop .inv) sound (tested .ensures .1 (told ∙ sound)) (tested .kept .1 .1 .1 .0)
+    let answer = net-answer (a .n) (a .source .now) (a .first-sink .now) (a .sink .now) (at .loop .i) (tested .ensures .0) in
+    let sound = passed answer (c .if2 .left) in
+    passing-more (at .loop .i) (at .loop .inv) sound (tested .ensures .1 (answer ∙ sound)) (tested .kept .1 .1 .1 .0)
 
 returns-3 : tie.Need-returns-3 Inv-loop μ-loop
 returns-3 c = sym (nets-all _ _ _ _ (c .before .loop .i) (omega arith) (omega arith) (c .before .loop .inv .sound))
