@@ -438,7 +438,7 @@ module _ {log froms tos : List ℕ} {at : ℕ} (p : Finding log froms tos at) (l
   Anew r = r ≡ either (eqb (getD tos here 0) 0) (not (eqb (getD log (getD froms here 0) 0) (getD log at 0)))
 
   pub finding-anew : {end : ℕ} {r : Bool} → end ≡ nextAt log at → Anew r → r ≡ true → Finding log (set froms here at) (set tos here end) end
-  finding-anew is told t =
+  finding-anew is answer t =
       let below = finding-net in
       let long = p .from-long in
       let long′ = p .to-long in
@@ -459,7 +459,7 @@ module _ {log froms tos : List ℕ} {at : ℕ} (p : Finding log froms tos at) (l
       (λ h. h)
       (le-or-lt (getD log at 0) (latest here (p .records))))
       (same-or-not (getD tos here 0) 0))
-      (anew-why (getD tos here 0) (getD log (getD froms here 0) 0) (getD log at 0) (sym told ∙ t)) in
+      (anew-why (getD tos here 0) (getD log (getD froms here 0) 0) (getD log at 0) (sym answer ∙ t)) in
       rw is
       (moved (length-set froms here at ∙ p .from-long) (length-set tos here (nextAt log at) ∙ p .to-long)
       (λ i e. (getD-set-other froms here i at 0 (λ q. e (sym q)), getD-set-other tos here i (nextAt log at) 0 (λ q. e (sym q))))
@@ -467,10 +467,10 @@ module _ {log froms tos : List ℕ} {at : ℕ} (p : Finding log froms tos at) (l
       (standing-anew (p .rest .last) sound-now (p .records) refl older)))
 
   pub finding-same : {end : ℕ} {r : Bool} → end ≡ nextAt log at → Anew r → r ≡ false → Finding log froms (set tos here end) end
-  finding-same is told t =
+  finding-same is answer t =
       let below = finding-net in
       let long = p .to-long in
-      let why = same-why (getD tos here 0) (getD log (getD froms here 0) 0) (getD log at 0) (sym told ∙ t) in
+      let why = same-why (getD tos here 0) (getD log (getD froms here 0) 0) (getD log at 0) (sym answer ∙ t) in
       rw is
       (moved (p .from-long) (length-set tos here (nextAt log at) ∙ p .to-long)
       (λ i e. (refl, getD-set-other tos here i (nextAt log at) 0 (λ q. e (sym q))))

@@ -100,13 +100,13 @@ module _ (nodes : ℕ) (log : List ℕ) (at n sink : ℕ) where
   pub path-nodes :
       2 ≤ n → n ≤ 4096 → 6 + n ≤ length log - at → {r : Bool} →
       r ≡ every (nodeSound nodes) (take (at + 6 + n - (at + 6)) (drop (at + 6) log)) → not r ≡ true → pathSound nodes n sink (drop at log) ≡ false
-  path-nodes l m h told e = path-whole l m h ∙ rw (refused told e)
+  path-nodes l m h answer e = path-whole l m h ∙ rw (refused answer e)
 
   pub path-last :
       2 ≤ n → n ≤ 4096 → 6 + n ≤ length log - at → {r : Bool} →
       r ≡ every (nodeSound nodes) (take (at + 6 + n - (at + 6)) (drop (at + 6) log)) → not r ≡ false →
       pathSound nodes n sink (drop at log) ≡ eqb (getD log (at + 6 + n - 1) 0) sink
-  path-last l m h told e = path-whole l m h ∙ rw (passed told e)
+  path-last l m h answer e = path-whole l m h ∙ rw (passed answer e)
 
 -- ---- the tests of a record
 
@@ -171,7 +171,7 @@ module _ (named : Named) (last : ℕ) (log : List ℕ) (at : ℕ) where
       pub record-path :
           {net path : Bool} → net ≡ named .net (getD log (at + 1) 0) → not net ≡ false
           → path ≡ pathSound (named .nodes) (getD log (at + 5) 0) (getD log (at + 2) 0) (drop at log) → path ≡ recordSound named last (drop at log)
-      record-path told h is = is ∙ sym (record-net ∙ rw (passed told h))
+      record-path answer h is = is ∙ sym (record-net ∙ rw (passed answer h))
 
 -- ---- what a sound record has
 

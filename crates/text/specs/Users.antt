@@ -39,7 +39,7 @@ belowNodes nodes = record { net = λ i. ltb i netsMost; nodes = min nodes nodesM
 unfoldable pub netsWith : List Record → ℕ → ℕ
 netsWith rs v = countBelow (λ i. has v (treeRead i rs)) netsMost
 
--- what is told of the log, and each node's users afterwards
+-- what is answered of the log, and each node's users afterwards
 pub record UsersReply : Type 0 where
   pub checked : Checked
   pub users : List ℕ

@@ -86,10 +86,10 @@ slice-aggregate-store-job-9 c = search needs
 
 store-job-requires : tie.Need-store-job-requires
 store-job-requires c κs =
-    let told : tie.After-known-told = c .before .before .before .before .before .before .before .before .before .before .before .before .before .before .before .before .before .before in
-    let lines = lines-read told .read-lines in
+    let counted : tie.After-known-told = c .before .before .before .before .before .before .before .before .before .before .before .before .before .before .before .before .before .before in
+    let lines = lines-read counted .read-lines in
     let k = lines .kept .1 in
-    let counts = job-counts (lines .result) _ _ _ _ _ _ (told .before .nodes .given .1) (lines .ensures .1) in (
+    let counts = job-counts (lines .result) _ _ _ _ _ _ (counted .before .nodes .given .1) (lines .ensures .1) in (
       record {
         kinds-long = omega (arith, k .0);
         capacities-long = omega (arith, k .1 .0);
@@ -137,11 +137,11 @@ same-length-9 c = over c .store-job .kept .1 .1 .1 .1 .1 .1 .1 .1 .1 .1 .1 .1 .1
 
 returns : tie.Need-returns
 returns c =
-    let told = known (over c) in
-    let lines = lines-read told .read-lines in
+    let counted = known (over c) in
+    let lines = lines-read counted .read-lines in
     let l = lines .last .1 in
-    let s = entry (lines-read told) in
-    let given = told .before .nodes .given in
+    let s = entry (lines-read counted) in
+    let given = counted .before .nodes .given in
     let counts = given .0 in
     let left = over c .store-job .last .1 .1 .1 .1 .1 .1 .1 .1 .1 .1 .1 .1 .1 .1 in
     job-read (s .args .text .now) (lines .result) (counts .0) (counts .1 .0) (counts .1 .1 .0) (counts .1 .1 .1 .0) (counts .1 .1 .1 .1 .0) (counts .1 .1 .1 .1 .1 .0)

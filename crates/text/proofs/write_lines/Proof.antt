@@ -56,9 +56,10 @@ put-branches-requires-2 c κs = search needs
 
 put-tail-requires : tie.Need-put-tail-requires
 put-tail-requires c κs =
-    let room = c .before .before .before .before .before .before .before .before .before in
+    let head : tie.After-put-head = c .before .before .before .before .before .before .before in
+    let room : tie.Else1 = head .before .before in
     let e = entry (room .before) in
-    tail-room (e .args .style) (e .pre .0 .1) (e .args .source .now) (e .args .buffer .now) (short e) (fits room) (c .before .before .before .before .before .before .before .put-head .ensures) (c .before .before .before .put-branches2 .ensures)
+    tail-room (e .args .style) (e .pre .0 .1) (e .args .source .now) (e .args .buffer .now) (short e) (fits room) (head .put-head .ensures) (c .before .before .before .put-branches2 .ensures)
 
 same-length : tie.Need-same-length
 same-length c = search needs

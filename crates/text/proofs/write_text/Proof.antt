@@ -22,7 +22,9 @@ slice-aggregate-write-lines-2 : tie.Need-slice-aggregate-write-lines-2
 slice-aggregate-write-lines-2 c = search needs
 
 write-lines-requires : tie.Need-write-lines-requires
-write-lines-requires c κs = (c .before .before .before .before .before .before .before .before .before .before .before .pre, (search needs, search needs, c .before .before .before .before .before .latest-records .ensures))
+write-lines-requires c κs =
+    let found : tie.After-latest-records = c .before .before .before .before .before in
+    (found .before .before .before .before .before .before .pre, (search needs, search needs, found .latest-records .ensures))
 
 same-length : tie.Need-same-length
 same-length c = search needs

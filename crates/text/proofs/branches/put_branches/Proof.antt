@@ -64,7 +64,9 @@ loop-less : tie.Need-loop-less Inv-loop μ-loop
 loop-less c = search needs
 
 loop-again : tie.Need-loop-again Inv-loop μ-loop
-loop-again c = nets-more (c .before .before .before .before .before .before .before .before .loop .inv) (search needs) (places (c .before .before .before .before .before .before .before)) (c .before .before .put-records .ensures)
+loop-again c =
+    let turn : tie.In-loop Inv-loop μ-loop = c .before .before .before .before .before .before .before in
+    nets-more (turn .before .loop .inv) (search needs) (places turn) (c .before .before .put-records .ensures)
 
 same-length : tie.Need-same-length Inv-loop μ-loop
 same-length c = c .before .loop .inv .filled .kept

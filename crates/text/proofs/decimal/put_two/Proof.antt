@@ -12,21 +12,31 @@ put-byte-requires c κs =
     let l = two-size (a .letter) (a .first) (a .second) in
     search needs
 
+-- the entry, and what is put one behind the other: the letter and two numbers
+abbrev entry : tie.After-put-byte → tie.Start
+entry c = c .before .before .before
+
+abbrev letter : tie.After-put-field → tie.After-put-byte
+letter c = c .before .before .before .before
+
+abbrev first : tie.After-put-field2 → tie.After-put-field
+first c = c .before .before .before .before
+
 put-field-requires : tie.Need-put-field-requires
 put-field-requires c κs =
-    let a = c .before .before .before .before .before .before .args in
+    let a = entry (c .before .before .before) .args in
     let l = two-size (a .letter) (a .first) (a .second) in
     search needs
 
 put-field-requires-2 : tie.Need-put-field-requires-2
 put-field-requires-2 c κs =
-    let a = c .before .before .before .before .before .before .before .before .before .before .args in
+    let a = entry (letter (c .before .before .before)) .args in
     let l = two-size (a .letter) (a .first) (a .second) in
     search needs
 
 put-byte-requires-2 : tie.Need-put-byte-requires-2
 put-byte-requires-2 c κs =
-    let a = c .before .before .before .before .before .before .before .before .before .before .before .before .before .before .args in
+    let a = entry (letter (first (c .before .before .before))) .args in
     let l = two-size (a .letter) (a .first) (a .second) in
     search needs
 
@@ -35,9 +45,10 @@ same-length c = search needs
 
 returns : tie.Need-returns
 returns c =
-    put-letter-then _ (c .before .before .before .before .before .before .before .before .before .before .before .before .before .before .put-byte .ensures) (search needs)
-    (λ room. put-field-then _ _ (c .before .before .before .before .before .before .before .before .before .before .put-field .ensures) room
-    (λ room. put-field-then _ _ (c .before .before .before .before .before .before .put-field2 .ensures) room
+    let second : tie.After-put-field2 = c .before .before .before .before .before .before in
+    put-letter-then _ (letter (first second) .put-byte .ensures) (search needs)
+    (λ room. put-field-then _ _ (first second .put-field .ensures) room
+    (λ room. put-field-then _ _ (second .put-field2 .ensures) room
     (λ room. put-last (c .before .before .put-byte2 .ensures))))
 
 pub put-two-spec : {M : Type 1} → statement M

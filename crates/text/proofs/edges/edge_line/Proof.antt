@@ -17,6 +17,9 @@ at-of d = d .before .before .args .at
 abbrev text-of : tie.After-line-fields → List ℕ
 text-of d = now (d .before .before .args .text)
 
+abbrev fields-of : tie.After-known-told → tie.After-line-fields
+fields-of k = k .before .before .before
+
 line-fields-requires : tie.Need-line-fields-requires
 line-fields-requires c κs = search needs
 
@@ -36,9 +39,8 @@ cast-if1 c = search needs
 
 returns-2 : tie.Need-returns-2
 returns-2 c =
-    let d = c .before .before .before .before in (
-      edge-beyond _ _ _ _ (at-of d) (text-of d) (d .line-fields .ensures .0) (c .before .before .first .given .1)
-          (edge-beyond-from _ _ _ (c .if1 .taken)),
+    let d = fields-of (c .before) in (
+      edge-beyond _ _ _ _ (at-of d) (text-of d) (d .line-fields .ensures .0) (c .before .before .first .given .1) (edge-beyond-from _ _ _ (c .if1 .taken)),
       tt,
     )
 
@@ -47,15 +49,14 @@ cast-if2 c = search needs
 
 returns-3 : tie.Need-returns-3
 returns-3 c =
-    let d = c .before .before .before .before .before in (
-      edge-beyond _ _ _ _ (at-of d) (text-of d) (d .line-fields .ensures .0) (c .before .before .before .first .given .1)
-          (edge-beyond-to _ _ _ (c .before .if1 .left) (c .if2 .taken)),
+    let d = fields-of (c .before .before) in (
+      edge-beyond _ _ _ _ (at-of d) (text-of d) (d .line-fields .ensures .0) (c .before .before .before .first .given .1) (edge-beyond-to _ _ _ (c .before .if1 .left) (c .if2 .taken)),
       tt,
     )
 
 returns-4 : tie.Need-returns-4
 returns-4 c =
-    let d = c .before .before .before .before .before .before in (
+    let d = fields-of (c .before .before .before) in (
       edge-wrong _ _ _ _ (at-of d) (text-of d) (d .line-fields .ensures .0) (c .before .before .before .before .first .given .1)
           (edge-within _ _ _ (c .before .before .if1 .left) (c .before .if2 .left)) (edge-loop _ _ _ _ _ (c .if3 .taken)),
       tt,
@@ -72,10 +73,11 @@ edge-rises-requires c κs = search needs
 
 returns-5 : tie.Need-returns-5
 returns-5 c =
-    let d = c .before .before .before .before .before .before .before .before in (
-      edge-wrong _ _ _ _ (at-of d) (text-of d) (d .line-fields .ensures .0) (c .before .before .before .before .before .before .first .given .1)
-          (edge-within _ _ _ (c .before .before .before .before .if1 .left) (c .before .before .before .if2 .left))
-          (edge-order _ _ _ _ _ (c .before .before .if3 .left) (not-true _ (c .if4 .taken)) (c .before .edge-rises .ensures)),
+    let apart : tie.Else3 = c .before .before in
+    let read : tie.After-known-told = apart .before .before .before in
+    let d = fields-of read in (
+      edge-wrong _ _ _ _ (at-of d) (text-of d) (d .line-fields .ensures .0) (read .before .first .given .1) (edge-within _ _ _ (apart .before .before .if1 .left) (apart .before .if2 .left))
+          (edge-order _ _ _ _ _ (apart .if3 .left) (not-true _ (c .if4 .taken)) (c .before .edge-rises .ensures)),
       tt,
     )
 
@@ -87,11 +89,12 @@ cast-t16 c = search needs
 
 returns-6 : tie.Need-returns-6
 returns-6 c =
-    let d = c .before .before .before .before .before .before .before .before in (
-      edge-taken _ _ _ _ (at-of d) (text-of d) (d .line-fields .ensures .0) (c .before .before .before .before .before .before .first .given .1)
-          (edge-within _ _ _ (c .before .before .before .before .if1 .left) (c .before .before .before .if2 .left))
-          (edge-order _ _ _ _ _ (c .before .before .if3 .left) (not-false _ (c .if4 .left)) (c .before .edge-rises .ensures)),
-      (line-place _ (text-of d) (c .before .before .before .before .before .before .first .given .1) (d .line-fields .ensures .1), c .before .before .before .before .if1 .left, c .before .before .before .if2 .left),
+    let apart : tie.Else3 = c .before .before in
+    let read : tie.After-known-told = apart .before .before .before in
+    let d = fields-of read in (
+      edge-taken _ _ _ _ (at-of d) (text-of d) (d .line-fields .ensures .0) (read .before .first .given .1) (edge-within _ _ _ (apart .before .before .if1 .left) (apart .before .if2 .left))
+          (edge-order _ _ _ _ _ (apart .if3 .left) (not-false _ (c .if4 .left)) (c .before .edge-rises .ensures)),
+      (line-place _ (text-of d) (read .before .first .given .1) (d .line-fields .ensures .1), apart .before .before .if1 .left, apart .before .if2 .left),
     )
 
 pub edge-line-spec : {M : Type 1} → statement M

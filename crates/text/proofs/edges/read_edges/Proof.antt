@@ -17,6 +17,16 @@ abbrev μ-loop : tie.MeasureT-loop
 μ-loop text from first-line nodes edges first-edge₀ edge-target₀ at₀ line₀ row₀ target₀ k₀ first-edge edge-target at line row target k =
     edges - k
 
+-- the entry and the loop's head, from the call of a turn and from the last fill
+abbrev entry : tie.At-loop Inv-loop μ-loop → tie.Start Inv-loop μ-loop
+entry c = c .before .before .before .before
+
+abbrev turn : tie.After-edge-line Inv-loop μ-loop → tie.At-loop Inv-loop μ-loop
+turn c = c .before .before
+
+abbrev end : tie.After-fill2 Inv-loop μ-loop → tie.At-loop Inv-loop μ-loop
+end c = c .before .before .before
+
 slice-write-first-edge : tie.Need-slice-write-first-edge Inv-loop μ-loop
 slice-write-first-edge c = search needs
 
@@ -26,9 +36,8 @@ loop-holds c = edges-none _ _ _ _ _ (c .before .before .before .args .first-edge
 -- the tables' room, as the loop begins
 room :
     (c : tie.At-loop Inv-loop μ-loop)
-    → (c .before .before .before .before .args .nodes + 1 ≤ length (set (c .before .before .before .before .args .first-edge .now) 0 0)) ×
-    (c .before .before .before .before .args .edges ≤ length (c .before .before .before .before .args .edge-target .now))
-room c = (rw length-set (c .before .before .before .before .pre .1 .0), c .before .before .before .before .pre .1 .1)
+    → (entry c .args .nodes + 1 ≤ length (set (entry c .args .first-edge .now) 0 0)) × (entry c .args .edges ≤ length (entry c .args .edge-target .now))
+room c = (rw length-set (entry c .pre .1 .0), entry c .pre .1 .1)
 
 edge-line-requires : tie.Need-edge-line-requires Inv-loop μ-loop
 edge-line-requires c κs = search needs
@@ -88,14 +97,17 @@ enum-known-number : tie.Need-enum-known-number Inv-loop μ-loop
 enum-known-number c = search needs
 
 same-length : tie.Need-same-length Inv-loop μ-loop
-same-length c = c .before .before .before .before .before .loop .inv .firsts-same ∙ length-set (c .before .before .before .before .before .before .before .before .before .args .first-edge .now) 0 0
+same-length c = turn (c .before .before .before) .loop .inv .firsts-same ∙ length-set (entry (turn (c .before .before .before)) .args .first-edge .now) 0 0
 
 same-length-2 : tie.Need-same-length-2 Inv-loop μ-loop
-same-length-2 c = c .before .before .before .before .before .loop .inv .targets-same
+same-length-2 c = turn (c .before .before .before) .loop .inv .targets-same
 
 returns : tie.Need-returns Inv-loop μ-loop
 returns c =
-    (edges-stop (room (c .before .before .before .before .before)) (c .before .before .before .before .before .loop .inv) (c .before .before .before .before .loop-test .taken) (c .before .number .given .1) (c .before .before .before .edge-line .ensures .0), tt)
+    let after-edge-line = c .before .before .before in
+    let there = after-edge-line .before in
+    let head = there .before in
+    (edges-stop (room (head)) (head .loop .inv) (there .loop-test .taken) (c .before .number .given .1) (after-edge-line .edge-line .ensures .0), tt)
 
 add-fill-3 : tie.Need-add-fill-3 Inv-loop μ-loop
 add-fill-3 c = search needs
@@ -110,10 +122,12 @@ fill-requires-2 : tie.Need-fill-requires-2 Inv-loop μ-loop
 fill-requires-2 c κs = edges-last-rows (room (c .before .before)) (c .before .before .loop .inv)
 
 same-length-3 : tie.Need-same-length-3 Inv-loop μ-loop
-same-length-3 c = edges-end-long (room (c .before .before .before .before .before)) (c .before .before .before .before .before .loop .inv) (c .before .before .fill2 .ensures) ∙ length-set (c .before .before .before .before .before .before .before .before .before .args .first-edge .now) 0 0
+same-length-3 c =
+    let filled : tie.After-fill2 Inv-loop μ-loop = c .before .before in
+    edges-end-long (room (end filled)) (end filled .loop .inv) (filled .fill2 .ensures) ∙ length-set (entry (end filled) .args .first-edge .now) 0 0
 
 same-length-4 : tie.Need-same-length-4 Inv-loop μ-loop
-same-length-4 c = c .before .before .before .before .before .loop .inv .targets-same
+same-length-4 c = end (c .before .before) .loop .inv .targets-same
 
 returns-2 : tie.Need-returns-2 Inv-loop μ-loop
 returns-2 c =

@@ -81,11 +81,11 @@ module _ {M : Type 1} (𝓤 : URA M) (H : Heap 𝓤) (A : Atoms 𝓤) (W : Given
   abbrev v : Val
   v = sliceVal (s .ptr) (length (s .now))
 
-  abbrev Told : RefT (List ℕ) → ℕ → LineFields → Type 0
-  Told x m t = k ≤ 4 → fieldsAt k (now x) t ≡ fields k (dropped m (now x))
+  abbrev Said : RefT (List ℕ) → ℕ → LineFields → Type 0
+  Said x m t = k ≤ 4 → fieldsAt k (now x) t ≡ fields k (dropped m (now x))
 
   abbrev Found : RefT (List ℕ) → ℕ → LineFields → Type 0
-  Found x m t = Told x m t × FieldsPlace m (now x) t
+  Found x m t = Said x m t × FieldsPlace m (now x) t
 
   abbrev passed : Vals fields-from.signature (κ, tt)
   passed = (v ∷ [], (vint w64 n ∷ [], (vint w64 k ∷ [], tt)))
@@ -123,7 +123,7 @@ module _ {M : Type 1} (𝓤 : URA M) (H : Heap 𝓤) (A : Atoms 𝓤) (W : Given
   goes-read r u = qed W (‵ (B (κ, tt) .own r (u ∷ [])) ∷ (‵ (flft κ q) ⊛ ‵ ftrue) ∷ []) ∵ nothing ! $ owned ! usize (Is usize) (uint-makes 𝓤 H A W w64) k (vint w64 k ∷ []) (refl, counted) $ fjoin ! $ move ! (1 ∷ 0 ∷ []) $ fjoin ! $ move ! (1 ∷ 0 ∷ []) $ join ! $ frame ! $ done !
 
   read-said : (r : JobReader) (t : LineFields) → ent 𝓤 (ensured 𝓤 H A read-fields.ended (read-fields.clauses 𝓤 H A mem run) (κ, tt) (r, (k, tt)) tt t) (fact 𝓤 (Found (r .text) (r .at) t))
-  read-said r t = exE 𝓤 _ (λ ws. via 𝓤 _ (snd∗ 𝓤 (sem 𝓤 H A (lasts read-fields.ended (κ, tt) (r, (k, tt)) ws)) _) (both-heard 𝓤 (Told (r .text) (r .at) t) (FieldsPlace (r .at) (now (r .text)) t)))
+  read-said r t = exE 𝓤 _ (λ ws. via 𝓤 _ (snd∗ 𝓤 (sem 𝓤 H A (lasts read-fields.ended (κ, tt) (r, (k, tt)) ws)) _) (both-heard 𝓤 (Said (r .text) (r .at) t) (FieldsPlace (r .at) (now (r .text)) t)))
 
   exits : (t : LineFields) (u : Val) → Found s n t → ent 𝓤 (⋆ 𝓤 H A (‵ (S.the-row .own t (u ∷ [])) ∷ (‵ (flft κ q) ⊛ ‵ ftrue) ∷ ‵ Own ∷ [])) (Post u)
   exits t u e =

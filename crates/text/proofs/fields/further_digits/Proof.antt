@@ -18,6 +18,11 @@ Inv-loop text at first value₀ next₀ left₀ value next left = Digits text at
 abbrev μ-loop : tie.MeasureT-loop
 μ-loop text at first value₀ next₀ left₀ value next left = length text - next
 
+-- in a turn: the loop's head; a digit may still come, and it did
+module _ (c : tie.Else2 Inv-loop μ-loop) where
+  abbrev head : tie.At-loop Inv-loop μ-loop
+  head = c .before .before .before .before .before
+
 -- in a turn a digit may still come
 some : (c : tie.Else2 Inv-loop μ-loop) → 0 < c .before .before .before .before .before .loop .left
 some c = c .before .before .before .before .loop-test .taken
@@ -42,7 +47,7 @@ returns-2 : tie.Need-returns-2 Inv-loop μ-loop
 returns-2 c = digits-other (c .before .before .before .before .before .loop .inv) (search needs) (refused (c .before .is-digit .ensures) (c .if2 .taken))
 
 mul-value : tie.Need-mul-value Inv-loop μ-loop
-mul-value c = omega (arith, digits-room (c .before .before .before .before .before .loop .inv) (some c))
+mul-value c = omega (arith, digits-room (head c .loop .inv) (some c))
 
 sub-value : tie.Need-sub-value Inv-loop μ-loop
 sub-value c = digit-least _ (digit c)
@@ -51,7 +56,7 @@ cast-value : tie.Need-cast-value Inv-loop μ-loop
 cast-value c = omega (arith, digit-most _ (digit c))
 
 add-value : tie.Need-add-value Inv-loop μ-loop
-add-value c = omega (arith, digits-room (c .before .before .before .before .before .loop .inv) (some c), digit-most _ (digit c))
+add-value c = omega (arith, digits-room (head c .loop .inv) (some c), digit-most _ (digit c))
 
 add-next : tie.Need-add-next Inv-loop μ-loop
 add-next c = search needs
@@ -63,7 +68,7 @@ loop-less : tie.Need-loop-less Inv-loop μ-loop
 loop-less c = search needs
 
 loop-again : tie.Need-loop-again Inv-loop μ-loop
-loop-again c = digits-step (c .before .before .before .before .before .loop .inv) (some c) (search needs) (digit c)
+loop-again c = digits-step (head c .loop .inv) (some c) (search needs) (digit c)
 
 returns-3 : tie.Need-returns-3 Inv-loop μ-loop
 returns-3 c = let none : c .before .loop .left ≤ 0 = c .loop-test .left in digits-full (c .before .loop .inv) (omega arith)

@@ -11,7 +11,11 @@ use Rattle.text.proofs.FieldLaws.{field-past, field-zero, field-other, 
 use Rattle.text.proofs.fields.number.Statement.{statement}
 use Rattle.text.proofs.fields.number.Tie as tie
 
-digit : (c : tie.Else3) → isDigit (getD (c .before .before .before .before .before .before .args .text .now) (c .before .before .before .before .before .before .args .at) 0) ≡ true
+-- the entry from the third test, and what it says
+abbrev entry : tie.After-is-digit → tie.Start
+entry c = c .before .before .before .before .before
+
+digit : (c : tie.Else3) → isDigit (getD (entry (c .before) .args .text .now) (entry (c .before) .args .at) 0) ≡ true
 digit c = passed (c .before .is-digit .ensures) (c .if3 .left)
 
 returns : tie.Need-returns
@@ -30,7 +34,9 @@ is-digit-requires : tie.Need-is-digit-requires
 is-digit-requires c κs = search needs
 
 returns-3 : tie.Need-returns-3
-returns-3 c = (sym (field-other (c .before .before .before .before .before .before .args .at) (c .before .before .before .before .before .before .args .text .now) (search needs) (search needs) (refused (c .before .is-digit .ensures) (c .if3 .taken))), tt)
+returns-3 c =
+    let start : tie.Start = entry (c .before) in
+    (sym (field-other (start .args .at) (start .args .text .now) (search needs) (search needs) (refused (c .before .is-digit .ensures) (c .if3 .taken))), tt)
 
 add-further-digits : tie.Need-add-further-digits
 add-further-digits c = search needs
@@ -46,8 +52,9 @@ further-digits-requires c κs = (search needs, omega (arith, digit-most _ (digit
 
 returns-4 : tie.Need-returns-4
 returns-4 c =
-    let entry = c .before .before .before .before .before .before .before in
-    field-onward (entry .args .at) (entry .args .text .now) (c .further-digits .result) (c .further-digits .ensures) (field-digits (entry .args .at) (entry .args .text .now) (search needs) (search needs) (digit (c .before)))
+    let start : tie.Start = entry (c .before .before) in
+    field-onward (start .args .at) (start .args .text .now) (c .further-digits .result) (c .further-digits .ensures)
+    (field-digits (start .args .at) (start .args .text .now) (search needs) (search needs) (digit (c .before)))
 
 pub number-spec : {M : Type 1} → statement M
 number-spec =

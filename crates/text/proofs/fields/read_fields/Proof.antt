@@ -144,8 +144,8 @@ module _ {M : Type 1} (𝓤 : URA M) (H : Heap 𝓤) (A : Atoms 𝓤) (W : Given
   abbrev text : List ℕ
   text = now (d .text)
 
-  abbrev Told : LineFields → Type 0
-  Told r = count ≤ 4 → fieldsAt count text r ≡ fields count (dropped (d .at) text)
+  abbrev Said : LineFields → Type 0
+  Said r = count ≤ 4 → fieldsAt count text r ≡ fields count (dropped (d .at) text)
 
   abbrev Placed : LineFields → Type 0
   Placed r = FieldsPlace (d .at) text r
@@ -170,7 +170,7 @@ module _ {M : Type 1} (𝓤 : URA M) (H : Heap 𝓤) (A : Atoms 𝓤) (W : Given
   abbrev vd : Values (D .parts)
   vd = (d .text, (d .at, tt))
 
-  exits : (r : LineFields) (u : Val) → Told r × Placed r → ent 𝓤 (⋆ 𝓤 H A (‵ (S.the-row .own r (u ∷ [])) ∷ (‵ (flft κ q) ⊛ ‵ ftrue) ∷ ‵ Own ∷ [])) (Post u)
+  exits : (r : LineFields) (u : Val) → Said r × Placed r → ent 𝓤 (⋆ 𝓤 H A (‵ (S.the-row .own r (u ∷ [])) ∷ (‵ (flft κ q) ⊛ ‵ ftrue) ∷ ‵ Own ∷ [])) (Post u)
   exits r u e =
       qed W (‵ (S.the-row .own r (u ∷ [])) ∷ (‵ (flft κ q) ⊛ ‵ ftrue) ∷ ‵ Own ∷ []) ∵
       suffices ! _ (ends-at 𝓤 H A read-fields.ended stayed (read-fields.clauses 𝓤 H A mem run) W (((κ, tt), (q, tt), tt, (d, (count, tt)), (mach ∷ [], (vint w64 count ∷ [], tt))), tt) u r (tt, (tt, tt)) (tt, (tt, tt))) $
@@ -278,11 +278,11 @@ module _ {M : Type 1} (𝓤 : URA M) (H : Heap 𝓤) (A : Atoms 𝓤) (W : Given
         }
 
     -- the answer, where all fields have been read
-    answered : Holds (not (ltb (x .k) count)) → {r : LineFields} → r ≡ lineEnd text (x .at) (x .line) → Told r × Placed r
+    answered : Holds (not (ltb (x .k) count)) → {r : LineFields} → r ≡ lineEnd text (x .at) (x .line) → Said r × Placed r
     answered over {r} e =
         let all : x .k ≡ count = le-antisymm (x .some-left) (nltb→le (x .k) count over) in
         let so-far : SoFar count count (d .at) (x .at) text (x .line) = subst (λ (k : ℕ). SoFar count k (d .at) (x .at) text (x .line)) all (x .so-far) in
-        subst (λ (l : LineFields). Told l × Placed l) (sym e) (fields-end count (d .at) (x .at) text (x .line) so-far)
+        subst (λ (l : LineFields). Said l × Placed l) (sym e) (fields-end count (d .at) (x .at) text (x .line) so-far)
 
   module _ (𝓣 : Tables 𝓤 H) (wt : Holds (hasTy (T′.mir (named 0)) mach) × WT mach) (known-none : Triple 𝓤 (𝓣 .C #text·fields·no-fields) (None 𝓤 H A mem run))
       (known-comma : Triple 𝓤 (𝓣 .C #text·fields·comma-field) (Comma 𝓤 H A mem run)) (known-with : Triple 𝓤 (𝓣 .C #text·fields·with-field) (With 𝓤 H A mem run))

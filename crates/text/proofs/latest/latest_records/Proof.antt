@@ -19,12 +19,19 @@ Inv-loop log from₀ to₀ at₀ from to at = Finding log from to at
 abbrev μ-loop : tie.MeasureT-loop
 μ-loop log from₀ to₀ at₀ from to at = length log - at
 
+-- the entry, and a turn of the loop
+abbrev entry : tie.At-loop Inv-loop μ-loop → tie.Start Inv-loop μ-loop
+entry c = c .before .before .before .before
+
+abbrev turn : tie.After-slice-known4 Inv-loop μ-loop → tie.In-loop Inv-loop μ-loop
+turn c = c .before .before .before .before
+
 -- the next record begins within the log
-within : (c : tie.In-loop Inv-loop μ-loop) → nextAt (c .before .before .before .before .before .args .log .now) (c .before .loop .at) ≤ length (c .before .before .before .before .before .args .log .now)
+within : (c : tie.In-loop Inv-loop μ-loop) → nextAt (entry (c .before) .args .log .now) (c .before .loop .at) ≤ length (entry (c .before) .args .log .now)
 within c = rest-fits (c .before .loop .inv .rest) (c .loop-test .taken)
 
 -- the record's net has its places
-few : (c : tie.In-loop Inv-loop μ-loop) → getD (c .before .before .before .before .before .args .log .now) (c .before .loop .at + 1) 0 < netsMost
+few : (c : tie.In-loop Inv-loop μ-loop) → getD (entry (c .before) .args .log .now) (c .before .loop .at + 1) 0 < netsMost
 few c = finding-net (c .before .loop .inv) (c .loop-test .taken)
 
 loop-holds : tie.Need-loop-holds Inv-loop μ-loop
@@ -57,22 +64,22 @@ mul-begins-anew-2 : tie.Need-mul-begins-anew-2 Inv-loop μ-loop
 mul-begins-anew-2 c = omega (arith, few (c .before .before .before))
 
 slice-read-begins-anew-2 : tie.Need-slice-read-begins-anew-2 Inv-loop μ-loop
-slice-read-begins-anew-2 c = omega (arith, few (c .before .before .before .before), c .before .before .before .before .before .loop .inv .to-long)
+slice-read-begins-anew-2 c = omega (arith, few (turn c), turn c .before .loop .inv .to-long)
 
 begins-anew-requires : tie.Need-begins-anew-requires Inv-loop μ-loop
-begins-anew-requires c κs = (finding-from (c .before .before .before .before .before .loop .inv) (c .before .before .before .before .loop-test .taken), c .before .before .before .before .loop-test .taken)
+begins-anew-requires c κs = (finding-from (turn c .before .loop .inv) (turn c .loop-test .taken), turn c .loop-test .taken)
 
 mul-from : tie.Need-mul-from Inv-loop μ-loop
-mul-from c = omega (arith, few (c .before .before .before .before .before .before))
+mul-from c = omega (arith, few (turn (c .before .before)))
 
 slice-write-from : tie.Need-slice-write-from Inv-loop μ-loop
-slice-write-from c = omega (arith, few (c .before .before .before .before .before .before), c .before .before .before .before .before .before .before .loop .inv .from-long)
+slice-write-from c = omega (arith, few (turn (c .before .before)), turn (c .before .before) .before .loop .inv .from-long)
 
 mul-to : tie.Need-mul-to Inv-loop μ-loop
-mul-to c = omega (arith, few (c .before .before .before .before .before .before))
+mul-to c = omega (arith, few (turn (c .before .before)))
 
 slice-write-to : tie.Need-slice-write-to Inv-loop μ-loop
-slice-write-to c = omega (arith, few (c .before .before .before .before .before .before), c .before .before .before .before .before .before .before .loop .inv .to-long)
+slice-write-to c = omega (arith, few (turn (c .before .before)), turn (c .before .before) .before .loop .inv .to-long)
 
 loop-less : tie.Need-loop-less Inv-loop μ-loop
 loop-less c = let end = c .before .before .before .before in omega (arith, end .record-end .ensures, within (end .before .before))
@@ -87,10 +94,10 @@ loop-again c =
     (c .if1 .came)
 
 same-length : tie.Need-same-length Inv-loop μ-loop
-same-length c = c .before .loop .inv .from-long ∙ sym (c .before .before .before .before .before .pre .1 .0)
+same-length c = c .before .loop .inv .from-long ∙ sym (entry (c .before) .pre .1 .0)
 
 same-length-2 : tie.Need-same-length-2 Inv-loop μ-loop
-same-length-2 c = c .before .loop .inv .to-long ∙ sym (c .before .before .before .before .before .pre .1 .1)
+same-length-2 c = c .before .loop .inv .to-long ∙ sym (entry (c .before) .pre .1 .1)
 
 returns : tie.Need-returns Inv-loop μ-loop
 returns c = finding-all (c .before .loop .inv) (search needs)

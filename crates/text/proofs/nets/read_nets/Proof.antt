@@ -126,7 +126,9 @@ same-length-12 : tie.Need-same-length-12 Inv-loop μ-loop
 same-length-12 c = search needs
 
 returns-3 : tie.Need-returns-3 Inv-loop μ-loop
-returns-3 c = (going-empty (c .before .before .before .before .before .before .loop .inv .0) (c .before .before .before .before .if1 .left) (c .if3 .taken), tt)
+returns-3 c =
+    let past-if1 = c .before .before .before .before in
+    (going-empty (past-if1 .before .before .loop .inv .0) (past-if1 .if1 .left) (c .if3 .taken), tt)
 
 cast-first-sink : tie.Need-cast-first-sink Inv-loop μ-loop
 cast-first-sink c = search needs

@@ -18,34 +18,45 @@ enum-known-first c = search needs
 enum-told : tie.Need-enum-told
 enum-told c = search needs
 
+-- the entry, from where the line is read
+abbrev entry : tie.After-line-fields → tie.Start
+entry c = c .before .before .before
+
 returns : tie.Need-returns
 returns c =
-    let a = c .before .before .before .before .before .args in
-    (of-refused sourceKind (a .kind .now) (source-fault _ _ _ (a .at) (a .text .now) _ (c .before .before .line-fields .ensures .0) (c .enum-told .given .1)), tt)
+    let read : tie.After-line-fields = c .before .before in
+    let a = entry read .args in
+    (of-refused sourceKind (a .kind .now) (source-fault _ _ _ (a .at) (a .text .now) _ (read .line-fields .ensures .0) (c .enum-told .given .1)), tt)
 
 cast-if1 : tie.Need-cast-if1
 cast-if1 c = search needs
 
 returns-2 : tie.Need-returns-2
 returns-2 c =
-    let a = c .before .before .before .before .before .before .before .args in
-    (of-refused sourceKind (a .kind .now) (source-net _ _ _ (a .at) (a .text .now) _ (c .before .before .before .before .line-fields .ensures .0) (c .before .before .first .given .1) (c .if1 .taken)), tt)
+    let read : tie.After-line-fields = c .before .before .before .before in
+    let a = entry read .args in
+    (of-refused sourceKind (a .kind .now) (source-net _ _ _ (a .at) (a .text .now) _ (read .line-fields .ensures .0) (c .before .before .first .given .1) (c .if1 .taken)), tt)
 
 cast-if2 : tie.Need-cast-if2
 cast-if2 c = search needs
 
 returns-3 : tie.Need-returns-3
 returns-3 c =
-    let a = c .before .before .before .before .before .before .before .before .args in
-    (of-refused sourceKind (a .kind .now) (source-node _ _ _ (a .at) (a .text .now) _ (c .before .before .before .before .before .line-fields .ensures .0) (c .before .before .before .first .given .1) (c .if2 .taken)), tt)
+    let read : tie.After-line-fields = c .before .before .before .before .before in
+    let a = entry read .args in
+    (of-refused sourceKind (a .kind .now) (source-node _ _ _ (a .at) (a .text .now) _ (read .line-fields .ensures .0) (c .before .before .before .first .given .1) (c .if2 .taken)), tt)
 
 cast-if3 : tie.Need-cast-if3
 cast-if3 c = search needs
 
 returns-4 : tie.Need-returns-4
 returns-4 c =
-    let a = c .before .before .before .before .before .before .before .before .before .args in
-    (of-refused sourceKind (a .kind .now) (source-order _ _ _ (a .at) (a .text .now) _ (c .before .before .before .before .before .before .line-fields .ensures .0) (c .before .before .before .before .first .given .1) (c .before .before .if1 .left) (c .before .if2 .left) (c .if3 .taken)), tt)
+    let read : tie.After-line-fields = c .before .before .before .before .before .before in
+    let a = entry read .args in (
+      of-refused sourceKind (a .kind .now)
+          (source-order _ _ _ (a .at) (a .text .now) _ (read .line-fields .ensures .0) (c .before .before .before .before .first .given .1) (c .before .before .if1 .left) (c .before .if2 .left) (c .if3 .taken)),
+      tt,
+    )
 
 cast-source-kind : tie.Need-cast-source-kind
 cast-source-kind c = search needs

@@ -94,9 +94,9 @@ returns c =
     let wires = wired c .read-edges-nets in
     let n = nodes .last .1 .1 .1 .1 .1 in
     let w = wires .last .1 .1 .1 .1 .1 .1 .1 .1 in
-    let told = known (wired c) .before .at .given in (
-      nodes-wires (a .timed) (a .nodes) (a .edges) (a .nets) (a .line) (told .0 .0) (told .0 .1 .0) (a .text .now) (drop (a .from) (a .text .now)) (nodes .result) (wires .result)
-          (n .0) (n .1 .0) (w .0) (w .1 .0) (w .1 .1 .0) (w .1 .1 .1 .0) (w .1 .1 .1 .1 .0) (n .1 .1 .0) (w .1 .1 .1 .1 .1 .0) (told .1) (nodes .ensures .0) (wires .ensures .0),
+    let place = known (wired c) .before .at .given in (
+      nodes-wires (a .timed) (a .nodes) (a .edges) (a .nets) (a .line) (place .0 .0) (place .0 .1 .0) (a .text .now) (drop (a .from) (a .text .now)) (nodes .result) (wires .result)
+          (n .0) (n .1 .0) (w .0) (w .1 .0) (w .1 .1 .0) (w .1 .1 .1 .0) (w .1 .1 .1 .1 .0) (n .1 .1 .0) (w .1 .1 .1 .1 .1 .0) (place .1) (nodes .ensures .0) (wires .ensures .0),
       wires .ensures .1,
     )
 

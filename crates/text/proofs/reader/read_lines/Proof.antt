@@ -66,11 +66,11 @@ same-length-9 c = read c .read-body .kept .1 .1 .1 .1 .1 .1 .1 .1 .1 .1 .1 .1 .1
 
 returns : tie.Need-returns
 returns c =
-    let told = known (read c) in
-    let head = headed told .read-head in
+    let counted = known (read c) in
+    let head = headed counted .read-head in
     let body = read c .read-body in
     let l = body .last .1 .1 .1 .1 .1 .1 .1 in
-    let is = told .before .nodes .given .1 in (
+    let is = counted .before .nodes .given .1 in (
       text-read _ _ _ _ _ _ _ (head .result) (l .0) (l .1 .0) (l .1 .1 .0) (l .1 .1 .1 .0) (l .1 .1 .1 .1 .0) (l .1 .1 .1 .1 .1 .0) (l .1 .1 .1 .1 .1 .1 .0) (l .1 .1 .1 .1 .1 .1 .1 .0)
           (l .1 .1 .1 .1 .1 .1 .1 .1 .0) is (head .ensures .0) (body .result) (c .job-lines .result) (c .job-lines .ensures) (body .ensures .0),
       job-place _ _ _ _ (l .1 .1 .1 .1 .1 .0) (body-place _ (head .result) _ _ _ _ _ _ is (head .ensures .1) .0) (body .result) (c .job-lines .result) (c .job-lines .ensures) (body .ensures .1),

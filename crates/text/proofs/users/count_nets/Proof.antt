@@ -17,16 +17,22 @@ Inv-loop log from to users₀ stamps₀ net₀ users stamps net = CountingNets l
 abbrev μ-loop : tie.MeasureT-loop
 μ-loop log from to users₀ stamps₀ net₀ users stamps net = netsMost - net
 
--- where the function begins
-abbrev entry : tie.In-loop Inv-loop μ-loop → tie.Start Inv-loop μ-loop
-entry c = c .before .before .before .before .before .before .before
+-- the entry, and a turn of the loop
+abbrev entry : tie.At-loop Inv-loop μ-loop → tie.Start Inv-loop μ-loop
+entry c = c .before .before .before .before .before .before
+
+abbrev turn : tie.After-count-records-arg3 Inv-loop μ-loop → tie.In-loop Inv-loop μ-loop
+turn c = c .before .before .before .before .before
 
 -- the net's two places
-places : (c : tie.In-loop Inv-loop μ-loop) → Latest (entry c .args .log .now) (c .before .loop .net) (getD (entry c .args .from .now) (c .before .loop .net) 0) (getD (entry c .args .to .now) (c .before .loop .net) 0)
-places c = entry c .pre .0 .2 (c .before .loop .net) (c .loop-test .taken)
+places : (c : tie.In-loop Inv-loop μ-loop) → Latest (entry (c .before) .args .log .now) (c .before .loop .net) (getD (entry (c .before) .args .from .now) (c .before .loop .net) 0)
+    (getD (entry (c .before) .args .to .now) (c .before .loop .net) 0)
+places c = entry (c .before) .pre .0 .2 (c .before .loop .net) (c .loop-test .taken)
 
 loop-holds : tie.Need-loop-holds Inv-loop μ-loop
-loop-holds c = nets-none _ _ _ (c .before .before .before .before .before .pre .1 .0) (c .before .before .before .before .before .pre .1 .1) (c .before .before .before .before .before .pre .1 .2)
+loop-holds c =
+    let asked = c .before .before .before .before .before .pre .1 in
+    nets-none _ _ _ (asked .0) (asked .1) (asked .2)
 
 mul-count-records : tie.Need-mul-count-records Inv-loop μ-loop
 mul-count-records c = search needs
@@ -63,8 +69,8 @@ add-count-records c = search needs
 
 count-records-requires : tie.Need-count-records-requires Inv-loop μ-loop
 count-records-requires c κs =
-    let inv = c .before .before .before .before .before .before .loop .inv in
-    ((places (c .before .before .before .before .before) .part-sound, inv .users-long, inv .stamps-long), nets-few inv)
+    let inv = turn c .before .loop .inv in
+    ((places (turn c) .part-sound, inv .users-long, inv .stamps-long), nets-few inv)
 
 add-net : tie.Need-add-net Inv-loop μ-loop
 add-net c = search needs
@@ -73,13 +79,15 @@ loop-less : tie.Need-loop-less Inv-loop μ-loop
 loop-less c = search needs
 
 loop-again : tie.Need-loop-again Inv-loop μ-loop
-loop-again c = nets-more (c .before .before .before .before .before .before .before .before .before .before .before .loop .inv) (search needs) (places (c .before .before .before .before .before .before .before .before .before .before)) (c .before .before .before .before .count-records .ensures)
+loop-again c =
+    let at : tie.In-loop Inv-loop μ-loop = turn (c .before .before .before .before .before) in
+    nets-more (at .before .loop .inv) (search needs) (places at) (c .before .before .before .before .count-records .ensures)
 
 same-length : tie.Need-same-length Inv-loop μ-loop
-same-length c = c .before .loop .inv .users-long ∙ sym (c .before .before .before .before .before .before .before .pre .1 .0)
+same-length c = c .before .loop .inv .users-long ∙ sym (entry (c .before) .pre .1 .0)
 
 same-length-2 : tie.Need-same-length-2 Inv-loop μ-loop
-same-length-2 c = c .before .loop .inv .stamps-long ∙ sym (c .before .before .before .before .before .before .before .pre .1 .1)
+same-length-2 c = c .before .loop .inv .stamps-long ∙ sym (entry (c .before) .pre .1 .1)
 
 returns : tie.Need-returns Inv-loop μ-loop
 returns c = (c .before .loop .inv .users-long, nets-all (c .before .loop .inv) (search needs))

@@ -19,8 +19,12 @@ Inv-loop log net stamp users₀ stamps₀ at₀ users stamps at = CountingRecord
 abbrev μ-loop : tie.MeasureT-loop
 μ-loop log net stamp users₀ stamps₀ at₀ users stamps at = length log - at
 
+-- the entry, from a turn of the loop
+abbrev entry : tie.In-loop Inv-loop μ-loop → tie.Start Inv-loop μ-loop
+entry c = c .before .before .before .before .before
+
 -- the next record begins within the log
-within : (c : tie.In-loop Inv-loop μ-loop) → nextAt (c .before .before .before .before .before .args .log .now) (c .before .loop .at) ≤ length (c .before .before .before .before .before .args .log .now)
+within : (c : tie.In-loop Inv-loop μ-loop) → nextAt (entry c .args .log .now) (c .before .loop .at) ≤ length (entry c .args .log .now)
 within c = rest-fits (c .before .loop .inv .rest) (c .loop-test .taken)
 
 loop-holds : tie.Need-loop-holds Inv-loop μ-loop
@@ -47,7 +51,7 @@ count-path-requires c κs =
     let is = end .record-end .ensures in
     let inside = end .before in
     let inv = inside .before .loop .inv in
-    let start = inside .before .before .before .before .before in
+    let start = entry inside in
     let next = within inside in
     let long : length (inside .before .loop .users) ≡ 4096 = inv .users-long ∙ start .pre .0 .1 in (
       (omega (arith, is), omega (arith, is, next), omega (arith, inv .users-long, inv .stamps-long, start .pre .0 .1, start .pre .0 .2)),
