@@ -23,18 +23,22 @@ returns c =
     let users = c .before .before .before .node-users in
     add-full _ _ _ (users .ensures) (c .before .enum-told .given .1) _ (search needs)
 
+-- the entry, from where the users are counted
+abbrev entry : tie.After-node-users → tie.Start
+entry c = c .before .before .before .before
+
 slice-aggregate-tally : tie.Need-slice-aggregate-tally
 slice-aggregate-tally c =
-    let start = c .before .before .before .before .before .before .before .before in
-    let users = c .before .before .before .before .node-users in
-    let long = users-long (now (start .args .kind)) (now (start .args .log)) (replicate 4096 0) (users .ensures) (c .before .before .enum-told .given .1) in
+    let counted : tie.After-node-users = c .before .before .before .before in
+    let a = entry counted .args in
+    let long = users-long (now (a .kind)) (now (a .log)) (replicate 4096 0) (counted .node-users .ensures) (c .before .before .enum-told .given .1) in
     search needs
 
 tally-requires : tie.Need-tally-requires
 tally-requires c κs =
-    let start = c .before .before .before .before .before .before .before .before .before in
-    let users = c .before .before .before .before .before .node-users in
-    let long = users-long (now (start .args .kind)) (now (start .args .log)) (replicate 4096 0) (users .ensures) (c .before .before .before .enum-told .given .1) in
+    let counted : tie.After-node-users = c .before .before .before .before .before in
+    let start = entry counted in
+    let long = users-long (now (start .args .kind)) (now (start .args .log)) (replicate 4096 0) (counted .node-users .ensures) (c .before .before .before .enum-told .given .1) in
     ((start .pre .0, omega (arith, long, kinds-few _ (start .pre .0))), (search needs, start .pre .1))
 
 add-t17 : tie.Need-add-t17
@@ -45,9 +49,8 @@ returns-2 c = add-unsound _ _ _ (c .before .before .before .node-users .ensures)
 
 returns-3 : tie.Need-returns-3
 returns-3 c =
-    let start = c .before .before .before .before .before .before .before .before .before .before in
-    let users = c .before .before .before .before .before .before .node-users in
-    add-done _ _ _ (users .ensures) (c .before .before .before .before .enum-told .given .1) _ (kinds-few _ (start .pre .0)) (search needs) (c .tally .ensures)
+    let counted : tie.After-node-users = c .before .before .before .before .before .before in
+    add-done _ _ _ (counted .node-users .ensures) (c .before .before .before .before .enum-told .given .1) _ (kinds-few _ (entry counted .pre .0)) (search needs) (c .tally .ensures)
 
 pub add-tested-spec : {M : Type 1} → statement M
 add-tested-spec =

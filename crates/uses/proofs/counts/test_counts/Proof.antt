@@ -48,12 +48,15 @@ tally-requires c κs =
 slice-aggregate-first-over : tie.Need-slice-aggregate-first-over
 slice-aggregate-first-over c = search needs
 
+-- where the block is tested, from where the totals are found
+abbrev tested : tie.After-tally → tie.After-faulty-block
+tested c = c .before .before .before .before .before
+
 first-over-requires : tie.Need-first-over-requires
 first-over-requires c κs =
-    let tallied = c .before .before .before in
-    let tested = tallied .before .before .before .before .before in
-    let b = block (entry tested) in
-    let sound = no-fault b (tested .faulty-block .ensures) (search needs) in
+    let tallied : tie.After-tally = c .before .before .before in
+    let b = block (entry (tested tallied)) in
+    let sound = no-fault b (tested tallied .faulty-block .ensures) (search needs) in
     (search needs, rw (tallied .tally .ensures) (tallied-long _ _ _), found-most b sound (tallied .tally .ensures), search needs)
 
 cast-if3 : tie.Need-cast-if3
@@ -61,11 +64,13 @@ cast-if3 c = search needs
 
 returns-3 : tie.Need-returns-3
 returns-3 c =
-    refused-kind _ _ (c .before .before .before .before .before .before .before .before .before .before .faulty-block .ensures) (search needs) (search needs) (c .before .before .before .before .before .tally .ensures) (c .before .first-over .ensures) (search needs)
+    let tallied : tie.After-tally = c .before .before .before .before .before in
+    refused-kind _ _ (tested tallied .faulty-block .ensures) (search needs) (search needs) (tallied .tally .ensures) (c .before .first-over .ensures) (search needs)
 
 returns-4 : tie.Need-returns-4
 returns-4 c =
-    refused-none _ _ (c .before .before .before .before .before .before .before .before .before .before .faulty-block .ensures) (search needs) (search needs) (c .before .before .before .before .before .tally .ensures) (c .before .first-over .ensures) (search needs)
+    let tallied : tie.After-tally = c .before .before .before .before .before in
+    refused-none _ _ (tested tallied .faulty-block .ensures) (search needs) (search needs) (tallied .tally .ensures) (c .before .first-over .ensures) (search needs)
 
 pub test-counts-spec : {M : Type 1} → statement M
 test-counts-spec =

@@ -18,6 +18,10 @@ Inv-loop uses totals logs buffer₀ at₀ k₀ buffer at k = Joining (totalLine 
 abbrev μ-loop : tie.MeasureT-loop
 μ-loop uses totals logs buffer₀ at₀ k₀ buffer at k = kindCount - k
 
+-- the entry, from the loop's head
+abbrev entry : tie.At-loop Inv-loop μ-loop → tie.Start Inv-loop μ-loop
+entry c = c .before .before .before .before
+
 -- the text has room
 room : (c : tie.Start Inv-loop μ-loop) → 0 + length (concatFrom (totalLine (c .args .uses .now) (c .args .totals .now) (c .args .logs)) 0 (kindCount - 0)) ≤ length (c .args .buffer .now)
 room c = from-first (totalLine (c .args .uses .now) (c .args .totals .now) (c .args .logs)) kindCount 0 (length (c .args .buffer .now)) (omega (arith, c .pre .1 .1))
@@ -38,7 +42,7 @@ shared-slice-read-t15 : tie.Need-shared-slice-read-t15 Inv-loop μ-loop
 shared-slice-read-t15 c = search needs
 
 mul-t16 : tie.Need-mul-t16 Inv-loop μ-loop
-mul-t16 c = record { fits = c .before .before .before .before .before .before .before .pre .1 .0 (c .before .before .before .loop .k) (search needs) }
+mul-t16 c = record { fits = entry (c .before .before .before) .pre .1 .0 (c .before .before .before .loop .k) (search needs) }
 
 slice-aggregate-print-line : tie.Need-slice-aggregate-print-line Inv-loop μ-loop
 slice-aggregate-print-line c = search needs
@@ -54,15 +58,16 @@ loop-less c = search needs
 
 loop-again : tie.Need-loop-again Inv-loop μ-loop
 loop-again c =
-    let fits = room (c .before .before .before .before .before .before .before .before .before .before .before .before) in
-    let inv = c .before .before .before .before .before .before .before .before .loop .inv in
+    let at : tie.At-loop Inv-loop μ-loop = c .before .before .before .before .before .before .before .before in
+    let fits = room (entry at) in
+    let inv = at .loop .inv in
     joining-more _ _ _ _ _ fits inv (search needs) (line-put letterU _ (c .before .before .print-line .ensures) (joining-room _ _ _ _ _ fits inv (search needs)))
 
 same-length : tie.Need-same-length Inv-loop μ-loop
-same-length c = joining-same _ _ _ _ _ (room (c .before .before .before .before .before)) (c .before .loop .inv)
+same-length c = joining-same _ _ _ _ _ (room (entry (c .before))) (c .before .loop .inv)
 
 returns : tie.Need-returns Inv-loop μ-loop
-returns c = joining-all _ _ _ _ _ (room (c .before .before .before .before .before)) (c .before .loop .inv) (search needs)
+returns c = joining-all _ _ _ _ _ (room (entry (c .before))) (c .before .loop .inv) (search needs)
 
 pub put-lines-spec : {M : Type 1} → statement M
 put-lines-spec =

@@ -48,7 +48,9 @@ abbrev found : tie.After-trial → List ℕ
 found c = c .before .before .before .before .tally .last .1 .1 .0
 
 totals : (c : tie.After-trial) → Totals (entry c .args .kind .now) (entry c .args .capacity .now) (found c)
-totals c = totals-of _ _ (entry c .pre .0) (entry c .pre .1) (c .before .before .before .before .before .before .before .before .widen .ensures) (c .before .before .before .before .tally .ensures)
+totals c =
+    let tallied : tie.After-tally = c .before .before .before .before in
+    totals-of _ _ (entry c .pre .0) (entry c .pre .1) (tallied .before .before .before .before .widen .ensures) (tallied .tally .ensures)
 
 put-lines-requires : tie.Need-put-lines-requires
 put-lines-requires c κs =
@@ -63,19 +65,26 @@ slice-aggregate-put-lines-3 c = search needs
 
 put-lines-requires-2 : tie.Need-put-lines-requires-2
 put-lines-requires-2 c κs =
-    let trial = c .before .before .before .before .before .before in
-    let start = entry trial in
-    ((search needs, totals trial .long), (totals-fit _ _ (start .pre .0) (start .pre .1) (totals trial) (start .pre .2), text-fits (start .args .uses .now) (start .args .logs) (totals trial) (c .before .before .before .before .before .put-lines .ensures) (search needs)))
+    let measured : tie.After-put-lines = c .before .before .before .before .before in
+    let trial = measured .before in
+    let start = entry trial in (
+      (search needs, totals trial .long),
+      (
+        totals-fit _ _ (start .pre .0) (start .pre .1) (totals trial) (start .pre .2),
+        text-fits (start .args .uses .now) (start .args .logs) (totals trial) (measured .put-lines .ensures) (search needs),
+      ),
+    )
 
 same-length : tie.Need-same-length
 same-length c = search needs
 
 returns-2 : tie.Need-returns-2
 returns-2 c =
-    let trial = c .before .before .before .before .before .before .before .before .before in
+    let measured : tie.After-put-lines = c .before .before .before .before .before .before .before .before in
+    let trial = measured .before in
     let start = entry trial in
     printed-all (start .args .uses .now) (start .args .logs) (totals trial) (c .before .before .put-lines2 .ensures)
-    (text-fits (start .args .uses .now) (start .args .logs) (totals trial) (c .before .before .before .before .before .before .before .before .put-lines .ensures) (search needs))
+    (text-fits (start .args .uses .now) (start .args .logs) (totals trial) (measured .put-lines .ensures) (search needs))
 
 pub put-uses-spec : {M : Type 1} → statement M
 put-uses-spec =

@@ -43,14 +43,23 @@ cast-sums c = omega (arith, c .shared-slice-known2 .given (c .before .before .be
 mul-sums-2 : tie.Need-mul-sums-2 Inv-loop μ-loop
 mul-sums-2 c = omega (arith, kind-within (c .before .before))
 
+-- the turn and the entry, from where the node's sum is read
+abbrev turn : tie.After-slice-known Inv-loop μ-loop → Turn
+turn c = c .before .before .before
+
+abbrev entry : Turn → tie.Start Inv-loop μ-loop
+entry t = t .before .before
+
 slice-read-sums : tie.Need-slice-read-sums Inv-loop μ-loop
-slice-read-sums c = omega (arith, kind-within (c .before .before .before), c .before .before .before .before .loop .inv .long, c .before .before .before .before .before .pre .1 .0)
+slice-read-sums c = omega (arith, kind-within (turn c), turn c .before .loop .inv .long, entry (turn c) .pre .1 .0)
 
 add-sums : tie.Need-add-sums Inv-loop μ-loop
-add-sums c = omega (arith, tallying-fits (c .before .before .before .before .loop .inv) (c .before .before .before .before .before .pre .0 .0) (kind-within (c .before .before .before)), c .before .shared-slice-known2 .given (c .before .before .before .before .loop .v))
+add-sums c =
+    let at = turn c .before in
+    omega (arith, tallying-fits (at .loop .inv) (entry (turn c) .pre .0 .0) (kind-within (turn c)), c .before .shared-slice-known2 .given (at .loop .v))
 
 slice-write-sums : tie.Need-slice-write-sums Inv-loop μ-loop
-slice-write-sums c = omega (arith, kind-within (c .before .before .before), c .before .before .before .before .loop .inv .long, c .before .before .before .before .before .pre .1 .0)
+slice-write-sums c = omega (arith, kind-within (turn c), turn c .before .loop .inv .long, entry (turn c) .pre .1 .0)
 
 add-v : tie.Need-add-v Inv-loop μ-loop
 add-v c = search needs
@@ -59,7 +68,10 @@ loop-less : tie.Need-loop-less Inv-loop μ-loop
 loop-less c = search needs
 
 loop-again : tie.Need-loop-again Inv-loop μ-loop
-loop-again c = tallying-more (c .before .before .before .before .loop .inv) (c .before .before .before .before .before .pre .0 .0) (search needs) (c .before .before .before .before .before .pre .1 .0) (omega (arith, c .before .shared-slice-known2 .given (c .before .before .before .before .loop .v)))
+loop-again c =
+    let at = turn c .before in
+    let pre = entry (turn c) .pre in
+    tallying-more (at .loop .inv) (pre .0 .0) (search needs) (pre .1 .0) (omega (arith, c .before .shared-slice-known2 .given (at .loop .v)))
 
 same-length : tie.Need-same-length Inv-loop μ-loop
 same-length c = c .before .loop .inv .long
