@@ -113,11 +113,11 @@ same-length-3 c = search needs
 returns : tie.Need-returns
 returns c =
     let written = c .before .before in
-    let told = written .before .before .before in
-    let r = routed (told .before .before) in
+    let accepted = written .before .before .before in
+    let r = routed (accepted .before .before) in
     let a = entry r .args in
     run-accepted (job (entry r)) (a .work .now) (a .log .now) (r .route .result) (work-left r) (log-left r) (r .route .ensures .as-negotiated)
-    (a .style) (a .routes .now) (written .write-used .result) (written .write-used .last .1 .1 .1 .1 .0) (told .enum-told .given .1) (written .write-used .ensures)
+    (a .style) (a .routes .now) (written .write-used .result) (written .write-used .last .1 .1 .1 .1 .0) (accepted .enum-told .given .1) (written .write-used .ensures)
 
 same-length-4 : tie.Need-same-length-4
 same-length-4 c = search needs
