@@ -44,10 +44,11 @@ entry-or-requires-8 c κs = search needs
 
 returns : tie.Need-returns
 returns c =
-    each-in-its-field (c .before .before .before .before .before .before .before .before .before .args .terms .now)
-    (c .before .before .before .before .before .before .before .entry-or .ensures)
-    (c .before .before .before .before .before .before .entry-or2 .ensures)
-    (c .before .before .before .before .before .entry-or3 .ensures)
+    let third : tie.After-entry-or3 = c .before .before .before .before .before in
+    each-in-its-field (third .before .before .before .before .args .terms .now)
+    (third .before .before .entry-or .ensures)
+    (third .before .entry-or2 .ensures)
+    (third .entry-or3 .ensures)
     (c .before .before .before .before .entry-or4 .ensures)
     (c .before .before .before .entry-or5 .ensures)
     (c .before .before .entry-or6 .ensures)

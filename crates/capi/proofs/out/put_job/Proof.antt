@@ -73,8 +73,9 @@ one-if-requires c κs = search needs
 
 slice-write-out-12 : tie.Need-slice-write-out-12
 slice-write-out-12 c =
-    let long = c .before .before .before .before .before .before .before .before .before .before .before .before .before .pre in
-    let kept = c .before .before .before .before .before .before .before .before .before .before .clear .kept in
+    let cleared = c .before .before .before .before .before .before .before .before .before .before in
+    let long = cleared .before .before .before .pre in
+    let kept = cleared .clear .kept in
     simp length-set (omega arith)
 
 same-length : tie.Need-same-length
