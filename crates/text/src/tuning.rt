@@ -7,7 +7,7 @@ ghost use Rattle.text.specs.Steps.{termsAt, TermsPlace};
 use crate::optional;
 use crate::optional::TermsRead;
 use job::Terms;
-use price::Tuning;
+use job::Tuning;
 
 // The terms with the tuning of the P line where there is one, else as they are.
 pub fn read_tuning(text: &[u8], at: usize, line: usize, terms: Terms) -> TermsRead

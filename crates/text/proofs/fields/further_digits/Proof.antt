@@ -23,13 +23,11 @@ module _ (c : tie.Else2 Inv-loop μ-loop) where
   abbrev head : tie.At-loop Inv-loop μ-loop
   head = c .before .before .before .before .before
 
--- in a turn a digit may still come
-some : (c : tie.Else2 Inv-loop μ-loop) → 0 < c .before .before .before .before .before .loop .left
-some c = c .before .before .before .before .loop-test .taken
+  some : 0 < head .loop .left
+  some = c .before .before .before .before .loop-test .taken
 
--- and it did
-digit : (c : tie.Else2 Inv-loop μ-loop) → isDigit (getD (c .before .before .before .before .before .before .before .args .text .now) (c .before .before .before .before .before .loop .next) 0) ≡ true
-digit c = passed (c .before .is-digit .ensures) (c .if2 .left)
+  digit : isDigit (getD (head .before .before .args .text .now) (head .loop .next) 0) ≡ true
+  digit = passed (c .before .is-digit .ensures) (c .if2 .left)
 
 loop-holds : tie.Need-loop-holds Inv-loop μ-loop
 loop-holds c = digits-start _ _ _ (c .before .pre .0) (c .before .pre .1)
