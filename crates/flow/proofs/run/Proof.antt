@@ -1,12 +1,13 @@
 -- `flow::run` meets its contract: the reader's answer says which parts of the tables are the job's, and the routing of these is the run's.
 -- Assumes nothing.
-use mathlib.Core.Path.{sym, _∙_}
+use mathlib.Core.Path.{_≡_, _∙_, sym, subst}
 use Prim.Native.Nat.{_≤_}
 use native.Mathlib.Omega.{arith}
 use lib.ListN.{length}
 use lib.Seq.{length-take-le}
 use borrow.Author.Needs.{needs}
-use Rattle.text.specs.ReadReplies.{Tables, tablesOf}
+use Rattle.text.specs.declared.ReadAnswer.{ReadAnswer}
+use Rattle.text.specs.ReadReplies.{Tables, tablesOf, readReply, readReplyOf}
 use Rattle.flow.proofs.RunLaws.{Taken, read-refused, read-taken}
 use Rattle.flow.proofs.run.Statement.{statement}
 use Rattle.flow.proofs.run.Tie as tie
@@ -27,16 +28,24 @@ left c =
     tablesOf (l .0) (l .1 .0) (l .1 .1 .0) (l .1 .1 .1 .0) (l .1 .1 .1 .1 .0) (l .1 .1 .1 .1 .1 .0) (l .1 .1 .1 .1 .1 .1 .0)
     (l .1 .1 .1 .1 .1 .1 .1 .0) (l .1 .1 .1 .1 .1 .1 .1 .1 .0)
 
+-- what the reader's answer says, once the answer is known
+replied : (c : tie.After-read-job) {r : ReadAnswer} → c .read-job .result ≡ r → readReplyOf r (left c) ≡ readReply (entry c .args .text .now) (lent c)
+replied c e = subst (λ (r : ReadAnswer). readReplyOf r (left c) ≡ readReply (entry c .args .text .now) (lent c)) e (c .read-job .ensures)
+
+-- the call that reads the job, from where its answer is matched
+abbrev answered : tie.After-slice-known21 → tie.After-read-job
+answered c = c .before .before .before .before .before .before .before .before .before .before .before .before .before .before .before .before .before .before
+
 -- the job that was read
 abbrev asked : tie.After-known-told → tie.After-read-job
-asked c = c .before .before .before .before .before .before .before .before .before .before .before .before .before .before .before .before .before .before .before .before .before
+asked c = answered (c .before .before .before)
 
 taken :
     (c : tie.After-known-told)
     → Taken (entry (asked c) .args .style) (entry (asked c) .args .text .now) (c .before .nodes .given .0 .0) (c .before .nodes .given .0 .1 .0)
     (c .before .nodes .given .0 .1 .1 .0) (c .before .nodes .given .0 .1 .1 .1 .0) (c .before .nodes .given .0 .1 .1 .1 .1 .0)
     (lent (asked c)) (left (asked c))
-taken c = read-taken _ _ _ _ _ _ _ _ _ (rw (c .before .nodes .given .1) at (c .before .before .before .before .before .before .before .before .before .before .before .before .before .before .before .before .before .before .before .before .before .read-job .ensures))
+taken c = read-taken _ _ _ _ _ _ _ _ _ (replied (asked c) (c .before .nodes .given .1))
 
 -- the same once the entries of tables 9 and 10 are counted
 abbrev counted : tie.After-if-timed2 → tie.After-known-told
@@ -93,32 +102,36 @@ slice-aggregate-route-job-4 c = sym (length-take-le _ _ (taken (counted (c .befo
 slice-reshare-prefix-route-job-5 : tie.Need-slice-reshare-prefix-route-job-5
 slice-reshare-prefix-route-job-5 c = taken (counted (c .before .before .before .before)) .sources-fit
 
+-- the same from where five of the tables are lent
+abbrev five : tie.After-route-job-arg5 → tie.After-if-timed2
+five c = c .before .before .before .before .before
+
 slice-aggregate-route-job-5 : tie.Need-slice-aggregate-route-job-5
-slice-aggregate-route-job-5 c = sym (length-take-le _ _ (taken (counted (c .before .before .before .before .before)) .sources-fit))
+slice-aggregate-route-job-5 c = sym (length-take-le _ _ (taken (counted (five c)) .sources-fit))
 
 slice-reshare-prefix-route-job-6 : tie.Need-slice-reshare-prefix-route-job-6
-slice-reshare-prefix-route-job-6 c = taken (counted (c .before .before .before .before .before)) .first-sinks-fit
+slice-reshare-prefix-route-job-6 c = taken (counted (five c)) .first-sinks-fit
 
 slice-aggregate-route-job-6 : tie.Need-slice-aggregate-route-job-6
-slice-aggregate-route-job-6 c = sym (length-take-le _ _ (taken (counted (c .before .before .before .before .before .before)) .first-sinks-fit))
+slice-aggregate-route-job-6 c = sym (length-take-le _ _ (taken (counted (five (c .before))) .first-sinks-fit))
 
 slice-reshare-prefix-route-job-7 : tie.Need-slice-reshare-prefix-route-job-7
-slice-reshare-prefix-route-job-7 c = taken (counted (c .before .before .before .before .before .before)) .sinks-fit
+slice-reshare-prefix-route-job-7 c = taken (counted (five (c .before))) .sinks-fit
 
 slice-aggregate-route-job-7 : tie.Need-slice-aggregate-route-job-7
-slice-aggregate-route-job-7 c = sym (length-take-le _ _ (taken (counted (c .before .before .before .before .before .before .before)) .sinks-fit))
+slice-aggregate-route-job-7 c = sym (length-take-le _ _ (taken (counted (five (c .before .before))) .sinks-fit))
 
 slice-reshare-prefix-route-job-8 : tie.Need-slice-reshare-prefix-route-job-8
-slice-reshare-prefix-route-job-8 c = delays-fit (c .before .before .before .before .before .before .before)
+slice-reshare-prefix-route-job-8 c = delays-fit (five (c .before .before))
 
 slice-aggregate-route-job-8 : tie.Need-slice-aggregate-route-job-8
-slice-aggregate-route-job-8 c = sym (length-take-le _ _ (delays-fit (c .before .before .before .before .before .before .before .before)))
+slice-aggregate-route-job-8 c = sym (length-take-le _ _ (delays-fit (five (c .before .before .before))))
 
 slice-reshare-prefix-route-job-9 : tie.Need-slice-reshare-prefix-route-job-9
-slice-reshare-prefix-route-job-9 c = criticalities-fit (c .before .before .before .before .before .before .before .before)
+slice-reshare-prefix-route-job-9 c = criticalities-fit (five (c .before .before .before))
 
 slice-aggregate-route-job-9 : tie.Need-slice-aggregate-route-job-9
-slice-aggregate-route-job-9 c = sym (length-take-le _ _ (criticalities-fit (c .before .before .before .before .before .before .before .before .before)))
+slice-aggregate-route-job-9 c = sym (length-take-le _ _ (criticalities-fit (five (c .before .before .before .before))))
 
 route-job-requires : tie.Need-route-job-requires
 route-job-requires c κs = search needs
@@ -149,13 +162,13 @@ abbrev read : tie.After-slice-known24 → tie.After-read-job
 read c = asked (counted (lengths c))
 
 abbrev misread : tie.After-known-told2 → tie.After-read-job
-misread c = c .before .before .before .before .before .before .before .before .before .before .before .before .before .before .before .before .before .before .before .before .before
+misread c = answered (c .before .before .before)
 
 abbrev short : tie.After-known-told3 → tie.After-read-job
-short c = c .before .before .before .before .before .before .before .before .before .before .before .before .before .before .before .before .before .before .before .before .before
+short c = answered (c .before .before .before)
 
 abbrev large : tie.After-known-told4 → tie.After-read-job
-large c = c .before .before .before .before .before .before .before .before .before .before .before .before .before .before .before .before .before .before .before .before .before
+large c = answered (c .before .before .before)
 
 same-length : tie.Need-same-length
 same-length c = read c .read-job .kept .1 .0
@@ -228,7 +241,7 @@ same-length-21 c = misread c .read-job .kept .1 .1 .1 .1 .1 .1 .1 .1 .1 .0
 returns-2 : tie.Need-returns-2
 returns-2 c =
     read-refused _ _ _ _ (lent (misread c)) (left (misread c)) _ _ _
-    (rw (c .before .number .given .1) at (c .before .before .before .before .before .before .before .before .before .before .before .before .before .before .before .before .before .before .before .before .before .read-job .ensures))
+    (replied (misread c) (c .before .number .given .1))
 
 same-length-22 : tie.Need-same-length-22
 same-length-22 c = short c .read-job .kept .1 .0
@@ -260,7 +273,7 @@ same-length-30 c = short c .read-job .kept .1 .1 .1 .1 .1 .1 .1 .1 .1 .0
 returns-3 : tie.Need-returns-3
 returns-3 c =
     read-refused _ _ _ _ (lent (short c)) (left (short c)) _ _ _
-    (rw (c .before .table .given .1) at (c .before .before .before .before .before .before .before .before .before .before .before .before .before .before .before .before .before .before .before .before .before .read-job .ensures))
+    (replied (short c) (c .before .table .given .1))
 
 same-length-31 : tie.Need-same-length-31
 same-length-31 c = large c .read-job .kept .1 .0
@@ -292,7 +305,7 @@ same-length-39 c = large c .read-job .kept .1 .1 .1 .1 .1 .1 .1 .1 .1 .0
 returns-4 : tie.Need-returns-4
 returns-4 c =
     read-refused _ _ _ _ (lent (large c)) (left (large c)) _ _ _
-    (rw (c .before .nodes2 .given .1) at (c .before .before .before .before .before .before .before .before .before .before .before .before .before .before .before .before .before .before .before .before .before .read-job .ensures))
+    (replied (large c) (c .before .nodes2 .given .1))
 
 pub run-spec : {M : Type 1} → statement M
 run-spec =
