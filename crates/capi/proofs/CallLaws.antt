@@ -36,7 +36,7 @@ pub twelve-put :
     (out start : List ℕ) (a b c d e f g h i k l m t : ℕ) → start ≡ replicate 16 0 ++ drop 16 out → m ≡ t
     → set (set (set (set (set (set (set (set (set (set (set (set start 3 a) 4 b) 5 c) 6 d) 7 e) 8 f) 9 g) 10 h) 11 i) 12 k) 13 l) 14 m
     ≡ outWith [] (a ∷ b ∷ c ∷ d ∷ e ∷ f ∷ g ∷ h ∷ i ∷ k ∷ l ∷ t ∷ []) out
-twelve-put out start a b c d e f g h i k l m t cleared told = rw (cleared, told)
+twelve-put out start a b c d e f g h i k l m t cleared last = rw (cleared, last)
 
 -- ---- the price
 

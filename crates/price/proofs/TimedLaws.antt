@@ -200,8 +200,8 @@ module _ (k f o c h : ℕ) where
         t .5,
       )
 
-  pub told-bounds : {r : PriceAnswer} {n : ℕ} → r ≡ Price n → priceReplyOf r ≡ priceReply k f o c h → InBounds k f o c h × (n ≡ priceOf k f o c h)
-  told-bounds q e = priced-bounds (sym (ap priceReplyOf q) ∙ e)
+  pub answer-bounds : {r : PriceAnswer} {n : ℕ} → r ≡ Price n → priceReplyOf r ≡ priceReply k f o c h → InBounds k f o c h × (n ≡ priceOf k f o c h)
+  answer-bounds q e = priced-bounds (sym (ap priceReplyOf q) ∙ e)
 
   module _ (d cr : ℕ) where
     refused-same : {place : ℕ} → refused place ≡ priceReply k f o c h → refused place ≡ timedReply k f o c h d cr
@@ -238,7 +238,7 @@ module _ (k f o c h : ℕ) where
       unfolding timedReply
       timed-priced hd hc = five-kept b _ ∙ rw (le-leb d delayMost hd, le-leb cr criticalityMost hc)
 
-      -- the congestion price that was told, weighed
+      -- the congestion price that was answered, weighed
       pub timed-weighed : {r p : ℕ} → p ≡ priceOf k f o c h → r ≡ timedPrice cr d p → d ≤ delayMost → cr ≤ criticalityMost → priced r ≡ timedReply k f o c h d cr
       timed-weighed is e hd hc = ap priced (e ∙ ap (timedPrice cr d) is) ∙ sym (timed-priced hd hc)
 

@@ -2,7 +2,7 @@
 -- Assumes nothing.
 use mathlib.Core.Path.{sym}
 use Rattle.price.proofs.PriceLaws.{price-most}
-use Rattle.price.proofs.TimedLaws.{told-bounds, timed-refused, timed-delay, timed-criticality, timed-weighed}
+use Rattle.price.proofs.TimedLaws.{answer-bounds, timed-refused, timed-delay, timed-criticality, timed-weighed}
 use borrow.Author.Needs.{needs}
 use Rattle.price.proofs.timed_price.Statement.{statement}
 use Rattle.price.proofs.timed_price.Tie as tie
@@ -21,24 +21,24 @@ returns c = timed-refused _ _ _ _ _ _ _ (c .enum-told .given .1) (c .before .bef
 
 returns-2 : tie.Need-returns-2
 returns-2 c =
-    let told = told-bounds _ _ _ _ _ (c .before .before .answer .given .1) (c .before .before .before .before .price .ensures) in
-    sym (timed-delay _ _ _ _ _ _ _ (told .0) (search needs))
+    let bounds = answer-bounds _ _ _ _ _ (c .before .before .answer .given .1) (c .before .before .before .before .price .ensures) in
+    sym (timed-delay _ _ _ _ _ _ _ (bounds .0) (search needs))
 
 returns-3 : tie.Need-returns-3
 returns-3 c =
-    let told = told-bounds _ _ _ _ _ (c .before .before .before .answer .given .1) (c .before .before .before .before .before .price .ensures) in
-    sym (timed-criticality _ _ _ _ _ _ _ (told .0) (search needs) (search needs))
+    let bounds = answer-bounds _ _ _ _ _ (c .before .before .before .answer .given .1) (c .before .before .before .before .before .price .ensures) in
+    sym (timed-criticality _ _ _ _ _ _ _ (bounds .0) (search needs) (search needs))
 
 weigh-requires : tie.Need-weigh-requires
 weigh-requires c κs =
-    let told = told-bounds _ _ _ _ _ (c .before .before .before .answer .given .1) (c .before .before .before .before .before .price .ensures) in
-    (search needs, search needs, rw (told .1) (price-most (told .0)))
+    let bounds = answer-bounds _ _ _ _ _ (c .before .before .before .answer .given .1) (c .before .before .before .before .before .price .ensures) in
+    (search needs, search needs, rw (bounds .1) (price-most (bounds .0)))
 
 returns-4 : tie.Need-returns-4
 returns-4 c =
     let tested = c .before in
-    let told = told-bounds _ _ _ _ _ (tested .before .before .before .answer .given .1) (tested .before .before .before .before .before .price .ensures) in
-    timed-weighed _ _ _ _ _ _ _ (told .0) (told .1) (c .weigh .ensures) (tested .before .if1 .left) (tested .if2 .left)
+    let bounds = answer-bounds _ _ _ _ _ (tested .before .before .before .answer .given .1) (tested .before .before .before .before .before .price .ensures) in
+    timed-weighed _ _ _ _ _ _ _ (bounds .0) (bounds .1) (c .weigh .ensures) (tested .before .if1 .left) (tested .if2 .left)
 
 pub timed-price-spec : {M : Type 1} → statement M
 timed-price-spec =

@@ -1,9 +1,9 @@
 -- `ask::asked` meets its contract: the three fields and what follows them, each return by its law.
 -- Assumes nothing.
-use mathlib.Core.List.{List}
 use borrow.Author.Needs.{needs}
+use mathlib.Core.List.{List}
 use mathlib.Core.Path.{_≡_, sym}
-use Prim.Native.Nat.{_-_, _^_, _≤_, _<_, ℕ}
+use Prim.Native.Nat.{ℕ, _-_, _^_, _≤_, _<_}
 use native.Mathlib.Omega.{arith}
 use lib.ListN.{length, drop, length-drop}
 use Rattle.search.proofs.KeptLaws.{refused, passed}
@@ -15,9 +15,8 @@ use Rattle.generator.proofs.ask.asked.Statement.{statement}
 use Rattle.generator.proofs.ask.asked.Tie as tie
 
 -- the text, and where each field was read
-module _ (c : tie.After-known-told) where
-  abbrev text : List ℕ
-  text = c .before .before .before .before .before .args .input .now
+abbrev text : tie.After-known-told → List ℕ
+text c = c .before .before .before .before .before .args .input .now
 
 abbrev seed-at : tie.After-known-told2 → tie.After-known-told
 seed-at c = c .before .before .before .before
