@@ -1,11 +1,13 @@
 /* Routes a job text from standard input and prints its routes text. A refused job prints X and the refusal's numbers and
  * ends with status 1. It lends what the program `router` lends, and prints the same. With a limit named, a run that reaches the
- * job's own goes on from its log under that one. See include/arvumnao.h.
+ * job's own goes on from its log under that one. With -a before it, the search that aims is used: the routes are the same, and
+ * standard error tells how many nodes it expanded. See include/arvumnao.h.
  *
  *     rt staticlib capi
  *     cc -Iinclude examples/route.c target/staticlib/libcapi.a -o target/route
  *     target/route < examples/job_b.txt
  *     sed 1s/2$/1/ examples/job_b.txt | target/route 2
+ *     target/route -a < examples/job_b.txt
  *     target/route < examples/timed.txt
  */
 #include "arvumnao.h"
@@ -13,6 +15,7 @@
 #include <inttypes.h>
 #include <stdio.h>
 #include <stdlib.h>
+#include <string.h>
 
 enum { TEXT = 65536, ROUTES = 65536, NODES = 1024, EDGES = 8192, NETS = 512, SINKS = 4096, LOG = 16384 };
 
@@ -37,6 +40,8 @@ static int refused(void)
 
 int main(int count, char **arguments)
 {
+    int aimed = count > 1 && strcmp(arguments[1], "-a") == 0;
+    const char *limit = count > 1 + aimed ? arguments[1 + aimed] : NULL;
     size_t bytes = fread(text, 1, TEXT + 1, stdin);
     if (ferror(stdin)) {
         perror("standard input");
@@ -55,15 +60,20 @@ int main(int count, char **arguments)
     uint32_t terms[ARVUMNAO_TERMS];
     for (size_t place = 0; place < ARVUMNAO_TERMS; place++)
         terms[place] = (uint32_t)out[ARVUMNAO_READ_LIMIT + place];
-    arvumnao_route(kind, nodes, capacity, nodes, first_edge, nodes + 1, edge_target, edges, source, nets,
-                   first_sink, nets + 1, sink, sinks, delay, nodes, criticality, sinks, terms, ARVUMNAO_TERMS,
-                   work, ARVUMNAO_WORK(nodes), log_words, LOG, out, ARVUMNAO_OUT);
-    if (out[ARVUMNAO_REFUSAL] == ARVUMNAO_LIMIT_REACHED && count > 1) {
-        terms[ARVUMNAO_TERMS_LIMIT] = (uint32_t)strtoul(arguments[1], NULL, 10);
-        arvumnao_resume(kind, nodes, capacity, nodes, first_edge, nodes + 1, edge_target, edges, source, nets,
-                        first_sink, nets + 1, sink, sinks, delay, nodes, criticality, sinks, terms, ARVUMNAO_TERMS,
-                        out[ARVUMNAO_ROUTE_WORDS], work, ARVUMNAO_WORK(nodes), log_words, LOG, out, ARVUMNAO_OUT);
+    (aimed ? arvumnao_route_aimed : arvumnao_route)(
+        kind, nodes, capacity, nodes, first_edge, nodes + 1, edge_target, edges, source, nets, first_sink, nets + 1, sink, sinks,
+        delay, nodes, criticality, sinks, terms, ARVUMNAO_TERMS, work, ARVUMNAO_WORK(nodes), log_words, LOG, out, ARVUMNAO_OUT);
+    uint64_t expanded = out[ARVUMNAO_ROUTE_EXPANDED];
+    if (out[ARVUMNAO_REFUSAL] == ARVUMNAO_LIMIT_REACHED && limit != NULL) {
+        terms[ARVUMNAO_TERMS_LIMIT] = (uint32_t)strtoul(limit, NULL, 10);
+        (aimed ? arvumnao_resume_aimed : arvumnao_resume)(
+            kind, nodes, capacity, nodes, first_edge, nodes + 1, edge_target, edges, source, nets, first_sink, nets + 1, sink, sinks,
+            delay, nodes, criticality, sinks, terms, ARVUMNAO_TERMS, out[ARVUMNAO_ROUTE_WORDS], work, ARVUMNAO_WORK(nodes),
+            log_words, LOG, out, ARVUMNAO_OUT);
+        expanded += out[ARVUMNAO_RESUME_EXPANDED];
     }
+    if (aimed)
+        fprintf(stderr, "nodes expanded: %" PRIu64 "\n", expanded);
     if (refused())
         return 1;
     arvumnao_write(source, nets, log_words, (size_t)out[ARVUMNAO_ROUTE_WORDS], routes, ROUTES, out, ARVUMNAO_OUT);

@@ -56,7 +56,7 @@
  *   out[ARVUMNAO_REFUSAL_1]   that refusal's first further number, else 0
  *   out[ARVUMNAO_REFUSAL_2]   its second, else 0
  *   the rest                  the call's own numbers, at the places defined with the call, and 0
- * A refused call's own numbers are 0, but for those of arvumnao_route and arvumnao_resume after ARVUMNAO_LOG_FULL and
+ * A refused call's own numbers are 0, but for those of the four calls that route or resume after ARVUMNAO_LOG_FULL and
  * ARVUMNAO_LIMIT_REACHED. A refused call leaves every other slice as it was, but where its comment says more.
  *
  * TABLES. A job is seven tables, and terms that count as an eighth; a timed job has two tables more. Nodes and nets are numbered
@@ -97,7 +97,7 @@
 
 /* The version of these declarations. The library itself carries none: header and library must be of one build.
  * Until 1.0.0 the second number rises with every change to a call, a place in `out` or a refusal. */
-#define ARVUMNAO_VERSION "0.5.0"
+#define ARVUMNAO_VERSION "0.6.0"
 
 /* The most that a job has. */
 #define ARVUMNAO_NODES_MOST 4096
@@ -148,9 +148,9 @@
 #define ARVUMNAO_USES_BYTES 4096
 
 /* Bytes of stack, beyond its caller's, that every call makes do with. Measured on x86-64 Linux by tests/header/memory.c, with
- * what memcpy and memset take, and rounded up: 122,500 in arvumnao_read, 57,500 in arvumnao_route and arvumnao_resume, 35,300 in
+ * what memcpy and memset take, and rounded up: 217,500 in the four calls that route or resume, 122,500 in arvumnao_read, 35,300 in
  * arvumnao_uses_add, 22,800 in arvumnao_uses_write, 9,100 in arvumnao_write and arvumnao_dot, under 800 in the others. */
-#define ARVUMNAO_STACK 131072
+#define ARVUMNAO_STACK 262144
 
 /* `out`: its length, and the places that every call has. */
 #define ARVUMNAO_OUT 16
@@ -265,6 +265,23 @@ uint32_t arvumnao_route(const uint8_t *kind, size_t kind_count, const uint8_t *c
                         uint64_t *work, size_t work_count, uint32_t *log, size_t log_count,
                         uint64_t *out, size_t out_count);
 
+/* Routes a job by a search that aims, and tells how many nodes it expanded. Outcome, log, work memory and the numbers at 3, 4 and 5 are
+ * those of arvumnao_route for every job (proved): only time and the count are the search's own.
+ *
+ * A turn expands the nodes whose distance from the net's tree plus an estimate is at most the joined sink's distance. A node's
+ * estimate is the least sum of 100 x base cost on a path from it to a sink that its net has not joined yet, the path's first node
+ * left out; in a timed job to the one sink whose turn it is, times 10 - criticality. ARVUMNAO_ROUTE_EXPANDED is the sum over the
+ * turns that the call logged, also after ARVUMNAO_LOG_FULL and ARVUMNAO_LIMIT_REACHED.
+ * Parameters, the other own numbers and refusals are those of arvumnao_route. */
+#define ARVUMNAO_ROUTE_EXPANDED 6
+uint32_t arvumnao_route_aimed(const uint8_t *kind, size_t kind_count, const uint8_t *capacity, size_t capacity_count,
+                              const uint32_t *first_edge, size_t first_edge_count, const uint16_t *edge_target, size_t edge_target_count,
+                              const uint16_t *source, size_t source_count, const uint32_t *first_sink, size_t first_sink_count,
+                              const uint16_t *sink, size_t sink_count, const uint16_t *delay, size_t delay_count,
+                              const uint8_t *criticality, size_t criticality_count, const uint32_t *terms, size_t terms_count,
+                              uint64_t *work, size_t work_count, uint32_t *log, size_t log_count,
+                              uint64_t *out, size_t out_count);
+
 /* Goes on from the log of a run that ended in whole iterations, as one does that ARVUMNAO_LIMIT_REACHED stopped: rebuilds from it the
  * histories, the factor and the trees, and appends turns under the job's terms, whose limit must be above those iterations. From
  * the job's own log it ends as arvumnao_route does in a log of that length, with the same log (proved); the turns in it are not
@@ -291,6 +308,18 @@ uint32_t arvumnao_resume(const uint8_t *kind, size_t kind_count, const uint8_t *
                          const uint8_t *criticality, size_t criticality_count, const uint32_t *terms, size_t terms_count, uint64_t used,
                          uint64_t *work, size_t work_count, uint32_t *log, size_t log_count,
                          uint64_t *out, size_t out_count);
+
+/* Goes on from a log as arvumnao_resume does, by the search that aims: outcome, log, work memory and the numbers at 3, 4 and 5 are those of
+ * arvumnao_resume (proved). ARVUMNAO_RESUME_EXPANDED counts the nodes expanded in the turns that were appended; lent turns, which
+ * are not made again, count nothing. Parameters, the other own numbers and refusals are those of arvumnao_resume. */
+#define ARVUMNAO_RESUME_EXPANDED 6
+uint32_t arvumnao_resume_aimed(const uint8_t *kind, size_t kind_count, const uint8_t *capacity, size_t capacity_count,
+                               const uint32_t *first_edge, size_t first_edge_count, const uint16_t *edge_target, size_t edge_target_count,
+                               const uint16_t *source, size_t source_count, const uint32_t *first_sink, size_t first_sink_count,
+                               const uint16_t *sink, size_t sink_count, const uint16_t *delay, size_t delay_count,
+                               const uint8_t *criticality, size_t criticality_count, const uint32_t *terms, size_t terms_count,
+                               uint64_t used, uint64_t *work, size_t work_count, uint32_t *log, size_t log_count,
+                               uint64_t *out, size_t out_count);
 
 /* Reads a job text into the seven tables, and into tables 9 and 10 where it is timed, and tells how much of each it filled, and the
  * terms.

@@ -205,6 +205,10 @@ static void too_many_nodes(void)
                           criticality, 1, terms, 8, NULL, 0, NULL, 0, out, OUT) == 1 && refused(15, 1025, 40));
     EXPECT(arvumnao_resume(kind, MANY, capacity, MANY, first_edge, MANY + 1, NULL, 0, source, 1, first_sink, 2, sink, 1, delay, MANY,
                            criticality, 1, terms, 8, 0, NULL, 0, NULL, 0, out, OUT) == 1 && refused(15, 1025, 40));
+    EXPECT(arvumnao_route_aimed(kind, MANY, capacity, MANY, first_edge, MANY + 1, NULL, 0, source, 1, first_sink, 2, sink, 1, delay,
+                                MANY, criticality, 1, terms, 8, NULL, 0, NULL, 0, out, OUT) == 1 && refused(15, 1025, 40));
+    EXPECT(arvumnao_resume_aimed(kind, MANY, capacity, MANY, first_edge, MANY + 1, NULL, 0, source, 1, first_sink, 2, sink, 1, delay,
+                                 MANY, criticality, 1, terms, 8, 0, NULL, 0, NULL, 0, out, OUT) == 1 && refused(15, 1025, 40));
     EXPECT(arvumnao_route(kind, 1024, capacity, 1024, first_edge, 1025, NULL, 0, source, 1, first_sink, 2, sink, 1, delay, 1024,
                           criticality, 1, terms, 8, NULL, 0, NULL, 0, out, OUT) == 1 && refused(6, 8192, 0));
     /* of a job that isn't timed neither is measured */
@@ -326,6 +330,108 @@ static void resume(void)
     EXPECT(memcmp(work, cleared, sizeof cleared) == 0 && work[40] == OLD);
 }
 
+/* The same two nets and the same sinks by the search that aims: outcome, log and work memory are the plain search's. */
+static uint32_t route_aimed_in(const uint16_t *source, size_t nets, const uint32_t *first_sink, const uint32_t *terms, size_t count,
+                               uint64_t *work, size_t entries, uint32_t *log, size_t words, size_t outs)
+{
+    const uint8_t kind[] = { 0, 2, 4, 1, 3 };
+    const uint8_t capacity[] = { 2, 1, 1, 3, 1 };
+    const uint32_t first_edge[] = { 0, 1, 2, 4, 4, 4 };
+    const uint16_t edge_target[] = { 2, 2, 3, 4 };
+    const uint16_t sink[] = { 3, 4 };
+    return arvumnao_route_aimed(kind, COUNT(kind), capacity, COUNT(capacity), first_edge, COUNT(first_edge), edge_target,
+                                COUNT(edge_target), source, nets, first_sink, nets + 1, sink, COUNT(sink), NULL, 0, NULL, 0,
+                                terms, count, work, entries, log, words, out, outs);
+}
+
+/* Each of the two nets' turns expands the three nodes of its path: from the other net's sink no path leads to its own. One net alone
+ * expands three nodes for the nearer sink, which is 3,900 away where the other is 4,000, and then the wire and the other sink: from
+ * the source it is 4,000 away, and 2,000 from the wire. */
+static void route_aimed(void)
+{
+    const uint16_t source[] = { 0, 1 }, one_source[] = { 0, 0 };
+    const uint32_t first_sink[] = { 0, 1, 2 }, one_net[] = { 0, 2 };
+    const uint32_t terms[] = { 4, 100, 7, 3, 2, 1, 9 };
+    const uint64_t ended[] = { 4, 8, 72, 24 }, full[] = { 1, 1, 9, 3 }, begun[] = { 1, 0, 0, 0 }, settled[] = { 1, 2, 17, 5 };
+    const uint32_t expected[73] = {
+        1, 0, 3, 4000,  0, 3, 0, 2, 3, 1, 1, 4, 3900,  0, 3, 1, 2, 4,
+        2, 0, 3, 14000, 0, 3, 0, 2, 3, 2, 1, 4, 13900, 0, 3, 1, 2, 4,
+        3, 0, 3, 35300, 0, 3, 0, 2, 3, 3, 1, 4, 35200, 0, 3, 1, 2, 4,
+        4, 0, 3, 92020, 0, 3, 0, 2, 3, 4, 1, 4, 91920, 0, 3, 1, 2, 4, OLD,
+    };
+    const uint32_t joined[] = { 1, 0, 4, 3900, 0, 3, 0, 2, 4, 1, 0, 3, 2000, 0, 2, 2, 3 };
+    const uint64_t cleared[40] = { 0 };
+    uint64_t work[41];
+    uint32_t log[73];
+    memset(work, 9, sizeof work);
+    work[40] = OLD;
+    log[0] = log[72] = OLD;
+    lend_out();
+    EXPECT(route_aimed_in(source, 2, first_sink, terms, 7, work, 41, log, 73, 15) == 0);
+    EXPECT(out[0] == OLD && out[14] == OLD && log[0] == OLD && work[0] != 0);
+    EXPECT(route_aimed_in(source, 2, first_sink, terms, 7, work, 41, log, 73, OUT) == 1 && told(9, 4, 1, ended, 4));
+    EXPECT(memcmp(log, expected, sizeof log) == 0);
+    EXPECT(memcmp(work, cleared, sizeof cleared) == 0 && work[40] == OLD);
+    EXPECT(route_aimed_in(source, 2, first_sink, terms, 6, work, 39, log, 73, OUT) == 1 && refused(6, 40, 0));
+    EXPECT(route_aimed_in(source, 2, first_sink, terms, 0, work, 41, log, 73, OUT) == 1 && refused(5, 8, 0));
+    EXPECT(route_aimed_in(source, 2, first_sink, terms, 6, work, 41, log, 8, OUT) == 1 && told(8, 1, 0, begun, 4));
+    EXPECT(route_aimed_in(source, 2, first_sink, terms, 6, work, 41, log, 17, OUT) == 1 && told(8, 1, 1, full, 4));
+    EXPECT(route_aimed_in(source, 1, one_net, terms, 6, work, 41, log, 73, OUT) == 1 && told(0, 0, 0, settled, 4));
+    EXPECT(memcmp(log, joined, sizeof joined) == 0);
+    memset(log, 9, sizeof log);
+    EXPECT(route_aimed_in(one_source, 2, first_sink, terms, 6, work, 41, log, 73, OUT) == 1 && told(0, 0, 0, settled, 4));
+    EXPECT(memcmp(log, joined, sizeof joined) == 0);
+}
+
+static uint32_t resume_aimed_in(const uint16_t *source, size_t nets, const uint32_t *terms, size_t count, uint64_t used, uint64_t *work,
+                                size_t entries, uint32_t *log, size_t words, size_t outs)
+{
+    const uint8_t kind[] = { 0, 2, 4, 1, 3 };
+    const uint8_t capacity[] = { 2, 1, 1, 3, 1 };
+    const uint32_t first_edge[] = { 0, 1, 2, 4, 4, 4 };
+    const uint16_t edge_target[] = { 2, 2, 3, 4 };
+    const uint32_t first_sink[] = { 0, 1, 2 };
+    const uint16_t sink[] = { 3, 4 };
+    return arvumnao_resume_aimed(kind, COUNT(kind), capacity, COUNT(capacity), first_edge, COUNT(first_edge), edge_target,
+                                 COUNT(edge_target), source, nets, first_sink, COUNT(first_sink), sink, COUNT(sink), NULL, 0, NULL, 0,
+                                 terms, count, used, work, entries, log, words, out, outs);
+}
+
+/* Four turns are appended to the four lent ones, and expand three nodes each; one where only one more fits; none after a refusal. */
+static void resume_aimed(void)
+{
+    const uint16_t source[] = { 0, 1 };
+    const uint32_t terms[] = { 4, 100, 7, 3, 2, 1, 9 }, two[] = { 2, 100, 7, 3, 2 };
+    const uint64_t ended[] = { 4, 8, 72, 12 }, full[] = { 3, 5, 45, 3 };
+    const uint32_t lent[] = {
+        1, 0, 3, 4000,  0, 3, 0, 2, 3, 1, 1, 4, 3900,  0, 3, 1, 2, 4,
+        2, 0, 3, 14000, 0, 3, 0, 2, 3, 2, 1, 4, 13900, 0, 3, 1, 2, 4,
+    };
+    const uint32_t appended[] = {
+        3, 0, 3, 35300, 0, 3, 0, 2, 3, 3, 1, 4, 35200, 0, 3, 1, 2, 4,
+        4, 0, 3, 92020, 0, 3, 0, 2, 3, 4, 1, 4, 91920, 0, 3, 1, 2, 4, OLD,
+    };
+    const uint64_t cleared[40] = { 0 };
+    uint64_t work[41];
+    uint32_t log[73];
+    memset(work, 9, sizeof work);
+    memset(log, 9, sizeof log);
+    memcpy(log, lent, sizeof lent);
+    work[40] = log[72] = OLD;
+    lend_out();
+    EXPECT(resume_aimed_in(source, 2, terms, 7, 36, work, 41, log, 73, 15) == 0);
+    EXPECT(out[0] == OLD && out[14] == OLD && log[36] != 3 && work[0] != 0);
+    EXPECT(resume_aimed_in(source, 2, terms, 7, 73 * UINT64_C(4294967296), work, 41, log, 73, OUT) == 1 && refused(14, 73, 0));
+    EXPECT(resume_aimed_in(source, 2, two, 5, 36, work, 41, log, 73, OUT) == 1 && refused(14, 36, 0));
+    EXPECT(resume_aimed_in(source, 2, terms, 7, 35, work, 41, log, 73, OUT) == 1 && refused(14, 27, 0));
+    EXPECT(resume_aimed_in(source, 2, terms, 7, 36, work, 39, log, 73, OUT) == 1 && refused(6, 40, 0));
+    EXPECT(resume_aimed_in(source, 1, terms, 7, 36, work, 41, log, 73, OUT) == 1 && refused(5, 6, 0));
+    EXPECT(resume_aimed_in(source, 2, terms, 7, 36, work, 41, log, 53, OUT) == 1 && told(8, 3, 5, full, 4));
+    EXPECT(resume_aimed_in(source, 2, terms, 7, 36, work, 41, log, 73, OUT) == 1 && told(9, 4, 1, ended, 4));
+    EXPECT(memcmp(log, lent, sizeof lent) == 0 && memcmp(log + 36, appended, sizeof appended) == 0);
+    EXPECT(memcmp(work, cleared, sizeof cleared) == 0 && work[40] == OLD);
+}
+
 /* Nets 0 and 1 meet on wire 3, and net 0 gives way to wire 4 in iteration 2; net 2 has wire 5 for itself. With rule 1 it is routed again,
  * with rule 2 not, unless that holds only after iteration 2. A slice without the rule means rule 1, one with the limit alone the plain
  * tuning too, and an empty one no limit; without a factor in iteration 2 net 0 stays. */
@@ -387,7 +493,7 @@ static void timed_route(void)
     const uint8_t criticality[] = { 2, 0, 9 }, split_criticality[] = { 2, 0, 9, 9 }, high[] = { 2, 0, 10 };
     const uint32_t terms[] = { 40, 100, 7, 3, 2, 1, 9, 1 }, higher[] = { 41, 100, 7, 3, 2, 1, 9, UINT32_MAX };
     const uint32_t no_limit[] = { 0, 100, 7, 3, 2, 1, 9, 1 };
-    const uint64_t settled[] = { 1, 2, 19 }, untimed[] = { 1, 3, 25 };
+    const uint64_t settled[] = { 1, 2, 19 }, untimed[] = { 1, 3, 25 }, aimed[] = { 1, 2, 19, 7 }, untimed_aimed[] = { 1, 3, 25, 8 };
     const uint32_t expected[] = { 1, 0, 5, 22500, 0, 4, 0, 2, 4, 5, 1, 0, 3, 44400, 0, 3, 0, 1, 3 };
     const uint32_t nearest[] = { 1, 0, 3, 4000, 0, 3, 0, 1, 3, 1, 0, 4, 2000, 0, 2, 1, 4, 1, 0, 5, 1900, 0, 2, 4, 5 };
     const struct {
@@ -434,12 +540,25 @@ static void timed_route(void)
                    higher, 7, work, 49, log, 26, out, OUT);
     EXPECT(told(0, 0, 0, untimed, 3));
     EXPECT(memcmp(log, nearest, sizeof nearest) == 0);
+    /* By the search that aims. Wire 1 is 56,000 away from the source at the first turn's prices, so that turn expands all nodes but it
+     * and sink 3, which leads nowhere; the second expands the three of its path. Not timed, the first turn expands what is within 4,000:
+     * the source, wire 1 and sinks 3 and 4; the others the two nodes of their paths. */
+    EXPECT(arvumnao_route_aimed(kind, COUNT(kind), capacity, COUNT(capacity), first_edge, COUNT(first_edge), edge_target,
+                                COUNT(edge_target), source, 1, first_sink, COUNT(first_sink), sink, COUNT(sink), delay, COUNT(delay),
+                                criticality, COUNT(criticality), terms, COUNT(terms), work, COUNT(work), log, COUNT(log), out,
+                                OUT) == 1);
+    EXPECT(told(0, 0, 0, aimed, 4));
+    EXPECT(memcmp(log, expected, sizeof expected) == 0);
+    arvumnao_route_aimed(kind, 6, capacity, 6, first_edge, 7, edge_target, 6, source, 1, first_sink, 2, sink, 3, slow, 5, high, 2,
+                         higher, 7, work, 49, log, 26, out, OUT);
+    EXPECT(told(0, 0, 0, untimed_aimed, 4));
+    EXPECT(memcmp(log, nearest, sizeof nearest) == 0);
 }
 
 /* Nets 0, with sinks 3 and 4, and 1, with sink 4, on wire 2, which has room for one: two iterations, gone on from after the first.
  * A log of this length with so many words used. */
 static uint32_t timed_resume_in(const uint16_t *delay, size_t delays, const uint8_t *criticality, size_t criticalities,
-                                const uint32_t *terms, uint64_t used, uint64_t *work, uint32_t *log, size_t words)
+                                const uint32_t *terms, uint64_t used, uint64_t *work, uint32_t *log, size_t words, int aimed)
 {
     const uint8_t kind[] = { 0, 2, 4, 1, 3 };
     const uint8_t capacity[] = { 5, 4, 1, 3, 2 };
@@ -447,9 +566,10 @@ static uint32_t timed_resume_in(const uint16_t *delay, size_t delays, const uint
     const uint16_t edge_target[] = { 2, 2, 3, 4, 4 };
     const uint16_t source[] = { 0, 1 }, sink[] = { 3, 4, 4 };
     const uint32_t first_sink[] = { 0, 2, 3 };
-    return arvumnao_resume(kind, COUNT(kind), capacity, COUNT(capacity), first_edge, COUNT(first_edge), edge_target,
-                           COUNT(edge_target), source, COUNT(source), first_sink, COUNT(first_sink), sink, COUNT(sink), delay, delays,
-                           criticality, criticalities, terms, 8, used, work, 40, log, words, out, OUT);
+    return (aimed ? arvumnao_resume_aimed : arvumnao_resume)(
+        kind, COUNT(kind), capacity, COUNT(capacity), first_edge, COUNT(first_edge), edge_target, COUNT(edge_target), source,
+        COUNT(source), first_sink, COUNT(first_sink), sink, COUNT(sink), delay, delays, criticality, criticalities, terms, 8, used,
+        work, 40, log, words, out, OUT);
 }
 
 /* Net 0's sink 4, of criticality 6, is due before 3, of criticality 4. Wire 2 costs 4,200 + 4 x 2,000 for it, and 10 x 2,000 for net 1,
@@ -459,7 +579,7 @@ static void timed_resume(void)
     const uint16_t delay[] = { 5, 6, 7, 8, 9 };
     const uint8_t criticality[] = { 4, 6, 0 };
     const uint32_t terms[] = { 2, 100, 7, 3, 2, 1, 9, 1 }, higher[] = { 41, 100, 7, 3, 2, 1, 9, 1 };
-    const uint64_t ended[] = { 2, 6, 52 }, passed_ended[] = { 2, 5, 45 };
+    const uint64_t ended[] = { 2, 6, 52 }, passed_ended[] = { 2, 5, 45 }, aimed[] = { 2, 6, 52, 8 };
     const uint32_t lent[] = { 1, 0, 4, 25200, 0, 3, 0, 2, 4, 1, 0, 3, 15200, 0, 2, 2, 3, 1, 1, 4, 39000, 0, 3, 1, 2, 4 };
     const uint32_t passing[] = { 1, 0, 4, 38000, 0, 4, 0, 2, 3, 4, 1, 1, 4, 39000, 0, 3, 1, 2, 4 };
     const uint32_t not_due[] = { 1, 0, 3, 30000, 0, 3, 0, 2, 3, 1, 0, 4, 13000, 0, 2, 2, 4, 1, 1, 4, 39000, 0, 3, 1, 2, 4 };
@@ -469,16 +589,20 @@ static void timed_resume(void)
     memset(log, 9, sizeof log);
     memcpy(log, lent, sizeof lent);
     lend_out();
-    EXPECT(timed_resume_in(delay, 4, criticality, 3, terms, 26, work, log, 52) == 1 && refused(5, 9, 0));
-    EXPECT(timed_resume_in(delay, 5, criticality, 2, terms, 26, work, log, 52) == 1 && refused(5, 10, 0));
-    EXPECT(timed_resume_in(delay, 5, criticality, 3, higher, 26, work, log, 52) == 1 && refused(15, 5, 41));
-    EXPECT(timed_resume_in(delay, 5, criticality, 3, terms, 26, work, log, 52) == 1 && told(9, 2, 1, ended, 3));
+    EXPECT(timed_resume_in(delay, 4, criticality, 3, terms, 26, work, log, 52, 0) == 1 && refused(5, 9, 0));
+    EXPECT(timed_resume_in(delay, 5, criticality, 2, terms, 26, work, log, 52, 0) == 1 && refused(5, 10, 0));
+    EXPECT(timed_resume_in(delay, 5, criticality, 3, higher, 26, work, log, 52, 0) == 1 && refused(15, 5, 41));
+    EXPECT(timed_resume_in(delay, 5, criticality, 3, terms, 26, work, log, 52, 0) == 1 && told(9, 2, 1, ended, 3));
+    EXPECT(memcmp(log, lent, sizeof lent) == 0 && memcmp(log + 26, appended, sizeof appended) == 0);
+    /* nodes 0, 2 and 4, then 2 and 3, for net 1 nodes 1, 2 and 4: by 3 it is farther to 4 */
+    memset(log + 26, 9, sizeof appended);
+    EXPECT(timed_resume_in(delay, 5, criticality, 3, terms, 26, work, log, 52, 1) == 1 && told(9, 2, 1, aimed, 4));
     EXPECT(memcmp(log, lent, sizeof lent) == 0 && memcmp(log + 26, appended, sizeof appended) == 0);
     memcpy(log, passing, sizeof passing);
-    EXPECT(timed_resume_in(delay, 5, criticality, 3, terms, 19, work, log, 52) == 1 && told(9, 2, 1, passed_ended, 3));
+    EXPECT(timed_resume_in(delay, 5, criticality, 3, terms, 19, work, log, 52, 0) == 1 && told(9, 2, 1, passed_ended, 3));
     EXPECT(memcmp(log, passing, sizeof passing) == 0 && memcmp(log + 19, appended, sizeof appended) == 0);
     memcpy(log, not_due, sizeof not_due);
-    EXPECT(timed_resume_in(delay, 5, criticality, 3, terms, 26, work, log, 52) == 1 && refused(14, 0, 0));
+    EXPECT(timed_resume_in(delay, 5, criticality, 3, terms, 26, work, log, 52, 0) == 1 && refused(14, 0, 0));
 }
 
 /* Job B with capacities and terms of its own, and as a timed job, read into tables longer than it needs. */
@@ -721,6 +845,8 @@ int main(void)
     too_many_nodes();
     route();
     resume();
+    route_aimed();
+    resume_aimed();
     terms();
     timed_route();
     timed_resume();

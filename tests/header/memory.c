@@ -82,6 +82,22 @@ static void call_resume(void)
                     work, ARVUMNAO_WORK(nodes), log_words, LOG, out, ARVUMNAO_OUT);
 }
 
+static void call_route_aimed(void)
+{
+    terms[ARVUMNAO_TERMS_LIMIT] = 1;
+    arvumnao_route_aimed(kind, nodes, capacity, nodes, first_edge, nodes + 1, edge_target, edges, source, nets,
+                         first_sink, nets + 1, sink, sinks, delay, nodes, criticality, sinks, terms, ARVUMNAO_TERMS,
+                         work, ARVUMNAO_WORK(nodes), log_words, LOG, out, ARVUMNAO_OUT);
+}
+
+static void call_resume_aimed(void)
+{
+    terms[ARVUMNAO_TERMS_LIMIT] = 2;
+    arvumnao_resume_aimed(kind, nodes, capacity, nodes, first_edge, nodes + 1, edge_target, edges, source, nets,
+                          first_sink, nets + 1, sink, sinks, delay, nodes, criticality, sinks, terms, ARVUMNAO_TERMS, words,
+                          work, ARVUMNAO_WORK(nodes), log_words, LOG, out, ARVUMNAO_OUT);
+}
+
 static void call_write(void)
 {
     arvumnao_write(source, nets, log_words, words, routes, sizeof routes, out, ARVUMNAO_OUT);
@@ -163,7 +179,7 @@ static void measure(const char *name, void (*call)(void), uint64_t refusal)
     while (stack[unused] == PAINT)
         unused++;
     size_t used = (size_t)(run.top - (uintptr_t)(stack + unused));
-    printf("%-12s %6zu bytes of stack\n", name, used);
+    printf("%-18s %6zu bytes of stack\n", name, used);
     expect("within ARVUMNAO_STACK", used <= ARVUMNAO_STACK);
     expect("the answer", out[0] == refusal);
     pthread_attr_destroy(&attributes);
@@ -183,6 +199,12 @@ static void empty(void)
     arvumnao_resume(NULL, 0, NULL, 0, NULL, 0, NULL, 0, NULL, 0, NULL, 0, NULL, 0, NULL, 0, NULL, 0, NULL, 0, 0, NULL, 0,
                     NULL, 0, out, ARVUMNAO_OUT);
     expect("resume of nothing", out[0] == ARVUMNAO_BAD_TABLE && out[1] == 1);
+    arvumnao_route_aimed(NULL, 0, NULL, 0, NULL, 0, NULL, 0, NULL, 0, NULL, 0, NULL, 0, NULL, 0, NULL, 0, NULL, 0, NULL, 0,
+                         NULL, 0, out, ARVUMNAO_OUT);
+    expect("aimed route of nothing", out[0] == ARVUMNAO_BAD_TABLE && out[1] == 1);
+    arvumnao_resume_aimed(NULL, 0, NULL, 0, NULL, 0, NULL, 0, NULL, 0, NULL, 0, NULL, 0, NULL, 0, NULL, 0, NULL, 0, 0, NULL, 0,
+                          NULL, 0, out, ARVUMNAO_OUT);
+    expect("aimed resume of nothing", out[0] == ARVUMNAO_BAD_TABLE && out[1] == 1);
     arvumnao_read(NULL, 0, NULL, 0, NULL, 0, NULL, 0, NULL, 0, NULL, 0, NULL, 0, NULL, 0, NULL, 0, NULL, 0, out, ARVUMNAO_OUT);
     expect("read of nothing", out[0] == ARVUMNAO_BAD_SHAPE && out[1] == 1);
     arvumnao_read(text, bytes, NULL, 0, NULL, 0, NULL, 0, NULL, 0, NULL, 0, NULL, 0, NULL, 0, NULL, 0, NULL, 0, out, ARVUMNAO_OUT);
@@ -209,7 +231,13 @@ static void measure_all(int timed)
     words = (size_t)out[ARVUMNAO_ROUTE_WORDS];
     uint64_t turns = out[ARVUMNAO_ROUTE_TURNS];
     measure(timed ? "timed resume" : "resume", call_resume, ARVUMNAO_LIMIT_REACHED);
-    expect("turns of both runs", out[ARVUMNAO_RESUME_TURNS] > turns);
+    uint64_t both = out[ARVUMNAO_RESUME_TURNS];
+    expect("turns of both runs", both > turns);
+    measure(timed ? "timed route_aimed" : "route_aimed", call_route_aimed, ARVUMNAO_LIMIT_REACHED);
+    expect("turns of either search", out[ARVUMNAO_ROUTE_TURNS] == turns && out[ARVUMNAO_ROUTE_WORDS] == words);
+    expect("a turn expands two nodes at least", out[ARVUMNAO_ROUTE_EXPANDED] >= 2 * turns);
+    measure(timed ? "timed resume_aimed" : "resume_aimed", call_resume_aimed, ARVUMNAO_LIMIT_REACHED);
+    expect("turns of both runs by either search", out[ARVUMNAO_RESUME_TURNS] == both);
 }
 
 int main(void)

@@ -1,5 +1,6 @@
 -- What each call for C leaves is what it is to leave: the laws over plain values, for a short `out` and for every answer.
 -- Assumes nothing.
+use mathlib.Core.Bool.{Bool, false}
 use mathlib.Core.List.{List, [], _∷_, _++_, append-nil}
 use mathlib.Core.Path.{_≡_, refl, sym, _∙_, ap}
 use Prim.Native.Nat.{ℕ, _≤_, _<_}
@@ -12,7 +13,11 @@ use Rattle.price.specs.declared.PriceAnswer.{PriceAnswer}
 use Rattle.search.specs.Block.{Block}
 use Rattle.search.specs.Replies.{SearchReply, searchRefusal, searchReplyOf}
 use Rattle.search.specs.declared.SearchAnswer.{SearchAnswer}
-use Rattle.negotiation.specs.Outcome.{RouteReply, routeRefusal, routeReplyOf}
+use Rattle.job.specs.Job.{Job}
+use Rattle.job.specs.Join.{joined}
+use Rattle.negotiation.specs.Records.{Record}
+use Rattle.negotiation.specs.Outcome.{RouteReply, turnsLogged, routeRefusal, routeReplyOf}
+use Rattle.negotiation.specs.Aimed.{expandedAfter}
 use Rattle.negotiation.specs.declared.RouteAnswer.{RouteAnswer}
 use Rattle.text.specs.ReadReplies.{Tables, readRefusal, readNumbers, readReplyOf, readReply}
 use Rattle.text.specs.Routes.{WriteReply}
@@ -21,7 +26,7 @@ use Rattle.uses.specs.Uses.{kindCount, countsOf, AddReply, addRefusal, addReply
 use Rattle.uses.specs.declared.AddAnswer.{AddAnswer}
 use Rattle.uses.specs.declared.AddAnswer.the-variants as a
 use Rattle.uses.proofs.UsesHold.{counts-long}
-use Rattle.capi.specs.Calls.{Call, callOf, outWith, pricedCall, searchDone, searchedCall, routeDone, routedCall, readDone, readCall, WriteCall, writeDone, writtenCall}
+use Rattle.capi.specs.Calls.{Call, callOf, outWith, pricedCall, searchDone, searchedCall, RouteCall, routeDone, routedCall, countedCall, readDone, readCall, WriteCall, writeDone, writtenCall}
 use Rattle.capi.specs.Calls.{addDone, logsAdded, logsReturned, addCall, usesCall}
 
 -- ---- numbers in `out`: stores over 16 entries of 0
@@ -67,18 +72,44 @@ module _ (reply : SearchReply) (work out : List ℕ) where
 
 -- ---- the router
 
-module _ (reply : RouteReply) (work log out : List ℕ) where
-  pub route-short : length out < 16 → routeDone (callOf 0 out) work log ≡ routedCall reply work log out
+-- a number more behind the three, whatever is refused
+one-more :
+    (refusal out : List ℕ) (a b c d : ℕ) → set (outWith refusal (a ∷ b ∷ c ∷ []) out) 6 d ≡ outWith refusal (a ∷ b ∷ c ∷ d ∷ []) out
+one-more [] out a b c d = refl
+one-more (x ∷ []) out a b c d = refl
+one-more (x ∷ y ∷ []) out a b c d = refl
+one-more (x ∷ y ∷ z ∷ zs) out a b c d = refl
+
+-- an answer's numbers, then the nodes expanded
+pub expanded-put :
+    (r : RouteAnswer) (out left : List ℕ) (n : ℕ)
+    → callOf n left ≡ callOf 1 (outWith (routeRefusal (r .outcome) (r .iteration) (r .turns)) (r .iteration ∷ r .turns ∷ r .used ∷ []) out)
+    → callOf n (set left 6 (r .expanded))
+    ≡ callOf 1 (outWith (routeRefusal (r .outcome) (r .iteration) (r .turns)) (r .iteration ∷ r .turns ∷ r .used ∷ r .expanded ∷ []) out)
+expanded-put r out left n put =
+    ap (λ (call : Call). callOf (call .returned) (set (call .out) 6 (r .expanded))) put
+    ∙ ap (callOf 1) (one-more (routeRefusal (r .outcome) (r .iteration) (r .turns)) out (r .iteration) (r .turns) (r .used) (r .expanded))
+
+module _ (reply : RouteReply) (further work log out : List ℕ) where
+  pub route-short : length out < 16 → routeDone (callOf 0 out) work log ≡ routedCall reply further work log out
   unfolding routedCall
   route-short h = rw (lt-ltb (length out) 16 h)
 
-  -- of every run, one that begins or one that goes on
-  pub route-called :
-      (left logged : List ℕ) (call : Call) (r : RouteAnswer) → 16 ≤ length out → routeReplyOf r left logged ≡ reply
-      → call ≡ callOf 1 (outWith (routeRefusal (r .outcome) (r .iteration) (r .turns)) (r .iteration ∷ r .turns ∷ r .used ∷ []) out)
-      → routeDone call left logged ≡ routedCall reply work log out
-  unfolding routedCall
-  route-called left logged call r h answers put = rw (le-ltb (length out) 16 h, ← answers, put)
+-- of every run, one that begins or one that goes on, by either search
+pub route-called :
+    (reply : RouteReply) (work log out left logged : List ℕ) (call : Call) (r : RouteAnswer) (aimed : Bool) (j : Job) (lent : List Record) → 16 ≤ length out
+    → routeReplyOf r left logged ≡ reply → r .expanded ≡ expandedAfter aimed (joined j) lent (turnsLogged (routeReplyOf r left logged))
+    → call ≡ callOf 1 (outWith (routeRefusal (r .outcome) (r .iteration) (r .turns)) (r .iteration ∷ r .turns ∷ r .used ∷ r .expanded ∷ []) out)
+    → routeDone call left logged ≡ countedCall aimed j lent reply work log out
+unfolding routedCall
+route-called reply work log out left logged call r aimed j lent h answers counted put = rw (le-ltb (length out) 16 h, ← answers, put, counted)
+
+-- the plain search counts nothing, and 0 is told there without it
+pub plain-called :
+    (j : Job) (lent : List Record) (reply : RouteReply) (work log out : List ℕ) {done : RouteCall} → done ≡ countedCall false j lent reply work log out
+    → done ≡ routedCall reply [] work log out
+unfolding routedCall expandedAfter
+plain-called j lent reply work log out is = is
 
 -- ---- the reader
 

@@ -1,5 +1,6 @@
 -- What each call for C leaves in `out` and in every other slice that it is lent, and what it returns.
 -- Assumes nothing.
+use mathlib.Core.Bool.{Bool, true}
 use mathlib.Core.List.{List, [], _∷_, _++_}
 use Prim.Native.Nat.{ℕ}
 use lib.Dec.{leb, ltb}
@@ -12,8 +13,11 @@ use Rattle.search.specs.Turn.{Congestion}
 use Rattle.search.specs.Replies.{SearchReply, searchReply, timedSearchReply}
 use Rattle.job.specs.Job.{Job}
 use Rattle.job.specs.declared.Terms.{Terms}
-use Rattle.negotiation.specs.Outcome.{RouteReply, routeReply}
+use Rattle.job.specs.Join.{joined}
+use Rattle.negotiation.specs.Records.{Record, decode}
+use Rattle.negotiation.specs.Outcome.{RouteReply, routeReply, turnsLogged}
 use Rattle.negotiation.specs.Resume.{resumeReply}
+use Rattle.negotiation.specs.Aimed.{expandedAfter}
 use Rattle.text.specs.ReadReplies.{Tables, ReadReply, readReply}
 use Rattle.text.specs.Routes.{WriteReply, writeReply}
 use Rattle.text.specs.Dot.{dotReply}
@@ -97,18 +101,34 @@ pub record RouteCall : Type 0 where
 abbrev pub routeDone : Call → List ℕ → List ℕ → RouteCall
 routeDone call work log = record { call = call; work = work; log = log }
 
-abbrev pub routeCallWith : RouteReply → List ℕ → RouteCall
-routeCallWith r out = routeDone (callOf 1 (outWith (r .refusal) (r .iteration ∷ r .turns ∷ r .used ∷ []) out)) (r .work) (r .log)
+abbrev pub routeCallWith : RouteReply → (further out : List ℕ) → RouteCall
+routeCallWith r further out =
+    routeDone (callOf 1 (outWith (r .refusal) (r .iteration ∷ r .turns ∷ r .used ∷ further) out)) (r .work) (r .log)
 
-unfoldable pub routedCall : RouteReply → List ℕ → List ℕ → List ℕ → RouteCall
-routedCall reply work log out = choose (ltb (length out) 16) (routeDone (callOf 0 out) work log) (routeCallWith reply out)
+unfoldable pub routedCall : RouteReply → (further work log out : List ℕ) → RouteCall
+routedCall reply further work log out =
+    choose (ltb (length out) 16) (routeDone (callOf 0 out) work log) (routeCallWith reply further out)
 
 abbrev pub routeCall : Job → List ℕ → List ℕ → List ℕ → RouteCall
-routeCall j work log out = routedCall (routeReply j work log) work log out
+routeCall j work log out = routedCall (routeReply j work log) [] work log out
 
 -- resume: the same of a run that goes on from the words used of the lent log
 abbrev pub resumeCall : Job → ℕ → List ℕ → List ℕ → List ℕ → RouteCall
-resumeCall j used work log out = routedCall (resumeReply j used work log) work log out
+resumeCall j used work log out = routedCall (resumeReply j used work log) [] work log out
+
+-- by the search that is chosen, these numbers and at 6 how many nodes were expanded in the turns that the call logged: those after the
+-- lent ones
+abbrev pub countedCall : Bool → Job → (lent : List Record) → RouteReply → (work log out : List ℕ) → RouteCall
+countedCall aimed j lent reply work log out =
+    routedCall reply (expandedAfter aimed (joined j) lent (turnsLogged reply) ∷ []) work log out
+
+-- route_aimed: 3 iteration, 4 turns, 5 words, 6 nodes expanded
+abbrev pub routeAimedCall : Job → List ℕ → List ℕ → List ℕ → RouteCall
+routeAimedCall j work log out = countedCall true j [] (routeReply j work log) work log out
+
+-- resume_aimed: the same of a run that goes on
+abbrev pub resumeAimedCall : Job → ℕ → List ℕ → List ℕ → List ℕ → RouteCall
+resumeAimedCall j used work log out = countedCall true j (decode (take used log)) (resumeReply j used work log) work log out
 
 -- read: 3 nodes, 4 edges, 5 nets, 6 sinks, 7 limit, 8 first, 9 up, 10 down, 11 step, 12 rule, 13 k, 14 timed
 pub record ReadCall : Type 0 where

@@ -1,12 +1,16 @@
 // The calls for C, C++ and Rust; include/arvumnao.h declares them. Each takes `out`, in which it tells its numbers.
+ghost use mathlib.Core.List.{[]};
 ghost use mathlib.Core.Path.{_≡_};
-ghost use lib.ListN.{getD};
+ghost use lib.ListN.{getD, take};
 ghost use Rattle.search.specs.Block.{blockOf};
 ghost use Rattle.search.specs.Turn.{congestionOf, timedCongestion};
 ghost use Rattle.job.specs.Job.{jobOf};
+ghost use Rattle.negotiation.specs.Records.{decode};
+ghost use Rattle.negotiation.specs.Outcome.{routeReply};
+ghost use Rattle.negotiation.specs.Resume.{resumeReply};
 ghost use Rattle.text.specs.ReadReplies.{tablesOf};
 ghost use Rattle.capi.specs.Calls.{callOf, priceCall, timedPriceCall, searchDone, searchCall, timedSearchCall};
-ghost use Rattle.capi.specs.Calls.{termsOf, routeDone, routeCall, resumeCall};
+ghost use Rattle.capi.specs.Calls.{termsOf, routeDone, routeCall, resumeCall, countedCall, routeAimedCall, resumeAimedCall};
 ghost use Rattle.capi.specs.Calls.{readDone, readCall, writeDone, writtenCall, writeCall, dotCall};
 ghost use Rattle.capi.specs.Calls.{addDone, addCall, usesCall};
 ghost use Rattle.text.specs.Dot.{styleReply};
@@ -168,6 +172,53 @@ fn terms_of(terms: &[u32]) -> Terms
     }
 }
 
+// Routes a job given as tables, by the search that aims or by the plain one.
+fn route_by(
+    kind: &[u8],
+    capacity: &[u8],
+    first_edge: &[u32],
+    edge_target: &[u16],
+    source: &[u16],
+    first_sink: &[u32],
+    sink: &[u16],
+    delay: &[u16],
+    criticality: &[u8],
+    terms: &[u32],
+    aimed: bool,
+    work: &mut [u64],
+    log: &mut [u32],
+    out: &mut [u64],
+) -> u32
+    ensures { λ r. do
+      let job = jobOf (now (kind .entry)) (now (capacity .entry)) (now («first_edge» .entry)) (now («edge_target» .entry))
+          (now (source .entry)) (now («first_sink» .entry)) (now (sink .entry)) (now (delay .entry)) (now (criticality .entry))
+          (termsOf (now (terms .entry)))
+      let reply = routeReply job (now (work .entry)) (now (log .entry))
+      ⌜ routeDone (callOf r (now (out .exit))) (now (work .exit)) (now (log .exit))
+          ≡ countedCall aimed job [] reply (now (work .entry)) (now (log .entry)) (now (out .entry)) ⌝ }
+{
+    if out.len() < OUT_ENTRIES {
+        return 0;
+    }
+    let asked = terms_of(terms);
+    let r = negotiation::route(
+        kind,
+        capacity,
+        first_edge,
+        edge_target,
+        source,
+        first_sink,
+        sink,
+        delay,
+        criticality,
+        asked,
+        aimed,
+        work,
+        log,
+    );
+    out::put_routed(r, out)
+}
+
 // Routes a job given as tables.
 #[no_mangle]
 pub extern "C" fn arvumnao_route(
@@ -192,11 +243,98 @@ pub extern "C" fn arvumnao_route(
       ⌜ routeDone (callOf r (now (out .exit))) (now (work .exit)) (now (log .exit))
           ≡ routeCall job (now (work .entry)) (now (log .entry)) (now (out .entry)) ⌝ }
 {
+    route_by(
+        kind,
+        capacity,
+        first_edge,
+        edge_target,
+        source,
+        first_sink,
+        sink,
+        delay,
+        criticality,
+        terms,
+        false,
+        work,
+        log,
+        out,
+    )
+}
+
+// The same by the search that aims, and how many nodes it expanded.
+#[no_mangle]
+pub extern "C" fn arvumnao_route_aimed(
+    kind: &[u8],
+    capacity: &[u8],
+    first_edge: &[u32],
+    edge_target: &[u16],
+    source: &[u16],
+    first_sink: &[u32],
+    sink: &[u16],
+    delay: &[u16],
+    criticality: &[u8],
+    terms: &[u32],
+    work: &mut [u64],
+    log: &mut [u32],
+    out: &mut [u64],
+) -> u32
+    ensures { λ r. do
+      let job = jobOf (now (kind .entry)) (now (capacity .entry)) (now («first_edge» .entry)) (now («edge_target» .entry))
+          (now (source .entry)) (now («first_sink» .entry)) (now (sink .entry)) (now (delay .entry)) (now (criticality .entry))
+          (termsOf (now (terms .entry)))
+      ⌜ routeDone (callOf r (now (out .exit))) (now (work .exit)) (now (log .exit))
+          ≡ routeAimedCall job (now (work .entry)) (now (log .entry)) (now (out .entry)) ⌝ }
+{
+    route_by(
+        kind,
+        capacity,
+        first_edge,
+        edge_target,
+        source,
+        first_sink,
+        sink,
+        delay,
+        criticality,
+        terms,
+        true,
+        work,
+        log,
+        out,
+    )
+}
+
+// Goes on from the words used of a lent log, by either search.
+fn resume_by(
+    kind: &[u8],
+    capacity: &[u8],
+    first_edge: &[u32],
+    edge_target: &[u16],
+    source: &[u16],
+    first_sink: &[u32],
+    sink: &[u16],
+    delay: &[u16],
+    criticality: &[u8],
+    terms: &[u32],
+    aimed: bool,
+    used: u64,
+    work: &mut [u64],
+    log: &mut [u32],
+    out: &mut [u64],
+) -> u32
+    ensures { λ r. do
+      let job = jobOf (now (kind .entry)) (now (capacity .entry)) (now («first_edge» .entry)) (now («edge_target» .entry))
+          (now (source .entry)) (now («first_sink» .entry)) (now (sink .entry)) (now (delay .entry)) (now (criticality .entry))
+          (termsOf (now (terms .entry)))
+      let lent = decode (take used (now (log .entry)))
+      let reply = resumeReply job used (now (work .entry)) (now (log .entry))
+      ⌜ routeDone (callOf r (now (out .exit))) (now (work .exit)) (now (log .exit))
+          ≡ countedCall aimed job lent reply (now (work .entry)) (now (log .entry)) (now (out .entry)) ⌝ }
+{
     if out.len() < OUT_ENTRIES {
         return 0;
     }
     let asked = terms_of(terms);
-    let r = negotiation::route(
+    let r = negotiation::resume(
         kind,
         capacity,
         first_edge,
@@ -207,6 +345,8 @@ pub extern "C" fn arvumnao_route(
         delay,
         criticality,
         asked,
+        aimed,
+        used,
         work,
         log,
     );
@@ -238,11 +378,7 @@ pub extern "C" fn arvumnao_resume(
       ⌜ routeDone (callOf r (now (out .exit))) (now (work .exit)) (now (log .exit))
           ≡ resumeCall job used (now (work .entry)) (now (log .entry)) (now (out .entry)) ⌝ }
 {
-    if out.len() < OUT_ENTRIES {
-        return 0;
-    }
-    let asked = terms_of(terms);
-    let r = negotiation::resume(
+    resume_by(
         kind,
         capacity,
         first_edge,
@@ -252,12 +388,57 @@ pub extern "C" fn arvumnao_resume(
         sink,
         delay,
         criticality,
-        asked,
+        terms,
+        false,
         used,
         work,
         log,
-    );
-    out::put_routed(r, out)
+        out,
+    )
+}
+
+// The same by the search that aims, and how many nodes it expanded in the turns that were appended.
+#[no_mangle]
+pub extern "C" fn arvumnao_resume_aimed(
+    kind: &[u8],
+    capacity: &[u8],
+    first_edge: &[u32],
+    edge_target: &[u16],
+    source: &[u16],
+    first_sink: &[u32],
+    sink: &[u16],
+    delay: &[u16],
+    criticality: &[u8],
+    terms: &[u32],
+    used: u64,
+    work: &mut [u64],
+    log: &mut [u32],
+    out: &mut [u64],
+) -> u32
+    ensures { λ r. do
+      let job = jobOf (now (kind .entry)) (now (capacity .entry)) (now («first_edge» .entry)) (now («edge_target» .entry))
+          (now (source .entry)) (now («first_sink» .entry)) (now (sink .entry)) (now (delay .entry)) (now (criticality .entry))
+          (termsOf (now (terms .entry)))
+      ⌜ routeDone (callOf r (now (out .exit))) (now (work .exit)) (now (log .exit))
+          ≡ resumeAimedCall job used (now (work .entry)) (now (log .entry)) (now (out .entry)) ⌝ }
+{
+    resume_by(
+        kind,
+        capacity,
+        first_edge,
+        edge_target,
+        source,
+        first_sink,
+        sink,
+        delay,
+        criticality,
+        terms,
+        true,
+        used,
+        work,
+        log,
+        out,
+    )
 }
 
 // Reads a job text into the seven tables, and into tables 9 and 10 where it is timed.

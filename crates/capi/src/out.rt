@@ -80,8 +80,8 @@ pub fn put_search(answer: SearchAnswer, out: &mut [u64]) -> u32
     }
 }
 
-// Writes the numbers of a routing.
-pub fn put_routed(r: RouteAnswer, out: &mut [u64]) -> u32
+// Writes the numbers of a routing but for the nodes expanded.
+fn put_outcome(r: RouteAnswer, out: &mut [u64]) -> u32
     requires { ⌜ 16 ≤ length (now out) ⌝ }
     ensures { λ n. do
       let refusal = routeRefusal (r .outcome) (r .iteration) (r .turns)
@@ -106,6 +106,19 @@ pub fn put_routed(r: RouteAnswer, out: &mut [u64]) -> u32
             put_numbers(out, 15, nodes as u64, limit as u64, i, turns, used)
         }
     }
+}
+
+// Writes the numbers of a routing.
+pub fn put_routed(r: RouteAnswer, out: &mut [u64]) -> u32
+    requires { ⌜ 16 ≤ length (now out) ⌝ }
+    ensures { λ n. do
+      let refusal = routeRefusal (r .outcome) (r .iteration) (r .turns)
+      let after = outWith refusal (r .iteration ∷ r .turns ∷ r .used ∷ r .expanded ∷ []) (now (out .entry))
+      ⌜ callOf n (now (out .exit)) ≡ callOf 1 after ⌝ }
+{
+    let written = put_outcome(r, out);
+    out[6] = r.expanded;
+    written
 }
 
 // 1 for true, 0 for false.

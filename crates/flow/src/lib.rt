@@ -101,6 +101,7 @@ fn route_job(
         delay,
         criticality,
         terms,
+        false,
         work,
         log,
     );

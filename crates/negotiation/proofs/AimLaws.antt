@@ -22,7 +22,7 @@ use Rattle.search.specs.Turn.{Congestion, weighedCongestion, priceAt, turn}
 use Rattle.job.specs.Steps.{AllBelow}
 use Rattle.negotiation.specs.Order.{fallingFrom, firstOpen, placeDue, sinkDue, sinksTried, weightingDue}
 use Rattle.negotiation.specs.OrderSteps.{AimReady, Aimed}
-use Rattle.negotiation.specs.Steps.{CanTurn, TurnDone}
+use Rattle.negotiation.specs.Steps.{CanTurn, turnCount, TurnDone}
 use Rattle.negotiation.specs.declared.order.Aim.{Aim}
 use Rattle.negotiation.specs.declared.tariff.Tariff.{Tariff}
 use Rattle.negotiation.specs.declared.turns.TurnMade.{TurnMade}
@@ -297,8 +297,9 @@ module _ {timed : Bool} {marks sinks cs : List ℕ} {from to : ℕ} {r : Aim} (a
         (subst (λ (l : List ℕ). CanTurn b (prices due-weighting) t l marks work log) (sym lent-is) can)
 
     pub aim-done :
-        (made : TurnMade) (t : Tariff) (net : ℕ) (log log′ marks′ : List ℕ) → TurnDone made (turn b (priceAt b (prices (r .weighting))) marks lent) t net lent log marks log′ marks′
-        → TurnDone made (turn b (priceAt b (prices due-weighting)) marks due-sinks) t net due-sinks log marks log′ marks′
+        (made : TurnMade) (t : Tariff) (net : ℕ) (log log′ marks′ : List ℕ)
+        → TurnDone made (turn b (priceAt b (prices (r .weighting))) marks lent) (turnCount (t .aimed) b (prices (r .weighting)) marks lent) t net lent log marks log′ marks′
+        → TurnDone made (turn b (priceAt b (prices due-weighting)) marks due-sinks) (turnCount (t .aimed) b (prices due-weighting) marks due-sinks) t net due-sinks log marks log′ marks′
     aim-done made t net log log′ marks′ done =
-        subst (λ (w : Weighting). TurnDone made (turn b (priceAt b (prices w)) marks due-sinks) t net due-sinks log marks log′ marks′) (aimed .weighting-is)
-        (subst (λ (l : List ℕ). TurnDone made (turn b (priceAt b (prices (r .weighting))) marks l) t net l log marks log′ marks′) lent-is done)
+        subst (λ (w : Weighting). TurnDone made (turn b (priceAt b (prices w)) marks due-sinks) (turnCount (t .aimed) b (prices w) marks due-sinks) t net due-sinks log marks log′ marks′) (aimed .weighting-is)
+        (subst (λ (l : List ℕ). TurnDone made (turn b (priceAt b (prices (r .weighting))) marks l) (turnCount (t .aimed) b (prices (r .weighting)) marks l) t net l log marks log′ marks′) lent-is done)

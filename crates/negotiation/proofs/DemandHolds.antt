@@ -23,12 +23,13 @@ use Rattle.negotiation.specs.Outcome.{RouteReply, wordsUsed, turnsLogged
 use Rattle.negotiation.specs.Unreachable.{AllReachable}
 use Rattle.negotiation.specs.Demand.{TurnHolds, FinalTrees, Demand3, CostsFit}
 use Rattle.negotiation.specs.Routable.{Routable}
+use Rattle.negotiation.specs.Runs.{Ran, start}
 use Rattle.job.specs.Join.{joined}
 use Rattle.job.proofs.JobLaws.{sound-job}
 use Rattle.negotiation.proofs.JoinedHolds.{joined-routable, joined-reachable}
 use Rattle.negotiation.proofs.RecordLaws.{fitting-begins}
 use Rattle.negotiation.proofs.NetLaws.{no-split}
-use Rattle.negotiation.proofs.RanLaws.{Ran, start, ran-iteration}
+use Rattle.negotiation.proofs.RanLaws.{ran-iteration}
 use Rattle.negotiation.proofs.MachineRan.{Reached}
 use Rattle.negotiation.proofs.DemandLaws.{all-reached, none-unreachable, turn-holds, turn-below, final-trees-hold}
 use Rattle.negotiation.proofs.ReplyLogLaws.{LogHas, log-words, log-turns, refused-log, ran-log}

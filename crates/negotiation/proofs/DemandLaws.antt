@@ -39,9 +39,10 @@ use Rattle.negotiation.specs.Demand.{ownTree, othersRead, historyRead, c
 use Rattle.negotiation.specs.Unreachable.{AllReachable}
 use Rattle.negotiation.proofs.StateLaws.{route-if}
 use Rattle.negotiation.specs.Routable.{Routable}
+use Rattle.negotiation.specs.Runs.{All, Of, NetsRan, Ran}
 use Rattle.negotiation.proofs.NetLaws.{first-ready, congestion-fair, NetTurn, turn-cost, net-turn}
-use Rattle.negotiation.proofs.FilterLaws.{All, all-left, all-splits, Of}
-use Rattle.negotiation.proofs.RanLaws.{NetsRan, Ran, nets-iteration, nets-factor, ran-iteration, ran-factor, ran-users, ran-done, others-read, own-read, history-read}
+use Rattle.negotiation.proofs.FilterLaws.{all-left, all-splits}
+use Rattle.negotiation.proofs.RanLaws.{nets-iteration, nets-factor, ran-iteration, ran-factor, ran-users, ran-done, others-read, own-read, history-read}
 use Rattle.negotiation.proofs.MachineRan.{Reached, ran-ready, machine-nets, machine-ran}
 
 -- ---- lists and counts
@@ -215,7 +216,7 @@ module _ (j : Job) (sound : Routable j) {m : ℕ} {rs : List Record} {s : State}
     before = (rs ++ p .records) ++ e
 
     -- the net's own tree
-    own-same : treeFrom j i e ≡ ownTree j i (m + 1) before
+    pub own-same : treeFrom j i e ≡ ownTree j i (m + 1) before
     unfolding ownTree
     own-same = rw (own-read j r n hi e own)
 
@@ -229,14 +230,14 @@ module _ (j : Job) (sound : Routable j) {m : ℕ} {rs : List Record} {s : State}
         let history : getD (p .state .histories) v 0 ≡ historyRead j before (m + 1 - 1) v = rw one (sym (history-read j r n hi e own v h)) in
         same-price _ _ (nets-factor j n ∙ ran-factor j r) others history
 
-    price-same : (v : ℕ) → v < nodes j → turnPrice j (p .state) i (treeFrom j i e) v ≡ priceRead j i (m + 1) before v
+    pub price-same : (v : ℕ) → v < nodes j → turnPrice j (p .state) i (treeFrom j i e) v ≡ priceRead j i (m + 1) before v
     unfolding priceAt congestedAt turnCongestion priceRead
     price-same v h =
         rw (← own-same)
         (ap (weighed (turnWeighting j i (treeFrom j i e)) (getD (j .delays) v 0)) (congested-same v h))
 
   -- the records of the same net before a turn are of it and of this iteration
-  own-all : (e rest : List Record) → netRecords j (p .state) i ≡ e ++ rest → All (Of i (m + 1)) e
+  pub own-all : (e rest : List Record) → netRecords j (p .state) i ≡ e ++ rest → All (Of i (m + 1)) e
   own-all e rest is =
       let at : p .state .iteration ≡ m + 1 = nets-iteration j n ∙ ran-iteration j r in
       all-left (Of i (m + 1)) e rest

@@ -15,14 +15,9 @@ use Rattle.price.specs.Lists.{has}
 use Rattle.price.proofs.TestLaws.{either-way, true≢false, both-false-right}
 use Rattle.negotiation.specs.Records.{Record, pathNodes}
 use Rattle.negotiation.specs.Demand.{nodesIn, latest, upToIteration, endsIn}
-use Rattle.negotiation.proofs.RecordLaws.{branchEnds}
+use Rattle.negotiation.specs.Runs.{All, Of, branchEnds}
 
 -- ---- every record
-
--- every record of the list has the property
-abbrev pub All : (Record → Type 0) → List Record → Type 0
-All P [] = Unit {0}
-All P (r ∷ rs) = P r × All P rs
 
 module _ (P : Record → Type 0) where
   pub all-append : (rs ss : List Record) → All P rs → All P ss → All P (rs ++ ss)
@@ -42,11 +37,6 @@ module _ (P : Record → Type 0) where
   all-splits [] h = tt
   all-splits (r ∷ rs) h =
       (h [] rs r refl, all-splits rs (λ earlier later x e. h (r ∷ earlier) later x (ap (λ (l : List Record). r ∷ l) e)))
-
--- a record of net i in iteration t
-pub record Of (i t : ℕ) (r : Record) : Type 0 where
-  pub net-is : r .net ≡ i
-  pub iteration-is : r .iteration ≡ t
 
 -- ---- appended lists
 

@@ -31,7 +31,7 @@ use Rattle.negotiation.proofs.TurnStepLaws.{log-length}
 use Rattle.negotiation.proofs.EndLaws.{made-settled, unsettled-more, made-limit, all-split, full-reply, whole-reply, end-settled, end-limit, last-made, all-made, reply-same}
 use Rattle.negotiation.proofs.KeepLaws.{startOf, reached, Under, AtIteration, AtNet, AtTurn, AtTurns}
 use Rattle.negotiation.proofs.KeepProgress.{dues-long, overUsed, over-is, grow, kept-moved}
-use Rattle.negotiation.proofs.KeepTurn.{Lent, triedBy, turnBy, ready-state, same-twice, at-more, overflows}
+use Rattle.negotiation.proofs.KeepTurn.{Lent, triedBy, turnBy, countBy, ready-state, same-twice, at-more, overflows}
 
 -- the answer's numbers beside its outcome
 pub record Answers (r : RouteAnswer) (t : Tariff) : Type 0 where
@@ -51,7 +51,7 @@ module _ (j : Job) {p : Progress} {work₀ log₀ : List ℕ} {m i left : ℕ} {
   last = p .state .iteration + m
 
   -- the turn's record stands among the net's
-  turn-first :
+  pub turn-first :
       (place cost : ℕ) (path : List ℕ) → turnOf j (congestionFor j here i) i (treeFrom j i (at .made)) ≡ joins place cost path
       → netRecords j here i
       ≡ at .made ++ (recordOf last i (getD (turnSinks j i (treeFrom j i (at .made))) place 0) cost path
@@ -84,7 +84,7 @@ pub after-full :
     (j : Job) (sound : Routable j) {p : Progress} {work₀ log₀ : List ℕ} (enough : 8 * nodes j ≤ length work₀) {m i left : ℕ} {t : Tariff}
     {history users marks from to dues work log : List ℕ} {first : ℕ} (head : AtTurns j p work₀ log₀ m i left t history users marks from to dues work log first)
     (some : 0 < left) {delays cs : List ℕ} (lent : Lent j delays cs) (work′ log′ marks′ : List ℕ) (kept : SameFrom (8 * nodes j) work work′) (made : TurnMade)
-    (done : TurnDone made (turnBy j i marks cs delays t history users) t i (triedBy j i marks cs) log marks log′ marks′)
+    (done : TurnDone made (turnBy j i marks cs delays t history users) (countBy j i marks cs delays t history users) t i (triedBy j i marks cs) log marks log′ marks′)
     → made ≡ Full → (w : List ℕ) → w ≡ replicate (8 * nodes j) 0 ++ drop (8 * nodes j) work′ → (r : RouteAnswer) → r .outcome ≡ LogFull → Answers r t
     → routeReplyOf r w log′ ≡ continued j p work₀ log₀
 after-full j sound {p} {work₀} {log₀} enough head some lent work′ log′ marks′ kept made done e w q r o a =

@@ -21,9 +21,9 @@ use Rattle.negotiation.specs.Machine.{Progress, usersOf, congestionFor, 
 use Rattle.negotiation.specs.Outcome.{begun, iterationsLeft, logWith}
 use Rattle.negotiation.specs.Steps.{takes, BeginReady, Begun, Idle}
 use Rattle.negotiation.specs.Kept.{Ready}
+use Rattle.negotiation.specs.Runs.{start}
 use Rattle.negotiation.specs.declared.tariff.Tariff.{Tariff}
 use Rattle.negotiation.proofs.StateLaws.{nets-iteration, state-iteration}
-use Rattle.negotiation.proofs.RanLaws.{start}
 use Rattle.negotiation.proofs.MachineRan.{ran-can}
 use Rattle.negotiation.proofs.UserLaws.{users-none}
 use Rattle.negotiation.proofs.KeepLaws.{startOf, reached, AtIteration, AtNet, AtTurn, AtIdle, AtTurns}

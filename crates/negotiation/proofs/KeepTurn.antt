@@ -3,8 +3,8 @@
 use mathlib.Core.Bool.{Bool, true, false}
 use mathlib.Core.List.{List, [], _∷_, _++_, append-assoc}
 use mathlib.Core.Logic.{⊎-elim, inr}
-use mathlib.Core.Path.{_≡_, sym, _∙_, ap, subst}
-use Prim.Native.Nat.{ℕ, suc, _+_, _-_, _*_, _≤_, _<_}
+use mathlib.Core.Path.{_≡_, refl, sym, _∙_, ap, subst}
+use Prim.Native.Nat.{ℕ, suc, _+_, _-_, _*_, _^_, _≤_, _<_}
 use native.Mathlib.Nat.{le-trans}
 use native.Mathlib.Omega.{arith}
 use lib.Dec.{leb, ltb}
@@ -35,7 +35,9 @@ use Rattle.negotiation.specs.Routable.{Routable}
 use Rattle.negotiation.specs.Records.{Record, recordOf}
 use Rattle.negotiation.specs.Machine.{State, Progress, othersOf, marksOf, congestionFor, turnOf, turnsOf, treeFrom}
 use Rattle.negotiation.specs.Outcome.{iterationsLeft}
-use Rattle.negotiation.specs.Steps.{SameFrom, CanTurn, Skipped, Overflows, TurnLogged, TurnDone}
+use Rattle.negotiation.specs.Steps.{SameFrom, turnCount, CanTurn, Skipped, Overflows, TurnLogged, TurnDone}
+use Rattle.negotiation.specs.TariffSteps.{loggedTariff}
+use Rattle.negotiation.specs.Kept.{Tallied}
 use Rattle.negotiation.specs.declared.tariff.Tariff.{Tariff}
 use Rattle.negotiation.specs.declared.turns.TurnMade.{TurnMade}
 use Rattle.negotiation.specs.declared.turns.TurnMade.the-variants.{Nothing, Full, Logged}
@@ -47,7 +49,7 @@ use Rattle.negotiation.proofs.RecordLaws.{records-few}
 use Rattle.negotiation.proofs.NetLaws.{StateReady, state-ready, weighed-bounds, tree-more}
 use Rattle.negotiation.proofs.KeepLaws.{startOf, reached, Under, AtTurn, AtIdle, AtTurns}
 use Rattle.negotiation.proofs.KeepProgress.{others-below, others-at, others-long, tree-at, tree-long, opened-more}
-use Rattle.negotiation.proofs.TurnStepLaws.{node-sound, mark-at, turns-stuck, turns-more, log-length, tallied-more}
+use Rattle.negotiation.proofs.TurnStepLaws.{node-sound, mark-at, turns-stuck, turns-more, log-length, tallied-more, tallied-so}
 
 -- ---- the turn that the code makes is the machine's
 
@@ -56,7 +58,7 @@ pub record Lent (j : Job) (delays cs : List ℕ) : Type 0 where
   pub delays-are : j .terms .timed ≡ true → delays ≡ j .delays
   pub criticalities-are : j .terms .timed ≡ true → cs ≡ j .criticalities
 
--- what a turn of net i tries, and how it weighs delay, by these marks and criticalities; and the turn
+-- what a turn of net i tries, and how it weighs delay, by these marks and criticalities; the turn, and how many nodes it expands
 module _ (j : Job) (i : ℕ) (marks cs : List ℕ) where
   abbrev pub triedBy : List ℕ
   triedBy = sinksTried (j .terms .timed) (inTree marks) (sinksBetween (j .firstSinks) (j .sinks) i) (sinksBetween (j .firstSinks) cs i)
@@ -69,6 +71,9 @@ module _ (j : Job) (i : ℕ) (marks cs : List ℕ) where
 
   abbrev pub turnBy : List ℕ → Tariff → (history users : List ℕ) → Turn
   turnBy delays t history users = turn (j .block) (priceAt (j .block) (pricesBy delays t history users)) marks triedBy
+
+  abbrev pub countBy : List ℕ → Tariff → (history users : List ℕ) → ℕ
+  countBy delays t history users = turnCount (t .aimed) (j .block) (pricesBy delays t history users) marks triedBy
 
 -- where delay isn't weighed it doesn't matter
 price-untimed :
@@ -160,6 +165,13 @@ module _ (j : Job) (sound : Routable j) (i : ℕ) (hi : i < nets j) (tree : List
     unfolding turnOf congestionFor turnCongestion
     same-turn s t histories others p q r = rw (price-is (t .factor) histories others, tried-is, marked, p, q, r)
 
+    -- and as many nodes expanded
+    same-count :
+        (s : State) (t : Tariff) (histories others : List ℕ) → t .factor ≡ s .factor → histories ≡ s .histories → others ≡ upTo (othersOf j (s .trees) i) (nodes j)
+        → countBy j i marks cs delays t histories others ≡ turnCount (t .aimed) (j .block) (turnCongestion j (congestionFor j s i) i tree) (marksOf j tree) (turnSinks j i tree)
+    unfolding congestionFor turnCongestion
+    same-count s t histories others p q r = rw (price-is (t .factor) histories others, weighting-is, tried-is, marked, p, q, r)
+
     -- the search can work with its delays and its criticality
     weighable : (factor : ℕ) (histories others : List ℕ) → j .terms .timed ≡ true → Weighable (nodes j) (weighedCongestion (weightingBy j i marks cs) delays factor histories others)
     unfolding delaysSound
@@ -210,8 +222,8 @@ module _ (j : Job) (sound : Routable j) {p : Progress} {work₀ log₀ : List �
 
   module _ {delays cs : List ℕ} (lent : Lent j delays cs) where
     -- nothing is refused
-    pub keep-can : CanTurn (j .block) (pricesBy j i marks cs delays t history users) t (triedBy j i marks cs) marks work log
-    keep-can =
+    pub keep-can : t .expanded + nodes j < 2 ^ 64 → CanTurn (j .block) (pricesBy j i marks cs delays t history users) t (triedBy j i marks cs) marks work log
+    keep-can few-expanded =
         let history-long : length history ≡ nodes j = ap length (at .opened .history-is) ∙ state .long in
         let users-long = others-long j (at .opened) in
         let marks-long = tree-long j (at .opened) in
@@ -247,6 +259,7 @@ module _ (j : Job) (sound : Routable j) {p : Progress} {work₀ log₀ : List �
               let words-are = at .tallied .words-is in
               let turns-are = at .tallied .turns-is in
               omega arith;
+          few-expanded = few-expanded;
         }
 
     -- the turn that the search makes
@@ -256,6 +269,10 @@ module _ (j : Job) (sound : Routable j) {p : Progress} {work₀ log₀ : List �
     -- is the machine's
     pub keep-turn : searched ≡ turnOf j (congestionFor j here i) i tree
     keep-turn = same-turn j sound i (at .net) tree lent (at .opened .marks-is) here t history users factor-same (at .opened .history-is) (at .opened .users-is)
+
+    -- as is how many nodes it expands
+    pub keep-count : countBy j i marks cs delays t history users ≡ turnCount (t .aimed) (j .block) (turnCongestion j (congestionFor j here i) i tree) (marksOf j tree) (turnSinks j i tree)
+    keep-count = same-count j sound i (at .net) tree lent (at .opened .marks-is) here t history users factor-same (at .opened .history-is) (at .opened .users-is)
 
     -- for its sinks
     pub keep-tried : triedBy j i marks cs ≡ turnSinks j i tree
@@ -294,9 +311,17 @@ module _ (j : Job) (sound : Routable j) {p : Progress} {work₀ log₀ : List �
         work-same = same-twice (at .work-same) kept;
       }
 
-  -- the turn is logged
+  -- the turn is logged: its record stands behind those so far
+  pub logged-tallied :
+      (t′ : Tariff) (l : TurnLogged (searched j sound enough at lent) (countBy j i marks cs delays t history users) t i (triedBy j i marks cs) log marks t′ log′ marks′)
+      → Tallied ((reached j p m i .records ++ at .made) ++ (recordOf now i (getD (turnSinks j i (treeFrom j i (at .made))) (l .place) 0) (l .cost) (l .path) ∷ [])) log₀ t′ log′
+  logged-tallied t′ l =
+      rw (l .tariff-is)
+      (tallied-so {t = loggedTariff t (6 + length (l .path))} refl refl
+      (tallied-more (reached j p m i .records ++ at .made) log₀ t log _ log′ (at .tallied) (l .room) (rw (at .under .iteration-is, keep-tried j sound enough at lent) at (l .log-is))))
+
   pub keep-logged :
-      (t′ : Tariff) → TurnLogged (searched j sound enough at lent) t i (triedBy j i marks cs) log marks t′ log′ marks′
+      (t′ : Tariff) → TurnLogged (searched j sound enough at lent) (countBy j i marks cs delays t history users) t i (triedBy j i marks cs) log marks t′ log′ marks′
       → AtTurn j p work₀ log₀ m i left t′ history users marks′ from to dues work′ log′ first
   keep-logged t′ l =
       let made : List Record = at .made in
@@ -320,9 +345,7 @@ module _ (j : Job) (sound : Routable j) {p : Progress} {work₀ log₀ : List �
             at .rest-is
             ∙ ap (λ (rs : List Record). made ++ rs) (turns-more j now congestion i left tree (l .place) (l .cost) (l .path) is)
             ∙ rw (tree-more j i made r) (sym (append-snoc made r (turnsOf j now congestion i left (treeFrom j i (made ++ (r ∷ []))))));
-        tallied =
-            rw (← append-assoc (reached j p m i .records) made (r ∷ []), l .tariff-is)
-            (tallied-more (reached j p m i .records ++ made) log₀ t log r log′ (at .tallied) (l .room) (rw (at .under .iteration-is, keep-tried j sound enough at lent) at (l .log-is)));
+        tallied = rw (← append-assoc (reached j p m i .records) made (r ∷ [])) (logged-tallied t′ l);
         first-is = at .first-is;
         opened = opened-more j (at .opened) r (l .marks-set);
         due-is = at .due-is;
@@ -376,14 +399,14 @@ module _ (j : Job) (sound : Routable j) {p : Progress} {work₀ log₀ : List �
   pub call-aim : AimReady (j .terms .timed) (j .sinks) cs (getD (j .firstSinks) i 0) (getD (j .firstSinks) (i + 1) 0) marks
   call-aim = aim-ready j sound i (at-more .net) lent marks (tree-long j (at-more .opened))
 
-  pub call-turn : CanTurn (j .block) (pricesBy j i marks cs delays t history users) t (triedBy j i marks cs) marks work log
+  pub call-turn : t .expanded + nodes j < 2 ^ 64 → CanTurn (j .block) (pricesBy j i marks cs delays t history users) t (triedBy j i marks cs) marks work log
   call-turn = keep-can j sound enough at-more lent
 
   -- what the attempt at a turn did, by its cases
   module _ (work′ log′ marks′ : List ℕ) (kept : SameFrom (8 * nodes j) work work′) (made : TurnMade)
-      (done : TurnDone made (turnBy j i marks cs delays t history users) t i (triedBy j i marks cs) log marks log′ marks′) where
-    case : (r : TurnMade) → made ≡ r → TurnDone r (turnBy j i marks cs delays t history users) t i (triedBy j i marks cs) log marks log′ marks′
-    case r e = subst (λ (x : TurnMade). TurnDone x (turnBy j i marks cs delays t history users) t i (triedBy j i marks cs) log marks log′ marks′) e done
+      (done : TurnDone made (turnBy j i marks cs delays t history users) (countBy j i marks cs delays t history users) t i (triedBy j i marks cs) log marks log′ marks′) where
+    case : (r : TurnMade) → made ≡ r → TurnDone r (turnBy j i marks cs delays t history users) (countBy j i marks cs delays t history users) t i (triedBy j i marks cs) log marks log′ marks′
+    case r e = subst (λ (x : TurnMade). TurnDone x (turnBy j i marks cs delays t history users) (countBy j i marks cs delays t history users) t i (triedBy j i marks cs) log marks log′ marks′) e done
 
     pub after-nothing : made ≡ Nothing → (t″ : Tariff) → t″ ≡ t → AtTurns j p work₀ log₀ m i (left - 1) t″ history users marks′ from to dues work′ log′ first
     after-nothing e t″ q =

@@ -32,6 +32,7 @@
 -- Read off the log
 --     RanLaws           runs of whole iterations, whoever made the turns: trees, users and histories read off their records are the state's
 --     DemandLaws        a logged turn, the final trees, which sinks have a path
+--     AimedCountLaws    how many nodes turns expand: turn by turn, at most so many, and those of the machine's turns
 -- A lent log
 --     FollowLaws        one record that follows: what its test says, clause by clause; its words
 --     ReplayLaws        a log that passes is a run, its words are the records', it has fewer iterations than the limit
@@ -64,6 +65,7 @@
 --     RipLaws           a net's old tree dropped, its new one counted
 --     UserLaws          who uses a node: counts of nets by their trees
 --     AimLaws           what a turn tries, as the code finds it: one pass over a net's sinks, and a part of table 7
+--     FoundLaws         what either search answers for a turn where nothing is refused
 --     OneTurnLaws       one turn, as the search's contract gives it
 --     TurnStepLaws      a turn more of a net
 --     KeepLaws          what holds at the head of each loop
@@ -73,6 +75,7 @@
 --     KeepTurn          after a turn
 --     KeepNet           after a net
 --     KeepEnd           after an iteration
+--     KeepCount         how many nodes are counted, at each loop's head
 --     KeepLengths       the lists keep their lengths
 --     TriedLaws         the turn that a net of a lent log makes next: the sinks that it tries are goals, and they weigh its prices
 --     TakeTurnLaws      the turns of a net in a lent log, as a loop follows them
@@ -110,6 +113,7 @@ pub mod DemandLaws
 pub mod FollowLaws
 pub mod ReplayLaws
 pub mod OwnReplayLaws
+pub mod AimedCountLaws
 pub mod OneSinkLaws
 pub mod SomeTurnLaws
 pub mod OwnRunLaws
@@ -134,6 +138,7 @@ pub mod StepLaws
 pub mod StepWithLaws
 pub mod RipLaws
 pub mod UserLaws
+pub mod FoundLaws
 pub mod OneTurnLaws
 pub mod TurnStepLaws
 pub mod KeepLaws
@@ -143,6 +148,7 @@ pub mod KeepStart
 pub mod KeepTurn
 pub mod KeepNet
 pub mod KeepEnd
+pub mod KeepCount
 pub mod KeepLengths
 pub mod TriedLaws
 pub mod TakeTurnLaws

@@ -16,11 +16,12 @@ use Rattle.negotiation.specs.Machine.{State, Progress, netRecords, due, 
 use Rattle.negotiation.specs.Outcome.{hasPath}
 use Rattle.negotiation.specs.Routable.{Routable}
 use Rattle.negotiation.specs.Kept.{Grown, CanGoOn}
+use Rattle.negotiation.specs.Runs.{Of, Owns, NetsRan, none, kept, routed, Ran, start, next}
 use Rattle.negotiation.proofs.DueLaws.{due-some}
 use Rattle.negotiation.proofs.StateLaws.{nets-iteration}
 use Rattle.negotiation.proofs.NetLaws.{StateReady, grown-same, grown-first, grown-on, grown-ready, net-turn, net-joins, net-source, net-distinct}
-use Rattle.negotiation.proofs.FilterLaws.{all-splits, Of}
-use Rattle.negotiation.proofs.RanLaws.{Owns, NetsRan, none, kept, routed, Ran, start, next, nets-histories, nets-factor, ran-iteration, ran-trees, source-twice}
+use Rattle.negotiation.proofs.FilterLaws.{all-splits}
+use Rattle.negotiation.proofs.RanLaws.{nets-histories, nets-factor, ran-iteration, ran-trees, source-twice}
 
 -- every sink has a path from its source, as the test before iteration 1 finds
 abbrev pub Reached : Job → Type 0

@@ -41,8 +41,9 @@ use Rattle.negotiation.specs.Unreachable.{Reachable}
 use Rattle.negotiation.specs.Kept.{Grown}
 use Rattle.negotiation.proofs.StateLaws.{nets-factor, nets-histories}
 use Rattle.negotiation.specs.Routable.{Routable}
+use Rattle.negotiation.specs.Runs.{stepEnds, branchEnds}
 use Rattle.negotiation.proofs.RoutableLaws.{tuning-fits}
-use Rattle.negotiation.proofs.RecordLaws.{stepEnds, branchEnds, pathNodes-append}
+use Rattle.negotiation.proofs.RecordLaws.{pathNodes-append}
 use Rattle.negotiation.proofs.MemberLaws.{no-entry, has-append-split, none-has, lacks-left, lacks-right, distinct-append, missing-most}
 use Rattle.negotiation.proofs.OrderLaws.{weighting-timed, criticality-low, turn-some, turn-nodes}
 use Rattle.negotiation.proofs.TreeLaws.{TreeNodes, mark-is, TreeTurn, Turns, none, stop, more, turns-are, turns-join, turns-source, only-entry}

@@ -4,49 +4,21 @@ use mathlib.Core.List.{List, [], _∷_, _++_}
 use mathlib.Core.Path.{_≡_, refl, sym, _∙_, ap, subst}
 use Prim.Native.Nat.{ℕ, _+_, _*_, _-_, _^_, _≤_, _<_}
 use native.Mathlib.Omega.{arith}
-use lib.ListN.{length, getD, take, drop, replicate, length-append, length-drop, length-replicate}
-use lib.Seq.{getD-append-add, getD-drop}
+use lib.ListN.{length, getD, take, drop}
 use Rattle.price.specs.Bounds.{nodesMost}
 use Rattle.price.specs.Lists.{least}
 use Rattle.search.specs.Block as block
 use Rattle.search.specs.Block.{Block}
-use Rattle.search.specs.Paths.{Fair}
 use Rattle.search.specs.Turn.{Congestion, priceAt, Turn, joins, stuck, openDistances, turn}
-use Rattle.search.specs.Replies.{PathReply, readOff, turnReply, pathReply, pathReplyOf}
 use Rattle.search.specs.declared.PathAnswer.{PathAnswer}
 use Rattle.search.specs.declared.PathAnswer.the-variants.{Joins, Stuck, BadTable, ShortWork, BadNumber, TooLarge}
 use Rattle.search.proofs.EdgeLaws.{Shaped, shaped}
-use Rattle.search.proofs.PathTestLaws.{sinks-nodes}
-use Rattle.search.proofs.ReadyLaws.{ready-fair}
-use Rattle.search.proofs.PathToLaws.{path-short, path-nodes}
-use Rattle.search.proofs.TurnLaws.{joins-within, joins-path, joins-near}
-use Rattle.search.proofs.PathReplyLaws.{read-front, path-turn, joined-turn, stuck-turn, no-refusal}
 use Rattle.negotiation.specs.Records.{recordOf, words}
 use Rattle.job.specs.Steps.{AllBelow, Stored}
-use Rattle.negotiation.specs.Steps.{SameFrom, CanTurn, Skipped, Overflows, TurnLogged}
-use Rattle.negotiation.specs.TariffSteps.{loggedTariff}
+use Rattle.negotiation.specs.Steps.{SameFrom, CanTurn, Skipped, Overflows, TurnLogged, PathFound, turnCount}
+use Rattle.negotiation.specs.TariffSteps.{loggedTariff, countedTariff}
 use Rattle.negotiation.specs.declared.tariff.Tariff.{Tariff}
-
--- ---- the work slice afterwards
-
--- an entry past the first of two lists
-getD-past : (xs ys : List ℕ) (k : ℕ) → length xs ≤ k → getD (xs ++ ys) k 0 ≡ getD ys (k - length xs) 0
-getD-past xs ys k l =
-    let e : length xs + (k - length xs) ≡ k = omega arith in
-    subst (λ (j : ℕ). getD (xs ++ ys) j 0 ≡ getD ys (k - length xs) 0) e (getD-append-add xs ys (k - length xs) 0)
-
--- it stays from 8 n on
-read-rest : (n : ℕ) (path work : List ℕ) → length path ≤ n → 8 * n ≤ length work → SameFrom (8 * n) work (readOff n path work)
-unfolding readOff
-read-rest n path work s l =
-    let zeros : List ℕ = replicate (3 * n - length path) 0 in
-    let zeros-long : length zeros ≡ 3 * n - length path = length-replicate (3 * n - length path) 0 in
-    record {
-      long = omega (arith, length-append path (zeros ++ drop (3 * n) work), length-append zeros (drop (3 * n) work), length-drop (3 * n) work);
-      high = λ k h.
-          let place : 3 * n + (k - length path - length zeros) ≡ k = omega arith in
-          getD-past path (zeros ++ drop (3 * n) work) k (omega arith) ∙ getD-past zeros (drop (3 * n) work) (k - length path) (omega arith) ∙ getD-drop (3 * n) work (k - length path - length zeros) 0 ∙ ap (λ (j : ℕ). getD work j 0) place;
-    }
+use Rattle.negotiation.proofs.FoundLaws.{count-most, joined-path}
 
 -- ---- what the search answers
 
@@ -65,64 +37,43 @@ module _ {b : Block} {prices : Congestion} {tariff : Tariff} {sinks marks work l
   abbrev made : Turn
   made = turn b (priceAt b prices) marks sinks
 
-  fair : Fair b (priceAt b prices)
-  unfolding priceAt
-  fair =
-      let f =
-      ready-fair (b .kinds) (b .capacities) (b .firstEdges) (b .edgeTargets) prices marks
-      (record {
-        kinds-sound = t .ready .sound .kinds-sound;
-        capacities-sound = t .ready .sound .capacities-sound;
-        nodes-sound = t .ready .numbers;
-        factor-most = t .ready .factor-most;
-        weighable = t .ready .weighable;
-      }) in
-      record { ceiling = f .ceiling; low = f .low; fits = f .fits; pos = f .pos; most = f .most }
-
-  reply : {x : PathReply} → x ≡ pathReply b prices marks sinks work → x ≡ turnReply (block.nodes b) work made
-  reply e = e ∙ path-turn b prices marks sinks work (t .ready .sound) (t .sinks-sound) (t .ready .enough) (t .ready .numbers) (t .ready .factor-most) (t .ready .weighable)
-
-  pub turn-joined : {r : PathAnswer} {place cost count : ℕ} {work′ : List ℕ} → r ≡ Joins place cost count → pathReplyOf r work′ ≡ pathReply b prices marks sinks work → Joined (block.nodes b) made sinks marks work work′ place cost count
-  turn-joined {r} {place} {cost} {count} {work′} is e =
-      let e′ : pathReplyOf (Joins place cost count) work′ ≡ turnReply (block.nodes b) work made = reply (rw is at e) in
-      let j = joined-turn b prices marks sinks work (block.nodes b) work′ made place cost count e′ in
-      let path : List ℕ = j .0 in
-      let price = priceAt b prices in
+  pub turn-joined :
+      {r : PathAnswer} {place cost count : ℕ} {work′ : List ℕ} → r ≡ Joins place cost count → PathFound (block.nodes b) made work r work′
+      → Joined (block.nodes b) made sinks marks work work′ place cost count
+  turn-joined {r} {place} {cost} {count} {work′} is found =
+      let f : PathFound (block.nodes b) made work (Joins place cost count) work′ = subst (λ (x : PathAnswer). PathFound (block.nodes b) made work x work′) is found in
       let graph : Shaped b = shaped b (t .ready .sound) in
       let few : block.nodes b ≤ nodesMost = graph .few in
-      let all-nodes = sinks-nodes (block.nodes b) sinks (t .sinks-sound) in
-      let within : place < length sinks = joins-within b price marks graph fair sinks all-nodes place cost path (j .1) in
-      let near = joins-near b price marks graph fair sinks all-nodes place cost path (j .1) in
-      let found = joins-path b price marks graph fair sinks all-nodes place cost path (j .1) in
-      let node : getD sinks place 0 < block.nodes b = all-nodes place within in
-      let short : length path ≤ block.nodes b = rw found (path-short b price marks graph fair (getD sinks place 0) node near) in
-      let below : AllBelow (block.nodes b) path = rw found (path-nodes b price marks graph fair (getD sinks place 0) node near) in
-      let begins : take count work′ ≡ path = read-front (block.nodes b) path work (j .2) (j .3) in
-      let rest : SameFrom (8 * block.nodes b) work work′ = rw (j .3) (read-rest (block.nodes b) path work short (t .ready .enough)) in
+      let at = joined-path (t .ready) sinks (t .sinks-sound) (f .0) in
       record {
-        is-turn = rw begins (j .1);
-        within = within;
-        few = omega (arith, j .2);
-        long = omega (arith, j .2, rest .long, t .ready .enough);
-        path-long = rw begins (sym (j .2));
-        small = rw begins (λ i h. omega (arith, below i h));
-        nodes-below = rw begins (λ i h. omega (arith, below i h, t .marks-long));
-        rest = rest;
+        is-turn = f .0;
+        within = at .0;
+        few = omega (arith, f .1, at .1);
+        long = omega (arith, f .1, at .1, f .2 .long, t .ready .enough);
+        path-long = f .1;
+        small = λ i h. omega (arith, at .2 i h);
+        nodes-below = λ i h. omega (arith, at .2 i h, t .marks-long);
+        rest = f .2;
       }
 
-  turn-stuck : {work′ : List ℕ} → pathReplyOf Stuck work′ ≡ pathReply b prices marks sinks work → Skipped made log marks log marks × SameFrom (8 * block.nodes b) work work′
-  turn-stuck {work′} e =
-      let s = stuck-turn b prices marks sinks work (block.nodes b) work′ made (reply e) in
-      (record { is-stuck = s .0; log-same = refl; marks-same = refl }, rw (s .1) (read-rest (block.nodes b) [] work (omega arith) (t .ready .enough)))
-
   -- any other answer is that no sink is left to be joined
-  pub turn-other : {work′ : List ℕ} (r : PathAnswer) → ((place cost count : ℕ) → r ≡ Joins place cost count → ⊥) → pathReplyOf r work′ ≡ pathReply b prices marks sinks work → Skipped made log marks log marks × SameFrom (8 * block.nodes b) work work′
-  turn-other (Joins place cost count) other e = absurd (other place cost count refl)
-  turn-other Stuck other e = turn-stuck e
-  turn-other {work′} (BadTable k) other e = absurd (no-refusal b prices marks sinks work (block.nodes b) work′ made (BadTable k) 5 (k ∷ []) refl (reply e))
-  turn-other {work′} (ShortWork k) other e = absurd (no-refusal b prices marks sinks work (block.nodes b) work′ made (ShortWork k) 6 (k ∷ []) refl (reply e))
-  turn-other {work′} (BadNumber k) other e = absurd (no-refusal b prices marks sinks work (block.nodes b) work′ made (BadNumber k) 13 (k ∷ []) refl (reply e))
-  turn-other {work′} (TooLarge k) other e = absurd (no-refusal b prices marks sinks work (block.nodes b) work′ made (TooLarge k) 15 (k ∷ 0 ∷ []) refl (reply e))
+  pub turn-other :
+      {work′ : List ℕ} (r : PathAnswer) → ((place cost count : ℕ) → r ≡ Joins place cost count → ⊥)
+      → PathFound (block.nodes b) made work r work′ → Skipped made log marks log marks × SameFrom (8 * block.nodes b) work work′
+  turn-other (Joins place cost count) other f = absurd (other place cost count refl)
+  turn-other Stuck other f = (record { is-stuck = f .0; log-same = refl; marks-same = refl }, f .1)
+  turn-other (BadTable k) other f = absurd f
+  turn-other (ShortWork k) other f = absurd f
+  turn-other (BadNumber k) other f = absurd f
+  turn-other (TooLarge k) other f = absurd f
+
+  -- no count overflows
+  pub turn-counts :
+      {before counted : ℕ} → before ≡ tariff .expanded → counted ≡ turnCount (tariff .aimed) b prices marks sinks → before + counted < 2 ^ 64
+  turn-counts {before} {counted} same count-is =
+      let most : turnCount (tariff .aimed) b prices marks sinks ≤ block.nodes b = count-most (tariff .aimed) b prices marks sinks in
+      let few = t .few-expanded in
+      omega arith
 
 -- no sink is tried
 none-tried : (b : Block) (price : ℕ → ℕ) (marks sinks : List ℕ) → length sinks ≡ 0 → turn b price marks sinks ≡ stuck
@@ -151,13 +102,13 @@ turn-full {work′ = work′} {place = place} {cost = cost} {count = count} j l 
 
 -- it fits
 pub turn-logs :
-    {n : ℕ} {t : Turn} {tariff tariff′ : Tariff} {net : ℕ} {sinks marks marks′ work work′ log log′ : List ℕ} {place cost count : ℕ}
+    {n counted expanded : ℕ} {t : Turn} {tariff logged tariff′ : Tariff} {net : ℕ} {sinks marks marks′ work work′ log log′ : List ℕ} {place cost count : ℕ}
     → Joined n t sinks marks work work′ place cost count → tariff .words + (6 + count) ≤ length log
     → log′ ≡ take (tariff .words) log ++ (words (recordOf (tariff .iteration) net (getD sinks place 0) cost (take count work′)) ++ drop (tariff .words + (6 + count)) log)
     → Stored 1 (take count work′) marks marks′
-    → tariff′ ≡ loggedTariff tariff (6 + count)
-    → TurnLogged t tariff net sinks log marks tariff′ log′ marks′
-turn-logs {work′ = work′} {place = place} {cost = cost} {count = count} j room l m r = record {
+    → logged ≡ loggedTariff tariff (6 + count) → tariff′ ≡ countedTariff logged counted → counted ≡ expanded
+    → TurnLogged t expanded tariff net sinks log marks tariff′ log′ marks′
+turn-logs {expanded = expanded} {tariff = tariff} {logged} {work′ = work′} {place = place} {cost = cost} {count = count} j room l m logged-is counted-is count-is = record {
   place = place;
   cost = cost;
   path = take count work′;
@@ -165,5 +116,9 @@ turn-logs {work′ = work′} {place = place} {cost = cost} {count = count} j ro
   room = omega (arith, j .path-long);
   log-is = rw (j .path-long) l;
   marks-set = m;
-  tariff-is = rw (j .path-long) r;
+  tariff-is =
+      counted-is
+      ∙ ap (λ (k : ℕ). countedTariff logged k) count-is
+      ∙ ap (λ (x : Tariff). countedTariff x expanded) logged-is
+      ∙ ap (λ (k : ℕ). countedTariff (loggedTariff tariff (6 + k)) expanded) (sym (j .path-long));
 }

@@ -80,7 +80,7 @@ unfolding turnsOf
 turns-few j t c i zero tree = le-refl 0
 turns-few j t c i (suc k) tree = few-more j t c i k tree (turnOf j c i tree) (turns-few j t c i k)
 
-net-few : (j : Job) (s : State) (i : ℕ) → length (netRecords j s i) ≤ length (netSinks j i)
+pub net-few : (j : Job) (s : State) (i : ℕ) → length (netRecords j s i) ≤ length (netSinks j i)
 unfolding netRecords
 net-few j s i = turns-few j (s .iteration) (congestionFor j s i) i (length (netSinks j i)) (source j i ∷ [])
 

@@ -22,11 +22,12 @@ use Rattle.negotiation.specs.Order.{turnSinks}
 use Rattle.negotiation.specs.Machine.{State, netRecords, treeFrom, afterNets, iterate, overCount, firstState, stateAfter, iterationAfter, recordsAfter, settlesAt}
 use Rattle.negotiation.specs.Outcome.{hasPath}
 use Rattle.negotiation.specs.Resume.{pathIn, wholeRecord, costFollows, turnPrice, turnFollows, allJoined, on, replay, OwnLog}
+use Rattle.negotiation.specs.Runs.{Ran, start}
 use Rattle.negotiation.proofs.MemberLaws.{every-has, every-members}
 use Rattle.negotiation.proofs.OrderLaws.{turn-listed}
 use Rattle.negotiation.proofs.StateLaws.{nets-iteration}
 use Rattle.negotiation.proofs.NetLaws.{StateReady, NetTurn, turn-fair, net-turn, net-joins}
-use Rattle.negotiation.proofs.RanLaws.{Ran, start, ran-iteration}
+use Rattle.negotiation.proofs.RanLaws.{ran-iteration}
 use Rattle.negotiation.proofs.MachineRan.{Reached, ran-ready, machine-nets, machine-ran}
 use Rattle.negotiation.proofs.FollowLaws.{PathHolds, turn-follows}
 use Rattle.negotiation.proofs.OneSinkLaws.{one-sink}

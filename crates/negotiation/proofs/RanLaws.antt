@@ -20,31 +20,11 @@ use Rattle.price.proofs.BelowLaws.{count-same}
 use Rattle.price.proofs.PriceLaws.{factor-steps}
 use Rattle.job.specs.Job.{Job, nodes, nets, source, netSinks}
 use Rattle.negotiation.specs.Records.{Record, pathNodes}
-use Rattle.negotiation.specs.Machine.{State, Progress, treeAt, othersOf, usersOf, treeFrom, withNet, hasSinks, due, moveOn, firstState}
+use Rattle.negotiation.specs.Machine.{State, Progress, treeAt, othersOf, usersOf, treeFrom, hasSinks, due, moveOn, firstState}
 use Rattle.negotiation.specs.Demand.{nodesIn, latest, treeRead, othersRead, upToIteration, usersRead, historyRead, endsIn}
+use Rattle.negotiation.specs.Runs.{All, Of, branchEnds, Owns, NetsRan, none, kept, routed, Ran, start, next}
 use Rattle.negotiation.proofs.DueLaws.{first-due}
-use Rattle.negotiation.proofs.RecordLaws.{branchEnds}
-use Rattle.negotiation.proofs.FilterLaws.{All, all-append, all-map, Of, nodes-append, ends-append, upTo-append, latest-append, nodes-of, ends-of, latest-le, latest-of, Elsewhere, nodes-none, ends-none, latest-none, upTo-all, upTo-none}
-
--- ---- runs
-
--- the turns of net i in iteration t: they name both, its source is on a path, they join every sink and reach no node twice
-pub record Owns (j : Job) (i t : ℕ) (rs : List Record) : Type 0 where
-  pub own : All (Of i t) rs
-  pub source-on : has (source j i) (pathNodes rs) ≡ true
-  pub joined : (x : ℕ) → has x (netSinks j i) ≡ true → has x (pathNodes rs) ≡ true
-  pub once : distinct (source j i ∷ branchEnds rs) ≡ true
-
--- the first nets of an iteration from state s: each that is due has new turns, the others keep their tree
-pub data NetsRan (j : Job) (s : State) : ℕ → Progress → Type 0 where
-  none : NetsRan j s 0 (record { records = []; state = s })
-  kept : {i : ℕ} {p : Progress} → NetsRan j s i p → due j s i ≡ false → NetsRan j s (suc i) p
-  routed : {i : ℕ} {p : Progress} {rs : List Record} → NetsRan j s i p → due j s i ≡ true → Owns j i (s .iteration) rs → NetsRan j s (suc i) (withNet j i p rs)
-
--- so many whole iterations with these records lead to this state
-pub data Ran (j : Job) : ℕ → List Record → State → Type 0 where
-  start : Ran j 0 [] (firstState j)
-  next : {m : ℕ} {rs : List Record} {s : State} {p : Progress} → Ran j m rs s → NetsRan j s (nets j) p → Ran j (suc m) (rs ++ p .records) (moveOn j (p .state))
+use Rattle.negotiation.proofs.FilterLaws.{all-append, all-map, nodes-append, ends-append, upTo-append, latest-append, nodes-of, ends-of, latest-le, latest-of, Elsewhere, nodes-none, ends-none, latest-none, upTo-all, upTo-none}
 
 -- ---- iteration, factor and histories
 

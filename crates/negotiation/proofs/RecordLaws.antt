@@ -8,7 +8,7 @@ use Prim.Native.Nat.{ℕ, zero, suc, _+_, _*_, _-_, _/_, _%_, _^_, _≤_, _<_, z
 use native.Mathlib.Nat.{not-suc-le-zero, le-of-suc-le-suc}
 use native.Mathlib.Omega.{arith}
 use lib.Dec.{leb}
-use lib.ListN.{length, drop, length-append}
+use lib.ListN.{length, length-append}
 use lib.Seq.{take-append-seam, drop-append-seam}
 use borrow.Author.Tests.{le-leb, lt-leb, leb-true}
 use Rattle.price.proofs.TestLaws.{either-way}
@@ -56,15 +56,6 @@ unfolding pathNodes
 pathNodes-append [] ss = refl
 pathNodes-append (r ∷ rs) ss =
     rw (pathNodes-append rs ss) (sym (append-assoc (r .path) (pathNodes rs) (pathNodes ss)))
-
--- the nodes in which a record's path steps end
-abbrev pub stepEnds : Record → List ℕ
-stepEnds r = drop 1 (r .path)
-
--- all of them, record after record
-unfoldable pub branchEnds : List Record → List ℕ
-branchEnds [] = []
-branchEnds (r ∷ rs) = stepEnds r ++ branchEnds rs
 
 encode-none : length (encode []) ≡ 0
 unfolding encode

@@ -1,16 +1,28 @@
 -- The router's reply, refusal by refusal: which of its cases it is, by the tests in their order.
 -- Assumes nothing.
-use mathlib.Core.Bool.{true, false}
+use mathlib.Core.Bool.{Bool, true, false}
 use mathlib.Core.List.{List, [], _∷_}
-use mathlib.Core.Path.{_≡_, _∙_}
+use mathlib.Core.Path.{_≡_, sym, _∙_}
 use Prim.Native.Nat.{ℕ, _≤_, _<_}
-use lib.ListN.{length}
+use lib.ListN.{length, take}
 use borrow.Author.Tests.{le-leb, lt-leb, lt-ltb, le-ltb}
 use Rattle.search.specs.Replies.{workNeeded, cleared}
 use Rattle.job.specs.Job.{Job, nodes, nets}
 use Rattle.job.specs.Tables.{faultyJob, exceeds}
 use Rattle.job.specs.Join.{joined}
-use Rattle.negotiation.specs.Outcome.{RouteReply, unreachableNet, unreachablePlace, negotiated, refusedReply, reachedReply, tested, routeReply}
+use Rattle.negotiation.specs.Outcome.{RouteReply, unreachableNet, unreachablePlace, negotiated, refusedAnswer, refusedReply, reachedReply, tested, routeReply}
+use Rattle.negotiation.specs.Records.{Record, decodeUpTo, decode}
+use Rattle.negotiation.specs.Aimed.{expandedAfter}
+use Rattle.negotiation.specs.declared.Outcome.{Outcome}
+use Rattle.negotiation.specs.declared.RouteAnswer.{RouteAnswer}
+use Rattle.negotiation.proofs.AimedCountLaws.{after-short}
+
+-- a refusal logs nothing, and no nodes are counted
+pub refused-counts :
+    (aimed : Bool) (j : Job) (lent : List Record) {outcome : Outcome} (r : RouteAnswer) (log : List ℕ) → r ≡ refusedAnswer outcome
+    → r .expanded ≡ expandedAfter aimed j lent (decode (take (r .used) log))
+unfolding decode decodeUpTo
+refused-counts aimed j lent r log e = rw e (sym (after-short aimed j lent))
 
 -- the tests of a job as it is given, whatever run stands behind them
 module _ (j : Job) (work log : List ℕ) (run : RouteReply) where

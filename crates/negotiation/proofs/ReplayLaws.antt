@@ -21,11 +21,12 @@ use Rattle.job.specs.Job.{Job, nets, source, netSinks}
 use Rattle.negotiation.specs.Records.{Record, words, encode, pathNodes}
 use Rattle.negotiation.specs.Machine.{State, Progress, treeFrom, withNet, due, overCount, moveOn, firstState}
 use Rattle.negotiation.specs.Resume.{recordIn, wholeRecord, costFollows, turnPrice, turnFollows, allJoined, Replay, on, off, andThen, after, replayTurns, replayNets, replayNext, replayFrom, replay}
+use Rattle.negotiation.specs.Runs.{All, Of, stepEnds, branchEnds, Owns, NetsRan, none, kept, routed, Ran, start, next}
 use Rattle.negotiation.proofs.DueLaws.{due-some}
-use Rattle.negotiation.proofs.RecordLaws.{stepEnds, branchEnds, encode-append, pathNodes-append}
+use Rattle.negotiation.proofs.RecordLaws.{encode-append, pathNodes-append}
 use Rattle.negotiation.proofs.MemberLaws.{every-has, has-append-split, no-entry, none-has, distinct-append}
-use Rattle.negotiation.proofs.FilterLaws.{All, all-append, Of}
-use Rattle.negotiation.proofs.RanLaws.{Owns, NetsRan, none, kept, routed, Ran, start, next, nets-iteration, ran-iteration}
+use Rattle.negotiation.proofs.FilterLaws.{all-append}
+use Rattle.negotiation.proofs.RanLaws.{nets-iteration, ran-iteration}
 use Rattle.negotiation.proofs.FollowLaws.{PathHolds, first-there, Follows, follows-of, whole-long, words-there}
 
 -- ---- answers by cases

@@ -17,10 +17,11 @@ use Rattle.negotiation.specs.Outcome.{RouteReply, madeFrom, allRecords, 
 use Rattle.negotiation.specs.Resume.{Replay, on, off, replay, resumedReply, resumeReply}
 use Rattle.negotiation.specs.Demand.{historyRead, FinalTrees}
 use Rattle.negotiation.specs.Resumed.{NotTakenUp, LentFirst, Rebuilt, RebuiltAsRead, Resumed}
+use Rattle.negotiation.specs.Runs.{Ran}
 use Rattle.negotiation.proofs.RecordLaws.{decode-encode, encode-append, fitting-all, fitting-append}
 use Rattle.negotiation.proofs.LimitLaws.{not-accepted}
 use Rattle.negotiation.proofs.ReplyLogLaws.{LogHas, log-turns, run-log}
-use Rattle.negotiation.proofs.RanLaws.{Ran, ran-iteration, ran-factor, ran-read, ran-history}
+use Rattle.negotiation.proofs.RanLaws.{ran-iteration, ran-factor, ran-read, ran-history}
 use Rattle.negotiation.proofs.JoinedHolds.{joined-no-source}
 use Rattle.negotiation.proofs.MachineRan.{Reached}
 use Rattle.negotiation.proofs.ReplayLaws.{TakenUp, taken-up}

@@ -1,6 +1,6 @@
 -- The answers of route and resume, refusal by refusal, and what is promised of them.
 -- Assumes nothing.
-use mathlib.Core.Bool.{true, false}
+use mathlib.Core.Bool.{Bool, true, false}
 use mathlib.Core.List.{List, [], _∷_, _++_}
 use mathlib.Core.Logic.{⊎-elim}
 use mathlib.Core.Path.{_≡_, refl, sym, _∙_, ap, subst}
@@ -13,11 +13,13 @@ use Rattle.search.specs.Replies.{workNeeded, cleared}
 use Rattle.job.specs.Job.{Job, nodes, nets}
 use Rattle.job.specs.Tables.{SoundJob, faultyJob, exceeds}
 use Rattle.job.specs.Join.{joined}
+use Rattle.negotiation.specs.Records.{Record}
 use Rattle.negotiation.specs.Machine.{Progress}
 use Rattle.negotiation.specs.Outcome.{RouteReply, unreachableNet, unreachablePlace, begun, continued, refusedAnswer, refusedReply, routeReplyOf, reachedReply, tested, routeReply}
 use Rattle.negotiation.specs.Resume.{Replay, on, off, replay, resumedReply, runFrom, resumeReply}
 use Rattle.negotiation.specs.Resumed.{Resumed}
 use Rattle.negotiation.specs.Demand.{Demand3}
+use Rattle.negotiation.specs.Aimed.{expandedAfter}
 use Rattle.negotiation.specs.Steps.{SameFrom, missing, reachNumbers}
 use Rattle.negotiation.specs.declared.RouteAnswer.{RouteAnswer}
 use Rattle.negotiation.specs.declared.Start.{Start}
@@ -130,6 +132,11 @@ module _ (start : Start) (j : Job) (work log : List ℕ) where
           workNeeded (nodes j) ≤ length work → (k : Job) → k ≡ joined j → (r : RouteReply) → Reaches start k work log r → Tests r
       joined-answered enough k e r reached =
           subst (λ (x : Job). Reaches start x work log r) e reached ∙ sym (tested-joined j work log run (fine j table is none) fits enough)
+
+-- so is their count
+pub joined-counts :
+    (k : Job) {j : Job} → k ≡ j → (aimed : Bool) (lent made : List Record) (count : ℕ) → count ≡ expandedAfter aimed k lent made → count ≡ expandedAfter aimed j lent made
+joined-counts k e aimed lent made count counts = subst (λ (x : Job). count ≡ expandedAfter aimed x lent made) e counts
 
 -- ---- the two calls
 

@@ -18,10 +18,11 @@ use Rattle.job.specs.Job.{Job, nets}
 use Rattle.negotiation.specs.Records.{Record}
 use Rattle.negotiation.specs.Machine.{State, Progress, treeAt, usersOf, treeFrom, hasSinks, overfull, allDue, crowded, due, overCount, moveOn, firstState}
 use Rattle.negotiation.specs.Demand.{latest}
+use Rattle.negotiation.specs.Runs.{NetsRan, none, kept, routed, Ran, start, next}
 use Rattle.negotiation.proofs.DueLaws.{due-sinks}
 use Rattle.negotiation.proofs.MemberLaws.{every-has, no-entry}
 use Rattle.negotiation.proofs.FilterLaws.{latest-le}
-use Rattle.negotiation.proofs.RanLaws.{NetsRan, none, kept, routed, Ran, start, next, ran-all, ran-latest}
+use Rattle.negotiation.proofs.RanLaws.{ran-all, ran-latest}
 
 -- ---- an overfull node has a user
 

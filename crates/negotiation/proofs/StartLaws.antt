@@ -1,5 +1,6 @@
 -- A run starts as it is begun, or after a lent log that is taken up from its words used; else the log is turned away.
 -- Assumes nothing.
+use mathlib.Core.Bool.{Bool}
 use mathlib.Core.List.{List, [], _++_, append-assoc}
 use mathlib.Core.Path.{_≡_, refl, sym, _∙_, ap, subst}
 use Prim.Native.Nat.{ℕ, _*_, _≤_, _<_, zero-le}
@@ -8,11 +9,15 @@ use lib.ListN.{length, take, drop, replicate, take-append-drop}
 use lib.Seq.{length-take-le, drop-append-seam}
 use borrow.Author.Tests.{lt-ltb, le-ltb}
 use Rattle.job.specs.Job.{Job, nodes}
-use Rattle.negotiation.specs.Records.{Record, encode}
+use Rattle.negotiation.specs.Records.{Record, encode, decode}
 use Rattle.negotiation.specs.Machine.{Progress, firstState}
 use Rattle.negotiation.specs.Outcome.{RouteReply, begun, logWith, continued, refusedAnswer, routeReplyOf}
 use Rattle.negotiation.specs.Kept.{Tallied, Ready, SomeReady}
-use Rattle.negotiation.specs.Resume.{Replay, on, off, replayFrom, replay, resumedReply, runFrom}
+use Rattle.negotiation.specs.Resume.{Replay, on, off, replayFrom, replay, resumedReply, runFrom, lentRecords}
+use Rattle.negotiation.specs.Routable.{Routable}
+use Rattle.negotiation.specs.Aimed.{expandedAfter}
+use Rattle.negotiation.specs.Runs.{Ran, start as none-ran}
+use Rattle.negotiation.specs.TariffSteps.{goingOn}
 use Rattle.negotiation.specs.TakeSteps.{LogTaken, StartOn, Started}
 use Rattle.negotiation.specs.declared.RouteAnswer.{RouteAnswer}
 use Rattle.negotiation.specs.declared.Outcome.the-variants.{Diverges}
@@ -21,6 +26,9 @@ use Rattle.negotiation.specs.declared.Start.the-variants.{Anew, After}
 use Rattle.negotiation.specs.declared.tariff.Tariff.{Tariff}
 use Rattle.negotiation.specs.declared.take_up.Taken.{Taken}
 use Rattle.negotiation.specs.declared.take_up.Taken.the-variants.{On, Off}
+use Rattle.negotiation.proofs.RecordLaws.{decode-encode}
+use Rattle.negotiation.proofs.ReplayLaws.{TakenUp, taken-up}
+use Rattle.negotiation.proofs.TurnStepLaws.{tallied-so}
 use Rattle.negotiation.proofs.EndLaws.{cleared-same}
 
 -- ---- the words used and the whole log
@@ -78,7 +86,7 @@ module _ (j : Job) (start : Start) (log : List ℕ) where
       start ≡ Anew → {t : Tariff} {history users marks from to dues : List ℕ} → Ready j (begun j) t history users marks from to dues log
       → Started (On t) start j history users marks from to dues log
   unfolding Started
-  start-anew e r = record { progress = begun j; is = λ work. rw e; ready = r }
+  start-anew e r = record { progress = begun j; is = λ work. rw e; ready = r; iterations = 0; ran = none-ran; lent-is = rw e }
 
   module _ (used : ℕ) (e : start ≡ After used) where
     after-so : (a : Replay) → replay j used log ≡ a → (work : List ℕ) → runFrom start j work log ≡ resumedReply j a work log
@@ -94,12 +102,20 @@ module _ (j : Job) (start : Start) (log : List ℕ) where
       replay-is = rw (le-ltb (length log) used within)
 
       pub start-taken :
-          (r : Taken) (history users marks from to dues : List ℕ) → LogTaken r j history users marks from to dues (take used log)
+          Routable j → (r : Taken) (history users marks from to dues : List ℕ) → LogTaken r j history users marks from to dues (take used log)
           → Started r start j history users marks from to dues log
       unfolding Started
-      start-taken (On t) history users marks from to dues o =
-          record { progress = o .progress; is = after-so (on (o .progress)) (replay-is ∙ o .is); ready = ready-whole j used log within (o .ready) }
-      start-taken (Off word) history users marks from to dues q = after-so (off word) (replay-is ∙ q)
+      start-taken sound (On t) history users marks from to dues o =
+          let taken : TakenUp j used log (o .progress) = taken-up j (sound .source-no-sink) used log (o .progress) (replay-is ∙ o .is) in
+          record {
+            progress = o .progress;
+            is = after-so (on (o .progress)) (replay-is ∙ o .is);
+            ready = ready-whole j used log within (o .ready);
+            iterations = taken .whole;
+            ran = taken .ran;
+            lent-is = rw e (sym (ap decode (taken .words-are) ∙ decode-encode (o .progress .records)));
+          }
+      start-taken sound (Off word) history users marks from to dues q = after-so (off word) (replay-is ∙ q)
 
 -- ---- the run from it
 
@@ -108,15 +124,42 @@ module _ (j : Job) (start : Start) (log : List ℕ) {r : Taken} {history users m
   unfolding Started
   started-on e = subst (λ (x : Taken). Started x start j history users marks from to dues log) e s
 
-  -- it can go on,
-  pub start-stands : {t : Tariff} → r ≡ On t → SomeReady j t history users marks from to dues log
-  start-stands e = record { progress = started-on e .progress; ready = started-on e .ready }
+  -- by the search that is chosen
+  module _ {t t′ : Tariff} (e : r ≡ On t) (aimed : Bool) (chosen : t′ ≡ goingOn t aimed) where
+    ready-going : Ready j (started-on e .progress) t′ history users marks from to dues log
+    ready-going =
+        let at = started-on e .ready in
+        rw chosen
+        (record {
+          can = at .can;
+          iteration-is = at .iteration-is;
+          factor-is = at .factor-is;
+          kept = at .kept;
+          due-long = at .due-long;
+          tallied = tallied-so refl refl (at .tallied);
+        })
 
-  -- and its reply is that of a run which goes on from the same progress
-  pub start-ran :
-      {t : Tariff} → r ≡ On t → (work : List ℕ) (a : RouteReply)
-      → ((p : Progress) → Ready j p t history users marks from to dues log → a ≡ continued j p work log) → a ≡ runFrom start j work log
-  start-ran e work a ran = ran (started-on e .progress) (started-on e .ready) ∙ sym (started-on e .is work)
+    -- it can go on,
+    pub start-stands : SomeReady j t′ history users marks from to dues log
+    start-stands =
+        let at = started-on e in
+        record { progress = at .progress; ready = ready-going; iterations = at .iterations; ran = at .ran; none-expanded = ap (λ (x : Tariff). x .expanded) chosen }
+
+    -- its reply is that of a run which goes on from the same progress,
+    pub start-ran :
+        (work : List ℕ) (a : RouteReply) → ((p : Progress) → Ready j p t′ history users marks from to dues log → a ≡ continued j p work log) → a ≡ runFrom start j work log
+    start-ran work a ran = ran (started-on e .progress) ready-going ∙ sym (started-on e .is work)
+
+    -- and its count is over the turns past the lent ones
+    pub start-counts :
+        (count : ℕ) (made : List Record)
+        → ((p : Progress) (m : ℕ) → Ready j p t′ history users marks from to dues log → Ran j m (p .records) (p .state) → count ≡ expandedAfter (t′ .aimed) j (p .records) made)
+        → count ≡ expandedAfter aimed j (lentRecords start log) made
+    start-counts count made counts =
+        let at = started-on e in
+        counts (at .progress) (at .iterations) ready-going (at .ran)
+        ∙ ap (λ (x : Tariff). expandedAfter (x .aimed) j (at .progress .records) made) chosen
+        ∙ ap (λ (l : List Record). expandedAfter aimed j l made) (at .lent-is)
 
 -- a log that is turned away leaves the work slice cleared
 pub turned-away :

@@ -39,7 +39,7 @@ ref = tyRef erased mut (pointee (R .written))
 
 -- each field is within its type
 abbrev pub Sized : Tariff → Type 0
-Sized h = (h .iteration < 2 ^ 32) × (h .factor < 2 ^ 32) × (h .turns < 2 ^ 64) × (h .words < 2 ^ 64)
+Sized h = (h .iteration < 2 ^ 32) × (h .factor < 2 ^ 32) × (h .turns < 2 ^ 64) × (h .words < 2 ^ 64) × (h .expanded < 2 ^ 64)
 
 -- the machine value
 abbrev pub mach : Tariff → List Val
@@ -51,13 +51,14 @@ to b o γ h = record { ptr = (b, o); name = γ; now = h }
 
 pub sized : (h : Tariff) (vs : List Val) → Is R h vs → Sized h
 sized h vs is =
-    (LL.owed T′.the-type T″.the-laws h vs is .0 .1, LL.owed T′.the-type T″.the-laws h vs is .1 .0 .1, LL.owed T′.the-type T″.the-laws h vs is .1 .1 .0 .1, LL.owed T′.the-type T″.the-laws h vs is .1 .1 .1 .0 .1)
+    let owed = LL.owed T′.the-type T″.the-laws h vs is in
+    (owed .0 .1, owed .1 .0 .1, owed .1 .1 .0 .1, owed .1 .1 .1 .0 .1, owed .1 .1 .1 .1 .1 .0 .1)
 
 pub made : (h : Tariff) → Sized h → Is R h (mach h)
-made h s = LL.owes T′.the-type T″.the-laws h ((refl, s .0), ((refl, s .1), ((refl, s .2), ((refl, s .3), tt))))
+made h s = LL.owes T′.the-type T″.the-laws h ((refl, s .0), ((refl, s .1), ((refl, s .2), ((refl, s .3), (refl, ((refl, s .4), tt))))))
 
 pub typed : (h : Tariff) → Sized h → T (hasTy T″.mir (T″.lowered h)) × WT (T″.lowered h)
-typed h s = (tt, (record { fits = s .0 }, (record { fits = s .1 }, (record { fits = s .2 }, (record { fits = s .3 }, tt)))))
+typed h s = (tt, (record { fits = s .0 }, (record { fits = s .1 }, (record { fits = s .2 }, (record { fits = s .3 }, (tt, (record { fits = s .4 }, tt)))))))
 
 module _ {M : Type 1} {𝓤 : URA M} {H : Heap 𝓤} {A : Atoms 𝓤} {K : Type 0} {W : Given 𝓤 H A} {Γ : List (Item 𝓤)} {G : Goal 𝓤 H} where
   -- what a tariff owns is had for nothing

@@ -27,10 +27,10 @@ use Rattle.negotiation.specs.Outcome.{logWith}
 use Rattle.job.specs.Steps.{AllBelow}
 use Rattle.negotiation.specs.TariffSteps.{loggedTariff}
 use Rattle.negotiation.specs.Kept.{Tallied}
+use Rattle.negotiation.specs.Runs.{All}
 use Rattle.negotiation.specs.declared.tariff.Tariff.{Tariff}
 use Rattle.negotiation.proofs.RecordLaws.{words-length, encode-append}
 use Rattle.negotiation.proofs.MemberLaws.{lacks-append}
-use Rattle.negotiation.proofs.FilterLaws.{All}
 
 -- ---- what the search asks of a node
 
@@ -127,6 +127,11 @@ tallied-more rs log₀ t log r log′ a room is =
       log-is = is ∙ rw (a .words-is, a .log-is) (log-more rs r log₀ (6 + length (r .path)) (words-length r));
       fits = omega arith;
     }
+
+-- a tally is of the turns and words alone
+pub tallied-so : {rs : List Record} {log₀ log : List ℕ} {t t′ : Tariff} → t′ .turns ≡ t .turns → t′ .words ≡ t .words → Tallied rs log₀ t log → Tallied rs log₀ t′ log
+tallied-so turns-same words-same a =
+    record { turns-is = turns-same ∙ a .turns-is; words-is = words-same ∙ a .words-is; log-is = a .log-is; fits = a .fits }
 
 -- the words after the first records are those of the others
 pub tallied-slice :

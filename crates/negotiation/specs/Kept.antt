@@ -11,6 +11,7 @@ use Rattle.job.specs.Job.{Job, nodes, nets}
 use Rattle.negotiation.specs.Records.{Record, encode, pathNodes}
 use Rattle.negotiation.specs.Machine.{State, Progress, treeAt, usersOf}
 use Rattle.negotiation.specs.Outcome.{logWith}
+use Rattle.negotiation.specs.Runs.{Ran}
 use Rattle.job.specs.Steps.{AllBelow}
 use Rattle.negotiation.specs.declared.tariff.Tariff.{Tariff}
 
@@ -75,7 +76,10 @@ pub record Ready (j : Job) (p : Progress) (t : Tariff) (history users marks from
   pub due-long : length dues ≡ nets j
   pub tallied : Tallied (p .records) log t log
 
--- they are those of some run
+-- they are those of some run of whole iterations, and no nodes are counted yet
 pub record SomeReady (j : Job) (t : Tariff) (history users marks from to dues log : List ℕ) : Type 0 where
   pub progress : Progress
   pub ready : Ready j progress t history users marks from to dues log
+  pub iterations : ℕ
+  pub ran : Ran j iterations (progress .records) (progress .state)
+  pub none-expanded : t .expanded ≡ 0

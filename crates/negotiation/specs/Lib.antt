@@ -6,9 +6,11 @@ pub mod Machine
 pub mod Outcome
 pub mod Unreachable
 pub mod Demand
+pub mod Aimed
 pub mod Longer
 pub mod Resume
 pub mod Resumed
+pub mod Runs
 pub mod TariffSteps
 pub mod OrderSteps
 pub mod Steps

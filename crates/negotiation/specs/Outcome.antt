@@ -104,7 +104,7 @@ routeReplyOf r work log =
 
 -- the answer of a call that is refused before any turn
 abbrev pub refusedAnswer : Outcome → RouteAnswer
-refusedAnswer outcome = record { outcome = outcome; iteration = 0; turns = 0; used = 0 }
+refusedAnswer outcome = record { outcome = outcome; iteration = 0; turns = 0; used = 0; expanded = 0 }
 
 -- "After any refusal but 8 and 9 all three are 0, and memory not named is untouched."
 abbrev pub refusedReply : List ℕ → List ℕ → List ℕ → RouteReply

@@ -15,7 +15,7 @@ use Rattle.search.specs.Turn.{priceAt}
 use Rattle.search.specs.Replies.{cleared}
 use Rattle.job.specs.Job.{Job, nodes, nets, netSinks}
 use Rattle.job.specs.Join.{joined}
-use Rattle.negotiation.specs.Records.{Record, recordOf, encode}
+use Rattle.negotiation.specs.Records.{Record, recordOf, encode, decode}
 use Rattle.negotiation.specs.Order.{turnSinks, turnCongestion}
 use Rattle.negotiation.specs.Machine.{State, Progress, congestionFor, treeFrom, withNet, due, overCount, moveOn, firstState}
 use Rattle.negotiation.specs.Machine.{recordsAfter, settlesAt}
@@ -163,6 +163,11 @@ resumedReply j (on p) work log = continued j p work log
 abbrev pub runFrom : Start → Job → List ℕ → List ℕ → RouteReply
 runFrom Anew j work log = negotiated j work log
 runFrom (After used) j work log = resumedReply j (replay j used log) work log
+
+-- the records that are lent with such a start
+abbrev pub lentRecords : Start → List ℕ → List Record
+lentRecords Anew log = []
+lentRecords (After used) log = decode (take used log)
 
 -- "it comes after 7": the tests of a job as it is given come first, as `route` has them
 unfoldable pub resumeReply : Job → ℕ → List ℕ → List ℕ → RouteReply

@@ -3,7 +3,7 @@
 use mathlib.Core.Bool.{Bool, true, not}
 use mathlib.Core.List.{List, [], _∷_, _++_}
 use mathlib.Core.Path.{_≡_}
-use Prim.Native.Nat.{ℕ, _+_, _*_, _-_, _≤_, _<_}
+use Prim.Native.Nat.{ℕ, _+_, _*_, _-_, _^_, _≤_, _<_}
 use lib.Dec.{eqb, ltb}
 use lib.ListN.{length, getD, take, drop, set}
 use lib.Seq.{slice}
@@ -13,13 +13,16 @@ use Rattle.price.specs.Bounds.{factorMost}
 use Rattle.search.specs.Block as block
 use Rattle.search.specs.Block.{Block}
 use Rattle.search.specs.Tables.{Sound}
-use Rattle.search.specs.Turn.{Congestion, Turn, joins, stuck}
+use Rattle.search.specs.Turn.{Congestion, priceAt, Turn, joins, stuck}
+use Rattle.search.specs.Aimed.{weightAt, expanded}
 use Rattle.search.specs.Replies.{nodeSound, sinkListSound}
 use Rattle.search.specs.Ready.{Weighable}
+use Rattle.search.specs.declared.PathAnswer.{PathAnswer}
+use Rattle.search.specs.declared.PathAnswer.the-variants.{Joins, Stuck, BadTable, ShortWork, BadNumber, TooLarge}
 use Rattle.job.specs.Job.{Job, nets, jobOf}
 use Rattle.negotiation.specs.Routable.{Routable}
 use Rattle.negotiation.specs.Outcome.{unreachableNet, unreachablePlace}
-use Rattle.negotiation.specs.TariffSteps.{loggedTariff}
+use Rattle.negotiation.specs.TariffSteps.{loggedTariff, countedTariff}
 use Rattle.job.specs.declared.Terms.{Terms}
 use Rattle.negotiation.specs.declared.tariff.Tariff.{Tariff}
 use Rattle.negotiation.specs.declared.turns.TurnMade.{TurnMade}
@@ -224,9 +227,9 @@ pub record Overflows (t : Turn) (tariff : Tariff) (log log′ : List ℕ) : Type
   pub no-room : length log < tariff .words + (6 + length path)
   pub log-same : log′ ≡ log
 
--- the turn is logged, and its path is marked
-pub record TurnLogged (t : Turn) (tariff : Tariff) (net : ℕ) (sinks log marks : List ℕ) (tariff′ : Tariff) (log′ marks′ : List ℕ)
-    : Type 0 where
+-- the turn is logged, with the nodes that it expanded, and its path is marked
+pub record TurnLogged (t : Turn) (expanded : ℕ) (tariff : Tariff) (net : ℕ) (sinks log marks : List ℕ) (tariff′ : Tariff)
+    (log′ marks′ : List ℕ) : Type 0 where
   pub place : ℕ
   pub cost : ℕ
   pub path : List ℕ
@@ -237,13 +240,29 @@ pub record TurnLogged (t : Turn) (tariff : Tariff) (net : ℕ) (sinks log marks 
       ≡ take (tariff .words) log
       ++ (words (recordOf (tariff .iteration) net (getD sinks place 0) cost path) ++ drop (tariff .words + (6 + length path)) log)
   pub marks-set : Stored 1 path marks marks′
-  pub tariff-is : tariff′ ≡ loggedTariff tariff (6 + length path)
+  pub tariff-is : tariff′ ≡ countedTariff (loggedTariff tariff (6 + length path)) expanded
 
 -- what a turn did, by cases
-abbrev pub TurnDone : (r : TurnMade) (t : Turn) (tariff : Tariff) (net : ℕ) (sinks log marks log′ marks′ : List ℕ) → Type 0
-TurnDone Nothing t tariff net sinks log marks log′ marks′ = Skipped t log marks log′ marks′
-TurnDone Full t tariff net sinks log marks log′ marks′ = Overflows t tariff log log′
-TurnDone (Logged tariff′) t tariff net sinks log marks log′ marks′ = TurnLogged t tariff net sinks log marks tariff′ log′ marks′
+abbrev pub TurnDone : (r : TurnMade) (t : Turn) (expanded : ℕ) (tariff : Tariff) (net : ℕ) (sinks log marks log′ marks′ : List ℕ) → Type 0
+TurnDone Nothing t expanded tariff net sinks log marks log′ marks′ = Skipped t log marks log′ marks′
+TurnDone Full t expanded tariff net sinks log marks log′ marks′ = Overflows t tariff log log′
+TurnDone (Logged tariff′) t expanded tariff net sinks log marks log′ marks′ =
+    TurnLogged t expanded tariff net sinks log marks tariff′ log′ marks′
+
+-- what the search answers where nothing is refused: the turn, whose path stands at the beginning of the work slice; past 8 × nodes entries
+-- that stays
+abbrev pub PathFound : (n : ℕ) (t : Turn) (work : List ℕ) (r : PathAnswer) (work′ : List ℕ) → Type 0
+PathFound n t work (Joins place cost count) work′ =
+    (t ≡ joins place cost (take count work′)) × (length (take count work′) ≡ count) × SameFrom (8 * n) work work′
+PathFound n t work Stuck work′ = (t ≡ stuck) × SameFrom (8 * n) work work′
+PathFound n t work (BadTable k) work′ = ⊥
+PathFound n t work (ShortWork k) work′ = ⊥
+PathFound n t work (BadNumber k) work′ = ⊥
+PathFound n t work (TooLarge k) work′ = ⊥
+
+-- how many nodes a turn expands by the search that is chosen: none are counted with the plain one
+abbrev pub turnCount : Bool → Block → Congestion → (marks sinks : List ℕ) → ℕ
+turnCount aimed b c marks sinks = choose aimed (expanded b (priceAt b c) (weightAt b (c .weighting)) marks sinks) 0
 
 -- a turn can be made: nothing is refused, the words written are within the log, and no count overflows
 pub record CanTurn (b : Block) (c : Congestion) (tariff : Tariff) (sinks marks work log : List ℕ) : Type 0 where
@@ -252,3 +271,4 @@ pub record CanTurn (b : Block) (c : Congestion) (tariff : Tariff) (sinks marks w
   pub sinks-sound : sinkListSound (block.nodes b) sinks ≡ true
   pub within : tariff .words ≤ length log
   pub few-turns : tariff .turns ≤ tariff .words
+  pub few-expanded : tariff .expanded + block.nodes b < 2 ^ 64

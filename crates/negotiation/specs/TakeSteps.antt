@@ -21,9 +21,10 @@ use Rattle.negotiation.specs.OrderSteps.{AimReady}
 use Rattle.negotiation.specs.Machine.{Progress, othersOf, marksOf, treeFrom, withNet, due, firstState}
 use Rattle.job.specs.Steps.{AllBelow}
 use Rattle.negotiation.specs.Outcome.{continued}
-use Rattle.negotiation.specs.Resume.{on, off, replayTurns, replayNets, replayFrom, resumedReply, runFrom}
+use Rattle.negotiation.specs.Resume.{on, off, replayTurns, replayNets, replayFrom, resumedReply, runFrom, lentRecords}
 use Rattle.negotiation.specs.ResumeSteps.{RecordReady, turnPasses}
 use Rattle.negotiation.specs.Kept.{Kept, Tallied, CanGoOn, Ready}
+use Rattle.negotiation.specs.Runs.{Ran}
 use Rattle.negotiation.specs.declared.Start.{Start}
 use Rattle.job.specs.declared.Terms.{Terms}
 use Rattle.negotiation.specs.declared.tariff.Tariff.{Tariff}
@@ -185,11 +186,14 @@ LogTaken (Off word) j history users marks from to dues log = replayFrom j log (j
 
 -- ---- a run's start
 
--- a run that starts so goes on from a progress, with the whole log
+-- a run that starts so goes on from a progress after whole iterations, whose records are those lent, with the whole log
 pub record StartOn (start : Start) (j : Job) (t : Tariff) (history users marks from to dues log : List ℕ) : Type 0 where
   pub progress : Progress
   pub is : (work : List ℕ) → runFrom start j work log ≡ continued j progress work log
   pub ready : Ready j progress t history users marks from to dues log
+  pub iterations : ℕ
+  pub ran : Ran j iterations (progress .records) (progress .state)
+  pub lent-is : progress .records ≡ lentRecords start log
 
 -- what a start comes to: such a progress, or the lent log is turned away
 unfoldable pub Started : Taken → (start : Start) (j : Job) (history users marks from to dues log : List ℕ) → Type 0

@@ -1,13 +1,16 @@
 // The negotiation: routes a job given as tables, and logs every turn.
+ghost use mathlib.Core.List.{[]};
 ghost use mathlib.Core.Path.{_≡_};
 ghost use Prim.Native.Nat.{_*_, _≤_};
-ghost use lib.ListN.{length};
+ghost use lib.ListN.{length, take};
 ghost use Rattle.job.specs.Job.{jobOf, nodes};
 ghost use Rattle.negotiation.specs.Routable.{Routable};
-ghost use Rattle.negotiation.specs.Outcome.{refusedAnswer, routeReplyOf, reachedReply, tested};
+ghost use Rattle.negotiation.specs.Records.{decode};
+ghost use Rattle.negotiation.specs.Outcome.{refusedAnswer, routeReplyOf, turnsLogged, reachedReply, tested};
+ghost use Rattle.negotiation.specs.Aimed.{expandedAfter};
 ghost use Rattle.negotiation.specs.Demand.{Demand3};
 ghost use Rattle.job.specs.Join.{joined};
-ghost use Rattle.negotiation.specs.Resume.{runFrom};
+ghost use Rattle.negotiation.specs.Resume.{runFrom, lentRecords};
 ghost use Rattle.negotiation.specs.Resumed.{Resumed};
 
 // How a run ends.
@@ -30,12 +33,14 @@ pub enum Outcome {
     TooLarge { nodes: u32, limit: u32 },
 }
 
-// The answer: how the run ended, beside iteration, turns made and words used.
+// The answer: how the run ended, beside iteration, turns made and words used; and how many nodes the search that aims expanded in the turns
+// that the call logged, 0 with the plain one.
 pub struct RouteAnswer {
     pub outcome: Outcome,
     pub iteration: u32,
     pub turns: u64,
     pub used: u64,
+    pub expanded: u64,
 }
 
 // Where a run starts.
@@ -74,6 +79,7 @@ fn refused(outcome: Outcome) -> RouteAnswer
         iteration: 0,
         turns: 0,
         used: 0,
+        expanded: 0,
     }
 }
 
@@ -90,6 +96,7 @@ fn route_joined(
     criticality: &[u8],
     terms: Terms,
     start: Start,
+    aimed: bool,
     work: &mut [u64],
     log: &mut [u32],
 ) -> RouteAnswer
@@ -102,6 +109,11 @@ fn route_joined(
           (now (source .entry)) (now («first_sink» .entry)) (now (sink .entry)) (now (delay .entry)) (now (criticality .entry)) terms
       let run = runFrom start job (now (work .entry)) (now (log .entry))
       ⌜ routeReplyOf r (now (work .exit)) (now (log .exit)) ≡ reachedReply job (now (work .entry)) (now (log .entry)) run ⌝ }
+    ensures expanded { λ r. do
+      let job = jobOf (now (kind .entry)) (now (capacity .entry)) (now («first_edge» .entry)) (now («edge_target» .entry))
+          (now (source .entry)) (now («first_sink» .entry)) (now (sink .entry)) (now (delay .entry)) (now (criticality .entry)) terms
+      let made = turnsLogged (routeReplyOf r (now (work .exit)) (now (log .exit)))
+      ⌜ r .expanded ≡ expandedAfter aimed job (lentRecords start (now (log .entry))) made ⌝ }
 {
     match reach::unreachable(
         kind,
@@ -131,6 +143,7 @@ fn route_joined(
             criticality,
             terms,
             start,
+            aimed,
             work,
             log,
         ),
@@ -151,6 +164,7 @@ fn routed_from(
     criticality: &[u8],
     terms: Terms,
     start: Start,
+    aimed: bool,
     work: &mut [u64],
     log: &mut [u32],
 ) -> RouteAnswer
@@ -159,6 +173,11 @@ fn routed_from(
           (now (source .entry)) (now («first_sink» .entry)) (now (sink .entry)) (now (delay .entry)) (now (criticality .entry)) terms
       let run = runFrom start (joined job) (now (work .entry)) (now (log .entry))
       ⌜ routeReplyOf r (now (work .exit)) (now (log .exit)) ≡ tested job (now (work .entry)) (now (log .entry)) run ⌝ }
+    ensures expanded { λ r. do
+      let job = jobOf (now (kind .entry)) (now (capacity .entry)) (now («first_edge» .entry)) (now («edge_target» .entry))
+          (now (source .entry)) (now («first_sink» .entry)) (now (sink .entry)) (now (delay .entry)) (now (criticality .entry)) terms
+      let made = turnsLogged (routeReplyOf r (now (work .exit)) (now (log .exit)))
+      ⌜ r .expanded ≡ expandedAfter aimed (joined job) (lentRecords start (now (log .entry))) made ⌝ }
 {
     let table = job::faulty_job(
         kind,
@@ -211,12 +230,14 @@ fn routed_from(
         &criticalities[..count],
         terms,
         start,
+        aimed,
         work,
         log,
     )
 }
 
-// Routes a job given as tables. Demand 3 says all of it: answer, work slice and log are those of `routeReply`, and what follows from that.
+// Routes a job given as tables, by the search that aims or by the plain one. Demand 3 says all of it, whichever it is: answer, work slice
+// and log are those of `routeReply`, and what follows from that. The other clause counts the nodes that the search that aims expanded.
 pub fn route(
     kind: &[u8],
     capacity: &[u8],
@@ -228,6 +249,7 @@ pub fn route(
     delay: &[u16],
     criticality: &[u8],
     terms: Terms,
+    aimed: bool,
     work: &mut [u64],
     log: &mut [u32],
 ) -> RouteAnswer
@@ -235,6 +257,11 @@ pub fn route(
       let job = jobOf (now (kind .entry)) (now (capacity .entry)) (now («first_edge» .entry)) (now («edge_target» .entry))
           (now (source .entry)) (now («first_sink» .entry)) (now (sink .entry)) (now (delay .entry)) (now (criticality .entry)) terms
       ⌜ Demand3 job (now (work .entry)) (now (log .entry)) (routeReplyOf r (now (work .exit)) (now (log .exit))) ⌝ }
+    ensures expanded { λ r. do
+      let job = jobOf (now (kind .entry)) (now (capacity .entry)) (now («first_edge» .entry)) (now («edge_target» .entry))
+          (now (source .entry)) (now («first_sink» .entry)) (now (sink .entry)) (now (delay .entry)) (now (criticality .entry)) terms
+      let made = turnsLogged (routeReplyOf r (now (work .exit)) (now (log .exit)))
+      ⌜ r .expanded ≡ expandedAfter aimed (joined job) [] made ⌝ }
 {
     routed_from(
         kind,
@@ -248,12 +275,14 @@ pub fn route(
         criticality,
         terms,
         Start::Anew,
+        aimed,
         work,
         log,
     )
 }
 
-// Goes on from the words used of a lent log, which must follow the job: answer, work slice and log are those of `resumeReply`.
+// Goes on from the words used of a lent log, which must follow the job, by either search: answer, work slice and log are those of
+// `resumeReply`. The other clause counts the nodes expanded in the turns that were appended.
 pub fn resume(
     kind: &[u8],
     capacity: &[u8],
@@ -265,6 +294,7 @@ pub fn resume(
     delay: &[u16],
     criticality: &[u8],
     terms: Terms,
+    aimed: bool,
     used: u64,
     work: &mut [u64],
     log: &mut [u32],
@@ -273,6 +303,11 @@ pub fn resume(
       let job = jobOf (now (kind .entry)) (now (capacity .entry)) (now («first_edge» .entry)) (now («edge_target» .entry))
           (now (source .entry)) (now («first_sink» .entry)) (now (sink .entry)) (now (delay .entry)) (now (criticality .entry)) terms
       ⌜ Resumed job used (now (work .entry)) (now (log .entry)) (routeReplyOf r (now (work .exit)) (now (log .exit))) ⌝ }
+    ensures expanded { λ r. do
+      let job = jobOf (now (kind .entry)) (now (capacity .entry)) (now («first_edge» .entry)) (now («edge_target» .entry))
+          (now (source .entry)) (now («first_sink» .entry)) (now (sink .entry)) (now (delay .entry)) (now (criticality .entry)) terms
+      let made = turnsLogged (routeReplyOf r (now (work .exit)) (now (log .exit)))
+      ⌜ r .expanded ≡ expandedAfter aimed (joined job) (decode (take used (now (log .entry)))) made ⌝ }
 {
     routed_from(
         kind,
@@ -286,6 +321,7 @@ pub fn resume(
         criticality,
         terms,
         Start::After(used as usize),
+        aimed,
         work,
         log,
     )

@@ -274,11 +274,8 @@ pub fn take_up(
     requires { do
       let job = jobOf (now kind) (now capacity) (now «first_edge») (now «edge_target») (now source) (now «first_sink») (now sink)
           (now delay) (now criticality) terms
-      ⌜ Routable job ⌝ }
-    requires { do
-      let job = jobOf (now kind) (now capacity) (now «first_edge») (now «edge_target») (now source) (now «first_sink») (now sink)
-          (now delay) (now criticality) terms
-      ⌜ Ready job (unbegun job) begun (now history) (now users) (now «in_tree») (now «tree_from») (now «tree_to») (now due)
+      ⌜ Routable job
+          × Ready job (unbegun job) begun (now history) (now users) (now «in_tree») (now «tree_from») (now «tree_to») (now due)
           (now log) ⌝ }
     ensures { λ r. do
       let job = jobOf (now (kind .entry)) (now (capacity .entry)) (now («first_edge» .entry)) (now («edge_target» .entry))

@@ -1,15 +1,18 @@
 // The tariff, lent by &mut to the steps that bring it up to date, and the same steps by value for the routing loops.
 ghost use mathlib.Core.Path.{_≡_};
 ghost use Prim.Native.Nat.{_+_, _<_, _^_};
-ghost use Rattle.negotiation.specs.TariffSteps.{loggedTariff, endedTariff, startedTariff};
+ghost use Rattle.negotiation.specs.TariffSteps.{loggedTariff, countedTariff, endedTariff, startedTariff, goingOn};
 use price::Tuning;
 
-// What 01 calls the tariff: iteration, factor, turns made and words written.
+// What 01 calls the tariff: iteration, factor, turns made and words written. Request 2.13 adds which search makes the turns, and how many
+// nodes it has expanded.
 pub struct Tariff {
     pub iteration: u32,
     pub factor: u32,
     pub turns: u64,
     pub words: usize,
+    pub aimed: bool,
+    pub expanded: u64,
 }
 
 // A turn of so many words is logged.
@@ -46,6 +49,21 @@ pub fn turn_logged(t: Tariff, count: usize) -> Tariff
     next
 }
 
+// The tariff after a turn has expanded so many nodes.
+pub fn turn_counted(t: Tariff, expanded: u64) -> Tariff
+    requires { ⌜ t .expanded + expanded < 2 ^ 64 ⌝ }
+    ensures { λ r. ⌜ r ≡ countedTariff t expanded ⌝ }
+{
+    Tariff {
+        iteration: t.iteration,
+        factor: t.factor,
+        turns: t.turns,
+        words: t.words,
+        aimed: t.aimed,
+        expanded: t.expanded + expanded,
+    }
+}
+
 // The tariff after the iteration's end.
 pub fn iteration_ended(t: Tariff, g: Tuning) -> Tariff
     ensures { λ r. ⌜ r ≡ endedTariff g t ⌝ }
@@ -63,4 +81,18 @@ pub fn iteration_started(t: Tariff) -> Tariff
     let mut next = t;
     start_iteration(&mut next);
     next
+}
+
+// The tariff of a run that goes on from here by this search: no nodes are counted yet.
+pub fn going_on(t: Tariff, aimed: bool) -> Tariff
+    ensures { λ r. ⌜ r ≡ goingOn t aimed ⌝ }
+{
+    Tariff {
+        iteration: t.iteration,
+        factor: t.factor,
+        turns: t.turns,
+        words: t.words,
+        aimed: aimed,
+        expanded: 0,
+    }
 }

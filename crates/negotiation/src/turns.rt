@@ -1,5 +1,5 @@
 // The negotiation itself: sinks within nets within iterations.
-ghost use mathlib.Core.Bool.{Bool};
+ghost use mathlib.Core.Bool.{Bool, true};
 ghost use mathlib.Core.List.{_++_};
 ghost use mathlib.Core.Path.{_≡_};
 ghost use Prim.Native.Nat.{ℕ, _+_, _*_, _≤_, _<_};
@@ -15,10 +15,13 @@ ghost use Rattle.negotiation.specs.Routable.{Routable};
 ghost use Rattle.negotiation.specs.Machine.{Progress};
 ghost use Rattle.negotiation.specs.Order.{sinksTried, weightingDue};
 ghost use Rattle.negotiation.specs.OrderSteps.{AimReady};
-ghost use Rattle.negotiation.specs.Outcome.{unreachableNet, begun as unbegun, continued, routeReplyOf};
-ghost use Rattle.negotiation.specs.Steps.{SameFrom, TurnDone, CanTurn};
+ghost use Rattle.search.specs.Replies.{sinkListSound};
+ghost use Rattle.negotiation.specs.Outcome.{unreachableNet, begun as unbegun, continued, routeReplyOf, turnsLogged};
+ghost use Rattle.negotiation.specs.Aimed.{expandedAfter};
+ghost use Rattle.negotiation.specs.Runs.{Ran};
+ghost use Rattle.negotiation.specs.Steps.{SameFrom, TurnReady, PathFound, turnCount, TurnDone, CanTurn};
 ghost use Rattle.negotiation.specs.Kept.{Ready, SomeReady};
-ghost use Rattle.negotiation.specs.Resume.{runFrom};
+ghost use Rattle.negotiation.specs.Resume.{runFrom, lentRecords};
 ghost use Rattle.negotiation.specs.TakeSteps.{Started};
 use crate::Outcome;
 use crate::RouteAnswer;
@@ -38,6 +41,7 @@ use job::NETS_MOST;
 use job::Terms;
 use price::Tuning;
 use price::Weighting;
+use search::AimedPath;
 use search::NODES_MOST;
 use search::PathAnswer;
 
@@ -55,20 +59,22 @@ pub enum TurnMade {
 fn next_iteration(t: Tariff, g: Tuning) -> Tariff
     requires { ⌜ t .iteration < limitMost ⌝ }
     ensures { λ r. ⌜ (r .iteration ≡ t .iteration + 1) × (r .factor ≡ nextFactor g (t .iteration) (t .factor))
-        × (r .turns ≡ t .turns) × (r .words ≡ t .words) ⌝ }
+        × (r .turns ≡ t .turns) × (r .words ≡ t .words) × (r .aimed ≡ t .aimed) × (r .expanded ≡ t .expanded) ⌝ }
 {
     tariff::iteration_started(tariff::iteration_ended(t, g))
 }
 
 // The answer at the end of a run.
 fn answer(outcome: Outcome, t: Tariff) -> RouteAnswer
-    ensures { λ r. ⌜ (r .outcome ≡ outcome) × (r .iteration ≡ t .iteration) × (r .turns ≡ t .turns) × (r .used ≡ t .words) ⌝ }
+    ensures { λ r. ⌜ (r .outcome ≡ outcome) × (r .iteration ≡ t .iteration) × (r .turns ≡ t .turns) × (r .used ≡ t .words)
+        × (r .expanded ≡ t .expanded) ⌝ }
 {
     RouteAnswer {
         outcome: outcome,
         iteration: t.iteration,
         turns: t.turns,
         used: t.words as u64,
+        expanded: t.expanded,
     }
 }
 
@@ -81,6 +87,70 @@ pub fn clear(work: &mut [u64], to: usize)
     while k < to {
         work[k] = 0;
         k += 1;
+    }
+}
+
+// The cheapest path of a turn, by the search that is chosen, and how many nodes it expanded: none are counted with the plain one.
+fn found_path(
+    aimed: bool,
+    kind: &[u8],
+    capacity: &[u8],
+    first_edge: &[u32],
+    edge_target: &[u16],
+    weighting: Weighting,
+    delay: &[u16],
+    factor: u32,
+    work: &mut [u64],
+    history: &[u32],
+    users: &[u16],
+    in_tree: &[u8],
+    sinks: &[u16],
+) -> AimedPath
+    requires { do
+      let block = blockOf (now kind) (now capacity) (now «first_edge») (now «edge_target»)
+      let congestion = weighedCongestion weighting (now delay) factor (now history) (now users)
+      ⌜ TurnReady block congestion (now «in_tree») (now work) × (sinkListSound (length (now kind)) (now sinks) ≡ true) ⌝ }
+    ensures { λ r. do
+      let block = blockOf (now (kind .entry)) (now (capacity .entry)) (now («first_edge» .entry)) (now («edge_target» .entry))
+      let congestion = weighedCongestion weighting (now (delay .entry)) factor (now (history .entry)) (now (users .entry))
+      let marks = now («in_tree» .entry)
+      let made = turn block (priceAt block congestion) marks (now (sinks .entry))
+      ⌜ PathFound (length (now (kind .entry))) made (now (work .entry)) (r .answer) (now (work .exit))
+          × (r .expanded ≡ turnCount aimed block congestion marks (now (sinks .entry))) ⌝ }
+{
+    if aimed {
+        return search::aimed_path(
+            kind,
+            capacity,
+            first_edge,
+            edge_target,
+            weighting,
+            delay,
+            factor,
+            work,
+            history,
+            users,
+            in_tree,
+            sinks,
+        );
+    }
+    let answer = search::cheapest_path(
+        kind,
+        capacity,
+        first_edge,
+        edge_target,
+        weighting,
+        delay,
+        factor,
+        work,
+        history,
+        users,
+        in_tree,
+        sinks,
+    );
+    AimedPath {
+        answer: answer,
+        expanded: 0,
     }
 }
 
@@ -110,14 +180,16 @@ fn one_turn(
       let congestion = weighedCongestion weighting (now (delay .entry)) (tariff .factor) (now (history .entry)) (now (users .entry))
       let marks = now («in_tree» .entry)
       let made = turn block (priceAt block congestion) marks (now (sinks .entry))
-      ⌜ TurnDone r made tariff net (now (sinks .entry)) (now (log .entry)) marks (now (log .exit)) (now («in_tree» .exit)) ⌝ }
+      let count = turnCount (tariff .aimed) block congestion marks (now (sinks .entry))
+      ⌜ TurnDone r made count tariff net (now (sinks .entry)) (now (log .entry)) marks (now (log .exit)) (now («in_tree» .exit)) ⌝ }
     ensures { λ _. ⌜ SameFrom (8 * length (now (kind .entry))) (now (work .entry)) (now (work .exit)) ⌝ }
 {
     if sinks.len() == 0 {
         return TurnMade::Nothing;
     }
     let factor = tariff.factor;
-    let answer = search::cheapest_path(
+    let found = found_path(
+        tariff.aimed,
         kind,
         capacity,
         first_edge,
@@ -131,6 +203,8 @@ fn one_turn(
         in_tree,
         sinks,
     );
+    let expanded = found.expanded as u64;
+    let answer = found.answer;
     let PathAnswer::Joins {
         place,
         cost,
@@ -148,7 +222,8 @@ fn one_turn(
     let iteration = tariff.iteration;
     records::write_record(log, at, iteration, net, sinks[p] as u32, cost, work, count);
     trees::mark_path(work, count, in_tree);
-    TurnMade::Logged(tariff::turn_logged(tariff, 6 + count))
+    let logged = tariff::turn_logged(tariff, 6 + count);
+    TurnMade::Logged(tariff::turn_counted(logged, expanded))
 }
 
 // The next turn of a net, whose sinks stand in table 7 from one place to below another: for all of them, in a timed job for the one whose
@@ -191,7 +266,8 @@ fn net_turn(
       let congestion = weighedCongestion weighting (now (delay .entry)) (tariff .factor) (now (history .entry)) (now (users .entry))
       let tried = sinksTried timed joined sinks criticalities
       let made = turn block (priceAt block congestion) marks tried
-      ⌜ TurnDone r made tariff net tried (now (log .entry)) marks (now (log .exit)) (now («in_tree» .exit)) ⌝ }
+      let count = turnCount (tariff .aimed) block congestion marks tried
+      ⌜ TurnDone r made count tariff net tried (now (log .entry)) marks (now (log .exit)) (now («in_tree» .exit)) ⌝ }
     ensures { λ _. ⌜ SameFrom (8 * length (now (kind .entry))) (now (work .entry)) (now (work .exit)) ⌝ }
 {
     let aim = order::next_aim(timed, sink, criticality, from, to, in_tree);
@@ -242,11 +318,8 @@ fn go_on(
     requires { do
       let job = jobOf (now kind) (now capacity) (now «first_edge») (now «edge_target») (now source) (now «first_sink») (now sink)
           (now delay) (now criticality) terms
-      ⌜ Routable job × (nets job ≤ unreachableNet job) × (8 * nodes job ≤ length (now work)) ⌝ }
-    requires { do
-      let job = jobOf (now kind) (now capacity) (now «first_edge») (now «edge_target») (now source) (now «first_sink») (now sink)
-          (now delay) (now criticality) terms
-      ⌜ SomeReady job begun (now history) (now users) (now «in_tree») (now «tree_from») (now «tree_to») (now due) (now log) ⌝ }
+      ⌜ (Routable job × (nets job ≤ unreachableNet job) × (8 * nodes job ≤ length (now work)))
+          × SomeReady job begun (now history) (now users) (now «in_tree») (now «tree_from») (now «tree_to») (now due) (now log) ⌝ }
     ensures { λ r. do
       let job = jobOf (now (kind .entry)) (now (capacity .entry)) (now («first_edge» .entry)) (now («edge_target» .entry))
           (now (source .entry)) (now («first_sink» .entry)) (now (sink .entry)) (now (delay .entry)) (now (criticality .entry)) terms
@@ -254,6 +327,14 @@ fn go_on(
           → Ready job p begun (now (history .entry)) (now (users .entry)) (now («in_tree» .entry)) (now («tree_from» .entry))
           (now («tree_to» .entry)) (now (due .entry)) (now (log .entry))
           → routeReplyOf r (now (work .exit)) (now (log .exit)) ≡ continued job p (now (work .entry)) (now (log .entry))) ⌝ }
+    ensures expanded { λ r. do
+      let job = jobOf (now (kind .entry)) (now (capacity .entry)) (now («first_edge» .entry)) (now («edge_target» .entry))
+          (now (source .entry)) (now («first_sink» .entry)) (now (sink .entry)) (now (delay .entry)) (now (criticality .entry)) terms
+      let made = turnsLogged (routeReplyOf r (now (work .exit)) (now (log .exit)))
+      ⌜ ((p : Progress) (m : ℕ)
+          → Ready job p begun (now (history .entry)) (now (users .entry)) (now («in_tree» .entry)) (now («tree_from» .entry))
+          (now («tree_to» .entry)) (now (due .entry)) (now (log .entry))
+          → Ran job m (p .records) (p .state) → r .expanded ≡ expandedAfter (begun .aimed) job (p .records) made) ⌝ }
 {
     let n = kind.len();
     let mut tariff = begun;
@@ -370,11 +451,8 @@ fn start_at(
     requires { do
       let job = jobOf (now kind) (now capacity) (now «first_edge») (now «edge_target») (now source) (now «first_sink») (now sink)
           (now delay) (now criticality) terms
-      ⌜ Routable job ⌝ }
-    requires { do
-      let job = jobOf (now kind) (now capacity) (now «first_edge») (now «edge_target») (now source) (now «first_sink») (now sink)
-          (now delay) (now criticality) terms
-      ⌜ Ready job (unbegun job) begun (now history) (now users) (now «in_tree») (now «tree_from») (now «tree_to») (now due)
+      ⌜ Routable job
+          × Ready job (unbegun job) begun (now history) (now users) (now «in_tree») (now «tree_from») (now «tree_to») (now due)
           (now log) ⌝ }
     ensures { λ r. do
       let job = jobOf (now (kind .entry)) (now (capacity .entry)) (now («first_edge» .entry)) (now («edge_target» .entry))
@@ -438,16 +516,18 @@ fn run_from(
     requires { do
       let job = jobOf (now kind) (now capacity) (now «first_edge») (now «edge_target») (now source) (now «first_sink») (now sink)
           (now delay) (now criticality) terms
-      ⌜ Routable job × (nets job ≤ unreachableNet job) × (8 * nodes job ≤ length (now work)) ⌝ }
-    requires { do
-      let job = jobOf (now kind) (now capacity) (now «first_edge») (now «edge_target») (now source) (now «first_sink») (now sink)
-          (now delay) (now criticality) terms
-      ⌜ Ready job (unbegun job) begun (now history) (now users) (now «in_tree») (now «tree_from») (now «tree_to») (now due)
+      ⌜ (Routable job × (nets job ≤ unreachableNet job) × (8 * nodes job ≤ length (now work)))
+          × Ready job (unbegun job) begun (now history) (now users) (now «in_tree») (now «tree_from») (now «tree_to») (now due)
           (now log) ⌝ }
     ensures { λ r. do
       let job = jobOf (now (kind .entry)) (now (capacity .entry)) (now («first_edge» .entry)) (now («edge_target» .entry))
           (now (source .entry)) (now («first_sink» .entry)) (now (sink .entry)) (now (delay .entry)) (now (criticality .entry)) terms
       ⌜ routeReplyOf r (now (work .exit)) (now (log .exit)) ≡ runFrom start job (now (work .entry)) (now (log .entry)) ⌝ }
+    ensures expanded { λ r. do
+      let job = jobOf (now (kind .entry)) (now (capacity .entry)) (now («first_edge» .entry)) (now («edge_target» .entry))
+          (now (source .entry)) (now («first_sink» .entry)) (now (sink .entry)) (now (delay .entry)) (now (criticality .entry)) terms
+      let made = turnsLogged (routeReplyOf r (now (work .exit)) (now (log .exit)))
+      ⌜ r .expanded ≡ expandedAfter (begun .aimed) job (lentRecords start (now (log .entry))) made ⌝ }
 {
     match start_at(
         kind,
@@ -485,7 +565,7 @@ fn run_from(
             delay,
             criticality,
             terms,
-            tariff,
+            tariff::going_on(tariff, begun.aimed),
             history,
             users,
             in_tree,
@@ -511,6 +591,7 @@ pub fn negotiate(
     criticality: &[u8],
     terms: Terms,
     start: Start,
+    aimed: bool,
     work: &mut [u64],
     log: &mut [u32],
 ) -> RouteAnswer
@@ -522,6 +603,11 @@ pub fn negotiate(
       let job = jobOf (now (kind .entry)) (now (capacity .entry)) (now («first_edge» .entry)) (now («edge_target» .entry))
           (now (source .entry)) (now («first_sink» .entry)) (now (sink .entry)) (now (delay .entry)) (now (criticality .entry)) terms
       ⌜ routeReplyOf r (now (work .exit)) (now (log .exit)) ≡ runFrom start job (now (work .entry)) (now (log .entry)) ⌝ }
+    ensures expanded { λ r. do
+      let job = jobOf (now (kind .entry)) (now (capacity .entry)) (now («first_edge» .entry)) (now («edge_target» .entry))
+          (now (source .entry)) (now («first_sink» .entry)) (now (sink .entry)) (now (delay .entry)) (now (criticality .entry)) terms
+      let made = turnsLogged (routeReplyOf r (now (work .exit)) (now (log .exit)))
+      ⌜ r .expanded ≡ expandedAfter aimed job (lentRecords start (now (log .entry))) made ⌝ }
 {
     let n = kind.len();
     let nets = source.len();
@@ -536,6 +622,8 @@ pub fn negotiate(
         factor: 0,
         turns: 0,
         words: 0,
+        aimed: aimed,
+        expanded: 0,
     };
     run_from(
         kind,

@@ -128,6 +128,7 @@ fn line(
         delay,
         criticality,
         terms,
+        false,
         work,
         log,
     ));
@@ -195,6 +196,7 @@ fn resume_line(
         delay,
         criticality,
         terms,
+        false,
         used,
         work,
         log,

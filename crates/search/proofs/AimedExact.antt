@@ -1,5 +1,6 @@
 -- Why both passes of an aimed turn are right, over labels and settled nodes as functions.
 --     back-exact   the backward pass: a label is the estimate, or the estimate is at least the level
+--     back-above   it is never below the estimate
 --     back-bound   a tree node's label bounds the joined sink's distance
 --     aim-exact    the forward pass: a node whose distance and estimate together are below its level has its distance, and is settled
 --     aim-final    so has a node that is settled at the level, and there its distance and estimate together are the level
@@ -23,7 +24,7 @@ use Rattle.search.specs.Distance.{far, inTree, distance}
 use Rattle.search.specs.Turn.{nearestDistance, nearestPlace}
 use Rattle.search.specs.Aimed.{estimate, expands}
 use Rattle.search.proofs.EdgeLaws.{Shaped, edge-node}
-use Rattle.search.proofs.WalkLaws.{stay-cost, step-cost, walk-start}
+use Rattle.search.proofs.WalkLaws.{step-cost, walk-start}
 use Rattle.search.proofs.DistanceLaws.{distance-top, distance-tree, distance-step, distance-over}
 use Rattle.search.proofs.NearestLaws.{nearest}
 use Rattle.search.proofs.PriceSameLaws.{beyond}
@@ -66,7 +67,7 @@ module _ (b : Block) (price weight : ℕ → ℕ) (marks sinks : List ℕ) (g : 
       (back-walk h l o w)
 
   -- a label is never below the estimate
-  back-above : (v : ℕ) → v < nodes b → estimate b weight marks sinks v ≤ label v
+  pub back-above : (v : ℕ) → v < nodes b → estimate b weight marks sinks v ≤ label v
   back-above v h =
       ⊎-elim
       (λ (m : far ≤ label v). omega (arith, est-top b weight marks sinks v))
@@ -123,7 +124,7 @@ module _ (b : Block) (price weight : ℕ → ℕ) (marks sinks : List ℕ) (g : 
   est v = estimate b weight marks sinks v
 
   -- no label is below the distance: by the node it was reached from, which is nearer
-  never-below : (k v : ℕ) → d v < k → v < nodes b → distance b price marks v ≤ d v
+  pub never-below : (k v : ℕ) → d v < k → v < nodes b → distance b price marks v ≤ d v
   never-below zero v l hv = absurd (omega arith)
   never-below (suc k) v l hv =
       ⊎-elim

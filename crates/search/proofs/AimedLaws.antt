@@ -1,6 +1,8 @@
 -- Laws of the aimed search, over its definitions alone.
 --     est-least, est-walk    the estimate is the least cost of a walk to an unjoined sink, at the weights
 --     est-step               it is consistent: along an edge it falls by no more than the weight of the node that the edge leads to
+--     est-most               one below `far` is at most so many of the largest weight as there are nodes
+--     walk-none              a node from which a walk at no weight leads to an unjoined sink is that sink
 --     weight-least           no price is below the weight
 --     tight-expands          with a node, every node over which it has its distance is expanded; so is the joined sink (sink-expands)
 --     expanded-same          prices that are the same on nodes expand as many nodes
@@ -9,8 +11,8 @@ use mathlib.Core.Bool.{true, false}
 use mathlib.Core.List.{List, [], _∷_, map}
 use mathlib.Core.Logic.{⊎-elim}
 use mathlib.Core.Path.{_≡_, refl, sym, _∙_, ap, subst}
-use Prim.Native.Nat.{ℕ, _+_, _-_, _*_, _≤_, _<_}
-use native.Mathlib.Nat.{le-trans, le-of-eq, le-refl, le-antisymm, mul-le-mul, mul-pos}
+use Prim.Native.Nat.{ℕ, suc, _+_, _-_, _*_, _≤_, _<_, suc-le-suc, zero-le}
+use native.Mathlib.Nat.{le-trans, le-of-eq, le-refl, le-antisymm, mul-le-mul, mul-le-mul-right, mul-pos}
 use native.Mathlib.Omega.{arith}
 use lib.Dec.{eqb}
 use lib.ListN.{length, getD, length-map}
@@ -21,7 +23,7 @@ use Rattle.price.specs.Lists.{has, least, countBelow}
 use Rattle.price.specs.Prices.{baseCost, priceOf}
 use Rattle.price.specs.declared.Weighting.{Weighting}
 use Rattle.price.proofs.TestLaws.{either-way, le-or-lt}
-use Rattle.price.proofs.ListLaws.{has-at, has-place, getD-upTo}
+use Rattle.price.proofs.ListLaws.{has-at, has-place, getD-upTo, total-most}
 use Rattle.price.proofs.EntryLaws.{least-top, least-le, least-is}
 use Rattle.price.proofs.BelowLaws.{count-same}
 use Rattle.price.proofs.PriceLaws.{base-pos, base-most, price-least}
@@ -32,7 +34,7 @@ use Rattle.search.specs.Distance.{far, inTree, distances, distance}
 use Rattle.search.specs.Turn.{Congestion, congestedAt, priceAt, openDistance, openDistances, before, nearestDistance}
 use Rattle.search.specs.Aimed.{scaleOf, weightAt, alone, estimate, expands, expanded}
 use Rattle.search.proofs.EdgeLaws.{Shaped}
-use Rattle.search.proofs.WalkLaws.{stay-cost, step-cost, walk-start}
+use Rattle.search.proofs.WalkLaws.{stay-cost, step-cost, walk-start, walk-nodes, shorten}
 use Rattle.search.proofs.DistanceLaws.{no-path-cheaper, some-path, path-near}
 use Rattle.search.proofs.BeforeLaws.{before-edge, before-sum}
 use Rattle.search.proofs.NearestLaws.{getD-map-lt, open-least}
@@ -119,6 +121,15 @@ pub record WalkOut (b : Block) (marks sinks : List ℕ) (v : ℕ) (path : List �
   pub out : inTree marks sink ≡ false
   pub walk : Walk b v path sink
 
+-- at most as many nodes as the block has cost at most so many of the largest weight
+few-cost :
+    (b : Block) (weight : ℕ → ℕ) (most : ℕ) → ((v : ℕ) → v < nodes b → weight v ≤ most) → (path : List ℕ) → ((i : ℕ) → i < length path → getD path i 0 < nodes b)
+    → length path ≤ nodes b → pathCost weight path ≤ nodes b * most
+unfolding pathCost
+few-cost b weight most low [] ns few = zero-le
+few-cost b weight most low (u ∷ path) ns few =
+    le-trans (total-most weight most path (λ i l. low (getD path i 0) (ns (suc i) (suc-le-suc l)))) (mul-le-mul-right most (omega arith))
+
 module _ (b : Block) (weight : ℕ → ℕ) (marks sinks : List ℕ) where
   pub est-top : (v : ℕ) → estimate b weight marks sinks v ≤ far
   unfolding estimate
@@ -172,6 +183,28 @@ module _ (b : Block) (weight : ℕ → ℕ) (marks sinks : List ℕ) where
         (p .0, record { sink = getD sinks (q .0) 0; node = p .1; listed = has-at sinks (q .0) l; out = t; walk = p .2 }, p .3 ∙ d))
         (either-way (inTree marks (getD sinks (q .0) 0))))
         (least-is far (map f sinks))
+
+    -- that walk need not have a node twice
+    pub est-most : (most : ℕ) → ((v : ℕ) → v < nodes b → weight v ≤ most) → (v : ℕ) → estimate b weight marks sinks v < far → estimate b weight marks sinks v ≤ nodes b * most
+    est-most most low v near =
+        let w = est-walk v near .1 in
+        let s = shorten g weight fair (w .node) (w .walk) in
+        le-trans
+        (est-least (record { sink = w .sink; node = w .node; listed = w .listed; out = w .out; walk = s .walk }))
+        (few-cost b weight most low (s .path′) (walk-nodes g (w .node) (s .walk)) (s .few))
+
+    -- a walk at no cost stays
+    walk-stays :
+        {v s : ℕ} {path : List ℕ} → s < nodes b → has s sinks ≡ true → inTree marks s ≡ false → Walk b v path s → pathCost weight path ≡ 0
+        → (has v sinks ≡ true) × (inTree marks v ≡ false)
+    walk-stays h l o (stay u) none = (l, o)
+    walk-stays h l o (step {u = u} {w = x} e w) none =
+        let pos = fair .pos x (walk-start g h w) in
+        absurd (omega (arith, step-cost weight u w))
+
+    -- so it starts at an unjoined sink
+    pub walk-none : {v : ℕ} {path : List ℕ} → WalkOut b marks sinks v path → pathCost weight path ≡ 0 → (has v sinks ≡ true) × (inTree marks v ≡ false)
+    walk-none {v} {path} w none = walk-stays (w .node) (w .listed) (w .out) (w .walk) none
 
     -- an unjoined sink is at no cost
     pub est-sink : (s : ℕ) → s < nodes b → has s sinks ≡ true → inTree marks s ≡ false → estimate b weight marks sinks s ≡ 0

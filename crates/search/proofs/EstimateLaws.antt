@@ -4,12 +4,12 @@ use mathlib.Core.Bool.{true, false}
 use mathlib.Core.List.{List, [], _∷_}
 use mathlib.Core.Logic.{_⊎_, ⊎-elim, inl, inr}
 use mathlib.Core.Path.{_≡_, refl, sym, _∙_, ap}
-use Prim.Native.Nat.{ℕ, _+_, _-_, _*_, _≤_, _<_, min}
+use Prim.Native.Nat.{ℕ, _+_, _*_, _≤_, _<_, min}
 use native.Mathlib.Nat.{min-eq-left, min-eq-right}
 use native.Mathlib.Omega.{arith}
 use lib.ListN.{length, getD, set, length-set}
-use borrow.Author.Tests.{eq-eqb}
-use Rattle.price.specs.Bounds.{kindMost, criticalityMost}
+use borrow.Author.Tests.{eq-eqb, ne-eqb}
+use Rattle.price.specs.Bounds.{kindMost, nodesMost, criticalityMost}
 use Rattle.price.specs.Prices.{baseCost, overuse, priceOf}
 use Rattle.price.specs.Replies.{PriceReply, priceReplyOf, priced}
 use Rattle.price.specs.Timed.{timedPrice, weighed, weighedReply, WeighedInBounds}
@@ -18,12 +18,13 @@ use Rattle.price.specs.declared.PriceAnswer.the-variants.{Price, Refused}
 use Rattle.price.specs.declared.Weighting.{Weighting}
 use Rattle.price.proofs.TestLaws.{either-way, le-or-lt}
 use Rattle.price.proofs.TimedLaws.{weighed-priced, weighed-timed, weighed-untimed, bound-least}
-use Rattle.search.specs.Block.{Block, blockOf, graphOf, nodes}
+use Rattle.search.specs.Block.{blockOf, graphOf}
+use Rattle.search.specs.Paths.{Fair}
 use Rattle.search.specs.Distance.{far, inTree}
-use Rattle.search.specs.Layout.{entryAt, leafAt, HeapAt, Heap, SameBut}
-use Rattle.search.specs.Aimed.{scaleOf, weightAt}
-use Rattle.search.specs.Estimates.{guessAt, walkAt, weightMost, WeightReady, Queued, Guessed}
-use Rattle.search.proofs.AimedLaws.{scale-timed, scale-untimed, weight-most}
+use Rattle.search.specs.Layout.{entryAt, HeapAt, Heap, SameBut}
+use Rattle.search.specs.Aimed.{weightAt}
+use Rattle.search.specs.Estimates.{weightMost, WeightReady, Beside, Queued, Guessed}
+use Rattle.search.proofs.AimedLaws.{scale-timed, scale-untimed, weight-most, weight-fair}
 use Rattle.search.proofs.StoreLaws.{store-here, store-other}
 
 -- ---- a node's weight
@@ -32,6 +33,15 @@ use Rattle.search.proofs.StoreLaws.{store-here, store-other}
 pub weight-kinds : (ks cs fs ts : List ℕ) (w : Weighting) (v : ℕ) → weightAt (graphOf ks [] []) w v ≡ weightAt (blockOf ks cs fs ts) w v
 unfolding weightAt
 weight-kinds ks cs fs ts w v = refl
+
+-- no node weighs more than this, and a search can work with the weights
+module _ {ks : List ℕ} {w : Weighting} (r : WeightReady ks w) where
+  pub weights-light : (v : ℕ) → v < length ks → weightAt (graphOf ks [] []) w v ≤ weightMost
+  weights-light v h = weight-most w (r .criticality-most) (graphOf ks [] []) v (r .kind-most v h)
+
+  pub weights-fair : (fs ts : List ℕ) → length ks ≤ nodesMost → Fair (graphOf ks fs ts) (weightAt (graphOf ks [] []) w)
+  unfolding weightAt
+  weights-fair fs ts few = weight-fair w (r .criticality-most) (graphOf ks fs ts) few (r .kind-most)
 
 module _ (k : ℕ) where
   alone-price : priceOf k 0 0 1 1 ≡ 100 * baseCost k
@@ -75,13 +85,30 @@ module _ {ks : List ℕ} {w : Weighting} {v : ℕ} (r : WeightReady ks w) (h : v
   pub weight-told : {a : PriceAnswer} {p : ℕ} → a ≡ Price p → priceReplyOf a ≡ weighedReply w kind 0 0 1 1 0 → (p ≡ weightAt (graphOf ks [] []) w v) × (p ≤ weightMost)
   weight-told {a} {p} is e =
       let here : p ≡ weightAt (graphOf ks [] []) w v = ap (λ (x : PriceReply). x .price) (sym (ap priceReplyOf is) ∙ e ∙ told) in
-      (here, rw here (weight-most w (r .criticality-most) (graphOf ks [] []) v (r .kind-most v h)))
+      (here, rw here (weights-light r v h))
 
   pub weight-not-refused : {a : PriceAnswer} {place : ℕ} → a ≡ Refused place → priceReplyOf a ≡ weighedReply w kind 0 0 1 1 0 → ⊥
   weight-not-refused {a} {place} is e =
       let refusal : 13 ∷ place ∷ [] ≡ [] = ap (λ (x : PriceReply). x .refusal) (sym (ap priceReplyOf is) ∙ e ∙ told) in
       let z : _≡_ {A = ℕ} 0 1 = cc in
       omega arith
+
+-- ---- places outside queue and estimates
+
+pub beside-none : (n : ℕ) (w : List ℕ) → Beside n w w
+beside-none n w = record { long = refl; low = λ j l. refl; middle = λ j l m. refl; beyond = λ j l. refl }
+
+pub beside-more : {n : ℕ} {w w′ w″ : List ℕ} → Beside n w w′ → Beside n w′ w″ → Beside n w w″
+beside-more s t =
+    record {
+      long = t .long ∙ s .long;
+      low = λ j l. t .low j l ∙ s .low j l;
+      middle = λ j l m. t .middle j l m ∙ s .middle j l m;
+      beyond = λ j l. t .beyond j l ∙ s .beyond j l;
+    }
+
+pub beside-queued : {n v key : ℕ} {w w′ : List ℕ} → Queued n v key w w′ → Beside n w w′
+beside-queued q = record { long = q .long; low = q .low; middle = λ j l m. q .high j l; beyond = λ j l. q .high j (omega arith) }
 
 -- ---- stores
 
@@ -123,7 +150,13 @@ guessed {n} {weight} {u} {guess} {cost} {own} {w} {w′} h room is q =
     let else : (j : ℕ) → (j ≡ 6 * n + u → ⊥) → (j ≡ 7 * n + u → ⊥) → getD (set w₁ (7 * n + u) cost) j 0 ≡ getD w′ j 0 =
     λ j a b. store-other w₁ (7 * n + u) cost j b ∙ store-other w′ (6 * n + u) guess j a in
     record {
-      long = length-set w₁ (7 * n + u) cost ∙ long₁;
+      same =
+          record {
+            long = length-set w₁ (7 * n + u) cost ∙ long₁;
+            low = λ j l. else j (λ e. omega arith) (λ e. omega arith) ∙ q .low j l;
+            middle = λ j l m. else j (λ e. omega arith) (λ e. omega arith) ∙ q .high j l;
+            beyond = λ j l. else j (λ e. omega arith) (λ e. omega arith) ∙ q .high j (omega arith);
+          };
       heap = heap-beyond n w₁ (7 * n + u) cost (omega arith) (heap-beyond n w′ (6 * n + u) guess (omega arith) (q .heap));
       guess-here =
           store-other w₁ (7 * n + u) cost (6 * n + u) (λ e. omega arith) ∙ store-here w′ (6 * n + u) guess (omega (arith, q .long));
@@ -132,11 +165,13 @@ guessed {n} {weight} {u} {guess} {cost} {own} {w} {w′} h room is q =
       guess-other = λ x l d. else (6 * n + x) (λ e. d (omega arith)) (λ e. omega arith) ∙ q .high (6 * n + x) (omega arith);
       walk-other = λ x l d. else (7 * n + x) (λ e. omega arith) (λ e. d (omega arith)) ∙ q .high (7 * n + x) (omega arith);
       leaf-other = λ x l d. else (2 * n + x) (λ e. omega arith) (λ e. omega arith) ∙ q .leaf-other x l d;
-      low = λ j l. else j (λ e. omega arith) (λ e. omega arith) ∙ q .low j l;
-      middle = λ j l m. else j (λ e. omega arith) (λ e. omega arith) ∙ q .high j l;
     }
 
 -- a mark of 1
 pub marked-in : (marks : List ℕ) (u : ℕ) → getD marks u 0 ≡ 1 → inTree marks u ≡ true
 unfolding inTree
 marked-in marks u e = eq-eqb (getD marks u 0) 1 e
+
+pub unmarked-out : (marks : List ℕ) (u : ℕ) → (getD marks u 0 ≡ 1 → ⊥) → inTree marks u ≡ false
+unfolding inTree
+unmarked-out marks u e = ne-eqb (getD marks u 0) 1 e

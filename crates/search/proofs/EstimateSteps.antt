@@ -4,9 +4,9 @@
 -- Assumes nothing.
 use mathlib.Core.Bool.{true}
 use mathlib.Core.List.{List}
-use mathlib.Core.Logic.{_⊎_, ⊎-elim, inl, inr}
+use mathlib.Core.Logic.{⊎-elim, inl, inr}
 use mathlib.Core.Path.{_≡_, refl, sym, _∙_, ap, subst}
-use Prim.Native.Nat.{ℕ, _+_, _-_, _*_, _≤_, _<_}
+use Prim.Native.Nat.{ℕ, _-_, _≤_, _<_}
 use native.Mathlib.Omega.{arith}
 use lib.ListN.{length, getD}
 use Rattle.price.proofs.TestLaws.{le-or-lt}
@@ -18,6 +18,7 @@ use Rattle.search.specs.Links.{InRow, Linked}
 use Rattle.search.specs.Estimates.{keyMost, guessAt, Guessed, Tried, has-one, gets-one, Reguessed, kept, fresh, TreeGuessed, Reguessing, GuessedBefore}
 use Rattle.search.proofs.BlockLaws.{edge-from, edge-place}
 use Rattle.search.proofs.QueueLaws.{same-or-not}
+use Rattle.search.proofs.EstimateLaws.{beside-none, beside-more}
 use Rattle.search.proofs.LinkLaws.{row-place, row-unique, last-next, earlier-next, from-linked}
 
 -- ---- one node
@@ -70,11 +71,9 @@ module _ {b : Block} {weight : ℕ → ℕ} {marks : List ℕ} {v guess cost : �
   pub reguess-none : {w : List ℕ} {bound : ℕ} → Heap (nodes b) w → Reguessing b weight marks v guess cost w w bound bound
   reguess-none heap =
       record {
-        long = refl;
+        same = beside-none _ _;
         heap = heap;
         each = λ u h. kept refl refl refl;
-        low = λ j l. refl;
-        middle = λ j l m. refl;
         bounds = inl refl;
       }
 
@@ -86,15 +85,13 @@ module _ {b : Block} {weight : ℕ → ℕ} {marks : List ℕ} {v guess cost : �
   reguess-more {w} {w′} {w″} {bound} {bound₁} {bound₂} {u} small s h e (gets-one blank t bounds) =
       let old : guessAt (nodes b) w u ≡ far = was-blank (s .each u h) blank in
       record {
-        long = t .long ∙ s .long;
+        same = beside-more (s .same) (t .same);
         heap = t .heap;
         each = λ x l.
             ⊎-elim
             (λ (q : x ≡ u). rw q (fresh old e (t .guess-here) (t .walk-here) (t .leaf-here)))
             (λ (d : x ≡ u → ⊥). still l d t (s .each x l))
             (same-or-not x u);
-        low = λ j l. t .low j l ∙ s .low j l;
-        middle = λ j l m. t .middle j l m ∙ s .middle j l m;
         bounds =
             ⊎-elim
             (λ (q : bound₂ ≡ bound₁).

@@ -29,7 +29,14 @@
 --     AimedSample     the definitions compute, on a block of five nodes
 --     LinkLaws        the edges by their target, as linked lists
 --     EstimateLaws    the estimates in the work slice
+--     EstimateStart   none stands, then the unjoined sinks have theirs
 --     EstimateSteps   the nodes before a node get their estimates, edge by edge
+--     EstimateRun     one node after the other, the nearest first; theorem: the estimates are right as far as a turn needs them
+--     AimStores       the first keys of all nodes, a shorter way, the least distance of a sink so far
+--     AimRows         the edges of a node, one after the other
+--     AimSteps        one node after the other is expanded, each at its distance
+--     AimEnds         the first keys, and what is left at the end: cost, count, distances and predecessors
+--     AimedTurnLaws   a turn, step by step: linked, estimated, aimed; its predecessors moved and its path read off
 --
 -- The work slice
 --     StoreLaws       a store at one place of a list
@@ -67,6 +74,7 @@
 --     FitLaws         how the test of all lengths decides
 --     PathReplyLaws   the answer of a turn by its cases, for the crate above
 --     AnswersHold     theorem: what the answers are in terms of paths alone
+--     AimedReplyLaws  the reply of the search that aims: a turn, a refusal, and the answer in terms of paths alone
 -- Assumes nothing.
 pub mod BlockLaws
 pub mod EdgeLaws
@@ -96,7 +104,14 @@ pub mod QueueLaws
 pub mod LevelLaws
 pub mod LinkLaws
 pub mod EstimateLaws
+pub mod EstimateStart
 pub mod EstimateSteps
+pub mod EstimateRun
+pub mod AimStores
+pub mod AimRows
+pub mod AimSteps
+pub mod AimEnds
+pub mod AimedTurnLaws
 pub mod Exactness
 pub mod BestLaws
 pub mod FrontierSteps
@@ -122,3 +137,4 @@ pub mod PathTestLaws
 pub mod FitLaws
 pub mod PathReplyLaws
 pub mod AnswersHold
+pub mod AimedReplyLaws

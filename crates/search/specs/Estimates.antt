@@ -2,17 +2,23 @@
 -- from n, prices from 3 n, goal marks from 5 n, estimates from 6 n, and from 7 n what the walk that each of them stands for costs at the
 -- turn's prices. Only the contracts of private functions cite this file: no caller has to believe it.
 -- Assumes nothing.
-use mathlib.Core.Bool.{true}
-use mathlib.Core.List.{List}
+use mathlib.Core.Bool.{true, false}
+use mathlib.Core.List.{List, []}
 use mathlib.Core.Logic.{_⊎_}
 use mathlib.Core.Path.{_≡_}
 use Prim.Native.Nat.{ℕ, _+_, _*_, _≤_, _<_}
 use lib.ListN.{length, getD}
-use Rattle.price.specs.Bounds.{kindMost, baseMost, pathMost, criticalityMost}
+use Rattle.price.specs.Bounds.{kindMost, baseMost, nodesMost, criticalityMost}
+use Rattle.price.specs.Lists.{has}
 use Rattle.price.specs.declared.Weighting.{Weighting}
-use Rattle.search.specs.Block.{Block, nodes, hasEdge}
+use Rattle.search.specs.Block.{Block, graphOf, nodes, hasEdge}
+use Rattle.search.specs.Paths.{Fair}
 use Rattle.search.specs.Distance.{far, inTree}
-use Rattle.search.specs.Layout.{leafAt, Heap}
+use Rattle.search.specs.Turn.{nearestDistance}
+use Rattle.search.specs.Replies.{sinksMost}
+use Rattle.search.specs.Layout.{entryAt, leafAt, priceIn, Heap}
+use Rattle.search.specs.Links.{Links}
+use Rattle.search.specs.Aimed.{estimate, weightAt}
 
 -- the estimate so far, 2^64 − 1 where there is none; and what its walk costs
 abbrev pub guessAt : ℕ → List ℕ → ℕ → ℕ
@@ -25,14 +31,21 @@ walkAt n w v = getD w (7 * n + v) 0
 abbrev pub weightMost : ℕ
 weightMost = 10 * (100 * baseMost)
 
--- an estimate with the weight of its node is at most this
+-- an estimate with the weight of its node is at most this: a walk has no node twice
 abbrev pub keyMost : ℕ
-keyMost = pathMost + weightMost
+keyMost = nodesMost * weightMost + weightMost
 
 -- kinds and criticality are such that each node has a weight
 pub record WeightReady (kinds : List ℕ) (w : Weighting) : Type 0 where
   pub kind-most : (v : ℕ) → v < length kinds → getD kinds v 0 ≤ kindMost
   pub criticality-most : w .timed ≡ true → w .criticality ≤ criticalityMost
+
+-- w′ is w but for the queue and the estimates
+pub record Beside (n : ℕ) (w w′ : List ℕ) : Type 0 where
+  pub long : length w′ ≡ length w
+  pub low : (j : ℕ) → j < n → getD w′ j 0 ≡ getD w j 0
+  pub middle : (j : ℕ) → 3 * n ≤ j → j < 6 * n → getD w′ j 0 ≡ getD w j 0
+  pub beyond : (j : ℕ) → 8 * n ≤ j → getD w′ j 0 ≡ getD w j 0
 
 -- w′ is w with node v in the queue at this key
 pub record Queued (n v key : ℕ) (w w′ : List ℕ) : Type 0 where
@@ -45,7 +58,7 @@ pub record Queued (n v key : ℕ) (w w′ : List ℕ) : Type 0 where
 
 -- w′ is w with an estimate on node u, by a walk of this cost; u waits in the queue at the estimate and its weight together
 pub record Guessed (n : ℕ) (weight : ℕ → ℕ) (u guess cost : ℕ) (w w′ : List ℕ) : Type 0 where
-  pub long : length w′ ≡ length w
+  pub same : Beside n w w′
   pub heap : Heap n w′
   pub guess-here : guessAt n w′ u ≡ guess
   pub walk-here : walkAt n w′ u ≡ cost
@@ -53,8 +66,6 @@ pub record Guessed (n : ℕ) (weight : ℕ → ℕ) (u guess cost : ℕ) (w w′
   pub guess-other : (x : ℕ) → x < n → (x ≡ u → ⊥) → guessAt n w′ x ≡ guessAt n w x
   pub walk-other : (x : ℕ) → x < n → (x ≡ u → ⊥) → walkAt n w′ x ≡ walkAt n w x
   pub leaf-other : (x : ℕ) → x < n → (x ≡ u → ⊥) → leafAt n w′ x ≡ leafAt n w x
-  pub low : (j : ℕ) → j < n → getD w′ j 0 ≡ getD w j 0
-  pub middle : (j : ℕ) → 3 * n ≤ j → j < 6 * n → getD w′ j 0 ≡ getD w j 0
 
 -- node u has got an estimate where it had none, else all is as before; `bound` is as before, or the cost where u is in the tree
 pub data Tried (n : ℕ) (weight : ℕ → ℕ) (marks : List ℕ) (u guess cost : ℕ) (w w′ : List ℕ) (bound bound′ : ℕ) : Type 0 where
@@ -83,14 +94,76 @@ pub record TreeGuessed (n : ℕ) (marks : List ℕ) (cost : ℕ) (w w′ : List 
 
 -- nodes that have an edge to v have been given this estimate where they had none, others not; what stands outside queue and estimates stays
 pub record Reguessing (b : Block) (weight : ℕ → ℕ) (marks : List ℕ) (v guess cost : ℕ) (w w′ : List ℕ) (bound bound′ : ℕ) : Type 0 where
-  pub long : length w′ ≡ length w
+  pub same : Beside (nodes b) w w′
   pub heap : Heap (nodes b) w′
   pub each : (u : ℕ) → u < nodes b → Reguessed b weight v guess cost w w′ u
-  pub low : (j : ℕ) → j < nodes b → getD w′ j 0 ≡ getD w j 0
-  pub middle : (j : ℕ) → 3 * nodes b ≤ j → j < 6 * nodes b → getD w′ j 0 ≡ getD w j 0
   pub bounds : (bound′ ≡ bound) ⊎ ((bound′ ≡ cost) × TreeGuessed (nodes b) marks cost w w′)
 
 -- all that have an edge to v have been looked at
 pub record GuessedBefore (b : Block) (weight : ℕ → ℕ) (marks : List ℕ) (v guess cost : ℕ) (w w′ : List ℕ) (bound bound′ : ℕ) : Type 0 where
   pub some : Reguessing b weight marks v guess cost w w′ bound bound′
   pub all : (u : ℕ) → hasEdge b u v ≡ true → guessAt (nodes b) w′ u ≡ far → ⊥
+
+-- ---- the beginning of a pass
+
+-- w′ is w with no estimate on the nodes below i, and none of them waits: with i = n the queue is empty
+pub record Unguessed (n : ℕ) (w w′ : List ℕ) (i : ℕ) : Type 0 where
+  pub same : Beside n w w′
+  pub entries : (v : ℕ) → v < i → entryAt n w′ v ≡ far
+  pub leaves : (v : ℕ) → v < i → leafAt n w′ v ≡ far
+  pub guesses : (v : ℕ) → v < i → guessAt n w′ v ≡ far
+
+-- v is an unjoined sink, has estimate 0 and waits
+pub record SinkWaits (n : ℕ) (weight : ℕ → ℕ) (marks sinks w : List ℕ) (v : ℕ) : Type 0 where
+  pub listed : has v sinks ≡ true
+  pub out : inTree marks v ≡ false
+  pub guess-here : guessAt n w v ≡ 0
+  pub walk-here : walkAt n w v ≡ 0
+  pub leaf-here : leafAt n w v ≡ weight v
+
+-- the unjoined sinks at places below i wait, and no node has an estimate but such sinks
+pub record SinksWait (n : ℕ) (weight : ℕ → ℕ) (marks sinks w : List ℕ) (i : ℕ) : Type 0 where
+  pub heap : Heap n w
+  pub each : (v : ℕ) → v < n → ((guessAt n w v ≡ far) × (leafAt n w v ≡ far)) ⊎ SinkWaits n weight marks sinks w v
+  pub goals : (j : ℕ) → j < i → inTree marks (getD sinks j 0) ≡ false → guessAt n w (getD sinks j 0) ≡ 0
+
+-- ---- a whole pass
+
+-- estimates can be made: tables, marks and sinks keep their rules, the edges are linked, and these are the prices of some turn
+pub record EstimateReady (kinds : List ℕ) (w : Weighting) (last earlier from marks sinks work : List ℕ) : Type 0 where
+  pub weights : WeightReady kinds w
+  pub links : Links kinds last earlier from
+  pub price : ℕ → ℕ
+  pub fair : Fair (graphOf kinds (links .firsts) (links .targets)) price
+  pub prices : (v : ℕ) → v < length kinds → priceIn (length kinds) work v ≡ price v
+  pub marks-long : length kinds ≤ length marks
+  pub sinks-few : length sinks ≤ sinksMost
+  pub sinks-nodes : (i : ℕ) → i < length sinks → getD sinks i 0 < length kinds
+  pub long : 8 * length kinds ≤ length work
+
+-- estimates can spread from the unjoined sinks of some list: they wait
+pub record SpreadReady (kinds : List ℕ) (w : Weighting) (last earlier from marks work : List ℕ) : Type 0 where
+  pub sinks : List ℕ
+  pub ready : EstimateReady kinds w last earlier from marks sinks work
+  pub start : SinksWait (length kinds) (weightAt (graphOf kinds [] []) w) marks sinks work (length sinks)
+
+-- the estimates are made, as far as a turn needs them: each is right, or it is above a bound that the joined sink's distance keeps
+pub record Estimated (b : Block) (price weight : ℕ → ℕ) (marks sinks w : List ℕ) : Type 0 where
+  pub bound : ℕ
+  pub within : nearestDistance b price marks sinks ≤ bound
+  pub known :
+      (v : ℕ) → v < nodes b → (guessAt (nodes b) w v ≡ estimate b weight marks sinks v) ⊎ (bound < estimate b weight marks sinks v)
+  pub top : (v : ℕ) → v < nodes b → guessAt (nodes b) w v ≤ far
+  pub few : (v : ℕ) → v < nodes b → guessAt (nodes b) w v < far → guessAt (nodes b) w v ≤ keyMost
+  pub above : (v : ℕ) → v < nodes b → estimate b weight marks sinks v ≤ guessAt (nodes b) w v
+  -- 0 is the estimate of the unjoined sinks alone
+  pub goals : (s : ℕ) → s < nodes b → has s sinks ≡ true → inTree marks s ≡ false → guessAt (nodes b) w s ≡ 0
+  pub goals-only : (s : ℕ) → s < nodes b → guessAt (nodes b) w s ≡ 0 → (has s sinks ≡ true) × (inTree marks s ≡ false)
+
+-- w′ is w with the estimates made; prices stay
+pub record EstimatesMade (b : Block) (price weight : ℕ → ℕ) (marks sinks w w′ : List ℕ) : Type 0 where
+  pub long : length w′ ≡ length w
+  pub low : (j : ℕ) → j < nodes b → getD w′ j 0 ≡ getD w j 0
+  pub middle : (j : ℕ) → 3 * nodes b ≤ j → j < 6 * nodes b → getD w′ j 0 ≡ getD w j 0
+  pub beyond : (j : ℕ) → 8 * nodes b ≤ j → getD w′ j 0 ≡ getD w j 0
+  pub estimated : Estimated b price weight marks sinks w′

@@ -14,3 +14,6 @@ pub mod Spread
 pub mod TurnWork
 pub mod Links
 pub mod Estimates
+pub mod Aiming
+pub mod AimedReplies
+pub mod AimedTurn

@@ -1,11 +1,11 @@
 // The estimates: they spread from the unjoined sinks against the edges, at base costs alone. Nodes leave the queue by estimate and own
 // weight together, so that the first estimate of a node is final.
-// The work slice of n nodes: the queue from n, prices from 3n, goal marks from 5n, estimates from 6n, and from 7n what the walk that each
-// of them stands for costs at the turn's prices.
+// The work slice of n nodes: the queue from n, prices from 3n, estimates from 6n, and from 7n what the walk that each of them stands for
+// costs at the turn's prices.
 ghost use mathlib.Core.List.{[]};
 ghost use mathlib.Core.Path.{_≡_};
-ghost use Prim.Native.Nat.{_+_, _*_, _≤_, _<_, min};
-ghost use lib.ListN.{length};
+ghost use Prim.Native.Nat.{ℕ, _+_, _*_, _≤_, _<_, min};
+ghost use lib.ListN.{length, getD};
 ghost use Rattle.price.specs.Bounds.{nodesMost};
 ghost use Rattle.search.specs.Block.{graphOf};
 ghost use Rattle.search.specs.Distance.{far};
@@ -13,6 +13,7 @@ ghost use Rattle.search.specs.Layout.{priceIn, Heap};
 ghost use Rattle.search.specs.Links.{Links};
 ghost use Rattle.search.specs.Aimed.{weightAt};
 ghost use Rattle.search.specs.Estimates.{weightMost, keyMost, walkAt, WeightReady, Queued, Guessed, Tried, GuessedBefore};
+ghost use Rattle.search.specs.Estimates.{Beside, Unguessed, SinksWait, EstimateReady, SpreadReady, EstimatesMade};
 use crate::distances;
 use crate::queue;
 use price::PriceAnswer;
@@ -41,7 +42,7 @@ fn capped_sum(a: u64, b: u64) -> u64
 }
 
 // Node v waits in the queue at this key.
-fn wait(work: &mut [u64], n: usize, v: usize, key: u64)
+pub fn wait(work: &mut [u64], n: usize, v: usize, key: u64)
     requires { ⌜ (v < n) × (8 * n ≤ length (now work)) × Heap n (now work) ⌝ }
     ensures { λ _. ⌜ Queued n v key (now (work .entry)) (now (work .exit)) ⌝ }
 {
@@ -131,4 +132,123 @@ fn guess_before(
         k = earlier[k - 1] as usize;
     }
     least
+}
+
+// No node has an estimate, and none waits.
+fn no_guesses(work: &mut [u64], n: usize)
+    requires { ⌜ 8 * n ≤ length (now work) ⌝ }
+    ensures { λ _. ⌜ Unguessed n (now (work .entry)) (now (work .exit)) n ⌝ }
+{
+    let mut v = 0;
+    while v < n {
+        work[n + v] = distances::FAR;
+        work[2 * n + v] = distances::FAR;
+        work[6 * n + v] = distances::FAR;
+        v += 1;
+    }
+}
+
+// The sinks that are still to be joined have estimate 0 and wait.
+fn guess_sinks(kind: &[u8], weighting: Weighting, in_tree: &[u8], sinks: &[u16], work: &mut [u64])
+    requires { do
+      let kinds = now kind
+      let n = length kinds
+      let marks = now «in_tree»
+      let list = now sinks
+      let weight = weightAt (graphOf kinds [] []) weighting
+      ⌜ WeightReady kinds weighting × (n ≤ nodesMost) × (n ≤ length marks) × (8 * n ≤ length (now work))
+          × ((i : ℕ) → i < length list → getD list i 0 < n) × SinksWait n weight marks list (now work) 0 ⌝ }
+    ensures { λ _. do
+      let kinds = now (kind .entry)
+      let n = length kinds
+      let list = now (sinks .entry)
+      let weight = weightAt (graphOf kinds [] []) weighting
+      let after = now (work .exit)
+      ⌜ Beside n (now (work .entry)) after × SinksWait n weight (now («in_tree» .entry)) list after (length list) ⌝ }
+{
+    let mut i = 0;
+    while i < sinks.len() {
+        let s = sinks[i] as usize;
+        if in_tree[s] != 1 {
+            guess(kind, weighting, work, s, 0, 0);
+        }
+        i += 1;
+    }
+}
+
+// Gives the nodes their estimates, the waiting node of least estimate and weight first, until nothing waits or the least is above what a
+// walk from the tree costs: a node that is left out then has an estimate above the joined sink's distance.
+fn guess_all(
+    kind: &[u8],
+    weighting: Weighting,
+    last: &[u16],
+    earlier: &[u16],
+    from: &[u16],
+    in_tree: &[u8],
+    work: &mut [u64],
+)
+    requires { ⌜ SpreadReady (now kind) weighting (now last) (now earlier) (now from) (now «in_tree») (now work) ⌝ }
+    ensures { λ _. do
+      let kinds = now (kind .entry)
+      let marks = now («in_tree» .entry)
+      let before = now (work .entry)
+      let weight = weightAt (graphOf kinds [] []) weighting
+      ⌜ ((r : SpreadReady kinds weighting (now (last .entry)) (now (earlier .entry)) (now (from .entry)) marks before) → do
+        let links = r .ready .links
+        let graph = graphOf kinds (links .firsts) (links .targets)
+        EstimatesMade graph (r .ready .price) weight marks (r .sinks) before (now (work .exit))) ⌝ }
+{
+    let n = kind.len();
+    let mut bound = distances::FAR;
+    loop {
+        let level = work[n + 1];
+        if level == distances::FAR {
+            return;
+        }
+        if bound < level {
+            return;
+        }
+        let v = queue::nearest(work, n);
+        wait(work, n, v, distances::FAR);
+        bound = guess_before(
+            kind,
+            weighting,
+            last,
+            earlier,
+            from,
+            in_tree,
+            work,
+            v,
+            level,
+            bound,
+        );
+    }
+}
+
+// The estimates of a turn.
+pub fn estimate_all(
+    kind: &[u8],
+    weighting: Weighting,
+    last: &[u16],
+    earlier: &[u16],
+    from: &[u16],
+    in_tree: &[u8],
+    sinks: &[u16],
+    work: &mut [u64],
+)
+    requires { ⌜ EstimateReady (now kind) weighting (now last) (now earlier) (now from) (now «in_tree») (now sinks) (now work) ⌝ }
+    ensures { λ _. do
+      let kinds = now (kind .entry)
+      let marks = now («in_tree» .entry)
+      let list = now (sinks .entry)
+      let before = now (work .entry)
+      let weight = weightAt (graphOf kinds [] []) weighting
+      ⌜ ((r : EstimateReady kinds weighting (now (last .entry)) (now (earlier .entry)) (now (from .entry)) marks list before) → do
+        let graph = graphOf kinds (r .links .firsts) (r .links .targets)
+        EstimatesMade graph (r .price) weight marks list before (now (work .exit))) ⌝ }
+{
+    let n = kind.len();
+    no_guesses(work, n);
+    guess_sinks(kind, weighting, in_tree, sinks, work);
+    guess_all(kind, weighting, last, earlier, from, in_tree, work);
 }

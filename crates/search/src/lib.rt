@@ -10,6 +10,7 @@ ghost use Rattle.search.specs.Replies.{searchReplyOf, searchReply, timed
 ghost use Rattle.search.specs.Replies.{refusalOf, faultyDelays, faultyWithDelays, faultyWithSinks, pathDue};
 ghost use Rattle.search.specs.Replies.{timedFitting, fittingLengths};
 ghost use Rattle.search.specs.Replies.{pathRefusal, pathNumbers, pathReplyOf, pathReply, JoinsCheapest};
+ghost use Rattle.search.specs.AimedReplies.{aimedPathReplyOf, aimedPathReply};
 
 // What a call of the search answers: the distances stand in the work slice, or one of 01's refusals.
 pub enum SearchAnswer {
@@ -38,6 +39,12 @@ pub enum PathAnswer {
     TooLarge(u32),
 }
 
+// What a call of the cheapest path by the search that aims answers: the same, and how many nodes it expanded.
+pub struct AimedPath {
+    pub answer: PathAnswer,
+    pub expanded: u32,
+}
+
 // The most nodes of a block, places of its rows and edges.
 pub const NODES_MOST: usize = 4096;
 
@@ -51,6 +58,8 @@ pub const SINKS_MOST: usize = 4096;
 // The most nodes of a timed job.
 pub const TIMED_NODES_MOST: usize = 1024;
 
+mod aim;
+mod aimed_turn;
 mod distances;
 mod estimate;
 mod heap;
@@ -443,4 +452,67 @@ pub fn cheapest_path(
         in_tree,
         sinks,
     )
+}
+
+// One turn by the search that aims: the same path as the cheapest path's, found by expanding fewer nodes, and how many these are. It looks
+// at every edge, so that it tests all tables and numbers as the search does.
+pub fn aimed_path(
+    kind: &[u8],
+    capacity: &[u8],
+    first_edge: &[u32],
+    edge_target: &[u16],
+    weighting: Weighting,
+    delay: &[u16],
+    factor: u32,
+    work: &mut [u64],
+    history: &[u32],
+    others: &[u16],
+    in_tree: &[u8],
+    sinks: &[u16],
+) -> AimedPath
+    ensures answers { λ r. do
+      let block = blockOf (now (kind .entry)) (now (capacity .entry)) (now («first_edge» .entry)) (now («edge_target» .entry))
+      let congestion = weighedCongestion weighting (now (delay .entry)) factor (now (history .entry)) (now (others .entry))
+      let reply = aimedPathReply block congestion (now («in_tree» .entry)) (now (sinks .entry)) (now (work .entry))
+      ⌜ aimedPathReplyOf r (now (work .exit)) ≡ reply ⌝ }
+    ensures cheapest { λ r. do
+      let block = blockOf (now (kind .entry)) (now (capacity .entry)) (now («first_edge» .entry)) (now («edge_target» .entry))
+      let congestion = weighedCongestion weighting (now (delay .entry)) factor (now (history .entry)) (now (others .entry))
+      let marks = now («in_tree» .entry)
+      let due = pathDue block congestion marks (now (sinks .entry)) (now (work .entry))
+      ⌜ (due ≡ [] → JoinsCheapest block (priceAt block congestion) marks (now (sinks .entry)) (r .answer) (now (work .exit))) ⌝ }
+{
+    match refused(
+        kind,
+        capacity,
+        first_edge,
+        edge_target,
+        weighting,
+        delay,
+        factor,
+        work.len(),
+        history,
+        others,
+        in_tree,
+        sinks,
+    ) {
+        PathAnswer::Stuck => aimed_turn::join(
+            kind,
+            capacity,
+            first_edge,
+            edge_target,
+            weighting,
+            delay,
+            factor,
+            work,
+            history,
+            others,
+            in_tree,
+            sinks,
+        ),
+        due => AimedPath {
+            answer: due,
+            expanded: 0,
+        },
+    }
 }

@@ -213,7 +213,7 @@ fn write_path(in_tree: &[u8], work: &mut [u64], n: usize, sink: usize, count: us
 }
 
 // Leaves the path to the first listed node of this label at the beginning of the work slice.
-fn read_path(sinks: &[u16], in_tree: &[u8], work: &mut [u64], n: usize, cost: u64) -> PathAnswer
+pub fn read_path(sinks: &[u16], in_tree: &[u8], work: &mut [u64], n: usize, cost: u64) -> PathAnswer
     requires { ⌜ Found n (now «in_tree») (now sinks) (now work) cost ⌝ }
     ensures { λ r. ⌜ Read n (now («in_tree» .entry)) (now (sinks .entry)) (now (work .entry)) cost r (now (work .exit)) ⌝ }
 {

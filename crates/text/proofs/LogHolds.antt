@@ -24,7 +24,8 @@ use Rattle.job.specs.Join.{joined}
 use Rattle.negotiation.specs.Outcome.{RouteReply, routeReply}
 use Rattle.negotiation.proofs.JoinedHolds.{joined-routable}
 use Rattle.negotiation.proofs.RecordLaws.{words-length, records-few}
-use Rattle.negotiation.proofs.FilterLaws.{All, all-map}
+use Rattle.negotiation.specs.Runs.{All}
+use Rattle.negotiation.proofs.FilterLaws.{all-map}
 use Rattle.text.specs.Routes.{Named, pathIn, pathSound, recordSound, soundUpTo, soundWords, logSound, writable}
 use Rattle.text.proofs.TurnedLaws.{Turned, TurnedUpTo, iteration-turned, run-turned, Accepted, accepted-fits, accepted, SomeSinks, joined-some, joined-passes, run-some}
 

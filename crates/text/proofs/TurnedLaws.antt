@@ -32,10 +32,11 @@ use Rattle.job.proofs.JobLaws.{faulty-none}
 use Rattle.negotiation.proofs.RoutableLaws.{nets-some, all-sinks}
 use Rattle.negotiation.proofs.JoinedHolds.{sinks-lead, joined-nets, joined-routable}
 use Rattle.negotiation.proofs.NetLaws.{NetTurn, net-turn, grown-first, state-ready}
-use Rattle.negotiation.proofs.FilterLaws.{All, all-append, all-map, all-splits}
+use Rattle.negotiation.specs.Runs.{All, start}
+use Rattle.negotiation.proofs.FilterLaws.{all-append, all-map, all-splits}
 use Rattle.negotiation.proofs.StateLaws.{nets-iteration, first-iteration}
 use Rattle.negotiation.proofs.DueLaws.{due-sinks, first-due}
-use Rattle.negotiation.proofs.RanLaws.{start, ran-latest}
+use Rattle.negotiation.proofs.RanLaws.{ran-latest}
 use Rattle.negotiation.proofs.MachineRan.{Reached, machine-nets}
 use Rattle.negotiation.proofs.DemandHolds.{made-most}
 use Rattle.negotiation.proofs.DemandLaws.{all-reached}

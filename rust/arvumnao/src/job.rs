@@ -143,6 +143,15 @@ pub struct Answer {
     pub log: Log,
 }
 
+/// What [`Job::route_aimed`] and [`Job::resume_aimed`] tell.
+#[derive(Clone, Debug, PartialEq, Eq)]
+pub struct Aimed {
+    /// What [`Job::route`] or [`Job::resume`] answers: the search that is chosen makes no difference to it.
+    pub answer: Result<Answer, Refusal>,
+    /// The nodes expanded in the turns that the call logged, also where it was stopped by log or limit.
+    pub expanded: u64,
+}
+
 impl Default for Block {
     /// No nodes.
     fn default() -> Block {
@@ -236,12 +245,47 @@ impl Timing {
     }
 }
 
+/// The library's call that routes, by either search.
+type Router = fn(
+    &[u8],
+    &[u8],
+    &[u32],
+    &[u16],
+    &[u16],
+    &[u32],
+    &[u16],
+    &[u16],
+    &[u8],
+    &[u32],
+    &mut [u64],
+    &mut [u32],
+    &mut [u64],
+) -> u32;
+
+/// The one that goes on from a log.
+type Resumer = fn(
+    &[u8],
+    &[u8],
+    &[u32],
+    &[u16],
+    &[u16],
+    &[u32],
+    &[u16],
+    &[u16],
+    &[u8],
+    &[u32],
+    u64,
+    &mut [u64],
+    &mut [u32],
+    &mut [u64],
+) -> u32;
+
 /// A run in a log that is twice as long each time one is full.
-fn growing(mut words: usize, run: impl Fn(usize) -> Result<Answer, Refusal>) -> Result<Answer, Refusal> {
+fn growing(mut words: usize, run: impl Fn(usize) -> Aimed) -> Aimed {
     loop {
         match run(words) {
-            Err(Refusal::LogFull { .. }) => words *= 2,
-            answer => return answer,
+            Aimed { answer: Err(Refusal::LogFull { .. }), .. } => words *= 2,
+            aimed => return aimed,
         }
     }
 }
@@ -326,17 +370,43 @@ impl Job {
     /// It begins with a log of 16,384 words and tries again with twice as many when one is full; the job's outcome and log are
     /// those of any log that is long enough. A log needs at most limit × sinks × (nodes + 6) words.
     pub fn route(&self) -> Result<Answer, Refusal> {
-        growing(LOG, |words| self.route_in(words))
+        growing(LOG, |words| self.routed_in(raw::route, words)).answer
     }
 
     /// Routes the job in a log of so many words. Refused as [`Job::route`] is, and by [`Refusal::LogFull`].
     pub fn route_in(&self, words: usize) -> Result<Answer, Refusal> {
+        self.routed_in(raw::route, words).answer
+    }
+
+    /// Routes the job as [`Job::route`] does, by a search that aims, and counts the nodes that it expanded. The answer is the same.
+    ///
+    /// A turn expands the nodes whose distance from the net's tree plus an estimate of what is left to the sink is at most the joined
+    /// sink's distance; `docs/FORMAT.md` has the estimate.
+    ///
+    /// ```
+    /// let job = arvumnao::Job::read(include_bytes!("../../../examples/job_b.txt"))?;
+    /// let aimed = job.route_aimed();
+    /// assert_eq!(aimed.answer, job.route());
+    /// assert_eq!(aimed.expanded, 12);
+    /// # Ok::<(), arvumnao::Refusal>(())
+    /// ```
+    pub fn route_aimed(&self) -> Aimed {
+        growing(LOG, |words| self.routed_in(raw::route_aimed, words))
+    }
+
+    /// The same in a log of so many words.
+    pub fn route_aimed_in(&self, words: usize) -> Aimed {
+        self.routed_in(raw::route_aimed, words)
+    }
+
+    /// Routes the job by this call in a log of so many words.
+    fn routed_in(&self, route: Router, words: usize) -> Aimed {
         let Job { block, nets, .. } = self;
         let (delay, criticality) = self.timed_tables();
         let mut work = self.work();
         let mut log = vec![0; words];
         let told = out(|out| {
-            raw::route(
+            route(
                 &block.kind,
                 &block.capacity,
                 &block.first_edge,
@@ -352,7 +422,7 @@ impl Job {
                 out,
             )
         });
-        self.answer(&told, log)
+        self.aimed(&told, log, 0)
     }
 
     /// Goes on from the log of a run that ended in whole iterations, as one stopped by [`Refusal::Limit`] does, under a limit above
@@ -373,21 +443,41 @@ impl Job {
     /// # Ok::<(), Refusal>(())
     /// ```
     pub fn resume(&self, log: impl AsRef<[u32]>) -> Result<Answer, Refusal> {
-        let log = log.as_ref();
-        growing(LOG.max(2 * log.len()), |words| self.resume_in(log, words))
+        self.resumed(raw::resume, log.as_ref()).answer
     }
 
     /// The same in a log of so many words, or of as many as it has where that is more. Refused as [`Job::resume`] is, and by
     /// [`Refusal::LogFull`].
     pub fn resume_in(&self, log: impl AsRef<[u32]>, words: usize) -> Result<Answer, Refusal> {
+        self.resumed_in(raw::resume, log.as_ref(), words).answer
+    }
+
+    /// Goes on as [`Job::resume`] does, by the search that aims, and counts the nodes that it expanded in the turns that it appends. The
+    /// answer is the same.
+    pub fn resume_aimed(&self, log: impl AsRef<[u32]>) -> Aimed {
+        self.resumed(raw::resume_aimed, log.as_ref())
+    }
+
+    /// The same in a log of so many words, or of as many as it has where that is more.
+    pub fn resume_aimed_in(&self, log: impl AsRef<[u32]>, words: usize) -> Aimed {
+        self.resumed_in(raw::resume_aimed, log.as_ref(), words)
+    }
+
+    /// Goes on by this call in a log as long as it needs.
+    fn resumed(&self, resume: Resumer, log: &[u32]) -> Aimed {
+        growing(LOG.max(2 * log.len()), |words| self.resumed_in(resume, log, words))
+    }
+
+    /// Goes on by this call in a log of so many words, or of as many as it has where that is more.
+    fn resumed_in(&self, resume: Resumer, log: &[u32], words: usize) -> Aimed {
         let Job { block, nets, .. } = self;
         let (delay, criticality) = self.timed_tables();
-        let mut log = log.as_ref().to_vec();
+        let mut log = log.to_vec();
         let used = log.len();
         log.resize(words.max(used), 0);
         let mut work = self.work();
         let told = out(|out| {
-            raw::resume(
+            resume(
                 &block.kind,
                 &block.capacity,
                 &block.first_edge,
@@ -404,10 +494,7 @@ impl Job {
                 out,
             )
         });
-        match *raw::refusal(&told) {
-            [14, word] => Err(Refusal::Diverges { word, words: used as u64 }),
-            _ => self.answer(&told, log),
-        }
+        self.aimed(&told, log, used)
     }
 
     /// Work memory that is enough.
@@ -415,7 +502,17 @@ impl Job {
         vec![0; 8 * self.block.kind.len()]
     }
 
-    /// What the router and resume tell, with the log that they leave.
+    /// What the router and resume tell, with the log that they leave, of which so many words were lent.
+    fn aimed(&self, told: &[u64; raw::OUT], log: Vec<u32>, lent: usize) -> Aimed {
+        let &[.., expanded] = raw::own::<4>(told);
+        let answer = match *raw::refusal(told) {
+            [14, word] => Err(Refusal::Diverges { word, words: lent as u64 }),
+            _ => self.answer(told, log),
+        };
+        Aimed { answer, expanded }
+    }
+
+    /// The answer, where the lent log is not what was refused.
     fn answer(&self, told: &[u64; raw::OUT], mut log: Vec<u32>) -> Result<Answer, Refusal> {
         let &[iteration, turns, used] = raw::own::<3>(told);
         log.truncate(used as usize);

@@ -36,7 +36,8 @@
 //! # Ok::<(), Refusal>(())
 //! ```
 //!
-//! A job with a [`Timing`] is timed: its critical sinks pay for delay rather than for room.
+//! A job with a [`Timing`] is timed: its critical sinks pay for delay rather than for room. [`Job::route_aimed`] routes by a search that
+//! aims, to the same answer, and counts the nodes that it expanded.
 //!
 //! `docs/FORMAT.md` describes the texts, the log and every refusal. [`raw`] has the library's calls themselves, for callers with
 //! memory of their own.
@@ -60,7 +61,9 @@ mod table;
 mod uses;
 
 pub use alone::{Congestion, Use};
-pub use job::{Answer, Block, Job, Nets, Terms, Timing, EDGES, NETS, NODES, SINKS, TIMED_LIMIT, TIMED_NODES};
+pub use job::{
+    Aimed, Answer, Block, Job, Nets, Terms, Timing, EDGES, NETS, NODES, SINKS, TIMED_LIMIT, TIMED_NODES,
+};
 pub use log::{Log, Record, Records};
 pub use refusal::{LineFault, Refusal, TableFault};
 pub use uses::UseCounts;

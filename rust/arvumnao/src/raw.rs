@@ -18,7 +18,7 @@ pub const COUNTS: usize = 54;
 pub const USES_BYTES: usize = 4_096;
 
 /// Bytes of stack that are enough for every call.
-pub const STACK: usize = 131_072;
+pub const STACK: usize = 262_144;
 
 /// Declares a call of the library and a function that lends it slices: the parameters are written once. A slice goes as its
 /// pointer and its count.
@@ -128,9 +128,48 @@ call! {
 }
 
 call! {
+    /// Routes a job by the search that aims. Own numbers: those of [`route`], then the nodes expanded in the turns that the call logged.
+    fn route_aimed = arvumnao_route_aimed(
+        kind: &[u8],
+        capacity: &[u8],
+        first_edge: &[u32],
+        edge_target: &[u16],
+        source: &[u16],
+        first_sink: &[u32],
+        sink: &[u16],
+        delay: &[u16],
+        criticality: &[u8],
+        terms: &[u32],
+        work: &mut [u64],
+        log: &mut [u32],
+        out: &mut [u64],
+    )
+}
+
+call! {
     /// Goes on from a log of which so many words are used, and appends turns to it. Terms and own numbers are those of [`route`], over the
     /// whole log.
     fn resume = arvumnao_resume(
+        kind: &[u8],
+        capacity: &[u8],
+        first_edge: &[u32],
+        edge_target: &[u16],
+        source: &[u16],
+        first_sink: &[u32],
+        sink: &[u16],
+        delay: &[u16],
+        criticality: &[u8],
+        terms: &[u32],
+        used: u64,
+        work: &mut [u64],
+        log: &mut [u32],
+        out: &mut [u64],
+    )
+}
+
+call! {
+    /// Goes on from a log by the search that aims. Own numbers: those of [`resume`], then the nodes expanded in the turns appended.
+    fn resume_aimed = arvumnao_resume_aimed(
         kind: &[u8],
         capacity: &[u8],
         first_edge: &[u32],

@@ -1,6 +1,6 @@
 //! Jobs that are accepted, and what a caller does with the answer.
 
-use arvumnao::{kind, raw, Job, Log, Nets, Refusal, Terms, Timing, UseCounts};
+use arvumnao::{kind, raw, Aimed, Job, Log, Nets, Refusal, Terms, Timing, UseCounts};
 use std::thread;
 
 const JOB_B: &[u8] = include_bytes!("../../../examples/job_b.txt");
@@ -121,6 +121,27 @@ fn job_b_resumed() {
     assert_eq!(job.resume(longer).unwrap_err().numbers(), [14, 18]);
 }
 
+/// Job B by the search that aims: each of its turns expands three nodes, whatever stops the run, and lent turns count nothing.
+#[test]
+fn job_b_aimed() {
+    let mut job = Job::read(JOB_B).unwrap();
+    let straight = job.route();
+    assert_eq!(job.route_aimed(), Aimed { answer: straight.clone(), expanded: 12 });
+    assert_eq!(job.route_aimed_in(36), Aimed { answer: straight.clone(), expanded: 12 });
+    assert_eq!(job.route_aimed_in(35), Aimed { answer: job.route_in(35), expanded: 9 });
+    job.terms.limit = 1;
+    let stopped = job.route_aimed();
+    assert_eq!(stopped, Aimed { answer: job.route(), expanded: 6 });
+    let Err(Refusal::Limit { log, .. }) = stopped.answer else { panic!("one iteration is not enough") };
+    job.terms.limit = 2;
+    assert_eq!(job.resume_aimed(&log), Aimed { answer: straight, expanded: 6 });
+    assert_eq!(job.resume_aimed_in(&log, 27), Aimed { answer: job.resume_in(&log, 27), expanded: 3 });
+    let cut = &log.words()[..9];
+    assert_eq!(job.resume_aimed(cut), Aimed { answer: job.resume(cut), expanded: 0 });
+    job.terms.limit = 0;
+    assert_eq!(job.route_aimed(), Aimed { answer: job.route(), expanded: 0 });
+}
+
 /// The turns of a log, each as its sink, cost and path.
 fn turns(log: &Log) -> Vec<(u32, u64, &[u32])> {
     log.records().map(|turn| (turn.sink, turn.cost, turn.path)).collect()
@@ -132,6 +153,8 @@ fn a_timed_job() {
     let mut job = Job::read(TIMED).unwrap();
     let log = job.route().unwrap().log;
     assert_eq!(turns(&log), [(4, 17_000, &[0, 2, 4][..]), (3, 40_000, &[0, 1, 3])]);
+    // the quick wire's turn doesn't expand the slow one, nor the other way round
+    assert_eq!(job.route_aimed(), Aimed { answer: job.route(), expanded: 6 });
 
     // no delay, no criticality: ten times the prices of the job that isn't timed, sinks as listed
     job.timing = Some(Timing { delay: vec![0; 5], criticality: vec![0; 2] });

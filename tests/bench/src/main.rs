@@ -36,6 +36,8 @@ struct Row {
     /// What the final trees cost, see `cost`.
     cost: u64,
     best: Vec<(Router, Duration)>,
+    /// The nodes that the aimed search expands.
+    expanded: Option<u64>,
 }
 
 impl Row {
@@ -54,6 +56,16 @@ impl Row {
     /// Picoseconds per turn and (nodes + edges) x log2 nodes.
     fn unit(&self, router: Router) -> Option<f64> {
         Some(self.seconds(router)? * 1e12 / self.turns() / size(&self.job))
+    }
+
+    /// Microseconds a turn.
+    fn turn(&self, router: Router) -> Option<f64> {
+        Some(self.seconds(router)? * 1e6 / self.turns())
+    }
+
+    /// Nodes that the aimed search expands a turn.
+    fn expanded(&self) -> Option<f64> {
+        Some(self.expanded? as f64 / self.turns())
     }
 
     fn outcome(&self) -> String {
@@ -104,6 +116,16 @@ fn measure(
     best
 }
 
+/// How many nodes the aimed search expands, which must be what the plain router counts where that is timed too.
+fn expanded(job: &Job, lent: &mut Lent, routers: &[Router]) -> Option<u64> {
+    let work = &mut lent.work[..8 * job.kind.len()];
+    let count = routers.contains(&Router::Aimed).then(|| routers::aimed(job, work, &mut lent.log).1)?;
+    if routers.contains(&Router::Plain) {
+        assert_eq!(routers::plain_expanded(job, work, &mut lent.log), count, "aimed expands another number");
+    }
+    Some(count)
+}
+
 /// What the plain router may take here, from the row before.
 fn plain_guess(before: Option<&Row>, job: &Job, turns: f64) -> f64 {
     match before {
@@ -128,7 +150,8 @@ fn make_row(shape: Shape, job: Job, choose: impl Fn(&Job, f64) -> Vec<Router>, l
     let routers = choose(&job, result.numbers[1] as f64);
     let best = measure(&routers, &job, lent, &result, &log);
     let cost = cost::of_trees(&job, &log);
-    Row { shape, job, result, cost, best }
+    let expanded = expanded(&job, lent, &routers);
+    Row { shape, job, result, cost, best, expanded }
 }
 
 fn cell(value: Option<f64>, width: usize, places: usize) -> String {
@@ -140,14 +163,16 @@ fn cell(value: Option<f64>, width: usize, places: usize) -> String {
 
 fn print_head() {
     println!("The job | milliseconds of processor time, best of {LEAST} to {MOST} runs | ratios |");
-    println!("picoseconds per turn and (nodes + edges) x log2 nodes.");
+    println!("picoseconds per turn and (nodes + edges) x log2 nodes | microseconds a turn | nodes expanded a turn.");
+    println!("aimed: the proved router with its aimed search, whose nodes expanded these are.");
     println!("heap: binary heap and early stop. pruned: besides, less is searched. carried: besides, a net's search goes on from turn to turn.");
     println!("Every run's outcome and log are checked against carried's first.");
     print!("{:<10}{:>6}{:>7}{:>5}{:>6}", "shape", "nodes", "edges", "nets", "sinks");
     print!("{:>5}{:>7}  {:<10}|", "iter", "turns", "outcome");
-    print!("{:>10}{:>9}{:>9}{:>9}{:>10}  |", "proved", "heap", "pruned", "carried", "plain");
-    print!("{:>8}{:>8}{:>8}{:>8}  |", "pro/hea", "pro/pru", "pro/car", "pla/pro");
-    println!("{:>8}{:>8}{:>8}", "proved", "heap", "plain");
+    print!("{:>10}{:>10}{:>9}{:>9}{:>9}{:>10}  |", "proved", "aimed", "heap", "pruned", "carried", "plain");
+    print!("{:>8}{:>8}{:>8}{:>8}{:>8}  |", "pro/hea", "pro/pru", "pro/car", "pla/pro", "aim/pro");
+    print!("{:>8}{:>8}{:>8}  |", "proved", "heap", "plain");
+    println!("{:>8}{:>8}  |{:>8}", "proved", "aimed", "aimed");
 }
 
 fn print_row(row: &Row) {
@@ -167,18 +192,24 @@ fn print_row(row: &Row) {
         row.result.numbers[1]
     );
     print!("  {:<10}|", row.outcome());
-    for (router, width) in [(Proved, 10), (Heap, 9), (Pruned, 9), (Carried, 9), (Plain, 10)] {
+    let columns = [(Proved, 10), (Aimed, 10), (Heap, 9), (Pruned, 9), (Carried, 9), (Plain, 10)];
+    for (router, width) in columns {
         print!("{}", cell(row.seconds(router).map(|s| s * 1e3), width, 3));
     }
     print!("  |");
-    for (over, under) in [(Proved, Heap), (Proved, Pruned), (Proved, Carried), (Plain, Proved)] {
+    let ratios = [(Proved, Heap), (Proved, Pruned), (Proved, Carried), (Plain, Proved), (Aimed, Proved)];
+    for (over, under) in ratios {
         print!("{}", cell(row.ratio(over, under), 8, 1));
     }
     print!("  |");
     for router in [Proved, Heap, Plain] {
         print!("{}", cell(row.unit(router), 8, 0));
     }
-    println!();
+    print!("  |");
+    for router in [Proved, Aimed] {
+        print!("{}", cell(row.turn(router), 8, 1));
+    }
+    println!("  |{}", cell(row.expanded(), 8, 1));
 }
 
 /// Least, geometric mean and most of a ratio over all rows that have it.
@@ -199,11 +230,14 @@ fn print_ratios(rows: &[Row]) {
         ("proved/pruned", Proved, Pruned),
         ("proved/carried", Proved, Carried),
         ("plain/proved", Plain, Proved),
+        ("aimed/proved", Aimed, Proved),
     ];
     for (name, over, under) in pairs {
         let ratios: Vec<f64> = rows.iter().filter_map(|row| row.ratio(over, under)).collect();
         print_ratio(name, &ratios);
     }
+    let shares = rows.iter().filter_map(|row| Some(row.expanded()? / row.job.kind.len() as f64));
+    print_ratio("nodes expanded/nodes", &shares.collect::<Vec<_>>());
 }
 
 /// The routers whose times are shown there.

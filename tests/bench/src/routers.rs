@@ -15,6 +15,8 @@ pub type Run = fn(&Job, &mut [u64], &mut [u32]) -> Result;
 #[derive(Clone, Copy, PartialEq, Debug)]
 pub enum Router {
     Proved,
+    /// The proved one with its aimed search.
+    Aimed,
     Heap,
     Pruned,
     Carried,
@@ -25,6 +27,7 @@ impl Router {
     pub fn run(self) -> Run {
         match self {
             Router::Proved => proved,
+            Router::Aimed => |job, work, log| aimed(job, work, log).0,
             Router::Heap => |job, _, log| tuned_answer(Way::Heap, job, log),
             Router::Pruned => |job, _, log| tuned_answer(Way::Pruned, job, log),
             Router::Carried => |job, _, log| tuned_answer(Way::Carried, job, log),
@@ -39,7 +42,7 @@ pub const HAS_PROVED: bool = cfg!(all(feature = "proved", not(feature = "no-prov
 pub fn all() -> Vec<Router> {
     let mut routers = vec![Router::Heap, Router::Pruned, Router::Carried, Router::Plain];
     if HAS_PROVED {
-        routers.insert(0, Router::Proved);
+        routers.splice(..0, [Router::Proved, Router::Aimed]);
     }
     routers
 }
@@ -66,9 +69,57 @@ fn proved(job: &Job, work: &mut [u64], log: &mut [u32]) -> Result {
     Result { refusal: arvumnao::raw::refusal(&out).to_vec(), numbers: numbers.to_vec() }
 }
 
+/// The aimed call's result, and the nodes that it expands.
+#[cfg(all(feature = "proved", not(feature = "no-proved")))]
+pub fn aimed(job: &Job, work: &mut [u64], log: &mut [u32]) -> (Result, u64) {
+    let mut out = [0; arvumnao::raw::OUT];
+    arvumnao::raw::route_aimed(
+        &job.kind,
+        &job.capacity,
+        &job.first_edge,
+        &job.edge_target,
+        &job.source,
+        &job.first_sink,
+        &job.sink,
+        &job.delay,
+        &job.criticality,
+        &job.terms(),
+        work,
+        log,
+        &mut out,
+    );
+    let &[ref numbers @ .., expanded]: &[u64; 4] = arvumnao::raw::own(&out);
+    let refusal = arvumnao::raw::refusal(&out).to_vec();
+    (Result { refusal, numbers: numbers.to_vec() }, expanded)
+}
+
+#[cfg(not(all(feature = "proved", not(feature = "no-proved"))))]
+pub fn aimed(_: &Job, _: &mut [u64], _: &mut [u32]) -> (Result, u64) {
+    unreachable!("built without the proved router")
+}
+
 #[cfg(not(all(feature = "proved", not(feature = "no-proved"))))]
 fn proved(_: &Job, _: &mut [u64], _: &mut [u32]) -> Result {
     unreachable!("built without the proved router")
+}
+
+/// The nodes that an aimed search expands, counted by the plain router.
+pub fn plain_expanded(job: &Job, work: &mut [u64], log: &mut [u32]) -> u64 {
+    plain::route_aimed(
+        &job.kind,
+        &job.capacity,
+        &job.first_edge,
+        &job.edge_target,
+        &job.source,
+        &job.first_sink,
+        &job.sink,
+        &job.delay,
+        &job.criticality,
+        &job.terms(),
+        work,
+        log,
+    )
+    .numbers[3]
 }
 
 fn plain(job: &Job, work: &mut [u64], log: &mut [u32]) -> Result {

@@ -12,7 +12,9 @@ pub struct Answer {
 }
 
 /// One call with all that is lent to it: the search and the calls about uses have a job's graph, tables 1 to 4, the reader the tables that it
-/// fills. A price with delay and criticality and a search with a criticality are timed; the search has table 9 then. The router is lent so many of the job's terms; where the words used of the log are told, it resumes. The writer writes the routes text, or the picture.
+/// fills. A price with delay and criticality and a search with a criticality are timed; the search has table 9 then. The router is lent so
+/// many of the job's terms; where the words used of the log are told, it resumes; its search aims or is the plain one. The writer writes the
+/// routes text, or the picture.
 #[derive(Clone, Debug, PartialEq, Eq)]
 pub enum Case {
     Price {
@@ -36,6 +38,7 @@ pub enum Case {
         job: Job,
         terms: usize,
         used: Option<u64>,
+        aimed: bool,
         work: Vec<u64>,
         log: Vec<u32>,
     },
@@ -74,7 +77,7 @@ pub fn own(case: &Case) -> usize {
         Case::AddUses { .. } | Case::WriteUses { .. } => usize::from(!idle(case)),
         Case::Price { .. } | Case::Write { .. } => 1,
         Case::Search { .. } => 0,
-        Case::Route { .. } => 3,
+        Case::Route { aimed, .. } => 3 + usize::from(*aimed),
         Case::Read { .. } => 12,
     }
 }
@@ -182,7 +185,7 @@ macro_rules! call {
                     $($out)?
                 )
             }
-            Case::Route { job, terms, used: None, work, log } => $side::route(
+            Case::Route { job, terms, used: None, aimed: false, work, log } => $side::route(
                 &job.kind,
                 &job.capacity,
                 &job.first_edge,
@@ -197,7 +200,38 @@ macro_rules! call {
                 lend(log),
                 $($out)?
             ),
-            Case::Route { job, terms, used: Some(used), work, log } => $side::resume(
+            Case::Route { job, terms, used: Some(used), aimed: false, work, log } => $side::resume(
+                &job.kind,
+                &job.capacity,
+                &job.first_edge,
+                &job.edge_target,
+                &job.source,
+                &job.first_sink,
+                &job.sink,
+                &job.delay,
+                &job.criticality,
+                &lent_terms(job, *terms),
+                *used,
+                lend(work),
+                lend(log),
+                $($out)?
+            ),
+            Case::Route { job, terms, used: None, aimed: true, work, log } => $side::route_aimed(
+                &job.kind,
+                &job.capacity,
+                &job.first_edge,
+                &job.edge_target,
+                &job.source,
+                &job.first_sink,
+                &job.sink,
+                &job.delay,
+                &job.criticality,
+                &lent_terms(job, *terms),
+                lend(work),
+                lend(log),
+                $($out)?
+            ),
+            Case::Route { job, terms, used: Some(used), aimed: true, work, log } => $side::resume_aimed(
                 &job.kind,
                 &job.capacity,
                 &job.first_edge,
@@ -281,7 +315,8 @@ fn run_library(case: &mut Case) -> Answer {
         return Answer { refusal: Vec::new(), numbers: Vec::new() };
     }
     assert_eq!(returned, 1, "the library did nothing though out has {} entries", raw::OUT);
-    Answer { refusal: raw::refusal(&out).to_vec(), numbers: out[raw::OWN..raw::OWN + own(case)].to_vec() }
+    let (refusal, own) = (raw::refusal(&out), raw::OWN..raw::OWN + own(case));
+    Answer { refusal: refusal.to_vec(), numbers: out[own].to_vec() }
 }
 
 #[cfg(not(feature = "library"))]
@@ -306,7 +341,7 @@ pub fn plain(case: &Case) -> After {
 }
 
 /// The library side's end of a call.
-fn library(case: &Case) -> After {
+fn of_library(case: &Case) -> After {
     let mut copy = case.clone();
     let answer = run_library(&mut copy);
     After { answer, case: copy }
@@ -315,7 +350,7 @@ fn library(case: &Case) -> After {
 /// Both sides' common end of a call, or what is wrong with it.
 pub fn compare(case: &Case) -> Result<After, String> {
     let one = plain(case);
-    let other = library(case);
+    let other = of_library(case);
     if one.answer != other.answer {
         return Err(format!("answers differ\n  plain:   {:?}\n  library: {:?}", one.answer, other.answer));
     }
@@ -628,6 +663,26 @@ pub mod inject {
         }
     }
 
+    /// Faults of aimed calls.
+    fn of_aimed(fault: u32, before: &Case, answer: &mut Answer) {
+        let Case::Route { job, used, aimed: true, log, .. } = before else { return };
+        match (fault, used, &answer.refusal[..]) {
+            // the joined sinks aren't counted
+            (31, None, []) => answer.numbers[3] -= answer.numbers[1],
+            // a resume counts the nodes of lent turns
+            (32, Some(used), []) => {
+                answer.numbers[3] += logs::records(&log[..*used as usize]).len() as u64 - 1
+            }
+            // the turn that doesn't fit is counted
+            (33, None, &[8, _, turns]) if turns > 0 => answer.numbers[3] += 1,
+            // a timed job expands every node in each turn
+            (34, None, []) if job.is_timed() => answer.numbers[3] = answer.numbers[1] * job.kind.len() as u64,
+            // a job without a path has a count
+            (35, _, [7, ..]) => answer.numbers[3] = 1,
+            _ => {}
+        }
+    }
+
     /// Faults of resume.
     fn of_resumes(fault: u32, before: &Case, answer: &mut Answer) {
         let Case::Route { job, used: Some(used), log, .. } = before else { return };
@@ -649,6 +704,7 @@ pub mod inject {
     fn of_requests(fault: u32, before: &Case, after: &mut Case, answer: &mut Answer) {
         of_timed(fault, before, after, answer);
         of_resumes(fault, before, answer);
+        of_aimed(fault, before, answer);
         match (fault, before) {
             // a step of 2 counts a turn too many
             (8, Case::Route { job, .. }) if job.tuning.step == 2 && answer.numbers[0] >= 2 => {

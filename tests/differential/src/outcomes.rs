@@ -1,12 +1,12 @@
 //! The outcomes that calls come to, counted, and those that a whole run must come to.
 
-use crate::compare::{self, idle, After, Case};
+use crate::compare::{self, idle, After, Answer, Case};
 use crate::logs;
 use crate::resumes::Lent;
 use job::{texts, Counts, Job, Tuning};
 
 /// Every outcome that a whole run must come to.
-const EXPECTED: [&str; 316] = [
+const EXPECTED: [&str; 394] = [
     "price accepted",
     "price 13,0",
     "price 13,1",
@@ -320,6 +320,84 @@ const EXPECTED: [&str; 316] = [
     "T line of a timed text 2",
     "T line of a timed text one beyond its bound 2",
     "T line of a timed text 2 before 3",
+    "aimed route accepted",
+    "aimed route 5,1",
+    "aimed route 5,2",
+    "aimed route 5,3",
+    "aimed route 5,4",
+    "aimed route 5,5",
+    "aimed route 5,6",
+    "aimed route 5,7",
+    "aimed route 5,8",
+    "aimed route 5,9",
+    "aimed route 5,10",
+    "aimed route 6",
+    "aimed route 7",
+    "aimed route 8",
+    "aimed route 9",
+    "aimed route 15 by nodes",
+    "aimed route 15 by the limit",
+    "aimed route 15 by nodes and the limit",
+    "aimed route of a timed job accepted",
+    "aimed route of a timed job 8",
+    "aimed route of a timed job 9",
+    "aimed route of joined nets accepted",
+    "aimed route of joined nets 8",
+    "aimed route of joined nets 9",
+    "aimed route with a tree kept accepted",
+    "aimed route with a tree kept 8",
+    "aimed route with a tree kept 9",
+    "aimed route in iteration 3 or later accepted",
+    "aimed route in iteration 3 or later 8",
+    "aimed route in iteration 3 or later 9",
+    "aimed route that expands the paths alone accepted",
+    "aimed route that expands the paths alone 8",
+    "aimed route that expands the paths alone 9",
+    "aimed route that expands others too accepted",
+    "aimed route that expands others too 8",
+    "aimed route that expands others too 9",
+    "aimed route with costs over 32 bits 8",
+    "aimed route with costs over 32 bits 9",
+    "aimed route without a turn 8",
+    "aimed route that expands every node accepted",
+    "aimed resume accepted",
+    "aimed resume 5,1",
+    "aimed resume 5,2",
+    "aimed resume 5,3",
+    "aimed resume 5,4",
+    "aimed resume 5,5",
+    "aimed resume 5,6",
+    "aimed resume 5,7",
+    "aimed resume 5,8",
+    "aimed resume 5,9",
+    "aimed resume 5,10",
+    "aimed resume 6",
+    "aimed resume 7",
+    "aimed resume 8",
+    "aimed resume 9",
+    "aimed resume 14",
+    "aimed resume 15 by the limit",
+    "aimed resume of a timed job accepted",
+    "aimed resume of a timed job 8",
+    "aimed resume of a timed job 9",
+    "aimed resume of joined nets accepted",
+    "aimed resume of joined nets 8",
+    "aimed resume of joined nets 9",
+    "aimed resume with a tree kept accepted",
+    "aimed resume with a tree kept 8",
+    "aimed resume with a tree kept 9",
+    "aimed resume in iteration 3 or later accepted",
+    "aimed resume in iteration 3 or later 8",
+    "aimed resume in iteration 3 or later 9",
+    "aimed resume that expands the paths alone accepted",
+    "aimed resume that expands the paths alone 8",
+    "aimed resume that expands the paths alone 9",
+    "aimed resume that expands others too accepted",
+    "aimed resume that expands others too 8",
+    "aimed resume that expands others too 9",
+    "aimed resume with costs over 32 bits 8",
+    "aimed resume with costs over 32 bits 9",
+    "aimed resume without a turn 8",
     "out of 15 entries",
     "out of 16 entries",
     "out of 17 entries",
@@ -355,6 +433,8 @@ impl Outcomes {
                 self.count_search(call, after, graph.kind.len(), work);
                 call
             }
+            Case::Route { used: None, aimed: true, .. } => "aimed route",
+            Case::Route { used: Some(_), aimed: true, .. } => "aimed resume",
             Case::Route { used: Some(_), .. } => "resume",
             Case::Route { job, log, .. } => {
                 self.count_route(after, job, log);
@@ -390,6 +470,34 @@ impl Outcomes {
         };
         self.count_bounds(after, &outcome);
         self.count(outcome);
+    }
+
+    /// Counts what an aimed call comes to once its turns begin: whom it routes, and how many nodes it expands.
+    pub fn count_aimed(&mut self, after: &After) {
+        let Answer { refusal, numbers } = &after.answer;
+        let Case::Route { job, used, log, .. } = &after.case else { return };
+        if !matches!(refusal.first(), None | Some(8 | 9)) {
+            return;
+        }
+        let (call, end) = (if used.is_some() { "aimed resume" } else { "aimed route" }, end(after));
+        let log = &log[used.unwrap_or(0) as usize..numbers[2] as usize];
+        let turns = logs::records(log).len() as u64 - 1;
+        let paths = log.len() as u64 - 6 * turns;
+        let short = log.len() < 3_000;
+        let names = [
+            (job.is_timed(), "of a timed job"),
+            (logs::has_joined(&job.source), "of joined nets"),
+            (short && job.rule == 2 && logs::passes_over(log), "with a tree kept"),
+            (logs::has_long_cost(log), "with costs over 32 bits"),
+            (numbers[0] > 2, "in iteration 3 or later"),
+            (turns == 0, "without a turn"),
+            (turns > 0 && numbers[3] == turns * job.kind.len() as u64, "that expands every node"),
+            (turns > 0 && numbers[3] == paths, "that expands the paths alone"),
+            (numbers[3] > paths && numbers[3] < turns * job.kind.len() as u64, "that expands others too"),
+        ];
+        for (_, name) in names.into_iter().filter(|name| name.0) {
+            self.count(format!("{call} {name} {end}"));
+        }
     }
 
     /// Counts which bounds of counts a call comes to.

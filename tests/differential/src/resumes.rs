@@ -29,6 +29,7 @@ impl Lent {
             job: self.job.clone(),
             terms: TERMS,
             used: Some(self.used),
+            aimed: false,
             work: work(8 * self.job.kind.len() + 2),
             log,
         }
@@ -53,7 +54,8 @@ impl Lent {
 fn run(job: &Job) -> (Vec<u32>, u32) {
     let log = vec![0; 4_000];
     let work = work(8 * job.kind.len());
-    let after = compare::plain(&Case::Route { job: job.clone(), terms: TERMS, used: None, work, log });
+    let after =
+        compare::plain(&Case::Route { job: job.clone(), terms: TERMS, used: None, aimed: false, work, log });
     let Case::Route { mut log, .. } = after.case else { return (Vec::new(), 0) };
     log.truncate(after.answer.numbers[2] as usize);
     (log, after.answer.numbers[0] as u32)

@@ -10,6 +10,9 @@ use crate::resumes::{self, Lent};
 use crate::uses::{self, Counts};
 use job::{jobs, texts, Job, Lengths, Rng, TERMS};
 
+/// Of how many in a hundred of the router's calls the aimed one is compared too.
+const AIMED: usize = 25;
+
 /// A case that fails, and how.
 pub struct Failure {
     pub case: Box<Case>,
@@ -22,6 +25,8 @@ pub struct Failure {
 pub struct Run {
     pub outcomes: Outcomes,
     rng: Rng,
+    /// Which calls are aimed too, apart from the other generator so that what else is called doesn't depend on it.
+    aims: Rng,
     /// Prints each seed before it runs, for a library that crashes.
     trace: bool,
 }
@@ -40,30 +45,54 @@ impl Run {
         Run {
             outcomes: Outcomes::default(),
             rng: Rng::new(0),
+            aims: Rng::new(0),
             trace: std::env::var_os("DIFFERENTIAL_TRACE").is_some(),
         }
     }
 
-    /// Compares a case and counts its outcome.
+    /// Compares a case and counts its outcome; a share of the router's calls with an aimed search too.
     fn case(&mut self, case: Case) -> Result<After, Failure> {
-        let after = match examine(&case, None) {
-            Ok(after) => after,
-            Err(message) => return Err(Failure { case: Box::new(case), out: None, message }),
-        };
+        let out = out_length(&mut self.rng);
+        let after = self.one(&case, out)?;
+        if matches!(case, Case::Route { .. }) && self.aims.percent(AIMED) {
+            self.aimed(case, &after)?;
+        }
+        Ok(after)
+    }
+
+    /// Compares a case and counts its outcome, then at times with an `out` of some length.
+    fn one(&mut self, case: &Case, out: Option<usize>) -> Result<After, Failure> {
+        let failure = |out, message| Failure { case: Box::new(case.clone()), out, message };
+        let after = examine(case, None).map_err(|message| failure(None, message))?;
         self.outcomes.count_call(&after);
-        if self.rng.once_in(8) {
-            let length = self.rng.pick(&[0, 1, 3, 7, 8, 11, 12, 15, 16, 17, 18]);
-            if let Err(message) = examine(&case, Some(length)) {
-                return Err(Failure { case: Box::new(case), out: Some(length), message });
-            }
+        if let Some(length) = out {
+            examine(case, out).map_err(|message| failure(out, message))?;
             self.outcomes.count(format!("out of {length} entries"));
         }
         Ok(after)
     }
 
+    /// The same call of the router with an aimed search: but for the count of nodes expanded it ends as the plain one.
+    fn aimed(&mut self, mut case: Case, plain: &After) -> Result<(), Failure> {
+        if let Case::Route { aimed, .. } = &mut case {
+            *aimed = true;
+        }
+        let out = out_length(&mut self.aims);
+        let after = self.one(&case, out)?;
+        let mut same = after.clone();
+        same.answer.numbers.truncate(plain.answer.numbers.len());
+        if let Case::Route { aimed, .. } = &mut same.case {
+            *aimed = false;
+        }
+        assert!(same == *plain, "an aimed call doesn't end as the plain one");
+        self.outcomes.count_aimed(&after);
+        Ok(())
+    }
+
     /// Starts the generator of a seed.
     fn begin(&mut self, name: &str, seed: u64, stream: u64) {
         self.rng = Rng::new(stream);
+        self.aims = Rng::new(stream ^ 1 << 63);
         if self.trace {
             eprintln!("{name} {seed}");
         }
@@ -170,7 +199,7 @@ impl Run {
         let words = self.rng.pick(&[40, 400, 2_000]);
         let log = self.old_log(words);
         let work = work(8 * job.kind.len());
-        self.case(Case::Route { job: job.clone(), terms: count, used: None, work, log })?;
+        self.case(Case::Route { job: job.clone(), terms: count, used: None, aimed: false, work, log })?;
         self.outcomes.count(format!("terms of {count} entries"));
         Ok(())
     }
@@ -429,9 +458,14 @@ impl Run {
     }
 }
 
+/// At times a length for `out`.
+fn out_length(rng: &mut Rng) -> Option<usize> {
+    rng.once_in(8).then(|| rng.pick(&[0, 1, 3, 7, 8, 11, 12, 15, 16, 17, 18]))
+}
+
 /// A call of the router.
 fn route(job: &Job, length: usize, log: Vec<u32>) -> Case {
-    Case::Route { job: job.clone(), terms: TERMS, used: None, work: work(length), log }
+    Case::Route { job: job.clone(), terms: TERMS, used: None, aimed: false, work: work(length), log }
 }
 
 /// A call of the writer of either text, with a buffer of this length.

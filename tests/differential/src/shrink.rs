@@ -28,6 +28,8 @@ enum Step {
     Own(u32),
     /// Lends all terms and no entry more.
     Terms,
+    /// Searches plainly.
+    Unaimed,
     /// Drops entries of the slice with this number.
     Cut(usize, usize, usize),
     /// Lowers an entry of the slice with this number.
@@ -70,7 +72,7 @@ pub fn shrink(case: &Case, fails: &dyn Fn(&Case) -> bool) -> Case {
 
 /// All steps worth trying, coarse ones first.
 fn steps(case: &Case) -> Vec<Step> {
-    let mut list = vec![Step::Plain, Step::Rule, Step::Until, Step::Untimed, Step::Terms];
+    let mut list = vec![Step::Plain, Step::Rule, Step::Until, Step::Untimed, Step::Terms, Step::Unaimed];
     list.extend([Step::Own(1), Step::Own(2)]);
     let (nodes, edges, nets, sinks) = sizes(case);
     list.extend(spans(nets).into_iter().map(|(from, count)| Step::Nets(from, count)));
@@ -270,6 +272,7 @@ fn drop_parts(mut case: Case, step: Step) -> Option<Case> {
             }
         }
         Case::Route { terms, .. } if matches!(step, Step::Terms) => *terms = TERMS,
+        Case::Route { aimed, .. } if matches!(step, Step::Unaimed) => *aimed = false,
         Case::Route { job, log, used: Some(used), .. } if matches!(step, Step::Own(_)) => {
             let Step::Own(count) = step else { return None };
             lend_own(job, count, used, log)?;
@@ -705,8 +708,9 @@ fn call(case: &Case) -> String {
         Case::Search { factor, criticality: Some(criticality), .. } => format!(
             "timed_search(&kind, &capacity, &first_edge, &edge_target, &delay, {factor}, {criticality}, &mut work, &history, &others, &in_tree)"
         ),
-        Case::Route { job, terms, used, .. } => {
+        Case::Route { job, terms, used, aimed, .. } => {
             let (name, terms) = (if used.is_some() { "resume" } else { "route" }, lent_terms(job, *terms));
+            let name = format!("{name}{}", if *aimed { "_aimed" } else { "" });
             let used = used.map_or(String::new(), |used| format!("{used}, "));
             format!(
                 "{name}(&kind, &capacity, &first_edge, &edge_target, &source, &first_sink, &sink, &delay, &criticality, &{terms:?}, {used}&mut work, &mut log)"
@@ -769,6 +773,19 @@ mod tests {
         assert!(job.is_timed() && job.source.len() <= 2 && used.is_some_and(|used| used <= 20));
     }
 
+    fn aimed_faults_are_made_small() {
+        let Case::Route { job, used: None, aimed: true, .. } = smallest(31) else { panic!("fault 31") };
+        assert!(job.kind.len() <= 3 && job.sink.len() == 1 && job.limit == 1);
+        let Case::Route { job, used: Some(used), aimed: true, .. } = smallest(32) else { panic!("fault 32") };
+        assert!(job.limit == 2 && job.source.len() == 2 && used <= 18);
+        let Case::Route { job, used: None, aimed: true, log, .. } = smallest(33) else { panic!("fault 33") };
+        assert!(job.limit <= 2 && job.kind.len() <= 4 && log.len() == 8);
+        let Case::Route { job, aimed: true, .. } = smallest(34) else { panic!("fault 34") };
+        assert!(job.is_timed() && job.kind.len() <= 4 && job.sink.len() == 1);
+        let Case::Route { job, aimed: true, log, .. } = smallest(35) else { panic!("fault 35") };
+        assert!(job.kind.len() == 2 && job.edge_target.is_empty() && log.is_empty());
+    }
+
     /// One test for all faults, since they are put in for all threads.
     #[test]
     fn faults_are_found_and_made_small() {
@@ -823,6 +840,7 @@ mod tests {
         let Case::Route { job, used, .. } = smallest(23) else { panic!("fault 23") };
         assert!(job.rule == 2 && job.until > 1 && job.limit == 2 && used.is_some_and(|used| used <= 18));
         timed_faults_are_made_small();
+        aimed_faults_are_made_small();
         FAULT.store(0, Ordering::Relaxed);
         assert!(first_failure().is_none());
     }

@@ -47,11 +47,23 @@ fn same(before: &Case, after: &Case, refusal: &[u64], numbers: &[u64]) -> Option
         (Case::Search { graph, .. }, Case::Search { work, .. }) => {
             told(distances(before)) == accepted(work.iter().take(graph.kind.len()).copied().collect())
         }
-        (Case::Route { job, terms, used, log: lent, .. }, Case::Route { log, .. }) => {
+        (Case::Route { job, terms, used, aimed, log: lent, .. }, Case::Route { log, .. }) => {
             let job = typed(&taken(job, *terms));
-            let answer = match used {
+            let lent_words = match used {
+                None => None,
+                Some(used) => Some(lent.get(..usize::try_from(*used).ok()?)?),
+            };
+            if *aimed {
+                let aimed = match lent_words {
+                    None => job.route_aimed_in(lent.len()),
+                    Some(words) => job.resume_aimed_in(words, lent.len()),
+                };
+                let (numbers, expanded) = numbers.split_at(3);
+                return Some(routed(aimed.answer, refusal, numbers, log) && expanded == [aimed.expanded]);
+            }
+            let answer = match lent_words {
                 None => job.route_in(lent.len()),
-                Some(used) => job.resume_in(lent.get(..usize::try_from(*used).ok()?)?, lent.len()),
+                Some(words) => job.resume_in(words, lent.len()),
             };
             routed(answer, refusal, numbers, log)
         }

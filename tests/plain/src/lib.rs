@@ -1,5 +1,6 @@
 //! A plain and slow router, written from 01-scope.md and 02-change-requests.md alone, to compare others with.
 
+mod aim;
 mod join;
 mod log;
 mod price;
@@ -13,8 +14,8 @@ mod writer;
 
 pub use price::{price, timed_price, Tuning};
 pub use reader::read;
-pub use resume::resume;
-pub use route::route;
+pub use resume::{resume, resume_aimed};
+pub use route::{route, route_aimed};
 pub use search::{cheapest_path, search, timed_search, Weighting};
 pub use uses::{uses_add, uses_write, KINDS};
 pub use writer::{dot, write};

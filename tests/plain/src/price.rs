@@ -59,7 +59,7 @@ impl Tuning {
 }
 
 /// The base cost of a kind from 0 to 53.
-fn base(kind: u32) -> u64 {
+pub fn base(kind: u32) -> u64 {
     match kind {
         0..=2 => 20,
         3 => 19,

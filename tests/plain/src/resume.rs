@@ -1,7 +1,7 @@
 //! Going on from a finished log: whether it follows the job, what is rebuilt from it, and the turns after it.
 
 use crate::join::Sink;
-use crate::route::{negotiated, tested, Joined, Log, State, Terms};
+use crate::route::{aimed, negotiated, tested, Joined, Log, State, Terms};
 use crate::tables::{Graph, Nets, Timing};
 use crate::Answer;
 use std::collections::BTreeSet;
@@ -158,15 +158,49 @@ pub fn resume(
 ) -> Answer {
     let graph = Graph { kind, capacity, first_edge, edge_target };
     let nets = Nets { source, first_sink, sink };
-    let timing = Timing { delay, criticality };
-    let (nets, mut state) = match tested(&graph, &nets, timing, Terms::of(terms), work) {
+    run(&graph, &nets, Timing { delay, criticality }, Terms::of(terms), used, work, log, None)
+}
+
+/// The same with an aimed search: a fourth number counts the nodes expanded over the appended turns.
+pub fn resume_aimed(
+    kind: &[u8],
+    capacity: &[u8],
+    first_edge: &[u32],
+    edge_target: &[u16],
+    source: &[u16],
+    first_sink: &[u32],
+    sink: &[u16],
+    delay: &[u16],
+    criticality: &[u8],
+    terms: &[u32],
+    used: u64,
+    work: &mut [u64],
+    log: &mut [u32],
+) -> Answer {
+    let graph = Graph { kind, capacity, first_edge, edge_target };
+    let nets = Nets { source, first_sink, sink };
+    aimed(run(&graph, &nets, Timing { delay, criticality }, Terms::of(terms), used, work, log, Some(0)))
+}
+
+/// Either, with no nodes expanded yet in an aimed run.
+fn run(
+    graph: &Graph,
+    nets: &Nets,
+    timing: Timing,
+    terms: Terms,
+    used: u64,
+    work: &mut [u64],
+    space: &mut [u32],
+    expanded: Option<u64>,
+) -> Answer {
+    let (nets, mut state) = match tested(graph, nets, timing, terms, work) {
         Ok(begun) => begun,
         Err(refused) => return refused,
     };
-    match take_up(&graph, &nets, &mut state, used, log) {
+    match take_up(graph, &nets, &mut state, used, space) {
         Err(Off(word)) => Answer::refused(&[14, word as u64], 3),
         Ok(turns) => {
-            negotiated(&graph, &nets, &mut state, &mut Log { space: log, words: used as usize, turns })
+            negotiated(graph, &nets, &mut state, &mut Log { space, words: used as usize, turns, expanded })
         }
     }
 }

@@ -1,5 +1,6 @@
 //! The negotiation as a machine, with its log.
 
+use crate::aim::expanded;
 use crate::join::{joined, Sink};
 use crate::price::Tuning;
 use crate::search::{distances, path, prices, weighed_prices, NO_PATH};
@@ -54,11 +55,12 @@ pub struct State {
     pub terms: Terms,
 }
 
-/// The log with what has been written.
+/// The log with what has been written, and in an aimed run the nodes expanded over the turns that it logged.
 pub struct Log<'a> {
     pub space: &'a mut [u32],
     pub words: usize,
     pub turns: u64,
+    pub expanded: Option<u64>,
 }
 
 /// How the negotiation ends.
@@ -184,6 +186,14 @@ impl Joined<'_> {
             _ => prices,
         }
     }
+
+    /// What the estimates of an aimed turn are weighed by: 10 less the criticality of a timed job's sink.
+    fn weight(&self, open: &[Sink]) -> u64 {
+        match (self.delay, open) {
+            (Some(_), [sink, ..]) => 10 - sink.criticality as u64,
+            _ => 1,
+        }
+    }
 }
 
 /// The first net and the first sink place in it without a path from the source.
@@ -215,6 +225,9 @@ fn turn(graph: &Graph, nets: &Joined, net: usize, state: &mut State, log: &mut L
     };
     let path = path(graph, &prices, &distance, tree, sink);
     log.add(state.iteration, net, distance[sink], &path)?;
+    if let Some(count) = &mut log.expanded {
+        *count += expanded(graph, nets.weight(&open), &open, &distance, sink);
+    }
     tree.extend(path);
     Ok(true)
 }
@@ -295,7 +308,9 @@ pub fn negotiated(graph: &Graph, nets: &Joined, state: &mut State, log: &mut Log
         End::LogFull => vec![8, iteration, log.turns],
         End::Limit { over } => vec![9, iteration, over],
     };
-    Answer { refusal, numbers: vec![iteration, log.turns, log.words as u64] }
+    let mut numbers = vec![iteration, log.turns, log.words as u64];
+    numbers.extend(log.expanded);
+    Answer { refusal, numbers }
 }
 
 /// The router: tests 5, 15, 6, 7, then 8 and 9 as they arise. The terms are limit, first, up, down, step, rule, k, and a number that
@@ -316,10 +331,49 @@ pub fn route(
 ) -> Answer {
     let graph = Graph { kind, capacity, first_edge, edge_target };
     let nets = Nets { source, first_sink, sink };
-    match tested(&graph, &nets, Timing { delay, criticality }, Terms::of(terms), work) {
+    run(&graph, &nets, Timing { delay, criticality }, Terms::of(terms), work, log, None)
+}
+
+/// The same with an aimed search: a fourth number counts the nodes expanded.
+pub fn route_aimed(
+    kind: &[u8],
+    capacity: &[u8],
+    first_edge: &[u32],
+    edge_target: &[u16],
+    source: &[u16],
+    first_sink: &[u32],
+    sink: &[u16],
+    delay: &[u16],
+    criticality: &[u8],
+    terms: &[u32],
+    work: &mut [u64],
+    log: &mut [u32],
+) -> Answer {
+    let graph = Graph { kind, capacity, first_edge, edge_target };
+    let nets = Nets { source, first_sink, sink };
+    aimed(run(&graph, &nets, Timing { delay, criticality }, Terms::of(terms), work, log, Some(0)))
+}
+
+/// Either, with no nodes expanded yet in an aimed run.
+fn run(
+    graph: &Graph,
+    nets: &Nets,
+    timing: Timing,
+    terms: Terms,
+    work: &mut [u64],
+    space: &mut [u32],
+    expanded: Option<u64>,
+) -> Answer {
+    match tested(graph, nets, timing, terms, work) {
         Err(refused) => refused,
         Ok((nets, mut state)) => {
-            negotiated(&graph, &nets, &mut state, &mut Log { space: log, words: 0, turns: 0 })
+            negotiated(graph, &nets, &mut state, &mut Log { space, words: 0, turns: 0, expanded })
         }
     }
+}
+
+/// The answer of an aimed call: where it was refused before it began, it expanded nothing.
+pub fn aimed(mut answer: Answer) -> Answer {
+    answer.numbers.resize(4, 0);
+    answer
 }

@@ -78,7 +78,7 @@ fn one_round(graph: &Graph, prices: &[u64], distance: &mut [u64]) -> bool {
 }
 
 /// Distance plus price; no path stays no path.
-fn sum(distance: u64, price: u64) -> u64 {
+pub fn sum(distance: u64, price: u64) -> u64 {
     distance.saturating_add(price)
 }
 

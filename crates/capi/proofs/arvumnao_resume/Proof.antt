@@ -1,24 +1,12 @@
--- `capi::arvumnao_resume` meets its contract: a short `out` is left, else what the resumed run answers is written.
+-- `capi::arvumnao_resume` meets its contract: what `resume_by` leaves by the plain search, which counts nothing.
 -- Assumes nothing.
 use borrow.Author.Needs.{needs}
-use Rattle.job.specs.Job.{jobOf}
-use Rattle.negotiation.specs.Resume.{resumeReply}
-use Rattle.capi.specs.Calls.{termsOf}
-use Rattle.capi.proofs.CallLaws.{route-short, route-called}
+use Rattle.capi.proofs.CallLaws.{plain-called}
 use Rattle.capi.proofs.arvumnao_resume.Statement.{statement}
 use Rattle.capi.proofs.arvumnao_resume.Tie as tie
 
-returns : tie.Need-returns
-returns c = route-short _ _ _ _ (c .if1 .taken)
-
-terms-of-requires : tie.Need-terms-of-requires
-terms-of-requires c κs = search needs
-
-resume-requires : tie.Need-resume-requires
-resume-requires c κs = search needs
-
-put-routed-requires : tie.Need-put-routed-requires
-put-routed-requires c κs = search needs
+resume-by-requires : tie.Need-resume-by-requires
+resume-by-requires c κs = search needs
 
 same-length : tie.Need-same-length
 same-length c = search needs
@@ -29,26 +17,8 @@ same-length-2 c = search needs
 same-length-3 : tie.Need-same-length-3
 same-length-3 c = search needs
 
-returns-2 : tie.Need-returns-2
-returns-2 c =
-    let asked = c .before .before .before .before .before .before .before .before in
-    let made = asked .before .before .before in
-    let a = made .before .before .before .before .before .before .before .before .before .before .before .before .before .before .before .args in
-    let job =
-    jobOf (a .kind .now) (a .capacity .now) (a .first-edge .now) (a .edge-target .now) (a .source .now) (a .first-sink .now) (a .sink .now)
-    (a .delay .now) (a .criticality .now) (termsOf (a .terms .now)) in
-    let answers = rw (made .terms-of .ensures) at (asked .resume .ensures .as-resumed) in
-    route-called (resumeReply job (a .used) _ _) _ _ _ _ _ _ (asked .resume .result) (made .before .if1 .left) answers (c .before .before .put-routed .ensures)
+returns : tie.Need-returns
+returns c = plain-called _ _ _ _ _ _ (c .before .before .before .before .before .before .resume-by .ensures)
 
 pub arvumnao-resume-spec : {M : Type 1} → statement M
-arvumnao-resume-spec =
-    tie.close
-    (tie.spec
-    returns
-    terms-of-requires
-    resume-requires
-    put-routed-requires
-    same-length
-    same-length-2
-    same-length-3
-    returns-2)
+arvumnao-resume-spec = tie.close (tie.spec resume-by-requires same-length same-length-2 same-length-3 returns)

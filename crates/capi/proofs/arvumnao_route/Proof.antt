@@ -1,24 +1,12 @@
--- `capi::arvumnao_route` meets its contract: a short `out` is left, else the router's answer is written.
+-- `capi::arvumnao_route` meets its contract: what `route_by` leaves by the plain search, which counts nothing.
 -- Assumes nothing.
 use borrow.Author.Needs.{needs}
-use Rattle.job.specs.Job.{jobOf}
-use Rattle.negotiation.specs.Outcome.{routeReply}
-use Rattle.capi.specs.Calls.{termsOf}
-use Rattle.capi.proofs.CallLaws.{route-short, route-called}
+use Rattle.capi.proofs.CallLaws.{plain-called}
 use Rattle.capi.proofs.arvumnao_route.Statement.{statement}
 use Rattle.capi.proofs.arvumnao_route.Tie as tie
 
-returns : tie.Need-returns
-returns c = route-short _ _ _ _ (c .if1 .taken)
-
-terms-of-requires : tie.Need-terms-of-requires
-terms-of-requires c κs = search needs
-
-route-requires : tie.Need-route-requires
-route-requires c κs = search needs
-
-put-routed-requires : tie.Need-put-routed-requires
-put-routed-requires c κs = search needs
+route-by-requires : tie.Need-route-by-requires
+route-by-requires c κs = search needs
 
 same-length : tie.Need-same-length
 same-length c = search needs
@@ -29,26 +17,8 @@ same-length-2 c = search needs
 same-length-3 : tie.Need-same-length-3
 same-length-3 c = search needs
 
-returns-2 : tie.Need-returns-2
-returns-2 c =
-    let asked = c .before .before .before .before .before .before .before .before in
-    let made = asked .before .before .before in
-    let a = made .before .before .before .before .before .before .before .before .before .before .before .before .before .before .before .args in
-    let job =
-    jobOf (a .kind .now) (a .capacity .now) (a .first-edge .now) (a .edge-target .now) (a .source .now) (a .first-sink .now) (a .sink .now)
-    (a .delay .now) (a .criticality .now) (termsOf (a .terms .now)) in
-    let answers = rw (made .terms-of .ensures) at (asked .route .ensures .as-negotiated) in
-    route-called (routeReply job _ _) _ _ _ _ _ _ (asked .route .result) (made .before .if1 .left) answers (c .before .before .put-routed .ensures)
+returns : tie.Need-returns
+returns c = plain-called _ _ _ _ _ _ (c .before .before .before .before .before .before .route-by .ensures)
 
 pub arvumnao-route-spec : {M : Type 1} → statement M
-arvumnao-route-spec =
-    tie.close
-    (tie.spec
-    returns
-    terms-of-requires
-    route-requires
-    put-routed-requires
-    same-length
-    same-length-2
-    same-length-3
-    returns-2)
+arvumnao-route-spec = tie.close (tie.spec route-by-requires same-length same-length-2 same-length-3 returns)

@@ -29,10 +29,10 @@ job c =
 
 -- what the router leaves in work slice and log
 abbrev work-left : tie.After-route → List ℕ
-work-left c = c .route .last .1 .1 .1 .1 .1 .1 .1 .1 .1 .1 .0
+work-left c = c .route .last .1 .1 .1 .1 .1 .1 .1 .1 .1 .1 .1 .0
 
 abbrev log-left : tie.After-route → List ℕ
-log-left c = c .route .last .1 .1 .1 .1 .1 .1 .1 .1 .1 .1 .1 .0
+log-left c = c .route .last .1 .1 .1 .1 .1 .1 .1 .1 .1 .1 .1 .1 .0
 
 -- a job that the router refuses
 refused :
@@ -42,7 +42,7 @@ refused :
     ≡ routeRun (entry c .args .style) (job (entry c)) t (entry c .args .work .now) (entry c .args .log .now) (entry c .args .routes .now)
 refused c =
     let a = entry c .args in
-    run-refused (job (entry c)) (a .work .now) (a .log .now) (c .route .result) (work-left c) (log-left c) (c .route .ensures .as-negotiated) (a .style) (a .routes .now)
+    run-refused (job (entry c)) (a .work .now) (a .log .now) (c .route .result) (work-left c) (log-left c) (c .route .ensures .0 .as-negotiated) (a .style) (a .routes .now)
 
 route-requires : tie.Need-route-requires
 route-requires c κs = search needs
@@ -54,7 +54,7 @@ write-used-requires : tie.Need-write-used-requires
 write-used-requires c κs =
     let r = routed (c .before .before .before .before) in
     let a = entry r .args in
-    words-fit (job (entry r)) (a .work .now) (a .log .now) (r .route .result) (work-left r) (log-left r) (r .route .ensures .as-negotiated)
+    words-fit (job (entry r)) (a .work .now) (a .log .now) (r .route .result) (work-left r) (log-left r) (r .route .ensures .0 .as-negotiated)
 
 enum-known-outcome : tie.Need-enum-known-outcome
 enum-known-outcome c = search needs
@@ -116,7 +116,7 @@ returns c =
     let accepted = written .before .before .before in
     let r = routed (accepted .before .before) in
     let a = entry r .args in
-    run-accepted (job (entry r)) (a .work .now) (a .log .now) (r .route .result) (work-left r) (log-left r) (r .route .ensures .as-negotiated)
+    run-accepted (job (entry r)) (a .work .now) (a .log .now) (r .route .result) (work-left r) (log-left r) (r .route .ensures .0 .as-negotiated)
     (a .style) (a .routes .now) (written .write-used .result) (written .write-used .last .1 .1 .1 .1 .0) (accepted .enum-told .given .1) (written .write-used .ensures)
 
 same-length-4 : tie.Need-same-length-4

@@ -25,9 +25,11 @@ same-length-2 c = search needs
 returns : tie.Need-returns
 returns c =
     let called : tie.After-routed-from = c .before .before .before .before in
-    let e : tie.Start = called .before .before .before .before .before .before .before .before .before .before .before .before .before .before in
-    route-answered (job e) (e .args .work .now) (e .args .log .now)
-    (routeReplyOf (called .routed-from .result) (called .routed-from .last .1 .1 .1 .1 .1 .1 .1 .1 .1 .1 .1 .0) (called .routed-from .last .1 .1 .1 .1 .1 .1 .1 .1 .1 .1 .1 .1 .0)) (called .routed-from .ensures)
+    let e : tie.Start = called .before .before .before .before .before .before .before .before .before .before .before .before .before .before in (
+      route-answered (job e) (e .args .work .now) (e .args .log .now)
+          (routeReplyOf (called .routed-from .result) (called .routed-from .last .1 .1 .1 .1 .1 .1 .1 .1 .1 .1 .1 .1 .0) (called .routed-from .last .1 .1 .1 .1 .1 .1 .1 .1 .1 .1 .1 .1 .1 .0)) (called .routed-from .ensures .0),
+      called .routed-from .ensures .1,
+    )
 
 pub route-spec : {M : Type 1} → statement M
 route-spec = tie.close (tie.spec routed-from-requires same-length same-length-2 returns)

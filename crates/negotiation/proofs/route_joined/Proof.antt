@@ -6,6 +6,7 @@ use native.Mathlib.Omega.{arith}
 use Rattle.search.proofs.BlockLaws.{kinds-few}
 use Rattle.job.specs.Job.{Job, jobOf}
 use Rattle.negotiation.specs.Steps.{missing, reachNumbers}
+use Rattle.negotiation.proofs.RefusalLaws.{refused-counts}
 use Rattle.negotiation.proofs.RouteLaws.{unreachable-refused, none-missing, run-answered}
 use borrow.Author.Needs.{needs}
 use Rattle.negotiation.proofs.route_joined.Statement.{statement}
@@ -72,9 +73,11 @@ same-length c = search needs
 returns : tie.Need-returns
 returns c =
     let u : tie.After-unreachable = c .before .before .before .before .before .before .before .before .before .before in
-    let e : tie.Start = reached u in
-    unreachable-refused (e .args .start) (job e) _ _ _ (test u) _ (u .unreachable .ensures .1)
-    _ _ _ _ (c .before .before .before .before .before .before .net .given .1) (c .refused .ensures) (c .before .before .before .clear .ensures)
+    let e : tie.Start = reached u in (
+      unreachable-refused (e .args .start) (job e) _ _ _ (test u) _ (u .unreachable .ensures .1)
+          _ _ _ _ (c .before .before .before .before .before .before .net .given .1) (c .refused .ensures) (c .before .before .before .clear .ensures),
+      refused-counts (e .args .aimed) (job e) _ (c .refused .result) (e .args .log .now) (c .refused .ensures),
+    )
 
 same-length-2 : tie.Need-same-length-2
 same-length-2 c = search needs
@@ -86,10 +89,12 @@ returns-2 : tie.Need-returns-2
 returns-2 c =
     let u : tie.After-unreachable = c .before .before .before .before .before .before .before .before .before .before .before in
     let e : tie.Start = reached u in
-    let ran = c .before .before .before .before in
-    run-answered (e .args .start) (job e) _ _ _ (test u) _ (u .unreachable .ensures .1)
-    (ran .negotiate .result) (ran .negotiate .last .1 .1 .1 .1 .1 .1 .1 .1 .1 .1 .1 .0) (ran .negotiate .last .1 .1 .1 .1 .1 .1 .1 .1 .1 .1 .1 .1 .0)
-    (c .before .before .before .before .before .before .before .enum-told .given .1) (ran .negotiate .ensures)
+    let ran = c .before .before .before .before in (
+      run-answered (e .args .start) (job e) _ _ _ (test u) _ (u .unreachable .ensures .1)
+          (ran .negotiate .result) (ran .negotiate .last .1 .1 .1 .1 .1 .1 .1 .1 .1 .1 .1 .1 .0) (ran .negotiate .last .1 .1 .1 .1 .1 .1 .1 .1 .1 .1 .1 .1 .1 .0)
+          (c .before .before .before .before .before .before .before .enum-told .given .1) (ran .negotiate .ensures .0),
+      ran .negotiate .ensures .1,
+    )
 
 pub route-joined-spec : {M : Type 1} → statement M
 route-joined-spec =

@@ -14,7 +14,8 @@ use Rattle.job.proofs.JobLaws.{criticalities-long}
 use Rattle.negotiation.specs.Routable.{Routable}
 use Rattle.negotiation.proofs.JoinedHolds.{joinable-of, joined-routable}
 use Rattle.negotiation.proofs.JoiningLaws.{if-timed, joined-job}
-use Rattle.negotiation.proofs.RouteLaws.{table-refused, tables-sound, large-refused, work-refused, joined-answered}
+use Rattle.negotiation.proofs.RefusalLaws.{refused-counts}
+use Rattle.negotiation.proofs.RouteLaws.{table-refused, tables-sound, large-refused, work-refused, joined-answered, joined-counts}
 use borrow.Author.Needs.{needs}
 use Rattle.negotiation.proofs.routed_from.Statement.{statement}
 use Rattle.negotiation.proofs.routed_from.Tie as tie
@@ -83,22 +84,26 @@ refused-requires c κs = search needs
 
 returns : tie.Need-returns
 returns c =
-    let e : tie.Start = c .before .before .before .before .before .before .before .before .before .before .before .before .before .before in
-    table-refused (e .args .start) (jobAt e) _ _ _ _ (c .before .before .faulty-job .ensures) (c .before .if1 .taken) (c .refused .ensures)
+    let e : tie.Start = c .before .before .before .before .before .before .before .before .before .before .before .before .before .before in (
+      table-refused (e .args .start) (jobAt e) _ _ _ _ (c .before .before .faulty-job .ensures) (c .before .if1 .taken) (c .refused .ensures),
+      refused-counts (e .args .aimed) (joined (jobAt e)) _ (c .refused .result) _ (c .refused .ensures),
+    )
 
 exceeds-requires : tie.Need-exceeds-requires
 exceeds-requires c κs = search needs
 
-cast-t26 : tie.Need-cast-t26
-cast-t26 c = let f = few-nodes (c .before .before) in omega arith
+cast-t27 : tie.Need-cast-t27
+cast-t27 c = let f = few-nodes (c .before .before) in omega arith
 
 refused-requires-2 : tie.Need-refused-requires-2
 refused-requires-2 c κs = search needs
 
 returns-2 : tie.Need-returns-2
 returns-2 c =
-    let at : tie.Else1 = c .before .before .before in
-    large-refused (lent at .args .start) (job at) _ _ _ (at .before .faulty-job .ensures) (at .if1 .left) _ (sym (c .before .before .exceeds .ensures) ∙ c .before .if2 .taken) (c .refused2 .ensures)
+    let at : tie.Else1 = c .before .before .before in (
+      large-refused (lent at .args .start) (job at) _ _ _ (at .before .faulty-job .ensures) (at .if1 .left) _ (sym (c .before .before .exceeds .ensures) ∙ c .before .if2 .taken) (c .refused2 .ensures),
+      refused-counts (lent at .args .aimed) (joined (job at)) _ (c .refused2 .result) _ (c .refused2 .ensures),
+    )
 
 mul-needed : tie.Need-mul-needed
 mul-needed c = let f = few-nodes (unfaulty c) in omega arith
@@ -109,8 +114,10 @@ refused-requires-3 c κs = search needs
 returns-3 : tie.Need-returns-3
 returns-3 c =
     let sized : tie.Else2 = c .before .before in
-    let at : tie.Else1 = unfaulty sized in
-    work-refused (lent at .args .start) (job at) _ _ _ (at .before .faulty-job .ensures) (at .if1 .left) (fits sized) _ (c .before .if3 .taken) (c .refused3 .ensures)
+    let at : tie.Else1 = unfaulty sized in (
+      work-refused (lent at .args .start) (job at) _ _ _ (at .before .faulty-job .ensures) (at .if1 .left) (fits sized) _ (c .before .if3 .taken) (c .refused3 .ensures),
+      refused-counts (lent at .args .aimed) (joined (job at)) _ (c .refused3 .result) _ (c .refused3 .ensures),
+    )
 
 add-ends : tie.Need-add-ends
 add-ends c = search needs
@@ -165,8 +172,11 @@ returns-4 : tie.Need-returns-4
 returns-4 c =
     let at : tie.After-joined-tables = c .before .before .before .before .before .before .before .before .before .before .before .before .before in
     let e : tie.Else1 = tested at in
-    joined-answered (lent e .args .start) (job e) _ _ _ (e .before .faulty-job .ensures) (e .if1 .left) (fits (sized at)) (at .before .before .before .before .if3 .left) (made at) (made-is at) _
-    (c .before .before .before .before .route-joined .ensures)
+    let answer = c .before .before .before .before .route-joined .ensures in (
+      joined-answered (lent e .args .start) (job e) _ _ _ (e .before .faulty-job .ensures) (e .if1 .left) (fits (sized at)) (at .before .before .before .before .if3 .left) (made at) (made-is at) _
+          (answer .0),
+      joined-counts (made at) (made-is at) _ _ _ _ (answer .1),
+    )
 
 pub routed-from-spec : {M : Type 1} → statement M
 routed-from-spec =
@@ -176,7 +186,7 @@ routed-from-spec =
     refused-requires
     returns
     exceeds-requires
-    cast-t26
+    cast-t27
     refused-requires-2
     returns-2
     mul-needed

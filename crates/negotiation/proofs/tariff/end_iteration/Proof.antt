@@ -90,7 +90,7 @@ module _ {M : Type 1} (𝓤 : URA M) (H : Heap 𝓤) (A : Atoms 𝓤) (W : Given
           land ! (from ! (stop !)) (init ! 10 refl (uint-lawful 𝓤 H A W w32 .typed r _ r-is .0)) $ rewrite ! 10 (λ (u : Val). ‵ (fat fullShare (tyInt w32) l₃ 0 u)) (ap only (r-is .0) ∙ ap (vint w32) e) refl $
           assigns ! (of-opd ! (load ! (from ! (stop !)) (look ! 10 refl))) (from ! (hop ! (look ! 14 refl) (fld ! refl (stop !)))) (store-in ! 0 (sub ! 1 refl (whole !)) (tt, record { fits = subst (λ (m : ℕ). m < 2 ^ 32) e (r-is .1) })) $
           assigns ! (of-opd ! (unit-lit !)) (from ! (stop !)) (init ! 16 refl (tt, tt)) $
-          closed ! tt (endedTariff g h) b o (s .0, subst (λ (m : ℕ). m < 2 ^ 32) e (r-is .1), s .2, s .3) $
+          closed ! tt (endedTariff g h) b o (s .0, subst (λ (m : ℕ). m < 2 ^ 32) e (r-is .1), s .2, s .3, s .4) $
           returns ! (look ! 15 refl) $ forget ! 5 refl $ forget ! 7 refl $ forget ! 9 refl $ forget ! 11 refl $ forget ! 13 refl $ forget ! 15 refl $
           move ! (15 ∷ 16 ∷ []) $ free1 ! $ move ! (13 ∷ 14 ∷ []) $ free1 ! $ move ! (11 ∷ 12 ∷ []) $ free1 ! $ move ! (9 ∷ 10 ∷ []) $ free1 ! $ move ! (7 ∷ 8 ∷ []) $ free1 ! $ move ! (5 ∷ 6 ∷ []) $ free1 ! $ free0 ! $
           keep ! (0 ∷ 1 ∷ 2 ∷ []) $ by ! (with-exits 𝓤 H A W ending κ q b o γ h g is))))))))))))

@@ -45,7 +45,7 @@ module _ {M : Type 1} (𝓤 : URA M) (H : Heap 𝓤) (A : Atoms 𝓤) (W : Given
       assigns ! (bin ! (load ! (from ! (stop !)) (look ! 8 refl)) (lit ! tt) (record { fits = fits })) (from ! (stop !)) (init ! 6 refl (tt, record { fits = fits })) $
       assigns ! (of-opd ! (load ! (from ! (stop !)) (look ! 6 refl))) (from ! (hop ! (look ! 10 refl) (fld ! refl (stop !)))) (store-in ! 0 (sub ! 0 refl (whole !)) (tt, record { fits = fits })) $
       assigns ! (of-opd ! (unit-lit !)) (from ! (stop !)) (init ! 12 refl (tt, tt)) $
-      closed ! tt (startedTariff h) b o (fits, s .1, s .2, s .3) $
+      closed ! tt (startedTariff h) b o (fits, s .1, s .2, s .3, s .4) $
       returns ! (look ! 11 refl) $ forget ! 5 refl $ forget ! 7 refl $ forget ! 9 refl $ forget ! 11 refl $
       move ! (11 ∷ 12 ∷ []) $ free1 ! $ move ! (9 ∷ 10 ∷ []) $ free1 ! $ move ! (7 ∷ 8 ∷ []) $ free1 ! $ move ! (5 ∷ 6 ∷ []) $ free1 ! $ free0 ! $
       keep ! (0 ∷ 1 ∷ 2 ∷ []) $ by ! (step-exits 𝓤 H A W Q startedTariff κ q b o γ h))))))

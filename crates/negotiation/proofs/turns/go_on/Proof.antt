@@ -1,10 +1,10 @@
 -- `negotiation::turns::go_on` meets its contract. At the head of each loop the lists and the tariff are the machine's (`KeepLaws`), from any progress whose
 -- they were at first; within an iteration that is said from any such place at the iteration's start. What is safe rests on the one progress that is asked for.
--- The measures: iterations up to the limit, nets left, turns left.
+-- So is what the tariff counts (`KeepCount`). The measures: iterations up to the limit, nets left, turns left.
 -- Assumes nothing.
 use mathlib.Core.List.{List}
 use mathlib.Core.Logic.{⊎-elim}
-use mathlib.Core.Path.{_≡_, _∙_, sym, ap, subst}
+use mathlib.Core.Path.{_≡_, refl, _∙_, sym, ap, subst}
 use Prim.Native.Nat.{ℕ, _+_, _-_, _*_, _≤_, _<_}
 use native.Mathlib.Nat.{le-of-eq, le-trans}
 use native.Mathlib.Omega.{arith}
@@ -16,6 +16,7 @@ use Rattle.job.specs.Job.{Job, jobOf, nodes}
 use Rattle.negotiation.specs.Routable.{Routable}
 use Rattle.negotiation.specs.Machine.{Progress}
 use Rattle.negotiation.specs.Kept.{Ready}
+use Rattle.negotiation.specs.Runs.{Ran}
 use Rattle.negotiation.proofs.RoutableLaws.{tuning-fits}
 use Rattle.negotiation.proofs.MachineRan.{Reached}
 use Rattle.negotiation.proofs.DemandLaws.{all-reached}
@@ -25,6 +26,7 @@ use Rattle.negotiation.proofs.KeepStart.{keep-start, keep-due, keep-rea
 use Rattle.negotiation.proofs.KeepTurn.{Lent, lent-tables, call-aim, call-turn, after-nothing, after-logged}
 use Rattle.negotiation.proofs.KeepNet.{keep-end-ready, keep-ended}
 use Rattle.negotiation.proofs.KeepEnd.{after-full, all-routed, keep-accepted, keep-limit, keep-growable, keep-below, keep-next}
+use Rattle.negotiation.proofs.KeepCount.{Counts, CountsOn, counts-start, counts-same, counts-answer, counts-fit, counts-nothing, counts-full, counts-logged}
 use Rattle.negotiation.proofs.KeepLengths.{Long, net-long, turn-long, start-long}
 use Rattle.negotiation.proofs.turns.go_on.Statement.{statement}
 use Rattle.negotiation.proofs.turns.go_on.Tie as tie
@@ -34,6 +36,7 @@ Inv-loop2 kind capacity first-edge edge-target source first-sink sink delay crit
     (p : Progress) (W L : List ℕ) (m : ℕ) → 8 * length kind ≤ length W
     → AtTurns (jobOf kind capacity first-edge edge-target source first-sink sink delay criticality terms) p W L m net left₀ tariff₀ history users in-tree₀ tree-from tree-to due work₀ log₀ first
     → AtTurns (jobOf kind capacity first-edge edge-target source first-sink sink delay criticality terms) p W L m net left tariff history users in-tree tree-from tree-to due work log first
+    × CountsOn (jobOf kind capacity first-edge edge-target source first-sink sink delay criticality terms) p tariff₀ log₀ tariff log
 
 abbrev μ-loop2 : tie.MeasureT-loop2
 μ-loop2 kind capacity first-edge edge-target source first-sink sink delay criticality terms history users in-tree₀ tree-from tree-to due work₀ log₀ n tariff₀ net from to first left₀ in-tree work log tariff left =
@@ -44,6 +47,7 @@ Inv-loop kind capacity first-edge edge-target source first-sink sink delay criti
     (p : Progress) (W L : List ℕ) (m : ℕ) → 8 * length kind ≤ length W
     → AtNet (jobOf kind capacity first-edge edge-target source first-sink sink delay criticality terms) p W L m 0 tariff₀ history users₀ in-tree₀ tree-from₀ tree-to₀ due work₀ log₀
     → AtNet (jobOf kind capacity first-edge edge-target source first-sink sink delay criticality terms) p W L m net tariff history users in-tree tree-from tree-to due work log
+    × CountsOn (jobOf kind capacity first-edge edge-target source first-sink sink delay criticality terms) p tariff₀ log₀ tariff log
 
 abbrev μ-loop : tie.MeasureT-loop
 μ-loop kind capacity first-edge edge-target source first-sink sink delay criticality terms history users₀ in-tree₀ tree-from₀ tree-to₀ due work₀ log₀ n tariff₀ net₀ users in-tree tree-from tree-to work log tariff net =
@@ -54,6 +58,7 @@ Inv-iterations kind capacity first-edge edge-target source first-sink sink delay
     (p : Progress)
     → Ready (jobOf kind capacity first-edge edge-target source first-sink sink delay criticality terms) p tariff₀ history₀ users₀ in-tree₀ tree-from₀ tree-to₀ due₀ log₀
     → (m : ℕ) × AtIteration (jobOf kind capacity first-edge edge-target source first-sink sink delay criticality terms) p work₀ log₀ m tariff history users in-tree tree-from tree-to due work log
+    × CountsOn (jobOf kind capacity first-edge edge-target source first-sink sink delay criticality terms) p tariff₀ log₀ tariff log
 
 abbrev μ-iterations : tie.MeasureT-iterations
 μ-iterations kind capacity first-edge edge-target source first-sink sink delay criticality terms history₀ users₀ in-tree₀ tree-from₀ tree-to₀ due₀ work₀ log₀ n tariff₀ history users in-tree tree-from tree-to due work log tariff =
@@ -91,6 +96,10 @@ module _ (e : Entry) where
 
   ready : ReadyAt some
   ready = e .pre .1 .ready
+
+  -- no nodes are counted yet
+  none-counted : (p : Progress) → ReadyAt p → Counts (e .args .begun .aimed) job (p .records) (e .args .begun) (e .args .log .now)
+  none-counted p r = counts-start job r (e .pre .1 .none-expanded)
 
   few-nodes : nodes job ≤ 4096
   few-nodes = kinds-few _ (routable .block-sound .kinds-sound)
@@ -132,12 +141,23 @@ module _ (c : Net) where
       (c .loop .tree-to) dues (c .loop .work) (c .loop .log)
 
   net-from : (p : Progress) (W L : List ℕ) (m : ℕ) → 8 * nodes (job net-entry) ≤ length W → NetStart p W L m → NetHere p W L m
-  net-from p W L m e o = c .loop .inv p W L m e o
+  net-from p W L m e o = c .loop .inv p W L m e o .0
+
+  net-counts :
+      (p : Progress) (W L : List ℕ) (m : ℕ) → 8 * nodes (job net-entry) ≤ length W → NetStart p W L m
+      → CountsOn (job net-entry) p (iteration c .iterations .tariff) (iteration c .iterations .log) (c .loop .tariff) (c .loop .log)
+  net-counts p W L m e o = c .loop .inv p W L m e o .1
+
+  net-start : (p : Progress) (r : ReadyAt net-entry p) → NetStart p (net-entry .args .work .now) (net-entry .args .log .now) (iteration c .iterations .inv p r .0)
+  net-start p r = keep-due _ (routable net-entry) (iteration c .iterations .inv p r .1) _ (c .before .before .before .mark-due .ensures)
 
   net-at : (p : Progress) (r : ReadyAt net-entry p) → NetHere p (net-entry .args .work .now) (net-entry .args .log .now) (iteration c .iterations .inv p r .0)
-  net-at p r =
-      net-from p _ _ _ (enough net-entry)
-      (keep-due _ (routable net-entry) (iteration c .iterations .inv p r .1) _ (c .before .before .before .mark-due .ensures))
+  net-at p r = net-from p _ _ _ (enough net-entry) (net-start p r)
+
+  -- the nodes that are counted
+  net-counted : (p : Progress) (k : ℕ) → ReadyAt net-entry p → Ran (job net-entry) k (p .records) (p .state) → Counts (net-entry .args .begun .aimed) (job net-entry) (p .records) (c .loop .tariff) (c .loop .log)
+  net-counted p k r ran =
+      net-counts p _ _ _ (enough net-entry) (net-start p r) k _ ran (iteration c .iterations .inv p r .2 k _ ran (none-counted net-entry p r))
 
   net-safe : NetHere (some net-entry) (net-entry .args .work .now) (net-entry .args .log .now) (iteration c .iterations .inv (some net-entry) (ready net-entry) .0)
   net-safe = net-at (some net-entry) (ready net-entry)
@@ -166,16 +186,29 @@ module _ (c : Turn) where
       AtTurns (job turn-entry) p W L m (net c .loop .net) (c .loop2 .left) (c .loop2 .tariff) (iteration (net c) .iterations .history) lent-users (c .loop2 .in-tree)
       (net c .loop .tree-from) (net c .loop .tree-to) (dues (net c)) (c .loop2 .work) (c .loop2 .log) (net c .loop .tariff .words)
 
-  turn-from : (p : Progress) (W L : List ℕ) (m : ℕ) → 8 * nodes (job turn-entry) ≤ length W → NetStart (net c) p W L m → TurnHere p W L m
-  turn-from p W L m e o =
+  turn-inv :
+      (p : Progress) (W L : List ℕ) (m : ℕ) → 8 * nodes (job turn-entry) ≤ length W → NetStart (net c) p W L m
+      → TurnHere p W L m × CountsOn (job turn-entry) p (net c .loop .tariff) (net c .loop .log) (c .loop2 .tariff) (c .loop2 .log)
+  turn-inv p W L m e o =
       c .loop2 .inv p W L m e
       (keep-begun _ (routable turn-entry) (net-from (net c) p W L m e o) (c .before .before .before .before .before .before .before .before .before .before .before .before .before .before .loop-test .taken)
       (c .before .before .before .before .before .begin-net .ensures .0) (c .before .before .before .before .before .begin-net .ensures .1))
 
+  turn-from : (p : Progress) (W L : List ℕ) (m : ℕ) → 8 * nodes (job turn-entry) ≤ length W → NetStart (net c) p W L m → TurnHere p W L m
+  turn-from p W L m e o = turn-inv p W L m e o .0
+
+  turn-counts :
+      (p : Progress) (W L : List ℕ) (m : ℕ) → 8 * nodes (job turn-entry) ≤ length W → NetStart (net c) p W L m
+      → CountsOn (job turn-entry) p (iteration (net c) .iterations .tariff) (iteration (net c) .iterations .log) (c .loop2 .tariff) (c .loop2 .log)
+  turn-counts p W L m e o k aimed ran h = turn-inv p W L m e o .1 k aimed ran (net-counts (net c) p W L m e o k aimed ran h)
+
   turn-at : (p : Progress) (r : ReadyAt turn-entry p) → TurnHere p (turn-entry .args .work .now) (turn-entry .args .log .now) (iteration (net c) .iterations .inv p r .0)
-  turn-at p r =
-      turn-from p _ _ _ (enough turn-entry)
-      (keep-due _ (routable turn-entry) (iteration (net c) .iterations .inv p r .1) _ (net c .before .before .before .mark-due .ensures))
+  turn-at p r = turn-from p _ _ _ (enough turn-entry) (net-start (net c) p r)
+
+  -- the nodes that are counted
+  turn-counted : (p : Progress) (k : ℕ) → ReadyAt turn-entry p → Ran (job turn-entry) k (p .records) (p .state) → Counts (turn-entry .args .begun .aimed) (job turn-entry) (p .records) (c .loop2 .tariff) (c .loop2 .log)
+  turn-counted p k r ran =
+      turn-counts p _ _ _ (enough turn-entry) (net-start (net c) p r) k _ ran (iteration (net c) .iterations .inv p r .2 k _ ran (none-counted turn-entry p r))
 
   turn-safe :
       TurnHere (some turn-entry) (turn-entry .args .work .now) (turn-entry .args .log .now) (iteration (net c) .iterations .inv (some turn-entry) (ready turn-entry) .0)
@@ -225,7 +258,7 @@ module _ (c : tie.After-over-count Inv-loop2 μ-loop2 Inv-loop μ-loop Inv-itera
 iterations-holds :
     tie.Need-iterations-holds Inv-loop2 μ-loop2 Inv-loop μ-loop Inv-iterations μ-iterations
 iterations-holds c =
-    λ p r. (0, keep-start _ r _)
+    λ p r. (0, keep-start _ r _, λ k aimed ran h. h)
 
 mark-due-requires :
     tie.Need-mark-due-requires Inv-loop2 μ-loop2 Inv-loop μ-loop Inv-iterations μ-iterations
@@ -236,7 +269,7 @@ mark-due-requires c κs =
 
 loop-holds :
     tie.Need-loop-holds Inv-loop2 μ-loop2 Inv-loop μ-loop Inv-iterations μ-iterations
-loop-holds c = λ p W L m e at. at
+loop-holds c = λ p W L m e at. (at, λ k aimed ran h. h)
 
 mul-from :
     tie.Need-mul-from Inv-loop2 μ-loop2 Inv-loop μ-loop Inv-iterations μ-iterations
@@ -274,7 +307,7 @@ begin-net-requires c κs =
 
 loop2-holds :
     tie.Need-loop2-holds Inv-loop2 μ-loop2 Inv-loop μ-loop Inv-iterations μ-iterations
-loop2-holds c = λ p W L m e at. at
+loop2-holds c = λ p W L m e at. (at, λ k aimed ran h. h)
 
 cast-net-turn :
     tie.Need-cast-net-turn Inv-loop2 μ-loop2 Inv-loop μ-loop Inv-iterations μ-iterations
@@ -288,9 +321,13 @@ net-turn-requires :
     tie.Need-net-turn-requires Inv-loop2 μ-loop2 Inv-loop μ-loop Inv-iterations μ-iterations
 net-turn-requires c κs =
     let at : Turn = c .before .before .before .before .before .before in
-    let some = c .before .before .before .before .before .loop2-test .taken in (
-      call-aim _ (routable (turn-entry at)) (enough (turn-entry at)) (turn-safe at) some (tables at),
-      call-turn _ (routable (turn-entry at)) (enough (turn-entry at)) (turn-safe at) some (tables at),
+    let left = c .before .before .before .before .before .loop2-test .taken in
+    let ran = turn-entry at .pre .1 .ran in
+    let few =
+    counts-fit _ (routable (turn-entry at)) (reachable (turn-entry at)) (enough (turn-entry at)) (turn-safe at) left (tables at) ran
+    (turn-counted at (some (turn-entry at)) _ (ready (turn-entry at)) ran) in (
+      call-aim _ (routable (turn-entry at)) (enough (turn-entry at)) (turn-safe at) left (tables at),
+      call-turn _ (routable (turn-entry at)) (enough (turn-entry at)) (turn-safe at) left (tables at) few,
     )
 
 enum-told :
@@ -317,13 +354,22 @@ loop2-again :
     tie.Need-loop2-again Inv-loop2 μ-loop2 Inv-loop μ-loop Inv-iterations μ-iterations
 loop2-again c = λ p W L m e o.
     let at : Turn = c .before .before .before .before .before .before .before .before .before .before .before .before .before .before in
+    let left = c .before .before .before .before .before .before .before .before .before .before .before .before .before .loop2-test .taken in
+    let done = c .before .before .before .before .before .before .before .net-turn .ensures in
+    let inv = at .loop2 .inv p W L m e o in
     ⊎-elim
-    (λ w.
-    after-nothing _ (routable (turn-entry at)) e (at .loop2 .inv p W L m e o) (c .before .before .before .before .before .before .before .before .before .before .before .before .before .loop2-test .taken) (tables at) _ _ _
-    (c .before .before .before .before .before .before .before .net-turn .ensures .1) _ (c .before .before .before .before .before .before .before .net-turn .ensures .0) (w .1 .given .1) _ (w .2))
-    (λ w.
-    after-logged _ (routable (turn-entry at)) e (at .loop2 .inv p W L m e o) (c .before .before .before .before .before .before .before .before .before .before .before .before .before .loop2-test .taken) (tables at) _ _ _
-    (c .before .before .before .before .before .before .before .net-turn .ensures .1) _ (c .before .before .before .before .before .before .before .net-turn .ensures .0) _ (w .1 .given .1) _ (w .3))
+    (λ w. (
+      after-nothing _ (routable (turn-entry at)) e (inv .0) left (tables at) _ _ _ (done .1) _ (done .0) (w .1 .given .1) _ (w .2),
+      λ k aimed ran h.
+          counts-nothing _ (routable (turn-entry at)) (reachable (turn-entry at)) e (inv .0) left (tables at) _ _ _ (done .1) _ (done .0) (w .1 .given .1) _ (w .2) k aimed ran
+          (inv .1 k aimed ran h),
+    ))
+    (λ w. (
+      after-logged _ (routable (turn-entry at)) e (inv .0) left (tables at) _ _ _ (done .1) _ (done .0) _ (w .1 .given .1) _ (w .3),
+      λ k aimed ran h.
+          counts-logged _ (routable (turn-entry at)) (reachable (turn-entry at)) e (inv .0) left (tables at) _ _ _ (done .1) _ (done .0) _ (w .1 .given .1) _ (w .3) k aimed ran
+          (inv .1 k aimed ran h),
+    ))
     (c .match .came)
 
 end-net-requires :
@@ -348,8 +394,10 @@ loop-again :
     tie.Need-loop-again Inv-loop2 μ-loop2 Inv-loop μ-loop Inv-iterations μ-iterations
 loop-again c = λ p W L m e o.
     let at : Turn = c .before .before .before .before .before .before .before .before .before .before .before .before .before .before .before .before in
-    keep-ended _ (routable (turn-entry at)) (reachable (turn-entry at)) (c .before .before .before .before .before .before .before .before .before .before .before .before .before .before .before .loop2-test .left) (turn-from at p W L m e o)
-    (c .before .before .before .before .before .before .before .before .end-net .ensures .0) (c .before .before .before .before .before .before .before .before .end-net .ensures .1)
+    let ended = c .before .before .before .before .before .before .before .before .end-net .ensures in (
+      keep-ended _ (routable (turn-entry at)) (reachable (turn-entry at)) (c .before .before .before .before .before .before .before .before .before .before .before .before .before .before .before .loop2-test .left) (turn-from at p W L m e o) (ended .0) (ended .1),
+      turn-counts at p W L m e o,
+    )
 
 over-count-requires :
     tie.Need-over-count-requires Inv-loop2 μ-loop2 Inv-loop μ-loop Inv-iterations μ-iterations
@@ -423,10 +471,13 @@ returns :
     tie.Need-returns Inv-loop2 μ-loop2 Inv-loop μ-loop Inv-iterations μ-iterations
 returns c =
     let at : Net = c .before .before .before .before .before .before .before .before .before in
-    λ p r.
-    rw (c .before .before .before .clear .ensures)
-    (keep-accepted _ (routable (net-entry at)) (whole (c .before .before .before .before .before .before .before .before) p r) (sym (over-is (c .before .before .before .before .before .before)) ∙ c .before .before .before .before .before .if1 .taken) (c .answer .result) (c .answer .ensures .0)
-    (record { iteration-is = c .answer .ensures .1; turns-is = c .answer .ensures .2; words-is = c .answer .ensures .3 }))
+    let answer = c .answer .ensures in (
+      λ p r.
+          rw (c .before .before .before .clear .ensures)
+          (keep-accepted _ (routable (net-entry at)) (whole (c .before .before .before .before .before .before .before .before) p r) (sym (over-is (c .before .before .before .before .before .before)) ∙ c .before .before .before .before .before .if1 .taken) (c .answer .result) (answer .0)
+          (record { iteration-is = answer .1; turns-is = answer .2; words-is = answer .3 })),
+      λ p m r ran. counts-answer (net-counted at p m r ran) (c .answer .result) (answer .4) (answer .3),
+    )
 
 mul-clear-2 :
     tie.Need-mul-clear-2 Inv-loop2 μ-loop2 Inv-loop μ-loop Inv-iterations μ-iterations
@@ -492,12 +543,14 @@ returns-2 :
     tie.Need-returns-2 Inv-loop2 μ-loop2 Inv-loop μ-loop Inv-iterations μ-iterations
 returns-2 c =
     let at : Net = c .before .before .before .before .before .before .before .before .before .before .before .before in
-    λ p r.
-    rw (c .before .before .before .clear2 .ensures)
-    (keep-limit _ (routable (net-entry at)) (whole (c .before .before .before .before .before .before .before .before .before .before .before) p r) _
-    (over-is (c .before .before .before .before .before .before .before .before .before)) (c .before .before .before .before .before .before .before .before .if1 .left) (c .before .before .before .before .before .if2 .taken)
-    (c .answer2 .result) (c .answer2 .ensures .0)
-    (record { iteration-is = c .answer2 .ensures .1; turns-is = c .answer2 .ensures .2; words-is = c .answer2 .ensures .3 }))
+    let answer = c .answer2 .ensures in (
+      λ p r.
+          rw (c .before .before .before .clear2 .ensures)
+          (keep-limit _ (routable (net-entry at)) (whole (c .before .before .before .before .before .before .before .before .before .before .before) p r) _
+          (over-is (c .before .before .before .before .before .before .before .before .before)) (c .before .before .before .before .before .before .before .before .if1 .left) (c .before .before .before .before .before .if2 .taken)
+          (c .answer2 .result) (answer .0) (record { iteration-is = answer .1; turns-is = answer .2; words-is = answer .3 })),
+      λ p m r ran. counts-answer (net-counted at p m r ran) (c .answer2 .result) (answer .4) (answer .3),
+    )
 
 grow-histories-requires :
     tie.Need-grow-histories-requires Inv-loop2 μ-loop2 Inv-loop μ-loop Inv-iterations μ-iterations
@@ -537,6 +590,9 @@ iterations-again c =
       keep-next _ (routable (net-entry at)) (whole (c .before .before .before .before .before .before .before .before .before .before .before .before) p r)
           (λ z. c .before .before .before .before .before .before .before .before .before .if1 .left (over-is (c .before .before .before .before .before .before .before .before .before .before) ∙ z)) (c .before .before .before .before .before .before .if2 .left)
           (e .0) (e .1) (e .2) (e .3) (c .before .before .before .grow-histories .ensures),
+      λ k aimed ran h.
+          counts-same aimed _ _ _ _ _ _ (e .4) (e .5) (e .3) refl
+          (net-counts at p _ _ _ (enough (net-entry at)) (net-start at p r) k aimed ran (iteration at .iterations .inv p r .2 k aimed ran h)),
     )
 
 mul-clear-3 :
@@ -608,12 +664,19 @@ returns-3 :
     tie.Need-returns-3 Inv-loop2 μ-loop2 Inv-loop μ-loop Inv-iterations μ-iterations
 returns-3 c =
     let at : Turn = c .before .before .before .before .before .before .before .before .before .before .before .before .before .before .before .before .before .before .before .before in
-    λ p r.
-    after-full _ (routable (turn-entry at)) (enough (turn-entry at)) (turn-at at p r) (c .before .before .before .before .before .before .before .before .before .before .before .before .before .before .before .before .before .before .before .loop2-test .taken) (tables at) _ _ _
-    (c .before .before .before .before .before .before .before .before .before .before .before .before .before .net-turn .ensures .1) _
-    (c .before .before .before .before .before .before .before .before .before .before .before .before .before .net-turn .ensures .0) (c .before .before .before .before .before .enum-told2 .given .1) _ (c .before .before .before .clear3 .ensures)
-    (c .answer3 .result) (c .answer3 .ensures .0)
-    (record { iteration-is = c .answer3 .ensures .1; turns-is = c .answer3 .ensures .2; words-is = c .answer3 .ensures .3 })
+    let left = c .before .before .before .before .before .before .before .before .before .before .before .before .before .before .before .before .before .before .before .loop2-test .taken in
+    let done = c .before .before .before .before .before .before .before .before .before .before .before .before .before .net-turn .ensures in
+    let full = c .before .before .before .before .before .enum-told2 .given .1 in
+    let answer = c .answer3 .ensures in (
+      λ p r.
+          after-full _ (routable (turn-entry at)) (enough (turn-entry at)) (turn-at at p r) left (tables at) _ _ _ (done .1) _ (done .0) full _ (c .before .before .before .clear3 .ensures)
+          (c .answer3 .result) (answer .0) (record { iteration-is = answer .1; turns-is = answer .2; words-is = answer .3 }),
+      λ p m r ran.
+          counts-answer
+          (counts-full _ (routable (turn-entry at)) (reachable (turn-entry at)) (enough (turn-entry at)) (turn-at at p r) left (tables at) _ _ _ (done .1) _ (done .0) full m _ ran
+          (turn-counted at p m r ran))
+          (c .answer3 .result) (answer .4) (answer .3),
+    )
 
 pub go-on-spec : {M : Type 1} → statement M
 go-on-spec =

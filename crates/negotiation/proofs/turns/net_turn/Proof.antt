@@ -42,7 +42,7 @@ returns : tie.Need-returns
 returns c =
     let made = c .before .before .before .before .before .before in
     let at : tie.After-next-aim = made .before .before .before .before .before .before in
-    (aim-done (at .next-aim .ensures) _ _ _ _ _ (made .one-turn .result) _ _ _ _ _ (made .one-turn .ensures .0), made .one-turn .ensures .1)
+    (aim-done (at .next-aim .ensures) _ _ _ _ _ (made .one-turn .result) (start at .args .tariff) _ _ _ _ (made .one-turn .ensures .0), made .one-turn .ensures .1)
 
 pub net-turn-spec : {M : Type 1} → statement M
 net-turn-spec =

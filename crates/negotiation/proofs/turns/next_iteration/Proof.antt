@@ -9,9 +9,18 @@ use Rattle.negotiation.specs.declared.tariff.Tariff.{Tariff}
 use Rattle.negotiation.proofs.turns.next_iteration.Statement.{statement}
 use Rattle.negotiation.proofs.turns.next_iteration.Tie as tie
 
--- the four numbers of a tariff that is known whole
-parts : (u v : Tariff) → u ≡ v → (u .iteration ≡ v .iteration) × (u .factor ≡ v .factor) × (u .turns ≡ v .turns) × (u .words ≡ v .words)
-parts u v e = (ap (λ (t : Tariff). t .iteration) e, ap (λ (t : Tariff). t .factor) e, ap (λ (t : Tariff). t .turns) e, ap (λ (t : Tariff). t .words) e)
+-- the parts of a tariff that is known whole
+parts :
+    (u v : Tariff) → u ≡ v
+    → (u .iteration ≡ v .iteration) × (u .factor ≡ v .factor) × (u .turns ≡ v .turns) × (u .words ≡ v .words) × (u .aimed ≡ v .aimed) × (u .expanded ≡ v .expanded)
+parts u v e = (
+  ap (λ (t : Tariff). t .iteration) e,
+  ap (λ (t : Tariff). t .factor) e,
+  ap (λ (t : Tariff). t .turns) e,
+  ap (λ (t : Tariff). t .words) e,
+  ap (λ (t : Tariff). t .aimed) e,
+  ap (λ (t : Tariff). t .expanded) e,
+)
 
 iteration-ended-requires : tie.Need-iteration-ended-requires
 iteration-ended-requires c κs = search needs

@@ -1,22 +1,37 @@
 -- `negotiation::turns::one_turn` meets its contract: without sinks no turn is made; nothing is refused, so the search's answer is the turn, and where its record fits it is logged and marked.
 -- Assumes nothing.
 use mathlib.Core.List.{[], _∷_}
+use mathlib.Core.Path.{ap}
 use native.Mathlib.Omega.{arith}
 use types.Run.{miss}
 use borrow.Author.Needs.{needs}
-use Rattle.negotiation.proofs.OneTurnLaws.{turn-none, turn-joined, turn-other, turn-full, turn-logs}
+use Rattle.negotiation.specs.declared.tariff.Tariff.{Tariff}
+use Rattle.negotiation.proofs.OneTurnLaws.{turn-none, turn-joined, turn-other, turn-counts, turn-full, turn-logs}
 use Rattle.negotiation.proofs.turns.one_turn.Statement.{statement}
 use Rattle.negotiation.proofs.turns.one_turn.Tie as tie
 
 -- the entry, from the search's answer
-abbrev start : tie.After-cheapest-path → tie.Start
+abbrev start : tie.After-found-path → tie.Start
 start c = c .before .before .before .before .before .before .before .before .before .before .before .before .before .before .before
+
+-- from where it joins a sink
+module _ (c : tie.After-answer) where
+  abbrev called : tie.After-found-path
+  called = c .before .before .before .before .before
+
+  abbrev entry : tie.Start
+  entry = start called
 
 returns : tie.Need-returns
 returns c = turn-none _ _ _ _ (c .if1 .taken)
 
-cheapest-path-requires : tie.Need-cheapest-path-requires
-cheapest-path-requires c κs = search needs
+found-path-requires : tie.Need-found-path-requires
+found-path-requires c κs =
+    let e : tie.Start = c .before .before .before .before .before .before .before .before .before .before .before .before .before .before in
+    (e .pre .ready, e .pre .sinks-sound)
+
+cast-expanded : tie.Need-cast-expanded
+cast-expanded c = search needs
 
 enum-known-answer : tie.Need-enum-known-answer
 enum-known-answer c = search needs
@@ -29,10 +44,9 @@ same-length-2 c = search needs
 
 returns-2 : tie.Need-returns-2
 returns-2 c =
-    let called = c .before .before .before in
-    let entry = start called in
-    turn-other (entry .pre) (called .cheapest-path .result)
-    (λ place cost count e. miss (1 ∷ 2 ∷ 3 ∷ 4 ∷ 5 ∷ []) 0 tt (rw e at (c .match .keys2))) (called .cheapest-path .ensures .0)
+    let found : tie.After-found-path = c .before .before .before .before in
+    turn-other (start found .pre) (found .found-path .result .answer)
+    (λ place cost count e. miss (1 ∷ 2 ∷ 3 ∷ 4 ∷ 5 ∷ []) 0 tt (rw e at (c .match .keys2))) (found .found-path .ensures .0)
 
 cast-count : tie.Need-cast-count
 cast-count c = search needs
@@ -52,10 +66,8 @@ same-length-4 c = search needs
 returns-3 : tie.Need-returns-3
 returns-3 c =
     let answered = c .before .before in
-    let called = answered .before .before .before .before in
-    let entry = start called in
-    let j = turn-joined (entry .pre) (answered .answer .given .1) (called .cheapest-path .ensures .0) in
-    (turn-full j (c .if2 .taken) (entry .pre .within), j .rest)
+    let j = turn-joined (entry answered .pre) (answered .answer .given .1) (called answered .found-path .ensures .0) in
+    (turn-full j (c .if2 .taken) (entry answered .pre .within), j .rest)
 
 cast-p : tie.Need-cast-p
 cast-p c = search needs
@@ -66,9 +78,7 @@ mul-write-record c = search needs
 shared-slice-read-write-record : tie.Need-shared-slice-read-write-record
 shared-slice-read-write-record c =
     let answered = c .before .before .before .before in
-    let called = answered .before .before .before .before in
-    let entry = start called in
-    turn-joined (entry .pre) (answered .answer .given .1) (called .cheapest-path .ensures .0) .within
+    turn-joined (entry answered .pre) (answered .answer .given .1) (called answered .found-path .ensures .0) .within
 
 cast-write-record : tie.Need-cast-write-record
 cast-write-record c = omega (arith, c .shared-slice-known9 .given (c .before .before .before .before .answer .given .0 .0))
@@ -77,17 +87,13 @@ write-record-requires : tie.Need-write-record-requires
 write-record-requires c κs =
     let tested = c .before .before .before in
     let answered = tested .before .before in
-    let called = answered .before .before .before .before in
-    let entry = start called in
-    let j = turn-joined (entry .pre) (answered .answer .given .1) (called .cheapest-path .ensures .0) in
-    ((j .long, omega (arith, tested .if2 .left, entry .pre .within), omega (arith, j .few)), j .small)
+    let j = turn-joined (entry answered .pre) (answered .answer .given .1) (called answered .found-path .ensures .0) in
+    ((j .long, omega (arith, tested .if2 .left, entry answered .pre .within), omega (arith, j .few)), j .small)
 
 mark-path-requires : tie.Need-mark-path-requires
 mark-path-requires c κs =
     let answered = c .before .before .before .before .before .before .before .before .before .before in
-    let called = answered .before .before .before .before in
-    let entry = start called in
-    let j = turn-joined (entry .pre) (answered .answer .given .1) (called .cheapest-path .ensures .0) in
+    let j = turn-joined (entry answered .pre) (answered .answer .given .1) (called answered .found-path .ensures .0) in
     (j .long, j .nodes-below)
 
 add-turn-logged : tie.Need-add-turn-logged
@@ -96,11 +102,16 @@ add-turn-logged c = search needs
 turn-logged-requires : tie.Need-turn-logged-requires
 turn-logged-requires c κs =
     let tested = c .before .before .before .before .before .before .before .before .before .before .before in
-    let entry = tested .before .before .before .before .before .before .before .before .before .before .before .before .before .before .before .before .before .before .before .before .before in
-    let log-short = entry .good .1 .1 .1 .1 .1 .1 .1 .1 .1 .1 .0 .1 in (
-      omega (arith, tested .if2 .left, entry .pre .within, log-short, entry .pre .few-turns),
-      omega (arith, tested .if2 .left, entry .pre .within, log-short),
+    let e : tie.Start = entry (tested .before .before) in
+    let log-short = e .good .1 .1 .1 .1 .1 .1 .1 .1 .1 .1 .0 .1 in (
+      omega (arith, tested .if2 .left, e .pre .within, log-short, e .pre .few-turns),
+      omega (arith, tested .if2 .left, e .pre .within, log-short),
     )
+
+turn-counted-requires : tie.Need-turn-counted-requires
+turn-counted-requires c κs =
+    let answered : tie.After-answer = c .before .before .before .before .before .before .before .before .before .before .before .before .before .before in
+    turn-counts (entry answered .pre) (ap (λ (x : Tariff). x .expanded) (c .turn-logged .ensures)) (called answered .found-path .ensures .1)
 
 same-length-5 : tie.Need-same-length-5
 same-length-5 c = search needs
@@ -113,21 +124,24 @@ same-length-7 c = search needs
 
 returns-4 : tie.Need-returns-4
 returns-4 c =
-    let marked = c .before .before .before in
+    let logged = c .before in
+    let marked = logged .before .before .before in
     let written = marked .before .before .before .before .before in
     let tested = written .before .before .before .before in
     let answered = tested .before .before in
-    let called = answered .before .before .before .before in
-    let entry = start called in
-    let j = turn-joined (entry .pre) (answered .answer .given .1) (called .cheapest-path .ensures .0) in
-    (turn-logs j (omega (arith, tested .if2 .left, entry .pre .within)) (written .write-record .ensures) (marked .mark-path .ensures) (c .turn-logged .ensures), j .rest)
+    let j = turn-joined (entry answered .pre) (answered .answer .given .1) (called answered .found-path .ensures .0) in (
+      turn-logs j (omega (arith, tested .if2 .left, entry answered .pre .within)) (written .write-record .ensures) (marked .mark-path .ensures)
+          (logged .turn-logged .ensures) (c .turn-counted .ensures) (called answered .found-path .ensures .1),
+      j .rest,
+    )
 
 pub one-turn-spec : {M : Type 1} → statement M
 one-turn-spec =
     tie.close
     (tie.spec
     returns
-    cheapest-path-requires
+    found-path-requires
+    cast-expanded
     enum-known-answer
     same-length
     same-length-2
@@ -146,6 +160,7 @@ one-turn-spec =
     mark-path-requires
     add-turn-logged
     turn-logged-requires
+    turn-counted-requires
     same-length-5
     same-length-6
     same-length-7

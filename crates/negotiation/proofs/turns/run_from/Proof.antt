@@ -5,8 +5,9 @@ use native.Mathlib.Omega.{arith}
 use borrow.Author.Needs.{needs}
 use Rattle.search.proofs.BlockLaws.{kinds-few}
 use Rattle.job.specs.Job.{Job, jobOf}
-use Rattle.negotiation.specs.Outcome.{routeReplyOf}
-use Rattle.negotiation.proofs.StartLaws.{start-stands, start-ran, turned-away}
+use Rattle.negotiation.specs.Outcome.{RouteReply, routeReplyOf, turnsLogged}
+use Rattle.negotiation.proofs.RefusalLaws.{refused-counts}
+use Rattle.negotiation.proofs.StartLaws.{start-stands, start-ran, start-counts, turned-away}
 use Rattle.negotiation.proofs.turns.run_from.Statement.{statement}
 use Rattle.negotiation.proofs.turns.run_from.Tie as tie
 
@@ -31,8 +32,11 @@ refused-at c = c .before .before .before .before .before .before
 abbrev onward : tie.After-tariff → tie.After-start-at
 onward c = c .before .before .before .before .before .before .before .before .before .before .before .before .before .before
 
-abbrev called : tie.After-go-on → tie.After-tariff
-called c = c .before .before .before .before .before .before .before .before .before .before
+abbrev chosen : tie.After-go-on → tie.After-going-on
+chosen c = c .before .before .before .before .before .before .before .before .before
+
+abbrev called : tie.After-going-on → tie.After-tariff
+called c = c .before .before
 
 abbrev ran : tie.After-slice-known23 → tie.After-go-on
 ran c = c .before .before .before .before .before .before .before .before .before .before .before .before .before .before .before .before
@@ -62,11 +66,15 @@ refused-requires c κs = search needs
 enum-known-tariff : tie.Need-enum-known-tariff
 enum-known-tariff c = search needs
 
+going-on-requires : tie.Need-going-on-requires
+going-on-requires c κs = search needs
+
 go-on-requires : tie.Need-go-on-requires
 go-on-requires c κs =
-    let at : tie.After-tariff = c .before .before .before .before .before .before .before .before .before in
+    let by : tie.After-going-on = c .before .before .before .before .before .before .before .before in
+    let at : tie.After-tariff = called by in
     let e : tie.Start = lent (onward at) in
-    (e .pre .0, start-stands (job e) (e .args .start) (e .args .log .now) (onward at .start-at .ensures) (at .tariff .given .1))
+    (e .pre .0, start-stands (job e) (e .args .start) (e .args .log .now) (onward at .start-at .ensures) (at .tariff .given .1) _ (by .going-on .ensures))
 
 same-length : tie.Need-same-length
 same-length c = away (refused-at c) .start-at .kept .1 .1 .1 .1 .1 .1 .1 .1 .1 .1 .1 .1 .0
@@ -95,27 +103,29 @@ same-length-8 c = search needs
 returns : tie.Need-returns
 returns c =
     let s : tie.After-start-at = away (refused-at c) in
-    let e : tie.Start = lent s in
-    turned-away (job e) (e .args .start) (e .args .log .now) _ _ _ _ _ _ _ (s .start-at .ensures) _ (refused-at c .word .given .1) (e .args .work .now)
-    (c .refused .result) (c .refused .ensures) _ (c .before .before .before .clear .ensures)
+    let e : tie.Start = lent s in (
+      turned-away (job e) (e .args .start) (e .args .log .now) _ _ _ _ _ _ _ (s .start-at .ensures) _ (refused-at c .word .given .1) (e .args .work .now)
+          (c .refused .result) (c .refused .ensures) _ (c .before .before .before .clear .ensures),
+      refused-counts (e .args .begun .aimed) (job e) _ (c .refused .result) (e .args .log .now) (c .refused .ensures),
+    )
 
 same-length-9 : tie.Need-same-length-9
-same-length-9 c = ran c .go-on .kept .1 .1 .1 .1 .1 .1 .1 .1 .1 .1 .1 .0 ∙ onward (called (ran c)) .start-at .kept .1 .1 .1 .1 .1 .1 .1 .1 .1 .1 .1 .1 .0
+same-length-9 c = ran c .go-on .kept .1 .1 .1 .1 .1 .1 .1 .1 .1 .1 .1 .0 ∙ onward (called (chosen (ran c))) .start-at .kept .1 .1 .1 .1 .1 .1 .1 .1 .1 .1 .1 .1 .0
 
 same-length-10 : tie.Need-same-length-10
-same-length-10 c = ran c .go-on .kept .1 .1 .1 .1 .1 .1 .1 .1 .1 .1 .1 .1 .0 ∙ onward (called (ran c)) .start-at .kept .1 .1 .1 .1 .1 .1 .1 .1 .1 .1 .1 .1 .1 .0
+same-length-10 c = ran c .go-on .kept .1 .1 .1 .1 .1 .1 .1 .1 .1 .1 .1 .1 .0 ∙ onward (called (chosen (ran c))) .start-at .kept .1 .1 .1 .1 .1 .1 .1 .1 .1 .1 .1 .1 .1 .0
 
 same-length-11 : tie.Need-same-length-11
-same-length-11 c = ran c .go-on .kept .1 .1 .1 .1 .1 .1 .1 .1 .1 .1 .1 .1 .1 .0 ∙ onward (called (ran c)) .start-at .kept .1 .1 .1 .1 .1 .1 .1 .1 .1 .1 .1 .1 .1 .1 .0
+same-length-11 c = ran c .go-on .kept .1 .1 .1 .1 .1 .1 .1 .1 .1 .1 .1 .1 .1 .0 ∙ onward (called (chosen (ran c))) .start-at .kept .1 .1 .1 .1 .1 .1 .1 .1 .1 .1 .1 .1 .1 .1 .0
 
 same-length-12 : tie.Need-same-length-12
-same-length-12 c = ran c .go-on .kept .1 .1 .1 .1 .1 .1 .1 .1 .1 .1 .1 .1 .1 .1 .0 ∙ onward (called (ran c)) .start-at .kept .1 .1 .1 .1 .1 .1 .1 .1 .1 .1 .1 .1 .1 .1 .1 .0
+same-length-12 c = ran c .go-on .kept .1 .1 .1 .1 .1 .1 .1 .1 .1 .1 .1 .1 .1 .1 .0 ∙ onward (called (chosen (ran c))) .start-at .kept .1 .1 .1 .1 .1 .1 .1 .1 .1 .1 .1 .1 .1 .1 .1 .0
 
 same-length-13 : tie.Need-same-length-13
-same-length-13 c = ran c .go-on .kept .1 .1 .1 .1 .1 .1 .1 .1 .1 .1 .1 .1 .1 .1 .1 .0 ∙ onward (called (ran c)) .start-at .kept .1 .1 .1 .1 .1 .1 .1 .1 .1 .1 .1 .1 .1 .1 .1 .1 .0
+same-length-13 c = ran c .go-on .kept .1 .1 .1 .1 .1 .1 .1 .1 .1 .1 .1 .1 .1 .1 .1 .0 ∙ onward (called (chosen (ran c))) .start-at .kept .1 .1 .1 .1 .1 .1 .1 .1 .1 .1 .1 .1 .1 .1 .1 .1 .0
 
 same-length-14 : tie.Need-same-length-14
-same-length-14 c = ran c .go-on .kept .1 .1 .1 .1 .1 .1 .1 .1 .1 .1 .1 .1 .1 .1 .1 .1 .0 ∙ onward (called (ran c)) .start-at .kept .1 .1 .1 .1 .1 .1 .1 .1 .1 .1 .1 .1 .1 .1 .1 .1 .1 .0
+same-length-14 c = ran c .go-on .kept .1 .1 .1 .1 .1 .1 .1 .1 .1 .1 .1 .1 .1 .1 .1 .1 .0 ∙ onward (called (chosen (ran c))) .start-at .kept .1 .1 .1 .1 .1 .1 .1 .1 .1 .1 .1 .1 .1 .1 .1 .1 .1 .0
 
 same-length-15 : tie.Need-same-length-15
 same-length-15 c = ran c .go-on .kept .1 .1 .1 .1 .1 .1 .1 .1 .1 .1 .1 .1 .1 .1 .1 .1 .1 .0
@@ -126,9 +136,15 @@ same-length-16 c = ran c .go-on .kept .1 .1 .1 .1 .1 .1 .1 .1 .1 .1 .1 .1 .1 .1 
 returns-2 : tie.Need-returns-2
 returns-2 c =
     let at : tie.After-go-on = ran c in
-    let e : tie.Start = lent (onward (called at)) in
-    start-ran (job e) (e .args .start) (e .args .log .now) (onward (called at) .start-at .ensures) (called at .tariff .given .1) (e .args .work .now)
-    (routeReplyOf (at .go-on .result) (at .go-on .last .1 .1 .1 .1 .1 .1 .1 .1 .1 .1 .1 .1 .1 .1 .1 .1 .1 .0) (at .go-on .last .1 .1 .1 .1 .1 .1 .1 .1 .1 .1 .1 .1 .1 .1 .1 .1 .1 .1 .0)) (at .go-on .ensures)
+    let by : tie.After-going-on = chosen at in
+    let s : tie.After-start-at = onward (called by) in
+    let e : tie.Start = lent s in
+    let reply : RouteReply = routeReplyOf (at .go-on .result) (at .go-on .last .1 .1 .1 .1 .1 .1 .1 .1 .1 .1 .1 .1 .1 .1 .1 .1 .1 .0) (at .go-on .last .1 .1 .1 .1 .1 .1 .1 .1 .1 .1 .1 .1 .1 .1 .1 .1 .1 .1 .0) in (
+      start-ran (job e) (e .args .start) (e .args .log .now) (s .start-at .ensures) (called by .tariff .given .1) _ (by .going-on .ensures) (e .args .work .now) reply
+          (at .go-on .ensures .0),
+      start-counts (job e) (e .args .start) (e .args .log .now) (s .start-at .ensures) (called by .tariff .given .1) _ (by .going-on .ensures) (at .go-on .result .expanded)
+          (turnsLogged reply) (at .go-on .ensures .1),
+    )
 
 pub run-from-spec : {M : Type 1} → statement M
 run-from-spec =
@@ -140,6 +156,7 @@ run-from-spec =
     clear-requires
     refused-requires
     enum-known-tariff
+    going-on-requires
     go-on-requires
     same-length
     same-length-2

@@ -66,7 +66,7 @@ returns-3 c =
     let t : tie.After-take-up = taken c in
     let e : tie.Start = t .before .before .before .before .before .before .before .before .before .before .before .before .before .before .before .before .before .before .before .before .before .before .before .before .before .before .before .before in
     start-taken (job e) (e .args .start) (e .args .log .now) _ (t .before .before .before .before .before .before .before .before .before .before .start .given .1) (t .before .before .before .before .before .before .before .before .if1 .left)
-    (t .take-up .result) _ _ _ _ _ _ (t .take-up .ensures)
+    (e .pre .0) (t .take-up .result) _ _ _ _ _ _ (t .take-up .ensures)
 
 pub start-at-spec : {M : Type 1} → statement M
 start-at-spec =

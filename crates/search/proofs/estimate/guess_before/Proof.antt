@@ -107,7 +107,7 @@ guess-over-requires c κs =
     let l : Links _ _ _ _ = start .pre .0 .2 in
     let s = turn .before .loop .inv l in (
       (start .pre .0 .0, follow-node (l .graph) (l .linked) (turn .loop-test .taken) (s .1) .1, l .graph .few),
-      (((let long = s .0 .long in let r = room start in omega arith), s .0 .heap, start .pre .1 .0 .2), start .pre .1 .1),
+      (((let long = s .0 .same .long in let r = room start in omega arith), s .0 .heap, start .pre .1 .0 .2), start .pre .1 .1),
     )
 
 sub-k : tie.Need-sub-k Inv-loop μ-loop
@@ -139,7 +139,7 @@ loop-again c =
     (reguess-more small (s .0) (u .1) (u .2) tried, follow-more (l .graph) (l .linked) small (turn .loop-test .taken) (s .1) tried)
 
 same-length : tie.Need-same-length Inv-loop μ-loop
-same-length c = let l = c .before .before .before .before .before .before .before .before .before .before .before .before .pre .0 .2 in c .before .loop .inv l .0 .long
+same-length c = let l = c .before .before .before .before .before .before .before .before .before .before .before .before .pre .0 .2 in c .before .loop .inv l .0 .same .long
 
 returns : tie.Need-returns Inv-loop μ-loop
 returns c =

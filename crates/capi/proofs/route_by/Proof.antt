@@ -1,0 +1,57 @@
+-- `capi::route_by` meets its contract: a short `out` is left, else what the router answers is written.
+-- Assumes nothing.
+use mathlib.Core.List.{[]}
+use borrow.Author.Needs.{needs}
+use Rattle.job.specs.Job.{jobOf}
+use Rattle.negotiation.specs.Outcome.{routeReply}
+use Rattle.capi.specs.Calls.{termsOf}
+use Rattle.capi.proofs.CallLaws.{route-short, route-called}
+use Rattle.capi.proofs.route_by.Statement.{statement}
+use Rattle.capi.proofs.route_by.Tie as tie
+
+returns : tie.Need-returns
+returns c = route-short _ _ _ _ _ (c .if1 .taken)
+
+terms-of-requires : tie.Need-terms-of-requires
+terms-of-requires c κs = search needs
+
+route-requires : tie.Need-route-requires
+route-requires c κs = search needs
+
+put-routed-requires : tie.Need-put-routed-requires
+put-routed-requires c κs = search needs
+
+same-length : tie.Need-same-length
+same-length c = search needs
+
+same-length-2 : tie.Need-same-length-2
+same-length-2 c = search needs
+
+same-length-3 : tie.Need-same-length-3
+same-length-3 c = search needs
+
+returns-2 : tie.Need-returns-2
+returns-2 c =
+    let asked = c .before .before .before .before .before .before .before .before in
+    let made = asked .before .before .before in
+    let a = made .before .before .before .before .before .before .before .before .before .before .before .before .before .before .before .args in
+    let job =
+    jobOf (a .kind .now) (a .capacity .now) (a .first-edge .now) (a .edge-target .now) (a .source .now) (a .first-sink .now) (a .sink .now)
+    (a .delay .now) (a .criticality .now) (termsOf (a .terms .now)) in
+    let answers = rw (made .terms-of .ensures) at (asked .route .ensures .0 .as-negotiated) in
+    let counted = rw (made .terms-of .ensures) at (asked .route .ensures .1) in
+    route-called (routeReply job _ _) _ _ _ _ _ _ (asked .route .result) (a .aimed) job [] (made .before .if1 .left) answers counted
+    (c .before .before .put-routed .ensures)
+
+pub route-by-spec : {M : Type 1} → statement M
+route-by-spec =
+    tie.close
+    (tie.spec
+    returns
+    terms-of-requires
+    route-requires
+    put-routed-requires
+    same-length
+    same-length-2
+    same-length-3
+    returns-2)

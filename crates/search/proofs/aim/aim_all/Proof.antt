@@ -1,0 +1,33 @@
+-- `search::aim::aim_all` meets its contract: the first keys, the queue over them, and all expansions.
+-- Assumes nothing.
+use mathlib.Core.Path.{_∙_}
+use native.Mathlib.Omega.{arith}
+use borrow.Author.Needs.{needs}
+use Rattle.search.proofs.AimEnds.{task-of, aim-begins, aim-launched, end-from}
+use Rattle.search.proofs.aim.aim_all.Statement.{statement}
+use Rattle.search.proofs.aim.aim_all.Tie as tie
+
+start-aim-requires : tie.Need-start-aim-requires
+start-aim-requires c κs = search needs
+
+build-requires : tie.Need-build-requires
+build-requires c κs = search needs
+
+expand-all-requires : tie.Need-expand-all-requires
+expand-all-requires c κs =
+    let built = c .before .before .before .build .ensures in
+    aim-launched _ _ _ _ _ (c .before .before .before .before .before .before .before .before .before .before .before .before .before .before .pre) (c .before .before .before .before .before .before .before .start-aim .ensures) (built .0) (built .1)
+
+same-length : tie.Need-same-length
+same-length c = search needs
+
+returns : tie.Need-returns
+returns c r =
+    let started = c .before .before .before .before .before .before .before .before .before .before .start-aim .ensures in
+    let built = c .before .before .before .before .before .before .build .ensures in
+    end-from (built .1 .long ∙ started .long) (λ j h. built .1 .high j (omega arith) ∙ started .high j (omega arith))
+    (c .before .before .expand-all .ensures (task-of r) (aim-begins _ _ _ _ _ r started (built .0) (built .1)))
+
+pub aim-all-spec : {M : Type 1} → statement M
+aim-all-spec =
+    tie.close (tie.spec start-aim-requires build-requires expand-all-requires same-length returns)

@@ -1,0 +1,72 @@
+-- `search::aimed_turn::aim_at_sinks` meets its contract: the edges are linked, the estimates made, and the turn aims.
+-- Assumes nothing.
+use Rattle.search.proofs.AimedTurnLaws.{link-room, turn-estimates, turn-aims, turn-aimed}
+use borrow.Author.Needs.{needs}
+use Rattle.search.proofs.aimed_turn.aim_at_sinks.Statement.{statement}
+use Rattle.search.proofs.aimed_turn.aim_at_sinks.Tie as tie
+
+slice-aggregate-link-edges : tie.Need-slice-aggregate-link-edges
+slice-aggregate-link-edges c = search needs
+
+slice-aggregate-link-edges-2 : tie.Need-slice-aggregate-link-edges-2
+slice-aggregate-link-edges-2 c = search needs
+
+slice-aggregate-link-edges-3 : tie.Need-slice-aggregate-link-edges-3
+slice-aggregate-link-edges-3 c = search needs
+
+link-edges-requires : tie.Need-link-edges-requires
+link-edges-requires c κs = link-room _ (c .before .before .before .before .before .before .before .before .before .pre .graph)
+
+slice-aggregate-estimate-all : tie.Need-slice-aggregate-estimate-all
+slice-aggregate-estimate-all c = search needs
+
+slice-aggregate-estimate-all-2 : tie.Need-slice-aggregate-estimate-all-2
+slice-aggregate-estimate-all-2 c = search needs
+
+slice-aggregate-estimate-all-3 : tie.Need-slice-aggregate-estimate-all-3
+slice-aggregate-estimate-all-3 c = search needs
+
+estimate-all-requires : tie.Need-estimate-all-requires
+estimate-all-requires c κs =
+    let linked = c .before .before .before .before .before .before .before in
+    let p = linked .before .before .before .before .before .before .before .before .before .before .pre in
+    let kept = linked .link-edges .kept .1 .1 .1 in
+    turn-estimates p (kept .0) (kept .1 .0) (kept .1 .1 .0) (linked .link-edges .ensures)
+
+aim-all-requires : tie.Need-aim-all-requires
+aim-all-requires c κs =
+    let estimated = c .before .before .before in
+    let linked = estimated .before .before .before .before .before .before .before .before in
+    let p = linked .before .before .before .before .before .before .before .before .before .before .pre in
+    let kept = linked .link-edges .kept .1 .1 .1 in
+    let ready = turn-estimates p (kept .0) (kept .1 .0) (kept .1 .1 .0) (linked .link-edges .ensures) in
+    turn-aims p (estimated .estimate-all .ensures ready)
+
+same-length : tie.Need-same-length
+same-length c = search needs
+
+returns : tie.Need-returns
+returns c p =
+    let aimed = c .before .before in
+    let estimated = aimed .before .before .before .before in
+    let linked = estimated .before .before .before .before .before .before .before .before in
+    let kept = linked .link-edges .kept .1 .1 .1 in
+    let ready = turn-estimates p (kept .0) (kept .1 .0) (kept .1 .1 .0) (linked .link-edges .ensures) in
+    let made = estimated .estimate-all .ensures ready in
+    turn-aimed p made (aimed .aim-all .ensures (turn-aims p made))
+
+pub aim-at-sinks-spec : {M : Type 1} → statement M
+aim-at-sinks-spec =
+    tie.close
+    (tie.spec
+    slice-aggregate-link-edges
+    slice-aggregate-link-edges-2
+    slice-aggregate-link-edges-3
+    link-edges-requires
+    slice-aggregate-estimate-all
+    slice-aggregate-estimate-all-2
+    slice-aggregate-estimate-all-3
+    estimate-all-requires
+    aim-all-requires
+    same-length
+    returns)

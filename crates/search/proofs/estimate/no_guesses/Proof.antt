@@ -1,0 +1,95 @@
+-- `search::estimate::no_guesses` meets its contract. The invariant: the nodes below v have no estimate and do not wait. The measure is how many are left.
+-- Assumes nothing.
+use Prim.Native.Nat.{_-_, _*_, _≤_, _<_}
+use native.Mathlib.Omega.{arith}
+use lib.ListN.{length, length-set}
+use borrow.Author.Needs.{needs}
+use Rattle.search.specs.Estimates.{Unguessed}
+use Rattle.search.proofs.EstimateStart.{unguess-none, unguess-more, unguess-all}
+use Rattle.search.proofs.estimate.no_guesses.Statement.{statement}
+use Rattle.search.proofs.estimate.no_guesses.Tie as tie
+
+abbrev Inv-loop : tie.InvT-loop
+Inv-loop work₀ n v₀ work v = Unguessed n work₀ work v × (v ≤ n)
+
+abbrev μ-loop : tie.MeasureT-loop
+μ-loop work₀ n v₀ work v = n - v
+
+-- where v and the list's end lie
+room : (c : tie.In-loop Inv-loop μ-loop) → (c .before .loop .v < c .before .before .args .n) × (8 * c .before .before .args .n ≤ length (c .before .loop .work))
+room c = (c .loop-test .taken, rw (c .before .loop .inv .0 .same .long) (c .before .before .pre))
+
+loop-holds : tie.Need-loop-holds Inv-loop μ-loop
+loop-holds c = (unguess-none _ _, omega arith)
+
+add-work : tie.Need-add-work Inv-loop μ-loop
+add-work c = search needs
+
+mul-work : tie.Need-mul-work Inv-loop μ-loop
+mul-work c = search needs
+
+slice-write-work : tie.Need-slice-write-work Inv-loop μ-loop
+slice-write-work c = search needs
+
+mul-work-2 : tie.Need-mul-work-2 Inv-loop μ-loop
+mul-work-2 c = search needs
+
+add-work-2 : tie.Need-add-work-2 Inv-loop μ-loop
+add-work-2 c = search needs
+
+mul-work-3 : tie.Need-mul-work-3 Inv-loop μ-loop
+mul-work-3 c = search needs
+
+slice-write-work-2 : tie.Need-slice-write-work-2 Inv-loop μ-loop
+slice-write-work-2 c = let r = room c in simp length-set (omega arith)
+
+mul-work-4 : tie.Need-mul-work-4 Inv-loop μ-loop
+mul-work-4 c = search needs
+
+add-work-3 : tie.Need-add-work-3 Inv-loop μ-loop
+add-work-3 c = search needs
+
+mul-work-5 : tie.Need-mul-work-5 Inv-loop μ-loop
+mul-work-5 c = search needs
+
+slice-write-work-3 : tie.Need-slice-write-work-3 Inv-loop μ-loop
+slice-write-work-3 c = let r = room c in simp length-set (omega arith)
+
+add-v : tie.Need-add-v Inv-loop μ-loop
+add-v c = search needs
+
+loop-less : tie.Need-loop-less Inv-loop μ-loop
+loop-less c = search needs
+
+loop-again : tie.Need-loop-again Inv-loop μ-loop
+loop-again c = (unguess-more (c .before .before .pre) (c .loop-test .taken) (c .before .loop .inv .0), search needs)
+
+same-length : tie.Need-same-length Inv-loop μ-loop
+same-length c = search needs
+
+returns : tie.Need-returns Inv-loop μ-loop
+returns c = unguess-all (c .loop-test .left) (c .before .loop .inv .0)
+
+pub no-guesses-spec : {M : Type 1} → statement M
+no-guesses-spec =
+    tie.close
+    (tie.spec
+    Inv-loop
+    μ-loop
+    loop-holds
+    add-work
+    mul-work
+    slice-write-work
+    mul-work-2
+    add-work-2
+    mul-work-3
+    slice-write-work-2
+    mul-work-4
+    add-work-3
+    mul-work-5
+    slice-write-work-3
+    add-v
+    loop-less
+    loop-again
+    same-length
+    returns)

@@ -1,0 +1,223 @@
+//! The nodes that an aimed search expands, counted by hand on small blocks. Every aimed call here ends as the plain one does.
+
+mod common;
+use common::*;
+use job::Job;
+use plain::{resume_aimed, route_aimed, Answer};
+
+/// Goes on aimed from a log, or begins, in a slice of so many words: what it answers but for the count, and the count.
+fn run_aimed(t: &Job, lent: Option<&[u32]>, words: usize, entries: usize) -> (Answer, u64) {
+    let mut plain_log = lent.unwrap_or(&[]).to_vec();
+    plain_log.resize(words.max(plain_log.len()), MARK);
+    let mut log = plain_log.clone();
+    let (mut work, mut plain_work) = (vec![7; entries], vec![7; entries]);
+    macro_rules! lend {
+        ($call:ident, $work:ident, $log:ident $(, $used:expr)?) => {
+            $call(
+                &t.kind, &t.capacity, &t.first_edge, &t.edge_target, &t.source, &t.first_sink, &t.sink, &t.delay,
+                &t.criticality, &t.terms(), $($used,)? &mut $work, &mut $log,
+            )
+        };
+    }
+    let (mut answer, plain) = match lent {
+        None => (lend!(route_aimed, work, log), route_with(t, &mut plain_work, &mut plain_log)),
+        Some(lent) => {
+            let used = lent.len() as u64;
+            (lend!(resume_aimed, work, log, used), resume_with(t, used, &mut plain_work, &mut plain_log))
+        }
+    };
+    assert_eq!(answer.numbers.len(), 4);
+    let count = answer.numbers.pop().unwrap();
+    assert_eq!((&answer, &log, &work), (&plain, &plain_log, &plain_work));
+    (answer, count)
+}
+
+/// The refusal of an aimed run in so many words of log, and the nodes that it expands.
+fn aimed_in(t: &Job, words: usize) -> (Vec<u64>, u64) {
+    let (answer, count) = run_aimed(t, None, words, 8 * t.kind.len());
+    (answer.refusal, count)
+}
+
+/// How many nodes the turns of a job expand, one after the other: from logs with room for one turn more each time.
+fn counts(t: &Job) -> Vec<u64> {
+    let (answer, log) = routed(t, 400);
+    let mut ends = vec![0];
+    while ends[ends.len() - 1] < answer.numbers[2] as usize {
+        let last = ends[ends.len() - 1];
+        ends.push(last + 6 + log[last + 5] as usize);
+    }
+    let totals: Vec<u64> = ends.iter().map(|&words| aimed_in(t, words).1).collect();
+    assert_eq!(aimed_in(t, 400), (answer.refusal, totals[totals.len() - 1]));
+    totals.windows(2).map(|pair| pair[1] - pair[0]).collect()
+}
+
+fn counts_of(lines: &str) -> Vec<u64> {
+    counts(&tables(&text(lines)))
+}
+
+/// In each turn source, wire and sink: the other wire is too dear, the other sink leads nowhere, the other source isn't reached.
+#[test]
+fn job_b() {
+    assert_eq!(counts_of(B), [3, 3, 3, 3]);
+    assert_eq!(counts_of(&b_with("V,2").replace('\n', " ")), [3, 3, 3, 3]);
+}
+
+/// Two wires as dear as each other.
+#[test]
+fn ties_count() {
+    let diamond = "F,4,4,1,1 N,0,0,1 N,1,4,1 N,2,4,1 N,3,1,1 E,0,1 E,0,2 E,1,3 E,2,3 S,0,0 T,0,3";
+    assert_eq!(counts_of(diamond), [4]);
+    assert_eq!(counts_of(&diamond.replace("N,2,4,1", "N,2,5,1")), [3]);
+}
+
+/// Job C: in the first turn the other sink, as far as the joined one, counts too. In the second the source, which is in the tree, is too
+/// far from the sink that is left, and the joined sink leads nowhere.
+#[test]
+fn equals_of_the_joined_sink_count_and_tree_nodes_may_not() {
+    let c = "F,4,3,1,1 N,0,0,1 N,1,4,1 N,2,1,1 N,3,1,1 E,0,1 E,1,2 E,1,3 S,0,0 T,0,3 T,0,2";
+    assert_eq!(counts_of(c), [4, 2]);
+    // An input pin is nearer than the sink, which then is beyond the joined one.
+    assert_eq!(counts_of(&c.replace("N,2,1,1", "N,2,3,1")), [3, 2]);
+    // A joined sink with an edge to the one that is left counts again: it is in the tree, and as near as the wire.
+    assert_eq!(counts_of(&c.replace("F,4,3,1,1", "F,4,4,1,1").replace("E,1,3", "E,1,3 E,3,2")), [4, 3]);
+    // The same as two nets of one source, which are joined.
+    let two = c.replace("F,4,3,1,1", "F,4,3,2,1").replace("S,0,0 T,0,3 T,0,2", "S,0,0 T,0,3 S,1,0 T,1,2");
+    assert_eq!(counts_of(&two), [4, 2]);
+}
+
+/// Node 3 leads nowhere, node 4 isn't reached, nodes 5 and 6 are neither.
+#[test]
+fn nodes_without_a_path_do_not_count() {
+    assert_eq!(
+        counts_of(
+            "F,7,5,1,1 N,0,0,1 N,1,4,1 N,2,1,1 N,3,4,1 N,4,4,1 N,5,4,1 N,6,4,1 \
+            E,0,1 E,0,3 E,1,2 E,4,1 E,5,6 S,0,0 T,0,2"
+        ),
+        [3]
+    );
+}
+
+/// Wire 1 with the sink costs 4,000, the pin with it 3,900: were the sink's cost left out of the estimate, or a node's own counted, it would
+/// be another count.
+#[test]
+fn the_sinks_cost_counts_and_the_nodes_own_does_not() {
+    assert_eq!(
+        counts_of("F,4,4,1,1 N,0,0,1 N,1,4,1 N,2,1,1 N,3,3,1 E,0,1 E,0,3 E,1,2 E,3,2 S,0,0 T,0,2"),
+        [3]
+    );
+}
+
+/// Two nets over wire 2. In iteration 2 it costs net 0 6,000, and so does wire 5, of three tiles: both ways count.
+#[test]
+fn estimates_take_base_costs_alone() {
+    let crowded = "F,6,6,2,2 N,0,0,1 N,1,0,1 N,2,4,1 N,3,1,1 N,4,1,1 N,5,6,1 \
+        E,0,2 E,0,5 E,1,2 E,2,3 E,2,4 E,5,3 S,0,0 T,0,3 S,1,1 T,1,4";
+    assert_eq!(counts_of(crowded), [3, 3, 4, 3]);
+    // Wire 6 leads to wire 2: its 2,000 and by base costs 4,000 more are at most the 8,000 of the sink, though a path over it costs 10,000.
+    let before = crowded.replace("F,6,6,2,2", "F,7,8,2,2").replace("N,5,6,1", "N,5,6,1 N,6,4,1");
+    let before = before.replace("E,0,5", "E,0,5 E,0,6").replace("E,5,3", "E,5,3 E,6,2");
+    assert_eq!(counts_of(&before), [3, 3, 5, 3]);
+}
+
+/// Net 1 keeps its tree in iteration 2 and makes no turn.
+#[test]
+fn nets_that_are_not_due_expand_nothing() {
+    let three = "F,9,8,3,2 V,2 N,0,0,1 N,1,0,1 N,2,4,1 N,3,5,1 N,4,1,1 N,5,1,1 N,6,0,1 N,7,4,1 N,8,1,1 \
+        E,0,2 E,0,3 E,1,2 E,2,4 E,2,5 E,3,4 E,6,7 E,7,8 S,0,0 T,0,4 S,1,6 T,1,8 S,2,1 T,2,5";
+    assert_eq!(counts_of(three), [3, 3, 3, 3, 3]);
+    assert_eq!(counts_of(&three.replace("V,2", "V,1")), [3, 3, 3, 3, 3, 3]);
+}
+
+/// A turn whose record doesn't fit isn't counted.
+#[test]
+fn a_turn_that_does_not_fit_is_not_counted() {
+    let b = tables(&text(B));
+    for (words, refusal, count) in [
+        (0, vec![8, 1, 0], 0),
+        (8, vec![8, 1, 0], 0),
+        (9, vec![8, 1, 1], 3),
+        (17, vec![8, 1, 1], 3),
+        (18, vec![8, 2, 2], 6),
+        (35, vec![8, 2, 3], 9),
+        (36, vec![], 12),
+    ] {
+        assert_eq!(aimed_in(&b, words), (refusal, count), "{words} words");
+    }
+    assert_eq!(aimed_in(&Job { limit: 1, ..b }, 99), (vec![9, 1, 1], 6));
+}
+
+#[test]
+fn other_refusals_expand_nothing() {
+    let b = tables(&text(B));
+    let refused = |t: &Job, entries: usize| {
+        let (answer, count) = run_aimed(t, None, 99, entries);
+        assert_eq!((answer.numbers, count), (vec![0; 3], 0));
+        answer.refusal
+    };
+    assert_eq!(refused(&Job { limit: 0, ..b.clone() }, 48), [5, 8]);
+    let timed = Job { timed: 1, delay: vec![0; 6], criticality: vec![0; 2], ..b.clone() };
+    assert_eq!(refused(&Job { limit: 41, ..timed }, 48), [15, 6, 41]);
+    assert_eq!(refused(&b, 47), [6, 48]);
+    let cut = tables(&text(&B.replace("F,6,6,2,2", "F,6,5,2,2").replace("E,2,5 ", "")));
+    assert_eq!(refused(&cut, 48), [7, 1, 0]);
+}
+
+/// A resume counts the turns that it appends.
+#[test]
+fn resumes_count_appended_turns() {
+    let b = tables(&text(B));
+    let (_, log) = routed(&b, 36);
+    let resumed = |used: usize, words: usize| {
+        let (answer, count) = run_aimed(&b, Some(&log[..used]), words, 48);
+        (answer.refusal, answer.numbers, count)
+    };
+    assert_eq!(resumed(18, 99), (vec![], vec![2, 4, 36], 6));
+    assert_eq!(resumed(18, 35), (vec![8, 2, 3], vec![2, 3, 27], 3));
+    assert_eq!(resumed(18, 26), (vec![8, 2, 2], vec![2, 2, 18], 0));
+    assert_eq!(resumed(36, 99), (vec![14, 36], vec![0; 3], 0));
+    assert_eq!(resumed(9, 99), (vec![14, 9], vec![0; 3], 0));
+}
+
+/// One net from 0 to 4, over wire 1, or over wires 2 and 3, with this delay of wire 1 and this criticality.
+fn two_ways(delay: u32, criticality: u32) -> Vec<u64> {
+    counts_of(&format!(
+        "F,5,5,1,1 W N,0,0,1,0 N,1,4,1,{delay} N,2,4,1,0 N,3,4,1,0 N,4,1,1,0 \
+        E,0,1 E,0,2 E,1,4 E,2,3 E,3,4 S,0,0 T,0,4,{criticality}"
+    ))
+}
+
+/// The estimate has the weight of 10 less the criticality and no delay.
+#[test]
+fn timed_estimates_are_weighed() {
+    // 40,000 over wire 1. Wire 2 is 20,000 away, and 40,000 from the sink: by a lower weight it would count.
+    assert_eq!(two_ways(0, 0), [3]);
+    // 30,000 over wires 2 and 3. Wire 1 alone is 30,000 away.
+    assert_eq!(two_ways(40, 5), [4]);
+    // 30,000 either way.
+    assert_eq!(two_ways(20, 5), [5]);
+    assert_eq!(two_ways(19, 5), [3]);
+    // At criticality 9 a delay of 1,000 costs 900,000.
+    assert_eq!(two_ways(1_000, 9), [4]);
+    assert_eq!(two_ways(3, 9), [4]);
+    assert_eq!(two_ways(2, 9), [3]);
+    // The sink's delay isn't in the estimate: 94,000 over wire 1, and wire 2 has 2,000 and 4,000.
+    let late = "F,5,5,1,1 W N,0,0,1,0 N,1,4,1,0 N,2,4,1,0 N,3,4,1,0 N,4,1,1,100 \
+        E,0,1 E,0,2 E,1,4 E,2,3 E,3,4 S,0,0 T,0,4,9";
+    assert_eq!(counts_of(late), [5]);
+}
+
+/// The turn is that of the far sink 3, the more critical one, and sink 2 is near: wire 1 leads to it alone. Then wire 1 and the
+/// source lead to sink 2.
+#[test]
+fn timed_estimates_are_to_the_one_sink() {
+    let net = "F,6,5,1,1 W N,0,0,1,0 N,1,4,1,0 N,2,1,1,0 N,3,1,1,0 N,4,4,1,0 N,5,4,1,0 \
+        E,0,1 E,0,4 E,1,2 E,4,5 E,5,3 S,0,0 T,0,2,0 T,0,3,9";
+    assert_eq!(counts_of(net), [4, 3]);
+    // With an edge from wire 1 to wire 5 it is on a path to sink 3 that costs as much.
+    let joined = net.replace("F,6,5,1,1", "F,6,6,1,1").replace("E,1,2", "E,1,2 E,1,5");
+    assert_eq!(counts_of(&joined), [5, 2]);
+    // A sink that the path passes is joined without a turn.
+    let line = "F,4,3,1,1 W N,0,0,1,0 N,1,4,1,0 N,2,1,1,0 N,3,1,1,0 \
+        E,0,1 E,1,2 E,2,3 S,0,0 T,0,2,0 T,0,3,9";
+    assert_eq!(counts_of(line), [4]);
+}
