@@ -2,8 +2,8 @@
 -- Assumes nothing.
 use mathlib.Core.Bool.{Bool, true, false}
 use mathlib.Core.Logic.{_⊎_, ⊎-elim}
-use mathlib.Core.Path.{_≡_, sym, _∙_}
-use Prim.Native.Nat.{ℕ, zero, suc, _-_, _≤_, _<_, zero-le}
+use mathlib.Core.Path.{_≡_, refl, sym, _∙_}
+use Prim.Native.Nat.{ℕ, zero, suc, _+_, _-_, _≤_, _<_, zero-le}
 use native.Mathlib.Nat.{not-suc-le-zero, le-of-suc-le-suc, le-antisymm, lt-irrefl, eq-or-lt-of-le}
 use native.Mathlib.Omega.{arith}
 use lib.Dec.{ltb}
@@ -118,3 +118,26 @@ module _ (t : ℕ → Bool) where
 pub count-same : (s t : ℕ → Bool) (n : ℕ) → ((x : ℕ) → x < n → s x ≡ t x) → countBelow s n ≡ countBelow t n
 count-same s t n same =
     le-antisymm (count-le t s n (λ x l p. sym (same x l) ∙ p)) (count-le s t n (λ x l p. same x l ∙ p))
+
+-- where one more passes, one more is counted
+pub count-one :
+    (s t : ℕ → Bool) (n u : ℕ) → u < n → s u ≡ false → t u ≡ true → ((x : ℕ) → x < n → (x ≡ u → ⊥) → s x ≡ t x)
+    → countBelow t n ≡ countBelow s n + 1
+unfolding countBelow
+count-one s t zero u l su tu same = absurd (not-suc-le-zero l)
+count-one s t (suc n) u l su tu same =
+    ⊎-elim
+    (λ (e : u ≡ n).
+    let r : countBelow s n ≡ countBelow t n = count-same s t n (λ x h. same x (omega arith) (λ q. omega arith)) in
+    rw (rw e at su, rw e at tu, r) (omega arith))
+    (λ (h : u < n).
+    let r : countBelow t n ≡ countBelow s n + 1 = count-one s t n u h su tu (λ x k ne. same x (omega arith) ne) in
+    let here : s n ≡ t n = same n (omega arith) (λ q. omega arith) in
+    rw (here, r) (omega arith))
+    (eq-or-lt-of-le (le-of-suc-le-suc l))
+
+-- where none passes, none is counted
+pub count-zero : (t : ℕ → Bool) (n : ℕ) → ((x : ℕ) → x < n → t x ≡ false) → countBelow t n ≡ 0
+unfolding countBelow
+count-zero t zero none = refl
+count-zero t (suc n) none = rw (none n (omega arith), count-zero t n (λ x h. none x (omega arith)))

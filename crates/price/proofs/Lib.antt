@@ -7,12 +7,12 @@
 --
 -- Prices
 --     PriceLaws     bounds of base cost, price, path cost, factor and history; the factor's steps
---     ReplyLaws     which number is refused first, and the price where none is
+--     ReplyLaws     which number is refused first, and the price where none is; what an answer with that reply is
 --     TimedLaws     a timed price and one that is weighed or not: bounds, and which number is refused first
 --     TuningLaws    a tuning's bounds, number by number
 --
 -- Lists and tests, for every crate
---     TestLaws      both, either, choose; of two numbers one is at most the other
+--     TestLaws      tests that pass together; both, either, choose; of two numbers one is at most the other
 --     ListLaws      every, neighbours, has, upTo, total, slices
 --     BelowLaws     the lowest number that passes a test, and how many pass
 --     EntryLaws     a list's least entry, and an entry's place

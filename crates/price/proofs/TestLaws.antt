@@ -17,6 +17,17 @@ either-way false = inr refl
 pub true≢false : true ≡ false → ⊥
 true≢false e = let z : _≡_ {A = ℕ} 0 1 = cc in omega arith
 
+-- a test that cannot be true is false
+pub never-true : (t : Bool) → (t ≡ true → ⊥) → t ≡ false
+never-true true e = absurd (e refl)
+never-true false e = refl
+
+-- two tests that pass together are the same
+pub test-same : (s t : Bool) → (s ≡ true → t ≡ true) → (t ≡ true → s ≡ true) → s ≡ t
+test-same true t to from = sym (to refl)
+test-same false true to from = from refl
+test-same false false to from = refl
+
 pub both-true : {a b : Bool} → a ≡ true → b ≡ true → both a b ≡ true
 both-true p q = rw (p, q)
 

@@ -5,7 +5,6 @@
 --     -refused, -delay, -criticality, -priced    the answer, case by case
 -- Assumes nothing.
 use mathlib.Core.Bool.{Bool, true, false}
-use mathlib.Core.List.{[], _∷_}
 use mathlib.Core.Logic.{⊎-elim}
 use mathlib.Core.Path.{_≡_, refl, sym, _∙_, ap}
 use Prim.Native.Nat.{ℕ, _+_, _-_, _*_, _≤_, _<_}
@@ -24,7 +23,7 @@ use Rattle.price.specs.declared.PriceAnswer.{PriceAnswer}
 use Rattle.price.specs.declared.PriceAnswer.the-variants.{Price, Refused}
 use Rattle.price.proofs.TestLaws.{either-way, both-left, both-right}
 use Rattle.price.proofs.PriceLaws.{base-most, congestion-most, price-pos, price-most, path-most}
-use Rattle.price.proofs.ReplyLaws.{reply-priced}
+use Rattle.price.proofs.ReplyLaws.{reply-priced, not-priced}
 
 -- ---- the price of a timed job
 
@@ -162,15 +161,7 @@ five-refused true true false d e p place rest q = q
 five-refused true true true false e p place rest q = q
 five-refused true true true true false p place rest q = q
 five-refused true true true true true p place rest q =
-    let numbers : 13 ∷ place ∷ [] ≡ [] = ap (λ (x : PriceReply). x .refusal) q in
-    let z : _≡_ {A = ℕ} 0 1 = cc in
-    absurd (omega arith)
-
-not-priced : {A : Type 0} (p place : ℕ) → priced p ≡ refused place → A
-not-priced p place q =
-    let numbers : [] ≡ 13 ∷ place ∷ [] = ap (λ (x : PriceReply). x .refusal) q in
-    let z : _≡_ {A = ℕ} 0 1 = cc in
-    absurd (omega arith)
+    not-priced p place (sym q)
 
 five-priced :
     (a b c d e : Bool) (p n : ℕ) → priced n ≡ choose a (choose b (choose c (choose d (choose e (priced p) (refused 4)) (refused 3)) (refused 2)) (refused 1)) (refused 0)

@@ -7,48 +7,31 @@ use mathlib.Core.Bool.{Bool, true, false}
 use mathlib.Core.List.{List}
 use mathlib.Core.Logic.{_⊎_, ⊎-elim, inl}
 use mathlib.Core.Path.{_≡_, refl, sym, _∙_}
-use Prim.Native.Nat.{ℕ, zero, suc, _+_, _*_, _≤_, _<_}
+use Prim.Native.Nat.{ℕ, suc, _+_, _*_, _≤_, _<_}
 use native.Mathlib.Nat.{le-antisymm}
 use native.Mathlib.Omega.{arith}
 use lib.ListN.{length, getD}
 use Rattle.price.specs.Lists.{countBelow}
-use Rattle.price.proofs.TestLaws.{either-way, le-or-lt}
+use Rattle.price.proofs.TestLaws.{either-way, test-same, le-or-lt, never-true}
 use Rattle.price.proofs.ListLaws.{has-at}
-use Rattle.price.proofs.BelowLaws.{count-most, count-same}
+use Rattle.price.proofs.BelowLaws.{count-most, count-same, count-zero}
 use Rattle.search.specs.Block.{Block, nodes}
 use Rattle.search.specs.Tables.{Graph}
 use Rattle.search.specs.Distance.{far, inTree, distances, distance}
 use Rattle.search.specs.Turn.{before, nearestDistance, nearestPlace}
-use Rattle.search.specs.Layout.{distAt, entryAt, leafAt, predAt, Heap, SameBut}
+use Rattle.search.specs.Layout.{distAt, entryAt, leafAt, predAt, Heap, SameBut, Queued}
 use Rattle.search.specs.Aimed.{expands}
-use Rattle.search.specs.Estimates.{guessAt, Queued}
-use Rattle.search.specs.Aiming.{AimStarted, AimedRow, AimRowReady, BestAim, AimTask, Left, hasLeft, Place, waits, bare, Aiming, AimLaunched, AimReady, AimEnd}
+use Rattle.search.specs.Estimates.{guessAt}
+use Rattle.search.specs.Aiming.{AimStarted, AimedRow, AimRowReady, BestAim, AimTask, Left, hasLeft, Place, waiting, lacking, Aiming, AimLaunched, AimReady, AimEnd}
 use Rattle.search.proofs.EdgeLaws.{shape-of}
 use Rattle.search.proofs.BeforeLaws.{before-edge, before-sum, before-lowest}
 use Rattle.search.proofs.NearestLaws.{open-least, nearest}
 use Rattle.search.proofs.PriceSameLaws.{beyond}
 use Rattle.search.proofs.AimedLaws.{stuck-far, expands-near, before-expands, sink-expands}
 use Rattle.search.proofs.AimedExact.{never-below, aim-all}
-use Rattle.search.proofs.AimSteps.{left-test, left-of, test-same, estimated-same, aim-forward, nearest-top, aim-ready, aim-more}
+use Rattle.search.proofs.AimSteps.{left-test, left-of, estimated-same, aim-forward, nearest-top, aim-ready, aim-more}
 
 -- ---- the start
-
-abbrev pub task-of : {b : Block} {marks w : List ℕ} → AimReady b marks w → AimTask b
-task-of {b} {marks} r =
-    record {
-      price = r .price;
-      weight = r .weight;
-      marks = marks;
-      sinks = r .sinks;
-      fair = r .fair;
-      fair-weight = r .fair-weight;
-      dear = r .dear;
-    }
-
-count-none : (t : ℕ → Bool) (n : ℕ) → ((x : ℕ) → x < n → t x ≡ false) → countBelow t n ≡ 0
-unfolding countBelow
-count-none t zero none = refl
-count-none t (suc n) none = rw (none n (omega arith), count-none t n (λ x h. none x (omega arith)))
 
 module _ (b : Block) (marks w w₁ w₂ : List ℕ) (r : AimReady b marks w) (s : AimStarted (nodes b) marks w w₁)
     (heap : Heap (nodes b) w₂) (same : SameBut (nodes b + 1) (2 * nodes b) w₁ w₂) where
@@ -87,22 +70,22 @@ module _ (b : Block) (marks w w₁ w₂ : List ℕ) (r : AimReady b marks w) (s 
       let l = in-leaf v h i in
       let top = r .estimated .top v h in
       ⊎-elim
-      (λ (m : far ≤ guessAt n w v). bare (omega arith) (omega arith))
-      (λ (m : guessAt n w v < far). waits (omega arith) (omega arith))
+      (λ (m : far ≤ guessAt n w v). lacking (omega arith) (omega arith))
+      (λ (m : guessAt n w v < far). waiting (omega arith) (omega arith))
       (le-or-lt far (guessAt n w v)))
-      (λ (i : inTree marks v ≡ false). let d = out-dist v h i in bare (out-leaf v h i) (omega arith))
+      (λ (i : inTree marks v ≡ false). let d = out-dist v h i in lacking (out-leaf v h i) (omega arith))
       (either-way (inTree marks v))
 
-  none-waits : nearestDistance b (r .price) marks (r .sinks) ≡ far → (v : ℕ) → v < n → leafAt n w₂ v ≡ far
+  none-waits : nearestDistance b (r .task .price) marks (r .task .sinks) ≡ far → (v : ℕ) → v < n → leafAt n w₂ v ≡ far
   none-waits none v h =
       ⊎-elim
       (λ (i : inTree marks v ≡ true).
-      let e = stuck-far b (r .price) (r .weight) marks (r .sinks) (shape-of b (r .sound)) (r .fair) (r .fair-weight) none v i in
+      let e = stuck-far b (r .task .price) (r .task .weight) marks (r .task .sinks) (shape-of b (r .sound)) (r .task .fair) (r .task .fair-weight) none v i in
       in-leaf v h i ∙ le-antisymm (r .estimated .top v h) (omega (arith, r .estimated .above v h)))
       (λ (i : inTree marks v ≡ false). out-leaf v h i)
       (either-way (inTree marks v))
 
-  pub aim-begins : Aiming b (task-of r) w₂ far 0
+  pub aim-begins : Aiming b marks (r .task) w₂ far 0
   aim-begins =
       record {
         long = let l = same .long in let m = s .long in let o = r .long in omega arith;
@@ -124,33 +107,31 @@ module _ (b : Block) (marks w w₁ w₂ : List ℕ) (r : AimReady b marks w) (s 
             };
         counted =
             sym
-            (count-none (hasLeft n w₂) n
-            (λ x h.
-            ⊎-elim (λ (q : hasLeft n w₂ x ≡ true). absurd (none-left x (left-of n w₂ x h q))) (λ q. q) (either-way (hasLeft n w₂ x))));
+            (count-zero (hasLeft n w₂) n (λ x h. never-true (hasLeft n w₂ x) (λ q. none-left x (left-of n w₂ x h q))));
       }
 
   pub aim-launched : AimLaunched b w₂
-  aim-launched = record { sound = r .sound; task = task-of r; stands = aim-begins }
+  aim-launched = record { sound = r .sound; marks = marks; task = r .task; stands = aim-begins }
 
 -- ---- the end
 
-module _ (b : Block) (g : Graph b) (t : AimTask b) (w₀ w : List ℕ) (best count : ℕ) (a : Aiming b t w best count)
+module _ (b : Block) (g : Graph b) {marks : List ℕ} (t : AimTask b marks) (w₀ w : List ℕ) (best count : ℕ) (a : Aiming b marks t w best count)
     (stop : (entryAt (nodes b) w 1 ≡ far) ⊎ (best < entryAt (nodes b) w 1)) where
   abbrev cost : ℕ
-  cost = nearestDistance b (t .price) (t .marks) (t .sinks)
+  cost = nearestDistance b (t .price) marks (t .sinks)
 
   abbrev true-distance : ℕ → ℕ
-  true-distance v = distance b (t .price) (t .marks) v
+  true-distance v = distance b (t .price) marks v
 
   abbrev chosen : ℕ → Bool
-  chosen = expands b (t .price) (t .weight) (t .marks) (t .sinks)
+  chosen = expands b (t .price) (t .weight) marks (t .sinks)
 
   abbrev last : ℕ → ℕ
-  last = before b (t .price) (distances b (t .price) (t .marks))
+  last = before b (t .price) (distances b (t .price) marks)
 
   not-below : (v : ℕ) → v < nodes b → true-distance v ≤ distAt w v
   not-below v h =
-      never-below b (t .price) (t .weight) (t .marks) (t .sinks) (shape-of b g) (t .fair) (t .fair-weight) (t .dear) (λ v. guessAt (nodes b) w v) (λ v. distAt w v)
+      never-below b (t .price) (t .weight) marks (t .sinks) (shape-of b g) (t .fair) (t .fair-weight) (t .dear) (λ v. guessAt (nodes b) w v) (λ v. distAt w v)
       (Left (nodes b) w) (entryAt (nodes b) w 1) (a .estimated .bound) (aim-forward b t w best count a) (suc (distAt w v)) v (omega arith) h
 
   -- no sink that has a distance is nearer than the joined one
@@ -160,24 +141,24 @@ module _ (b : Block) (g : Graph b) (t : AimTask b) (w₀ w : List ℕ) (best cou
       (λ (q : best ≡ far). omega (arith, nearest-top b t w best count a))
       (λ (x : (v : ℕ) × (v < nodes b) × (guessAt (nodes b) w v ≡ 0) × (distAt w v ≡ best)).
       let is = a .estimated .goals-only (x .0) (x .1) (x .2) in
-      omega (arith, open-least b (t .price) (t .marks) (t .sinks) (x .0) (is .0) (is .1), not-below (x .0) (x .1), x .3))
+      omega (arith, open-least b (t .price) marks (t .sinks) (x .0) (is .0) (is .1), not-below (x .0) (x .1), x .3))
       (a .best-aim .some)
 
   -- past the joined sink's distance, all that the turn expands has left at its distance
   module _ (near : cost < far) (past : cost < entryAt (nodes b) w 1) where
     settled : (v : ℕ) → chosen v ≡ true → (distAt w v ≡ true-distance v) × Left (nodes b) w v
     settled v x =
-        aim-all b (t .price) (t .weight) (t .marks) (t .sinks) (shape-of b g) (t .fair) (t .fair-weight) (t .dear) (λ v. guessAt (nodes b) w v) (λ v. distAt w v)
+        aim-all b (t .price) (t .weight) marks (t .sinks) (shape-of b g) (t .fair) (t .fair-weight) (t .dear) (λ v. guessAt (nodes b) w v) (λ v. distAt w v)
         (Left (nodes b) w) (entryAt (nodes b) w 1) (a .estimated .bound) (aim-forward b t w best count a) near (a .estimated .within) v past x
 
     -- so has the joined sink
     sink-found : best ≤ cost
     sink-found =
-        let m = nearest b (t .price) (t .marks) (t .sinks) (λ q. absurd (omega arith)) in
-        let s : ℕ = getD (t .sinks) (nearestPlace b (t .price) (t .marks) (t .sinks)) 0 in
-        let hs : s < nodes b = beyond b (t .price) (t .marks) s (m .near) in
-        let listed = has-at (t .sinks) (nearestPlace b (t .price) (t .marks) (t .sinks)) (m .within) in
-        let x = sink-expands b (t .price) (t .weight) (t .marks) (t .sinks) (shape-of b g) (t .fair-weight) (t .dear) s hs listed (m .out) (m .here) in
+        let m = nearest b (t .price) marks (t .sinks) (λ q. absurd (omega arith)) in
+        let s : ℕ = getD (t .sinks) (nearestPlace b (t .price) marks (t .sinks)) 0 in
+        let hs : s < nodes b = beyond b (t .price) marks s (m .near) in
+        let listed = has-at (t .sinks) (nearestPlace b (t .price) marks (t .sinks)) (m .within) in
+        let x = sink-expands b (t .price) (t .weight) marks (t .sinks) (shape-of b g) (t .fair-weight) (t .dear) s hs listed (m .out) (m .here) in
         omega (arith, settled s x .0, m .here, a .best-aim .least s hs (a .estimated .goals s hs listed (m .out)))
 
     all-counted : count ≡ countBelow chosen (nodes b)
@@ -187,21 +168,21 @@ module _ (b : Block) (g : Graph b) (t : AimTask b) (w₀ w : List ℕ) (best cou
         (λ x h. test-same (hasLeft (nodes b) w x) (chosen x) (λ q. a .final x (left-of (nodes b) w x h q) .1) (λ q. left-test (nodes b) w x (settled x q .1)))
 
     -- the predecessor is the lowest-numbered node over which the distance is had
-    pred-last : (v : ℕ) → v < nodes b → inTree (t .marks) v ≡ false → chosen v ≡ true → predAt (nodes b) w v ≡ last v
+    pred-last : (v : ℕ) → v < nodes b → inTree marks v ≡ false → chosen v ≡ true → predAt (nodes b) w v ≡ last v
     pred-last v h o x =
         let is : distAt w v ≡ true-distance v = settled v x .0 in
-        let close : true-distance v < far = expands-near b (t .price) (t .weight) (t .marks) (t .sinks) v near x .1 in
+        let close : true-distance v < far = expands-near b (t .price) (t .weight) marks (t .sinks) v near x .1 in
         let r = a .reached v h o (omega arith) in
         let sum : distAt w v ≡ distAt w (predAt (nodes b) w v) + t .price v = r .sum in
         let own = a .final (predAt (nodes b) w v) (r .pred-left) .0 in
-        let y = before-expands b (t .price) (t .weight) (t .marks) (t .sinks) (shape-of b g) (t .fair-weight) (t .dear) (t .fair) v h o close x in
-        let edge = before-edge b (t .price) (t .marks) (shape-of b g) (t .fair) v h o close in
-        let over : true-distance (last v) + t .price v ≡ true-distance v = before-sum b (t .price) (t .marks) (shape-of b g) (t .fair) v h o close in
+        let y = before-expands b (t .price) (t .weight) marks (t .sinks) (shape-of b g) (t .fair-weight) (t .dear) (t .fair) v h o close x in
+        let edge = before-edge b (t .price) marks (shape-of b g) (t .fair) v h o close in
+        let over : true-distance (last v) + t .price v ≡ true-distance v = before-sum b (t .price) marks (shape-of b g) (t .fair) v h o close in
         let at = settled (last v) y in
         let there : distAt w (last v) ≡ true-distance (last v) = at .0 in
         le-antisymm
         (a .lowest (last v) v h o (at .1) edge (settled v x .1 .known) (omega arith))
-        (before-lowest b (t .price) (t .marks) (shape-of b g) (t .fair) v h o close (predAt (nodes b) w v) (r .pred-edge) (omega arith))
+        (before-lowest b (t .price) marks (shape-of b g) (t .fair) v h o close (predAt (nodes b) w v) (r .pred-edge) (omega arith))
 
   best-most : best ≤ cost
   best-most =
@@ -225,21 +206,24 @@ module _ (b : Block) (g : Graph b) (t : AimTask b) (w₀ w : List ℕ) (best cou
 
   pub aim-ends :
       length w ≡ length w₀ → ((j : ℕ) → 5 * nodes b ≤ j → getD w j 0 ≡ getD w₀ j 0)
-      → AimEnd b (t .price) (t .weight) (t .marks) (t .sinks) w₀ w best count
+      → AimEnd b (t .price) (t .weight) marks (t .sinks) w₀ w best count
   aim-ends long high =
       record {
         long = long;
         high = high;
-        cost-is = le-antisymm best-most best-least;
-        count-is = λ l. all-counted (near-cost l) (past-cost l);
-        dist-least = not-below;
-        dist-tree = a .tree;
-        dist-final = λ l v h x. settled (near-cost l) (past-cost l) v x .0;
-        pred-node = λ v h o near. a .reached v h o near .pred-left .node;
-        pred-nearer = λ v h o near.
-            let sum : distAt w v ≡ distAt w (predAt (nodes b) w v) + t .price v = a .reached v h o near .sum in
-            omega (arith, t .fair .pos v h);
-        pred-final = λ l v h o x. pred-last (near-cost l) (past-cost l) v h o x;
+        done =
+            record {
+              cost-is = le-antisymm best-most best-least;
+              count-is = λ l. all-counted (near-cost l) (past-cost l);
+              dist-least = not-below;
+              dist-tree = a .tree;
+              dist-final = λ l v h x. settled (near-cost l) (past-cost l) v x .0;
+              pred-node = λ v h o near. a .reached v h o near .pred-left .node;
+              pred-nearer = λ v h o near.
+                  let sum : distAt w v ≡ distAt w (predAt (nodes b) w v) + t .price v = a .reached v h o near .sum in
+                  omega (arith, t .fair .pos v h);
+              pred-final = λ l v h o x. pred-last (near-cost l) (past-cost l) v h o x;
+            };
       }
 
 -- where the slice was prepared first
@@ -247,28 +231,17 @@ pub end-from :
     {b : Block} {price weight : ℕ → ℕ} {marks sinks : List ℕ} {w w₁ w′ : List ℕ} {cost count : ℕ} → length w₁ ≡ length w
     → ((j : ℕ) → 5 * nodes b ≤ j → getD w₁ j 0 ≡ getD w j 0) → AimEnd b price weight marks sinks w₁ w′ cost count
     → AimEnd b price weight marks sinks w w′ cost count
-end-from long high e =
-    record {
-      long = e .long ∙ long;
-      high = λ j h. e .high j h ∙ high j h;
-      cost-is = e .cost-is;
-      count-is = e .count-is;
-      dist-least = e .dist-least;
-      dist-tree = e .dist-tree;
-      dist-final = e .dist-final;
-      pred-node = e .pred-node;
-      pred-nearer = e .pred-nearer;
-      pred-final = e .pred-final;
-    }
+end-from long high e = record { long = e .long ∙ long; high = λ j h. e .high j h ∙ high j h; done = e .done }
 
 -- ---- the loop
 
 -- of the work slice at the start and now: some task is under way, and each that was at the start is
 pub record AimRun (b : Block) (w₀ w : List ℕ) (best count : ℕ) : Type 0 where
   pub sound : Graph b
-  pub task : AimTask b
-  pub stands : Aiming b task w best count
-  pub goes : (t : AimTask b) → Aiming b t w₀ far 0 → Aiming b t w best count
+  pub marks : List ℕ
+  pub task : AimTask b marks
+  pub stands : Aiming b marks task w best count
+  pub goes : {marks : List ℕ} (t : AimTask b marks) → Aiming b marks t w₀ far 0 → Aiming b marks t w best count
   pub long : length w ≡ length w₀
   pub high : (j : ℕ) → 5 * nodes b ≤ j → getD w j 0 ≡ getD w₀ j 0
 
@@ -276,6 +249,7 @@ pub run-begins : {b : Block} {w : List ℕ} → AimLaunched b w → AimRun b w w
 run-begins l =
     record {
       sound = l .sound;
+      marks = l .marks;
       task = l .task;
       stands = l .stands;
       goes = λ t a. a;
@@ -288,8 +262,8 @@ run-count {b} {w₀} {w} r = omega (arith, r .stands .counted, count-most (hasLe
 
 pub run-ends :
     {b : Block} {w₀ w : List ℕ} {best count : ℕ} → AimRun b w₀ w best count → (entryAt (nodes b) w 1 ≡ far) ⊎ (best < entryAt (nodes b) w 1)
-    → (t : AimTask b) → Aiming b t w₀ far 0 → AimEnd b (t .price) (t .weight) (t .marks) (t .sinks) w₀ w best count
-run-ends {b} {w₀} {w} {best} {count} r stop t a = aim-ends b (r .sound) t w₀ w best count (r .goes t a) stop (r .long) (r .high)
+    → (marks : List ℕ) (t : AimTask b marks) → Aiming b marks t w₀ far 0 → AimEnd b (t .price) (t .weight) marks (t .sinks) w₀ w best count
+run-ends {b} {w₀} {w} {best} {count} r stop marks t a = aim-ends b (r .sound) t w₀ w best count (r .goes t a) stop (r .long) (r .high)
 
 module _ {b : Block} {w₀ w : List ℕ} {best count u : ℕ} (r : AimRun b w₀ w best count) (node : u < nodes b)
     (first : leafAt (nodes b) w u ≡ entryAt (nodes b) w 1) (low : entryAt (nodes b) w 1 < far) (most : entryAt (nodes b) w 1 ≤ best)
@@ -302,6 +276,7 @@ module _ {b : Block} {w₀ w : List ℕ} {best count u : ℕ} (r : AimRun b w₀
   run-more {w₂} {best′} row goes =
       record {
         sound = r .sound;
+        marks = r .marks;
         task = r .task;
         stands = next (r .task) (r .stands);
         goes = λ t a. next t (r .goes t a);
@@ -309,5 +284,5 @@ module _ {b : Block} {w₀ w : List ℕ} {best count u : ℕ} (r : AimRun b w₀
         high = λ j h. row .some .high j h ∙ out .high j (omega arith) ∙ r .high j h;
       }
     where
-      next : (t : AimTask b) → Aiming b t w best count → Aiming b t w₂ best′ (count + 1)
+      next : {marks : List ℕ} (t : AimTask b marks) → Aiming b marks t w best count → Aiming b marks t w₂ best′ (count + 1)
       next t a = aim-more b (r .sound) t w best count a u node first low most w₁ out w₂ row best′ goes

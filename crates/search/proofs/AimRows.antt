@@ -1,11 +1,11 @@
 -- The edges of a node are looked at one after the other by the search that aims.
---     over-some, over-passed     one edge, as its code has it
---     some-then, passed-then     what has been done by edges before, and by those after
---     AimRowSoFar                the loop over a row
+--     over-some, over-passed                one edge, as its code has it
+--     some-then, still-passed, now-passed   what edges have done after others
+--     AimRowSoFar                           the loop over a row
 -- Assumes nothing.
 use mathlib.Core.Bool.{true}
 use mathlib.Core.List.{List}
-use mathlib.Core.Logic.{⊎-elim}
+use mathlib.Core.Logic.{⊎-elim, inr}
 use mathlib.Core.Path.{_≡_, refl, sym, _∙_, ap, subst}
 use Prim.Native.Nat.{ℕ, _+_, _*_, _^_, _≤_, _<_}
 use native.Mathlib.Nat.{le-refl}
@@ -14,13 +14,12 @@ use lib.ListN.{length, getD, set, length-set}
 use borrow.Author.Count.{below-more}
 use Rattle.search.specs.Block.{Block, nodes, rowStart, hasEdge}
 use Rattle.search.specs.Distance.{far}
-use Rattle.search.specs.Layout.{distAt, predAt, Heap}
+use Rattle.search.specs.Layout.{distAt, predAt, Heap, Shortened}
 use Rattle.search.specs.Estimates.{guessAt}
-use Rattle.search.specs.Aiming.{wayOver, AimShortened, AimedOver, over-blind, over-shorter, over-lower, over-kept, AimedAt, at-kept, at-shorter, at-lower, AimedSome, Passed, AimedRow, AimRowReady, BestAim}
+use Rattle.search.specs.Aiming.{wayOver, AimedOver, over-blind, over-shorter, over-lower, over-kept, AimedAt, at-kept, at-shorter, at-lower, AimedSome, EdgePassed, AimedRow, AimRowReady, BestAim}
 use Rattle.search.proofs.StoreLaws.{store-here, store-other}
-use Rattle.search.proofs.QueueLaws.{same-or-not}
+use Rattle.search.proofs.QueueLaws.{same-or-not, heap-aside}
 use Rattle.search.proofs.BlockLaws.{target-node, edge-at, edge-place}
-use Rattle.search.proofs.AimStores.{heap-same}
 
 -- nothing has been looked at yet
 pub some-none : (b : Block) (u : ℕ) (w : List ℕ) → Heap (nodes b) w → AimedSome b u w w
@@ -42,7 +41,7 @@ module _ (b : Block) (u v : ℕ) (w : List ℕ) (hv : v < nodes b) (edge : hasEd
   abbrev way : ℕ
   way = wayOver (nodes b) w u v
 
-  shorter-some : (w′ : List ℕ) → (guessAt n w v ≡ far → ⊥) → way < distAt w v → AimShortened n u v way (way + guessAt n w v) w w′ → AimedSome b u w w′
+  shorter-some : (w′ : List ℕ) → (guessAt n w v ≡ far → ⊥) → way < distAt w v → Shortened n u v way (way + guessAt n w v) w w′ → AimedSome b u w w′
   shorter-some w′ known less t =
       record {
         long = t .long;
@@ -63,7 +62,7 @@ module _ (b : Block) (u v : ℕ) (w : List ℕ) (hv : v < nodes b) (edge : hasEd
       let other : (j : ℕ) → (j ≡ 4 * n + v → ⊥) → getD w′ j 0 ≡ getD w j 0 = store-other w (4 * n + v) u in
       record {
         long = length-set w (4 * n + v) u;
-        heap = heap-same n w w′ (λ k a z. other (n + k) (λ e. omega arith)) heap;
+        heap = heap-aside n w (4 * n + v) u (inr (omega arith)) heap;
         each = λ x h.
             ⊎-elim
             (λ (e : x ≡ v).
@@ -81,7 +80,7 @@ module _ (b : Block) (u v : ℕ) (w : List ℕ) (hv : v < nodes b) (edge : hasEd
   over-some w′ (over-lower known same low is) = subst (AimedSome b u w) (sym is) (lower-some known same low)
   over-some w′ (over-kept no-shorter no-lower is) = subst (AimedSome b u w) (sym is) (some-none b u w heap)
 
-  pub over-passed : (w′ : List ℕ) → (guessAt n w v ≡ far → ⊥) → AimedOver n u v w w′ → Passed n u w w′ v
+  pub over-passed : (w′ : List ℕ) → (guessAt n w v ≡ far → ⊥) → AimedOver n u v w w′ → EdgePassed n u w w′ v
   over-passed w′ known (over-blind none is) = absurd (known none)
   over-passed w′ known (over-shorter k less t) = record { least = omega (arith, t .dist-here); lowest = λ e. omega (arith, t .pred-here) }
   over-passed w′ known (over-lower k same low is) =
@@ -89,7 +88,7 @@ module _ (b : Block) (u v : ℕ) (w : List ℕ) (hv : v < nodes b) (edge : hasEd
       let p : predAt n w′ v ≡ u = ap (λ (l : List ℕ). getD l (4 * n + v) 0) is ∙ store-here w (4 * n + v) u (omega arith) in
       record { least = omega arith; lowest = λ e. omega arith }
   over-passed w′ known (over-kept no-shorter no-lower is) =
-      subst (λ (l : List ℕ). Passed n u w l v) (sym is) (record { least = no-shorter; lowest = no-lower })
+      subst (λ (l : List ℕ). EdgePassed n u w l v) (sym is) (record { least = no-shorter; lowest = no-lower })
 
 -- ---- edges after others
 
@@ -138,7 +137,7 @@ module _ (b : Block) (u : ℕ) (w₀ w : List ℕ) (hu : u < nodes b) (first : A
         }
 
     -- an edge that has been looked at stays so
-    still-passed : (x : ℕ) → x < nodes b → Passed (nodes b) u w₀ w x → AimedAt b u w w′ x → Passed (nodes b) u w₀ w′ x
+    still-passed : (x : ℕ) → x < nodes b → EdgePassed (nodes b) u w₀ w x → AimedAt b u w w′ x → EdgePassed (nodes b) u w₀ w′ x
     still-passed x h pass (at-kept d p l) =
         let least : distAt w x ≤ wayOver (nodes b) w₀ u x = pass .least in
         record { least = omega arith; lowest = λ e. let low = pass .lowest (e ∙ d) in omega arith }
@@ -148,7 +147,7 @@ module _ (b : Block) (u : ℕ) (w₀ w : List ℕ) (hu : u < nodes b) (first : A
         record { least = omega arith; lowest = λ q. omega arith }
 
     -- and one that is looked at now has been looked at
-    now-passed : (x : ℕ) → x < nodes b → Passed (nodes b) u w w′ x → Passed (nodes b) u w₀ w′ x
+    now-passed : (x : ℕ) → x < nodes b → EdgePassed (nodes b) u w w′ x → EdgePassed (nodes b) u w₀ w′ x
     now-passed x h pass =
         let s = way-same x h in
         let least : distAt w′ x ≤ wayOver (nodes b) w u x = pass .least in
@@ -161,7 +160,7 @@ pub record AimRowSoFar (b : Block) (u e least best : ℕ) (w₀ w : List ℕ) : 
   pub some : AimedSome b u w₀ w
   pub passed :
       (k : ℕ) → k < e → rowStart b u ≤ k → (guessAt (nodes b) w₀ (getD (b .edgeTargets) k 0) ≡ far → ⊥)
-      → Passed (nodes b) u w₀ w (getD (b .edgeTargets) k 0)
+      → EdgePassed (nodes b) u w₀ w (getD (b .edgeTargets) k 0)
   pub from : rowStart b u ≤ e
   pub to : e ≤ rowStart b (u + 1)
   pub best-aim : BestAim (nodes b) least w₀ → BestAim (nodes b) best w
@@ -212,7 +211,7 @@ module _ (b : Block) (u e least best : ℕ) (w₀ w : List ℕ) (ready : AimRowR
             below-more
             (λ k.
             rowStart b u ≤ k → (guessAt (nodes b) w₀ (getD (b .edgeTargets) k 0) ≡ far → ⊥)
-            → Passed (nodes b) u w₀ w′ (getD (b .edgeTargets) k 0))
+            → EdgePassed (nodes b) u w₀ w′ (getD (b .edgeTargets) k 0))
             e
             (λ k l m known.
             let h = target-node b (ready .sound) u k (ready .node) m (omega arith) in
@@ -232,5 +231,5 @@ aim-row-all b u e least best w₀ w ready done past =
       some = done .some;
       all = λ x edge known.
           let at = edge-place b (ready .sound) u x (ready .node) edge in
-          subst (Passed (nodes b) u w₀ w) (at .3) (done .passed (at .0) (omega (arith, at .2)) (at .1) (λ none. known (subst (λ (j : ℕ). guessAt (nodes b) w₀ j ≡ far) (at .3) none)));
+          subst (EdgePassed (nodes b) u w₀ w) (at .3) (done .passed (at .0) (omega (arith, at .2)) (at .1) (λ none. known (subst (λ (j : ℕ). guessAt (nodes b) w₀ j ≡ far) (at .3) none)));
     }

@@ -9,8 +9,8 @@ use mathlib.Core.Bool.{Bool, true, false}
 use mathlib.Core.List.{List}
 use mathlib.Core.Logic.{_⊎_, ⊎-elim, inl, inr}
 use mathlib.Core.Path.{_≡_, sym, _∙_, ap, subst}
-use Prim.Native.Nat.{ℕ, zero, suc, _+_, _*_, _≤_, _<_}
-use native.Mathlib.Nat.{le-antisymm, not-suc-le-zero, le-of-suc-le-suc, eq-or-lt-of-le}
+use Prim.Native.Nat.{ℕ, _+_, _*_, _≤_, _<_}
+use native.Mathlib.Nat.{le-antisymm}
 use native.Mathlib.Omega.{arith}
 use lib.Dec.{eqb, ltb}
 use lib.ListN.{getD}
@@ -18,27 +18,27 @@ use borrow.Author.Tests.{eq-eqb, lt-ltb, eqb-true, ltb-true}
 use Rattle.price.specs.Test.{both}
 use Rattle.price.specs.Bounds.{pathMost}
 use Rattle.price.specs.Lists.{has, countBelow}
-use Rattle.price.proofs.TestLaws.{either-way, true≢false, both-true, both-left, both-right, le-or-lt}
+use Rattle.price.proofs.TestLaws.{test-same, both-true, both-left, both-right, le-or-lt, never-true}
 use Rattle.price.proofs.ListLaws.{has-at}
 use Rattle.price.proofs.EntryLaws.{least-top}
-use Rattle.price.proofs.BelowLaws.{count-same}
+use Rattle.price.proofs.BelowLaws.{count-one}
 use Rattle.search.specs.Block.{Block, nodes, hasEdge}
 use Rattle.search.specs.Tables.{Graph}
 use Rattle.search.specs.Distance.{far, inTree, distance}
 use Rattle.search.specs.Turn.{openDistances, nearestDistance, nearestPlace}
-use Rattle.search.specs.Layout.{distAt, entryAt, leafAt, predAt}
+use Rattle.search.specs.Layout.{distAt, entryAt, leafAt, predAt, Queued}
 use Rattle.search.specs.Aimed.{estimate, expands}
-use Rattle.search.specs.Estimates.{guessAt, Queued, Estimated}
-use Rattle.search.specs.Aiming.{wayOver, AimedAt, at-kept, at-shorter, at-lower, AimedRow, AimRowReady, BestAim, AimTask, Left, hasLeft, Place, gone, waits, bare, AimReached, Aiming}
+use Rattle.search.specs.Estimates.{guessAt, Estimated}
+use Rattle.search.specs.Aiming.{wayOver, AimedAt, at-kept, at-shorter, at-lower, AimedRow, AimRowReady, BestAim, AimTask, Left, hasLeft, Place, gone, waiting, lacking, AimReached, Aiming}
 use Rattle.search.proofs.EdgeLaws.{shape-of}
 use Rattle.search.proofs.DistanceLaws.{distance-step, distance-most}
 use Rattle.search.proofs.NearestLaws.{nearest}
 use Rattle.search.proofs.PriceSameLaws.{beyond}
 use Rattle.search.proofs.AimedExact.{Forward, aim-within, aim-settles}
 use Rattle.search.proofs.QueueLaws.{same-or-not, heap-least}
-use Rattle.search.proofs.AimStores.{best-kept}
+use Rattle.search.proofs.BestLaws.{best-kept}
 
--- ---- tests and counts
+-- ---- an expanded node, and estimates that stay
 
 pub left-test : (n : ℕ) (w : List ℕ) (v : ℕ) → Left n w v → hasLeft n w v ≡ true
 left-test n w v l =
@@ -59,32 +59,6 @@ left-of n w v h e =
       known = ltb-true (guessAt n w v) far (both-right (both gone near) known e);
     }
 
--- two tests that pass together are the same
-pub test-same : (s t : Bool) → (s ≡ true → t ≡ true) → (t ≡ true → s ≡ true) → s ≡ t
-test-same s t to from =
-    ⊎-elim
-    (λ (p : s ≡ true). p ∙ sym (to p))
-    (λ (p : s ≡ false).
-    ⊎-elim (λ (q : t ≡ true). absurd (true≢false (sym (from q) ∙ p))) (λ (q : t ≡ false). p ∙ sym q) (either-way t))
-    (either-way s)
-
--- where one number more passes, one more is counted
-count-one :
-    (s t : ℕ → Bool) (n u : ℕ) → u < n → s u ≡ false → t u ≡ true → ((x : ℕ) → x < n → (x ≡ u → ⊥) → s x ≡ t x)
-    → countBelow t n ≡ countBelow s n + 1
-unfolding countBelow
-count-one s t zero u l su tu same = absurd (not-suc-le-zero l)
-count-one s t (suc n) u l su tu same =
-    ⊎-elim
-    (λ (e : u ≡ n).
-    let r : countBelow s n ≡ countBelow t n = count-same s t n (λ x h. same x (omega arith) (λ q. omega arith)) in
-    rw (rw e at su, rw e at tu, r) (omega arith))
-    (λ (h : u < n).
-    let r : countBelow t n ≡ countBelow s n + 1 = count-one s t n u h su tu (λ x k ne. same x (omega arith) ne) in
-    let here : s n ≡ t n = same n (omega arith) (λ q. omega arith) in
-    rw (here, r) (omega arith))
-    (eq-or-lt-of-le (le-of-suc-le-suc l))
-
 -- estimates that stay are as they were made
 pub estimated-same :
     {b : Block} {price weight : ℕ → ℕ} {marks sinks w w′ : List ℕ} → ((x : ℕ) → x < nodes b → guessAt (nodes b) w′ x ≡ guessAt (nodes b) w x)
@@ -103,9 +77,9 @@ estimated-same {b} {price} {weight} {marks} {sinks} {w} {w′} same e =
 
 -- ---- between two expansions
 
-module _ (b : Block) (t : AimTask b) (w : List ℕ) (best count : ℕ) (a : Aiming b t w best count) where
+module _ (b : Block) {marks : List ℕ} (t : AimTask b marks) (w : List ℕ) (best count : ℕ) (a : Aiming b marks t w best count) where
   pub aim-forward :
-      Forward b (t .price) (t .weight) (t .marks) (t .sinks) (λ v. guessAt (nodes b) w v) (λ v. distAt w v) (Left (nodes b) w) (entryAt (nodes b) w 1)
+      Forward b (t .price) (t .weight) marks (t .sinks) (λ v. guessAt (nodes b) w v) (λ v. distAt w v) (Left (nodes b) w) (entryAt (nodes b) w 1)
       (a .estimated .bound)
   aim-forward =
       record {
@@ -120,15 +94,15 @@ module _ (b : Block) (t : AimTask b) (w : List ℕ) (best count : ℕ) (a : Aimi
     where
       side : (v : ℕ) → v < nodes b → Place (nodes b) w v → Left (nodes b) w v ⊎ (entryAt (nodes b) w 1 ≤ distAt w v + guessAt (nodes b) w v)
       side v h (gone l) = inl l
-      side v h (waits near key) = inr (omega (arith, heap-least (nodes b) w (a .heap) v h))
-      side v h (bare key top) = inr (omega (arith, heap-least (nodes b) w (a .heap) v h))
+      side v h (waiting near key) = inr (omega (arith, heap-least (nodes b) w (a .heap) v h))
+      side v h (lacking key top) = inr (omega (arith, heap-least (nodes b) w (a .heap) v h))
 
-  pub nearest-top : nearestDistance b (t .price) (t .marks) (t .sinks) ≤ far
-  nearest-top = least-top far (openDistances b (t .price) (t .marks) (t .sinks))
+  pub nearest-top : nearestDistance b (t .price) marks (t .sinks) ≤ far
+  nearest-top = least-top far (openDistances b (t .price) marks (t .sinks))
 
 -- ---- a node is taken: the least entry is its key, and no sink is nearer so far
 
-module _ (b : Block) (g : Graph b) (t : AimTask b) (w : List ℕ) (best count : ℕ) (a : Aiming b t w best count)
+module _ (b : Block) (g : Graph b) {marks : List ℕ} (t : AimTask b marks) (w : List ℕ) (best count : ℕ) (a : Aiming b marks t w best count)
     (u : ℕ) (node : u < nodes b) (first : leafAt (nodes b) w u ≡ entryAt (nodes b) w 1) (low : entryAt (nodes b) w 1 < far) (most : entryAt (nodes b) w 1 ≤ best) where
   abbrev n : ℕ
   n = nodes b
@@ -139,56 +113,56 @@ module _ (b : Block) (g : Graph b) (t : AimTask b) (w : List ℕ) (best count : 
     where
       by : Place n w u → distAt w u + guessAt n w u ≡ entryAt n w 1
       by (gone l) = absurd (omega (arith, l .left))
-      by (waits near key) = sym key ∙ first
-      by (bare key top) = absurd (omega arith)
+      by (waiting near key) = sym key ∙ first
+      by (lacking key top) = absurd (omega arith)
 
   -- so a sink can be joined
-  joins : nearestDistance b (t .price) (t .marks) (t .sinks) < far
+  joins : nearestDistance b (t .price) marks (t .sinks) < far
   joins =
       ⊎-elim
-      (λ (q : far ≤ nearestDistance b (t .price) (t .marks) (t .sinks)).
+      (λ (q : far ≤ nearestDistance b (t .price) marks (t .sinks)).
       absurd (omega (arith, a .stuck (le-antisymm (nearest-top b t w best count a) q) u node)))
       (λ q. q)
-      (le-or-lt far (nearestDistance b (t .price) (t .marks) (t .sinks)))
+      (le-or-lt far (nearestDistance b (t .price) marks (t .sinks)))
 
-  no-nearer : (s : ℕ) → s < n → has s (t .sinks) ≡ true → inTree (t .marks) s ≡ false → entryAt n w 1 ≤ distAt w s
+  no-nearer : (s : ℕ) → s < n → has s (t .sinks) ≡ true → inTree marks s ≡ false → entryAt n w 1 ≤ distAt w s
   no-nearer s h l o = omega (arith, a .best-aim .least s h (a .estimated .goals s h l o))
 
   -- the level is at most the joined sink's distance
-  level-within : entryAt n w 1 ≤ nearestDistance b (t .price) (t .marks) (t .sinks)
+  level-within : entryAt n w 1 ≤ nearestDistance b (t .price) marks (t .sinks)
   level-within =
       let near = joins in
-      let m = nearest b (t .price) (t .marks) (t .sinks) (λ q. absurd (omega arith)) in
-      let s : ℕ = getD (t .sinks) (nearestPlace b (t .price) (t .marks) (t .sinks)) 0 in
-      let hs : s < nodes b = beyond b (t .price) (t .marks) s (m .near) in
-      let listed = has-at (t .sinks) (nearestPlace b (t .price) (t .marks) (t .sinks)) (m .within) in
-      let here : distance b (t .price) (t .marks) s ≡ nearestDistance b (t .price) (t .marks) (t .sinks) = m .here in
+      let m = nearest b (t .price) marks (t .sinks) (λ q. absurd (omega arith)) in
+      let s : ℕ = getD (t .sinks) (nearestPlace b (t .price) marks (t .sinks)) 0 in
+      let hs : s < nodes b = beyond b (t .price) marks s (m .near) in
+      let listed = has-at (t .sinks) (nearestPlace b (t .price) marks (t .sinks)) (m .within) in
+      let here : distance b (t .price) marks s ≡ nearestDistance b (t .price) marks (t .sinks) = m .here in
       let reach = a .estimated .within in
-      let far-off : entryAt n w 1 ≤ distance b (t .price) (t .marks) s =
-      aim-within b (t .price) (t .weight) (t .marks) (t .sinks) (shape-of b g) (t .fair) (t .fair-weight) (t .dear) (λ v. guessAt n w v) (λ v. distAt w v)
+      let far-off : entryAt n w 1 ≤ distance b (t .price) marks s =
+      aim-within b (t .price) (t .weight) marks (t .sinks) (shape-of b g) (t .fair) (t .fair-weight) (t .dear) (λ v. guessAt n w v) (λ v. distAt w v)
       (Left n w) (entryAt n w 1) (a .estimated .bound) (aim-forward b t w best count a) s hs listed (m .out) (omega arith) (omega arith)
       (no-nearer s hs listed (m .out)) in
       omega arith
 
   -- its estimate is known
-  exact-guess : guessAt n w u ≡ estimate b (t .weight) (t .marks) (t .sinks) u
+  exact-guess : guessAt n w u ≡ estimate b (t .weight) marks (t .sinks) u
   exact-guess =
       ⊎-elim
       (λ q. q)
-      (λ (q : a .estimated .bound < estimate b (t .weight) (t .marks) (t .sinks) u).
+      (λ (q : a .estimated .bound < estimate b (t .weight) marks (t .sinks) u).
       absurd (omega (arith, a .estimated .above u node, a .estimated .within, level-within, at-key)))
       (a .estimated .known u node)
 
-  pub taken-final : (distAt w u ≡ distance b (t .price) (t .marks) u) × (expands b (t .price) (t .weight) (t .marks) (t .sinks) u ≡ true)
+  pub taken-final : (distAt w u ≡ distance b (t .price) marks u) × (expands b (t .price) (t .weight) marks (t .sinks) u ≡ true)
   taken-final =
-      aim-settles b (t .price) (t .weight) (t .marks) (t .sinks) (shape-of b g) (t .fair) (t .fair-weight) (t .dear) (λ v. guessAt n w v) (λ v. distAt w v)
+      aim-settles b (t .price) (t .weight) marks (t .sinks) (shape-of b g) (t .fair) (t .fair-weight) (t .dear) (λ v. guessAt n w v) (λ v. distAt w v)
       (Left n w) (entryAt n w 1) (a .estimated .bound) (aim-forward b t w best count a) joins (a .estimated .within) u node exact-guess at-key no-nearer
 
   taken-near : distAt w u < pathMost
   taken-near =
       let is = taken-final .0 in
       let key = at-key in
-      let m = distance-most b (t .price) (t .marks) (shape-of b g) (t .fair) u node (omega arith) in
+      let m = distance-most b (t .price) marks (shape-of b g) (t .fair) u node (omega arith) in
       omega arith
 
   -- a way over it and an estimate are below `far`
@@ -306,7 +280,7 @@ module _ (b : Block) (g : Graph b) (t : AimTask b) (w : List ℕ) (best count : 
           by : Went x → Left n w₂ x × (distAt w₂ x ≡ distAt w x)
           by (went-kept d p l) = (stays l d, d)
           by (went-shorter e k less d p l) =
-              let step = distance-step b (t .price) (t .marks) (shape-of b g) (t .fair) u x (s .node) e in
+              let step = distance-step b (t .price) marks (shape-of b g) (t .fair) u x (s .node) e in
               let own = taken-final .0 in
               let final = a .final x s .0 in
               absurd (omega arith)
@@ -345,21 +319,21 @@ module _ (b : Block) (g : Graph b) (t : AimTask b) (w : List ℕ) (best count : 
         where
           as-before : (x ≡ u → ⊥) → leafAt n w₂ x ≡ leafAt n w₁ x → distAt w₂ x ≡ distAt w x → Place n w x → Place n w₂ x
           as-before ne l d (gone s) = gone (still-left x s .0)
-          as-before ne l d (waits near key) =
+          as-before ne l d (waiting near key) =
               let q = guess-kept x h in
               let o = out .leaf-other x h ne in
-              waits (omega arith) (omega arith)
-          as-before ne l d (bare key top) =
+              waiting (omega arith) (omega arith)
+          as-before ne l d (lacking key top) =
               let q = guess-kept x h in
               let o = out .leaf-other x h ne in
-              bare (omega arith) (omega arith)
+              lacking (omega arith) (omega arith)
 
           by : (x ≡ u → ⊥) → Went x → Place n w₂ x
           by ne (went-kept d p l) = as-before ne l d (a .places x h)
           by ne (went-shorter e k less d p l) =
               let q = guess-kept x h in
               let fits = way-fits x h k in
-              waits (omega arith) (omega arith)
+              waiting (omega arith) (omega arith)
           by ne (went-lower e k same lower d p l) = as-before ne l d (a .places x h)
 
       -- no way over the taken node is shorter
@@ -387,7 +361,7 @@ module _ (b : Block) (g : Graph b) (t : AimTask b) (w : List ℕ) (best count : 
           omega arith)
           (only-left x s)
 
-      next-reached : (v : ℕ) → v < n → inTree (t .marks) v ≡ false → distAt w₂ v < far → AimReached b (t .price) w₂ v
+      next-reached : (v : ℕ) → v < n → inTree marks v ≡ false → distAt w₂ v < far → AimReached b (t .price) w₂ v
       next-reached v h o near = by (went v h)
         where
           over : (p : ℕ) → predAt n w₂ v ≡ p → Left n w₂ p → hasEdge b p v ≡ true → distAt w₂ v ≡ distAt w₂ p + t .price v → AimReached b (t .price) w₂ v
@@ -409,7 +383,7 @@ module _ (b : Block) (g : Graph b) (t : AimTask b) (w : List ℕ) (best count : 
           by (went-lower e k same lower d p l) = let own = here-left .1 in over u p (here-left .0) e (omega arith)
 
       next-lowest :
-          (x v : ℕ) → v < n → inTree (t .marks) v ≡ false → Left n w₂ x → hasEdge b x v ≡ true → guessAt n w₂ v < far
+          (x v : ℕ) → v < n → inTree marks v ≡ false → Left n w₂ x → hasEdge b x v ≡ true → guessAt n w₂ v < far
           → distAt w₂ v ≡ distAt w₂ x + t .price v → predAt n w₂ v ≤ x
       next-lowest x v h o s e k sum =
           let own = left-dist x s in
@@ -436,11 +410,11 @@ module _ (b : Block) (g : Graph b) (t : AimTask b) (w : List ℕ) (best count : 
               let r = a .lowest x v h o l e k′ (omega arith) in
               omega arith
 
-      next-final : (x : ℕ) → Left n w₂ x → (distAt w₂ x ≡ distance b (t .price) (t .marks) x) × (expands b (t .price) (t .weight) (t .marks) (t .sinks) x ≡ true)
+      next-final : (x : ℕ) → Left n w₂ x → (distAt w₂ x ≡ distance b (t .price) marks x) × (expands b (t .price) (t .weight) marks (t .sinks) x ≡ true)
       next-final x s =
           ⊎-elim
           (λ (is : x ≡ u).
-          subst (λ (j : ℕ). (distAt w₂ j ≡ distance b (t .price) (t .marks) j) × (expands b (t .price) (t .weight) (t .marks) (t .sinks) j ≡ true)) (sym is)
+          subst (λ (j : ℕ). (distAt w₂ j ≡ distance b (t .price) marks j) × (expands b (t .price) (t .weight) marks (t .sinks) j ≡ true)) (sym is)
           (here-left .1 ∙ taken-final .0, taken-final .1))
           (λ (l : Left n w x). (still-left x l .1 ∙ a .final x l .0, a .final x l .1))
           (only-left x s)
@@ -454,11 +428,7 @@ module _ (b : Block) (g : Graph b) (t : AimTask b) (w : List ℕ) (best count : 
           omega arith
         where
           was-not : hasLeft n w u ≡ false
-          was-not =
-              ⊎-elim
-              (λ (q : hasLeft n w u ≡ true). absurd (let l = left-of n w u node q .left in omega arith))
-              (λ q. q)
-              (either-way (hasLeft n w u))
+          was-not = never-true (hasLeft n w u) (λ q. let l = left-of n w u node q .left in omega arith)
 
           same : (x : ℕ) → x < n → (x ≡ u → ⊥) → hasLeft n w x ≡ hasLeft n w₂ x
           same x h ne =
@@ -466,7 +436,7 @@ module _ (b : Block) (g : Graph b) (t : AimTask b) (w : List ℕ) (best count : 
               (λ q. left-test n w₂ x (still-left x (left-of n w x h q) .0))
               (λ q. ⊎-elim (λ (e : x ≡ u). absurd (ne e)) (λ (l : Left n w x). left-test n w x l) (only-left x (left-of n w₂ x h q)))
 
-      pub aim-more : (best′ : ℕ) → (BestAim n best w₁ → BestAim n best′ w₂) → Aiming b t w₂ best′ (count + 1)
+      pub aim-more : (best′ : ℕ) → (BestAim n best w₁ → BestAim n best′ w₂) → Aiming b marks t w₂ best′ (count + 1)
       aim-more best′ goes =
           record {
             long = let l = row .some .long in let m = out .long in let o = a .long in omega arith;

@@ -33,7 +33,7 @@ use Rattle.search.proofs.AimedLaws.{WalkOut, est-top, est-least, est-wa
 -- ---- the backward pass
 
 -- the walk that a label stands for: it weighs so much, and costs at most this at the turn's prices, or this is `far`
-pub record Labelled (b : Block) (price weight : ℕ → ℕ) (marks sinks : List ℕ) (v label cost : ℕ) : Type 0 where
+pub record LabelWalk (b : Block) (price weight : ℕ → ℕ) (marks sinks : List ℕ) (v label cost : ℕ) : Type 0 where
   pub path : List ℕ
   pub out : WalkOut b marks sinks v path
   pub weighs : pathCost weight path ≡ label
@@ -43,7 +43,7 @@ pub record Labelled (b : Block) (price weight : ℕ → ℕ) (marks sinks : List
 pub record Backward (b : Block) (price weight : ℕ → ℕ) (marks sinks : List ℕ) (label cost : ℕ → ℕ) (done : ℕ → Type 0) (level : ℕ) : Type 0 where
   pub top : (v : ℕ) → v < nodes b → label v ≤ far
   pub goals : (s : ℕ) → s < nodes b → has s sinks ≡ true → inTree marks s ≡ false → label s ≡ 0
-  pub walks : (v : ℕ) → v < nodes b → label v < far → Labelled b price weight marks sinks v (label v) (cost v)
+  pub walks : (v : ℕ) → v < nodes b → label v < far → LabelWalk b price weight marks sinks v (label v) (cost v)
   pub relaxed : (u v : ℕ) → done v → hasEdge b u v ≡ true → label u ≤ label v + weight v
   pub sides : (v : ℕ) → v < nodes b → done v ⊎ (level ≤ label v + weight v)
 

@@ -14,7 +14,7 @@ use borrow.Author.Tests.{eq-eqb, ne-eqb}
 use Rattle.price.specs.Bounds.{nodesMost}
 use Rattle.price.specs.Lists.{upTo}
 use Rattle.price.specs.declared.Weighting.{Weighting}
-use Rattle.price.proofs.TestLaws.{either-way, le-or-lt}
+use Rattle.price.proofs.TestLaws.{either-way, le-or-lt, never-true}
 use Rattle.price.proofs.ListLaws.{has-at, getD-upTo}
 use Rattle.price.proofs.EntryLaws.{least-top}
 use Rattle.search.specs.Block.{Block, graphOf, nodes}
@@ -109,18 +109,18 @@ module _ {b : Block} {weighting : Weighting} {marks sinks w₀ w : List ℕ} {co
   pub aimed-stuck : cost ≡ far → (turn b price marks sinks ≡ stuck) × (expanded b price weight marks sinks ≡ 0)
   unfolding expanded
   aimed-stuck e =
-      let none : nearestDistance b price marks sinks ≡ far = sym (a .end .cost-is) ∙ e in
+      let none : nearestDistance b price marks sinks ≡ far = sym (a .done .cost-is) ∙ e in
       (turn-far b price marks sinks none, rw (eq-eqb (nearestDistance b price marks sinks) far none))
 
   -- a sink is joined
   module _ (some : cost ≡ far → ⊥) where
     some-near : nearestDistance b price marks sinks ≡ far → ⊥
-    some-near e = some (a .end .cost-is ∙ e)
+    some-near e = some (a .done .cost-is ∙ e)
 
     near : cost < far
     near =
         let top : nearestDistance b price marks sinks ≤ far = least-top far (openDistances b price marks sinks) in
-        let e : cost ≡ nearestDistance b price marks sinks = a .end .cost-is in
+        let e : cost ≡ nearestDistance b price marks sinks = a .done .cost-is in
         ⊎-elim
         (λ (l : far ≤ cost). absurd (some (le-antisymm (rw e top) l)))
         (λ l. l)
@@ -128,7 +128,7 @@ module _ {b : Block} {weighting : Weighting} {marks sinks w₀ w : List ℕ} {co
 
     pub aimed-count : expanded b price weight marks sinks ≡ count
     unfolding expanded
-    aimed-count = rw (ne-eqb (nearestDistance b price marks sinks) far some-near) (sym (a .end .count-is near))
+    aimed-count = rw (ne-eqb (nearestDistance b price marks sinks) far some-near) (sym (a .done .count-is near))
 
     -- the nearest sink, and where it stands
     abbrev place₀ : ℕ
@@ -138,7 +138,7 @@ module _ {b : Block} {weighting : Weighting} {marks sinks w₀ w : List ℕ} {co
     nearest₀ = nearest b price marks sinks some-near
 
     cost-far : nearestDistance b price marks sinks < far
-    cost-far = let e = a .end .cost-is in let n = near in omega arith
+    cost-far = let e = a .done .cost-is in let n = near in omega arith
 
     -- outside the tree a distance is above 0
     pos : (v : ℕ) → v < nodes b → inTree marks v ≡ false → distance b price marks v < far → 0 < distance b price marks v
@@ -147,31 +147,28 @@ module _ {b : Block} {weighting : Weighting} {marks sinks w₀ w : List ℕ} {co
     cost-pos : 0 < cost
     cost-pos =
         let n = nearest₀ in
-        omega (arith, a .end .cost-is, n .here, pos (getD sinks place₀ 0) (p .sinks-nodes place₀ (n .within)) (n .out) (n .near))
+        omega (arith, a .done .cost-is, n .here, pos (getD sinks place₀ 0) (p .sinks-nodes place₀ (n .within)) (n .out) (n .near))
 
     -- an unjoined sink as near as the joined one is expanded, and its distance is final
     close-expands : (j : ℕ) → j < length sinks → inTree marks (getD sinks j 0) ≡ false → distance b price marks (getD sinks j 0) ≡ cost → expands b price weight marks sinks (getD sinks j 0) ≡ true
     close-expands j l out e =
-        sink-expands b price weight marks sinks g fair-weight (p .dear) (getD sinks j 0) (p .sinks-nodes j l) (has-at sinks j l) out (e ∙ a .end .cost-is)
+        sink-expands b price weight marks sinks g fair-weight (p .dear) (getD sinks j 0) (p .sinks-nodes j l) (has-at sinks j l) out (e ∙ a .done .cost-is)
 
     close-final : (j : ℕ) → j < length sinks → inTree marks (getD sinks j 0) ≡ false → distance b price marks (getD sinks j 0) ≡ cost → distAt w (getD sinks j 0) ≡ cost
-    close-final j l out e = a .end .dist-final near (getD sinks j 0) (p .sinks-nodes j l) (close-expands j l out e) ∙ e
+    close-final j l out e = a .done .dist-final near (getD sinks j 0) (p .sinks-nodes j l) (close-expands j l out e) ∙ e
 
     -- no unjoined sink is nearer
     none-nearer : (j : ℕ) → j < length sinks → inTree marks (getD sinks j 0) ≡ false → cost ≤ distance b price marks (getD sinks j 0)
-    none-nearer j l out = rw (a .end .cost-is) (open-least b price marks sinks (getD sinks j 0) (has-at sinks j l) out)
+    none-nearer j l out = rw (a .done .cost-is) (open-least b price marks sinks (getD sinks j 0) (has-at sinks j l) out)
 
     -- a listed node at `cost` is an unjoined sink so far
     module _ (j : ℕ) (l : j < length sinks) (e : distAt w (getD sinks j 0) ≡ cost) where
       close-out : inTree marks (getD sinks j 0) ≡ false
       close-out =
-          ⊎-elim
-          (λ (t : inTree marks (getD sinks j 0) ≡ true). absurd (omega (arith, a .end .dist-tree (getD sinks j 0) (p .sinks-nodes j l) t, cost-pos)))
-          (λ t. t)
-          (either-way (inTree marks (getD sinks j 0)))
+          never-true (inTree marks (getD sinks j 0)) (λ t. omega (arith, a .done .dist-tree (getD sinks j 0) (p .sinks-nodes j l) t, cost-pos))
 
       close-distance : distance b price marks (getD sinks j 0) ≡ cost
-      close-distance = le-antisymm (rw (sym e) (a .end .dist-least (getD sinks j 0) (p .sinks-nodes j l))) (none-nearer j l close-out)
+      close-distance = le-antisymm (rw (sym e) (a .done .dist-least (getD sinks j 0) (p .sinks-nodes j l))) (none-nearer j l close-out)
 
     -- the predecessors are moved to where a path is read off
     module _ {w′ : List ℕ} (m : PredecessorsMoved (nodes b) w w′) where
@@ -185,7 +182,7 @@ module _ {b : Block} {weighting : Weighting} {marks sinks w₀ w : List ℕ} {co
       moved-leads =
           let n = near in
           let node : (v : ℕ) → v < nodes b → labelAt w′ v ≤ cost → inTree marks v ≡ false → predAt (nodes b) w v < nodes b =
-          λ v h le out. a .end .pred-node v h out (omega (arith, label-is v h)) in
+          λ v h le out. a .done .pred-node v h out (omega (arith, label-is v h)) in
           record {
             few = p .graph .few;
             long = omega (arith, m .same .long, a .long, p .long);
@@ -193,7 +190,7 @@ module _ {b : Block} {weighting : Weighting} {marks sinks w₀ w : List ℕ} {co
             pred-node = λ v h le out. rw (from-is v h (node v h le out)) (node v h le out);
             pred-nearer = λ v h le out.
                 let close : distAt w v < far = omega (arith, label-is v h) in
-                rw (from-is v h (node v h le out), label-is (predAt (nodes b) w v) (node v h le out), label-is v h) (a .end .pred-nearer v h out close);
+                rw (from-is v h (node v h le out), label-is (predAt (nodes b) w v) (node v h le out), label-is v h) (a .done .pred-nearer v h out close);
           }
 
       -- a work slice with the node before each node
@@ -215,7 +212,7 @@ module _ {b : Block} {weighting : Weighting} {marks sinks w₀ w : List ℕ} {co
           record {
             same = λ v x out.
                 let n = expands-near b price weight marks sinks v cost-far x in
-                let final = a .end .pred-final near v (n .0) out x in
+                let final = a .done .pred-final near v (n .0) out x in
                 let node = before-node b price marks g (p .fair) v (n .0) out (n .1) in
                 from-is v (n .0) (rw final node) ∙ final ∙ sym (before-is v (n .0) out (n .1));
             next = λ v x out.
@@ -250,7 +247,7 @@ module _ {b : Block} {weighting : Weighting} {marks sinks w₀ w : List ℕ} {co
       moved-found =
           let n = nearest₀ in
           let node = p .sinks-nodes place₀ (n .within) in
-          let here : distance b price marks (getD sinks place₀ 0) ≡ cost = n .here ∙ sym (a .end .cost-is) in
+          let here : distance b price marks (getD sinks place₀ 0) ≡ cost = n .here ∙ sym (a .done .cost-is) in
           record {
             sinks-few = p .sinks-few;
             some-place = place₀;
@@ -327,11 +324,11 @@ room-for b sound l e f =
 
 pub link-room :
     (b : Block) → Graph b
-    → (Graph b × LinkRoom b (replicate nodesMost 0) (replicate edgesMost 0) (replicate edgesMost 0)) × ((v : ℕ) → v < nodes b → getD {A = ℕ} (replicate nodesMost 0) v 0 ≡ 0)
+    → Graph b × LinkRoom b (replicate nodesMost 0) (replicate edgesMost 0) (replicate edgesMost 0) × ((v : ℕ) → v < nodes b → getD {A = ℕ} (replicate nodesMost 0) v 0 ≡ 0)
 link-room b sound =
     let few = sound .few in
     let room = room-for b sound (length-replicate {A = ℕ} nodesMost 0) (length-replicate {A = ℕ} edgesMost 0) (length-replicate {A = ℕ} edgesMost 0) in
-    ((sound, room), λ v h. getD-replicate nodesMost v 0 0 (omega arith))
+    (sound, room, λ v h. getD-replicate nodesMost v 0 0 (omega arith))
 
 module _ {ks fs ts : List ℕ} {weighting : Weighting} {marks sinks w₀ : List ℕ} (p : TurnPriced (graphOf ks fs ts) weighting marks sinks w₀) where
   abbrev pub turn-estimates :
@@ -360,15 +357,18 @@ module _ {ks fs ts : List ℕ} {weighting : Weighting} {marks sinks w₀ : List 
     turn-aims =
         record {
           sound = p .graph;
-          price = p .price;
-          weight = weightAt (graphOf ks fs ts) weighting;
-          sinks = sinks;
-          fair = p .fair;
-          fair-weight = weight-fair weighting (p .weights .criticality-most) (graphOf ks fs ts) (p .graph .few) (p .weights .kind-most);
-          dear = p .dear;
+          task =
+              record {
+                price = p .price;
+                weight = weightAt (graphOf ks fs ts) weighting;
+                sinks = sinks;
+                fair = p .fair;
+                fair-weight = weight-fair weighting (p .weights .criticality-most) (graphOf ks fs ts) (p .graph .few) (p .weights .kind-most);
+                dear = p .dear;
+              };
           marks-long = p .marks-long;
-          long = omega (arith, m .long, p .long);
-          prices = λ v h. m .middle (3 * length ks + v) (omega arith) (omega arith) ∙ p .prices v h;
+          long = omega (arith, m .same .long, p .long);
+          prices = λ v h. m .same .middle (3 * length ks + v) (omega arith) (omega arith) ∙ p .prices v h;
           estimated = estimated-kinds;
         }
 
@@ -377,8 +377,7 @@ module _ {ks fs ts : List ℕ} {weighting : Weighting} {marks sinks w₀ : List 
         → SinksAimed (graphOf ks fs ts) (p .price) (weightAt (graphOf ks fs ts) weighting) marks sinks w₀ w₂ cost count
     turn-aimed e =
         record {
-          estimates = w₁;
-          end = e;
-          long = e .long ∙ m .long;
-          beyond = λ j l. e .high j (omega arith) ∙ m .beyond j l;
+          done = e .done;
+          long = e .long ∙ m .same .long;
+          beyond = λ j l. e .high j (omega arith) ∙ m .same .beyond j l;
         }

@@ -59,7 +59,7 @@ module _ (ks cs fs ts : List ℕ) (c : Congestion) (marks work : List ℕ) where
   unfolding cleared
   least-left none {w′} end v h =
       let passed = passed-search ks cs fs ts c marks (length work) none in
-      let sound : Sound block = passed .1 .0 in
+      let sound : Sound block = passed .1 in
       let fair : Fair block price = ready-block-fair ks cs fs ts c marks (passed .0) in
       let ds : List ℕ = distances block price marks in
       let long : length ds ≡ nodes block = length-distances block price marks in

@@ -1,7 +1,7 @@
 -- Laws of numbers that are clamped within bounds, and of the price over them: it is a fair price for every input, and the price where each number keeps its bounds.
 -- Assumes nothing.
 use mathlib.Core.Bool.{true, false}
-use mathlib.Core.List.{List, [], _∷_}
+use mathlib.Core.List.{List}
 use mathlib.Core.Logic.{⊎-elim}
 use mathlib.Core.Path.{_≡_, sym, _∙_, ap}
 use Prim.Native.Nat.{ℕ, _≤_, _<_}
@@ -11,11 +11,9 @@ use lib.ListN.{getD}
 use borrow.Author.Tests.{lt-ltb, le-ltb}
 use Rattle.price.specs.Bounds.{kindMost, factorMost, othersMost, capacityMost, delayMost, criticalityMost}
 use Rattle.price.specs.Prices.{priceOf}
-use Rattle.price.specs.Replies.{PriceReply, priceReplyOf, priced}
+use Rattle.price.specs.Replies.{priced}
 use Rattle.price.specs.Timed.{weighed, weighedReply, historyBound, weighedMost, WeighedInBounds}
 use Rattle.price.specs.declared.Weighting.{Weighting}
-use Rattle.price.specs.declared.PriceAnswer.{PriceAnswer}
-use Rattle.price.specs.declared.PriceAnswer.the-variants.{Price, Refused}
 use Rattle.price.proofs.TestLaws.{either-way, le-or-lt}
 use Rattle.price.proofs.TimedLaws.{bound-most, bound-least, weighed-timed, weighed-untimed, weighed-pos, weighed-most, reply-delay, weighed-priced}
 use Rattle.search.specs.Block.{Block}
@@ -88,23 +86,12 @@ module _ (kinds capacities : List ℕ) (c : Congestion) (v : ℕ) where
       (ek : k ≡ clamped 0 kindMost (getD kinds v 0)) (ef : f ≡ clamped 0 factorMost (c .factor)) (eo : o ≡ clamped 0 othersMost (getD (c .others) v 0))
       (ec : cap ≡ clamped 1 capacityMost (getD capacities v 0)) (em : most ≡ historyBound (c .weighting))
       (eh : h ≡ clamped 1 most (getD (c .histories) v 0)) (er : c .weighting .timed ≡ true → read ≡ getD (c .delays) v 0) (ed : d ≡ clamped 0 delayMost read) where
-    replied : weighedReply w k f o cap h d ≡ priced (clampedPrice kinds capacities c v)
+    pub clamped-reply : weighedReply w k f o cap h d ≡ priced (clampedPrice kinds capacities c v)
     unfolding clampedPrice
-    replied =
+    clamped-reply =
         rw (ew, ek, ef, eo, ec, eh, em)
         (reply-delay (clampedWeighting (c .weighting)) _ _ _ _ _ d (λ t. ed ∙ ap (clamped 0 delayMost) (er t))
         ∙ weighed-priced (clampedWeighting (c .weighting)) _ _ _ _ _ _ clamped-bounds)
-
-    pub priced-clamped : {r : PriceAnswer} {p : ℕ} → r ≡ Price p → priceReplyOf r ≡ weighedReply w k f o cap h d → (p ≡ clampedPrice kinds capacities c v) × (p ≤ weighedMost (c .weighting))
-    priced-clamped q e =
-        let is = ap (λ (x : PriceReply). x .price) (sym (ap priceReplyOf q) ∙ e ∙ replied) in
-        (is, rw is clamped-fair)
-
-    pub not-refused : {r : PriceAnswer} {place : ℕ} → r ≡ Refused place → priceReplyOf r ≡ weighedReply w k f o cap h d → ⊥
-    not-refused {r} {place} q e =
-        let refusal : 13 ∷ place ∷ [] ≡ [] = ap (λ (x : PriceReply). x .refusal) (sym (ap priceReplyOf q) ∙ e ∙ replied) in
-        let n : _≡_ {A = ℕ} 0 1 = cc in
-        omega arith
 
 -- clamped within bounds that it keeps, a weighting weighs the same
 weighed-same :

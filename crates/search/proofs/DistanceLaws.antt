@@ -9,6 +9,7 @@ use Prim.Native.Nat.{ℕ, zero, suc, _+_, _≤_, _<_, zero-le}
 use native.Mathlib.Nat.{le-refl, le-trans, le-antisymm, le-of-eq, le-dest, lt-irrefl, add-zero, suc-add, add-suc, zero-add}
 use native.Mathlib.Omega.{arith}
 use lib.ListN.{length, getD, List·getD-eq-default}
+use borrow.Author.Tests.{eq-eqb, ne-eqb}
 use Rattle.price.specs.Bounds.{pathMost}
 use Rattle.price.specs.Test.{choose}
 use Rattle.price.specs.Lists.{upTo, least}
@@ -20,6 +21,15 @@ use Rattle.search.specs.Paths.{Walk, stay, step, pathCost, Fair}
 use Rattle.search.specs.Distance.{far, LeastCost, reached, unreached, inTree, treeDistances, nearer, round, rounds, distances, distance}
 use Rattle.search.proofs.EdgeLaws.{Shaped, edge-node}
 use Rattle.search.proofs.WalkLaws.{stay-cost, step-cost, snoc, snoc-cost, last-step, WalkEnd, walk-start, shorten}
+
+-- a node is in the tree where its mark is 1
+pub out-of-tree : (marks : List ℕ) (v : ℕ) → (getD marks v 0 ≡ 1 → ⊥) → inTree marks v ≡ false
+unfolding inTree
+out-of-tree marks v e = ne-eqb (getD marks v 0) 1 e
+
+pub in-the-tree : (marks : List ℕ) (v : ℕ) → getD marks v 0 ≡ 1 → inTree marks v ≡ true
+unfolding inTree
+in-the-tree marks v e = eq-eqb (getD marks v 0) 1 e
 
 -- a node's distance after k rounds
 abbrev after : Block → (ℕ → ℕ) → List ℕ → ℕ → ℕ → ℕ

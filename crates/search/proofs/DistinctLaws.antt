@@ -10,7 +10,7 @@ use lib.Dec.{eqb}
 use lib.ListN.{length, getD}
 use borrow.Author.Tests.{eq-eqb, eqb-true, not-true}
 use Rattle.price.specs.Lists.{has, distinct}
-use Rattle.price.proofs.TestLaws.{either-way, true≢false, both-left, both-right}
+use Rattle.price.proofs.TestLaws.{either-way, true≢false, both-left, both-right, never-true}
 use Rattle.price.proofs.ListLaws.{has-place}
 
 -- an entry of a longer list is its first entry, or an entry of the rest
@@ -33,7 +33,7 @@ has-rest x y ys h = ⊎-elim (λ (q : eqb x y ≡ true). rw q) (λ (q : eqb x y 
 
 -- what is no entry
 pub lacks : (x : ℕ) (xs : List ℕ) → (has x xs ≡ true → ⊥) → has x xs ≡ false
-lacks x xs none = ⊎-elim (λ q. absurd (none q)) (λ q. q) (either-way (has x xs))
+lacks x xs none = never-true (has x xs) none
 
 -- no entry twice: the first is none of the rest, and the rest has none twice
 pub distinct-cons : (x : ℕ) (xs : List ℕ) → has x xs ≡ false → distinct xs ≡ true → distinct (x ∷ xs) ≡ true

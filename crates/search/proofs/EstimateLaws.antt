@@ -1,31 +1,29 @@
 -- Laws of the estimates in the work slice: what a store leaves, and a node's weight as a price.
 -- Assumes nothing.
 use mathlib.Core.Bool.{true, false}
-use mathlib.Core.List.{List, [], _∷_}
+use mathlib.Core.List.{List, []}
 use mathlib.Core.Logic.{_⊎_, ⊎-elim, inl, inr}
 use mathlib.Core.Path.{_≡_, refl, sym, _∙_, ap}
 use Prim.Native.Nat.{ℕ, _+_, _*_, _≤_, _<_, min}
 use native.Mathlib.Nat.{min-eq-left, min-eq-right}
 use native.Mathlib.Omega.{arith}
 use lib.ListN.{length, getD, set, length-set}
-use borrow.Author.Tests.{eq-eqb, ne-eqb}
 use Rattle.price.specs.Bounds.{kindMost, nodesMost, criticalityMost}
 use Rattle.price.specs.Prices.{baseCost, overuse, priceOf}
-use Rattle.price.specs.Replies.{PriceReply, priceReplyOf, priced}
+use Rattle.price.specs.Replies.{priced}
 use Rattle.price.specs.Timed.{timedPrice, weighed, weighedReply, WeighedInBounds}
-use Rattle.price.specs.declared.PriceAnswer.{PriceAnswer}
-use Rattle.price.specs.declared.PriceAnswer.the-variants.{Price, Refused}
 use Rattle.price.specs.declared.Weighting.{Weighting}
 use Rattle.price.proofs.TestLaws.{either-way, le-or-lt}
 use Rattle.price.proofs.TimedLaws.{weighed-priced, weighed-timed, weighed-untimed, bound-least}
 use Rattle.search.specs.Block.{blockOf, graphOf}
 use Rattle.search.specs.Paths.{Fair}
-use Rattle.search.specs.Distance.{far, inTree}
-use Rattle.search.specs.Layout.{entryAt, HeapAt, Heap, SameBut}
+use Rattle.search.specs.Distance.{far}
+use Rattle.search.specs.Layout.{Queued}
 use Rattle.search.specs.Aimed.{weightAt}
-use Rattle.search.specs.Estimates.{weightMost, WeightReady, Beside, Queued, Guessed}
+use Rattle.search.specs.Estimates.{weightMost, WeightReady, Beside, Guessed}
 use Rattle.search.proofs.AimedLaws.{scale-timed, scale-untimed, weight-most, weight-fair}
 use Rattle.search.proofs.StoreLaws.{store-here, store-other}
+use Rattle.search.proofs.QueueLaws.{heap-aside}
 
 -- ---- a node's weight
 
@@ -79,19 +77,8 @@ module _ {ks : List ℕ} {w : Weighting} {v : ℕ} (r : WeightReady ks w) (h : v
       (λ (t : w .timed ≡ false). rw (scale-untimed w t, weighed-untimed w 0 (priceOf kind 0 0 1 1) t, alone-price kind) (omega arith))
       (either-way (w .timed))
 
-  told : weighedReply w kind 0 0 1 1 0 ≡ priced (weightAt (graphOf ks [] []) w v)
-  told = weighed-priced w kind 0 0 1 1 0 (alone-bounds kind w (r .kind-most v h) (r .criticality-most)) ∙ ap priced (sym weight-priced)
-
-  pub weight-told : {a : PriceAnswer} {p : ℕ} → a ≡ Price p → priceReplyOf a ≡ weighedReply w kind 0 0 1 1 0 → (p ≡ weightAt (graphOf ks [] []) w v) × (p ≤ weightMost)
-  weight-told {a} {p} is e =
-      let here : p ≡ weightAt (graphOf ks [] []) w v = ap (λ (x : PriceReply). x .price) (sym (ap priceReplyOf is) ∙ e ∙ told) in
-      (here, rw here (weights-light r v h))
-
-  pub weight-not-refused : {a : PriceAnswer} {place : ℕ} → a ≡ Refused place → priceReplyOf a ≡ weighedReply w kind 0 0 1 1 0 → ⊥
-  weight-not-refused {a} {place} is e =
-      let refusal : 13 ∷ place ∷ [] ≡ [] = ap (λ (x : PriceReply). x .refusal) (sym (ap priceReplyOf is) ∙ e ∙ told) in
-      let z : _≡_ {A = ℕ} 0 1 = cc in
-      omega arith
+  pub weight-reply : weighedReply w kind 0 0 1 1 0 ≡ priced (weightAt (graphOf ks [] []) w v)
+  weight-reply = weighed-priced w kind 0 0 1 1 0 (alone-bounds kind w (r .kind-most v h) (r .criticality-most)) ∙ ap priced (sym weight-priced)
 
 -- ---- places outside queue and estimates
 
@@ -120,27 +107,6 @@ capped-cases a c e =
     (λ (q : far < a + c). inr (e ∙ min-eq-right (omega arith)))
     (le-or-lt (a + c) far)
 
--- a store outside the queue leaves it right
-pub heap-beyond : (n : ℕ) (w : List ℕ) (j x : ℕ) → 3 * n ≤ j → Heap n w → Heap n (set w j x)
-heap-beyond n w j x l heap i p h =
-    let here : entryAt n (set w j x) i ≡ entryAt n w i = store-other w j x (n + i) (λ e. omega arith) in
-    let left : entryAt n (set w j x) (2 * i) ≡ entryAt n w (2 * i) = store-other w j x (n + 2 * i) (λ e. omega arith) in
-    let right : entryAt n (set w j x) (2 * i + 1) ≡ entryAt n w (2 * i + 1) = store-other w j x (n + (2 * i + 1)) (λ e. omega arith) in
-    let old : HeapAt n w i = heap i p h in
-    here ∙ old ∙ sym (rw (left, right))
-
-pub queued :
-    {n v key : ℕ} {w w′ : List ℕ} → v < n → 8 * n ≤ length w → Heap n w′ → SameBut (n + 1) (2 * n) (set w (2 * n + v) key) w′ → Queued n v key w w′
-queued {n} {v} {key} {w} {w′} h room heap same =
-    record {
-      long = same .long ∙ length-set w (2 * n + v) key;
-      heap = heap;
-      leaf-here = same .high (2 * n + v) (omega arith) ∙ store-here w (2 * n + v) key (omega arith);
-      leaf-other = λ x l e. same .high (2 * n + x) (omega arith) ∙ store-other w (2 * n + v) key (2 * n + x) (λ q. e (omega arith));
-      low = λ j l. same .low j (omega arith) ∙ store-other w (2 * n + v) key j (λ q. omega arith);
-      high = λ j l. same .high j (omega arith) ∙ store-other w (2 * n + v) key j (λ q. omega arith);
-    }
-
 pub guessed :
     {n : ℕ} {weight : ℕ → ℕ} {u guess cost own : ℕ} {w w′ : List ℕ} → u < n → 8 * n ≤ length w → own ≡ weight u → Queued n u (guess + own) w w′
     → Guessed n weight u guess cost w (set (set w′ (6 * n + u) guess) (7 * n + u) cost)
@@ -157,7 +123,7 @@ guessed {n} {weight} {u} {guess} {cost} {own} {w} {w′} h room is q =
             middle = λ j l m. else j (λ e. omega arith) (λ e. omega arith) ∙ q .high j l;
             beyond = λ j l. else j (λ e. omega arith) (λ e. omega arith) ∙ q .high j (omega arith);
           };
-      heap = heap-beyond n w₁ (7 * n + u) cost (omega arith) (heap-beyond n w′ (6 * n + u) guess (omega arith) (q .heap));
+      heap = heap-aside n w₁ (7 * n + u) cost (inr (omega arith)) (heap-aside n w′ (6 * n + u) guess (inr (omega arith)) (q .heap));
       guess-here =
           store-other w₁ (7 * n + u) cost (6 * n + u) (λ e. omega arith) ∙ store-here w′ (6 * n + u) guess (omega (arith, q .long));
       walk-here = store-here w₁ (7 * n + u) cost (omega arith);
@@ -166,12 +132,3 @@ guessed {n} {weight} {u} {guess} {cost} {own} {w} {w′} h room is q =
       walk-other = λ x l d. else (7 * n + x) (λ e. omega arith) (λ e. d (omega arith)) ∙ q .high (7 * n + x) (omega arith);
       leaf-other = λ x l d. else (2 * n + x) (λ e. omega arith) (λ e. omega arith) ∙ q .leaf-other x l d;
     }
-
--- a mark of 1
-pub marked-in : (marks : List ℕ) (u : ℕ) → getD marks u 0 ≡ 1 → inTree marks u ≡ true
-unfolding inTree
-marked-in marks u e = eq-eqb (getD marks u 0) 1 e
-
-pub unmarked-out : (marks : List ℕ) (u : ℕ) → (getD marks u 0 ≡ 1 → ⊥) → inTree marks u ≡ false
-unfolding inTree
-unmarked-out marks u e = ne-eqb (getD marks u 0) 1 e

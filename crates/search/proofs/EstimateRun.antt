@@ -27,15 +27,15 @@ use Rattle.search.specs.Block.{Block, graphOf, nodes, hasEdge}
 use Rattle.search.specs.Paths.{stay, step, pathCost, Fair}
 use Rattle.search.specs.Distance.{far, inTree}
 use Rattle.search.specs.Turn.{nearestDistance, openDistances}
-use Rattle.search.specs.Layout.{entryAt, leafAt, priceIn, Heap}
+use Rattle.search.specs.Layout.{entryAt, leafAt, priceIn, Heap, Queued}
 use Rattle.search.specs.Aimed.{estimate, weightAt}
-use Rattle.search.specs.Estimates.{guessAt, walkAt, weightMost, keyMost, Beside, Queued, Reguessed, kept, fresh, TreeGuessed, GuessedBefore, SinkWaits, SinksWait, SpreadReady, EstimatesMade}
+use Rattle.search.specs.Estimates.{guessAt, walkAt, weightMost, keyMost, Beside, NodeGuessed, guess-stays, guess-new, TreeGuessed, GuessedBefore, SinkWaits, SinksWait, SpreadReady, EstimatesMade}
 use Rattle.search.proofs.EdgeLaws.{Shaped, shape-of, edge-node}
 use Rattle.search.proofs.WalkLaws.{stay-cost, step-cost}
 use Rattle.search.proofs.QueueLaws.{same-or-not, heap-least}
 use Rattle.search.proofs.LevelLaws.{least-entry}
 use Rattle.search.proofs.AimedLaws.{est-most, walk-none}
-use Rattle.search.proofs.AimedExact.{Labelled, Backward, back-exact, back-above, back-bound}
+use Rattle.search.proofs.AimedExact.{LabelWalk, Backward, back-exact, back-above, back-bound}
 use Rattle.search.proofs.EstimateLaws.{capped-cases, weights-light, weights-fair, beside-none, beside-more, beside-queued}
 
 -- ---- a node
@@ -86,7 +86,7 @@ pub record Estimating (b : Block) (price weight : ℕ → ℕ) (marks sinks w : 
   pub heap : Heap (nodes b) w
   pub prices : (v : ℕ) → v < nodes b → priceIn (nodes b) w v ≡ price v
   pub goals : (s : ℕ) → s < nodes b → has s sinks ≡ true → inTree marks s ≡ false → guessAt (nodes b) w s ≡ 0
-  pub walks : (v : ℕ) → v < nodes b → guessAt (nodes b) w v < far → Labelled b price weight marks sinks v (guessAt (nodes b) w v) (walkAt (nodes b) w v)
+  pub walks : (v : ℕ) → v < nodes b → guessAt (nodes b) w v < far → LabelWalk b price weight marks sinks v (guessAt (nodes b) w v) (walkAt (nodes b) w v)
   pub few : (v : ℕ) → v < nodes b → guessAt (nodes b) w v < far → guessAt (nodes b) w v ≤ keyMost
   -- nodes get their estimates in the order of these
   pub below : (v : ℕ) → v < nodes b → guessAt (nodes b) w v < far → guessAt (nodes b) w v ≤ entryAt (nodes b) w 1
@@ -109,7 +109,7 @@ module _ {b : Block} {price weight : ℕ → ℕ} {marks sinks : List ℕ} (k : 
   -- ---- the start
 
   module _ {w : List ℕ} (prices : (v : ℕ) → v < nodes b → priceIn (nodes b) w v ≡ price v) (s : SinksWait (nodes b) weight marks sinks w (length sinks)) where
-    start-walk : (v : ℕ) → v < nodes b → SinkWaits (nodes b) weight marks sinks w v → Labelled b price weight marks sinks v (guessAt (nodes b) w v) (walkAt (nodes b) w v)
+    start-walk : (v : ℕ) → v < nodes b → SinkWaits (nodes b) weight marks sinks w v → LabelWalk b price weight marks sinks v (guessAt (nodes b) w v) (walkAt (nodes b) w v)
     start-walk v h q =
         record {
           path = v ∷ [];
@@ -236,13 +236,13 @@ module _ {b : Block} {price weight : ℕ → ℕ} {marks sinks : List ℕ} (k : 
           walk-same : walkAt (nodes b) w₁ x ≡ walkAt (nodes b) w x
           walk-same = taken .high (7 * nodes b + x) (omega arith)
 
-          moved-by : Reguessed b weight v level cost w₁ w₂ x → Moved b weight v level cost w w₂ x
-          moved-by (kept p q r) =
+          moved-by : NodeGuessed b weight v level cost w₁ w₂ x → Moved b weight v level cost w w₂ x
+          moved-by (guess-stays p q r) =
               ⊎-elim
               (λ (e : x ≡ v). left e (p ∙ guess-same) (q ∙ walk-same) (r ∙ subst (λ (y : ℕ). leafAt (nodes b) w₁ y ≡ far) (sym e) (taken .leaf-here)))
               (λ (d : x ≡ v → ⊥). still d (p ∙ guess-same) (q ∙ walk-same) (r ∙ taken .leaf-other x h d))
               (same-or-not x v)
-          moved-by (fresh p e q r t) = new (sym guess-same ∙ p) e q r t
+          moved-by (guess-new p e q r t) = new (sym guess-same ∙ p) e q r t
 
       guess-kept : (x : ℕ) → x < nodes b → guessAt (nodes b) w x < far → guessAt (nodes b) w₂ x ≡ guessAt (nodes b) w x
       guess-kept x h near = same (moved x h)
@@ -278,7 +278,7 @@ module _ {b : Block} {price weight : ℕ → ℕ} {marks sinks : List ℕ} (k : 
           most (new p e q r t) = omega arith
 
       -- v's walk with one edge in front
-      new-walk : (x : ℕ) → x < nodes b → hasEdge b x v ≡ true → Labelled b price weight marks sinks x level cost
+      new-walk : (x : ℕ) → x < nodes b → hasEdge b x v ≡ true → LabelWalk b price weight marks sinks x level cost
       new-walk x h e =
           let at = at-level in
           let l = s .walks v node (at .0) in
@@ -302,10 +302,10 @@ module _ {b : Block} {price weight : ℕ → ℕ} {marks sinks : List ℕ} (k : 
                 (capped-cases (walkAt (nodes b) w₁ v) (priceIn (nodes b) w₁ v) refl);
           }
 
-      walks-more : (x : ℕ) → x < nodes b → guessAt (nodes b) w₂ x < far → Labelled b price weight marks sinks x (guessAt (nodes b) w₂ x) (walkAt (nodes b) w₂ x)
+      walks-more : (x : ℕ) → x < nodes b → guessAt (nodes b) w₂ x < far → LabelWalk b price weight marks sinks x (guessAt (nodes b) w₂ x) (walkAt (nodes b) w₂ x)
       walks-more x h near = walk-by (moved x h)
         where
-          walk-by : Moved b weight v level cost w w₂ x → Labelled b price weight marks sinks x (guessAt (nodes b) w₂ x) (walkAt (nodes b) w₂ x)
+          walk-by : Moved b weight v level cost w w₂ x → LabelWalk b price weight marks sinks x (guessAt (nodes b) w₂ x) (walkAt (nodes b) w₂ x)
           walk-by (still d p q r) = rw (p, q) (s .walks x h (rw p at near))
           walk-by (left e p q r) = rw (p, q) (s .walks x h (rw p at near))
           walk-by (new p e q r t) = rw (q, r) (new-walk x h e)
@@ -422,12 +422,8 @@ module _ {b : Block} {price weight : ℕ → ℕ} {marks sinks : List ℕ} (k : 
         → EstimatesMade b price weight marks sinks w₀ w
     ended most within known =
         let s = run .holds in
-        let same = run .same in
         record {
-          long = same .long;
-          low = same .low;
-          middle = same .middle;
-          beyond = same .beyond;
+          same = run .same;
           estimated =
               record {
                 bound = most;

@@ -20,9 +20,10 @@ use Rattle.search.specs.Distance.{far, inTree}
 use Rattle.search.specs.Layout.{entryAt, leafAt}
 use Rattle.search.specs.Aimed.{weightAt}
 use Rattle.search.specs.Estimates.{guessAt, Beside, Guessed, Unguessed, SinkWaits, SinksWait, EstimateReady, SpreadReady, EstimatesMade}
+use Rattle.search.proofs.DistanceLaws.{out-of-tree, in-the-tree}
 use Rattle.search.proofs.StoreLaws.{store-here, store-other}
 use Rattle.search.proofs.QueueLaws.{same-or-not}
-use Rattle.search.proofs.EstimateLaws.{beside-none, beside-more, marked-in, unmarked-out}
+use Rattle.search.proofs.EstimateLaws.{beside-none, beside-more}
 
 -- ---- no estimates
 
@@ -139,7 +140,7 @@ module _ {n : ℕ} {weight : ℕ → ℕ} {marks sinks : List ℕ} {w : List ℕ
         each = s .each;
         goals = λ j l o.
             ⊎-elim
-            (λ (e : j ≡ i). let z : inTree marks (getD sinks i 0) ≡ false = rw e at o in absurd (true≢false (sym (marked-in marks _ joined) ∙ z)))
+            (λ (e : j ≡ i). let z : inTree marks (getD sinks i 0) ≡ false = rw e at o in absurd (true≢false (sym (in-the-tree marks _ joined) ∙ z)))
             (λ (d : j ≡ i → ⊥). s .goals j (omega arith) o)
             (same-or-not j i);
       }
@@ -165,7 +166,7 @@ module _ {n : ℕ} {weight : ℕ → ℕ} {marks sinks : List ℕ} {w : List ℕ
     sink-here =
         record {
           listed = has-at sinks i h;
-          out = unmarked-out marks (getD sinks i 0) out;
+          out = out-of-tree marks (getD sinks i 0) out;
           guess-here = t .guess-here;
           walk-here = t .walk-here;
           leaf-here = omega (arith, t .leaf-here);
@@ -227,6 +228,4 @@ module _ {kinds : List ℕ} {weighting : Weighting} {last earlier from marks sin
   pub made-all :
       {firsts targets : List ℕ} {price weight : ℕ → ℕ} {w₃ : List ℕ} → EstimatesMade (graphOf kinds firsts targets) price weight marks sinks w₂ w₃
       → EstimatesMade (graphOf kinds firsts targets) price weight marks sinks w w₃
-  made-all {w₃ = w₃} m =
-      let same : Beside (length kinds) w w₃ = beside-more same-start (record { long = m .long; low = m .low; middle = m .middle; beyond = m .beyond }) in
-      record { long = same .long; low = same .low; middle = same .middle; beyond = same .beyond; estimated = m .estimated }
+  made-all m = record { same = beside-more same-start (m .same); estimated = m .estimated }

@@ -1,6 +1,6 @@
 -- Steps of the estimates: the nodes before a node get theirs, edge by edge.
---     reguess-none, reguess-more    no edge has been looked at, one more has
---     Following                     the loop that follows the places of v, with its steps and its end
+--     some-guessed-none, some-guessed-more    no edge has been looked at, one more has
+--     FollowingLinks, links-..                the loop that follows the places of v, with its steps and its end
 -- Assumes nothing.
 use mathlib.Core.Bool.{true}
 use mathlib.Core.List.{List}
@@ -15,7 +15,7 @@ use Rattle.search.specs.Tables.{Graph}
 use Rattle.search.specs.Distance.{far, inTree}
 use Rattle.search.specs.Layout.{Heap}
 use Rattle.search.specs.Links.{InRow, Linked}
-use Rattle.search.specs.Estimates.{keyMost, guessAt, Guessed, Tried, has-one, gets-one, Reguessed, kept, fresh, TreeGuessed, Reguessing, GuessedBefore}
+use Rattle.search.specs.Estimates.{keyMost, guessAt, Guessed, Tried, has-one, gets-one, NodeGuessed, guess-stays, guess-new, TreeGuessed, SomeGuessed, GuessedBefore}
 use Rattle.search.proofs.BlockLaws.{edge-from, edge-place}
 use Rattle.search.proofs.QueueLaws.{same-or-not}
 use Rattle.search.proofs.EstimateLaws.{beside-none, beside-more}
@@ -39,16 +39,16 @@ module _ {n : ℕ} {weight : ℕ → ℕ} {marks : List ℕ} {u guess cost : ℕ
 
 module _ {b : Block} {weight : ℕ → ℕ} {v guess cost : ℕ} {w w′ : List ℕ} where
   -- a node that has no estimate yet had none before
-  was-blank : {u : ℕ} → Reguessed b weight v guess cost w w′ u → guessAt (nodes b) w′ u ≡ far → guessAt (nodes b) w u ≡ far
-  was-blank (kept p q r) e = sym p ∙ e
-  was-blank (fresh p q r s t) e = p
+  was-blank : {u : ℕ} → NodeGuessed b weight v guess cost w w′ u → guessAt (nodes b) w′ u ≡ far → guessAt (nodes b) w u ≡ far
+  was-blank (guess-stays p q r) e = sym p ∙ e
+  was-blank (guess-new p q r s t) e = p
 
   -- a node that the last step left alone
   still :
-      {w″ : List ℕ} {u x : ℕ} → x < nodes b → (x ≡ u → ⊥) → Guessed (nodes b) weight u guess cost w′ w″ → Reguessed b weight v guess cost w w′ x
-      → Reguessed b weight v guess cost w w″ x
-  still {w″} {u} {x} h d s (kept p q r) = kept (s .guess-other x h d ∙ p) (s .walk-other x h d ∙ q) (s .leaf-other x h d ∙ r)
-  still {w″} {u} {x} h d s (fresh p e q r t) = fresh p e (s .guess-other x h d ∙ q) (s .walk-other x h d ∙ r) (s .leaf-other x h d ∙ t)
+      {w″ : List ℕ} {u x : ℕ} → x < nodes b → (x ≡ u → ⊥) → Guessed (nodes b) weight u guess cost w′ w″ → NodeGuessed b weight v guess cost w w′ x
+      → NodeGuessed b weight v guess cost w w″ x
+  still {w″} {u} {x} h d s (guess-stays p q r) = guess-stays (s .guess-other x h d ∙ p) (s .walk-other x h d ∙ q) (s .leaf-other x h d ∙ r)
+  still {w″} {u} {x} h d s (guess-new p e q r t) = guess-new p e (s .guess-other x h d ∙ q) (s .walk-other x h d ∙ r) (s .leaf-other x h d ∙ t)
 
 -- the tree node that gave the bound keeps its estimate
 tree-still :
@@ -68,28 +68,28 @@ tree-still {n} {u = u} {w′ = w′} blank t g =
 -- ---- the nodes with an edge to v
 
 module _ {b : Block} {weight : ℕ → ℕ} {marks : List ℕ} {v guess cost : ℕ} where
-  pub reguess-none : {w : List ℕ} {bound : ℕ} → Heap (nodes b) w → Reguessing b weight marks v guess cost w w bound bound
-  reguess-none heap =
+  pub some-guessed-none : {w : List ℕ} {bound : ℕ} → Heap (nodes b) w → SomeGuessed b weight marks v guess cost w w bound bound
+  some-guessed-none heap =
       record {
         same = beside-none _ _;
         heap = heap;
-        each = λ u h. kept refl refl refl;
+        each = λ u h. guess-stays refl refl refl;
         bounds = inl refl;
       }
 
   -- one more edge to v
-  pub reguess-more :
-      {w w′ w″ : List ℕ} {bound bound₁ bound₂ u : ℕ} → guess < far → Reguessing b weight marks v guess cost w w′ bound bound₁ → u < nodes b → hasEdge b u v ≡ true
-      → Tried (nodes b) weight marks u guess cost w′ w″ bound₁ bound₂ → Reguessing b weight marks v guess cost w w″ bound bound₂
-  reguess-more small s h e (has-one some same same-bound) = rw (same, same-bound) s
-  reguess-more {w} {w′} {w″} {bound} {bound₁} {bound₂} {u} small s h e (gets-one blank t bounds) =
+  pub some-guessed-more :
+      {w w′ w″ : List ℕ} {bound bound₁ bound₂ u : ℕ} → guess < far → SomeGuessed b weight marks v guess cost w w′ bound bound₁ → u < nodes b → hasEdge b u v ≡ true
+      → Tried (nodes b) weight marks u guess cost w′ w″ bound₁ bound₂ → SomeGuessed b weight marks v guess cost w w″ bound bound₂
+  some-guessed-more small s h e (has-one some same same-bound) = rw (same, same-bound) s
+  some-guessed-more {w} {w′} {w″} {bound} {bound₁} {bound₂} {u} small s h e (gets-one blank t bounds) =
       let old : guessAt (nodes b) w u ≡ far = was-blank (s .each u h) blank in
       record {
         same = beside-more (s .same) (t .same);
         heap = t .heap;
         each = λ x l.
             ⊎-elim
-            (λ (q : x ≡ u). rw q (fresh old e (t .guess-here) (t .walk-here) (t .leaf-here)))
+            (λ (q : x ≡ u). rw q (guess-new old e (t .guess-here) (t .walk-here) (t .leaf-here)))
             (λ (d : x ≡ u → ⊥). still l d t (s .each x l))
             (same-or-not x u);
         bounds =
@@ -107,29 +107,29 @@ module _ {b : Block} {weight : ℕ → ℕ} {marks : List ℕ} {v guess cost : �
 -- ---- the places of v, the last first
 
 -- those from k on have been passed: the nodes in whose rows they stand have an estimate. Place k − 1 comes next, none where k is 0
-pub record Following (b : Block) (from : List ℕ) (v : ℕ) (w : List ℕ) (k : ℕ) : Type 0 where
+pub record FollowingLinks (b : Block) (from : List ℕ) (v : ℕ) (w : List ℕ) (k : ℕ) : Type 0 where
   pub most : k ≤ length (b .edgeTargets)
   pub here : 0 < k → getD (b .edgeTargets) (k - 1) 0 ≡ v
   pub passed : (j : ℕ) → k ≤ j → j < length (b .edgeTargets) → getD (b .edgeTargets) j 0 ≡ v → guessAt (nodes b) w (getD from j 0) ≡ far → ⊥
 
 module _ {b : Block} (g : Graph b) {last earlier from : List ℕ} (links : Linked b (length (b .edgeTargets)) last earlier from) {v : ℕ} where
-  pub follow-none : (w : List ℕ) → v < nodes b → Following b from v w (getD last v 0)
-  follow-none w h =
+  pub links-none : (w : List ℕ) → v < nodes b → FollowingLinks b from v w (getD last v 0)
+  links-none w h =
       let n = last-next b g links v h in
       record { most = n .most; here = n .here; passed = λ j l m e. absurd (n .none j l m e) }
 
   -- the node in whose row the next place stands
-  pub follow-node :
-      {w : List ℕ} {k : ℕ} → 0 < k → Following b from v w k → (k - 1 < length (b .edgeTargets)) × (getD from (k - 1) 0 < nodes b) × (hasEdge b (getD from (k - 1) 0) v ≡ true)
-  follow-node {w} {k} p s =
+  pub links-node :
+      {w : List ℕ} {k : ℕ} → 0 < k → FollowingLinks b from v w k → (k - 1 < length (b .edgeTargets)) × (getD from (k - 1) 0 < nodes b) × (hasEdge b (getD from (k - 1) 0) v ≡ true)
+  links-node {w} {k} p s =
       let l : k - 1 < length (b .edgeTargets) = omega (arith, s .most) in
       let f = from-linked b g links v (k - 1) l (s .here p) in
       (l, f .0, f .1)
 
-  pub follow-more :
-      {weight : ℕ → ℕ} {marks w w′ : List ℕ} {k guess cost bound bound′ : ℕ} → guess < far → 0 < k → Following b from v w k
-      → Tried (nodes b) weight marks (getD from (k - 1) 0) guess cost w w′ bound bound′ → Following b from v w′ (getD earlier (k - 1) 0)
-  follow-more {weight} {marks} {w} {w′} {k} {guess} {cost} {bound} {bound′} small p s t =
+  pub links-more :
+      {weight : ℕ → ℕ} {marks w w′ : List ℕ} {k guess cost bound bound′ : ℕ} → guess < far → 0 < k → FollowingLinks b from v w k
+      → Tried (nodes b) weight marks (getD from (k - 1) 0) guess cost w w′ bound bound′ → FollowingLinks b from v w′ (getD earlier (k - 1) 0)
+  links-more {weight} {marks} {w} {w′} {k} {guess} {cost} {bound} {bound′} small p s t =
       let l : k - 1 < length (b .edgeTargets) = omega (arith, s .most) in
       let n = earlier-next b g links v (k - 1) l (s .here p) in
       record {
@@ -147,14 +147,14 @@ module _ {b : Block} (g : Graph b) {last earlier from : List ℕ} (links : Linke
       }
 
   -- the next place is lower
-  pub follow-falls : {w : List ℕ} {k : ℕ} → 0 < k → Following b from v w k → getD earlier (k - 1) 0 < k
-  follow-falls {w} {k} p s =
+  pub links-falls : {w : List ℕ} {k : ℕ} → 0 < k → FollowingLinks b from v w k → getD earlier (k - 1) 0 < k
+  links-falls {w} {k} p s =
       let l : k - 1 < length (b .edgeTargets) = omega (arith, s .most) in
       omega (arith, earlier-next b g links v (k - 1) l (s .here p) .most)
 
   -- at the end every node with an edge to v has one
-  pub follow-all : {w : List ℕ} {k : ℕ} → k ≤ 0 → Following b from v w k → (u : ℕ) → hasEdge b u v ≡ true → guessAt (nodes b) w u ≡ far → ⊥
-  follow-all {w} {k} z s u e =
+  pub links-all : {w : List ℕ} {k : ℕ} → k ≤ 0 → FollowingLinks b from v w k → (u : ℕ) → hasEdge b u v ≡ true → guessAt (nodes b) w u ≡ far → ⊥
+  links-all {w} {k} z s u e =
       let h : u < nodes b = edge-from b g u v e in
       let p = edge-place b g u v h e in
       let r : InRow b u (p .0) = record { node = h; from = p .1; below = p .2 } in
@@ -162,11 +162,11 @@ module _ {b : Block} (g : Graph b) {last earlier from : List ℕ} (links : Linke
       let same : getD from (p .0) 0 ≡ u = row-unique b g (links .from-row (p .0) l) r in
       rw same at (s .passed (p .0) (omega arith) l (p .3))
 
-  pub follow-end :
-      {weight : ℕ → ℕ} {marks w w′ : List ℕ} {guess cost cost′ bound bound′ k : ℕ} → cost ≡ cost′ → k ≤ 0 → Reguessing b weight marks v guess cost w w′ bound bound′
-      → Following b from v w′ k → GuessedBefore b weight marks v guess cost′ w w′ bound bound′
-  follow-end {weight} {marks} {w} {w′} {guess} {cost} {cost′} {bound} {bound′} e z s f =
-      subst (λ (x : ℕ). GuessedBefore b weight marks v guess x w w′ bound bound′) e (record { some = s; all = follow-all z f })
+  pub links-end :
+      {weight : ℕ → ℕ} {marks w w′ : List ℕ} {guess cost cost′ bound bound′ k : ℕ} → cost ≡ cost′ → k ≤ 0 → SomeGuessed b weight marks v guess cost w w′ bound bound′
+      → FollowingLinks b from v w′ k → GuessedBefore b weight marks v guess cost′ w w′ bound bound′
+  links-end {weight} {marks} {w} {w′} {guess} {cost} {cost′} {bound} {bound′} e z s f =
+      subst (λ (x : ℕ). GuessedBefore b weight marks v guess x w w′ bound bound′) e (record { some = s; all = links-all z f })
 
 -- an estimate with its node's weight is below `far`
 pub key-small : {key : ℕ} → key ≤ keyMost → key < far

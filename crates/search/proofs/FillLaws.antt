@@ -15,18 +15,19 @@ use native.Mathlib.Omega.{arith}
 use lib.ListN.{length, getD, set, take, drop, replicate, length-append, length-take, length-drop, length-set, length-replicate, getD-replicate, replicate-append-replicate, take-append-drop, List·getD-append}
 use lib.Seq.{length-take-le, drop-cons, getD-append-add, getD-set-same, getD-set-other, getD-take, getD-drop, set-at}
 use borrow.Author.Count.{below-more}
-use borrow.Author.Tests.{eq-eqb, ne-eqb}
 use Rattle.price.specs.Test.{choose}
-use Rattle.price.specs.Replies.{PriceReply, priced, priceReplyOf}
+use Rattle.price.specs.Replies.{priced, priceReplyOf}
 use Rattle.price.specs.Timed.{weighedReply}
 use Rattle.price.specs.declared.PriceAnswer.{PriceAnswer}
 use Rattle.price.specs.declared.PriceAnswer.the-variants.{Price, Refused}
+use Rattle.price.proofs.ReplyLaws.{answer-priced, answer-not-refused}
 use Rattle.price.proofs.TimedLaws.{reply-delay, weighed-priced}
 use Rattle.search.specs.Block.{blockOf}
 use Rattle.search.specs.Turn.{Congestion, congestedAt, priceAt}
 use Rattle.search.specs.Frontier.{PriceReady}
 use Rattle.search.specs.Distance.{far, inTree}
 use Rattle.search.specs.Layout.{distAt, leafAt, priceIn, SameBut, Started, Priced}
+use Rattle.search.proofs.DistanceLaws.{out-of-tree, in-the-tree}
 use Rattle.search.proofs.StoreLaws.{same-none, same-store}
 
 -- ---- a part that is being cleared
@@ -99,25 +100,20 @@ module _ {kinds capacities : List ℕ} {c : Congestion} {v : ℕ} (ready : Price
       {r : PriceAnswer} {p : ℕ} → r ≡ Price p
       → priceReplyOf r ≡ weighedReply (c .weighting) (getD kinds v 0) (c .factor) (getD (c .others) v 0) (getD capacities v 0) (getD (c .histories) v 0) d
       → p ≡ priceAt (blockOf kinds capacities [] []) c v
-  answered-price q e = ap (λ (x : PriceReply). x .price) (sym (ap priceReplyOf q) ∙ e ∙ reply)
+  answered-price q e = answer-priced (e ∙ reply) q
 
   pub answered-refused :
       {r : PriceAnswer} {place : ℕ} → r ≡ Refused place
       → priceReplyOf r ≡ weighedReply (c .weighting) (getD kinds v 0) (c .factor) (getD (c .others) v 0) (getD capacities v 0) (getD (c .histories) v 0) d → ⊥
-  answered-refused {r} {place} q e =
-      let refusal : 13 ∷ place ∷ [] ≡ [] = ap (λ (x : PriceReply). x .refusal) (sym (ap priceReplyOf q) ∙ e ∙ reply) in
-      let z : _≡_ {A = ℕ} 0 1 = cc in
-      omega arith
+  answered-refused q e = answer-not-refused (e ∙ reply) q
 
 -- ---- the first distance of a node
 
 pub first-tree : (marks : List ℕ) (v : ℕ) {d : ℕ} → getD marks v 0 ≡ 1 → d ≡ 0 → d ≡ choose (inTree marks v) 0 far
-unfolding inTree
-first-tree marks v m e = rw (eq-eqb (getD marks v 0) 1 m) e
+first-tree marks v m e = rw (in-the-tree marks v m) e
 
 pub first-other : (marks : List ℕ) (v : ℕ) {d : ℕ} → (getD marks v 0 ≡ 1 → ⊥) → d ≡ far → d ≡ choose (inTree marks v) 0 far
-unfolding inTree
-first-other marks v m e = rw (ne-eqb (getD marks v 0) 1 m) e
+first-other marks v m e = rw (out-of-tree marks v m) e
 
 -- ---- the loops that fill a part, a node a turn
 

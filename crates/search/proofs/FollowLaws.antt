@@ -13,13 +13,14 @@ use native.Mathlib.Omega.{arith}
 use lib.Dec.{leb}
 use lib.ListN.{length, getD, set, take, drop, length-set}
 use lib.Seq.{getD-set-same, drop-set-lt, take-set-lt, slice, slice-cons, slice-empty, length-slice}
-use borrow.Author.Tests.{eq-eqb, ne-eqb, le-leb, lt-leb, leb-true}
+use borrow.Author.Tests.{le-leb, lt-leb, leb-true}
 use Rattle.price.specs.Test.{choose}
 use Rattle.price.proofs.TestLaws.{either-way}
 use Rattle.search.specs.Distance.{inTree}
 use Rattle.search.specs.Layout.{SameBut}
 use Rattle.search.specs.Labels.{labelAt, fromAt}
 use Rattle.search.specs.TurnWork.{trail, Leads, pathIn}
+use Rattle.search.proofs.DistanceLaws.{out-of-tree, in-the-tree}
 use Rattle.search.proofs.StoreLaws.{same-none, same-store}
 
 -- ---- the path that predecessors have
@@ -57,15 +58,6 @@ module _ (n : ℕ) (marks w : List ℕ) where
       (λ (q : inTree marks v ≡ true). rw q)
       (λ (q : inTree marks v ≡ false). absurd (omega (arith, trail-least k (fromAt n w v) (v ∷ path), rw q at e)))
       (either-way (inTree marks v))
-
--- a node is in the tree where its mark is 1
-pub out-of-tree : (marks : List ℕ) (v : ℕ) → (getD marks v 0 ≡ 1 → ⊥) → inTree marks v ≡ false
-unfolding inTree
-out-of-tree marks v e = ne-eqb (getD marks v 0) 1 e
-
-pub in-the-tree : (marks : List ℕ) (v : ℕ) → getD marks v 0 ≡ 1 → inTree marks v ≡ true
-unfolding inTree
-in-the-tree marks v e = eq-eqb (getD marks v 0) 1 e
 
 -- v is the next node of the path to the sink, after which the nodes `built` come
 pub record OnTrail (n : ℕ) (marks w : List ℕ) (sink v : ℕ) (built : List ℕ) : Type 0 where

@@ -12,7 +12,7 @@ use Rattle.price.proofs.TestLaws.{either-way}
 use Rattle.search.specs.Block.{Block, nodes, rowStart}
 use Rattle.search.specs.Tables.{Graph}
 use Rattle.search.specs.Distance.{far, inTree}
-use Rattle.search.specs.Layout.{distAt, entryAt, leafAt, priceIn, predAt, Heap, TakenOut}
+use Rattle.search.specs.Layout.{distAt, entryAt, leafAt, priceIn, predAt, Heap, Queued}
 use Rattle.search.specs.Frontier.{Open, Settled, Seen, Reached, Frontier, Waiting}
 use Rattle.search.proofs.BlockLaws.{target-node}
 use Rattle.search.proofs.QueueLaws.{same-or-not, heap-least}
@@ -59,7 +59,7 @@ module _ (b : Block) (price : ℕ → ℕ) (marks w : List ℕ)
 
 module _ (b : Block) (g : Graph b) (price : ℕ → ℕ) (marks w w′ : List ℕ) (u : ℕ) (node : u < nodes b)
     (f : Waiting b price marks w) (nearest : leafAt (nodes b) w u ≡ entryAt (nodes b) w 1) (near : entryAt (nodes b) w 1 < far)
-    (t : TakenOut (nodes b) u w w′) where
+    (t : Queued (nodes b) u far w w′) where
   was-open : Open (nodes b) w u
   was-open =
       ⊎-elim (λ o. o) (λ (s : Settled (nodes b) w u). absurd (let l = s .left in omega arith)) (f .sides u node)
@@ -69,7 +69,7 @@ module _ (b : Block) (g : Graph b) (price : ℕ → ℕ) (marks w w′ : List �
 
   pub now-settled : Settled (nodes b) w′ u
   now-settled =
-      record { node = node; left = t .leaf-here; near = let e = t .dist-same u node in let a = at-level in omega arith }
+      record { node = node; left = t .leaf-here; near = let e = t .low u node in let a = at-level in omega arith }
 
   pub still-settled : (v : ℕ) → Settled (nodes b) w v → Settled (nodes b) w′ v
   still-settled v s =
@@ -79,7 +79,7 @@ module _ (b : Block) (g : Graph b) (price : ℕ → ℕ) (marks w w′ : List �
       record {
         node = s .node;
         left = t .leaf-other v (s .node) ne ∙ s .left;
-        near = let e = t .dist-same v (s .node) in let l = s .near in omega arith;
+        near = let e = t .low v (s .node) in let l = s .near in omega arith;
       })
       (same-or-not v u)
 
@@ -88,7 +88,7 @@ module _ (b : Block) (g : Graph b) (price : ℕ → ℕ) (marks w w′ : List �
       record {
         node = s .node;
         left = sym (t .leaf-other v (s .node) ne) ∙ s .left;
-        near = let e = t .dist-same v (s .node) in let l = s .near in omega arith;
+        near = let e = t .low v (s .node) in let l = s .near in omega arith;
       }
 
   -- nothing of u's row has been looked at
@@ -105,14 +105,14 @@ module _ (b : Block) (g : Graph b) (price : ℕ → ℕ) (marks w w′ : List �
         long = let l = t .long in let o = f .long in omega arith;
         heap = t .heap;
         prices = λ v h. t .high (3 * nodes b + v) (omega arith) ∙ f .prices v h;
-        bounded = λ v h. let e = t .dist-same v h in let o = f .bounded v h in omega arith;
-        tree = λ v h m. t .dist-same v h ∙ f .tree v h m;
+        bounded = λ v h. let e = t .low v h in let o = f .bounded v h in omega arith;
+        tree = λ v h m. t .low v h ∙ f .tree v h m;
         sides = λ v h.
             ⊎-elim
             (λ (e : v ≡ u). inr (subst (Settled (nodes b) w′) (sym e) now-settled))
             (λ (ne : v ≡ u → ⊥).
             ⊎-elim
-            (λ (o : Open (nodes b) w v). inl (t .leaf-other v h ne ∙ o ∙ sym (t .dist-same v h)))
+            (λ (o : Open (nodes b) w v). inl (t .leaf-other v h ne ∙ o ∙ sym (t .low v h)))
             (λ (s : Settled (nodes b) w v). inr (still-settled v s))
             (f .sides v h))
             (same-or-not v u);
@@ -121,8 +121,8 @@ module _ (b : Block) (g : Graph b) (price : ℕ → ℕ) (marks w w′ : List �
             (λ (e : v ≡ u). subst (λ (x : ℕ). distAt w′ x ≤ distAt w′ u) (sym e) (omega arith))
             (λ (ne : v ≡ u → ⊥).
             let o = f .settled-below v (others-settled v s ne) in
-            let e = t .dist-same v (s .node) in
-            let d = t .dist-same u node in
+            let e = t .low v (s .node) in
+            let d = t .low u node in
             let a = at-level in
             omega arith)
             (same-or-not v u);
@@ -134,10 +134,10 @@ module _ (b : Block) (g : Graph b) (price : ℕ → ℕ) (marks w w′ : List �
             let n = now-settled .near in
             absurd (omega arith))
             (λ (ne : v ≡ u → ⊥).
-            let o′ : Open (nodes b) w v = sym (t .leaf-other v h ne) ∙ o ∙ t .dist-same v h in
+            let o′ : Open (nodes b) w v = sym (t .leaf-other v h ne) ∙ o ∙ t .low v h in
             let above = f .open-above v h o′ in
-            let e = t .dist-same v h in
-            let d = t .dist-same u node in
+            let e = t .low v h in
+            let d = t .low u node in
             let a = at-level in
             omega arith)
             (same-or-not v u);
@@ -145,14 +145,14 @@ module _ (b : Block) (g : Graph b) (price : ℕ → ℕ) (marks w w′ : List �
             let ne = unseen v k n in
             let x = getD (b .edgeTargets) k 0 in
             let o : distAt w x ≤ distAt w v + price x = f .relaxed v k (others-settled v s ne) (seen-before v k s n) in
-            let e = t .dist-same x (target-node b g v k (s .node) (n .from) (n .below)) in
-            let d = t .dist-same v (s .node) in
+            let e = t .low x (target-node b g v k (s .node) (n .from) (n .below)) in
+            let d = t .low v (s .node) in
             omega arith;
         reached = λ v h m l.
-            let r = f .reached v h m (let e = t .dist-same v h in omega arith) in
+            let r = f .reached v h m (let e = t .low v h in omega arith) in
             moved v h r (t .high (4 * nodes b + v) (omega arith));
         lowest = λ v k x h m l s n e d.
-            let same = t .dist-same x h in
+            let same = t .low x h in
             let o = f .lowest v k x h m (omega arith) (others-settled v s (unseen v k n)) (seen-before v k s n) e (same-sum x v h (s .node) d) in
             let p : predAt (nodes b) w′ x ≡ predAt (nodes b) w x = t .high (4 * nodes b + x) (omega arith) in
             omega arith;
@@ -163,11 +163,11 @@ module _ (b : Block) (g : Graph b) (price : ℕ → ℕ) (marks w w′ : List �
           record {
             pred-settled = rw p (still-settled (predAt (nodes b) w v) (r .pred-settled));
             pred-edge = rw p (r .pred-edge);
-            sum = rw p (t .dist-same v h ∙ r .sum ∙ ap (λ (d : ℕ). d + price v) (sym (t .dist-same (predAt (nodes b) w v) (r .pred-settled .node))));
+            sum = rw p (t .low v h ∙ r .sum ∙ ap (λ (d : ℕ). d + price v) (sym (t .low (predAt (nodes b) w v) (r .pred-settled .node))));
           }
 
       same-sum : (x v : ℕ) → x < nodes b → v < nodes b → distAt w′ x ≡ distAt w′ v + price x → distAt w x ≡ distAt w v + price x
-      same-sum x v hx hv d = sym (t .dist-same x hx) ∙ d ∙ ap (λ (y : ℕ). y + price x) (t .dist-same v hv)
+      same-sum x v hx hv d = sym (t .low x hx) ∙ d ∙ ap (λ (y : ℕ). y + price x) (t .low v hv)
 
 -- ---- the row's end
 

@@ -8,7 +8,7 @@ use Prim.Native.Nat.{ℕ, _+_, _-_, _*_, _≤_, _<_}
 use native.Mathlib.Nat.{le-antisymm}
 use native.Mathlib.Omega.{arith}
 use lib.ListN.{length, getD, take, drop, replicate, List·getD-eq-default}
-use Rattle.price.proofs.TestLaws.{either-way, le-or-lt}
+use Rattle.price.proofs.TestLaws.{le-or-lt, never-true}
 use Rattle.search.specs.Block.{Block, nodes}
 use Rattle.search.specs.Distance.{far, inTree, distances, distance}
 use Rattle.search.specs.Turn.{joins, stuck, pathTo, turn}
@@ -110,10 +110,7 @@ module _ {b : Block} {price : ℕ → ℕ} {marks sinks w₀ w : List ℕ} {best
     open-at j l h e = (
       l,
       h,
-      ⊎-elim
-          (λ (t : inTree marks (getD sinks j 0) ≡ true). absurd (let z = s .zero-in (getD sinks j 0) h t in let p = pos in omega arith))
-          (λ t. t)
-          (either-way (inTree marks (getD sinks j 0))),
+      never-true (inTree marks (getD sinks j 0)) (λ t. let z = s .zero-in (getD sinks j 0) h t in let p = pos in omega arith),
     )
 
     -- its label is its distance, and predecessors lead from it to the tree by the turn's path

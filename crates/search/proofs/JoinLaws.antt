@@ -11,7 +11,7 @@ use lib.Dec.{leb, eqb}
 use lib.ListN.{length, getD, take, drop, replicate}
 use borrow.Author.Tests.{leb-true, eqb-true, le-leb}
 use Rattle.price.specs.Bounds.{nodesMost, timedNodesMost}
-use Rattle.price.proofs.TestLaws.{either-way, true≢false, both-left, both-right}
+use Rattle.price.proofs.TestLaws.{either-way, true≢false, both-left, both-right, never-true}
 use Rattle.price.proofs.BelowLaws.{count-same}
 use Rattle.price.proofs.ListLaws.{drop-same}
 use Rattle.search.specs.Block.{Block, nodes, blockOf, graphOf}
@@ -22,7 +22,7 @@ use Rattle.search.specs.Turn.{Congestion, turn}
 use Rattle.search.specs.Clamped.{clampedPrice, Lent}
 use Rattle.search.specs.Replies.{workNeeded, timedFitting, fittingLengths, lengthsFitting, fitting, turnReply, pathReplyOf}
 use Rattle.search.specs.Labels.{goal, labelAt, waitAt, keyAt, besideAt}
-use Rattle.search.specs.Spread.{bare, bareCount, Spread, RunReady, Ran}
+use Rattle.search.specs.Spread.{bare, bareCount, Spread, RunReady, SpreadStopped}
 use Rattle.search.specs.TurnWork.{Fitted, TreeMarked, GoalsMarked, LeastGoal, Read}
 use Rattle.search.specs.declared.PathAnswer.{PathAnswer}
 use Rattle.search.specs.declared.PathAnswer.the-variants.{Stuck}
@@ -115,10 +115,7 @@ module _ {n : ℕ} {marks sinks w₀ w₁ w₂ : List ℕ} {count : ℕ} (t : Tr
   goal-listed : (v : ℕ) → v < n → labelAt w₂ v ≡ goal → (j : ℕ) × OpenAt n marks sinks j × (getD sinks j 0 ≡ v)
   goal-listed v h e =
       let out : inTree marks v ≡ false =
-      ⊎-elim
-      (λ (m : inTree marks v ≡ true). absurd (let z = marked-in v h m in omega arith))
-      (λ m. m)
-      (either-way (inTree marks v)) in
+      never-true (inTree marks v) (λ m. let z = marked-in v h m in omega arith) in
       let f = marked-out v h out in
       ⊎-elim
       (λ (q : labelAt w₂ v ≡ labelAt w₁ v). absurd (omega arith))
@@ -194,7 +191,7 @@ module _ (ks cs fs ts : List ℕ) (c : Congestion) {marks sinks w₀ w₁ w₂ :
     small = m .most;
   }
 
-  pub join-halts : {w₃ : List ℕ} {best : ℕ} → Ran (graphOf ks fs ts) (clampedPrice ks cs c) step w₂ w₃ best → Halted (graphOf ks fs ts) (clampedPrice ks cs c) marks sinks w₀ w₃ best
+  pub join-halts : {w₃ : List ℕ} {best : ℕ} → SpreadStopped (graphOf ks fs ts) (clampedPrice ks cs c) step w₂ w₃ best → Halted (graphOf ks fs ts) (clampedPrice ks cs c) marks sinks w₀ w₃ best
   join-halts {w₃} {best} r = record {
     shaped = record { few = f .few; firsts-long = f .firsts-long };
     fair = join-fair;
@@ -232,7 +229,7 @@ module _ (ks cs fs ts : List ℕ) {c : Congestion} {marks sinks w₀ w₁ : List
     pub goals-room : length ks ≤ length w₂
     goals-room = let r = tree-room in let l = g .same .long in omega arith
 
-    pub run-room : {b : Block} {price : ℕ → ℕ} {step best : ℕ} {w₃ : List ℕ} → Ran b price step w₂ w₃ best → (0 ≤ 3 * length ks) × (3 * length ks ≤ length w₃)
+    pub run-room : {b : Block} {price : ℕ → ℕ} {step best : ℕ} {w₃ : List ℕ} → SpreadStopped b price step w₂ w₃ best → (0 ≤ 3 * length ks) × (3 * length ks ≤ length w₃)
     run-room r =
         let room = fitted-room ks cs fs ts f in
         let l = t .long in

@@ -3,7 +3,7 @@
 -- Tables 1 to 4 and 9, the list of sinks, row 13
 --     BlockLaws       what each rule of a table says at an entry; edges by their places in table 4
 --     EdgeLaws        edges where tables 3 and 4 have their lengths but may break their rules
---     ClampedLaws        numbers clamped within bounds, and the price over them
+--     ClampedLaws     numbers clamped within bounds, and the price over them
 --     KeptLaws        a function's answer and the test that it computes; a flag that is kept over a list
 --     TableLaws       how the tests of the tables decide
 --     RowLaws         a row of table 4 keeps its rule, by the places of the table
@@ -32,7 +32,7 @@
 --     EstimateStart   none stands, then the unjoined sinks have theirs
 --     EstimateSteps   the nodes before a node get their estimates, edge by edge
 --     EstimateRun     one node after the other, the nearest first; theorem: the estimates are right as far as a turn needs them
---     AimStores       the first keys of all nodes, a shorter way, the least distance of a sink so far
+--     AimStart        the first distances and keys of all nodes
 --     AimRows         the edges of a node, one after the other
 --     AimSteps        one node after the other is expanded, each at its distance
 --     AimEnds         the first keys, and what is left at the end: cost, count, distances and predecessors
@@ -43,10 +43,10 @@
 --     FillLaws        loops that clear or fill a part
 --     QueueLaws       the tournament tree
 --     LevelLaws       its least entry as the level of the search
+--     BestLaws        the least distance of a goal or of an unjoined sink so far
 --
 -- The running search (Dijkstra), as the search called alone has it
 --     Exactness       which distances and predecessors are final
---     BestLaws        the least distance of a goal so far
 --     FrontierSteps   the frontier at the start, after a settling, after a row
 --     WayLaws         a new way to a node, as an edge gives it
 --     WaySteps        the frontier after a new way
@@ -107,7 +107,7 @@ pub mod EstimateLaws
 pub mod EstimateStart
 pub mod EstimateSteps
 pub mod EstimateRun
-pub mod AimStores
+pub mod AimStart
 pub mod AimRows
 pub mod AimSteps
 pub mod AimEnds

@@ -17,7 +17,7 @@ use Rattle.price.proofs.TestLaws.{both-left, both-right, le-or-lt}
 use Rattle.search.specs.Block.{Block, nodes, rowStart, hasEdge}
 use Rattle.search.specs.Tables.{Graph, edgesMost, firstEdgesSound, edgeTargetsSound}
 use Rattle.search.specs.Links.{lastPlace, InRow, LinkRoom, Linked}
-use Rattle.search.proofs.BlockLaws.{firsts-end, row-order, row-end, target-node, edge-at, edge-from, edge-place}
+use Rattle.search.proofs.BlockLaws.{firsts-end, row-order, row-end, target-node, edge-at}
 use Rattle.search.proofs.StoreLaws.{store-here, store-other}
 use Rattle.search.proofs.QueueLaws.{same-or-not}
 

@@ -8,8 +8,8 @@ use Prim.Native.Nat.{ℕ, zero, suc, _≤_, _<_}
 use native.Mathlib.Nat.{not-suc-le-zero, le-of-suc-le-suc, eq-or-lt-of-le}
 use lib.ListN.{length, getD, length-map}
 use borrow.Author.Tests.{eq-eqb, ne-eqb}
-use Rattle.price.specs.Lists.{has, least, placeOf}
-use Rattle.price.proofs.TestLaws.{either-way}
+use Rattle.price.specs.Lists.{has}
+use Rattle.price.proofs.TestLaws.{either-way, never-true}
 use Rattle.price.proofs.ListLaws.{has-place}
 use Rattle.price.proofs.EntryLaws.{least-top, least-le, least-is, least-above, placeOf-at, placeOf-lt}
 use Rattle.search.specs.Block.{Block}
@@ -85,11 +85,8 @@ module _ (b : Block) (price : ℕ → ℕ) (marks sinks : List ℕ) where
 
     nearest-out : inTree marks (getD sinks (nearestPlace b price marks sinks) 0) ≡ false
     nearest-out =
-        ⊎-elim
-        (λ (q : inTree marks (getD sinks (nearestPlace b price marks sinks) 0) ≡ true).
-        absurd (some (sym (nearest-entry .1) ∙ open-in (nearestPlace b price marks sinks) (nearest-entry .0) q)))
-        (λ q. q)
-        (either-way (inTree marks (getD sinks (nearestPlace b price marks sinks) 0)))
+        never-true (inTree marks (getD sinks (nearestPlace b price marks sinks) 0))
+        (λ q. some (sym (nearest-entry .1) ∙ open-in (nearestPlace b price marks sinks) (nearest-entry .0) q))
 
     nearest-distance : distance b price marks (getD sinks (nearestPlace b price marks sinks) 0) ≡ nearestDistance b price marks sinks
     nearest-distance =

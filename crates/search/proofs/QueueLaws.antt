@@ -1,6 +1,7 @@
 -- Laws of the queue, a tournament tree: what a store leaves of it, how the loops put it right, and that entry 1 is the least.
 --     heap-whole                          an entry that was left out is right too
---     heap-leaf, heap-node, heap-way      a store at a leaf leaves only the entry above it, also beside stores outside the queue
+--     heap-leaf, heap-node                a store at a leaf leaves only the entry above it
+--     heap-same, heap-aside, heap-way     stores outside the queue leave it right
 --     heap-here, heap-up                  a store that puts an inner entry right
 --     entry-child, heap-least             an inner entry is one of its children; entry 1 is at most every leaf
 --     Carrying, Building, Descending      the invariants of `carry_up`, `build` and `nearest`, with their steps and ends
@@ -74,22 +75,20 @@ heap-node n w v x b =
     let e : n + (n + v) ≡ 2 * n + v = omega arith in
     subst (λ (k : ℕ). HeapBut n (set w k x) ((n + v) / 2)) e (heap-leaf n w (n + v) x (omega arith) b)
 
--- a store at a place that no entry of the queue has
-heap-aside : (n : ℕ) (w : List ℕ) (p x j : ℕ) → (p ≤ n) ⊎ (3 * n ≤ p) → HeapBut n w j → HeapBut n (set w p x) j
-heap-aside n w p x j out b i l h d =
-    let other : (k : ℕ) → 1 ≤ k → k < 2 * n → entryAt n (set w p x) k ≡ entryAt n w k =
-    λ k a z. store-other w p x (n + k) (λ e. ⊎-elim (λ q. omega arith) (λ q. omega arith) out) in
-    heap-kept n w (set w p x) i
-    (other i l (omega arith))
-    (other (2 * i) (omega arith) (omega arith))
-    (other (2 * i + 1) (omega arith) (omega arith))
-    (b i l h d)
+-- where the entries are as before
+pub heap-same : (n : ℕ) (w w′ : List ℕ) → ((k : ℕ) → 1 ≤ k → k < 2 * n → entryAt n w′ k ≡ entryAt n w k) → Heap n w → Heap n w′
+heap-same n w w′ same b i l h =
+    heap-kept n w w′ i (same i l (omega arith)) (same (2 * i) (omega arith) (omega arith)) (same (2 * i + 1) (omega arith) (omega arith)) (b i l h)
 
--- the three stores of a shorter way to v
-pub heap-way : (n : ℕ) (w : List ℕ) (u v d : ℕ) → v < n → Heap n w → HeapBut n (set (set (set w v d) (2 * n + v) d) (4 * n + v) u) ((n + v) / 2)
+-- a store at a place that no entry of the queue has
+pub heap-aside : (n : ℕ) (w : List ℕ) (p x : ℕ) → (p ≤ n) ⊎ (3 * n ≤ p) → Heap n w → Heap n (set w p x)
+heap-aside n w p x out =
+    heap-same n w (set w p x) (λ k a z. store-other w p x (n + k) (λ e. ⊎-elim (λ q. omega arith) (λ q. omega arith) out))
+
+-- distance and predecessor of a shorter way to v
+pub heap-way : (n : ℕ) (w : List ℕ) (u v d : ℕ) → v < n → Heap n w → Heap n (set (set w v d) (4 * n + v) u)
 heap-way n w u v d h b =
-    heap-aside n (set (set w v d) (2 * n + v) d) (4 * n + v) u ((n + v) / 2) (inr (omega arith))
-    (heap-node n (set w v d) v d (λ i l m. heap-aside n w v d 0 (inl (omega arith)) (λ i l m q. b i l m) i l m (λ e. omega arith)))
+    heap-aside n (set w v d) (4 * n + v) u (inr (omega arith)) (heap-aside n w v d (inl (omega arith)) b)
 
 -- ---- the least entry
 

@@ -17,12 +17,12 @@ use Rattle.price.proofs.BelowLaws.{count-less}
 use Rattle.search.specs.Block.{Block, nodes, rowStart}
 use Rattle.search.specs.Paths.{Fair}
 use Rattle.search.specs.Distance.{far, distance}
-use Rattle.search.specs.Layout.{distAt, entryAt, leafAt, TakenOut}
+use Rattle.search.specs.Layout.{distAt, entryAt, leafAt, Queued}
 use Rattle.search.specs.Frontier.{Open, Settled, Waiting, BestGoal, LastStep, Stopped, InProgress, Ran, RowReady, Looked, RowDone, unsettled}
 use Rattle.search.proofs.EdgeLaws.{shape-of}
 use Rattle.search.proofs.DistanceLaws.{distance-most}
 use Rattle.search.proofs.Exactness.{exact-near}
-use Rattle.search.proofs.BestLaws.{best-same}
+use Rattle.search.proofs.BestLaws.{best-kept}
 use Rattle.search.proofs.FrontierSteps.{now-settled, still-settled, settle-frontier, row-waiting}
 
 -- what holds between two settlings, of the work slice at the start and now
@@ -94,7 +94,7 @@ module _ (b : Block) (step best : ℕ) (w₀ w : List ℕ) (u : ℕ) (run : Runn
 
 module _ (b : Block) (step best : ℕ) (w₀ w w₁ : List ℕ) (u : ℕ) (run : Running b step best w₀ w)
     (node : u < nodes b) (nearest : leafAt (nodes b) w u ≡ entryAt (nodes b) w 1) (near : entryAt (nodes b) w 1 < far)
-    (taken : TakenOut (nodes b) u w w₁) where
+    (taken : Queued (nodes b) u far w w₁) where
   -- the settled node is near enough that no sum over its row wraps
   pub settle-ready : RowReady b w₁ u
   settle-ready =
@@ -106,7 +106,7 @@ module _ (b : Block) (step best : ℕ) (w₀ w w₁ : List ℕ) (u : ℕ) (run :
         long = let l = taken .long in let l′ = f .long in omega arith;
         heap = taken .heap;
         near =
-            let e = taken .dist-same u node in
+            let e = taken .low u node in
             let a = at-level b step best w₀ w u run node nearest near in
             let m = level-most b step best w₀ w u run node nearest near in
             omega arith;
@@ -159,7 +159,7 @@ module _ (b : Block) (step best : ℕ) (w₀ w w₁ : List ℕ) (u : ℕ) (run :
                 fair = st .fair;
                 waiting = next-waiting (st .price) (st .marks) (st .fair) (st .waiting);
               };
-          best-goal = goals (best-same (taken .dist-same) (λ x h. taken .high (5 * nodes b + x) (omega arith)) (run .best-goal));
+          best-goal = goals (best-kept (taken .low) (λ x h. taken .high (5 * nodes b + x) (omega arith)) (run .best-goal));
           last-step =
               record {
                 most = run .last-step .most;

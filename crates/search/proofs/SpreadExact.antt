@@ -14,7 +14,7 @@ use Rattle.search.specs.Distance.{far, inTree, distances, distance}
 use Rattle.search.specs.Turn.{before}
 use Rattle.search.specs.Paths.{Fair}
 use Rattle.search.specs.Labels.{goal, labelAt, fromAt, waitAt, Waits}
-use Rattle.search.specs.Spread.{Came, Passed, Looked, Spread}
+use Rattle.search.specs.Spread.{Came, PlacePassed, EdgeLooked, Spread}
 use Rattle.search.proofs.EdgeLaws.{Shaped, edge-where, edge-node}
 use Rattle.search.proofs.DistanceLaws.{distance-tree, distance-step, distance-over}
 use Rattle.search.proofs.BeforeLaws.{before-edge, before-sum, before-lowest}
@@ -43,7 +43,7 @@ module _ {b : Block} {price : ℕ → ℕ} (marks : List ℕ) {w : List ℕ} {co
   never-below (suc k) v m h l = below-by v h l (λ p nearer hp lp. never-below k p (omega arith) hp lp)
 
   -- a settled node has spread its label along each of its edges
-  looked : (u v : ℕ) → u < nodes b → v < nodes b → hasEdge b u v ≡ true → labelAt w u < goal → labelAt w u < level → Looked (nodes b) price w u v
+  looked : (u v : ℕ) → u < nodes b → v < nodes b → hasEdge b u v ≡ true → labelAt w u < goal → labelAt w u < level → EdgeLooked (nodes b) price w u v
   looked u v hu hv e l less =
       ⊎-elim
       (λ (q : Waits (nodes b) count w u).
@@ -51,7 +51,7 @@ module _ {b : Block} {price : ℕ → ℕ} (marks : List ℕ) {w : List ℕ} {co
       (let far-off : level ≤ labelAt w (waitAt (nodes b) w (q .0)) = s .waits-far (q .0) (q .1) in
       let at : labelAt w (waitAt (nodes b) w (q .0)) ≡ labelAt w u = rw (q .2) in
       omega arith))
-      (λ (f : (k : ℕ) → Passed b (nodes b) 0 u k → getD (b .edgeTargets) k 0 < nodes b → Looked (nodes b) price w u (getD (b .edgeTargets) k 0)).
+      (λ (f : (k : ℕ) → PlacePassed b (nodes b) 0 u k → getD (b .edgeTargets) k 0 < nodes b → EdgeLooked (nodes b) price w u (getD (b .edgeTargets) k 0)).
       let p = edge-where b u v e in
       rw (p .4) at
       (f (p .0) (record { from = p .1; below = p .2; within = p .3; seen = λ q. absurd (omega arith) }) (rw (p .4) hv)))

@@ -1,6 +1,6 @@
 -- Settling one node after the other keeps what holds while labels spread.
---     RowSoFar, row-..      the row of a node that is being settled, looked at up to a place
---     Running, run-..       the nodes settled so far, and where that stops
+--     LabelRowSoFar, row-..     the row of a node that is being settled, looked at up to a place
+--     LabelsRunning, run-..     the nodes settled so far, and where that stops
 -- Assumes nothing.
 use mathlib.Core.Bool.{true}
 use mathlib.Core.List.{List}
@@ -20,7 +20,7 @@ use Rattle.search.specs.Turn.{Congestion}
 use Rattle.search.specs.Paths.{anyPriceMost, Fair}
 use Rattle.search.specs.Clamped.{clampedPrice, Lent}
 use Rattle.search.specs.Labels.{goal, labelAt, fromAt, waitAt, keyAt, Waits, Heaped, Taken}
-use Rattle.search.specs.Spread.{bare, bareCount, Came, Passed, Looked, Spread, Onward, Relaxed, RelaxReady, SettleReady, Settled, RunReady, Ran}
+use Rattle.search.specs.Spread.{bare, bareCount, Came, PlacePassed, EdgeLooked, Spread, SpreadOnward, EdgeRelaxed, RelaxReady, SettleReady, NodeSettled, RunReady, SpreadStopped}
 use Rattle.search.proofs.ClampedLaws.{clamped-pos, clamped-fair}
 use Rattle.search.proofs.EdgeLaws.{place-edge}
 use Rattle.search.proofs.HeapLaws.{heap-least}
@@ -40,15 +40,15 @@ fair-clamped b kinds capacities c few timed-few = record {
 -- ---- one row
 
 -- the row of u, looked at up to place e
-pub record RowSoFar (b : Block) (price : ℕ → ℕ) (u : ℕ) (w₀ w : List ℕ) (e count₀ count best₀ best : ℕ) : Type 0 where
+pub record LabelRowSoFar (b : Block) (price : ℕ → ℕ) (u : ℕ) (w₀ w : List ℕ) (e count₀ count best₀ best : ℕ) : Type 0 where
   pub spread : Spread b price w count (labelAt w₀ u) u e
   pub here : labelAt w u ≡ labelAt w₀ u
-  pub onward : Onward (nodes b) w₀ w best₀ best
+  pub onward : SpreadOnward (nodes b) w₀ w best₀ best
   pub fewer : 2 * bareCount (nodes b) w + count ≤ 2 * bareCount (nodes b) w₀ + count₀
   pub from : min (rowStart b u) (length (b .edgeTargets)) ≤ e
 
 module _ {b : Block} {price : ℕ → ℕ} {u : ℕ} {w₀ : List ℕ} {count₀ : ℕ} (ready : SettleReady b price w₀ count₀ u) where
-  pub row-begin : {e best : ℕ} → e ≡ min (rowStart b u) (length (b .edgeTargets)) → RowSoFar b price u w₀ w₀ e count₀ count₀ best best
+  pub row-begin : {e best : ℕ} → e ≡ min (rowStart b u) (length (b .edgeTargets)) → LabelRowSoFar b price u w₀ w₀ e count₀ count₀ best best
   row-begin {e} {best} is =
       let s = ready .spread in
       record {
@@ -63,7 +63,7 @@ module _ {b : Block} {price : ℕ → ℕ} {u : ℕ} {w₀ : List ℕ} {count₀
           done = λ x h l.
               ⊎-elim
               inl
-              (λ (f : (k : ℕ) → Passed b u 0 x k → getD (b .edgeTargets) k 0 < nodes b → Looked (nodes b) price w₀ x (getD (b .edgeTargets) k 0)).
+              (λ (f : (k : ℕ) → PlacePassed b u 0 x k → getD (b .edgeTargets) k 0 < nodes b → EdgeLooked (nodes b) price w₀ x (getD (b .edgeTargets) k 0)).
               inr
               (λ k p t.
               f k
@@ -86,7 +86,7 @@ module _ {b : Block} {price : ℕ → ℕ} {u : ℕ} {w₀ : List ℕ} {count₀
         from = rw is (le-refl _);
       }
 
-  module _ (few : nodes b ≤ nodesMost) {w : List ℕ} {e count best₀ best to : ℕ} (r : RowSoFar b price u w₀ w e count₀ count best₀ best)
+  module _ (few : nodes b ≤ nodesMost) {w : List ℕ} {e count best₀ best to : ℕ} (r : LabelRowSoFar b price u w₀ w e count₀ count best₀ best)
       (is : to ≡ min (rowStart b (u + 1)) (length (b .edgeTargets))) where
     module _ (more : e < to) where
       row-from : rowStart b u ≤ e
@@ -101,7 +101,7 @@ module _ {b : Block} {price : ℕ → ℕ} {u : ℕ} {w₀ : List ℕ} {count₀
       pub row-low : labelAt w₀ u < pathMost
       row-low = spread-low (r .spread) few (ready .node) (r .here) (ready .labelled)
 
-      pub row-more : {w′ : List ℕ} {count′ best′ : ℕ} → Relaxed (nodes b) (b .firstEdges) price u (getD (b .edgeTargets) e 0) (labelAt w₀ u) w w′ count count′ best best′ → RowSoFar b price u w₀ w′ (e + 1) count₀ count′ best₀ best′
+      pub row-more : {w′ : List ℕ} {count′ best′ : ℕ} → EdgeRelaxed (nodes b) (b .firstEdges) price u (getD (b .edgeTargets) e 0) (labelAt w₀ u) w w′ count count′ best best′ → LabelRowSoFar b price u w₀ w′ (e + 1) count₀ count′ best₀ best′
       row-more made =
           let t = relax-at (r .spread) few (ready .node) (r .here) (ready .labelled) (ready .firsts-long) (getD (b .edgeTargets) e 0) refl
           (place-edge b u e row-from row-below row-within) made in
@@ -113,7 +113,7 @@ module _ {b : Block} {price : ℕ → ℕ} {u : ℕ} {w₀ : List ℕ} {count₀
             from = let f = r .from in omega arith;
           }
 
-    pub row-end : to ≤ e → Settled b price (labelAt w₀ u) w₀ w count₀ count best₀ best
+    pub row-end : to ≤ e → NodeSettled b price (labelAt w₀ u) w₀ w count₀ count best₀ best
     row-end end =
         let s = r .spread in
         record {
@@ -128,7 +128,7 @@ module _ {b : Block} {price : ℕ → ℕ} {u : ℕ} {w₀ : List ℕ} {count₀
             done = λ x h l.
                 ⊎-elim
                 inl
-                (λ (f : (k : ℕ) → Passed b u e x k → getD (b .edgeTargets) k 0 < nodes b → Looked (nodes b) price w x (getD (b .edgeTargets) k 0)).
+                (λ (f : (k : ℕ) → PlacePassed b u e x k → getD (b .edgeTargets) k 0 < nodes b → EdgeLooked (nodes b) price w x (getD (b .edgeTargets) k 0)).
                 inr
                 (λ k p t.
                 f k
@@ -151,7 +151,7 @@ module _ {b : Block} {price : ℕ → ℕ} {u : ℕ} {w₀ : List ℕ} {count₀
 -- safe to look at the edge at place e
 pub row-ready :
     {ks cs fs ts : List ℕ} {c : Congestion} {u : ℕ} {w₀ w : List ℕ} {e count₀ count best₀ best to : ℕ} → Lent ks cs c
-    → SettleReady (graphOf ks fs ts) (clampedPrice ks cs c) w₀ count₀ u → RowSoFar (graphOf ks fs ts) (clampedPrice ks cs c) u w₀ w e count₀ count best₀ best
+    → SettleReady (graphOf ks fs ts) (clampedPrice ks cs c) w₀ count₀ u → LabelRowSoFar (graphOf ks fs ts) (clampedPrice ks cs c) u w₀ w e count₀ count best₀ best
     → to ≡ min (getD fs (u + 1) 0) (length ts) → e < to → RelaxReady ks cs c fs w count u (getD ts e 0) (labelAt w₀ u)
 row-ready {ks} {cs} {fs} {ts} {c} {u} lent ready r is more =
     record {
@@ -168,12 +168,12 @@ row-ready {ks} {cs} {fs} {ts} {c} {u} lent ready r is more =
 -- ---- one node after the other
 
 -- nodes have been settled from w₀ to w
-pub record Running (b : Block) (price : ℕ → ℕ) (w₀ w : List ℕ) (best count : ℕ) : Type 0 where
+pub record LabelsRunning (b : Block) (price : ℕ → ℕ) (w₀ w : List ℕ) (best count : ℕ) : Type 0 where
   pub level : ℕ
   pub spread : Spread b price w count level (nodes b) 0
-  pub onward : Onward (nodes b) w₀ w far best
+  pub onward : SpreadOnward (nodes b) w₀ w far best
 
-pub run-start : {b : Block} {price : ℕ → ℕ} {w : List ℕ} {count step : ℕ} → RunReady b price w count step → Running b price w w far count
+pub run-start : {b : Block} {price : ℕ → ℕ} {w : List ℕ} {count step : ℕ} → RunReady b price w count step → LabelsRunning b price w w far count
 run-start {b} {price} {w} r = record { level = 0; spread = r .spread; onward = onward-none (nodes b) w far }
 
 -- a higher level, where every waiting node is as far
@@ -197,8 +197,8 @@ raised level′ s above near = record {
 first-wait : (n : ℕ) (w : List ℕ) → waitAt n w 0 ≡ getD w n 0 / 65536
 first-wait n w = let z : n + 0 ≡ n = omega arith in rw z
 
-module _ {b : Block} {price : ℕ → ℕ} {w₀ w : List ℕ} {best count : ℕ} (r : Running b price w₀ w best count) where
-  pub run-end : {step : ℕ} → count ≤ 0 → Ran b price step w₀ w best
+module _ {b : Block} {price : ℕ → ℕ} {w₀ w : List ℕ} {best count : ℕ} (r : LabelsRunning b price w₀ w best count) where
+  pub run-end : {step : ℕ} → count ≤ 0 → SpreadStopped b price step w₀ w best
   run-end none = record {
     count = count;
     level = far;
@@ -230,7 +230,7 @@ module _ {b : Block} {price : ℕ → ℕ} {w₀ w : List ℕ} {best count : ℕ
         let top : nodes b * r .spread .fair .ceiling < pathMost = r .spread .fair .fits in
         omega arith
 
-    pub run-early : {step : ℕ} → best < labelAt w (getD w (nodes b) 0 / 65536) + step → Ran b price step w₀ w best
+    pub run-early : {step : ℕ} → best < labelAt w (getD w (nodes b) 0 / 65536) + step → SpreadStopped b price step w₀ w best
     run-early less = record { count = count; level = labelAt w (getD w (nodes b) 0 / 65536); spread = run-raised; onward = r .onward; stopped = inr less }
 
     pub run-take : nodes b ≤ nodesMost → Heaped (nodes b) (count - 1 + 1) w × (nodes b < 65536)
@@ -265,7 +265,7 @@ module _ {b : Block} {price : ℕ → ℕ} {w₀ w : List ℕ} {best count : ℕ
           let lf : labelAt w₁ (fromAt (nodes b) w x) ≡ labelAt w (fromAt (nodes b) w x) = took-label (fromAt (nodes b) w x) (c .node) in
           record { node = rw f (c .node); near = rw (f, lf) (c .near); edge = rw f (c .edge); sum = rw (f, lf, took-label x h) (c .sum) }
 
-      took-looked : (x y : ℕ) → x < nodes b → y < nodes b → Looked (nodes b) price w x y → Looked (nodes b) price w₁ x y
+      took-looked : (x y : ℕ) → x < nodes b → y < nodes b → EdgeLooked (nodes b) price w x y → EdgeLooked (nodes b) price w₁ x y
       took-looked x y hx hy f =
           let lx : labelAt w₁ x ≡ labelAt w x = took-label x hx in
           let ly : labelAt w₁ y ≡ labelAt w y = took-label y hy in
@@ -301,7 +301,7 @@ module _ {b : Block} {price : ℕ → ℕ} {w₀ w : List ℕ} {best count : ℕ
                 inr (λ k p d. absurd (let n : k < 0 = p .seen (z ∙ first-wait (nodes b) w) in omega arith)))
                 inl
                 (t .kept x (rw e q)))
-                (λ (f : (k : ℕ) → Passed b (nodes b) 0 x k → getD (b .edgeTargets) k 0 < nodes b → Looked (nodes b) price w x (getD (b .edgeTargets) k 0)).
+                (λ (f : (k : ℕ) → PlacePassed b (nodes b) 0 x k → getD (b .edgeTargets) k 0 < nodes b → EdgeLooked (nodes b) price w x (getD (b .edgeTargets) k 0)).
                 inr
                 (λ k p d.
                 took-looked x (getD (b .edgeTargets) k 0) h d
@@ -314,7 +314,7 @@ module _ {b : Block} {price : ℕ → ℕ} {w₀ w : List ℕ} {best count : ℕ
           let same : labelAt w₁ (getD w (nodes b) 0 / 65536) ≡ labelAt w (getD w (nodes b) 0 / 65536) = took-label (getD w (nodes b) 0 / 65536) run-node in
           record { firsts-long = long; node = run-node; labelled = rw same run-label; spread = rw same took-spread }
 
-      took-onward : Onward (nodes b) w w₁ best best
+      took-onward : SpreadOnward (nodes b) w w₁ best best
       took-onward = record {
         long = t .moved .same .long;
         high = λ j l. t .moved .same .high j l;
@@ -326,8 +326,8 @@ module _ {b : Block} {price : ℕ → ℕ} {w₀ w : List ℕ} {best count : ℕ
         some = inl refl;
       }
 
-      module _ {level : ℕ} {w₂ : List ℕ} {count₂ best₂ : ℕ} (s : Settled b price level w₁ w₂ (count - 1) count₂ best best₂) where
-        pub run-more : Running b price w₀ w₂ best₂ count₂
+      module _ {level : ℕ} {w₂ : List ℕ} {count₂ best₂ : ℕ} (s : NodeSettled b price level w₁ w₂ (count - 1) count₂ best best₂) where
+        pub run-more : LabelsRunning b price w₀ w₂ best₂ count₂
         run-more = record { level = level; spread = s .spread; onward = onward-trans (r .onward) (onward-trans took-onward (s .onward)) }
 
         pub run-falls : 2 * bareCount (nodes b) w₂ + count₂ < 2 * bareCount (nodes b) w + count

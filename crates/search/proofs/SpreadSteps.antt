@@ -19,7 +19,7 @@ use Rattle.price.proofs.TestLaws.{le-or-lt, true≢false}
 use Rattle.price.proofs.BelowLaws.{count-less, count-same}
 use Rattle.search.specs.Block.{Block, nodes, rowStart, hasEdge}
 use Rattle.search.specs.Labels.{goal, labelAt, fromAt, withFrom, waitAt, keyAt, besideAt, Waits, Heaped}
-use Rattle.search.specs.Spread.{bare, bareCount, Came, Passed, Looked, Spread, Onward, labelled, Labelled, ends, waits, GoalMet, lowered, stays, Relaxed, beyond, labels, lowers, tree, LabelReady}
+use Rattle.search.specs.Spread.{bare, bareCount, Came, PlacePassed, EdgeLooked, Spread, SpreadOnward, labelled, Labelled, ends, waits, GoalMet, lowered, stays, EdgeRelaxed, beyond, labels, lowers, tree, LabelReady}
 use Rattle.search.proofs.StoreLaws.{store-here, store-other}
 use Rattle.search.proofs.QueueLaws.{same-or-not}
 use Rattle.search.proofs.HeapLaws.{from-else, from-here, from-other, from-wait}
@@ -137,7 +137,7 @@ module _ {n count u v : ℕ} {firsts w : List ℕ} (r : LabelReady n firsts w co
 
 -- ---- what stays from step to step
 
-pub onward-none : (n : ℕ) (w : List ℕ) (best : ℕ) → Onward n w w best best
+pub onward-none : (n : ℕ) (w : List ℕ) (best : ℕ) → SpreadOnward n w w best best
 onward-none n w best = record {
   long = refl;
   high = λ j l. refl;
@@ -149,7 +149,7 @@ onward-none n w best = record {
   some = inl refl;
 }
 
-pub onward-trans : {n : ℕ} {w w₁ w₂ : List ℕ} {best best₁ best₂ : ℕ} → Onward n w w₁ best best₁ → Onward n w₁ w₂ best₁ best₂ → Onward n w w₂ best best₂
+pub onward-trans : {n : ℕ} {w w₁ w₂ : List ℕ} {best best₁ best₂ : ℕ} → SpreadOnward n w w₁ best best₁ → SpreadOnward n w₁ w₂ best₁ best₂ → SpreadOnward n w w₂ best best₂
 onward-trans {n} {w} {w₁} {w₂} {best} {best₁} {best₂} a c =
     let bare-then : (v : ℕ) → v < n → goal ≤ labelAt w₂ v → goal ≤ labelAt w₁ v =
     λ v h l.
@@ -227,13 +227,13 @@ more-room m n c l =
 pub record Stepped (b : Block) (price : ℕ → ℕ) (d u place : ℕ) (w w′ : List ℕ) (count count′ best best′ : ℕ) : Type 0 where
   pub spread : Spread b price w′ count′ d u place
   pub here : labelAt w′ u ≡ d
-  pub onward : Onward (nodes b) w w′ best best′
+  pub onward : SpreadOnward (nodes b) w w′ best best′
   pub fewer : 2 * bareCount (nodes b) w′ + count′ ≤ 2 * bareCount (nodes b) w + count
 
 -- one more place of the row is passed
 passed :
     {b : Block} {price : ℕ → ℕ} {w : List ℕ} {count d u place : ℕ} → Spread b price w count d u place
-    → (getD (b .edgeTargets) place 0 < nodes b → Looked (nodes b) price w u (getD (b .edgeTargets) place 0)) → Spread b price w count d u (place + 1)
+    → (getD (b .edgeTargets) place 0 < nodes b → EdgeLooked (nodes b) price w u (getD (b .edgeTargets) place 0)) → Spread b price w count d u (place + 1)
 passed {b} {price} {w} {count} {d} {u} {place} s look = record {
   fair = s .fair;
   heap = s .heap;
@@ -245,7 +245,7 @@ passed {b} {price} {w} {count} {d} {u} {place} s look = record {
   done = λ x h l.
       ⊎-elim
       inl
-      (λ (f : (k : ℕ) → Passed b u place x k → getD (b .edgeTargets) k 0 < nodes b → Looked (nodes b) price w x (getD (b .edgeTargets) k 0)).
+      (λ (f : (k : ℕ) → PlacePassed b u place x k → getD (b .edgeTargets) k 0 < nodes b → EdgeLooked (nodes b) price w x (getD (b .edgeTargets) k 0)).
       inr
       (λ k p t.
       ⊎-elim
@@ -262,7 +262,7 @@ passed {b} {price} {w} {count} {d} {u} {place} s look = record {
 
 pass-on :
     {b : Block} {price : ℕ → ℕ} {w : List ℕ} {count d u place : ℕ} → Spread b price w count d u place → labelAt w u ≡ d
-    → (v : ℕ) → getD (b .edgeTargets) place 0 ≡ v → Looked (nodes b) price w u v → Spread b price w count d u (place + 1)
+    → (v : ℕ) → getD (b .edgeTargets) place 0 ≡ v → EdgeLooked (nodes b) price w u v → Spread b price w count d u (place + 1)
 pass-on {b} {price} {w} {count} {d} {u} {place} s here v at look = passed s (λ t. rw at look)
 
 module _ {b : Block} {price : ℕ → ℕ} {w : List ℕ} {count d u place : ℕ}
@@ -274,19 +274,19 @@ module _ {b : Block} {price : ℕ → ℕ} {w : List ℕ} {count d u place : ℕ
       let top : nodes b * s .fair .ceiling < pathMost = s .fair .fits in
       omega arith
 
-  look-tree : (v : ℕ) → labelAt w v ≡ 0 → Looked (nodes b) price w u v
+  look-tree : (v : ℕ) → labelAt w v ≡ 0 → EdgeLooked (nodes b) price w u v
   look-tree v e = record { labelled = omega arith; near = omega arith; lowest = λ p q. absurd (omega arith) }
 
   look-kept :
       (v : ℕ) → v < nodes b → 0 < labelAt w v → labelAt w v < goal → (labelAt w (fromAt (nodes b) w v) ≡ d → fromAt (nodes b) w v ≤ u)
-      → Looked (nodes b) price w u v
+      → EdgeLooked (nodes b) price w u v
   look-kept v h p l lowest =
       let c = s .came v h p l in
       let sum : labelAt w v ≡ labelAt w (fromAt (nodes b) w v) + price v = c .sum in
       let near : labelAt w (fromAt (nodes b) w v) ≤ d = c .near in
       record { labelled = l; near = omega arith; lowest = λ q e. lowest (e ∙ here) }
 
-  kept-step : {best : ℕ} → (getD (b .edgeTargets) place 0 < nodes b → Looked (nodes b) price w u (getD (b .edgeTargets) place 0)) → Stepped b price d u (place + 1) w w count count best best
+  kept-step : {best : ℕ} → (getD (b .edgeTargets) place 0 < nodes b → EdgeLooked (nodes b) price w u (getD (b .edgeTargets) place 0)) → Stepped b price d u (place + 1) w w count count best best
   kept-step {best} look = record { spread = passed s look; here = here; onward = onward-none (nodes b) w best; fewer = le-refl _ }
 
   -- a lower predecessor of v
@@ -328,7 +328,7 @@ module _ {b : Block} {price : ℕ → ℕ} {w : List ℕ} {count d u place : ℕ
         record { node = rw f (c .node); near = rw (f, lf) (c .near); edge = rw f (c .edge); sum = rw (f, lf, low-label x k) (c .sum) }
 
     -- what was looked at still is
-    low-looked : (x y : ℕ) → x < nodes b → y < nodes b → Looked (nodes b) price w x y → Looked (nodes b) price (withFrom (nodes b) w u v) x y
+    low-looked : (x y : ℕ) → x < nodes b → y < nodes b → EdgeLooked (nodes b) price w x y → EdgeLooked (nodes b) price (withFrom (nodes b) w u v) x y
     low-looked x y kx ky f =
         let lx : labelAt (withFrom (nodes b) w u v) x ≡ labelAt w x = low-label x kx in
         let ly : labelAt (withFrom (nodes b) w u v) y ≡ labelAt w y = low-label y ky in
@@ -377,12 +377,12 @@ module _ {b : Block} {price : ℕ → ℕ} {w : List ℕ} {count d u place : ℕ
       done = λ x k m.
           ⊎-elim
           (λ (q : Waits (nodes b) count w x). inl (q .0, q .1, low-wait (q .0) ∙ q .2))
-          (λ (f : (j : ℕ) → Passed b u place x j → getD (b .edgeTargets) j 0 < nodes b → Looked (nodes b) price w x (getD (b .edgeTargets) j 0)).
+          (λ (f : (j : ℕ) → PlacePassed b u place x j → getD (b .edgeTargets) j 0 < nodes b → EdgeLooked (nodes b) price w x (getD (b .edgeTargets) j 0)).
           inr (λ j p t. low-looked x (getD (b .edgeTargets) j 0) k t (f j p t)))
           (s .done x k (rw (low-label x k) at m));
     }
 
-    lower-onward : (best : ℕ) → Onward (nodes b) w (withFrom (nodes b) w u v) best best
+    lower-onward : (best : ℕ) → SpreadOnward (nodes b) w (withFrom (nodes b) w u v) best best
     lower-onward best = record {
       long = length-set w (nodes b + v) (waitAt (nodes b) w v * 65536 + u);
       high = λ j k. from-else (nodes b) w u v j (λ e. omega arith);
@@ -394,7 +394,7 @@ module _ {b : Block} {price : ℕ → ℕ} {w : List ℕ} {count d u place : ℕ
       some = inl refl;
     }
 
-    lower-looked : Looked (nodes b) price (withFrom (nodes b) w u v) u v
+    lower-looked : EdgeLooked (nodes b) price (withFrom (nodes b) w u v) u v
     lower-looked =
         let c = s .came v h pos l in
         let sum : labelAt w v ≡ labelAt w (fromAt (nodes b) w v) + price v = c .sum in
@@ -451,7 +451,7 @@ module _ {b : Block} {price : ℕ → ℕ} {w : List ℕ} {count d u place : ℕ
         let lf : labelAt w′ (fromAt (nodes b) w x) ≡ labelAt w (fromAt (nodes b) w x) = old-from x k c m in
         record { node = rw at (c .node); near = rw (at, lf) (c .near); edge = rw at (c .edge); sum = rw (at, lf, f .label-other x k q) (c .sum) }
 
-    old-looked : (x y : ℕ) → x < nodes b → (x ≡ v → ⊥) → y < nodes b → Looked (nodes b) price w x y → Looked (nodes b) price w′ x y
+    old-looked : (x y : ℕ) → x < nodes b → (x ≡ v → ⊥) → y < nodes b → EdgeLooked (nodes b) price w x y → EdgeLooked (nodes b) price w′ x y
     old-looked x y kx qx ky l =
         let qy : y ≡ v → ⊥ = not-v y (l .labelled) in
         let lx : labelAt w′ x ≡ labelAt w x = f .label-other x kx qx in
@@ -516,19 +516,19 @@ module _ {b : Block} {price : ℕ → ℕ} {w : List ℕ} {count d u place : ℕ
               (λ (q : x ≡ v → ⊥).
               ⊎-elim
               (λ (p : Waits (nodes b) count w x). inl (f .kept x p))
-              (λ (g : (j : ℕ) → Passed b u place x j → getD (b .edgeTargets) j 0 < nodes b → Looked (nodes b) price w x (getD (b .edgeTargets) j 0)).
+              (λ (g : (j : ℕ) → PlacePassed b u place x j → getD (b .edgeTargets) j 0 < nodes b → EdgeLooked (nodes b) price w x (getD (b .edgeTargets) j 0)).
               inr (λ j p t. old-looked x (getD (b .edgeTargets) j 0) k q t (g j p t)))
               (s .done x k (rw (f .label-other x k q) at m)))
               (same-or-not x v);
         }
 
-    label-looked : Looked (nodes b) price w′ u v
+    label-looked : EdgeLooked (nodes b) price w′ u v
     label-looked =
         let is = f .label-here in
         let lu = new-u in
         record { labelled = rw is new-low; near = omega arith; lowest = λ p e. rw (f .from-here) (le-refl u) }
 
-    label-onward : {best best′ : ℕ} → GoalMet (labelAt w v) (d + price v) best best′ → Onward (nodes b) w w′ best best′
+    label-onward : {best best′ : ℕ} → GoalMet (labelAt w v) (d + price v) best best′ → SpreadOnward (nodes b) w w′ best best′
     label-onward {best} {best′} g = record {
       long = f .long;
       high = f .high;
@@ -573,7 +573,7 @@ module _ {b : Block} {price : ℕ → ℕ} {w : List ℕ} {count d u place : ℕ
   -- looking at the edge at `place`
   pub relax-at :
       length (b .firstEdges) ≡ nodes b + 1 → (v : ℕ) → getD (b .edgeTargets) place 0 ≡ v → hasEdge b u v ≡ true
-      → {w′ : List ℕ} {count′ best best′ : ℕ} → Relaxed (nodes b) (b .firstEdges) price u v d w w′ count count′ best best′
+      → {w′ : List ℕ} {count′ best best′ : ℕ} → EdgeRelaxed (nodes b) (b .firstEdges) price u v d w w′ count count′ best best′
       → Stepped b price d u (place + 1) w w′ count count′ best best′
   relax-at long v at edge (beyond far-off e ec eb) = rw (e, ec, eb) (kept-step (λ t. absurd (let z : v < nodes b = rw at at t in omega arith)))
   relax-at long v at edge (tree h z e ec eb) = rw (e, ec, eb) (kept-step (λ t. rw at (look-tree v z)))

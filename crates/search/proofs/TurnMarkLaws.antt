@@ -44,19 +44,19 @@ blank-all l s = record { same = s .same; labels = λ v h. s .labels v (omega ari
 -- ---- stretches without a tree node
 
 -- `some` is true where a node from `from` to below v is in the tree
-pub record Seen (marks : List ℕ) (from to : ℕ) (some : Bool) (v : ℕ) : Type 0 where
+pub record MarksSeen (marks : List ℕ) (from to : ℕ) (some : Bool) (v : ℕ) : Type 0 where
   pub least : from ≤ v
   pub upto : v ≤ to
   pub none : some ≡ false → Unmarked marks from v
 
-pub seen-none : (marks : List ℕ) (from to : ℕ) → from ≤ to → Seen marks from to false from
+pub seen-none : (marks : List ℕ) (from to : ℕ) → from ≤ to → MarksSeen marks from to false from
 seen-none marks from to l = record { least = omega arith; upto = l; none = λ e v a b. absurd (omega arith) }
 
-module _ {marks : List ℕ} {from to : ℕ} {some : Bool} {v : ℕ} (l : v < to) (s : Seen marks from to some v) where
-  pub seen-in : Seen marks from to true (v + 1)
+module _ {marks : List ℕ} {from to : ℕ} {some : Bool} {v : ℕ} (l : v < to) (s : MarksSeen marks from to some v) where
+  pub seen-in : MarksSeen marks from to true (v + 1)
   seen-in = record { least = omega (arith, s .least); upto = omega arith; none = λ e. absurd (true≢false e) }
 
-  pub seen-out : (getD marks v 0 ≡ 1 → ⊥) → Seen marks from to some (v + 1)
+  pub seen-out : (getD marks v 0 ≡ 1 → ⊥) → MarksSeen marks from to some (v + 1)
   seen-out mark = record {
     least = omega (arith, s .least);
     upto = omega arith;
@@ -67,7 +67,7 @@ module _ {marks : List ℕ} {from to : ℕ} {some : Bool} {v : ℕ} (l : v < to)
         (same-or-not x v);
   }
 
-pub seen-all : {marks : List ℕ} {from to : ℕ} {some : Bool} {v : ℕ} → to ≤ v → Seen marks from to some v → some ≡ false → Unmarked marks from to
+pub seen-all : {marks : List ℕ} {from to : ℕ} {some : Bool} {v : ℕ} → to ≤ v → MarksSeen marks from to some v → some ≡ false → Unmarked marks from to
 seen-all l s e x a b = s .none e x a (omega arith)
 
 pub over-none : (marks : List ℕ) (from n : ℕ) → from ≤ n → Over marks from n from

@@ -28,7 +28,7 @@ pub record NewWay (n u v d : ℕ) (w w′ : List ℕ) : Type 0 where
   pub high : (j : ℕ) → 5 * n ≤ j → getD w′ j 0 ≡ getD w j 0
 
 -- a shorter way
-pub shorter-way : {n u v d : ℕ} {w w′ : List ℕ} → d < distAt w v → Shortened n u v d w w′ → NewWay n u v d w w′
+pub shorter-way : {n u v d : ℕ} {w w′ : List ℕ} → d < distAt w v → Shortened n u v d d w w′ → NewWay n u v d w w′
 shorter-way less t =
     record {
       long = t .long;

@@ -15,7 +15,7 @@ use Rattle.search.specs.Layout.{priceIn, SameBut}
 use Rattle.search.specs.TurnWork.{Found, Read}
 use Rattle.search.specs.Aimed.{weightAt}
 use Rattle.search.specs.Estimates.{WeightReady}
-use Rattle.search.specs.Aiming.{AimEnd}
+use Rattle.search.specs.Aiming.{AimDone}
 use Rattle.search.specs.declared.PathAnswer.{PathAnswer}
 use Rattle.search.specs.declared.PathAnswer.the-variants.{Stuck}
 
@@ -37,10 +37,9 @@ pub record TurnPriced (b : Block) (weighting : Weighting) (marks sinks w : List 
   pub sinks-nodes : (i : ℕ) → i < length sinks → getD sinks i 0 < nodes b
   pub long : 8 * nodes b ≤ length w
 
--- the turn has aimed, from a work slice that has the estimates; past 8 n the work slice is as it was
+-- the turn has aimed; past 8 n the work slice is as it was
 pub record SinksAimed (b : Block) (price weight : ℕ → ℕ) (marks sinks w w′ : List ℕ) (cost count : ℕ) : Type 0 where
-  pub estimates : List ℕ
-  pub end : AimEnd b price weight marks sinks estimates w′ cost count
+  pub done : AimDone b price weight marks sinks w′ cost count
   pub long : length w′ ≡ length w
   pub beyond : (j : ℕ) → 8 * nodes b ≤ j → getD w′ j 0 ≡ getD w j 0
 

@@ -4,7 +4,6 @@
 -- Assumes nothing.
 use mathlib.Core.Bool.{Bool, true, false}
 use mathlib.Core.List.{List}
-use mathlib.Core.Logic.{_⊎_}
 use mathlib.Core.Path.{_≡_}
 use Prim.Native.Nat.{ℕ, _+_, _*_, _≤_, _<_}
 use lib.Dec.{eqb, ltb}
@@ -17,7 +16,7 @@ use Rattle.search.specs.Tables.{Graph}
 use Rattle.search.specs.Paths.{anyPriceMost, Fair}
 use Rattle.search.specs.Distance.{far, inTree, distances, distance}
 use Rattle.search.specs.Turn.{before, nearestDistance}
-use Rattle.search.specs.Layout.{distAt, leafAt, priceIn, predAt, Heap}
+use Rattle.search.specs.Layout.{distAt, leafAt, priceIn, predAt, Heap, Shortened, Best}
 use Rattle.search.specs.Aimed.{expands}
 use Rattle.search.specs.Estimates.{guessAt, keyMost, Estimated}
 
@@ -30,19 +29,6 @@ pub record AimStarted (n : ℕ) (marks w w′ : List ℕ) : Type 0 where
   pub leaf : (v : ℕ) → v < n → leafAt n w′ v ≡ choose (inTree marks v) (guessAt n w v) far
   pub high : (j : ℕ) → 3 * n ≤ j → getD w′ j 0 ≡ getD w j 0
 
--- w′ is w with a way to v over u, of length d; v waits at this key
-pub record AimShortened (n u v d key : ℕ) (w w′ : List ℕ) : Type 0 where
-  pub long : length w′ ≡ length w
-  pub heap : Heap n w′
-  pub dist-here : distAt w′ v ≡ d
-  pub pred-here : predAt n w′ v ≡ u
-  pub leaf-here : leafAt n w′ v ≡ key
-  pub dist-other : (x : ℕ) → x < n → (x ≡ v → ⊥) → distAt w′ x ≡ distAt w x
-  pub pred-other : (x : ℕ) → x < n → (x ≡ v → ⊥) → predAt n w′ x ≡ predAt n w x
-  pub leaf-other : (x : ℕ) → x < n → (x ≡ v → ⊥) → leafAt n w′ x ≡ leafAt n w x
-  pub price-same : (x : ℕ) → x < n → priceIn n w′ x ≡ priceIn n w x
-  pub high : (j : ℕ) → 5 * n ≤ j → getD w′ j 0 ≡ getD w j 0
-
 -- how long the way to v over u is
 abbrev pub wayOver : ℕ → List ℕ → ℕ → ℕ → ℕ
 wayOver n w u v = distAt w u + priceIn n w v
@@ -53,7 +39,7 @@ pub data AimedOver (n u v : ℕ) (w w′ : List ℕ) : Type 0 where
   over-blind : guessAt n w v ≡ far → w′ ≡ w → AimedOver n u v w w′
   over-shorter :
       (guessAt n w v ≡ far → ⊥) → wayOver n w u v < distAt w v
-      → AimShortened n u v (wayOver n w u v) (wayOver n w u v + guessAt n w v) w w′ → AimedOver n u v w w′
+      → Shortened n u v (wayOver n w u v) (wayOver n w u v + guessAt n w v) w w′ → AimedOver n u v w w′
   over-lower :
       (guessAt n w v ≡ far → ⊥) → wayOver n w u v ≡ distAt w v → u < predAt n w v → w′ ≡ set w (4 * n + v) u → AimedOver n u v w w′
   over-kept : distAt w v ≤ wayOver n w u v → (wayOver n w u v ≡ distAt w v → predAt n w v ≤ u) → w′ ≡ w → AimedOver n u v w w′
@@ -80,14 +66,14 @@ pub record AimedSome (b : Block) (u : ℕ) (w w′ : List ℕ) : Type 0 where
   pub high : (j : ℕ) → 5 * nodes b ≤ j → getD w′ j 0 ≡ getD w j 0
 
 -- the edge from u to x has been looked at: no way over it is shorter, nor as short over a lower node
-pub record Passed (n u : ℕ) (w w′ : List ℕ) (x : ℕ) : Type 0 where
+pub record EdgePassed (n u : ℕ) (w w′ : List ℕ) (x : ℕ) : Type 0 where
   pub least : distAt w′ x ≤ wayOver n w u x
   pub lowest : wayOver n w u x ≡ distAt w′ x → predAt n w′ x ≤ u
 
 -- every edge of u to a node that has an estimate has been looked at
 pub record AimedRow (b : Block) (u : ℕ) (w w′ : List ℕ) : Type 0 where
   pub some : AimedSome b u w w′
-  pub all : (x : ℕ) → hasEdge b u x ≡ true → (guessAt (nodes b) w x ≡ far → ⊥) → Passed (nodes b) u w w′ x
+  pub all : (x : ℕ) → hasEdge b u x ≡ true → (guessAt (nodes b) w x ≡ far → ⊥) → EdgePassed (nodes b) u w w′ x
 
 -- safe to look at the edges of u: no sum wraps
 pub record AimRowReady (b : Block) (w : List ℕ) (u : ℕ) : Type 0 where
@@ -99,19 +85,16 @@ pub record AimRowReady (b : Block) (w : List ℕ) (u : ℕ) : Type 0 where
   pub prices : (v : ℕ) → v < nodes b → priceIn (nodes b) w v ≤ anyPriceMost
   pub guesses : (v : ℕ) → v < nodes b → (guessAt (nodes b) w v ≡ far → ⊥) → guessAt (nodes b) w v ≤ keyMost
 
--- `best` is the least distance that an unjoined sink has so far, `far` where none has one
-pub record BestAim (n best : ℕ) (w : List ℕ) : Type 0 where
-  pub most : best ≤ far
-  pub least : (v : ℕ) → v < n → guessAt n w v ≡ 0 → best ≤ distAt w v
-  pub some : (best ≡ far) ⊎ ((v : ℕ) × (v < n) × (guessAt n w v ≡ 0) × (distAt w v ≡ best))
+-- `best` is the least distance that an unjoined sink has so far, `far` where none has one: an unjoined sink has estimate 0
+abbrev pub BestAim : (n best : ℕ) (w : List ℕ) → Type 0
+BestAim n best w = Best (6 * n) 0 n best w
 
 -- ---- a whole pass
 
--- what a turn aims at: prices, weights, tree marks and sinks
-pub record AimTask (b : Block) : Type 0 where
+-- what a turn with these tree marks aims at: prices, weights and sinks
+pub record AimTask (b : Block) (marks : List ℕ) : Type 0 where
   pub price : ℕ → ℕ
   pub weight : ℕ → ℕ
-  pub marks : List ℕ
   pub sinks : List ℕ
   pub fair : Fair b price
   pub fair-weight : Fair b weight
@@ -130,8 +113,8 @@ hasLeft n w v = both (both (eqb (leafAt n w v) far) (ltb (distAt w v) far)) (ltb
 -- a node has left the queue, or it waits at its distance and estimate together, or it lacks one of the two
 pub data Place (n : ℕ) (w : List ℕ) (v : ℕ) : Type 0 where
   gone : Left n w v → Place n w v
-  waits : distAt w v + guessAt n w v < far → leafAt n w v ≡ distAt w v + guessAt n w v → Place n w v
-  bare : leafAt n w v ≡ far → far ≤ distAt w v + guessAt n w v → Place n w v
+  waiting : distAt w v + guessAt n w v < far → leafAt n w v ≡ distAt w v + guessAt n w v → Place n w v
+  lacking : leafAt n w v ≡ far → far ≤ distAt w v + guessAt n w v → Place n w v
 
 -- v was reached from its predecessor, an expanded node, over an edge
 pub record AimReached (b : Block) (price : ℕ → ℕ) (w : List ℕ) (v : ℕ) : Type 0 where
@@ -140,64 +123,64 @@ pub record AimReached (b : Block) (price : ℕ → ℕ) (w : List ℕ) (v : ℕ)
   pub sum : distAt w v ≡ distAt w (predAt (nodes b) w v) + price v
 
 -- between two expansions: `best` is the nearest sink's distance so far, and so many nodes have been expanded
-pub record Aiming (b : Block) (t : AimTask b) (w : List ℕ) (best count : ℕ) : Type 0 where
+pub record Aiming (b : Block) (marks : List ℕ) (t : AimTask b marks) (w : List ℕ) (best count : ℕ) : Type 0 where
   pub long : 8 * nodes b ≤ length w
   pub heap : Heap (nodes b) w
   pub prices : (v : ℕ) → v < nodes b → priceIn (nodes b) w v ≡ t .price v
-  pub estimated : Estimated b (t .price) (t .weight) (t .marks) (t .sinks) w
-  pub tree : (v : ℕ) → v < nodes b → inTree (t .marks) v ≡ true → distAt w v ≡ 0
+  pub estimated : Estimated b (t .price) (t .weight) marks (t .sinks) w
+  pub tree : (v : ℕ) → v < nodes b → inTree marks v ≡ true → distAt w v ≡ 0
   pub places : (v : ℕ) → v < nodes b → Place (nodes b) w v
   pub relaxed :
       (u v : ℕ) → v < nodes b → Left (nodes b) w u → hasEdge b u v ≡ true → guessAt (nodes b) w v < far
       → distAt w v ≤ distAt w u + t .price v
-  pub reached : (v : ℕ) → v < nodes b → inTree (t .marks) v ≡ false → distAt w v < far → AimReached b (t .price) w v
+  pub reached : (v : ℕ) → v < nodes b → inTree marks v ≡ false → distAt w v < far → AimReached b (t .price) w v
   -- the predecessor is the lowest-numbered expanded node over which v has its distance
   pub lowest :
-      (u v : ℕ) → v < nodes b → inTree (t .marks) v ≡ false → Left (nodes b) w u → hasEdge b u v ≡ true → guessAt (nodes b) w v < far
+      (u v : ℕ) → v < nodes b → inTree marks v ≡ false → Left (nodes b) w u → hasEdge b u v ≡ true → guessAt (nodes b) w v < far
       → distAt w v ≡ distAt w u + t .price v → predAt (nodes b) w v ≤ u
   pub final :
       (v : ℕ) → Left (nodes b) w v
-      → (distAt w v ≡ distance b (t .price) (t .marks) v) × (expands b (t .price) (t .weight) (t .marks) (t .sinks) v ≡ true)
+      → (distAt w v ≡ distance b (t .price) marks v) × (expands b (t .price) (t .weight) marks (t .sinks) v ≡ true)
   -- where no sink can be joined, nothing waits
-  pub stuck : nearestDistance b (t .price) (t .marks) (t .sinks) ≡ far → (v : ℕ) → v < nodes b → leafAt (nodes b) w v ≡ far
+  pub stuck : nearestDistance b (t .price) marks (t .sinks) ≡ far → (v : ℕ) → v < nodes b → leafAt (nodes b) w v ≡ far
   pub best-aim : BestAim (nodes b) best w
   pub counted : count ≡ countBelow (hasLeft (nodes b) w) (nodes b)
 
 -- a pass is about to begin: with some task this is its work slice
 pub record AimLaunched (b : Block) (w : List ℕ) : Type 0 where
   pub sound : Graph b
-  pub task : AimTask b
-  pub stands : Aiming b task w far 0
+  pub marks : List ℕ
+  pub task : AimTask b marks
+  pub stands : Aiming b marks task w far 0
 
--- a turn is ready to aim: with some prices, weights and sinks these are its tree marks and its work slice
+-- a turn is ready to aim: with some task this is its work slice
 pub record AimReady (b : Block) (marks w : List ℕ) : Type 0 where
   pub sound : Graph b
-  pub price : ℕ → ℕ
-  pub weight : ℕ → ℕ
-  pub sinks : List ℕ
-  pub fair : Fair b price
-  pub fair-weight : Fair b weight
-  pub dear : (v : ℕ) → v < nodes b → weight v ≤ price v
+  pub task : AimTask b marks
   pub marks-long : nodes b ≤ length marks
   pub long : 8 * nodes b ≤ length w
-  pub prices : (v : ℕ) → v < nodes b → priceIn (nodes b) w v ≡ price v
-  pub estimated : Estimated b price weight marks sinks w
+  pub prices : (v : ℕ) → v < nodes b → priceIn (nodes b) w v ≡ task .price v
+  pub estimated : Estimated b (task .price) (task .weight) marks (task .sinks) w
 
--- what is left when a turn has aimed: `cost` is the joined sink's distance, `far` where none has one, and so many nodes were expanded
-pub record AimEnd (b : Block) (price weight : ℕ → ℕ) (marks sinks w w′ : List ℕ) (cost count : ℕ) : Type 0 where
-  pub long : length w′ ≡ length w
-  pub high : (j : ℕ) → 5 * nodes b ≤ j → getD w′ j 0 ≡ getD w j 0
+-- a turn has aimed: `cost` is the joined sink's distance, `far` where none has one, and so many nodes were expanded
+pub record AimDone (b : Block) (price weight : ℕ → ℕ) (marks sinks w : List ℕ) (cost count : ℕ) : Type 0 where
   pub cost-is : cost ≡ nearestDistance b price marks sinks
   pub count-is : cost < far → count ≡ countBelow (expands b price weight marks sinks) (nodes b)
   -- a distance so far is never too low, and it is final on the nodes that the turn expands
-  pub dist-least : (v : ℕ) → v < nodes b → distance b price marks v ≤ distAt w′ v
-  pub dist-tree : (v : ℕ) → v < nodes b → inTree marks v ≡ true → distAt w′ v ≡ 0
+  pub dist-least : (v : ℕ) → v < nodes b → distance b price marks v ≤ distAt w v
+  pub dist-tree : (v : ℕ) → v < nodes b → inTree marks v ≡ true → distAt w v ≡ 0
   pub dist-final :
-      cost < far → (v : ℕ) → v < nodes b → expands b price weight marks sinks v ≡ true → distAt w′ v ≡ distance b price marks v
+      cost < far → (v : ℕ) → v < nodes b → expands b price weight marks sinks v ≡ true → distAt w v ≡ distance b price marks v
   -- outside the tree a node that has a distance has it over its predecessor, which is nearer
-  pub pred-node : (v : ℕ) → v < nodes b → inTree marks v ≡ false → distAt w′ v < far → predAt (nodes b) w′ v < nodes b
+  pub pred-node : (v : ℕ) → v < nodes b → inTree marks v ≡ false → distAt w v < far → predAt (nodes b) w v < nodes b
   pub pred-nearer :
-      (v : ℕ) → v < nodes b → inTree marks v ≡ false → distAt w′ v < far → distAt w′ (predAt (nodes b) w′ v) < distAt w′ v
+      (v : ℕ) → v < nodes b → inTree marks v ≡ false → distAt w v < far → distAt w (predAt (nodes b) w v) < distAt w v
   pub pred-final :
       cost < far → (v : ℕ) → v < nodes b → inTree marks v ≡ false → expands b price weight marks sinks v ≡ true
-      → predAt (nodes b) w′ v ≡ before b price (distances b price marks) v
+      → predAt (nodes b) w v ≡ before b price (distances b price marks) v
+
+-- what aiming makes of a work slice: past 5 n it is as it was
+pub record AimEnd (b : Block) (price weight : ℕ → ℕ) (marks sinks w w′ : List ℕ) (cost count : ℕ) : Type 0 where
+  pub long : length w′ ≡ length w
+  pub high : (j : ℕ) → 5 * nodes b ≤ j → getD w′ j 0 ≡ getD w j 0
+  pub done : AimDone b price weight marks sinks w′ cost count

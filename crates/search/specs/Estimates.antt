@@ -1,6 +1,6 @@
 -- What holds while estimates spread from the unjoined sinks against the edges, the nearest waiting node first. The queue's entries stand
--- from n, prices from 3 n, goal marks from 5 n, estimates from 6 n, and from 7 n what the walk that each of them stands for costs at the
--- turn's prices. Only the contracts of private functions cite this file: no caller has to believe it.
+-- from n, prices from 3 n, estimates from 6 n, and from 7 n what the walk that each of them stands for costs at the turn's prices. Only the
+-- contracts of private functions cite this file: no caller has to believe it.
 -- Assumes nothing.
 use mathlib.Core.Bool.{true, false}
 use mathlib.Core.List.{List, []}
@@ -47,15 +47,6 @@ pub record Beside (n : ℕ) (w w′ : List ℕ) : Type 0 where
   pub middle : (j : ℕ) → 3 * n ≤ j → j < 6 * n → getD w′ j 0 ≡ getD w j 0
   pub beyond : (j : ℕ) → 8 * n ≤ j → getD w′ j 0 ≡ getD w j 0
 
--- w′ is w with node v in the queue at this key
-pub record Queued (n v key : ℕ) (w w′ : List ℕ) : Type 0 where
-  pub long : length w′ ≡ length w
-  pub heap : Heap n w′
-  pub leaf-here : leafAt n w′ v ≡ key
-  pub leaf-other : (x : ℕ) → x < n → (x ≡ v → ⊥) → leafAt n w′ x ≡ leafAt n w x
-  pub low : (j : ℕ) → j < n → getD w′ j 0 ≡ getD w j 0
-  pub high : (j : ℕ) → 3 * n ≤ j → getD w′ j 0 ≡ getD w j 0
-
 -- w′ is w with an estimate on node u, by a walk of this cost; u waits in the queue at the estimate and its weight together
 pub record Guessed (n : ℕ) (weight : ℕ → ℕ) (u guess cost : ℕ) (w w′ : List ℕ) : Type 0 where
   pub same : Beside n w w′
@@ -75,13 +66,13 @@ pub data Tried (n : ℕ) (weight : ℕ → ℕ) (marks : List ℕ) (u guess cost
       → Tried n weight marks u guess cost w w′ bound bound′
 
 -- node u is as before, or it had no estimate and has got one over its edge to v
-pub data Reguessed (b : Block) (weight : ℕ → ℕ) (v guess cost : ℕ) (w w′ : List ℕ) (u : ℕ) : Type 0 where
-  kept :
+pub data NodeGuessed (b : Block) (weight : ℕ → ℕ) (v guess cost : ℕ) (w w′ : List ℕ) (u : ℕ) : Type 0 where
+  guess-stays :
       guessAt (nodes b) w′ u ≡ guessAt (nodes b) w u → walkAt (nodes b) w′ u ≡ walkAt (nodes b) w u
-      → leafAt (nodes b) w′ u ≡ leafAt (nodes b) w u → Reguessed b weight v guess cost w w′ u
-  fresh :
+      → leafAt (nodes b) w′ u ≡ leafAt (nodes b) w u → NodeGuessed b weight v guess cost w w′ u
+  guess-new :
       guessAt (nodes b) w u ≡ far → hasEdge b u v ≡ true → guessAt (nodes b) w′ u ≡ guess → walkAt (nodes b) w′ u ≡ cost
-      → leafAt (nodes b) w′ u ≡ guess + weight u → Reguessed b weight v guess cost w w′ u
+      → leafAt (nodes b) w′ u ≡ guess + weight u → NodeGuessed b weight v guess cost w w′ u
 
 -- a tree node that has got an estimate by a walk of this cost
 pub record TreeGuessed (n : ℕ) (marks : List ℕ) (cost : ℕ) (w w′ : List ℕ) : Type 0 where
@@ -93,15 +84,15 @@ pub record TreeGuessed (n : ℕ) (marks : List ℕ) (cost : ℕ) (w w′ : List 
   pub cost-here : walkAt n w′ tree ≡ cost
 
 -- nodes that have an edge to v have been given this estimate where they had none, others not; what stands outside queue and estimates stays
-pub record Reguessing (b : Block) (weight : ℕ → ℕ) (marks : List ℕ) (v guess cost : ℕ) (w w′ : List ℕ) (bound bound′ : ℕ) : Type 0 where
+pub record SomeGuessed (b : Block) (weight : ℕ → ℕ) (marks : List ℕ) (v guess cost : ℕ) (w w′ : List ℕ) (bound bound′ : ℕ) : Type 0 where
   pub same : Beside (nodes b) w w′
   pub heap : Heap (nodes b) w′
-  pub each : (u : ℕ) → u < nodes b → Reguessed b weight v guess cost w w′ u
+  pub each : (u : ℕ) → u < nodes b → NodeGuessed b weight v guess cost w w′ u
   pub bounds : (bound′ ≡ bound) ⊎ ((bound′ ≡ cost) × TreeGuessed (nodes b) marks cost w w′)
 
 -- all that have an edge to v have been looked at
 pub record GuessedBefore (b : Block) (weight : ℕ → ℕ) (marks : List ℕ) (v guess cost : ℕ) (w w′ : List ℕ) (bound bound′ : ℕ) : Type 0 where
-  pub some : Reguessing b weight marks v guess cost w w′ bound bound′
+  pub some : SomeGuessed b weight marks v guess cost w w′ bound bound′
   pub all : (u : ℕ) → hasEdge b u v ≡ true → guessAt (nodes b) w′ u ≡ far → ⊥
 
 -- ---- the beginning of a pass
@@ -160,10 +151,7 @@ pub record Estimated (b : Block) (price weight : ℕ → ℕ) (marks sinks w : L
   pub goals : (s : ℕ) → s < nodes b → has s sinks ≡ true → inTree marks s ≡ false → guessAt (nodes b) w s ≡ 0
   pub goals-only : (s : ℕ) → s < nodes b → guessAt (nodes b) w s ≡ 0 → (has s sinks ≡ true) × (inTree marks s ≡ false)
 
--- w′ is w with the estimates made; prices stay
+-- w′ is w with the estimates made; distances and prices stay
 pub record EstimatesMade (b : Block) (price weight : ℕ → ℕ) (marks sinks w w′ : List ℕ) : Type 0 where
-  pub long : length w′ ≡ length w
-  pub low : (j : ℕ) → j < nodes b → getD w′ j 0 ≡ getD w j 0
-  pub middle : (j : ℕ) → 3 * nodes b ≤ j → j < 6 * nodes b → getD w′ j 0 ≡ getD w j 0
-  pub beyond : (j : ℕ) → 8 * nodes b ≤ j → getD w′ j 0 ≡ getD w j 0
+  pub same : Beside (nodes b) w w′
   pub estimated : Estimated b price weight marks sinks w′

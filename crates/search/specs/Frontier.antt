@@ -16,7 +16,7 @@ use Rattle.search.specs.Tables.{Graph}
 use Rattle.search.specs.Paths.{anyPriceMost, Fair}
 use Rattle.search.specs.Distance.{far, inTree}
 use Rattle.search.specs.Turn.{Congestion}
-use Rattle.search.specs.Layout.{distAt, entryAt, leafAt, priceIn, predAt, goalAt, Heap}
+use Rattle.search.specs.Layout.{distAt, entryAt, leafAt, priceIn, predAt, goalAt, Heap, Best}
 
 -- an open node waits in the queue at its distance so far, `far` where it has none
 abbrev pub Open : ℕ → List ℕ → ℕ → Type 0
@@ -65,10 +65,8 @@ abbrev pub Waiting : (b : Block) (price : ℕ → ℕ) (marks w : List ℕ) → 
 Waiting b price marks w = Frontier b price marks w (entryAt (nodes b) w 1) (nodes b) 0
 
 -- `best` is the least distance that a goal has so far, `far` where none has one
-pub record BestGoal (n best : ℕ) (w : List ℕ) : Type 0 where
-  pub most : best ≤ far
-  pub least : (v : ℕ) → v < n → goalAt n w v ≡ 1 → best ≤ distAt w v
-  pub some : (best ≡ far) ⊎ ((v : ℕ) × (v < n) × (goalAt n w v ≡ 1) × (distAt w v ≡ best))
+abbrev pub BestGoal : (n best : ℕ) (w : List ℕ) → Type 0
+BestGoal n best w = Best (5 * n) 1 n best w
 
 -- the last step to a goal costs at least `step`
 pub record LastStep (n step : ℕ) (w : List ℕ) : Type 0 where

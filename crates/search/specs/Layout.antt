@@ -3,6 +3,7 @@
 -- The queue is a tournament tree: entry i is the least of entries 2 i and 2 i + 1, and node v's leaf is entry n + v.
 -- Assumes nothing.
 use mathlib.Core.List.{List}
+use mathlib.Core.Logic.{_⊎_}
 use mathlib.Core.Path.{_≡_}
 use Prim.Native.Nat.{ℕ, _+_, _*_, _≤_, _<_, min}
 use lib.ListN.{length, getD, set}
@@ -44,12 +45,21 @@ pub record SameBut (lo hi : ℕ) (old new : List ℕ) : Type 0 where
   pub low : (j : ℕ) → j < lo → getD new j 0 ≡ getD old j 0
   pub high : (j : ℕ) → hi ≤ j → getD new j 0 ≡ getD old j 0
 
--- w′ is w with a shorter way to v: over u, at distance d
-pub record Shortened (n u v d : ℕ) (w w′ : List ℕ) : Type 0 where
+-- w′ is w with node v in the queue at this key; at `far` it is out of the queue
+pub record Queued (n v key : ℕ) (w w′ : List ℕ) : Type 0 where
+  pub long : length w′ ≡ length w
+  pub heap : Heap n w′
+  pub leaf-here : leafAt n w′ v ≡ key
+  pub leaf-other : (x : ℕ) → x < n → (x ≡ v → ⊥) → leafAt n w′ x ≡ leafAt n w x
+  pub low : (j : ℕ) → j < n → getD w′ j 0 ≡ getD w j 0
+  pub high : (j : ℕ) → 3 * n ≤ j → getD w′ j 0 ≡ getD w j 0
+
+-- w′ is w with a shorter way to v: over u, at distance d; v waits at this key
+pub record Shortened (n u v d key : ℕ) (w w′ : List ℕ) : Type 0 where
   pub long : length w′ ≡ length w
   pub heap : Heap n w′
   pub dist-here : distAt w′ v ≡ d
-  pub leaf-here : leafAt n w′ v ≡ d
+  pub leaf-here : leafAt n w′ v ≡ key
   pub pred-here : predAt n w′ v ≡ u
   pub dist-other : (x : ℕ) → x < n → (x ≡ v → ⊥) → distAt w′ x ≡ distAt w x
   pub leaf-other : (x : ℕ) → x < n → (x ≡ v → ⊥) → leafAt n w′ x ≡ leafAt n w x
@@ -59,20 +69,13 @@ pub record Shortened (n u v d : ℕ) (w w′ : List ℕ) : Type 0 where
 
 -- what looking at the edge from u to v does: v gets a shorter way, or as short a way over a lower node, or nothing changes
 pub data Relaxed (n u v : ℕ) (w w′ : List ℕ) : Type 0 where
-  shorter : distAt w u + priceIn n w v < distAt w v → Shortened n u v (distAt w u + priceIn n w v) w w′ → Relaxed n u v w w′
+  shorter :
+      distAt w u + priceIn n w v < distAt w v → Shortened n u v (distAt w u + priceIn n w v) (distAt w u + priceIn n w v) w w′
+      → Relaxed n u v w w′
   lower : distAt w u + priceIn n w v ≡ distAt w v → u < predAt n w v → w′ ≡ set w (4 * n + v) u → Relaxed n u v w w′
   kept :
       distAt w v ≤ distAt w u + priceIn n w v → (distAt w u + priceIn n w v ≡ distAt w v → predAt n w v ≤ u) → w′ ≡ w
       → Relaxed n u v w w′
-
--- w′ is w with node u out of the queue
-pub record TakenOut (n u : ℕ) (w w′ : List ℕ) : Type 0 where
-  pub long : length w′ ≡ length w
-  pub heap : Heap n w′
-  pub leaf-here : leafAt n w′ u ≡ far
-  pub leaf-other : (x : ℕ) → x < n → (x ≡ u → ⊥) → leafAt n w′ x ≡ leafAt n w x
-  pub dist-same : (x : ℕ) → x < n → distAt w′ x ≡ distAt w x
-  pub high : (j : ℕ) → 3 * n ≤ j → getD w′ j 0 ≡ getD w j 0
 
 -- the queue and the distances before anything is settled
 pub record Started (n : ℕ) (marks w w′ : List ℕ) : Type 0 where
@@ -80,6 +83,12 @@ pub record Started (n : ℕ) (marks w w′ : List ℕ) : Type 0 where
   pub dist : (v : ℕ) → v < n → distAt w′ v ≡ choose (inTree marks v) 0 far
   pub leaf : (v : ℕ) → v < n → leafAt n w′ v ≡ choose (inTree marks v) 0 far
   pub high : (j : ℕ) → 3 * n ≤ j → getD w′ j 0 ≡ getD w j 0
+
+-- `best` is the least distance that a node with this mark has so far, `far` where none has one; node v's mark stands at `at` + v
+pub record Best (at mark n best : ℕ) (w : List ℕ) : Type 0 where
+  pub most : best ≤ far
+  pub least : (v : ℕ) → v < n → getD w (at + v) 0 ≡ mark → best ≤ distAt w v
+  pub some : (best ≡ far) ⊎ ((v : ℕ) × (v < n) × (getD w (at + v) 0 ≡ mark) × (distAt w v ≡ best))
 
 -- every node's price stands in its place
 pub record Priced (n : ℕ) (price : ℕ → ℕ) (w w′ : List ℕ) : Type 0 where

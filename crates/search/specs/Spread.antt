@@ -33,14 +33,14 @@ pub record Came (b : Block) (price : ℕ → ℕ) (w : List ℕ) (level v : ℕ)
   pub sum : labelAt w v ≡ labelAt w (fromAt (nodes b) w v) + price v
 
 -- a place of u's row that has been passed: all of them, but of node `cur` only those before `place`
-pub record Passed (b : Block) (cur place u k : ℕ) : Type 0 where
+pub record PlacePassed (b : Block) (cur place u k : ℕ) : Type 0 where
   pub from : rowStart b u ≤ k
   pub below : k < rowStart b (u + 1)
   pub within : k < length (b .edgeTargets)
   pub seen : u ≡ cur → k < place
 
 -- the edge from u to v has been looked at: v is no farther over u, nor as near over a node as near as u and lower
-pub record Looked (n : ℕ) (price : ℕ → ℕ) (w : List ℕ) (u v : ℕ) : Type 0 where
+pub record EdgeLooked (n : ℕ) (price : ℕ → ℕ) (w : List ℕ) (u v : ℕ) : Type 0 where
   pub labelled : labelAt w v < goal
   pub near : labelAt w v ≤ labelAt w u + price v
   pub lowest : 0 < labelAt w v → labelAt w (fromAt n w v) ≡ labelAt w u → fromAt n w v ≤ u
@@ -59,10 +59,11 @@ pub record Spread (b : Block) (price : ℕ → ℕ) (w : List ℕ) (count level 
   pub done :
       (u : ℕ) → u < nodes b → labelAt w u < goal
       → Waits (nodes b) count w u
-      ⊎ ((k : ℕ) → Passed b cur place u k → getD (b .edgeTargets) k 0 < nodes b → Looked (nodes b) price w u (getD (b .edgeTargets) k 0))
+      ⊎ ((k : ℕ) → PlacePassed b cur place u k → getD (b .edgeTargets) k 0 < nodes b
+      → EdgeLooked (nodes b) price w u (getD (b .edgeTargets) k 0))
 
 -- from w to w′: labels stay, what has none may get one, and `best` follows the least label of a goal
-pub record Onward (n : ℕ) (w w′ : List ℕ) (best best′ : ℕ) : Type 0 where
+pub record SpreadOnward (n : ℕ) (w w′ : List ℕ) (best best′ : ℕ) : Type 0 where
   pub long : length w′ ≡ length w
   pub high : (j : ℕ) → 3 * n ≤ j → getD w′ j 0 ≡ getD w j 0
   pub kept : (v : ℕ) → v < n → labelAt w v < goal → labelAt w′ v ≡ labelAt w v
@@ -93,15 +94,15 @@ pub data Lowered (n u v d : ℕ) (w w′ : List ℕ) : Type 0 where
   stays : (labelAt w (fromAt n w v) ≡ d → fromAt n w v ≤ u) → w′ ≡ w → Lowered n u v d w w′
 
 -- what looking at the edge from u, of label d, to v does
-pub data Relaxed (n : ℕ) (firsts : List ℕ) (price : ℕ → ℕ) (u v d : ℕ) (w w′ : List ℕ) (count count′ best best′ : ℕ) : Type 0 where
-  beyond : n ≤ v → w′ ≡ w → count′ ≡ count → best′ ≡ best → Relaxed n firsts price u v d w w′ count count′ best best′
+pub data EdgeRelaxed (n : ℕ) (firsts : List ℕ) (price : ℕ → ℕ) (u v d : ℕ) (w w′ : List ℕ) (count count′ best best′ : ℕ) : Type 0 where
+  beyond : n ≤ v → w′ ≡ w → count′ ≡ count → best′ ≡ best → EdgeRelaxed n firsts price u v d w w′ count count′ best best′
   labels :
       v < n → goal ≤ labelAt w v → Labelled n firsts u v (d + price v) w w′ count count′ → GoalMet (labelAt w v) (d + price v) best best′
-      → Relaxed n firsts price u v d w w′ count count′ best best′
+      → EdgeRelaxed n firsts price u v d w w′ count count′ best best′
   lowers :
       v < n → 0 < labelAt w v → labelAt w v < goal → Lowered n u v d w w′ → count′ ≡ count → best′ ≡ best
-      → Relaxed n firsts price u v d w w′ count count′ best best′
-  tree : v < n → labelAt w v ≡ 0 → w′ ≡ w → count′ ≡ count → best′ ≡ best → Relaxed n firsts price u v d w w′ count count′ best best′
+      → EdgeRelaxed n firsts price u v d w w′ count count′ best best′
+  tree : v < n → labelAt w v ≡ 0 → w′ ≡ w → count′ ≡ count → best′ ≡ best → EdgeRelaxed n firsts price u v d w w′ count count′ best best′
 
 -- safe to give v a label
 pub record LabelReady (n : ℕ) (firsts w : List ℕ) (count u v : ℕ) : Type 0 where
@@ -133,9 +134,9 @@ pub record SettleReady (b : Block) (price : ℕ → ℕ) (w : List ℕ) (count u
   pub spread : Spread b price w count (labelAt w u) u 0
 
 -- u has spread its label
-pub record Settled (b : Block) (price : ℕ → ℕ) (level : ℕ) (w w′ : List ℕ) (count count′ best best′ : ℕ) : Type 0 where
+pub record NodeSettled (b : Block) (price : ℕ → ℕ) (level : ℕ) (w w′ : List ℕ) (count count′ best best′ : ℕ) : Type 0 where
   pub spread : Spread b price w′ count′ level (nodes b) 0
-  pub onward : Onward (nodes b) w w′ best best′
+  pub onward : SpreadOnward (nodes b) w w′ best best′
   pub fewer : 2 * bareCount (nodes b) w′ + count′ ≤ 2 * bareCount (nodes b) w + count
 
 -- safe to settle every waiting node
@@ -145,9 +146,9 @@ pub record RunReady (b : Block) (price : ℕ → ℕ) (w : List ℕ) (count step
   pub small : step ≤ anyPriceMost
 
 -- the spreading has stopped: nothing waits any more, or no waiting node leads to a goal as near as `best`
-pub record Ran (b : Block) (price : ℕ → ℕ) (step : ℕ) (w w′ : List ℕ) (best : ℕ) : Type 0 where
+pub record SpreadStopped (b : Block) (price : ℕ → ℕ) (step : ℕ) (w w′ : List ℕ) (best : ℕ) : Type 0 where
   pub count : ℕ
   pub level : ℕ
   pub spread : Spread b price w′ count level (nodes b) 0
-  pub onward : Onward (nodes b) w w′ far best
+  pub onward : SpreadOnward (nodes b) w w′ far best
   pub stopped : (level ≡ far) ⊎ (best < level + step)

@@ -1,17 +1,17 @@
 // The search that aims: nodes leave the queue by distance and estimate together, until the least of them is above the distance of the
 // nearest sink. A node's first distance need not be its last, so that its key in the queue may fall; a node that has left keeps its own.
 // The work slice of n nodes: distances from 0, the queue from n, prices from 3n, predecessors from 4n, estimates from 6n.
+ghost use mathlib.Core.List.{List};
 ghost use mathlib.Core.Path.{_≡_};
-ghost use Prim.Native.Nat.{_+_, _*_, _^_, _≤_, _<_};
+ghost use Prim.Native.Nat.{ℕ, _+_, _*_, _^_, _≤_, _<_};
 ghost use lib.ListN.{length};
 ghost use Rattle.search.specs.Block.{graphOf};
 ghost use Rattle.search.specs.Distance.{far};
 ghost use Rattle.search.specs.Layout.{Heap};
 ghost use Rattle.search.specs.Estimates.{guessAt};
-ghost use Rattle.search.specs.Aiming.{wayOver, AimStarted, AimShortened, AimedOver, AimRowReady, AimedRow, BestAim};
+ghost use Rattle.search.specs.Aiming.{wayOver, AimStarted, AimedOver, AimRowReady, AimedRow, BestAim};
 ghost use Rattle.search.specs.Aiming.{AimTask, Aiming, AimLaunched, AimReady, AimEnd};
 use crate::distances;
-use crate::estimate;
 use crate::queue;
 
 // The distance of the joined sink, FAR where none has a path, and how many nodes were expanded.
@@ -38,17 +38,6 @@ fn start_aim(in_tree: &[u8], work: &mut [u64], n: usize)
     }
 }
 
-// Node v, of estimate `guess`, has a shorter way, over u.
-fn aim_shorter(work: &mut [u64], n: usize, u: usize, v: usize, d: u64, guess: u64)
-    requires { ⌜ (u < n) × (v < n) × (8 * n ≤ length (now work)) × Heap n (now work) ⌝ }
-    requires { ⌜ d + guess < 2 ^ 64 ⌝ }
-    ensures { λ _. ⌜ AimShortened n u v d (d + guess) (now (work .entry)) (now (work .exit)) ⌝ }
-{
-    work[v] = d;
-    work[4 * n + v] = u as u64;
-    estimate::wait(work, n, v, d + guess);
-}
-
 // Looks at the edge from u to v, unless v has no estimate. Answers the least distance of a sink so far; it was `best` before.
 fn aim(work: &mut [u64], n: usize, u: usize, v: usize, best: u64) -> u64
     requires { ⌜ (u < n) × (v < n) × (8 * n ≤ length (now work)) × Heap n (now work) ⌝ }
@@ -65,7 +54,7 @@ fn aim(work: &mut [u64], n: usize, u: usize, v: usize, best: u64) -> u64
     let d = work[u] + work[3 * n + v];
     let old = work[v];
     if d < old {
-        aim_shorter(work, n, u, v, d, guess);
+        distances::shorten(work, n, u, v, d, d + guess);
         if guess == 0 {
             if d < best {
                 return d;
@@ -81,7 +70,7 @@ fn aim(work: &mut [u64], n: usize, u: usize, v: usize, best: u64) -> u64
     best
 }
 
-// Looks at every edge of u.
+// Looks at every edge of u. Answers the least distance of a sink so far; it was `least` before.
 fn aim_row(
     kind: &[u8],
     first_edge: &[u32],
@@ -118,8 +107,8 @@ fn expand_all(kind: &[u8], first_edge: &[u32], edge_target: &[u16], work: &mut [
       let graph = graphOf (now (kind .entry)) (now («first_edge» .entry)) (now («edge_target» .entry))
       let before = now (work .entry)
       let after = now (work .exit)
-      ⌜ ((t : AimTask graph) → Aiming graph t before far 0
-          → AimEnd graph (t .price) (t .weight) (t .marks) (t .sinks) before after (r .cost) (r .expanded)) ⌝ }
+      ⌜ ((marks : List ℕ) (t : AimTask graph marks) → Aiming graph marks t before far 0
+          → AimEnd graph (t .price) (t .weight) marks (t .sinks) before after (r .cost) (r .expanded)) ⌝ }
 {
     let n = kind.len();
     let mut best = distances::FAR;
@@ -139,7 +128,7 @@ fn expand_all(kind: &[u8], first_edge: &[u32], edge_target: &[u16], work: &mut [
             };
         }
         let u = queue::nearest(work, n);
-        estimate::wait(work, n, u, distances::FAR);
+        queue::wait(work, n, u, distances::FAR);
         expanded += 1;
         best = aim_row(kind, first_edge, edge_target, work, u, best);
     }
@@ -160,8 +149,9 @@ pub fn aim_all(
       let graph = graphOf (now (kind .entry)) (now («first_edge» .entry)) (now («edge_target» .entry))
       let marks = now («in_tree» .entry)
       let before = now (work .entry)
-      ⌜ ((a : AimReady graph marks before)
-          → AimEnd graph (a .price) (a .weight) marks (a .sinks) before (now (work .exit)) (r .cost) (r .expanded)) ⌝ }
+      ⌜ ((a : AimReady graph marks before) → do
+        let t = a .task
+        AimEnd graph (t .price) (t .weight) marks (t .sinks) before (now (work .exit)) (r .cost) (r .expanded)) ⌝ }
 {
     let n = kind.len();
     start_aim(in_tree, work, n);

@@ -6,7 +6,7 @@ ghost use lib.ListN.{length, take, drop, replicate};
 ghost use Rattle.search.specs.Block.{blockOf, graphOf, rowStart};
 ghost use Rattle.search.specs.Distance.{far};
 ghost use Rattle.search.specs.Turn.{weighedCongestion, priceAt};
-ghost use Rattle.search.specs.Layout.{distAt, priceIn, Heap, Shortened, Relaxed, TakenOut, Started, Priced};
+ghost use Rattle.search.specs.Layout.{distAt, priceIn, Heap, Shortened, Relaxed, Started, Priced};
 ghost use Rattle.search.specs.Frontier.{PriceReady, RowReady, RowDone, BestGoal, LastStep, InProgress, Ran};
 use crate::queue;
 use crate::weighing;
@@ -59,8 +59,8 @@ pub fn fill_prices(
 )
     requires { do
       let congestion = weighedCongestion weighting (now delay) factor (now history) (now others)
-      ⌜ ((v : ℕ) → v < length (now kind) → PriceReady (now kind) (now capacity) congestion v) ⌝ }
-    requires { ⌜ 8 * length (now kind) ≤ length (now work) ⌝ }
+      ⌜ ((v : ℕ) → v < length (now kind) → PriceReady (now kind) (now capacity) congestion v)
+          × (8 * length (now kind) ≤ length (now work)) ⌝ }
     ensures { λ _. do
       let block = blockOf (now (kind .entry)) (now (capacity .entry)) [] []
       let congestion = weighedCongestion weighting (now (delay .entry)) factor (now (history .entry)) (now (others .entry))
@@ -101,15 +101,14 @@ pub fn clear(work: &mut [u64], from: usize, to: usize)
     }
 }
 
-// Node v has a shorter way, over u.
-fn shorten(work: &mut [u64], n: usize, u: usize, v: usize, d: u64)
+// Node v has a shorter way, over u, and waits at this key.
+pub fn shorten(work: &mut [u64], n: usize, u: usize, v: usize, d: u64, key: u64)
     requires { ⌜ (u < n) × (v < n) × (8 * n ≤ length (now work)) × Heap n (now work) ⌝ }
-    ensures { λ _. ⌜ Shortened n u v d (now (work .entry)) (now (work .exit)) ⌝ }
+    ensures { λ _. ⌜ Shortened n u v d key (now (work .entry)) (now (work .exit)) ⌝ }
 {
     work[v] = d;
-    work[2 * n + v] = d;
     work[4 * n + v] = u as u64;
-    queue::carry_up(work, n, (n + v) / 2);
+    queue::wait(work, n, v, key);
 }
 
 // Looks at the edge from u to v. Answers the least distance of a goal so far; it was `best` before.
@@ -124,7 +123,7 @@ fn relax(work: &mut [u64], n: usize, u: usize, v: usize, best: u64) -> u64
     let d = work[u] + work[3 * n + v];
     let old = work[v];
     if d < old {
-        shorten(work, n, u, v, d);
+        shorten(work, n, u, v, d, d);
         if work[5 * n + v] == 1 {
             if d < best {
                 return d;
@@ -169,15 +168,6 @@ fn relax_row(
     best
 }
 
-// Takes node u out of the queue.
-fn settle(work: &mut [u64], n: usize, u: usize)
-    requires { ⌜ (u < n) × (8 * n ≤ length (now work)) × Heap n (now work) ⌝ }
-    ensures { λ _. ⌜ TakenOut n u (now (work .entry)) (now (work .exit)) ⌝ }
-{
-    work[2 * n + u] = FAR;
-    queue::carry_up(work, n, (n + u) / 2);
-}
-
 // Settles the nearest open node again and again, until nothing waits or no open node leads to a goal as near as the nearest goal so far.
 // Answers the distance of that goal, FAR where none has a path. `last_step` is at most the price of every goal: over an open node
 // no goal is nearer than the nearest open node and `last_step` together.
@@ -205,7 +195,7 @@ pub fn settle_all(
         if best < d + last_step {
             return best;
         }
-        settle(work, n, u);
+        queue::wait(work, n, u, FAR);
         best = relax_row(kind, first_edge, edge_target, work, u, best);
     }
 }

@@ -12,7 +12,7 @@ ghost use Rattle.search.specs.Distance.{far};
 ghost use Rattle.search.specs.Layout.{priceIn, Heap};
 ghost use Rattle.search.specs.Links.{Links};
 ghost use Rattle.search.specs.Aimed.{weightAt};
-ghost use Rattle.search.specs.Estimates.{weightMost, keyMost, walkAt, WeightReady, Queued, Guessed, Tried, GuessedBefore};
+ghost use Rattle.search.specs.Estimates.{weightMost, keyMost, walkAt, WeightReady, Guessed, Tried, GuessedBefore};
 ghost use Rattle.search.specs.Estimates.{Beside, Unguessed, SinksWait, EstimateReady, SpreadReady, EstimatesMade};
 use crate::distances;
 use crate::queue;
@@ -41,19 +41,12 @@ fn capped_sum(a: u64, b: u64) -> u64
     a + b
 }
 
-// Node v waits in the queue at this key.
-pub fn wait(work: &mut [u64], n: usize, v: usize, key: u64)
-    requires { ⌜ (v < n) × (8 * n ≤ length (now work)) × Heap n (now work) ⌝ }
-    ensures { λ _. ⌜ Queued n v key (now (work .entry)) (now (work .exit)) ⌝ }
-{
-    work[2 * n + v] = key;
-    queue::carry_up(work, n, (n + v) / 2);
-}
-
 // Node u gets its estimate, by a walk of this cost, and waits.
 fn guess(kind: &[u8], weighting: Weighting, work: &mut [u64], u: usize, estimate: u64, cost: u64)
-    requires { ⌜ WeightReady (now kind) weighting × (u < length (now kind)) × (length (now kind) ≤ nodesMost) ⌝ }
-    requires { ⌜ (8 * length (now kind) ≤ length (now work)) × Heap (length (now kind)) (now work) × (estimate ≤ keyMost) ⌝ }
+    requires { do
+      let n = length (now kind)
+      ⌜ WeightReady (now kind) weighting × (u < n) × (n ≤ nodesMost) × (8 * n ≤ length (now work)) × Heap n (now work)
+          × (estimate ≤ keyMost) ⌝ }
     ensures { λ _. do
       let n = length (now (kind .entry))
       let weight = weightAt (graphOf (now (kind .entry)) [] []) weighting
@@ -61,7 +54,7 @@ fn guess(kind: &[u8], weighting: Weighting, work: &mut [u64], u: usize, estimate
 {
     let n = kind.len();
     let own = weight(kind, weighting, u);
-    wait(work, n, u, estimate + own);
+    queue::wait(work, n, u, estimate + own);
     work[6 * n + u] = estimate;
     work[7 * n + u] = cost;
 }
@@ -78,9 +71,10 @@ fn guess_over(
     cost: u64,
     bound: u64,
 ) -> u64
-    requires { ⌜ WeightReady (now kind) weighting × (u < length (now kind)) × (length (now kind) ≤ nodesMost) ⌝ }
-    requires { ⌜ (8 * length (now kind) ≤ length (now work)) × Heap (length (now kind)) (now work) × (estimate ≤ keyMost) ⌝ }
-    requires { ⌜ length (now kind) ≤ length (now «in_tree») ⌝ }
+    requires { do
+      let n = length (now kind)
+      ⌜ WeightReady (now kind) weighting × (u < n) × (n ≤ nodesMost) × (8 * n ≤ length (now work)) × Heap n (now work)
+          × (estimate ≤ keyMost) × (n ≤ length (now «in_tree»)) ⌝ }
     ensures { λ r. do
       let n = length (now (kind .entry))
       let weight = weightAt (graphOf (now (kind .entry)) [] []) weighting
@@ -111,9 +105,10 @@ fn guess_before(
     estimate: u64,
     bound: u64,
 ) -> u64
-    requires { ⌜ WeightReady (now kind) weighting × (v < length (now kind)) × Links (now kind) (now last) (now earlier) (now from) ⌝ }
-    requires { ⌜ (8 * length (now kind) ≤ length (now work)) × Heap (length (now kind)) (now work) × (estimate ≤ keyMost) ⌝ }
-    requires { ⌜ length (now kind) ≤ length (now «in_tree») ⌝ }
+    requires { do
+      let n = length (now kind)
+      ⌜ WeightReady (now kind) weighting × (v < n) × Links (now kind) (now last) (now earlier) (now from) × (8 * n ≤ length (now work))
+          × Heap n (now work) × (estimate ≤ keyMost) × (n ≤ length (now «in_tree»)) ⌝ }
     ensures { λ r. do
       let kinds = now (kind .entry)
       let weight = weightAt (graphOf kinds [] []) weighting
@@ -209,7 +204,7 @@ fn guess_all(
             return;
         }
         let v = queue::nearest(work, n);
-        wait(work, n, v, distances::FAR);
+        queue::wait(work, n, v, distances::FAR);
         bound = guess_before(
             kind,
             weighting,

@@ -11,8 +11,8 @@ ghost use Rattle.search.specs.Block.{graphOf};
 ghost use Rattle.search.specs.Turn.{weighedCongestion};
 ghost use Rattle.search.specs.Clamped.{clamped as clampedAt, clampedWeighting, clampedPrice, Lent};
 ghost use Rattle.search.specs.Labels.{labelAt, fromAt, withFrom};
-ghost use Rattle.search.specs.Spread.{Labelled, GoalMet, Lowered, Relaxed, LabelReady, RelaxReady};
-ghost use Rattle.search.specs.Spread.{SettleReady, Settled, RunReady, Ran};
+ghost use Rattle.search.specs.Spread.{Labelled, GoalMet, Lowered, EdgeRelaxed, LabelReady, RelaxReady};
+ghost use Rattle.search.specs.Spread.{SettleReady, NodeSettled, RunReady, SpreadStopped};
 use crate::distances;
 use crate::heap;
 use crate::weighing;
@@ -170,7 +170,7 @@ fn relax(
       let price = clampedPrice (now (kind .entry)) (now (capacity .entry)) c
       let n = length (now (kind .entry))
       let firsts = now («first_edge» .entry)
-      ⌜ Relaxed n firsts price u v d (now (work .entry)) (now (work .exit)) (r .count) (s .count) (r .best) (s .best) ⌝ }
+      ⌜ EdgeRelaxed n firsts price u v d (now (work .entry)) (now (work .exit)) (r .count) (s .count) (r .best) (s .best) ⌝ }
 {
     let n = kind.len();
     if n <= v {
@@ -211,17 +211,17 @@ fn settle(
     u: usize,
     start: Reach,
 ) -> Reach
-    requires { ⌜ Lent (now kind) (now capacity) (weighedCongestion weighting (now delay) factor (now history) (now others)) ⌝ }
     requires { do
       let b = graphOf (now kind) (now «first_edge») (now «edge_target»)
-      let price = clampedPrice (now kind) (now capacity) (weighedCongestion weighting (now delay) factor (now history) (now others))
-      ⌜ SettleReady b price (now work) (start .count) u ⌝ }
+      let c = weighedCongestion weighting (now delay) factor (now history) (now others)
+      let price = clampedPrice (now kind) (now capacity) c
+      ⌜ Lent (now kind) (now capacity) c × SettleReady b price (now work) (start .count) u ⌝ }
     ensures { λ r. do
       let b = graphOf (now (kind .entry)) (now («first_edge» .entry)) (now («edge_target» .entry))
       let c = weighedCongestion weighting (now (delay .entry)) factor (now (history .entry)) (now (others .entry))
       let price = clampedPrice (now (kind .entry)) (now (capacity .entry)) c
       let level = labelAt (now (work .entry)) u
-      ⌜ Settled b price level (now (work .entry)) (now (work .exit)) (start .count) (r .count) (start .best) (r .best) ⌝ }
+      ⌜ NodeSettled b price level (now (work .entry)) (now (work .exit)) (start .count) (r .count) (start .best) (r .best) ⌝ }
 {
     let d = work[u];
     let to = row_place(first_edge, edge_target.len(), u + 1);
@@ -265,16 +265,16 @@ pub fn settle_all(
     waits: usize,
     last_step: u64,
 ) -> u64
-    requires { ⌜ Lent (now kind) (now capacity) (weighedCongestion weighting (now delay) factor (now history) (now others)) ⌝ }
     requires { do
       let b = graphOf (now kind) (now «first_edge») (now «edge_target»)
-      let price = clampedPrice (now kind) (now capacity) (weighedCongestion weighting (now delay) factor (now history) (now others))
-      ⌜ RunReady b price (now work) waits «last_step» ⌝ }
+      let c = weighedCongestion weighting (now delay) factor (now history) (now others)
+      let price = clampedPrice (now kind) (now capacity) c
+      ⌜ Lent (now kind) (now capacity) c × RunReady b price (now work) waits «last_step» ⌝ }
     ensures { λ best. do
       let b = graphOf (now (kind .entry)) (now («first_edge» .entry)) (now («edge_target» .entry))
       let c = weighedCongestion weighting (now (delay .entry)) factor (now (history .entry)) (now (others .entry))
       let price = clampedPrice (now (kind .entry)) (now (capacity .entry)) c
-      ⌜ Ran b price «last_step» (now (work .entry)) (now (work .exit)) best ⌝ }
+      ⌜ SpreadStopped b price «last_step» (now (work .entry)) (now (work .exit)) best ⌝ }
 {
     let n = kind.len();
     let mut r = Reach {

@@ -20,10 +20,8 @@ fn link_row(
 )
     requires { do
       let graph = graphOf (now kind) (now «first_edge») (now «edge_target»)
-      ⌜ Graph graph × (u < length (now kind)) × LinkRoom graph (now last) (now earlier) (now from) ⌝ }
-    requires { do
-      let graph = graphOf (now kind) (now «first_edge») (now «edge_target»)
-      ⌜ Linked graph (rowStart graph u) (now last) (now earlier) (now from) ⌝ }
+      ⌜ Graph graph × (u < length (now kind)) × LinkRoom graph (now last) (now earlier) (now from)
+          × Linked graph (rowStart graph u) (now last) (now earlier) (now from) ⌝ }
     ensures { λ _. do
       let graph = graphOf (now (kind .entry)) (now («first_edge» .entry)) (now («edge_target» .entry))
       ⌜ Linked graph (rowStart graph (u + 1)) (now (last .exit)) (now (earlier .exit)) (now (from .exit)) ⌝ }
@@ -50,8 +48,8 @@ pub fn link_edges(
 )
     requires { do
       let graph = graphOf (now kind) (now «first_edge») (now «edge_target»)
-      ⌜ Graph graph × LinkRoom graph (now last) (now earlier) (now from) ⌝ }
-    requires { ⌜ ((v : ℕ) → v < length (now kind) → getD (now last) v 0 ≡ 0) ⌝ }
+      ⌜ Graph graph × LinkRoom graph (now last) (now earlier) (now from)
+          × ((v : ℕ) → v < length (now kind) → getD (now last) v 0 ≡ 0) ⌝ }
     ensures { λ _. do
       let graph = graphOf (now (kind .entry)) (now («first_edge» .entry)) (now («edge_target» .entry))
       ⌜ Linked graph (length (now («edge_target» .entry))) (now (last .exit)) (now (earlier .exit)) (now (from .exit)) ⌝ }

@@ -1,9 +1,9 @@
-// The queue: a tournament tree over the distances, in the work slice from entry n on. Entry i is the least of entries 2i and 2i + 1,
+// The queue: a tournament tree over the nodes' keys, in the work slice from entry n on. Entry i is the least of entries 2i and 2i + 1,
 // a node's leaf is entry n + node, and entry 1 is the least of all.
 ghost use mathlib.Core.Path.{_≡_};
 ghost use Prim.Native.Nat.{_+_, _*_, _/_, _≤_, _<_, min};
 ghost use lib.ListN.{length};
-ghost use Rattle.search.specs.Layout.{entryAt, leafAt, Heap, HeapBut, SameBut};
+ghost use Rattle.search.specs.Layout.{entryAt, leafAt, Heap, HeapBut, SameBut, Queued};
 
 // The least of the two children of entry i.
 fn lesser_child(work: &[u64], n: usize, i: usize) -> u64
@@ -30,6 +30,15 @@ pub fn carry_up(work: &mut [u64], n: usize, from: usize)
             i = i / 2;
         }
     }
+}
+
+// Node v waits at this key. At 2^64 - 1 it does not wait any more.
+pub fn wait(work: &mut [u64], n: usize, v: usize, key: u64)
+    requires { ⌜ (v < n) × (8 * n ≤ length (now work)) × Heap n (now work) ⌝ }
+    ensures { λ _. ⌜ Queued n v key (now (work .entry)) (now (work .exit)) ⌝ }
+{
+    work[2 * n + v] = key;
+    carry_up(work, n, (n + v) / 2);
 }
 
 // Makes every inner entry the least of its two children.

@@ -27,8 +27,7 @@ fn prepare(
 )
     requires { do
       let congestion = weighedCongestion weighting (now delay) factor (now history) (now others)
-      ⌜ Ready (now kind) (now capacity) congestion (now «in_tree») ⌝ }
-    requires { ⌜ 8 * length (now kind) ≤ length (now work) ⌝ }
+      ⌜ Ready (now kind) (now capacity) congestion (now «in_tree») × (8 * length (now kind) ≤ length (now work)) ⌝ }
     ensures { λ _. do
       let block = blockOf (now (kind .entry)) (now (capacity .entry)) [] []
       let congestion = weighedCongestion weighting (now (delay .entry)) factor (now (history .entry)) (now (others .entry))
@@ -65,10 +64,9 @@ pub fn distances_from_tree(
     in_tree: &[u8],
 )
     requires { do
+      let block = blockOf (now kind) (now capacity) (now «first_edge») (now «edge_target»)
       let congestion = weighedCongestion weighting (now delay) factor (now history) (now others)
-      ⌜ Ready (now kind) (now capacity) congestion (now «in_tree») ⌝ }
-    requires { ⌜ Sound (blockOf (now kind) (now capacity) (now «first_edge») (now «edge_target»)) ⌝ }
-    requires { ⌜ 8 * length (now kind) ≤ length (now work) ⌝ }
+      ⌜ Ready (now kind) (now capacity) congestion (now «in_tree») × Sound block × (8 * length (now kind) ≤ length (now work)) ⌝ }
     ensures { λ _. do
       let block = blockOf (now (kind .entry)) (now (capacity .entry)) (now («first_edge» .entry)) (now («edge_target» .entry))
       let congestion = weighedCongestion weighting (now (delay .entry)) factor (now (history .entry)) (now (others .entry))

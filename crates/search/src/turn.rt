@@ -128,8 +128,9 @@ fn least_price(
     sinks: &[u16],
     work: &[u64],
 ) -> u64
-    requires { ⌜ Lent (now kind) (now capacity) (weighedCongestion weighting (now delay) factor (now history) (now others)) ⌝ }
-    requires { ⌜ length (now kind) ≤ length (now work) ⌝ }
+    requires { do
+      let c = weighedCongestion weighting (now delay) factor (now history) (now others)
+      ⌜ Lent (now kind) (now capacity) c × (length (now kind) ≤ length (now work)) ⌝ }
     ensures { λ r. do
       let c = weighedCongestion weighting (now (delay .entry)) factor (now (history .entry)) (now (others .entry))
       let price = clampedPrice (now (kind .entry)) (now (capacity .entry)) c

@@ -4,7 +4,7 @@ use mathlib.Core.Path.{refl}
 use native.Mathlib.Omega.{arith}
 use borrow.Author.Needs.{needs}
 use Rattle.search.specs.Aiming.{over-blind, over-shorter, over-lower, over-kept}
-use Rattle.search.proofs.AimStores.{best-nearer, best-as-near, best-pred}
+use Rattle.search.proofs.BestLaws.{best-nearer, best-as-near, best-pred}
 use Rattle.search.proofs.aim.aim.Statement.{statement}
 use Rattle.search.proofs.aim.aim.Tie as tie
 
@@ -41,8 +41,12 @@ mul-d-3 c = search needs
 slice-read-d-2 : tie.Need-slice-read-d-2
 slice-read-d-2 c = search needs
 
+-- the entry, from where node v is seen to have an estimate
+abbrev entry : tie.Else1 → tie.Start
+entry c = c .before .before .before
+
 add-d-2 : tie.Need-add-d-2
-add-d-2 c = let sum = c .before .before .before .before .before .pre .1 (c .before .before .if1 .left) in record { fits = omega arith }
+add-d-2 c = let seen = c .before .before in let sum = entry seen .pre .1 (seen .if1 .left) in record { fits = omega arith }
 
 mul-old : tie.Need-mul-old
 mul-old c = search needs
@@ -50,19 +54,27 @@ mul-old c = search needs
 slice-read-old : tie.Need-slice-read-old
 slice-read-old c = search needs
 
-aim-shorter-requires : tie.Need-aim-shorter-requires
-aim-shorter-requires c κs =
-    let start : tie.Start = c .before .before .before .before .before .before .before .before in
-    (start .pre .0, start .pre .1 (c .before .before .before .before .before .if1 .left))
+add-shorten : tie.Need-add-shorten
+add-shorten c =
+    let seen = c .before .before .before .before .before in
+    let sum = entry seen .pre .1 (seen .if1 .left) in
+    record { fits = omega arith }
+
+shorten-requires : tie.Need-shorten-requires
+shorten-requires c κs =
+    let seen = c .before .before .before .before .before in
+    entry seen .pre .0
 
 same-length : tie.Need-same-length
 same-length c = search needs
 
 returns-2 : tie.Need-returns-2
 returns-2 c =
-    let asked : tie.Then2 = c .before .before .before .before .before .before in
-    let t = c .before .before .before .before .aim-shorter .ensures in
-    (over-shorter (asked .before .before .before .before .if1 .left) (asked .if2 .taken) t, λ s. best-nearer (asked .before .before .before .before .before .before .before .pre .0 .1) t s (c .before .if3 .taken) (c .if4 .taken))
+    let shorter = c .before .before .before .before in
+    let asked : tie.Then2 = shorter .before .before in
+    let seen = asked .before .before .before .before in
+    let t = shorter .shorten .ensures in
+    (over-shorter (seen .if1 .left) (asked .if2 .taken) t, λ s. best-nearer (omega arith) (entry seen .pre .0 .1) t s (c .before .if3 .taken) (c .if4 .taken))
 
 mul-if6 : tie.Need-mul-if6
 mul-if6 c = search needs
@@ -93,26 +105,30 @@ same-length-2 c = search needs
 
 returns-3 : tie.Need-returns-3
 returns-3 c =
-    let asked : tie.Then2 = c .before .before .before .before .before .before in
-    let t = c .before .before .before .before .aim-shorter .ensures in
-    (over-shorter (asked .before .before .before .before .if1 .left) (asked .if2 .taken) t, λ s. best-as-near (asked .before .before .before .before .before .before .before .pre .0 .1) t s (asked .if2 .taken) (λ _. c .if4 .left))
+    let shorter = c .before .before .before .before in
+    let asked : tie.Then2 = shorter .before .before in
+    let seen = asked .before .before .before .before in
+    let t = shorter .shorten .ensures in
+    (over-shorter (seen .if1 .left) (asked .if2 .taken) t, λ s. best-as-near (omega arith) (entry seen .pre .0 .1) t s (asked .if2 .taken) (λ _. c .if4 .left))
 
 same-length-3 : tie.Need-same-length-3
 same-length-3 c = search needs
 
 returns-4 : tie.Need-returns-4
 returns-4 c =
-    let asked : tie.Then2 = c .before .before .before .before .before in
-    let t = c .before .before .before .aim-shorter .ensures in
-    (over-shorter (asked .before .before .before .before .if1 .left) (asked .if2 .taken) t, λ s. best-as-near (asked .before .before .before .before .before .before .before .pre .0 .1) t s (asked .if2 .taken) (λ sink. absurd (c .if3 .left sink)))
+    let shorter = c .before .before .before in
+    let asked : tie.Then2 = shorter .before .before in
+    let seen = asked .before .before .before .before in
+    let t = shorter .shorten .ensures in
+    (over-shorter (seen .if1 .left) (asked .if2 .taken) t, λ s. best-as-near (omega arith) (entry seen .pre .0 .1) t s (asked .if2 .taken) (λ sink. absurd (c .if3 .left sink)))
 
 same-length-4 : tie.Need-same-length-4
 same-length-4 c = search needs
 
 returns-5 : tie.Need-returns-5
 returns-5 c =
-    let asked : tie.Else2 = c .before .before .before in
-    (over-lower (asked .before .before .before .before .if1 .left) (c .before .before .if5 .taken) (c .if6 .taken) refl, best-pred _ _ _ _ (asked .before .before .before .before .before .before .before .pre .0 .1) refl)
+    let seen = c .before .before .before .before .before .before .before in
+    (over-lower (seen .if1 .left) (c .before .before .if5 .taken) (c .if6 .taken) refl, best-pred _ _ _ (omega arith) (entry seen .pre .0 .1) refl)
 
 returns-6 : tie.Need-returns-6
 returns-6 c = (over-kept (c .before .before .before .if2 .left) (λ _. c .if6 .left) refl, λ s. s)
@@ -138,7 +154,8 @@ aim-spec =
     add-d-2
     mul-old
     slice-read-old
-    aim-shorter-requires
+    add-shorten
+    shorten-requires
     same-length
     returns-2
     mul-if6

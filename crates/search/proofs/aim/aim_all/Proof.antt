@@ -3,7 +3,7 @@
 use mathlib.Core.Path.{_∙_}
 use native.Mathlib.Omega.{arith}
 use borrow.Author.Needs.{needs}
-use Rattle.search.proofs.AimEnds.{task-of, aim-begins, aim-launched, end-from}
+use Rattle.search.proofs.AimEnds.{aim-begins, aim-launched, end-from}
 use Rattle.search.proofs.aim.aim_all.Statement.{statement}
 use Rattle.search.proofs.aim.aim_all.Tie as tie
 
@@ -15,18 +15,22 @@ build-requires c κs = search needs
 
 expand-all-requires : tie.Need-expand-all-requires
 expand-all-requires c κs =
-    let built = c .before .before .before .build .ensures in
-    aim-launched _ _ _ _ _ (c .before .before .before .before .before .before .before .before .before .before .before .before .before .before .pre) (c .before .before .before .before .before .before .before .start-aim .ensures) (built .0) (built .1)
+    let built = c .before .before .before in
+    let started = built .before .before .before .before in
+    let queue = built .build .ensures in
+    aim-launched _ _ _ _ _ (started .before .before .before .before .before .before .before .pre) (started .start-aim .ensures) (queue .0) (queue .1)
 
 same-length : tie.Need-same-length
 same-length c = search needs
 
 returns : tie.Need-returns
 returns c r =
-    let started = c .before .before .before .before .before .before .before .before .before .before .start-aim .ensures in
-    let built = c .before .before .before .before .before .before .build .ensures in
+    let ended = c .before .before in
+    let ready = ended .before .before .before .before in
+    let started = ready .before .before .before .before .start-aim .ensures in
+    let built = ready .build .ensures in
     end-from (built .1 .long ∙ started .long) (λ j h. built .1 .high j (omega arith) ∙ started .high j (omega arith))
-    (c .before .before .expand-all .ensures (task-of r) (aim-begins _ _ _ _ _ r started (built .0) (built .1)))
+    (ended .expand-all .ensures _ (r .task) (aim-begins _ _ _ _ _ r started (built .0) (built .1)))
 
 pub aim-all-spec : {M : Type 1} → statement M
 aim-all-spec =

@@ -19,9 +19,17 @@ Inv-loop kind first-edge edge-target work₀ n best₀ expanded₀ work best exp
 abbrev μ-loop : tie.MeasureT-loop
 μ-loop kind first-edge edge-target work₀ n best₀ expanded₀ work best expanded = length kind - expanded
 
+-- the entry, from the loop's head
+abbrev entry : tie.At-loop Inv-loop μ-loop → tie.Start Inv-loop μ-loop
+entry c = c .before .before .before .before .before
+
+-- the loop's head, from where the nearest node is found
+abbrev head : tie.After-nearest Inv-loop μ-loop → tie.At-loop Inv-loop μ-loop
+head c = c .before .before .before .before .before
+
 -- the queue's least entry is a number of 64 bits that is not `far`
-below-far : (c : tie.Else1 Inv-loop μ-loop) → entryAt (length (c .before .before .before .before .before .before .before .args .kind .now)) (c .before .before .loop .work) 1 < far
-below-far c = omega (arith, c .before .slice-known2 .given (length (c .before .before .before .before .before .before .before .args .kind .now) + 1), c .if1 .left)
+below-far : (c : tie.Else1 Inv-loop μ-loop) → entryAt (length (entry (c .before .before) .args .kind .now)) (c .before .before .loop .work) 1 < far
+below-far c = omega (arith, c .before .slice-known2 .given (length (entry (c .before .before) .args .kind .now) + 1), c .if1 .left)
 
 loop-holds : tie.Need-loop-holds Inv-loop μ-loop
 loop-holds c = run-begins (c .before .before .before .before .pre)
@@ -55,30 +63,35 @@ nearest-requires c κs =
 
 wait-requires : tie.Need-wait-requires Inv-loop μ-loop
 wait-requires c κs =
-    let r = c .before .before .before .before .before .before .loop .inv in
-    (c .before .nearest .ensures .0, r .stands .long, r .stands .heap)
+    let found = c .before in
+    let r = head found .loop .inv in
+    (found .nearest .ensures .0, r .stands .long, r .stands .heap)
 
 add-expanded : tie.Need-add-expanded Inv-loop μ-loop
 add-expanded c =
-    let r = c .before .before .before .before .before .before .before .before .before .loop .inv in
+    let r = head (c .before .before .before .before) .loop .inv in
     let g = r .sound .few in
     let m = run-count r in
     omega arith
 
 aim-row-requires : tie.Need-aim-row-requires Inv-loop μ-loop
 aim-row-requires c κs =
-    let found = c .before .before .before .before .before in
+    let waited = c .before .before .before in
+    let found = waited .before .before in
     let asked : tie.Else2 Inv-loop μ-loop = found .before .before in
+    let inv = head found .loop .inv in
     let u = found .nearest .ensures in
-    run-ready (asked .before .before .before .loop .inv) (u .0) (u .1) (below-far (asked .before)) (asked .if2 .left) (c .before .before .before .wait .ensures)
+    run-ready inv (u .0) (u .1) (below-far (asked .before)) (asked .if2 .left) (waited .wait .ensures)
 
 loop-again : tie.Need-loop-again Inv-loop μ-loop
 loop-again c =
-    let found = c .before .before .before .before .before .before .before .before in
+    let waited = c .before .before .before .before .before .before in
+    let found = waited .before .before in
     let asked : tie.Else2 Inv-loop μ-loop = found .before .before in
+    let inv = head found .loop .inv in
     let u = found .nearest .ensures in
     let row = c .before .before .aim-row .ensures in
-    run-more (asked .before .before .before .loop .inv) (u .0) (u .1) (below-far (asked .before)) (asked .if2 .left) (c .before .before .before .before .before .before .wait .ensures) (row .0) (row .1)
+    run-more inv (u .0) (u .1) (below-far (asked .before)) (asked .if2 .left) (waited .wait .ensures) (row .0) (row .1)
 
 -- the next turn's invariant bounds the count
 loop-less : tie.Need-loop-less Inv-loop μ-loop

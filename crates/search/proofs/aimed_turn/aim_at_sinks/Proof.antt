@@ -5,6 +5,14 @@ use borrow.Author.Needs.{needs}
 use Rattle.search.proofs.aimed_turn.aim_at_sinks.Statement.{statement}
 use Rattle.search.proofs.aimed_turn.aim_at_sinks.Tie as tie
 
+-- the entry, from where the lists of the links are made
+abbrev entry : tie.After-from → tie.Start
+entry c = c .before .before .before .before .before .before .before .before .before
+
+-- where the edges are linked, from the call that estimates
+abbrev linked : tie.After-estimate-all-arg → tie.After-link-edges
+linked c = c .before .before .before .before .before .before .before
+
 slice-aggregate-link-edges : tie.Need-slice-aggregate-link-edges
 slice-aggregate-link-edges c = search needs
 
@@ -15,7 +23,7 @@ slice-aggregate-link-edges-3 : tie.Need-slice-aggregate-link-edges-3
 slice-aggregate-link-edges-3 c = search needs
 
 link-edges-requires : tie.Need-link-edges-requires
-link-edges-requires c κs = link-room _ (c .before .before .before .before .before .before .before .before .before .pre .graph)
+link-edges-requires c κs = link-room _ (entry c .pre .graph)
 
 slice-aggregate-estimate-all : tie.Need-slice-aggregate-estimate-all
 slice-aggregate-estimate-all c = search needs
@@ -28,18 +36,17 @@ slice-aggregate-estimate-all-3 c = search needs
 
 estimate-all-requires : tie.Need-estimate-all-requires
 estimate-all-requires c κs =
-    let linked = c .before .before .before .before .before .before .before in
-    let p = linked .before .before .before .before .before .before .before .before .before .before .pre in
-    let kept = linked .link-edges .kept .1 .1 .1 in
-    turn-estimates p (kept .0) (kept .1 .0) (kept .1 .1 .0) (linked .link-edges .ensures)
+    let links = linked c in
+    let kept = links .link-edges .kept .1 .1 .1 in
+    turn-estimates (entry (links .before) .pre) (kept .0) (kept .1 .0) (kept .1 .1 .0) (links .link-edges .ensures)
 
 aim-all-requires : tie.Need-aim-all-requires
 aim-all-requires c κs =
     let estimated = c .before .before .before in
-    let linked = estimated .before .before .before .before .before .before .before .before in
-    let p = linked .before .before .before .before .before .before .before .before .before .before .pre in
-    let kept = linked .link-edges .kept .1 .1 .1 in
-    let ready = turn-estimates p (kept .0) (kept .1 .0) (kept .1 .1 .0) (linked .link-edges .ensures) in
+    let links = linked (estimated .before) in
+    let p = entry (links .before) .pre in
+    let kept = links .link-edges .kept .1 .1 .1 in
+    let ready = turn-estimates p (kept .0) (kept .1 .0) (kept .1 .1 .0) (links .link-edges .ensures) in
     turn-aims p (estimated .estimate-all .ensures ready)
 
 same-length : tie.Need-same-length
@@ -49,9 +56,9 @@ returns : tie.Need-returns
 returns c p =
     let aimed = c .before .before in
     let estimated = aimed .before .before .before .before in
-    let linked = estimated .before .before .before .before .before .before .before .before in
-    let kept = linked .link-edges .kept .1 .1 .1 in
-    let ready = turn-estimates p (kept .0) (kept .1 .0) (kept .1 .1 .0) (linked .link-edges .ensures) in
+    let links = linked (estimated .before) in
+    let kept = links .link-edges .kept .1 .1 .1 in
+    let ready = turn-estimates p (kept .0) (kept .1 .0) (kept .1 .1 .0) (links .link-edges .ensures) in
     let made = estimated .estimate-all .ensures ready in
     turn-aimed p made (aimed .aim-all .ensures (turn-aims p made))
 

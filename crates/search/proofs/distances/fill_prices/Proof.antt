@@ -15,11 +15,15 @@ Inv-loop kind capacity history others weighting delay factor work₀ n v₀ work
 abbrev μ-loop : tie.MeasureT-loop
 μ-loop kind capacity history others weighting delay factor work₀ n v₀ work v = n - v
 
+-- the entry, from a turn of the loop
+abbrev entry : tie.In-loop Inv-loop μ-loop → tie.Start Inv-loop μ-loop
+entry c = c .before .before .before .before .before .before .before .before
+
 loop-holds : tie.Need-loop-holds Inv-loop μ-loop
 loop-holds c = pricing-none _ _ _
 
 node-price-requires : tie.Need-node-price-requires Inv-loop μ-loop
-node-price-requires c κs = c .before .before .before .before .before .before .before .before .pre .0 _ (c .loop-test .taken)
+node-price-requires c κs = entry c .pre .0 _ (c .loop-test .taken)
 
 mul-work : tie.Need-mul-work Inv-loop μ-loop
 mul-work c = omega arith
@@ -40,7 +44,7 @@ loop-less : tie.Need-loop-less Inv-loop μ-loop
 loop-less c = omega arith
 
 loop-again : tie.Need-loop-again Inv-loop μ-loop
-loop-again c = pricing-more _ (c .before .before .before .before .before .before .before .before .before .pre .1) (c .before .loop-test .taken) (c .node-price .ensures) (c .before .before .loop .inv)
+loop-again c = pricing-more _ (entry (c .before) .pre .1) (c .before .loop-test .taken) (c .node-price .ensures) (c .before .before .loop .inv)
 
 same-length : tie.Need-same-length Inv-loop μ-loop
 same-length c = omega arith

@@ -5,6 +5,10 @@ use Rattle.search.proofs.FillLaws.{answered-price, answered-refused}
 use Rattle.search.proofs.distances.node_price.Statement.{statement}
 use Rattle.search.proofs.distances.node_price.Tie as tie
 
+-- the entry, from where the bounds of the lists are known
+abbrev entry : tie.After-shared-slice-known9 → tie.Start
+entry c = c .before .before .before .before .before .before .before .before .before
+
 shared-slice-read-k : tie.Need-shared-slice-read-k
 shared-slice-read-k c = search needs
 
@@ -33,7 +37,7 @@ cast-o : tie.Need-cast-o
 cast-o c = search needs
 
 delay-at-requires : tie.Need-delay-at-requires
-delay-at-requires c κs = c .before .before .before .before .before .before .before .before .before .pre .has-delay
+delay-at-requires c κs = entry c .pre .has-delay
 
 weighed-price-requires : tie.Need-weighed-price-requires
 weighed-price-requires c κs = search needs
@@ -48,15 +52,13 @@ returns : tie.Need-returns
 returns c =
     let priced = c .before .before in
     let read = priced .before in
-    let start = read .before .before .before .before .before .before .before .before .before .before in
-    absurd (answered-refused (start .pre) (read .delay-at .ensures) (c .enum-told .given .1) (priced .weighed-price .ensures))
+    absurd (answered-refused (entry (read .before) .pre) (read .delay-at .ensures) (c .enum-told .given .1) (priced .weighed-price .ensures))
 
 returns-2 : tie.Need-returns-2
 returns-2 c =
     let priced = c .before .before .before in
     let read = priced .before in
-    let start = read .before .before .before .before .before .before .before .before .before .before in
-    answered-price (start .pre) (read .delay-at .ensures) (c .before .p .given .1) (priced .weighed-price .ensures)
+    answered-price (entry (read .before) .pre) (read .delay-at .ensures) (c .before .p .given .1) (priced .weighed-price .ensures)
 
 pub node-price-spec : {M : Type 1} → statement M
 node-price-spec =

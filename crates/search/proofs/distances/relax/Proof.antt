@@ -1,9 +1,10 @@
 -- `search::distances::relax` meets its contract: each return is one of the three things that looking at an edge can do, and keeps the least distance of a goal.
 -- Assumes nothing.
-use mathlib.Core.Path.{refl}
+use mathlib.Core.Path.{refl, sym, _∙_}
+use native.Mathlib.Omega.{arith}
 use borrow.Author.Needs.{needs}
 use Rattle.search.specs.Layout.{shorter, lower, kept}
-use Rattle.search.proofs.BestLaws.{best-less, best-still, best-lower}
+use Rattle.search.proofs.BestLaws.{best-nearer, best-as-near, best-pred}
 use Rattle.search.proofs.distances.relax.Statement.{statement}
 use Rattle.search.proofs.distances.relax.Tie as tie
 
@@ -52,11 +53,16 @@ slice-read-if2 c = search needs
 same-length : tie.Need-same-length
 same-length c = search needs
 
+-- the entry, from where node v has its shorter distance
+abbrev entry : tie.After-shorten → tie.Start
+entry c = c .before .before .before .before .before .before .before
+
 returns : tie.Need-returns
 returns c =
-    let t = c .before .before .before .before .before .shorten .ensures in
-    let less = c .before .before .before .before .before .before .before .if1 .taken in
-    (shorter less t, λ s. best-less (c .before .before .before .before .before .before .before .before .before .before .before .before .pre .0 .1) t s (c .before .if2 .taken) (c .if3 .taken))
+    let shortened = c .before .before .before .before .before in
+    let t = shortened .shorten .ensures in
+    let less = shortened .before .before .if1 .taken in
+    (shorter less t, λ s. best-nearer (omega arith) (entry shortened .pre .0 .1) t s (sym (t .high _ (omega arith)) ∙ c .before .if2 .taken) (c .if3 .taken))
 
 mul-if5 : tie.Need-mul-if5
 mul-if5 c = search needs
@@ -87,24 +93,26 @@ same-length-2 c = search needs
 
 returns-2 : tie.Need-returns-2
 returns-2 c =
-    let t = c .before .before .before .before .before .shorten .ensures in
-    let less = c .before .before .before .before .before .before .before .if1 .taken in
-    (shorter less t, λ s. best-still (c .before .before .before .before .before .before .before .before .before .before .before .before .pre .0 .1) t s less (λ _. c .if3 .left))
+    let shortened = c .before .before .before .before .before in
+    let t = shortened .shorten .ensures in
+    let less = shortened .before .before .if1 .taken in
+    (shorter less t, λ s. best-as-near (omega arith) (entry shortened .pre .0 .1) t s less (λ _. c .if3 .left))
 
 same-length-3 : tie.Need-same-length-3
 same-length-3 c = search needs
 
 returns-3 : tie.Need-returns-3
 returns-3 c =
-    let t = c .before .before .before .before .shorten .ensures in
-    let less = c .before .before .before .before .before .before .if1 .taken in
-    (shorter less t, λ s. best-still (c .before .before .before .before .before .before .before .before .before .before .before .pre .0 .1) t s less (λ goal. absurd (c .if2 .left goal)))
+    let shortened = c .before .before .before .before in
+    let t = shortened .shorten .ensures in
+    let less = shortened .before .before .if1 .taken in
+    (shorter less t, λ s. best-as-near (omega arith) (entry shortened .pre .0 .1) t s less (λ goal. absurd (c .if2 .left (t .high _ (omega arith) ∙ goal))))
 
 same-length-4 : tie.Need-same-length-4
 same-length-4 c = search needs
 
 returns-4 : tie.Need-returns-4
-returns-4 c = (lower (c .before .before .if4 .taken) (c .if5 .taken) refl, best-lower _ _ _ _ (c .before .before .before .before .before .before .before .before .pre .0 .1) refl)
+returns-4 c = (lower (c .before .before .if4 .taken) (c .if5 .taken) refl, best-pred _ _ _ (omega arith) (c .before .before .before .before .before .before .before .before .pre .0 .1) refl)
 
 returns-5 : tie.Need-returns-5
 returns-5 c = (kept (c .before .before .before .if1 .left) (λ _. c .if5 .left) refl, λ s. s)

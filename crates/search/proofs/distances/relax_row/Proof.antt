@@ -17,30 +17,37 @@ Inv-loop kind first-edge edge-target work₀ u least n to e₀ best₀ work e be
 abbrev μ-loop : tie.MeasureT-loop
 μ-loop kind first-edge edge-target work₀ u least n to e₀ best₀ work e best = to - e
 
+-- the entry, from where the bounds of the lists are known, and from the loop's head
+abbrev entry : tie.After-slice-known Inv-loop μ-loop → tie.Start Inv-loop μ-loop
+entry c = c .before .before .before .before
+
+abbrev loop-entry : tie.At-loop Inv-loop μ-loop → tie.Start Inv-loop μ-loop
+loop-entry c = entry (c .before .before .before)
+
 add-to : tie.Need-add-to Inv-loop μ-loop
 add-to c = search needs
 
 mul-to : tie.Need-mul-to Inv-loop μ-loop
-mul-to c = let r = c .before .before .before .before .pre in let few = r .sound .few in let h = r .node in omega arith
+mul-to c = let r = entry c .pre in let few = r .sound .few in let h = r .node in omega arith
 
 shared-slice-read-to : tie.Need-shared-slice-read-to Inv-loop μ-loop
-shared-slice-read-to c = let r = c .before .before .before .before .before .pre in let l = firstEdges-long _ (r .sound) in let h = r .node in omega arith
+shared-slice-read-to c = let r = entry (c .before) .pre in let l = firstEdges-long _ (r .sound) in let h = r .node in omega arith
 
 cast-to : tie.Need-cast-to Inv-loop μ-loop
-cast-to c = omega (arith, c .shared-slice-known4 .given (c .before .before .before .before .before .args .u + 1))
+cast-to c = omega (arith, c .shared-slice-known4 .given (entry (c .before) .args .u + 1))
 
 mul-e : tie.Need-mul-e Inv-loop μ-loop
-mul-e c = let r = c .before .before .before .before .before .pre in let few = r .sound .few in let h = r .node in omega arith
+mul-e c = let r = entry (c .before) .pre in let few = r .sound .few in let h = r .node in omega arith
 
 shared-slice-read-e : tie.Need-shared-slice-read-e Inv-loop μ-loop
-shared-slice-read-e c = let r = c .before .before .before .before .before .before .pre in let l = firstEdges-long _ (r .sound) in let h = r .node in omega arith
+shared-slice-read-e c = let r = entry (c .before .before) .pre in let l = firstEdges-long _ (r .sound) in let h = r .node in omega arith
 
 cast-e : tie.Need-cast-e Inv-loop μ-loop
-cast-e c = omega (arith, c .shared-slice-known5 .given (c .before .before .before .before .before .before .args .u))
+cast-e c = omega (arith, c .shared-slice-known5 .given (entry (c .before .before) .args .u))
 
 loop-holds : tie.Need-loop-holds Inv-loop μ-loop
 loop-holds c =
-    let r = c .before .before .before .before .before .before .pre in
+    let r = entry (c .before .before) .pre in
     record {
       done = row-start _ _ _ (r .heap);
       from = le-refl _;
@@ -49,27 +56,34 @@ loop-holds c =
     }
 
 mul-v : tie.Need-mul-v Inv-loop μ-loop
-mul-v c = let r = c .before .before .before .before .before .before .before .before .pre in let t = row-end _ (r .sound) (_+_ (c .before .before .before .before .before .before .before .before .args .u) 1) (omega arith) in omega arith
+mul-v c =
+    let start = loop-entry (c .before) in
+    let t = row-end _ (start .pre .sound) (start .args .u + 1) (let h = start .pre .node in omega arith) in
+    omega arith
 
 shared-slice-read-v : tie.Need-shared-slice-read-v Inv-loop μ-loop
-shared-slice-read-v c = let r = c .before .before .before .before .before .before .before .before .before .pre in let t = row-end _ (r .sound) (c .before .before .before .before .before .before .before .before .before .args .u + 1) (let h = r .node in omega arith) in omega arith
+shared-slice-read-v c =
+    let start = loop-entry (c .before .before) in
+    let t = row-end _ (start .pre .sound) (start .args .u + 1) (let h = start .pre .node in omega arith) in
+    omega arith
 
 cast-v : tie.Need-cast-v Inv-loop μ-loop
 cast-v c = omega (arith, c .shared-slice-known6 .given (c .before .before .loop .e))
 
 relax-requires : tie.Need-relax-requires Inv-loop μ-loop
 relax-requires c κs =
-    let r = c .before .before .before .before .before .before .before .before .before .before .pre in
+    let r = loop-entry (c .before .before .before) .pre in
     let i = c .before .before .before .loop .inv in
     let t = c .before .before .loop-test .taken in
     ((r .node, target-node _ (r .sound) _ _ (r .node) (i .from) t, (let l = i .done .long in let l′ = r .long in omega arith), i .done .heap), row-fits _ _ _ _ _ r (i .done) (i .from) t)
 
 add-e : tie.Need-add-e Inv-loop μ-loop
 add-e c =
-    let r = c .before .before .before .before .before .before .before .before .before .before .before .before .before .pre in
-    let t = row-end _ (r .sound) (c .before .before .before .before .before .before .before .before .before .before .before .before .before .args .u + 1) (let h = r .node in omega arith) in
-    let l = c .before .before .before .before .before .loop-test .taken in
-    let g = c .before .before .before .before .before .before .before .before .before .before .before .before .before .good in
+    let turn = c .before .before .before .before .before in
+    let start = loop-entry (turn .before) in
+    let t = row-end _ (start .pre .sound) (start .args .u + 1) (let h = start .pre .node in omega arith) in
+    let l = turn .loop-test .taken in
+    let g = start .good in
     omega arith
 
 loop-less : tie.Need-loop-less Inv-loop μ-loop
@@ -77,9 +91,10 @@ loop-less c = search needs
 
 loop-again : tie.Need-loop-again Inv-loop μ-loop
 loop-again c =
-    let r = c .before .before .before .before .before .before .before .before .before .before .before .before .before .pre in
-    let i = c .before .before .before .before .before .before .loop .inv in
-    let t = c .before .before .before .before .before .loop-test .taken in
+    let turn = c .before .before .before .before .before in
+    let r = loop-entry (turn .before) .pre in
+    let i = turn .before .loop .inv in
+    let t = turn .loop-test .taken in
     record {
       done = row-more _ _ _ _ _ r (i .done) (i .from) t _ (c .before .before .relax .ensures .0);
       from = let f = i .from in omega arith;

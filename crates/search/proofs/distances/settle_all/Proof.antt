@@ -22,9 +22,17 @@ abbrev μ-loop : tie.MeasureT-loop
 μ-loop kind first-edge edge-target work₀ last-step n best₀ work best =
     countBelow (unsettled (length kind) work) (length kind)
 
+-- the entry, from the loop's head
+abbrev entry : tie.At-loop Inv-loop μ-loop → tie.Start Inv-loop μ-loop
+entry c = c .before .before .before .before .before
+
+-- the loop's head, from where the nearest node is found
+abbrev head : tie.After-nearest Inv-loop μ-loop → tie.At-loop Inv-loop μ-loop
+head c = c .before .before .before .before
+
 -- the queue's least entry is a number of 64 bits that is not `far`
-below-far : (c : tie.Else1 Inv-loop μ-loop) → entryAt (length (c .before .before .before .before .before .before .before .args .kind .now)) (c .before .before .loop .work) 1 < far
-below-far c = omega (arith, c .before .slice-known2 .given (length (c .before .before .before .before .before .before .before .args .kind .now) + 1), c .if1 .left)
+below-far : (c : tie.Else1 Inv-loop μ-loop) → entryAt (length (entry (c .before .before) .args .kind .now)) (c .before .before .loop .work) 1 < far
+below-far c = omega (arith, c .before .slice-known2 .given (length (entry (c .before .before) .args .kind .now) + 1), c .if1 .left)
 
 loop-holds : tie.Need-loop-holds Inv-loop μ-loop
 loop-holds c = let pre = c .before .before .before .before .pre in run-start _ _ _ (pre .0) (pre .1 .0) (pre .1 .1)
@@ -54,34 +62,37 @@ nearest-requires c κs =
 add-if2 : tie.Need-add-if2 Inv-loop μ-loop
 add-if2 c =
     let u = c .nearest .ensures in
-    omega (arith, level-fits _ _ _ _ _ _ (c .before .before .before .before .loop .inv) (u .0) (u .1) (below-far (c .before .before)))
+    omega (arith, level-fits _ _ _ _ _ _ (head c .loop .inv) (u .0) (u .1) (below-far (c .before .before)))
 
 same-length-2 : tie.Need-same-length-2 Inv-loop μ-loop
-same-length-2 c = c .before .before .before .before .before .loop .inv .long
+same-length-2 c = head (c .before) .loop .inv .long
 
 returns-2 : tie.Need-returns-2 Inv-loop μ-loop
 returns-2 c =
-    let u = c .before .nearest .ensures in
-    run-stops _ _ _ _ _ (c .before .before .before .before .before .loop .inv) (stops-early _ _ _ _ _ _ (c .before .before .before .before .before .loop .inv) (u .0) (u .1) (below-far (c .before .before .before)) (c .if2 .taken))
+    let found = c .before in
+    let u = found .nearest .ensures in
+    let inv = head found .loop .inv in
+    run-stops _ _ _ _ _ inv (stops-early _ _ _ _ _ _ inv (u .0) (u .1) (below-far (found .before .before)) (c .if2 .taken))
 
-settle-requires : tie.Need-settle-requires Inv-loop μ-loop
-settle-requires c κs =
-    let st = c .before .before .before .before .before .before .loop .inv .stands in
-    (c .before .before .nearest .ensures .0, st .waiting .long, st .waiting .heap)
+wait-requires : tie.Need-wait-requires Inv-loop μ-loop
+wait-requires c κs =
+    let found = c .before .before in
+    let st = head found .loop .inv .stands in
+    (found .nearest .ensures .0, st .waiting .long, st .waiting .heap)
 
 relax-row-requires : tie.Need-relax-row-requires Inv-loop μ-loop
 relax-row-requires c κs =
     let settled = c .before .before .before in
     let found = settled .before .before .before in
     let u = found .nearest .ensures in
-    settle-ready _ _ _ _ _ _ _ (found .before .before .before .before .loop .inv) (u .0) (u .1) (below-far (found .before .before)) (settled .settle .ensures)
+    settle-ready _ _ _ _ _ _ _ (head found .loop .inv) (u .0) (u .1) (below-far (found .before .before)) (settled .wait .ensures)
 
 loop-less : tie.Need-loop-less Inv-loop μ-loop
 loop-less c =
     let settled = c .before .before .before .before .before .before in
     let found = settled .before .before .before in
     let u = found .nearest .ensures in
-    run-falls _ _ _ _ _ _ _ (found .before .before .before .before .loop .inv) (u .0) (u .1) (below-far (found .before .before)) (settled .settle .ensures) _ (c .before .before .relax-row .ensures .0)
+    run-falls _ _ _ _ _ _ _ (head found .loop .inv) (u .0) (u .1) (below-far (found .before .before)) (settled .wait .ensures) _ (c .before .before .relax-row .ensures .0)
 
 loop-again : tie.Need-loop-again Inv-loop μ-loop
 loop-again c =
@@ -89,7 +100,7 @@ loop-again c =
     let found = settled .before .before .before in
     let u = found .nearest .ensures in
     let row = c .before .before .relax-row .ensures in
-    run-more _ _ _ _ _ _ _ (found .before .before .before .before .loop .inv) (u .0) (u .1) (below-far (found .before .before)) (settled .settle .ensures) _ (row .0) _ (row .1)
+    run-more _ _ _ _ _ _ _ (head found .loop .inv) (u .0) (u .1) (below-far (found .before .before)) (settled .wait .ensures) _ (row .0) _ (row .1)
 
 pub settle-all-spec : {M : Type 1} → statement M
 settle-all-spec =
@@ -107,7 +118,7 @@ settle-all-spec =
     add-if2
     same-length-2
     returns-2
-    settle-requires
+    wait-requires
     relax-row-requires
     loop-less
     loop-again)

@@ -41,8 +41,8 @@ slice-write-work-2 : tie.Need-slice-write-work-2
 slice-write-work-2 c =
     let start = c .before .before .before .before .before .before .before in
     let long = c .before .before .wait .ensures .long in
-    let room = start .pre .1 .0 in
-    let h = start .pre .0 .1 in
+    let room = start .pre .3 in
+    let h = start .pre .1 in
     simp length-set (omega arith)
 
 same-length : tie.Need-same-length
@@ -51,7 +51,7 @@ same-length c = search needs
 returns : tie.Need-returns
 returns c =
     let start = c .before .before .before .before .before .before .before in
-    guessed (start .pre .0 .1) (start .pre .1 .0) (c .before .before .before .before .weight .ensures .0) (c .before .before .wait .ensures)
+    guessed (start .pre .1) (start .pre .3) (c .before .before .before .before .weight .ensures .0) (c .before .before .wait .ensures)
 
 pub guess-spec : {M : Type 1} → statement M
 guess-spec =

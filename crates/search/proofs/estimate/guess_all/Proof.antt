@@ -96,7 +96,7 @@ guess-before-requires c κs =
     let v = found .nearest .ensures in
     let q = waited .wait .ensures in
     let level = level-few (lightness r) (at .loop .inv r .holds) (v .0) (v .1) (some found) in
-    ((r .ready .weights, v .0, r .ready .links), (((let l = q .long in let m = room at in omega arith), q .heap, level), r .ready .marks-long))
+    (r .ready .weights, v .0, r .ready .links, (let l = q .long in let m = room at in omega arith), q .heap, level, r .ready .marks-long)
 
 loop-less : tie.Need-loop-less Inv-loop μ-loop
 loop-less c =

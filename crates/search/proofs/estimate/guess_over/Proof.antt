@@ -4,7 +4,7 @@ use mathlib.Core.Logic.{inl, inr}
 use mathlib.Core.Path.{refl}
 use borrow.Author.Needs.{needs}
 use Rattle.search.specs.Estimates.{has-one, gets-one}
-use Rattle.search.proofs.EstimateLaws.{marked-in}
+use Rattle.search.proofs.DistanceLaws.{in-the-tree}
 use Rattle.search.proofs.estimate.guess_over.Statement.{statement}
 use Rattle.search.proofs.estimate.guess_over.Tie as tie
 
@@ -33,19 +33,19 @@ same-length : tie.Need-same-length
 same-length c = search needs
 
 returns-2 : tie.Need-returns-2
-returns-2 c = gets-one (c .before .before .before .before .before .before .if1 .left) (c .before .before .before .before .guess .ensures) (inl refl)
+returns-2 c = let guessed = c .before .before .before .before in gets-one (guessed .before .before .if1 .left) (guessed .guess .ensures) (inl refl)
 
 same-length-2 : tie.Need-same-length-2
 same-length-2 c = search needs
 
 returns-3 : tie.Need-returns-3
-returns-3 c = gets-one (c .before .before .before .before .before .before .before .if1 .left) (c .before .before .before .before .before .guess .ensures) (inr (refl, marked-in _ _ (c .before .if2 .left)))
+returns-3 c = let guessed = c .before .before .before .before .before in gets-one (guessed .before .before .if1 .left) (guessed .guess .ensures) (inr (refl, in-the-tree _ _ (c .before .if2 .left)))
 
 same-length-3 : tie.Need-same-length-3
 same-length-3 c = search needs
 
 returns-4 : tie.Need-returns-4
-returns-4 c = gets-one (c .before .before .before .before .before .before .before .if1 .left) (c .before .before .before .before .before .guess .ensures) (inl refl)
+returns-4 c = let guessed = c .before .before .before .before .before in gets-one (guessed .before .before .if1 .left) (guessed .guess .ensures) (inl refl)
 
 pub guess-over-spec : {M : Type 1} → statement M
 guess-over-spec =

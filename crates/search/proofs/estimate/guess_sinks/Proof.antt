@@ -50,7 +50,7 @@ guess-requires c κs =
     let inv = turn .before .loop .inv in
     let long = inv .0 .long in
     let room = pre .3 in
-    ((pre .0, pre .4 (turn .before .loop .i) (turn .loop-test .taken), pre .1), (omega arith, inv .1 .heap, omega arith))
+    (pre .0, pre .4 (turn .before .loop .i) (turn .loop-test .taken), pre .1, omega arith, inv .1 .heap, omega arith)
 
 add-i : tie.Need-add-i Inv-loop μ-loop
 add-i c = let t = c .before .before .before .loop-test .taken in omega arith

@@ -1,8 +1,10 @@
 -- `search::estimate::weight` meets its contract: where kind and criticality keep their bounds, the answer is a price.
 -- Assumes nothing.
+use mathlib.Core.Path.{_∙_}
 use native.Mathlib.Omega.{arith}
 use borrow.Author.Needs.{needs}
-use Rattle.search.proofs.EstimateLaws.{weight-told, weight-not-refused}
+use Rattle.price.proofs.ReplyLaws.{answer-priced, answer-not-refused}
+use Rattle.search.proofs.EstimateLaws.{weight-reply, weights-light}
 use Rattle.search.proofs.estimate.weight.Statement.{statement}
 use Rattle.search.proofs.estimate.weight.Tie as tie
 
@@ -25,13 +27,14 @@ returns : tie.Need-returns
 returns c =
     let priced = c .before .before in
     let start = priced .before .before .before in
-    absurd (weight-not-refused (start .pre .0) (start .pre .1) (c .enum-told .given .1) (priced .weighed-price .ensures))
+    absurd (answer-not-refused (priced .weighed-price .ensures ∙ weight-reply (start .pre .0) (start .pre .1)) (c .enum-told .given .1))
 
 returns-2 : tie.Need-returns-2
 returns-2 c =
     let priced = c .before .before .before in
     let start = priced .before .before .before in
-    weight-told (start .pre .0) (start .pre .1) (c .before .p .given .1) (priced .weighed-price .ensures)
+    let is = answer-priced (priced .weighed-price .ensures ∙ weight-reply (start .pre .0) (start .pre .1)) (c .before .p .given .1) in
+    (is, rw is (weights-light (start .pre .0) _ (start .pre .1)))
 
 pub weight-spec : {M : Type 1} → statement M
 weight-spec =

@@ -1,18 +1,26 @@
 -- `search::labels::clamped_price` meets its contract: the price takes every number that is clamped within its bounds.
 -- Assumes nothing.
-use native.Mathlib.Omega.{arith}
+use mathlib.Core.Path.{_≡_, _∙_}
 use native.Mathlib.Nat.{le-trans}
-use Rattle.search.specs.Turn.{weighedCongestion}
-use Rattle.search.proofs.ClampedLaws.{priced-clamped, not-refused}
+use native.Mathlib.Omega.{arith}
+use Rattle.price.specs.Replies.{priceReplyOf, priced}
+use Rattle.price.proofs.ReplyLaws.{answer-priced, answer-not-refused}
+use Rattle.search.specs.Turn.{Congestion, weighedCongestion}
+use Rattle.search.specs.Clamped.{clampedPrice}
+use Rattle.search.proofs.ClampedLaws.{clamped-reply, clamped-fair}
 use borrow.Author.Needs.{needs}
 use Rattle.search.proofs.labels.clamped_price.Statement.{statement}
 use Rattle.search.proofs.labels.clamped_price.Tie as tie
+
+-- the entry, from where the bounds of the lists are known
+abbrev entry : tie.After-shared-slice-known6 → tie.Start
+entry c = c .before .before .before .before .before .before
 
 shared-slice-read-clamped : tie.Need-shared-slice-read-clamped
 shared-slice-read-clamped c = search needs
 
 cast-clamped : tie.Need-cast-clamped
-cast-clamped c = omega (arith, c .shared-slice-known6 .given (c .before .before .before .before .before .before .args .v))
+cast-clamped c = omega (arith, c .shared-slice-known6 .given (entry c .args .v))
 
 clamped-requires : tie.Need-clamped-requires
 clamped-requires c κs = search needs
@@ -27,7 +35,7 @@ shared-slice-read-clamped-2 : tie.Need-shared-slice-read-clamped-2
 shared-slice-read-clamped-2 c = search needs
 
 cast-clamped-2 : tie.Need-cast-clamped-2
-cast-clamped-2 c = omega (arith, c .shared-slice-known7 .given (c .before .before .before .before .before .before .before .before .before .args .v))
+cast-clamped-2 c = omega (arith, c .shared-slice-known7 .given (entry (c .before .before .before) .args .v))
 
 clamped-requires-3 : tie.Need-clamped-requires-3
 clamped-requires-3 c κs = search needs
@@ -36,7 +44,7 @@ shared-slice-read-clamped-3 : tie.Need-shared-slice-read-clamped-3
 shared-slice-read-clamped-3 c = search needs
 
 cast-clamped-3 : tie.Need-cast-clamped-3
-cast-clamped-3 c = omega (arith, c .shared-slice-known8 .given (c .before .before .before .before .before .before .before .before .before .before .before .args .v))
+cast-clamped-3 c = omega (arith, c .shared-slice-known8 .given (entry (c .before .before .before .before .before) .args .v))
 
 clamped-requires-4 : tie.Need-clamped-requires-4
 clamped-requires-4 c κs = search needs
@@ -54,7 +62,7 @@ clamped-requires-5 : tie.Need-clamped-requires-5
 clamped-requires-5 c κs = search needs
 
 delay-at-requires : tie.Need-delay-at-requires
-delay-at-requires c κs = let start = c .before .before .before .before .before .before .before .before .before .before .before .before .before .before .before in λ t. le-trans (start .pre .1) (start .pre .0 .delays-long t)
+delay-at-requires c κs = let start = entry (c .before .before .before .before .before .before .before .before .before) in λ t. le-trans (start .pre .1) (start .pre .0 .delays-long t)
 
 clamped-requires-6 : tie.Need-clamped-requires-6
 clamped-requires-6 c κs = search needs
@@ -71,43 +79,48 @@ enum-known-p c = search needs
 enum-told : tie.Need-enum-told
 enum-told c = search needs
 
+-- the price answers the clamped price
+module _ (c : tie.After-weighed-price) where
+  abbrev weighted : tie.After-clamped-weighting
+  weighted = c .before
+
+  abbrev delayed : tie.After-delay-at
+  delayed = weighted .before .before
+
+  abbrev historied : tie.After-clamped5
+  historied = delayed .before
+
+  abbrev bounded : tie.After-history-bound
+  bounded = historied .before .before
+
+  abbrev third : tie.After-clamped3
+  third = bounded .before .before .before
+
+  abbrev second : tie.After-clamped2
+  second = third .before .before
+
+  abbrev start : tie.Start
+  start = entry (second .before .before)
+
+  abbrev congestion : Congestion
+  congestion = weighedCongestion (start .args .weighting) (start .args .delay .now) (start .args .factor) (start .args .history .now) (start .args .others .now)
+
+  answered : priceReplyOf (c .weighed-price .result) ≡ priced (clampedPrice (start .args .kind .now) (start .args .capacity .now) congestion (start .args .v))
+  answered =
+      c .weighed-price .ensures
+      ∙ clamped-reply (start .args .kind .now) (start .args .capacity .now) congestion (start .args .v) (weighted .clamped-weighting .ensures)
+      (second .before .clamped .ensures) (second .clamped2 .ensures) (third .clamped3 .ensures) (bounded .before .clamped4 .ensures) (bounded .history-bound .ensures)
+      (historied .clamped5 .ensures) (delayed .delay-at .ensures) (weighted .before .clamped6 .ensures)
+
 returns : tie.Need-returns
-returns c =
-    let at-price = c .before .before in
-    let at-weighting = at-price .before in
-    let at-clamped6 = at-weighting .before in
-    let at-delay = at-clamped6 .before in
-    let at-clamped5 = at-delay .before in
-    let at-bound = at-clamped5 .before .before in
-    let at-clamped4 = at-bound .before in
-    let at-clamped3 = at-clamped4 .before .before in
-    let at-clamped2 = at-clamped3 .before .before in
-    let at-clamped = at-clamped2 .before in
-    let start = at-clamped .before .before .before .before .before .before .before in
-    absurd
-    (not-refused (start .args .kind .now) (start .args .capacity .now)
-    (weighedCongestion (start .args .weighting) (start .args .delay .now) (start .args .factor) (start .args .history .now) (start .args .others .now)) (start .args .v)
-    (at-weighting .clamped-weighting .ensures) (at-clamped .clamped .ensures) (at-clamped2 .clamped2 .ensures) (at-clamped3 .clamped3 .ensures) (at-clamped4 .clamped4 .ensures) (at-bound .history-bound .ensures)
-    (at-clamped5 .clamped5 .ensures) (at-delay .delay-at .ensures) (at-clamped6 .clamped6 .ensures) (c .enum-told .given .1) (at-price .weighed-price .ensures))
+returns c = absurd (answer-not-refused (answered (c .before .before)) (c .enum-told .given .1))
 
 returns-2 : tie.Need-returns-2
 returns-2 c =
-    let at-p = c .before in
-    let at-price = at-p .before .before in
-    let at-weighting = at-price .before in
-    let at-clamped6 = at-weighting .before in
-    let at-delay = at-clamped6 .before in
-    let at-clamped5 = at-delay .before in
-    let at-bound = at-clamped5 .before .before in
-    let at-clamped4 = at-bound .before in
-    let at-clamped3 = at-clamped4 .before .before in
-    let at-clamped2 = at-clamped3 .before .before in
-    let at-clamped = at-clamped2 .before in
-    let start = at-clamped .before .before .before .before .before .before .before in
-    priced-clamped (start .args .kind .now) (start .args .capacity .now)
-    (weighedCongestion (start .args .weighting) (start .args .delay .now) (start .args .factor) (start .args .history .now) (start .args .others .now)) (start .args .v)
-    (at-weighting .clamped-weighting .ensures) (at-clamped .clamped .ensures) (at-clamped2 .clamped2 .ensures) (at-clamped3 .clamped3 .ensures) (at-clamped4 .clamped4 .ensures) (at-bound .history-bound .ensures)
-    (at-clamped5 .clamped5 .ensures) (at-delay .delay-at .ensures) (at-clamped6 .clamped6 .ensures) (at-p .p .given .1) (at-price .weighed-price .ensures)
+    let at-price = c .before .before .before in
+    let is = answer-priced (answered at-price) (c .before .p .given .1) in
+    let args = start at-price .args in
+    (is, rw is (clamped-fair (args .kind .now) (args .capacity .now) (congestion at-price) (args .v)))
 
 pub clamped-price-spec : {M : Type 1} → statement M
 clamped-price-spec =

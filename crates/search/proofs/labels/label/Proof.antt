@@ -2,12 +2,18 @@
 -- Assumes nothing.
 use mathlib.Core.Path.{refl, _∙_}
 use native.Mathlib.Omega.{arith}
-use lib.ListN.{length-set}
 use Rattle.search.specs.Spread.{ends, waits}
 use Rattle.search.proofs.SpreadSteps.{labelled-long, label-heap}
 use borrow.Author.Needs.{needs}
 use Rattle.search.proofs.labels.label.Statement.{statement}
 use Rattle.search.proofs.labels.label.Tie as tie
+
+-- the entry, from where the predecessor is set; and that place, from where the row's bounds are read
+abbrev entry : tie.After-set-from → tie.Start
+entry c = c .before .before .before .before .before .before
+
+abbrev preceded : tie.After-shared-slice-known3 → tie.After-set-from
+preceded c = c .before .before .before .before
 
 mul-met : tie.Need-mul-met
 mul-met c = search needs
@@ -44,17 +50,19 @@ shared-slice-read-if1-2 c = search needs
 
 same-length : tie.Need-same-length
 same-length c =
-    let from = c .before .before .before .before .before in
-    let start = from .before .before .before .before .before .before in
+    let from = preceded (c .before) in
+    let start = entry from in
     rw (from .set-from .ensures) (labelled-long (start .pre) (start .args .d))
 
 returns : tie.Need-returns
-returns c = (ends (c .if1 .taken) (c .before .before .before .before .before .set-from .ensures) refl, c .before .before .before .before .before .before .before .met .ensures)
+returns c =
+    let from = preceded (c .before) in
+    (ends (c .if1 .taken) (from .set-from .ensures) refl, from .before .before .met .ensures)
 
 add-requires : tie.Need-add-requires
 add-requires c κs =
-    let from = c .before .before .before .before .before .before in
-    let start = from .before .before .before .before .before .before in
+    let from = preceded (c .before .before) in
+    let start = entry from in
     label-heap (start .pre) (start .args .d) (from .set-from .ensures)
 
 add-t10 : tie.Need-add-t10
@@ -62,12 +70,16 @@ add-t10 c = search needs
 
 same-length-2 : tie.Need-same-length-2
 same-length-2 c =
-    let from = c .before .before .before .before .before .before .before .before .before in
-    let start = from .before .before .before .before .before .before in
-    c .before .before .add .ensures .moved .same .long ∙ rw (from .set-from .ensures) (labelled-long (start .pre) (start .args .d))
+    let added = c .before .before in
+    let from = preceded (added .before .before .before) in
+    let start = entry from in
+    added .add .ensures .moved .same .long ∙ rw (from .set-from .ensures) (labelled-long (start .pre) (start .args .d))
 
 returns-2 : tie.Need-returns-2
-returns-2 c = (waits (rw (c .before .before .before .before .before .before .before .before .before .set-from .ensures) at (c .before .before .add .ensures)) refl, c .before .before .before .before .before .before .before .before .before .before .before .met .ensures)
+returns-2 c =
+    let added = c .before .before in
+    let from = preceded (added .before .before .before) in
+    (waits (rw (from .set-from .ensures) at (added .add .ensures)) refl, from .before .before .met .ensures)
 
 pub label-spec : {M : Type 1} → statement M
 label-spec =

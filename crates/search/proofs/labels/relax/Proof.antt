@@ -9,6 +9,10 @@ use Rattle.price.proofs.TimedLaws.{weighed-low}
 use Rattle.search.proofs.labels.relax.Statement.{statement}
 use Rattle.search.proofs.labels.relax.Tie as tie
 
+-- the entry, from where v is seen to be a node
+abbrev entry : tie.Else1 → tie.Start
+entry c = c .before .before .before .before .before .before .before .before
+
 returns : tie.Need-returns
 returns c = beyond (c .if1 .taken) refl refl refl
 
@@ -19,18 +23,18 @@ slice-read-old : tie.Need-slice-read-old
 slice-read-old c = search needs
 
 clamped-price-requires : tie.Need-clamped-price-requires
-clamped-price-requires c κs = (c .before .before .before .before .before .before .before .before .before .before .pre .lent, c .before .before .if1 .left)
+clamped-price-requires c κs = let at-if1 = c .before .before in (entry at-if1 .pre .lent, at-if1 .if1 .left)
 
 add-label : tie.Need-add-label
 add-label c =
-    let start = c .before .before .before .before .before .before .before .before .before .before .before .before in
+    let start = entry (c .before .before .before .before) in
     let most = weighed-low (start .args .weighting) in
     let p = c .before .clamped-price .ensures .1 in
     let r = start .pre .near in
     omega arith
 
 label-requires : tie.Need-label-requires
-label-requires c κs = relax-label (c .before .before .before .before .before .before .before .before .before .before .before .before .pre) (c .before .before .before .before .if1 .left) (c .before .before .if2 .taken)
+label-requires c κs = let at-if2 = c .before .before in let at-if1 = at-if2 .before .before in relax-label (entry at-if1 .pre) (at-if1 .if1 .left) (at-if2 .if2 .taken)
 
 same-length : tie.Need-same-length
 same-length c = search needs
@@ -48,15 +52,17 @@ lower-requires c κs =
     let at-if3 = c .before in
     let at-if2 = at-if3 .before in
     let at-if1 = at-if2 .before .before in
-    let start = at-if1 .before .before .before .before .before .before .before .before in
-    let r = start .pre in
+    let r = entry at-if1 .pre in
     (r .u-node, at-if1 .if1 .left, r .lent .few, r .heap .long, r .from-node (at-if1 .if1 .left) (at-if3 .if3 .taken) (at-if2 .if2 .left))
 
 same-length-2 : tie.Need-same-length-2
 same-length-2 c = search needs
 
 returns-3 : tie.Need-returns-3
-returns-3 c = lowers (c .before .before .before .before .before .before .before .if1 .left) (c .before .before .before .before .if3 .taken) (c .before .before .before .before .before .if2 .left) (c .before .before .lower .ensures) refl refl
+returns-3 c =
+    let at-if3 = c .before .before .before .before in
+    let at-if2 = at-if3 .before in
+    lowers (at-if2 .before .before .if1 .left) (at-if3 .if3 .taken) (at-if2 .if2 .left) (c .before .before .lower .ensures) refl refl
 
 returns-4 : tie.Need-returns-4
 returns-4 c = let z = c .if3 .left in tree (c .before .before .before .if1 .left) (omega arith) refl refl refl

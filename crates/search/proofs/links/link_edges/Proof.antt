@@ -1,7 +1,7 @@
 -- `search::links::link_edges` meets its contract. The invariant: the rows of the nodes below u are linked. The measure is how many nodes are left.
 -- Assumes nothing.
 use mathlib.Core.Path.{_∙_}
-use Prim.Native.Nat.{_+_, _-_}
+use Prim.Native.Nat.{_-_}
 use native.Mathlib.Omega.{arith}
 use lib.ListN.{length}
 use Rattle.search.specs.Block.{graphOf}
@@ -16,20 +16,25 @@ Inv-loop kind first-edge edge-target last₀ earlier₀ from₀ u₀ last earlie
 abbrev μ-loop : tie.MeasureT-loop
 μ-loop kind first-edge edge-target last₀ earlier₀ from₀ u₀ last earlier from u = length kind - u
 
+-- the entry, from the loop's head
+abbrev entry : tie.At-loop Inv-loop μ-loop → tie.Start Inv-loop μ-loop
+entry c = c .before .before .before .before .before .before .before
+
 loop-holds : tie.Need-loop-holds Inv-loop μ-loop
-loop-holds c = let p = c .before .before .before .before .before .before .pre in rows-none _ (p .0 .0) _ _ _ (p .1)
+loop-holds c = let p = c .before .before .before .before .before .before .pre in rows-none _ (p .0) _ _ _ (p .2)
 
 link-row-requires : tie.Need-link-row-requires Inv-loop μ-loop
 link-row-requires c κs =
-    let head = c .before .before .before .before in
-    let p = head .before .before .before .before .before .before .before .pre in
-    ((p .0 .0, c .before .before .before .loop-test .taken, rows-room _ (p .0 .0) (p .0 .1) (head .loop .inv)), head .loop .inv .linked)
+    let turn = c .before .before .before in
+    let head = turn .before in
+    let p = entry head .pre in
+    (p .0, turn .loop-test .taken, rows-room _ (p .0) (p .1) (head .loop .inv), head .loop .inv .linked)
 
 add-u : tie.Need-add-u Inv-loop μ-loop
 add-u c =
-    let head = c .before .before .before .before .before .before .before .before .before .before .before in
-    let few = head .before .before .before .before .before .before .before .pre .0 .0 .few in
-    let t = c .before .before .before .before .before .before .before .before .before .before .loop-test .taken in
+    let turn = c .before .before .before .before .before .before .before .before .before .before in
+    let few = entry (turn .before) .pre .0 .few in
+    let t = turn .loop-test .taken in
     omega arith
 
 loop-less : tie.Need-loop-less Inv-loop μ-loop
@@ -39,9 +44,10 @@ loop-again : tie.Need-loop-again Inv-loop μ-loop
 loop-again c =
     let call = c .before .before .before .before .before .before in
     let kept = call .link-row .kept .1 .1 .1 .1 in
-    let inv = call .before .before .before .before .before .loop .inv in
+    let turn = call .before .before .before .before in
+    let inv = turn .before .loop .inv in
     record {
-      most = let t = call .before .before .before .before .loop-test .taken in omega arith;
+      most = let t = turn .loop-test .taken in omega arith;
       last-same = kept .0 ∙ inv .last-same;
       earlier-same = kept .1 .0 ∙ inv .earlier-same;
       from-same = kept .1 .1 .0 ∙ inv .from-same;
@@ -59,8 +65,8 @@ same-length-3 c = c .before .loop .inv .from-same
 
 returns : tie.Need-returns Inv-loop μ-loop
 returns c =
-    let p = c .before .before .before .before .before .before .before .before .pre in
-    rows-all _ (p .0 .0) (p .0 .1) (c .before .loop .inv) (c .loop-test .left)
+    let p = entry (c .before) .pre in
+    rows-all _ (p .0) (p .1) (c .before .loop .inv) (c .loop-test .left)
 
 pub link-edges-spec : {M : Type 1} → statement M
 link-edges-spec =

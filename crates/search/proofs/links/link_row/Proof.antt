@@ -4,7 +4,6 @@ use Prim.Native.Nat.{_+_, _-_, _<_}
 use native.Mathlib.Omega.{arith}
 use lib.ListN.{length, getD}
 use denote.Ref.{now}
-use borrow.Author.Needs.{needs}
 use Rattle.search.specs.Block.{graphOf}
 use Rattle.search.specs.Tables.{edgesMost}
 use Rattle.search.proofs.BlockLaws.{firstEdges-long}
@@ -34,13 +33,13 @@ fits :
     (c : Turn) → (c .before .loop .k < edgesMost) × (c .before .loop .k < length (now (entry c .args .edge-target))) × (c .before .loop .k < length (c .before .loop .earlier))
     × (c .before .loop .k < length (c .before .loop .from)) × (getD (now (entry c .args .edge-target)) (c .before .loop .k) 0 < length (c .before .loop .last))
 fits c =
-    let p = entry c .pre .0 in
+    let p = entry c .pre in
     linking-fits _ (p .0) (p .1) (p .2) (c .before .loop .inv) (c .loop-test .taken)
 
 -- u is a node
 node : (c : Entry) → (c .args .u < 4096) × (c .args .u + 1 < length (now (c .args .first-edge)))
 node c =
-    let p = c .pre .0 in
+    let p = c .pre in
     let few = p .0 .few in
     let h = p .1 in
     let long = firstEdges-long _ (p .0) in
@@ -68,7 +67,7 @@ cast-k : tie.Need-cast-k Inv-loop μ-loop
 cast-k c = omega (arith, c .shared-slice-known2 .given (c .before .before .args .u))
 
 loop-holds : tie.Need-loop-holds Inv-loop μ-loop
-loop-holds c = let p = c .before .before .pre in linking-none _ (p .0 .0) (p .0 .1) _ _ _ (p .1)
+loop-holds c = let p = c .before .before .pre in linking-none _ (p .0) (p .1) _ _ _ (p .3)
 
 mul-v : tie.Need-mul-v Inv-loop μ-loop
 mul-v c = omega (arith, fits c .0)
@@ -120,7 +119,7 @@ loop-less c = let t = c .before .before .loop-test .taken in omega arith
 
 loop-again : tie.Need-loop-again Inv-loop μ-loop
 loop-again c =
-    let p = entry (c .before .before) .pre .0 in
+    let p = entry (c .before .before) .pre in
     linking-more _ (p .0) (p .1) (p .2) (c .before .before .before .loop .inv) (c .before .before .loop-test .taken)
 
 same-length : tie.Need-same-length Inv-loop μ-loop
@@ -134,7 +133,7 @@ same-length-3 c = c .before .loop .inv .from-same
 
 returns : tie.Need-returns Inv-loop μ-loop
 returns c =
-    let p = c .before .before .before .before .pre .0 in
+    let p = c .before .before .before .before .pre in
     linking-all _ (p .0) (p .1) (p .2) (c .before .loop .inv) (c .loop-test .left)
 
 pub link-row-spec : {M : Type 1} → statement M

@@ -1,9 +1,11 @@
 -- `numbers::first_refusal` meets its contract: each return by the law of the first refusal that is due.
 -- Assumes nothing.
 use mathlib.Core.Path.{refl, sym, _∙_}
+use Prim.Native.Nat.{_≤_}
 use native.Mathlib.Omega.{arith}
 use borrow.Author.Needs.{needs}
 use borrow.Author.Tests.{leb-true}
+use Rattle.price.specs.Bounds.{nodesMost}
 use Rattle.search.proofs.KeptLaws.{passed}
 use Rattle.search.proofs.NumberLaws.{refusal-table, refusal-many, refusal-work, refusal-node, refusal-factor, refusal-criticality, refusal-none}
 use Rattle.search.proofs.PassLaws.{leb-fell}
@@ -16,17 +18,28 @@ returns c = λ delays. sym (refusal-table _ _ _ _ _ (c .if1 .taken))
 too-many-requires : tie.Need-too-many-requires
 too-many-requires c κs = search needs
 
+-- the entry, from where no table is refused; the nodes are few then
+abbrev entry : tie.Else1 → tie.Start
+entry c = c .before .before .before .before
+
+few : (c : tie.Else1) → entry c .args .n ≤ nodesMost
+few c = entry c .pre (omega arith)
+
+-- that place, from where the lists are tested
+abbrev begun : tie.After-lists-sound → tie.Else1
+begun c = c .before .before .before .before
+
 cast-t12 : tie.Need-cast-t12
-cast-t12 c = omega (arith, c .before .before .before .before .before .before .pre (omega arith))
+cast-t12 c = omega (arith, few (c .before .before))
 
 returns-2 : tie.Need-returns-2
 returns-2 c = λ delays. sym (refusal-many _ _ _ _ _ (c .before .before .if1 .left) (sym (c .before .too-many .ensures) ∙ c .if2 .taken))
 
 mul-if3 : tie.Need-mul-if3
-mul-if3 c = omega (arith, c .before .before .before .before .before .before .pre (omega arith))
+mul-if3 c = omega (arith, few (c .before .before))
 
 mul-t14 : tie.Need-mul-t14
-mul-t14 c = omega (arith, c .before .before .before .before .before .before .before .pre (omega arith))
+mul-t14 c = omega (arith, few (c .before .before .before))
 
 returns-3 : tie.Need-returns-3
 returns-3 c =
@@ -41,8 +54,9 @@ bad-node-requires c κs = search needs
 
 cast-t17 : tie.Need-cast-t17
 cast-t17 c =
-    let start = c .before .before .before .before .before .before .before .before .before .before in
-    omega (arith, leb-fell {m = start .args .n} (c .before .before .lists-sound .ensures) (c .before .if4 .taken) (c .bad-node .ensures), start .pre (omega arith))
+    let tested = c .before .before in
+    omega
+    (arith, leb-fell {m = entry (begun tested) .args .n} (tested .lists-sound .ensures) (c .before .if4 .taken) (c .bad-node .ensures), few (begun tested))
 
 returns-4 : tie.Need-returns-4
 returns-4 c =
@@ -54,7 +68,7 @@ returns-4 c =
     (leb-fell (tested .lists-sound .ensures) (c .before .if4 .taken) (c .bad-node .ensures)))
 
 cast-t18 : tie.Need-cast-t18
-cast-t18 c = omega (arith, c .before .before .before .before .before .before .before .before .before .before .pre (omega arith))
+cast-t18 c = omega (arith, few (begun (c .before .before)))
 
 returns-5 : tie.Need-returns-5
 returns-5 c =
@@ -69,10 +83,10 @@ bad-criticality-requires : tie.Need-bad-criticality-requires
 bad-criticality-requires c κs = search needs
 
 cast-t20 : tie.Need-cast-t20
-cast-t20 c = omega (arith, c .before .before .before .before .before .before .before .before .before .before .before .before .pre (omega arith))
+cast-t20 c = omega (arith, few (begun (c .before .before .before .before)))
 
 add-t21 : tie.Need-add-t21
-add-t21 c = omega (arith, c .before .before .before .before .before .before .before .before .before .before .before .before .pre (omega arith))
+add-t21 c = omega (arith, few (begun (c .before .before .before .before)))
 
 returns-6 : tie.Need-returns-6
 returns-6 c =

@@ -44,9 +44,11 @@ mul-i c = search needs
 
 loop-again : tie.Need-loop-again Inv-loop μ-loop
 loop-again c =
+    let turn = c .before .before .before .before in
+    let head = turn .before in
     ⊎-elim
-    (λ w. down-left _ _ _ (c .before .before .before .before .loop-test .taken) (w .0 .taken) (w .1) (c .before .before .before .before .before .loop .inv))
-    (λ w. down-right _ _ _ (c .before .before .before .before .before .before .pre .2) (c .before .before .before .before .loop-test .taken) (w .0 .left) (w .1) (c .before .before .before .before .before .loop .inv))
+    (λ w. down-left _ _ _ (turn .loop-test .taken) (w .0 .taken) (w .1) (head .loop .inv))
+    (λ w. down-right _ _ _ (head .before .pre .2) (turn .loop-test .taken) (w .0 .left) (w .1) (head .loop .inv))
     (c .before .if1 .came)
 
 add-i : tie.Need-add-i Inv-loop μ-loop

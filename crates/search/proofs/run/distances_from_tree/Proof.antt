@@ -7,6 +7,10 @@ use Rattle.search.proofs.SearchLaws.{built-in-progress, built-goals, se
 use Rattle.search.proofs.run.distances_from_tree.Statement.{statement}
 use Rattle.search.proofs.run.distances_from_tree.Tie as tie
 
+-- the entry, from where the work slice is prepared
+abbrev entry : tie.After-prepare → tie.Start
+entry c = c .before .before .before .before .before .before .before .before .before .before .before
+
 prepare-requires : tie.Need-prepare-requires
 prepare-requires c κs = search needs
 
@@ -17,15 +21,14 @@ settle-all-requires : tie.Need-settle-all-requires
 settle-all-requires c κs =
     let built = c .before .before .before in
     let ready = built .before .before .before .before in
-    let start = ready .before .before .before .before .before .before .before .before .before .before .before in
-    let pre = start .pre in
+    let pre = entry ready .pre in
     let heap = built .build .ensures in (
-      built-in-progress _ _ _ _ _ _ _ _ _ (pre .1 .0) (pre .0) (pre .1 .1) (ready .prepare .ensures) (heap .0) (heap .1),
-      built-goals _ _ _ _ _ _ _ _ _ (pre .1 .0) (pre .0) (pre .1 .1) (ready .prepare .ensures) (heap .0) (heap .1),
+      built-in-progress _ _ _ _ _ _ _ _ _ (pre .1) (pre .0) (pre .2) (ready .prepare .ensures) (heap .0) (heap .1),
+      built-goals _ _ _ _ _ _ _ _ _ (pre .1) (pre .0) (pre .2) (ready .prepare .ensures) (heap .0) (heap .1),
     )
 
 mul-clear : tie.Need-mul-clear
-mul-clear c = omega (arith, kinds-few _ (c .before .before .before .before .before .before .before .before .before .before .before .before .before .before .before .before .before .before .before .before .before .before .pre .0 .kinds-sound))
+mul-clear c = omega (arith, kinds-few _ (entry (c .before .before .before .before .before .before .before .before .before .before .before) .pre .0 .kinds-sound))
 
 clear-requires : tie.Need-clear-requires
 clear-requires c κs = search needs
@@ -39,8 +42,8 @@ returns c =
     let ran = ended .before .before .before .before in
     let built = ran .before .before .before .before in
     let ready = built .before .before .before .before in
-    let start = ready .before .before .before .before .before .before .before .before .before .before .before in
-    search-leaves _ _ _ _ _ _ _ _ _ (start .pre .1 .0) (start .pre .0) (start .pre .1 .1) (ready .prepare .ensures) (built .build .ensures .0) (built .build .ensures .1) _ _ _ (ran .settle-all .ensures) (ended .clear .ensures)
+    let pre = entry ready .pre in
+    search-leaves _ _ _ _ _ _ _ _ _ (pre .1) (pre .0) (pre .2) (ready .prepare .ensures) (built .build .ensures .0) (built .build .ensures .1) _ _ _ (ran .settle-all .ensures) (ended .clear .ensures)
 
 pub distances-from-tree-spec : {M : Type 1} → statement M
 distances-from-tree-spec =

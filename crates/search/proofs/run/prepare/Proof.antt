@@ -8,16 +8,20 @@ use Rattle.search.proofs.SearchLaws.{prepared}
 use Rattle.search.proofs.run.prepare.Statement.{statement}
 use Rattle.search.proofs.run.prepare.Tie as tie
 
+-- the entry, from the call that fills in the prices
+abbrev entry : tie.After-fill-prices-arg → tie.Start
+entry c = c .before .before .before .before .before .before .before .before
+
 fill-prices-requires : tie.Need-fill-prices-requires
 fill-prices-requires c κs =
-    let start = c .before .before .before .before .before .before .before .before in
-    (ready-price _ _ [] [] _ _ (start .pre .0), start .pre .1)
+    let pre = entry c .pre in
+    (ready-price _ _ [] [] _ _ (pre .0), pre .1)
 
 fill-distances-requires : tie.Need-fill-distances-requires
 fill-distances-requires c κs =
     let filled = c .before .before .before in
-    let start = filled .before .before .before .before .before .before .before .before .before in
-    (omega (arith, ready-marks _ _ [] [] _ _ (start .pre .0)), omega (arith, start .pre .1, filled .fill-prices .ensures .same .long))
+    let pre = entry (filled .before) .pre in
+    (omega (arith, ready-marks _ _ [] [] _ _ (pre .0)), omega (arith, pre .1, filled .fill-prices .ensures .same .long))
 
 mul-clear : tie.Need-mul-clear
 mul-clear c = search needs
@@ -36,8 +40,7 @@ returns c =
     let ended = c .before .before in
     let measured = ended .before .before .before .before in
     let filled = measured .before .before .before .before in
-    let start = filled .before .before .before .before .before .before .before .before .before in
-    prepared _ _ _ _ _ _ _ _ (start .pre .1) (filled .fill-prices .ensures) (measured .fill-distances .ensures) (ended .clear .ensures)
+    prepared _ _ _ _ _ _ _ _ (entry (filled .before) .pre .1) (filled .fill-prices .ensures) (measured .fill-distances .ensures) (ended .clear .ensures)
 
 pub prepare-spec : {M : Type 1} → statement M
 prepare-spec =

@@ -22,6 +22,10 @@ Inv-loop kind first-edge edge-target n u₀ u = (k : ℕ) → k < u → rowSound
 abbrev μ-loop : tie.MeasureT-loop
 μ-loop kind first-edge edge-target n u₀ u = length kind - u
 
+-- the entry, from the loop's head
+abbrev entry : tie.At-loop Inv-loop μ-loop → tie.Start Inv-loop μ-loop
+entry c = c .before .before .before .before .before
+
 returns : tie.Need-returns Inv-loop μ-loop
 returns c = sym (edges-many _ (search needs))
 
@@ -29,10 +33,10 @@ loop-holds : tie.Need-loop-holds Inv-loop μ-loop
 loop-holds c = below-none _
 
 mul-from : tie.Need-mul-from Inv-loop μ-loop
-mul-from c = omega (arith, firsts-long _ _ _ (c .before .before .before .before .before .before .pre))
+mul-from c = omega (arith, firsts-long _ _ _ (entry (c .before) .pre))
 
 shared-slice-read-from : tie.Need-shared-slice-read-from Inv-loop μ-loop
-shared-slice-read-from c = omega (arith, firsts-long _ _ _ (c .before .before .before .before .before .before .before .pre))
+shared-slice-read-from c = omega (arith, firsts-long _ _ _ (entry (c .before .before) .pre))
 
 cast-from : tie.Need-cast-from Inv-loop μ-loop
 cast-from c = omega (arith, c .shared-slice-known4 .given (c .before .before .loop .u))
@@ -41,16 +45,16 @@ add-to : tie.Need-add-to Inv-loop μ-loop
 add-to c = omega arith
 
 mul-to : tie.Need-mul-to Inv-loop μ-loop
-mul-to c = omega (arith, firsts-long _ _ _ (c .before .before .before .before .before .before .before .pre))
+mul-to c = omega (arith, firsts-long _ _ _ (entry (c .before .before) .pre))
 
 shared-slice-read-to : tie.Need-shared-slice-read-to Inv-loop μ-loop
-shared-slice-read-to c = omega (arith, firsts-long _ _ _ (c .before .before .before .before .before .before .before .before .pre))
+shared-slice-read-to c = omega (arith, firsts-long _ _ _ (entry (c .before .before .before) .pre))
 
 cast-to : tie.Need-cast-to Inv-loop μ-loop
 cast-to c = omega (arith, c .shared-slice-known5 .given (c .before .before .before .loop .u + 1))
 
 row-sound-requires : tie.Need-row-sound-requires Inv-loop μ-loop
-row-sound-requires c κs = firsts-most _ _ _ (c .before .before .before .before .before .before .before .before .pre) _ (omega arith)
+row-sound-requires c κs = firsts-most _ _ _ (entry (c .before .before .before) .pre) _ (omega arith)
 
 returns-2 : tie.Need-returns-2 Inv-loop μ-loop
 unfolding row

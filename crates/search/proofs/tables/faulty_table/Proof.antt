@@ -28,9 +28,11 @@ first-edges-sound-requires c κs = kinds-few _ (passed (c .before .before .befor
 
 returns-3 : tie.Need-returns-3
 returns-3 c =
+    let second = c .before .before in
+    let first = second .before .before in
     sym (faulty-3 _
-    (passed (c .before .before .before .before .before .kinds-sound .ensures) (c .before .before .before .before .if1 .left))
-    (passed (c .before .before .before .capacities-sound .ensures) (c .before .before .if2 .left))
+    (passed (first .before .kinds-sound .ensures) (first .if1 .left))
+    (passed (second .before .capacities-sound .ensures) (second .if2 .left))
     (refused (c .before .first-edges-sound .ensures) (c .if3 .taken)))
 
 edge-targets-sound-requires : tie.Need-edge-targets-sound-requires
@@ -38,18 +40,24 @@ edge-targets-sound-requires c κs = passed (c .before .first-edges-sound .ensure
 
 returns-4 : tie.Need-returns-4
 returns-4 c =
+    let third = c .before .before in
+    let second = third .before .before in
+    let first = second .before .before in
     sym (faulty-4 _
-    (passed (c .before .before .before .before .before .before .before .kinds-sound .ensures) (c .before .before .before .before .before .before .if1 .left))
-    (passed (c .before .before .before .before .before .capacities-sound .ensures) (c .before .before .before .before .if2 .left))
-    (passed (c .before .before .before .first-edges-sound .ensures) (c .before .before .if3 .left))
+    (passed (first .before .kinds-sound .ensures) (first .if1 .left))
+    (passed (second .before .capacities-sound .ensures) (second .if2 .left))
+    (passed (third .before .first-edges-sound .ensures) (third .if3 .left))
     (refused (c .before .edge-targets-sound .ensures) (c .if4 .taken)))
 
 returns-5 : tie.Need-returns-5
 returns-5 c =
+    let third = c .before .before in
+    let second = third .before .before in
+    let first = second .before .before in
     sym (faulty-none _
-    (passed (c .before .before .before .before .before .before .before .kinds-sound .ensures) (c .before .before .before .before .before .before .if1 .left))
-    (passed (c .before .before .before .before .before .capacities-sound .ensures) (c .before .before .before .before .if2 .left))
-    (passed (c .before .before .before .first-edges-sound .ensures) (c .before .before .if3 .left))
+    (passed (first .before .kinds-sound .ensures) (first .if1 .left))
+    (passed (second .before .capacities-sound .ensures) (second .if2 .left))
+    (passed (third .before .first-edges-sound .ensures) (third .if3 .left))
     (passed (c .before .edge-targets-sound .ensures) (c .if4 .left)))
 
 pub faulty-table-spec : {M : Type 1} → statement M

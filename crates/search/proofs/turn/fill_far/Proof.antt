@@ -2,7 +2,6 @@
 -- Assumes nothing.
 use Prim.Native.Nat.{_-_, _≤_}
 use native.Mathlib.Omega.{arith}
-use lib.ListN.{length}
 use Rattle.search.specs.TurnWork.{Blank}
 use Rattle.search.proofs.TurnMarkLaws.{blank-none, blank-more, blank-all}
 use borrow.Author.Needs.{needs}

@@ -36,7 +36,10 @@ shared-slice-read-if2 : tie.Need-shared-slice-read-if2 Inv-loop μ-loop
 shared-slice-read-if2 c = let t = c .before .if1 .taken in let p = c .before .before .before .before .before .pre .1 in omega arith
 
 returns : tie.Need-returns Inv-loop μ-loop
-returns c = record { within = c .before .before .before .before .before .loop .inv .0; earlier = c .before .before .before .before .before .loop .inv .1; node = λ _. c .before .before .if1 .taken; label = λ _. c .if2 .taken }
+returns c =
+    let within = c .before .before in
+    let s = within .before .before .before .loop .inv in
+    record { within = s .0; earlier = s .1; node = λ _. within .if1 .taken; label = λ _. c .if2 .taken }
 
 add-place : tie.Need-add-place Inv-loop μ-loop
 add-place c = let t = c .before .before .loop-test .taken in omega arith
@@ -46,9 +49,11 @@ loop-less c = let t = c .before .before .loop-test .taken in omega arith
 
 loop-again : tie.Need-loop-again Inv-loop μ-loop
 loop-again c =
-    let t = c .before .before .loop-test .taken in
-    let s = c .before .before .before .before in
-    (omega arith, first-more (s .args .n) (s .args .d) (s .args .sinks .now) (s .args .work .now) (c .before .before .before .loop .place) (c .before .before .before .loop .inv .1) (λ h e. ⊎-elim (λ w. w .2 .left e) (λ w. let l = w .left in omega arith) (c .if1 .came)))
+    let turn = c .before .before in
+    let t = turn .loop-test .taken in
+    let head = turn .before in
+    let s = head .before in
+    (omega arith, first-more (s .args .n) (s .args .d) (s .args .sinks .now) (s .args .work .now) (head .loop .place) (head .loop .inv .1) (λ h e. ⊎-elim (λ w. w .2 .left e) (λ w. let l = w .left in omega arith) (c .if1 .came)))
 
 returns-2 : tie.Need-returns-2 Inv-loop μ-loop
 returns-2 c = let s = c .before .loop .inv in record { within = s .0; earlier = s .1; node = λ b. absurd (omega arith); label = λ b. absurd (omega arith) }

@@ -18,6 +18,10 @@ Inv-loop kind capacity history others weighting delay factor sinks work n least�
 abbrev μ-loop : tie.MeasureT-loop
 μ-loop kind capacity history others weighting delay factor sinks work n least₀ i₀ least i = length sinks - i
 
+-- the entry, from where s is seen to be a node
+abbrev entry : tie.Then1 Inv-loop μ-loop → tie.Start Inv-loop μ-loop
+entry c = c .before .before .before .before .before .before .before .before .before .before .before
+
 loop-holds : tie.Need-loop-holds Inv-loop μ-loop
 loop-holds c = least-none _ _ _ _
 
@@ -31,13 +35,13 @@ cast-s : tie.Need-cast-s Inv-loop μ-loop
 cast-s c = omega (arith, c .shared-slice-known8 .given (c .before .before .loop .i))
 
 mul-if2 : tie.Need-mul-if2 Inv-loop μ-loop
-mul-if2 c = let t = c .if1 .taken in let p = c .before .before .before .before .before .before .before .before .before .before .before .pre .0 .few in omega arith
+mul-if2 c = let t = c .if1 .taken in let p = entry c .pre .0 .few in omega arith
 
 shared-slice-read-if2 : tie.Need-shared-slice-read-if2 Inv-loop μ-loop
-shared-slice-read-if2 c = let t = c .before .if1 .taken in let p = c .before .before .before .before .before .before .before .before .before .before .before .before .pre .1 in omega arith
+shared-slice-read-if2 c = let t = c .before .if1 .taken in let p = entry (c .before) .pre .1 in omega arith
 
 clamped-price-requires : tie.Need-clamped-price-requires Inv-loop μ-loop
-clamped-price-requires c κs = (c .before .before .before .before .before .before .before .before .before .before .before .before .before .pre .0, c .before .before .if1 .taken)
+clamped-price-requires c κs = let at-if1 = c .before .before in (entry at-if1 .pre .0, at-if1 .if1 .taken)
 
 add-i : tie.Need-add-i Inv-loop μ-loop
 add-i c = let t = c .before .before .loop-test .taken in omega arith

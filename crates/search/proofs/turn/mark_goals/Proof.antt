@@ -32,13 +32,19 @@ mul-if2 : tie.Need-mul-if2 Inv-loop μ-loop
 mul-if2 c = let t = c .if1 .taken in let p = c .before .before .before .before .pre .0 in omega arith
 
 slice-read-if2 : tie.Need-slice-read-if2 Inv-loop μ-loop
-slice-read-if2 c = let t = c .before .if1 .taken in let l = c .before .before .before .before .loop .inv .1 .same .long in let p = c .before .before .before .before .before .pre .1 in omega arith
+slice-read-if2 c = let t = c .before .if1 .taken in let head = c .before .before .before .before in let l = head .loop .inv .1 .same .long in let p = head .before .pre .1 in omega arith
 
 mul-work : tie.Need-mul-work Inv-loop μ-loop
-mul-work c = let t = c .before .before .if1 .taken in let p = c .before .before .before .before .before .before .pre .0 in omega arith
+mul-work c = let node = c .before .before in let t = node .if1 .taken in let p = node .before .before .before .before .pre .0 in omega arith
 
 slice-write-work : tie.Need-slice-write-work Inv-loop μ-loop
-slice-write-work c = let t = c .before .before .if1 .taken in let l = c .before .before .before .before .before .loop .inv .1 .same .long in let p = c .before .before .before .before .before .before .pre .1 in omega arith
+slice-write-work c =
+    let node = c .before .before in
+    let t = node .if1 .taken in
+    let head = node .before .before .before in
+    let l = head .loop .inv .1 .same .long in
+    let p = head .before .pre .1 in
+    omega arith
 
 add-i : tie.Need-add-i Inv-loop μ-loop
 add-i c = let t = c .before .before .loop-test .taken in omega arith

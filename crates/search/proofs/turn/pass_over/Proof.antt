@@ -1,6 +1,6 @@
 -- `search::turn::pass_over` meets its contract. The invariant: no tree node stands before v. The measure is how many nodes are left.
 -- Assumes nothing.
-use Prim.Native.Nat.{_+_, _-_}
+use Prim.Native.Nat.{_-_}
 use native.Mathlib.Omega.{arith}
 use Rattle.search.specs.TurnWork.{Over}
 use Rattle.search.proofs.TurnMarkLaws.{over-none, over-on}

@@ -3,13 +3,13 @@
 use mathlib.Core.Logic.{⊎-elim}
 use Prim.Native.Nat.{_-_}
 use native.Mathlib.Omega.{arith}
-use Rattle.search.proofs.TurnMarkLaws.{Seen, seen-none, seen-in, seen-out, seen-all}
+use Rattle.search.proofs.TurnMarkLaws.{MarksSeen, seen-none, seen-in, seen-out, seen-all}
 use borrow.Author.Needs.{needs}
 use Rattle.search.proofs.turn.some_marked.Statement.{statement}
 use Rattle.search.proofs.turn.some_marked.Tie as tie
 
 abbrev Inv-loop : tie.InvT-loop
-Inv-loop in-tree from to some₀ v₀ some v = Seen in-tree from to some v
+Inv-loop in-tree from to some₀ v₀ some v = MarksSeen in-tree from to some v
 
 abbrev μ-loop : tie.MeasureT-loop
 μ-loop in-tree from to some₀ v₀ some v = to - v

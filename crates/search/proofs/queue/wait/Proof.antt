@@ -1,14 +1,13 @@
--- `search::distances::settle` meets its contract: the store at the leaf may leave the entry above it wrong, and carrying it up puts the queue right.
+-- `search::queue::wait` meets its contract: the store at the leaf may leave the entry above it wrong, and carrying it up puts the queue right.
 -- Assumes nothing.
 use mathlib.Core.Path.{_∙_}
 use native.Mathlib.Omega.{arith}
 use lib.ListN.{length-set}
 use borrow.Author.Needs.{needs}
-use Rattle.search.specs.Distance.{far}
-use Rattle.search.proofs.StoreLaws.{taken-out}
+use Rattle.search.proofs.StoreLaws.{queued}
 use Rattle.search.proofs.QueueLaws.{heap-node}
-use Rattle.search.proofs.distances.settle.Statement.{statement}
-use Rattle.search.proofs.distances.settle.Tie as tie
+use Rattle.search.proofs.queue.wait.Statement.{statement}
+use Rattle.search.proofs.queue.wait.Tie as tie
 
 mul-work : tie.Need-mul-work
 mul-work c = search needs
@@ -28,7 +27,7 @@ add-carry-up c = search needs
 carry-up-requires : tie.Need-carry-up-requires
 carry-up-requires c κs =
     let start = c .before .before in
-    (omega arith, simp length-set (omega arith), heap-node _ (start .args .work .now) _ far (start .pre .2))
+    (omega arith, simp length-set (omega arith), heap-node _ (start .args .work .now) _ _ (start .pre .2))
 
 same-length : tie.Need-same-length
 same-length c = c .before .before .carry-up .ensures .1 .long ∙ simp length-set
@@ -37,10 +36,10 @@ returns : tie.Need-returns
 returns c =
     let called = c .before .before in
     let start = called .before .before .before in
-    taken-out _ _ _ _ (start .pre .0) (start .pre .1) (called .carry-up .ensures .0) (called .carry-up .ensures .1)
+    queued (start .pre .0) (start .pre .1) (called .carry-up .ensures .0) (called .carry-up .ensures .1)
 
-pub settle-spec : {M : Type 1} → statement M
-settle-spec =
+pub wait-spec : {M : Type 1} → statement M
+wait-spec =
     tie.close
     (tie.spec
     mul-work
