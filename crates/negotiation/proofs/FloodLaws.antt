@@ -9,7 +9,7 @@ use native.Mathlib.Nat.{le-refl, le-trans}
 use native.Mathlib.Omega.{arith}
 use lib.Dec.{eqb}
 use lib.ListN.{length, getD, set, replicate, length-set, length-replicate, getD-replicate}
-use lib.Seq.{getD-set-same, getD-set-other}
+use lib.Seq.{getD-set-same, getD-set-other, set-getD}
 use borrow.Author.Count.{below-none, below-more}
 use borrow.Author.Tests.{eqb-true, eqb-false, eq-eqb, ne-eqb}
 use Rattle.price.proofs.TestLaws.{either-way, le-or-lt}
@@ -136,12 +136,37 @@ row-none q =
       same = same-from-refl _ _;
     }
 
+-- what stands behind the queue does not matter
+behind : {b : Block} {u e end last : ℕ} {marks marks′ work work′ : List ℕ} → RowFlooded b u e end last marks marks′ work work′ → (x : ℕ) → last < nodes b → RowFlooded b u e end last marks marks′ work (set work′ last x)
+behind {b} {u} {e} {end} {last} {marks} {marks′} {work} {work′} r x room =
+    let q = r .queue in
+    let up : end ≤ last = r .order in
+    let kept : (k : ℕ) → k < last → getD (set work′ last x) k 0 ≡ getD work′ k 0 = λ k h. getD-set-other work′ last k x 0 (λ (e : k ≡ last). omega arith) in
+    record {
+      queue = record {
+        marks-long = q .marks-long;
+        work-long = rw (length-set work′ last x) (q .work-long);
+        bits = q .bits;
+        nodes-below = λ k h. rw (kept k h) (q .nodes-below k h);
+        stands = λ v h m.
+            let p = q .stands v h m in
+            (p .0, p .1, kept (p .0) (p .1) ∙ p .2);
+        counted = q .counted;
+      };
+      order = up;
+      entries-kept = λ k h. kept k (omega arith) ∙ r .entries-kept k h;
+      entries-new = λ k h l. rw (kept k h) (r .entries-new k h l);
+      marks-kept = r .marks-kept;
+      targets = r .targets;
+      same = same-from-trans (r .same) (same-from-set (nodes b) last x work′ room);
+    }
+
 module _ {b : Block} (g : Graph b) {u : ℕ} (node : u < nodes b) {e end last : ℕ} {marks marks′ work work′ : List ℕ} (from : rowStart b u ≤ e) (to : e < rowStart b (u + 1)) (r : RowFlooded b u e end last marks marks′ work work′) where
   row-target : getD (b .edgeTargets) e 0 < nodes b
   row-target = target-node b g u e node from to
 
   -- its target at e is marked already
-  pub row-skip : (getD marks′ (getD (b .edgeTargets) e 0) 0 ≡ 0 → ⊥) → RowFlooded b u (e + 1) end last marks marks′ work work′
+  row-skip : (getD marks′ (getD (b .edgeTargets) e 0) 0 ≡ 0 → ⊥) → RowFlooded b u (e + 1) end last marks marks′ work work′
   row-skip h =
       let bit = r .queue .bits (getD (b .edgeTargets) e 0) row-target in
       let one : getD marks′ (getD (b .edgeTargets) e 0) 0 ≡ 1 = omega arith in
@@ -154,6 +179,21 @@ module _ {b : Block} (g : Graph b) {u : ℕ} (node : u < nodes b) {e end last : 
         targets = below-more _ e (r .targets) (λ l. one);
         same = r .same;
       }
+
+  -- marked once more it is as before, whether it stands behind the queue
+  module _ (marked : getD marks′ (getD (b .edgeTargets) e 0) 0 ≡ 0 → ⊥) where
+    mark-again : set marks′ (getD (b .edgeTargets) e 0) 1 ≡ marks′
+    mark-again =
+        let bit = r .queue .bits (getD (b .edgeTargets) e 0) row-target in
+        let one : getD marks′ (getD (b .edgeTargets) e 0) 0 ≡ 1 = omega arith in
+        rw one at (set-getD marks′ (getD (b .edgeTargets) e 0) 0)
+
+    pub row-behind : (x : ℕ) → last < nodes b → RowFlooded b u (e + 1) end last marks (set marks′ (getD (b .edgeTargets) e 0) 1) work (set work′ last x)
+    row-behind x room = rw mark-again (behind (row-skip marked) x room)
+
+    -- or not
+    pub row-again : RowFlooded b u (e + 1) end last marks (set marks′ (getD (b .edgeTargets) e 0) 1) work work′
+    row-again = rw mark-again (row-skip marked)
 
   -- or is not
   module _ (free : getD marks′ (getD (b .edgeTargets) e 0) 0 ≡ 0) where

@@ -18,7 +18,8 @@ fn clear_marks(reached: &mut [u8])
 }
 
 // Marks the targets of node u that are not marked yet. Each waits in the queue, which is the work slice up to `end`; the answer is its new
-// end.
+// end. Every target is written behind the queue, which then grows by 1 or 0: whether a target is new no processor foresees, and a sum needs
+// no branch.
 fn flood_row(
     kind: &[u8],
     first_edge: &[u32],
@@ -39,11 +40,12 @@ fn flood_row(
     let mut last = end;
     while e < to {
         let v = edge_target[e] as usize;
-        if reached[v] == 0 {
-            reached[v] = 1;
+        if last < kind.len() {
             work[last] = v as u64;
-            last += 1;
         }
+        let new = if reached[v] == 0 { 1 } else { 0 };
+        reached[v] = 1;
+        last += new;
         e += 1;
     }
     last

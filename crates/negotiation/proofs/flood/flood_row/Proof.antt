@@ -3,13 +3,13 @@
 use mathlib.Core.Logic.{⊎-elim}
 use mathlib.Core.Path.{_≡_, sym, _∙_}
 use Prim.Native.Nat.{_+_, _-_, _≤_, _<_}
-use native.Mathlib.Nat.{le-refl}
+use native.Mathlib.Nat.{le-refl, add-zero}
 use native.Mathlib.Omega.{arith}
 use lib.ListN.{length, getD}
 use Rattle.search.specs.Block.{graphOf, rowStart}
 use Rattle.search.proofs.BlockLaws.{firstEdges-long, row-order, row-end, target-node}
 use Rattle.negotiation.specs.Flood.{RowFlooded}
-use Rattle.negotiation.proofs.FloodLaws.{row-none, row-skip, row-room, row-mark}
+use Rattle.negotiation.proofs.FloodLaws.{queue-few, row-none, row-behind, row-again, row-room, row-mark}
 use Rattle.negotiation.proofs.flood.flood_row.Statement.{statement}
 use Rattle.negotiation.proofs.flood.flood_row.Tie as tie
 
@@ -37,12 +37,14 @@ has-mark t =
     omega arith
 
 -- and where it is not marked, the queue has room
-has-room : (c : tie.Then1 Inv-loop μ-loop) → c .before .before .before .before .loop .last < length (entry (c .before .before .before) .args .kind .now)
-has-room c =
-    let t = c .before .before .before in
+has-room : (t : tie.In-loop Inv-loop μ-loop) → getD (t .before .loop .reached) (getD (entry t .args .edge-target .now) (t .before .loop .e) 0) 0 ≡ 0 → t .before .loop .last < length (entry t .args .kind .now)
+has-room t free =
     let r = entry t .pre in
     let i = t .before .loop .inv in
-    row-room (r .graph) (r .node) (i .0) (t .loop-test .taken) (i .2) (c .if1 .taken)
+    row-room (r .graph) (r .node) (i .0) (t .loop-test .taken) (i .2) free
+
+not-full : (t : tie.In-loop Inv-loop μ-loop) → getD (t .before .loop .reached) (getD (entry t .args .edge-target .now) (t .before .loop .e) 0) 0 ≡ 0 → length (entry t .args .kind .now) ≤ t .before .loop .last → ⊥
+not-full t free full = omega (arith, has-room t free)
 
 add-to : tie.Need-add-to Inv-loop μ-loop
 add-to c = let few = c .pre .graph .few in let h = c .pre .node in omega arith
@@ -79,38 +81,52 @@ shared-slice-read-v c = omega (arith, row-within (entry (c .before)))
 cast-v : tie.Need-cast-v Inv-loop μ-loop
 cast-v c = omega (arith, c .shared-slice-known3 .given (c .before .before .loop .e))
 
-slice-read-if1 : tie.Need-slice-read-if1 Inv-loop μ-loop
-slice-read-if1 c = has-mark (c .before .before)
-
-slice-write-reached : tie.Need-slice-write-reached Inv-loop μ-loop
-slice-write-reached c = has-mark (c .before .before .before)
-
 mul-work : tie.Need-mul-work Inv-loop μ-loop
-mul-work c = omega (arith, has-room c, entry (c .before .before .before) .pre .graph .few)
+mul-work c = omega (arith, c .if1 .taken, entry (c .before .before) .pre .graph .few)
 
 slice-write-work : tie.Need-slice-write-work Inv-loop μ-loop
-slice-write-work c = omega (arith, has-room c, c .before .before .before .before .loop .inv .2 .queue .work-long)
+slice-write-work c = omega (arith, c .if1 .taken, c .before .before .before .loop .inv .2 .queue .work-long)
+
+slice-read-if2 : tie.Need-slice-read-if2 Inv-loop μ-loop
+slice-read-if2 c = has-mark (c .before .before .before)
+
+slice-write-reached : tie.Need-slice-write-reached Inv-loop μ-loop
+slice-write-reached c = has-mark (c .before .before .before .before)
 
 add-last : tie.Need-add-last Inv-loop μ-loop
-add-last c = omega (arith, has-room c, entry (c .before .before .before) .pre .graph .few)
+add-last c =
+    let t : tie.In-loop Inv-loop μ-loop = c .before .before .before .before .before in
+    let most = queue-few (t .before .loop .inv .2 .queue) in
+    let few = entry t .pre .graph .few in
+    ⊎-elim (λ w. omega (arith, w .1)) (λ w. omega (arith, w .1)) (c .before .if2 .came)
 
 add-e : tie.Need-add-e Inv-loop μ-loop
-add-e c = omega (arith, row-within (entry (c .before .before .before)))
+add-e c = omega (arith, row-within (entry (c .before .before .before .before .before)))
 
 loop-less : tie.Need-loop-less Inv-loop μ-loop
 loop-less c = omega arith
 
 loop-again : tie.Need-loop-again Inv-loop μ-loop
 loop-again c =
-    let t = c .before .before .before in
+    let t : tie.In-loop Inv-loop μ-loop = c .before .before .before .before .before in
     let r = entry t .pre in
     let i = t .before .loop .inv in (
       omega arith,
       omega arith,
       ⊎-elim
-          (λ w. rw (w .1, w .2, w .3) (row-mark (r .graph) (r .node) (i .0) (t .loop-test .taken) (i .2) (w .0 .taken)))
-          (λ w. rw (w .1, w .2, w .3) (row-skip (r .graph) (r .node) (i .0) (t .loop-test .taken) (i .2) (w .0 .left)))
-          (c .if1 .came),
+          (λ w.
+          rw (w .1)
+          (⊎-elim
+          (λ h. rw (h .1) (row-mark (r .graph) (r .node) (i .0) (t .loop-test .taken) (i .2) (w .0 .taken)))
+          (λ h. absurd (not-full t (w .0 .taken) (h .0 .left)))
+          (c .before .before .before .if1 .came)))
+          (λ w.
+          rw (w .1, add-zero (t .before .loop .last))
+          (⊎-elim
+          (λ h. rw (h .1) (row-behind (r .graph) (r .node) (i .0) (t .loop-test .taken) (i .2) (w .0 .left) _ (h .0 .taken)))
+          (λ h. rw (h .1) (row-again (r .graph) (r .node) (i .0) (t .loop-test .taken) (i .2) (w .0 .left)))
+          (c .before .before .before .if1 .came)))
+          (c .before .if2 .came),
     )
 
 same-length : tie.Need-same-length Inv-loop μ-loop
@@ -142,10 +158,10 @@ flood-row-spec =
     mul-v
     shared-slice-read-v
     cast-v
-    slice-read-if1
-    slice-write-reached
     mul-work
     slice-write-work
+    slice-read-if2
+    slice-write-reached
     add-last
     add-e
     loop-less
