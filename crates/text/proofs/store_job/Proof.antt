@@ -73,7 +73,7 @@ copy-block-requires c κs =
 
 copy-nets-requires : tie.Need-copy-nets-requires
 copy-nets-requires c κs =
-    let p : tie.Else1 = c .before .before .before .before .before .before .before .before .before .before .before .before .before .before .before .before .before .before in
+    let p : tie.Else1 = copied (c .before .before .before .before .before .before .before .before .before .before .before) .before .before in
     let l = p .before in
     let s = entry l in
     let room = s .pre .0 in
@@ -88,7 +88,7 @@ copy-nets-requires c κs =
 
 copy-times-requires : tie.Need-copy-times-requires
 copy-times-requires c κs =
-    let p : tie.Else1 = c .before .before .before .before .before .before .before .before .before .before .before .before .before .before .before .before .before .before .before .before .before .before .before .before .before .before .before in
+    let p : tie.Else1 = copied (blocked (c .before .before .before .before .before .before .before .before)) .before .before in
     let l = p .before in
     let s = entry l in
     let room = s .pre .0 in
