@@ -7,8 +7,8 @@ use Rattle.generator.proofs.put_load.Tie as tie
 
 -- the first line is printed; what was computed for it, and the entry
 module _ (c : tie.After-print-line) where
-  abbrev start : tie.Start
-  start = c .before .before .before .before .before .before .before
+  abbrev entry : tie.Start
+  entry = c .before .before .before .before .before .before .before
 
   abbrev nodes-step : tie.After-steps
   nodes-step = c .before .before .before .before .before
@@ -49,16 +49,16 @@ print-line-requires c κs = search needs
 put-nodes-requires : tie.Need-put-nodes-requires
 put-nodes-requires c κs =
     let head : tie.After-print-line = c .before .before .before in
-    load-nodes-room (start head .args .seed) (start head .args .nodes) (start head .args .nets) (nodes-step head .steps .ensures) (rows-step head .steps2 .ensures)
-    (counted head .edge-count .ensures) (start head .args .buffer .now) (start head .pre .2) (head .print-line .ensures)
+    load-nodes-room (entry head .args .seed) (entry head .args .nodes) (entry head .args .nets) (nodes-step head .steps .ensures) (rows-step head .steps2 .ensures)
+    (counted head .edge-count .ensures) (entry head .args .buffer .now) (entry head .pre .2) (head .print-line .ensures)
 
 put-rows-requires : tie.Need-put-rows-requires
 put-rows-requires c κs =
     let put : tie.After-put-nodes = c .before .before .before in
     let head : tie.After-print-line = put .before .before .before .before in (
       search needs,
-      load-rows-room (start head .args .seed) (start head .args .nodes) (start head .args .nets) (nodes-step head .steps .ensures) (rows-step head .steps2 .ensures)
-          (counted head .edge-count .ensures) (start head .args .buffer .now) (start head .pre .2) (head .print-line .ensures) (put .put-nodes .ensures),
+      load-rows-room (entry head .args .seed) (entry head .args .nodes) (entry head .args .nets) (nodes-step head .steps .ensures) (rows-step head .steps2 .ensures)
+          (counted head .edge-count .ensures) (entry head .args .buffer .now) (entry head .pre .2) (head .print-line .ensures) (put .put-nodes .ensures),
     )
 
 put-nets-requires : tie.Need-put-nets-requires
@@ -67,8 +67,8 @@ put-nets-requires c κs =
     let nodes : tie.After-put-nodes = rows .before .before .before .before in
     let head : tie.After-print-line = nodes .before .before .before .before in (
       search needs,
-      load-nets-room (start head .args .seed) (start head .args .nodes) (start head .args .nets) (nodes-step head .steps .ensures) (rows-step head .steps2 .ensures)
-          (counted head .edge-count .ensures) (start head .args .buffer .now) (start head .pre .2) (head .print-line .ensures) (nodes .put-nodes .ensures) (rows .put-rows .ensures),
+      load-nets-room (entry head .args .seed) (entry head .args .nodes) (entry head .args .nets) (nodes-step head .steps .ensures) (rows-step head .steps2 .ensures)
+          (counted head .edge-count .ensures) (entry head .args .buffer .now) (entry head .pre .2) (head .print-line .ensures) (nodes .put-nodes .ensures) (rows .put-rows .ensures),
     )
 
 same-length : tie.Need-same-length
@@ -80,8 +80,8 @@ returns c =
     let rows : tie.After-put-rows = nets .before .before .before .before in
     let nodes : tie.After-put-nodes = rows .before .before .before .before in
     let head : tie.After-print-line = nodes .before .before .before .before in
-    load-put (start head .args .seed) (start head .args .nodes) (start head .args .nets) (nodes-step head .steps .ensures) (rows-step head .steps2 .ensures)
-    (counted head .edge-count .ensures) (start head .args .buffer .now) (start head .pre .2) (head .print-line .ensures) (nodes .put-nodes .ensures) (rows .put-rows .ensures)
+    load-put (entry head .args .seed) (entry head .args .nodes) (entry head .args .nets) (nodes-step head .steps .ensures) (rows-step head .steps2 .ensures)
+    (counted head .edge-count .ensures) (entry head .args .buffer .now) (entry head .pre .2) (head .print-line .ensures) (nodes .put-nodes .ensures) (rows .put-rows .ensures)
     (nets .put-nets .ensures)
 
 pub put-load-spec : {M : Type 1} → statement M

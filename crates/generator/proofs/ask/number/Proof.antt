@@ -13,10 +13,10 @@ use Rattle.generator.proofs.ask.number.Statement.{statement}
 use Rattle.generator.proofs.ask.number.Tie as tie
 
 -- the entry from the third test, and what it says
-abbrev start : tie.After-is-digit → tie.Start
-start c = c .before .before .before .before .before
+abbrev entry : tie.After-is-digit → tie.Start
+entry c = c .before .before .before .before .before
 
-digit : (c : tie.Else3) → isDigit (getD (start (c .before) .args .input .now) (start (c .before) .args .at) 0) ≡ true
+digit : (c : tie.Else3) → isDigit (getD (entry (c .before) .args .input .now) (entry (c .before) .args .at) 0) ≡ true
 digit c = passed (c .before .is-digit .ensures) (c .if3 .left)
 
 returns : tie.Need-returns
@@ -36,7 +36,7 @@ is-digit-requires c κs = search needs
 
 returns-3 : tie.Need-returns-3
 returns-3 c =
-    let from : tie.Start = start (c .before) in
+    let from : tie.Start = entry (c .before) in
     (sym (number-other _ (from .args .at) (from .args .input .now) (search needs) (search needs) (refused (c .before .is-digit .ensures) (c .if3 .taken))), tt)
 
 add-further-digits : tie.Need-add-further-digits
@@ -53,7 +53,7 @@ further-digits-requires c κs = (search needs, omega (arith, digit-most _ (digit
 
 returns-4 : tie.Need-returns-4
 returns-4 c =
-    let from : tie.Start = start (c .before .before) in (
+    let from : tie.Start = entry (c .before .before) in (
       c .further-digits .ensures .0 ∙ sym (number-digits _ (from .args .at) (from .args .input .now) (search needs) (search needs) (digit (c .before))),
       c .further-digits .ensures .1,
     )

@@ -12,12 +12,12 @@ use Rattle.generator.proofs.ask.whole_field.Tie as tie
 
 -- the entry, and the number that was read
 module _ (c : tie.After-known-told) where
-  abbrev start : tie.Start
-  start = c .before .before .before .before .before
+  abbrev entry : tie.Start
+  entry = c .before .before .before .before .before
 
-  is-read : numberUpTo (start .args .more) (drop (start .args .at) (start .args .input .now))
-      ≡ lines.number (c .before .value .given .0 .0) (drop (c .before .value .given .0 .1 .0) (start .args .input .now))
-  is-read = read-is (start .args .input .now) (c .before .value .given .1) (c .before .before .before .number .ensures .0)
+  is-read : numberUpTo (entry .args .more) (drop (entry .args .at) (entry .args .input .now))
+      ≡ lines.number (c .before .value .given .0 .0) (drop (c .before .value .given .0 .1 .0) (entry .args .input .now))
+  is-read = read-is (entry .args .input .now) (c .before .value .given .1) (c .before .before .before .number .ensures .0)
 
 number-requires : tie.Need-number-requires
 number-requires c κs = search needs
@@ -47,7 +47,7 @@ returns-5 : tie.Need-returns-5
 returns-5 c =
     let read : tie.After-known-told = c .before .before .before .before in (
       sym (whole-is _ _ _ _ (is-read read) (passed (c .before .before .before .field-ends .ensures) (c .before .before .if1 .left)) (search needs) (search needs)),
-      (read-place (start read .args .input .now) (read .before .value .given .1) (read .before .before .before .number .ensures .1), search needs, search needs),
+      (read-place (entry read .args .input .now) (read .before .value .given .1) (read .before .before .before .number .ensures .1), search needs, search needs),
     )
 
 pub whole-field-spec : {M : Type 1} → statement M

@@ -6,8 +6,8 @@ use Rattle.generator.proofs.nodes.put_nodes.Statement.{statement}
 use Rattle.generator.proofs.nodes.put_nodes.Tie as tie
 
 -- the parts that are written, and the entry
-abbrev start : tie.After-put-pins → tie.Start
-start c = c .before .before .before
+abbrev entry : tie.After-put-pins → tie.Start
+entry c = c .before .before .before
 
 abbrev sources : tie.After-put-wires → tie.After-put-pins
 sources c = c .before .before .before .before
@@ -19,7 +19,7 @@ sub-put-wires : tie.Need-sub-put-wires
 sub-put-wires c = search needs
 
 put-wires-requires : tie.Need-put-wires-requires
-put-wires-requires c κs = (search needs, wires-room _ _ _ _ (start (c .before .before .before) .pre) (c .before .before .before .put-pins .ensures))
+put-wires-requires c κs = (search needs, wires-room _ _ _ _ (entry (c .before .before .before) .pre) (c .before .before .before .put-pins .ensures))
 
 sub-put-pins : tie.Need-sub-put-pins
 sub-put-pins c = search needs
@@ -27,7 +27,7 @@ sub-put-pins c = search needs
 put-pins-requires-2 : tie.Need-put-pins-requires-2
 put-pins-requires-2 c κs =
     let wires : tie.After-put-wires = c .before .before .before in
-    (search needs, sinks-room _ _ _ _ (start (sources wires) .pre) (sources wires .put-pins .ensures) (wires .put-wires .ensures))
+    (search needs, sinks-room _ _ _ _ (entry (sources wires) .pre) (sources wires .put-pins .ensures) (wires .put-wires .ensures))
 
 same-length : tie.Need-same-length
 same-length c = search needs
@@ -35,7 +35,7 @@ same-length c = search needs
 returns : tie.Need-returns
 returns c =
     let wires : tie.After-put-wires = c .before .before .before .before .before .before in
-    nodes-put _ _ _ _ (start (sources wires) .pre) (sources wires .put-pins .ensures) (wires .put-wires .ensures) (c .before .before .put-pins2 .ensures)
+    nodes-put _ _ _ _ (entry (sources wires) .pre) (sources wires .put-pins .ensures) (wires .put-wires .ensures) (c .before .before .put-pins2 .ensures)
 
 pub put-nodes-spec : {M : Type 1} → statement M
 put-nodes-spec =

@@ -9,8 +9,8 @@ use Rattle.job.proofs.tables.faulty_times.Statement.{statement}
 use Rattle.job.proofs.tables.faulty_times.Tie as tie
 
 -- where a timed job's test begins
-abbrev start : tie.Else1 → tie.Start
-start c = c .before .before .before .before .before .before .before .before
+abbrev entry : tie.Else1 → tie.Start
+entry c = c .before .before .before .before .before .before .before .before
 
 returns : tie.Need-returns
 returns c = sym (times-untimed _ _ _ _ _ (not-true _ (c .if1 .taken)))
@@ -20,7 +20,7 @@ faulty-with-delays-requires c κs = search needs
 
 returns-2 : tie.Need-returns-2
 returns-2 c =
-    sym (times-9 _ _ _ _ _ (not-false _ (c .before .before .if1 .left)) (start (c .before .before) .pre)
+    sym (times-9 _ _ _ _ _ (not-false _ (c .before .before .if1 .left)) (entry (c .before .before) .pre)
     (c .before .faulty-with-delays .ensures) (c .if2 .taken))
 
 criticalities-sound-requires : tie.Need-criticalities-sound-requires
@@ -29,14 +29,14 @@ criticalities-sound-requires c κs = search needs
 returns-3 : tie.Need-returns-3
 returns-3 c =
     let tested = c .before .before in
-    sym (times-10 _ _ _ _ _ (not-false _ (tested .before .before .if1 .left)) (start (tested .before .before) .pre)
+    sym (times-10 _ _ _ _ _ (not-false _ (tested .before .before .if1 .left)) (entry (tested .before .before) .pre)
     (tested .before .faulty-with-delays .ensures) (tested .if2 .left)
     (refused (c .before .criticalities-sound .ensures) (c .if3 .taken)))
 
 returns-4 : tie.Need-returns-4
 returns-4 c =
     let tested = c .before .before in
-    sym (times-kept _ _ _ _ _ (not-false _ (tested .before .before .if1 .left)) (start (tested .before .before) .pre)
+    sym (times-kept _ _ _ _ _ (not-false _ (tested .before .before .if1 .left)) (entry (tested .before .before) .pre)
     (tested .before .faulty-with-delays .ensures) (tested .if2 .left)
     (passed (c .before .criticalities-sound .ensures) (c .if3 .left)))
 

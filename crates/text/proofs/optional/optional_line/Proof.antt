@@ -12,10 +12,10 @@ use Rattle.text.proofs.optional.optional_line.Statement.{statement}
 use Rattle.text.proofs.optional.optional_line.Tie as tie
 
 -- where the fields are read
-abbrev start : tie.After-line-fields → tie.Start
-start d = d .before .before .before .before
+abbrev entry : tie.After-line-fields → tie.Start
+entry d = d .before .before .before .before
 
-begun : (d : tie.After-line-fields) → begins (start d .args .letter) (drop (start d .args .at) (start d .args .text .now)) ≡ true
+begun : (d : tie.After-line-fields) → begins (entry d .args .letter) (drop (entry d .args .at) (entry d .args .text .now)) ≡ true
 begun d = passed (d .before .before .byte-is .ensures) (d .before .if1 .left)
 
 byte-is-requires : tie.Need-byte-is-requires
@@ -36,7 +36,7 @@ enum-told c = search needs
 returns-2 : tie.Need-returns-2
 returns-2 c =
     let d : tie.After-line-fields = c .before .before .before in
-    let a = start d .args in
+    let a = entry d .args in
     let known = c .before .first .given .1 in (
       begun d,
       line-taken (a .count) (a .text .now) (d .line-fields .ensures .0) known,
@@ -46,7 +46,7 @@ returns-2 c =
 returns-3 : tie.Need-returns-3
 returns-3 c =
     let d : tie.After-line-fields = c .before .before in
-    let a = start d .args in
+    let a = entry d .args in
     (begun d, line-malformed (a .count) (a .text .now) (d .line-fields .ensures .0) (c .enum-told .given .1))
 
 pub optional-line-spec : {M : Type 1} → statement M

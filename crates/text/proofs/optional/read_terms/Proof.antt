@@ -6,8 +6,8 @@ use Rattle.text.proofs.optional.read_terms.Statement.{statement}
 use Rattle.text.proofs.optional.read_terms.Tie as tie
 
 -- where the lines are read
-abbrev start : tie.After-read-tuning → tie.Start
-start d = d .before .before .before
+abbrev entry : tie.After-read-tuning → tie.Start
+entry d = d .before .before .before
 
 plain-terms-requires : tie.Need-plain-terms-requires
 plain-terms-requires c κs = search needs
@@ -21,7 +21,7 @@ enum-known-terms c = search needs
 read-further-requires : tie.Need-read-further-requires
 read-further-requires c κs =
     let d : tie.After-read-tuning = c .before .before .before in
-    read-place (start d .args .text .now) (d .read-tuning .result) (c .before .terms .given .1) (d .read-tuning .ensures .1)
+    read-place (entry d .args .text .now) (d .read-tuning .result) (c .before .terms .given .1) (d .read-tuning .ensures .1)
 
 enum-known-number : tie.Need-enum-known-number
 enum-known-number c = search needs
@@ -30,7 +30,7 @@ returns : tie.Need-returns
 returns c =
     let known = c .before .before in
     let d : tie.After-read-tuning = known .before .before in
-    let s : tie.Start = start d in (
+    let s : tie.Start = entry d in (
       terms-on (s .args .limit) (s .args .at) (s .args .line) (s .args .text .now) _ (d .before .plain-terms .ensures) (d .read-tuning .result) (d .read-tuning .ensures .0)
           (c .read-further .result) (known .terms .given .1) (c .read-further .ensures .0),
       c .read-further .ensures .1,
@@ -39,7 +39,7 @@ returns c =
 returns-2 : tie.Need-returns-2
 returns-2 c =
     let d : tie.After-read-tuning = c .before .before .before in
-    let s : tie.Start = start d in (
+    let s : tie.Start = entry d in (
       terms-stopped (s .args .limit) (s .args .at) (s .args .line) (s .args .text .now) _ (d .before .plain-terms .ensures) (d .read-tuning .result) (d .read-tuning .ensures .0)
           (c .before .number .given .1),
       tt,

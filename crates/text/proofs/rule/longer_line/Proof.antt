@@ -9,8 +9,8 @@ use Rattle.text.proofs.rule.longer_line.Statement.{statement}
 use Rattle.text.proofs.rule.longer_line.Tie as tie
 
 -- where the line is read
-abbrev start : tie.After-line-fields → tie.Start
-start d = d .before .before
+abbrev entry : tie.After-line-fields → tie.Start
+entry d = d .before .before
 
 line-fields-requires : tie.Need-line-fields-requires
 line-fields-requires c κs = search needs
@@ -24,7 +24,7 @@ enum-told c = search needs
 returns : tie.Need-returns
 returns c =
     let d : tie.After-line-fields = c .before .before in
-    let s : tie.Start = start d in (
+    let s : tie.Start = entry d in (
       s .pre .0,
       rule-none (drop (s .args .at) (s .args .text .now)) (s .pre .1) (line-malformed 2 (s .args .text .now) (d .line-fields .ensures .0) (c .enum-told .given .1)),
     )
@@ -32,7 +32,7 @@ returns c =
 returns-2 : tie.Need-returns-2
 returns-2 c =
     let d : tie.After-line-fields = c .before .before .before .before in
-    let s : tie.Start = start d in (
+    let s : tie.Start = entry d in (
       s .pre .0,
       rule-one (drop (s .args .at) (s .args .text .now)) (s .pre .1)
           (line-taken 2 (s .args .text .now) (d .line-fields .ensures .0) (c .before .before .first .given .1)) (c .if1 .taken),
@@ -41,7 +41,7 @@ returns-2 c =
 returns-3 : tie.Need-returns-3
 returns-3 c =
     let d : tie.After-line-fields = c .before .before .before .before in
-    let s : tie.Start = start d in
+    let s : tie.Start = entry d in
     let known = c .before .before .first .given .1 in (
       s .pre .0,
       rule-both (drop (s .args .at) (s .args .text .now)) (s .pre .1) (line-taken 2 (s .args .text .now) (d .line-fields .ensures .0) known) (c .if1 .left),

@@ -6,8 +6,8 @@ use Rattle.text.proofs.rule.rule_line.Statement.{statement}
 use Rattle.text.proofs.rule.rule_line.Tie as tie
 
 -- where the line is read
-abbrev start : tie.After-optional-line → tie.Start
-start d = d .before .before
+abbrev entry : tie.After-optional-line → tie.Start
+entry d = d .before .before
 
 optional-line-requires : tie.Need-optional-line-requires
 optional-line-requires c κs = search needs
@@ -22,7 +22,7 @@ longer-line-requires : tie.Need-longer-line-requires
 longer-line-requires c κs =
     let d : tie.After-optional-line = c .before .before in
     let r = d .optional-line .result in
-    wrong-shape (start d .args .at) (start d .args .text .now) (r .first) (r .shape) (d .optional-line .ensures) (c .enum-told2 .given .1)
+    wrong-shape (entry d .args .at) (entry d .args .text .now) (r .first) (r .shape) (d .optional-line .ensures) (c .enum-told2 .given .1)
 
 enum-known-shape : tie.Need-enum-known-shape
 enum-known-shape c = search needs
@@ -31,7 +31,7 @@ returns : tie.Need-returns
 returns c =
     let d : tie.After-optional-line = c .before .before in
     let r = d .optional-line .result in
-    left-out (start d .args .at) (start d .args .text .now) (r .first) (r .shape) (d .optional-line .ensures) (c .enum-told .given .1)
+    left-out (entry d .args .at) (entry d .args .text .now) (r .first) (r .shape) (d .optional-line .ensures) (c .enum-told .given .1)
 
 returns-2 : tie.Need-returns-2
 returns-2 c = c .longer-line .ensures
@@ -40,7 +40,7 @@ returns-3 : tie.Need-returns-3
 returns-3 c =
     let d : tie.After-optional-line = c .before .before .before in
     let r = d .optional-line .result in
-    alone-shaped (start d .args .at) (start d .args .text .now) (r .first) (r .shape) (d .optional-line .ensures) (c .before .shape .given .1)
+    alone-shaped (entry d .args .at) (entry d .args .text .now) (r .first) (r .shape) (d .optional-line .ensures) (c .before .shape .given .1)
 
 pub rule-line-spec : {M : Type 1} → statement M
 rule-line-spec =
