@@ -98,9 +98,9 @@ module _ (letter : ℕ) (vs : List ℕ) (at : ℕ) (buffer : List ℕ) where
   line-short l = rw (lt-leb (at + length (printLine letter vs)) (length buffer) l)
 
   -- the line stands
-  pub line-stands : {next : ℕ} {after : List ℕ} → at + length (printLine letter vs) ≤ length buffer → Put at (printLine letter vs) buffer after next → placeReplyOf next after ≡ lineReply letter vs at buffer
+  pub line-written : {next : ℕ} {after : List ℕ} → at + length (printLine letter vs) ≤ length buffer → Put at (printLine letter vs) buffer after next → placeReplyOf next after ≡ lineReply letter vs at buffer
   unfolding lineReply
-  line-stands fits p = rw (le-leb (at + length (printLine letter vs)) (length buffer) fits, p .next-is, p .written)
+  line-written fits p = rw (le-leb (at + length (printLine letter vs)) (length buffer) fits, p .next-is, p .written)
 
 -- the length of a line says nothing of its letter
 pub line-size : (letter : ℕ) (vs : List ℕ) → length (printLine letter vs) ≡ 1 + length (printFields vs)

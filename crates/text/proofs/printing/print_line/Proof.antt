@@ -6,7 +6,7 @@ use lib.ListN.{length}
 use borrow.Author.Needs.{needs}
 use Rattle.text.specs.Lines.{printLine}
 use Rattle.text.proofs.PlacedLaws.{put-room, put-letter-then}
-use Rattle.text.proofs.LineReplyLaws.{line-size, line-short, line-stands}
+use Rattle.text.proofs.LineReplyLaws.{line-size, line-short, line-written}
 use Rattle.text.proofs.printing.print_line.Statement.{statement}
 use Rattle.text.proofs.printing.print_line.Tie as tie
 
@@ -62,7 +62,7 @@ returns-3 : tie.Need-returns-3
 returns-3 c =
     let put : tie.After-put-byte = c .before .before .before .before .before .before in
     let d : tie.Else2 = put .before .before in
-    line-stands _ _ _ _ (fits d) (put-letter-then _ (put .put-byte .ensures) (fits d) (λ room. c .before .before .put-fields .ensures))
+    line-written _ _ _ _ (fits d) (put-letter-then _ (put .put-byte .ensures) (fits d) (λ room. c .before .before .put-fields .ensures))
 
 pub print-line-spec : {M : Type 1} → statement M
 print-line-spec =
