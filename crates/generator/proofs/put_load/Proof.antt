@@ -10,11 +10,11 @@ module _ (c : tie.After-print-line) where
   abbrev entry : tie.Start
   entry = c .before .before .before .before .before .before .before
 
-  abbrev nodes-step : tie.After-steps
-  nodes-step = c .before .before .before .before .before
+  abbrev first-row : tie.After-steps
+  first-row = c .before .before .before .before .before
 
-  abbrev rows-step : tie.After-steps2
-  rows-step = c .before .before .before .before
+  abbrev first-net : tie.After-steps2
+  first-net = c .before .before .before .before
 
   abbrev counted : tie.After-edge-count
   counted = c .before .before .before
@@ -49,16 +49,16 @@ print-line-requires c κs = search needs
 put-nodes-requires : tie.Need-put-nodes-requires
 put-nodes-requires c κs =
     let head : tie.After-print-line = c .before .before .before in
-    load-nodes-room (entry head .args .seed) (entry head .args .nodes) (entry head .args .nets) (nodes-step head .steps .ensures) (rows-step head .steps2 .ensures)
+    load-nodes-room (entry head .args .seed) (entry head .args .nodes) (entry head .args .nets) (first-row head .steps .ensures) (first-net head .steps2 .ensures)
     (counted head .edge-count .ensures) (entry head .args .buffer .now) (entry head .pre .2) (head .print-line .ensures)
 
 put-rows-requires : tie.Need-put-rows-requires
 put-rows-requires c κs =
-    let put : tie.After-put-nodes = c .before .before .before in
-    let head : tie.After-print-line = put .before .before .before .before in (
+    let nodes : tie.After-put-nodes = c .before .before .before in
+    let head : tie.After-print-line = nodes .before .before .before .before in (
       search needs,
-      load-rows-room (entry head .args .seed) (entry head .args .nodes) (entry head .args .nets) (nodes-step head .steps .ensures) (rows-step head .steps2 .ensures)
-          (counted head .edge-count .ensures) (entry head .args .buffer .now) (entry head .pre .2) (head .print-line .ensures) (put .put-nodes .ensures),
+      load-rows-room (entry head .args .seed) (entry head .args .nodes) (entry head .args .nets) (first-row head .steps .ensures) (first-net head .steps2 .ensures)
+          (counted head .edge-count .ensures) (entry head .args .buffer .now) (entry head .pre .2) (head .print-line .ensures) (nodes .put-nodes .ensures),
     )
 
 put-nets-requires : tie.Need-put-nets-requires
@@ -67,7 +67,7 @@ put-nets-requires c κs =
     let nodes : tie.After-put-nodes = rows .before .before .before .before in
     let head : tie.After-print-line = nodes .before .before .before .before in (
       search needs,
-      load-nets-room (entry head .args .seed) (entry head .args .nodes) (entry head .args .nets) (nodes-step head .steps .ensures) (rows-step head .steps2 .ensures)
+      load-nets-room (entry head .args .seed) (entry head .args .nodes) (entry head .args .nets) (first-row head .steps .ensures) (first-net head .steps2 .ensures)
           (counted head .edge-count .ensures) (entry head .args .buffer .now) (entry head .pre .2) (head .print-line .ensures) (nodes .put-nodes .ensures) (rows .put-rows .ensures),
     )
 
@@ -80,7 +80,7 @@ returns c =
     let rows : tie.After-put-rows = nets .before .before .before .before in
     let nodes : tie.After-put-nodes = rows .before .before .before .before in
     let head : tie.After-print-line = nodes .before .before .before .before in
-    load-put (entry head .args .seed) (entry head .args .nodes) (entry head .args .nets) (nodes-step head .steps .ensures) (rows-step head .steps2 .ensures)
+    load-put (entry head .args .seed) (entry head .args .nodes) (entry head .args .nets) (first-row head .steps .ensures) (first-net head .steps2 .ensures)
     (counted head .edge-count .ensures) (entry head .args .buffer .now) (entry head .pre .2) (head .print-line .ensures) (nodes .put-nodes .ensures) (rows .put-rows .ensures)
     (nets .put-nets .ensures)
 
