@@ -148,7 +148,7 @@
 #define ARVUMNAO_USES_BYTES 4096
 
 /* Bytes of stack, beyond its caller's, that every call makes do with. Measured on x86-64 Linux by tests/header/memory.c, with
- * what memcpy and memset take, and rounded up: 217,500 in the four calls that route or resume, 122,500 in arvumnao_read, 35,300 in
+ * what memcpy and memset take, and rounded up: 194,000 in the four calls that route or resume, 122,500 in arvumnao_read, 35,300 in
  * arvumnao_uses_add, 22,800 in arvumnao_uses_write, 9,100 in arvumnao_write and arvumnao_dot, under 800 in the others. */
 #define ARVUMNAO_STACK 262144
 
