@@ -27,6 +27,14 @@ test u =
     let e : tie.Start = reached u in
     u .unreachable .ensures .0 (e .args .capacity .now) (e .args .delay .now) (e .args .criticality .now) (e .args .terms) (e .pre .0)
 
+-- the test, from where it has found a net
+abbrev found : tie.After-net → tie.After-unreachable
+found n = n .before .before .before .before
+
+-- and from where it has found none
+abbrev not-found : tie.After-enum-told → tie.After-unreachable
+not-found n = n .before .before .before .before
+
 unreachable-requires : tie.Need-unreachable-requires
 unreachable-requires c κs =
     let e : tie.Start = c .before .before .before .before .before .before .before .before .before .before .before .before in (
@@ -45,7 +53,7 @@ enum-known-net c = search needs
 
 mul-clear : tie.Need-mul-clear
 mul-clear c =
-    let e : tie.Start = reached (c .before .before .before .before .before .before) in
+    let e : tie.Start = reached (found (c .before .before)) in
     let few = kinds-few (e .args .kind .now) (e .pre .0 .block-sound .kinds-sound) in
     omega arith
 
@@ -60,7 +68,7 @@ enum-told c = search needs
 
 negotiate-requires : tie.Need-negotiate-requires
 negotiate-requires c κs =
-    let u : tie.After-unreachable = c .before .before .before .before .before .before in
+    let u : tie.After-unreachable = not-found (c .before .before) in
     let e : tie.Start = reached u in (
       e .pre .0,
       none-missing (job e) _ (test u) (c .before .before .enum-told .given .1),
@@ -72,10 +80,11 @@ same-length c = search needs
 
 returns : tie.Need-returns
 returns c =
-    let u : tie.After-unreachable = c .before .before .before .before .before .before .before .before .before .before in
+    let n : tie.After-net = c .before .before .before .before .before .before in
+    let u : tie.After-unreachable = found n in
     let e : tie.Start = reached u in (
       unreachable-refused (e .args .start) (job e) _ _ _ (test u) _ (u .unreachable .ensures .1)
-          _ _ _ _ (c .before .before .before .before .before .before .net .given .1) (c .refused .ensures) (c .before .before .before .clear .ensures),
+          _ _ _ _ (n .net .given .1) (c .refused .ensures) (c .before .before .before .clear .ensures),
       refused-counts (e .args .aimed) (job e) _ (c .refused .result) (e .args .log .now) (c .refused .ensures),
     )
 
@@ -87,12 +96,13 @@ same-length-3 c = search needs
 
 returns-2 : tie.Need-returns-2
 returns-2 c =
-    let u : tie.After-unreachable = c .before .before .before .before .before .before .before .before .before .before .before in
+    let n : tie.After-enum-told = c .before .before .before .before .before .before .before in
+    let u : tie.After-unreachable = not-found n in
     let e : tie.Start = reached u in
     let ran = c .before .before .before .before in (
       run-answered (e .args .start) (job e) _ _ _ (test u) _ (u .unreachable .ensures .1)
           (ran .negotiate .result) (ran .negotiate .last .1 .1 .1 .1 .1 .1 .1 .1 .1 .1 .1 .1 .0) (ran .negotiate .last .1 .1 .1 .1 .1 .1 .1 .1 .1 .1 .1 .1 .1 .0)
-          (c .before .before .before .before .before .before .before .enum-told .given .1) (ran .negotiate .ensures .0),
+          (n .enum-told .given .1) (ran .negotiate .ensures .0),
       ran .negotiate .ensures .1,
     )
 

@@ -51,7 +51,10 @@ shared-slice-read-if1-2 : tie.Need-shared-slice-read-if1-2 Inv-loop μ-loop
 shared-slice-read-if1-2 c = omega arith
 
 add-over : tie.Need-add-over Inv-loop μ-loop
-add-over c = omega (arith, count-most (λ (u : ℕ). ltb (getD (c .before .before .before .before .before .args .capacity .now) u 0) (getD (c .before .before .before .before .before .args .users .now) u 0)) (c .before .before .before .before .loop .v))
+add-over c =
+    let head = c .before .before .before .before in
+    let a = head .before .args in
+    omega (arith, count-most (λ (u : ℕ). ltb (getD (a .capacity .now) u 0) (getD (a .users .now) u 0)) (head .loop .v))
 
 add-v : tie.Need-add-v Inv-loop μ-loop
 add-v c = omega arith

@@ -24,14 +24,23 @@ Inv-loop capacity first-sink log tree-from tree-to users due₀ all net₀ due n
 abbrev μ-loop : tie.MeasureT-loop
 μ-loop capacity first-sink log tree-from tree-to users due₀ all net₀ due net = length due₀ - net
 
+-- the entry, from the loop's head
+abbrev entry : tie.At-loop Inv-loop μ-loop → tie.Start Inv-loop μ-loop
+entry h = h .before .before .before .before .before .before .before .before .before
+
+-- a net's mark by the lists that are lent
+abbrev mark-at : tie.Start Inv-loop μ-loop → Bool → ℕ → ℕ
+mark-at s all =
+    mark all (s .args .capacity .now) (s .args .first-sink .now) (s .args .log .now) (s .args .tree-from .now) (s .args .tree-to .now) (s .args .users .now)
+
 all-due-requires : tie.Need-all-due-requires Inv-loop μ-loop
 all-due-requires c κs = tt
 
 loop-holds : tie.Need-loop-holds Inv-loop μ-loop
-loop-holds c = let a = c .before .before .before .before .before .before .before .before .args in (omega arith, refl, filled-none (mark (c .all-due .result) (a .capacity .now) (a .first-sink .now) (a .log .now) (a .tree-from .now) (a .tree-to .now) (a .users .now)) _)
+loop-holds c = (omega arith, refl, filled-none (mark-at (c .before .before .before .before .before .before .before .before) (c .all-due .result)) _)
 
 due-mark-requires : tie.Need-due-mark-requires Inv-loop μ-loop
-due-mark-requires c κs = (c .before .before .before .before .before .before .before .before .before .before .pre .0, omega (arith, c .before .before .before .before .before .before .before .before .before .before .pre .1))
+due-mark-requires c κs = let pre = entry (c .before) .pre in (pre .0, omega (arith, pre .1))
 
 slice-write-due : tie.Need-slice-write-due Inv-loop μ-loop
 slice-write-due c = omega arith
@@ -44,11 +53,11 @@ loop-less c = omega arith
 
 loop-again : tie.Need-loop-again Inv-loop μ-loop
 loop-again c =
-    let turn = c .before in
-    let a = c .before .before .before .before .before .before .before .before .before .before .before .args in (
+    let head : tie.At-loop Inv-loop μ-loop = c .before .before in
+    let s = entry head in (
       omega arith,
-      simp length-set (turn .before .loop .inv .1),
-      rw (turn .before .loop .inv .2, c .due-mark .ensures) (filled-more (mark (turn .before .before .all-due .result) (a .capacity .now) (a .first-sink .now) (a .log .now) (a .tree-from .now) (a .tree-to .now) (a .users .now)) (a .due .now) (turn .before .loop .net) (omega arith)),
+      simp length-set (head .loop .inv .1),
+      rw (head .loop .inv .2, c .due-mark .ensures) (filled-more (mark-at s (head .before .all-due .result)) (s .args .due .now) (head .loop .net) (omega arith)),
     )
 
 same-length : tie.Need-same-length Inv-loop μ-loop
@@ -56,10 +65,11 @@ same-length c = c .before .loop .inv .1
 
 returns : tie.Need-returns Inv-loop μ-loop
 returns c =
-    let a = c .before .before .before .before .before .before .before .before .before .before .args in
-    c .before .loop .inv .2
-    ∙ filled-all (mark (c .before .before .all-due .result) (a .capacity .now) (a .first-sink .now) (a .log .now) (a .tree-from .now) (a .tree-to .now) (a .users .now)) (a .due .now) (c .before .loop .net) (omega arith) (omega arith)
-    ∙ ap (λ (all : Bool). upTo (mark all (a .capacity .now) (a .first-sink .now) (a .log .now) (a .tree-from .now) (a .tree-to .now) (a .users .now)) (length (a .due .now))) (c .before .before .all-due .ensures)
+    let head : tie.At-loop Inv-loop μ-loop = c .before in
+    let s = entry head in
+    head .loop .inv .2
+    ∙ filled-all (mark-at s (head .before .all-due .result)) (s .args .due .now) (head .loop .net) (omega arith) (omega arith)
+    ∙ ap (λ (all : Bool). upTo (mark-at s all) (length (s .args .due .now))) (head .before .all-due .ensures)
 
 pub mark-due-spec : {M : Type 1} → statement M
 mark-due-spec =

@@ -21,6 +21,14 @@ abbrev μ-loop : tie.MeasureT-loop
 abbrev entry : tie.At-loop Inv-loop μ-loop → tie.Start Inv-loop μ-loop
 entry a = a .before .before .before .before .before .before .before .before .before .before .before
 
+-- the entry, from where the marks are cleared
+abbrev cleared : tie.After-clear-marks Inv-loop μ-loop → tie.Start Inv-loop μ-loop
+cleared m = m .before .before .before .before .before .before .before .before
+
+-- the turn whose row is flooded
+abbrev turn : tie.After-flood-row Inv-loop μ-loop → tie.In-loop Inv-loop μ-loop
+turn r = r .before .before .before .before .before .before .before
+
 -- a turn's entry of the queue is one of at most as many as there are nodes
 next-few : (t : tie.In-loop Inv-loop μ-loop) → t .before .loop .next < length (entry (t .before) .args .kind .now)
 next-few t = omega (arith, t .loop-test .taken, queue-few (t .before .loop .inv .0 .queue))
@@ -30,7 +38,7 @@ clear-marks-requires c κs = tt
 
 slice-write-reached : tie.Need-slice-write-reached Inv-loop μ-loop
 slice-write-reached c =
-    let s = c .before .before .before .before .before .before .before .before .before .before in
+    let s = cleared (c .before .before) in
     let e : c .before .before .clear-marks .last .0 ≡ replicate (length (s .args .reached .now)) 0 = c .before .before .clear-marks .ensures in
     let node = s .pre .source-node in
     let long = s .pre .marks-long in
@@ -38,14 +46,14 @@ slice-write-reached c =
 
 slice-write-work : tie.Need-slice-write-work Inv-loop μ-loop
 slice-write-work c =
-    let s = c .before .before .before .before .before .before .before .before .before .before in
+    let s = cleared (c .before .before) in
     let node = s .pre .source-node in
     let long = s .pre .work-long in
     let some : 0 < length (s .args .work .now) = omega arith in
     some
 
 loop-holds : tie.Need-loop-holds Inv-loop μ-loop
-loop-holds c = (flood-start (c .before .before .before .before .before .before .before .before .before .before .pre) (c .before .before .clear-marks .ensures), omega arith, λ p l. absurd (omega arith))
+loop-holds c = (flood-start (cleared (c .before .before) .pre) (c .before .before .clear-marks .ensures), omega arith, λ p l. absurd (omega arith))
 
 missing-sink-requires : tie.Need-missing-sink-requires Inv-loop μ-loop
 missing-sink-requires c κs =
@@ -80,16 +88,17 @@ flood-row-requires c κs =
     record { graph = entry (t .before) .pre .graph; node = i .queue .nodes-below (t .before .loop .next) (t .loop-test .taken); queue = i .queue }
 
 add-next : tie.Need-add-next Inv-loop μ-loop
-add-next c = let t = c .before .before .before .before .before .before .before .before .before .before .before in omega (arith, next-few t, entry (t .before) .pre .graph .few)
+add-next c = let t = turn (c .before .before .before .before) in omega (arith, next-few t, entry (t .before) .pre .graph .few)
 
 loop-less : tie.Need-loop-less Inv-loop μ-loop
-loop-less c = let t = c .before .before .before .before .before .before .before .before .before .before .before in omega (arith, next-few t)
+loop-less c = omega (arith, next-few (turn (c .before .before .before .before)))
 
 loop-again : tie.Need-loop-again Inv-loop μ-loop
 loop-again c =
-    let row = c .before .before .before .before .flood-row .ensures in
-    let found = c .before .before .before .before .before .before .before .before .before .missing-sink .ensures in
-    let t = c .before .before .before .before .before .before .before .before .before .before .before in
+    let done = c .before .before .before .before in
+    let row = done .flood-row .ensures in
+    let found = done .before .before .before .before .before .missing-sink .ensures in
+    let t = turn done in
     let i = t .before .loop .inv in
     let s = entry (t .before) in (
       flood-more (s .pre .graph) (i .0) (t .loop-test .taken) row,

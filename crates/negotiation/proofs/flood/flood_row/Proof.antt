@@ -23,6 +23,10 @@ abbrev μ-loop : tie.MeasureT-loop
 abbrev entry : tie.In-loop Inv-loop μ-loop → tie.Start Inv-loop μ-loop
 entry t = t .before .before .before .before
 
+-- the turn, from where its target is written and marked
+abbrev turn : tie.Joined2 Inv-loop μ-loop → tie.In-loop Inv-loop μ-loop
+turn j = j .before .before .before .before
+
 -- the row ends within table 4
 row-within : (s : tie.Start Inv-loop μ-loop) → getD (s .args .first-edge .now) (s .args .u + 1) 0 ≤ length (s .args .edge-target .now)
 row-within s = row-end _ (s .pre .graph) (s .args .u + 1) (let h = s .pre .node in omega arith)
@@ -95,17 +99,18 @@ slice-write-reached c = has-mark (c .before .before .before .before)
 
 add-last : tie.Need-add-last Inv-loop μ-loop
 add-last c =
-    let t : tie.In-loop Inv-loop μ-loop = c .before .before .before .before .before in
+    let t = turn (c .before) in
     let most = queue-few (t .before .loop .inv .2 .queue) in
     let few = entry t .pre .graph .few in
     ⊎-elim (λ w. omega (arith, w .1)) (λ w. omega (arith, w .1)) (c .before .if2 .came)
 
 add-e : tie.Need-add-e Inv-loop μ-loop
-add-e c = omega (arith, row-within (entry (c .before .before .before .before .before)))
+add-e c = omega (arith, row-within (entry (turn (c .before))))
 
 loop-less : tie.Need-loop-less Inv-loop μ-loop
 loop-less c = omega arith
 
+-- (the turn is written out: under `turn` the second `rw` finds no motive)
 loop-again : tie.Need-loop-again Inv-loop μ-loop
 loop-again c =
     let t : tie.In-loop Inv-loop μ-loop = c .before .before .before .before .before in

@@ -95,18 +95,25 @@ abbrev followed-net : Followed → Net
 followed-net c = begun-net (begun c)
 
 -- they follow
-abbrev Told : Type 0
-Told = tie.After-known-told Inv-loop μ-loop
+abbrev Answered : Type 0
+Answered = tie.After-known-told Inv-loop μ-loop
 
-abbrev told : Told → Followed
-told c = c .before .before .before .before .before
+abbrev answered : Answered → Followed
+answered c = c .before .before .before .before .before
 
 -- its new tree counts
 abbrev Ended : Type 0
 Ended = tie.After-end-net Inv-loop μ-loop
 
-abbrev ended : Ended → Told
+abbrev ended : Ended → Answered
 ended c = c .before .before .before .before .before
+
+-- and what was lent for it is back
+abbrev back : tie.After-slice-known11 Inv-loop μ-loop → Ended
+back c = c .before .before .before .before .before .before .before .before
+
+abbrev back-net : tie.After-slice-known11 Inv-loop μ-loop → Net
+back-net c = followed-net (answered (ended (back c)))
 
 -- ---- the needs
 
@@ -204,8 +211,8 @@ returns c =
 
 end-net-requires : tie.Need-end-net-requires Inv-loop μ-loop
 end-net-requires c κs =
-    let h : Told = c .before .before .before .before in
-    let f : Followed = told h in
+    let h : Answered = c .before .before .before .before in
+    let f : Followed = answered h in
     let b : Begun = begun f in
     let t : Net = begun-net b in
     let o = opened (start t) in
@@ -214,19 +221,19 @@ end-net-requires c κs =
 
 add-net : tie.Need-add-net Inv-loop μ-loop
 add-net c =
-    let t : Net = followed-net (told (ended (c .before .before .before .before .before .before .before .before))) in
+    let t : Net = back-net c in
     let f = routable (start t) .nets-few in
     let h = t .loop-test .taken in
     omega arith
 
 loop-less : tie.Need-loop-less Inv-loop μ-loop
-loop-less c = let h = followed-net (told (ended (c .before .before .before .before .before .before .before .before))) .loop-test .taken in omega arith
+loop-less c = let h = back-net c .loop-test .taken in omega arith
 
 loop-again : tie.Need-loop-again Inv-loop μ-loop
 loop-again c =
-    let e : Ended = c .before .before .before .before .before .before .before .before in
-    let h : Told = ended e in
-    let f : Followed = told h in
+    let e : Ended = back c in
+    let h : Answered = ended e in
+    let f : Followed = answered h in
     let b : Begun = begun f in
     let t : Net = begun-net b in
     let few = t .loop-test .taken in (

@@ -141,42 +141,46 @@ module _ (c : Followed) where
   same-due : length (dues marked) ≡ length (start iteration .args .due .now)
   same-due = marked .mark-due .kept .1 .1 .1 .1 .1 .1 .1 .1 .0 ∙ long (iteration .before) .5
 
--- all follow
-abbrev Told : Type 0
-Told = tie.After-known-told Inv-loop μ-loop
+-- one does not follow
+abbrev off : tie.After-enum-told Inv-loop μ-loop → Followed
+off c = c .before .before .before .before .before .before .before .before .before .before
 
-module _ (c : Told) where
+-- all follow
+abbrev Answered : Type 0
+Answered = tie.After-known-told Inv-loop μ-loop
+
+module _ (c : Answered) where
   abbrev followed : Followed
   followed = c .before .before .before .before .before .before .before .before .before .before .before
 
-  abbrev told-in : Iteration
-  told-in = iteration followed
+  abbrev answered-in : Iteration
+  answered-in = iteration followed
 
   -- the tariff behind them
   abbrev tariff : Tariff
   tariff = c .before .taken .given .0 .0
 
   all-on :
-      NetsOn (job (start told-in)) (told-in .before .loop .inv .progress) (nets (job (start told-in))) tariff
-      (told-in .before .loop .history) (users followed) (marks followed) (from followed) (to followed) (start told-in .args .log .now)
+      NetsOn (job (start answered-in)) (answered-in .before .loop .inv .progress) (nets (job (start answered-in))) tariff
+      (answered-in .before .loop .history) (users followed) (marks followed) (from followed) (to followed) (start answered-in .args .log .now)
   all-on = nets-on _ _ _ (users followed) (marks followed) (from followed) (to followed) _ (came followed) (c .before .taken .given .1)
 
-  fits-users : length (start told-in .args .capacity .now) ≡ length (users followed)
-  fits-users = capacities (start told-in) ∙ sym (nets-long _ all-on .0)
+  fits-users : length (start answered-in .args .capacity .now) ≡ length (users followed)
+  fits-users = capacities (start answered-in) ∙ sym (nets-long _ all-on .0)
 
 -- the nodes over capacity are counted
 abbrev Counted : Type 0
 Counted = tie.After-over-count Inv-loop μ-loop
 
 module _ (c : Counted) where
-  abbrev told : Told
-  told = c .before .before
+  abbrev answered : Answered
+  answered = c .before .before
 
-  over-is : c .over-count .result ≡ overUsed (job (start (told-in told))) (users (followed told))
+  over-is : c .over-count .result ≡ overUsed (job (start (answered-in answered))) (users (followed answered))
   over-is =
       c .over-count .ensures
-      ∙ ap (λ (k : ℕ). countBelow (λ (v : ℕ). ltb (getD (start (told-in told) .args .capacity .now) v 0) (getD (users (followed told)) v 0)) k)
-      (capacities (start (told-in told)))
+      ∙ ap (λ (k : ℕ). countBelow (λ (v : ℕ). ltb (getD (start (answered-in answered) .args .capacity .now) v 0) (getD (users (followed answered)) v 0)) k)
+      (capacities (start (answered-in answered)))
 
 -- some are over it, and the limit is not reached
 abbrev Goes : Type 0
@@ -186,11 +190,11 @@ module _ (c : Goes) where
   abbrev counted : Counted
   counted = c .before .before .before .before
 
-  abbrev goes-told : Told
-  goes-told = told counted
+  abbrev goes-answered : Answered
+  goes-answered = answered counted
 
-  below : tariff goes-told .iteration < start (told-in goes-told) .args .terms .limit
-  below = next-below _ (all-on goes-told) (c .if2 .left)
+  below : tariff goes-answered .iteration < start (answered-in goes-answered) .args .terms .limit
+  below = next-below _ (all-on goes-answered) (c .if2 .left)
 
 -- histories have grown, and the factor moved on
 abbrev Ended : Type 0
@@ -199,8 +203,8 @@ Ended = tie.After-iteration-ended Inv-loop μ-loop
 abbrev goes : Ended → Goes
 goes c = c .before .before .before .before .before .before
 
-abbrev ended-told : Ended → Told
-ended-told c = goes-told (goes c)
+abbrev ended-answered : Ended → Answered
+ended-answered c = goes-answered (goes c)
 
 -- and the next one starts
 abbrev Started : Type 0
@@ -209,7 +213,7 @@ Started = tie.After-iteration-started Inv-loop μ-loop
 started-is :
     (c : Started)
     → c .iteration-started .result
-    ≡ startedTariff (endedTariff (start (told-in (ended-told (c .before))) .args .terms .tuning) (tariff (ended-told (c .before))))
+    ≡ startedTariff (endedTariff (start (answered-in (ended-answered (c .before))) .args .terms .tuning) (tariff (ended-answered (c .before))))
 started-is c = c .iteration-started .ensures ∙ ap startedTariff (c .before .iteration-ended .ensures)
 
 -- ---- the needs
@@ -230,86 +234,86 @@ enum-told : tie.Need-enum-told Inv-loop μ-loop
 enum-told c = c .match .keys2
 
 same-length : tie.Need-same-length Inv-loop μ-loop
-same-length c = long (iteration (c .before .before .before .before .before .before .before .before .before .before) .before) .0
+same-length c = long (iteration (off c) .before) .0
 
 same-length-2 : tie.Need-same-length-2 Inv-loop μ-loop
-same-length-2 c = same-users (c .before .before .before .before .before .before .before .before .before .before)
+same-length-2 c = same-users (off c)
 
 same-length-3 : tie.Need-same-length-3 Inv-loop μ-loop
-same-length-3 c = same-marks (c .before .before .before .before .before .before .before .before .before .before)
+same-length-3 c = same-marks (off c)
 
 same-length-4 : tie.Need-same-length-4 Inv-loop μ-loop
-same-length-4 c = same-from (c .before .before .before .before .before .before .before .before .before .before)
+same-length-4 c = same-from (off c)
 
 same-length-5 : tie.Need-same-length-5 Inv-loop μ-loop
-same-length-5 c = same-to (c .before .before .before .before .before .before .before .before .before .before)
+same-length-5 c = same-to (off c)
 
 same-length-6 : tie.Need-same-length-6 Inv-loop μ-loop
-same-length-6 c = same-due (c .before .before .before .before .before .before .before .before .before .before)
+same-length-6 c = same-due (off c)
 
 returns : tie.Need-returns Inv-loop μ-loop
 returns c =
-    let f : Followed = c .before .before .before .before .before .before .before .before .before .before in
+    let f : Followed = off c in
     let t : Iteration = iteration f in
     take-off _ (routable (start t)) (t .before .loop .inv) (t .loop-test .taken) (users f) (marks f) (from f) (to f) (came f) (c .enum-told .given .1) _ _ _ _ _ _
 
 over-count-requires : tie.Need-over-count-requires Inv-loop μ-loop
 over-count-requires c κs =
-    let e : Entry = start (told-in (c .before)) in
+    let e : Entry = start (answered-in (c .before)) in
     (le-of-eq (fits-users (c .before)), le-trans (le-of-eq (capacities e)) (few-nodes e))
 
 same-length-7 : tie.Need-same-length-7 Inv-loop μ-loop
-same-length-7 c = long (iteration (followed (told (c .before))) .before) .0
+same-length-7 c = long (iteration (followed (answered (c .before))) .before) .0
 
 same-length-8 : tie.Need-same-length-8 Inv-loop μ-loop
-same-length-8 c = same-users (followed (told (c .before)))
+same-length-8 c = same-users (followed (answered (c .before)))
 
 same-length-9 : tie.Need-same-length-9 Inv-loop μ-loop
-same-length-9 c = same-marks (followed (told (c .before)))
+same-length-9 c = same-marks (followed (answered (c .before)))
 
 same-length-10 : tie.Need-same-length-10 Inv-loop μ-loop
-same-length-10 c = same-from (followed (told (c .before)))
+same-length-10 c = same-from (followed (answered (c .before)))
 
 same-length-11 : tie.Need-same-length-11 Inv-loop μ-loop
-same-length-11 c = same-to (followed (told (c .before)))
+same-length-11 c = same-to (followed (answered (c .before)))
 
 same-length-12 : tie.Need-same-length-12 Inv-loop μ-loop
-same-length-12 c = same-due (followed (told (c .before)))
+same-length-12 c = same-due (followed (answered (c .before)))
 
 returns-2 : tie.Need-returns-2 Inv-loop μ-loop
 returns-2 c =
-    let h : Told = told (c .before) in
-    let t : Iteration = told-in h in
+    let h : Answered = answered (c .before) in
+    let t : Iteration = answered-in h in
     take-settled _ (routable (start t)) (t .before .loop .inv) (t .loop-test .taken) (all-on h) (sym (over-is (c .before)) ∙ c .if1 .taken)
 
 same-length-13 : tie.Need-same-length-13 Inv-loop μ-loop
-same-length-13 c = long (iteration (followed (told (c .before .before .before .before))) .before) .0
+same-length-13 c = long (iteration (followed (answered (c .before .before .before .before))) .before) .0
 
 same-length-14 : tie.Need-same-length-14 Inv-loop μ-loop
-same-length-14 c = same-users (followed (told (c .before .before .before .before)))
+same-length-14 c = same-users (followed (answered (c .before .before .before .before)))
 
 same-length-15 : tie.Need-same-length-15 Inv-loop μ-loop
-same-length-15 c = same-marks (followed (told (c .before .before .before .before)))
+same-length-15 c = same-marks (followed (answered (c .before .before .before .before)))
 
 same-length-16 : tie.Need-same-length-16 Inv-loop μ-loop
-same-length-16 c = same-from (followed (told (c .before .before .before .before)))
+same-length-16 c = same-from (followed (answered (c .before .before .before .before)))
 
 same-length-17 : tie.Need-same-length-17 Inv-loop μ-loop
-same-length-17 c = same-to (followed (told (c .before .before .before .before)))
+same-length-17 c = same-to (followed (answered (c .before .before .before .before)))
 
 same-length-18 : tie.Need-same-length-18 Inv-loop μ-loop
-same-length-18 c = same-due (followed (told (c .before .before .before .before)))
+same-length-18 c = same-due (followed (answered (c .before .before .before .before)))
 
 returns-3 : tie.Need-returns-3 Inv-loop μ-loop
 returns-3 c =
-    let h : Told = told (c .before .before .before .before) in
-    let t : Iteration = told-in h in
+    let h : Answered = answered (c .before .before .before .before) in
+    let t : Iteration = answered-in h in
     take-last _ (routable (start t)) (t .before .loop .inv) (t .loop-test .taken) (all-on h) (c .if2 .taken)
 
 grow-histories-requires : tie.Need-grow-histories-requires Inv-loop μ-loop
 grow-histories-requires c κs =
-    let h : Told = goes-told (c .before .before) in
-    let t : Iteration = told-in h in (
+    let h : Answered = goes-answered (c .before .before) in
+    let t : Iteration = answered-in h in (
       (fits-users h, capacities (start t) ∙ sym (taking-long _ (t .before .loop .inv) .0)),
       (growable _ (routable (start t)) (t .before .loop .inv), tuning-fits _ (routable (start t)) .few-step),
     )
@@ -320,14 +324,14 @@ iteration-ended-requires c κs = tt
 iteration-started-requires : tie.Need-iteration-started-requires Inv-loop μ-loop
 iteration-started-requires c κs =
     let b = below (goes c) in
-    let l = routable (start (told-in (ended-told c))) .limit-few in
+    let l = routable (start (answered-in (ended-answered c))) .limit-few in
     let e : c .iteration-ended .result .iteration ≡ _ = ap (λ (x : Tariff). x .iteration) (c .iteration-ended .ensures) in
     omega arith
 
 loop-less : tie.Need-loop-less Inv-loop μ-loop
 loop-less c =
-    let h : Told = ended-told (c .before .before) in
-    let t : Iteration = told-in h in
+    let h : Answered = ended-answered (c .before .before) in
+    let t : Iteration = answered-in h in
     let b = below (goes (c .before .before)) in
     let s = same-iteration _ (routable (start t)) (t .before .loop .inv) (t .loop-test .taken) (all-on h) in
     let e : c .before .iteration-started .result .iteration ≡ _ = ap (λ (x : Tariff). x .iteration) (started-is (c .before)) in
@@ -336,8 +340,8 @@ loop-less c =
 loop-again : tie.Need-loop-again Inv-loop μ-loop
 loop-again c =
     let g : Goes = goes (c .before .before) in
-    let h : Told = goes-told g in
-    let t : Iteration = told-in h in
+    let h : Answered = goes-answered g in
+    let t : Iteration = answered-in h in
     take-next _ (routable (start t)) (t .before .loop .inv) (t .loop-test .taken) (all-on h) (λ z. g .before .before .before .if1 .left (over-is (counted g) ∙ z)) (below g)
     (same-due (followed h) ∙ taking-long _ (begins (start t)) .5) (c .before .before .before .before .before .grow-histories .ensures) (started-is (c .before)) refl
 

@@ -66,8 +66,8 @@ module _ {M : Type 1} (𝓤 : URA M) (H : Heap 𝓤) (A : Atoms 𝓤) (W : Given
       owns-data ! ending g is $ fjoin ! $ nothing ! $ join ! $ done !
 
   -- of its `ensured`, the clause alone
-  told : (r : ℕ) → ent 𝓤 (ensured 𝓤 H A next.ended (next.clauses 𝓤 H A at-mem run) tt y tt r) (fact 𝓤 (r ≡ nextFactor g (h .iteration) (h .factor)))
-  told r = exE 𝓤 _ (λ ws. snd∗ 𝓤 (sem 𝓤 H A (lasts next.ended tt y ws)) (fact 𝓤 (r ≡ nextFactor g (h .iteration) (h .factor))))
+  clause : (r : ℕ) → ent 𝓤 (ensured 𝓤 H A next.ended (next.clauses 𝓤 H A at-mem run) tt y tt r) (fact 𝓤 (r ≡ nextFactor g (h .iteration) (h .factor)))
+  clause r = exE 𝓤 _ (λ ws. snd∗ 𝓤 (sem 𝓤 H A (lasts next.ended tt y ws)) (fact 𝓤 (r ≡ nextFactor g (h .iteration) (h .factor))))
 
   module _ (κ : Lft) (q : Share) (b o : ℕ) (γ : GName) where
     abbrev Post : Val → SProp 𝓤
@@ -85,7 +85,7 @@ module _ {M : Type 1} (𝓤 : URA M) (H : Heap 𝓤) (A : Atoms 𝓤) (W : Given
           use0 W (raw (Next 𝓤 H A at-mem run .pre passed)) (goes s) $
           calls-at ! fm (Next 𝓤 H A at-mem run) known passed (and-then ! (load ! (from ! (stop !)) (look ! 13 refl)) (and-then ! (load ! (from ! (stop !)) (look ! 9 refl)) (and-then ! (load ! (from ! (stop !)) (look ! 7 refl)) (no-more !)))) (λ v.
           use1 W (later (some (λ (r : ℕ). (‵ ftrue ⊛ ‵ (u32 .own r (v ∷ []))) ⊛ raw (ensured 𝓤 H A next.ended (next.clauses 𝓤 H A at-mem run) tt y tt r)))) (id⊢ 𝓤 _) $ await ! tt $ pick ! (λ r.
-          split ! $ move ! (1 ∷ []) $ use1 W (raw (fact 𝓤 (r ≡ nextFactor g (h .iteration) (h .factor)))) (told r) $ heard ! (r ≡ nextFactor g (h .iteration) (h .factor)) (λ e. split ! $ drop ! $
+          split ! $ move ! (1 ∷ []) $ use1 W (raw (fact 𝓤 (r ≡ nextFactor g (h .iteration) (h .factor)))) (clause r) $ heard ! (r ≡ nextFactor g (h .iteration) (h .factor)) (λ e. split ! $ drop ! $
           facts ! u32 (Is u32) (shows 𝓤 H A u32) r (v ∷ []) (λ r-is.
           land ! (from ! (stop !)) (init ! 10 refl (uint-lawful 𝓤 H A W w32 .typed r _ r-is .0)) $ rewrite ! 10 (λ (u : Val). ‵ (fat fullShare (tyInt w32) l₃ 0 u)) (ap only (r-is .0) ∙ ap (vint w32) e) refl $
           assigns ! (of-opd ! (load ! (from ! (stop !)) (look ! 10 refl))) (from ! (hop ! (look ! 14 refl) (fld ! refl (stop !)))) (store-in ! 0 (sub ! 1 refl (whole !)) (tt, record { fits = subst (λ (m : ℕ). m < 2 ^ 32) e (r-is .1) })) $
