@@ -170,16 +170,24 @@ module _ (c : Net) where
 abbrev Turn : Type 0
 Turn = tie.At-loop2 Inv-loop2 μ-loop2 Inv-loop μ-loop Inv-iterations μ-iterations
 
+-- the net that is routed
+abbrev chosen : Turn → tie.In-loop Inv-loop2 μ-loop2 Inv-loop μ-loop Inv-iterations μ-iterations
+chosen c = c .before .before .before .before .before .before .before .before .before .before .before .before .before .before
+
 abbrev net : Turn → Net
-net c = c .before .before .before .before .before .before .before .before .before .before .before .before .before .before .before
+net c = chosen c .before
 
 -- at the head of the loop over turns
 module _ (c : Turn) where
   abbrev turn-entry : Entry
   turn-entry = net-entry (net c)
 
+  -- its old tree is dropped
+  abbrev begun : tie.After-begin-net Inv-loop2 μ-loop2 Inv-loop μ-loop Inv-iterations μ-iterations
+  begun = c .before .before .before .before .before
+
   abbrev lent-users : List ℕ
-  lent-users = c .before .before .before .before .before .begin-net .last .1 .1 .1 .1 .1 .1 .1 .0
+  lent-users = begun .begin-net .last .1 .1 .1 .1 .1 .1 .1 .0
 
   abbrev TurnHere : Progress → List ℕ → List ℕ → ℕ → Type 0
   TurnHere p W L m =
@@ -191,8 +199,8 @@ module _ (c : Turn) where
       → TurnHere p W L m × CountsOn (job turn-entry) p (net c .loop .tariff) (net c .loop .log) (c .loop2 .tariff) (c .loop2 .log)
   turn-inv p W L m e o =
       c .loop2 .inv p W L m e
-      (keep-begun _ (routable turn-entry) (net-from (net c) p W L m e o) (c .before .before .before .before .before .before .before .before .before .before .before .before .before .before .loop-test .taken)
-      (c .before .before .before .before .before .begin-net .ensures .0) (c .before .before .before .before .before .begin-net .ensures .1))
+      (keep-begun _ (routable turn-entry) (net-from (net c) p W L m e o) (chosen c .loop-test .taken)
+      (begun .begin-net .ensures .0) (begun .begin-net .ensures .1))
 
   turn-from : (p : Progress) (W L : List ℕ) (m : ℕ) → 8 * nodes (job turn-entry) ≤ length W → NetStart (net c) p W L m → TurnHere p W L m
   turn-from p W L m e o = turn-inv p W L m e o .0
@@ -220,14 +228,62 @@ module _ (c : Turn) where
   turn-lengths = turn-long _ (routable turn-entry) turn-safe
 
   net-below : net c .loop .net < length (turn-entry .args .source .now)
-  net-below = c .before .before .before .before .before .before .before .before .before .before .before .before .before .before .loop-test .taken
+  net-below = chosen c .loop-test .taken
 
   -- tables 9 and 10
   tables : Lent (job turn-entry) (turn-entry .args .delay .now) (turn-entry .args .criticality .now)
   tables = lent-tables _ _ _ _ _ _ _ _ _ _
 
+-- a turn is made
+abbrev Made : Type 0
+Made = tie.After-net-turn Inv-loop2 μ-loop2 Inv-loop μ-loop Inv-iterations μ-iterations
+
+module _ (c : Made) where
+  abbrev made-in : tie.In-loop2 Inv-loop2 μ-loop2 Inv-loop μ-loop Inv-iterations μ-iterations
+  made-in = c .before .before .before .before .before .before
+
+  abbrev made-at : Turn
+  made-at = made-in .before
+
+-- and the loop goes on
+abbrev goes-made : tie.At-match-came Inv-loop2 μ-loop2 Inv-loop μ-loop Inv-iterations μ-iterations → Made
+goes-made c = c .before .before .before .before .before .before .before
+
+-- or there was no room for it
+abbrev Full : Type 0
+Full = tie.After-enum-told2 Inv-loop2 μ-loop2 Inv-loop μ-loop Inv-iterations μ-iterations
+
+abbrev full-made : Full → Made
+full-made c = c .before .before .before .before .before .before .before .before
+
+-- which is the answer
+module _ (c : tie.After-answer3 Inv-loop2 μ-loop2 Inv-loop μ-loop Inv-iterations μ-iterations) where
+  abbrev full : Full
+  full = c .before .before .before .before .before
+
+  abbrev at-full : Turn
+  at-full = made-at (full-made full)
+
+-- a net's turns are over, and its new tree counts
+abbrev Ended : Type 0
+Ended = tie.After-end-net Inv-loop2 μ-loop2 Inv-loop μ-loop Inv-iterations μ-iterations
+
+module _ (c : Ended) where
+  abbrev turns-over : tie.After-loop2 Inv-loop2 μ-loop2 Inv-loop μ-loop Inv-iterations μ-iterations
+  turns-over = c .before .before .before .before .before .before .before
+
+  abbrev ended-at : Turn
+  ended-at = turns-over .before
+
+-- what was lent for that is back
+abbrev back : tie.After-slice-known18 Inv-loop2 μ-loop2 Inv-loop μ-loop Inv-iterations μ-iterations → Ended
+back c = c .before .before .before .before .before .before .before .before
+
 -- past the last net
-module _ (c : tie.After-loop Inv-loop2 μ-loop2 Inv-loop μ-loop Inv-iterations μ-iterations) where
+abbrev Passed : Type 0
+Passed = tie.After-loop Inv-loop2 μ-loop2 Inv-loop μ-loop Inv-iterations μ-iterations
+
+module _ (c : Passed) where
   abbrev last : Net
   last = c .before
 
@@ -245,15 +301,49 @@ module _ (c : tie.After-loop Inv-loop2 μ-loop2 Inv-loop μ-loop Inv-iterations 
   whole-safe = whole (some (net-entry last)) (ready (net-entry last))
 
 -- the nodes over capacity are counted
-module _ (c : tie.After-over-count Inv-loop2 μ-loop2 Inv-loop μ-loop Inv-iterations μ-iterations) where
+abbrev Counted : Type 0
+Counted = tie.After-over-count Inv-loop2 μ-loop2 Inv-loop μ-loop Inv-iterations μ-iterations
+
+module _ (c : Counted) where
+  abbrev passed : Passed
+  passed = c .before .before
+
   abbrev counted : Net
-  counted = c .before .before .before
+  counted = last passed
 
   over-is : c .over-count .result ≡ overUsed (job (net-entry counted)) (counted .loop .users)
   over-is =
       c .over-count .ensures
       ∙ ap (λ (k : ℕ). countBelow (λ (v : ℕ). ltb (getD (net-entry counted .args .capacity .now) v 0) (getD (counted .loop .users) v 0)) k)
       (capacities-long _ _ (routable (net-entry counted) .block-sound .capacities-sound))
+
+-- some are over it, and the limit is reached
+abbrev limit-counted : tie.Then2 Inv-loop2 μ-loop2 Inv-loop μ-loop Inv-iterations μ-iterations → Counted
+limit-counted c = c .before .before .before .before
+
+-- or it is not
+abbrev goes-counted : tie.Else2 Inv-loop2 μ-loop2 Inv-loop μ-loop Inv-iterations μ-iterations → Counted
+goes-counted c = c .before .before .before .before
+
+-- none are, which is the answer
+module _ (c : tie.After-answer Inv-loop2 μ-loop2 Inv-loop μ-loop Inv-iterations μ-iterations) where
+  abbrev accepted : tie.Then1 Inv-loop2 μ-loop2 Inv-loop μ-loop Inv-iterations μ-iterations
+  accepted = c .before .before .before .before .before
+
+  abbrev at-accepted : Net
+  at-accepted = counted (accepted .before)
+
+-- the limit is the answer
+module _ (c : tie.After-answer2 Inv-loop2 μ-loop2 Inv-loop μ-loop Inv-iterations μ-iterations) where
+  abbrev limited : tie.Then2 Inv-loop2 μ-loop2 Inv-loop μ-loop Inv-iterations μ-iterations
+  limited = c .before .before .before .before .before
+
+  abbrev at-limit : Net
+  at-limit = counted (limit-counted limited)
+
+-- the next iteration starts
+abbrev goes : tie.After-next-iteration Inv-loop2 μ-loop2 Inv-loop μ-loop Inv-iterations μ-iterations → tie.Else2 Inv-loop2 μ-loop2 Inv-loop μ-loop Inv-iterations μ-iterations
+goes c = c .before .before .before .before .before .before
 
 iterations-holds :
     tie.Need-iterations-holds Inv-loop2 μ-loop2 Inv-loop μ-loop Inv-iterations μ-iterations
@@ -302,8 +392,9 @@ cast-to c = omega (arith, c .shared-slice-known11 .given (c .before .before .bef
 begin-net-requires :
     tie.Need-begin-net-requires Inv-loop2 μ-loop2 Inv-loop μ-loop Inv-iterations μ-iterations
 begin-net-requires c κs =
-    let at : Net = c .before .before .before .before .before .before .before .before .before in
-    keep-ready _ (routable (net-entry at)) (net-safe at) (c .before .before .before .before .before .before .before .before .loop-test .taken)
+    let inside : tie.In-loop Inv-loop2 μ-loop2 Inv-loop μ-loop Inv-iterations μ-iterations = c .before .before .before .before .before .before .before .before in
+    let at : Net = inside .before in
+    keep-ready _ (routable (net-entry at)) (net-safe at) (inside .loop-test .taken)
 
 loop2-holds :
     tie.Need-loop2-holds Inv-loop2 μ-loop2 Inv-loop μ-loop Inv-iterations μ-iterations
@@ -320,8 +411,9 @@ cast-net-turn c =
 net-turn-requires :
     tie.Need-net-turn-requires Inv-loop2 μ-loop2 Inv-loop μ-loop Inv-iterations μ-iterations
 net-turn-requires c κs =
-    let at : Turn = c .before .before .before .before .before .before in
-    let left = c .before .before .before .before .before .loop2-test .taken in
+    let inside : tie.In-loop2 Inv-loop2 μ-loop2 Inv-loop μ-loop Inv-iterations μ-iterations = c .before .before .before .before .before in
+    let at : Turn = inside .before in
+    let left = inside .loop2-test .taken in
     let ran = turn-entry at .pre .1 .ran in
     let few =
     counts-fit _ (routable (turn-entry at)) (reachable (turn-entry at)) (enough (turn-entry at)) (turn-safe at) left (tables at) ran
@@ -344,18 +436,19 @@ enum-known-t c = c .match .keys3
 
 sub-left :
     tie.Need-sub-left Inv-loop2 μ-loop2 Inv-loop μ-loop Inv-iterations μ-iterations
-sub-left c = c .before .before .before .before .before .before .before .before .before .before .before .before .before .loop2-test .taken
+sub-left c = made-in (goes-made c) .loop2-test .taken
 
 loop2-less :
     tie.Need-loop2-less Inv-loop2 μ-loop2 Inv-loop μ-loop Inv-iterations μ-iterations
-loop2-less c = let h = c .before .before .before .before .before .before .before .before .before .before .before .before .before .loop2-test .taken in omega arith
+loop2-less c = let h = made-in (goes-made c) .loop2-test .taken in omega arith
 
 loop2-again :
     tie.Need-loop2-again Inv-loop2 μ-loop2 Inv-loop μ-loop Inv-iterations μ-iterations
 loop2-again c = λ p W L m e o.
-    let at : Turn = c .before .before .before .before .before .before .before .before .before .before .before .before .before .before in
-    let left = c .before .before .before .before .before .before .before .before .before .before .before .before .before .loop2-test .taken in
-    let done = c .before .before .before .before .before .before .before .net-turn .ensures in
+    let made : Made = goes-made c in
+    let at : Turn = made-at made in
+    let left = made-in made .loop2-test .taken in
+    let done = made .net-turn .ensures in
     let inv = at .loop2 .inv p W L m e o in
     ⊎-elim
     (λ w. (
@@ -375,27 +468,28 @@ loop2-again c = λ p W L m e o.
 end-net-requires :
     tie.Need-end-net-requires Inv-loop2 μ-loop2 Inv-loop μ-loop Inv-iterations μ-iterations
 end-net-requires c κs =
-    let at : Turn = c .before .before .before .before .before .before .before in
-    keep-end-ready _ (routable (turn-entry at)) (reachable (turn-entry at)) (c .before .before .before .before .before .before .loop2-test .left) (turn-safe at)
+    let over : tie.After-loop2 Inv-loop2 μ-loop2 Inv-loop μ-loop Inv-iterations μ-iterations = c .before .before .before .before .before .before in
+    let at : Turn = over .before in
+    keep-end-ready _ (routable (turn-entry at)) (reachable (turn-entry at)) (over .loop2-test .left) (turn-safe at)
 
 add-net :
     tie.Need-add-net Inv-loop2 μ-loop2 Inv-loop μ-loop Inv-iterations μ-iterations
 add-net c =
-    let at : Turn = c .before .before .before .before .before .before .before .before .before .before .before .before .before .before .before .before in
+    let at : Turn = ended-at (back c) in
     let f = routable (turn-entry at) .nets-few in
     let h = net-below at in
     omega arith
 
 loop-less :
     tie.Need-loop-less Inv-loop2 μ-loop2 Inv-loop μ-loop Inv-iterations μ-iterations
-loop-less c = let h = net-below (c .before .before .before .before .before .before .before .before .before .before .before .before .before .before .before .before) in omega arith
+loop-less c = let h = net-below (ended-at (back c)) in omega arith
 
 loop-again :
     tie.Need-loop-again Inv-loop2 μ-loop2 Inv-loop μ-loop Inv-iterations μ-iterations
 loop-again c = λ p W L m e o.
-    let at : Turn = c .before .before .before .before .before .before .before .before .before .before .before .before .before .before .before .before in
-    let ended = c .before .before .before .before .before .before .before .before .end-net .ensures in (
-      keep-ended _ (routable (turn-entry at)) (reachable (turn-entry at)) (c .before .before .before .before .before .before .before .before .before .before .before .before .before .before .before .loop2-test .left) (turn-from at p W L m e o) (ended .0) (ended .1),
+    let at : Turn = ended-at (back c) in
+    let ended = back c .end-net .ensures in (
+      keep-ended _ (routable (turn-entry at)) (reachable (turn-entry at)) (turns-over (back c) .loop2-test .left) (turn-from at p W L m e o) (ended .0) (ended .1),
       turn-counts at p W L m e o,
     )
 
@@ -409,12 +503,12 @@ over-count-requires c κs =
 
 mul-clear :
     tie.Need-mul-clear Inv-loop2 μ-loop2 Inv-loop μ-loop Inv-iterations μ-iterations
-mul-clear c = let f = few-nodes (net-entry (c .before .before .before .before .before)) in omega arith
+mul-clear c = let f = few-nodes (net-entry (counted (c .before .before))) in omega arith
 
 clear-requires :
     tie.Need-clear-requires Inv-loop2 μ-loop2 Inv-loop μ-loop Inv-iterations μ-iterations
 clear-requires c κs =
-    let at : Net = c .before .before .before .before .before in
+    let at : Net = counted (c .before .before) in
     let e = enough (net-entry at) in
     let l = net-lengths at .work-long in
     omega arith
@@ -426,67 +520,67 @@ answer-requires c κs = tt
 same-length :
     tie.Need-same-length Inv-loop2 μ-loop2 Inv-loop μ-loop Inv-iterations μ-iterations
 same-length c =
-    let at : Net = c .before .before .before .before .before .before .before .before .before in
+    let at : Net = at-accepted c in
     net-lengths at .history-long ∙ sym (entry-long (net-entry at) .history-long)
 
 same-length-2 :
     tie.Need-same-length-2 Inv-loop2 μ-loop2 Inv-loop μ-loop Inv-iterations μ-iterations
 same-length-2 c =
-    let at : Net = c .before .before .before .before .before .before .before .before .before in
+    let at : Net = at-accepted c in
     net-lengths at .users-long ∙ sym (entry-long (net-entry at) .users-long)
 
 same-length-3 :
     tie.Need-same-length-3 Inv-loop2 μ-loop2 Inv-loop μ-loop Inv-iterations μ-iterations
 same-length-3 c =
-    let at : Net = c .before .before .before .before .before .before .before .before .before in
+    let at : Net = at-accepted c in
     net-lengths at .marks-long ∙ sym (entry-long (net-entry at) .marks-long)
 
 same-length-4 :
     tie.Need-same-length-4 Inv-loop2 μ-loop2 Inv-loop μ-loop Inv-iterations μ-iterations
 same-length-4 c =
-    let at : Net = c .before .before .before .before .before .before .before .before .before in
+    let at : Net = at-accepted c in
     net-lengths at .from-long ∙ sym (entry-long (net-entry at) .from-long)
 
 same-length-5 :
     tie.Need-same-length-5 Inv-loop2 μ-loop2 Inv-loop μ-loop Inv-iterations μ-iterations
 same-length-5 c =
-    let at : Net = c .before .before .before .before .before .before .before .before .before in
+    let at : Net = at-accepted c in
     net-lengths at .to-long ∙ sym (entry-long (net-entry at) .to-long)
 
 same-length-6 :
     tie.Need-same-length-6 Inv-loop2 μ-loop2 Inv-loop μ-loop Inv-iterations μ-iterations
 same-length-6 c =
-    let at : Net = c .before .before .before .before .before .before .before .before .before in
+    let at : Net = at-accepted c in
     net-lengths at .due-long ∙ sym (entry-long (net-entry at) .due-long)
 
 same-length-7 :
     tie.Need-same-length-7 Inv-loop2 μ-loop2 Inv-loop μ-loop Inv-iterations μ-iterations
-same-length-7 c = c .before .before .before .clear .kept .0 ∙ net-lengths (c .before .before .before .before .before .before .before .before .before) .work-long
+same-length-7 c = c .before .before .before .clear .kept .0 ∙ net-lengths (at-accepted c) .work-long
 
 same-length-8 :
     tie.Need-same-length-8 Inv-loop2 μ-loop2 Inv-loop μ-loop Inv-iterations μ-iterations
-same-length-8 c = net-lengths (c .before .before .before .before .before .before .before .before .before) .log-long
+same-length-8 c = net-lengths (at-accepted c) .log-long
 
 returns :
     tie.Need-returns Inv-loop2 μ-loop2 Inv-loop μ-loop Inv-iterations μ-iterations
 returns c =
-    let at : Net = c .before .before .before .before .before .before .before .before .before in
+    let at : Net = at-accepted c in
     let answer = c .answer .ensures in (
       λ p r.
           rw (c .before .before .before .clear .ensures)
-          (keep-accepted _ (routable (net-entry at)) (whole (c .before .before .before .before .before .before .before .before) p r) (sym (over-is (c .before .before .before .before .before .before)) ∙ c .before .before .before .before .before .if1 .taken) (c .answer .result) (answer .0)
+          (keep-accepted _ (routable (net-entry at)) (whole (passed (accepted c .before)) p r) (sym (over-is (accepted c .before)) ∙ accepted c .if1 .taken) (c .answer .result) (answer .0)
           (record { iteration-is = answer .1; turns-is = answer .2; words-is = answer .3 })),
       λ p m r ran. counts-answer (net-counted at p m r ran) (c .answer .result) (answer .4) (answer .3),
     )
 
 mul-clear-2 :
     tie.Need-mul-clear-2 Inv-loop2 μ-loop2 Inv-loop μ-loop Inv-iterations μ-iterations
-mul-clear-2 c = let f = few-nodes (net-entry (c .before .before .before .before .before .before .before .before)) in omega arith
+mul-clear-2 c = let f = few-nodes (net-entry (counted (limit-counted (c .before)))) in omega arith
 
 clear-requires-2 :
     tie.Need-clear-requires-2 Inv-loop2 μ-loop2 Inv-loop μ-loop Inv-iterations μ-iterations
 clear-requires-2 c κs =
-    let at : Net = c .before .before .before .before .before .before .before .before in
+    let at : Net = counted (limit-counted (c .before)) in
     let e = enough (net-entry at) in
     let l = net-lengths at .work-long in
     omega arith
@@ -498,56 +592,57 @@ answer-requires-2 c κs = tt
 same-length-9 :
     tie.Need-same-length-9 Inv-loop2 μ-loop2 Inv-loop μ-loop Inv-iterations μ-iterations
 same-length-9 c =
-    let at : Net = c .before .before .before .before .before .before .before .before .before .before .before .before in
+    let at : Net = at-limit c in
     net-lengths at .history-long ∙ sym (entry-long (net-entry at) .history-long)
 
 same-length-10 :
     tie.Need-same-length-10 Inv-loop2 μ-loop2 Inv-loop μ-loop Inv-iterations μ-iterations
 same-length-10 c =
-    let at : Net = c .before .before .before .before .before .before .before .before .before .before .before .before in
+    let at : Net = at-limit c in
     net-lengths at .users-long ∙ sym (entry-long (net-entry at) .users-long)
 
 same-length-11 :
     tie.Need-same-length-11 Inv-loop2 μ-loop2 Inv-loop μ-loop Inv-iterations μ-iterations
 same-length-11 c =
-    let at : Net = c .before .before .before .before .before .before .before .before .before .before .before .before in
+    let at : Net = at-limit c in
     net-lengths at .marks-long ∙ sym (entry-long (net-entry at) .marks-long)
 
 same-length-12 :
     tie.Need-same-length-12 Inv-loop2 μ-loop2 Inv-loop μ-loop Inv-iterations μ-iterations
 same-length-12 c =
-    let at : Net = c .before .before .before .before .before .before .before .before .before .before .before .before in
+    let at : Net = at-limit c in
     net-lengths at .from-long ∙ sym (entry-long (net-entry at) .from-long)
 
 same-length-13 :
     tie.Need-same-length-13 Inv-loop2 μ-loop2 Inv-loop μ-loop Inv-iterations μ-iterations
 same-length-13 c =
-    let at : Net = c .before .before .before .before .before .before .before .before .before .before .before .before in
+    let at : Net = at-limit c in
     net-lengths at .to-long ∙ sym (entry-long (net-entry at) .to-long)
 
 same-length-14 :
     tie.Need-same-length-14 Inv-loop2 μ-loop2 Inv-loop μ-loop Inv-iterations μ-iterations
 same-length-14 c =
-    let at : Net = c .before .before .before .before .before .before .before .before .before .before .before .before in
+    let at : Net = at-limit c in
     net-lengths at .due-long ∙ sym (entry-long (net-entry at) .due-long)
 
 same-length-15 :
     tie.Need-same-length-15 Inv-loop2 μ-loop2 Inv-loop μ-loop Inv-iterations μ-iterations
-same-length-15 c = c .before .before .before .clear2 .kept .0 ∙ net-lengths (c .before .before .before .before .before .before .before .before .before .before .before .before) .work-long
+same-length-15 c = c .before .before .before .clear2 .kept .0 ∙ net-lengths (at-limit c) .work-long
 
 same-length-16 :
     tie.Need-same-length-16 Inv-loop2 μ-loop2 Inv-loop μ-loop Inv-iterations μ-iterations
-same-length-16 c = net-lengths (c .before .before .before .before .before .before .before .before .before .before .before .before) .log-long
+same-length-16 c = net-lengths (at-limit c) .log-long
 
 returns-2 :
     tie.Need-returns-2 Inv-loop2 μ-loop2 Inv-loop μ-loop Inv-iterations μ-iterations
 returns-2 c =
-    let at : Net = c .before .before .before .before .before .before .before .before .before .before .before .before in
+    let at : Net = at-limit c in
+    let h : Counted = limit-counted (limited c) in
     let answer = c .answer2 .ensures in (
       λ p r.
           rw (c .before .before .before .clear2 .ensures)
-          (keep-limit _ (routable (net-entry at)) (whole (c .before .before .before .before .before .before .before .before .before .before .before) p r) _
-          (over-is (c .before .before .before .before .before .before .before .before .before)) (c .before .before .before .before .before .before .before .before .if1 .left) (c .before .before .before .before .before .if2 .taken)
+          (keep-limit _ (routable (net-entry at)) (whole (passed h) p r) _
+          (over-is h) (limited c .before .before .before .if1 .left) (limited c .if2 .taken)
           (c .answer2 .result) (answer .0) (record { iteration-is = answer .1; turns-is = answer .2; words-is = answer .3 })),
       λ p m r ran. counts-answer (net-counted at p m r ran) (c .answer2 .result) (answer .4) (answer .3),
     )
@@ -555,26 +650,29 @@ returns-2 c =
 grow-histories-requires :
     tie.Need-grow-histories-requires Inv-loop2 μ-loop2 Inv-loop μ-loop Inv-iterations μ-iterations
 grow-histories-requires c κs =
-    let at : Net = c .before .before .before .before .before .before .before .before .before in
+    let h : Counted = goes-counted (c .before .before) in
+    let at : Net = counted h in
     let r = routable (net-entry at) in
     let l = capacities-long _ _ (r .block-sound .capacities-sound) in
     let long = net-lengths at in
-    let h = long .history-long in
-    ((l ∙ sym (long .users-long), l ∙ sym h), (λ v b. keep-growable _ r (whole-safe (c .before .before .before .before .before .before .before .before)) v (subst (λ k. v < k) h b), tuning-fits _ r .few-step))
+    let history = long .history-long in
+    ((l ∙ sym (long .users-long), l ∙ sym history), (λ v b. keep-growable _ r (whole-safe (passed h)) v (subst (λ k. v < k) history b), tuning-fits _ r .few-step))
 
 next-iteration-requires :
     tie.Need-next-iteration-requires Inv-loop2 μ-loop2 Inv-loop μ-loop Inv-iterations μ-iterations
 next-iteration-requires c κs =
-    let at : Net = c .before .before .before .before .before .before .before .before .before .before .before .before in
-    let b = keep-below _ (routable (net-entry at)) (whole-safe (c .before .before .before .before .before .before .before .before .before .before .before)) (c .before .before .before .before .before .if2 .left) in
+    let g : tie.Else2 Inv-loop2 μ-loop2 Inv-loop μ-loop Inv-iterations μ-iterations = c .before .before .before .before .before in
+    let at : Net = counted (goes-counted g) in
+    let b = keep-below _ (routable (net-entry at)) (whole-safe (passed (goes-counted g))) (g .if2 .left) in
     let l = routable (net-entry at) .limit-few in
     omega arith
 
 iterations-less :
     tie.Need-iterations-less Inv-loop2 μ-loop2 Inv-loop μ-loop Inv-iterations μ-iterations
 iterations-less c =
-    let at : Net = c .before .before .before .before .before .before .before .before .before .before .before .before .before in
-    let b = keep-below _ (routable (net-entry at)) (whole-safe (c .before .before .before .before .before .before .before .before .before .before .before .before)) (c .before .before .before .before .before .before .if2 .left) in
+    let k : Counted = goes-counted (goes c) in
+    let at : Net = counted k in
+    let b = keep-below _ (routable (net-entry at)) (whole-safe (passed k)) (goes c .if2 .left) in
     let e = c .next-iteration .ensures .0 in
     let a = net-safe at .under .iteration-is in
     let h = iteration at .iterations .inv (some (net-entry at)) (ready (net-entry at)) .1 .under .iteration-is in
@@ -583,12 +681,14 @@ iterations-less c =
 iterations-again :
     tie.Need-iterations-again Inv-loop2 μ-loop2 Inv-loop μ-loop Inv-iterations μ-iterations
 iterations-again c =
-    let at : Net = c .before .before .before .before .before .before .before .before .before .before .before .before .before in
+    let g = goes c in
+    let n : Counted = goes-counted g in
+    let at : Net = counted n in
     let e = c .next-iteration .ensures in
     λ p r. (
       _,
-      keep-next _ (routable (net-entry at)) (whole (c .before .before .before .before .before .before .before .before .before .before .before .before) p r)
-          (λ z. c .before .before .before .before .before .before .before .before .before .if1 .left (over-is (c .before .before .before .before .before .before .before .before .before .before) ∙ z)) (c .before .before .before .before .before .before .if2 .left)
+      keep-next _ (routable (net-entry at)) (whole (passed n) p r)
+          (λ z. g .before .before .before .if1 .left (over-is n ∙ z)) (g .if2 .left)
           (e .0) (e .1) (e .2) (e .3) (c .before .before .before .grow-histories .ensures),
       λ k aimed ran h.
           counts-same aimed _ _ _ _ _ _ (e .4) (e .5) (e .3) refl
@@ -597,14 +697,15 @@ iterations-again c =
 
 mul-clear-3 :
     tie.Need-mul-clear-3 Inv-loop2 μ-loop2 Inv-loop μ-loop Inv-iterations μ-iterations
-mul-clear-3 c = let f = few-nodes (turn-entry (c .before .before .before .before .before .before .before .before .before .before .before .before .before .before .before .before)) in omega arith
+mul-clear-3 c = let f = few-nodes (turn-entry (made-at (full-made (c .before)))) in omega arith
 
 clear-requires-3 :
     tie.Need-clear-requires-3 Inv-loop2 μ-loop2 Inv-loop μ-loop Inv-iterations μ-iterations
 clear-requires-3 c κs =
-    let at : Turn = c .before .before .before .before .before .before .before .before .before .before .before .before .before .before .before .before in
+    let m : Made = full-made (c .before) in
+    let at : Turn = made-at m in
     let e = enough (turn-entry at) in
-    let a = c .before .before .before .before .before .before .before .before .before .net-turn .ensures .1 .long in
+    let a = m .net-turn .ensures .1 .long in
     let l = turn-lengths at .work-long in
     omega arith
 
@@ -615,66 +716,67 @@ answer-requires-3 c κs = tt
 same-length-17 :
     tie.Need-same-length-17 Inv-loop2 μ-loop2 Inv-loop μ-loop Inv-iterations μ-iterations
 same-length-17 c =
-    let at : Turn = c .before .before .before .before .before .before .before .before .before .before .before .before .before .before .before .before .before .before .before .before in
+    let at : Turn = at-full c in
     turn-lengths at .history-long ∙ sym (entry-long (turn-entry at) .history-long)
 
 same-length-18 :
     tie.Need-same-length-18 Inv-loop2 μ-loop2 Inv-loop μ-loop Inv-iterations μ-iterations
 same-length-18 c =
-    let at : Turn = c .before .before .before .before .before .before .before .before .before .before .before .before .before .before .before .before .before .before .before .before in
+    let at : Turn = at-full c in
     turn-lengths at .users-long ∙ sym (entry-long (turn-entry at) .users-long)
 
 same-length-19 :
     tie.Need-same-length-19 Inv-loop2 μ-loop2 Inv-loop μ-loop Inv-iterations μ-iterations
 same-length-19 c =
-    let at : Turn = c .before .before .before .before .before .before .before .before .before .before .before .before .before .before .before .before .before .before .before .before in
-    c .before .before .before .before .before .before .before .before .before .before .before .before .before .net-turn .kept .1 .1 .1 .1 .1 .1 .1 .1 .1 .1 .1 .1 .1 .1 .1 .1 .0 ∙ turn-lengths at .marks-long ∙ sym (entry-long (turn-entry at) .marks-long)
+    let at : Turn = at-full c in
+    full-made (full c) .net-turn .kept .1 .1 .1 .1 .1 .1 .1 .1 .1 .1 .1 .1 .1 .1 .1 .1 .0 ∙ turn-lengths at .marks-long ∙ sym (entry-long (turn-entry at) .marks-long)
 
 same-length-20 :
     tie.Need-same-length-20 Inv-loop2 μ-loop2 Inv-loop μ-loop Inv-iterations μ-iterations
 same-length-20 c =
-    let at : Turn = c .before .before .before .before .before .before .before .before .before .before .before .before .before .before .before .before .before .before .before .before in
+    let at : Turn = at-full c in
     turn-lengths at .from-long ∙ sym (entry-long (turn-entry at) .from-long)
 
 same-length-21 :
     tie.Need-same-length-21 Inv-loop2 μ-loop2 Inv-loop μ-loop Inv-iterations μ-iterations
 same-length-21 c =
-    let at : Turn = c .before .before .before .before .before .before .before .before .before .before .before .before .before .before .before .before .before .before .before .before in
+    let at : Turn = at-full c in
     turn-lengths at .to-long ∙ sym (entry-long (turn-entry at) .to-long)
 
 same-length-22 :
     tie.Need-same-length-22 Inv-loop2 μ-loop2 Inv-loop μ-loop Inv-iterations μ-iterations
 same-length-22 c =
-    let at : Turn = c .before .before .before .before .before .before .before .before .before .before .before .before .before .before .before .before .before .before .before .before in
+    let at : Turn = at-full c in
     turn-lengths at .due-long ∙ sym (entry-long (turn-entry at) .due-long)
 
 same-length-23 :
     tie.Need-same-length-23 Inv-loop2 μ-loop2 Inv-loop μ-loop Inv-iterations μ-iterations
 same-length-23 c =
-    let at : Turn = c .before .before .before .before .before .before .before .before .before .before .before .before .before .before .before .before .before .before .before .before in
-    c .before .before .before .clear3 .kept .0 ∙ c .before .before .before .before .before .before .before .before .before .before .before .before .before .net-turn .ensures .1 .long ∙ turn-lengths at .work-long
+    let at : Turn = at-full c in
+    c .before .before .before .clear3 .kept .0 ∙ full-made (full c) .net-turn .ensures .1 .long ∙ turn-lengths at .work-long
 
 same-length-24 :
     tie.Need-same-length-24 Inv-loop2 μ-loop2 Inv-loop μ-loop Inv-iterations μ-iterations
 same-length-24 c =
-    let at : Turn = c .before .before .before .before .before .before .before .before .before .before .before .before .before .before .before .before .before .before .before .before in
-    c .before .before .before .before .before .before .before .before .before .before .before .before .before .net-turn .kept .1 .1 .1 .1 .1 .1 .1 .1 .1 .1 .1 .1 .1 .0 ∙ turn-lengths at .log-long
+    let at : Turn = at-full c in
+    full-made (full c) .net-turn .kept .1 .1 .1 .1 .1 .1 .1 .1 .1 .1 .1 .1 .1 .0 ∙ turn-lengths at .log-long
 
 returns-3 :
     tie.Need-returns-3 Inv-loop2 μ-loop2 Inv-loop μ-loop Inv-iterations μ-iterations
 returns-3 c =
-    let at : Turn = c .before .before .before .before .before .before .before .before .before .before .before .before .before .before .before .before .before .before .before .before in
-    let left = c .before .before .before .before .before .before .before .before .before .before .before .before .before .before .before .before .before .before .before .loop2-test .taken in
-    let done = c .before .before .before .before .before .before .before .before .before .before .before .before .before .net-turn .ensures in
-    let full = c .before .before .before .before .before .enum-told2 .given .1 in
+    let at : Turn = at-full c in
+    let m : Made = full-made (full c) in
+    let left = made-in m .loop2-test .taken in
+    let done = m .net-turn .ensures in
+    let none = full c .enum-told2 .given .1 in
     let answer = c .answer3 .ensures in (
       λ p r.
-          after-full _ (routable (turn-entry at)) (enough (turn-entry at)) (turn-at at p r) left (tables at) _ _ _ (done .1) _ (done .0) full _ (c .before .before .before .clear3 .ensures)
+          after-full _ (routable (turn-entry at)) (enough (turn-entry at)) (turn-at at p r) left (tables at) _ _ _ (done .1) _ (done .0) none _ (c .before .before .before .clear3 .ensures)
           (c .answer3 .result) (answer .0) (record { iteration-is = answer .1; turns-is = answer .2; words-is = answer .3 }),
-      λ p m r ran.
+      λ p k r ran.
           counts-answer
-          (counts-full _ (routable (turn-entry at)) (reachable (turn-entry at)) (enough (turn-entry at)) (turn-at at p r) left (tables at) _ _ _ (done .1) _ (done .0) full m _ ran
-          (turn-counted at p m r ran))
+          (counts-full _ (routable (turn-entry at)) (reachable (turn-entry at)) (enough (turn-entry at)) (turn-at at p r) left (tables at) _ _ _ (done .1) _ (done .0) none k _ ran
+          (turn-counted at p k r ran))
           (c .answer3 .result) (answer .4) (answer .3),
     )
 
