@@ -148,8 +148,8 @@
 #define ARVUMNAO_USES_BYTES 4096
 
 /* Bytes of stack, beyond its caller's, that every call makes do with. Measured on x86-64 Linux by tests/header/memory.c, with
- * what memcpy and memset take, and rounded up: 194,000 in the four calls that route or resume, 122,500 in arvumnao_read, 35,300 in
- * arvumnao_uses_add, 22,800 in arvumnao_uses_write, 9,100 in arvumnao_write and arvumnao_dot, under 800 in the others. */
+ * what memcpy and memset take, and rounded up: 194,000 in the four calls that route or resume, 122,500 in arvumnao_read, 35,700 in
+ * arvumnao_uses_add, 23,200 in arvumnao_uses_write, 9,100 in arvumnao_write and arvumnao_dot, under 800 in the others. */
 #define ARVUMNAO_STACK 262144
 
 /* `out`: its length, and the places that every call has. */
