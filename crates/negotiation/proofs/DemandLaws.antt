@@ -250,10 +250,10 @@ module _ (j : Job) (sound : Routable j) {m : ℕ} {rs : List Record} {s : State}
   pub turn-here :
       (e rest : List Record) (t : Record) → netRecords j (p .state) i ≡ e ++ (t ∷ rest) → (earlier : List Record) → earlier ≡ (rs ++ p .records) ++ e
       → TurnHolds j earlier t
-  turn-here e rest t is earlier stands =
+  turn-here e rest t is earlier parts =
       let own : All (Of i (m + 1)) e = own-all e (t ∷ rest) is in
       let turn : NetTurn j (p .state) i e t = net-turn j sound (p .state) (ran-ready j sound r n hm) i hi e rest t is in
-      turn-of j earlier ((rs ++ p .records) ++ e) t i (m + 1) (turn .net-is) (turn .iteration-is ∙ nets-iteration j n ∙ ran-iteration j r) stands
+      turn-of j earlier ((rs ++ p .records) ++ e) t i (m + 1) (turn .net-is) (turn .iteration-is ∙ nets-iteration j n ∙ ran-iteration j r) parts
       (tree-as j i (own-same e own)
       (cheapest-same (j .block) (graph-of (j .block) (sound .block-sound)) _ _ (price-same e own) (turn .cheapest)))
 

@@ -55,7 +55,7 @@ queue-none b n work e h =
       work-long = h;
       bits = λ v l. rw (unmarked n v (omega arith)) zero-le;
       nodes-below = below-none _;
-      stands = λ v l m. absurd (omega (arith, unmarked n v (omega arith)));
+      queued = λ v l m. absurd (omega (arith, unmarked n v (omega arith)));
       counted = zero-le;
     }
 
@@ -111,11 +111,11 @@ module _ {b : Block} {end : ℕ} {marks work : List ℕ} (q : Queue b end marks 
           work-long = rw (length-set work end v) (q .work-long);
           bits = mark-bit;
           nodes-below = below-more (λ (k : ℕ). getD (set work end v) k 0 < nodes b) end (λ k h. rw (entry-kept k h) (q .nodes-below k h)) (rw entry-here node);
-          stands = λ x h e.
+          queued = λ x h e.
               ⊎-elim
               (λ (s : x ≡ v). (end, omega arith, entry-here ∙ sym s))
               (λ (o : getD marks x 0 ≡ 1).
-              let p = q .stands x h o in
+              let p = q .queued x h o in
               let l : p .0 < end = p .1 in
               (p .0, omega arith, entry-kept (p .0) l ∙ p .2))
               (mark-old x e);
@@ -148,8 +148,8 @@ behind {b} {u} {e} {end} {last} {marks} {marks′} {work} {work′} r x room =
         work-long = rw (length-set work′ last x) (q .work-long);
         bits = q .bits;
         nodes-below = λ k h. rw (kept k h) (q .nodes-below k h);
-        stands = λ v h m.
-            let p = q .stands v h m in
+        queued = λ v h m.
+            let p = q .queued v h m in
             (p .0, p .1, kept (p .0) (p .1) ∙ p .2);
         counted = q .counted;
       };
@@ -294,7 +294,7 @@ module _ {b : Block} (g : Graph b) {source next end : ℕ} {marks before work : 
         long = f .queue .marks-long;
         bits = f .queue .bits;
         sound = λ v h m.
-            let p = f .queue .stands v h m in
+            let p = f .queue .queued v h m in
             rw (p .2) at (f .walked (p .0) (p .1));
         complete = enough;
         same = same-from-trans s (f .same);
@@ -334,7 +334,7 @@ module _ {b : Block} (g : Graph b) {source next end : ℕ} {marks before work : 
     walk-marked : {u v : ℕ} {path : List ℕ} → getD marks u 0 ≡ 1 → Walk b u path v → getD marks v 0 ≡ 1
     walk-marked m (stay u) = m
     walk-marked m (step {u} {w} e r) =
-        let p = f .queue .stands u (edge-from b g u w e) m in
+        let p = f .queue .queued u (edge-from b g u w e) m in
         let h : p .0 < end = p .1 in
         walk-marked (f .done (p .0) (omega arith) w (rw (p .2) e)) r
 

@@ -140,8 +140,8 @@ module _ (j : Job) (start : Start) (log : List ℕ) {r : Taken} {history users m
         })
 
     -- it can go on,
-    pub start-stands : SomeReady j t′ history users marks from to dues log
-    start-stands =
+    pub start-some-ready : SomeReady j t′ history users marks from to dues log
+    start-some-ready =
         let at = started-on e in
         record { progress = at .progress; ready = ready-going; iterations = at .iterations; ran = at .ran; none-expanded = ap (λ (x : Tariff). x .expanded) chosen }
 

@@ -33,7 +33,7 @@ pub record Queue (b : Block) (end : ℕ) (marks work : List ℕ) : Type 0 where
   pub work-long : nodes b ≤ length work
   pub bits : (v : ℕ) → v < nodes b → getD marks v 0 ≤ 1
   pub nodes-below : (k : ℕ) → k < end → getD work k 0 < nodes b
-  pub stands : (v : ℕ) → v < nodes b → getD marks v 0 ≡ 1 → (k : ℕ) × (k < end) × (getD work k 0 ≡ v)
+  pub queued : (v : ℕ) → v < nodes b → getD marks v 0 ≡ 1 → (k : ℕ) × (k < end) × (getD work k 0 ≡ v)
   pub counted : end ≤ markedCount (nodes b) marks
 
 -- the targets of node u can be marked

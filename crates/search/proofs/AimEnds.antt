@@ -111,7 +111,7 @@ module _ (b : Block) (marks w w₁ w₂ : List ℕ) (r : AimReady b marks w) (s 
       }
 
   pub aim-launched : AimLaunched b w₂
-  aim-launched = record { sound = r .sound; marks = marks; task = r .task; stands = aim-begins }
+  aim-launched = record { sound = r .sound; marks = marks; task = r .task; aiming = aim-begins }
 
 -- ---- the end
 
@@ -240,7 +240,7 @@ pub record AimRun (b : Block) (w₀ w : List ℕ) (best count : ℕ) : Type 0 wh
   pub sound : Graph b
   pub marks : List ℕ
   pub task : AimTask b marks
-  pub stands : Aiming b marks task w best count
+  pub aiming : Aiming b marks task w best count
   pub goes : {marks : List ℕ} (t : AimTask b marks) → Aiming b marks t w₀ far 0 → Aiming b marks t w best count
   pub long : length w ≡ length w₀
   pub high : (j : ℕ) → 5 * nodes b ≤ j → getD w j 0 ≡ getD w₀ j 0
@@ -251,14 +251,14 @@ run-begins l =
       sound = l .sound;
       marks = l .marks;
       task = l .task;
-      stands = l .stands;
+      aiming = l .aiming;
       goes = λ t a. a;
       long = refl;
       high = λ j h. refl;
     }
 
 pub run-count : {b : Block} {w₀ w : List ℕ} {best count : ℕ} → AimRun b w₀ w best count → count ≤ nodes b
-run-count {b} {w₀} {w} r = omega (arith, r .stands .counted, count-most (hasLeft (nodes b) w) (nodes b))
+run-count {b} {w₀} {w} r = omega (arith, r .aiming .counted, count-most (hasLeft (nodes b) w) (nodes b))
 
 pub run-ends :
     {b : Block} {w₀ w : List ℕ} {best count : ℕ} → AimRun b w₀ w best count → (entryAt (nodes b) w 1 ≡ far) ⊎ (best < entryAt (nodes b) w 1)
@@ -269,7 +269,7 @@ module _ {b : Block} {w₀ w : List ℕ} {best count u : ℕ} (r : AimRun b w₀
     (first : leafAt (nodes b) w u ≡ entryAt (nodes b) w 1) (low : entryAt (nodes b) w 1 < far) (most : entryAt (nodes b) w 1 ≤ best)
     {w₁ : List ℕ} (out : Queued (nodes b) u far w w₁) where
   pub run-ready : AimRowReady b w₁ u
-  run-ready = aim-ready b (r .sound) (r .task) w best count (r .stands) u node first low most w₁ out
+  run-ready = aim-ready b (r .sound) (r .task) w best count (r .aiming) u node first low most w₁ out
 
   pub run-more :
       {w₂ : List ℕ} {best′ : ℕ} → AimedRow b u w₁ w₂ → (BestAim (nodes b) best w₁ → BestAim (nodes b) best′ w₂) → AimRun b w₀ w₂ best′ (count + 1)
@@ -278,7 +278,7 @@ module _ {b : Block} {w₀ w : List ℕ} {best count u : ℕ} (r : AimRun b w₀
         sound = r .sound;
         marks = r .marks;
         task = r .task;
-        stands = next (r .task) (r .stands);
+        aiming = next (r .task) (r .aiming);
         goes = λ t a. next t (r .goes t a);
         long = row .some .long ∙ out .long ∙ r .long;
         high = λ j h. row .some .high j h ∙ out .high j (omega arith) ∙ r .high j h;

@@ -85,9 +85,9 @@ module _ (ks cs fs ts : List ℕ) (c : Congestion) where
   reply-is marks sinks w₀ e f = rw (e, ← f, counts marks sinks, turn-same ks cs fs ts price marks sinks)
 
   module _ (marks sinks : List ℕ) {w₀ w₁ : List ℕ} (t : Allowed ks cs fs ts c marks sinks w₀) (q : Priced (length ks) (priceAt (blockOf ks cs [] []) c) w₀ w₁) where
-    pub prices-stand : (v : ℕ) → v < length ks → priceIn (length ks) w₁ v ≡ price v
+    pub prices-here : (v : ℕ) → v < length ks → priceIn (length ks) w₁ v ≡ price v
     unfolding priceAt congestedAt
-    prices-stand v h = q .prices v h
+    prices-here v h = q .prices v h
 
     pub prices-dear : (v : ℕ) → v < length ks → weight v ≤ price v
     unfolding weightAt
@@ -101,7 +101,7 @@ module _ (ks cs fs ts : List ℕ) (c : Congestion) where
           price = price;
           fair = ready-fair ks cs fs ts c marks (t .0);
           dear = prices-dear;
-          prices = prices-stand;
+          prices = prices-here;
           marks-long = ready-marks ks cs fs ts c marks (t .0);
           sinks-few = sinks-few (length ks) sinks (t .3);
           sinks-nodes = sinks-nodes (length ks) sinks (t .3);

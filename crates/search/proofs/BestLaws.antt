@@ -1,4 +1,4 @@
--- The least distance that a marked node has so far: what keeps it, and where a shorter way to such a node makes it less.
+-- The least distance that an unjoined sink has so far: what keeps it, and where a shorter way to such a sink makes it less.
 -- Assumes nothing.
 use mathlib.Core.List.{List}
 use mathlib.Core.Logic.{⊎-elim, inl, inr}
@@ -6,63 +6,64 @@ use mathlib.Core.Path.{_≡_, sym, _∙_, subst}
 use Prim.Native.Nat.{ℕ, _+_, _*_, _≤_, _<_}
 use native.Mathlib.Omega.{arith}
 use lib.ListN.{getD, set}
-use Rattle.search.specs.Layout.{distAt, Shortened, Best}
+use Rattle.search.specs.Layout.{distAt, Shortened}
+use Rattle.search.specs.Estimates.{guessAt}
+use Rattle.search.specs.Aiming.{BestAim}
 use Rattle.search.proofs.StoreLaws.{stored-other}
 use Rattle.search.proofs.QueueLaws.{same-or-not}
 
--- distances and marks are as they were
+-- distances and estimates are as they were
 pub best-kept :
-    {at mark n best : ℕ} {w w′ : List ℕ} → ((x : ℕ) → x < n → distAt w′ x ≡ distAt w x) → ((x : ℕ) → x < n → getD w′ (at + x) 0 ≡ getD w (at + x) 0)
-    → Best at mark n best w → Best at mark n best w′
-best-kept {at} {mark} {n} {best} {w} {w′} dist marks s =
+    {n best : ℕ} {w w′ : List ℕ} → ((x : ℕ) → x < n → distAt w′ x ≡ distAt w x) → ((x : ℕ) → x < n → guessAt n w′ x ≡ guessAt n w x)
+    → BestAim n best w → BestAim n best w′
+best-kept {n} {best} {w} {w′} dist guesses s =
     record {
       most = s .most;
-      least = λ x h g. let l = s .least x h (sym (marks x h) ∙ g) in omega (arith, dist x h);
+      least = λ x h g. let l = s .least x h (sym (guesses x h) ∙ g) in omega (arith, dist x h);
       some =
           ⊎-elim
           (λ e. inl e)
-          (λ (x : (v : ℕ) × (v < n) × (getD w (at + v) 0 ≡ mark) × (distAt w v ≡ best)).
-          inr (x .0, x .1, marks (x .0) (x .1) ∙ x .2, dist (x .0) (x .1) ∙ x .3))
+          (λ (x : (v : ℕ) × (v < n) × (guessAt n w v ≡ 0) × (distAt w v ≡ best)).
+          inr (x .0, x .1, guesses (x .0) (x .1) ∙ x .2, dist (x .0) (x .1) ∙ x .3))
           (s .some);
     }
 
--- another predecessor changes neither, where the marks stand behind the predecessors
-pub best-pred :
-    {at mark n best : ℕ} (v u : ℕ) (w : List ℕ) {w′ : List ℕ} → 5 * n ≤ at → v < n → w′ ≡ set w (4 * n + v) u → Best at mark n best w → Best at mark n best w′
-best-pred {at} {mark} {n} {best} v u w {w′} behind h e =
-    best-kept (λ x hx. other x (λ q. omega arith)) (λ x hx. other (at + x) (λ q. omega arith))
+-- another predecessor changes neither
+pub best-pred : {n best : ℕ} (v u : ℕ) (w : List ℕ) {w′ : List ℕ} → v < n → w′ ≡ set w (4 * n + v) u → BestAim n best w → BestAim n best w′
+best-pred {n} {best} v u w {w′} h e =
+    best-kept (λ x hx. other x (λ q. omega arith)) (λ x hx. other (6 * n + x) (λ q. omega arith))
   where
     other : (j : ℕ) → (j ≡ 4 * n + v → ⊥) → getD w′ j 0 ≡ getD w j 0
     other = stored-other w (4 * n + v) u e
 
 -- v has a shorter way
-module _ {at mark n u v d key best : ℕ} {w w′ : List ℕ} (behind : 5 * n ≤ at) (h : v < n) (t : Shortened n u v d key w w′) (s : Best at mark n best w) where
-  mark-same : (x : ℕ) → getD w′ (at + x) 0 ≡ getD w (at + x) 0
-  mark-same x = t .high (at + x) (omega arith)
+module _ {n u v d key best : ℕ} {w w′ : List ℕ} (h : v < n) (t : Shortened n u v d key w w′) (s : BestAim n best w) where
+  guess-same : (x : ℕ) → guessAt n w′ x ≡ guessAt n w x
+  guess-same x = t .high (6 * n + x) (omega arith)
 
-  -- at most v's distance and at most what was the least is at most every marked node's distance
-  least-of : (k : ℕ) → k ≤ best → (getD w (at + v) 0 ≡ mark → k ≤ d) → (x : ℕ) → x < n → getD w′ (at + x) 0 ≡ mark → k ≤ distAt w′ x
+  -- at most v's distance and at most what was the least is at most every unjoined sink's distance
+  least-of : (k : ℕ) → k ≤ best → (guessAt n w v ≡ 0 → k ≤ d) → (x : ℕ) → x < n → guessAt n w′ x ≡ 0 → k ≤ distAt w′ x
   least-of k le here x hx g =
       ⊎-elim
       (λ (e : x ≡ v).
-      let low : k ≤ d = here (subst (λ (j : ℕ). getD w (at + j) 0 ≡ mark) e (sym (mark-same x) ∙ g)) in
+      let low : k ≤ d = here (subst (λ (j : ℕ). guessAt n w j ≡ 0) e (sym (guess-same x) ∙ g)) in
       subst (λ (j : ℕ). k ≤ distAt w′ j) (sym e) (omega (arith, t .dist-here)))
       (λ (ne : x ≡ v → ⊥).
-      let low = s .least x hx (sym (mark-same x) ∙ g) in
+      let low = s .least x hx (sym (guess-same x) ∙ g) in
       omega (arith, t .dist-other x hx ne))
       (same-or-not x v)
 
-  -- v is marked, and nearer than every marked node was
-  pub best-nearer : getD w (at + v) 0 ≡ mark → d < best → Best at mark n d w′
+  -- v is an unjoined sink, and nearer than every one was
+  pub best-nearer : guessAt n w v ≡ 0 → d < best → BestAim n d w′
   best-nearer g less =
       record {
         most = omega (arith, s .most);
         least = least-of d (omega arith) (λ _. omega arith);
-        some = inr (v, h, mark-same v ∙ g, t .dist-here);
+        some = inr (v, h, guess-same v ∙ g, t .dist-here);
       }
 
-  -- v is not marked, or some marked node was as near
-  pub best-as-near : d < distAt w v → (getD w (at + v) 0 ≡ mark → best ≤ d) → Best at mark n best w′
+  -- v is none, or one was as near
+  pub best-as-near : d < distAt w v → (guessAt n w v ≡ 0 → best ≤ d) → BestAim n best w′
   best-as-near less none =
       record {
         most = s .most;
@@ -70,13 +71,13 @@ module _ {at mark n u v d key best : ℕ} {w w′ : List ℕ} (behind : 5 * n �
         some =
             ⊎-elim
             (λ e. inl e)
-            (λ (x : (v : ℕ) × (v < n) × (getD w (at + v) 0 ≡ mark) × (distAt w v ≡ best)).
-            inr (x .0, x .1, mark-same (x .0) ∙ x .2, t .dist-other (x .0) (x .1) (other (x .0) (x .2) (x .3)) ∙ x .3))
+            (λ (x : (v : ℕ) × (v < n) × (guessAt n w v ≡ 0) × (distAt w v ≡ best)).
+            inr (x .0, x .1, guess-same (x .0) ∙ x .2, t .dist-other (x .0) (x .1) (other (x .0) (x .2) (x .3)) ∙ x .3))
             (s .some);
       }
     where
-      other : (x : ℕ) → getD w (at + x) 0 ≡ mark → distAt w x ≡ best → x ≡ v → ⊥
+      other : (x : ℕ) → guessAt n w x ≡ 0 → distAt w x ≡ best → x ≡ v → ⊥
       other x g is e =
-          let low = none (subst (λ (j : ℕ). getD w (at + j) 0 ≡ mark) e g) in
+          let low = none (subst (λ (j : ℕ). guessAt n w j ≡ 0) e g) in
           let there : distAt w v ≡ best = subst (λ (j : ℕ). distAt w j ≡ best) e is in
           omega arith

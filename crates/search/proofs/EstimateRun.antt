@@ -47,10 +47,10 @@ pub record Spent (n : ℕ) (w : List ℕ) (v : ℕ) : Type 0 where
   pub left : leafAt n w v ≡ far
 
 -- it has no estimate, waits at estimate and weight together, or has left the queue
-pub data Standing (n : ℕ) (weight : ℕ → ℕ) (w : List ℕ) (v : ℕ) : Type 0 where
-  blank : guessAt n w v ≡ far → leafAt n w v ≡ far → Standing n weight w v
-  waits : guessAt n w v < far → leafAt n w v ≡ guessAt n w v + weight v → Standing n weight w v
-  spent : Spent n w v → Standing n weight w v
+pub data NodeState (n : ℕ) (weight : ℕ → ℕ) (w : List ℕ) (v : ℕ) : Type 0 where
+  blank : guessAt n w v ≡ far → leafAt n w v ≡ far → NodeState n weight w v
+  waits : guessAt n w v < far → leafAt n w v ≡ guessAt n w v + weight v → NodeState n weight w v
+  spent : Spent n w v → NodeState n weight w v
 
 -- how many have not left yet falls
 abbrev pub unspent : ℕ → List ℕ → ℕ → Bool
@@ -90,7 +90,7 @@ pub record Estimating (b : Block) (price weight : ℕ → ℕ) (marks sinks w : 
   pub few : (v : ℕ) → v < nodes b → guessAt (nodes b) w v < far → guessAt (nodes b) w v ≤ keyMost
   -- nodes get their estimates in the order of these
   pub below : (v : ℕ) → v < nodes b → guessAt (nodes b) w v < far → guessAt (nodes b) w v ≤ entryAt (nodes b) w 1
-  pub stands : (v : ℕ) → v < nodes b → Standing (nodes b) weight w v
+  pub states : (v : ℕ) → v < nodes b → NodeState (nodes b) weight w v
   pub relaxed : (u v : ℕ) → Spent (nodes b) w v → hasEdge b u v ≡ true → guessAt (nodes b) w u ≤ guessAt (nodes b) w v + weight v
 
 -- the same with the bound, and what stood outside queue and estimates at the start
@@ -139,7 +139,7 @@ module _ {b : Block} {price weight : ℕ → ℕ} {marks sinks : List ℕ} (k : 
           walks = λ v h near. start-walk v h (start-sink v h near);
           few = λ v h near. omega (arith, start-sink v h near .guess-here);
           below = λ v h near. omega (arith, start-sink v h near .guess-here);
-          stands = λ v h.
+          states = λ v h.
               ⊎-elim
               (λ (q : (guessAt (nodes b) w v ≡ far) × (leafAt (nodes b) w v ≡ far)). blank (q .0) (q .1))
               (λ (q : SinkWaits (nodes b) weight marks sinks w v). waits (omega (arith, q .guess-here)) (omega (arith, q .guess-here, q .leaf-here)))
@@ -158,9 +158,9 @@ module _ {b : Block} {price weight : ℕ → ℕ} {marks sinks : List ℕ} (k : 
 
   module _ {w : List ℕ} (s : Estimating b price weight marks sinks w) where
     guess-top : (v : ℕ) → v < nodes b → guessAt (nodes b) w v ≤ far
-    guess-top v h = top-of (s .stands v h)
+    guess-top v h = top-of (s .states v h)
       where
-        top-of : Standing (nodes b) weight w v → guessAt (nodes b) w v ≤ far
+        top-of : NodeState (nodes b) weight w v → guessAt (nodes b) w v ≤ far
         top-of (blank e l) = le-of-eq e
         top-of (waits near l) = omega arith
         top-of (spent p) = omega (arith, p .near)
@@ -173,10 +173,10 @@ module _ {b : Block} {price weight : ℕ → ℕ} {marks sinks : List ℕ} (k : 
           goals = s .goals;
           walks = s .walks;
           relaxed = s .relaxed;
-          sides = λ v h. side v h (s .stands v h);
+          sides = λ v h. side v h (s .states v h);
         }
       where
-        side : (v : ℕ) → v < nodes b → Standing (nodes b) weight w v → Spent (nodes b) w v ⊎ (entryAt (nodes b) w 1 ≤ guessAt (nodes b) w v + weight v)
+        side : (v : ℕ) → v < nodes b → NodeState (nodes b) weight w v → Spent (nodes b) w v ⊎ (entryAt (nodes b) w 1 ≤ guessAt (nodes b) w v + weight v)
         side v h (blank e l) = inr (omega (arith, heap-least (nodes b) w (s .heap) v h))
         side v h (waits near l) = inr (omega (arith, heap-least (nodes b) w (s .heap) v h))
         side v h (spent p) = inl p
@@ -195,9 +195,9 @@ module _ {b : Block} {price weight : ℕ → ℕ} {marks sinks : List ℕ} (k : 
   module _ {w : List ℕ} (s : Estimating b price weight marks sinks w) {v : ℕ} (node : v < nodes b) (nearest : leafAt (nodes b) w v ≡ entryAt (nodes b) w 1) (some : entryAt (nodes b) w 1 < far) where
     -- it has an estimate, and the level is that with its weight
     at-level : (guessAt (nodes b) w v < far) × (guessAt (nodes b) w v + weight v ≡ entryAt (nodes b) w 1)
-    at-level = level-of (s .stands v node)
+    at-level = level-of (s .states v node)
       where
-        level-of : Standing (nodes b) weight w v → (guessAt (nodes b) w v < far) × (guessAt (nodes b) w v + weight v ≡ entryAt (nodes b) w 1)
+        level-of : NodeState (nodes b) weight w v → (guessAt (nodes b) w v < far) × (guessAt (nodes b) w v + weight v ≡ entryAt (nodes b) w 1)
         level-of (blank e l) = absurd (omega arith)
         level-of (waits near l) = (near, sym l ∙ nearest)
         level-of (spent p) = absurd (let l = p .left in omega arith)
@@ -313,18 +313,18 @@ module _ {b : Block} {price weight : ℕ → ℕ} {marks sinks : List ℕ} (k : 
       few-more : (x : ℕ) → x < nodes b → guessAt (nodes b) w₂ x < far → guessAt (nodes b) w₂ x ≤ keyMost
       few-more x h near = le-trans (guess-known x h near) level-few
 
-      stands-more : (x : ℕ) → x < nodes b → Standing (nodes b) weight w₂ x
-      stands-more x h = stand (moved x h)
+      states-more : (x : ℕ) → x < nodes b → NodeState (nodes b) weight w₂ x
+      states-more x h = state (moved x h)
         where
-          same-stand : guessAt (nodes b) w₂ x ≡ guessAt (nodes b) w x → leafAt (nodes b) w₂ x ≡ leafAt (nodes b) w x → Standing (nodes b) weight w x → Standing (nodes b) weight w₂ x
-          same-stand p r (blank a c) = blank (p ∙ a) (r ∙ c)
-          same-stand p r (waits a c) = waits (omega arith) (omega arith)
-          same-stand p r (spent a) = spent (record { node = h; near = omega (arith, a .near); left = r ∙ a .left })
+          same-state : guessAt (nodes b) w₂ x ≡ guessAt (nodes b) w x → leafAt (nodes b) w₂ x ≡ leafAt (nodes b) w x → NodeState (nodes b) weight w x → NodeState (nodes b) weight w₂ x
+          same-state p r (blank a c) = blank (p ∙ a) (r ∙ c)
+          same-state p r (waits a c) = waits (omega arith) (omega arith)
+          same-state p r (spent a) = spent (record { node = h; near = omega (arith, a .near); left = r ∙ a .left })
 
-          stand : Moved b weight v level cost w w₂ x → Standing (nodes b) weight w₂ x
-          stand (still d p q r) = same-stand p r (s .stands x h)
-          stand (left e p q r) = spent (record { node = h; near = rw (p, e) (at-level .0); left = r })
-          stand (new p e q r t) = waits (omega (arith, level-few)) (omega arith)
+          state : Moved b weight v level cost w w₂ x → NodeState (nodes b) weight w₂ x
+          state (still d p q r) = same-state p r (s .states x h)
+          state (left e p q r) = spent (record { node = h; near = rw (p, e) (at-level .0); left = r })
+          state (new p e q r t) = waits (omega (arith, level-few)) (omega arith)
 
       -- a node that has left now had left, or is v
       spent-was : (x : ℕ) → Spent (nodes b) w₂ x → Spent (nodes b) w x ⊎ (x ≡ v)
@@ -361,7 +361,7 @@ module _ {b : Block} {price weight : ℕ → ℕ} {marks sinks : List ℕ} (k : 
             walks = walks-more;
             few = few-more;
             below = λ x h near. le-trans (guess-known x h near) (least-entry (nodes b) w₂ (row .some .heap) level leaf-most (omega arith));
-            stands = stands-more;
+            states = states-more;
             relaxed = relaxed-more;
           }
 

@@ -1,19 +1,18 @@
 -- What the loops that clear a part of the work slice, or fill one, keep from turn to turn.
---     clear-none, clear-more                    a part that is being cleared
---     cleared-length, -low, -zero, -high        a part that has been cleared, place by place
---     answered-price, answered-refused                  what the price's answer says
---     first-tree, first-other                   the first distance of a node
---     Pricing, Starting                         the loops that fill a part, a node a turn
+--     clear-none, clear-more            a part that is being cleared
+--     answered-price, answered-refused  what the price's answer says
+--     first-tree, first-other           the first distance of a node
+--     Pricing, Starting                 the loops that fill a part, a node a turn
 -- Assumes nothing.
 use mathlib.Core.Bool.{true}
 use mathlib.Core.List.{List, [], _∷_, _++_, append-assoc}
-use mathlib.Core.Path.{_≡_, refl, sym, _∙_, ap, subst}
+use mathlib.Core.Path.{_≡_, refl, sym, _∙_}
 use Prim.Native.Nat.{ℕ, suc, _+_, _-_, _*_, _≤_, _<_}
 use native.Mathlib.Nat.{not-suc-le-zero}
 use native.Mathlib.Numerals.{add-one}
 use native.Mathlib.Omega.{arith}
-use lib.ListN.{length, getD, set, take, drop, replicate, length-append, length-take, length-drop, length-set, length-replicate, getD-replicate, replicate-append-replicate, take-append-drop, List·getD-append}
-use lib.Seq.{length-take-le, drop-cons, getD-append-add, getD-set-same, getD-set-other, getD-take, getD-drop, set-at}
+use lib.ListN.{length, getD, set, take, drop, replicate, length-append, length-take, length-set, length-replicate, replicate-append-replicate, take-append-drop}
+use lib.Seq.{drop-cons, getD-set-same, getD-set-other, set-at}
 use borrow.Author.Count.{below-more}
 use Rattle.price.specs.Test.{choose}
 use Rattle.price.specs.Replies.{priced, priceReplyOf}
@@ -51,40 +50,6 @@ clear-more w from k l h =
     let long : length (take from w ++ replicate (k - from) 0) ≡ k = simp (length-append, length-take, length-replicate) (omega arith) in
     rw (drop-cons w k 0 h, ← append-assoc (take from w) (replicate (k - from) 0) (getD w k 0 ∷ drop (suc k) w))
     (set-at (take from w ++ replicate (k - from) 0) (getD w k 0) (drop (suc k) w) 0 k long ∙ zeros-more w from k l)
-
--- ---- a part that has been cleared, place by place
-
-getD-past : (xs ys : List ℕ) (n j : ℕ) → length xs ≡ n → n ≤ j → getD (xs ++ ys) j 0 ≡ getD ys (j - n) 0
-getD-past xs ys n j e l =
-    let at : length xs + (j - n) ≡ j = omega arith in
-    subst (λ (m : ℕ). getD (xs ++ ys) m 0 ≡ getD ys (j - n) 0) at (getD-append-add xs ys (j - n) 0)
-
-module _ {w′ : List ℕ} (w : List ℕ) (from to : ℕ) (e : w′ ≡ cleared w from to) (l : from ≤ to) (h : to ≤ length w) where
-  pub cleared-length : length w′ ≡ length w
-  cleared-length = rw e (simp (length-append, length-take, length-replicate, length-drop) (omega arith))
-
-  pub cleared-low : (j : ℕ) → j < from → getD w′ j 0 ≡ getD w j 0
-  cleared-low j b =
-      let long : length (take from w) ≡ from = length-take-le from w (omega arith) in
-      rw e (List·getD-append (take from w) _ 0 j (omega arith) ∙ getD-take from w j 0 b)
-
-  -- a place past the first part
-  cleared-past : (j : ℕ) → from ≤ j → getD w′ j 0 ≡ getD (replicate (to - from) 0 ++ drop to w) (j - from) 0
-  cleared-past j a = rw e (getD-past (take from w) _ from j (length-take-le from w (omega arith)) a)
-
-  pub cleared-zero : (j : ℕ) → from ≤ j → j < to → getD w′ j 0 ≡ 0
-  cleared-zero j a b =
-      let inside : j - from < to - from = omega arith in
-      cleared-past j a ∙ List·getD-append (replicate (to - from) 0) (drop to w) 0 (j - from) (rw length-replicate inside)
-      ∙ getD-replicate (to - from) (j - from) 0 0 inside
-
-  pub cleared-high : (j : ℕ) → to ≤ j → getD w′ j 0 ≡ getD w j 0
-  cleared-high j a =
-      let at : to + (j - from - (to - from)) ≡ j = omega arith in
-      cleared-past j (omega arith)
-      ∙ getD-past (replicate (to - from) 0) (drop to w) (to - from) (j - from) (length-replicate (to - from) 0) (omega arith)
-      ∙ getD-drop to w (j - from - (to - from)) 0
-      ∙ ap (λ (m : ℕ). getD w m 0) at
 
 -- ---- what the price's answer says of a node that is ready to be priced
 

@@ -43,26 +43,26 @@ module _ (t : ℕ → Bool) (n : ℕ) where
       let e : failsAt t n ≡ n = firstBelow-all (λ v. not (t v)) n (λ v h. rw (all v h)) in
       omega arith
 
--- a flag that stands tells P, and one that fell tells Q
+-- a flag that is set tells P, and one that is cleared tells Q
 pub record Tells (P Q : Type 0) (fine : Bool) : Type 0 where
-  pub stands : fine ≡ true → P
-  pub fell : fine ≡ false → Q
+  pub when-set : fine ≡ true → P
+  pub when-cleared : fine ≡ false → Q
 
--- a test that fells the flag, or leaves it and tells more
+-- a test that clears the flag, or leaves it and tells more
 tells-more : {P Q R T F : Type 0} {fine next : Bool} → (T × (next ≡ false)) ⊎ (F × (next ≡ fine)) → (T → Q) → (F → P → R) → Tells P Q fine → Tells R Q next
 tells-more came bad good k =
     ⊎-elim
-    (λ w. record { stands = λ e. absurd (true≢false (sym e ∙ w .1)); fell = λ e. bad (w .0) })
-    (λ w. record { stands = λ e. good (w .0) (k .stands (sym (w .1) ∙ e)); fell = λ e. k .fell (sym (w .1) ∙ e) })
+    (λ w. record { when-set = λ e. absurd (true≢false (sym e ∙ w .1)); when-cleared = λ e. bad (w .0) })
+    (λ w. record { when-set = λ e. good (w .0) (k .when-set (sym (w .1) ∙ e)); when-cleared = λ e. k .when-cleared (sym (w .1) ∙ e) })
     came
 
 tells-leb : (m n : ℕ) (fine : Bool) → Tells (m ≤ n) (n < m) fine → fine ≡ leb m n
-tells-leb m n true k = sym (le-leb m n (k .stands refl))
-tells-leb m n false k = sym (lt-leb m n (k .fell refl))
+tells-leb m n true k = sym (le-leb m n (k .when-set refl))
+tells-leb m n false k = sym (lt-leb m n (k .when-cleared refl))
 
--- what a caller reads off the flag at the end: where it fell, a number found to be n is below m
-pub leb-fell : {m n found : ℕ} {fine : Bool} → fine ≡ leb m n → not fine ≡ true → found ≡ n → found < m
-leb-fell {m} {n} {found} {fine} e f s =
+-- what a caller reads off the flag at the end: where it is cleared, a number found to be n is below m
+pub leb-cleared : {m n found : ℕ} {fine : Bool} → fine ≡ leb m n → not fine ≡ true → found ≡ n → found < m
+leb-cleared {m} {n} {found} {fine} e f s =
     let h : n < m = leb-false m n (sym e ∙ not-true fine f) in
     omega arith
 
@@ -71,13 +71,13 @@ all-both : (s t : ℕ → Bool) (n : ℕ) → both (allBelow n s) (allBelow n t)
 all-both s t n =
     tells-leb n (failsAt (λ v. both (s v) (t v)) n) (both (allBelow n s) (allBelow n t))
     (record {
-      stands = λ e.
+      when-set = λ e.
           all-pass (λ v. both (s v) (t v)) n
           (λ v h.
           both-true
           (none-fails s n (leb-true _ _ (both-left (allBelow n s) (allBelow n t) e)) v h)
           (none-fails t n (leb-true _ _ (both-right (allBelow n s) (allBelow n t) e)) v h));
-      fell = λ e.
+      when-cleared = λ e.
           ⊎-elim
           (λ (l : n ≤ failsAt (λ v. both (s v) (t v)) n).
           let all = none-fails (λ v. both (s v) (t v)) n l in
@@ -102,12 +102,12 @@ pub record Passing (t : ℕ → Bool) (n v : ℕ) (fine : Bool) : Type 0 where
 module _ (t : ℕ → Bool) (n : ℕ) where
   pub passing-none : Passing t n 0 true
   passing-none =
-      record { within = omega arith; tells = record { stands = λ e. below-none _; fell = λ e. absurd (true≢false e) } }
+      record { within = omega arith; tells = record { when-set = λ e. below-none _; when-cleared = λ e. absurd (true≢false e) } }
 
   pub passing-all : {v : ℕ} {fine : Bool} → n ≤ v → Passing t n v fine → fine ≡ allBelow n t
   passing-all {v} {fine} end p =
       tells-leb n (failsAt t n) fine
-      (record { stands = λ e. all-pass t n (λ k h. p .tells .stands e k (omega arith)); fell = p .tells .fell })
+      (record { when-set = λ e. all-pass t n (λ k h. p .tells .when-set e k (omega arith)); when-cleared = p .tells .when-cleared })
 
 -- a list that is too short
 pub short-fails : (n : ℕ) (xs : List ℕ) (s : ℕ → Bool) → length xs < n → false ≡ allBelow n (λ v. both (ltb v (length xs)) (s v))

@@ -8,7 +8,7 @@ use native.Mathlib.Omega.{arith}
 use lib.ListN.{length, getD}
 use Rattle.search.specs.Block.{Block, nodes, rowStart}
 use Rattle.search.specs.Layout.{distAt, priceIn, Heap, Relaxed, shorter, lower, kept}
-use Rattle.search.specs.Frontier.{BestGoal, RowReady, RowDone}
+use Rattle.search.specs.Frontier.{RowReady, RowDone}
 use Rattle.search.proofs.BlockLaws.{target-node, target-other, edge-at}
 use Rattle.search.proofs.WayLaws.{NewWay, shorter-way, lower-way}
 use Rattle.search.proofs.RelaxSteps.{relax-frontier}
@@ -90,13 +90,12 @@ module _ (b : Block) (w₀ w : List ℕ) (u e : ℕ) (ready : RowReady b w₀ u)
       let n = ready .near in
       omega arith
 
--- the row's places passed so far; a goal's least distance was `least` and is `best`
-pub record RowSoFar (b : Block) (u e least best : ℕ) (w₀ w : List ℕ) : Type 0 where
+-- the row's places passed so far
+pub record RowSoFar (b : Block) (u e : ℕ) (w₀ w : List ℕ) : Type 0 where
   pub done : RowDone b u e w₀ w
   pub from : rowStart b u ≤ e
   pub to : e ≤ rowStart b (u + 1)
-  pub goals : BestGoal (nodes b) least w₀ → BestGoal (nodes b) best w
 
 -- past its last place the whole row has been looked at
-pub row-whole : (b : Block) (u e least best : ℕ) (w₀ w : List ℕ) → RowSoFar b u e least best w₀ w → rowStart b (u + 1) ≤ e → RowDone b u (rowStart b (u + 1)) w₀ w
-row-whole b u e least best w₀ w r l = subst (λ (k : ℕ). RowDone b u k w₀ w) (le-antisymm (r .to) l) (r .done)
+pub row-whole : (b : Block) (u e : ℕ) (w₀ w : List ℕ) → RowSoFar b u e w₀ w → rowStart b (u + 1) ≤ e → RowDone b u (rowStart b (u + 1)) w₀ w
+row-whole b u e w₀ w r l = subst (λ (k : ℕ). RowDone b u k w₀ w) (le-antisymm (r .to) l) (r .done)

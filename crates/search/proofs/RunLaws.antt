@@ -2,7 +2,7 @@
 -- Assumes nothing.
 use mathlib.Core.Bool.{true, false}
 use mathlib.Core.List.{List}
-use mathlib.Core.Logic.{⊎-elim, inr}
+use mathlib.Core.Logic.{⊎-elim}
 use mathlib.Core.Path.{_≡_, refl, sym, _∙_}
 use Prim.Native.Nat.{ℕ, _+_, _*_, _≤_, _<_}
 use native.Mathlib.Omega.{arith}
@@ -18,39 +18,33 @@ use Rattle.search.specs.Block.{Block, nodes, rowStart}
 use Rattle.search.specs.Paths.{Fair}
 use Rattle.search.specs.Distance.{far, distance}
 use Rattle.search.specs.Layout.{distAt, entryAt, leafAt, Queued}
-use Rattle.search.specs.Frontier.{Open, Settled, Waiting, BestGoal, LastStep, Stopped, InProgress, Ran, RowReady, Looked, RowDone, unsettled}
+use Rattle.search.specs.Frontier.{Open, Settled, Waiting, InProgress, Ran, RowReady, Looked, RowDone, unsettled}
 use Rattle.search.proofs.EdgeLaws.{shape-of}
 use Rattle.search.proofs.DistanceLaws.{distance-most}
 use Rattle.search.proofs.Exactness.{exact-near}
-use Rattle.search.proofs.BestLaws.{best-kept}
 use Rattle.search.proofs.FrontierSteps.{now-settled, still-settled, settle-frontier, row-waiting}
 
 -- what holds between two settlings, of the work slice at the start and now
-pub record Running (b : Block) (step best : ℕ) (w₀ w : List ℕ) : Type 0 where
-  pub stands : InProgress b w
-  pub best-goal : BestGoal (nodes b) best w
-  pub last-step : LastStep (nodes b) step w
+pub record Running (b : Block) (w₀ w : List ℕ) : Type 0 where
+  pub progress : InProgress b w
   pub waiting : (price : ℕ → ℕ) (marks : List ℕ) → Fair b price → Waiting b price marks w₀ → Waiting b price marks w
   pub long : length w ≡ length w₀
   pub high : (j : ℕ) → 5 * nodes b ≤ j → getD w j 0 ≡ getD w₀ j 0
 
-pub run-start : (b : Block) (step : ℕ) (w : List ℕ) → InProgress b w → BestGoal (nodes b) far w → LastStep (nodes b) step w → Running b step far w w
-run-start b step w s g l =
+pub run-start : (b : Block) (w : List ℕ) → InProgress b w → Running b w w
+run-start b w s =
     record {
-      stands = s;
-      best-goal = g;
-      last-step = l;
+      progress = s;
       waiting = λ price marks fair f. f;
       long = refl;
       high = λ j h. refl;
     }
 
-pub run-stops : (b : Block) (step best : ℕ) (w₀ w : List ℕ) → Running b step best w₀ w → Stopped (nodes b) w best → Ran b w₀ w best
-run-stops b step best w₀ w r s =
+pub run-stops : (b : Block) (w₀ w : List ℕ) → Running b w₀ w → entryAt (nodes b) w 1 ≡ far → Ran b w₀ w
+run-stops b w₀ w r none =
     record {
       waiting = r .waiting;
-      best-goal = r .best-goal;
-      stopped = s;
+      none-waits = none;
       long = r .long;
       high = r .high;
     }
@@ -68,37 +62,30 @@ settled-of n w v h e =
       near = ltb-true (distAt w v) far (both-right (eqb (leafAt n w v) far) (ltb (distAt w v) far) t);
     }
 
-module _ (b : Block) (step best : ℕ) (w₀ w : List ℕ) (u : ℕ) (run : Running b step best w₀ w)
+module _ (b : Block) (w₀ w : List ℕ) (u : ℕ) (run : Running b w₀ w)
     (node : u < nodes b) (nearest : leafAt (nodes b) w u ≡ entryAt (nodes b) w 1) (near : entryAt (nodes b) w 1 < far) where
   -- the nearest open node has its distance at the level, and that is final
   at-level : distAt w u ≡ entryAt (nodes b) w 1
   at-level =
-      ⊎-elim (λ (o : Open (nodes b) w u). sym o ∙ nearest) (λ (t : Settled (nodes b) w u). absurd (let l = t .left in omega arith)) (run .stands .waiting .sides u node)
+      ⊎-elim (λ (o : Open (nodes b) w u). sym o ∙ nearest) (λ (t : Settled (nodes b) w u). absurd (let l = t .left in omega arith)) (run .progress .waiting .sides u node)
 
   -- so the level is no more than a path can cost
   level-most : entryAt (nodes b) w 1 < pathMost
   level-most =
-      let s = run .stands in
+      let s = run .progress in
       let pos = s .fair .pos u node in
       let d : distAt w u ≡ distance b (s .price) (s .marks) u =
       exact-near b (s .price) (s .marks) w (s .sound) (s .fair) (s .waiting) u node (omega (arith, at-level)) in
       let m = distance-most b (s .price) (s .marks) (shape-of b (s .sound)) (s .fair) u node (omega (arith, at-level)) in
       omega (arith, at-level)
 
-  -- and a last step more does not wrap
-  pub level-fits : entryAt (nodes b) w 1 + step < far
-  level-fits = omega (arith, level-most, run .last-step .most)
-
-  pub stops-early : best < entryAt (nodes b) w 1 + step → Stopped (nodes b) w best
-  stops-early l = inr (omega (arith, level-fits), λ v h g. omega (arith, run .last-step .goals v h g))
-
-module _ (b : Block) (step best : ℕ) (w₀ w w₁ : List ℕ) (u : ℕ) (run : Running b step best w₀ w)
+module _ (b : Block) (w₀ w w₁ : List ℕ) (u : ℕ) (run : Running b w₀ w)
     (node : u < nodes b) (nearest : leafAt (nodes b) w u ≡ entryAt (nodes b) w 1) (near : entryAt (nodes b) w 1 < far)
     (taken : Queued (nodes b) u far w w₁) where
   -- the settled node is near enough that no sum over its row wraps
   pub settle-ready : RowReady b w₁ u
   settle-ready =
-      let s = run .stands in
+      let s = run .progress in
       let f = s .waiting in
       record {
         sound = s .sound;
@@ -107,8 +94,8 @@ module _ (b : Block) (step best : ℕ) (w₀ w w₁ : List ℕ) (u : ℕ) (run :
         heap = taken .heap;
         near =
             let e = taken .low u node in
-            let a = at-level b step best w₀ w u run node nearest near in
-            let m = level-most b step best w₀ w u run node nearest near in
+            let a = at-level b w₀ w u run node nearest near in
+            let m = level-most b w₀ w u run node nearest near in
             omega arith;
         prices = λ v h.
             let a = taken .high (3 * nodes b + v) (omega arith) in
@@ -122,52 +109,42 @@ module _ (b : Block) (step best : ℕ) (w₀ w w₁ : List ℕ) (u : ℕ) (run :
     -- one price and tree: the frontier goes on
     next : (price : ℕ → ℕ) (marks : List ℕ) → Fair b price → Waiting b price marks w → Looked b price marks u (rowStart b (u + 1)) w₁ w₂
     next price marks fair f =
-        let g = run .stands .sound in
+        let g = run .progress .sound in
         row .looked price marks fair (now-settled b g price marks w w₁ u node f nearest near taken)
         (settle-frontier b g price marks w w₁ u node f nearest near taken)
 
     next-waiting : (price : ℕ → ℕ) (marks : List ℕ) → Fair b price → Waiting b price marks w → Waiting b price marks w₂
     next-waiting price marks fair f =
-        let g = run .stands .sound in
+        let g = run .progress .sound in
         let n = now-settled b g price marks w w₁ u node f nearest near taken .near in
         row-waiting b price marks w₂ (distAt w₁ u) u (g .some) (omega arith) (next price marks fair f .frontier)
 
     settled-still : (v : ℕ) → Settled (nodes b) w v → Settled (nodes b) w₂ v
     settled-still v s =
-        let st = run .stands in
+        let st = run .progress in
         next (st .price) (st .marks) (st .fair) (st .waiting) .settled-kept v
         (still-settled b (st .sound) (st .price) (st .marks) w w₁ u node (st .waiting) nearest near taken v s)
 
     settled-here : Settled (nodes b) w₂ u
     settled-here =
-        let st = run .stands in
+        let st = run .progress in
         next (st .price) (st .marks) (st .fair) (st .waiting) .settled-kept u
         (now-settled b (st .sound) (st .price) (st .marks) w w₁ u node (st .waiting) nearest near taken)
 
     high-same : (j : ℕ) → 5 * nodes b ≤ j → getD w₂ j 0 ≡ getD w j 0
     high-same j h = row .high j h ∙ taken .high j (omega arith)
 
-    pub run-more : (best′ : ℕ) → (BestGoal (nodes b) best w₁ → BestGoal (nodes b) best′ w₂) → Running b step best′ w₀ w₂
-    run-more best′ goals =
-        let st = run .stands in
+    pub run-more : Running b w₀ w₂
+    run-more =
+        let st = run .progress in
         record {
-          stands =
+          progress =
               record {
                 sound = st .sound;
                 price = st .price;
                 marks = st .marks;
                 fair = st .fair;
                 waiting = next-waiting (st .price) (st .marks) (st .fair) (st .waiting);
-              };
-          best-goal = goals (best-kept (taken .low) (λ x h. taken .high (5 * nodes b + x) (omega arith)) (run .best-goal));
-          last-step =
-              record {
-                most = run .last-step .most;
-                goals = λ v h m.
-                    let a = row .prices-same v h in
-                    let c = taken .high (3 * nodes b + v) (omega arith) in
-                    let l = run .last-step .goals v h (sym (high-same (5 * nodes b + v) (omega arith)) ∙ m) in
-                    omega arith;
               };
           waiting = λ price marks fair f. next-waiting price marks fair (run .waiting price marks fair f);
           long = row .long ∙ taken .long ∙ run .long;

@@ -4,6 +4,7 @@
 -- Assumes nothing.
 use mathlib.Core.Bool.{Bool, true, false}
 use mathlib.Core.List.{List}
+use mathlib.Core.Logic.{_⊎_}
 use mathlib.Core.Path.{_≡_}
 use Prim.Native.Nat.{ℕ, _+_, _*_, _≤_, _<_}
 use lib.Dec.{eqb, ltb}
@@ -16,7 +17,7 @@ use Rattle.search.specs.Tables.{Graph}
 use Rattle.search.specs.Paths.{anyPriceMost, Fair}
 use Rattle.search.specs.Distance.{far, inTree, distances, distance}
 use Rattle.search.specs.Turn.{before, nearestDistance}
-use Rattle.search.specs.Layout.{distAt, leafAt, priceIn, predAt, Heap, Shortened, Best}
+use Rattle.search.specs.Layout.{distAt, leafAt, priceIn, predAt, Heap, Shortened}
 use Rattle.search.specs.Aimed.{expands}
 use Rattle.search.specs.Estimates.{guessAt, keyMost, Estimated}
 
@@ -86,8 +87,10 @@ pub record AimRowReady (b : Block) (w : List ℕ) (u : ℕ) : Type 0 where
   pub guesses : (v : ℕ) → v < nodes b → (guessAt (nodes b) w v ≡ far → ⊥) → guessAt (nodes b) w v ≤ keyMost
 
 -- `best` is the least distance that an unjoined sink has so far, `far` where none has one: an unjoined sink has estimate 0
-abbrev pub BestAim : (n best : ℕ) (w : List ℕ) → Type 0
-BestAim n best w = Best (6 * n) 0 n best w
+pub record BestAim (n best : ℕ) (w : List ℕ) : Type 0 where
+  pub most : best ≤ far
+  pub least : (v : ℕ) → v < n → guessAt n w v ≡ 0 → best ≤ distAt w v
+  pub some : (best ≡ far) ⊎ ((v : ℕ) × (v < n) × (guessAt n w v ≡ 0) × (distAt w v ≡ best))
 
 -- ---- a whole pass
 
@@ -151,7 +154,7 @@ pub record AimLaunched (b : Block) (w : List ℕ) : Type 0 where
   pub sound : Graph b
   pub marks : List ℕ
   pub task : AimTask b marks
-  pub stands : Aiming b marks task w far 0
+  pub aiming : Aiming b marks task w far 0
 
 -- a turn is ready to aim: with some task this is its work slice
 pub record AimReady (b : Block) (marks w : List ℕ) : Type 0 where

@@ -16,7 +16,7 @@ use Rattle.search.specs.Tables.{Graph}
 use Rattle.search.specs.Paths.{anyPriceMost, Fair}
 use Rattle.search.specs.Distance.{far, inTree}
 use Rattle.search.specs.Turn.{Congestion}
-use Rattle.search.specs.Layout.{distAt, entryAt, leafAt, priceIn, predAt, goalAt, Heap, Best}
+use Rattle.search.specs.Layout.{distAt, entryAt, leafAt, priceIn, predAt, Heap}
 
 -- an open node waits in the queue at its distance so far, `far` where it has none
 abbrev pub Open : ℕ → List ℕ → ℕ → Type 0
@@ -64,19 +64,6 @@ pub record Frontier (b : Block) (price : ℕ → ℕ) (marks w : List ℕ) (leve
 abbrev pub Waiting : (b : Block) (price : ℕ → ℕ) (marks w : List ℕ) → Type 0
 Waiting b price marks w = Frontier b price marks w (entryAt (nodes b) w 1) (nodes b) 0
 
--- `best` is the least distance that a goal has so far, `far` where none has one
-abbrev pub BestGoal : (n best : ℕ) (w : List ℕ) → Type 0
-BestGoal n best w = Best (5 * n) 1 n best w
-
--- the last step to a goal costs at least `step`
-pub record LastStep (n step : ℕ) (w : List ℕ) : Type 0 where
-  pub most : step ≤ anyPriceMost
-  pub goals : (v : ℕ) → v < n → goalAt n w v ≡ 1 → step ≤ priceIn n w v
-
--- where the search stops: nothing waits any more, or a goal is so near that none is reached as cheaply over a node that waits
-abbrev pub Stopped : ℕ → List ℕ → ℕ → Type 0
-Stopped n w best = (entryAt n w 1 ≡ far) ⊎ ((best < far) × ((v : ℕ) → v < n → goalAt n w v ≡ 1 → best < entryAt n w 1 + priceIn n w v))
-
 -- the numbers that price node v are there and keep the bounds of row 13; its delay only where it is weighed
 pub record PriceReady (kinds capacities : List ℕ) (c : Congestion) (v : ℕ) : Type 0 where
   pub has-kind : v < length kinds
@@ -96,11 +83,10 @@ pub record InProgress (b : Block) (w : List ℕ) : Type 0 where
   pub fair : Fair b price
   pub waiting : Waiting b price marks w
 
--- what a whole run of settlings does
-pub record Ran (b : Block) (w w′ : List ℕ) (best : ℕ) : Type 0 where
+-- what a whole run of settlings does: nothing waits any more
+pub record Ran (b : Block) (w w′ : List ℕ) : Type 0 where
   pub waiting : (price : ℕ → ℕ) (marks : List ℕ) → Fair b price → Waiting b price marks w → Waiting b price marks w′
-  pub best-goal : BestGoal (nodes b) best w′
-  pub stopped : Stopped (nodes b) w′ best
+  pub none-waits : entryAt (nodes b) w′ 1 ≡ far
   pub long : length w′ ≡ length w
   pub high : (j : ℕ) → 5 * nodes b ≤ j → getD w′ j 0 ≡ getD w j 0
 

@@ -1,9 +1,8 @@
 -- How a running search keeps its work slice. Only the contracts of private functions cite this file: no caller has to believe it.
--- Of n nodes: distances from 0, the queue's entries from n, prices from 3 n, predecessors from 4 n, goal marks from 5 n.
+-- Of n nodes: distances from 0, the queue's entries from n, prices from 3 n, predecessors from 4 n.
 -- The queue is a tournament tree: entry i is the least of entries 2 i and 2 i + 1, and node v's leaf is entry n + v.
 -- Assumes nothing.
 use mathlib.Core.List.{List}
-use mathlib.Core.Logic.{_⊎_}
 use mathlib.Core.Path.{_≡_}
 use Prim.Native.Nat.{ℕ, _+_, _*_, _≤_, _<_, min}
 use lib.ListN.{length, getD, set}
@@ -24,9 +23,6 @@ priceIn n w v = getD w (3 * n + v) 0
 
 abbrev pub predAt : ℕ → List ℕ → ℕ → ℕ
 predAt n w v = getD w (4 * n + v) 0
-
-abbrev pub goalAt : ℕ → List ℕ → ℕ → ℕ
-goalAt n w v = getD w (5 * n + v) 0
 
 -- entry i is the least of its two children
 abbrev pub HeapAt : ℕ → List ℕ → ℕ → Type 0
@@ -83,12 +79,6 @@ pub record Started (n : ℕ) (marks w w′ : List ℕ) : Type 0 where
   pub dist : (v : ℕ) → v < n → distAt w′ v ≡ choose (inTree marks v) 0 far
   pub leaf : (v : ℕ) → v < n → leafAt n w′ v ≡ choose (inTree marks v) 0 far
   pub high : (j : ℕ) → 3 * n ≤ j → getD w′ j 0 ≡ getD w j 0
-
--- `best` is the least distance that a node with this mark has so far, `far` where none has one; node v's mark stands at `at` + v
-pub record Best (at mark n best : ℕ) (w : List ℕ) : Type 0 where
-  pub most : best ≤ far
-  pub least : (v : ℕ) → v < n → getD w (at + v) 0 ≡ mark → best ≤ distAt w v
-  pub some : (best ≡ far) ⊎ ((v : ℕ) × (v < n) × (getD w (at + v) 0 ≡ mark) × (distAt w v ≡ best))
 
 -- every node's price stands in its place
 pub record Priced (n : ℕ) (price : ℕ → ℕ) (w w′ : List ℕ) : Type 0 where

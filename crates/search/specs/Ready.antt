@@ -14,7 +14,7 @@ use Rattle.search.specs.Distance.{far, inTree}
 use Rattle.search.specs.Tables.{kindsSound, capacitiesSound, delaysSound}
 use Rattle.search.specs.Turn.{Congestion}
 use Rattle.search.specs.Replies.{nodeSound}
-use Rattle.search.specs.Layout.{distAt, leafAt, priceIn, goalAt}
+use Rattle.search.specs.Layout.{distAt, leafAt, priceIn}
 
 -- every number below n passes the test: the lowest that fails is not below n
 abbrev pub allBelow : ℕ → (ℕ → Bool) → Bool
@@ -34,11 +34,10 @@ pub record Ready (kinds capacities : List ℕ) (c : Congestion) (marks : List �
   pub factor-most : c .factor ≤ factorMost
   pub weighable : c .weighting .timed ≡ true → Weighable (length kinds) c
 
--- prices and first distances stand in their places, and no node is a goal
+-- prices and first distances stand in their places
 pub record Prepared (n : ℕ) (price : ℕ → ℕ) (marks w w′ : List ℕ) : Type 0 where
   pub long : length w′ ≡ length w
   pub prices : (v : ℕ) → v < n → priceIn n w′ v ≡ price v
   pub dist : (v : ℕ) → v < n → distAt w′ v ≡ choose (inTree marks v) 0 far
   pub leaf : (v : ℕ) → v < n → leafAt n w′ v ≡ choose (inTree marks v) 0 far
-  pub no-goals : (v : ℕ) → v < n → goalAt n w′ v ≡ 0
-  pub high : (j : ℕ) → 6 * n ≤ j → getD w′ j 0 ≡ getD w j 0
+  pub high : (j : ℕ) → 4 * n ≤ j → getD w′ j 0 ≡ getD w j 0

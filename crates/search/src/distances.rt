@@ -4,10 +4,9 @@ ghost use mathlib.Core.Path.{_≡_};
 ghost use Prim.Native.Nat.{ℕ, _+_, _-_, _*_, _^_, _≤_, _<_};
 ghost use lib.ListN.{length, take, drop, replicate};
 ghost use Rattle.search.specs.Block.{blockOf, graphOf, rowStart};
-ghost use Rattle.search.specs.Distance.{far};
 ghost use Rattle.search.specs.Turn.{weighedCongestion, priceAt};
 ghost use Rattle.search.specs.Layout.{distAt, priceIn, Heap, Shortened, Relaxed, Started, Priced};
-ghost use Rattle.search.specs.Frontier.{PriceReady, RowReady, RowDone, BestGoal, LastStep, InProgress, Ran};
+ghost use Rattle.search.specs.Frontier.{PriceReady, RowReady, RowDone, InProgress, Ran};
 use crate::queue;
 use crate::weighing;
 use price::PriceAnswer;
@@ -111,24 +110,16 @@ pub fn shorten(work: &mut [u64], n: usize, u: usize, v: usize, d: u64, key: u64)
     queue::wait(work, n, v, key);
 }
 
-// Looks at the edge from u to v. Answers the least distance of a goal so far; it was `best` before.
-fn relax(work: &mut [u64], n: usize, u: usize, v: usize, best: u64) -> u64
+// Looks at the edge from u to v.
+fn relax(work: &mut [u64], n: usize, u: usize, v: usize)
     requires { ⌜ (u < n) × (v < n) × (8 * n ≤ length (now work)) × Heap n (now work) ⌝ }
     requires { ⌜ distAt (now work) u + priceIn n (now work) v < 2 ^ 64 ⌝ }
-    ensures { λ r. do
-      let before = now (work .entry)
-      let after = now (work .exit)
-      ⌜ Relaxed n u v before after × (BestGoal n best before → BestGoal n r after) ⌝ }
+    ensures { λ _. ⌜ Relaxed n u v (now (work .entry)) (now (work .exit)) ⌝ }
 {
     let d = work[u] + work[3 * n + v];
     let old = work[v];
     if d < old {
         shorten(work, n, u, v, d, d);
-        if work[5 * n + v] == 1 {
-            if d < best {
-                return d;
-            }
-        }
     } else {
         if d == old {
             if (u as u64) < work[4 * n + v] {
@@ -136,66 +127,36 @@ fn relax(work: &mut [u64], n: usize, u: usize, v: usize, best: u64) -> u64
             }
         }
     }
-    best
 }
 
-// Looks at every edge of u. Answers the least distance of a goal so far; it was `least` before.
-fn relax_row(
-    kind: &[u8],
-    first_edge: &[u32],
-    edge_target: &[u16],
-    work: &mut [u64],
-    u: usize,
-    least: u64,
-) -> u64
+// Looks at every edge of u.
+fn relax_row(kind: &[u8], first_edge: &[u32], edge_target: &[u16], work: &mut [u64], u: usize)
     requires { ⌜ RowReady (graphOf (now kind) (now «first_edge») (now «edge_target»)) (now work) u ⌝ }
-    ensures { λ r. do
+    ensures { λ _. do
       let graph = graphOf (now (kind .entry)) (now («first_edge» .entry)) (now («edge_target» .entry))
-      let n = length (now (kind .entry))
-      let before = now (work .entry)
-      let after = now (work .exit)
-      ⌜ RowDone graph u (rowStart graph (u + 1)) before after × (BestGoal n least before → BestGoal n r after) ⌝ }
+      ⌜ RowDone graph u (rowStart graph (u + 1)) (now (work .entry)) (now (work .exit)) ⌝ }
 {
     let n = kind.len();
     let to = first_edge[u + 1] as usize;
     let mut e = first_edge[u] as usize;
-    let mut best = least;
     while e < to {
         let v = edge_target[e] as usize;
-        best = relax(work, n, u, v, best);
+        relax(work, n, u, v);
         e += 1;
     }
-    best
 }
 
-// Settles the nearest open node again and again, until nothing waits or no open node leads to a goal as near as the nearest goal so far.
-// Answers the distance of that goal, FAR where none has a path. `last_step` is at most the price of every goal: over an open node
-// no goal is nearer than the nearest open node and `last_step` together.
-pub fn settle_all(
-    kind: &[u8],
-    first_edge: &[u32],
-    edge_target: &[u16],
-    work: &mut [u64],
-    last_step: u64,
-) -> u64
+// Settles the nearest open node again and again, until nothing waits.
+pub fn settle_all(kind: &[u8], first_edge: &[u32], edge_target: &[u16], work: &mut [u64])
     requires { ⌜ InProgress (graphOf (now kind) (now «first_edge») (now «edge_target»)) (now work) ⌝ }
-    requires { ⌜ BestGoal (length (now kind)) far (now work) × LastStep (length (now kind)) «last_step» (now work) ⌝ }
-    ensures { λ r. do
+    ensures { λ _. do
       let graph = graphOf (now (kind .entry)) (now («first_edge» .entry)) (now («edge_target» .entry))
-      ⌜ Ran graph (now (work .entry)) (now (work .exit)) r ⌝ }
+      ⌜ Ran graph (now (work .entry)) (now (work .exit)) ⌝ }
 {
     let n = kind.len();
-    let mut best = FAR;
-    loop {
-        let d = work[n + 1];
-        if d == FAR {
-            return best;
-        }
+    while work[n + 1] != FAR {
         let u = queue::nearest(work, n);
-        if best < d + last_step {
-            return best;
-        }
         queue::wait(work, n, u, FAR);
-        best = relax_row(kind, first_edge, edge_target, work, u, best);
+        relax_row(kind, first_edge, edge_target, work, u);
     }
 }

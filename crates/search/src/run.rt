@@ -13,7 +13,7 @@ use crate::distances;
 use crate::queue;
 use price::Weighting;
 
-// Prices, first distances and no goals.
+// Prices and first distances.
 fn prepare(
     kind: &[u8],
     capacity: &[u8],
@@ -46,7 +46,6 @@ fn prepare(
         work,
     );
     distances::fill_distances(in_tree, work, n);
-    distances::clear(work, 5 * n, 6 * n);
 }
 
 // Leaves the distances of all nodes at the beginning of the work slice.
@@ -86,6 +85,6 @@ pub fn distances_from_tree(
         work,
     );
     queue::build(work, n);
-    distances::settle_all(kind, first_edge, edge_target, work, 0);
+    distances::settle_all(kind, first_edge, edge_target, work);
     distances::clear(work, n, 8 * n);
 }

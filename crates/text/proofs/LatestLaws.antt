@@ -2,7 +2,7 @@
 --     passing-, latest-, final-        the records of a net and of its latest iteration, a record more at the end
 --     agreed-                          words that agree in their first record
 --     Whole, whole-                    whole records between two places
---     Standing, standing-              the places of one net
+--     NetPlaces, places-              the places of one net
 --     Finding, finding-                going from record to record
 -- Assumes nothing.
 use mathlib.Core.Bool.{Bool, true, false, not}
@@ -233,7 +233,7 @@ module _ {named : Named} {log : List ℕ} where
 -- ---- the places of one net
 
 -- the records so far end at a place: those of net i between the two places are its latest, and none came since
-pub record Standing (named : Named) (log : List ℕ) (records : List Record) (at last i from to : ℕ) : Type 0 where
+pub record NetPlaces (named : Named) (log : List ℕ) (records : List Record) (at last i from to : ℕ) : Type 0 where
   pub before : ℕ
   pub end : ℕ
   pub own : List Record
@@ -245,9 +245,9 @@ pub record Standing (named : Named) (log : List ℕ) (records : List Record) (at
   pub none-yet : to ≡ 0 → latest i records ≡ 0
   pub reads : (to ≡ 0 → ⊥) → getD log from 0 ≡ latest i records
 
-standing-none : (named : Named) (log : List ℕ) (i from to : ℕ) → from ≡ 0 → to ≡ 0 → Standing named log [] 0 0 i from to
+places-none : (named : Named) (log : List ℕ) (i from to : ℕ) → from ≡ 0 → to ≡ 0 → NetPlaces named log [] 0 0 i from to
 unfolding passing finalRecords latest
-standing-none named log i from to e f =
+places-none named log i from to e f =
     rw (e, f)
     record {
       before = 0;
@@ -267,8 +267,8 @@ module _ {named : Named} {log : List ℕ} {at : ℕ} (last : ℕ) (s : recordSou
   one = next s none
 
   module _ (records : List Record) {i : ℕ} where
-    standing-other : {from to : ℕ} → (getD log (at + 1) 0 ≡ i → ⊥) → Standing named log records at last i from to → Standing named log (records ++ (recordAt log at ∷ [])) (nextAt log at) (getD log at 0) i from to
-    standing-other e p =
+    places-other : {from to : ℕ} → (getD log (at + 1) 0 ≡ i → ⊥) → NetPlaces named log records at last i from to → NetPlaces named log (records ++ (recordAt log at ∷ [])) (nextAt log at) (getD log at 0) i from to
+    places-other e p =
         let same = latest-other i records (recordAt log at) e in
         record {
           before = p .before;
@@ -283,9 +283,9 @@ module _ {named : Named} {log : List ℕ} {at : ℕ} (last : ℕ) (s : recordSou
           reads = λ z. p .reads z ∙ sym same;
         }
 
-    standing-anew : getD log (at + 1) 0 ≡ i → latest i records < getD log at 0 → Standing named log (records ++ (recordAt log at ∷ [])) (nextAt log at) (getD log at 0) i at (nextAt log at)
+    places-anew : getD log (at + 1) 0 ≡ i → latest i records < getD log at 0 → NetPlaces named log (records ++ (recordAt log at ∷ [])) (nextAt log at) (getD log at 0) i at (nextAt log at)
     unfolding passing
-    standing-anew e l =
+    places-anew e l =
         record {
           before = last;
           end = getD log at 0;
@@ -299,9 +299,9 @@ module _ {named : Named} {log : List ℕ} {at : ℕ} (last : ℕ) (s : recordSou
           reads = λ z. sym (latest-own i records (recordAt log at) e ∙ omega arith);
         }
 
-    standing-same : {from to : ℕ} → getD log (at + 1) 0 ≡ i → (to ≡ 0 → ⊥) → getD log from 0 ≡ getD log at 0 → Standing named log records at last i from to → Standing named log (records ++ (recordAt log at ∷ [])) (nextAt log at) (getD log at 0) i from (nextAt log at)
+    places-same : {from to : ℕ} → getD log (at + 1) 0 ≡ i → (to ≡ 0 → ⊥) → getD log from 0 ≡ getD log at 0 → NetPlaces named log records at last i from to → NetPlaces named log (records ++ (recordAt log at ∷ [])) (nextAt log at) (getD log at 0) i from (nextAt log at)
     unfolding passing
-    standing-same e z f p =
+    places-same e z f p =
         let same : latest i records ≡ getD log at 0 = sym (p .reads z) ∙ f in
         let all : ownRecords i (p .own ++ p .others) ≡ finalRecords i records =
         passing-append (λ (q : Record). eqb (q .net) i) (p .own) (p .others) ∙ rw (p .none-since) (append-nil (ownRecords i (p .own)) ∙ p .own-are) in
@@ -333,7 +333,7 @@ pub record Finding (log froms tos : List ℕ) (at : ℕ) : Type 0 where
   pub none-late : (i : ℕ) → latest i records ≤ rest .last
   pub from-long : length froms ≡ netsMost
   pub to-long : length tos ≡ netsMost
-  pub each : (i : ℕ) → i < netsMost → Standing (rest .named) log records at (rest .last) i (getD froms i 0) (getD tos i 0)
+  pub each : (i : ℕ) → i < netsMost → NetPlaces (rest .named) log records at (rest .last) i (getD froms i 0) (getD tos i 0)
 
 pub finding-none :
     (log froms tos : List ℕ) → AllSound log → length froms ≡ netsMost → length tos ≡ netsMost → ((i : ℕ) → (getD froms i 0 ≡ 0) × (getD tos i 0 ≡ 0))
@@ -349,7 +349,7 @@ finding-none log froms tos e f t z =
       none-late = λ i. omega arith;
       from-long = f;
       to-long = t;
-      each = λ i l. standing-none (e .named) log i (getD froms i 0) (getD tos i 0) (z i .0) (z i .1);
+      each = λ i l. places-none (e .named) log i (getD froms i 0) (getD tos i 0) (z i .0) (z i .1);
     }
 
 -- the test of a net that has no record yet, and of one that has
@@ -384,11 +384,11 @@ module _ {log froms tos : List ℕ} {at : ℕ} (p : Finding log froms tos at) (l
   pub finding-net : here < netsMost
   finding-net = p .nets-few here (rw (getD-drop at log 1 0) at (sound-net (p .rest .named) (p .rest .last) (drop at log) sound-now))
 
-  stands : Standing (p .rest .named) log (p .records) at (p .rest .last) here (getD froms here 0) (getD tos here 0)
-  stands = p .each here finding-net
+  places : NetPlaces (p .rest .named) log (p .records) at (p .rest .last) here (getD froms here 0) (getD tos here 0)
+  places = p .each here finding-net
 
   pub finding-from : getD froms here 0 < length log
-  finding-from = omega (arith, whole-le (stands .words), whole-le (stands .since))
+  finding-from = omega (arith, whole-le (places .words), whole-le (places .since))
 
   some : 1 ≤ getD log at 0
   some = rw (first-at log at) at (sound-some (p .rest .named) (p .rest .last) (drop at log) sound-now)
@@ -409,7 +409,7 @@ module _ {log froms tos : List ℕ} {at : ℕ} (p : Finding log froms tos at) (l
   moved :
       {froms′ tos′ : List ℕ} → length froms′ ≡ netsMost → length tos′ ≡ netsMost
       → ((i : ℕ) → (here ≡ i → ⊥) → (getD froms′ i 0 ≡ getD froms i 0) × (getD tos′ i 0 ≡ getD tos i 0))
-      → Standing (p .rest .named) log (p .records ++ (recordAt log at ∷ [])) (nextAt log at) (getD log at 0) here (getD froms′ here 0) (getD tos′ here 0)
+      → NetPlaces (p .rest .named) log (p .records ++ (recordAt log at ∷ [])) (nextAt log at) (getD log at 0) here (getD froms′ here 0) (getD tos′ here 0)
       → Finding log froms′ tos′ (nextAt log at)
   moved {froms′} {tos′} f t same new =
       record {
@@ -427,9 +427,9 @@ module _ {log froms tos : List ℕ} {at : ℕ} (p : Finding log froms tos at) (l
             (λ (e : here ≡ i).
             subst
             (λ (k : ℕ).
-            Standing (p .rest .named) log (p .records ++ (recordAt log at ∷ [])) (nextAt log at) (getD log at 0) k (getD froms′ k 0) (getD tos′ k 0))
+            NetPlaces (p .rest .named) log (p .records ++ (recordAt log at ∷ [])) (nextAt log at) (getD log at 0) k (getD froms′ k 0) (getD tos′ k 0))
             e new)
-            (λ (e : here ≡ i → ⊥). rw (same i e .0, same i e .1) (standing-other (p .rest .last) sound-now (p .records) e (p .each i h)))
+            (λ (e : here ≡ i → ⊥). rw (same i e .0, same i e .1) (places-other (p .rest .last) sound-now (p .records) e (p .each i h)))
             (same-or-not here i);
       }
 
@@ -446,15 +446,15 @@ module _ {log froms tos : List ℕ} {at : ℕ} (p : Finding log froms tos at) (l
       let least = some in
       let older : latest here (p .records) < getD log at 0 =
       ⊎-elim
-      (λ (z : getD tos here 0 ≡ 0). omega (arith, stands .none-yet z))
+      (λ (z : getD tos here 0 ≡ 0). omega (arith, places .none-yet z))
       (λ (z : getD log (getD froms here 0) 0 ≡ getD log at 0 → ⊥).
       ⊎-elim
-      (λ (y : getD tos here 0 ≡ 0). omega (arith, stands .none-yet y))
+      (λ (y : getD tos here 0 ≡ 0). omega (arith, places .none-yet y))
       (λ (y : getD tos here 0 ≡ 0 → ⊥).
       let most = p .none-late here in
       ⊎-elim
       (λ (h : getD log at 0 ≤ latest here (p .records)).
-      let same : getD log (getD froms here 0) 0 ≡ getD log at 0 = omega (arith, stands .reads y) in
+      let same : getD log (getD froms here 0) 0 ≡ getD log at 0 = omega (arith, places .reads y) in
       absurd (z same))
       (λ h. h)
       (le-or-lt (getD log at 0) (latest here (p .records))))
@@ -464,7 +464,7 @@ module _ {log froms tos : List ℕ} {at : ℕ} (p : Finding log froms tos at) (l
       (moved (length-set froms here at ∙ p .from-long) (length-set tos here (nextAt log at) ∙ p .to-long)
       (λ i e. (getD-set-other froms here i at 0 (λ q. e (sym q)), getD-set-other tos here i (nextAt log at) 0 (λ q. e (sym q))))
       (rw (getD-set-same froms here at 0 (omega arith), getD-set-same tos here (nextAt log at) 0 (omega arith))
-      (standing-anew (p .rest .last) sound-now (p .records) refl older)))
+      (places-anew (p .rest .last) sound-now (p .records) refl older)))
 
   pub finding-same : {end : ℕ} {r : Bool} → end ≡ nextAt log at → Anew r → r ≡ false → Finding log froms (set tos here end) end
   finding-same is answer t =
@@ -474,7 +474,7 @@ module _ {log froms tos : List ℕ} {at : ℕ} (p : Finding log froms tos at) (l
       rw is
       (moved (p .from-long) (length-set tos here (nextAt log at) ∙ p .to-long)
       (λ i e. (refl, getD-set-other tos here i (nextAt log at) 0 (λ q. e (sym q))))
-      (rw (getD-set-same tos here (nextAt log at) 0 (omega arith)) (standing-same (p .rest .last) sound-now (p .records) refl (why .0) (why .1) stands)))
+      (rw (getD-set-same tos here (nextAt log at) 0 (omega arith)) (places-same (p .rest .last) sound-now (p .records) refl (why .0) (why .1) places)))
 
 -- after the last record
 pub finding-all : {log froms tos : List ℕ} {at : ℕ} → Finding log froms tos at → length log ≤ at → LatestPlaces log froms tos

@@ -106,8 +106,8 @@ abbrev textAt : Bool → List ℕ → List ℕ → List ℕ → List ℕ → ℕ
 textAt timed ss fs ts cs m p =
     sinkLines timed (m - 1) (slice p (getD fs m 0) ts) (slice p (getD fs m 0) cs) ++ concatFrom (netAt timed ss fs ts cs) m (length ss - m)
 
--- where the reader may stand: in the last of m nets, or before the first
-record Stand (ss fs : List ℕ) (m p : ℕ) : Type 0 where
+-- where the reader may be: in the last of m nets, or before the first
+record ReaderAt (ss fs : List ℕ) (m p : ℕ) : Type 0 where
   few : m ≤ length ss
   least : (i : ℕ) → i + 1 ≡ m → getD fs i 0 ≤ p
   most : p ≤ getD fs m 0
@@ -118,7 +118,7 @@ record Next (timed : Bool) (kinds : List ℕ) (n : ℕ) (ss fs ts cs : List ℕ)
   p2 : ℕ
   letter : ℕ
   vs : List ℕ
-  stand : Stand ss fs m2 p2
+  reader : ReaderAt ss fs m2 p2
   text : textAt timed ss fs ts cs m p ≡ printLine letter vs ++ textAt timed ss fs ts cs m2 p2
   reads :
       netLine timed kinds n (length ss) (listsAt ss fs ts cs m p) (printLine letter vs ++ textAt timed ss fs ts cs m2 p2)
@@ -203,7 +203,7 @@ module _
           p2 = suc p;
           letter = letterT;
           vs = i ∷ getD ts p 0 ∷ further timed c;
-          stand = record { few = few; least = λ k h. let same : k ≡ i = omega arith in rw same (omega arith); most = omega arith };
+          reader = record { few = few; least = λ k h. let same : k ≡ i = omega arith in rw same (omega arith); most = omega arith };
           text =
               rw (slice-cons p (getD fs m 0) ts 0 below within, slice-cons p (getD fs m 0) cs 0 below within′, place)
               (append-assoc (printLine letterT (i ∷ getD ts p 0 ∷ further timed c)) (sinkLines timed i (slice (suc p) (getD fs m 0) ts) (slice (suc p) (getD fs m 0) cs)) (concatFrom (netAt timed ss fs ts cs) m (length ss - m)));
@@ -242,7 +242,7 @@ module _
         p2 = getD fs m 0;
         letter = letterS;
         vs = m ∷ getD ss m 0 ∷ [];
-        stand = record { few = omega arith; least = λ k e. let same : k ≡ m = omega arith in rw same (omega arith); most = omega arith };
+        reader = record { few = omega arith; least = λ k e. let same : k ≡ m = omega arith in rw same (omega arith); most = omega arith };
         text =
             rw (slice-empty (getD fs m 0) ts, one, back)
             (append-assoc (printLine letterS (m ∷ getD ss m 0 ∷ [])) (sinkLines timed m (sinksBetween fs ts m) (sinksBetween fs cs m)) (concatFrom (netAt timed ss fs ts cs) (suc m) (length ss - (m + 1)))
@@ -272,7 +272,7 @@ module _
       }
 
   -- one of the three
-  line-left : (m p : ℕ) → Stand ss fs m p → Next timed kinds n ss fs ts cs m p ⊎ Last timed ss fs ts cs m p
+  line-left : (m p : ℕ) → ReaderAt ss fs m p → Next timed kinds n ss fs ts cs m p ⊎ Last timed ss fs ts cs m p
   line-left m p st =
       ⊎-elim
       (λ (e : p ≡ getD fs m 0).
@@ -296,7 +296,7 @@ module _
 
   -- no text has more lines than bytes
   read-on :
-      (k m p at : ℕ) → Stand ss fs m p → length (textAt timed ss fs ts cs m p) ≤ k
+      (k m p at : ℕ) → ReaderAt ss fs m p → length (textAt timed ss fs ts cs m p) ≤ k
       → (at2 : ℕ) × (netLines k timed kinds n (length ss) (listsAt ss fs ts cs m p) at (textAt timed ss fs ts cs m p) ≡ part (netLists ss (take (length ss) fs) ts cs) at2 [])
   read-on zero m p at st short =
       ⊎-elim
@@ -311,7 +311,7 @@ module _
       (λ (r : Next timed kinds n ss fs ts cs m p).
       let longer = line-longer (r .letter) (r .vs) (textAt timed ss fs ts cs (r .m2) (r .p2)) in
       let here : length (textAt timed ss fs ts cs m p) ≡ length (printLine (r .letter) (r .vs) ++ textAt timed ss fs ts cs (r .m2) (r .p2)) = ap length (r .text) in
-      let later = read-on k (r .m2) (r .p2) (at + 1) (r .stand) (omega arith) in (
+      let later = read-on k (r .m2) (r .p2) (at + 1) (r .reader) (omega arith) in (
         later .0,
         ap (netLines (suc k) timed kinds n (length ss) (listsAt ss fs ts cs m p) at) (r .text)
             ∙ line-first timed kinds n (length ss) k (listsAt ss fs ts cs m p) (listsAt ss fs ts cs (r .m2) (r .p2)) at (r .letter) (r .vs) (textAt timed ss fs ts cs (r .m2) (r .p2)) (r .reads)
@@ -326,8 +326,8 @@ module _
       let l : length fs ≡ length ss + 1 = long in
       let all : length ss - 0 ≡ length ss = omega arith in
       let text : textAt timed ss fs ts cs 0 0 ≡ concatFrom (netAt timed ss fs ts cs) 0 (length ss) = rw (begin, all) in
-      let stand : Stand ss fs 0 0 = record { few = omega arith; least = λ i e. absurd (omega arith); most = omega arith } in
-      let r = read-on k 0 0 at stand (rw text short) in
+      let reader : ReaderAt ss fs 0 0 = record { few = omega arith; least = λ i e. absurd (omega arith); most = omega arith } in
+      let r = read-on k 0 0 at reader (rw text short) in
       record {
         after = r .0;
         reads = rw text at (r .1);

@@ -70,7 +70,7 @@ placed-before at byte xs buffer fits =
 pub record Writing (at n : ℕ) (before now : List ℕ) (left k : ℕ) : Type 0 where
   pub others : List ℕ
   pub parted : Parted n left k others
-  pub stands : now ≡ placed (at + k) others before
+  pub written : now ≡ placed (at + k) others before
   pub fits : at + length (decimal n) ≤ length before
   pub long : k + length others ≡ length (decimal n)
   pub kept : length now ≡ length before
@@ -81,7 +81,7 @@ writing-start at n buffer k fits small all =
     record {
       others = [];
       parted = p;
-      stands = sym (placed-none (at + k) buffer);
+      written = sym (placed-none (at + k) buffer);
       fits = fits;
       long = parted-long n n k [] p;
       kept = refl;
@@ -95,8 +95,8 @@ writing-next at n before now left k some w =
     record {
       others = (48 + left % 10) ∷ w .others;
       parted = p;
-      stands =
-          rw (w .stands, e) (placed-before (at + (k - 1)) (48 + left % 10) (w .others) before room);
+      written =
+          rw (w .written, e) (placed-before (at + (k - 1)) (48 + left % 10) (w .others) before room);
       fits = w .fits;
       long = parted-long n (left / 10) (k - 1) ((48 + left % 10) ∷ w .others) p;
       kept = length-set now (at + (k - 1)) (48 + left % 10) ∙ w .kept;
@@ -105,7 +105,7 @@ writing-next at n before now left k some w =
 pub writing-end : (at n : ℕ) (before now : List ℕ) (left k : ℕ) → k ≤ 0 → Writing at n before now left k → now ≡ placed at (decimal n) before
 writing-end at n before now left k none w =
     let e : at + k ≡ at = omega arith in
-    w .stands ∙ rw (e, parted-end n left k (w .others) none (w .parted))
+    w .written ∙ rw (e, parted-end n left k (w .others) none (w .parted))
 
 -- ---- what a call has put
 

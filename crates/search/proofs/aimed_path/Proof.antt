@@ -32,8 +32,8 @@ enum-told c = search needs
 
 join-requires : tie.Need-join-requires
 join-requires c κs =
-    let told = c .before in
-    due-allowed _ _ _ _ _ _ _ (start (told .before .before) .args .work .now) (none-due (told .before .before) (told .enum-told .given .1))
+    let matched = c .before in
+    due-allowed _ _ _ _ _ _ _ (start (matched .before .before) .args .work .now) (none-due (matched .before .before) (matched .enum-told .given .1))
 
 same-length : tie.Need-same-length
 same-length c = search needs
@@ -41,8 +41,8 @@ same-length c = search needs
 returns : tie.Need-returns
 returns c =
     let joined = c .before .before in
-    let told = joined .before .before in
-    aimed-joined _ _ _ _ _ _ _ _ (joined .join .result) _ (none-due (told .before .before) (told .enum-told .given .1)) (joined .join .ensures)
+    let matched = joined .before .before in
+    aimed-joined _ _ _ _ _ _ _ _ (joined .join .result) _ (none-due (matched .before .before) (matched .enum-told .given .1)) (joined .join .ensures)
 
 returns-2 : tie.Need-returns-2
 returns-2 c =

@@ -7,7 +7,7 @@ use Rattle.search.proofs.BlockLaws.{kinds-few}
 use Rattle.job.specs.Job.{Job, jobOf}
 use Rattle.negotiation.specs.Outcome.{RouteReply, routeReplyOf, turnsLogged}
 use Rattle.negotiation.proofs.RefusalLaws.{refused-counts}
-use Rattle.negotiation.proofs.StartLaws.{start-stands, start-ran, start-counts, turned-away}
+use Rattle.negotiation.proofs.StartLaws.{start-some-ready, start-ran, start-counts, turned-away}
 use Rattle.negotiation.proofs.turns.run_from.Statement.{statement}
 use Rattle.negotiation.proofs.turns.run_from.Tie as tie
 
@@ -74,7 +74,7 @@ go-on-requires c κs =
     let by : tie.After-going-on = c .before .before .before .before .before .before .before .before in
     let at : tie.After-tariff = called by in
     let e : tie.Start = lent (onward at) in
-    (e .pre .0, start-stands (job e) (e .args .start) (e .args .log .now) (onward at .start-at .ensures) (at .tariff .given .1) _ (by .going-on .ensures))
+    (e .pre .0, start-some-ready (job e) (e .args .start) (e .args .log .now) (onward at .start-at .ensures) (at .tariff .given .1) _ (by .going-on .ensures))
 
 same-length : tie.Need-same-length
 same-length c = away (refused-at c) .start-at .kept .1 .1 .1 .1 .1 .1 .1 .1 .1 .1 .1 .1 .0

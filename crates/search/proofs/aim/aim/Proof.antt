@@ -74,7 +74,7 @@ returns-2 c =
     let asked : tie.Then2 = shorter .before .before in
     let seen = asked .before .before .before .before in
     let t = shorter .shorten .ensures in
-    (over-shorter (seen .if1 .left) (asked .if2 .taken) t, λ s. best-nearer (omega arith) (entry seen .pre .0 .1) t s (c .before .if3 .taken) (c .if4 .taken))
+    (over-shorter (seen .if1 .left) (asked .if2 .taken) t, λ s. best-nearer (entry seen .pre .0 .1) t s (c .before .if3 .taken) (c .if4 .taken))
 
 mul-if6 : tie.Need-mul-if6
 mul-if6 c = search needs
@@ -109,7 +109,7 @@ returns-3 c =
     let asked : tie.Then2 = shorter .before .before in
     let seen = asked .before .before .before .before in
     let t = shorter .shorten .ensures in
-    (over-shorter (seen .if1 .left) (asked .if2 .taken) t, λ s. best-as-near (omega arith) (entry seen .pre .0 .1) t s (asked .if2 .taken) (λ _. c .if4 .left))
+    (over-shorter (seen .if1 .left) (asked .if2 .taken) t, λ s. best-as-near (entry seen .pre .0 .1) t s (asked .if2 .taken) (λ _. c .if4 .left))
 
 same-length-3 : tie.Need-same-length-3
 same-length-3 c = search needs
@@ -120,7 +120,7 @@ returns-4 c =
     let asked : tie.Then2 = shorter .before .before in
     let seen = asked .before .before .before .before in
     let t = shorter .shorten .ensures in
-    (over-shorter (seen .if1 .left) (asked .if2 .taken) t, λ s. best-as-near (omega arith) (entry seen .pre .0 .1) t s (asked .if2 .taken) (λ sink. absurd (c .if3 .left sink)))
+    (over-shorter (seen .if1 .left) (asked .if2 .taken) t, λ s. best-as-near (entry seen .pre .0 .1) t s (asked .if2 .taken) (λ sink. absurd (c .if3 .left sink)))
 
 same-length-4 : tie.Need-same-length-4
 same-length-4 c = search needs
@@ -128,7 +128,7 @@ same-length-4 c = search needs
 returns-5 : tie.Need-returns-5
 returns-5 c =
     let seen = c .before .before .before .before .before .before .before in
-    (over-lower (seen .if1 .left) (c .before .before .if5 .taken) (c .if6 .taken) refl, best-pred _ _ _ (omega arith) (entry seen .pre .0 .1) refl)
+    (over-lower (seen .if1 .left) (c .before .before .if5 .taken) (c .if6 .taken) refl, best-pred _ _ _ (entry seen .pre .0 .1) refl)
 
 returns-6 : tie.Need-returns-6
 returns-6 c = (over-kept (c .before .before .before .if2 .left) (λ _. c .if6 .left) refl, λ s. s)

@@ -41,7 +41,7 @@ mul-key : tie.Need-mul-key Inv-loop μ-loop
 mul-key c = let r = c .loop .inv in let g = r .sound .few in omega arith
 
 slice-read-key : tie.Need-slice-read-key Inv-loop μ-loop
-slice-read-key c = let r = c .before .loop .inv in let g = r .sound .some in let l = r .stands .long in omega arith
+slice-read-key c = let r = c .before .loop .inv in let g = r .sound .some in let l = r .aiming .long in omega arith
 
 same-length : tie.Need-same-length Inv-loop μ-loop
 same-length c = c .before .before .loop .inv .long
@@ -58,14 +58,14 @@ returns-2 c = run-ends (c .before .before .before .loop .inv) (inr (c .if2 .take
 nearest-requires : tie.Need-nearest-requires Inv-loop μ-loop
 nearest-requires c κs =
     let r = c .before .before .before .before .loop .inv in
-    let l = r .stands .long in
-    (r .sound .some, omega arith, r .stands .heap)
+    let l = r .aiming .long in
+    (r .sound .some, omega arith, r .aiming .heap)
 
 wait-requires : tie.Need-wait-requires Inv-loop μ-loop
 wait-requires c κs =
     let found = c .before in
     let r = head found .loop .inv in
-    (found .nearest .ensures .0, r .stands .long, r .stands .heap)
+    (found .nearest .ensures .0, r .aiming .long, r .aiming .heap)
 
 add-expanded : tie.Need-add-expanded Inv-loop μ-loop
 add-expanded c =

@@ -1,4 +1,4 @@
--- `search::distances::relax_row` meets its contract. The invariant: the row has been looked at up to place e, and `best` is the least distance of a goal. The measure is what is left of the row.
+-- `search::distances::relax_row` meets its contract. The invariant: the row has been looked at up to place e. The measure is what is left of the row.
 -- Assumes nothing.
 use Prim.Native.Nat.{_+_, _-_}
 use native.Mathlib.Nat.{le-refl}
@@ -11,11 +11,10 @@ use Rattle.search.proofs.distances.relax_row.Statement.{statement}
 use Rattle.search.proofs.distances.relax_row.Tie as tie
 
 abbrev Inv-loop : tie.InvT-loop
-Inv-loop kind first-edge edge-target work₀ u least n to e₀ best₀ work e best =
-    RowSoFar (graphOf kind first-edge edge-target) u e least best work₀ work
+Inv-loop kind first-edge edge-target work₀ u n to e₀ work e = RowSoFar (graphOf kind first-edge edge-target) u e work₀ work
 
 abbrev μ-loop : tie.MeasureT-loop
-μ-loop kind first-edge edge-target work₀ u least n to e₀ best₀ work e best = to - e
+μ-loop kind first-edge edge-target work₀ u n to e₀ work e = to - e
 
 -- the entry, from where the bounds of the lists are known, and from the loop's head
 abbrev entry : tie.After-slice-known Inv-loop μ-loop → tie.Start Inv-loop μ-loop
@@ -52,7 +51,6 @@ loop-holds c =
       done = row-start _ _ _ (r .heap);
       from = le-refl _;
       to = row-order _ (r .sound) _ (r .node);
-      goals = λ s. s;
     }
 
 mul-v : tie.Need-mul-v Inv-loop μ-loop
@@ -96,17 +94,16 @@ loop-again c =
     let i = turn .before .loop .inv in
     let t = turn .loop-test .taken in
     record {
-      done = row-more _ _ _ _ _ r (i .done) (i .from) t _ (c .before .before .relax .ensures .0);
+      done = row-more _ _ _ _ _ r (i .done) (i .from) t _ (c .before .before .relax .ensures);
       from = let f = i .from in omega arith;
       to = omega arith;
-      goals = λ s. c .before .before .relax .ensures .1 (i .goals s);
     }
 
 same-length : tie.Need-same-length Inv-loop μ-loop
 same-length c = c .before .loop .inv .done .long
 
 returns : tie.Need-returns Inv-loop μ-loop
-returns c = (row-whole _ _ _ _ _ _ _ (c .before .loop .inv) (c .loop-test .left), c .before .loop .inv .goals)
+returns c = row-whole _ _ _ _ _ (c .before .loop .inv) (c .loop-test .left)
 
 pub relax-row-spec : {M : Type 1} → statement M
 relax-row-spec =

@@ -8,7 +8,7 @@ use borrow.Author.Tests.{leb-true}
 use Rattle.price.specs.Bounds.{nodesMost}
 use Rattle.search.proofs.KeptLaws.{passed}
 use Rattle.search.proofs.NumberLaws.{refusal-table, refusal-many, refusal-work, refusal-node, refusal-factor, refusal-criticality, refusal-none}
-use Rattle.search.proofs.PassLaws.{leb-fell}
+use Rattle.search.proofs.PassLaws.{leb-cleared}
 use Rattle.search.proofs.numbers.first_refusal.Statement.{statement}
 use Rattle.search.proofs.numbers.first_refusal.Tie as tie
 
@@ -56,7 +56,7 @@ cast-t17 : tie.Need-cast-t17
 cast-t17 c =
     let tested = c .before .before in
     omega
-    (arith, leb-fell {m = entry (begun tested) .args .n} (tested .lists-sound .ensures) (c .before .if4 .taken) (c .bad-node .ensures), few (begun tested))
+    (arith, leb-cleared {m = entry (begun tested) .args .n} (tested .lists-sound .ensures) (c .before .if4 .taken) (c .bad-node .ensures), few (begun tested))
 
 returns-4 : tie.Need-returns-4
 returns-4 c =
@@ -65,7 +65,7 @@ returns-4 c =
     λ delays.
     sym
     (refusal-node _ _ _ _ _ (counted .before .if1 .left) (sym (counted .too-many .ensures) ∙ tested .before .before .if2 .left) (tested .before .if3 .left) _ (c .bad-node .ensures)
-    (leb-fell (tested .lists-sound .ensures) (c .before .if4 .taken) (c .bad-node .ensures)))
+    (leb-cleared (tested .lists-sound .ensures) (c .before .if4 .taken) (c .bad-node .ensures)))
 
 cast-t18 : tie.Need-cast-t18
 cast-t18 c = omega (arith, few (begun (c .before .before)))

@@ -1,4 +1,4 @@
--- `numbers::others_sound` meets its contract. The loop's invariant: while the flag stands every entry passed is within its bounds, and where it fell one is not.
+-- `numbers::others_sound` meets its contract. The loop's invariant: while the flag is set every entry passed is within its bounds, and where it is cleared one is not.
 -- Assumes nothing.
 use Prim.Native.Nat.{_-_}
 use lib.Dec.{leb}

@@ -1,4 +1,4 @@
--- `search::run::prepare` meets its contract: prices are filled in, then the first distances, and then the goals are cleared.
+-- `search::run::prepare` meets its contract: prices are filled in, then the first distances.
 -- Assumes nothing.
 use mathlib.Core.List.{[]}
 use native.Mathlib.Omega.{arith}
@@ -23,33 +23,14 @@ fill-distances-requires c κs =
     let pre = entry (filled .before) .pre in
     (omega (arith, ready-marks _ _ [] [] _ _ (pre .0)), omega (arith, pre .1, filled .fill-prices .ensures .same .long))
 
-mul-clear : tie.Need-mul-clear
-mul-clear c = search needs
-
-mul-clear-2 : tie.Need-mul-clear-2
-mul-clear-2 c = search needs
-
-clear-requires : tie.Need-clear-requires
-clear-requires c κs = search needs
-
 same-length : tie.Need-same-length
 same-length c = search needs
 
 returns : tie.Need-returns
 returns c =
-    let ended = c .before .before in
-    let measured = ended .before .before .before .before in
+    let measured = c .before .before in
     let filled = measured .before .before .before .before in
-    prepared _ _ _ _ _ _ _ _ (entry (filled .before) .pre .1) (filled .fill-prices .ensures) (measured .fill-distances .ensures) (ended .clear .ensures)
+    prepared (filled .fill-prices .ensures) (measured .fill-distances .ensures)
 
 pub prepare-spec : {M : Type 1} → statement M
-prepare-spec =
-    tie.close
-    (tie.spec
-    fill-prices-requires
-    fill-distances-requires
-    mul-clear
-    mul-clear-2
-    clear-requires
-    same-length
-    returns)
+prepare-spec = tie.close (tie.spec fill-prices-requires fill-distances-requires same-length returns)
