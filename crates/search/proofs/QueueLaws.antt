@@ -4,20 +4,21 @@
 --     heap-same, heap-aside, heap-way     stores outside the queue leave it right
 --     heap-here, heap-up                  a store that puts an inner entry right
 --     entry-child, heap-least             an inner entry is one of its children; entry 1 is at most every leaf
---     Carrying, Building, Descending      the invariants of `carry_up`, `build` and `nearest`, with their steps and ends
+--     Carrying, Lowering                  the invariants of `carry_up` and `lower_above`, with their steps and ends
+--     Building, Descending                those of `build` and `nearest`
 -- Assumes nothing.
 use mathlib.Core.Bool.{true, false}
 use mathlib.Core.List.{List}
 use mathlib.Core.Logic.{_⊎_, ⊎-elim, inl, inr}
-use mathlib.Core.Path.{_≡_, sym, _∙_, subst}
+use mathlib.Core.Path.{_≡_, refl, sym, _∙_, subst}
 use Prim.Native.Nat.{ℕ, zero, suc, _+_, _-_, _*_, _/_, _≤_, _<_, min, suc-le-suc}
-use native.Mathlib.Nat.{not-suc-le-zero, lt-irrefl, le-refl, le-trans, min-le-left, min-le-right, min-eq-left, min-eq-right, eq-or-lt-of-le}
+use native.Mathlib.Nat.{not-suc-le-zero, lt-irrefl, le-refl, le-trans, min-le-left, min-le-right, min-eq-left, min-eq-right, min-comm, le-min, eq-or-lt-of-le}
 use native.Mathlib.Omega.{arith}
 use lib.Dec.{eqb}
 use lib.ListN.{length, getD, set, length-set}
 use borrow.Author.Tests.{eqb-true, eqb-false}
 use Rattle.price.proofs.TestLaws.{either-way, le-or-lt}
-use Rattle.search.specs.Layout.{entryAt, leafAt, HeapAt, HeapBut, Heap, SameBut}
+use Rattle.search.specs.Layout.{entryAt, leafAt, HeapAt, HeapBut, LoweredBelow, Heap, SameBut}
 use Rattle.search.proofs.StoreLaws.{store-here, store-other, same-none, same-store}
 
 -- of two numbers, whether they are the same
@@ -160,6 +161,69 @@ module _ (n : ℕ) (old w : List ℕ) (i : ℕ) where
   -- no inner entry is left
   pub carried-all : i ≤ 0 → Carrying n old w i → Heap n w
   carried-all l k j p h = k .but j p h (λ e. omega arith)
+
+-- ---- carrying a lower key up
+
+-- one of two numbers falls to a key
+min-left : (a c key : ℕ) → key ≤ a → min key c ≡ min (min a c) key
+min-left a c key low =
+    ⊎-elim
+    (λ (h : key ≤ c). min-eq-left h ∙ sym (min-eq-right (le-min low h)))
+    (λ (h : c < key).
+    let least : min a c ≡ c = min-eq-right (omega arith) in
+    min-eq-right (omega arith) ∙ sym (rw least (min-eq-left (omega arith))))
+    (le-or-lt key c)
+
+min-right : (a c key : ℕ) → key ≤ c → min a key ≡ min (min a c) key
+min-right a c key low = min-comm a key ∙ min-left c a key low ∙ rw (min-comm c a)
+
+module _ (n : ℕ) (w : List ℕ) (i key : ℕ) (some : 2 ≤ i) (inside : i < 2 * n) (long : 3 * n ≤ length w) (low : key ≤ entryAt n w i) (right : HeapAt n w (i / 2)) where
+  -- a store that lowers an entry
+  lowered : LoweredBelow n key (set w (n + i) key) (i / 2)
+  lowered h =
+      let here : entryAt n (set w (n + i) key) i ≡ key = store-here w (n + i) key (omega arith) in
+      let above : entryAt n (set w (n + i) key) (i / 2) ≡ entryAt n w (i / 2) = entry-other n w i key (i / 2) (λ e. omega arith) in
+      ⊎-elim
+      (λ (p : i ≤ 2 * (i / 2)).
+      let e : 2 * (i / 2) ≡ i = omega arith in
+      let child : entryAt n (set w (n + i) key) (2 * (i / 2)) ≡ key = rw e here in
+      let other : entryAt n (set w (n + i) key) (2 * (i / 2) + 1) ≡ entryAt n w (2 * (i / 2) + 1) = entry-other n w i key (2 * (i / 2) + 1) (λ q. omega arith) in
+      let was : key ≤ entryAt n w (2 * (i / 2)) = rw e low in
+      rw (child, other, above, right) (min-left _ _ key was))
+      (λ (p : 2 * (i / 2) < i).
+      let e : 2 * (i / 2) + 1 ≡ i = omega arith in
+      let child : entryAt n (set w (n + i) key) (2 * (i / 2) + 1) ≡ key = rw e here in
+      let other : entryAt n (set w (n + i) key) (2 * (i / 2)) ≡ entryAt n w (2 * (i / 2)) = entry-other n w i key (2 * (i / 2)) (λ q. omega arith) in
+      let was : key ≤ entryAt n w (2 * (i / 2) + 1) = rw e low in
+      rw (child, other, above, right) (min-right _ _ key was))
+      (le-or-lt i (2 * (i / 2)))
+
+-- every inner entry but perhaps entry i is right, and that one lacks only the key; nothing but inner entries has changed
+pub record Lowering (n : ℕ) (old w : List ℕ) (key i : ℕ) : Type 0 where
+  pub carrying : Carrying n old w i
+  pub below : LoweredBelow n key w i
+
+module _ (n : ℕ) (old w : List ℕ) (key i : ℕ) (pos : 0 < i) where
+  -- entry i is not above the key
+  pub lowered-all : entryAt n w i ≤ key → Lowering n old w key i → Lowering n old w key 0
+  lowered-all le k = record { carrying = carried n old w i _ refl (sym (k .below pos ∙ min-eq-left le)) (k .carrying); below = λ h. absurd (omega arith) }
+
+  -- entry i falls to the key, and the one above it may be above it too
+  pub lowered-up : key < entryAt n w i → Lowering n old w key i → Lowering n old (set w (n + i) key) key (i / 2)
+  lowered-up less k =
+      let k′ = k .carrying in
+      record {
+        carrying = carried-up n old w i key pos (sym (k .below pos ∙ min-eq-right (omega arith))) k′;
+        below = λ h. lowered n w i key (omega arith) (omega (arith, k′ .inner)) (k′ .room) (omega arith) (k′ .but (i / 2) h (omega (arith, k′ .inner)) (λ e. omega arith)) h;
+      }
+
+-- a store at a node's leaf that lowers it
+pub lowered-node :
+    (n : ℕ) (w : List ℕ) (v key : ℕ) → v < n → 3 * n ≤ length w → key ≤ leafAt n w v → Heap n w → LoweredBelow n key (set w (2 * n + v) key) ((n + v) / 2)
+lowered-node n w v key node long low b h =
+    let e : n + (n + v) ≡ 2 * n + v = omega arith in
+    subst (λ (k : ℕ). LoweredBelow n key (set w k key) ((n + v) / 2)) e
+    (lowered n w (n + v) key (omega arith) (omega arith) long (rw e low) (b ((n + v) / 2) h (omega arith))) h
 
 -- ---- putting every inner entry right, from the last to the first
 

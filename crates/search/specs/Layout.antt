@@ -32,6 +32,10 @@ HeapAt n w i = entryAt n w i ≡ min (entryAt n w (2 * i)) (entryAt n w (2 * i +
 abbrev pub HeapBut : ℕ → List ℕ → ℕ → Type 0
 HeapBut n w j = (i : ℕ) → 1 ≤ i → i < n → (i ≡ j → ⊥) → HeapAt n w i
 
+-- inner entry i was the least of its two children before one of them fell to this key
+abbrev pub LoweredBelow : ℕ → ℕ → List ℕ → ℕ → Type 0
+LoweredBelow n key w i = 1 ≤ i → min (entryAt n w (2 * i)) (entryAt n w (2 * i + 1)) ≡ min (entryAt n w i) key
+
 abbrev pub Heap : ℕ → List ℕ → Type 0
 Heap n w = (i : ℕ) → 1 ≤ i → i < n → HeapAt n w i
 

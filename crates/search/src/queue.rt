@@ -3,7 +3,7 @@
 ghost use mathlib.Core.Path.{_≡_};
 ghost use Prim.Native.Nat.{_+_, _*_, _/_, _≤_, _<_, min};
 ghost use lib.ListN.{length};
-ghost use Rattle.search.specs.Layout.{entryAt, leafAt, Heap, HeapBut, SameBut, Queued};
+ghost use Rattle.search.specs.Layout.{entryAt, leafAt, Heap, HeapBut, LoweredBelow, SameBut, Queued};
 
 // The least of the two children of entry i.
 fn lesser_child(work: &[u64], n: usize, i: usize) -> u64
@@ -32,13 +32,34 @@ pub fn carry_up(work: &mut [u64], n: usize, from: usize)
     }
 }
 
-// Node v waits at this key. At 2^64 - 1 it does not wait any more.
+// Carries a lower key up from a child of entry i: an entry that is above the key becomes it, as far as there is one.
+pub fn lower_above(work: &mut [u64], n: usize, from: usize, key: u64)
+    requires { ⌜ (from < n) × (3 * n ≤ length (now work)) × HeapBut n (now work) from × LoweredBelow n key (now work) from ⌝ }
+    ensures { λ _. ⌜ Heap n (now (work .exit)) × SameBut (n + 1) (2 * n) (now (work .entry)) (now (work .exit)) ⌝ }
+{
+    let mut i = from;
+    while 0 < i {
+        if work[n + i] <= key {
+            i = 0;
+        } else {
+            work[n + i] = key;
+            i = i / 2;
+        }
+    }
+}
+
+// Node v waits at this key. At 2^64 - 1 it does not wait any more. A key that falls needs no look at the other child of an entry.
 pub fn wait(work: &mut [u64], n: usize, v: usize, key: u64)
     requires { ⌜ (v < n) × (8 * n ≤ length (now work)) × Heap n (now work) ⌝ }
     ensures { λ _. ⌜ Queued n v key (now (work .entry)) (now (work .exit)) ⌝ }
 {
+    let old = work[2 * n + v];
     work[2 * n + v] = key;
-    carry_up(work, n, (n + v) / 2);
+    if key <= old {
+        lower_above(work, n, (n + v) / 2, key);
+    } else {
+        carry_up(work, n, (n + v) / 2);
+    }
 }
 
 // Makes every inner entry the least of its two children.
