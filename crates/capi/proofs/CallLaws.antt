@@ -22,7 +22,7 @@ use Rattle.negotiation.specs.declared.RouteAnswer.{RouteAnswer}
 use Rattle.text.specs.ReadReplies.{Tables, readRefusal, readNumbers, readReplyOf, readReply}
 use Rattle.text.specs.Routes.{WriteReply}
 use Rattle.text.specs.declared.ReadAnswer.{ReadAnswer}
-use Rattle.uses.specs.Uses.{kindCount, countsOf, AddReply, addRefusal, addReplyOf, addReply, printReply}
+use Rattle.uses.specs.Uses.{kindCount, useCountsOf, AddReply, addRefusal, addReplyOf, addReply, printReply}
 use Rattle.uses.specs.declared.AddAnswer.{AddAnswer}
 use Rattle.uses.specs.declared.AddAnswer.the-variants as a
 use Rattle.uses.proofs.UsesHold.{counts-long}
@@ -146,26 +146,26 @@ module _ (counts : List ℕ) {all : List ℕ} (copied : all ≡ take kindCount c
   copied-all = copied ∙ append-nil (take kindCount counts)
 
   pub uses-written :
-      (b : Block) (logs : ℕ) (buffer : List ℕ) {reply : WriteReply} → reply ≡ printReply b (countsOf all logs) buffer
-      → reply ≡ printReply b (countsOf (take kindCount counts) logs) buffer
-  uses-written b logs buffer is = is ∙ ap (λ (xs : List ℕ). printReply b (countsOf xs logs) buffer) copied-all
+      (b : Block) (logs : ℕ) (buffer : List ℕ) {reply : WriteReply} → reply ≡ printReply b (useCountsOf all logs) buffer
+      → reply ≡ printReply b (useCountsOf (take kindCount counts) logs) buffer
+  uses-written b logs buffer is = is ∙ ap (λ (xs : List ℕ). printReply b (useCountsOf xs logs) buffer) copied-all
 
   -- after a log it is as long
-  module _ (long : kindCount ≤ length counts) (b : Block) (logs : ℕ) (log : List ℕ) (r : AddAnswer) {after : List ℕ} (answers : addReplyOf logs r after ≡ addReply b (countsOf all logs) log) where
+  module _ (long : kindCount ≤ length counts) (b : Block) (logs : ℕ) (log : List ℕ) (r : AddAnswer) {after : List ℕ} (answers : addReplyOf logs r after ≡ addReply b (useCountsOf all logs) log) where
     pub after-long : length after ≡ kindCount
     after-long =
         ap (λ (reply : AddReply). length (reply .counts .uses)) answers
-        ∙ counts-long b (countsOf all logs) log (ap length copied-all ∙ length-take-le kindCount counts long)
+        ∙ counts-long b (useCountsOf all logs) log (ap length copied-all ∙ length-take-le kindCount counts long)
 
     -- and stands in the slice again
     pub log-added :
         {left : List ℕ} → left ≡ take kindCount after ++ drop kindCount counts
-        → (addReplyOf logs r (take kindCount left) ≡ addReply b (countsOf (take kindCount counts) logs) log) × (drop kindCount left ≡ drop kindCount counts)
+        → (addReplyOf logs r (take kindCount left) ≡ addReply b (useCountsOf (take kindCount counts) logs) log) × (drop kindCount left ≡ drop kindCount counts)
     log-added {left} put =
         let size = after-long in
         let back : left ≡ after ++ drop kindCount counts = put ∙ ap (λ (xs : List ℕ). xs ++ drop kindCount counts) (take-all kindCount after (omega arith)) in (
           ap (addReplyOf logs r) (ap (take kindCount) back ∙ take-at after (drop kindCount counts) kindCount size)
-              ∙ answers ∙ ap (λ (xs : List ℕ). addReply b (countsOf xs logs) log) copied-all,
+              ∙ answers ∙ ap (λ (xs : List ℕ). addReply b (useCountsOf xs logs) log) copied-all,
           ap (drop kindCount) back ∙ drop-at after (drop kindCount counts) kindCount size,
         )
 
@@ -188,7 +188,7 @@ module _ (b : Block) (counts : List ℕ) (logs : ℕ) (log out : List ℕ) where
 
     pub add-called :
         (left : List ℕ) (call : Call) (r : AddAnswer) → 16 ≤ length out
-        → (addReplyOf logs r (take kindCount left) ≡ addReply b (countsOf (take kindCount counts) logs) log) × (drop kindCount left ≡ drop kindCount counts)
+        → (addReplyOf logs r (take kindCount left) ≡ addReply b (useCountsOf (take kindCount counts) logs) log) × (drop kindCount left ≡ drop kindCount counts)
         → call ≡ callOf 1 (outWith (addRefusal r) (logsAdded r ∷ []) out) → addDone call left ≡ addCall b counts logs log out
     unfolding addCall
     add-called left call r h (answers, stays) put =
@@ -203,7 +203,7 @@ module _ (b : Block) (counts : List ℕ) (logs : ℕ) (buffer out : List ℕ) wh
 
   -- else it is a writer's call
   pub uses-called :
-      {done : WriteCall} → kindCount ≤ length counts → done ≡ writtenCall (printReply b (countsOf (take kindCount counts) logs) buffer) buffer out
+      {done : WriteCall} → kindCount ≤ length counts → done ≡ writtenCall (printReply b (useCountsOf (take kindCount counts) logs) buffer) buffer out
       → done ≡ usesCall b counts logs buffer out
   unfolding usesCall
   uses-called long is = rw (le-ltb (length counts) kindCount long) is

@@ -21,7 +21,7 @@ use Rattle.negotiation.specs.Aimed.{expandedAfter}
 use Rattle.text.specs.ReadReplies.{Tables, ReadReply, readReply}
 use Rattle.text.specs.Routes.{WriteReply, writeReply}
 use Rattle.text.specs.Dot.{dotReply}
-use Rattle.uses.specs.Uses.{kindCount, countsOf, AddReply, addReply, printReply}
+use Rattle.uses.specs.Uses.{kindCount, useCountsOf, AddReply, addReply, printReply}
 use Rattle.uses.specs.declared.AddAnswer.{AddAnswer}
 use Rattle.uses.specs.declared.AddAnswer.the-variants as a
 
@@ -192,10 +192,10 @@ unfoldable pub addCall : Block → List ℕ → ℕ → List ℕ → List ℕ �
 addCall b counts logs log out =
     choose (ltb (length counts) kindCount) (addDone (callOf 0 out) counts)
     (choose (ltb (length out) 16) (addDone (callOf 0 out) counts)
-    (addCallWith (addReply b (countsOf (take kindCount counts) logs) log) counts out))
+    (addCallWith (addReply b (useCountsOf (take kindCount counts) logs) log) counts out))
 
 -- uses_write: 3 bytes
 unfoldable pub usesCall : Block → List ℕ → ℕ → List ℕ → List ℕ → WriteCall
 usesCall b counts logs buffer out =
     choose (ltb (length counts) kindCount) (writeDone (callOf 0 out) buffer)
-    (writtenCall (printReply b (countsOf (take kindCount counts) logs) buffer) buffer out)
+    (writtenCall (printReply b (useCountsOf (take kindCount counts) logs) buffer) buffer out)

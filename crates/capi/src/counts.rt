@@ -4,7 +4,7 @@ ghost use mathlib.Core.Path.{_≡_};
 ghost use Prim.Native.Nat.{_≤_};
 ghost use lib.ListN.{length, take, drop};
 ghost use Rattle.search.specs.Block.{blockOf};
-ghost use Rattle.uses.specs.Uses.{kindCount, countsOf, addReplyOf, addReply, printReplyOf, printReply};
+ghost use Rattle.uses.specs.Uses.{kindCount, useCountsOf, addReplyOf, addReply, printReplyOf, printReply};
 use uses::AddAnswer;
 use uses::KINDS;
 use uses::PrintAnswer;
@@ -34,7 +34,7 @@ pub fn add_log(
     requires { ⌜ kindCount ≤ length (now counts) ⌝ }
     ensures { λ r. do
       let block = blockOf (now (kind .entry)) (now (capacity .entry)) (now («first_edge» .entry)) (now («edge_target» .entry))
-      let reply = addReply block (countsOf (take kindCount (now (counts .entry))) logs) (now (log .entry))
+      let reply = addReply block (useCountsOf (take kindCount (now (counts .entry))) logs) (now (log .entry))
       ⌜ (addReplyOf logs r (take kindCount (now (counts .exit))) ≡ reply)
           × (drop kindCount (now (counts .exit)) ≡ drop kindCount (now (counts .entry))) ⌝ }
 {
@@ -59,7 +59,7 @@ pub fn write_uses(
     ensures { λ r. do
       let block = blockOf (now (kind .entry)) (now (capacity .entry)) (now («first_edge» .entry)) (now («edge_target» .entry))
       ⌜ printReplyOf r (now (buffer .exit))
-          ≡ printReply block (countsOf (take kindCount (now (counts .entry))) logs) (now (buffer .entry)) ⌝ }
+          ≡ printReply block (useCountsOf (take kindCount (now (counts .entry))) logs) (now (buffer .entry)) ⌝ }
 {
     let mut all = [0u64; KINDS];
     copy_counts(counts, &mut all);

@@ -17,7 +17,7 @@ use Rattle.text.specs.Decimal.{isDigit}
 use Rattle.text.specs.Lines.{lf, comma, Field, number, fault, digitsAfter, begins}
 use Rattle.text.proofs.FieldLaws.{digit-most, after-none, after-other, after-digit}
 use Rattle.generator.specs.Ask.{numberUpTo, fieldEnds, wholeField, nextField, asked, turnedAway, ended, askedIn}
-use Rattle.generator.specs.Steps.{fieldAt, FieldPlace, FieldWithin}
+use Rattle.generator.specs.Steps.{askedFieldAt, AskedFieldPlace, FieldWithin}
 use Rattle.generator.specs.declared.ask.Field as fieldType
 use Rattle.generator.specs.declared.ask.Field.the-variants as f
 
@@ -151,14 +151,14 @@ unfolding nextField
 next-comma more low high at input e = rw e (ap (wholeField more low high) (drop-drop 1 at input))
 
 -- what an answer says of the field
-pub read-is : (input : List ℕ) {r : fieldType.Field} {value next : ℕ} {said : Field} → r ≡ f.Number value next → fieldAt input r ≡ said → said ≡ number value (drop next input)
-read-is input e p = sym p ∙ ap (fieldAt input) e
+pub read-is : (input : List ℕ) {r : fieldType.Field} {value next : ℕ} {said : Field} → r ≡ f.Number value next → askedFieldAt input r ≡ said → said ≡ number value (drop next input)
+read-is input e p = sym p ∙ ap (askedFieldAt input) e
 
-pub read-fault : (input : List ℕ) {r : fieldType.Field} {said : Field} → r ≡ f.Fault → fieldAt input r ≡ said → said ≡ fault
-read-fault input e p = sym p ∙ ap (fieldAt input) e
+pub read-fault : (input : List ℕ) {r : fieldType.Field} {said : Field} → r ≡ f.Fault → askedFieldAt input r ≡ said → said ≡ fault
+read-fault input e p = sym p ∙ ap (askedFieldAt input) e
 
-pub read-place : (input : List ℕ) {r : fieldType.Field} {value next : ℕ} → r ≡ f.Number value next → FieldPlace input r → next ≤ length input
-read-place input e p = subst (FieldPlace input) e p
+pub read-place : (input : List ℕ) {r : fieldType.Field} {value next : ℕ} → r ≡ f.Number value next → AskedFieldPlace input r → next ≤ length input
+read-place input e p = subst (AskedFieldPlace input) e p
 
 pub read-within : (low high : ℕ) (input : List ℕ) {r : fieldType.Field} {value next : ℕ} → r ≡ f.Number value next → FieldWithin low high input r → (next ≤ length input) × (low ≤ value) × (value ≤ high)
 read-within low high input e p = subst (FieldWithin low high input) e p

@@ -15,7 +15,7 @@ use Rattle.price.proofs.TestLaws.{le-or-lt}
 use Rattle.text.specs.Decimal.{zeroByte, isDigit}
 use Rattle.text.specs.Lines.{lf, comma, Field, number, fault, digitsAfter, begins}
 use Rattle.text.specs.JobText.{between}
-use Rattle.generator.specs.Ask.{numberUpTo, fieldEnds, kept, wholeField, nextField, Asked, asked, orAway, ended, askedIn, shownReply}
+use Rattle.generator.specs.Ask.{numberUpTo, fieldEnds, keptField, wholeField, nextField, Asked, asked, orAway, ended, askedIn, shownReply}
 
 -- the same field where more bytes come behind it
 abbrev longer : List ℕ → Field → Field
@@ -52,7 +52,7 @@ module _ (n : ℕ) (xs : List ℕ) where
       chosen (eqb b zeroByte) record { same = refl; left = omega arith } (chosen (isDigit b) (digits-same more (b - zeroByte) bs (omega arith)) no-field)
 
   -- a field's end is seen where a byte is left
-  kept-same : (low high : ℕ) (f : Field) → 0 < n → Left n f → Same n xs (kept low high f) (kept low high (longer xs f))
+  kept-same : (low high : ℕ) (f : Field) → 0 < n → Left n f → Same n xs (keptField low high f) (keptField low high (longer xs f))
   unfolding fieldEnds
   kept-same low high fault some left = no-field
   kept-same low high (number v []) some left = absurd (omega arith)

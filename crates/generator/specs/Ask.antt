@@ -23,12 +23,12 @@ fieldEnds [] = true
 fieldEnds (b ∷ bs) = either (eqb b comma) (eqb b lf)
 
 -- a field that is "missing, malformed or beyond its bounds" is a fault
-abbrev pub kept : ℕ → ℕ → Field → Field
-kept low high fault = fault
-kept low high (number v rest) = choose (both (fieldEnds rest) (between low high v)) (number v rest) fault
+abbrev pub keptField : ℕ → ℕ → Field → Field
+keptField low high fault = fault
+keptField low high (number v rest) = choose (both (fieldEnds rest) (between low high v)) (number v rest) fault
 
 unfoldable pub wholeField : ℕ → ℕ → ℕ → List ℕ → Field
-wholeField more low high bs = kept low high (numberUpTo more bs)
+wholeField more low high bs = keptField low high (numberUpTo more bs)
 
 -- another field comes after a comma, else it is missing
 unfoldable pub nextField : ℕ → ℕ → ℕ → List ℕ → Field

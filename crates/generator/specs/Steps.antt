@@ -18,14 +18,14 @@ use Rattle.generator.specs.declared.ask.Ask.the-variants as a
 
 -- ---- the input
 
-abbrev pub fieldAt : List ℕ → fieldType.Field → Field
-fieldAt input (f.Number value next) = number value (drop next input)
-fieldAt input f.Fault = fault
+abbrev pub askedFieldAt : List ℕ → fieldType.Field → Field
+askedFieldAt input (f.Number value next) = number value (drop next input)
+askedFieldAt input f.Fault = fault
 
 -- a field that was read ends within the input
-abbrev pub FieldPlace : List ℕ → fieldType.Field → Type 0
-FieldPlace input (f.Number value next) = next ≤ length input
-FieldPlace input f.Fault = Unit {0}
+abbrev pub AskedFieldPlace : List ℕ → fieldType.Field → Type 0
+AskedFieldPlace input (f.Number value next) = next ≤ length input
+AskedFieldPlace input f.Fault = Unit {0}
 
 -- and its number lies within these bounds
 abbrev pub FieldWithin : ℕ → ℕ → List ℕ → fieldType.Field → Type 0

@@ -5,7 +5,7 @@ ghost use lib.ListN.{length, drop};
 ghost use Rattle.text.specs.Decimal.{isDigit};
 ghost use Rattle.text.specs.Lines.{digitsAfter};
 ghost use Rattle.generator.specs.Ask.{numberUpTo, fieldEnds, wholeField, nextField, askedIn};
-ghost use Rattle.generator.specs.Steps.{fieldAt, FieldPlace, FieldWithin, askedOf, AskWithin};
+ghost use Rattle.generator.specs.Steps.{askedFieldAt, AskedFieldPlace, FieldWithin, askedOf, AskWithin};
 
 // A number with the place after its digits, or a fault.
 pub enum Field {
@@ -44,8 +44,8 @@ fn is_digit(b: u8) -> bool
 // A number that begins with this digit goes on over at most so many more.
 fn further_digits(input: &[u8], at: usize, first: u64, more: u32) -> Field
     requires { ⌜ (at ≤ length (now input)) × (first < 10) × (more ≤ 9) ⌝ }
-    ensures { λ r. ⌜ fieldAt (now (input .entry)) r ≡ digitsAfter more first (drop at (now (input .entry))) ⌝ }
-    ensures { λ r. ⌜ FieldPlace (now (input .entry)) r ⌝ }
+    ensures { λ r. ⌜ askedFieldAt (now (input .entry)) r ≡ digitsAfter more first (drop at (now (input .entry))) ⌝ }
+    ensures { λ r. ⌜ AskedFieldPlace (now (input .entry)) r ⌝ }
 {
     let mut value = first;
     let mut next = at;
@@ -77,8 +77,8 @@ fn further_digits(input: &[u8], at: usize, first: u64, more: u32) -> Field
 // A number without a leading zero, of at most so many digits after its first.
 fn number(input: &[u8], at: usize, more: u32) -> Field
     requires { ⌜ more ≤ 9 ⌝ }
-    ensures { λ r. ⌜ fieldAt (now (input .entry)) r ≡ numberUpTo more (drop at (now (input .entry))) ⌝ }
-    ensures { λ r. ⌜ FieldPlace (now (input .entry)) r ⌝ }
+    ensures { λ r. ⌜ askedFieldAt (now (input .entry)) r ≡ numberUpTo more (drop at (now (input .entry))) ⌝ }
+    ensures { λ r. ⌜ AskedFieldPlace (now (input .entry)) r ⌝ }
 {
     if input.len() <= at {
         return Field::Fault;
@@ -99,7 +99,7 @@ fn number(input: &[u8], at: usize, more: u32) -> Field
 // A whole field whose number lies within these bounds.
 fn whole_field(input: &[u8], at: usize, more: u32, low: u64, high: u64) -> Field
     requires { ⌜ more ≤ 9 ⌝ }
-    ensures { λ r. ⌜ fieldAt (now (input .entry)) r ≡ wholeField more low high (drop at (now (input .entry))) ⌝ }
+    ensures { λ r. ⌜ askedFieldAt (now (input .entry)) r ≡ wholeField more low high (drop at (now (input .entry))) ⌝ }
     ensures { λ r. ⌜ FieldWithin low high (now (input .entry)) r ⌝ }
 {
     let Field::Number { value, next } = number(input, at, more) else {
@@ -123,7 +123,7 @@ fn whole_field(input: &[u8], at: usize, more: u32, low: u64, high: u64) -> Field
 // Such a field after a comma.
 fn next_field(input: &[u8], at: usize, more: u32, low: u64, high: u64) -> Field
     requires { ⌜ more ≤ 9 ⌝ }
-    ensures { λ r. ⌜ fieldAt (now (input .entry)) r ≡ nextField more low high (drop at (now (input .entry))) ⌝ }
+    ensures { λ r. ⌜ askedFieldAt (now (input .entry)) r ≡ nextField more low high (drop at (now (input .entry))) ⌝ }
     ensures { λ r. ⌜ FieldWithin low high (now (input .entry)) r ⌝ }
 {
     if !text::byte_is(input, at, b',') {

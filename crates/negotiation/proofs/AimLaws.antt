@@ -21,7 +21,7 @@ use Rattle.search.specs.Distance.{inTree}
 use Rattle.search.specs.Turn.{Congestion, weighedCongestion, priceAt, turn}
 use Rattle.job.specs.Steps.{AllBelow}
 use Rattle.negotiation.specs.Order.{fallingFrom, firstOpen, placeDue, sinkDue, sinksTried, weightingDue}
-use Rattle.negotiation.specs.OrderSteps.{AimReady, Aimed}
+use Rattle.negotiation.specs.OrderSteps.{SinksReady, Aimed}
 use Rattle.negotiation.specs.Steps.{CanTurn, turnCount, TurnDone}
 use Rattle.negotiation.specs.declared.order.Aim.{Aim}
 use Rattle.negotiation.specs.declared.tariff.Tariff.{Tariff}
@@ -190,7 +190,7 @@ slice-one xs p l =
 pub part-at : (from to : ℕ) (xs : List ℕ) (p : ℕ) → from + p < to → getD (slice from to xs) p 0 ≡ getD xs (from + p) 0
 part-at from to xs p inside = getD-drop from (take to xs) p 0 ∙ getD-take to xs (from + p) 0 inside
 
-module _ {timed : Bool} {sinks cs : List ℕ} {from to : ℕ} {marks : List ℕ} (ready : AimReady timed sinks cs from to marks) where
+module _ {timed : Bool} {sinks cs : List ℕ} {from to : ℕ} {marks : List ℕ} (ready : SinksReady timed sinks cs from to marks) where
   sinks-long : length (slice from to sinks) ≡ to - from
   sinks-long = length-slice from to sinks (ready .within)
 

@@ -18,7 +18,7 @@ use Rattle.job.specs.Job.{Job}
 use Rattle.negotiation.specs.Records.{words}
 use Rattle.negotiation.specs.Order.{turnSinks}
 use Rattle.negotiation.specs.Machine.{State}
-use Rattle.negotiation.specs.Resume.{pathIn, recordIn, wholeRecord, unjoined, firstAlone, endsAt, noOther, pathFollows, costFollows, turnPrice, turnFollows}
+use Rattle.negotiation.specs.Resume.{recordPath, recordIn, wholeRecord, unjoined, firstAlone, endsAt, noOther, pathFollows, costFollows, turnPrice, turnFollows}
 
 -- ---- the path
 
@@ -83,7 +83,7 @@ pub record Follows (j : Job) (s : State) (i : ℕ) (tree ws : List ℕ) : Type 0
   pub is-whole : wholeRecord ws ≡ true
   pub iteration-is : getD ws 0 0 ≡ s .iteration
   pub net-is : getD ws 1 0 ≡ i
-  pub path : PathHolds j i tree (getD ws 2 0) (pathIn ws)
+  pub path : PathHolds j i tree (getD ws 2 0) (recordPath ws)
   pub cost : costFollows (turnPrice j s i tree) ws ≡ true
 
 module _ (j : Job) (s : State) (i : ℕ) (tree ws : List ℕ) where
@@ -91,7 +91,7 @@ module _ (j : Job) (s : State) (i : ℕ) (tree ws : List ℕ) where
   unfolding turnFollows
   follows-of f =
       let cost : Bool = costFollows (turnPrice j s i tree) ws in
-      let path : Bool = pathFollows j i tree (getD ws 2 0) (pathIn ws) in
+      let path : Bool = pathFollows j i tree (getD ws 2 0) (recordPath ws) in
       let net : Bool = both (eqb (getD ws 1 0) i) (both path cost) in
       let names : Bool = both (eqb (getD ws 0 0) (s .iteration)) net in
       let with-names : names ≡ true = both-right (wholeRecord ws) names f in
@@ -101,7 +101,7 @@ module _ (j : Job) (s : State) (i : ℕ) (tree ws : List ℕ) where
         is-whole = both-left (wholeRecord ws) names f;
         iteration-is = eqb-true (getD ws 0 0) (s .iteration) (both-left (eqb (getD ws 0 0) (s .iteration)) net with-names);
         net-is = eqb-true (getD ws 1 0) i (both-left (eqb (getD ws 1 0) i) (both path cost) with-net);
-        path = path-holds j i tree (getD ws 2 0) (pathIn ws) (both-left path cost with-path);
+        path = path-holds j i tree (getD ws 2 0) (recordPath ws) (both-left path cost with-path);
         cost = both-right path cost with-path;
       }
 
@@ -112,7 +112,7 @@ module _ (j : Job) (s : State) (i : ℕ) (tree ws : List ℕ) where
         f .is-whole,
         eq-eqb (getD ws 0 0) (s .iteration) (f .iteration-is),
         eq-eqb (getD ws 1 0) i (f .net-is),
-        path-follows j i tree (getD ws 2 0) (pathIn ws) (f .path),
+        path-follows j i tree (getD ws 2 0) (recordPath ws) (f .path),
       )
       (f .cost)
 
@@ -128,7 +128,7 @@ module _ (ws : List ℕ) (w : wholeRecord ws ≡ true) where
   whole-long = leb-true (6 + getD ws 5 0) (length ws) (both-right (leb 6 (length ws)) (leb (6 + getD ws 5 0) (length ws)) w)
 
   -- its path is as long as it says
-  pub path-long : length (pathIn ws) ≡ getD ws 5 0
+  pub path-long : length (recordPath ws) ≡ getD ws 5 0
   path-long =
       let long = length-drop 6 ws in
       let whole = whole-long in

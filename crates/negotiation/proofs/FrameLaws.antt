@@ -18,7 +18,7 @@ use borrow.Author.Tests.{eqb-true, eq-eqb, leb-true, le-leb}
 use Rattle.price.specs.Test.{both}
 use Rattle.price.proofs.TestLaws.{either-way, both-left, both-right}
 use Rattle.price.proofs.ListLaws.{part-slice}
-use Rattle.negotiation.specs.Resume.{pathIn, wholeRecord, endsAt}
+use Rattle.negotiation.specs.Resume.{recordPath, wholeRecord, endsAt}
 use Rattle.negotiation.specs.ResumeSteps.{frameFollows}
 use Rattle.negotiation.proofs.FollowLaws.{whole-long, path-long}
 
@@ -30,13 +30,13 @@ pub record Frame (most iteration net : ℕ) (ws : List ℕ) : Type 0 where
   pub few : getD ws 5 0 ≤ most
   pub iteration-is : getD ws 0 0 ≡ iteration
   pub net-is : getD ws 1 0 ≡ net
-  pub ends : getD (pathIn ws) (length (pathIn ws) - 1) 0 ≡ getD ws 2 0
+  pub ends : getD (recordPath ws) (length (recordPath ws) - 1) 0 ≡ getD ws 2 0
 
 module _ {most iteration net : ℕ} {ws : List ℕ} where
   pub frame-of : frameFollows most iteration net ws ≡ true → Frame most iteration net ws
   unfolding frameFollows endsAt
   frame-of t =
-      let end : Bool = endsAt (getD ws 2 0) (pathIn ws) in
+      let end : Bool = endsAt (getD ws 2 0) (recordPath ws) in
       let of-net : Bool = both (eqb (getD ws 1 0) net) end in
       let of-iteration : Bool = both (eqb (getD ws 0 0) iteration) of-net in
       let few : Bool = both (leb (getD ws 5 0) most) of-iteration in
@@ -51,7 +51,7 @@ module _ {most iteration net : ℕ} {ws : List ℕ} where
         few = leb-true (getD ws 5 0) most (both-left (leb (getD ws 5 0) most) of-iteration with-few);
         iteration-is = eqb-true (getD ws 0 0) iteration (both-left (eqb (getD ws 0 0) iteration) of-net with-iteration);
         net-is = eqb-true (getD ws 1 0) net (both-left (eqb (getD ws 1 0) net) end with-net);
-        ends = eqb-true (getD (pathIn ws) (length (pathIn ws) - 1) 0) (getD ws 2 0) (both-right (eqb (getD ws 1 0) net) end with-net);
+        ends = eqb-true (getD (recordPath ws) (length (recordPath ws) - 1) 0) (getD ws 2 0) (both-right (eqb (getD ws 1 0) net) end with-net);
       }
 
   pub frame-holds : Frame most iteration net ws → frameFollows most iteration net ws ≡ true
@@ -64,14 +64,14 @@ module _ {most iteration net : ℕ} {ws : List ℕ} where
         eq-eqb (getD ws 0 0) iteration (f .iteration-is),
         eq-eqb (getD ws 1 0) net (f .net-is),
       )
-      (eq-eqb (getD (pathIn ws) (length (pathIn ws) - 1) 0) (getD ws 2 0) (f .ends))
+      (eq-eqb (getD (recordPath ws) (length (recordPath ws) - 1) 0) (getD ws 2 0) (f .ends))
 
 -- the last node of a whole record's path
-path-last : (ws : List ℕ) → wholeRecord ws ≡ true → 2 ≤ getD ws 5 0 → getD (pathIn ws) (length (pathIn ws) - 1) 0 ≡ getD ws (5 + getD ws 5 0) 0
+path-last : (ws : List ℕ) → wholeRecord ws ≡ true → 2 ≤ getD ws 5 0 → getD (recordPath ws) (length (recordPath ws) - 1) 0 ≡ getD ws (5 + getD ws 5 0) 0
 path-last ws whole two =
     let below : getD ws 5 0 - 1 < getD ws 5 0 = omega arith in
     let place : 6 + (getD ws 5 0 - 1) ≡ 5 + getD ws 5 0 = omega arith in
-    ap (λ (k : ℕ). getD (pathIn ws) (k - 1) 0) (path-long ws whole)
+    ap (λ (k : ℕ). getD (recordPath ws) (k - 1) 0) (path-long ws whole)
     ∙ getD-take (getD ws 5 0) (drop 6 ws) (getD ws 5 0 - 1) 0 below
     ∙ getD-drop 6 ws (getD ws 5 0 - 1) 0
     ∙ ap (λ (k : ℕ). getD ws k 0) place
@@ -83,7 +83,7 @@ module _ (log : List ℕ) (at : ℕ) where
   abbrev pub pathCount : ℕ
   pathCount = getD log (at + 5) 0
 
-  pub path-read : pathIn (drop at log) ≡ slice (at + 6) (at + 6 + pathCount) log
+  pub path-read : recordPath (drop at log) ≡ slice (at + 6) (at + 6 + pathCount) log
   path-read =
       let long : at + 6 + pathCount - (at + 6) ≡ pathCount = omega arith in
       rw (getD-drop at log 5 0, drop-drop 6 at log)
@@ -94,7 +94,7 @@ module _ (log : List ℕ) (at : ℕ) where
 
   last-read :
       wholeRecord (drop at log) ≡ true → 2 ≤ getD (drop at log) 5 0
-      → getD (pathIn (drop at log)) (length (pathIn (drop at log)) - 1) 0 ≡ getD log (at + 5 + pathCount) 0
+      → getD (recordPath (drop at log)) (length (recordPath (drop at log)) - 1) 0 ≡ getD log (at + 5 + pathCount) 0
   last-read whole two =
       let five = getD-drop at log 5 0 in
       let place : at + (5 + getD (drop at log) 5 0) ≡ at + 5 + pathCount = omega arith in

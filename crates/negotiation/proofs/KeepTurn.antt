@@ -30,7 +30,7 @@ use Rattle.search.proofs.TableLaws.{sinks-all}
 use Rattle.job.specs.declared.Terms.{Terms}
 use Rattle.job.specs.Job.{Job, nodes, nets, jobOf, sinksBetween, netSinks, netCriticalities}
 use Rattle.negotiation.specs.Order.{placeDue, sinkDue, sinksTried, weightingDue, turnSinks, turnWeighting, turnCongestion}
-use Rattle.negotiation.specs.OrderSteps.{AimReady}
+use Rattle.negotiation.specs.OrderSteps.{SinksReady}
 use Rattle.negotiation.specs.Routable.{Routable}
 use Rattle.negotiation.specs.Records.{Record, recordOf}
 use Rattle.negotiation.specs.Machine.{State, Progress, othersOf, marksOf, congestionFor, turnOf, turnsOf, treeFrom}
@@ -361,7 +361,7 @@ lent-tables kinds capacities firstEdges edgeTargets sources firstSinks sinks del
 -- the net's part of tables 7 and 10 can be read
 pub aim-ready :
     (j : Job) → Routable j → (i : ℕ) → i < nets j → {delays cs : List ℕ} → Lent j delays cs → (marks : List ℕ) → length marks ≡ nodes j
-    → AimReady (j .terms .timed) (j .sinks) cs (getD (j .firstSinks) i 0) (getD (j .firstSinks) (i + 1) 0) marks
+    → SinksReady (j .terms .timed) (j .sinks) cs (getD (j .firstSinks) i 0) (getD (j .firstSinks) (i + 1) 0) marks
 unfolding netSinks
 aim-ready j sound i hi lent marks long =
     let begins : ℕ = getD (j .firstSinks) i 0 in
@@ -396,7 +396,7 @@ module _ (j : Job) (sound : Routable j) {p : Progress} {work₀ log₀ : List �
       head
 
   -- what the call asks: the net's part of tables 7 and 10, and that nothing is refused
-  pub call-aim : AimReady (j .terms .timed) (j .sinks) cs (getD (j .firstSinks) i 0) (getD (j .firstSinks) (i + 1) 0) marks
+  pub call-aim : SinksReady (j .terms .timed) (j .sinks) cs (getD (j .firstSinks) i 0) (getD (j .firstSinks) (i + 1) 0) marks
   call-aim = aim-ready j sound i (at-more .net) lent marks (tree-long j (at-more .opened))
 
   pub call-turn : t .expanded + nodes j < 2 ^ 64 → CanTurn (j .block) (pricesBy j i marks cs delays t history users) t (triedBy j i marks cs) marks work log

@@ -19,7 +19,7 @@ use Rattle.price.specs.Lists.{has}
 use Rattle.price.proofs.TestLaws.{either-way}
 use Rattle.price.proofs.ListLaws.{has-append, has-append-left, has-append-right}
 use Rattle.job.specs.Steps.{AllBelow}
-use Rattle.negotiation.specs.Steps.{Dropped, Added, CanDrop, CanAddMarked}
+use Rattle.negotiation.specs.Steps.{Dropped, UsersAdded, CanDrop, CanAddMarked}
 use Rattle.job.proofs.MarkLaws.{Between, node-below, slice-parts, stored-append, stored-none, stored-one}
 
 -- ---- users that go
@@ -86,13 +86,13 @@ dropped-append {n} {xs} {ys} {users} {marks} s t = record {
 add-none : (u : ℕ) → u ≡ u + 0
 add-none u = omega arith
 
-pub added-none : (n : ℕ) (users marks : List ℕ) → Added n [] users marks users marks
+pub added-none : (n : ℕ) (users marks : List ℕ) → UsersAdded n [] users marks users marks
 unfolding has
 added-none n users marks = record { users-long = refl; marks-cleared = stored-none 0 marks; users-at = λ v b. add-none (getD users v 0) }
 
 module _ (n y : ℕ) (users marks : List ℕ) (l : y < length marks) where
   -- a node that was marked
-  pub added-one : y < length users → getD marks y 0 ≡ 1 → Added n (y ∷ []) users marks (set users y (getD users y 0 + 1)) (set marks y 0)
+  pub added-one : y < length users → getD marks y 0 ≡ 1 → UsersAdded n (y ∷ []) users marks (set users y (getD users y 0 + 1)) (set marks y 0)
   unfolding has
   added-one h z = record {
     users-long = length-set users y (getD users y 0 + 1);
@@ -109,7 +109,7 @@ module _ (n y : ℕ) (users marks : List ℕ) (l : y < length marks) where
   }
 
   -- a node that was not marked
-  pub added-kept : (getD marks y 0 ≡ 1 → ⊥) → Added n (y ∷ []) users marks users (set marks y 0)
+  pub added-kept : (getD marks y 0 ≡ 1 → ⊥) → UsersAdded n (y ∷ []) users marks users (set marks y 0)
   unfolding has
   added-kept z = record {
     users-long = refl;
@@ -130,7 +130,7 @@ add-again true false m u = sym (add-none _)
 add-again false t m u = rw (← add-none u)
 
 -- what a node gains in a second list it has not gained in the first: there it lost its mark
-pub added-append : {n : ℕ} {xs ys users marks usersNow marksNow usersLater marksLater : List ℕ} → Added n xs users marks usersNow marksNow → Added n ys usersNow marksNow usersLater marksLater → Added n (xs ++ ys) users marks usersLater marksLater
+pub added-append : {n : ℕ} {xs ys users marks usersNow marksNow usersLater marksLater : List ℕ} → UsersAdded n xs users marks usersNow marksNow → UsersAdded n ys usersNow marksNow usersLater marksLater → UsersAdded n (xs ++ ys) users marks usersLater marksLater
 added-append {n} {xs} {ys} {users} {marks} s t = record {
   users-long = t .users-long ∙ s .users-long;
   marks-cleared = stored-append (s .marks-cleared) (t .marks-cleared);
@@ -159,7 +159,7 @@ pub can-drop-left : {n : ℕ} (users marks xs ys : List ℕ) → CanDrop n (xs +
 can-drop-left users marks xs ys can v b among z = can v b (has-append-left v xs ys among) z
 
 -- a node that is marked now was not passed
-pub can-add-rest : {n : ℕ} {xs users marks usersNow marksNow : List ℕ} → CanAddMarked n users marks → Added n xs users marks usersNow marksNow → CanAddMarked n usersNow marksNow
+pub can-add-rest : {n : ℕ} {xs users marks usersNow marksNow : List ℕ} → CanAddMarked n users marks → UsersAdded n xs users marks usersNow marksNow → CanAddMarked n usersNow marksNow
 can-add-rest {n} {xs} {users} {marks} {usersNow} {marksNow} can s v b o =
     ⊎-elim
     (λ (q : has v xs ≡ true).

@@ -21,7 +21,7 @@ use Rattle.negotiation.specs.Routable.{Routable}
 use Rattle.negotiation.specs.Order.{turnSinks}
 use Rattle.negotiation.specs.Machine.{State, netRecords, treeFrom, afterNets, iterate, overCount, firstState, stateAfter, iterationAfter, recordsAfter, settlesAt}
 use Rattle.negotiation.specs.Outcome.{hasPath}
-use Rattle.negotiation.specs.Resume.{pathIn, wholeRecord, costFollows, turnPrice, turnFollows, allJoined, on, replay, OwnLog}
+use Rattle.negotiation.specs.Resume.{recordPath, wholeRecord, costFollows, turnPrice, turnFollows, allJoined, on, replay, OwnLog}
 use Rattle.negotiation.specs.Runs.{Ran, start}
 use Rattle.negotiation.proofs.MemberLaws.{every-has, every-members}
 use Rattle.negotiation.proofs.OrderLaws.{turn-listed}
@@ -53,7 +53,7 @@ walk-end (step e (step {path = path} f r)) =
 
 -- a record with such a path follows, whatever words come after its own
 module _ (j : Job) (s : State) (i : ℕ) (tree : List ℕ) (r : Record) (path : PathHolds j i tree (r .sink) (r .path)) (ws : List ℕ) where
-  path-in : pathIn (words r ++ ws) ≡ r .path
+  path-in : recordPath (words r ++ ws) ≡ r .path
   unfolding words
   path-in = take-append-seam (r .path) ws
 

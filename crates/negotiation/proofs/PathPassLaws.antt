@@ -25,7 +25,7 @@ use Rattle.search.proofs.DistinctLaws.{has-rest, has-cons, lacks, distinct-cons
 use Rattle.job.specs.Job.{Job, nodes}
 use Rattle.negotiation.specs.Order.{turnSinks}
 use Rattle.negotiation.specs.Machine.{State}
-use Rattle.negotiation.specs.Resume.{pathIn, unjoined, noOther, costFollows, turnPrice, turnFollows}
+use Rattle.negotiation.specs.Resume.{recordPath, unjoined, noOther, costFollows, turnPrice, turnFollows}
 use Rattle.negotiation.specs.ResumeSteps.{passCost, costIs, frameFollows, turnPasses}
 use Rattle.negotiation.proofs.MemberLaws.{every-has, every-members, none-has}
 use Rattle.negotiation.proofs.TreeLaws.{TreeNodes}
@@ -167,14 +167,14 @@ module _ (j : Job) (g : Graph (j .block)) (s : State) (i : ℕ) (tree goals mark
   price = turnPrice j s i tree
 
   abbrev costs : List ℕ
-  costs = passCost (j .block) price goals marks (pathIn ws)
+  costs = passCost (j .block) price goals marks (recordPath ws)
 
   turn-there : Follows j s i tree ws → turnPasses (j .block) price goals marks (s .iteration) i ws ≡ true
   unfolding turnPasses costFollows
   turn-there f =
-      let n : length (pathIn ws) ≡ getD ws 5 0 = path-long ws (f .is-whole) in
-      let two = path-two j i tree (getD ws 2 0) (pathIn ws) (f .path) in
-      let few = path-few j g price i tree goals marks inside long marked goal (getD ws 2 0) (pathIn ws) (f .path) in
+      let n : length (recordPath ws) ≡ getD ws 5 0 = path-long ws (f .is-whole) in
+      let two = path-two j i tree (getD ws 2 0) (recordPath ws) (f .path) in
+      let few = path-few j g price i tree goals marks inside long marked goal (getD ws 2 0) (recordPath ws) (f .path) in
       let frame : Frame (nodes j) (s .iteration) i ws =
       record {
         is-whole = f .is-whole;
@@ -184,7 +184,7 @@ module _ (j : Job) (g : Graph (j .block)) (s : State) (i : ℕ) (tree goals mark
         net-is = f .net-is;
         ends = f .path .ends;
       } in
-      rw (frame-holds frame, path-cost j g price i tree goals marks inside long marked goal (getD ws 2 0) (pathIn ws) (f .path)) (f .cost)
+      rw (frame-holds frame, path-cost j g price i tree goals marks inside long marked goal (getD ws 2 0) (recordPath ws) (f .path)) (f .cost)
 
   turn-back : turnPasses (j .block) price goals marks (s .iteration) i ws ≡ true → Follows j s i tree ws
   unfolding turnPasses costFollows
@@ -193,17 +193,17 @@ module _ (j : Job) (g : Graph (j .block)) (s : State) (i : ℕ) (tree goals mark
       let framed : Bool = frameFollows (nodes j) (s .iteration) i ws in
       let with-cost : cost ≡ true = both-right framed cost t in
       let frame : Frame (nodes j) (s .iteration) i ws = frame-of (both-left framed cost t) in
-      let n : length (pathIn ws) ≡ getD ws 5 0 = path-long ws (frame .is-whole) in
+      let n : length (recordPath ws) ≡ getD ws 5 0 = path-long ws (frame .is-whole) in
       let many = frame .two in
-      let path : PathHolds j i tree (getD ws 2 0) (pathIn ws) =
-      path-passed j g price i tree goals marks inside long marked goal (getD ws 2 0) (pathIn ws) (omega arith) (frame .ends)
+      let path : PathHolds j i tree (getD ws 2 0) (recordPath ws) =
+      path-passed j g price i tree goals marks inside long marked goal (getD ws 2 0) (recordPath ws) (omega arith) (frame .ends)
       (λ (none : costs ≡ []). true≢false (sym (rw none at with-cost))) in
       record {
         is-whole = frame .is-whole;
         iteration-is = frame .iteration-is;
         net-is = frame .net-is;
         path = path;
-        cost = rw (path-cost j g price i tree goals marks inside long marked goal (getD ws 2 0) (pathIn ws) path) at with-cost;
+        cost = rw (path-cost j g price i tree goals marks inside long marked goal (getD ws 2 0) (recordPath ws) path) at with-cost;
       }
 
   pub turn-pass : turnFollows j s i tree ws ≡ turnPasses (j .block) price goals marks (s .iteration) i ws

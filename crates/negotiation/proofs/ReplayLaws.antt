@@ -20,7 +20,7 @@ use Rattle.search.proofs.DistinctLaws.{has-first, has-rest, has-cons, lacks, di
 use Rattle.job.specs.Job.{Job, nets, source, netSinks}
 use Rattle.negotiation.specs.Records.{Record, words, encode, pathNodes}
 use Rattle.negotiation.specs.Machine.{State, Progress, treeFrom, withNet, due, overCount, moveOn, firstState}
-use Rattle.negotiation.specs.Resume.{recordIn, wholeRecord, costFollows, turnPrice, turnFollows, allJoined, Replay, on, off, andThen, after, replayTurns, replayNets, replayNext, replayFrom, replay}
+use Rattle.negotiation.specs.Resume.{recordIn, wholeRecord, costFollows, turnPrice, turnFollows, allJoined, Replay, on, off, ifOn, after, replayTurns, replayNets, replayNext, replayFrom, replay}
 use Rattle.negotiation.specs.Runs.{All, Of, stepEnds, branchEnds, Owns, NetsRan, none, kept, routed, Ran, start, next}
 use Rattle.negotiation.proofs.DueLaws.{due-some}
 use Rattle.negotiation.proofs.RecordLaws.{encode-append, pathNodes-append}
@@ -40,7 +40,7 @@ chosen-on true a w q e = (refl, e)
 chosen-on false a w q e = absurd (off-on e)
 
 -- what comes after an answer
-then-on : (a : Replay) (f : Progress → Replay) (q : Progress) → andThen a f ≡ on q → (p : Progress) × (a ≡ on p) × (f p ≡ on q)
+then-on : (a : Replay) (f : Progress → Replay) (q : Progress) → ifOn a f ≡ on q → (p : Progress) × (a ≡ on p) × (f p ≡ on q)
 then-on (on p) f q e = (p, refl, e)
 then-on (off w) f q e = absurd (off-on e)
 

@@ -13,7 +13,7 @@ use Rattle.price.specs.Lists.{has}
 use Rattle.price.proofs.TestLaws.{either-way}
 use Rattle.negotiation.specs.Records.{decode, pathNodes}
 use Rattle.job.specs.Steps.{Stored}
-use Rattle.negotiation.specs.Steps.{Dropped, Added, CanDrop, CanAddMarked, RipReady, RippedUp, CountReady, Counted}
+use Rattle.negotiation.specs.Steps.{Dropped, UsersAdded, CanDrop, CanAddMarked, RipReady, RippedUp, CountReady, TreeCounted}
 
 -- the old tree: its nodes are dropped and marked, then their marks go
 module _ {from to : ℕ} {log users marks : List ℕ} (r : RipReady (length marks) from to log users marks) where
@@ -51,7 +51,7 @@ module _ {from to : ℕ} {log users marks : List ℕ} (r : CountReady (length ma
   pub count-can-add : CanAddMarked (length marks) users marks
   count-can-add v h t = r .room v h
 
-  pub count-done : {users₁ marks₁ : List ℕ} → Added (length marks) new users marks users₁ marks₁ → Counted (length marks) new users marks users₁ marks₁
+  pub count-done : {users₁ marks₁ : List ℕ} → UsersAdded (length marks) new users marks users₁ marks₁ → TreeCounted (length marks) new users marks users₁ marks₁
   count-done a = record {
     users-long = a .users-long;
     marks-long = a .marks-cleared .long;

@@ -29,7 +29,7 @@ use Rattle.negotiation.specs.Outcome.{begun}
 use Rattle.negotiation.specs.Steps.{takes, DueReady}
 use Rattle.negotiation.specs.TariffSteps.{endedTariff, startedTariff}
 use Rattle.negotiation.specs.Kept.{CanGoOn, Ready}
-use Rattle.negotiation.specs.Resume.{Replay, on, off, andThen, replayNets, replayNext, replayFrom}
+use Rattle.negotiation.specs.Resume.{Replay, on, off, ifOn, replayNets, replayNext, replayFrom}
 use Rattle.negotiation.specs.TakeSteps.{NetsOpen, NetsOn, NetsTaken, LogOn, LogTaken}
 use Rattle.negotiation.specs.declared.tariff.Tariff.{Tariff}
 use Rattle.negotiation.specs.declared.take_up.Taken.{Taken}
@@ -107,7 +107,7 @@ next-below j {t = t} n go =
 -- one iteration of the replay
 from-step :
     (j : Job) (ws : List ℕ) (k : ℕ) (q : Progress) (a : Replay) → replayNets j ws (q .state) (q .records) (nets j) ≡ a
-    → replayFrom j ws (suc k) (q .state) (q .records) ≡ andThen a (λ p. replayNext j ws p (replayFrom j ws k))
+    → replayFrom j ws (suc k) (q .state) (q .records) ≡ ifOn a (λ p. replayNext j ws p (replayFrom j ws k))
 unfolding replayFrom
 from-step j ws k q a e = rw e
 

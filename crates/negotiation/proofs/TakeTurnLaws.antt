@@ -37,7 +37,7 @@ use Rattle.negotiation.specs.Outcome.{logWith}
 use Rattle.job.specs.Steps.{AllBelow, Stored}
 use Rattle.negotiation.specs.TariffSteps.{loggedTariff}
 use Rattle.negotiation.specs.Kept.{Tallied, CanGoOn}
-use Rattle.negotiation.specs.Resume.{pathIn, recordIn, wholeRecord, costFollows, turnPrice, turnFollows, allJoined, on, off, after, replayTurns}
+use Rattle.negotiation.specs.Resume.{recordPath, recordIn, wholeRecord, costFollows, turnPrice, turnFollows, allJoined, on, off, after, replayTurns}
 use Rattle.negotiation.specs.ResumeSteps.{turnPasses}
 use Rattle.negotiation.specs.TakeSteps.{TakenTo, goalsOf, TryReady, triedPasses, NetOpens, NetOn}
 use Rattle.negotiation.specs.declared.tariff.Tariff.{Tariff}
@@ -90,8 +90,8 @@ pub tallied-follows :
     → Tallied (rs ++ (recordIn price (after log rs) ∷ [])) log (loggedTariff t (6 + getD (after log rs) 5 0)) log
 tallied-follows rs log t price a w c =
     let r : Record = recordIn price (after log rs) in
-    let path : length (pathIn (after log rs)) ≡ getD (after log rs) 5 0 = path-long (after log rs) w in
-    let own : length (words r) ≡ 6 + length (pathIn (after log rs)) = words-length r in
+    let path : length (recordPath (after log rs)) ≡ getD (after log rs) 5 0 = path-long (after log rs) w in
+    let own : length (words r) ≡ 6 + length (recordPath (after log rs)) = words-length r in
     let long : length (encode (rs ++ (r ∷ []))) ≡ length (encode rs) + length (words r) = rw (encode-more rs r) (length-append (encode rs) (words r)) in
     let one : length (rs ++ (r ∷ [])) ≡ length rs + 1 = length-append rs (r ∷ []) in
     let there : 6 + getD (after log rs) 5 0 ≤ length (after log rs) = whole-long (after log rs) w in
@@ -347,21 +347,21 @@ module _ (j : Job) {p : Progress} {i : ℕ} {delays criticalities : List ℕ} {t
         unfolding replayTurns
         one-more = more-left ∙ rw (still-open, yes)
 
-        path-below : AllBelow (nodes j) (pathIn there)
-        path-below = path-nodes j graph i tree inside (getD there 2 0) (pathIn there) (follows .path)
+        path-below : AllBelow (nodes j) (recordPath there)
+        path-below = path-nodes j graph i tree inside (getD there 2 0) (recordPath there) (follows .path)
 
         nodes-below : AllBelow (nodes j) (pathNodes (f .made ++ (r ∷ [])))
         unfolding pathNodes
         nodes-below =
-            rw (pathNodes-append (f .made) (r ∷ []), append-nil (pathIn there))
-            (below-append (nodes j) (pathNodes (f .made)) (pathIn there) (f .below) path-below)
+            rw (pathNodes-append (f .made) (r ∷ []), append-nil (recordPath there))
+            (below-append (nodes j) (pathNodes (f .made)) (recordPath there) (f .below) path-below)
 
         counted : Tallied (p .records ++ (f .made ++ (r ∷ []))) log (loggedTariff t (6 + getD there 5 0)) log
         counted =
             rw (← append-assoc (p .records) (f .made) (r ∷ []))
             (tallied-follows (p .records ++ f .made) log t price (f .at .tallied) (follows .is-whole) (follows .cost))
 
-        one-turn : {marks′ : List ℕ} → Stored 1 (pathIn there) marks marks′ → Following j p i (left - 1) (loggedTariff t (6 + getD there 5 0)) marks′ log
+        one-turn : {marks′ : List ℕ} → Stored 1 (recordPath there) marks marks′ → Following j p i (left - 1) (loggedTariff t (6 + getD there 5 0)) marks′ log
         one-turn stored =
             record {
               made = f .made ++ (r ∷ []);
@@ -395,11 +395,11 @@ module _ (j : Job) {p : Progress} {i : ℕ} {delays criticalities : List ℕ} {t
               answer ∙ ap (λ (b : Bool). choose b (6 + getD (drop (t .words) log) 5 0) 0) passed ∙ ap (λ (l : List ℕ). 6 + getD l 5 0) words-here
 
           pub follow-more :
-              {marks′ : List ℕ} → Stored 1 (pathIn (drop (t .words) log)) marks marks′ → {t′ : Tariff} → t′ ≡ loggedTariff t count
+              {marks′ : List ℕ} → Stored 1 (recordPath (drop (t .words) log)) marks marks′ → {t′ : Tariff} → t′ ≡ loggedTariff t count
               → Following j p i (left - 1) t′ marks′ log
           follow-more {marks′} stored {t′} is =
               subst (λ (x : Tariff). Following j p i (left - 1) x marks′ log) (sym (is ∙ ap (λ (k : ℕ). loggedTariff t k) count-is))
-              (one-turn following (subst (λ (l : List ℕ). Stored 1 (pathIn l) marks marks′) words-here stored))
+              (one-turn following (subst (λ (l : List ℕ). Stored 1 (recordPath l) marks marks′) words-here stored))
 
           -- the tariff can count it
           pub follow-room : {most : ℕ} → length log < most → (t .turns + 1 < most) × (t .words + count < most)

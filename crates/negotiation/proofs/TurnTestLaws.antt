@@ -17,7 +17,7 @@ use borrow.Author.Tests.{eq-eqb, ne-eqb}
 use Rattle.price.specs.Test.{choose}
 use Rattle.search.specs.Block.{Block, nodes}
 use Rattle.search.specs.Turn.{Congestion, priceAt}
-use Rattle.negotiation.specs.Resume.{pathIn}
+use Rattle.negotiation.specs.Resume.{recordPath}
 use Rattle.job.specs.Steps.{Stored}
 use Rattle.negotiation.specs.ResumeSteps.{passCost, RecordReady, PassReady, costsOf, PathMarked, costIs, frameFollows, turnPasses}
 use Rattle.negotiation.specs.declared.follow.PathCost.{PathCost}
@@ -76,7 +76,7 @@ module _ {b : Block} {c : Congestion} {goals marks log : List ℕ} {at : ℕ} (r
       passes-is : (r′ : PathCost) → r ≡ r′ → passes ≡ costIs (drop at log) (costsOf r′)
       unfolding turnPasses
       passes-is r′ q =
-          let same : passCost b (priceAt b c) goals marks (pathIn (drop at log)) ≡ costsOf r′ =
+          let same : passCost b (priceAt b c) goals marks (recordPath (drop at log)) ≡ costsOf r′ =
           ap (passCost b (priceAt b c) goals marks) (path-read log at) ∙ sym e ∙ ap costsOf q in
           rw (t, same)
 
@@ -95,6 +95,6 @@ module _ {b : Block} {c : Congestion} {goals marks log : List ℕ} {at : ℕ} (r
 
     pub turn-marked :
         {r : PathCost} {cost : ℕ} {marks′ : List ℕ} → r ≡ Cost cost → PathMarked r (slice (at + 6) to log) marks marks′
-        → Stored 1 (pathIn (drop at log)) marks marks′
+        → Stored 1 (recordPath (drop at log)) marks marks′
     turn-marked {marks′ = marks′} q m =
         rw (path-read log at) (subst (λ (r : PathCost). PathMarked r (slice (at + 6) to log) marks marks′) q m)

@@ -12,7 +12,7 @@ use Rattle.negotiation.specs.Order.{sinksTried, weightingDue}
 use Rattle.negotiation.specs.declared.order.Aim.{Aim}
 
 -- a net's sinks stand in table 7 from one place to below another, each a node that has its mark; in a timed job with their criticalities
-pub record AimReady (timed : Bool) (sinks criticalities : List ℕ) (from to : ℕ) (marks : List ℕ) : Type 0 where
+pub record SinksReady (timed : Bool) (sinks criticalities : List ℕ) (from to : ℕ) (marks : List ℕ) : Type 0 where
   pub order : from ≤ to
   pub within : to ≤ length sinks
   pub nodes : (p : ℕ) → from ≤ p → p < to → getD sinks p 0 < length marks

@@ -26,12 +26,12 @@ use Rattle.negotiation.specs.declared.Start.the-variants.{Anew, After}
 -- ---- one record
 
 -- the path of the record that the words begin with
-abbrev pub pathIn : List ℕ → List ℕ
-pathIn ws = take (getD ws 5 0) (drop 6 ws)
+abbrev pub recordPath : List ℕ → List ℕ
+recordPath ws = take (getD ws 5 0) (drop 6 ws)
 
 -- the record that the words begin with, where its cost follows
 abbrev pub recordIn : (ℕ → ℕ) → List ℕ → Record
-recordIn price ws = recordOf (getD ws 0 0) (getD ws 1 0) (getD ws 2 0) (pathCost price (pathIn ws)) (pathIn ws)
+recordIn price ws = recordOf (getD ws 0 0) (getD ws 1 0) (getD ws 2 0) (pathCost price (recordPath ws)) (recordPath ws)
 
 -- "a record cut short .. doesn't follow"
 unfoldable pub wholeRecord : List ℕ → Bool
@@ -68,7 +68,7 @@ pathFollows j i tree sink path =
 -- "its cost the sum of its prices": the two words of a cost are that cost's
 unfoldable pub costFollows : (ℕ → ℕ) → List ℕ → Bool
 costFollows price ws =
-    both (eqb (getD ws 3 0) (pathCost price (pathIn ws) % 2 ^ 32)) (eqb (getD ws 4 0) (pathCost price (pathIn ws) / 2 ^ 32))
+    both (eqb (getD ws 3 0) (pathCost price (recordPath ws) % 2 ^ 32)) (eqb (getD ws 4 0) (pathCost price (recordPath ws) / 2 ^ 32))
 
 -- what a node costs in the next turn of net i, which has this tree, in this state
 abbrev pub turnPrice : Job → State → ℕ → List ℕ → ℕ → ℕ
@@ -80,7 +80,7 @@ turnFollows j s i tree ws =
     both (wholeRecord ws)
     (both (eqb (getD ws 0 0) (s .iteration))
     (both (eqb (getD ws 1 0) i)
-    (both (pathFollows j i tree (getD ws 2 0) (pathIn ws))
+    (both (pathFollows j i tree (getD ws 2 0) (recordPath ws))
     (costFollows (turnPrice j s i tree) ws))))
 
 -- ---- the log, record after record
@@ -90,9 +90,9 @@ pub data Replay : Type 0 where
   on : (p : Progress) → Replay
   off : (word : ℕ) → Replay
 
-abbrev pub andThen : Replay → (Progress → Replay) → Replay
-andThen (on p) next = next p
-andThen (off word) next = off word
+abbrev pub ifOn : Replay → (Progress → Replay) → Replay
+ifOn (on p) next = next p
+ifOn (off word) next = off word
 
 -- the words after these records
 abbrev pub after : List ℕ → List Record → List ℕ
@@ -119,7 +119,7 @@ replayTurns j ws i p (suc k) made =
 unfoldable pub replayNets : Job → List ℕ → State → List Record → ℕ → Replay
 replayNets j ws s rs zero = on (record { records = rs; state = s })
 replayNets j ws s rs (suc i) =
-    andThen (replayNets j ws s rs i)
+    ifOn (replayNets j ws s rs i)
     (λ p. choose (due j s i) (replayTurns j ws i p (length (netSinks j i)) []) (on p))
 
 -- after a whole iteration: "one or more iterations, each leaving a node overfull, the last whole and below the limit"
@@ -133,7 +133,7 @@ replayNext j ws p next =
 unfoldable pub replayFrom : Job → List ℕ → ℕ → State → List Record → Replay
 replayFrom j ws zero s rs = offAfter rs
 replayFrom j ws (suc k) s rs =
-    andThen (replayNets j ws s rs (nets j)) (λ p. replayNext j ws p (replayFrom j ws k))
+    ifOn (replayNets j ws s rs (nets j)) (λ p. replayNext j ws p (replayFrom j ws k))
 
 -- "The log must follow the job: from iteration 1", over the words used; "or the log's length if the words used exceed it"
 unfoldable pub replay : Job → ℕ → List ℕ → Replay

@@ -13,7 +13,7 @@ use Rattle.search.specs.Block.{Block, nodes, hasEdge}
 use Rattle.search.specs.Tables.{Sound}
 use Rattle.search.specs.Turn.{Congestion}
 use Rattle.search.specs.Frontier.{PriceReady}
-use Rattle.negotiation.specs.Resume.{pathIn, wholeRecord, endsAt}
+use Rattle.negotiation.specs.Resume.{recordPath, wholeRecord, endsAt}
 use Rattle.job.specs.Steps.{Stored}
 use Rattle.negotiation.specs.declared.follow.PathCost.{PathCost}
 use Rattle.negotiation.specs.declared.follow.PathCost.the-variants.{Cost, Strays}
@@ -76,9 +76,9 @@ frameFollows most iteration net ws =
     (both (leb (getD ws 5 0) most)
     (both (eqb (getD ws 0 0) iteration)
     (both (eqb (getD ws 1 0) net)
-    (endsAt (getD ws 2 0) (pathIn ws))))))
+    (endsAt (getD ws 2 0) (recordPath ws))))))
 
 -- the words begin with a turn that follows, by one pass over its path
 unfoldable pub turnPasses : Block → (ℕ → ℕ) → (goals marks : List ℕ) → (iteration net : ℕ) → List ℕ → Bool
 turnPasses b price goals marks iteration net ws =
-    both (frameFollows (nodes b) iteration net ws) (costIs ws (passCost b price goals marks (pathIn ws)))
+    both (frameFollows (nodes b) iteration net ws) (costIs ws (passCost b price goals marks (recordPath ws)))

@@ -39,7 +39,7 @@ pub record Dropped (n : ℕ) (xs users marks users′ marks′ : List ℕ) : Typ
   pub users-at : (v : ℕ) → v < n → getD users′ v 0 ≡ getD users v 0 - choose (both (has v xs) (eqb (getD marks v 0) 0)) 1 0
 
 -- each of these nodes that was marked has one user more, and none is marked
-pub record Added (n : ℕ) (xs users marks users′ marks′ : List ℕ) : Type 0 where
+pub record UsersAdded (n : ℕ) (xs users marks users′ marks′ : List ℕ) : Type 0 where
   pub users-long : length users′ ≡ length users
   pub marks-cleared : Stored 0 xs marks marks′
   pub users-at : (v : ℕ) → v < n → getD users′ v 0 ≡ getD users v 0 + choose (both (has v xs) (eqb (getD marks v 0) 1)) 1 0
@@ -132,7 +132,7 @@ pub record CountReady (n from to : ℕ) (log users marks : List ℕ) : Type 0 wh
   pub room : (v : ℕ) → v < n → getD users v 0 < usersMost
 
 -- each node of the tree has one user more
-pub record Counted (n : ℕ) (tree users marks users′ marks′ : List ℕ) : Type 0 where
+pub record TreeCounted (n : ℕ) (tree users marks users′ marks′ : List ℕ) : Type 0 where
   pub users-long : length users′ ≡ length users
   pub marks-long : length marks′ ≡ length marks
   pub no-marks : NoMarks n marks′
@@ -199,7 +199,7 @@ pub record EndReady (log : List ℕ) (i first until : ℕ) (dues users marks fro
 
 -- a net that is due counts its new tree, and keeps where it stands
 pub record Ended (log : List ℕ) (i first until : ℕ) (users marks from to users′ marks′ from′ to′ : List ℕ) : Type 0 where
-  pub counted : Counted (length marks) (pathNodes (decode (slice first until log))) users marks users′ marks′
+  pub counted : TreeCounted (length marks) (pathNodes (decode (slice first until log))) users marks users′ marks′
   pub from-is : from′ ≡ set from i first
   pub to-is : to′ ≡ set to i until
 

@@ -12,7 +12,7 @@ ghost use Rattle.search.specs.Block.{blockOf, graphOf, hasEdge};
 ghost use Rattle.search.specs.Tables.{Graph};
 ghost use Rattle.search.specs.Turn.{weighedCongestion, priceAt};
 ghost use Rattle.search.specs.Frontier.{PriceReady};
-ghost use Rattle.negotiation.specs.Resume.{pathIn};
+ghost use Rattle.negotiation.specs.Resume.{recordPath};
 ghost use Rattle.negotiation.specs.ResumeSteps.{stepPasses, passCost, RecordReady, PassReady, costsOf, PathMarked};
 ghost use Rattle.negotiation.specs.ResumeSteps.{costIs, frameFollows, turnPasses};
 ghost use Rattle.job.specs.Steps.{Stored};
@@ -234,7 +234,7 @@ pub fn follow_turn(
       ⌜ r ≡ choose passes (6 + getD ws 5 0) 0 ⌝ }
     ensures { λ r. do
       let ws = drop (tariff .words) (now (log .entry))
-      ⌜ ((r ≡ 0 → ⊥) → Stored 1 (pathIn ws) (now («in_tree» .entry)) (now («in_tree» .exit))) ⌝ }
+      ⌜ ((r ≡ 0 → ⊥) → Stored 1 (recordPath ws) (now («in_tree» .entry)) (now («in_tree» .exit))) ⌝ }
 {
     let at = tariff.words;
     if !frame_follows(log, at, tariff.iteration, net, kind.len()) {

@@ -3,7 +3,7 @@ ghost use mathlib.Core.Path.{_≡_};
 ghost use lib.ListN.{length, getD};
 ghost use lib.Seq.{slice};
 ghost use Rattle.negotiation.specs.Records.{decode, pathNodes};
-ghost use Rattle.negotiation.specs.Steps.{RipReady, RippedUp, CountReady, Counted};
+ghost use Rattle.negotiation.specs.Steps.{RipReady, RippedUp, CountReady, TreeCounted};
 ghost use Rattle.negotiation.specs.Steps.{BeginReady, Begun, Idle, EndReady, Ended, Passed};
 use crate::trees;
 
@@ -25,7 +25,7 @@ fn count_tree(log: &[u32], from: usize, to: usize, users: &mut [u16], in_tree: &
     ensures { λ _. do
       let tree = pathNodes (decode (slice from to (now (log .entry))))
       let marks = now («in_tree» .entry)
-      ⌜ Counted (length marks) tree (now (users .entry)) marks (now (users .exit)) (now («in_tree» .exit)) ⌝ }
+      ⌜ TreeCounted (length marks) tree (now (users .entry)) marks (now (users .exit)) (now («in_tree» .exit)) ⌝ }
 {
     trees::add_records(log, from, to, users, in_tree);
 }

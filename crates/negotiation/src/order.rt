@@ -6,7 +6,7 @@ ghost use Rattle.price.specs.Bounds.{criticalityMost};
 ghost use Rattle.search.specs.Distance.{inTree};
 ghost use Rattle.job.specs.Steps.{AllBelow};
 ghost use Rattle.negotiation.specs.Order.{placeDue};
-ghost use Rattle.negotiation.specs.OrderSteps.{AimReady, Aimed};
+ghost use Rattle.negotiation.specs.OrderSteps.{SinksReady, Aimed};
 use price::Weighting;
 
 // The sinks that a turn tries stand in table 7 from one place to below another.
@@ -48,7 +48,7 @@ pub fn next_aim(
     to: usize,
     in_tree: &[u8],
 ) -> Aim
-    requires { ⌜ AimReady timed (now sink) (now criticality) from to (now «in_tree») ⌝ }
+    requires { ⌜ SinksReady timed (now sink) (now criticality) from to (now «in_tree») ⌝ }
     ensures { λ r. ⌜ Aimed timed (now («in_tree» .entry)) (now (sink .entry)) (now (criticality .entry)) from to r ⌝ }
 {
     if !timed {

@@ -9,7 +9,7 @@ ghost use Rattle.negotiation.specs.Routable.{Routable};
 ghost use Rattle.negotiation.specs.Outcome.{begun as unbegun};
 ghost use Rattle.job.specs.Steps.{AllBelow, Stored};
 ghost use Rattle.negotiation.specs.Kept.{Ready};
-ghost use Rattle.negotiation.specs.Resume.{pathIn};
+ghost use Rattle.negotiation.specs.Resume.{recordPath};
 ghost use Rattle.negotiation.specs.TakeSteps.{TryReady, triedPasses, SomeNet, NetAnswered, SomeNets, NetsAnswered, LogTaken};
 ghost use Rattle.negotiation.specs.declared.take_up.Taken.the-variants.{On};
 use crate::congestion;
@@ -72,7 +72,7 @@ fn follow_tried(
       ⌜ r ≡ choose passes (6 + getD ws 5 0) 0 ⌝ }
     ensures { λ r. do
       let ws = drop (tariff .words) (now (log .entry))
-      ⌜ ((r ≡ 0 → ⊥) → Stored 1 (pathIn ws) (now («in_tree» .entry)) (now («in_tree» .exit))) ⌝ }
+      ⌜ ((r ≡ 0 → ⊥) → Stored 1 (recordPath ws) (now («in_tree» .entry)) (now («in_tree» .exit))) ⌝ }
 {
     let n = kind.len();
     let mut goals = [0u8; NODES_MOST];

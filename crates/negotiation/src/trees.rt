@@ -6,7 +6,7 @@ ghost use lib.ListN.{length, take};
 ghost use lib.Seq.{slice};
 ghost use Rattle.negotiation.specs.Records.{decode, pathNodes};
 ghost use Rattle.job.specs.Steps.{AllBelow, Stored};
-ghost use Rattle.negotiation.specs.Steps.{Dropped, Added, CanDrop, CanAddMarked, Whole};
+ghost use Rattle.negotiation.specs.Steps.{Dropped, UsersAdded, CanDrop, CanAddMarked, Whole};
 
 // The path at the beginning of the work slice joins the tree.
 pub fn mark_path(work: &[u64], count: usize, in_tree: &mut [u8])
@@ -50,7 +50,7 @@ fn add_path(log: &[u32], from: usize, to: usize, users: &mut [u16], in_tree: &mu
     ensures { λ _. do
       let path = slice from to (now (log .entry))
       let marks = now («in_tree» .entry)
-      ⌜ Added (length marks) path (now (users .entry)) marks (now (users .exit)) (now («in_tree» .exit)) ⌝ }
+      ⌜ UsersAdded (length marks) path (now (users .entry)) marks (now (users .exit)) (now («in_tree» .exit)) ⌝ }
 {
     let mut k = from;
     while k < to {
@@ -121,7 +121,7 @@ pub fn add_records(log: &[u32], from: usize, until: usize, users: &mut [u16], in
     ensures { λ _. do
       let passed = pathNodes (decode (slice from until (now (log .entry))))
       let marks = now («in_tree» .entry)
-      ⌜ Added (length marks) passed (now (users .entry)) marks (now (users .exit)) (now («in_tree» .exit)) ⌝ }
+      ⌜ UsersAdded (length marks) passed (now (users .entry)) marks (now (users .exit)) (now («in_tree» .exit)) ⌝ }
 {
     let mut at = from;
     while at < until {

@@ -14,7 +14,7 @@ ghost use Rattle.job.specs.Job.{jobOf, nodes, nets};
 ghost use Rattle.negotiation.specs.Routable.{Routable};
 ghost use Rattle.negotiation.specs.Machine.{Progress};
 ghost use Rattle.negotiation.specs.Order.{sinksTried, weightingDue};
-ghost use Rattle.negotiation.specs.OrderSteps.{AimReady};
+ghost use Rattle.negotiation.specs.OrderSteps.{SinksReady};
 ghost use Rattle.search.specs.Replies.{sinkListSound};
 ghost use Rattle.negotiation.specs.Outcome.{unreachableNet, begun as unbegun, continued, routeReplyOf, turnsLogged};
 ghost use Rattle.negotiation.specs.Aimed.{expandedAfter};
@@ -247,7 +247,7 @@ fn net_turn(
     users: &[u16],
     in_tree: &mut [u8],
 ) -> TurnMade
-    requires { ⌜ AimReady timed (now sink) (now criticality) from to (now «in_tree») ⌝ }
+    requires { ⌜ SinksReady timed (now sink) (now criticality) from to (now «in_tree») ⌝ }
     requires { do
       let block = blockOf (now kind) (now capacity) (now «first_edge») (now «edge_target»)
       let sinks = slice from to (now sink)

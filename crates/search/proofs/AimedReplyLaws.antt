@@ -15,7 +15,7 @@ use Rattle.search.specs.Tables.{Sound}
 use Rattle.search.specs.Turn.{Congestion, congestedAt, priceAt, pathTo, openDistances, nearestDistance, Turn, turn}
 use Rattle.search.specs.Aimed.{weightAt, alone, estimate, expands, expanded}
 use Rattle.search.specs.Layout.{priceIn, Priced}
-use Rattle.search.specs.Ready.{Ready}
+use Rattle.search.specs.Ready.{PricesReady}
 use Rattle.search.specs.Replies.{cleared, sinkListSound, PathReply, turnPath, readOff, turnReply, pathDue, pathRefusal, pathNumbers, pathReplyOf, JoinsCheapest}
 use Rattle.search.specs.TurnWork.{pathIn}
 use Rattle.search.specs.AimedTurn.{TurnPriced, SinksAimed, Readable, AimedRead, none, reads}
@@ -58,7 +58,7 @@ module _ (ks cs fs ts : List ℕ) (price weight : ℕ → ℕ) (marks sinks : Li
 -- nothing is refused
 abbrev pub Allowed : (ks cs fs ts : List ℕ) (c : Congestion) (marks sinks w₀ : List ℕ) → Type 0
 Allowed ks cs fs ts c marks sinks w₀ =
-    Ready ks cs c marks × Sound (blockOf ks cs fs ts) × (8 * length ks ≤ length w₀) × (sinkListSound (length ks) sinks ≡ true)
+    PricesReady ks cs c marks × Sound (blockOf ks cs fs ts) × (8 * length ks ≤ length w₀) × (sinkListSound (length ks) sinks ≡ true)
 
 module _ (ks cs fs ts : List ℕ) (c : Congestion) where
   abbrev pub block : Block

@@ -1,7 +1,7 @@
 -- The beginning of a pass of estimates: none stands, then the unjoined sinks have theirs.
 --     unguess-none, unguess-more, unguess-all    the loop that takes the old ones away
 --     sinks-none                                 the queue that it leaves is empty: no sink has been looked at
---     sinks-passed, sinks-more, sinks-all        the loop over the sinks
+--     sinks-passed, sinks-more, all-sinks-wait        the loop over the sinks
 --     spread-ready, made-all                     a whole pass of the three parts
 -- Assumes nothing.
 use mathlib.Core.Bool.{false}
@@ -193,8 +193,8 @@ module _ {n : ℕ} {weight : ℕ → ℕ} {marks sinks : List ℕ} {w : List ℕ
         at-or-below : {j : ℕ} → (getD sinks j 0 ≡ getD sinks i 0 → ⊥) → j < i + 1 → j < i
         at-or-below {j} d l = ⊎-elim (λ (e : j ≡ i). absurd (d (ap (λ (k : ℕ). getD sinks k 0) e))) (λ (q : j ≡ i → ⊥). omega arith) (same-or-not j i)
 
-pub sinks-all : {n : ℕ} {weight : ℕ → ℕ} {marks sinks w : List ℕ} {i : ℕ} → length sinks ≤ i → SinksWait n weight marks sinks w i → SinksWait n weight marks sinks w (length sinks)
-sinks-all l s = record { heap = s .heap; each = s .each; goals = λ j h. s .goals j (omega arith) }
+pub all-sinks-wait : {n : ℕ} {weight : ℕ → ℕ} {marks sinks w : List ℕ} {i : ℕ} → length sinks ≤ i → SinksWait n weight marks sinks w i → SinksWait n weight marks sinks w (length sinks)
+all-sinks-wait l s = record { heap = s .heap; each = s .each; goals = λ j h. s .goals j (omega arith) }
 
 -- ---- a whole pass
 

@@ -19,7 +19,7 @@ use Rattle.search.specs.Tables.{edgesMost}
 use Rattle.search.specs.Distance.{far, inTree}
 use Rattle.search.specs.Paths.{Fair}
 use Rattle.search.specs.Turn.{Congestion, turn}
-use Rattle.search.specs.Clamped.{clampedPrice, Lent}
+use Rattle.search.specs.Clamped.{clampedPrice, ListsLong}
 use Rattle.search.specs.Replies.{workNeeded, timedFitting, fittingLengths, lengthsFitting, fitting, turnReply, pathReplyOf}
 use Rattle.search.specs.Labels.{goal, labelAt, waitAt, keyAt, besideAt}
 use Rattle.search.specs.Spread.{bare, bareCount, Spread, RunReady, SpreadStopped}
@@ -64,7 +64,7 @@ fitted b c marks sinks work t =
       delays-long = λ e. timed e .1;
     }
 
-pub fitted-lent : (ks cs fs ts : List ℕ) {c : Congestion} {marks sinks work : List ℕ} → Fitted (blockOf ks cs fs ts) c marks sinks work → Lent ks cs c
+pub fitted-lent : (ks cs fs ts : List ℕ) {c : Congestion} {marks sinks work : List ℕ} → Fitted (blockOf ks cs fs ts) c marks sinks work → ListsLong ks cs c
 fitted-lent ks cs fs ts f = record {
   few = f .few;
   capacities-long = f .capacities-long;

@@ -16,7 +16,7 @@ use Rattle.search.specs.Tables.{edgesMost, edgeTargetsSound, Sound}
 use Rattle.search.specs.Turn.{Congestion, priceAt, Turn, joins, stuck, turn}
 use Rattle.search.specs.Clamped.{clampedPrice}
 use Rattle.search.specs.Replies.{nodeSound, sinkListSound, PathReply, readOff, timedFitting, fittingLengths, lengthsFitting, fitting, turnReply, pathReply, pathReplyOf}
-use Rattle.search.specs.Ready.{Weighable, Ready}
+use Rattle.search.specs.Ready.{Weighable, PricesReady}
 use Rattle.search.specs.declared.PathAnswer.{PathAnswer}
 use Rattle.search.specs.declared.PathAnswer.the-variants.{Joins, Stuck}
 use Rattle.search.proofs.BlockLaws.{graph-of, capacities-long, firstEdges-long}
@@ -41,7 +41,7 @@ module _ (b : Block) (c : Congestion) (marks sinks work : List ℕ) where
   -- where tables, sinks and numbers keep their rules
   module _ (s : Sound b) (t : sinkListSound (nodes b) sinks ≡ true) (l : 8 * nodes b ≤ length work)
       (n : (v : ℕ) → v < nodes b → nodeSound c marks v ≡ true) (f : c .factor ≤ factorMost) (d : c .weighting .timed ≡ true → Weighable (nodes b) c) where
-    ready : Ready (b .kinds) (b .capacities) c marks
+    ready : PricesReady (b .kinds) (b .capacities) c marks
     ready = record { kinds-sound = s .kinds-sound; capacities-sound = s .capacities-sound; nodes-sound = n; factor-most = f; weighable = d }
 
     -- every length is right

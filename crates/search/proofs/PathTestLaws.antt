@@ -17,7 +17,7 @@ use Rattle.search.specs.Block.{Block, blockOf, nodes}
 use Rattle.search.specs.Tables.{faultyTable, delaysSound, Sound}
 use Rattle.search.specs.Turn.{Congestion}
 use Rattle.search.specs.Replies.{refusalOf, searchRefusal, sinksMost, sinkListSound, faultyWithDelays, faultyWithSinks}
-use Rattle.search.specs.Ready.{Ready}
+use Rattle.search.specs.Ready.{PricesReady}
 use Rattle.search.specs.declared.SearchAnswer.{SearchAnswer}
 use Rattle.search.proofs.BlockLaws.{sound-of, kinds-few}
 use Rattle.search.proofs.ReadyLaws.{refusal-none, fault-none, delays-kept, passed-ready}
@@ -60,7 +60,7 @@ module _ (ks cs fs ts : List ℕ) (c : Congestion) (sinks : List ℕ) where
   -- where nothing is refused every rule is kept
   pub path-ready :
       (marks work : List ℕ) → refusalOf (faultyWithSinks (blockOf ks cs fs ts) c sinks) (length ks) c marks (length work) ≡ []
-      → Ready ks cs c marks × (Sound (blockOf ks cs fs ts) × ((8 * length ks ≤ length work) × (sinkListSound (length ks) sinks ≡ true)))
+      → PricesReady ks cs c marks × (Sound (blockOf ks cs fs ts) × ((8 * length ks ≤ length work) × (sinkListSound (length ks) sinks ≡ true)))
   path-ready marks work none =
       let passed = refusal-none _ _ _ _ _ none in
       let kept = path-kept (passed .table-sound) in

@@ -22,7 +22,7 @@ use Rattle.search.specs.Paths.{Fair}
 use Rattle.search.specs.Turn.{Congestion, congestedAt, priceAt}
 use Rattle.search.specs.Replies.{workNeeded, bounded, historyBounded, nodeSound, badNode, tooMany, badCriticality, refusalOf, faultyWithDelays}
 use Rattle.search.specs.Frontier.{PriceReady}
-use Rattle.search.specs.Ready.{Ready}
+use Rattle.search.specs.Ready.{PricesReady}
 use Rattle.search.proofs.BlockLaws.{kinds-some, kinds-few, kind-most, capacities-long, capacity-least, capacity-most}
 use Rattle.search.proofs.PassLaws.{sound-below}
 
@@ -94,7 +94,7 @@ delays-kept b c e =
           (either-way (delaysSound (nodes b) (c .delays))),
     )
 
-pub passed-ready : (ks cs fs ts : List ℕ) (c : Congestion) (marks : List ℕ) {table entries : ℕ} → Sound (blockOf ks cs fs ts) → (c .weighting .timed ≡ true → delaysSound (length ks) (c .delays) ≡ true) → Passed table (length ks) c marks entries → Ready ks cs c marks
+pub passed-ready : (ks cs fs ts : List ℕ) (c : Congestion) (marks : List ℕ) {table entries : ℕ} → Sound (blockOf ks cs fs ts) → (c .weighting .timed ≡ true → delaysSound (length ks) (c .delays) ≡ true) → Passed table (length ks) c marks entries → PricesReady ks cs c marks
 passed-ready ks cs fs ts c marks s d p =
     record {
       kinds-sound = s .kinds-sound;
@@ -145,7 +145,7 @@ module _ (ks cs fs ts : List ℕ) (c : Congestion) (marks : List ℕ) where
         edgeTargets-sound = s .edgeTargets-sound;
       }
 
-  module _ (r : Ready ks cs c marks) where
+  module _ (r : PricesReady ks cs c marks) where
     ready-node : (v : ℕ) → v < length ks → NodeSound c marks v
     ready-node v h = node-has c marks v (r .nodes-sound v h)
 

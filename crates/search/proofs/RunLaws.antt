@@ -18,7 +18,7 @@ use Rattle.search.specs.Block.{Block, nodes, rowStart}
 use Rattle.search.specs.Paths.{Fair}
 use Rattle.search.specs.Distance.{far, distance}
 use Rattle.search.specs.Layout.{distAt, entryAt, leafAt, Queued}
-use Rattle.search.specs.Frontier.{Open, Settled, Waiting, InProgress, Ran, RowReady, Looked, RowDone, unsettled}
+use Rattle.search.specs.Frontier.{Open, Settled, Waiting, InProgress, AllSettled, RowReady, Looked, RowDone, unsettled}
 use Rattle.search.proofs.EdgeLaws.{shape-of}
 use Rattle.search.proofs.DistanceLaws.{distance-most}
 use Rattle.search.proofs.Exactness.{exact-near}
@@ -40,7 +40,7 @@ run-start b w s =
       high = λ j h. refl;
     }
 
-pub run-stops : (b : Block) (w₀ w : List ℕ) → Running b w₀ w → entryAt (nodes b) w 1 ≡ far → Ran b w₀ w
+pub run-stops : (b : Block) (w₀ w : List ℕ) → Running b w₀ w → entryAt (nodes b) w 1 ≡ far → AllSettled b w₀ w
 run-stops b w₀ w r none =
     record {
       waiting = r .waiting;

@@ -18,8 +18,8 @@ use Rattle.search.specs.Distance.{far, inTree, distances, distance}
 use Rattle.search.specs.Turn.{Congestion, congestedAt, priceAt}
 use Rattle.search.specs.Replies.{cleared}
 use Rattle.search.specs.Layout.{distAt, leafAt, priceIn, Heap, SameBut, Started, Priced}
-use Rattle.search.specs.Frontier.{Waiting, InProgress, Ran}
-use Rattle.search.specs.Ready.{Ready, Prepared}
+use Rattle.search.specs.Frontier.{Waiting, InProgress, AllSettled}
+use Rattle.search.specs.Ready.{PricesReady, Prepared}
 use Rattle.search.proofs.DistanceLaws.{length-distances, distance-top}
 use Rattle.search.proofs.GraphLaws.{distances-same}
 use Rattle.search.proofs.FrontierSteps.{start-waiting}
@@ -42,7 +42,7 @@ prepared {n} p s =
 -- ---- a search that is ready: nothing is settled, and every node waits
 
 module _ (ks cs fs ts : List ℕ) (c : Congestion) (marks w : List ℕ)
-    (sound : Sound (blockOf ks cs fs ts)) (ready : Ready ks cs c marks)
+    (sound : Sound (blockOf ks cs fs ts)) (ready : PricesReady ks cs c marks)
     (long : 8 * length ks ≤ length w) (heap : Heap (length ks) w)
     (prices : (v : ℕ) → v < length ks → priceIn (length ks) w v ≡ priceAt (blockOf ks cs [] []) c v)
     (dist : (v : ℕ) → v < length ks → distAt w v ≡ choose (inTree marks v) 0 far)
@@ -70,7 +70,7 @@ within (x ∷ xs) zero d d′ h = refl
 within (x ∷ xs) (suc i) d d′ h = within xs i d d′ (le-of-suc-le-suc h)
 
 module _ (ks cs fs ts : List ℕ) (c : Congestion) (marks w₀ w₁ w₂ : List ℕ)
-    (sound : Sound (blockOf ks cs fs ts)) (ready : Ready ks cs c marks) (long : 8 * length ks ≤ length w₀)
+    (sound : Sound (blockOf ks cs fs ts)) (ready : PricesReady ks cs c marks) (long : 8 * length ks ≤ length w₀)
     (prep : Prepared (length ks) (priceAt (blockOf ks cs [] []) c) marks w₀ w₁)
     (heap : Heap (length ks) w₂) (same : SameBut (length ks + 1) (2 * length ks) w₁ w₂) where
   built-long : 8 * length ks ≤ length w₂
@@ -88,7 +88,7 @@ module _ (ks cs fs ts : List ℕ) (c : Congestion) (marks w₀ w₁ w₂ : List 
   pub built-in-progress : InProgress (graphOf ks fs ts) w₂
   built-in-progress = progress-from ks cs fs ts c marks w₂ sound ready built-long heap built-prices built-dist built-leaf
 
-  module _ (w₃ w₄ : List ℕ) (ran : Ran (graphOf ks fs ts) w₂ w₃)
+  module _ (w₃ w₄ : List ℕ) (ran : AllSettled (graphOf ks fs ts) w₂ w₃)
       (end : w₄ ≡ take (length ks) w₃ ++ (replicate (8 * length ks - length ks) 0 ++ drop (8 * length ks) w₃)) where
     still-long : length w₃ ≡ length w₀
     still-long = ran .long ∙ same .long ∙ prep .long

@@ -18,7 +18,7 @@ use Rattle.search.specs.Turn.{Congestion, congestionOf, priceAt}
 use Rattle.search.specs.Replies.{cleared, refusalOf, searchRefusal, SearchReply, searchReply, timedSearchReply, faultyWithDelays, searchReplyOf}
 use Rattle.search.specs.declared.SearchAnswer.{SearchAnswer}
 use Rattle.search.specs.declared.SearchAnswer.the-variants as answer
-use Rattle.search.specs.Ready.{Ready}
+use Rattle.search.specs.Ready.{PricesReady}
 use Rattle.search.proofs.BlockLaws.{sound-of, kinds-few}
 use Rattle.search.proofs.ReadyLaws.{refusal-none, delays-kept, passed-ready}
 
@@ -30,7 +30,7 @@ few-nodes ks cs fs ts c lowest none = kinds-few ks (sound-of (blockOf ks cs fs t
 -- where nothing is refused, a sound block and numbers within their bounds
 pub passed-search :
     (ks cs fs ts : List ℕ) (c : Congestion) (marks : List ℕ) (entries : ℕ) → refusalOf (faultyWithDelays (blockOf ks cs fs ts) c) (length ks) c marks entries ≡ []
-    → Ready ks cs c marks × Sound (blockOf ks cs fs ts) × (8 * length ks ≤ entries)
+    → PricesReady ks cs c marks × Sound (blockOf ks cs fs ts) × (8 * length ks ≤ entries)
 passed-search ks cs fs ts c marks entries none =
     let p = refusal-none _ _ c marks entries none in
     let kept = delays-kept (blockOf ks cs fs ts) c (p .table-sound) in
@@ -45,7 +45,7 @@ module _ (ks cs fs ts : List ℕ) (c : Congestion) (marks : List ℕ) (entries :
   due : refusalOf (faultyWithDelays (blockOf ks cs fs ts) c) (length ks) c marks entries ≡ searchRefusal r
   due = ap (λ (t : ℕ). refusalOf t (length ks) c marks entries) (sym lowest) ∙ sym found
 
-  pub search-ready : r ≡ answer.Done → Ready ks cs c marks × Sound (blockOf ks cs fs ts) × (8 * length ks ≤ entries)
+  pub search-ready : r ≡ answer.Done → PricesReady ks cs c marks × Sound (blockOf ks cs fs ts) × (8 * length ks ≤ entries)
   search-ready fine = passed-search ks cs fs ts c marks entries (due ∙ ap searchRefusal fine)
 
 module _ (ks cs fs ts : List ℕ) (c : Congestion) (marks work : List ℕ) {table : ℕ} (lowest : table ≡ faultyWithDelays (blockOf ks cs fs ts) c)

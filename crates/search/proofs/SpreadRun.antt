@@ -18,12 +18,12 @@ use Rattle.search.specs.Block.{Block, nodes, graphOf, rowStart}
 use Rattle.search.specs.Distance.{far}
 use Rattle.search.specs.Turn.{Congestion}
 use Rattle.search.specs.Paths.{anyPriceMost, Fair}
-use Rattle.search.specs.Clamped.{clampedPrice, Lent}
+use Rattle.search.specs.Clamped.{clampedPrice, ListsLong}
 use Rattle.search.specs.Labels.{goal, labelAt, fromAt, waitAt, keyAt, Waits, Heaped, Taken}
 use Rattle.search.specs.Spread.{bare, bareCount, Came, PlacePassed, EdgeLooked, Spread, SpreadOnward, EdgeRelaxed, RelaxReady, SettleReady, NodeSettled, RunReady, SpreadStopped}
 use Rattle.search.proofs.ClampedLaws.{clamped-pos, clamped-fair}
 use Rattle.search.proofs.EdgeLaws.{place-edge}
-use Rattle.search.proofs.HeapLaws.{heap-least}
+use Rattle.search.proofs.HeapLaws.{first-least}
 use Rattle.search.proofs.SpreadSteps.{spread-low, label-ready, relax-at, onward-none, onward-trans}
 
 -- clamped prices are fair
@@ -150,7 +150,7 @@ module _ {b : Block} {price : ℕ → ℕ} {u : ℕ} {w₀ : List ℕ} {count₀
 
 -- safe to look at the edge at place e
 pub row-ready :
-    {ks cs fs ts : List ℕ} {c : Congestion} {u : ℕ} {w₀ w : List ℕ} {e count₀ count best₀ best to : ℕ} → Lent ks cs c
+    {ks cs fs ts : List ℕ} {c : Congestion} {u : ℕ} {w₀ w : List ℕ} {e count₀ count best₀ best to : ℕ} → ListsLong ks cs c
     → SettleReady (graphOf ks fs ts) (clampedPrice ks cs c) w₀ count₀ u → LabelRowSoFar (graphOf ks fs ts) (clampedPrice ks cs c) u w₀ w e count₀ count best₀ best
     → to ≡ min (getD fs (u + 1) 0) (length ts) → e < to → RelaxReady ks cs c fs w count u (getD ts e 0) (labelAt w₀ u)
 row-ready {ks} {cs} {fs} {ts} {c} {u} lent ready r is more =
@@ -221,7 +221,7 @@ module _ {b : Block} {price : ℕ → ℕ} {w₀ w : List ℕ} {best count : ℕ
     run-raised =
         let level : r .level ≤ labelAt w (getD w (nodes b) 0 / 65536) = rw run-key at (r .spread .waits-far 0 some) in
         raised (labelAt w (getD w (nodes b) 0 / 65536)) (r .spread)
-        (λ i l. rw run-key at (heap-least (nodes b) count w (r .spread .heap .ordered) i l))
+        (λ i l. rw run-key at (first-least (nodes b) count w (r .spread .heap .ordered) i l))
         (λ v h c l. le-trans (c .near) level)
 
     pub run-fits : {step : ℕ} → step ≤ anyPriceMost → labelAt w (getD w (nodes b) 0 / 65536) + step < 2 ^ 64

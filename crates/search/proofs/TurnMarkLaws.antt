@@ -17,7 +17,7 @@ use Rattle.search.specs.Distance.{far, inTree}
 use Rattle.search.specs.Paths.{anyPriceMost}
 use Rattle.search.specs.Labels.{goal, labelAt, waitAt, besideAt, put, Waits}
 use Rattle.search.specs.Spread.{bare, bareCount}
-use Rattle.search.specs.TurnWork.{Blank, Unmarked, Over, TreeMarked, GoalsMarked, LeastGoal}
+use Rattle.search.specs.TurnWork.{Blank, Unmarked, PassedOver, TreeMarked, GoalsMarked, LeastGoal}
 use Rattle.search.proofs.StoreLaws.{store-here, store-other, same-none, same-store}
 use Rattle.search.proofs.QueueLaws.{same-or-not}
 use Rattle.search.proofs.FillLaws.{first-tree, first-other}
@@ -70,10 +70,10 @@ module _ {marks : List ℕ} {from to : ℕ} {some : Bool} {v : ℕ} (l : v < to)
 pub seen-all : {marks : List ℕ} {from to : ℕ} {some : Bool} {v : ℕ} → to ≤ v → MarksSeen marks from to some v → some ≡ false → Unmarked marks from to
 seen-all l s e x a b = s .none e x a (omega arith)
 
-pub over-none : (marks : List ℕ) (from n : ℕ) → from ≤ n → Over marks from n from
+pub over-none : (marks : List ℕ) (from n : ℕ) → from ≤ n → PassedOver marks from n from
 over-none marks from n l = record { least = omega arith; most = l; none = λ x a b. absurd (omega arith) }
 
-pub over-on : {marks : List ℕ} {from n v : ℕ} (v′ : ℕ) → v ≤ v′ → v′ ≤ n → Unmarked marks v v′ → Over marks from n v → Over marks from n v′
+pub over-on : {marks : List ℕ} {from n v : ℕ} (v′ : ℕ) → v ≤ v′ → v′ ≤ n → Unmarked marks v v′ → PassedOver marks from n v → PassedOver marks from n v′
 over-on {marks} {from} {n} {v} v′ l m none s = record {
   least = omega (arith, s .least);
   most = m;
@@ -84,7 +84,7 @@ over-on {marks} {from} {n} {v} v′ l m none s = record {
       (le-or-lt v x);
 }
 
-pub over-one : {marks : List ℕ} {from n v : ℕ} → v < n → (getD marks v 0 ≡ 1 → ⊥) → Over marks from n v → Over marks from n (v + 1)
+pub over-one : {marks : List ℕ} {from n v : ℕ} → v < n → (getD marks v 0 ≡ 1 → ⊥) → PassedOver marks from n v → PassedOver marks from n (v + 1)
 over-one {marks} {from} {n} {v} l mark s = over-on (v + 1) (omega arith) (omega arith) (λ x a b. let e : x ≡ v = omega arith in rw e mark) s
 
 -- ---- the tree
@@ -156,13 +156,13 @@ tree-skip {n} {marks} {w} {w′} {count} {i} (suc k) l none s =
     rw e (tree-out (omega arith) (none (i + k) (omega arith) (omega arith)) (tree-skip k (omega arith) (λ x a b. none x a (omega arith)) s))
 
 -- the nodes up to the next tree node are passed over
-pub tree-over : {n : ℕ} {marks w w′ : List ℕ} {count i r : ℕ} → Over marks i n r → TreeSoFar n marks w w′ count i → TreeSoFar n marks w w′ count r
+pub tree-over : {n : ℕ} {marks w w′ : List ℕ} {count i r : ℕ} → PassedOver marks i n r → TreeSoFar n marks w w′ count i → TreeSoFar n marks w w′ count r
 tree-over {n} {marks} {w} {w′} {count} {i} {r} o s =
     let e : i + (r - i) ≡ r = omega (arith, o .least) in
     let whole : TreeSoFar n marks w w′ count (i + (r - i)) = tree-skip (r - i) (rw e (o .most)) (rw e (o .none)) s in
     rw e at whole
 
-pub tree-start : {n : ℕ} {marks w₀ w : List ℕ} {r : ℕ} → Blank n w₀ w n → Over marks 0 n r → TreeSoFar n marks w w 0 r
+pub tree-start : {n : ℕ} {marks w₀ w : List ℕ} {r : ℕ} → Blank n w₀ w n → PassedOver marks 0 n r → TreeSoFar n marks w w 0 r
 tree-start {n} {marks} blank o = tree-over o (tree-none marks blank)
 
 module _ {n : ℕ} {marks w₀ w w′ : List ℕ} {count i : ℕ} (enough : 3 * n ≤ length w₀) (clean : Blank n w₀ w n) (l : i < n) (s : TreeSoFar n marks w w′ count i) where

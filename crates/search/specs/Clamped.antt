@@ -30,7 +30,7 @@ clampedPrice kinds capacities c v =
     (clamped 1 capacityMost (getD capacities v 0)) (clamped 1 (historyBound (c .weighting)) (getD (c .histories) v 0)))
 
 -- every list has an entry for each node, and there are few enough nodes; of delays only where they are weighed
-pub record Lent (kinds capacities : List ℕ) (c : Congestion) : Type 0 where
+pub record ListsLong (kinds capacities : List ℕ) (c : Congestion) : Type 0 where
   pub few : length kinds ≤ nodesMost
   pub capacities-long : length capacities ≡ length kinds
   pub histories-long : length kinds ≤ length (c .histories)

@@ -84,7 +84,7 @@ pub record InProgress (b : Block) (w : List ℕ) : Type 0 where
   pub waiting : Waiting b price marks w
 
 -- what a whole run of settlings does: nothing waits any more
-pub record Ran (b : Block) (w w′ : List ℕ) : Type 0 where
+pub record AllSettled (b : Block) (w w′ : List ℕ) : Type 0 where
   pub waiting : (price : ℕ → ℕ) (marks : List ℕ) → Fair b price → Waiting b price marks w → Waiting b price marks w′
   pub none-waits : entryAt (nodes b) w′ 1 ≡ far
   pub long : length w′ ≡ length w

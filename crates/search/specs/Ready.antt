@@ -27,7 +27,7 @@ pub record Weighable (n : ℕ) (c : Congestion) : Type 0 where
   pub criticality-most : c .weighting .criticality ≤ criticalityMost
 
 -- every number that prices a turn keeps its bounds
-pub record Ready (kinds capacities : List ℕ) (c : Congestion) (marks : List ℕ) : Type 0 where
+pub record PricesReady (kinds capacities : List ℕ) (c : Congestion) (marks : List ℕ) : Type 0 where
   pub kinds-sound : kindsSound kinds ≡ true
   pub capacities-sound : capacitiesSound (length kinds) capacities ≡ true
   pub nodes-sound : (v : ℕ) → v < length kinds → nodeSound c marks v ≡ true

@@ -15,7 +15,7 @@ use Rattle.search.specs.Block.{Block, nodes, rowStart, hasEdge}
 use Rattle.search.specs.Distance.{far}
 use Rattle.search.specs.Turn.{Congestion}
 use Rattle.search.specs.Paths.{anyPriceMost, Fair}
-use Rattle.search.specs.Clamped.{Lent}
+use Rattle.search.specs.Clamped.{ListsLong}
 use Rattle.search.specs.Labels.{goal, labelAt, fromAt, withFrom, keyAt, Waits, Heaped, Added}
 
 -- a node has no label yet; and how many have none
@@ -117,7 +117,7 @@ pub record LabelReady (n : ℕ) (firsts w : List ℕ) (count u v : ℕ) : Type 0
 
 -- safe to look at the edge from u, of label d, to v
 pub record RelaxReady (kinds capacities : List ℕ) (c : Congestion) (firsts w : List ℕ) (count u v d : ℕ) : Type 0 where
-  pub lent : Lent kinds capacities c
+  pub lent : ListsLong kinds capacities c
   pub firsts-long : length firsts ≡ length kinds + 1
   pub heap : Heaped (length kinds) count w
   pub labels-low : (i : ℕ) → i < count → keyAt (length kinds) w i < goal

@@ -48,14 +48,14 @@ abbrev pub Unmarked : List ℕ → ℕ → ℕ → Type 0
 Unmarked marks from to = (v : ℕ) → from ≤ v → v < to → getD marks v 0 ≡ 1 → ⊥
 
 -- r is a place from `from` on, with no tree node between
-pub record Over (marks : List ℕ) (from n r : ℕ) : Type 0 where
+pub record PassedOver (marks : List ℕ) (from n r : ℕ) : Type 0 where
   pub least : from ≤ r
   pub most : r ≤ n
   pub none : Unmarked marks from r
 
 -- r is the first tree node from `from` on, n where there is none
 pub record NextMarked (marks : List ℕ) (from n r : ℕ) : Type 0 where
-  pub over : Over marks from n r
+  pub over : PassedOver marks from n r
   pub marked : r < n → getD marks r 0 ≡ 1
 
 -- the tree's nodes have label 0 and wait, the others have none

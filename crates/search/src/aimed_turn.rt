@@ -7,7 +7,7 @@ ghost use lib.ListN.{length};
 ghost use Rattle.search.specs.Block.{blockOf, graphOf};
 ghost use Rattle.search.specs.Tables.{Sound};
 ghost use Rattle.search.specs.Turn.{weighedCongestion};
-ghost use Rattle.search.specs.Ready.{Ready};
+ghost use Rattle.search.specs.Ready.{PricesReady};
 ghost use Rattle.search.specs.Replies.{sinkListSound};
 ghost use Rattle.search.specs.Aimed.{weightAt};
 ghost use Rattle.search.specs.AimedTurn.{PredecessorsMoved, TurnPriced, SinksAimed, Readable, AimedRead};
@@ -125,7 +125,7 @@ pub fn join(
 ) -> AimedPath
     requires { do
       let congestion = weighedCongestion weighting (now delay) factor (now history) (now others)
-      ⌜ Ready (now kind) (now capacity) congestion (now «in_tree»)
+      ⌜ PricesReady (now kind) (now capacity) congestion (now «in_tree»)
           × Sound (blockOf (now kind) (now capacity) (now «first_edge») (now «edge_target»))
           × (8 * length (now kind) ≤ length (now work)) × (sinkListSound (length (now kind)) (now sinks) ≡ true) ⌝ }
     ensures { λ r. do

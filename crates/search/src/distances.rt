@@ -6,7 +6,7 @@ ghost use lib.ListN.{length, take, drop, replicate};
 ghost use Rattle.search.specs.Block.{blockOf, graphOf, rowStart};
 ghost use Rattle.search.specs.Turn.{weighedCongestion, priceAt};
 ghost use Rattle.search.specs.Layout.{distAt, priceIn, Heap, Shortened, Relaxed, Started, Priced};
-ghost use Rattle.search.specs.Frontier.{PriceReady, RowReady, RowDone, InProgress, Ran};
+ghost use Rattle.search.specs.Frontier.{PriceReady, RowReady, RowDone, InProgress, AllSettled};
 use crate::queue;
 use crate::weighing;
 use price::PriceAnswer;
@@ -151,7 +151,7 @@ pub fn settle_all(kind: &[u8], first_edge: &[u32], edge_target: &[u16], work: &m
     requires { ⌜ InProgress (graphOf (now kind) (now «first_edge») (now «edge_target»)) (now work) ⌝ }
     ensures { λ _. do
       let graph = graphOf (now (kind .entry)) (now («first_edge» .entry)) (now («edge_target» .entry))
-      ⌜ Ran graph (now (work .entry)) (now (work .exit)) ⌝ }
+      ⌜ AllSettled graph (now (work .entry)) (now (work .exit)) ⌝ }
 {
     let n = kind.len();
     while work[n + 1] != FAR {

@@ -9,7 +9,7 @@ ghost use Rattle.price.specs.Bounds.{nodesMost};
 ghost use Rattle.price.specs.Timed.{weighedMost};
 ghost use Rattle.search.specs.Block.{graphOf};
 ghost use Rattle.search.specs.Turn.{weighedCongestion};
-ghost use Rattle.search.specs.Clamped.{clamped as clampedAt, clampedWeighting, clampedPrice, Lent};
+ghost use Rattle.search.specs.Clamped.{clamped as clampedAt, clampedWeighting, clampedPrice, ListsLong};
 ghost use Rattle.search.specs.Labels.{labelAt, fromAt, withFrom};
 ghost use Rattle.search.specs.Spread.{Labelled, GoalMet, Lowered, EdgeRelaxed, LabelReady, RelaxReady};
 ghost use Rattle.search.specs.Spread.{SettleReady, NodeSettled, RunReady, SpreadStopped};
@@ -60,7 +60,7 @@ pub fn clamped_price(
     factor: u32,
     v: usize,
 ) -> u64
-    requires { ⌜ Lent (now kind) (now capacity) (weighedCongestion weighting (now delay) factor (now history) (now others)) ⌝ }
+    requires { ⌜ ListsLong (now kind) (now capacity) (weighedCongestion weighting (now delay) factor (now history) (now others)) ⌝ }
     requires { ⌜ v < length (now kind) ⌝ }
     ensures { λ r. do
       let c = weighedCongestion weighting (now (delay .entry)) factor (now (history .entry)) (now (others .entry))
@@ -215,7 +215,7 @@ fn settle(
       let b = graphOf (now kind) (now «first_edge») (now «edge_target»)
       let c = weighedCongestion weighting (now delay) factor (now history) (now others)
       let price = clampedPrice (now kind) (now capacity) c
-      ⌜ Lent (now kind) (now capacity) c × SettleReady b price (now work) (start .count) u ⌝ }
+      ⌜ ListsLong (now kind) (now capacity) c × SettleReady b price (now work) (start .count) u ⌝ }
     ensures { λ r. do
       let b = graphOf (now (kind .entry)) (now («first_edge» .entry)) (now («edge_target» .entry))
       let c = weighedCongestion weighting (now (delay .entry)) factor (now (history .entry)) (now (others .entry))
@@ -269,7 +269,7 @@ pub fn settle_all(
       let b = graphOf (now kind) (now «first_edge») (now «edge_target»)
       let c = weighedCongestion weighting (now delay) factor (now history) (now others)
       let price = clampedPrice (now kind) (now capacity) c
-      ⌜ Lent (now kind) (now capacity) c × RunReady b price (now work) waits «last_step» ⌝ }
+      ⌜ ListsLong (now kind) (now capacity) c × RunReady b price (now work) waits «last_step» ⌝ }
     ensures { λ best. do
       let b = graphOf (now (kind .entry)) (now («first_edge» .entry)) (now («edge_target» .entry))
       let c = weighedCongestion weighting (now (delay .entry)) factor (now (history .entry)) (now (others .entry))

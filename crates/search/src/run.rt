@@ -8,7 +8,7 @@ ghost use Rattle.search.specs.Tables.{Sound};
 ghost use Rattle.search.specs.Distance.{distances as distancesOf};
 ghost use Rattle.search.specs.Turn.{weighedCongestion, priceAt};
 ghost use Rattle.search.specs.Replies.{cleared};
-ghost use Rattle.search.specs.Ready.{Ready, Prepared};
+ghost use Rattle.search.specs.Ready.{PricesReady, Prepared};
 use crate::distances;
 use crate::queue;
 use price::Weighting;
@@ -27,7 +27,7 @@ fn prepare(
 )
     requires { do
       let congestion = weighedCongestion weighting (now delay) factor (now history) (now others)
-      ⌜ Ready (now kind) (now capacity) congestion (now «in_tree») × (8 * length (now kind) ≤ length (now work)) ⌝ }
+      ⌜ PricesReady (now kind) (now capacity) congestion (now «in_tree») × (8 * length (now kind) ≤ length (now work)) ⌝ }
     ensures { λ _. do
       let block = blockOf (now (kind .entry)) (now (capacity .entry)) [] []
       let congestion = weighedCongestion weighting (now (delay .entry)) factor (now (history .entry)) (now (others .entry))
@@ -65,7 +65,7 @@ pub fn distances_from_tree(
     requires { do
       let block = blockOf (now kind) (now capacity) (now «first_edge») (now «edge_target»)
       let congestion = weighedCongestion weighting (now delay) factor (now history) (now others)
-      ⌜ Ready (now kind) (now capacity) congestion (now «in_tree») × Sound block × (8 * length (now kind) ≤ length (now work)) ⌝ }
+      ⌜ PricesReady (now kind) (now capacity) congestion (now «in_tree») × Sound block × (8 * length (now kind) ≤ length (now work)) ⌝ }
     ensures { λ _. do
       let block = blockOf (now (kind .entry)) (now (capacity .entry)) (now («first_edge» .entry)) (now («edge_target» .entry))
       let congestion = weighedCongestion weighting (now (delay .entry)) factor (now (history .entry)) (now (others .entry))

@@ -6,11 +6,11 @@ ghost use lib.ListN.{length, take};
 ghost use Rattle.price.specs.Bounds.{nodesMost};
 ghost use Rattle.search.specs.Block.{blockOf};
 ghost use Rattle.search.specs.Turn.{weighedCongestion, turn};
-ghost use Rattle.search.specs.Clamped.{clampedPrice, Lent};
+ghost use Rattle.search.specs.Clamped.{clampedPrice, ListsLong};
 ghost use Rattle.search.specs.Replies.{turnReply, pathReplyOf};
 ghost use Rattle.search.specs.Layout.{SameBut};
 ghost use Rattle.search.specs.Labels.{labelAt};
-ghost use Rattle.search.specs.TurnWork.{Blank, Unmarked, Over, NextMarked};
+ghost use Rattle.search.specs.TurnWork.{Blank, Unmarked, PassedOver, NextMarked};
 ghost use Rattle.search.specs.TurnWork.{Fitted, TreeMarked, GoalsMarked, LeastGoal, FirstAt, Leads, pathIn, Found, Read};
 use crate::PathAnswer;
 use crate::distances;
@@ -55,7 +55,7 @@ fn some_marked(in_tree: &[u8], from: usize, to: usize) -> bool
 // A place from `from` on, with no tree node between: passes over many nodes at a time.
 fn pass_over(in_tree: &[u8], from: usize, n: usize) -> usize
     requires { ⌜ (from ≤ n) × (n ≤ nodesMost) × (n ≤ length (now «in_tree»)) ⌝ }
-    ensures { λ r. ⌜ Over (now («in_tree» .entry)) from n r ⌝ }
+    ensures { λ r. ⌜ PassedOver (now («in_tree» .entry)) from n r ⌝ }
 {
     let mut v = from;
     while v + STRETCH <= n {
@@ -130,7 +130,7 @@ fn least_price(
 ) -> u64
     requires { do
       let c = weighedCongestion weighting (now delay) factor (now history) (now others)
-      ⌜ Lent (now kind) (now capacity) c × (length (now kind) ≤ length (now work)) ⌝ }
+      ⌜ ListsLong (now kind) (now capacity) c × (length (now kind) ≤ length (now work)) ⌝ }
     ensures { λ r. do
       let c = weighedCongestion weighting (now (delay .entry)) factor (now (history .entry)) (now (others .entry))
       let price = clampedPrice (now (kind .entry)) (now (capacity .entry)) c

@@ -24,7 +24,7 @@ use Rattle.job.specs.Tables.{netsMost}
 use Rattle.negotiation.specs.Records.{Record, decode}
 use Rattle.negotiation.specs.Demand.{latest}
 use Rattle.negotiation.proofs.FilterLaws.{latest-append}
-use Rattle.text.specs.Routes.{Named, pathIn, pathSound, recordSound, soundWords, soundUpTo, passing, recordsIn, finalRecords}
+use Rattle.text.specs.Routes.{Named, pathWords, pathSound, recordSound, soundWords, soundUpTo, passing, recordsIn, finalRecords}
 use Rattle.text.specs.WriteSteps.{nextAt, AllSound, part, ownRecords, LatestPlaces}
 use Rattle.text.proofs.RecordTestLaws.{recordLength, sound-net, sound-some, sound-rises, sound-lower}
 use Rattle.text.proofs.LogLaws.{soundAfter, sound-next, firstRecord, recordAt, first-at, record-at, decode-next, decode-none}
@@ -109,7 +109,7 @@ module _ (ws vs : List ℕ) (long : recordLength ws ≤ length ws) (fits : recor
   agreed-length : getD vs 5 0 ≡ getD ws 5 0
   agreed-length = same 5 (omega arith)
 
-  agreed-path : pathIn (getD ws 5 0) vs ≡ pathIn (getD ws 5 0) ws
+  agreed-path : pathWords (getD ws 5 0) vs ≡ pathWords (getD ws 5 0) ws
   agreed-path =
       let n : ℕ = getD ws 5 0 in
       let left : length (take n (drop 6 vs)) ≡ n = length-take-le n (drop 6 vs) (rw (length-drop 6 vs) (omega arith)) in

@@ -26,7 +26,7 @@ use Rattle.negotiation.proofs.JoinedHolds.{joined-routable}
 use Rattle.negotiation.proofs.RecordLaws.{words-length, records-few}
 use Rattle.negotiation.specs.Runs.{All}
 use Rattle.negotiation.proofs.FilterLaws.{all-map}
-use Rattle.text.specs.Routes.{Named, pathIn, pathSound, recordSound, soundUpTo, soundWords, logSound, writable}
+use Rattle.text.specs.Routes.{Named, pathWords, pathSound, recordSound, soundUpTo, soundWords, logSound, writable}
 use Rattle.text.proofs.TurnedLaws.{Turned, TurnedUpTo, iteration-turned, run-turned, Accepted, accepted-fits, accepted, SomeSinks, joined-some, joined-passes, run-some}
 
 -- ---- iterations that never fall
@@ -93,7 +93,7 @@ module _ (named : Named) (r : Record) (ws : List ℕ) where
   long : length (words r ++ ws) ≡ 6 + length (r .path) + length ws
   long = omega (arith, length-append (words r) ws, words-length r)
 
-  path-there : pathIn (length (r .path)) (words r ++ ws) ≡ r .path
+  path-there : pathWords (length (r .path)) (words r ++ ws) ≡ r .path
   unfolding words
   path-there = take-append-seam (r .path) ws
 
@@ -113,7 +113,7 @@ module _ (named : Named) (r : Record) (ws : List ℕ) where
   record-sound last w up =
       let whole = long in
       let long-enough = w .path-long in
-      let nodes-there : every (λ v. ltb v (named .nodes)) (pathIn (length (r .path)) (words r ++ ws)) ≡ true =
+      let nodes-there : every (λ v. ltb v (named .nodes)) (pathWords (length (r .path)) (words r ++ ws)) ≡ true =
       rw path-there (every-all (λ v. ltb v (named .nodes)) (r .path) (λ k l. lt-ltb (getD (r .path) k 0) (named .nodes) (w .path-nodes k l))) in
       both-true (le-leb 6 (length (words r ++ ws)) (omega arith))
       (both-true

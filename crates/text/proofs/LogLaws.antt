@@ -15,9 +15,9 @@ use Rattle.price.proofs.TestLaws.{either-way, both-right, le-or-lt}
 use Rattle.price.specs.Bounds.{nodesMost}
 use Rattle.job.specs.Tables.{netsMost}
 use Rattle.negotiation.specs.Records.{Record, recordOf, decodeUpTo, decode}
-use Rattle.text.specs.Routes.{Named, pathIn, recordSound, soundUpTo, soundWords, logSound, lastIteration}
+use Rattle.text.specs.Routes.{Named, pathWords, recordSound, soundUpTo, soundWords, logSound, lastIteration}
 use Rattle.text.specs.Users.{sound, unsound, logChecked}
-use Rattle.text.specs.WriteSteps.{nextAt, Found}
+use Rattle.text.specs.WriteSteps.{nextAt, LogTested}
 use Rattle.text.proofs.RecordTestLaws.{recordLength, sound-most, sound-fits}
 
 -- ---- sound words, record by record
@@ -68,7 +68,7 @@ module _ (named : Named) (last : ℕ) (ws : List ℕ) where
 -- the first record of some words
 abbrev pub firstRecord : List ℕ → Record
 firstRecord ws =
-    recordOf (getD ws 0 0) (getD ws 1 0) (getD ws 2 0) (getD ws 3 0 + getD ws 4 0 * 2 ^ 32) (pathIn (getD ws 5 0) ws)
+    recordOf (getD ws 0 0) (getD ws 1 0) (getD ws 2 0) (getD ws 3 0 + getD ws 4 0 * 2 ^ 32) (pathWords (getD ws 5 0) ws)
 
 decode-short : (k : ℕ) (ws : List ℕ) → length ws < 6 → decodeUpTo k ws ≡ []
 unfolding decodeUpTo
@@ -265,7 +265,7 @@ module _ (named : Named) (log : List ℕ) where
 
   pub found :
       {iteration turns : ℕ} → ((i : ℕ) → named .net i ≡ true → i < netsMost) → named .nodes ≤ nodesMost → sound iteration turns ≡ logChecked named log
-      → (logSound named log ≡ true) × Found log iteration turns
+      → (logSound named log ≡ true) × LogTested log iteration turns
   unfolding logChecked
   found {iteration} {turns} nets-few nodes-few e =
       ⊎-elim

@@ -18,7 +18,7 @@ use Rattle.price.proofs.TestLaws.{both-left, both-right, both-true}
 use Rattle.price.proofs.ListLaws.{every-all, every-none}
 use Rattle.search.proofs.KeptLaws.{refused, passed}
 use Rattle.text.specs.JobText.{between}
-use Rattle.text.specs.Routes.{Named, pathIn, pathSound, recordSound}
+use Rattle.text.specs.Routes.{Named, pathWords, pathSound, recordSound}
 use Rattle.text.specs.WriteSteps.{netMarked}
 
 -- ---- the tests of a path
@@ -186,7 +186,7 @@ path-most nodes n sink ws e =
     (both-right (leb 2 n) (leb n 4096)
     (both-left (between 2 nodesMost n) (leb (6 + n) (length ws))
     (both-left (both (between 2 nodesMost n) (leb (6 + n) (length ws)))
-    (both (every (nodeSound nodes) (pathIn n ws)) (eqb (getD ws (5 + n) 0) sink)) e)))
+    (both (every (nodeSound nodes) (pathWords n ws)) (eqb (getD ws (5 + n) 0) sink)) e)))
 
 path-fits : (nodes n sink : ℕ) (ws : List ℕ) → pathSound nodes n sink ws ≡ true → 6 + n ≤ length ws
 unfolding pathSound
@@ -194,7 +194,7 @@ path-fits nodes n sink ws e =
     leb-true (6 + n) (length ws)
     (both-right (between 2 nodesMost n) (leb (6 + n) (length ws))
     (both-left (both (between 2 nodesMost n) (leb (6 + n) (length ws)))
-    (both (every (nodeSound nodes) (pathIn n ws)) (eqb (getD ws (5 + n) 0) sink)) e))
+    (both (every (nodeSound nodes) (pathWords n ws)) (eqb (getD ws (5 + n) 0) sink)) e))
 
 module _ (named : Named) (last : ℕ) (ws : List ℕ) (e : recordSound named last ws ≡ true) where
   sound-tests : both (both (between 1 limitMost (getD ws 0 0)) (leb last (getD ws 0 0))) (both (named .net (getD ws 1 0)) (pathSound (named .nodes) (getD ws 5 0) (getD ws 2 0) ws)) ≡ true

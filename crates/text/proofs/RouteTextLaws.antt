@@ -19,7 +19,7 @@ use Rattle.job.proofs.JobLaws.{sources-few}
 use Rattle.text.specs.Routes.{WriteReply, Named, netWritable, writable, routeBranches, lastIteration, routesText, capped, notWritten, textReply, testedReply}
 use Rattle.text.specs.Dot.{dotText, styleText, textIn}
 use Rattle.text.specs.Users.{sound, unsound, logChecked}
-use Rattle.text.specs.WriteSteps.{Put, Filled, headText, tailText, netMarked, namedBy, Found}
+use Rattle.text.specs.WriteSteps.{Put, Filled, headText, tailText, netMarked, namedBy, LogTested}
 use Rattle.text.specs.declared.Style.{Style}
 use Rattle.text.specs.declared.Style.the-variants as s
 use Rattle.text.specs.ReadReplies.{writtenOver}
@@ -48,7 +48,7 @@ unfolding routesText dotText
 parts s.Lines sources rs = refl
 parts s.Picture sources rs = refl
 
-module _ {log : List ℕ} {iteration turns : ℕ} (style : Style) (f : Found log iteration turns) (sources : List ℕ) where
+module _ {log : List ℕ} {iteration turns : ℕ} (style : Style) (f : LogTested log iteration turns) (sources : List ℕ) where
   text-is : textIn style sources (decode log) ≡ headText style iteration turns ++ (bodyText style sources log ++ tailText style sources)
   text-is = parts style sources (decode log) ∙ rw (← f .iteration-is, ← f .turns-are)
 

@@ -20,7 +20,7 @@ use Rattle.price.proofs.ListLaws.{every-at}
 use Rattle.job.specs.Tables.{netsMost}
 use Rattle.negotiation.specs.Records.{Record, decode}
 use Rattle.text.specs.JobText.{between}
-use Rattle.text.specs.Routes.{Named, pathIn, pathSound, recordSound}
+use Rattle.text.specs.Routes.{Named, pathWords, pathSound, recordSound}
 use Rattle.text.specs.Listed.{stepAt}
 use Rattle.text.proofs.RecordTestLaws.{recordLength, sound-path, sound-net, sound-fits}
 use Rattle.text.proofs.LogLaws.{soundAfter, sound-next, sound-stop, firstRecord, decode-none, decode-next}
@@ -38,9 +38,9 @@ module _ (named : Named) (last : ℕ) (ws : List ℕ) (e : recordSound named las
       record {
         net-passes = sound-net named last ws e;
         nodes-below =
-            both-left (every (λ v. ltb v (named .nodes)) (pathIn (getD ws 5 0) ws)) (eqb (getD ws (5 + getD ws 5 0) 0) (getD ws 2 0))
+            both-left (every (λ v. ltb v (named .nodes)) (pathWords (getD ws 5 0) ws)) (eqb (getD ws (5 + getD ws 5 0) 0) (getD ws 2 0))
             (both-right (both (between 2 nodesMost (getD ws 5 0)) (leb (6 + getD ws 5 0) (length ws)))
-            (both (every (λ v. ltb v (named .nodes)) (pathIn (getD ws 5 0) ws)) (eqb (getD ws (5 + getD ws 5 0) 0) (getD ws 2 0)))
+            (both (every (λ v. ltb v (named .nodes)) (pathWords (getD ws 5 0) ws)) (eqb (getD ws (5 + getD ws 5 0) 0) (getD ws 2 0)))
             (sound-path named last ws e));
       }
 

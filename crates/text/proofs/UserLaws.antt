@@ -23,7 +23,7 @@ use Rattle.negotiation.specs.Demand.{treeRead}
 use Rattle.job.specs.Steps.{AllBelow}
 use Rattle.job.specs.Tables.{netsMost}
 use Rattle.job.proofs.MarkLaws.{stored-none, stored-one, stored-append}
-use Rattle.text.specs.Routes.{pathIn, passing}
+use Rattle.text.specs.Routes.{pathWords, passing}
 use Rattle.text.specs.WriteSteps.{nextAt, AllSound, part, ownRecords, Latest}
 use Rattle.text.specs.Users.{netsWith}
 use Rattle.text.specs.UserSteps.{Counted, FewUsers}
@@ -129,7 +129,7 @@ module _ {log : List ℕ} {at : ℕ} (p : Rest log at) (few : p .named .nodes �
   rest = drop at log
 
   abbrev path : List ℕ
-  path = pathIn (getD rest 5 0) rest
+  path = pathWords (getD rest 5 0) rest
 
   path-is : path ≡ slice (at + 6) (nextAt log at) log
   path-is = rw (getD-drop at log 5 0, drop-drop 6 at log) (path-at log at)

@@ -16,7 +16,7 @@ use Rattle.job.specs.Tables.{netsMost}
 use Rattle.negotiation.specs.Records.{decode}
 use Rattle.text.specs.Routes.{logSound}
 use Rattle.text.specs.Users.{sound, unsound, logChecked, checkedAt, belowNodes, netsWith, usersReply, usersReplyOf}
-use Rattle.text.specs.WriteSteps.{AllSound, Found, netMarked, namedBy}
+use Rattle.text.specs.WriteSteps.{AllSound, LogTested, netMarked, namedBy}
 use Rattle.text.specs.declared.log_check.LogCheck.{LogCheck}
 use Rattle.text.specs.declared.log_check.LogCheck.the-variants as k
 use Rattle.text.proofs.RecordTestLaws.{marked-none}
@@ -45,7 +45,7 @@ module _ (nodes : ℕ) (log : List ℕ) {few : ℕ} {r : LogCheck} (bound : few 
   users-unsound users e = rw (found-none (belowNodes nodes) log (tested e) .0, tested e)
 
   module _ {iteration turns : ℕ} (e : r ≡ k.Sound iteration turns) where
-    log-taken : (logSound (belowNodes nodes) log ≡ true) × Found log iteration turns
+    log-taken : (logSound (belowNodes nodes) log ≡ true) × LogTested log iteration turns
     log-taken = found (belowNodes nodes) log (λ i t. ltb-true i netsMost t) (omega arith) (tested e)
 
     pub users-log : AllSound log

@@ -22,8 +22,8 @@ use Rattle.text.specs.declared.WriteAnswer.the-variants as a
 -- ---- sound logs
 
 -- the words of the first record's path, n of them
-abbrev pub pathIn : ℕ → List ℕ → List ℕ
-pathIn n ws = take n (drop 6 ws)
+abbrev pub pathWords : ℕ → List ℕ → List ℕ
+pathWords n ws = take n (drop 6 ws)
 
 -- what a sound record may name: nets that pass a test, and nodes below a bound
 pub record Named : Type 0 where
@@ -34,7 +34,7 @@ pub record Named : Type 0 where
 unfoldable pub pathSound : ℕ → ℕ → ℕ → List ℕ → Bool
 pathSound nodes n sink ws =
     both (both (between 2 nodesMost n) (leb (6 + n) (length ws)))
-    (both (every (λ v. ltb v nodes) (pathIn n ws)) (eqb (getD ws (5 + n) 0) sink))
+    (both (every (λ v. ltb v nodes) (pathWords n ws)) (eqb (getD ws (5 + n) 0) sink))
 
 -- the first record is whole and sound, after one of iteration `last`, and names what may be named:
 -- "iteration 1 to 100 and never falling"

@@ -61,7 +61,7 @@ pub record AllSound (log : List ℕ) : Type 0 where
   pub all-sound : soundWords named log ≡ length log
 
 -- what the test of a sound log found
-pub record Found (log : List ℕ) (iteration turns : ℕ) : Type 0 where
+pub record LogTested (log : List ℕ) (iteration turns : ℕ) : Type 0 where
   pub words-sound : AllSound log
   pub iteration-is : iteration ≡ lastIteration (decode log)
   pub turns-are : turns ≡ length (decode log)

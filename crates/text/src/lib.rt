@@ -8,7 +8,7 @@ ghost use Prim.Native.Nat.{_≤_};
 ghost use Rattle.text.specs.ReadSteps.{lowestOfNine, RoomForAll, CountsWithin, jobTaken};
 ghost use Rattle.text.specs.Routes.{textReply, writeReply, writeReplyOf};
 ghost use Rattle.text.specs.Dot.{textIn, dotReply, styleReply};
-ghost use Rattle.text.specs.WriteSteps.{Found, LatestPlaces};
+ghost use Rattle.text.specs.WriteSteps.{LogTested, LatestPlaces};
 ghost use Rattle.negotiation.specs.Records.{decode};
 ghost use Rattle.job.specs.Tables.{netsMost};
 ghost use lib.ListN.{length};
@@ -393,7 +393,7 @@ fn write_lines(
     turns: usize,
     buffer: &mut [u8],
 ) -> WriteAnswer
-    requires { ⌜ (length (now source) ≤ netsMost) × Found (now log) iteration turns ⌝ }
+    requires { ⌜ (length (now source) ≤ netsMost) × LogTested (now log) iteration turns ⌝ }
     requires { ⌜ (netsMost ≤ length (now from)) × (netsMost ≤ length (now to)) × LatestPlaces (now log) (now from) (now to) ⌝ }
     ensures { λ r. ⌜ writeReplyOf r (now (buffer .exit))
         ≡ textReply (textIn style (now (source .entry)) (decode (now (log .entry)))) (now (buffer .entry)) ⌝ }
@@ -421,7 +421,7 @@ fn write_text(
     turns: usize,
     buffer: &mut [u8],
 ) -> WriteAnswer
-    requires { ⌜ (length (now source) ≤ netsMost) × Found (now log) iteration turns ⌝ }
+    requires { ⌜ (length (now source) ≤ netsMost) × LogTested (now log) iteration turns ⌝ }
     ensures { λ r. ⌜ writeReplyOf r (now (buffer .exit))
         ≡ textReply (textIn style (now (source .entry)) (decode (now (log .entry)))) (now (buffer .entry)) ⌝ }
 {

@@ -21,7 +21,7 @@ use Rattle.text.specs.Users.{logChecked, checkedAt, belowNodes, netsWith, Users
 use Rattle.text.specs.declared.log_check.LogCheck.{LogCheck}
 use Rattle.text.specs.declared.log_check.LogCheck.the-variants as k
 use Rattle.text.proofs.LogLaws.{found, found-none}
-use Rattle.uses.specs.Uses.{kindCount, logsMost, overKind, usesIn, Counts, countsOf, withLog, ofBlock, addReplyWith, testedReply}
+use Rattle.uses.specs.Uses.{kindCount, logsMost, overKind, usesIn, UseCounts, useCountsOf, withLog, ofBlock, addReplyWith, testedReply}
 use Rattle.uses.specs.Steps.{tallied, logAdded}
 use Rattle.uses.proofs.SumLaws.{upTo-same, sum-same}
 
@@ -49,7 +49,7 @@ module _ (kinds log : List ℕ) where
     unfolding usersReply
     tested e = sym (ap checkedAt e) ∙ ap (λ (u : UsersReply). u .checked) answered
 
-    pub add-unsound : (c : Counts) {word : ℕ} → r ≡ k.Unsound word → addReplyWith (10 ∷ word ∷ []) c ≡ testedReply block c log
+    pub add-unsound : (c : UseCounts) {word : ℕ} → r ≡ k.Unsound word → addReplyWith (10 ∷ word ∷ []) c ≡ testedReply block c log
     unfolding testedReply
     add-unsound c e = let f = found-none (ofBlock block) log (tested e) in rw (f .0, f .1)
 
@@ -57,7 +57,7 @@ module _ (kinds log : List ℕ) where
       taken : logSound (ofBlock block) log ≡ true
       taken = found (ofBlock block) log (λ i t. ltb-true i netsMost t) (min-le-right (length kinds) nodesMost) (tested e) .0
 
-      pub add-full : (c : Counts) → logsMost ≤ c .logs → addReplyWith (16 ∷ logsMost ∷ []) c ≡ testedReply block c log
+      pub add-full : (c : UseCounts) → logsMost ≤ c .logs → addReplyWith (16 ∷ logsMost ∷ []) c ≡ testedReply block c log
       unfolding testedReply
       add-full c l = rw (taken, le-leb logsMost (c .logs) l)
 
@@ -69,8 +69,8 @@ module _ (kinds log : List ℕ) where
       users-long = ap (λ (us : List ℕ). length us) users-are ∙ length-upTo (netsWith (decode log)) nodesMost
 
       pub add-done :
-          (c : Counts) {uses : List ℕ} → length kinds ≤ nodesMost → c .logs < logsMost → uses ≡ tallied kinds users (c .uses)
-          → addReplyWith [] (countsOf uses (c .logs + 1)) ≡ testedReply block c log
+          (c : UseCounts) {uses : List ℕ} → length kinds ≤ nodesMost → c .logs < logsMost → uses ≡ tallied kinds users (c .uses)
+          → addReplyWith [] (useCountsOf uses (c .logs + 1)) ≡ testedReply block c log
       unfolding testedReply withLog usesIn logAdded
       add-done c few l is =
           let added = is ∙ ap (λ (us : List ℕ). tallied kinds us (c .uses)) users-are ∙ log-added kinds (c .uses) (decode log) few in

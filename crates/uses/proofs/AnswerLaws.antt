@@ -8,7 +8,7 @@ use native.Mathlib.Nat.{le-trans}
 use native.Mathlib.Omega.{arith}
 use Rattle.search.specs.Block.{Block, blockOf, nodes}
 use Rattle.text.specs.Routes.{WriteReply, notWritten, textReply}
-use Rattle.uses.specs.Uses.{logsMost, usesIn, nodesOf, capacityOf, Counts, countsRefusal, withLog, AddReply, addReplyWith, testedReply, addReply, useLine, usesText, printReply}
+use Rattle.uses.specs.Uses.{logsMost, usesIn, nodesOf, capacityOf, UseCounts, countsRefusal, withLog, AddReply, addReplyWith, testedReply, addReply, useLine, usesText, printReply}
 use Rattle.uses.specs.Steps.{countMost, AtMost, testRefusal}
 use Rattle.uses.specs.declared.counts.CountsTest.{CountsTest}
 use Rattle.uses.specs.declared.counts.CountsTest.the-variants as t
@@ -17,12 +17,12 @@ use Rattle.uses.proofs.CountsLaws.{few-nodes, product-fits}
 use Rattle.uses.proofs.UsesHold.{Fine, passes-fine}
 
 -- counts that pass leave room for a log
-pub uses-low : (b : Block) (c : Counts) → Fine b c → AtMost countMost (c .uses)
+pub uses-low : (b : Block) (c : UseCounts) → Fine b c → AtMost countMost (c .uses)
 unfolding nodesOf
 uses-low b c f k l =
     omega (arith, f .within k l, product-fits (f .few) (let most = kind-nodes-most (b .kinds) k in let few = few-nodes b (f .sound) in le-trans most few))
 
-module _ (b : Block) (c : Counts) {r : CountsTest} (answered : testRefusal r ≡ countsRefusal b c) where
+module _ (b : Block) (c : UseCounts) {r : CountsTest} (answered : testRefusal r ≡ countsRefusal b c) where
   pub test-fine : r ≡ t.Fine → Fine b c
   test-fine e = passes-fine b c (sym answered ∙ ap testRefusal e)
 

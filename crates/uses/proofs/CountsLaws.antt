@@ -17,7 +17,7 @@ use Rattle.price.proofs.BelowLaws.{firstBelow-is, firstBelow-all}
 use Rattle.search.specs.Block.{Block, nodes}
 use Rattle.search.specs.Tables.{faultyTable}
 use Rattle.search.proofs.BlockLaws.{sound-of, kinds-few}
-use Rattle.uses.specs.Uses.{kindCount, logsMost, overKind, nodesOf, Counts, tooMany, countsRefusal}
+use Rattle.uses.specs.Uses.{kindCount, logsMost, overKind, nodesOf, UseCounts, tooMany, countsRefusal}
 use Rattle.uses.specs.Steps.{tallied, AtMost, overNodes}
 use Rattle.uses.proofs.SumLaws.{kind-nodes-most}
 use Rattle.uses.proofs.TallyLaws.{tallied-at}
@@ -71,7 +71,7 @@ module _ (b : Block) (sound : faultyTable b ≡ 0) where
     unfolding nodesOf
     found-most k l = omega (arith, found-at k l, kind-nodes-most (b .kinds) k, few-nodes)
 
-    found-over : (c : Counts) → firstBelow (overNodes (c .uses) found (c .logs)) kindCount ≡ firstBelow (tooMany b c) kindCount
+    found-over : (c : UseCounts) → firstBelow (overNodes (c .uses) found (c .logs)) kindCount ≡ firstBelow (tooMany b c) kindCount
     unfolding tooMany
     found-over c = first-same (overNodes (c .uses) found (c .logs)) (tooMany b c) kindCount (λ k l. rw (found-at k l))
 
@@ -80,7 +80,7 @@ module _ (b : Block) (sound : faultyTable b ≡ 0) where
 pub no-fault : (b : Block) {table : ℕ} → table ≡ faultyTable b → table < 1 → faultyTable b ≡ 0
 no-fault b found l = omega (arith, found)
 
-module _ (b : Block) (c : Counts) {table : ℕ} (found : table ≡ faultyTable b) where
+module _ (b : Block) (c : UseCounts) {table : ℕ} (found : table ≡ faultyTable b) where
   pub refused-table : 1 ≤ table → 5 ∷ table ∷ [] ≡ countsRefusal b c
   unfolding countsRefusal
   refused-table l = rw (← found, le-leb 1 table l)

@@ -19,7 +19,7 @@ use Rattle.text.specs.WriteSteps.{Put}
 use Rattle.text.proofs.DecimalLaws.{decimal-length, three-size}
 use Rattle.text.proofs.PlacedLaws.{placed-start}
 use Rattle.text.proofs.JoiningLaws.{concat-alike, concat-size}
-use Rattle.uses.specs.Uses.{kindCount, logsMost, letterU, overKind, capacityOf, countsOf, useLine, usesText, printReplyOf}
+use Rattle.uses.specs.Uses.{kindCount, logsMost, letterU, overKind, capacityOf, useCountsOf, useLine, usesText, printReplyOf}
 use Rattle.uses.specs.declared.PrintAnswer.the-variants as p
 use Rattle.uses.specs.Steps.{tallied, totalLine}
 use Rattle.uses.proofs.SumLaws.{kind-sum-most, kind-nodes-most}
@@ -81,10 +81,10 @@ lines-size uses totals logs =
     )) in
     omega arith
 
-lines-are : (kinds capacities uses totals : List ℕ) (logs : ℕ) → Totals kinds capacities totals → concatFrom (totalLine uses totals logs) 0 kindCount ≡ usesText (blockOf kinds capacities [] []) (countsOf uses logs)
+lines-are : (kinds capacities uses totals : List ℕ) (logs : ℕ) → Totals kinds capacities totals → concatFrom (totalLine uses totals logs) 0 kindCount ≡ usesText (blockOf kinds capacities [] []) (useCountsOf uses logs)
 unfolding usesText useLine
 lines-are kinds capacities uses totals logs t =
-    concat-alike (totalLine uses totals logs) (useLine (blockOf kinds capacities [] []) (countsOf uses logs)) 0 kindCount (λ k low l. rw (t .each k (omega arith)))
+    concat-alike (totalLine uses totals logs) (useLine (blockOf kinds capacities [] []) (useCountsOf uses logs)) 0 kindCount (λ k low l. rw (t .each k (omega arith)))
 
 -- ---- the answer
 
@@ -93,7 +93,7 @@ module _ {kinds capacities totals : List ℕ} (uses : List ℕ) (logs : ℕ) (t 
   text = concatFrom (totalLine uses totals logs) 0 kindCount
 
   abbrev asked : List ℕ
-  asked = usesText (blockOf kinds capacities [] []) (countsOf uses logs)
+  asked = usesText (blockOf kinds capacities [] []) (useCountsOf uses logs)
 
   pub printed-short : {trial after buffer : List ℕ} {needed : ℕ} → Put 0 text trial after needed → length buffer < needed → printReplyOf (p.ShortBuffer needed) buffer ≡ textReply asked buffer
   unfolding textReply

@@ -14,7 +14,7 @@ use Rattle.text.specs.Lines.{printFields, printLine}
 use Rattle.text.specs.Printed.{concatFrom}
 use Rattle.text.specs.Routes.{pathSound, recordSound, soundUpTo, soundWords, logSound, notWritten, textReply}
 use Rattle.text.specs.Users.{netsWith}
-use Rattle.uses.specs.Uses.{sumBelow, overKind, usesIn, capacityOf, nodesOf, Counts, countsOf, tooMany, countsRefusal, withLog, addReplyWith, testedReply, addReply, useLine, usesText, printReply}
+use Rattle.uses.specs.Uses.{sumBelow, overKind, usesIn, capacityOf, nodesOf, UseCounts, useCountsOf, tooMany, countsRefusal, withLog, addReplyWith, testedReply, addReply, useLine, usesText, printReply}
 use Rattle.uses.specs.Runs.{noCounts}
 
 -- all that closed counts and a closed log compute with
@@ -56,27 +56,27 @@ beyond =
     ∷ 1 ∷ 1 ∷ 5 ∷ 0 ∷ 0 ∷ 3 ∷ 1 ∷ 6 ∷ 5
     ∷ []
 
-abbrev full : Counts
-full = countsOf (used 0 0 0 0) 65535
+abbrev full : UseCounts
+full = useCountsOf (used 0 0 0 0) 65535
 
-pub first-added : addReply block noCounts log ≡ addReplyWith [] (countsOf (used 2 2 1 1) 1)
+pub first-added : addReply block noCounts log ≡ addReplyWith [] (useCountsOf (used 2 2 1 1) 1)
 unfolding computing
 first-added = refl
 
-pub second-added : addReply block (countsOf (used 2 2 1 1) 1) twice ≡ addReplyWith [] (countsOf (used 4 5 2 2) 2)
+pub second-added : addReply block (useCountsOf (used 2 2 1 1) 1) twice ≡ addReplyWith [] (useCountsOf (used 4 5 2 2) 2)
 unfolding computing
 second-added = refl
 
 -- 512 uses of the one node of kind 4 in one log may be, 513 may not
-pub kind-within : addReply block (countsOf (used 0 0 512 0) 1) log ≡ addReplyWith [] (countsOf (used 2 2 513 1) 2)
+pub kind-within : addReply block (useCountsOf (used 0 0 512 0) 1) log ≡ addReplyWith [] (useCountsOf (used 2 2 513 1) 2)
 unfolding computing
 kind-within = refl
 
-pub kind-over : addReply block (countsOf (used 0 0 513 513) 1) log ≡ addReplyWith (13 ∷ 4 ∷ []) (countsOf (used 0 0 513 513) 1)
+pub kind-over : addReply block (useCountsOf (used 0 0 513 513) 1) log ≡ addReplyWith (13 ∷ 4 ∷ []) (useCountsOf (used 0 0 513 513) 1)
 unfolding computing
 kind-over = refl
 
-pub logs-over : addReply block (countsOf (used 0 0 0 0) 65536) log ≡ addReplyWith (13 ∷ 54 ∷ []) (countsOf (used 0 0 0 0) 65536)
+pub logs-over : addReply block (useCountsOf (used 0 0 0 0) 65536) log ≡ addReplyWith (13 ∷ 54 ∷ []) (useCountsOf (used 0 0 0 0) 65536)
 unfolding computing
 logs-over = refl
 
@@ -89,10 +89,10 @@ unfolding computing
 logs-full = refl
 
 -- "U,1,5,4": two nodes of kind 1 and capacity 1 each, in two logs
-pub line-printed : useLine block (countsOf (used 4 5 2 2) 2) 1 ≡ 85 ∷ 44 ∷ 49 ∷ 44 ∷ 53 ∷ 44 ∷ 52 ∷ 10 ∷ []
+pub line-printed : useLine block (useCountsOf (used 4 5 2 2) 2) 1 ≡ 85 ∷ 44 ∷ 49 ∷ 44 ∷ 53 ∷ 44 ∷ 52 ∷ 10 ∷ []
 unfolding computing
 line-printed = refl
 
-pub short-buffer : printReply block (countsOf (used 4 5 2 2) 2) (7 ∷ []) ≡ notWritten (11 ∷ 476 ∷ []) (7 ∷ [])
+pub short-buffer : printReply block (useCountsOf (used 4 5 2 2) 2) (7 ∷ []) ≡ notWritten (11 ∷ 476 ∷ []) (7 ∷ [])
 unfolding computing
 short-buffer = refl

@@ -25,7 +25,7 @@ use Rattle.negotiation.specs.Records.{Record, decode}
 use Rattle.negotiation.specs.Demand.{treeRead}
 use Rattle.text.specs.Routes.{logSound, soundWords}
 use Rattle.text.specs.Users.{netsWith}
-use Rattle.uses.specs.Uses.{kindCount, logsMost, sumBelow, overKind, usesIn, nodesOf, Counts, countsOf, tooMany, countsRefusal, withLog, ofBlock, AddReply, addReplyWith, testedReply, addReply}
+use Rattle.uses.specs.Uses.{kindCount, logsMost, sumBelow, overKind, usesIn, nodesOf, UseCounts, useCountsOf, tooMany, countsRefusal, withLog, ofBlock, AddReply, addReplyWith, testedReply, addReply}
 use Rattle.uses.specs.Runs.{treeSize, UsesSum, UsesGrow, TreesWithin, noCounts, afterCalls, Accepted, Reordered, same, swap, under, through, OrderFree, StaysWithin, NeverOver}
 use Rattle.uses.proofs.TreeLaws.{tree-named}
 use Rattle.uses.proofs.SumLaws.{zeros-at, upTo-same, sum-same, sum-plus, sum-turned, count-sum, sum-one, kind-sum-most}
@@ -56,12 +56,12 @@ no-numbers : {a b : ℕ} → a ∷ b ∷ [] ≡ [] → ⊥
 no-numbers {a} {b} e = let z : _≡_ {A = ℕ} 2 0 = ap length e in omega arith
 
 -- counts that pass: a sound block, few enough logs, and no kind with too many uses
-pub record Fine (b : Block) (c : Counts) : Type 0 where
+pub record Fine (b : Block) (c : UseCounts) : Type 0 where
   pub sound : faultyTable b ≡ 0
   pub few : c .logs ≤ logsMost
   pub within : (k : ℕ) → k < kindCount → getD (c .uses) k 0 ≤ netsMost * c .logs * nodesOf b k
 
-module _ (b : Block) (c : Counts) where
+module _ (b : Block) (c : UseCounts) where
   -- the place of the lowest kind that has too many
   abbrev lowest : ℕ
   lowest = firstBelow (tooMany b c) kindCount
@@ -105,11 +105,11 @@ module _ (b : Block) (rs : List Record) where
   unfolding usesIn netsWith nodesOf
   uses-most k = kind-sum-most (b .kinds) (λ v. countBelow (λ i. has v (treeRead i rs)) netsMost) netsMost k (λ v l. count-most (λ i. has v (treeRead i rs)) netsMost)
 
-  with-at : (c : Counts) (k : ℕ) → k < kindCount → getD (withLog b c rs .uses) k 0 ≡ getD (c .uses) k 0 + usesIn b rs k
+  with-at : (c : UseCounts) (k : ℕ) → k < kindCount → getD (withLog b c rs .uses) k 0 ≡ getD (c .uses) k 0 + usesIn b rs k
   unfolding withLog
   with-at c k l = getD-upTo (λ k. getD (c .uses) k 0 + usesIn b rs k) kindCount k 0 l
 
-  with-logs : (c : Counts) → withLog b c rs .logs ≡ c .logs + 1
+  with-logs : (c : UseCounts) → withLog b c rs .logs ≡ c .logs + 1
   unfolding withLog
   with-logs c = refl
 
@@ -119,7 +119,7 @@ module _ (b : Block) (rs : List Record) where
       let e : 512 * (m + 1) ≡ 512 * m + 512 = omega arith in
       rw e (omega arith)
 
-  pub fine-more : (c : Counts) → Fine b c → c .logs < logsMost → Fine b (withLog b c rs)
+  pub fine-more : (c : UseCounts) → Fine b c → c .logs < logsMost → Fine b (withLog b c rs)
   fine-more c f l =
       record {
         sound = f .sound;
@@ -130,12 +130,12 @@ module _ (b : Block) (rs : List Record) where
 -- ---- a call that adds a log
 
 -- the log is added: counts that pass, a sound log, and room for one more
-pub record Adds (b : Block) (c : Counts) (log : List ℕ) : Type 0 where
+pub record Adds (b : Block) (c : UseCounts) (log : List ℕ) : Type 0 where
   pub fine : Fine b c
   pub log-sound : logSound (ofBlock b) log ≡ true
   pub room : c .logs < logsMost
 
-module _ (b : Block) (c : Counts) (log : List ℕ) where
+module _ (b : Block) (c : UseCounts) (log : List ℕ) where
   pub adds-reply : Adds b c log → addReply b c log ≡ addReplyWith [] (withLog b c (decode log))
   unfolding addReply testedReply
   adds-reply h = rw (fine-passes b c (h .fine), h .log-sound, lt-leb logsMost (c .logs) (h .room))
@@ -178,7 +178,7 @@ stays-within b c log passes =
     (λ h. rw (h .0) passes)
     (reply-cases b c log)
 
-run-within : (b : Block) (logs : List (List ℕ)) (c : Counts) → countsRefusal b c ≡ [] → countsRefusal b (afterCalls b c logs) ≡ []
+run-within : (b : Block) (logs : List (List ℕ)) (c : UseCounts) → countsRefusal b c ≡ [] → countsRefusal b (afterCalls b c logs) ≡ []
 unfolding afterCalls
 run-within b [] c passes = passes
 run-within b (log ∷ logs) c passes = run-within b logs (addReply b c log .counts) (stays-within b c log passes)
@@ -206,10 +206,10 @@ trees-within b c log e i v h =
 
 module _ (b : Block) where
   -- two logs change places
-  two-logs : (c : Counts) (x y : List Record) → withLog b (withLog b c x) y ≡ withLog b (withLog b c y) x
+  two-logs : (c : UseCounts) (x y : List Record) → withLog b (withLog b c x) y ≡ withLog b (withLog b c y) x
   unfolding withLog
   two-logs c x y =
-      ap (λ (l : List ℕ). countsOf l (c .logs + 1 + 1))
+      ap (λ (l : List ℕ). useCountsOf l (c .logs + 1 + 1))
       (upTo-same
       (λ k. getD (upTo (λ m. getD (c .uses) m 0 + usesIn b x m) kindCount) k 0 + usesIn b y k)
       (λ k. getD (upTo (λ m. getD (c .uses) m 0 + usesIn b y m) kindCount) k 0 + usesIn b x k)
@@ -217,28 +217,28 @@ module _ (b : Block) where
       (λ k l. omega (arith, getD-upTo (λ m. getD (c .uses) m 0 + usesIn b x m) kindCount k 0 l, getD-upTo (λ m. getD (c .uses) m 0 + usesIn b y m) kindCount k 0 l)))
 
   -- after a log that is added, what the next call sees
-  added : (c : Counts) (log : List ℕ) → Adds b c log → addReply b c log .counts ≡ withLog b c (decode log)
+  added : (c : UseCounts) (log : List ℕ) → Adds b c log → addReply b c log .counts ≡ withLog b c (decode log)
   added c log h = ap (λ (r : AddReply). r .counts) (adds-reply b c log h)
 
-  swap-adds : (c : Counts) (x y : List ℕ) → Adds b c x → Adds b (withLog b c (decode x)) y → Adds b c y × Adds b (withLog b c (decode y)) x
+  swap-adds : (c : UseCounts) (x y : List ℕ) → Adds b c x → Adds b (withLog b c (decode x)) y → Adds b c y × Adds b (withLog b c (decode y)) x
   swap-adds c x y h g =
       let second : c .logs + 1 < logsMost = rw (with-logs b (decode x) c) at (g .room) in
       let first : Adds b c y = record { fine = h .fine; log-sound = g .log-sound; room = h .room } in
       (first, record { fine = fine-more b (decode y) c (h .fine) (h .room); log-sound = h .log-sound; room = rw (with-logs b (decode y) c) second })
 
-  accepted-first : (c : Counts) (log : List ℕ) (logs : List (List ℕ)) → Adds b c log → Accepted b (withLog b c (decode log)) logs → Accepted b c (log ∷ logs)
+  accepted-first : (c : UseCounts) (log : List ℕ) (logs : List (List ℕ)) → Adds b c log → Accepted b (withLog b c (decode log)) logs → Accepted b c (log ∷ logs)
   unfolding Accepted
   accepted-first c log logs h rest = (ap (λ (r : AddReply). r .refusal) (adds-reply b c log h), rw (added c log h) rest)
 
-  calls-first : (c : Counts) (log : List ℕ) (logs : List (List ℕ)) → Adds b c log → afterCalls b c (log ∷ logs) ≡ afterCalls b (withLog b c (decode log)) logs
+  calls-first : (c : UseCounts) (log : List ℕ) (logs : List (List ℕ)) → Adds b c log → afterCalls b c (log ∷ logs) ≡ afterCalls b (withLog b c (decode log)) logs
   unfolding afterCalls
   calls-first c log logs h = rw (added c log h)
 
-  record First (c : Counts) (log : List ℕ) (logs : List (List ℕ)) : Type 0 where
+  record First (c : UseCounts) (log : List ℕ) (logs : List (List ℕ)) : Type 0 where
     adds : Adds b c log
     others : Accepted b (withLog b c (decode log)) logs
 
-  first-of : (c : Counts) (log : List ℕ) (logs : List (List ℕ)) → Accepted b c (log ∷ logs) → First c log logs
+  first-of : (c : UseCounts) (log : List ℕ) (logs : List (List ℕ)) → Accepted b c (log ∷ logs) → First c log logs
   unfolding Accepted
   first-of c log logs (e, rest) =
       let h = adds-of b c log e in
@@ -250,10 +250,10 @@ module _ (b : Block) where
       let one = first-of c x (y ∷ zs) a in
       let two = first-of (withLog b c (decode x)) y zs (one .others) in
       let turned = swap-adds c x y (one .adds) (two .adds) in
-      let rest : Accepted b (withLog b (withLog b c (decode y)) (decode x)) zs = subst (λ (d : Counts). Accepted b d zs) (two-logs c (decode x) (decode y)) (two .others) in (
+      let rest : Accepted b (withLog b (withLog b c (decode y)) (decode x)) zs = subst (λ (d : UseCounts). Accepted b d zs) (two-logs c (decode x) (decode y)) (two .others) in (
         accepted-first c y (x ∷ zs) (turned .0) (accepted-first (withLog b c (decode y)) x zs (turned .1) rest),
         calls-first c x (y ∷ zs) (one .adds) ∙ calls-first (withLog b c (decode x)) y zs (two .adds)
-            ∙ ap (λ (d : Counts). afterCalls b d zs) (two-logs c (decode x) (decode y))
+            ∙ ap (λ (d : UseCounts). afterCalls b d zs) (two-logs c (decode x) (decode y))
             ∙ sym (calls-first c y (x ∷ zs) (turned .0) ∙ calls-first (withLog b c (decode y)) x zs (turned .1)),
       )
   order-free c xs ys (under {x = x} {xs = us} {ys = vs} r) a =

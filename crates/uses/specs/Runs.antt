@@ -11,7 +11,7 @@ use Rattle.search.specs.Tables.{faultyTable}
 use Rattle.job.specs.Tables.{netsMost}
 use Rattle.negotiation.specs.Records.{Record, decode}
 use Rattle.negotiation.specs.Demand.{treeRead}
-use Rattle.uses.specs.Uses.{kindCount, sumBelow, usesIn, Counts, countsOf, countsRefusal, addReply}
+use Rattle.uses.specs.Uses.{kindCount, sumBelow, usesIn, UseCounts, useCountsOf, countsRefusal, addReply}
 
 -- how many nodes the final tree of net i has
 unfoldable pub treeSize : Block → List Record → ℕ → ℕ
@@ -24,27 +24,27 @@ UsesSum b rs = sumBelow (usesIn b rs) kindCount ≡ sumBelow (treeSize b rs) net
 -- and so of a run: each log that is added adds the size of its final trees to the sum
 abbrev pub UsesGrow : Block → Type 0
 UsesGrow b =
-    (c : Counts) (log : List ℕ) → addReply b c log .refusal ≡ []
+    (c : UseCounts) (log : List ℕ) → addReply b c log .refusal ≡ []
     → sumBelow (λ k. getD (addReply b c log .counts .uses) k 0) kindCount
     ≡ sumBelow (λ k. getD (c .uses) k 0) kindCount + sumBelow (treeSize b (decode log)) netsMost
 
 -- nothing is left out of these sums: a final tree of a log that is added has only nodes of the block, and only nets below 512 have one
 abbrev pub TreesWithin : Block → Type 0
 TreesWithin b =
-    (c : Counts) (log : List ℕ) → addReply b c log .refusal ≡ []
+    (c : UseCounts) (log : List ℕ) → addReply b c log .refusal ≡ []
     → (i v : ℕ) → has v (treeRead i (decode log)) ≡ true → (i < netsMost) × (v < nodes b)
 
 -- "at first all 0"
-abbrev pub noCounts : Counts
-noCounts = countsOf (replicate kindCount 0) 0
+abbrev pub noCounts : UseCounts
+noCounts = useCountsOf (replicate kindCount 0) 0
 
 -- the counts after calls that add these logs, "added one after another"
-unfoldable pub afterCalls : Block → Counts → List (List ℕ) → Counts
+unfoldable pub afterCalls : Block → UseCounts → List (List ℕ) → UseCounts
 afterCalls b c [] = c
 afterCalls b c (log ∷ more) = afterCalls b (addReply b c log .counts) more
 
 -- none of these calls is refused
-unfoldable pub Accepted : Block → Counts → List (List ℕ) → Type 0
+unfoldable pub Accepted : Block → UseCounts → List (List ℕ) → Type 0
 Accepted b c [] = Unit {0}
 Accepted b c (log ∷ more) = (addReply b c log .refusal ≡ []) × Accepted b (addReply b c log .counts) more
 
@@ -58,11 +58,11 @@ pub data Reordered : List (List ℕ) → List (List ℕ) → Type 0 where
 -- "The order of accepted logs doesn't matter.": in another order they are accepted too, and leave the same counts
 abbrev pub OrderFree : Block → Type 0
 OrderFree b =
-    (c : Counts) (xs ys : List (List ℕ)) → Reordered xs ys → Accepted b c xs → Accepted b c ys × (afterCalls b c xs ≡ afterCalls b c ys)
+    (c : UseCounts) (xs ys : List (List ℕ)) → Reordered xs ys → Accepted b c xs → Accepted b c ys × (afterCalls b c xs ≡ afterCalls b c ys)
 
 -- counts that pass 5 and 13 pass them after any log, added or refused
 abbrev pub StaysWithin : Block → Type 0
-StaysWithin b = (c : Counts) (log : List ℕ) → countsRefusal b c ≡ [] → countsRefusal b (addReply b c log .counts) ≡ []
+StaysWithin b = (c : UseCounts) (log : List ℕ) → countsRefusal b c ≡ [] → countsRefusal b (addReply b c log .counts) ≡ []
 
 -- so a run over a sound block that begins with 0 never meets 13
 abbrev pub NeverOver : Block → Type 0

@@ -58,21 +58,21 @@ nodesOf b k = overKind (b .kinds) (λ v. 1) k
 
 -- ---- counts
 
--- "Counts are handed in and back": the uses of each kind so far, and how many logs they are of
-pub record Counts : Type 0 where
+-- "UseCounts are handed in and back": the uses of each kind so far, and how many logs they are of
+pub record UseCounts : Type 0 where
   pub uses : List ℕ
   pub logs : ℕ
 
-abbrev pub countsOf : List ℕ → ℕ → Counts
-countsOf uses logs = record { uses = uses; logs = logs }
+abbrev pub useCountsOf : List ℕ → ℕ → UseCounts
+useCountsOf uses logs = record { uses = uses; logs = logs }
 
 -- "uses over 512 × logs × the kind's nodes"
-unfoldable pub tooMany : Block → Counts → ℕ → Bool
+unfoldable pub tooMany : Block → UseCounts → ℕ → Bool
 tooMany b c k = ltb (netsMost * c .logs * nodesOf b k) (getD (c .uses) k 0)
 
 -- "Given one block's tables 1 to 4 (5 if unsound)"; "over 65,535 logs is 13 with 54, else uses over 512 × logs × the kind's nodes is 13
 -- with the lowest such kind, both after 5, before 10 and 11"; nothing where none is due
-unfoldable pub countsRefusal : Block → Counts → List ℕ
+unfoldable pub countsRefusal : Block → UseCounts → List ℕ
 countsRefusal b c =
     choose (leb 1 (faultyTable b)) (5 ∷ faultyTable b ∷ [])
     (choose (ltb logsMost (c .logs)) (13 ∷ kindCount ∷ [])
@@ -81,8 +81,8 @@ countsRefusal b c =
 -- ---- adding a log
 
 -- the counts with one log more
-unfoldable pub withLog : Block → Counts → List Record → Counts
-withLog b c rs = countsOf (upTo (λ k. getD (c .uses) k 0 + usesIn b rs k) kindCount) (c .logs + 1)
+unfoldable pub withLog : Block → UseCounts → List Record → UseCounts
+withLog b c rs = useCountsOf (upTo (λ k. getD (c .uses) k 0 + usesIn b rs k) kindCount) (c .logs + 1)
 
 -- "a run of logs sound by 01": nets below 512, without table 5; "A record with a node the block lacks is unsound too"
 abbrev pub ofBlock : Block → Named
@@ -91,19 +91,19 @@ ofBlock b = belowNodes (nodes b)
 -- the refusal's numbers, none where the log is added; and the counts afterwards
 pub record AddReply : Type 0 where
   pub refusal : List ℕ
-  pub counts : Counts
+  pub counts : UseCounts
 
-abbrev pub addReplyWith : List ℕ → Counts → AddReply
+abbrev pub addReplyWith : List ℕ → UseCounts → AddReply
 addReplyWith refusal c = record { refusal = refusal; counts = c }
 
 -- the reply of counts that pass: "Turned away: number 16 with 65,535 for a log beyond so many, after 10."
-unfoldable pub testedReply : Block → Counts → List ℕ → AddReply
+unfoldable pub testedReply : Block → UseCounts → List ℕ → AddReply
 testedReply b c log =
     choose (not (logSound (ofBlock b) log)) (addReplyWith (10 ∷ soundWords (ofBlock b) log ∷ []) c)
     (choose (leb logsMost (c .logs)) (addReplyWith (16 ∷ logsMost ∷ []) c) (addReplyWith [] (withLog b c (decode log))))
 
 -- "a refused log adds nothing"
-unfoldable pub addReply : Block → Counts → List ℕ → AddReply
+unfoldable pub addReply : Block → UseCounts → List ℕ → AddReply
 addReply b c log = choose (leb 1 (length (countsRefusal b c))) (addReplyWith (countsRefusal b c) c) (testedReply b c log)
 
 -- 01's numbers for each case of the answer
@@ -124,20 +124,20 @@ logsAfter before (a.LogsFull most) = before
 
 -- the answer with the uses at the call's end
 abbrev pub addReplyOf : ℕ → AddAnswer → List ℕ → AddReply
-addReplyOf logs r uses = addReplyWith (addRefusal r) (countsOf uses (logsAfter logs r))
+addReplyOf logs r uses = addReplyWith (addRefusal r) (useCountsOf uses (logsAfter logs r))
 
 -- ---- printing
 
 -- "print for each kind from 0 to 53 a line `U,kind,uses,capacity`, ended by LF"; "capacity the kind's total capacity times the number
 -- of logs"
-unfoldable pub useLine : Block → Counts → ℕ → List ℕ
+unfoldable pub useLine : Block → UseCounts → ℕ → List ℕ
 useLine b c k = printLine letterU (k ∷ getD (c .uses) k 0 ∷ capacityOf b k * c .logs ∷ [])
 
-unfoldable pub usesText : Block → Counts → List ℕ
+unfoldable pub usesText : Block → UseCounts → List ℕ
 usesText b c = concatFrom (useLine b c) 0 kindCount
 
 -- "A short text buffer is 11."
-unfoldable pub printReply : Block → Counts → List ℕ → WriteReply
+unfoldable pub printReply : Block → UseCounts → List ℕ → WriteReply
 printReply b c buffer =
     choose (leb 1 (length (countsRefusal b c))) (notWritten (countsRefusal b c) buffer) (textReply (usesText b c) buffer)
 

@@ -5,7 +5,7 @@ ghost use lib.ListN.{length};
 ghost use Rattle.price.specs.Bounds.{nodesMost};
 ghost use Rattle.price.specs.Lists.{firstBelow};
 ghost use Rattle.search.specs.Block.{blockOf};
-ghost use Rattle.uses.specs.Uses.{kindCount, logsMost, countsOf, countsRefusal};
+ghost use Rattle.uses.specs.Uses.{kindCount, logsMost, useCountsOf, countsRefusal};
 ghost use Rattle.uses.specs.Steps.{AtMost, testRefusal, overNodes};
 use crate::KINDS;
 use crate::LOGS_MOST;
@@ -49,7 +49,7 @@ pub fn test_counts(
 ) -> CountsTest
     ensures { λ r. do
       let block = blockOf (now (kind .entry)) (now (capacity .entry)) (now («first_edge» .entry)) (now («edge_target» .entry))
-      ⌜ testRefusal r ≡ countsRefusal block (countsOf (now (uses .entry)) logs) ⌝ }
+      ⌜ testRefusal r ≡ countsRefusal block (useCountsOf (now (uses .entry)) logs) ⌝ }
 {
     let table = job::faulty_block(kind, capacity, first_edge, edge_target);
     if 1 <= table {

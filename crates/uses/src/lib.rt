@@ -4,7 +4,7 @@ ghost use mathlib.Core.List.{[]};
 ghost use mathlib.Core.Path.{_≡_};
 ghost use Rattle.search.specs.Block.{blockOf};
 ghost use Rattle.search.specs.Tables.{kindsSound};
-ghost use Rattle.uses.specs.Uses.{countsOf, addReplyOf, testedReply, addReply, printReplyOf, printReply};
+ghost use Rattle.uses.specs.Uses.{useCountsOf, addReplyOf, testedReply, addReply, printReplyOf, printReply};
 ghost use Rattle.uses.specs.Steps.{countMost, AtMost};
 
 // The kinds, each of which has a count.
@@ -51,7 +51,7 @@ use text::LogCheck;
 fn add_tested(kind: &[u8], uses: &mut [u64; KINDS], logs: u64, log: &[u32]) -> AddAnswer
     requires { ⌜ (kindsSound (now kind) ≡ true) × AtMost countMost (now uses) ⌝ }
     ensures { λ r. ⌜ addReplyOf logs r (now (uses .exit))
-        ≡ testedReply (blockOf (now (kind .entry)) [] [] []) (countsOf (now (uses .entry)) logs) (now (log .entry)) ⌝ }
+        ≡ testedReply (blockOf (now (kind .entry)) [] [] []) (useCountsOf (now (uses .entry)) logs) (now (log .entry)) ⌝ }
 {
     let mut users = [0u16; NODES_MOST];
     match text::node_users(kind.len(), log, &mut users) {
@@ -81,7 +81,7 @@ pub fn add_log(
 ) -> AddAnswer
     ensures answers { λ r. do
       let block = blockOf (now (kind .entry)) (now (capacity .entry)) (now («first_edge» .entry)) (now («edge_target» .entry))
-      ⌜ addReplyOf logs r (now (uses .exit)) ≡ addReply block (countsOf (now (uses .entry)) logs) (now (log .entry)) ⌝ }
+      ⌜ addReplyOf logs r (now (uses .exit)) ≡ addReply block (useCountsOf (now (uses .entry)) logs) (now (log .entry)) ⌝ }
 {
     match counts::test_counts(kind, capacity, first_edge, edge_target, uses, logs) {
         CountsTest::Fine => add_tested(kind, uses, logs, log),
@@ -102,7 +102,7 @@ pub fn write_uses(
 ) -> PrintAnswer
     ensures answers { λ r. do
       let block = blockOf (now (kind .entry)) (now (capacity .entry)) (now («first_edge» .entry)) (now («edge_target» .entry))
-      ⌜ printReplyOf r (now (buffer .exit)) ≡ printReply block (countsOf (now (uses .entry)) logs) (now (buffer .entry)) ⌝ }
+      ⌜ printReplyOf r (now (buffer .exit)) ≡ printReply block (useCountsOf (now (uses .entry)) logs) (now (buffer .entry)) ⌝ }
 {
     match counts::test_counts(kind, capacity, first_edge, edge_target, uses, logs) {
         CountsTest::Fine => lines::put_uses(kind, capacity, uses, logs, buffer),

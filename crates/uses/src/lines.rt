@@ -9,7 +9,7 @@ ghost use Rattle.text.specs.Printed.{concatFrom};
 ghost use Rattle.text.specs.Routes.{textReply};
 ghost use Rattle.text.specs.WriteSteps.{Put};
 ghost use Rattle.search.specs.Tables.{kindsSound, capacitiesSound};
-ghost use Rattle.uses.specs.Uses.{kindCount, logsMost, countsOf, usesText, printReplyOf};
+ghost use Rattle.uses.specs.Uses.{kindCount, logsMost, useCountsOf, usesText, printReplyOf};
 ghost use Rattle.uses.specs.Steps.{totalLine};
 use crate::KINDS;
 use crate::PrintAnswer;
@@ -48,7 +48,7 @@ pub fn put_uses(
 ) -> PrintAnswer
     requires { ⌜ (kindsSound (now kind) ≡ true) × (capacitiesSound (length (now kind)) (now capacity) ≡ true) × (logs ≤ logsMost) ⌝ }
     ensures { λ r. do
-      let text = usesText (blockOf (now (kind .entry)) (now (capacity .entry)) [] []) (countsOf (now (uses .entry)) logs)
+      let text = usesText (blockOf (now (kind .entry)) (now (capacity .entry)) [] []) (useCountsOf (now (uses .entry)) logs)
       ⌜ printReplyOf r (now (buffer .exit)) ≡ textReply text (now (buffer .entry)) ⌝ }
 {
     let mut wide = [0u16; NODES_MOST];

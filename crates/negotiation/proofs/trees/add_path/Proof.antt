@@ -6,14 +6,14 @@ use native.Mathlib.Omega.{arith}
 use lib.ListN.{length, getD}
 use lib.Seq.{slice, slice-empty}
 use denote.Ref.{now}
-use Rattle.negotiation.specs.Steps.{Added}
+use Rattle.negotiation.specs.Steps.{UsersAdded}
 use Rattle.job.proofs.MarkLaws.{Between, between-none, between-more, between-all, node-below, passed-more}
 use Rattle.negotiation.proofs.LeavingLaws.{can-add-rest, added-none, added-one, added-kept, added-append}
 use Rattle.negotiation.proofs.trees.add_path.Statement.{statement}
 use Rattle.negotiation.proofs.trees.add_path.Tie as tie
 
 abbrev Inv-loop : tie.InvT-loop
-Inv-loop log from to users₀ in-tree₀ k₀ users in-tree k = Between from to k log × Added (length in-tree₀) (slice from k log) users₀ in-tree₀ users in-tree
+Inv-loop log from to users₀ in-tree₀ k₀ users in-tree k = Between from to k log × UsersAdded (length in-tree₀) (slice from k log) users₀ in-tree₀ users in-tree
 
 abbrev μ-loop : tie.MeasureT-loop
 μ-loop log from to users₀ in-tree₀ k₀ users in-tree k = to - k

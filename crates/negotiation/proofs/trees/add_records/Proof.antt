@@ -6,14 +6,14 @@ use Prim.Native.Nat.{_+_, _-_, _≤_}
 use native.Mathlib.Omega.{arith}
 use lib.ListN.{length, getD}
 use denote.Ref.{now}
-use Rattle.negotiation.specs.Steps.{Added}
+use Rattle.negotiation.specs.Steps.{UsersAdded}
 use Rattle.negotiation.proofs.LeavingLaws.{added-none, added-append, can-add-rest}
 use Rattle.negotiation.proofs.RegionLaws.{Walking, walking-none, walking-more, walking-all, record-fits, record-nodes}
 use Rattle.negotiation.proofs.trees.add_records.Statement.{statement}
 use Rattle.negotiation.proofs.trees.add_records.Tie as tie
 
 abbrev Inv-loop : tie.InvT-loop
-Inv-loop log from until users₀ in-tree₀ at₀ users in-tree at = Walking (length in-tree₀) from until log at (λ xs. Added (length in-tree₀) xs users₀ in-tree₀ users in-tree)
+Inv-loop log from until users₀ in-tree₀ at₀ users in-tree at = Walking (length in-tree₀) from until log at (λ xs. UsersAdded (length in-tree₀) xs users₀ in-tree₀ users in-tree)
 
 abbrev μ-loop : tie.MeasureT-loop
 μ-loop log from until users₀ in-tree₀ at₀ users in-tree at = until - at

@@ -10,7 +10,7 @@ use Rattle.search.specs.Block.{graphOf}
 use Rattle.search.specs.Aimed.{weightAt}
 use Rattle.search.specs.Estimates.{Beside, SinksWait}
 use Rattle.search.proofs.EstimateLaws.{beside-none, beside-more}
-use Rattle.search.proofs.EstimateStart.{sinks-passed, sinks-more, sinks-all}
+use Rattle.search.proofs.EstimateStart.{sinks-passed, sinks-more, all-sinks-wait}
 use Rattle.search.proofs.estimate.guess_sinks.Statement.{statement}
 use Rattle.search.proofs.estimate.guess_sinks.Tie as tie
 
@@ -72,7 +72,7 @@ same-length : tie.Need-same-length Inv-loop μ-loop
 same-length c = c .before .loop .inv .0 .long
 
 returns : tie.Need-returns Inv-loop μ-loop
-returns c = (c .before .loop .inv .0, sinks-all (c .loop-test .left) (c .before .loop .inv .1))
+returns c = (c .before .loop .inv .0, all-sinks-wait (c .loop-test .left) (c .before .loop .inv .1))
 
 pub guess-sinks-spec : {M : Type 1} → statement M
 guess-sinks-spec =

@@ -2,14 +2,14 @@
 -- Assumes nothing.
 use Prim.Native.Nat.{_-_}
 use native.Mathlib.Omega.{arith}
-use Rattle.search.specs.TurnWork.{Over}
+use Rattle.search.specs.TurnWork.{PassedOver}
 use Rattle.search.proofs.TurnMarkLaws.{over-one}
 use borrow.Author.Needs.{needs}
 use Rattle.search.proofs.turn.next_marked.Statement.{statement}
 use Rattle.search.proofs.turn.next_marked.Tie as tie
 
 abbrev Inv-loop : tie.InvT-loop
-Inv-loop in-tree from n v₀ v = Over in-tree from n v
+Inv-loop in-tree from n v₀ v = PassedOver in-tree from n v
 
 abbrev μ-loop : tie.MeasureT-loop
 μ-loop in-tree from n v₀ v = n - v
