@@ -1,17 +1,17 @@
 -- What the loops that clear a part of the work slice, or fill one, keep from turn to turn.
 --     clear-none, clear-more            a part that is being cleared
 --     answered-price, answered-refused  what the price's answer says
---     first-tree, first-other           the first distance of a node
---     Pricing, Starting                 the loops that fill a part, a node a turn
+--     first-tree, first-other           the first label of a node
+--     Pricing                           the loop that prices every node
 -- Assumes nothing.
 use mathlib.Core.Bool.{true}
 use mathlib.Core.List.{List, [], _∷_, _++_, append-assoc}
-use mathlib.Core.Path.{_≡_, refl, sym, _∙_}
+use mathlib.Core.Path.{_≡_, sym, _∙_}
 use Prim.Native.Nat.{ℕ, suc, _+_, _-_, _*_, _≤_, _<_}
 use native.Mathlib.Nat.{not-suc-le-zero}
 use native.Mathlib.Numerals.{add-one}
 use native.Mathlib.Omega.{arith}
-use lib.ListN.{length, getD, set, take, drop, replicate, length-append, length-take, length-set, length-replicate, replicate-append-replicate, take-append-drop}
+use lib.ListN.{length, getD, set, take, drop, replicate, length-append, length-take, length-replicate, replicate-append-replicate, take-append-drop}
 use lib.Seq.{drop-cons, getD-set-same, getD-set-other, set-at}
 use borrow.Author.Count.{below-more}
 use Rattle.price.specs.Test.{choose}
@@ -25,7 +25,7 @@ use Rattle.search.specs.Block.{blockOf}
 use Rattle.search.specs.Turn.{Congestion, congestedAt, priceAt}
 use Rattle.search.specs.Frontier.{PriceReady}
 use Rattle.search.specs.Distance.{far, inTree}
-use Rattle.search.specs.Layout.{distAt, leafAt, priceIn, SameBut, Started, Priced}
+use Rattle.search.specs.Layout.{priceIn, SameBut, Priced}
 use Rattle.search.proofs.DistanceLaws.{out-of-tree, in-the-tree}
 use Rattle.search.proofs.StoreLaws.{same-none, same-store}
 
@@ -72,7 +72,7 @@ module _ {kinds capacities : List ℕ} {c : Congestion} {v : ℕ} (ready : Price
       → priceReplyOf r ≡ weighedReply (c .weighting) (getD kinds v 0) (c .factor) (getD (c .others) v 0) (getD capacities v 0) (getD (c .histories) v 0) d → ⊥
   answered-refused q e = answer-not-refused (e ∙ reply) q
 
--- ---- the first distance of a node
+-- ---- the first label of a node
 
 pub first-tree : (marks : List ℕ) (v : ℕ) {d : ℕ} → getD marks v 0 ≡ 1 → d ≡ 0 → d ≡ choose (inTree marks v) 0 far
 first-tree marks v m e = rw (in-the-tree marks v m) e
@@ -80,7 +80,7 @@ first-tree marks v m e = rw (in-the-tree marks v m) e
 pub first-other : (marks : List ℕ) (v : ℕ) {d : ℕ} → (getD marks v 0 ≡ 1 → ⊥) → d ≡ far → d ≡ choose (inTree marks v) 0 far
 first-other marks v m e = rw (out-of-tree marks v m) e
 
--- ---- the loops that fill a part, a node a turn
+-- ---- the loop that prices every node
 
 -- values that stand in their places below i do so below i + 1 after a store at the place of i
 stored-more : (place value : ℕ → ℕ) (w : List ℕ) (i a : ℕ) → ((v : ℕ) → v < i → place v ≡ place i → ⊥) → place i < length w → a ≡ value i → ((v : ℕ) → v < i → getD w (place v) 0 ≡ value v) → (v : ℕ) → v < i + 1 → getD (set w (place i) a) (place v) 0 ≡ value v
@@ -107,41 +107,3 @@ pricing-more {n} {price} {w} {w′} {i} p h l e s = record {
 
 pub pricing-all : {n : ℕ} {price : ℕ → ℕ} {w w′ : List ℕ} {i : ℕ} → n ≤ i → Pricing n price w w′ i → Priced n price w w′
 pricing-all l s = record { same = s .same; prices = λ v b. s .prices v (omega arith) }
-
--- the nodes below i have their first distances and wait in the queue
-pub record Starting (n : ℕ) (marks w w′ : List ℕ) (i : ℕ) : Type 0 where
-  pub upto : i ≤ n
-  pub long : length w′ ≡ length w
-  pub dist : (v : ℕ) → v < i → distAt w′ v ≡ choose (inTree marks v) 0 far
-  pub leaf : (v : ℕ) → v < i → leafAt n w′ v ≡ choose (inTree marks v) 0 far
-  pub high : (j : ℕ) → 3 * n ≤ j → getD w′ j 0 ≡ getD w j 0
-
-pub starting-none : (n : ℕ) (marks w : List ℕ) → Starting n marks w w 0
-starting-none n marks w = record {
-  upto = omega arith;
-  long = refl;
-  dist = λ v b. absurd (not-suc-le-zero b);
-  leaf = λ v b. absurd (not-suc-le-zero b);
-  high = λ j b. refl;
-}
-
-pub starting-more : {n : ℕ} {marks w w′ : List ℕ} {i : ℕ} (d : ℕ) → 8 * n ≤ length w → i < n → d ≡ choose (inTree marks i) 0 far → Starting n marks w w′ i → Starting n marks w (set (set w′ i d) (2 * n + i) d) (i + 1)
-starting-more {n} {marks} {w} {w′} {i} d h l e s =
-    let long : length (set w′ i d) ≡ length w = length-set w′ i d ∙ s .long in
-    let far-off : (j : ℕ) → (j ≡ 2 * n + i → ⊥) → getD (set (set w′ i d) (2 * n + i) d) j 0 ≡ getD (set w′ i d) j 0 = λ j q. getD-set-other (set w′ i d) (2 * n + i) j d 0 q in
-    record {
-      upto = omega arith;
-      long = length-set (set w′ i d) (2 * n + i) d ∙ long;
-      dist = λ v b. far-off v (λ q. omega arith) ∙ stored-more (λ v. v) (λ v. choose (inTree marks v) 0 far) w′ i d (λ v b q. omega arith) (omega (arith, s .long)) e (s .dist) v b;
-      leaf = stored-more (λ v. 2 * n + v) (λ v. choose (inTree marks v) 0 far) (set w′ i d) i d (λ v b q. omega arith) (omega arith) e
-          (λ v b. getD-set-other w′ i (2 * n + v) d 0 (λ q. omega arith) ∙ s .leaf v b);
-      high = λ j b. far-off j (λ q. omega arith) ∙ getD-set-other w′ i j d 0 (λ q. omega arith) ∙ s .high j b;
-    }
-
-pub starting-all : {n : ℕ} {marks w w′ : List ℕ} {i : ℕ} → n ≤ i → Starting n marks w w′ i → Started n marks w w′
-starting-all l s = record {
-  long = s .long;
-  dist = λ v b. s .dist v (omega arith);
-  leaf = λ v b. s .leaf v (omega arith);
-  high = s .high;
-}

@@ -43,18 +43,9 @@
 --     FillLaws        loops that clear or fill a part
 --     QueueLaws       the tournament tree
 --     LevelLaws       its least entry as the level of the search
---     BestLaws        the least distance of a goal or of an unjoined sink so far
+--     BestLaws        the least distance of an unjoined sink so far
 --
--- The running search (Dijkstra), as the search called alone has it
---     Exactness       which distances and predecessors are final
---     FrontierSteps   the frontier at the start, after a settling, after a row
---     WayLaws         a new way to a node, as an edge gives it
---     WaySteps        the frontier after a new way
---     RelaxSteps      the frontier after an edge
---     RowSteps        a row, edge by edge
---     RunLaws         a run of settlings, and where it stops
---
--- A turn: labels and a binary heap
+-- The plain search (Dijkstra): labels and a binary heap
 --     HeapLaws        a node rises to its place in the heap, and one sinks; an entry shared by a predecessor and a waiting node
 --     SpreadSteps     what holds while labels spread, after an edge
 --     RelaxLaws       an edge, as its code has it
@@ -68,7 +59,7 @@
 --
 -- A whole call
 --     ReadyLaws       what tests that refuse nothing have shown: fair prices, marks, a sound graph
---     SearchLaws      a search: prepared, run, read
+--     SearchLaws      a search: the tree is marked, the labels spread, and they are the distances
 --     SearchTestLaws  the tests before a search, and its reply
 --     PathTestLaws    what the tests before a turn refuse, and what they have shown
 --     FitLaws         how the test of all lengths decides
@@ -112,14 +103,7 @@ pub mod AimRows
 pub mod AimSteps
 pub mod AimEnds
 pub mod AimedTurnLaws
-pub mod Exactness
 pub mod BestLaws
-pub mod FrontierSteps
-pub mod WayLaws
-pub mod WaySteps
-pub mod RelaxSteps
-pub mod RowSteps
-pub mod RunLaws
 pub mod HeapLaws
 pub mod SpreadSteps
 pub mod RelaxLaws

@@ -72,7 +72,7 @@ module _ (b : Block) (c : Congestion) (marks sinks work : List ℕ) where
     fitting-sound = both-true lengths-fit (timed-fits (c .weighting .timed) (nodes b) (length (c .delays)) (λ t. d t .few) delays-fit)
 
     -- a clamped price is the price
-    price-clamped : (v : ℕ) → v < nodes b → clampedPrice (b .kinds) (b .capacities) c v ≡ priceAt b c v
+    pub price-clamped : (v : ℕ) → v < nodes b → clampedPrice (b .kinds) (b .capacities) c v ≡ priceAt b c v
     price-clamped v h = clamped-is b c v (ready-price (b .kinds) (b .capacities) (b .firstEdges) (b .edgeTargets) c marks ready v h .bounds)
 
     pub path-turn : pathReply b c marks sinks work ≡ turnReply (nodes b) work (turn b (priceAt b c) marks sinks)

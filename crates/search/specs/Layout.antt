@@ -5,9 +5,8 @@
 use mathlib.Core.List.{List}
 use mathlib.Core.Path.{_≡_}
 use Prim.Native.Nat.{ℕ, _+_, _*_, _≤_, _<_, min}
-use lib.ListN.{length, getD, set}
-use Rattle.price.specs.Test.{choose}
-use Rattle.search.specs.Distance.{far, inTree}
+use lib.ListN.{length, getD}
+use Rattle.search.specs.Distance.{far}
 
 abbrev pub distAt : List ℕ → ℕ → ℕ
 distAt w v = getD w v 0
@@ -66,23 +65,6 @@ pub record Shortened (n u v d key : ℕ) (w w′ : List ℕ) : Type 0 where
   pub pred-other : (x : ℕ) → x < n → (x ≡ v → ⊥) → predAt n w′ x ≡ predAt n w x
   pub price-same : (x : ℕ) → x < n → priceIn n w′ x ≡ priceIn n w x
   pub high : (j : ℕ) → 5 * n ≤ j → getD w′ j 0 ≡ getD w j 0
-
--- what looking at the edge from u to v does: v gets a shorter way, or as short a way over a lower node, or nothing changes
-pub data Relaxed (n u v : ℕ) (w w′ : List ℕ) : Type 0 where
-  shorter :
-      distAt w u + priceIn n w v < distAt w v → Shortened n u v (distAt w u + priceIn n w v) (distAt w u + priceIn n w v) w w′
-      → Relaxed n u v w w′
-  lower : distAt w u + priceIn n w v ≡ distAt w v → u < predAt n w v → w′ ≡ set w (4 * n + v) u → Relaxed n u v w w′
-  kept :
-      distAt w v ≤ distAt w u + priceIn n w v → (distAt w u + priceIn n w v ≡ distAt w v → predAt n w v ≤ u) → w′ ≡ w
-      → Relaxed n u v w w′
-
--- the queue and the distances before anything is settled
-pub record Started (n : ℕ) (marks w w′ : List ℕ) : Type 0 where
-  pub long : length w′ ≡ length w
-  pub dist : (v : ℕ) → v < n → distAt w′ v ≡ choose (inTree marks v) 0 far
-  pub leaf : (v : ℕ) → v < n → leafAt n w′ v ≡ choose (inTree marks v) 0 far
-  pub high : (j : ℕ) → 3 * n ≤ j → getD w′ j 0 ≡ getD w j 0
 
 -- every node's price stands in its place
 pub record Priced (n : ℕ) (price : ℕ → ℕ) (w w′ : List ℕ) : Type 0 where

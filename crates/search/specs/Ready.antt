@@ -4,17 +4,14 @@
 use mathlib.Core.Bool.{Bool, true, not}
 use mathlib.Core.List.{List}
 use mathlib.Core.Path.{_≡_}
-use Prim.Native.Nat.{ℕ, _*_, _≤_, _<_}
+use Prim.Native.Nat.{ℕ, _≤_, _<_}
 use lib.Dec.{leb}
-use lib.ListN.{length, getD}
-use Rattle.price.specs.Test.{choose}
+use lib.ListN.{length}
 use Rattle.price.specs.Bounds.{factorMost, criticalityMost, timedNodesMost}
 use Rattle.price.specs.Lists.{firstBelow}
-use Rattle.search.specs.Distance.{far, inTree}
 use Rattle.search.specs.Tables.{kindsSound, capacitiesSound, delaysSound}
 use Rattle.search.specs.Turn.{Congestion}
 use Rattle.search.specs.Replies.{nodeSound}
-use Rattle.search.specs.Layout.{distAt, leafAt, priceIn}
 
 -- every number below n passes the test: the lowest that fails is not below n
 abbrev pub allBelow : ℕ → (ℕ → Bool) → Bool
@@ -33,11 +30,3 @@ pub record PricesReady (kinds capacities : List ℕ) (c : Congestion) (marks : L
   pub nodes-sound : (v : ℕ) → v < length kinds → nodeSound c marks v ≡ true
   pub factor-most : c .factor ≤ factorMost
   pub weighable : c .weighting .timed ≡ true → Weighable (length kinds) c
-
--- prices and first distances stand in their places
-pub record Prepared (n : ℕ) (price : ℕ → ℕ) (marks w w′ : List ℕ) : Type 0 where
-  pub long : length w′ ≡ length w
-  pub prices : (v : ℕ) → v < n → priceIn n w′ v ≡ price v
-  pub dist : (v : ℕ) → v < n → distAt w′ v ≡ choose (inTree marks v) 0 far
-  pub leaf : (v : ℕ) → v < n → leafAt n w′ v ≡ choose (inTree marks v) 0 far
-  pub high : (j : ℕ) → 4 * n ≤ j → getD w′ j 0 ≡ getD w j 0

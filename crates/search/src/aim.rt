@@ -7,11 +7,11 @@ ghost use Prim.Native.Nat.{ℕ, _+_, _*_, _^_, _≤_, _<_};
 ghost use lib.ListN.{length};
 ghost use Rattle.search.specs.Block.{graphOf};
 ghost use Rattle.search.specs.Distance.{far};
-ghost use Rattle.search.specs.Layout.{Heap};
+ghost use Rattle.search.specs.Layout.{Heap, Shortened};
 ghost use Rattle.search.specs.Estimates.{guessAt};
 ghost use Rattle.search.specs.Aiming.{wayOver, AimStarted, AimedOver, AimRowReady, AimedRow, BestAim};
 ghost use Rattle.search.specs.Aiming.{AimTask, Aiming, AimLaunched, AimReady, AimEnd};
-use crate::distances;
+use crate::labels;
 use crate::queue;
 
 // The distance of the joined sink, FAR where none has a path, and how many nodes were expanded.
@@ -31,11 +31,21 @@ fn start_aim(in_tree: &[u8], work: &mut [u64], n: usize)
             work[v] = 0;
             work[2 * n + v] = work[6 * n + v];
         } else {
-            work[v] = distances::FAR;
-            work[2 * n + v] = distances::FAR;
+            work[v] = labels::FAR;
+            work[2 * n + v] = labels::FAR;
         }
         v += 1;
     }
+}
+
+// Node v has a shorter way, over u, and waits at this key.
+fn shorten(work: &mut [u64], n: usize, u: usize, v: usize, d: u64, key: u64)
+    requires { ⌜ (u < n) × (v < n) × (8 * n ≤ length (now work)) × Heap n (now work) ⌝ }
+    ensures { λ _. ⌜ Shortened n u v d key (now (work .entry)) (now (work .exit)) ⌝ }
+{
+    work[v] = d;
+    work[4 * n + v] = u as u64;
+    queue::wait(work, n, v, key);
 }
 
 // Looks at the edge from u to v, unless v has no estimate. Answers the least distance of a sink so far; it was `best` before.
@@ -48,13 +58,13 @@ fn aim(work: &mut [u64], n: usize, u: usize, v: usize, best: u64) -> u64
       ⌜ AimedOver n u v before after × (BestAim n best before → BestAim n r after) ⌝ }
 {
     let guess = work[6 * n + v];
-    if guess == distances::FAR {
+    if guess == labels::FAR {
         return best;
     }
     let d = work[u] + work[3 * n + v];
     let old = work[v];
     if d < old {
-        distances::shorten(work, n, u, v, d, d + guess);
+        shorten(work, n, u, v, d, d + guess);
         if guess == 0 {
             if d < best {
                 return d;
@@ -111,11 +121,11 @@ fn expand_all(kind: &[u8], first_edge: &[u32], edge_target: &[u16], work: &mut [
           → AimEnd graph (t .price) (t .weight) marks (t .sinks) before after (r .cost) (r .expanded)) ⌝ }
 {
     let n = kind.len();
-    let mut best = distances::FAR;
+    let mut best = labels::FAR;
     let mut expanded = 0u32;
     loop {
         let key = work[n + 1];
-        if key == distances::FAR {
+        if key == labels::FAR {
             return Aimed {
                 cost: best,
                 expanded: expanded,
@@ -128,7 +138,7 @@ fn expand_all(kind: &[u8], first_edge: &[u32], edge_target: &[u16], work: &mut [
             };
         }
         let u = queue::nearest(work, n);
-        queue::wait(work, n, u, distances::FAR);
+        queue::wait(work, n, u, labels::FAR);
         expanded += 1;
         best = aim_row(kind, first_edge, edge_target, work, u, best);
     }

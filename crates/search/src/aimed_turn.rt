@@ -18,10 +18,12 @@ use crate::NODES_MOST;
 use crate::PathAnswer;
 use crate::aim;
 use crate::aim::Aimed;
-use crate::distances;
 use crate::estimate;
+use crate::labels;
 use crate::links;
+use crate::prices;
 use crate::turn;
+use crate::zeros;
 use price::Weighting;
 
 // Predecessors where a path is read off: from n on.
@@ -92,8 +94,8 @@ fn read_aimed(sinks: &[u16], in_tree: &[u8], work: &mut [u64], n: usize, found: 
       ⌜ AimedRead n marks list before (found .cost) (found .expanded) (r .answer) (r .expanded) (now (work .exit)) ⌝ }
 {
     let cost = found.cost;
-    if cost == distances::FAR {
-        distances::clear(work, 0, 8 * n);
+    if cost == labels::FAR {
+        zeros::clear(work, 0, 8 * n);
         return AimedPath {
             answer: PathAnswer::Stuck,
             expanded: 0,
@@ -101,7 +103,7 @@ fn read_aimed(sinks: &[u16], in_tree: &[u8], work: &mut [u64], n: usize, found: 
     }
     move_predecessors(work, n);
     let answer = turn::read_path(sinks, in_tree, work, n, cost);
-    distances::clear(work, 3 * n, 8 * n);
+    zeros::clear(work, 3 * n, 8 * n);
     AimedPath {
         answer: answer,
         expanded: found.expanded,
@@ -134,7 +136,7 @@ pub fn join(
       let reply = aimedTurnReply block congestion (now («in_tree» .entry)) (now (sinks .entry)) (now (work .entry))
       ⌜ aimedPathReplyOf r (now (work .exit)) ≡ reply ⌝ }
 {
-    distances::fill_prices(
+    prices::fill_prices(
         kind,
         capacity,
         history,

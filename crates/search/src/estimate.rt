@@ -14,7 +14,7 @@ ghost use Rattle.search.specs.Links.{Links};
 ghost use Rattle.search.specs.Aimed.{weightAt};
 ghost use Rattle.search.specs.Estimates.{weightMost, keyMost, walkAt, WeightReady, Guessed, Tried, GuessedBefore};
 ghost use Rattle.search.specs.Estimates.{Beside, Unguessed, SinksWait, EstimateReady, SpreadReady, EstimatesMade};
-use crate::distances;
+use crate::labels;
 use crate::queue;
 use price::PriceAnswer;
 use price::Weighting;
@@ -35,8 +35,8 @@ fn weight(kind: &[u8], weighting: Weighting, v: usize) -> u64
 fn capped_sum(a: u64, b: u64) -> u64
     ensures { λ r. ⌜ r ≡ min (a + b) far ⌝ }
 {
-    if distances::FAR - a < b {
-        return distances::FAR;
+    if labels::FAR - a < b {
+        return labels::FAR;
     }
     a + b
 }
@@ -81,7 +81,7 @@ fn guess_over(
       ⌜ Tried n weight (now («in_tree» .entry)) u estimate cost (now (work .entry)) (now (work .exit)) bound r ⌝ }
 {
     let n = kind.len();
-    if work[6 * n + u] != distances::FAR {
+    if work[6 * n + u] != labels::FAR {
         return bound;
     }
     guess(kind, weighting, work, u, estimate, cost);
@@ -136,9 +136,9 @@ fn no_guesses(work: &mut [u64], n: usize)
 {
     let mut v = 0;
     while v < n {
-        work[n + v] = distances::FAR;
-        work[2 * n + v] = distances::FAR;
-        work[6 * n + v] = distances::FAR;
+        work[n + v] = labels::FAR;
+        work[2 * n + v] = labels::FAR;
+        work[6 * n + v] = labels::FAR;
         v += 1;
     }
 }
@@ -194,17 +194,17 @@ fn guess_all(
         EstimatesMade graph (r .ready .price) weight marks (r .sinks) before (now (work .exit))) ⌝ }
 {
     let n = kind.len();
-    let mut bound = distances::FAR;
+    let mut bound = labels::FAR;
     loop {
         let level = work[n + 1];
-        if level == distances::FAR {
+        if level == labels::FAR {
             return;
         }
         if bound < level {
             return;
         }
         let v = queue::nearest(work, n);
-        queue::wait(work, n, v, distances::FAR);
+        queue::wait(work, n, v, labels::FAR);
         bound = guess_before(
             kind,
             weighting,

@@ -13,11 +13,13 @@ ghost use Rattle.search.specs.Clamped.{clamped as clampedAt, clampedWeig
 ghost use Rattle.search.specs.Labels.{labelAt, fromAt, withFrom};
 ghost use Rattle.search.specs.Spread.{Labelled, GoalMet, Lowered, EdgeRelaxed, LabelReady, RelaxReady};
 ghost use Rattle.search.specs.Spread.{SettleReady, NodeSettled, RunReady, SpreadStopped};
-use crate::distances;
 use crate::heap;
 use crate::weighing;
 use price::PriceAnswer;
 use price::Weighting;
+
+// No path; as a label: none yet.
+pub const FAR: u64 = 18446744073709551615;
 
 // No label yet on a goal; elsewhere it is FAR. Every label is below both.
 pub const GOAL: u64 = 18446744073709551614;
@@ -278,7 +280,7 @@ pub fn settle_all(
 {
     let n = kind.len();
     let mut r = Reach {
-        best: distances::FAR,
+        best: FAR,
         count: waits,
     };
     while 0 < r.count {

@@ -66,11 +66,12 @@ mod heap;
 mod labels;
 mod links;
 mod numbers;
+mod prices;
 mod queue;
-mod run;
 mod tables;
 mod turn;
 mod weighing;
+mod zeros;
 
 use price::Weighting;
 
@@ -147,7 +148,7 @@ fn searched(
         SearchAnswer::ShortWork(needed) => SearchAnswer::ShortWork(needed),
         SearchAnswer::BadNumber(place) => SearchAnswer::BadNumber(place),
         SearchAnswer::Done => {
-            run::distances_from_tree(
+            distances::distances_from_tree(
                 kind,
                 capacity,
                 first_edge,

@@ -13,9 +13,9 @@ ghost use Rattle.search.specs.Labels.{labelAt};
 ghost use Rattle.search.specs.TurnWork.{Blank, Unmarked, PassedOver, NextMarked};
 ghost use Rattle.search.specs.TurnWork.{Fitted, TreeMarked, GoalsMarked, LeastGoal, FirstAt, Leads, pathIn, Found, Read};
 use crate::PathAnswer;
-use crate::distances;
 use crate::heap;
 use crate::labels;
+use crate::zeros;
 use price::Weighting;
 
 // How many nodes are passed over at a time.
@@ -31,7 +31,7 @@ fn fill_far(work: &mut [u64], n: usize)
 {
     let mut v = 0;
     while v < n {
-        work[v] = distances::FAR;
+        work[v] = labels::FAR;
         v += 1;
     }
 }
@@ -83,7 +83,7 @@ fn next_marked(in_tree: &[u8], from: usize, n: usize) -> usize
 }
 
 // Tree nodes have label 0 and wait, the others have none: how many wait.
-fn mark_tree(in_tree: &[u8], work: &mut [u64], n: usize) -> usize
+pub fn mark_tree(in_tree: &[u8], work: &mut [u64], n: usize) -> usize
     requires { ⌜ (n ≤ nodesMost) × (n ≤ length (now «in_tree»)) × (3 * n ≤ length (now work)) ⌝ }
     ensures { λ count. ⌜ TreeMarked n (now («in_tree» .entry)) (now (work .entry)) (now (work .exit)) count ⌝ }
 {
@@ -108,7 +108,7 @@ fn mark_goals(sinks: &[u16], work: &mut [u64], n: usize)
     while i < sinks.len() {
         let s = sinks[i] as usize;
         if s < n {
-            if work[s] == distances::FAR {
+            if work[s] == labels::FAR {
                 work[s] = labels::GOAL;
             }
         }
@@ -222,7 +222,7 @@ pub fn read_path(sinks: &[u16], in_tree: &[u8], work: &mut [u64], n: usize, cost
     let sink = sinks[place] as usize;
     let count = path_length(in_tree, work, n, sink);
     write_path(in_tree, work, n, sink, count);
-    distances::clear(work, count, 3 * n);
+    zeros::clear(work, count, 3 * n);
     PathAnswer::Joins {
         place: place as u32,
         cost: cost,
@@ -283,8 +283,8 @@ pub fn join(
         waits,
         last_step,
     );
-    if cost == distances::FAR {
-        distances::clear(work, 0, 3 * n);
+    if cost == labels::FAR {
+        zeros::clear(work, 0, 3 * n);
         return PathAnswer::Stuck;
     }
     read_path(sinks, in_tree, work, n, cost)

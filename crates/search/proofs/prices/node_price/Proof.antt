@@ -1,9 +1,9 @@
--- `search::distances::node_price` meets its contract: where every number keeps its bounds, the answer is the price.
+-- `search::prices::node_price` meets its contract: where every number keeps its bounds, the answer is the price.
 -- Assumes nothing.
 use borrow.Author.Needs.{needs}
 use Rattle.search.proofs.FillLaws.{answered-price, answered-refused}
-use Rattle.search.proofs.distances.node_price.Statement.{statement}
-use Rattle.search.proofs.distances.node_price.Tie as tie
+use Rattle.search.proofs.prices.node_price.Statement.{statement}
+use Rattle.search.proofs.prices.node_price.Tie as tie
 
 -- the entry, from where the bounds of the lists are known
 abbrev entry : tie.After-shared-slice-known9 → tie.Start

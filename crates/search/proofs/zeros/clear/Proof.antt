@@ -1,4 +1,4 @@
--- `search::distances::clear` meets its contract: after the turns up to k, the entries from `from` to below k are zeros and the others as before.
+-- `search::zeros::clear` meets its contract: after the turns up to k, the entries from `from` to below k are zeros and the others as before.
 -- Assumes nothing.
 use mathlib.Core.Path.{_≡_, refl}
 use Prim.Native.Nat.{_-_, _≤_}
@@ -6,8 +6,8 @@ use native.Mathlib.Omega.{arith}
 use lib.ListN.{length, length-set}
 use denote.Ref.{now}
 use Rattle.search.proofs.FillLaws.{cleared, clear-none, clear-more}
-use Rattle.search.proofs.distances.clear.Statement.{statement}
-use Rattle.search.proofs.distances.clear.Tie as tie
+use Rattle.search.proofs.zeros.clear.Statement.{statement}
+use Rattle.search.proofs.zeros.clear.Tie as tie
 
 abbrev Inv-loop : tie.InvT-loop
 Inv-loop work₀ from to k₀ work k = (from ≤ k) × (k ≤ to) × (length work ≡ length work₀) × (work ≡ cleared work₀ from k)

@@ -1,4 +1,4 @@
--- `search::distances::shorten` meets its contract: two stores outside the queue, and then the node waits at its new key.
+-- `search::aim::shorten` meets its contract: two stores outside the queue, and then the node waits at its new key.
 -- Assumes nothing.
 use mathlib.Core.Path.{_∙_}
 use native.Mathlib.Omega.{arith}
@@ -6,8 +6,8 @@ use lib.ListN.{length-set}
 use borrow.Author.Needs.{needs}
 use Rattle.search.proofs.StoreLaws.{shortened}
 use Rattle.search.proofs.QueueLaws.{heap-way}
-use Rattle.search.proofs.distances.shorten.Statement.{statement}
-use Rattle.search.proofs.distances.shorten.Tie as tie
+use Rattle.search.proofs.aim.shorten.Statement.{statement}
+use Rattle.search.proofs.aim.shorten.Tie as tie
 
 mul-work : tie.Need-mul-work
 mul-work c = search needs

@@ -1,4 +1,4 @@
--- `search::distances::fill_prices` meets its contract: after the turns up to v, the nodes below v have their prices.
+-- `search::prices::fill_prices` meets its contract: after the turns up to v, the nodes below v have their prices.
 -- Assumes nothing.
 use mathlib.Core.List.{[]}
 use Prim.Native.Nat.{_-_}
@@ -6,8 +6,8 @@ use native.Mathlib.Omega.{arith}
 use Rattle.search.specs.Block.{blockOf}
 use Rattle.search.specs.Turn.{weighedCongestion, priceAt}
 use Rattle.search.proofs.FillLaws.{Pricing, pricing-none, pricing-more, pricing-all}
-use Rattle.search.proofs.distances.fill_prices.Statement.{statement}
-use Rattle.search.proofs.distances.fill_prices.Tie as tie
+use Rattle.search.proofs.prices.fill_prices.Statement.{statement}
+use Rattle.search.proofs.prices.fill_prices.Tie as tie
 
 abbrev Inv-loop : tie.InvT-loop
 Inv-loop kind capacity history others weighting delay factor work₀ n v₀ work v = Pricing n (priceAt (blockOf kind capacity [] []) (weighedCongestion weighting delay factor history others)) work₀ work v
