@@ -234,7 +234,7 @@ pub fn run(
     }
 }
 
-// What an answer leaves in the routes buffer: the routes text that is there already, or the line of the refusal.
+// What an answer leaves in the routes buffer: the text that is there already, or the line of the refusal.
 fn put_answer(answer: RunAnswer, routes: &mut [u8]) -> usize
     ensures { λ r. ⌜ lineReplyOf r (now (routes .exit)) ≡ answerLine answer (now (routes .entry)) ⌝ }
 {

@@ -1,4 +1,5 @@
--- What the private functions of the tests do to their lists. Only their contracts cite this file: no caller has to believe it.
+-- What private functions do to their lists. Only the contracts of private functions, here and in the crates above, cite this file: no
+-- caller has to believe it.
 -- Assumes nothing.
 use mathlib.Core.Bool.{Bool}
 use mathlib.Core.List.{List}
@@ -17,7 +18,7 @@ abbrev pub pinKind : Pin → ℕ → Bool
 pinKind Source = sourceKind
 pinKind Sink = sinkKind
 
--- every entry is a node
+-- every entry is below n
 abbrev pub AllBelow : ℕ → List ℕ → Type 0
 AllBelow n xs = (i : ℕ) → i < length xs → getD xs i 0 < n
 

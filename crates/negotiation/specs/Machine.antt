@@ -37,7 +37,7 @@ usersOf j trees v = countBelow (λ k. has v (treeAt trees k)) (nets j)
 unfoldable pub marksOf : Job → List ℕ → List ℕ
 marksOf j tree = upTo (λ v. choose (has v tree) 1 0) (nodes j)
 
--- what prices the turns of net i in this state
+-- the congestion that prices the turns of net i in this state; in a timed job `turnCongestion` adds how delay is weighed
 unfoldable pub congestionFor : Job → State → ℕ → Congestion
 congestionFor j s i = congestionOf (s .factor) (s .histories) (upTo (othersOf j (s .trees) i) (nodes j))
 
@@ -69,7 +69,7 @@ abbrev pub withTree : State → ℕ → List ℕ → State
 withTree s i tree =
     record { iteration = s .iteration; factor = s .factor; histories = s .histories; trees = set (s .trees) i tree }
 
--- the first nets of an iteration, in order: their records, and the state after them
+-- records so far, of the first nets of an iteration or of a whole run, and the state after them
 pub record Progress : Type 0 where
   pub records : List Record
   pub state : State

@@ -85,7 +85,7 @@ turnFollows j s i tree ws =
 
 -- ---- the log, record after record
 
--- the records so far follow and lead to this state, or the record at this word doesn't follow
+-- the records so far follow and lead to this state, or the log stops following the job at this word
 pub data Replay : Type 0 where
   on : (p : Progress) → Replay
   off : (word : ℕ) → Replay

@@ -118,7 +118,7 @@ fn step_passes(
 
 // The cost of the path in the log from `from` to below `to`, whose nodes are marked. It strays unless its first node alone has a mark and
 // each step passes; then marks may be left behind.
-pub fn path_cost(
+fn path_cost(
     kind: &[u8],
     capacity: &[u8],
     first_edge: &[u32],

@@ -27,7 +27,7 @@ pub enum Outcome {
     BadTable(u32),
     // 6: the work slice is shorter than this many entries.
     ShortWork(u64),
-    // 14: the record at this word of a lent log does not follow the job.
+    // 14: a lent log does not follow the job: the word place of the first record that doesn't, the words used, or the log's length.
     Diverges(u64),
     // 15: a timed job has too many nodes or too high a limit.
     TooLarge { nodes: u32, limit: u32 },

@@ -5,7 +5,7 @@ ghost use Rattle.negotiation.specs.Steps.{SameFrom, RoutableWith, FirstM
 use crate::flood;
 use search::NODES_MOST;
 
-// What the test of all nets, or of one net, finds.
+// What the test of all nets finds.
 pub enum Reach {
     All,
     Missing { net: u32, place: u32 },

@@ -23,7 +23,7 @@ use crate::tariff::Tariff;
 use job::Terms;
 use search::NODES_MOST;
 
-// What a lent log comes to: the run goes on from this tariff, or the record at this word doesn't follow.
+// What a lent log comes to: the run goes on from this tariff, or the log stops following the job at this word.
 pub enum Taken {
     On(Tariff),
     Off(usize),

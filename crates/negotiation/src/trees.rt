@@ -21,7 +21,7 @@ pub fn mark_path(work: &[u64], count: usize, in_tree: &mut [u8])
     }
 }
 
-// The nodes in the log from `from` to below `to` lose a user each, once.
+// The nodes in the log from `from` to below `to` that have no mark lose a user each, and get one.
 fn drop_path(log: &[u32], from: usize, to: usize, users: &mut [u16], in_tree: &mut [u8])
     requires { ⌜ (from ≤ to) × (to ≤ length (now log)) × (length (now users) ≡ length (now «in_tree»)) ⌝ }
     requires { ⌜ AllBelow (length (now «in_tree»)) (slice from to (now log)) ⌝ }

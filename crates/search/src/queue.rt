@@ -16,7 +16,7 @@ fn lesser_child(work: &[u64], n: usize, i: usize) -> u64
 }
 
 // Carries a change below entry i up, as far as it reaches.
-pub fn carry_up(work: &mut [u64], n: usize, from: usize)
+fn carry_up(work: &mut [u64], n: usize, from: usize)
     requires { ⌜ (from < n) × (3 * n ≤ length (now work)) × HeapBut n (now work) from ⌝ }
     ensures { λ _. ⌜ Heap n (now (work .exit)) × SameBut (n + 1) (2 * n) (now (work .entry)) (now (work .exit)) ⌝ }
 {
@@ -33,7 +33,7 @@ pub fn carry_up(work: &mut [u64], n: usize, from: usize)
 }
 
 // Carries a lower key up from a child of entry i: an entry that is above the key becomes it, as far as there is one.
-pub fn lower_above(work: &mut [u64], n: usize, from: usize, key: u64)
+fn lower_above(work: &mut [u64], n: usize, from: usize, key: u64)
     requires { ⌜ (from < n) × (3 * n ≤ length (now work)) × HeapBut n (now work) from × LoweredBelow n key (now work) from ⌝ }
     ensures { λ _. ⌜ Heap n (now (work .exit)) × SameBut (n + 1) (2 * n) (now (work .entry)) (now (work .exit)) ⌝ }
 {

@@ -171,7 +171,7 @@ capped n = min n (2 ^ 64 - 1)
 abbrev pub notWritten : List ℕ → List ℕ → WriteReply
 notWritten refusal buffer = record { refusal = refusal; bytes = 0; buffer = buffer }
 
--- "the writer 10, 11": "0 if empty", and "bytes needed"
+-- of "the writer 10, 11" the second: "bytes needed"
 unfoldable pub textReply : List ℕ → List ℕ → WriteReply
 textReply text buffer =
     choose (ltb (length buffer) (length text)) (notWritten (11 ∷ capped (length text) ∷ []) buffer)

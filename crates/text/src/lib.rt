@@ -1,4 +1,4 @@
-// The job text before the router, and the routes text or the line of a refusal after it.
+// The job text before the router, and the routes text or the picture after it.
 ghost use mathlib.Core.Path.{_≡_};
 ghost use Rattle.search.specs.Replies.{sinksMost};
 ghost use Rattle.price.specs.Bounds.{nodesMost};
