@@ -31,7 +31,8 @@ use Rattle.negotiation.proofs.RoutableLaws.{routable-of}
 use Rattle.job.proofs.JobLaws as job
 use Rattle.text.specs.JobText.{Part, part, stopped, readText}
 use Rattle.text.specs.Printed.{PrintedAs}
-use Rattle.text.specs.ReadReplies.{Tables, shortTable, writtenOver, tablesWith, ReadReply, notRead, termsNumbers, jobNumbers, storedReply, replyTo, readReply}
+use Rattle.text.specs.ReadReplies.{Tables, shortTable, writtenOver, tablesWith, ReadReply, notRead, termsNumbers, jobNumbers, readWhole, storedReply, replyTo, readReply}
+use Rattle.text.specs.Accepted.{AllowedText, AcceptedText}
 use Rattle.text.specs.Routes.{WriteReply}
 use Rattle.text.specs.Dot.{styleReply}
 use Rattle.text.specs.declared.Style.{Style}
@@ -40,7 +41,7 @@ use Rattle.flow.specs.Refusals.{LineReply, lineReplyOf, refusalLine}
 use Rattle.flow.specs.Steps.{answerLine}
 use Rattle.flow.specs.declared.RunAnswer.{RunAnswer}
 use Rattle.flow.specs.declared.RunAnswer.the-variants as ra
-use Rattle.text.proofs.TextHolds.{accepted-printed}
+use Rattle.text.proofs.TextHolds.{printed-read, reader-exact}
 use Rattle.flow.proofs.ResponseLaws.{over-long}
 
 -- ---- the router's reply
@@ -144,41 +145,6 @@ read-refused style text k ks t t′ work log routes e = refused-of style (readTe
 abbrev readTaken : List ℕ → Tables → ReadReply
 readTaken numbers t = record { refusal = []; numbers = numbers; tables = t }
 
-taken-of :
-    (p : Part Job) (numbers : List ℕ) (t t′ : Tables) → readTaken numbers t′ ≡ replyTo p t
-    → (j : Job) × (at : ℕ) × (rest : List ℕ) × (p ≡ part j at rest) × (leb 1 (shortTable j t) ≡ false) × (exceeds (nodes j) (j .terms) ≡ false)
-    × (jobNumbers j ≡ numbers) × (tablesWith j t ≡ t′)
-unfolding storedReply
-taken-of (stopped k at) numbers t t′ e =
-    let none : [] ≡ (k ∷ at ∷ []) = ap (λ (x : ReadReply). x .refusal) e in
-    let z : _≡_ {A = ℕ} 0 1 = cc in
-    absurd (omega arith)
-taken-of (part j at rest) numbers t t′ e =
-    ⊎-elim
-    (λ (h : leb 1 (shortTable j t) ≡ true).
-    let none : [] ≡ (4 ∷ shortTable j t ∷ []) = ap (λ (x : ReadReply). x .refusal) (rw h at e) in
-    let z : _≡_ {A = ℕ} 0 1 = cc in
-    absurd (omega arith))
-    (λ (h : leb 1 (shortTable j t) ≡ false).
-    ⊎-elim
-    (λ (x : exceeds (nodes j) (j .terms) ≡ true).
-    let none : [] ≡ (15 ∷ nodes j ∷ j .terms .limit ∷ []) = ap (λ (y : ReadReply). y .refusal) (rw (h, x) at e) in
-    let z : _≡_ {A = ℕ} 0 1 = cc in
-    absurd (omega arith))
-    (λ (x : exceeds (nodes j) (j .terms) ≡ false).
-    let same : readTaken numbers t′ ≡ readTaken (jobNumbers j) (tablesWith j t) = rw (h, x) at e in (
-      j,
-      at,
-      rest,
-      refl,
-      h,
-      x,
-      sym (ap (λ (y : ReadReply). y .numbers) same),
-      sym (ap (λ (y : ReadReply). y .tables) same),
-    ))
-    (either-way (exceeds (nodes j) (j .terms))))
-    (either-way (leb 1 (shortTable j t)))
-
 -- what the counts mark out in the tables afterwards: each part is within its table, and together they are the job that is run
 pub record Taken (style : Style) (text : List ℕ) (n edges m count : ℕ) (terms : Terms) (t t′ : Tables) : Type 0 where
   pub few-nodes : n ≤ nodesMost
@@ -220,18 +186,17 @@ if-timed terms table n long none =
     (either-way (terms .timed))
 
 job-taken :
-    (style : Style) (text : List ℕ) (t : Tables) (j : Job) (at : ℕ) (rest : List ℕ) → readText text ≡ part j at rest → leb 1 (shortTable j t) ≡ false
-    → exceeds (nodes j) (j .terms) ≡ false
+    (style : Style) (text : List ℕ) (t : Tables) (j : Job) → AllowedText text j → shortTable j t ≡ 0
     → Taken style text (nodes j) (length (j .block .edgeTargets)) (nets j) (length (j .sinks)) (j .terms) t (tablesWith j t)
 unfolding tablesWith runReply
-job-taken style text t j at rest is long within =
-    let s : SoundJob j = accepted-printed text j at rest is .0 in
-    let form : PrintedAs text j = accepted-printed text j at rest is .1 in
+job-taken style text t j allowed long =
+    let s : SoundJob j = allowed .sound in
+    let form : PrintedAs text j = allowed .printed in
     let capacities-are : length (j .block .capacities) ≡ nodes j = capacities-long (nodes j) (j .block .capacities) (s .block-sound .capacities-sound) in
     let first-edges-are : length (j .block .firstEdges) ≡ nodes j + 1 =
     block.firsts-long (nodes j) (length (j .block .edgeTargets)) (j .block .firstEdges) (s .block-sound .firstEdges-sound) in
     let first-sinks-are : length (j .firstSinks) ≡ nets j + 1 = job.firsts-long (nets j) (length (j .sinks)) (j .firstSinks) (s .firstSinks-sound) in
-    let routable : Routable j = routable-of j s within in
+    let routable : Routable j = routable-of j s (allowed .within) in
     let delays-are = if-timed (j .terms) (j .delays) (nodes j) (λ e. routable .timing e .delays-long) (form .no-delays) in
     let criticalities-are = if-timed (j .terms) (j .criticalities) (length (j .sinks)) (λ e. routable .timing e .criticalities-long) (form .no-criticalities) in
     record {
@@ -248,9 +213,9 @@ job-taken style text t j at rest is long within =
       criticalities-fit = λ k e. over-fits (j .criticalities) (t .criticalities) k (criticalities-are .0 ∙ sym e);
       runs = λ d k e f work log routes.
           rw (
-            is,
+            printed-read text j s form .1,
             long,
-            within,
+            allowed .within,
             over-part (j .block .kinds) (t .kinds) (nodes j) refl,
             over-part (j .block .capacities) (t .capacities) (nodes j) capacities-are,
             over-part (j .block .firstEdges) (t .firstEdges) (nodes j + 1) first-edges-are,
@@ -287,17 +252,20 @@ terms-back n edges m count t =
 pub read-taken :
     (style : Style) (text : List ℕ) (n edges m count : ℕ) (terms : Terms) (t t′ : Tables)
     → readTaken (n ∷ edges ∷ m ∷ count ∷ termsNumbers terms) t′ ≡ readReply text t → Taken style text n edges m count terms t t′
-unfolding readReply jobNumbers
+unfolding jobNumbers
 read-taken style text n edges m count terms t t′ e =
-    let got = taken-of (readText text) (n ∷ edges ∷ m ∷ count ∷ termsNumbers terms) t t′ e in
-    let j : Job = got .0 in
-    let terms-are : j .terms ≡ terms = sym (terms-back (nodes j) (length (j .block .edgeTargets)) (nets j) (length (j .sinks)) (j .terms)) ∙ ap termsIn (got .6) ∙ terms-back n edges m count terms in
-    subst (λ (x : Tables). Taken style text n edges m count terms t x) (got .7)
+    let numbers : List ℕ = n ∷ edges ∷ m ∷ count ∷ termsNumbers terms in
+    let accepted : AcceptedText text t = reader-exact text t .only (sym (ap (λ (x : ReadReply). x .refusal) e)) in
+    let j : Job = accepted .job in
+    let same : readWhole j t ≡ readTaken numbers t′ = sym (e ∙ accepted .given-back) in
+    let numbers-are : jobNumbers j ≡ numbers = ap (λ (x : ReadReply). x .numbers) same in
+    let terms-are : j .terms ≡ terms = sym (terms-back (nodes j) (length (j .block .edgeTargets)) (nets j) (length (j .sinks)) (j .terms)) ∙ ap termsIn numbers-are ∙ terms-back n edges m count terms in
+    subst (λ (x : Tables). Taken style text n edges m count terms t x) (ap (λ (x : ReadReply). x .tables) same)
     (subst (λ (x : Terms). Taken style text n edges m count x t (tablesWith j t)) terms-are
     (subst
     (λ (x : List ℕ). Taken style text (getD x 0 0) (getD x 1 0) (getD x 2 0) (getD x 3 0) (j .terms) t (tablesWith j t))
-    (got .6)
-    (job-taken style text t j (got .1) (got .2) (got .3) (got .4) (got .5))))
+    numbers-are
+    (job-taken style text t j (accepted .allowed) (accepted .long-enough))))
 
 -- ---- the response
 

@@ -9,8 +9,9 @@ use borrow.Author.Tests.{le-ltb}
 use Rattle.price.proofs.ListLaws.{length-upTo}
 use Rattle.job.specs.Job.{Job, nodes, nets}
 use Rattle.job.specs.Tables.{exceeds}
-use Rattle.text.specs.Printed.{shortest, Accepts, PrintedAs}
-use Rattle.text.specs.ReadReplies.{Tables, lowestShort, shortTimes, shortUntimed, shortTable, storedReply, readReply}
+use Rattle.text.specs.Printed.{shortest, PrintedAs}
+use Rattle.text.specs.ReadReplies.{Tables, lowestShort, shortTimes, shortUntimed, shortTable}
+use Rattle.text.specs.Accepted.{AllowedText}
 use Rattle.text.proofs.TextHolds.{reader-exact}
 use Rattle.generator.specs.Load.{rowsFrom, netsFrom, loadSink, loadJob, loadText}
 use Rattle.generator.specs.Taken.{LoadTaken}
@@ -50,9 +51,6 @@ module _ (seed n count : ℕ) (least : 8 ≤ n) (most : n ≤ 256) (some : 1 ≤
         no-criticalities = λ e. refl;
       }
 
-  taken : Accepts (loadText seed n count) (loadJob seed n count)
-  taken = reader-exact (loadText seed n count) (loadJob seed n count) .all-printed (load-sound seed n count least most some few) printed
-
   edges-few : length (loadJob seed n count .block .edgeTargets) ≤ 768
   unfolding loadJob
   edges-few = omega (arith, rows-few (rowsFrom seed n) n n)
@@ -74,16 +72,17 @@ module _ (seed n count : ℕ) (least : 8 ≤ n) (most : n ≤ 256) (some : 1 ≤
   unfolding loadJob
   no-criticalities = refl
 
+  allowed : AllowedText (loadText seed n count) (loadJob seed n count)
+  allowed = record { sound = load-sound seed n count least most some few; within = within; printed = printed }
+
   pub load-taken : LoadTaken seed n count
-  unfolding readReply storedReply
   load-taken =
       let size = load-size seed n count least most some few in
       let nodes-are = node-count seed n count in
       let nets-are = net-count seed n count in
       record {
-        sound = load-sound seed n count least most some few;
-        accepted = taken;
-        given-back = λ t e. rw (taken .1, e, within);
+        allowed = allowed;
+        given-back = λ t long. reader-exact (loadText seed n count) t .all (loadJob seed n count) allowed long;
         enough = λ t r.
             long-enough (loadJob seed n count) t (omega (arith, r .kinds)) (omega (arith, r .capacities)) (omega (arith, r .first-edges))
             (omega (arith, r .edge-targets, edges-few)) (omega (arith, r .sources)) (omega (arith, r .first-sinks)) (omega (arith, r .sinks, sinks-few))

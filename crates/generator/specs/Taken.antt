@@ -1,13 +1,10 @@
 -- Request 2.12: "The reader accepts every such job and gives those tables back."
 -- Assumes nothing.
-use mathlib.Core.List.{[]}
 use mathlib.Core.Path.{_≡_}
 use Prim.Native.Nat.{ℕ, _≤_}
 use lib.ListN.{length}
-use Rattle.job.specs.Job.{Job}
-use Rattle.job.specs.Tables.{SoundJob}
-use Rattle.text.specs.Printed.{Accepts}
-use Rattle.text.specs.ReadReplies.{Tables, shortTable, tablesWith, ReadReply, jobNumbers, readReply}
+use Rattle.text.specs.ReadReplies.{Tables, shortTable, readWhole, readReply}
+use Rattle.text.specs.Accepted.{AllowedText}
 use Rattle.generator.specs.Load.{loadJob, loadText}
 
 -- 01, the program: "tables for 1,024 nodes, 8,192 edges, 512 nets and 4,096 sinks"
@@ -20,16 +17,10 @@ pub record RouterTables (t : Tables) : Type 0 where
   pub first-sinks : 513 ≤ length (t .firstSinks)
   pub sinks : 4096 ≤ length (t .sinks)
 
--- the reader's reply where it has taken a job
-abbrev pub readWhole : Job → Tables → ReadReply
-readWhole j t = record { refusal = []; numbers = jobNumbers j; tables = tablesWith j t }
-
 pub record LoadTaken (seed nodes nets : ℕ) : Type 0 where
-  -- the tables keep their rules
-  pub sound : SoundJob (loadJob seed nodes nets)
-  -- "The reader accepts every such job"
-  pub accepted : Accepts (loadText seed nodes nets) (loadJob seed nodes nets)
-  -- "and gives those tables back", where what it is lent is long enough
+  -- the tables keep their rules, and the text is a printed form of them
+  pub allowed : AllowedText (loadText seed nodes nets) (loadJob seed nodes nets)
+  -- "The reader accepts every such job and gives those tables back", where what it is lent is long enough
   pub given-back :
       (t : Tables) → shortTable (loadJob seed nodes nets) t ≡ 0
       → readReply (loadText seed nodes nets) t ≡ readWhole (loadJob seed nodes nets) t

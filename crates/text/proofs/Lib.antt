@@ -1,6 +1,6 @@
 -- Laws by subject.
 -- What the crate shows of its definitions:
---     TextHolds         a text is taken for a job exactly where it is a printed form of this sound job
+--     TextHolds         the reader accepts exactly the printed forms of sound jobs that 2.9's limits and the tables' lengths allow, and gives that job back
 --     LogHolds          an accepted job's log is never refused by 10
 --     BranchHolds       the branches of any sound log's routes are those of its nets' final trees
 --     ListedHolds       the B lines list exactly the path steps of each net's latest records, the J lines the nets joined into another

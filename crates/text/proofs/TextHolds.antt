@@ -1,18 +1,20 @@
--- A text is taken for a job exactly where the job is sound and the text is a printed form of it; so no two sound jobs have the same printed form.
+-- A text is read to a job exactly where the job is sound and the text is a printed form of it, so no two sound jobs have the same printed form. It is
+-- accepted exactly where that job is within 2.9's limits too and every table is long enough for it, and the job is what is given back.
 -- Assumes nothing.
 use mathlib.Core.Bool.{Bool, true, false}
 use mathlib.Core.List.{List, [], _∷_, _++_}
+use mathlib.Core.Logic.{⊎-elim}
 use mathlib.Core.Path.{_≡_, refl, sym, _∙_, ap}
 use Prim.Native.Nat.{ℕ, zero, suc, _+_, _≤_, _<_}
 use native.Mathlib.Omega.{arith}
 use lib.Dec.{leb, eqb}
 use lib.ListN.{length, getD, replicate, length-replicate}
-use borrow.Author.Tests.{le-leb, leb-true, eqb-true, eq-eqb}
+use borrow.Author.Tests.{le-leb, leb-true, leb-false, eqb-true, eq-eqb}
 use Rattle.price.specs.Test.{choose, both}
 use Rattle.price.specs.Bounds.{limitMost, delayMost, criticalityMost}
 use Rattle.price.specs.Lists.{every, upTo}
 use Rattle.price.specs.Tuning.{tuningSound}
-use Rattle.price.proofs.TestLaws.{true≢false, both-true, both-left, both-right}
+use Rattle.price.proofs.TestLaws.{true≢false, either-way, both-true, both-left, both-right}
 use Rattle.price.proofs.ListLaws.{every-all, every-at, length-upTo, getD-upTo}
 use Rattle.search.specs.Block.{blockOf, row}
 use Rattle.search.specs.Tables.{edgesMost, kindsSound, capacitiesSound, delaysSound, firstEdgesSound, rowSound, edgeTargetsSound}
@@ -20,13 +22,16 @@ use Rattle.search.proofs.BlockLaws.{kinds-some, kinds-few}
 use Rattle.search.proofs.TableLaws.{edges-all}
 use Rattle.job.specs.Job.{Job, jobOf, ifTimed, nodes, nets, sinksBetween, netSinks, netCriticalities}
 use Rattle.job.specs.declared.Terms.{Terms}
-use Rattle.job.specs.Tables.{sourcesSound, firstSinksSound, sinksSound, criticalitiesSound, limitSound, ruleSound, termsSound, sourcePins, sinkPins, SoundJob}
+use Rattle.job.specs.Tables.{sourcesSound, firstSinksSound, sinksSound, criticalitiesSound, limitSound, ruleSound, termsSound, sourcePins, sinkPins, exceeds, SoundJob}
 use Rattle.job.proofs.JobLaws.{sources-some, sources-few, limit-least}
 use Rattle.job.proofs.SinkMarkLaws.{unmarked-new}
+use Rattle.negotiation.proofs.LimitLaws.{not-accepted}
 use Rattle.text.specs.Lines.{letterF, letterN, letterS, begins, printLine}
-use Rattle.text.specs.JobText.{Part, part, andThen, Counts, headPart, NodeLists, nodeLists, nodeLines, EdgeLists, edgeLists, edgeLines}
+use Rattle.text.specs.JobText.{Part, part, stopped, andThen, Counts, headPart, NodeLists, nodeLists, nodeLines, EdgeLists, edgeLists, edgeLines}
 use Rattle.text.specs.JobText.{NetLists, netLists, netLines, firstPlaces, jobRead, readText}
-use Rattle.text.specs.Printed.{concatFrom, nodeText, rowText, netText, Form, termsText, Allowed, printJob, Accepts, PrintedAs, Exactly}
+use Rattle.text.specs.Printed.{concatFrom, nodeText, rowText, netText, Form, termsText, Allowed, printJob, PrintedAs}
+use Rattle.text.specs.ReadReplies.{Tables, shortTable, notRead, readWhole, storedReply, replyTo, readReply}
+use Rattle.text.specs.Accepted.{AcceptedText, AcceptsExactly}
 use Rattle.text.proofs.PrintLaws.{then-part}
 use Rattle.text.proofs.HeadTextLaws.{HeadBounds, HeadGiven, head-read, head-printed}
 use Rattle.text.proofs.OptionalTextLaws.{linesAfter}
@@ -37,7 +42,7 @@ use Rattle.text.proofs.NetTextLaws.{netAt, ends, concat-same, untimed-l
 use Rattle.text.proofs.NetReadLaws.{TablesRead, nets-read}
 use Rattle.text.proofs.NetPrintLaws.{TablesPrinted, nets-printed}
 
--- ---- a text that is taken
+-- ---- a text that is read to a job
 
 -- tables whose lengths the head line gives; of an untimed job the last two are not read
 module _
@@ -185,13 +190,17 @@ module _
       let p = then-part (nodeLines (c .terms .timed) (c .nodes) (c .nodes) (nodeLists [] [] []) at1 rest1) (λ ns next more. edgeStage c ns next more) j at rest e in
       after-nodes (p .0) (p .1) (p .2) (nodes-read (c .terms .timed) (c .nodes) (p .0) at1 (p .1) rest1 (p .2) (p .3)) (p .4)
 
-pub accepted-printed : (bs : List ℕ) (j : Job) (at : ℕ) (rest : List ℕ) → readText bs ≡ part j at rest → SoundJob j × PrintedAs bs j × (rest ≡ [])
+read-printed : (bs : List ℕ) (j : Job) (at : ℕ) (rest : List ℕ) → readText bs ≡ part j at rest → SoundJob j × PrintedAs bs j × (rest ≡ [])
 unfolding readText
-accepted-printed bs j at rest e =
+read-printed bs j at rest e =
     let a = then-part (headPart bs) (λ c next more. nodeStage c next more) j at rest e in
     after-head bs j at rest (a .0) (a .2) (head-read bs (a .0) (a .1) (a .2) (a .3)) (a .1) (a .4)
 
 -- ---- a sound job's printed form
+
+-- the text is read to this job, before 4 and 15 are tested
+abbrev pub ReadAs : List ℕ → Job → Type 0
+ReadAs bs j = (at : ℕ) × (readText bs ≡ part j at [])
 
 -- the first of the node lines
 nodes-begin :
@@ -290,9 +299,9 @@ module _ (j : Job) (s : SoundJob j) where
         ap (λ (cs : List ℕ). concatFrom (netAt (j .terms .timed) (j .sources) (j .firstSinks) (j .sinks) cs) 0 (nets j)) (sym (criticalities-read .same))
         ∙ sym (nets-same (j .sources) (j .firstSinks) (j .sinks) (criticalities-read .read) (j .terms .timed) (nets j))
 
-    pub printed-accepted : (form : Form) → Allowed form (j .terms) → Accepts (printJob form j) j
+    form-read : (form : Form) → Allowed form (j .terms) → ReadAs (printJob form j) j
     unfolding readText jobRead printJob rowText row delaysSound criticalitiesSound
-    printed-accepted form allowed =
+    form-read form allowed =
         let timed : Bool = j .terms .timed in
         let n : ℕ = nodes j in
         let at : ℕ = linesAfter form timed 2 in
@@ -325,17 +334,65 @@ module _ (j : Job) (s : SoundJob j) where
 
 -- ---- the theorem
 
-pub reader-exact : (bs : List ℕ) (j : Job) → Exactly bs j
-reader-exact bs j =
-    record {
-      only-printed = λ a. let r = accepted-printed bs j (a .0) [] (a .1) in (r .0, r .1);
-      all-printed = λ s p. let a = printed-accepted j s (p .no-delays) (p .no-criticalities) (p .form) (p .allowed) in (a .0, ap readText (p .is) ∙ a .1);
-    }
+-- a printed form of a sound job is read to it
+pub printed-read : (bs : List ℕ) (j : Job) → SoundJob j → PrintedAs bs j → ReadAs bs j
+printed-read bs j s p =
+    let a = form-read j s (p .no-delays) (p .no-criticalities) (p .form) (p .allowed) in
+    (a .0, ap readText (p .is) ∙ a .1)
 
 -- two sound jobs with the same printed form are the same job
 pub printed-once : (bs : List ℕ) (j k : Job) → SoundJob j → SoundJob k → PrintedAs bs j → PrintedAs bs k → j ≡ k
 printed-once bs j k s t p q =
-    let a = reader-exact bs j .all-printed s p in
-    let b = reader-exact bs k .all-printed t q in
+    let a = printed-read bs j s p in
+    let b = printed-read bs k t q in
     let same : part j (a .0) [] ≡ part k (b .0) [] = sym (a .1) ∙ b .1 in
     cc
+
+-- a job that was read is given back exactly where every table is long enough for it and it is within 2.9's limits; 4 comes first
+stored-none : (j : Job) (t : Tables) → storedReply j t .refusal ≡ [] → (shortTable j t ≡ 0) × (exceeds (nodes j) (j .terms) ≡ false)
+unfolding storedReply
+stored-none j t e =
+    ⊎-elim
+    (λ (h : leb 1 (shortTable j t) ≡ true). absurd (not-accepted 4 (shortTable j t ∷ []) (sym (rw h at e))))
+    (λ (h : leb 1 (shortTable j t) ≡ false).
+    ⊎-elim
+    (λ (x : exceeds (nodes j) (j .terms) ≡ true). absurd (not-accepted 15 (nodes j ∷ j .terms .limit ∷ []) (sym (rw (h, x) at e))))
+    (λ (x : exceeds (nodes j) (j .terms) ≡ false). (omega (arith, leb-false 1 (shortTable j t) h), x))
+    (either-way (exceeds (nodes j) (j .terms))))
+    (either-way (leb 1 (shortTable j t)))
+
+stored-whole : (j : Job) (t : Tables) → shortTable j t ≡ 0 → exceeds (nodes j) (j .terms) ≡ false → storedReply j t ≡ readWhole j t
+unfolding storedReply
+stored-whole j t long within = rw (long, within)
+
+stored-short : (j : Job) (t : Tables) → 1 ≤ shortTable j t → storedReply j t ≡ notRead (4 ∷ shortTable j t ∷ []) t
+unfolding storedReply
+stored-short j t some = rw (le-leb 1 (shortTable j t) some)
+
+-- the reply to a printed form of a sound job
+printed-stored : (bs : List ℕ) (j : Job) (t : Tables) → SoundJob j → PrintedAs bs j → readReply bs t ≡ storedReply j t
+unfolding readReply
+printed-stored bs j t s p = ap (λ (x : Part Job). replyTo x t) (printed-read bs j s p .1)
+
+-- a reply that refuses nothing, by what was read of the text
+read-accepted : (bs : List ℕ) (t : Tables) (p : Part Job) → readText bs ≡ p → replyTo p t .refusal ≡ [] → AcceptedText bs t
+unfolding readReply
+read-accepted bs t (stopped k at) is e = absurd (not-accepted k (at ∷ []) (sym e))
+read-accepted bs t (part j at rest) is e =
+    let kept = stored-none j t e in
+    let found = read-printed bs j at rest is in
+    record {
+      job = j;
+      allowed = record { sound = found .0; within = kept .1; printed = found .1 };
+      long-enough = kept .0;
+      given-back = ap (λ (x : Part Job). replyTo x t) is ∙ stored-whole j t (kept .0) (kept .1);
+    }
+
+pub reader-exact : (bs : List ℕ) (t : Tables) → AcceptsExactly bs t
+unfolding readReply
+reader-exact bs t =
+    record {
+      only = λ e. read-accepted bs t (readText bs) refl e;
+      all = λ j a long. printed-stored bs j t (a .sound) (a .printed) ∙ stored-whole j t long (a .within);
+      short = λ j a some. printed-stored bs j t (a .sound) (a .printed) ∙ stored-short j t some;
+    }

@@ -11,10 +11,8 @@ use Rattle.price.specs.Tuning.{plain}
 use Rattle.price.specs.declared.Tuning.{Tuning}
 use Rattle.search.specs.Block.{row}
 use Rattle.job.specs.Job.{Job, nodes, nets, source, netSinks, netCriticalities}
-use Rattle.job.specs.Tables.{SoundJob}
 use Rattle.job.specs.declared.Terms.{Terms}
 use Rattle.text.specs.Lines.{letterF, letterP, letterV, letterW, letterN, letterE, letterS, letterT, printLine}
-use Rattle.text.specs.JobText.{part, readText}
 
 -- the texts of m, m + 1, .., one after the other, so many of them
 unfoldable pub concatFrom : (ℕ → List ℕ) → ℕ → ℕ → List ℕ
@@ -107,10 +105,6 @@ printJob form j =
     ++ (termsText form (j .terms)
     ++ (concatFrom (nodeText j) 0 (nodes j) ++ (concatFrom (rowText j) 0 (nodes j) ++ concatFrom (netText j) 0 (nets j))))
 
--- the reader takes the text for this job
-abbrev pub Accepts : List ℕ → Job → Type 0
-Accepts bs j = (at : ℕ) × (readText bs ≡ part j at [])
-
 -- the text is a printed form of the job; that of an untimed job has neither delays nor criticalities
 pub record PrintedAs (bs : List ℕ) (j : Job) : Type 0 where
   pub form : Form
@@ -118,8 +112,3 @@ pub record PrintedAs (bs : List ℕ) (j : Job) : Type 0 where
   pub is : bs ≡ printJob form j
   pub no-delays : j .terms .timed ≡ false → j .delays ≡ []
   pub no-criticalities : j .terms .timed ≡ false → j .criticalities ≡ []
-
--- the reader takes a text for a job exactly where the job is sound and the text is a printed form of it
-pub record Exactly (bs : List ℕ) (j : Job) : Type 0 where
-  pub only-printed : Accepts bs j → SoundJob j × PrintedAs bs j
-  pub all-printed : SoundJob j → PrintedAs bs j → Accepts bs j

@@ -97,12 +97,16 @@ termsNumbers t =
 unfoldable pub jobNumbers : Job → List ℕ
 jobNumbers j = nodes j ∷ length (j .block .edgeTargets) ∷ nets j ∷ length (j .sinks) ∷ termsNumbers (j .terms)
 
+-- the reply that gives a job back
+abbrev pub readWhole : Job → Tables → ReadReply
+readWhole j t = record { refusal = []; numbers = jobNumbers j; tables = tablesWith j t }
+
 -- the reply for a job that was read: "4 follows a sound text", and 15 comes "after 4 in the reader"
 unfoldable pub storedReply : Job → Tables → ReadReply
 storedReply j t =
     choose (leb 1 (shortTable j t)) (notRead (4 ∷ shortTable j t ∷ []) t)
     (choose (exceeds (nodes j) (j .terms)) (notRead (15 ∷ nodes j ∷ j .terms .limit ∷ []) t)
-    (record { refusal = []; numbers = jobNumbers j; tables = tablesWith j t }))
+    (readWhole j t))
 
 abbrev pub replyTo : Part Job → Tables → ReadReply
 replyTo (stopped k at) t = notRead (k ∷ at ∷ []) t
