@@ -151,12 +151,6 @@ module _ (b : Block) (weight : ℕ → ℕ) (marks sinks : List ℕ) where
         let first = alone-in b v (walk-start g (w .node) (w .walk)) in
         le-trans (est-le v (w .sink) (w .listed) (w .out)) (no-path-cheaper b weight (alone b v) g fair v (w .sink) path (w .node) first (w .walk))
 
-    -- where there is one, there is an estimate
-    pub est-near : {v : ℕ} {path : List ℕ} → WalkOut b marks sinks v path → estimate b weight marks sinks v < far
-    est-near {v} {path} w =
-        let first = alone-in b v (walk-start g (w .node) (w .walk)) in
-        omega (arith, est-le v (w .sink) (w .listed) (w .out), path-near b weight (alone b v) g fair v (w .sink) path (w .node) first (w .walk))
-
     -- a walk from v alone
     alone-walk : (v s : ℕ) → distance b weight (alone b v) s < far → (path : List ℕ) × (s < nodes b) × Walk b v path s × (pathCost weight path ≡ distance b weight (alone b v) s)
     alone-walk v s near =
@@ -289,9 +283,6 @@ module _ (b : Block) (price weight : ℕ → ℕ) (marks sinks : List ℕ) where
 -- ---- prices and weights that are the same on nodes
 
 module _ (b : Block) (marks sinks : List ℕ) where
-  pub estimate-same : (p q : ℕ → ℕ) → ((v : ℕ) → v < nodes b → p v ≡ q v) → (v : ℕ) → estimate b p marks sinks v ≡ estimate b q marks sinks v
-  unfolding estimate
-  estimate-same p q same v = rw (distances-same b p q same (alone b v))
 
   pub expanded-same : (p q weight : ℕ → ℕ) → ((v : ℕ) → v < nodes b → p v ≡ q v) → expanded b p weight marks sinks ≡ expanded b q weight marks sinks
   unfolding expanded expands openDistances

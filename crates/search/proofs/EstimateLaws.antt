@@ -15,7 +15,7 @@ use Rattle.price.specs.Timed.{timedPrice, weighed, weighedReply, WeighedInBound
 use Rattle.price.specs.declared.Weighting.{Weighting}
 use Rattle.price.proofs.TestLaws.{either-way, le-or-lt}
 use Rattle.price.proofs.TimedLaws.{weighed-priced, weighed-timed, weighed-untimed, bound-least}
-use Rattle.search.specs.Block.{blockOf, graphOf}
+use Rattle.search.specs.Block.{graphOf}
 use Rattle.search.specs.Paths.{Fair}
 use Rattle.search.specs.Distance.{far}
 use Rattle.search.specs.Layout.{Queued}
@@ -26,11 +26,6 @@ use Rattle.search.proofs.StoreLaws.{store-here, store-other}
 use Rattle.search.proofs.QueueLaws.{heap-aside}
 
 -- ---- a node's weight
-
--- the weight goes by the kinds alone
-pub weight-kinds : (ks cs fs ts : List ℕ) (w : Weighting) (v : ℕ) → weightAt (graphOf ks [] []) w v ≡ weightAt (blockOf ks cs fs ts) w v
-unfolding weightAt
-weight-kinds ks cs fs ts w v = refl
 
 -- no node weighs more than this, and a search can work with the weights
 module _ {ks : List ℕ} {w : Weighting} (r : WeightReady ks w) where

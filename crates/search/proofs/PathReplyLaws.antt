@@ -2,7 +2,7 @@
 -- Assumes nothing.
 use mathlib.Core.Bool.{Bool, true, false}
 use mathlib.Core.List.{List, [], _∷_, _++_}
-use mathlib.Core.Path.{_≡_, refl, sym, _∙_, ap}
+use mathlib.Core.Path.{_≡_, refl, sym, ap}
 use Prim.Native.Nat.{ℕ, _+_, _*_, _-_, _≤_, _<_}
 use native.Mathlib.Omega.{arith}
 use lib.Dec.{leb}
@@ -17,7 +17,6 @@ use Rattle.search.specs.Turn.{Congestion, priceAt, Turn, joins, stuck, t
 use Rattle.search.specs.Clamped.{clampedPrice}
 use Rattle.search.specs.Replies.{nodeSound, sinkListSound, PathReply, readOff, timedFitting, fittingLengths, lengthsFitting, fitting, turnReply, pathReply, pathReplyOf}
 use Rattle.search.specs.Ready.{Weighable, PricesReady}
-use Rattle.search.specs.declared.PathAnswer.{PathAnswer}
 use Rattle.search.specs.declared.PathAnswer.the-variants.{Joins, Stuck}
 use Rattle.search.proofs.BlockLaws.{graph-of, capacities-long, firstEdges-long}
 use Rattle.search.proofs.EdgeLaws.{shape-of}
@@ -106,10 +105,3 @@ module _ (b : Block) (c : Congestion) (marks sinks work : List ℕ) where
             let z : _≡_ {A = ℕ} 0 1 = cc in
             absurd (omega arith)
         go stuck e = (refl, ap (λ (r : PathReply). r .work) e)
-
-    -- a refusal is no turn
-    pub no-refusal : (r : PathAnswer) (k : ℕ) (ks : List ℕ) → (pathReplyOf r w′) .refusal ≡ k ∷ ks → pathReplyOf r w′ ≡ turnReply n work t → ⊥
-    no-refusal r k ks p e =
-        let q : [] ≡ k ∷ ks = sym (ap (λ (x : PathReply). x .refusal) e) ∙ p in
-        let z : _≡_ {A = ℕ} 0 1 = cc in
-        omega arith

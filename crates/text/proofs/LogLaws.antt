@@ -18,7 +18,7 @@ use Rattle.negotiation.specs.Records.{Record, recordOf, decodeUpTo, decode}
 use Rattle.text.specs.Routes.{Named, pathWords, recordSound, soundUpTo, soundWords, logSound, lastIteration}
 use Rattle.text.specs.Users.{sound, unsound, logChecked}
 use Rattle.text.specs.WriteSteps.{nextAt, LogTested}
-use Rattle.text.proofs.RecordTestLaws.{recordLength, sound-most, sound-fits}
+use Rattle.text.proofs.RecordTestLaws.{recordLength, sound-fits}
 
 -- ---- sound words, record by record
 
@@ -156,9 +156,6 @@ module _ (log : List ℕ) (at : ℕ) where
   module _ (named : Named) (last : ℕ) (t : recordSound named last (drop at log) ≡ true) where
     pub sound-at : soundAfter named last (drop at log) ≡ 6 + getD log (at + 5) 0 + soundAfter named (getD log at 0) (drop (nextAt log at) log)
     sound-at = sound-next named last (drop at log) t ∙ rw (after-at, first-at, getD-drop at log 5 0)
-
-    pub most-at : getD log (at + 5) 0 ≤ 4096
-    most-at = rw (getD-drop at log 5 0) at (sound-most named last (drop at log) t)
 
     pub long-at : 6 + getD log (at + 5) 0 ≤ length (drop at log)
     long-at = rw (getD-drop at log 5 0) at (sound-fits named last (drop at log) t)

@@ -238,8 +238,5 @@ module _ (named : Named) (last : ℕ) (ws : List ℕ) (e : recordSound named las
       (both-true (both-left (between 1 limitMost (getD ws 0 0)) (leb last (getD ws 0 0)) sound-iteration) (le-leb 0 (getD ws 0 0) (omega arith)))
       sound-turn)
 
-  pub sound-most : getD ws 5 0 ≤ 4096
-  sound-most = path-most (named .nodes) (getD ws 5 0) (getD ws 2 0) ws sound-path
-
   pub sound-fits : recordLength ws ≤ length ws
   sound-fits = path-fits (named .nodes) (getD ws 5 0) (getD ws 2 0) ws sound-path

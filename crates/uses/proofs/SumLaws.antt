@@ -3,7 +3,7 @@
 use mathlib.Core.Bool.{Bool, true, false}
 use mathlib.Core.List.{List}
 use mathlib.Core.Logic.{_⊎_, ⊎-elim}
-use mathlib.Core.Path.{_≡_, refl, sym, _∙_, ap}
+use mathlib.Core.Path.{_≡_, refl, sym}
 use Prim.Native.Nat.{ℕ, zero, suc, _+_, _*_, _≤_, _<_}
 use native.Mathlib.Nat.{not-suc-le-zero, le-of-suc-le-suc, eq-or-lt-of-le}
 use native.Mathlib.Omega.{arith}
@@ -33,11 +33,6 @@ pub sum-same : (f g : ℕ → ℕ) (n : ℕ) → ((v : ℕ) → v < n → f v �
 unfolding sumBelow
 sum-same f g zero e = refl
 sum-same f g (suc n) e = rw (sum-same f g n (λ v l. e v (omega arith)), e n (omega arith))
-
-pub sum-most : (f g : ℕ → ℕ) (n : ℕ) → ((v : ℕ) → v < n → f v ≤ g v) → sumBelow f n ≤ sumBelow g n
-unfolding sumBelow
-sum-most f g zero e = omega arith
-sum-most f g (suc n) e = omega (arith, sum-most f g n (λ v l. e v (omega arith)), e n (omega arith))
 
 sum-zero : (n : ℕ) → sumBelow (λ v. 0) n ≡ 0
 unfolding sumBelow
