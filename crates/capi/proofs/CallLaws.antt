@@ -26,19 +26,19 @@ use Rattle.uses.specs.Uses.{kindCount, useCountsOf, AddReply, addRefusal, addRe
 use Rattle.uses.specs.declared.AddAnswer.{AddAnswer}
 use Rattle.uses.specs.declared.AddAnswer.the-variants as a
 use Rattle.uses.proofs.UsesHold.{counts-long}
-use Rattle.capi.specs.Calls.{Call, callOf, outWith, pricedCall, searchDone, searchedCall, RouteCall, routeDone, routedCall, countedCall, readDone, readCall, WriteCall, writeDone, writtenCall}
+use Rattle.capi.specs.Calls.{outEntries, Call, callOf, outWith, pricedCall, searchDone, searchedCall, RouteCall, routeDone, routedCall, countedCall, readDone, readCall, WriteCall, writeDone, writtenCall}
 use Rattle.capi.specs.Calls.{addDone, logsAdded, logsReturned, addCall, usesCall}
 
--- ---- numbers in `out`: stores over 16 entries of 0
+-- ---- numbers in `out`: stores over entries of 0
 
 pub six-put :
-    (out start : List ℕ) (number first second a b c : ℕ) → start ≡ replicate 16 0 ++ drop 16 out
+    (out start : List ℕ) (number first second a b c : ℕ) → start ≡ replicate outEntries 0 ++ drop outEntries out
     → set (set (set (set (set (set start 0 number) 1 first) 2 second) 3 a) 4 b) 5 c
     ≡ outWith (number ∷ first ∷ second ∷ []) (a ∷ b ∷ c ∷ []) out
 six-put out start number first second a b c h = rw h
 
 pub twelve-put :
-    (out start : List ℕ) (a b c d e f g h i k l m t : ℕ) → start ≡ replicate 16 0 ++ drop 16 out → m ≡ t
+    (out start : List ℕ) (a b c d e f g h i k l m t : ℕ) → start ≡ replicate outEntries 0 ++ drop outEntries out → m ≡ t
     → set (set (set (set (set (set (set (set (set (set (set (set start 3 a) 4 b) 5 c) 6 d) 7 e) 8 f) 9 g) 10 h) 11 i) 12 k) 13 l) 14 m
     ≡ outWith [] (a ∷ b ∷ c ∷ d ∷ e ∷ f ∷ g ∷ h ∷ i ∷ k ∷ l ∷ t ∷ []) out
 twelve-put out start a b c d e f g h i k l m t cleared last = rw (cleared, last)
@@ -46,29 +46,29 @@ twelve-put out start a b c d e f g h i k l m t cleared last = rw (cleared, last)
 -- ---- the price
 
 module _ (reply : p.PriceReply) (out : List ℕ) where
-  pub price-short : length out < 16 → callOf 0 out ≡ pricedCall reply out
+  pub price-short : length out < outEntries → callOf 0 out ≡ pricedCall reply out
   unfolding pricedCall
-  price-short h = rw (lt-ltb (length out) 16 h)
+  price-short h = rw (lt-ltb (length out) outEntries h)
 
   -- the price answered `r`, whose numbers were written; so of each call below
   pub price-called :
-      (call : Call) (r : PriceAnswer) → 16 ≤ length out → p.priceReplyOf r ≡ reply
+      (call : Call) (r : PriceAnswer) → outEntries ≤ length out → p.priceReplyOf r ≡ reply
       → call ≡ callOf 1 (outWith (p.priceReplyOf r .refusal) (p.priceReplyOf r .price ∷ []) out) → call ≡ pricedCall reply out
   unfolding pricedCall
-  price-called call r h answers put = rw (le-ltb (length out) 16 h, ← answers) put
+  price-called call r h answers put = rw (le-ltb (length out) outEntries h, ← answers) put
 
 -- ---- the search
 
 module _ (reply : SearchReply) (work out : List ℕ) where
-  pub search-short : length out < 16 → searchDone (callOf 0 out) work ≡ searchedCall reply work out
+  pub search-short : length out < outEntries → searchDone (callOf 0 out) work ≡ searchedCall reply work out
   unfolding searchedCall
-  search-short h = rw (lt-ltb (length out) 16 h)
+  search-short h = rw (lt-ltb (length out) outEntries h)
 
   pub search-called :
-      (left : List ℕ) (call : Call) (r : SearchAnswer) → 16 ≤ length out → searchReplyOf r left ≡ reply
+      (left : List ℕ) (call : Call) (r : SearchAnswer) → outEntries ≤ length out → searchReplyOf r left ≡ reply
       → call ≡ callOf 1 (outWith (searchRefusal r) [] out) → searchDone call left ≡ searchedCall reply work out
   unfolding searchedCall
-  search-called left call r h answers put = rw (le-ltb (length out) 16 h, ← answers, put)
+  search-called left call r h answers put = rw (le-ltb (length out) outEntries h, ← answers, put)
 
 -- ---- the router
 
@@ -91,18 +91,18 @@ expanded-put r out left n put =
     ∙ ap (callOf 1) (one-more (routeRefusal (r .outcome) (r .iteration) (r .turns)) out (r .iteration) (r .turns) (r .used) (r .expanded))
 
 module _ (reply : RouteReply) (further work log out : List ℕ) where
-  pub route-short : length out < 16 → routeDone (callOf 0 out) work log ≡ routedCall reply further work log out
+  pub route-short : length out < outEntries → routeDone (callOf 0 out) work log ≡ routedCall reply further work log out
   unfolding routedCall
-  route-short h = rw (lt-ltb (length out) 16 h)
+  route-short h = rw (lt-ltb (length out) outEntries h)
 
 -- of every run, one that begins or one that goes on, by either search
 pub route-called :
-    (reply : RouteReply) (work log out left logged : List ℕ) (call : Call) (r : RouteAnswer) (aimed : Bool) (j : Job) (lent : List Record) → 16 ≤ length out
+    (reply : RouteReply) (work log out left logged : List ℕ) (call : Call) (r : RouteAnswer) (aimed : Bool) (j : Job) (lent : List Record) → outEntries ≤ length out
     → routeReplyOf r left logged ≡ reply → r .expanded ≡ expandedAfter aimed (joined j) lent (turnsLogged (routeReplyOf r left logged))
     → call ≡ callOf 1 (outWith (routeRefusal (r .outcome) (r .iteration) (r .turns)) (r .iteration ∷ r .turns ∷ r .used ∷ r .expanded ∷ []) out)
     → routeDone call left logged ≡ countedCall aimed j lent reply work log out
 unfolding routedCall
-route-called reply work log out left logged call r aimed j lent h answers counted put = rw (le-ltb (length out) 16 h, ← answers, put, counted)
+route-called reply work log out left logged call r aimed j lent h answers counted put = rw (le-ltb (length out) outEntries h, ← answers, put, counted)
 
 -- the plain search counts nothing, and 0 is told there without it
 pub plain-called :
@@ -114,29 +114,29 @@ plain-called j lent reply work log out is = is
 -- ---- the reader
 
 module _ (text : List ℕ) (t : Tables) (out : List ℕ) where
-  pub read-short : length out < 16 → readDone (callOf 0 out) t ≡ readCall text t out
+  pub read-short : length out < outEntries → readDone (callOf 0 out) t ≡ readCall text t out
   unfolding readCall
-  read-short h = rw (lt-ltb (length out) 16 h)
+  read-short h = rw (lt-ltb (length out) outEntries h)
 
   pub read-called :
-      (left : Tables) (call : Call) (r : ReadAnswer) → 16 ≤ length out → readReplyOf r left ≡ readReply text t
+      (left : Tables) (call : Call) (r : ReadAnswer) → outEntries ≤ length out → readReplyOf r left ≡ readReply text t
       → call ≡ callOf 1 (outWith (readRefusal r) (readNumbers r) out) → readDone call left ≡ readCall text t out
   unfolding readCall
-  read-called left call r h answers put = rw (le-ltb (length out) 16 h, ← answers, put)
+  read-called left call r h answers put = rw (le-ltb (length out) outEntries h, ← answers, put)
 
 -- ---- the writer
 
 module _ (reply : WriteReply) (buffer out : List ℕ) where
-  pub write-short : length out < 16 → writeDone (callOf 0 out) buffer ≡ writtenCall reply buffer out
+  pub write-short : length out < outEntries → writeDone (callOf 0 out) buffer ≡ writtenCall reply buffer out
   unfolding writtenCall
-  write-short h = rw (lt-ltb (length out) 16 h)
+  write-short h = rw (lt-ltb (length out) outEntries h)
 
   -- of every text
   pub write-called :
-      (left : List ℕ) (call : Call) {refusal : List ℕ} {bytes : ℕ} → 16 ≤ length out → record { refusal = refusal; bytes = bytes; buffer = left } ≡ reply
+      (left : List ℕ) (call : Call) {refusal : List ℕ} {bytes : ℕ} → outEntries ≤ length out → record { refusal = refusal; bytes = bytes; buffer = left } ≡ reply
       → call ≡ callOf 1 (outWith refusal (bytes ∷ []) out) → writeDone call left ≡ writtenCall reply buffer out
   unfolding writtenCall
-  write-called left call h answers put = rw (le-ltb (length out) 16 h, ← answers, put)
+  write-called left call h answers put = rw (le-ltb (length out) outEntries h, ← answers, put)
 
 -- ---- counts of uses
 
@@ -182,19 +182,19 @@ module _ (b : Block) (counts : List ℕ) (logs : ℕ) (log out : List ℕ) where
   add-few h = rw (lt-ltb (length counts) kindCount h)
 
   module _ (long : kindCount ≤ length counts) where
-    pub add-short : length out < 16 → addDone (callOf 0 out) counts ≡ addCall b counts logs log out
+    pub add-short : length out < outEntries → addDone (callOf 0 out) counts ≡ addCall b counts logs log out
     unfolding addCall
-    add-short h = rw (le-ltb (length counts) kindCount long, lt-ltb (length out) 16 h)
+    add-short h = rw (le-ltb (length counts) kindCount long, lt-ltb (length out) outEntries h)
 
     pub add-called :
-        (left : List ℕ) (call : Call) (r : AddAnswer) → 16 ≤ length out
+        (left : List ℕ) (call : Call) (r : AddAnswer) → outEntries ≤ length out
         → (addReplyOf logs r (take kindCount left) ≡ addReply b (useCountsOf (take kindCount counts) logs) log) × (drop kindCount left ≡ drop kindCount counts)
         → call ≡ callOf 1 (outWith (addRefusal r) (logsAdded r ∷ []) out) → addDone call left ≡ addCall b counts logs log out
     unfolding addCall
     add-called left call r h (answers, stays) put =
         let whole : take kindCount left ++ drop kindCount counts ≡ left =
         ap (λ (xs : List ℕ). take kindCount left ++ xs) (sym stays) ∙ take-append-drop kindCount left in
-        rw (le-ltb (length counts) kindCount long, le-ltb (length out) 16 h, ← answers, whole, put, logs-returned logs r (take kindCount left))
+        rw (le-ltb (length counts) kindCount long, le-ltb (length out) outEntries h, ← answers, whole, put, logs-returned logs r (take kindCount left))
 
 module _ (b : Block) (counts : List ℕ) (logs : ℕ) (buffer out : List ℕ) where
   pub uses-few : length counts < kindCount → writeDone (callOf 0 out) buffer ≡ usesCall b counts logs buffer out

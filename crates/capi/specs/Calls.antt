@@ -2,16 +2,17 @@
 -- Assumes nothing.
 use mathlib.Core.Bool.{Bool, true}
 use mathlib.Core.List.{List, [], _∷_, _++_}
-use Prim.Native.Nat.{ℕ}
+use Prim.Native.Nat.{ℕ, _-_}
 use lib.Dec.{leb, ltb}
 use lib.ListN.{length, getD, take, drop, replicate}
 use Rattle.price.specs.Test.{choose}
 use Rattle.price.specs.Replies as p
+use Rattle.price.specs.Tuning.{plain}
 use Rattle.price.specs.Timed.{timedReply}
 use Rattle.search.specs.Block.{Block}
 use Rattle.search.specs.Turn.{Congestion}
 use Rattle.search.specs.Replies.{SearchReply, searchReply, timedSearchReply}
-use Rattle.job.specs.Job.{Job}
+use Rattle.job.specs.Job.{Job, plainTerms}
 use Rattle.job.specs.declared.Terms.{Terms}
 use Rattle.job.specs.Join.{joined}
 use Rattle.negotiation.specs.Records.{Record, decode}
@@ -29,10 +30,14 @@ use Rattle.uses.specs.declared.AddAnswer.the-variants as a
 abbrev pub padded : ℕ → List ℕ → List ℕ
 padded k xs = take k (xs ++ replicate k 0)
 
+-- the entries of `out` that a call writes
+abbrev pub outEntries : ℕ
+outEntries = 16
+
 -- `out` with a call's numbers: at 0 the refusal's number or 0, at 1 and 2 its further numbers or 0, from 3 on the call's own numbers,
--- 0 up to 16; entries past 16 stay
+-- then 0; entries past these stay
 abbrev pub outWith : List ℕ → List ℕ → List ℕ → List ℕ
-outWith refusal numbers out = padded 3 refusal ++ (padded 13 numbers ++ drop 16 out)
+outWith refusal numbers out = padded 3 refusal ++ (padded (outEntries - 3) numbers ++ drop outEntries out)
 
 -- what a call returns, with `out` afterwards
 pub record Call : Type 0 where
@@ -42,14 +47,14 @@ pub record Call : Type 0 where
 abbrev pub callOf : ℕ → List ℕ → Call
 callOf returned out = record { returned = returned; out = out }
 
--- A call whose `out` has fewer than 16 entries does nothing and returns 0.
+-- A call whose `out` has fewer than `outEntries` does nothing and returns 0.
 
 -- price: 3 price
 abbrev pub priceCallWith : p.PriceReply → List ℕ → Call
 priceCallWith r out = callOf 1 (outWith (r .refusal) (r .price ∷ []) out)
 
 unfoldable pub pricedCall : p.PriceReply → List ℕ → Call
-pricedCall reply out = choose (ltb (length out) 16) (callOf 0 out) (priceCallWith reply out)
+pricedCall reply out = choose (ltb (length out) outEntries) (callOf 0 out) (priceCallWith reply out)
 
 abbrev pub priceCall : ℕ → ℕ → ℕ → ℕ → ℕ → List ℕ → Call
 priceCall kind factor others capacity history out = pricedCall (p.priceReply kind factor others capacity history) out
@@ -71,7 +76,7 @@ abbrev pub searchCallWith : SearchReply → List ℕ → SearchCall
 searchCallWith r out = searchDone (callOf 1 (outWith (r .refusal) [] out)) (r .work)
 
 unfoldable pub searchedCall : SearchReply → List ℕ → List ℕ → SearchCall
-searchedCall reply work out = choose (ltb (length out) 16) (searchDone (callOf 0 out) work) (searchCallWith reply out)
+searchedCall reply work out = choose (ltb (length out) outEntries) (searchDone (callOf 0 out) work) (searchCallWith reply out)
 
 abbrev pub searchCall : Block → Congestion → List ℕ → List ℕ → List ℕ → SearchCall
 searchCall b c marks work out = searchedCall (searchReply b c marks work) work out
@@ -86,9 +91,14 @@ abbrev pub termsOf : List ℕ → Terms
 termsOf ts =
     record {
       limit = getD ts 0 0;
-      tuning = record { first = getD ts 1 50; up = getD ts 2 3; down = getD ts 3 2; step = getD ts 4 1 };
-      rule = getD ts 5 1;
-      until = getD ts 6 1;
+      tuning = record {
+        first = getD ts 1 (plain .first);
+        up = getD ts 2 (plain .up);
+        down = getD ts 3 (plain .down);
+        step = getD ts 4 (plain .step);
+      };
+      rule = getD ts 5 (plainTerms 0 .rule);
+      until = getD ts 6 (plainTerms 0 .until);
       timed = leb 1 (getD ts 7 0);
     }
 
@@ -107,7 +117,7 @@ routeCallWith r further out =
 
 unfoldable pub routedCall : RouteReply → (further work log out : List ℕ) → RouteCall
 routedCall reply further work log out =
-    choose (ltb (length out) 16) (routeDone (callOf 0 out) work log) (routeCallWith reply further out)
+    choose (ltb (length out) outEntries) (routeDone (callOf 0 out) work log) (routeCallWith reply further out)
 
 abbrev pub routeCall : Job → List ℕ → List ℕ → List ℕ → RouteCall
 routeCall j work log out = routedCall (routeReply j work log) [] work log out
@@ -142,7 +152,7 @@ abbrev pub readCallWith : ReadReply → List ℕ → ReadCall
 readCallWith r out = readDone (callOf 1 (outWith (r .refusal) (r .numbers) out)) (r .tables)
 
 unfoldable pub readCall : List ℕ → Tables → List ℕ → ReadCall
-readCall text t out = choose (ltb (length out) 16) (readDone (callOf 0 out) t) (readCallWith (readReply text t) out)
+readCall text t out = choose (ltb (length out) outEntries) (readDone (callOf 0 out) t) (readCallWith (readReply text t) out)
 
 -- write: 3 bytes
 pub record WriteCall : Type 0 where
@@ -156,7 +166,7 @@ abbrev pub writeCallWith : WriteReply → List ℕ → WriteCall
 writeCallWith r out = writeDone (callOf 1 (outWith (r .refusal) (r .bytes ∷ []) out)) (r .buffer)
 
 unfoldable pub writtenCall : WriteReply → List ℕ → List ℕ → WriteCall
-writtenCall reply buffer out = choose (ltb (length out) 16) (writeDone (callOf 0 out) buffer) (writeCallWith reply out)
+writtenCall reply buffer out = choose (ltb (length out) outEntries) (writeDone (callOf 0 out) buffer) (writeCallWith reply out)
 
 abbrev pub writeCall : List ℕ → List ℕ → List ℕ → List ℕ → WriteCall
 writeCall sources log buffer out = writtenCall (writeReply sources log buffer) buffer out
@@ -191,7 +201,7 @@ addCallWith r counts out = addDone (callOf 1 (outWith (r .refusal) (logsReturned
 unfoldable pub addCall : Block → List ℕ → ℕ → List ℕ → List ℕ → AddCall
 addCall b counts logs log out =
     choose (ltb (length counts) kindCount) (addDone (callOf 0 out) counts)
-    (choose (ltb (length out) 16) (addDone (callOf 0 out) counts)
+    (choose (ltb (length out) outEntries) (addDone (callOf 0 out) counts)
     (addCallWith (addReply b (useCountsOf (take kindCount counts) logs) log) counts out))
 
 -- uses_write: 3 bytes

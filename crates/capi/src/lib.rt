@@ -157,17 +157,18 @@ fn entry_or(terms: &[u32], place: usize, plain: u32) -> u32
 fn terms_of(terms: &[u32]) -> Terms
     ensures { λ r. ⌜ r ≡ termsOf (now (terms .entry)) ⌝ }
 {
+    let plain = job::plain_terms(0);
     let tuning = Tuning {
-        first: entry_or(terms, 1, 50),
-        up: entry_or(terms, 2, 3),
-        down: entry_or(terms, 3, 2),
-        step: entry_or(terms, 4, 1),
+        first: entry_or(terms, 1, plain.tuning.first),
+        up: entry_or(terms, 2, plain.tuning.up),
+        down: entry_or(terms, 3, plain.tuning.down),
+        step: entry_or(terms, 4, plain.tuning.step),
     };
     Terms {
         limit: entry_or(terms, 0, 0),
         tuning: tuning,
-        rule: entry_or(terms, 5, 1),
-        until: entry_or(terms, 6, 1),
+        rule: entry_or(terms, 5, plain.rule),
+        until: entry_or(terms, 6, plain.until),
         timed: 1 <= entry_or(terms, 7, 0),
     }
 }

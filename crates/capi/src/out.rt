@@ -10,7 +10,7 @@ ghost use Rattle.negotiation.specs.Outcome.{routeRefusal};
 ghost use Rattle.text.specs.ReadReplies.{termsNumbers, readRefusal, readNumbers};
 ghost use Rattle.text.specs.Routes.{writeRefusal, writtenBytes};
 ghost use Rattle.uses.specs.Uses.{addRefusal, printRefusal, printedBytes};
-ghost use Rattle.capi.specs.Calls.{callOf, outWith, logsAdded};
+ghost use Rattle.capi.specs.Calls.{outEntries, callOf, outWith, logsAdded};
 use job::Terms;
 use negotiation::Outcome;
 use negotiation::RouteAnswer;
@@ -24,10 +24,10 @@ use uses::PrintAnswer;
 // The entries of `out` that a call writes.
 pub const OUT_ENTRIES: usize = 16;
 
-// The first 16 entries hold 0.
+// These entries hold 0.
 fn clear(out: &mut [u64])
-    requires { ⌜ 16 ≤ length (now out) ⌝ }
-    ensures { λ _. ⌜ now (out .exit) ≡ replicate 16 0 ++ drop 16 (now (out .entry)) ⌝ }
+    requires { ⌜ outEntries ≤ length (now out) ⌝ }
+    ensures { λ _. ⌜ now (out .exit) ≡ replicate outEntries 0 ++ drop outEntries (now (out .entry)) ⌝ }
 {
     let mut k = 0;
     while k < OUT_ENTRIES {
@@ -38,7 +38,7 @@ fn clear(out: &mut [u64])
 
 // Writes a refusal's three numbers and up to three of the call's own, and answers 1.
 fn put_numbers(out: &mut [u64], number: u64, first: u64, second: u64, a: u64, b: u64, c: u64) -> u32
-    requires { ⌜ 16 ≤ length (now out) ⌝ }
+    requires { ⌜ outEntries ≤ length (now out) ⌝ }
     ensures { λ r. do
       let after = outWith (number ∷ first ∷ second ∷ []) (a ∷ b ∷ c ∷ []) (now (out .entry))
       ⌜ callOf r (now (out .exit)) ≡ callOf 1 after ⌝ }
@@ -55,7 +55,7 @@ fn put_numbers(out: &mut [u64], number: u64, first: u64, second: u64, a: u64, b:
 
 // Writes the numbers of a price.
 pub fn put_price(answer: PriceAnswer, out: &mut [u64]) -> u32
-    requires { ⌜ 16 ≤ length (now out) ⌝ }
+    requires { ⌜ outEntries ≤ length (now out) ⌝ }
     ensures { λ r. do
       let after = outWith (priceReplyOf answer .refusal) (priceReplyOf answer .price ∷ []) (now (out .entry))
       ⌜ callOf r (now (out .exit)) ≡ callOf 1 after ⌝ }
@@ -68,7 +68,7 @@ pub fn put_price(answer: PriceAnswer, out: &mut [u64]) -> u32
 
 // Writes the numbers of a search.
 pub fn put_search(answer: SearchAnswer, out: &mut [u64]) -> u32
-    requires { ⌜ 16 ≤ length (now out) ⌝ }
+    requires { ⌜ outEntries ≤ length (now out) ⌝ }
     ensures { λ r. ⌜ callOf r (now (out .exit)) ≡ callOf 1 (outWith (searchRefusal answer) [] (now (out .entry))) ⌝ }
 {
     match answer {
@@ -82,7 +82,7 @@ pub fn put_search(answer: SearchAnswer, out: &mut [u64]) -> u32
 
 // Writes the numbers of a routing but for the nodes expanded.
 fn put_outcome(r: RouteAnswer, out: &mut [u64]) -> u32
-    requires { ⌜ 16 ≤ length (now out) ⌝ }
+    requires { ⌜ outEntries ≤ length (now out) ⌝ }
     ensures { λ n. do
       let refusal = routeRefusal (r .outcome) (r .iteration) (r .turns)
       let after = outWith refusal (r .iteration ∷ r .turns ∷ r .used ∷ []) (now (out .entry))
@@ -110,7 +110,7 @@ fn put_outcome(r: RouteAnswer, out: &mut [u64]) -> u32
 
 // Writes the numbers of a routing.
 pub fn put_routed(r: RouteAnswer, out: &mut [u64]) -> u32
-    requires { ⌜ 16 ≤ length (now out) ⌝ }
+    requires { ⌜ outEntries ≤ length (now out) ⌝ }
     ensures { λ n. do
       let refusal = routeRefusal (r .outcome) (r .iteration) (r .turns)
       let after = outWith refusal (r .iteration ∷ r .turns ∷ r .used ∷ r .expanded ∷ []) (now (out .entry))
@@ -137,7 +137,7 @@ fn put_job(
     sinks: usize,
     terms: Terms,
 ) -> u32
-    requires { ⌜ 16 ≤ length (now out) ⌝ }
+    requires { ⌜ outEntries ≤ length (now out) ⌝ }
     ensures { λ r. do
       let numbers = nodes ∷ edges ∷ nets ∷ sinks ∷ termsNumbers terms
       ⌜ callOf r (now (out .exit)) ≡ callOf 1 (outWith [] numbers (now (out .entry))) ⌝ }
@@ -160,7 +160,7 @@ fn put_job(
 
 // Writes the numbers of a reading.
 pub fn put_read(answer: ReadAnswer, out: &mut [u64]) -> u32
-    requires { ⌜ 16 ≤ length (now out) ⌝ }
+    requires { ⌜ outEntries ≤ length (now out) ⌝ }
     ensures { λ r. do
       let after = outWith (readRefusal answer) (readNumbers answer) (now (out .entry))
       ⌜ callOf r (now (out .exit)) ≡ callOf 1 after ⌝ }
@@ -173,9 +173,9 @@ pub fn put_read(answer: ReadAnswer, out: &mut [u64]) -> u32
             sinks,
             terms,
         } => put_job(out, nodes, edges, nets, sinks, terms),
-        ReadAnswer::BadLine { number, line } => {
-            put_numbers(out, number as u64, line as u64, 0, 0, 0, 0)
-        }
+        ReadAnswer::Malformed(line) => put_numbers(out, 1, line as u64, 0, 0, 0, 0),
+        ReadAnswer::BeyondBounds(line) => put_numbers(out, 2, line as u64, 0, 0, 0, 0),
+        ReadAnswer::WrongOrder(line) => put_numbers(out, 3, line as u64, 0, 0, 0, 0),
         ReadAnswer::ShortTable(table) => put_numbers(out, 4, table as u64, 0, 0, 0, 0),
         ReadAnswer::TooLarge { nodes, limit } => {
             put_numbers(out, 15, nodes as u64, limit as u64, 0, 0, 0)
@@ -185,7 +185,7 @@ pub fn put_read(answer: ReadAnswer, out: &mut [u64]) -> u32
 
 // Writes the numbers of a writing.
 pub fn put_written(answer: WriteAnswer, out: &mut [u64]) -> u32
-    requires { ⌜ 16 ≤ length (now out) ⌝ }
+    requires { ⌜ outEntries ≤ length (now out) ⌝ }
     ensures { λ r. do
       let after = outWith (writeRefusal answer) (writtenBytes answer ∷ []) (now (out .entry))
       ⌜ callOf r (now (out .exit)) ≡ callOf 1 after ⌝ }
@@ -200,7 +200,7 @@ pub fn put_written(answer: WriteAnswer, out: &mut [u64]) -> u32
 
 // Writes the numbers of an adding.
 pub fn put_added(answer: AddAnswer, out: &mut [u64]) -> u32
-    requires { ⌜ 16 ≤ length (now out) ⌝ }
+    requires { ⌜ outEntries ≤ length (now out) ⌝ }
     ensures { λ r. do
       let after = outWith (addRefusal answer) (logsAdded answer ∷ []) (now (out .entry))
       ⌜ callOf r (now (out .exit)) ≡ callOf 1 after ⌝ }
@@ -216,7 +216,7 @@ pub fn put_added(answer: AddAnswer, out: &mut [u64]) -> u32
 
 // Writes the numbers of a printing.
 pub fn put_printed(answer: PrintAnswer, out: &mut [u64]) -> u32
-    requires { ⌜ 16 ≤ length (now out) ⌝ }
+    requires { ⌜ outEntries ≤ length (now out) ⌝ }
     ensures { λ r. do
       let after = outWith (printRefusal answer) (printedBytes answer ∷ []) (now (out .entry))
       ⌜ callOf r (now (out .exit)) ≡ callOf 1 after ⌝ }

@@ -218,8 +218,16 @@ pub fn run(
                 routes,
             )
         }
-        ReadAnswer::BadLine { number, line } => RunAnswer::One {
-            number: number,
+        ReadAnswer::Malformed(line) => RunAnswer::One {
+            number: 1,
+            value: line as u64,
+        },
+        ReadAnswer::BeyondBounds(line) => RunAnswer::One {
+            number: 2,
+            value: line as u64,
+        },
+        ReadAnswer::WrongOrder(line) => RunAnswer::One {
+            number: 3,
             value: line as u64,
         },
         ReadAnswer::ShortTable(table) => RunAnswer::One {

@@ -283,7 +283,6 @@ module _ (b : Block) (price weight : ℕ → ℕ) (marks sinks : List ℕ) where
 -- ---- prices and weights that are the same on nodes
 
 module _ (b : Block) (marks sinks : List ℕ) where
-
   pub expanded-same : (p q weight : ℕ → ℕ) → ((v : ℕ) → v < nodes b → p v ≡ q v) → expanded b p weight marks sinks ≡ expanded b q weight marks sinks
   unfolding expanded expands openDistances
   expanded-same p q weight same =

@@ -19,6 +19,7 @@
 --     NetLoopLaws       the loop over these lines
 -- The whole text, for the functions that read it:
 --     ReaderLaws        stage after stage is the whole text
+--     StoppedLaws       a text that is stopped at a line is refused by 1, 2 or 3
 --     CopyLaws          copying the first entries of a table
 --     ReadJobLaws       row 4, then 15, and the tables afterwards
 -- What is read against what is printed, for TextHolds:
@@ -67,6 +68,7 @@ pub mod NetStepLaws
 pub mod NetLoopLaws
 pub mod CopyLaws
 pub mod ReaderLaws
+pub mod StoppedLaws
 pub mod ReadJobLaws
 pub mod DecimalLaws
 pub mod PlacedLaws

@@ -269,6 +269,10 @@ unfolding readReply
 job-stopped text x k line kinds capacities firstEdges edgeTargets sources firstSinks sinks delays criticalities t is read =
     ap (λ (p : Part Job). replyTo p t) (ap (λ (y : JobLines). jobAt y kinds capacities firstEdges edgeTargets sources firstSinks sinks delays criticalities) (sym is) ∙ read)
 
+-- the row of a line by its number
+pub row-is : {k row : ℕ} (line : ℕ) (t : Tables) → k ≡ row → notRead (row ∷ line ∷ []) t ≡ notRead (k ∷ line ∷ []) t
+row-is line t e = rw e
+
 -- the counts of a job that was read
 pub job-counts : (x : JobLines) (n edges nets count : ℕ) (terms : Terms) (line : ℕ) → x ≡ jl.Counts n edges nets count terms line → JobPlace x → CountsWithin n edges nets × (count ≤ sinksMost)
 job-counts x n edges nets count terms line is place = rw is at place

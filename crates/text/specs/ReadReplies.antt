@@ -118,13 +118,17 @@ readReply text t = replyTo (readText text) t
 -- 01's numbers for each case of the answer
 abbrev pub readRefusal : ReadAnswer → List ℕ
 readRefusal (a.Job nodes edges nets sinks terms) = []
-readRefusal (a.BadLine number at) = number ∷ at ∷ []
+readRefusal (a.Malformed at) = 1 ∷ at ∷ []
+readRefusal (a.BeyondBounds at) = 2 ∷ at ∷ []
+readRefusal (a.WrongOrder at) = 3 ∷ at ∷ []
 readRefusal (a.ShortTable table) = 4 ∷ table ∷ []
 readRefusal (a.TooLarge count limit) = 15 ∷ count ∷ limit ∷ []
 
 abbrev pub readNumbers : ReadAnswer → List ℕ
 readNumbers (a.Job nodes edges nets sinks terms) = nodes ∷ edges ∷ nets ∷ sinks ∷ termsNumbers terms
-readNumbers (a.BadLine number at) = []
+readNumbers (a.Malformed at) = []
+readNumbers (a.BeyondBounds at) = []
+readNumbers (a.WrongOrder at) = []
 readNumbers (a.ShortTable table) = []
 readNumbers (a.TooLarge count limit) = []
 

@@ -162,6 +162,10 @@ abbrev pub JobPlace : JobLines → Type 0
 JobPlace (jl.Counts n edges nets count terms line) = CountsWithin n edges nets × (count ≤ sinksMost)
 JobPlace (jl.Stopped k line) = Unit {0}
 
+-- rows 1 to 3, those of a line
+abbrev pub LineRow : ℕ → Type 0
+LineRow k = (1 ≤ k) × (k ≤ 3)
+
 -- both lists have so many entries
 pub record Fits (count : ℕ) (from to : List ℕ) : Type 0 where
   pub there : count ≤ length from

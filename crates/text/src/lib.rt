@@ -1,11 +1,12 @@
 // The job text before the router, and the routes text or the picture after it.
+ghost use mathlib.Core.List.{[], _∷_};
 ghost use mathlib.Core.Path.{_≡_};
 ghost use Rattle.search.specs.Replies.{sinksMost};
 ghost use Rattle.price.specs.Bounds.{nodesMost};
 ghost use Rattle.price.specs.Test.{choose};
-ghost use Rattle.text.specs.ReadReplies.{tablesOf, lowestShort, shortTimes, storedReply, readReply, readReplyOf};
+ghost use Rattle.text.specs.ReadReplies.{Tables, tablesOf, lowestShort, shortTimes, notRead, storedReply, readReply, readReplyOf};
 ghost use Prim.Native.Nat.{_≤_};
-ghost use Rattle.text.specs.ReadSteps.{lowestOfNine, RoomForAll, CountsWithin, jobTaken};
+ghost use Rattle.text.specs.ReadSteps.{lowestOfNine, RoomForAll, CountsWithin, jobTaken, LineRow};
 ghost use Rattle.text.specs.Routes.{textReply, writeReply, writeReplyOf};
 ghost use Rattle.text.specs.Dot.{textIn, dotReply, styleReply};
 ghost use Rattle.text.specs.WriteSteps.{LogTested, LatestPlaces};
@@ -23,11 +24,12 @@ pub enum ReadAnswer {
         sinks: usize,
         terms: Terms,
     },
-    // 1, 2 or 3: this line is faulty.
-    BadLine {
-        number: u32,
-        line: usize,
-    },
+    // 1: this line is of wrong shape or missing.
+    Malformed(usize),
+    // 2: this line has a value beyond its bounds.
+    BeyondBounds(usize),
+    // 3: this line is of wrong order or number.
+    WrongOrder(usize),
     // 4: this table is too short for the job.
     ShortTable(u32),
     // 15: a timed job has more nodes, or a larger limit, than it may.
@@ -301,6 +303,18 @@ fn store_job(
     }
 }
 
+// The answer at a line that is refused by this number.
+fn bad_line(number: u32, line: usize) -> ReadAnswer
+    requires { ⌜ LineRow number ⌝ }
+    ensures { λ r. ⌜ ((t : Tables) → readReplyOf r t ≡ notRead (number ∷ line ∷ []) t) ⌝ }
+{
+    match number {
+        1 => ReadAnswer::Malformed(line),
+        2 => ReadAnswer::BeyondBounds(line),
+        _ => ReadAnswer::WrongOrder(line),
+    }
+}
+
 // Reads a job text into the nine tables, each of which may be longer than the job needs. Delays and criticalities are written for a timed
 // job alone.
 pub fn read_job(
@@ -375,10 +389,7 @@ pub fn read_job(
             delay,
             criticality,
         ),
-        JobLines::Stopped { number, line } => ReadAnswer::BadLine {
-            number: number,
-            line: line,
-        },
+        JobLines::Stopped { number, line } => bad_line(number, line),
     }
 }
 

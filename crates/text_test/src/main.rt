@@ -51,7 +51,9 @@ fn read_answer(a: ReadAnswer) {
             sinks,
             terms,
         } => counts(nodes, edges, nets, sinks, terms),
-        ReadAnswer::BadLine { number, line } => refused(number as u64, line as u64),
+        ReadAnswer::Malformed(line) => refused(1, line as u64),
+        ReadAnswer::BeyondBounds(line) => refused(2, line as u64),
+        ReadAnswer::WrongOrder(line) => refused(3, line as u64),
         ReadAnswer::ShortTable(table) => refused(4, table as u64),
         ReadAnswer::TooLarge { nodes, limit } => too_large(nodes, limit),
     }

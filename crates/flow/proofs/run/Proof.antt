@@ -136,22 +136,28 @@ slice-aggregate-route-job-9 c = sym (length-take-le _ _ (criticalities-fit (five
 route-job-requires : tie.Need-route-job-requires
 route-job-requires c κs = search needs
 
-enum-known-number : tie.Need-enum-known-number
-enum-known-number c = search needs
+enum-known-line : tie.Need-enum-known-line
+enum-known-line c = search needs
+
+enum-known-line-2 : tie.Need-enum-known-line-2
+enum-known-line-2 c = search needs
+
+enum-known-line-3 : tie.Need-enum-known-line-3
+enum-known-line-3 c = search needs
 
 enum-known-table : tie.Need-enum-known-table
 enum-known-table c = search needs
 
-cast-t74 : tie.Need-cast-t74
-cast-t74 c = search needs
+cast-t77 : tie.Need-cast-t77
+cast-t77 c = search needs
 
 enum-known-nodes-2 : tie.Need-enum-known-nodes-2
 enum-known-nodes-2 c = search needs
 
-cast-t76 : tie.Need-cast-t76
-cast-t76 c = search needs
+cast-t79 : tie.Need-cast-t79
+cast-t79 c = search needs
 
--- the calls before the four returns, which leave the lengths of the slices as they were
+-- the calls before the returns, which leave the lengths of the slices as they were
 abbrev routed : tie.After-slice-known24 → tie.After-route-job
 routed c = c .before .before .before .before .before .before
 
@@ -161,13 +167,19 @@ lengths c = routed c .before .before .before .before .before .before .before .be
 abbrev read : tie.After-slice-known24 → tie.After-read-job
 read c = asked (counted (lengths c))
 
-abbrev misread : tie.After-known-told2 → tie.After-read-job
-misread c = answered (c .before .before .before)
+abbrev malformed : tie.After-known-told2 → tie.After-read-job
+malformed c = answered (c .before .before .before)
 
-abbrev short : tie.After-known-told3 → tie.After-read-job
+abbrev beyond-bounds : tie.After-known-told3 → tie.After-read-job
+beyond-bounds c = answered (c .before .before .before)
+
+abbrev wrong-order : tie.After-known-told4 → tie.After-read-job
+wrong-order c = answered (c .before .before .before)
+
+abbrev short : tie.After-known-told5 → tie.After-read-job
 short c = answered (c .before .before .before)
 
-abbrev large : tie.After-known-told4 → tie.After-read-job
+abbrev large : tie.After-known-told6 → tie.After-read-job
 large c = answered (c .before .before .before)
 
 same-length : tie.Need-same-length
@@ -212,98 +224,162 @@ returns c =
     routed c .route-job .ensures (left (read c)) ∙ taken (counted counts) .runs _ _ (counts .before .if-timed .ensures) (counts .if-timed2 .ensures) _ _ _
 
 same-length-13 : tie.Need-same-length-13
-same-length-13 c = misread c .read-job .kept .1 .0
+same-length-13 c = malformed c .read-job .kept .1 .0
 
 same-length-14 : tie.Need-same-length-14
-same-length-14 c = misread c .read-job .kept .1 .1 .0
+same-length-14 c = malformed c .read-job .kept .1 .1 .0
 
 same-length-15 : tie.Need-same-length-15
-same-length-15 c = misread c .read-job .kept .1 .1 .1 .0
+same-length-15 c = malformed c .read-job .kept .1 .1 .1 .0
 
 same-length-16 : tie.Need-same-length-16
-same-length-16 c = misread c .read-job .kept .1 .1 .1 .1 .0
+same-length-16 c = malformed c .read-job .kept .1 .1 .1 .1 .0
 
 same-length-17 : tie.Need-same-length-17
-same-length-17 c = misread c .read-job .kept .1 .1 .1 .1 .1 .0
+same-length-17 c = malformed c .read-job .kept .1 .1 .1 .1 .1 .0
 
 same-length-18 : tie.Need-same-length-18
-same-length-18 c = misread c .read-job .kept .1 .1 .1 .1 .1 .1 .0
+same-length-18 c = malformed c .read-job .kept .1 .1 .1 .1 .1 .1 .0
 
 same-length-19 : tie.Need-same-length-19
-same-length-19 c = misread c .read-job .kept .1 .1 .1 .1 .1 .1 .1 .0
+same-length-19 c = malformed c .read-job .kept .1 .1 .1 .1 .1 .1 .1 .0
 
 same-length-20 : tie.Need-same-length-20
-same-length-20 c = misread c .read-job .kept .1 .1 .1 .1 .1 .1 .1 .1 .0
+same-length-20 c = malformed c .read-job .kept .1 .1 .1 .1 .1 .1 .1 .1 .0
 
 same-length-21 : tie.Need-same-length-21
-same-length-21 c = misread c .read-job .kept .1 .1 .1 .1 .1 .1 .1 .1 .1 .0
+same-length-21 c = malformed c .read-job .kept .1 .1 .1 .1 .1 .1 .1 .1 .1 .0
 
 returns-2 : tie.Need-returns-2
 returns-2 c =
-    read-refused _ _ _ _ (lent (misread c)) (left (misread c)) _ _ _
-    (replied (misread c) (c .before .number .given .1))
+    read-refused _ _ _ _ (lent (malformed c)) (left (malformed c)) _ _ _
+    (replied (malformed c) (c .before .line .given .1))
 
 same-length-22 : tie.Need-same-length-22
-same-length-22 c = short c .read-job .kept .1 .0
+same-length-22 c = beyond-bounds c .read-job .kept .1 .0
 
 same-length-23 : tie.Need-same-length-23
-same-length-23 c = short c .read-job .kept .1 .1 .0
+same-length-23 c = beyond-bounds c .read-job .kept .1 .1 .0
 
 same-length-24 : tie.Need-same-length-24
-same-length-24 c = short c .read-job .kept .1 .1 .1 .0
+same-length-24 c = beyond-bounds c .read-job .kept .1 .1 .1 .0
 
 same-length-25 : tie.Need-same-length-25
-same-length-25 c = short c .read-job .kept .1 .1 .1 .1 .0
+same-length-25 c = beyond-bounds c .read-job .kept .1 .1 .1 .1 .0
 
 same-length-26 : tie.Need-same-length-26
-same-length-26 c = short c .read-job .kept .1 .1 .1 .1 .1 .0
+same-length-26 c = beyond-bounds c .read-job .kept .1 .1 .1 .1 .1 .0
 
 same-length-27 : tie.Need-same-length-27
-same-length-27 c = short c .read-job .kept .1 .1 .1 .1 .1 .1 .0
+same-length-27 c = beyond-bounds c .read-job .kept .1 .1 .1 .1 .1 .1 .0
 
 same-length-28 : tie.Need-same-length-28
-same-length-28 c = short c .read-job .kept .1 .1 .1 .1 .1 .1 .1 .0
+same-length-28 c = beyond-bounds c .read-job .kept .1 .1 .1 .1 .1 .1 .1 .0
 
 same-length-29 : tie.Need-same-length-29
-same-length-29 c = short c .read-job .kept .1 .1 .1 .1 .1 .1 .1 .1 .0
+same-length-29 c = beyond-bounds c .read-job .kept .1 .1 .1 .1 .1 .1 .1 .1 .0
 
 same-length-30 : tie.Need-same-length-30
-same-length-30 c = short c .read-job .kept .1 .1 .1 .1 .1 .1 .1 .1 .1 .0
+same-length-30 c = beyond-bounds c .read-job .kept .1 .1 .1 .1 .1 .1 .1 .1 .1 .0
 
 returns-3 : tie.Need-returns-3
 returns-3 c =
-    read-refused _ _ _ _ (lent (short c)) (left (short c)) _ _ _
-    (replied (short c) (c .before .table .given .1))
+    read-refused _ _ _ _ (lent (beyond-bounds c)) (left (beyond-bounds c)) _ _ _
+    (replied (beyond-bounds c) (c .before .line2 .given .1))
 
 same-length-31 : tie.Need-same-length-31
-same-length-31 c = large c .read-job .kept .1 .0
+same-length-31 c = wrong-order c .read-job .kept .1 .0
 
 same-length-32 : tie.Need-same-length-32
-same-length-32 c = large c .read-job .kept .1 .1 .0
+same-length-32 c = wrong-order c .read-job .kept .1 .1 .0
 
 same-length-33 : tie.Need-same-length-33
-same-length-33 c = large c .read-job .kept .1 .1 .1 .0
+same-length-33 c = wrong-order c .read-job .kept .1 .1 .1 .0
 
 same-length-34 : tie.Need-same-length-34
-same-length-34 c = large c .read-job .kept .1 .1 .1 .1 .0
+same-length-34 c = wrong-order c .read-job .kept .1 .1 .1 .1 .0
 
 same-length-35 : tie.Need-same-length-35
-same-length-35 c = large c .read-job .kept .1 .1 .1 .1 .1 .0
+same-length-35 c = wrong-order c .read-job .kept .1 .1 .1 .1 .1 .0
 
 same-length-36 : tie.Need-same-length-36
-same-length-36 c = large c .read-job .kept .1 .1 .1 .1 .1 .1 .0
+same-length-36 c = wrong-order c .read-job .kept .1 .1 .1 .1 .1 .1 .0
 
 same-length-37 : tie.Need-same-length-37
-same-length-37 c = large c .read-job .kept .1 .1 .1 .1 .1 .1 .1 .0
+same-length-37 c = wrong-order c .read-job .kept .1 .1 .1 .1 .1 .1 .1 .0
 
 same-length-38 : tie.Need-same-length-38
-same-length-38 c = large c .read-job .kept .1 .1 .1 .1 .1 .1 .1 .1 .0
+same-length-38 c = wrong-order c .read-job .kept .1 .1 .1 .1 .1 .1 .1 .1 .0
 
 same-length-39 : tie.Need-same-length-39
-same-length-39 c = large c .read-job .kept .1 .1 .1 .1 .1 .1 .1 .1 .1 .0
+same-length-39 c = wrong-order c .read-job .kept .1 .1 .1 .1 .1 .1 .1 .1 .1 .0
 
 returns-4 : tie.Need-returns-4
 returns-4 c =
+    read-refused _ _ _ _ (lent (wrong-order c)) (left (wrong-order c)) _ _ _
+    (replied (wrong-order c) (c .before .line3 .given .1))
+
+same-length-40 : tie.Need-same-length-40
+same-length-40 c = short c .read-job .kept .1 .0
+
+same-length-41 : tie.Need-same-length-41
+same-length-41 c = short c .read-job .kept .1 .1 .0
+
+same-length-42 : tie.Need-same-length-42
+same-length-42 c = short c .read-job .kept .1 .1 .1 .0
+
+same-length-43 : tie.Need-same-length-43
+same-length-43 c = short c .read-job .kept .1 .1 .1 .1 .0
+
+same-length-44 : tie.Need-same-length-44
+same-length-44 c = short c .read-job .kept .1 .1 .1 .1 .1 .0
+
+same-length-45 : tie.Need-same-length-45
+same-length-45 c = short c .read-job .kept .1 .1 .1 .1 .1 .1 .0
+
+same-length-46 : tie.Need-same-length-46
+same-length-46 c = short c .read-job .kept .1 .1 .1 .1 .1 .1 .1 .0
+
+same-length-47 : tie.Need-same-length-47
+same-length-47 c = short c .read-job .kept .1 .1 .1 .1 .1 .1 .1 .1 .0
+
+same-length-48 : tie.Need-same-length-48
+same-length-48 c = short c .read-job .kept .1 .1 .1 .1 .1 .1 .1 .1 .1 .0
+
+returns-5 : tie.Need-returns-5
+returns-5 c =
+    read-refused _ _ _ _ (lent (short c)) (left (short c)) _ _ _
+    (replied (short c) (c .before .table .given .1))
+
+same-length-49 : tie.Need-same-length-49
+same-length-49 c = large c .read-job .kept .1 .0
+
+same-length-50 : tie.Need-same-length-50
+same-length-50 c = large c .read-job .kept .1 .1 .0
+
+same-length-51 : tie.Need-same-length-51
+same-length-51 c = large c .read-job .kept .1 .1 .1 .0
+
+same-length-52 : tie.Need-same-length-52
+same-length-52 c = large c .read-job .kept .1 .1 .1 .1 .0
+
+same-length-53 : tie.Need-same-length-53
+same-length-53 c = large c .read-job .kept .1 .1 .1 .1 .1 .0
+
+same-length-54 : tie.Need-same-length-54
+same-length-54 c = large c .read-job .kept .1 .1 .1 .1 .1 .1 .0
+
+same-length-55 : tie.Need-same-length-55
+same-length-55 c = large c .read-job .kept .1 .1 .1 .1 .1 .1 .1 .0
+
+same-length-56 : tie.Need-same-length-56
+same-length-56 c = large c .read-job .kept .1 .1 .1 .1 .1 .1 .1 .1 .0
+
+same-length-57 : tie.Need-same-length-57
+same-length-57 c = large c .read-job .kept .1 .1 .1 .1 .1 .1 .1 .1 .1 .0
+
+returns-6 : tie.Need-returns-6
+returns-6 c =
     read-refused _ _ _ _ (lent (large c)) (left (large c)) _ _ _
     (replied (large c) (c .before .nodes2 .given .1))
 
@@ -336,11 +412,13 @@ run-spec =
     slice-reshare-prefix-route-job-9
     slice-aggregate-route-job-9
     route-job-requires
-    enum-known-number
+    enum-known-line
+    enum-known-line-2
+    enum-known-line-3
     enum-known-table
-    cast-t74
+    cast-t77
     enum-known-nodes-2
-    cast-t76
+    cast-t79
     same-length
     same-length-2
     same-length-3
@@ -383,4 +461,24 @@ run-spec =
     same-length-37
     same-length-38
     same-length-39
-    returns-4)
+    returns-4
+    same-length-40
+    same-length-41
+    same-length-42
+    same-length-43
+    same-length-44
+    same-length-45
+    same-length-46
+    same-length-47
+    same-length-48
+    returns-5
+    same-length-49
+    same-length-50
+    same-length-51
+    same-length-52
+    same-length-53
+    same-length-54
+    same-length-55
+    same-length-56
+    same-length-57
+    returns-6)

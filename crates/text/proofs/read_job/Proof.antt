@@ -1,9 +1,11 @@
 -- `text::read_job` meets its contract: all lines are read into tables of its own, and the job is written over those that were lent.
 -- Assumes nothing.
+use mathlib.Core.Path.{_∙_}
 use native.Mathlib.Omega.{arith}
 use borrow.Author.Needs.{needs}
 use Rattle.text.specs.ReadReplies.{Tables, tablesOf, readReplyOf}
 use Rattle.text.proofs.ReadJobLaws.{job-read, job-stopped, job-counts}
+use Rattle.text.proofs.StoppedLaws.{job-row}
 use Rattle.text.proofs.read_job.Statement.{statement}
 use Rattle.text.proofs.read_job.Tie as tie
 
@@ -16,6 +18,9 @@ lent s = let a = s .args in tablesOf (a .kind .now) (a .capacity .now) (a .first
 
 abbrev lines-read : tie.After-known-told → tie.After-read-lines
 lines-read c = c .before .before .before .before .before .before .before .before .before .before .before .before
+
+abbrev lines-stopped : tie.After-known-told2 → tie.After-read-lines
+lines-stopped c = c .before .before .before .before .before .before .before .before .before .before .before .before
 
 -- the call of `store_job` before the return, which leaves the lengths of the tables as they were
 abbrev over : tie.After-slice-known18 → tie.After-store-job
@@ -108,6 +113,13 @@ store-job-requires c κs =
 enum-known-number : tie.Need-enum-known-number
 enum-known-number c = search needs
 
+bad-line-requires : tie.Need-bad-line-requires
+bad-line-requires c κs =
+    let lines = lines-stopped c .read-lines in
+    let l = lines .last .1 in
+    job-row (entry (lines-stopped c) .args .text .now) (lines .result) (l .0) (l .1 .0) (l .1 .1 .0) (l .1 .1 .1 .0) (l .1 .1 .1 .1 .0) (l .1 .1 .1 .1 .1 .0) (l .1 .1 .1 .1 .1 .1 .0) (l .1 .1 .1 .1 .1 .1 .1 .0) (l .1 .1 .1 .1 .1 .1 .1 .1 .0)
+    (c .before .number .given .1) (lines .ensures .0)
+
 same-length : tie.Need-same-length
 same-length c = over c .store-job .kept .1 .1 .1 .1 .1 .1 .1 .1 .1 .1 .1 .1 .1 .1 .0
 
@@ -153,12 +165,13 @@ returns c =
 
 returns-2 : tie.Need-returns-2
 returns-2 c =
-    let read : tie.After-read-lines = c .before .before .before .before .before .before .before .before .before .before .before .before in
-    let lines = read .read-lines in
+    let stopped = c .before in
+    let lines = lines-stopped stopped .read-lines in
     let l = lines .last .1 in
-    let s = entry read in
-    job-stopped (s .args .text .now) (lines .result) _ _ (l .0) (l .1 .0) (l .1 .1 .0) (l .1 .1 .1 .0) (l .1 .1 .1 .1 .0) (l .1 .1 .1 .1 .1 .0) (l .1 .1 .1 .1 .1 .1 .0) (l .1 .1 .1 .1 .1 .1 .1 .0) (l .1 .1 .1 .1 .1 .1 .1 .1 .0)
-    (lent s) (c .before .number .given .1) (lines .ensures .0)
+    let s = entry (lines-stopped stopped) in
+    c .bad-line .ensures (lent s)
+    ∙ job-stopped (s .args .text .now) (lines .result) _ _ (l .0) (l .1 .0) (l .1 .1 .0) (l .1 .1 .1 .0) (l .1 .1 .1 .1 .0) (l .1 .1 .1 .1 .1 .0) (l .1 .1 .1 .1 .1 .1 .0) (l .1 .1 .1 .1 .1 .1 .1 .0) (l .1 .1 .1 .1 .1 .1 .1 .1 .0)
+    (lent s) (stopped .before .number .given .1) (lines .ensures .0)
 
 pub read-job-spec : {M : Type 1} → statement M
 read-job-spec =
@@ -186,6 +199,7 @@ read-job-spec =
     slice-aggregate-store-job-9
     store-job-requires
     enum-known-number
+    bad-line-requires
     same-length
     same-length-2
     same-length-3

@@ -7,15 +7,16 @@ use native.Mathlib.Omega.{arith}
 use lib.ListN.{length, drop, replicate, length-set}
 use borrow.Author.Needs.{needs}
 use borrow.Author.Fill.{fill-more}
+use Rattle.capi.specs.Calls.{outEntries}
 use Rattle.capi.proofs.out.clear.Statement.{statement}
 use Rattle.capi.proofs.out.clear.Tie as tie
 
 abbrev Inv-loop : tie.InvT-loop
 Inv-loop out₀ k₀ out k =
-    (k ≤ 16) × (16 ≤ length out₀) × (length out ≡ length out₀) × (out ≡ replicate k 0 ++ drop k out₀)
+    (k ≤ outEntries) × (outEntries ≤ length out₀) × (length out ≡ length out₀) × (out ≡ replicate k 0 ++ drop k out₀)
 
 abbrev μ-loop : tie.MeasureT-loop
-μ-loop out₀ k₀ out k = 16 - k
+μ-loop out₀ k₀ out k = outEntries - k
 
 loop-holds : tie.Need-loop-holds Inv-loop μ-loop
 loop-holds c = (omega arith, c .pre, refl, refl)
@@ -44,7 +45,7 @@ same-length c = c .before .loop .inv .2
 returns : tie.Need-returns Inv-loop μ-loop
 returns c =
     let out = c .before .before .args .out .now in
-    let e : c .before .loop .k ≡ 16 = omega arith in
+    let e : c .before .loop .k ≡ outEntries = omega arith in
     subst (λ (k : ℕ). c .before .loop .out ≡ replicate k 0 ++ drop k out) e (c .before .loop .inv .3)
 
 pub clear-spec : {M : Type 1} → statement M
