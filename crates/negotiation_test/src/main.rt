@@ -47,19 +47,24 @@ fn outcome(r: RouteAnswer) {
     }
 }
 
-// The outcome, the iteration, the turns and the words of log.
-fn answer(r: RouteAnswer) {
+// The outcome, the iteration, the turns, the words of log, and of a search that aims how many nodes it expanded.
+fn answer(r: RouteAnswer, aimed: bool) {
     outcome(r);
     show::answered();
     show::entry(r.iteration as u64);
     show::entry(r.turns);
     show::entry(r.used);
+    if aimed {
+        show::entry(r.expanded);
+    }
 }
 
 // What line 2 says.
 struct Asked {
     terms: Terms,
-    // The two numbers after the terms.
+    // Whether the search aims.
+    aimed: bool,
+    // The two last numbers.
     first: u32,
     second: u32,
     // Whether the terms have their last number. The case then has tables 9 and 10.
@@ -67,7 +72,7 @@ struct Asked {
 }
 
 // The limit, the tuning, the rule and its k, and whether the job is timed.
-fn terms(n: [u32; 10], timed: bool) -> Terms {
+fn terms(n: [u32; 11], timed: bool) -> Terms {
     let tuning = Tuning {
         first: n[1],
         up: n[2],
@@ -83,11 +88,21 @@ fn terms(n: [u32; 10], timed: bool) -> Terms {
     }
 }
 
-// The numbers of line 2, of which the last of the terms may be left out.
-fn said(n: [u32; 10], count: usize) -> Asked {
+// The numbers of line 2. Which search it is may be left out, and with it the last of the terms.
+fn said(n: [u32; 11], count: usize) -> Asked {
+    if count == 11 {
+        return Asked {
+            terms: terms(n, 1 <= n[7]),
+            aimed: 1 <= n[8],
+            first: n[9],
+            second: n[10],
+            whole: true,
+        };
+    }
     if count == 10 {
         return Asked {
             terms: terms(n, 1 <= n[7]),
+            aimed: false,
             first: n[8],
             second: n[9],
             whole: true,
@@ -96,6 +111,7 @@ fn said(n: [u32; 10], count: usize) -> Asked {
     read::exactly(count, 9);
     Asked {
         terms: terms(n, false),
+        aimed: false,
         first: n[7],
         second: n[8],
         whole: false,
@@ -114,10 +130,11 @@ fn line(
     delay: &[u16],
     criticality: &[u8],
     terms: Terms,
+    aimed: bool,
     work: &mut [u64],
     log: &mut [u32],
 ) {
-    answer(negotiation::route(
+    let answered = negotiation::route(
         kind,
         capacity,
         first_edge,
@@ -128,10 +145,11 @@ fn line(
         delay,
         criticality,
         terms,
-        false,
+        aimed,
         work,
         log,
-    ));
+    );
+    answer(answered, aimed);
     show::entries(work, work.len());
     show::words(log, log.len());
 }
@@ -164,6 +182,7 @@ fn memory(
         delay,
         criticality,
         n.terms,
+        n.aimed,
         &mut work[..entries],
         &mut log[..words],
     );
@@ -181,11 +200,12 @@ fn resume_line(
     delay: &[u16],
     criticality: &[u8],
     terms: Terms,
+    aimed: bool,
     used: u64,
     work: &mut [u64],
     log: &mut [u32],
 ) {
-    answer(negotiation::resume(
+    let answered = negotiation::resume(
         kind,
         capacity,
         first_edge,
@@ -196,11 +216,12 @@ fn resume_line(
         delay,
         criticality,
         terms,
-        false,
+        aimed,
         used,
         work,
         log,
-    ));
+    );
+    answer(answered, aimed);
     show::entries(work, work.len());
     show::words(log, log.len());
 }
@@ -242,6 +263,7 @@ fn resume_memory(
         delay,
         criticality,
         n.terms,
+        n.aimed,
         n.first as u64,
         &mut work[..entries],
         &mut log[..words],
@@ -393,7 +415,7 @@ fn block(case: &[u8], n: Asked) {
 }
 
 fn one(case: &[u8]) {
-    let mut numbers = [0u32; 10];
+    let mut numbers = [0u32; 11];
     show::name(case);
     let count = read::words(case, 1, &mut numbers);
     let n = said(numbers, count);

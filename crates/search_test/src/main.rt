@@ -1,9 +1,10 @@
-// The search, timed or not, and the cheapest path, a line each for every case of the file stdin, which docs/CASES.md describes: the answer
-// and the whole work slice afterwards. The expected lines stand in the file stdout.
+// The search, timed or not, and the cheapest path, a line each, or that path by the search that aims, for every case of the file stdin,
+// which docs/CASES.md describes: the answer and the whole work slice afterwards. The expected lines stand in the file stdout.
 use cases::lines;
 use cases::read;
 use cases::show;
 use price::Weighting;
+use search::AimedPath;
 use search::PathAnswer;
 use search::SearchAnswer;
 
@@ -48,6 +49,24 @@ fn path_answer(answer: PathAnswer) {
         PathAnswer::BadNumber(place) => refused(13, place as u64),
         PathAnswer::TooLarge(nodes) => too_large(nodes as u64),
     }
+}
+
+// The same of the search that aims, and how many nodes it expanded, also after a refusal.
+fn aimed_answer(aimed: AimedPath) {
+    let answer = aimed.answer;
+    match answer {
+        PathAnswer::Joins {
+            place,
+            cost,
+            length,
+        } => joined(place, cost, length),
+        PathAnswer::Stuck => show::answered(),
+        due => {
+            path_answer(due);
+            show::answered();
+        }
+    }
+    show::entry(aimed.expanded as u64);
 }
 
 // A line of the case that stands after tables 1 to 4, which is one later where table 9 is there too.
@@ -158,6 +177,42 @@ fn path_line(
     show::line_end();
 }
 
+// Calls the cheapest path by the search that aims and prints its line.
+fn aimed_line(
+    case: &[u8],
+    kind: &[u8],
+    capacity: &[u8],
+    first_edge: &[u32],
+    edge_target: &[u16],
+    weighting: Weighting,
+    delay: &[u16],
+    factor: u32,
+    history: &[u32],
+    others: &[u16],
+    in_tree: &[u8],
+    sinks: &[u16],
+    work: &mut [u64],
+) {
+    show::name(case);
+    show::call(b"aimed");
+    aimed_answer(search::aimed_path(
+        kind,
+        capacity,
+        first_edge,
+        edge_target,
+        weighting,
+        delay,
+        factor,
+        work,
+        history,
+        others,
+        in_tree,
+        sinks,
+    ));
+    show::entries(work, work.len());
+    show::line_end();
+}
+
 // The search, on the work slice as the case has it.
 fn search_case(
     case: &[u8],
@@ -240,7 +295,42 @@ fn path_case(
     );
 }
 
-// Both calls.
+// The same path by the search that aims.
+fn aimed_case(
+    case: &[u8],
+    kind: &[u8],
+    capacity: &[u8],
+    first_edge: &[u32],
+    edge_target: &[u16],
+    weighting: Weighting,
+    delay: &[u16],
+    factor: u32,
+    history: &[u32],
+    others: &[u16],
+    in_tree: &[u8],
+) {
+    let mut sinks = [0u16; 4097];
+    let mut work = [0u64; 8192];
+    let listed = read::halves(case, line(weighting, 9), &mut sinks);
+    let size = read::entries(case, line(weighting, 10), &mut work);
+    aimed_line(
+        case,
+        kind,
+        capacity,
+        first_edge,
+        edge_target,
+        weighting,
+        delay,
+        factor,
+        history,
+        others,
+        in_tree,
+        &sinks[..listed],
+        &mut work[..size],
+    );
+}
+
+// The search and the cheapest path.
 fn both(
     case: &[u8],
     kind: &[u8],
@@ -282,6 +372,59 @@ fn both(
     );
 }
 
+// Whether the case's call is `aimed` or `timed_aimed`.
+fn aims(case: &[u8]) -> bool {
+    if lines::call(case, 0) == b't' {
+        return lines::call(case, 6) == b'a';
+    }
+    lines::call(case, 0) == b'a'
+}
+
+// What the case calls.
+fn calls(
+    case: &[u8],
+    kind: &[u8],
+    capacity: &[u8],
+    first_edge: &[u32],
+    edge_target: &[u16],
+    weighting: Weighting,
+    delay: &[u16],
+    factor: u32,
+    history: &[u32],
+    others: &[u16],
+    in_tree: &[u8],
+) {
+    if aims(case) {
+        aimed_case(
+            case,
+            kind,
+            capacity,
+            first_edge,
+            edge_target,
+            weighting,
+            delay,
+            factor,
+            history,
+            others,
+            in_tree,
+        );
+        return;
+    }
+    both(
+        case,
+        kind,
+        capacity,
+        first_edge,
+        edge_target,
+        weighting,
+        delay,
+        factor,
+        history,
+        others,
+        in_tree,
+    );
+}
+
 // The lists of the nodes, and then the calls.
 fn lists(
     case: &[u8],
@@ -299,7 +442,7 @@ fn lists(
     let histories = read::words(case, line(weighting, 6), &mut history);
     let uses = read::halves(case, line(weighting, 7), &mut others);
     let marks = read::bytes(case, line(weighting, 8), &mut in_tree);
-    both(
+    calls(
         case,
         kind,
         capacity,
@@ -392,7 +535,7 @@ fn timed(case: &[u8], count: usize, factor: u32, criticality: u32) {
     tables(case, weighting, factor);
 }
 
-// The case by its call's first letter.
+// The case, timed or not, by its call's first letter.
 fn one(case: &[u8]) {
     let mut n = [0u32; 2];
     let count = read::words(case, 1, &mut n);

@@ -1,8 +1,8 @@
-//! Prices, factors, histories and tunings, and the search and a turn alone.
+//! Prices, factors, histories and tunings, and the search and a turn alone, aimed or not.
 
 use crate::cases::{Case, Fault};
-use crate::show::{answer, line, numbers, slice};
-use plain::{Tuning, Weighting};
+use crate::show::{answer, line, numbers, refusal, slice};
+use plain::{Answer, Tuning, Weighting};
 
 pub fn price(case: &mut Case) -> Result<(), Fault> {
     let [kind, factor, others, capacity, history] = case.numbers("price")?;
@@ -60,62 +60,133 @@ pub fn timed_search(case: &mut Case) -> Result<(), Fault> {
     both(case, factor, Weighting { timed: true, criticality })
 }
 
-/// The search and the cheapest path, each on the work slice as the case has it. A timed case has table 9 after table 4.
-fn both(case: &mut Case, factor: u32, weighting: Weighting) -> Result<(), Fault> {
-    let kind: Vec<u8> = case.list("kind")?;
-    let capacity: Vec<u8> = case.list("capacity")?;
-    let first_edge: Vec<u32> = case.list("first_edge")?;
-    let edge_target: Vec<u16> = case.list("edge_target")?;
-    let delay: Vec<u16> = if weighting.timed { case.list("delay")? } else { Vec::new() };
-    let history: Vec<u32> = case.list("history")?;
-    let others: Vec<u16> = case.list("others")?;
-    let in_tree: Vec<u8> = case.list("in_tree")?;
-    let sinks: Vec<u16> = case.list("sinks")?;
-    let work: Vec<u64> = case.list("work")?;
-    let mut left = work.clone();
-    let got = if weighting.timed {
-        plain::timed_search(
-            &kind,
-            &capacity,
-            &first_edge,
-            &edge_target,
-            &delay,
-            factor,
-            weighting.criticality,
-            &mut left,
-            &history,
-            &others,
-            &in_tree,
-        )
-    } else {
+pub fn aimed(case: &mut Case) -> Result<(), Fault> {
+    let [factor] = case.numbers("aimed")?;
+    aimed_path(case, factor, Weighting::UNTIMED)
+}
+
+pub fn timed_aimed(case: &mut Case) -> Result<(), Fault> {
+    let [factor, criticality] = case.numbers("timed_aimed")?;
+    aimed_path(case, factor, Weighting { timed: true, criticality })
+}
+
+/// What a search or a turn alone is lent.
+struct Lent {
+    kind: Vec<u8>,
+    capacity: Vec<u8>,
+    first_edge: Vec<u32>,
+    edge_target: Vec<u16>,
+    delay: Vec<u16>,
+    history: Vec<u32>,
+    others: Vec<u16>,
+    in_tree: Vec<u8>,
+    sinks: Vec<u16>,
+    work: Vec<u64>,
+}
+
+impl Lent {
+    /// A timed case has table 9 after table 4.
+    fn of(case: &mut Case, timed: bool) -> Result<Lent, Fault> {
+        Ok(Lent {
+            kind: case.list("kind")?,
+            capacity: case.list("capacity")?,
+            first_edge: case.list("first_edge")?,
+            edge_target: case.list("edge_target")?,
+            delay: if timed { case.list("delay")? } else { Vec::new() },
+            history: case.list("history")?,
+            others: case.list("others")?,
+            in_tree: case.list("in_tree")?,
+            sinks: case.list("sinks")?,
+            work: case.list("work")?,
+        })
+    }
+
+    fn search(&self, factor: u32, work: &mut [u64]) -> Answer {
         plain::search(
-            &kind,
-            &capacity,
-            &first_edge,
-            &edge_target,
+            &self.kind,
+            &self.capacity,
+            &self.first_edge,
+            &self.edge_target,
             factor,
-            &mut left,
-            &history,
-            &others,
-            &in_tree,
+            work,
+            &self.history,
+            &self.others,
+            &self.in_tree,
         )
+    }
+
+    fn timed_search(&self, factor: u32, criticality: u32, work: &mut [u64]) -> Answer {
+        plain::timed_search(
+            &self.kind,
+            &self.capacity,
+            &self.first_edge,
+            &self.edge_target,
+            &self.delay,
+            factor,
+            criticality,
+            work,
+            &self.history,
+            &self.others,
+            &self.in_tree,
+        )
+    }
+
+    /// The turn by this call, of the plain search or the aimed one.
+    fn turn(&self, call: Turn, factor: u32, weighting: Weighting, work: &mut [u64]) -> Answer {
+        call(
+            &self.kind,
+            &self.capacity,
+            &self.first_edge,
+            &self.edge_target,
+            weighting,
+            &self.delay,
+            factor,
+            work,
+            &self.history,
+            &self.others,
+            &self.in_tree,
+            &self.sinks,
+        )
+    }
+}
+
+/// A turn alone.
+type Turn = fn(
+    &[u8],
+    &[u8],
+    &[u32],
+    &[u16],
+    Weighting,
+    &[u16],
+    u32,
+    &mut [u64],
+    &[u32],
+    &[u16],
+    &[u8],
+    &[u16],
+) -> Answer;
+
+/// The search and the cheapest path, each on the work slice as the case has it.
+fn both(case: &mut Case, factor: u32, weighting: Weighting) -> Result<(), Fault> {
+    let lent = Lent::of(case, weighting.timed)?;
+    let mut work = lent.work.clone();
+    let got = if weighting.timed {
+        lent.timed_search(factor, weighting.criticality, &mut work)
+    } else {
+        lent.search(factor, &mut work)
     };
-    line(case, &[" search".into(), answer(&got), slice(&left)]);
-    let mut left = work;
-    let got = plain::cheapest_path(
-        &kind,
-        &capacity,
-        &first_edge,
-        &edge_target,
-        weighting,
-        &delay,
-        factor,
-        &mut left,
-        &history,
-        &others,
-        &in_tree,
-        &sinks,
-    );
-    line(case, &[" path".into(), answer(&got), slice(&left)]);
+    line(case, &[" search".into(), answer(&got), slice(&work)]);
+    let mut work = lent.work.clone();
+    let got = lent.turn(plain::cheapest_path, factor, weighting, &mut work);
+    line(case, &[" path".into(), answer(&got), slice(&work)]);
+    Ok(())
+}
+
+/// The aimed turn. A refusal has its number too, the nodes expanded.
+fn aimed_path(case: &mut Case, factor: u32, weighting: Weighting) -> Result<(), Fault> {
+    let lent = Lent::of(case, weighting.timed)?;
+    let mut work = lent.work.clone();
+    let got = lent.turn(plain::aimed_path, factor, weighting, &mut work);
+    line(case, &[" aimed".into(), refusal(&got), numbers(&got.numbers), slice(&work)]);
     Ok(())
 }

@@ -12,31 +12,45 @@ fn lent<T: From<u8> + Clone>(length: u32) -> Vec<T> {
     vec![T::from(BEFORE); length as usize]
 }
 
-/// The terms, of which the last may be left out, then the lengths of the work slice and the log.
+/// The terms, of which the last may be left out, or all of them and 1 for an aimed search, then two more numbers.
+fn asked(said: &[u32]) -> Result<(&[u32], bool, u32, u32), Fault> {
+    match *said {
+        [ref terms @ .., first, second] if terms.len() == 7 || terms.len() == 8 => {
+            Ok((terms, false, first, second))
+        }
+        [ref terms @ .., aimed, first, second] if terms.len() == 8 => Ok((terms, aimed != 0, first, second)),
+        _ => Err(format!("there are {} numbers for 9 to 11", said.len())),
+    }
+}
+
+/// The two numbers after the terms are the lengths of the work slice and the log.
 pub fn route(case: &mut Case) -> Result<(), Fault> {
     let said: Vec<u32> = case.list("route")?;
-    let [ref terms @ .., entries, words] = said[..] else {
-        return Err(String::from("route has two lengths"));
-    };
+    let (terms, aimed, entries, words) = asked(&said)?;
     let tables = Tables::of(case)?;
     let mut work: Vec<u64> = lent(entries);
     let mut log: Vec<u32> = lent(words);
-    let got = tables.route(terms, &mut work, &mut log);
+    let got = if aimed {
+        tables.route_aimed(terms, &mut work, &mut log)
+    } else {
+        tables.route(terms, &mut work, &mut log)
+    };
     line(case, &[refusal(&got), numbers(&got.numbers), slice(&work), slice(&log)]);
     Ok(())
 }
 
-/// The terms, of which the last may be left out, then the words used and the length of the work slice. The log, whole, stands after the
-/// tables.
+/// The two numbers after the terms are the words used and the length of the work slice. The log, whole, stands after the tables.
 pub fn resume(case: &mut Case) -> Result<(), Fault> {
     let said: Vec<u32> = case.list("resume")?;
-    let [ref terms @ .., used, entries] = said[..] else {
-        return Err(String::from("resume has the words used and a length"));
-    };
+    let (terms, aimed, used, entries) = asked(&said)?;
     let tables = Tables::of(case)?;
     let mut work: Vec<u64> = lent(entries);
     let mut log: Vec<u32> = case.list("log")?;
-    let got = tables.resume(terms, used, &mut work, &mut log);
+    let got = if aimed {
+        tables.resume_aimed(terms, used, &mut work, &mut log)
+    } else {
+        tables.resume(terms, used, &mut work, &mut log)
+    };
     line(case, &[refusal(&got), numbers(&got.numbers), slice(&work), slice(&log)]);
     Ok(())
 }
@@ -256,8 +270,43 @@ impl Tables {
         )
     }
 
+    fn route_aimed(&self, terms: &[u32], work: &mut [u64], log: &mut [u32]) -> Answer {
+        plain::route_aimed(
+            &self.kind,
+            &self.capacity,
+            &self.first_edge,
+            &self.edge_target,
+            &self.source,
+            &self.first_sink,
+            &self.sink,
+            &self.delay,
+            &self.criticality,
+            terms,
+            work,
+            log,
+        )
+    }
+
     fn resume(&self, terms: &[u32], used: u32, work: &mut [u64], log: &mut [u32]) -> Answer {
         plain::resume(
+            &self.kind,
+            &self.capacity,
+            &self.first_edge,
+            &self.edge_target,
+            &self.source,
+            &self.first_sink,
+            &self.sink,
+            &self.delay,
+            &self.criticality,
+            terms,
+            used.into(),
+            work,
+            log,
+        )
+    }
+
+    fn resume_aimed(&self, terms: &[u32], used: u32, work: &mut [u64], log: &mut [u32]) -> Answer {
+        plain::resume_aimed(
             &self.kind,
             &self.capacity,
             &self.first_edge,

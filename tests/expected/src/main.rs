@@ -20,6 +20,8 @@ fn one(case: &mut Case) -> Result<(), Fault> {
         "history" => alone::history(case),
         "search" => alone::search(case),
         "timed_search" => alone::timed_search(case),
+        "aimed" => alone::aimed(case),
+        "timed_aimed" => alone::timed_aimed(case),
         "route" => jobs::route(case),
         "resume" => jobs::resume(case),
         "read" => jobs::read(case),

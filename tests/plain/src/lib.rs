@@ -12,6 +12,7 @@ mod tables;
 mod uses;
 mod writer;
 
+pub use aim::aimed_path;
 pub use price::{price, timed_price, Tuning};
 pub use reader::read;
 pub use resume::{resume, resume_aimed};

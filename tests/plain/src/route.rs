@@ -226,7 +226,8 @@ fn turn(graph: &Graph, nets: &Joined, net: usize, state: &mut State, log: &mut L
     let path = path(graph, &prices, &distance, tree, sink);
     log.add(state.iteration, net, distance[sink], &path)?;
     if let Some(count) = &mut log.expanded {
-        *count += expanded(graph, nets.weight(&open), &open, &distance, sink);
+        let sinks: Vec<usize> = open.iter().map(|sink| sink.node).collect();
+        *count += expanded(graph, nets.weight(&open), &sinks, &distance, sink);
     }
     tree.extend(path);
     Ok(true)

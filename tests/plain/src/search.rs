@@ -41,8 +41,17 @@ impl Weighting {
         }
     }
 
+    /// What an aimed turn's estimates are weighed by.
+    pub fn estimate_weight(self) -> u64 {
+        if self.timed {
+            10 - self.criticality as u64
+        } else {
+            1
+        }
+    }
+
     /// Congestion prices as they are, or weighed.
-    fn of(self, prices: Vec<u64>, delay: &[u16]) -> Vec<u64> {
+    pub fn of(self, prices: Vec<u64>, delay: &[u16]) -> Vec<u64> {
         if self.timed {
             weighed_prices(&prices, delay, self.criticality)
         } else {
@@ -146,7 +155,7 @@ fn refusal(
 }
 
 /// The tree that the marks give.
-fn marked(nodes: usize, in_tree: &[u8]) -> BTreeSet<usize> {
+pub fn marked(nodes: usize, in_tree: &[u8]) -> BTreeSet<usize> {
     (0..nodes).filter(|&v| in_tree[v] == 1).collect()
 }
 
@@ -220,6 +229,41 @@ fn searched(
 /// A list of sinks for one turn: it counts as table 7, and may be empty or name a node twice.
 fn sinks_are_sound(nodes: usize, sinks: &[u16]) -> bool {
     sinks.len() <= MAX_SINKS && sinks.iter().all(|&s| (s as usize) < nodes)
+}
+
+/// What a turn alone refuses: 5 of tables 1 to 4, of the sinks as table 7, of table 9 if it is timed, then what the search refuses.
+pub fn turn_refusal(
+    graph: &Graph,
+    weighting: Weighting,
+    delay: &[u16],
+    factor: u32,
+    work: &[u64],
+    history: &[u32],
+    others: &[u16],
+    in_tree: &[u8],
+    sinks: &[u16],
+) -> Option<Vec<u64>> {
+    let nodes = graph.nodes();
+    let sinks = if sinks_are_sound(nodes, sinks) { None } else { Some(7) };
+    if let Some(table) = graph.broken().or(sinks).or_else(|| broken(graph, weighting, delay)) {
+        return Some(vec![5, table]);
+    }
+    refusal(nodes, weighting, work, factor, history, others, in_tree)
+}
+
+/// The place and the node of the nearest sink with a distance that the tree lacks, the first listed of equals. Sinks that are no nodes are
+/// passed over.
+pub fn nearest(sinks: &[u16], tree: &BTreeSet<usize>, distance: &[u64]) -> Option<(usize, usize)> {
+    let open = sinks.iter().map(|&s| s as usize).enumerate();
+    let open = open.filter(|(_, s)| *s < distance.len() && !tree.contains(s) && distance[*s] != NO_PATH);
+    open.min_by_key(|(_, s)| distance[*s])
+}
+
+/// Writes a path at the beginning of the work slice.
+pub fn put_path(path: &[usize], work: &mut [u64]) {
+    for (entry, node) in work.iter_mut().zip(path) {
+        *entry = *node as u64;
+    }
 }
 
 /// Tables 1 to 4 as one turn reads them, whatever their entries are: every number within its bounds.
@@ -302,16 +346,7 @@ pub fn cheapest_path(
     let lent = Graph { kind, capacity, first_edge, edge_target };
     let nodes = lent.nodes();
     if !lengths_are_right(&lent, weighting, delay, work, history, others, in_tree, sinks) {
-        if let Some(table) = lent.broken() {
-            return Answer::refused(&[5, table], 0);
-        }
-        if !sinks_are_sound(nodes, sinks) {
-            return Answer::refused(&[5, 7], 0);
-        }
-        if let Some(table) = broken(&lent, weighting, delay) {
-            return Answer::refused(&[5, table], 0);
-        }
-        let refusal = refusal(nodes, weighting, work, factor, history, others, in_tree);
+        let refusal = turn_refusal(&lent, weighting, delay, factor, work, history, others, in_tree, sinks);
         return Answer::refused(&refusal.expect("a wrong length is refused"), 0);
     }
     let read = Read::new(&lent);
@@ -324,14 +359,10 @@ pub fn cheapest_path(
     let tree = marked(nodes, in_tree);
     let distance = distances(&graph, &prices, &tree);
     work[..3 * nodes].fill(0);
-    let open = sinks.iter().map(|&s| s as usize).enumerate();
-    let open = open.filter(|(_, s)| *s < nodes && !tree.contains(s) && distance[*s] != NO_PATH);
-    let Some((place, sink)) = open.min_by_key(|(_, s)| distance[*s]) else {
+    let Some((place, sink)) = nearest(sinks, &tree, &distance) else {
         return Answer::good(&[]);
     };
     let path = path(&graph, &prices, &distance, &tree, sink);
-    for (entry, node) in work.iter_mut().zip(&path) {
-        *entry = *node as u64;
-    }
+    put_path(&path, work);
     Answer::good(&[place as u64, distance[sink], path.len() as u64])
 }

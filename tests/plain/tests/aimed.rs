@@ -3,7 +3,7 @@
 mod common;
 use common::*;
 use job::Job;
-use plain::{resume_aimed, route_aimed, Answer};
+use plain::{aimed_path, cheapest_path, resume_aimed, route_aimed, Answer, Weighting};
 
 /// Goes on aimed from a log, or begins, in a slice of so many words: what it answers but for the count, and the count.
 fn run_aimed(t: &Job, lent: Option<&[u32]>, words: usize, entries: usize) -> (Answer, u64) {
@@ -220,4 +220,71 @@ fn timed_estimates_are_to_the_one_sink() {
     let line = "F,4,3,1,1 W N,0,0,1,0 N,1,4,1,0 N,2,1,1,0 N,3,1,1,0 \
         E,0,1 E,1,2 E,2,3 S,0,0 T,0,2,0 T,0,3,9";
     assert_eq!(counts_of(line), [4]);
+}
+
+/// A turn alone on an untimed job's block, in its first iteration, from these tree marks to these sinks: the answer and the work slice
+/// afterwards, of so many entries.
+fn turn_alone(t: &Job, in_tree: &[u8], sinks: &[u16], entries: usize) -> (Answer, Vec<u64>) {
+    let nodes = t.kind.len();
+    let (history, others) = (vec![1; nodes], vec![0; nodes]);
+    let (mut work, mut plain_work) = (vec![7; entries], vec![7; entries]);
+    macro_rules! turn {
+        ($call:ident, $work:ident) => {
+            $call(
+                &t.kind,
+                &t.capacity,
+                &t.first_edge,
+                &t.edge_target,
+                Weighting::UNTIMED,
+                &[],
+                0,
+                &mut $work,
+                &history,
+                &others,
+                in_tree,
+                sinks,
+            )
+        };
+    }
+    let answer = turn!(aimed_path, work);
+    if answer.refusal.is_empty() {
+        let plain = turn!(cheapest_path, plain_work);
+        assert_eq!(answer.numbers[..plain.numbers.len()], plain.numbers);
+        assert_eq!(work[..3 * nodes], plain_work[..3 * nodes]);
+    }
+    (answer, work)
+}
+
+/// The path, then 0 up to 8 × nodes; where no sink is joined the count, 0, is the only number.
+#[test]
+fn a_turn_alone() {
+    let b = tables(&text(B));
+    let mut left = vec![0; 50];
+    left[..3].copy_from_slice(&[0, 2, 4]);
+    left[48..].fill(7);
+    let (answer, work) = turn_alone(&b, &[1, 0, 0, 0, 0, 0], &[4], 50);
+    assert_eq!((answer.refusal, answer.numbers, work), (vec![], vec![0, 4_000, 3, 3], left.clone()));
+    left[..3].fill(0);
+    let (answer, work) = turn_alone(&b, &[0, 1, 0, 0, 0, 0], &[3], 50);
+    assert_eq!((answer.refusal, answer.numbers, work), (vec![], vec![0], left));
+    // To both sinks, as far as each other; from sink 4 there is no way on.
+    assert_eq!(turn_alone(&b, &[1, 0, 0, 0, 0, 0], &[5, 4], 48).0.numbers, [0, 4_000, 3, 4]);
+    assert_eq!(turn_alone(&b, &[1, 0, 1, 0, 1, 0], &[4, 5], 48).0.numbers, [1, 2_000, 2, 2]);
+}
+
+/// Every table and number is tested, and nothing is written then.
+#[test]
+fn a_turn_alone_refuses_what_the_search_refuses() {
+    let b = tables(&text(B));
+    let refused = |t: &Job, in_tree: &[u8], sinks: &[u16], entries: usize| {
+        let (answer, work) = turn_alone(t, in_tree, sinks, entries);
+        assert_eq!((answer.numbers, work), (vec![0], vec![7; entries]));
+        answer.refusal
+    };
+    let tree = [1, 0, 0, 0, 0, 0];
+    assert_eq!(refused(&b, &[1, 0, 0, 2, 0, 0], &[4], 48), [13, 3]);
+    assert_eq!(refused(&b, &tree[..5], &[4], 48), [13, 5]);
+    assert_eq!(refused(&b, &tree, &[4], 47), [6, 48]);
+    assert_eq!(refused(&b, &tree, &[6], 47), [5, 7]);
+    assert_eq!(refused(&Job { kind: vec![0, 0, 54, 5, 1, 1], ..b.clone() }, &tree, &[6], 47), [5, 1]);
 }
