@@ -2,8 +2,9 @@
 -- Assumes nothing.
 use mathlib.Core.Path.{refl}
 use Rattle.price.specs.Prices.{baseCost, overuse, priceOf, nextFactor, factorAt}
+use Rattle.price.specs.Replies.{priceReply}
 use Rattle.price.specs.Samples.{Hold, samples}
 
 pub samples-hold : Hold samples
-unfolding samples factorAt nextFactor priceOf baseCost overuse
+unfolding samples factorAt nextFactor priceReply priceOf baseCost overuse
 samples-hold = (refl, (refl, tt))

@@ -4,7 +4,8 @@
 use mathlib.Core.List.{List, [], _∷_}
 use mathlib.Core.Path.{_≡_}
 use Prim.Native.Nat.{ℕ}
-use Rattle.price.specs.Prices.{factorAt, baseCost, priceOf}
+use Rattle.price.specs.Prices.{factorAt, baseCost}
+use Rattle.price.specs.Replies.{priceReply}
 use Rattle.price.specs.Tuning.{plain}
 
 -- what 01 states, and what the definitions give
@@ -30,6 +31,6 @@ samples =
     }
     ∷ record {
       stated = 20 ∷ 2000 ∷ 3000 ∷ [];
-      defined = baseCost wire ∷ priceOf wire 50 1 2 1 ∷ priceOf wire 50 2 2 1 ∷ [];
+      defined = baseCost wire ∷ priceReply wire 50 1 2 1 .price ∷ priceReply wire 50 2 2 1 .price ∷ [];
     }
     ∷ []

@@ -58,27 +58,28 @@ pub fn optional_line(text: &[u8], at: usize, letter: u8, count: usize) -> Option
             fourth: 0,
         };
     }
-    match fields::line_fields(text, at, letter, count) {
-        LineFields::Fields {
-            first,
-            second,
-            third,
-            fourth,
-            next,
-        } => OptionalLine {
-            shape: Shape::Line(next),
-            first: first,
-            second: second,
-            third: third,
-            fourth: fourth,
-        },
-        LineFields::Fault => OptionalLine {
+    let LineFields::Fields {
+        first,
+        second,
+        third,
+        fourth,
+        next,
+    } = fields::line_fields(text, at, letter, count)
+    else {
+        return OptionalLine {
             shape: Shape::Malformed,
             first: 0,
             second: 0,
             third: 0,
             fourth: 0,
-        },
+        };
+    };
+    OptionalLine {
+        shape: Shape::Line(next),
+        first: first,
+        second: second,
+        third: third,
+        fourth: fourth,
     }
 }
 

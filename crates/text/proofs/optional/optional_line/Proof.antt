@@ -35,6 +35,12 @@ enum-told c = search needs
 
 returns-2 : tie.Need-returns-2
 returns-2 c =
+    let d : tie.After-line-fields = c .before .before in
+    let a = entry d .args in
+    (begun d, line-malformed (a .count) (a .text .now) (d .line-fields .ensures .0) (c .enum-told .given .1))
+
+returns-3 : tie.Need-returns-3
+returns-3 c =
     let d : tie.After-line-fields = c .before .before .before in
     let a = entry d .args in
     let known = c .before .first .given .1 in (
@@ -42,12 +48,6 @@ returns-2 c =
       line-taken (a .count) (a .text .now) (d .line-fields .ensures .0) known,
       line-place (a .at + 1) (a .text .now) known (d .line-fields .ensures .1),
     )
-
-returns-3 : tie.Need-returns-3
-returns-3 c =
-    let d : tie.After-line-fields = c .before .before in
-    let a = entry d .args in
-    (begun d, line-malformed (a .count) (a .text .now) (d .line-fields .ensures .0) (c .enum-told .given .1))
 
 pub optional-line-spec : {M : Type 1} → statement M
 optional-line-spec =
