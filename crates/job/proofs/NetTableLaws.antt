@@ -31,7 +31,7 @@ use Rattle.search.specs.Block as block
 use Rattle.search.specs.Tables.{faultyTable, delaysSound}
 use Rattle.search.specs.Turn.{Congestion, weighedCongestion}
 use Rattle.search.specs.Replies.{workNeeded, badNode, tooMany, badCriticality, refusalOf, sinksMost, faultyWithDelays, faultyWithSinks, fitting, pathReplyOf, pathReply}
-use Rattle.search.proofs.JoinLaws.{fitted}
+use Rattle.search.proofs.PriceableLaws.{fitted}
 use Rattle.search.specs.Replies as search
 use Rattle.search.specs.declared.PathAnswer.{PathAnswer}
 use Rattle.search.proofs.BlockLaws.{sound-of, kinds-few}

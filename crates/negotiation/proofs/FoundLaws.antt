@@ -28,10 +28,8 @@ use Rattle.search.specs.declared.AimedPath.{AimedPath}
 use Rattle.search.specs.declared.PathAnswer.{PathAnswer}
 use Rattle.search.specs.declared.PathAnswer.the-variants.{Joins, Stuck, BadTable, ShortWork, BadNumber, TooLarge}
 use Rattle.search.proofs.BlockLaws.{faulty-of}
-use Rattle.search.proofs.NumberLaws.{bad-nowhere}
+use Rattle.search.proofs.PriceableLaws.{bad-nowhere, sinks-nodes, ready-fair}
 use Rattle.search.proofs.EdgeLaws.{Shaped, shaped}
-use Rattle.search.proofs.PathTestLaws.{sinks-nodes}
-use Rattle.search.proofs.ReadyLaws.{ready-fair}
 use Rattle.search.proofs.PathToLaws.{path-short, path-nodes}
 use Rattle.search.proofs.TurnLaws.{joins-within, joins-path, joins-near}
 use Rattle.search.proofs.PathReplyLaws.{path-turn}

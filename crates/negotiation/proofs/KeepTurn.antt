@@ -3,7 +3,7 @@
 use mathlib.Core.Bool.{Bool, true, false}
 use mathlib.Core.List.{List, [], _∷_, _++_, append-assoc}
 use mathlib.Core.Logic.{⊎-elim, inr}
-use mathlib.Core.Path.{_≡_, refl, sym, _∙_, ap, subst}
+use mathlib.Core.Path.{_≡_, sym, _∙_, ap, subst}
 use Prim.Native.Nat.{ℕ, suc, _+_, _-_, _*_, _^_, _≤_, _<_}
 use native.Mathlib.Nat.{le-trans}
 use native.Mathlib.Omega.{arith}
@@ -22,10 +22,10 @@ use Rattle.search.specs.Block.{Block}
 use Rattle.search.specs.Distance.{inTree}
 use Rattle.search.specs.Tables.{delaysSound}
 use Rattle.search.specs.Replies.{sinksMost, sinkListSound}
-use Rattle.search.specs.Ready.{Weighable}
+use Rattle.search.specs.Priceable.{Weighable}
 use Rattle.search.specs.Turn.{Congestion, weighedCongestion, Turn, joins, stuck, turn, congestedAt, priceAt}
 use Rattle.search.proofs.BlockLaws.{kinds-some}
-use Rattle.search.proofs.PathTestLaws.{sinks-few}
+use Rattle.search.proofs.PriceableLaws.{sinks-few}
 use Rattle.search.proofs.TableLaws.{sinks-all}
 use Rattle.job.specs.declared.Terms.{Terms}
 use Rattle.job.specs.Job.{Job, nodes, nets, jobOf, sinksBetween, netSinks, netCriticalities}
@@ -36,7 +36,6 @@ use Rattle.negotiation.specs.Records.{Record, recordOf}
 use Rattle.negotiation.specs.Machine.{State, Progress, othersOf, marksOf, congestionFor, turnOf, turnsOf, treeFrom}
 use Rattle.negotiation.specs.Outcome.{iterationsLeft}
 use Rattle.negotiation.specs.Steps.{SameFrom, turnCount, CanTurn, Skipped, Overflows, TurnLogged, TurnDone}
-use Rattle.negotiation.specs.TariffSteps.{loggedTariff}
 use Rattle.negotiation.specs.Kept.{Tallied}
 use Rattle.negotiation.specs.declared.tariff.Tariff.{Tariff}
 use Rattle.negotiation.specs.declared.turns.TurnMade.{TurnMade}
@@ -49,7 +48,7 @@ use Rattle.negotiation.proofs.RecordLaws.{records-few}
 use Rattle.negotiation.proofs.NetLaws.{StateReady, state-ready, weighed-bounds, tree-more}
 use Rattle.negotiation.proofs.KeepLaws.{startOf, reached, Under, AtTurn, AtIdle, AtTurns}
 use Rattle.negotiation.proofs.KeepProgress.{others-below, others-at, others-long, tree-at, tree-long, opened-more}
-use Rattle.negotiation.proofs.TurnStepLaws.{node-sound, mark-at, turns-stuck, turns-more, log-length, tallied-more, tallied-so}
+use Rattle.negotiation.proofs.TurnStepLaws.{node-sound, mark-at, turns-stuck, turns-more, log-length, tallied-more}
 
 -- ---- the turn that the code makes is the machine's
 
@@ -317,8 +316,8 @@ module _ (j : Job) (sound : Routable j) {p : Progress} {work₀ log₀ : List �
       → Tallied ((reached j p m i .records ++ at .made) ++ (recordOf now i (getD (turnSinks j i (treeFrom j i (at .made))) (l .place) 0) (l .cost) (l .path) ∷ [])) log₀ t′ log′
   logged-tallied t′ l =
       rw (l .tariff-is)
-      (tallied-so {t = loggedTariff t (6 + length (l .path))} refl refl
-      (tallied-more (reached j p m i .records ++ at .made) log₀ t log _ log′ (at .tallied) (l .room) (rw (at .under .iteration-is, keep-tried j sound enough at lent) at (l .log-is))))
+      (tallied-more (reached j p m i .records ++ at .made) log₀ t log _ log′ (countBy j i marks cs delays t history users) (at .tallied) (l .room)
+      (rw (at .under .iteration-is, keep-tried j sound enough at lent) at (l .log-is)))
 
   pub keep-logged :
       (t′ : Tariff) → TurnLogged (searched j sound enough at lent) (countBy j i marks cs delays t history users) t i (triedBy j i marks cs) log marks t′ log′ marks′

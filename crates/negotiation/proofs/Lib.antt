@@ -62,6 +62,7 @@
 --     TariffLaws        a tariff behind a `&mut`: what opens and closes the borrow
 --     StepLaws          a step that takes nothing but the `&mut`, and the function by value around it
 --     StepWithLaws      a step that takes plain data beside it
+--     StepTwoLaws       a step that takes two numbers beside it
 --     RipLaws           a net's old tree dropped, its new one counted
 --     UserLaws          who uses a node: counts of nets by their trees
 --     AimLaws           what a turn tries, as the code finds it: one pass over a net's sinks, and a part of table 7
@@ -136,6 +137,7 @@ pub mod SamplesHold
 pub mod TariffLaws
 pub mod StepLaws
 pub mod StepWithLaws
+pub mod StepTwoLaws
 pub mod RipLaws
 pub mod UserLaws
 pub mod FoundLaws

@@ -16,7 +16,7 @@ use Rattle.search.proofs.EdgeLaws.{Shaped, shaped}
 use Rattle.negotiation.specs.Records.{recordOf, words}
 use Rattle.job.specs.Steps.{AllBelow, Stored}
 use Rattle.negotiation.specs.Steps.{SameFrom, CanTurn, Skipped, Overflows, TurnLogged, PathFound, turnCount}
-use Rattle.negotiation.specs.TariffSteps.{loggedTariff, countedTariff}
+use Rattle.negotiation.specs.TariffSteps.{loggedTariff}
 use Rattle.negotiation.specs.declared.tariff.Tariff.{Tariff}
 use Rattle.negotiation.proofs.FoundLaws.{count-most, joined-path}
 
@@ -68,9 +68,8 @@ module _ {b : Block} {prices : Congestion} {tariff : Tariff} {sinks marks work l
   turn-other (TooLarge k) other f = absurd f
 
   -- no count overflows
-  pub turn-counts :
-      {before counted : ℕ} → before ≡ tariff .expanded → counted ≡ turnCount (tariff .aimed) b prices marks sinks → before + counted < 2 ^ 64
-  turn-counts {before} {counted} same count-is =
+  pub turn-counts : {counted : ℕ} → counted ≡ turnCount (tariff .aimed) b prices marks sinks → tariff .expanded + counted < 2 ^ 64
+  turn-counts {counted} count-is =
       let most : turnCount (tariff .aimed) b prices marks sinks ≤ block.nodes b = count-most (tariff .aimed) b prices marks sinks in
       let few = t .few-expanded in
       omega arith
@@ -102,13 +101,13 @@ turn-full {work′ = work′} {place = place} {cost = cost} {count = count} j l 
 
 -- it fits
 pub turn-logs :
-    {n counted expanded : ℕ} {t : Turn} {tariff logged tariff′ : Tariff} {net : ℕ} {sinks marks marks′ work work′ log log′ : List ℕ} {place cost count : ℕ}
+    {n counted expanded : ℕ} {t : Turn} {tariff tariff′ : Tariff} {net : ℕ} {sinks marks marks′ work work′ log log′ : List ℕ} {place cost count : ℕ}
     → Joined n t sinks marks work work′ place cost count → tariff .words + (6 + count) ≤ length log
     → log′ ≡ take (tariff .words) log ++ (words (recordOf (tariff .iteration) net (getD sinks place 0) cost (take count work′)) ++ drop (tariff .words + (6 + count)) log)
     → Stored 1 (take count work′) marks marks′
-    → logged ≡ loggedTariff tariff (6 + count) → tariff′ ≡ countedTariff logged counted → counted ≡ expanded
+    → tariff′ ≡ loggedTariff tariff (6 + count) counted → counted ≡ expanded
     → TurnLogged t expanded tariff net sinks log marks tariff′ log′ marks′
-turn-logs {expanded = expanded} {tariff = tariff} {logged} {work′ = work′} {place = place} {cost = cost} {count = count} j room l m logged-is counted-is count-is = record {
+turn-logs {expanded = expanded} {tariff = tariff} {work′ = work′} {place = place} {cost = cost} {count = count} j room l m logged-is count-is = record {
   place = place;
   cost = cost;
   path = take count work′;
@@ -117,8 +116,7 @@ turn-logs {expanded = expanded} {tariff = tariff} {logged} {work′ = work′} {
   log-is = rw (j .path-long) l;
   marks-set = m;
   tariff-is =
-      counted-is
-      ∙ ap (λ (k : ℕ). countedTariff logged k) count-is
-      ∙ ap (λ (x : Tariff). countedTariff x expanded) logged-is
-      ∙ ap (λ (k : ℕ). countedTariff (loggedTariff tariff (6 + k)) expanded) (sym (j .path-long));
+      logged-is
+      ∙ ap (λ (k : ℕ). loggedTariff tariff (6 + count) k) count-is
+      ∙ ap (λ (k : ℕ). loggedTariff tariff (6 + k) expanded) (sym (j .path-long));
 }

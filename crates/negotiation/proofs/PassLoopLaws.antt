@@ -29,9 +29,9 @@ use Rattle.price.proofs.TimedLaws.{weighed-most, weighed-path}
 use Rattle.search.specs.Block.{Block, blockOf, graphOf, nodes, rowStart, row, hasEdge}
 use Rattle.search.specs.Tables.{Graph}
 use Rattle.search.specs.Turn.{Congestion, congestedAt, priceAt}
-use Rattle.search.specs.Frontier.{PriceReady}
+use Rattle.search.specs.Priceable.{PriceReady}
 use Rattle.search.proofs.BlockLaws.{graph-of, row-order, row-end, edge-to, kinds-few}
-use Rattle.search.proofs.FillLaws.{answered-price}
+use Rattle.search.proofs.PriceableLaws.{answered-price}
 use Rattle.job.specs.Steps.{Stored}
 use Rattle.negotiation.specs.ResumeSteps.{lastMark, stepPasses, stepsCost, passCost, PassReady}
 use Rattle.job.proofs.MarkLaws.{slice-more, stored-one, stored-append}

@@ -87,7 +87,7 @@ begins-log rs log b =
 pub tallied-follows :
     (rs : List Record) (log : List ℕ) (t : Tariff) (price : ℕ → ℕ) → Tallied rs log t log → wholeRecord (after log rs) ≡ true
     → costFollows price (after log rs) ≡ true
-    → Tallied (rs ++ (recordIn price (after log rs) ∷ [])) log (loggedTariff t (6 + getD (after log rs) 5 0)) log
+    → Tallied (rs ++ (recordIn price (after log rs) ∷ [])) log (loggedTariff t (6 + getD (after log rs) 5 0) 0) log
 tallied-follows rs log t price a w c =
     let r : Record = recordIn price (after log rs) in
     let path : length (recordPath (after log rs)) ≡ getD (after log rs) 5 0 = path-long (after log rs) w in
@@ -356,12 +356,12 @@ module _ (j : Job) {p : Progress} {i : ℕ} {delays criticalities : List ℕ} {t
             rw (pathNodes-append (f .made) (r ∷ []), append-nil (recordPath there))
             (below-append (nodes j) (pathNodes (f .made)) (recordPath there) (f .below) path-below)
 
-        counted : Tallied (p .records ++ (f .made ++ (r ∷ []))) log (loggedTariff t (6 + getD there 5 0)) log
+        counted : Tallied (p .records ++ (f .made ++ (r ∷ []))) log (loggedTariff t (6 + getD there 5 0) 0) log
         counted =
             rw (← append-assoc (p .records) (f .made) (r ∷ []))
             (tallied-follows (p .records ++ f .made) log t price (f .at .tallied) (follows .is-whole) (follows .cost))
 
-        one-turn : {marks′ : List ℕ} → Stored 1 (recordPath there) marks marks′ → Following j p i (left - 1) (loggedTariff t (6 + getD there 5 0)) marks′ log
+        one-turn : {marks′ : List ℕ} → Stored 1 (recordPath there) marks marks′ → Following j p i (left - 1) (loggedTariff t (6 + getD there 5 0) 0) marks′ log
         one-turn stored =
             record {
               made = f .made ++ (r ∷ []);
@@ -395,10 +395,10 @@ module _ (j : Job) {p : Progress} {i : ℕ} {delays criticalities : List ℕ} {t
               answer ∙ ap (λ (b : Bool). choose b (6 + getD (drop (t .words) log) 5 0) 0) passed ∙ ap (λ (l : List ℕ). 6 + getD l 5 0) words-here
 
           pub follow-more :
-              {marks′ : List ℕ} → Stored 1 (recordPath (drop (t .words) log)) marks marks′ → {t′ : Tariff} → t′ ≡ loggedTariff t count
+              {marks′ : List ℕ} → Stored 1 (recordPath (drop (t .words) log)) marks marks′ → {t′ : Tariff} → t′ ≡ loggedTariff t count 0
               → Following j p i (left - 1) t′ marks′ log
           follow-more {marks′} stored {t′} is =
-              subst (λ (x : Tariff). Following j p i (left - 1) x marks′ log) (sym (is ∙ ap (λ (k : ℕ). loggedTariff t k) count-is))
+              subst (λ (x : Tariff). Following j p i (left - 1) x marks′ log) (sym (is ∙ ap (λ (k : ℕ). loggedTariff t k 0) count-is))
               (one-turn following (subst (λ (l : List ℕ). Stored 1 (recordPath l) marks marks′) words-here stored))
 
           -- the tariff can count it

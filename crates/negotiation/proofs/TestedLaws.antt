@@ -17,7 +17,7 @@ use Rattle.price.proofs.ListLaws.{every-all, every-none, part-slice}
 use Rattle.price.proofs.BelowLaws.{firstBelow-below, firstBelow-holds, firstBelow-is, firstBelow-all}
 use Rattle.search.specs.Block.{Block, graphOf, row, hasEdge}
 use Rattle.search.specs.Paths.{Walk, stay, step}
-use Rattle.search.proofs.ReadyLaws.{sound-graph}
+use Rattle.search.proofs.PriceableLaws.{sound-graph}
 use Rattle.job.specs.Job.{Job, nodes, nets, source, netSinks}
 use Rattle.negotiation.specs.Machine.{congestionFor, firstState}
 use Rattle.negotiation.specs.Outcome.{hasPath, unreachableNet, unreachablePlace}

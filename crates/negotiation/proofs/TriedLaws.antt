@@ -19,7 +19,7 @@ use Rattle.search.specs.Block.{Block}
 use Rattle.search.specs.Block as block
 use Rattle.search.specs.Distance.{inTree}
 use Rattle.search.specs.Turn.{weighedCongestion, priceAt}
-use Rattle.search.specs.Frontier.{PriceReady}
+use Rattle.search.specs.Priceable.{PriceReady}
 use Rattle.search.proofs.BlockLaws.{kinds-few, capacities-long}
 use Rattle.job.specs.Job.{Job, nodes, nets, netSinks}
 use Rattle.job.specs.Steps.{AllBelow, Stored}

@@ -111,10 +111,10 @@ log-more rs r log n e =
     (sym (append-assoc (encode rs) (words r) (drop (length (encode rs) + n) log)))
 
 pub tallied-more :
-    (rs : List Record) (log₀ : List ℕ) (t : Tariff) (log : List ℕ) (r : Record) (log′ : List ℕ) → Tallied rs log₀ t log → t .words + (6 + length (r .path)) ≤ length log
+    (rs : List Record) (log₀ : List ℕ) (t : Tariff) (log : List ℕ) (r : Record) (log′ : List ℕ) (expanded : ℕ) → Tallied rs log₀ t log → t .words + (6 + length (r .path)) ≤ length log
     → log′ ≡ take (t .words) log ++ (words r ++ drop (t .words + (6 + length (r .path))) log)
-    → Tallied (rs ++ (r ∷ [])) log₀ (loggedTariff t (6 + length (r .path))) log′
-tallied-more rs log₀ t log r log′ a room is =
+    → Tallied (rs ++ (r ∷ [])) log₀ (loggedTariff t (6 + length (r .path)) expanded) log′
+tallied-more rs log₀ t log r log′ expanded a room is =
     let long : length (encode (rs ++ (r ∷ []))) ≡ length (encode rs) + (6 + length (r .path)) =
     rw (encode-more rs r, length-append (encode rs) (words r), words-length r) in
     let same : length log ≡ length log₀ = rw (a .log-is) (log-length rs log₀ (a .fits)) in

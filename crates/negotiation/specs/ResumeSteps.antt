@@ -12,7 +12,7 @@ use Rattle.price.specs.Test.{choose, both}
 use Rattle.search.specs.Block.{Block, nodes, hasEdge}
 use Rattle.search.specs.Tables.{Sound}
 use Rattle.search.specs.Turn.{Congestion}
-use Rattle.search.specs.Frontier.{PriceReady}
+use Rattle.search.specs.Priceable.{PriceReady}
 use Rattle.negotiation.specs.Resume.{recordPath, wholeRecord, endsAt}
 use Rattle.job.specs.Steps.{Stored}
 use Rattle.negotiation.specs.declared.follow.PathCost.{PathCost}

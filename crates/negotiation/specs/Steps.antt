@@ -16,13 +16,13 @@ use Rattle.search.specs.Tables.{Sound}
 use Rattle.search.specs.Turn.{Congestion, priceAt, Turn, joins, stuck}
 use Rattle.search.specs.Aimed.{weightAt, expanded}
 use Rattle.search.specs.Replies.{nodeSound, sinkListSound}
-use Rattle.search.specs.Ready.{Weighable}
+use Rattle.search.specs.Priceable.{Weighable}
 use Rattle.search.specs.declared.PathAnswer.{PathAnswer}
 use Rattle.search.specs.declared.PathAnswer.the-variants.{Joins, Stuck, BadTable, ShortWork, BadNumber, TooLarge}
 use Rattle.job.specs.Job.{Job, nets, jobOf}
 use Rattle.negotiation.specs.Routable.{Routable}
 use Rattle.negotiation.specs.Outcome.{unreachableNet, unreachablePlace}
-use Rattle.negotiation.specs.TariffSteps.{loggedTariff, countedTariff}
+use Rattle.negotiation.specs.TariffSteps.{loggedTariff}
 use Rattle.job.specs.declared.Terms.{Terms}
 use Rattle.negotiation.specs.declared.tariff.Tariff.{Tariff}
 use Rattle.negotiation.specs.declared.turns.TurnMade.{TurnMade}
@@ -240,7 +240,7 @@ pub record TurnLogged (t : Turn) (expanded : ℕ) (tariff : Tariff) (net : ℕ) 
       ≡ take (tariff .words) log
       ++ (words (recordOf (tariff .iteration) net (getD sinks place 0) cost path) ++ drop (tariff .words + (6 + length path)) log)
   pub marks-set : Stored 1 path marks marks′
-  pub tariff-is : tariff′ ≡ countedTariff (loggedTariff tariff (6 + length path)) expanded
+  pub tariff-is : tariff′ ≡ loggedTariff tariff (6 + length path) expanded
 
 -- what a turn did, by cases
 abbrev pub TurnDone : (r : TurnMade) (t : Turn) (expanded : ℕ) (tariff : Tariff) (net : ℕ) (sinks log marks log′ marks′ : List ℕ) → Type 0

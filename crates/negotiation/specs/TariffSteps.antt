@@ -6,26 +6,14 @@ use Rattle.price.specs.Prices.{nextFactor}
 use Rattle.price.specs.declared.Tuning.{Tuning}
 use Rattle.negotiation.specs.declared.tariff.Tariff.{Tariff}
 
--- after a turn of so many words is logged
-abbrev pub loggedTariff : Tariff → ℕ → Tariff
-loggedTariff t count =
+-- after a turn of so many words that expanded so many nodes is logged
+abbrev pub loggedTariff : Tariff → (count expanded : ℕ) → Tariff
+loggedTariff t count expanded =
     record {
       iteration = t .iteration;
       factor = t .factor;
       turns = t .turns + 1;
       words = t .words + count;
-      aimed = t .aimed;
-      expanded = t .expanded;
-    }
-
--- after a turn has expanded so many nodes
-abbrev pub countedTariff : Tariff → ℕ → Tariff
-countedTariff t expanded =
-    record {
-      iteration = t .iteration;
-      factor = t .factor;
-      turns = t .turns;
-      words = t .words;
       aimed = t .aimed;
       expanded = t .expanded + expanded;
     }

@@ -11,7 +11,7 @@ ghost use Rattle.price.specs.Timed.{weighedMost};
 ghost use Rattle.search.specs.Block.{blockOf, graphOf, hasEdge};
 ghost use Rattle.search.specs.Tables.{Graph};
 ghost use Rattle.search.specs.Turn.{weighedCongestion, priceAt};
-ghost use Rattle.search.specs.Frontier.{PriceReady};
+ghost use Rattle.search.specs.Priceable.{PriceReady};
 ghost use Rattle.negotiation.specs.Resume.{recordPath};
 ghost use Rattle.negotiation.specs.ResumeSteps.{stepPasses, passCost, RecordReady, PassReady, costsOf, PathMarked};
 ghost use Rattle.negotiation.specs.ResumeSteps.{costIs, frameFollows, turnPasses};

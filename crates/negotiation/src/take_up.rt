@@ -156,7 +156,7 @@ fn follow_net(
         if count == 0 {
             return Taken::Off(tariff.words);
         }
-        tariff = tariff::turn_logged(tariff, count);
+        tariff = tariff::turn_logged(tariff, count, 0);
         left -= 1;
         place = flood::missing_sink(in_tree, &sink[from..to], place);
     }

@@ -1,7 +1,7 @@
 // The tariff, lent by &mut to the steps that bring it up to date, and the same steps by value for the routing loops.
 ghost use mathlib.Core.Path.{_≡_};
 ghost use Prim.Native.Nat.{_+_, _<_, _^_};
-ghost use Rattle.negotiation.specs.TariffSteps.{loggedTariff, countedTariff, endedTariff, startedTariff, goingOn};
+ghost use Rattle.negotiation.specs.TariffSteps.{loggedTariff, endedTariff, startedTariff, goingOn};
 use price::Tuning;
 
 // What 01 calls the tariff: iteration, factor, turns made and words written. Request 2.13 adds which search makes the turns, and how many
@@ -15,13 +15,14 @@ pub struct Tariff {
     pub expanded: u64,
 }
 
-// A turn of so many words is logged.
-fn log_turn(t: &mut Tariff, count: usize)
-    requires { ⌜ (now t .turns + 1 < 2 ^ 64) × (now t .words + count < 2 ^ 64) ⌝ }
-    ensures { λ _. ⌜ now (t .exit) ≡ loggedTariff (now (t .entry)) count ⌝ }
+// A turn of so many words that expanded so many nodes is logged.
+fn log_turn(t: &mut Tariff, count: usize, expanded: u64)
+    requires { ⌜ (now t .turns + 1 < 2 ^ 64) × (now t .words + count < 2 ^ 64) × (now t .expanded + expanded < 2 ^ 64) ⌝ }
+    ensures { λ _. ⌜ now (t .exit) ≡ loggedTariff (now (t .entry)) count expanded ⌝ }
 {
     t.turns = t.turns + 1;
     t.words = t.words + count;
+    t.expanded = t.expanded + expanded;
 }
 
 // The iteration is over: the present congestion factor moves on.
@@ -39,29 +40,22 @@ fn start_iteration(t: &mut Tariff)
     t.iteration = t.iteration + 1;
 }
 
-// The tariff after a turn of so many words is logged.
-pub fn turn_logged(t: Tariff, count: usize) -> Tariff
-    requires { ⌜ (t .turns + 1 < 2 ^ 64) × (t .words + count < 2 ^ 64) ⌝ }
-    ensures { λ r. ⌜ r ≡ loggedTariff t count ⌝ }
+// A run goes on from here by this search: no nodes are counted yet.
+fn go_on_by(t: &mut Tariff, aimed: bool)
+    ensures { λ _. ⌜ now (t .exit) ≡ goingOn (now (t .entry)) aimed ⌝ }
 {
-    let mut next = t;
-    log_turn(&mut next, count);
-    next
+    t.aimed = aimed;
+    t.expanded = 0;
 }
 
-// The tariff after a turn has expanded so many nodes.
-pub fn turn_counted(t: Tariff, expanded: u64) -> Tariff
-    requires { ⌜ t .expanded + expanded < 2 ^ 64 ⌝ }
-    ensures { λ r. ⌜ r ≡ countedTariff t expanded ⌝ }
+// The tariff after a turn of so many words that expanded so many nodes is logged.
+pub fn turn_logged(t: Tariff, count: usize, expanded: u64) -> Tariff
+    requires { ⌜ (t .turns + 1 < 2 ^ 64) × (t .words + count < 2 ^ 64) × (t .expanded + expanded < 2 ^ 64) ⌝ }
+    ensures { λ r. ⌜ r ≡ loggedTariff t count expanded ⌝ }
 {
-    Tariff {
-        iteration: t.iteration,
-        factor: t.factor,
-        turns: t.turns,
-        words: t.words,
-        aimed: t.aimed,
-        expanded: t.expanded + expanded,
-    }
+    let mut next = t;
+    log_turn(&mut next, count, expanded);
+    next
 }
 
 // The tariff after the iteration's end.
@@ -83,16 +77,11 @@ pub fn iteration_started(t: Tariff) -> Tariff
     next
 }
 
-// The tariff of a run that goes on from here by this search: no nodes are counted yet.
+// The tariff of a run that goes on from here by this search.
 pub fn going_on(t: Tariff, aimed: bool) -> Tariff
     ensures { λ r. ⌜ r ≡ goingOn t aimed ⌝ }
 {
-    Tariff {
-        iteration: t.iteration,
-        factor: t.factor,
-        turns: t.turns,
-        words: t.words,
-        aimed: aimed,
-        expanded: 0,
-    }
+    let mut next = t;
+    go_on_by(&mut next, aimed);
+    next
 }

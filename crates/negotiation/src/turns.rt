@@ -222,8 +222,7 @@ fn one_turn(
     let iteration = tariff.iteration;
     records::write_record(log, at, iteration, net, sinks[p] as u32, cost, work, count);
     trees::mark_path(work, count, in_tree);
-    let logged = tariff::turn_logged(tariff, 6 + count);
-    TurnMade::Logged(tariff::turn_counted(logged, expanded))
+    TurnMade::Logged(tariff::turn_logged(tariff, 6 + count, expanded))
 }
 
 // The next turn of a net, whose sinks stand in table 7 from one place to below another: for all of them, in a timed job for the one whose

@@ -5,8 +5,8 @@ use mathlib.Core.Logic.{_⊎_, ⊎-elim, inl, inr}
 use mathlib.Core.Path.{_≡_, refl, sym}
 use Prim.Native.Nat.{ℕ, _-_, _≤_, _<_}
 use native.Mathlib.Omega.{arith}
-use lib.Dec.{leb}
-use borrow.Author.Tests.{leb-true, leb-false}
+use lib.Dec.{leb, eqb}
+use borrow.Author.Tests.{leb-true, leb-false, eqb-true, eqb-false}
 use Rattle.price.specs.Test.{choose, both, either}
 
 -- a test is one or the other
@@ -62,3 +62,7 @@ one-most false = omega arith
 -- of two numbers one is at most the other, or above it
 pub le-or-lt : (m n : ℕ) → (m ≤ n) ⊎ (n < m)
 le-or-lt m n = ⊎-elim (λ t. inl (leb-true m n t)) (λ t. inr (leb-false m n t)) (either-way (leb m n))
+
+-- of two numbers, whether they are the same
+pub same-or-not : (a c : ℕ) → (a ≡ c) ⊎ (a ≡ c → ⊥)
+same-or-not a c = ⊎-elim (λ (t : eqb a c ≡ true). inl (eqb-true a c t)) (λ (t : eqb a c ≡ false). inr (eqb-false a c t)) (either-way (eqb a c))

@@ -12,13 +12,14 @@ use native.Mathlib.Nat.{le-refl}
 use native.Mathlib.Omega.{arith}
 use lib.ListN.{length, getD, set, length-set}
 use borrow.Author.Count.{below-more}
+use Rattle.price.proofs.TestLaws.{same-or-not}
 use Rattle.search.specs.Block.{Block, nodes, rowStart, hasEdge}
 use Rattle.search.specs.Distance.{far}
 use Rattle.search.specs.Layout.{distAt, predAt, Heap, Shortened}
 use Rattle.search.specs.Estimates.{guessAt}
 use Rattle.search.specs.Aiming.{wayOver, AimedOver, over-blind, over-shorter, over-lower, over-kept, AimedAt, at-kept, at-shorter, at-lower, AimedSome, EdgePassed, AimedRow, AimRowReady, BestAim}
 use Rattle.search.proofs.StoreLaws.{store-here, store-other}
-use Rattle.search.proofs.QueueLaws.{same-or-not, heap-aside}
+use Rattle.search.proofs.QueueLaws.{heap-aside}
 use Rattle.search.proofs.BlockLaws.{target-node, edge-at, edge-place}
 
 -- nothing has been looked at yet

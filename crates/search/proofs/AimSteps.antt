@@ -18,7 +18,7 @@ use borrow.Author.Tests.{eq-eqb, lt-ltb, eqb-true, ltb-true}
 use Rattle.price.specs.Test.{both}
 use Rattle.price.specs.Bounds.{pathMost}
 use Rattle.price.specs.Lists.{has, countBelow}
-use Rattle.price.proofs.TestLaws.{test-same, both-true, both-left, both-right, le-or-lt, never-true}
+use Rattle.price.proofs.TestLaws.{test-same, both-true, both-left, both-right, le-or-lt, never-true, same-or-not}
 use Rattle.price.proofs.ListLaws.{has-at}
 use Rattle.price.proofs.EntryLaws.{least-top}
 use Rattle.price.proofs.BelowLaws.{count-one}
@@ -35,7 +35,7 @@ use Rattle.search.proofs.DistanceLaws.{distance-step, distance-most}
 use Rattle.search.proofs.NearestLaws.{nearest}
 use Rattle.search.proofs.PriceSameLaws.{beyond}
 use Rattle.search.proofs.AimedExact.{Forward, aim-within, aim-settles}
-use Rattle.search.proofs.QueueLaws.{same-or-not, heap-least}
+use Rattle.search.proofs.QueueLaws.{heap-least}
 use Rattle.search.proofs.BestLaws.{best-kept}
 
 -- ---- an expanded node, and estimates that stay

@@ -15,7 +15,7 @@ use Rattle.search.specs.Tables.{Sound}
 use Rattle.search.specs.Turn.{Congestion, congestedAt, priceAt, pathTo, openDistances, nearestDistance, Turn, turn}
 use Rattle.search.specs.Aimed.{weightAt, alone, estimate, expands, expanded}
 use Rattle.search.specs.Layout.{priceIn, Priced}
-use Rattle.search.specs.Ready.{PricesReady}
+use Rattle.search.specs.Priceable.{PricesReady}
 use Rattle.search.specs.Replies.{cleared, sinkListSound, PathReply, turnPath, readOff, turnReply, pathDue, pathRefusal, pathNumbers, pathReplyOf, JoinsCheapest}
 use Rattle.search.specs.TurnWork.{pathIn}
 use Rattle.search.specs.AimedTurn.{TurnPriced, SinksAimed, Readable, AimedRead, none, reads}
@@ -25,8 +25,8 @@ use Rattle.search.specs.declared.PathAnswer.{PathAnswer}
 use Rattle.search.specs.declared.PathAnswer.the-variants.{Joins, Stuck, BadTable, ShortWork, BadNumber, TooLarge}
 use Rattle.search.proofs.BlockLaws.{kind-most}
 use Rattle.search.proofs.GraphLaws.{distances-same, turn-same}
-use Rattle.search.proofs.ReadyLaws.{sound-graph, ready-price, ready-fair, ready-marks}
-use Rattle.search.proofs.PathTestLaws.{sinks-few, sinks-nodes, path-ready}
+use Rattle.search.proofs.PriceableLaws.{sound-graph, ready-price, ready-fair, ready-marks, sinks-few, sinks-nodes}
+use Rattle.search.proofs.PathTestLaws.{path-ready}
 use Rattle.search.proofs.PathReplyLaws.{path-turn, joined-turn, read-front}
 use Rattle.search.proofs.AnswersHold.{path-cheapest}
 use Rattle.search.proofs.AimedLaws.{weight-least}

@@ -36,7 +36,8 @@ use Rattle.search.proofs.EdgeLaws.{Shaped, shape-of}
 use Rattle.search.proofs.StoreLaws.{store-here, store-other, same-none, same-store}
 use Rattle.search.proofs.LinkLaws.{edges-most}
 use Rattle.search.proofs.BeforeLaws.{before-node, before-near}
-use Rattle.search.proofs.PathToLaws.{path-short, trail-is}
+use Rattle.search.proofs.PathToLaws.{path-short}
+use Rattle.search.proofs.TrailLaws.{trail-is}
 use Rattle.search.proofs.NearestLaws.{Nearest, open-least, turn-far, nearest}
 use Rattle.search.proofs.TurnLaws.{turn-is}
 use Rattle.search.proofs.AimedLaws.{weight-fair, expands-near, before-expands, sink-expands}

@@ -23,11 +23,11 @@ use Rattle.search.specs.declared.PathAnswer.the-variants as p
 use Rattle.price.proofs.TestLaws.{true≢false}
 use Rattle.search.proofs.BlockLaws.{graph-of}
 use Rattle.search.proofs.EdgeLaws.{Shaped, shape-of}
-use Rattle.search.proofs.ReadyLaws.{ready-block-fair}
+use Rattle.search.proofs.PriceableLaws.{ready-block-fair, sinks-nodes}
 use Rattle.search.proofs.SearchTestLaws.{passed-search}
 use Rattle.search.proofs.DistanceLaws.{length-distances, distance-least}
 use Rattle.search.proofs.TurnLaws.{joins-cheapest, stuck-no-path}
-use Rattle.search.proofs.PathTestLaws.{sinks-nodes, path-ready}
+use Rattle.search.proofs.PathTestLaws.{path-ready}
 use Rattle.search.proofs.PathReplyLaws.{joined-turn, stuck-turn, read-front, fitting-sound, path-turn}
 
 -- a reply without a refusal is what is done where nothing is refused

@@ -6,11 +6,11 @@ use mathlib.Core.Path.{_≡_, sym, _∙_, subst}
 use Prim.Native.Nat.{ℕ, _+_, _*_, _≤_, _<_}
 use native.Mathlib.Omega.{arith}
 use lib.ListN.{getD, set}
+use Rattle.price.proofs.TestLaws.{same-or-not}
 use Rattle.search.specs.Layout.{distAt, Shortened}
 use Rattle.search.specs.Estimates.{guessAt}
 use Rattle.search.specs.Aiming.{BestAim}
 use Rattle.search.proofs.StoreLaws.{stored-other}
-use Rattle.search.proofs.QueueLaws.{same-or-not}
 
 -- distances and estimates are as they were
 pub best-kept :

@@ -19,7 +19,7 @@ use Rattle.price.specs.Bounds.{nodesMost}
 use Rattle.price.specs.Test.{both}
 use Rattle.price.specs.Lists.{has, countBelow}
 use Rattle.price.specs.declared.Weighting.{Weighting}
-use Rattle.price.proofs.TestLaws.{both-left, both-right, either-way, true≢false}
+use Rattle.price.proofs.TestLaws.{both-left, both-right, either-way, true≢false, same-or-not}
 use Rattle.price.proofs.ListLaws.{has-place}
 use Rattle.price.proofs.EntryLaws.{least-top}
 use Rattle.price.proofs.BelowLaws.{count-less}
@@ -32,7 +32,7 @@ use Rattle.search.specs.Aimed.{estimate, weightAt}
 use Rattle.search.specs.Estimates.{guessAt, walkAt, weightMost, keyMost, Beside, NodeGuessed, guess-stays, guess-new, TreeGuessed, GuessedBefore, SinkWaits, SinksWait, SpreadReady, EstimatesMade}
 use Rattle.search.proofs.EdgeLaws.{Shaped, shape-of, edge-node}
 use Rattle.search.proofs.WalkLaws.{stay-cost, step-cost}
-use Rattle.search.proofs.QueueLaws.{same-or-not, heap-least}
+use Rattle.search.proofs.QueueLaws.{heap-least}
 use Rattle.search.proofs.LevelLaws.{least-entry}
 use Rattle.search.proofs.AimedLaws.{est-most, walk-none}
 use Rattle.search.proofs.AimedExact.{LabelWalk, Backward, back-exact, back-above, back-bound}

@@ -13,7 +13,7 @@ use native.Mathlib.Nat.{min-eq-left, le-refl}
 use native.Mathlib.Omega.{arith}
 use lib.ListN.{length, getD, set, length-set}
 use Rattle.price.specs.declared.Weighting.{Weighting}
-use Rattle.price.proofs.TestLaws.{le-or-lt, true≢false}
+use Rattle.price.proofs.TestLaws.{le-or-lt, true≢false, same-or-not}
 use Rattle.price.proofs.ListLaws.{has-at}
 use Rattle.search.specs.Block.{graphOf}
 use Rattle.search.specs.Distance.{far, inTree}
@@ -22,7 +22,6 @@ use Rattle.search.specs.Aimed.{weightAt}
 use Rattle.search.specs.Estimates.{guessAt, Beside, Guessed, Unguessed, SinkWaits, SinksWait, EstimateReady, SpreadReady, EstimatesMade}
 use Rattle.search.proofs.DistanceLaws.{out-of-tree, in-the-tree}
 use Rattle.search.proofs.StoreLaws.{store-here, store-other}
-use Rattle.search.proofs.QueueLaws.{same-or-not}
 use Rattle.search.proofs.EstimateLaws.{beside-none, beside-more}
 
 -- ---- no estimates

@@ -9,7 +9,7 @@ use mathlib.Core.Path.{_≡_, refl, sym, _∙_, ap, subst}
 use Prim.Native.Nat.{ℕ, _-_, _≤_, _<_}
 use native.Mathlib.Omega.{arith}
 use lib.ListN.{length, getD}
-use Rattle.price.proofs.TestLaws.{le-or-lt}
+use Rattle.price.proofs.TestLaws.{le-or-lt, same-or-not}
 use Rattle.search.specs.Block.{Block, nodes, hasEdge}
 use Rattle.search.specs.Tables.{Graph}
 use Rattle.search.specs.Distance.{far, inTree}
@@ -17,7 +17,6 @@ use Rattle.search.specs.Layout.{Heap}
 use Rattle.search.specs.Links.{InRow, Linked}
 use Rattle.search.specs.Estimates.{keyMost, guessAt, Guessed, Tried, has-one, gets-one, NodeGuessed, guess-stays, guess-new, TreeGuessed, SomeGuessed, GuessedBefore}
 use Rattle.search.proofs.BlockLaws.{edge-from, edge-place}
-use Rattle.search.proofs.QueueLaws.{same-or-not}
 use Rattle.search.proofs.EstimateLaws.{beside-none, beside-more}
 use Rattle.search.proofs.LinkLaws.{row-place, row-unique, last-next, earlier-next, from-linked}
 

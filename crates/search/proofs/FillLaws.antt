@@ -1,11 +1,9 @@
 -- What the loops that clear a part of the work slice, or fill one, keep from turn to turn.
---     clear-none, clear-more            a part that is being cleared
---     answered-price, answered-refused  what the price's answer says
---     first-tree, first-other           the first label of a node
---     Pricing                           the loop that prices every node
+--     clear-none, clear-more   a part that is being cleared
+--     first-tree, first-other  the first label of a node
+--     Pricing                  the loop that prices every node
 -- Assumes nothing.
-use mathlib.Core.Bool.{true}
-use mathlib.Core.List.{List, [], _∷_, _++_, append-assoc}
+use mathlib.Core.List.{List, _∷_, _++_, append-assoc}
 use mathlib.Core.Path.{_≡_, sym, _∙_}
 use Prim.Native.Nat.{ℕ, suc, _+_, _-_, _*_, _≤_, _<_}
 use native.Mathlib.Nat.{not-suc-le-zero}
@@ -15,15 +13,6 @@ use lib.ListN.{length, getD, set, take, drop, replicate, length-append, length-t
 use lib.Seq.{drop-cons, getD-set-same, getD-set-other, set-at}
 use borrow.Author.Count.{below-more}
 use Rattle.price.specs.Test.{choose}
-use Rattle.price.specs.Replies.{priced, priceReplyOf}
-use Rattle.price.specs.Timed.{weighedReply}
-use Rattle.price.specs.declared.PriceAnswer.{PriceAnswer}
-use Rattle.price.specs.declared.PriceAnswer.the-variants.{Price, Refused}
-use Rattle.price.proofs.ReplyLaws.{answer-priced, answer-not-refused}
-use Rattle.price.proofs.TimedLaws.{reply-delay, weighed-priced}
-use Rattle.search.specs.Block.{blockOf}
-use Rattle.search.specs.Turn.{Congestion, congestedAt, priceAt}
-use Rattle.search.specs.Frontier.{PriceReady}
 use Rattle.search.specs.Distance.{far, inTree}
 use Rattle.search.specs.Layout.{priceIn, SameBut, Priced}
 use Rattle.search.proofs.DistanceLaws.{out-of-tree, in-the-tree}
@@ -50,27 +39,6 @@ clear-more w from k l h =
     let long : length (take from w ++ replicate (k - from) 0) ≡ k = simp (length-append, length-take, length-replicate) (omega arith) in
     rw (drop-cons w k 0 h, ← append-assoc (take from w) (replicate (k - from) 0) (getD w k 0 ∷ drop (suc k) w))
     (set-at (take from w ++ replicate (k - from) 0) (getD w k 0) (drop (suc k) w) 0 k long ∙ zeros-more w from k l)
-
--- ---- what the price's answer says of a node that is ready to be priced
-
--- the delay is read only where it is weighed
-module _ {kinds capacities : List ℕ} {c : Congestion} {v : ℕ} (ready : PriceReady kinds capacities c v) {d : ℕ} (read : c .weighting .timed ≡ true → d ≡ getD (c .delays) v 0) where
-  reply :
-      weighedReply (c .weighting) (getD kinds v 0) (c .factor) (getD (c .others) v 0) (getD capacities v 0) (getD (c .histories) v 0) d
-      ≡ priced (priceAt (blockOf kinds capacities [] []) c v)
-  unfolding priceAt congestedAt
-  reply = reply-delay (c .weighting) _ _ _ _ _ d read ∙ weighed-priced (c .weighting) _ _ _ _ _ _ (ready .bounds)
-
-  pub answered-price :
-      {r : PriceAnswer} {p : ℕ} → r ≡ Price p
-      → priceReplyOf r ≡ weighedReply (c .weighting) (getD kinds v 0) (c .factor) (getD (c .others) v 0) (getD capacities v 0) (getD (c .histories) v 0) d
-      → p ≡ priceAt (blockOf kinds capacities [] []) c v
-  answered-price q e = answer-priced (e ∙ reply) q
-
-  pub answered-refused :
-      {r : PriceAnswer} {place : ℕ} → r ≡ Refused place
-      → priceReplyOf r ≡ weighedReply (c .weighting) (getD kinds v 0) (c .factor) (getD (c .others) v 0) (getD capacities v 0) (getD (c .histories) v 0) d → ⊥
-  answered-refused q e = answer-not-refused (e ∙ reply) q
 
 -- ---- the first label of a node
 

@@ -21,7 +21,8 @@ use Rattle.search.specs.declared.PathAnswer.{PathAnswer}
 use Rattle.search.specs.declared.PathAnswer.the-variants.{Stuck}
 use Rattle.search.proofs.EdgeLaws.{Shaped}
 use Rattle.search.proofs.DistanceLaws.{length-distances, distance-top}
-use Rattle.search.proofs.PathToLaws.{path-short, trail-is}
+use Rattle.search.proofs.PathToLaws.{path-short}
+use Rattle.search.proofs.TrailLaws.{trail-is}
 use Rattle.search.proofs.TurnLaws.{turn-is, stuck-is}
 use Rattle.search.proofs.SpreadExact.{exact, exact-label, pred-exact}
 

@@ -1,68 +1,32 @@
 -- A turn, step by step: the lists have their lengths, tree and goals are marked, the labels have spread and stopped; and what the turn answers then.
 -- Assumes nothing.
-use mathlib.Core.Bool.{Bool, true, false}
+use mathlib.Core.Bool.{true, false}
 use mathlib.Core.List.{List, _++_}
 use mathlib.Core.Logic.{_⊎_, ⊎-elim, inl, inr}
 use mathlib.Core.Path.{_≡_, sym, _∙_, ap}
 use Prim.Native.Nat.{ℕ, _+_, _-_, _*_, _/_, _≤_, _<_}
 use native.Mathlib.Nat.{mul-le-mul-right}
 use native.Mathlib.Omega.{arith}
-use lib.Dec.{leb, eqb}
 use lib.ListN.{length, getD, take, drop, replicate}
-use borrow.Author.Tests.{leb-true, eqb-true, le-leb}
-use Rattle.price.specs.Bounds.{nodesMost, timedNodesMost}
-use Rattle.price.proofs.TestLaws.{either-way, true≢false, both-left, both-right, never-true}
+use borrow.Author.Tests.{le-leb}
+use Rattle.price.proofs.TestLaws.{either-way, never-true}
 use Rattle.price.proofs.BelowLaws.{count-same}
 use Rattle.price.proofs.ListLaws.{drop-same}
 use Rattle.search.specs.Block.{Block, nodes, blockOf, graphOf}
-use Rattle.search.specs.Tables.{edgesMost}
 use Rattle.search.specs.Distance.{far, inTree}
 use Rattle.search.specs.Paths.{Fair}
 use Rattle.search.specs.Turn.{Congestion, turn}
 use Rattle.search.specs.Clamped.{clampedPrice, ListsLong}
-use Rattle.search.specs.Replies.{workNeeded, timedFitting, fittingLengths, lengthsFitting, fitting, turnReply, pathReplyOf}
+use Rattle.search.specs.Replies.{turnReply, pathReplyOf}
 use Rattle.search.specs.Labels.{goal, labelAt, waitAt, keyAt, besideAt}
 use Rattle.search.specs.Spread.{bare, bareCount, Spread, RunReady, SpreadStopped}
-use Rattle.search.specs.TurnWork.{Fitted, TreeMarked, GoalsMarked, LeastGoal, Read}
+use Rattle.search.specs.TurnWork.{TreeMarked, GoalsMarked, LeastGoal, Read}
+use Rattle.search.specs.Priceable.{Fitted}
 use Rattle.search.specs.declared.PathAnswer.{PathAnswer}
 use Rattle.search.specs.declared.PathAnswer.the-variants.{Stuck}
 use Rattle.search.proofs.GraphLaws.{turn-same}
 use Rattle.search.proofs.SpreadRun.{fair-clamped}
 use Rattle.search.proofs.HaltLaws.{OpenAt, Halted, halted-stuck, halted-joins}
-
--- the lengths of a timed turn
-timed-fitted : (timed : Bool) (n delays : ℕ) → timedFitting timed n delays ≡ true → timed ≡ true → (n ≤ timedNodesMost) × (n ≤ delays)
-timed-fitted false n delays t e = absurd (true≢false (sym e))
-timed-fitted true n delays t e = (leb-true n timedNodesMost (both-left _ _ t), leb-true n delays (both-right (leb n timedNodesMost) _ t))
-
--- a test of all lengths that holds says each
-pub fitted : (b : Block) (c : Congestion) (marks sinks work : List ℕ) → fitting b c marks sinks work ≡ true → Fitted b c marks sinks work
-unfolding fittingLengths
-fitted b c marks sinks work t =
-    let t₀ = both-left (lengthsFitting b c marks sinks work) _ t in
-    let timed = timed-fitted (c .weighting .timed) (nodes b) (length (c .delays)) (both-right (lengthsFitting b c marks sinks work) _ t) in
-    let t₁ = both-right (leb 1 (nodes b)) _ t₀ in
-    let t₂ = both-right (leb (nodes b) nodesMost) _ t₁ in
-    let t₃ = both-right (eqb (length (b .capacities)) (nodes b)) _ t₂ in
-    let t₄ = both-right (eqb (length (b .firstEdges)) (nodes b + 1)) _ t₃ in
-    let t₅ = both-right (leb (length (b .edgeTargets)) edgesMost) _ t₄ in
-    let t₆ = both-right (leb (workNeeded (nodes b)) (length work)) _ t₅ in
-    let t₇ = both-right (leb (nodes b) (length (c .histories))) _ t₆ in
-    let t₈ = both-right (leb (nodes b) (length (c .others))) _ t₇ in
-    record {
-      some = leb-true _ _ (both-left _ _ t₀);
-      few = leb-true _ _ (both-left _ _ t₁);
-      capacities-long = eqb-true _ _ (both-left _ _ t₂);
-      firsts-long = eqb-true _ _ (both-left _ _ t₃);
-      targets-few = leb-true _ _ (both-left _ _ t₄);
-      enough = leb-true _ _ (both-left _ _ t₅);
-      histories-long = leb-true _ _ (both-left _ _ t₆);
-      others-long = leb-true _ _ (both-left _ _ t₇);
-      marks-long = leb-true _ _ (both-left _ _ t₈);
-      sinks-few = leb-true _ _ (both-right (leb (nodes b) (length marks)) _ t₈);
-      timed-few = λ e. timed e .0;
-      delays-long = λ e. timed e .1;
-    }
 
 pub fitted-lent : (ks cs fs ts : List ℕ) {c : Congestion} {marks sinks work : List ℕ} → Fitted (blockOf ks cs fs ts) c marks sinks work → ListsLong ks cs c
 fitted-lent ks cs fs ts f = record {

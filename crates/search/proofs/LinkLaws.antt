@@ -13,13 +13,12 @@ use lib.ListN.{length, getD, set, length-set}
 use borrow.Author.Tests.{eq-eqb, ne-eqb, eqb-true, leb-true}
 use Rattle.price.specs.Test.{both}
 use Rattle.price.specs.Lists.{neighbours}
-use Rattle.price.proofs.TestLaws.{both-left, both-right, le-or-lt}
+use Rattle.price.proofs.TestLaws.{both-left, both-right, le-or-lt, same-or-not}
 use Rattle.search.specs.Block.{Block, nodes, rowStart, hasEdge}
 use Rattle.search.specs.Tables.{Graph, edgesMost, firstEdgesSound, edgeTargetsSound}
 use Rattle.search.specs.Links.{lastPlace, InRow, LinkRoom, Linked}
 use Rattle.search.proofs.BlockLaws.{firsts-end, row-order, row-end, target-node, edge-at}
 use Rattle.search.proofs.StoreLaws.{store-here, store-other}
-use Rattle.search.proofs.QueueLaws.{same-or-not}
 
 -- ---- the last place of a target
 

@@ -1,13 +1,11 @@
 -- How the tests of the numbers that price a turn decide row 13, and which refusal is due first.
 --     history-, others-, mark-          a node's numbers
---     bad-                              the lowest node whose numbers are bad
 --     refusal-                          the first refusal
 -- Assumes nothing.
-use mathlib.Core.Bool.{true, false, not}
+use mathlib.Core.Bool.{true, false}
 use mathlib.Core.List.{List, [], _∷_}
-use mathlib.Core.Path.{_≡_, sym, _∙_}
+use mathlib.Core.Path.{_≡_, sym}
 use Prim.Native.Nat.{ℕ, _+_, _*_, _≤_, _<_}
-use native.Mathlib.Omega.{arith}
 use lib.Dec.{leb, ltb}
 use lib.ListN.{length, getD}
 use borrow.Author.Tests.{le-leb, lt-leb, lt-ltb, le-ltb}
@@ -15,7 +13,6 @@ use Rattle.price.specs.Test.{both}
 use Rattle.price.specs.Bounds.{othersMost, factorMost}
 use Rattle.price.specs.Timed.{historyBound}
 use Rattle.price.proofs.TestLaws.{both-false-left, both-false-right}
-use Rattle.price.proofs.BelowLaws.{firstBelow-is, firstBelow-all}
 use Rattle.search.specs.Replies.{bounded, historyBounded, nodeSound, badNode, tooMany, badCriticality, refusalOf}
 use Rattle.search.specs.Turn.{Congestion, weighedCongestion}
 
@@ -69,17 +66,6 @@ module _ (c : Congestion) (marks : List ℕ) (v : ℕ) where
   unfolding nodeSound
   mark-last h₁ h₂ h₃ h₄ h₅ h₆ =
       rw (lt-ltb v (length (c .histories)) h₁, le-leb 1 (getD (c .histories) v 0) h₂, le-leb (getD (c .histories) v 0) (historyBound (c .weighting)) h₃, lt-ltb v (length (c .others)) h₄, le-leb (getD (c .others) v 0) othersMost h₅, lt-ltb v (length marks) h₆)
-
--- ---- the lowest node that is not sound
-
-module _ (n : ℕ) (c : Congestion) (marks : List ℕ) (v : ℕ) (all : (k : ℕ) → k < v → nodeSound c marks k ≡ true) where
-  pub bad-here : v < n → nodeSound c marks v ≡ false → badNode n c marks ≡ v
-  unfolding badNode
-  bad-here h bad = firstBelow-is (λ v. not (nodeSound c marks v)) n v h (rw bad) (λ j l. rw (all j l))
-
-  pub bad-nowhere : v ≡ n → badNode n c marks ≡ v
-  unfolding badNode
-  bad-nowhere h = firstBelow-all (λ v. not (nodeSound c marks v)) n (λ j l. rw (all j (omega arith))) ∙ sym h
 
 -- ---- the first refusal
 

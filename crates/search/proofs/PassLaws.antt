@@ -19,7 +19,7 @@ use Rattle.price.proofs.TestLaws.{true≢false, both-true, both-false-left, bot
 use Rattle.price.proofs.BelowLaws.{firstBelow-below, firstBelow-all}
 use Rattle.search.specs.Turn.{Congestion, weighedCongestion}
 use Rattle.search.specs.Replies.{bounded, historyBounded, nodeSound, badNode}
-use Rattle.search.specs.Ready.{allBelow}
+use Rattle.search.specs.AllBelow.{allBelow}
 
 -- ---- a test of every number below n
 

@@ -1,4 +1,4 @@
--- What the cheapest path answers where nothing is due: the turn, by its cases. For the crate above.
+-- What the cheapest path answers where nothing is due: the turn, by its cases. The crates above cite this file.
 -- Assumes nothing.
 use mathlib.Core.Bool.{Bool, true, false}
 use mathlib.Core.List.{List, [], _∷_, _++_}
@@ -16,12 +16,11 @@ use Rattle.search.specs.Tables.{edgesMost, edgeTargetsSound, Sound}
 use Rattle.search.specs.Turn.{Congestion, priceAt, Turn, joins, stuck, turn}
 use Rattle.search.specs.Clamped.{clampedPrice}
 use Rattle.search.specs.Replies.{nodeSound, sinkListSound, PathReply, readOff, timedFitting, fittingLengths, lengthsFitting, fitting, turnReply, pathReply, pathReplyOf}
-use Rattle.search.specs.Ready.{Weighable, PricesReady}
+use Rattle.search.specs.Priceable.{Weighable, PricesReady}
 use Rattle.search.specs.declared.PathAnswer.the-variants.{Joins, Stuck}
 use Rattle.search.proofs.BlockLaws.{graph-of, capacities-long, firstEdges-long}
 use Rattle.search.proofs.EdgeLaws.{shape-of}
-use Rattle.search.proofs.ReadyLaws.{ready-price, ready-long, ready-delays}
-use Rattle.search.proofs.PathTestLaws.{sinks-few}
+use Rattle.search.proofs.PriceableLaws.{ready-price, ready-long, ready-delays, sinks-few}
 use Rattle.search.proofs.ClampedLaws.{clamped-is}
 use Rattle.search.proofs.PriceSameLaws.{turn-price}
 use Rattle.search.proofs.SpreadRun.{fair-clamped}

@@ -4,34 +4,20 @@ use mathlib.Core.Bool.{true, false}
 use mathlib.Core.List.{List, []}
 use mathlib.Core.Logic.{⊎-elim}
 use mathlib.Core.Path.{_≡_, sym, _∙_, ap}
-use Prim.Native.Nat.{ℕ, _*_, _≤_, _<_}
+use Prim.Native.Nat.{ℕ, _*_, _≤_}
 use native.Mathlib.Omega.{arith}
-use lib.Dec.{leb, ltb}
-use lib.ListN.{length, getD}
-use borrow.Author.Tests.{leb-true, ltb-true}
+use lib.ListN.{length}
 use Rattle.price.specs.Test.{choose}
 use Rattle.price.specs.Bounds.{nodesMost}
-use Rattle.price.proofs.TestLaws.{either-way, both-left, both-right}
-use Rattle.price.proofs.ListLaws.{every-at}
+use Rattle.price.proofs.TestLaws.{either-way}
 use Rattle.search.specs.Block.{Block, blockOf, nodes}
 use Rattle.search.specs.Tables.{faultyTable, delaysSound, Sound}
 use Rattle.search.specs.Turn.{Congestion}
-use Rattle.search.specs.Replies.{refusalOf, searchRefusal, sinksMost, sinkListSound, faultyWithDelays, faultyWithSinks}
-use Rattle.search.specs.Ready.{PricesReady}
+use Rattle.search.specs.Replies.{refusalOf, searchRefusal, sinkListSound, faultyWithDelays, faultyWithSinks}
+use Rattle.search.specs.Priceable.{PricesReady}
 use Rattle.search.specs.declared.SearchAnswer.{SearchAnswer}
 use Rattle.search.proofs.BlockLaws.{sound-of, kinds-few}
 use Rattle.search.proofs.ReadyLaws.{refusal-none, fault-none, delays-kept, passed-ready}
-
--- ---- a list of sinks that keeps its rule
-
-module _ (n : ℕ) (sinks : List ℕ) (s : sinkListSound n sinks ≡ true) where
-  pub sinks-few : length sinks ≤ sinksMost
-  unfolding sinkListSound
-  sinks-few = leb-true _ _ (both-left (leb (length sinks) sinksMost) _ s)
-
-  pub sinks-nodes : (i : ℕ) → i < length sinks → getD sinks i 0 < n
-  unfolding sinkListSound
-  sinks-nodes i l = ltb-true _ _ (every-at (λ s. ltb s n) sinks (both-right (leb (length sinks) sinksMost) _ s) i l)
 
 -- ---- the tests before a turn
 

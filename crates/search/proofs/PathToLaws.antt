@@ -1,5 +1,4 @@
--- Laws of the path to a node that has a distance: it follows edges from the tree, has no node twice and no other tree node, costs the distance,
--- and a trail along the nodes before is that path.
+-- Laws of the path to a node that has a distance: it follows edges from the tree, has no node twice and no other tree node, and costs the distance.
 -- Assumes nothing.
 use mathlib.Core.Bool.{true, false, not}
 use mathlib.Core.List.{List, [], _∷_}
@@ -15,8 +14,6 @@ use Rattle.search.specs.Block.{Block, nodes}
 use Rattle.search.specs.Paths.{Walk, pathCost, Fair}
 use Rattle.search.specs.Distance.{far, inTree, distances, distance}
 use Rattle.search.specs.Turn.{before, back, pathTo}
-use Rattle.search.specs.Labels.{fromAt}
-use Rattle.search.specs.TurnWork.{trail}
 use Rattle.search.proofs.EdgeLaws.{Shaped}
 use Rattle.search.proofs.DistanceLaws.{distance-tree}
 use Rattle.search.proofs.PathLaws.{Onward, done, on, onward-walk, onward-cost, onward-out, onward-all, onward-distinct, onward-short}
@@ -45,33 +42,6 @@ module _ (b : Block) (price : ℕ → ℕ) (marks : List ℕ) (g : Shaped b) (fa
         rw q
         (back-ends k (before b price (distances b price marks) v) (v ∷ path) (before-node b price marks g fair v node q near)
         (le-trans (before-near b price marks g fair v node q near) (omega arith))
-        (on node q (before-edge b price marks g fair v node q near) (before-sum b price marks g fair v node q near) r)
-        (omega arith)))
-        (either-way (inTree marks v))
-
-    -- a trail along the nodes before builds the same: each step leads nearer, so that as many steps as the distance suffice.
-    -- The node before one that is had over a node nearer than `level` is nearer than `level`.
-    trail-back :
-        (w : List ℕ) (level : ℕ)
-        → ((x : ℕ) → x < nodes b → inTree marks x ≡ false → distance b price marks x < far → distance b price marks x < level + price x → fromAt (nodes b) w x ≡ before b price (distances b price marks) x)
-        → (k fuel v : ℕ) (path : List ℕ) → v < nodes b → distance b price marks v < far → distance b price marks v < level + price v → distance b price marks v ≤ fuel → Onward b price marks v path s → length path + k ≡ nodes b
-        → trail (nodes b) marks w fuel v path ≡ back b price marks (distances b price marks) k v path
-    unfolding trail back
-    trail-back w level same zero fuel v path node near close enough r e = absurd (omega (arith, onward-short b price marks fair node r))
-    trail-back w level same (suc k) zero v path node near close enough r e =
-        ⊎-elim
-        (λ (q : inTree marks v ≡ true). rw q)
-        (λ (q : inTree marks v ≡ false). absurd (omega (arith, before-near b price marks g fair v node q near)))
-        (either-way (inTree marks v))
-    trail-back w level same (suc k) (suc fuel) v path node near close enough r e =
-        ⊎-elim
-        (λ (q : inTree marks v ≡ true). rw q)
-        (λ (q : inTree marks v ≡ false).
-        rw (q, same v node q near close)
-        (trail-back w level same k fuel (before b price (distances b price marks) v) (v ∷ path) (before-node b price marks g fair v node q near)
-        (le-trans (before-near b price marks g fair v node q near) (omega arith))
-        (omega (arith, before-sum b price marks g fair v node q near))
-        (omega (arith, before-near b price marks g fair v node q near))
         (on node q (before-edge b price marks g fair v node q near) (before-sum b price marks g fair v node q near) r)
         (omega arith)))
         (either-way (inTree marks v))
@@ -105,12 +75,3 @@ module _ (b : Block) (price : ℕ → ℕ) (marks : List ℕ) (g : Shaped b) (fa
     pub path-nodes : (i : ℕ) → i < length (pathTo b price marks v) → getD (pathTo b price marks v) i 0 < nodes b
     path-nodes i h =
         let p = path-ends in rw (p .is) (onward-all b price marks (p .node) (p .onward) i (rw (p .is) at h))
-
-    -- a trail along the nodes before is that path
-    pub trail-is :
-        (w : List ℕ) (fuel level : ℕ) → distance b price marks v ≤ fuel → distance b price marks v < level + price v
-        → ((x : ℕ) → x < nodes b → inTree marks x ≡ false → distance b price marks x < far → distance b price marks x < level + price x → fromAt (nodes b) w x ≡ before b price (distances b price marks) x)
-        → trail (nodes b) marks w fuel v [] ≡ pathTo b price marks v
-    unfolding pathTo
-    trail-is w fuel level enough close same =
-        trail-back v w level same (nodes b) fuel v [] node near close enough (done v) (omega arith)

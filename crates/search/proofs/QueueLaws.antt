@@ -7,23 +7,16 @@
 --     Carrying, Lowering                  the invariants of `carry_up` and `lower_above`, with their steps and ends
 --     Building, Descending                those of `build` and `nearest`
 -- Assumes nothing.
-use mathlib.Core.Bool.{true, false}
 use mathlib.Core.List.{List}
 use mathlib.Core.Logic.{_⊎_, ⊎-elim, inl, inr}
 use mathlib.Core.Path.{_≡_, refl, sym, _∙_, subst}
 use Prim.Native.Nat.{ℕ, zero, suc, _+_, _-_, _*_, _/_, _≤_, _<_, min, suc-le-suc}
 use native.Mathlib.Nat.{not-suc-le-zero, lt-irrefl, le-refl, le-trans, min-le-left, min-le-right, min-eq-left, min-eq-right, min-comm, le-min, eq-or-lt-of-le}
 use native.Mathlib.Omega.{arith}
-use lib.Dec.{eqb}
 use lib.ListN.{length, getD, set, length-set}
-use borrow.Author.Tests.{eqb-true, eqb-false}
-use Rattle.price.proofs.TestLaws.{either-way, le-or-lt}
+use Rattle.price.proofs.TestLaws.{le-or-lt, same-or-not}
 use Rattle.search.specs.Layout.{entryAt, leafAt, HeapAt, HeapBut, LoweredBelow, Heap, SameBut}
 use Rattle.search.proofs.StoreLaws.{store-here, store-other, same-none, same-store}
-
--- of two numbers, whether they are the same
-pub same-or-not : (a c : ℕ) → (a ≡ c) ⊎ (a ≡ c → ⊥)
-same-or-not a c = ⊎-elim (λ (t : eqb a c ≡ true). inl (eqb-true a c t)) (λ (t : eqb a c ≡ false). inr (eqb-false a c t)) (either-way (eqb a c))
 
 -- ---- inner entries that are the least of their children
 

@@ -20,15 +20,16 @@ use Rattle.search.specs.Clamped.{clampedPrice, ListsLong}
 use Rattle.search.specs.Replies.{cleared, sinkListSound}
 use Rattle.search.specs.Labels.{goal, labelAt}
 use Rattle.search.specs.Spread.{RunReady, SpreadStopped}
-use Rattle.search.specs.TurnWork.{Fitted, TreeMarked, GoalsMarked, LeastGoal}
-use Rattle.search.specs.Ready.{PricesReady}
+use Rattle.search.specs.TurnWork.{TreeMarked, GoalsMarked, LeastGoal}
+use Rattle.search.specs.Priceable.{Fitted, PricesReady}
 use Rattle.search.proofs.DistanceLaws.{length-distances, distance-top}
 use Rattle.search.proofs.GraphLaws.{distances-same}
 use Rattle.search.proofs.PriceSameLaws.{distances-same as distances-price}
 use Rattle.search.proofs.StoreLaws.{same-none}
 use Rattle.search.proofs.SpreadExact.{exact, exact-label}
 use Rattle.search.proofs.HaltLaws.{Halted, OpenAt}
-use Rattle.search.proofs.JoinLaws.{fitted, fitted-lent, join-ready, join-halts}
+use Rattle.search.proofs.PriceableLaws.{fitted}
+use Rattle.search.proofs.JoinLaws.{fitted-lent, join-ready, join-halts}
 use Rattle.search.proofs.PathReplyLaws.{fitting-sound, price-clamped}
 
 -- within a list it does not matter what is read past its end

@@ -18,7 +18,7 @@ use Rattle.search.specs.Turn.{Congestion, congestionOf, priceAt}
 use Rattle.search.specs.Replies.{cleared, refusalOf, searchRefusal, SearchReply, searchReply, timedSearchReply, faultyWithDelays, searchReplyOf}
 use Rattle.search.specs.declared.SearchAnswer.{SearchAnswer}
 use Rattle.search.specs.declared.SearchAnswer.the-variants as answer
-use Rattle.search.specs.Ready.{PricesReady}
+use Rattle.search.specs.Priceable.{PricesReady}
 use Rattle.search.proofs.BlockLaws.{sound-of, kinds-few}
 use Rattle.search.proofs.ReadyLaws.{refusal-none, delays-kept, passed-ready}
 

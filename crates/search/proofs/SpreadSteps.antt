@@ -15,13 +15,12 @@ use native.Mathlib.Omega.{arith}
 use lib.ListN.{length, getD, set, length-set}
 use borrow.Author.Tests.{le-leb, lt-leb, leb-true}
 use Rattle.price.specs.Bounds.{pathMost, nodesMost}
-use Rattle.price.proofs.TestLaws.{le-or-lt, true≢false}
+use Rattle.price.proofs.TestLaws.{le-or-lt, true≢false, same-or-not}
 use Rattle.price.proofs.BelowLaws.{count-less, count-same}
 use Rattle.search.specs.Block.{Block, nodes, rowStart, hasEdge}
 use Rattle.search.specs.Labels.{goal, labelAt, fromAt, withFrom, waitAt, keyAt, besideAt, Waits, Heaped}
 use Rattle.search.specs.Spread.{bare, bareCount, Came, PlacePassed, EdgeLooked, Spread, SpreadOnward, labelled, Labelled, ends, waits, GoalMet, lowered, stays, EdgeRelaxed, beyond, labels, lowers, tree, LabelReady}
 use Rattle.search.proofs.StoreLaws.{store-here, store-other}
-use Rattle.search.proofs.QueueLaws.{same-or-not}
 use Rattle.search.proofs.HeapLaws.{from-else, from-here, from-other, from-wait}
 
 -- ---- a label on a bare node

@@ -12,14 +12,13 @@ use borrow.Author.Tests.{le-leb, lt-leb}
 use Rattle.price.specs.Test.{choose}
 use Rattle.price.specs.Lists.{countBelow}
 use Rattle.price.proofs.BelowLaws.{count-same}
-use Rattle.price.proofs.TestLaws.{le-or-lt, true≢false}
+use Rattle.price.proofs.TestLaws.{le-or-lt, true≢false, same-or-not}
 use Rattle.search.specs.Distance.{far, inTree}
 use Rattle.search.specs.Paths.{anyPriceMost}
 use Rattle.search.specs.Labels.{goal, labelAt, waitAt, besideAt, put, Waits}
 use Rattle.search.specs.Spread.{bare, bareCount}
 use Rattle.search.specs.TurnWork.{Blank, Unmarked, PassedOver, TreeMarked, GoalsMarked, LeastGoal}
 use Rattle.search.proofs.StoreLaws.{store-here, store-other, same-none, same-store}
-use Rattle.search.proofs.QueueLaws.{same-or-not}
 use Rattle.search.proofs.FillLaws.{first-tree, first-other}
 use Rattle.search.proofs.HeapLaws.{put-long, put-else, put-here, put-beside}
 

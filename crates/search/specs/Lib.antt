@@ -6,9 +6,9 @@ pub mod Turn
 pub mod Clamped
 pub mod Aimed
 pub mod Replies
+pub mod Priceable
 pub mod Layout
-pub mod Frontier
-pub mod Ready
+pub mod AllBelow
 pub mod Labels
 pub mod Spread
 pub mod TurnWork

@@ -1,42 +1,24 @@
 -- A turn's work slice before its labels spread and once they have stopped: tree and goals are marked, and the path is read off along the
 -- predecessors. Only the contracts of private functions cite this file: no caller has to believe it.
 -- Assumes nothing.
-use mathlib.Core.Bool.{true, false}
+use mathlib.Core.Bool.{false}
 use mathlib.Core.List.{List, [], _∷_}
 use mathlib.Core.Logic.{_⊎_}
 use mathlib.Core.Path.{_≡_}
-use Prim.Native.Nat.{ℕ, zero, suc, _+_, _-_, _*_, _≤_, _<_}
+use Prim.Native.Nat.{ℕ, zero, suc, _+_, _*_, _≤_, _<_}
 use lib.ListN.{length, getD}
 use Rattle.price.specs.Test.{choose}
-use Rattle.price.specs.Bounds.{nodesMost, timedNodesMost}
-use Rattle.search.specs.Block.{Block, nodes}
-use Rattle.search.specs.Tables.{edgesMost}
+use Rattle.price.specs.Bounds.{nodesMost}
 use Rattle.search.specs.Distance.{far, inTree}
-use Rattle.search.specs.Turn.{Congestion}
 use Rattle.search.specs.Paths.{anyPriceMost}
 use Rattle.search.specs.Layout.{SameBut}
-use Rattle.search.specs.Replies.{workNeeded, sinksMost, readOff}
+use Rattle.search.specs.Replies.{sinksMost, readOff}
 use Rattle.search.specs.Labels.{goal, labelAt, fromAt, waitAt, besideAt, Waits}
 use Rattle.search.specs.Spread.{bareCount}
 use Rattle.search.specs.declared.PathAnswer.{PathAnswer}
 use Rattle.search.specs.declared.PathAnswer.the-variants.{Joins}
 
 -- ---- before the labels spread
-
--- every list has its length
-pub record Fitted (b : Block) (c : Congestion) (marks sinks work : List ℕ) : Type 0 where
-  pub some : 1 ≤ nodes b
-  pub few : nodes b ≤ nodesMost
-  pub capacities-long : length (b .capacities) ≡ nodes b
-  pub firsts-long : length (b .firstEdges) ≡ nodes b + 1
-  pub targets-few : length (b .edgeTargets) ≤ edgesMost
-  pub enough : workNeeded (nodes b) ≤ length work
-  pub histories-long : nodes b ≤ length (c .histories)
-  pub others-long : nodes b ≤ length (c .others)
-  pub marks-long : nodes b ≤ length marks
-  pub sinks-few : length sinks ≤ sinksMost
-  pub timed-few : c .weighting .timed ≡ true → nodes b ≤ timedNodesMost
-  pub delays-long : c .weighting .timed ≡ true → nodes b ≤ length (c .delays)
 
 -- none of the nodes below `upto` has a label
 pub record Blank (n : ℕ) (w w′ : List ℕ) (upto : ℕ) : Type 0 where

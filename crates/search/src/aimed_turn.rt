@@ -7,7 +7,7 @@ ghost use lib.ListN.{length};
 ghost use Rattle.search.specs.Block.{blockOf, graphOf};
 ghost use Rattle.search.specs.Tables.{Sound};
 ghost use Rattle.search.specs.Turn.{weighedCongestion};
-ghost use Rattle.search.specs.Ready.{PricesReady};
+ghost use Rattle.search.specs.Priceable.{PricesReady};
 ghost use Rattle.search.specs.Replies.{sinkListSound};
 ghost use Rattle.search.specs.Aimed.{weightAt};
 ghost use Rattle.search.specs.AimedTurn.{PredecessorsMoved, TurnPriced, SinksAimed, Readable, AimedRead};

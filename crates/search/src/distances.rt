@@ -7,7 +7,7 @@ ghost use Rattle.search.specs.Tables.{Sound};
 ghost use Rattle.search.specs.Distance.{distances as distancesOf};
 ghost use Rattle.search.specs.Turn.{weighedCongestion, priceAt};
 ghost use Rattle.search.specs.Replies.{cleared};
-ghost use Rattle.search.specs.Ready.{PricesReady};
+ghost use Rattle.search.specs.Priceable.{PricesReady};
 use crate::labels;
 use crate::turn;
 use crate::zeros;

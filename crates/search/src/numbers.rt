@@ -7,7 +7,7 @@ ghost use Rattle.price.specs.Bounds.{othersMost, nodesMost};
 ghost use Rattle.search.specs.Turn.{weighedCongestion};
 ghost use Rattle.search.specs.Replies.{bounded, historyBounded, nodeSound, badNode};
 ghost use Rattle.search.specs.Replies.{tooMany, badCriticality, refusalOf, searchRefusal};
-ghost use Rattle.search.specs.Ready.{allBelow};
+ghost use Rattle.search.specs.AllBelow.{allBelow};
 use crate::SearchAnswer;
 use crate::TIMED_NODES_MOST;
 use crate::weighing;

@@ -6,7 +6,7 @@ ghost use lib.ListN.{length};
 ghost use Rattle.search.specs.Block.{blockOf};
 ghost use Rattle.search.specs.Turn.{weighedCongestion, priceAt};
 ghost use Rattle.search.specs.Layout.{Priced};
-ghost use Rattle.search.specs.Frontier.{PriceReady};
+ghost use Rattle.search.specs.Priceable.{PriceReady};
 use crate::weighing;
 use price::PriceAnswer;
 use price::Weighting;

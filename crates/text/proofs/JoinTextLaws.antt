@@ -17,8 +17,7 @@ use lib.ListN.{length, getD, replicate, set, length-append, length-set, length-r
 use lib.Seq.{getD-set-same, getD-set-other}
 use borrow.Author.Tests.{lt-ltb, le-ltb, eq-eqb, ne-eqb}
 use Rattle.price.specs.Test.{choose, both}
-use Rattle.price.proofs.TestLaws.{le-or-lt}
-use Rattle.search.proofs.QueueLaws.{same-or-not}
+use Rattle.price.proofs.TestLaws.{le-or-lt, same-or-not}
 use Rattle.job.specs.Join.{firstOf, leads}
 use Rattle.job.specs.Tables.{netsMost}
 use Rattle.job.proofs.SinkMarkLaws.{unmarked-new}

@@ -17,9 +17,8 @@ use lib.Seq.{getD-take, getD-drop, getD-set-same, getD-set-other, drop-drop, ext
 use borrow.Author.Tests.{eq-eqb, ne-eqb, le-leb, eqb-true, eqb-false, not-true, not-false}
 use Rattle.price.specs.Test.{choose, both, either}
 use Rattle.price.specs.Bounds.{nodesMost}
-use Rattle.price.proofs.TestLaws.{either-way, true≢false, le-or-lt}
+use Rattle.price.proofs.TestLaws.{either-way, true≢false, le-or-lt, same-or-not}
 use Rattle.price.proofs.ListLaws.{part-slice}
-use Rattle.search.proofs.QueueLaws.{same-or-not}
 use Rattle.job.specs.Tables.{netsMost}
 use Rattle.negotiation.specs.Records.{Record, decode}
 use Rattle.negotiation.specs.Demand.{latest}

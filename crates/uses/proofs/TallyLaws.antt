@@ -14,9 +14,9 @@ use borrow.Author.Tests.{eq-eqb, ne-eqb}
 use Rattle.price.specs.Test.{choose}
 use Rattle.price.specs.Lists.{upTo}
 use Rattle.price.proofs.ListLaws.{getD-upTo, length-upTo}
+use Rattle.price.proofs.TestLaws.{same-or-not}
 use Rattle.search.specs.Tables.{kindsSound}
 use Rattle.search.proofs.BlockLaws.{kind-most, kinds-few}
-use Rattle.search.proofs.QueueLaws.{same-or-not}
 use Rattle.text.proofs.CopyLaws.{Copied}
 use Rattle.uses.specs.Uses.{kindCount, sumBelow, overKind}
 use Rattle.uses.specs.Steps.{tallied, countMost, AtMost}

@@ -6,7 +6,7 @@ use Rattle.search.specs.Block.{blockOf}
 use Rattle.search.specs.Turn.{weighedCongestion}
 use Rattle.search.specs.Replies.{fitting}
 use Rattle.search.proofs.FitLaws.{fitting-of}
-use Rattle.search.proofs.JoinLaws.{fitted}
+use Rattle.search.proofs.PriceableLaws.{fitted}
 use Rattle.search.proofs.AnswersHold.{path-turned, path-refused}
 use borrow.Author.Needs.{needs}
 use Rattle.search.proofs.cheapest_path.Statement.{statement}

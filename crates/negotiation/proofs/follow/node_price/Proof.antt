@@ -1,7 +1,7 @@
 -- `negotiation::follow::node_price` meets its contract: where every number keeps its bounds, the answer is the price.
 -- Assumes nothing.
 use borrow.Author.Needs.{needs}
-use Rattle.search.proofs.FillLaws.{answered-refused}
+use Rattle.search.proofs.PriceableLaws.{answered-refused}
 use Rattle.negotiation.proofs.PassLoopLaws.{price-found}
 use Rattle.negotiation.proofs.follow.node_price.Statement.{statement}
 use Rattle.negotiation.proofs.follow.node_price.Tie as tie

@@ -10,7 +10,7 @@ use lib.ListN.{length, getD}
 use Rattle.price.specs.Test.{choose}
 use Rattle.search.specs.Block.{blockOf}
 use Rattle.search.specs.Turn.{congestionOf, weighedCongestion}
-use Rattle.search.proofs.ReadyLaws.{sound-graph}
+use Rattle.search.proofs.PriceableLaws.{sound-graph}
 use Rattle.search.proofs.KeptLaws.{refused, passed}
 use Rattle.negotiation.specs.ResumeSteps.{stepPasses}
 use Rattle.negotiation.proofs.PassLoopLaws.{step-answer, price-block, Passing, pass-off, pass-out, pass-first, step-strays, step-node, cost-fits, step-on, pass-done, pass-marked}

@@ -2,8 +2,9 @@
 -- that of the first sink that the tree lacks (`TakeTurnLaws`). What is safe rests on the one that is asked for. A net without turns leaves all as it is.
 -- Assumes nothing.
 use mathlib.Core.List.{List}
-use mathlib.Core.Path.{_≡_, refl, _∙_}
+use mathlib.Core.Path.{_≡_, refl, _∙_, ap}
 use Prim.Native.Nat.{ℕ, _-_, _<_, _^_, zero-le}
+use native.Mathlib.Nat.{add-zero}
 use native.Mathlib.Omega.{arith}
 use lib.ListN.{length, take, drop}
 use Rattle.job.specs.Job.{jobOf}
@@ -11,6 +12,7 @@ use Rattle.negotiation.specs.Machine.{Progress}
 use Rattle.negotiation.specs.Flood.{FirstUnmarked}
 use Rattle.negotiation.specs.TakeSteps.{NetOpens, SomeNet}
 use Rattle.job.specs.declared.Terms.{Terms}
+use Rattle.negotiation.specs.declared.tariff.Tariff.{Tariff}
 use Rattle.negotiation.proofs.TakeTurnLaws.{some-of, missing-more, Following, follow-start, part-order, part-within, part-small, part-below, follow-ready, follow-out, follow-off, follow-more, follow-room, follow-on}
 use Rattle.negotiation.proofs.take_up.follow_net.Statement.{statement}
 use Rattle.negotiation.proofs.take_up.follow_net.Tie as tie
@@ -23,6 +25,7 @@ Inv-loop kind capacity first-edge edge-target sink delay criticality timed from 
     → Following (jobOf kind capacity first-edge edge-target sources firstSinks sink delay criticality terms) p net left tariff in-tree log)
     × FirstUnmarked in-tree (take (to - from) (drop from sink)) 0 place
     × (length in-tree ≡ length in-tree₀)
+    × (tariff .expanded ≡ tariff₀ .expanded)
 
 abbrev μ-loop : tie.MeasureT-loop
 μ-loop kind capacity first-edge edge-target sink delay criticality timed from to net turns history users in-tree₀ log tariff₀ left₀ place₀ in-tree tariff left place =
@@ -106,7 +109,7 @@ missing-sink-requires : tie.Need-missing-sink-requires Inv-loop μ-loop
 missing-sink-requires c κs = (part-below _ (asked (c .before .before) .opens) _ refl, zero-le)
 
 loop-holds : tie.Need-loop-holds Inv-loop μ-loop
-loop-holds c = ((λ sources firstSinks terms p o. follow-start _ o), c .missing-sink .ensures, refl)
+loop-holds c = ((λ sources firstSinks terms p o. follow-start _ o), c .missing-sink .ensures, refl, refl)
 
 sub-loop : tie.Need-sub-loop Inv-loop μ-loop
 sub-loop c = part-order _ (asked (begun c) .opens)
@@ -148,7 +151,8 @@ turn-logged-requires c κs =
     let inv = t .before .loop .inv in
     let o = asked (start t) .opens in
     let short : length (entry (start t) .args .log .now) < 2 ^ 64 = omega (arith, entry (start t) .good .1 .1 .1 .1 .1 .1 .1 .1 .1 .1 .1 .1 .1 .1 .1 .1 .0 .1) in
-    follow-room _ o (inv .0 _ _ _ _ o) (inv .1) (t .loop-test .taken) (left f .if2 .left) (f .follow-tried .ensures .0) (c .if3 .left) short
+    let room = follow-room _ o (inv .0 _ _ _ _ o) (inv .1) (t .loop-test .taken) (left f .if2 .left) (f .follow-tried .ensures .0) (c .if3 .left) short in
+    (room .0, room .1, omega (arith, inv .3, entry (start t) .good .1 .1 .1 .1 .1 .1 .1 .1 .1 .1 .1 .0))
 
 sub-left : tie.Need-sub-left Inv-loop μ-loop
 sub-left c = some-of _ (left (tested (c .before)) .if2 .left)
@@ -185,6 +189,7 @@ loop-again c =
           (f .follow-tried .ensures .1 (e .if3 .left)) (logged .turn-logged .ensures)),
       missing-more (inv .1) (f .follow-tried .ensures .1 (e .if3 .left)) (c .missing-sink2 .ensures),
       marks-long f,
+      ap (λ (x : Tariff). x .expanded) (logged .turn-logged .ensures) ∙ add-zero (t .before .loop .tariff .expanded) ∙ inv .3,
     )
 
 same-length-3 : tie.Need-same-length-3 Inv-loop μ-loop

@@ -1,11 +1,9 @@
 -- `negotiation::turns::one_turn` meets its contract: without sinks no turn is made; nothing is refused, so the search's answer is the turn, and where its record fits it is logged and marked.
 -- Assumes nothing.
 use mathlib.Core.List.{[], _∷_}
-use mathlib.Core.Path.{ap}
 use native.Mathlib.Omega.{arith}
 use types.Run.{miss}
 use borrow.Author.Needs.{needs}
-use Rattle.negotiation.specs.declared.tariff.Tariff.{Tariff}
 use Rattle.negotiation.proofs.OneTurnLaws.{turn-none, turn-joined, turn-other, turn-counts, turn-full, turn-logs}
 use Rattle.negotiation.proofs.turns.one_turn.Statement.{statement}
 use Rattle.negotiation.proofs.turns.one_turn.Tie as tie
@@ -106,12 +104,8 @@ turn-logged-requires c κs =
     let log-short = e .good .1 .1 .1 .1 .1 .1 .1 .1 .1 .1 .0 .1 in (
       omega (arith, tested .if2 .left, e .pre .within, log-short, e .pre .few-turns),
       omega (arith, tested .if2 .left, e .pre .within, log-short),
+      turn-counts (e .pre) (called (tested .before .before) .found-path .ensures .1),
     )
-
-turn-counted-requires : tie.Need-turn-counted-requires
-turn-counted-requires c κs =
-    let answered : tie.After-answer = c .before .before .before .before .before .before .before .before .before .before .before .before .before .before in
-    turn-counts (entry answered .pre) (ap (λ (x : Tariff). x .expanded) (c .turn-logged .ensures)) (called answered .found-path .ensures .1)
 
 same-length-5 : tie.Need-same-length-5
 same-length-5 c = search needs
@@ -124,14 +118,13 @@ same-length-7 c = search needs
 
 returns-4 : tie.Need-returns-4
 returns-4 c =
-    let logged = c .before in
-    let marked = logged .before .before .before in
+    let marked = c .before .before .before in
     let written = marked .before .before .before .before .before in
     let tested = written .before .before .before .before in
     let answered = tested .before .before in
     let j = turn-joined (entry answered .pre) (answered .answer .given .1) (called answered .found-path .ensures .0) in (
       turn-logs j (omega (arith, tested .if2 .left, entry answered .pre .within)) (written .write-record .ensures) (marked .mark-path .ensures)
-          (logged .turn-logged .ensures) (c .turn-counted .ensures) (called answered .found-path .ensures .1),
+          (c .turn-logged .ensures) (called answered .found-path .ensures .1),
       j .rest,
     )
 
@@ -160,7 +153,6 @@ one-turn-spec =
     mark-path-requires
     add-turn-logged
     turn-logged-requires
-    turn-counted-requires
     same-length-5
     same-length-6
     same-length-7

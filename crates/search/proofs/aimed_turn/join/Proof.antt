@@ -1,7 +1,7 @@
 -- `search::aimed_turn::join` meets its contract: the nodes are priced, the turn aims, and the path is read off.
 -- Assumes nothing.
 use mathlib.Core.List.{[]}
-use Rattle.search.proofs.ReadyLaws.{ready-price}
+use Rattle.search.proofs.PriceableLaws.{ready-price}
 use Rattle.search.proofs.AimedReplyLaws.{turn-priced, turn-readable, turn-replies}
 use borrow.Author.Needs.{needs}
 use Rattle.search.proofs.aimed_turn.join.Statement.{statement}

@@ -9,7 +9,7 @@ use borrow.Author.Count.{below-none, below-more}
 use Rattle.search.specs.Turn.{weighedCongestion}
 use Rattle.search.specs.Replies.{nodeSound}
 use Rattle.search.proofs.KeptLaws.{refused, passed}
-use Rattle.search.proofs.NumberLaws.{bad-here, bad-nowhere}
+use Rattle.search.proofs.PriceableLaws.{bad-here, bad-nowhere}
 use Rattle.search.proofs.numbers.bad_node.Statement.{statement}
 use Rattle.search.proofs.numbers.bad_node.Tie as tie
 

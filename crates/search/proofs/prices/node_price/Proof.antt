@@ -1,7 +1,7 @@
 -- `search::prices::node_price` meets its contract: where every number keeps its bounds, the answer is the price.
 -- Assumes nothing.
 use borrow.Author.Needs.{needs}
-use Rattle.search.proofs.FillLaws.{answered-price, answered-refused}
+use Rattle.search.proofs.PriceableLaws.{answered-price, answered-refused}
 use Rattle.search.proofs.prices.node_price.Statement.{statement}
 use Rattle.search.proofs.prices.node_price.Tie as tie
 
