@@ -19,9 +19,9 @@ use Rattle.search.specs.Block.{Block, nodes}
 use Rattle.search.specs.Tables.{Graph}
 use Rattle.search.specs.Distance.{far, inTree, distances, distance}
 use Rattle.search.specs.Turn.{before, nearestDistance, nearestPlace}
-use Rattle.search.specs.Layout.{distAt, entryAt, leafAt, predAt, Heap, SameBut, Queued}
+use Rattle.search.specs.Layout.{distAt, entryAt, leafAt, predAt, Tournament, SameBut, Queued}
 use Rattle.search.specs.Aimed.{expands}
-use Rattle.search.specs.Estimates.{guessAt}
+use Rattle.search.specs.Estimates.{estimateAt}
 use Rattle.search.specs.Aiming.{AimStarted, AimedRow, AimRowReady, BestAim, AimTask, Left, hasLeft, Place, waiting, lacking, Aiming, AimLaunched, AimReady, AimEnd}
 use Rattle.search.proofs.EdgeLaws.{shape-of}
 use Rattle.search.proofs.BeforeLaws.{before-edge, before-sum, before-lowest}
@@ -34,17 +34,17 @@ use Rattle.search.proofs.AimSteps.{left-test, left-of, estimated-same, 
 -- ---- the start
 
 module _ (b : Block) (marks w w₁ w₂ : List ℕ) (r : AimReady b marks w) (s : AimStarted (nodes b) marks w w₁)
-    (heap : Heap (nodes b) w₂) (same : SameBut (nodes b + 1) (2 * nodes b) w₁ w₂) where
+    (queue : Tournament (nodes b) w₂) (same : SameBut (nodes b + 1) (2 * nodes b) w₁ w₂) where
   abbrev n : ℕ
   n = nodes b
 
-  guess-kept : (x : ℕ) → x < n → guessAt n w₂ x ≡ guessAt n w x
-  guess-kept x h = same .high (6 * n + x) (omega arith) ∙ s .high (6 * n + x) (omega arith)
+  estimate-kept : (x : ℕ) → x < n → estimateAt n w₂ x ≡ estimateAt n w x
+  estimate-kept x h = same .high (6 * n + x) (omega arith) ∙ s .high (6 * n + x) (omega arith)
 
   in-dist : (v : ℕ) → v < n → inTree marks v ≡ true → distAt w₂ v ≡ 0
   in-dist v h i = same .low v (omega arith) ∙ s .dist v h ∙ rw i
 
-  in-leaf : (v : ℕ) → v < n → inTree marks v ≡ true → leafAt n w₂ v ≡ guessAt n w v
+  in-leaf : (v : ℕ) → v < n → inTree marks v ≡ true → leafAt n w₂ v ≡ estimateAt n w v
   in-leaf v h i = same .high (2 * n + v) (omega arith) ∙ s .leaf v h ∙ rw i
 
   out-dist : (v : ℕ) → v < n → inTree marks v ≡ false → distAt w₂ v ≡ far
@@ -57,22 +57,22 @@ module _ (b : Block) (marks w w₁ w₂ : List ℕ) (r : AimReady b marks w) (s 
   none-left : (v : ℕ) → Left n w₂ v → ⊥
   none-left v l =
       ⊎-elim
-      (λ (i : inTree marks v ≡ true). omega (arith, in-leaf v (l .node) i, guess-kept v (l .node), l .left, l .known))
+      (λ (i : inTree marks v ≡ true). omega (arith, in-leaf v (l .node) i, estimate-kept v (l .node), l .left, l .known))
       (λ (i : inTree marks v ≡ false). omega (arith, out-dist v (l .node) i, l .near))
       (either-way (inTree marks v))
 
   first-place : (v : ℕ) → v < n → Place n w₂ v
   first-place v h =
-      let q = guess-kept v h in
+      let q = estimate-kept v h in
       ⊎-elim
       (λ (i : inTree marks v ≡ true).
       let d = in-dist v h i in
       let l = in-leaf v h i in
       let top = r .estimated .top v h in
       ⊎-elim
-      (λ (m : far ≤ guessAt n w v). lacking (omega arith) (omega arith))
-      (λ (m : guessAt n w v < far). waiting (omega arith) (omega arith))
-      (le-or-lt far (guessAt n w v)))
+      (λ (m : far ≤ estimateAt n w v). lacking (omega arith) (omega arith))
+      (λ (m : estimateAt n w v < far). waiting (omega arith) (omega arith))
+      (le-or-lt far (estimateAt n w v)))
       (λ (i : inTree marks v ≡ false). let d = out-dist v h i in lacking (out-leaf v h i) (omega arith))
       (either-way (inTree marks v))
 
@@ -89,9 +89,9 @@ module _ (b : Block) (marks w w₁ w₂ : List ℕ) (r : AimReady b marks w) (s 
   aim-begins =
       record {
         long = let l = same .long in let m = s .long in let o = r .long in omega arith;
-        heap = heap;
+        queue = queue;
         prices = λ v h. same .high (3 * n + v) (omega arith) ∙ s .high (3 * n + v) (omega arith) ∙ r .prices v h;
-        estimated = estimated-same guess-kept (r .estimated);
+        estimated = estimated-same estimate-kept (r .estimated);
         tree = in-dist;
         places = first-place;
         relaxed = λ u v h l e k. absurd (none-left u l);
@@ -102,7 +102,7 @@ module _ (b : Block) (marks w w₁ w₂ : List ℕ) (r : AimReady b marks w) (s 
         best-aim =
             record {
               most = omega arith;
-              least = λ v h z. omega (arith, out-dist v h (r .estimated .goals-only v h (sym (guess-kept v h) ∙ z) .1));
+              least = λ v h z. omega (arith, out-dist v h (r .estimated .goals-only v h (sym (estimate-kept v h) ∙ z) .1));
               some = inl refl;
             };
         counted =
@@ -131,7 +131,7 @@ module _ (b : Block) (g : Graph b) {marks : List ℕ} (t : AimTask b marks) (w�
 
   not-below : (v : ℕ) → v < nodes b → true-distance v ≤ distAt w v
   not-below v h =
-      never-below b (t .price) (t .weight) marks (t .sinks) (shape-of b g) (t .fair) (t .fair-weight) (t .dear) (λ v. guessAt (nodes b) w v) (λ v. distAt w v)
+      never-below b (t .price) (t .weight) marks (t .sinks) (shape-of b g) (t .fair) (t .fair-weight) (t .dear) (λ v. estimateAt (nodes b) w v) (λ v. distAt w v)
       (Left (nodes b) w) (entryAt (nodes b) w 1) (a .estimated .bound) (aim-forward b t w best count a) (suc (distAt w v)) v (omega arith) h
 
   -- no sink that has a distance is nearer than the joined one
@@ -139,7 +139,7 @@ module _ (b : Block) (g : Graph b) {marks : List ℕ} (t : AimTask b marks) (w�
   best-least =
       ⊎-elim
       (λ (q : best ≡ far). omega (arith, nearest-top b t w best count a))
-      (λ (x : (v : ℕ) × (v < nodes b) × (guessAt (nodes b) w v ≡ 0) × (distAt w v ≡ best)).
+      (λ (x : (v : ℕ) × (v < nodes b) × (estimateAt (nodes b) w v ≡ 0) × (distAt w v ≡ best)).
       let is = a .estimated .goals-only (x .0) (x .1) (x .2) in
       omega (arith, open-least b (t .price) marks (t .sinks) (x .0) (is .0) (is .1), not-below (x .0) (x .1), x .3))
       (a .best-aim .some)
@@ -148,7 +148,7 @@ module _ (b : Block) (g : Graph b) {marks : List ℕ} (t : AimTask b marks) (w�
   module _ (near : cost < far) (past : cost < entryAt (nodes b) w 1) where
     settled : (v : ℕ) → chosen v ≡ true → (distAt w v ≡ true-distance v) × Left (nodes b) w v
     settled v x =
-        aim-all b (t .price) (t .weight) marks (t .sinks) (shape-of b g) (t .fair) (t .fair-weight) (t .dear) (λ v. guessAt (nodes b) w v) (λ v. distAt w v)
+        aim-all b (t .price) (t .weight) marks (t .sinks) (shape-of b g) (t .fair) (t .fair-weight) (t .dear) (λ v. estimateAt (nodes b) w v) (λ v. distAt w v)
         (Left (nodes b) w) (entryAt (nodes b) w 1) (a .estimated .bound) (aim-forward b t w best count a) near (a .estimated .within) v past x
 
     -- so has the joined sink

@@ -10,7 +10,7 @@ use borrow.Author.Count.{below-more}
 use Rattle.price.specs.Test.{choose}
 use Rattle.search.specs.Distance.{far, inTree}
 use Rattle.search.specs.Layout.{distAt, leafAt}
-use Rattle.search.specs.Estimates.{guessAt}
+use Rattle.search.specs.Estimates.{estimateAt}
 use Rattle.search.specs.Aiming.{AimStarted}
 use Rattle.search.proofs.DistanceLaws.{out-of-tree, in-the-tree}
 use Rattle.search.proofs.StoreLaws.{store-here, store-other}
@@ -20,7 +20,7 @@ pub record AimStarting (n : ℕ) (marks w w′ : List ℕ) (i : ℕ) : Type 0 wh
   pub upto : i ≤ n
   pub long : length w′ ≡ length w
   pub dist : (v : ℕ) → v < i → distAt w′ v ≡ choose (inTree marks v) 0 far
-  pub leaf : (v : ℕ) → v < i → leafAt n w′ v ≡ choose (inTree marks v) (guessAt n w v) far
+  pub leaf : (v : ℕ) → v < i → leafAt n w′ v ≡ choose (inTree marks v) (estimateAt n w v) far
   pub high : (j : ℕ) → 3 * n ≤ j → getD w′ j 0 ≡ getD w j 0
 
 pub aim-start-none : (n : ℕ) (marks w : List ℕ) → AimStarting n marks w w 0
@@ -35,7 +35,7 @@ aim-start-none n marks w =
 
 module _ {n : ℕ} {marks w w′ : List ℕ} {i : ℕ} (room : 8 * n ≤ length w) (l : i < n) (s : AimStarting n marks w w′ i) where
   start-stored :
-      (d key : ℕ) → d ≡ choose (inTree marks i) 0 far → key ≡ choose (inTree marks i) (guessAt n w i) far
+      (d key : ℕ) → d ≡ choose (inTree marks i) 0 far → key ≡ choose (inTree marks i) (estimateAt n w i) far
       → AimStarting n marks w (set (set w′ i d) (2 * n + i) key) (i + 1)
   start-stored d key is-d is-key =
       let w₁ : List ℕ = set w′ i d in
@@ -50,7 +50,7 @@ module _ {n : ℕ} {marks w w′ : List ℕ} {i : ℕ} (room : 8 * n ≤ length 
             (λ v b. else v (λ q. omega arith) (λ q. omega arith) ∙ s .dist v b)
             (store-other w₁ (2 * n + i) key i (λ q. omega arith) ∙ store-here w′ i d (omega (arith, s .long)) ∙ is-d);
         leaf =
-            below-more (λ v. leafAt n (set w₁ (2 * n + i) key) v ≡ choose (inTree marks v) (guessAt n w v) far) i
+            below-more (λ v. leafAt n (set w₁ (2 * n + i) key) v ≡ choose (inTree marks v) (estimateAt n w v) far) i
             (λ v b. else (2 * n + v) (λ q. omega arith) (λ q. omega arith) ∙ s .leaf v b)
             (store-here w₁ (2 * n + i) key (omega arith) ∙ is-key);
         high = λ j b. else j (λ q. omega arith) (λ q. omega arith) ∙ s .high j b;

@@ -28,14 +28,14 @@ use Rattle.search.specs.Distance.{far, inTree, distance}
 use Rattle.search.specs.Turn.{openDistances, nearestDistance, nearestPlace}
 use Rattle.search.specs.Layout.{distAt, entryAt, leafAt, predAt, Queued}
 use Rattle.search.specs.Aimed.{estimate, expands}
-use Rattle.search.specs.Estimates.{guessAt, Estimated}
+use Rattle.search.specs.Estimates.{estimateAt, Estimated}
 use Rattle.search.specs.Aiming.{wayOver, AimedAt, at-kept, at-shorter, at-lower, AimedRow, AimRowReady, BestAim, AimTask, Left, hasLeft, Place, gone, waiting, lacking, AimReached, Aiming}
 use Rattle.search.proofs.EdgeLaws.{shape-of}
 use Rattle.search.proofs.DistanceLaws.{distance-step, distance-most}
 use Rattle.search.proofs.NearestLaws.{nearest}
 use Rattle.search.proofs.PriceSameLaws.{beyond}
 use Rattle.search.proofs.AimedExact.{Forward, aim-within, aim-settles}
-use Rattle.search.proofs.QueueLaws.{heap-least}
+use Rattle.search.proofs.QueueLaws.{queue-least}
 use Rattle.search.proofs.BestLaws.{best-kept}
 
 -- ---- an expanded node, and estimates that stay
@@ -44,30 +44,30 @@ pub left-test : (n : ℕ) (w : List ℕ) (v : ℕ) → Left n w v → hasLeft n 
 left-test n w v l =
     both-true
     (both-true (eq-eqb (leafAt n w v) far (l .left)) (lt-ltb (distAt w v) far (l .near)))
-    (lt-ltb (guessAt n w v) far (l .known))
+    (lt-ltb (estimateAt n w v) far (l .known))
 
 pub left-of : (n : ℕ) (w : List ℕ) (v : ℕ) → v < n → hasLeft n w v ≡ true → Left n w v
 left-of n w v h e =
     let gone : Bool = eqb (leafAt n w v) far in
     let near : Bool = ltb (distAt w v) far in
-    let known : Bool = ltb (guessAt n w v) far in
+    let known : Bool = ltb (estimateAt n w v) far in
     let first : both gone near ≡ true = both-left (both gone near) known e in
     record {
       node = h;
       left = eqb-true (leafAt n w v) far (both-left gone near first);
       near = ltb-true (distAt w v) far (both-right gone near first);
-      known = ltb-true (guessAt n w v) far (both-right (both gone near) known e);
+      known = ltb-true (estimateAt n w v) far (both-right (both gone near) known e);
     }
 
 -- estimates that stay are as they were made
 pub estimated-same :
-    {b : Block} {price weight : ℕ → ℕ} {marks sinks w w′ : List ℕ} → ((x : ℕ) → x < nodes b → guessAt (nodes b) w′ x ≡ guessAt (nodes b) w x)
+    {b : Block} {price weight : ℕ → ℕ} {marks sinks w w′ : List ℕ} → ((x : ℕ) → x < nodes b → estimateAt (nodes b) w′ x ≡ estimateAt (nodes b) w x)
     → Estimated b price weight marks sinks w → Estimated b price weight marks sinks w′
 estimated-same {b} {price} {weight} {marks} {sinks} {w} {w′} same e =
     record {
       bound = e .bound;
       within = e .within;
-      known = λ v h. ⊎-elim (λ (q : guessAt (nodes b) w v ≡ estimate b weight marks sinks v). inl (same v h ∙ q)) (λ q. inr q) (e .known v h);
+      known = λ v h. ⊎-elim (λ (q : estimateAt (nodes b) w v ≡ estimate b weight marks sinks v). inl (same v h ∙ q)) (λ q. inr q) (e .known v h);
       top = λ v h. omega (arith, same v h, e .top v h);
       few = λ v h l. let s = same v h in let f = e .few v h (omega arith) in omega arith;
       above = λ v h. omega (arith, same v h, e .above v h);
@@ -79,7 +79,7 @@ estimated-same {b} {price} {weight} {marks} {sinks} {w} {w′} same e =
 
 module _ (b : Block) {marks : List ℕ} (t : AimTask b marks) (w : List ℕ) (best count : ℕ) (a : Aiming b marks t w best count) where
   pub aim-forward :
-      Forward b (t .price) (t .weight) marks (t .sinks) (λ v. guessAt (nodes b) w v) (λ v. distAt w v) (Left (nodes b) w) (entryAt (nodes b) w 1)
+      Forward b (t .price) (t .weight) marks (t .sinks) (λ v. estimateAt (nodes b) w v) (λ v. distAt w v) (Left (nodes b) w) (entryAt (nodes b) w 1)
       (a .estimated .bound)
   aim-forward =
       record {
@@ -92,10 +92,10 @@ module _ (b : Block) {marks : List ℕ} (t : AimTask b marks) (w : List ℕ) (be
             record { pred = predAt (nodes b) w v; is-settled = r .pred-left; edge = r .pred-edge; sum = r .sum };
       }
     where
-      side : (v : ℕ) → v < nodes b → Place (nodes b) w v → Left (nodes b) w v ⊎ (entryAt (nodes b) w 1 ≤ distAt w v + guessAt (nodes b) w v)
+      side : (v : ℕ) → v < nodes b → Place (nodes b) w v → Left (nodes b) w v ⊎ (entryAt (nodes b) w 1 ≤ distAt w v + estimateAt (nodes b) w v)
       side v h (gone l) = inl l
-      side v h (waiting near key) = inr (omega (arith, heap-least (nodes b) w (a .heap) v h))
-      side v h (lacking key top) = inr (omega (arith, heap-least (nodes b) w (a .heap) v h))
+      side v h (waiting near key) = inr (omega (arith, queue-least (nodes b) w (a .queue) v h))
+      side v h (lacking key top) = inr (omega (arith, queue-least (nodes b) w (a .queue) v h))
 
   pub nearest-top : nearestDistance b (t .price) marks (t .sinks) ≤ far
   nearest-top = least-top far (openDistances b (t .price) marks (t .sinks))
@@ -108,10 +108,10 @@ module _ (b : Block) (g : Graph b) {marks : List ℕ} (t : AimTask b marks) (w :
   n = nodes b
 
   -- it waits at its distance and estimate together
-  at-key : distAt w u + guessAt n w u ≡ entryAt n w 1
+  at-key : distAt w u + estimateAt n w u ≡ entryAt n w 1
   at-key = by (a .places u node)
     where
-      by : Place n w u → distAt w u + guessAt n w u ≡ entryAt n w 1
+      by : Place n w u → distAt w u + estimateAt n w u ≡ entryAt n w 1
       by (gone l) = absurd (omega (arith, l .left))
       by (waiting near key) = sym key ∙ first
       by (lacking key top) = absurd (omega arith)
@@ -139,14 +139,14 @@ module _ (b : Block) (g : Graph b) {marks : List ℕ} (t : AimTask b marks) (w :
       let here : distance b (t .price) marks s ≡ nearestDistance b (t .price) marks (t .sinks) = m .here in
       let reach = a .estimated .within in
       let far-off : entryAt n w 1 ≤ distance b (t .price) marks s =
-      aim-within b (t .price) (t .weight) marks (t .sinks) (shape-of b g) (t .fair) (t .fair-weight) (t .dear) (λ v. guessAt n w v) (λ v. distAt w v)
+      aim-within b (t .price) (t .weight) marks (t .sinks) (shape-of b g) (t .fair) (t .fair-weight) (t .dear) (λ v. estimateAt n w v) (λ v. distAt w v)
       (Left n w) (entryAt n w 1) (a .estimated .bound) (aim-forward b t w best count a) s hs listed (m .out) (omega arith) (omega arith)
       (no-nearer s hs listed (m .out)) in
       omega arith
 
   -- its estimate is known
-  exact-guess : guessAt n w u ≡ estimate b (t .weight) marks (t .sinks) u
-  exact-guess =
+  exact-estimate : estimateAt n w u ≡ estimate b (t .weight) marks (t .sinks) u
+  exact-estimate =
       ⊎-elim
       (λ q. q)
       (λ (q : a .estimated .bound < estimate b (t .weight) marks (t .sinks) u).
@@ -155,8 +155,8 @@ module _ (b : Block) (g : Graph b) {marks : List ℕ} (t : AimTask b marks) (w :
 
   pub taken-final : (distAt w u ≡ distance b (t .price) marks u) × (expands b (t .price) (t .weight) marks (t .sinks) u ≡ true)
   taken-final =
-      aim-settles b (t .price) (t .weight) marks (t .sinks) (shape-of b g) (t .fair) (t .fair-weight) (t .dear) (λ v. guessAt n w v) (λ v. distAt w v)
-      (Left n w) (entryAt n w 1) (a .estimated .bound) (aim-forward b t w best count a) joins (a .estimated .within) u node exact-guess at-key no-nearer
+      aim-settles b (t .price) (t .weight) marks (t .sinks) (shape-of b g) (t .fair) (t .fair-weight) (t .dear) (λ v. estimateAt n w v) (λ v. distAt w v)
+      (Left n w) (entryAt n w 1) (a .estimated .bound) (aim-forward b t w best count a) joins (a .estimated .within) u node exact-estimate at-key no-nearer
 
   taken-near : distAt w u < pathMost
   taken-near =
@@ -166,7 +166,7 @@ module _ (b : Block) (g : Graph b) {marks : List ℕ} (t : AimTask b marks) (w :
       omega arith
 
   -- a way over it and an estimate are below `far`
-  way-fits : (x : ℕ) → x < n → guessAt n w x < far → distAt w u + t .price x + guessAt n w x < far
+  way-fits : (x : ℕ) → x < n → estimateAt n w x < far → distAt w u + t .price x + estimateAt n w x < far
   way-fits x h l =
       let near = taken-near in
       let p = t .fair .most x h in
@@ -178,11 +178,11 @@ module _ (b : Block) (g : Graph b) {marks : List ℕ} (t : AimTask b marks) (w :
 
   module _ (w₁ : List ℕ) (out : Queued n u far w w₁) where
     -- a node that has an estimate has one below `far`
-    known-near : (x : ℕ) → x < n → (guessAt n w₁ x ≡ far → ⊥) → guessAt n w x < far
+    known-near : (x : ℕ) → x < n → (estimateAt n w₁ x ≡ far → ⊥) → estimateAt n w x < far
     known-near x h known =
-        let s : guessAt n w₁ x ≡ guessAt n w x = out .high (6 * n + x) (omega arith) in
+        let s : estimateAt n w₁ x ≡ estimateAt n w x = out .high (6 * n + x) (omega arith) in
         let top = a .estimated .top x h in
-        ⊎-elim (λ (q : far ≤ guessAt n w x). absurd (known (omega arith))) (λ q. q) (le-or-lt far (guessAt n w x))
+        ⊎-elim (λ (q : far ≤ estimateAt n w x). absurd (known (omega arith))) (λ q. q) (le-or-lt far (estimateAt n w x))
 
     pub aim-ready : AimRowReady b w₁ u
     aim-ready =
@@ -190,7 +190,7 @@ module _ (b : Block) (g : Graph b) {marks : List ℕ} (t : AimTask b marks) (w :
           sound = g;
           node = node;
           long = let l = out .long in let o = a .long in omega arith;
-          heap = out .heap;
+          queue = out .queue;
           near = let d = out .low u node in let m = taken-near in omega arith;
           prices = λ v h.
               let s = out .high (3 * n + v) (omega arith) in
@@ -198,8 +198,8 @@ module _ (b : Block) (g : Graph b) {marks : List ℕ} (t : AimTask b marks) (w :
               let m = t .fair .most v h in
               let c = t .fair .low in
               omega arith;
-          guesses = λ v h known.
-              let s : guessAt n w₁ v ≡ guessAt n w v = out .high (6 * n + v) (omega arith) in
+          estimates = λ v h known.
+              let s : estimateAt n w₁ v ≡ estimateAt n w v = out .high (6 * n + v) (omega arith) in
               let f = a .estimated .few v h (known-near v h known) in
               omega arith;
         }
@@ -207,8 +207,8 @@ module _ (b : Block) (g : Graph b) {marks : List ℕ} (t : AimTask b marks) (w :
     -- ---- and its edges are looked at
 
     module _ (w₂ : List ℕ) (row : AimedRow b u w₁ w₂) where
-      guess-kept : (x : ℕ) → x < n → guessAt n w₂ x ≡ guessAt n w x
-      guess-kept x h = row .some .high (6 * n + x) (omega arith) ∙ out .high (6 * n + x) (omega arith)
+      estimate-kept : (x : ℕ) → x < n → estimateAt n w₂ x ≡ estimateAt n w x
+      estimate-kept x h = row .some .high (6 * n + x) (omega arith) ∙ out .high (6 * n + x) (omega arith)
 
       way-is : (x : ℕ) → x < n → wayOver n w₁ u x ≡ distAt w u + t .price x
       way-is x h =
@@ -221,10 +221,10 @@ module _ (b : Block) (g : Graph b) {marks : List ℕ} (t : AimTask b marks) (w :
       data Went (x : ℕ) : Type 0 where
         went-kept : distAt w₂ x ≡ distAt w x → predAt n w₂ x ≡ predAt n w x → leafAt n w₂ x ≡ leafAt n w₁ x → Went x
         went-shorter :
-            hasEdge b u x ≡ true → guessAt n w x < far → distAt w u + t .price x < distAt w x → distAt w₂ x ≡ distAt w u + t .price x
-            → predAt n w₂ x ≡ u → leafAt n w₂ x ≡ distAt w u + t .price x + guessAt n w x → Went x
+            hasEdge b u x ≡ true → estimateAt n w x < far → distAt w u + t .price x < distAt w x → distAt w₂ x ≡ distAt w u + t .price x
+            → predAt n w₂ x ≡ u → leafAt n w₂ x ≡ distAt w u + t .price x + estimateAt n w x → Went x
         went-lower :
-            hasEdge b u x ≡ true → guessAt n w x < far → distAt w u + t .price x ≡ distAt w x → u < predAt n w x → distAt w₂ x ≡ distAt w x
+            hasEdge b u x ≡ true → estimateAt n w x < far → distAt w u + t .price x ≡ distAt w x → u < predAt n w x → distAt w₂ x ≡ distAt w x
             → predAt n w₂ x ≡ u → leafAt n w₂ x ≡ leafAt n w₁ x → Went x
 
       went : (x : ℕ) → x < n → Went x
@@ -235,7 +235,7 @@ module _ (b : Block) (g : Graph b) {marks : List ℕ} (t : AimTask b marks) (w :
           by (at-shorter e known less d p l) =
               let s = way-is x h in
               let old : distAt w₁ x ≡ distAt w x = out .low x h in
-              let q : guessAt n w₁ x ≡ guessAt n w x = out .high (6 * n + x) (omega arith) in
+              let q : estimateAt n w₁ x ≡ estimateAt n w x = out .high (6 * n + x) (omega arith) in
               went-shorter e (known-near x h known) (omega arith) (omega arith) p (omega arith)
           by (at-lower e known same lower d p l) =
               let s = way-is x h in
@@ -258,7 +258,7 @@ module _ (b : Block) (g : Graph b) {marks : List ℕ} (t : AimTask b marks) (w :
           by : Went u → Left n w₂ u × (distAt w₂ u ≡ distAt w u)
           by (went-kept d p l) =
               let key = at-key in
-              let s = guess-kept u node in
+              let s = estimate-kept u node in
               (record { node = node; left = l ∙ out .leaf-here; near = omega arith; known = omega arith }, d)
           by (went-shorter e k less d p l) = absurd (omega arith)
           by (went-lower e k same lower d p l) = absurd (omega (arith, t .fair .pos u node))
@@ -274,7 +274,7 @@ module _ (b : Block) (g : Graph b) {marks : List ℕ} (t : AimTask b marks) (w :
           stays l d =
               let near = s .near in
               let known = s .known in
-              let q = guess-kept x (s .node) in
+              let q = estimate-kept x (s .node) in
               record { node = s .node; left = l ∙ out .leaf-other x (s .node) other ∙ s .left; near = omega arith; known = omega arith }
 
           by : Went x → Left n w₂ x × (distAt w₂ x ≡ distAt w x)
@@ -294,7 +294,7 @@ module _ (b : Block) (g : Graph b) {marks : List ℕ} (t : AimTask b marks) (w :
           was ne l d =
               let near = s .near in
               let known = s .known in
-              let q = guess-kept x (s .node) in
+              let q = estimate-kept x (s .node) in
               record { node = s .node; left = sym (out .leaf-other x (s .node) ne) ∙ sym l ∙ s .left; near = omega arith; known = omega arith }
 
           by : (x ≡ u → ⊥) → Went x → Left n w x
@@ -320,33 +320,33 @@ module _ (b : Block) (g : Graph b) {marks : List ℕ} (t : AimTask b marks) (w :
           as-before : (x ≡ u → ⊥) → leafAt n w₂ x ≡ leafAt n w₁ x → distAt w₂ x ≡ distAt w x → Place n w x → Place n w₂ x
           as-before ne l d (gone s) = gone (still-left x s .0)
           as-before ne l d (waiting near key) =
-              let q = guess-kept x h in
+              let q = estimate-kept x h in
               let o = out .leaf-other x h ne in
               waiting (omega arith) (omega arith)
           as-before ne l d (lacking key top) =
-              let q = guess-kept x h in
+              let q = estimate-kept x h in
               let o = out .leaf-other x h ne in
               lacking (omega arith) (omega arith)
 
           by : (x ≡ u → ⊥) → Went x → Place n w₂ x
           by ne (went-kept d p l) = as-before ne l d (a .places x h)
           by ne (went-shorter e k less d p l) =
-              let q = guess-kept x h in
+              let q = estimate-kept x h in
               let fits = way-fits x h k in
               waiting (omega arith) (omega arith)
           by ne (went-lower e k same lower d p l) = as-before ne l d (a .places x h)
 
       -- no way over the taken node is shorter
-      passed-here : (v : ℕ) → v < n → hasEdge b u v ≡ true → guessAt n w₂ v < far → (distAt w₂ v ≤ distAt w u + t .price v) × (distAt w₂ v ≡ distAt w u + t .price v → predAt n w₂ v ≤ u)
+      passed-here : (v : ℕ) → v < n → hasEdge b u v ≡ true → estimateAt n w₂ v < far → (distAt w₂ v ≤ distAt w u + t .price v) × (distAt w₂ v ≡ distAt w u + t .price v → predAt n w₂ v ≤ u)
       passed-here v h e k =
-          let q : guessAt n w₁ v ≡ guessAt n w v = out .high (6 * n + v) (omega arith) in
-          let q′ = guess-kept v h in
+          let q : estimateAt n w₁ v ≡ estimateAt n w v = out .high (6 * n + v) (omega arith) in
+          let q′ = estimate-kept v h in
           let p = row .all v e (λ none. omega arith) in
           let s : wayOver n w₁ u v ≡ distAt w u + t .price v = way-is v h in
           let least : distAt w₂ v ≤ wayOver n w₁ u v = p .least in
           (omega arith, λ is. p .lowest (s ∙ sym is))
 
-      next-relaxed : (x v : ℕ) → v < n → Left n w₂ x → hasEdge b x v ≡ true → guessAt n w₂ v < far → distAt w₂ v ≤ distAt w₂ x + t .price v
+      next-relaxed : (x v : ℕ) → v < n → Left n w₂ x → hasEdge b x v ≡ true → estimateAt n w₂ v < far → distAt w₂ v ≤ distAt w₂ x + t .price v
       next-relaxed x v h s e k =
           let own = left-dist x s in
           ⊎-elim
@@ -355,7 +355,7 @@ module _ (b : Block) (g : Graph b) {marks : List ℕ} (t : AimTask b marks) (w :
           let d : distAt w x ≡ distAt w u = ap (λ (j : ℕ). distAt w j) is in
           omega arith)
           (λ (l : Left n w x).
-          let q = guess-kept v h in
+          let q = estimate-kept v h in
           let r = a .relaxed x v h l e (omega arith) in
           let m = no-longer v h in
           omega arith)
@@ -383,7 +383,7 @@ module _ (b : Block) (g : Graph b) {marks : List ℕ} (t : AimTask b marks) (w :
           by (went-lower e k same lower d p l) = let own = here-left .1 in over u p (here-left .0) e (omega arith)
 
       next-lowest :
-          (x v : ℕ) → v < n → inTree marks v ≡ false → Left n w₂ x → hasEdge b x v ≡ true → guessAt n w₂ v < far
+          (x v : ℕ) → v < n → inTree marks v ≡ false → Left n w₂ x → hasEdge b x v ≡ true → estimateAt n w₂ v < far
           → distAt w₂ v ≡ distAt w₂ x + t .price v → predAt n w₂ v ≤ x
       next-lowest x v h o s e k sum =
           let own = left-dist x s in
@@ -398,7 +398,7 @@ module _ (b : Block) (g : Graph b) {marks : List ℕ} (t : AimTask b marks) (w :
           by : Left n w x → Went v → predAt n w₂ v ≤ x
           by l (went-kept d p l′) =
               let own = left-dist x s in
-              let q = guess-kept v h in
+              let q = estimate-kept v h in
               let r = a .lowest x v h o l e (omega arith) (omega arith) in
               omega arith
           by l (went-shorter e′ k′ less d p l′) =
@@ -440,9 +440,9 @@ module _ (b : Block) (g : Graph b) {marks : List ℕ} (t : AimTask b marks) (w :
       aim-more best′ goes =
           record {
             long = let l = row .some .long in let m = out .long in let o = a .long in omega arith;
-            heap = row .some .heap;
+            queue = row .some .queue;
             prices = λ v h. row .some .price-same v h ∙ out .high (3 * n + v) (omega arith) ∙ a .prices v h;
-            estimated = estimated-same guess-kept (a .estimated);
+            estimated = estimated-same estimate-kept (a .estimated);
             tree = λ v h i. let z = a .tree v h i in let m = no-longer v h in omega arith;
             places = next-place;
             relaxed = next-relaxed;

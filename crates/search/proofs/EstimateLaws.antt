@@ -20,10 +20,10 @@ use Rattle.search.specs.Paths.{Fair}
 use Rattle.search.specs.Distance.{far}
 use Rattle.search.specs.Layout.{Queued}
 use Rattle.search.specs.Aimed.{weightAt}
-use Rattle.search.specs.Estimates.{weightMost, WeightReady, Beside, Guessed}
+use Rattle.search.specs.Estimates.{weightMost, WeightReady, Beside, Given}
 use Rattle.search.proofs.AimedLaws.{scale-timed, scale-untimed, weight-most, weight-fair}
 use Rattle.search.proofs.StoreLaws.{store-here, store-other}
-use Rattle.search.proofs.QueueLaws.{heap-aside}
+use Rattle.search.proofs.QueueLaws.{queue-aside}
 
 -- ---- a node's weight
 
@@ -102,14 +102,14 @@ capped-cases a c e =
     (λ (q : far < a + c). inr (e ∙ min-eq-right (omega arith)))
     (le-or-lt (a + c) far)
 
-pub guessed :
-    {n : ℕ} {weight : ℕ → ℕ} {u guess cost own : ℕ} {w w′ : List ℕ} → u < n → 8 * n ≤ length w → own ≡ weight u → Queued n u (guess + own) w w′
-    → Guessed n weight u guess cost w (set (set w′ (6 * n + u) guess) (7 * n + u) cost)
-guessed {n} {weight} {u} {guess} {cost} {own} {w} {w′} h room is q =
-    let w₁ : List ℕ = set w′ (6 * n + u) guess in
-    let long₁ : length w₁ ≡ length w = length-set w′ (6 * n + u) guess ∙ q .long in
+pub given :
+    {n : ℕ} {weight : ℕ → ℕ} {u give cost own : ℕ} {w w′ : List ℕ} → u < n → 8 * n ≤ length w → own ≡ weight u → Queued n u (give + own) w w′
+    → Given n weight u give cost w (set (set w′ (6 * n + u) give) (7 * n + u) cost)
+given {n} {weight} {u} {give} {cost} {own} {w} {w′} h room is q =
+    let w₁ : List ℕ = set w′ (6 * n + u) give in
+    let long₁ : length w₁ ≡ length w = length-set w′ (6 * n + u) give ∙ q .long in
     let else : (j : ℕ) → (j ≡ 6 * n + u → ⊥) → (j ≡ 7 * n + u → ⊥) → getD (set w₁ (7 * n + u) cost) j 0 ≡ getD w′ j 0 =
-    λ j a b. store-other w₁ (7 * n + u) cost j b ∙ store-other w′ (6 * n + u) guess j a in
+    λ j a b. store-other w₁ (7 * n + u) cost j b ∙ store-other w′ (6 * n + u) give j a in
     record {
       same =
           record {
@@ -118,12 +118,12 @@ guessed {n} {weight} {u} {guess} {cost} {own} {w} {w′} h room is q =
             middle = λ j l m. else j (λ e. omega arith) (λ e. omega arith) ∙ q .high j l;
             beyond = λ j l. else j (λ e. omega arith) (λ e. omega arith) ∙ q .high j (omega arith);
           };
-      heap = heap-aside n w₁ (7 * n + u) cost (inr (omega arith)) (heap-aside n w′ (6 * n + u) guess (inr (omega arith)) (q .heap));
-      guess-here =
-          store-other w₁ (7 * n + u) cost (6 * n + u) (λ e. omega arith) ∙ store-here w′ (6 * n + u) guess (omega (arith, q .long));
+      queue = queue-aside n w₁ (7 * n + u) cost (inr (omega arith)) (queue-aside n w′ (6 * n + u) give (inr (omega arith)) (q .queue));
+      estimate-here =
+          store-other w₁ (7 * n + u) cost (6 * n + u) (λ e. omega arith) ∙ store-here w′ (6 * n + u) give (omega (arith, q .long));
       walk-here = store-here w₁ (7 * n + u) cost (omega arith);
-      leaf-here = else (2 * n + u) (λ e. omega arith) (λ e. omega arith) ∙ q .leaf-here ∙ ap (λ (x : ℕ). guess + x) is;
-      guess-other = λ x l d. else (6 * n + x) (λ e. d (omega arith)) (λ e. omega arith) ∙ q .high (6 * n + x) (omega arith);
+      leaf-here = else (2 * n + u) (λ e. omega arith) (λ e. omega arith) ∙ q .leaf-here ∙ ap (λ (x : ℕ). give + x) is;
+      estimate-other = λ x l d. else (6 * n + x) (λ e. d (omega arith)) (λ e. omega arith) ∙ q .high (6 * n + x) (omega arith);
       walk-other = λ x l d. else (7 * n + x) (λ e. omega arith) (λ e. d (omega arith)) ∙ q .high (7 * n + x) (omega arith);
       leaf-other = λ x l d. else (2 * n + x) (λ e. omega arith) (λ e. omega arith) ∙ q .leaf-other x l d;
     }

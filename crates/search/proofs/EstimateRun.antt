@@ -27,12 +27,12 @@ use Rattle.search.specs.Block.{Block, graphOf, nodes, hasEdge}
 use Rattle.search.specs.Paths.{stay, step, pathCost, Fair}
 use Rattle.search.specs.Distance.{far, inTree}
 use Rattle.search.specs.Turn.{nearestDistance, openDistances}
-use Rattle.search.specs.Layout.{entryAt, leafAt, priceIn, Heap, Queued}
+use Rattle.search.specs.Layout.{entryAt, leafAt, priceIn, Tournament, Queued}
 use Rattle.search.specs.Aimed.{estimate, weightAt}
-use Rattle.search.specs.Estimates.{guessAt, walkAt, weightMost, keyMost, Beside, NodeGuessed, guess-stays, guess-new, TreeGuessed, GuessedBefore, SinkWaits, SinksWait, SpreadReady, EstimatesMade}
+use Rattle.search.specs.Estimates.{estimateAt, walkAt, weightMost, keyMost, Beside, NodeGiven, given-stays, given-new, TreeGiven, GivenBefore, SinkWaits, SinksWait, SpreadReady, EstimatesMade}
 use Rattle.search.proofs.EdgeLaws.{Shaped, shape-of, edge-node}
 use Rattle.search.proofs.WalkLaws.{stay-cost, step-cost}
-use Rattle.search.proofs.QueueLaws.{heap-least}
+use Rattle.search.proofs.QueueLaws.{queue-least}
 use Rattle.search.proofs.LevelLaws.{least-entry}
 use Rattle.search.proofs.AimedLaws.{est-most, walk-none}
 use Rattle.search.proofs.AimedExact.{LabelWalk, Backward, back-exact, back-above, back-bound}
@@ -43,55 +43,55 @@ use Rattle.search.proofs.EstimateLaws.{capped-cases, weights-light, wei
 -- it has an estimate and has left the queue
 pub record Spent (n : ℕ) (w : List ℕ) (v : ℕ) : Type 0 where
   pub node : v < n
-  pub near : guessAt n w v < far
+  pub near : estimateAt n w v < far
   pub left : leafAt n w v ≡ far
 
 -- it has no estimate, waits at estimate and weight together, or has left the queue
 pub data NodeState (n : ℕ) (weight : ℕ → ℕ) (w : List ℕ) (v : ℕ) : Type 0 where
-  blank : guessAt n w v ≡ far → leafAt n w v ≡ far → NodeState n weight w v
-  waits : guessAt n w v < far → leafAt n w v ≡ guessAt n w v + weight v → NodeState n weight w v
+  blank : estimateAt n w v ≡ far → leafAt n w v ≡ far → NodeState n weight w v
+  waits : estimateAt n w v < far → leafAt n w v ≡ estimateAt n w v + weight v → NodeState n weight w v
   spent : Spent n w v → NodeState n weight w v
 
 -- how many have not left yet falls
 abbrev pub unspent : ℕ → List ℕ → ℕ → Bool
-unspent n w v = not (both (eqb (leafAt n w v) far) (ltb (guessAt n w v) far))
+unspent n w v = not (both (eqb (leafAt n w v) far) (ltb (estimateAt n w v) far))
 
 spent-test : (n : ℕ) (w : List ℕ) (v : ℕ) → Spent n w v → unspent n w v ≡ false
-spent-test n w v s = rw (eq-eqb (leafAt n w v) far (s .left), lt-ltb (guessAt n w v) far (s .near))
+spent-test n w v s = rw (eq-eqb (leafAt n w v) far (s .left), lt-ltb (estimateAt n w v) far (s .near))
 
 spent-of : (n : ℕ) (w : List ℕ) (v : ℕ) → v < n → unspent n w v ≡ false → Spent n w v
 spent-of n w v h e =
-    let t : both (eqb (leafAt n w v) far) (ltb (guessAt n w v) far) ≡ true = not-false (both (eqb (leafAt n w v) far) (ltb (guessAt n w v) far)) e in
+    let t : both (eqb (leafAt n w v) far) (ltb (estimateAt n w v) far) ≡ true = not-false (both (eqb (leafAt n w v) far) (ltb (estimateAt n w v) far)) e in
     record {
       node = h;
-      near = ltb-true (guessAt n w v) far (both-right (eqb (leafAt n w v) far) (ltb (guessAt n w v) far) t);
-      left = eqb-true (leafAt n w v) far (both-left (eqb (leafAt n w v) far) (ltb (guessAt n w v) far) t);
+      near = ltb-true (estimateAt n w v) far (both-right (eqb (leafAt n w v) far) (ltb (estimateAt n w v) far) t);
+      left = eqb-true (leafAt n w v) far (both-left (eqb (leafAt n w v) far) (ltb (estimateAt n w v) far) t);
     }
 
 -- as v leaves the queue at this level, a node is as before, is v, or gets an estimate over its edge to v
 data Moved (b : Block) (weight : ℕ → ℕ) (v level cost : ℕ) (w w₂ : List ℕ) (x : ℕ) : Type 0 where
   still :
-      (x ≡ v → ⊥) → guessAt (nodes b) w₂ x ≡ guessAt (nodes b) w x → walkAt (nodes b) w₂ x ≡ walkAt (nodes b) w x
+      (x ≡ v → ⊥) → estimateAt (nodes b) w₂ x ≡ estimateAt (nodes b) w x → walkAt (nodes b) w₂ x ≡ walkAt (nodes b) w x
       → leafAt (nodes b) w₂ x ≡ leafAt (nodes b) w x → Moved b weight v level cost w w₂ x
   left :
-      x ≡ v → guessAt (nodes b) w₂ x ≡ guessAt (nodes b) w x → walkAt (nodes b) w₂ x ≡ walkAt (nodes b) w x
+      x ≡ v → estimateAt (nodes b) w₂ x ≡ estimateAt (nodes b) w x → walkAt (nodes b) w₂ x ≡ walkAt (nodes b) w x
       → leafAt (nodes b) w₂ x ≡ far → Moved b weight v level cost w w₂ x
   new :
-      guessAt (nodes b) w x ≡ far → hasEdge b x v ≡ true → guessAt (nodes b) w₂ x ≡ level → walkAt (nodes b) w₂ x ≡ cost
+      estimateAt (nodes b) w x ≡ far → hasEdge b x v ≡ true → estimateAt (nodes b) w₂ x ≡ level → walkAt (nodes b) w₂ x ≡ cost
       → leafAt (nodes b) w₂ x ≡ level + weight x → Moved b weight v level cost w w₂ x
 
 -- ---- what holds between two nodes
 
 pub record Estimating (b : Block) (price weight : ℕ → ℕ) (marks sinks w : List ℕ) : Type 0 where
-  pub heap : Heap (nodes b) w
+  pub queue : Tournament (nodes b) w
   pub prices : (v : ℕ) → v < nodes b → priceIn (nodes b) w v ≡ price v
-  pub goals : (s : ℕ) → s < nodes b → has s sinks ≡ true → inTree marks s ≡ false → guessAt (nodes b) w s ≡ 0
-  pub walks : (v : ℕ) → v < nodes b → guessAt (nodes b) w v < far → LabelWalk b price weight marks sinks v (guessAt (nodes b) w v) (walkAt (nodes b) w v)
-  pub few : (v : ℕ) → v < nodes b → guessAt (nodes b) w v < far → guessAt (nodes b) w v ≤ keyMost
+  pub goals : (s : ℕ) → s < nodes b → has s sinks ≡ true → inTree marks s ≡ false → estimateAt (nodes b) w s ≡ 0
+  pub walks : (v : ℕ) → v < nodes b → estimateAt (nodes b) w v < far → LabelWalk b price weight marks sinks v (estimateAt (nodes b) w v) (walkAt (nodes b) w v)
+  pub few : (v : ℕ) → v < nodes b → estimateAt (nodes b) w v < far → estimateAt (nodes b) w v ≤ keyMost
   -- nodes get their estimates in the order of these
-  pub below : (v : ℕ) → v < nodes b → guessAt (nodes b) w v < far → guessAt (nodes b) w v ≤ entryAt (nodes b) w 1
+  pub below : (v : ℕ) → v < nodes b → estimateAt (nodes b) w v < far → estimateAt (nodes b) w v ≤ entryAt (nodes b) w 1
   pub states : (v : ℕ) → v < nodes b → NodeState (nodes b) weight w v
-  pub relaxed : (u v : ℕ) → Spent (nodes b) w v → hasEdge b u v ≡ true → guessAt (nodes b) w u ≤ guessAt (nodes b) w v + weight v
+  pub relaxed : (u v : ℕ) → Spent (nodes b) w v → hasEdge b u v ≡ true → estimateAt (nodes b) w u ≤ estimateAt (nodes b) w v + weight v
 
 -- the same with the bound, and what stood outside queue and estimates at the start
 pub record Spreading (b : Block) (price weight : ℕ → ℕ) (marks sinks w₀ w : List ℕ) (bound : ℕ) : Type 0 where
@@ -109,40 +109,40 @@ module _ {b : Block} {price weight : ℕ → ℕ} {marks sinks : List ℕ} (k : 
   -- ---- the start
 
   module _ {w : List ℕ} (prices : (v : ℕ) → v < nodes b → priceIn (nodes b) w v ≡ price v) (s : SinksWait (nodes b) weight marks sinks w (length sinks)) where
-    start-walk : (v : ℕ) → v < nodes b → SinkWaits (nodes b) weight marks sinks w v → LabelWalk b price weight marks sinks v (guessAt (nodes b) w v) (walkAt (nodes b) w v)
+    start-walk : (v : ℕ) → v < nodes b → SinkWaits (nodes b) weight marks sinks w v → LabelWalk b price weight marks sinks v (estimateAt (nodes b) w v) (walkAt (nodes b) w v)
     start-walk v h q =
         record {
           path = v ∷ [];
           out = record { sink = v; node = h; listed = q .listed; out = q .out; walk = stay v };
-          weighs = stay-cost weight v ∙ sym (q .guess-here);
+          weighs = stay-cost weight v ∙ sym (q .estimate-here);
           costs = inl (omega (arith, stay-cost price v));
         }
 
     -- a node with an estimate is a sink that waits
-    start-sink : (v : ℕ) → v < nodes b → guessAt (nodes b) w v < far → SinkWaits (nodes b) weight marks sinks w v
+    start-sink : (v : ℕ) → v < nodes b → estimateAt (nodes b) w v < far → SinkWaits (nodes b) weight marks sinks w v
     start-sink v h near =
         ⊎-elim
-        (λ (q : (guessAt (nodes b) w v ≡ far) × (leafAt (nodes b) w v ≡ far)). absurd (let e = q .0 in omega arith))
+        (λ (q : (estimateAt (nodes b) w v ≡ far) × (leafAt (nodes b) w v ≡ far)). absurd (let e = q .0 in omega arith))
         (λ q. q)
         (s .each v h)
 
     estimate-start : Estimating b price weight marks sinks w
     estimate-start =
         record {
-          heap = s .heap;
+          queue = s .queue;
           prices = prices;
           goals = λ v h l o.
               let at = has-place v sinks l in
               let same : getD sinks (at .0) 0 ≡ v = at .2 in
-              let zero : guessAt (nodes b) w (getD sinks (at .0) 0) ≡ 0 = s .goals (at .0) (at .1) (rw same o) in
+              let zero : estimateAt (nodes b) w (getD sinks (at .0) 0) ≡ 0 = s .goals (at .0) (at .1) (rw same o) in
               rw same at zero;
           walks = λ v h near. start-walk v h (start-sink v h near);
-          few = λ v h near. omega (arith, start-sink v h near .guess-here);
-          below = λ v h near. omega (arith, start-sink v h near .guess-here);
+          few = λ v h near. omega (arith, start-sink v h near .estimate-here);
+          below = λ v h near. omega (arith, start-sink v h near .estimate-here);
           states = λ v h.
               ⊎-elim
-              (λ (q : (guessAt (nodes b) w v ≡ far) × (leafAt (nodes b) w v ≡ far)). blank (q .0) (q .1))
-              (λ (q : SinkWaits (nodes b) weight marks sinks w v). waits (omega (arith, q .guess-here)) (omega (arith, q .guess-here, q .leaf-here)))
+              (λ (q : (estimateAt (nodes b) w v ≡ far) × (leafAt (nodes b) w v ≡ far)). blank (q .0) (q .1))
+              (λ (q : SinkWaits (nodes b) weight marks sinks w v). waits (omega (arith, q .estimate-here)) (omega (arith, q .estimate-here, q .leaf-here)))
               (s .each v h);
           relaxed = λ u v p e.
               let q = start-sink v (p .node) (p .near) in
@@ -157,47 +157,47 @@ module _ {b : Block} {price weight : ℕ → ℕ} {marks sinks : List ℕ} (k : 
   -- ---- what it says
 
   module _ {w : List ℕ} (s : Estimating b price weight marks sinks w) where
-    guess-top : (v : ℕ) → v < nodes b → guessAt (nodes b) w v ≤ far
-    guess-top v h = top-of (s .states v h)
+    estimate-top : (v : ℕ) → v < nodes b → estimateAt (nodes b) w v ≤ far
+    estimate-top v h = top-of (s .states v h)
       where
-        top-of : NodeState (nodes b) weight w v → guessAt (nodes b) w v ≤ far
+        top-of : NodeState (nodes b) weight w v → estimateAt (nodes b) w v ≤ far
         top-of (blank e l) = le-of-eq e
         top-of (waits near l) = omega arith
         top-of (spent p) = omega (arith, p .near)
 
     -- with the least entry as the level
-    behind : Backward b price weight marks sinks (guessAt (nodes b) w) (walkAt (nodes b) w) (Spent (nodes b) w) (entryAt (nodes b) w 1)
+    behind : Backward b price weight marks sinks (estimateAt (nodes b) w) (walkAt (nodes b) w) (Spent (nodes b) w) (entryAt (nodes b) w 1)
     behind =
         record {
-          top = guess-top;
+          top = estimate-top;
           goals = s .goals;
           walks = s .walks;
           relaxed = s .relaxed;
           sides = λ v h. side v h (s .states v h);
         }
       where
-        side : (v : ℕ) → v < nodes b → NodeState (nodes b) weight w v → Spent (nodes b) w v ⊎ (entryAt (nodes b) w 1 ≤ guessAt (nodes b) w v + weight v)
-        side v h (blank e l) = inr (omega (arith, heap-least (nodes b) w (s .heap) v h))
-        side v h (waits near l) = inr (omega (arith, heap-least (nodes b) w (s .heap) v h))
+        side : (v : ℕ) → v < nodes b → NodeState (nodes b) weight w v → Spent (nodes b) w v ⊎ (entryAt (nodes b) w 1 ≤ estimateAt (nodes b) w v + weight v)
+        side v h (blank e l) = inr (omega (arith, queue-least (nodes b) w (s .queue) v h))
+        side v h (waits near l) = inr (omega (arith, queue-least (nodes b) w (s .queue) v h))
         side v h (spent p) = inl p
 
-    exact : (v : ℕ) → v < nodes b → (guessAt (nodes b) w v ≡ estimate b weight marks sinks v) ⊎ (entryAt (nodes b) w 1 ≤ estimate b weight marks sinks v)
-    exact = back-exact b price weight marks sinks (k .shape) (k .fair) (guessAt (nodes b) w) (walkAt (nodes b) w) (Spent (nodes b) w) (entryAt (nodes b) w 1) behind
+    exact : (v : ℕ) → v < nodes b → (estimateAt (nodes b) w v ≡ estimate b weight marks sinks v) ⊎ (entryAt (nodes b) w 1 ≤ estimate b weight marks sinks v)
+    exact = back-exact b price weight marks sinks (k .shape) (k .fair) (estimateAt (nodes b) w) (walkAt (nodes b) w) (Spent (nodes b) w) (entryAt (nodes b) w 1) behind
 
-    above : (v : ℕ) → v < nodes b → estimate b weight marks sinks v ≤ guessAt (nodes b) w v
-    above = back-above b price weight marks sinks (k .shape) (k .fair) (guessAt (nodes b) w) (walkAt (nodes b) w) (Spent (nodes b) w) (entryAt (nodes b) w 1) behind
+    above : (v : ℕ) → v < nodes b → estimate b weight marks sinks v ≤ estimateAt (nodes b) w v
+    above = back-above b price weight marks sinks (k .shape) (k .fair) (estimateAt (nodes b) w) (walkAt (nodes b) w) (Spent (nodes b) w) (entryAt (nodes b) w 1) behind
 
-    tree-bound : Fair b price → (t : ℕ) → t < nodes b → inTree marks t ≡ true → guessAt (nodes b) w t < far → nearestDistance b price marks sinks ≤ walkAt (nodes b) w t
-    tree-bound = back-bound b price weight marks sinks (k .shape) (k .fair) (guessAt (nodes b) w) (walkAt (nodes b) w) (Spent (nodes b) w) (entryAt (nodes b) w 1) behind
+    tree-bound : Fair b price → (t : ℕ) → t < nodes b → inTree marks t ≡ true → estimateAt (nodes b) w t < far → nearestDistance b price marks sinks ≤ walkAt (nodes b) w t
+    tree-bound = back-bound b price weight marks sinks (k .shape) (k .fair) (estimateAt (nodes b) w) (walkAt (nodes b) w) (Spent (nodes b) w) (entryAt (nodes b) w 1) behind
 
   -- ---- the nearest waiting node
 
   module _ {w : List ℕ} (s : Estimating b price weight marks sinks w) {v : ℕ} (node : v < nodes b) (nearest : leafAt (nodes b) w v ≡ entryAt (nodes b) w 1) (some : entryAt (nodes b) w 1 < far) where
     -- it has an estimate, and the level is that with its weight
-    at-level : (guessAt (nodes b) w v < far) × (guessAt (nodes b) w v + weight v ≡ entryAt (nodes b) w 1)
+    at-level : (estimateAt (nodes b) w v < far) × (estimateAt (nodes b) w v + weight v ≡ entryAt (nodes b) w 1)
     at-level = level-of (s .states v node)
       where
-        level-of : NodeState (nodes b) weight w v → (guessAt (nodes b) w v < far) × (guessAt (nodes b) w v + weight v ≡ entryAt (nodes b) w 1)
+        level-of : NodeState (nodes b) weight w v → (estimateAt (nodes b) w v < far) × (estimateAt (nodes b) w v + weight v ≡ entryAt (nodes b) w 1)
         level-of (blank e l) = absurd (omega arith)
         level-of (waits near l) = (near, sym l ∙ nearest)
         level-of (spent p) = absurd (let l = p .left in omega arith)
@@ -206,12 +206,12 @@ module _ {b : Block} {price weight : ℕ → ℕ} {marks sinks : List ℕ} (k : 
     pub level-few : entryAt (nodes b) w 1 ≤ keyMost
     level-few =
         let at = at-level in
-        let near : guessAt (nodes b) w v < far = at .0 in
-        let sum : guessAt (nodes b) w v + weight v ≡ entryAt (nodes b) w 1 = at .1 in
+        let near : estimateAt (nodes b) w v < far = at .0 in
+        let sum : estimateAt (nodes b) w v + weight v ≡ entryAt (nodes b) w 1 = at .1 in
         let pos = k .fair .pos v node in
         let low = k .most v node in
         let up = above s v node in
-        let right : guessAt (nodes b) w v ≡ estimate b weight marks sinks v =
+        let right : estimateAt (nodes b) w v ≡ estimate b weight marks sinks v =
         ⊎-elim (λ e. e) (λ (q : entryAt (nodes b) w 1 ≤ estimate b weight marks sinks v). absurd (omega arith)) (exact s v node) in
         let most : estimate b weight marks sinks v ≤ nodes b * weightMost = est-most b weight marks sinks (k .shape) (k .fair) weightMost (k .most) v (omega arith) in
         let all : nodes b * weightMost ≤ nodesMost * weightMost = mul-le-mul-right weightMost (k .shape .few) in
@@ -220,7 +220,7 @@ module _ {b : Block} {price weight : ℕ → ℕ} {marks sinks : List ℕ} (k : 
     -- ---- it leaves the queue, and the nodes before it get the level as their estimate
 
     module _ {w₁ w₂ : List ℕ} {bound bound′ : ℕ} (taken : Queued (nodes b) v far w w₁)
-        (row : GuessedBefore b weight marks v (entryAt (nodes b) w 1) (min (walkAt (nodes b) w₁ v + priceIn (nodes b) w₁ v) far) w₁ w₂ bound bound′) where
+        (row : GivenBefore b weight marks v (entryAt (nodes b) w 1) (min (walkAt (nodes b) w₁ v + priceIn (nodes b) w₁ v) far) w₁ w₂ bound bound′) where
       abbrev level : ℕ
       level = entryAt (nodes b) w 1
 
@@ -230,41 +230,41 @@ module _ {b : Block} {price weight : ℕ → ℕ} {marks sinks : List ℕ} (k : 
       moved : (x : ℕ) → x < nodes b → Moved b weight v level cost w w₂ x
       moved x h = moved-by (row .some .each x h)
         where
-          guess-same : guessAt (nodes b) w₁ x ≡ guessAt (nodes b) w x
-          guess-same = taken .high (6 * nodes b + x) (omega arith)
+          estimate-same : estimateAt (nodes b) w₁ x ≡ estimateAt (nodes b) w x
+          estimate-same = taken .high (6 * nodes b + x) (omega arith)
 
           walk-same : walkAt (nodes b) w₁ x ≡ walkAt (nodes b) w x
           walk-same = taken .high (7 * nodes b + x) (omega arith)
 
-          moved-by : NodeGuessed b weight v level cost w₁ w₂ x → Moved b weight v level cost w w₂ x
-          moved-by (guess-stays p q r) =
+          moved-by : NodeGiven b weight v level cost w₁ w₂ x → Moved b weight v level cost w w₂ x
+          moved-by (given-stays p q r) =
               ⊎-elim
-              (λ (e : x ≡ v). left e (p ∙ guess-same) (q ∙ walk-same) (r ∙ subst (λ (y : ℕ). leafAt (nodes b) w₁ y ≡ far) (sym e) (taken .leaf-here)))
-              (λ (d : x ≡ v → ⊥). still d (p ∙ guess-same) (q ∙ walk-same) (r ∙ taken .leaf-other x h d))
+              (λ (e : x ≡ v). left e (p ∙ estimate-same) (q ∙ walk-same) (r ∙ subst (λ (y : ℕ). leafAt (nodes b) w₁ y ≡ far) (sym e) (taken .leaf-here)))
+              (λ (d : x ≡ v → ⊥). still d (p ∙ estimate-same) (q ∙ walk-same) (r ∙ taken .leaf-other x h d))
               (same-or-not x v)
-          moved-by (guess-new p e q r t) = new (sym guess-same ∙ p) e q r t
+          moved-by (given-new p e q r t) = new (sym estimate-same ∙ p) e q r t
 
-      guess-kept : (x : ℕ) → x < nodes b → guessAt (nodes b) w x < far → guessAt (nodes b) w₂ x ≡ guessAt (nodes b) w x
-      guess-kept x h near = same (moved x h)
+      estimate-kept : (x : ℕ) → x < nodes b → estimateAt (nodes b) w x < far → estimateAt (nodes b) w₂ x ≡ estimateAt (nodes b) w x
+      estimate-kept x h near = same (moved x h)
         where
-          same : Moved b weight v level cost w w₂ x → guessAt (nodes b) w₂ x ≡ guessAt (nodes b) w x
+          same : Moved b weight v level cost w w₂ x → estimateAt (nodes b) w₂ x ≡ estimateAt (nodes b) w x
           same (still d p q r) = p
           same (left e p q r) = p
           same (new p e q r t) = absurd (omega arith)
 
       -- an estimate that stood stays, and a new one is the level
-      guess-less : (x : ℕ) → x < nodes b → guessAt (nodes b) w₂ x ≤ guessAt (nodes b) w x
-      guess-less x h = less (moved x h)
+      estimate-less : (x : ℕ) → x < nodes b → estimateAt (nodes b) w₂ x ≤ estimateAt (nodes b) w x
+      estimate-less x h = less (moved x h)
         where
-          less : Moved b weight v level cost w w₂ x → guessAt (nodes b) w₂ x ≤ guessAt (nodes b) w x
+          less : Moved b weight v level cost w w₂ x → estimateAt (nodes b) w₂ x ≤ estimateAt (nodes b) w x
           less (still d p q r) = le-of-eq p
           less (left e p q r) = le-of-eq p
           less (new p e q r t) = omega arith
 
-      guess-known : (x : ℕ) → x < nodes b → guessAt (nodes b) w₂ x < far → guessAt (nodes b) w₂ x ≤ level
-      guess-known x h near = known (moved x h)
+      estimate-known : (x : ℕ) → x < nodes b → estimateAt (nodes b) w₂ x < far → estimateAt (nodes b) w₂ x ≤ level
+      estimate-known x h near = known (moved x h)
         where
-          known : Moved b weight v level cost w w₂ x → guessAt (nodes b) w₂ x ≤ level
+          known : Moved b weight v level cost w w₂ x → estimateAt (nodes b) w₂ x ≤ level
           known (still d p q r) = let m = s .below x h (rw p at near) in omega arith
           known (left e p q r) = let m = s .below x h (rw p at near) in omega arith
           known (new p e q r t) = le-of-eq q
@@ -273,7 +273,7 @@ module _ {b : Block} {price weight : ℕ → ℕ} {marks sinks : List ℕ} (k : 
       leaf-most x h = most (moved x h)
         where
           most : Moved b weight v level cost w w₂ x → level ≤ leafAt (nodes b) w₂ x
-          most (still d p q r) = omega (arith, heap-least (nodes b) w (s .heap) x h)
+          most (still d p q r) = omega (arith, queue-least (nodes b) w (s .queue) x h)
           most (left e p q r) = omega arith
           most (new p e q r t) = omega arith
 
@@ -302,21 +302,21 @@ module _ {b : Block} {price weight : ℕ → ℕ} {marks sinks : List ℕ} (k : 
                 (capped-cases (walkAt (nodes b) w₁ v) (priceIn (nodes b) w₁ v) refl);
           }
 
-      walks-more : (x : ℕ) → x < nodes b → guessAt (nodes b) w₂ x < far → LabelWalk b price weight marks sinks x (guessAt (nodes b) w₂ x) (walkAt (nodes b) w₂ x)
+      walks-more : (x : ℕ) → x < nodes b → estimateAt (nodes b) w₂ x < far → LabelWalk b price weight marks sinks x (estimateAt (nodes b) w₂ x) (walkAt (nodes b) w₂ x)
       walks-more x h near = walk-by (moved x h)
         where
-          walk-by : Moved b weight v level cost w w₂ x → LabelWalk b price weight marks sinks x (guessAt (nodes b) w₂ x) (walkAt (nodes b) w₂ x)
+          walk-by : Moved b weight v level cost w w₂ x → LabelWalk b price weight marks sinks x (estimateAt (nodes b) w₂ x) (walkAt (nodes b) w₂ x)
           walk-by (still d p q r) = rw (p, q) (s .walks x h (rw p at near))
           walk-by (left e p q r) = rw (p, q) (s .walks x h (rw p at near))
           walk-by (new p e q r t) = rw (q, r) (new-walk x h e)
 
-      few-more : (x : ℕ) → x < nodes b → guessAt (nodes b) w₂ x < far → guessAt (nodes b) w₂ x ≤ keyMost
-      few-more x h near = le-trans (guess-known x h near) level-few
+      few-more : (x : ℕ) → x < nodes b → estimateAt (nodes b) w₂ x < far → estimateAt (nodes b) w₂ x ≤ keyMost
+      few-more x h near = le-trans (estimate-known x h near) level-few
 
       states-more : (x : ℕ) → x < nodes b → NodeState (nodes b) weight w₂ x
       states-more x h = state (moved x h)
         where
-          same-state : guessAt (nodes b) w₂ x ≡ guessAt (nodes b) w x → leafAt (nodes b) w₂ x ≡ leafAt (nodes b) w x → NodeState (nodes b) weight w x → NodeState (nodes b) weight w₂ x
+          same-state : estimateAt (nodes b) w₂ x ≡ estimateAt (nodes b) w x → leafAt (nodes b) w₂ x ≡ leafAt (nodes b) w x → NodeState (nodes b) weight w x → NodeState (nodes b) weight w₂ x
           same-state p r (blank a c) = blank (p ∙ a) (r ∙ c)
           same-state p r (waits a c) = waits (omega arith) (omega arith)
           same-state p r (spent a) = spent (record { node = h; near = omega (arith, a .near); left = r ∙ a .left })
@@ -335,32 +335,32 @@ module _ {b : Block} {price weight : ℕ → ℕ} {marks sinks : List ℕ} (k : 
           was (left e a q r) = inr e
           was (new a e q r t) = absurd (let l = p .left in let few = level-few in let m = k .most x (p .node) in omega arith)
 
-      relaxed-more : (u x : ℕ) → Spent (nodes b) w₂ x → hasEdge b u x ≡ true → guessAt (nodes b) w₂ u ≤ guessAt (nodes b) w₂ x + weight x
+      relaxed-more : (u x : ℕ) → Spent (nodes b) w₂ x → hasEdge b u x ≡ true → estimateAt (nodes b) w₂ u ≤ estimateAt (nodes b) w₂ x + weight x
       relaxed-more u x p e =
           let h : u < nodes b = edge-node b (k .shape) u x e in
           ⊎-elim
           (λ (q : Spent (nodes b) w x).
           let old = s .relaxed u x q e in
-          let less = guess-less u h in
-          let same = guess-kept x (p .node) (q .near) in
+          let less = estimate-less u h in
+          let same = estimate-kept x (p .node) (q .near) in
           omega arith)
           (λ (q : x ≡ v).
           let edge : hasEdge b u v ≡ true = rw q at e in
-          let same : guessAt (nodes b) w₂ x ≡ guessAt (nodes b) w x = guess-kept x (p .node) (rw q (at-level .0)) in
-          let sum : guessAt (nodes b) w x + weight x ≡ level = rw q (at-level .1) in
-          let near : guessAt (nodes b) w₂ u < far = omega (arith, guess-less u h, guess-top s u h, row .all u edge) in
-          omega (arith, guess-known u h near))
+          let same : estimateAt (nodes b) w₂ x ≡ estimateAt (nodes b) w x = estimate-kept x (p .node) (rw q (at-level .0)) in
+          let sum : estimateAt (nodes b) w x + weight x ≡ level = rw q (at-level .1) in
+          let near : estimateAt (nodes b) w₂ u < far = omega (arith, estimate-less u h, estimate-top s u h, row .all u edge) in
+          omega (arith, estimate-known u h near))
           (spent-was x p)
 
       estimate-more : Estimating b price weight marks sinks w₂
       estimate-more =
           record {
-            heap = row .some .heap;
+            queue = row .some .queue;
             prices = λ x h. row .some .same .middle (3 * nodes b + x) (omega arith) (omega arith) ∙ taken .high (3 * nodes b + x) (omega arith) ∙ s .prices x h;
-            goals = λ x h l o. let zero = s .goals x h l o in guess-kept x h (omega arith) ∙ zero;
+            goals = λ x h l o. let zero = s .goals x h l o in estimate-kept x h (omega arith) ∙ zero;
             walks = walks-more;
             few = few-more;
-            below = λ x h near. le-trans (guess-known x h near) (least-entry (nodes b) w₂ (row .some .heap) level leaf-most (omega arith));
+            below = λ x h near. le-trans (estimate-known x h near) (least-entry (nodes b) w₂ (row .some .queue) level leaf-most (omega arith));
             states = states-more;
             relaxed = relaxed-more;
           }
@@ -373,7 +373,7 @@ module _ {b : Block} {price weight : ℕ → ℕ} {marks sinks : List ℕ} (k : 
             within =
                 ⊎-elim
                 (λ (e : bound′ ≡ bound). rw e within)
-                (λ (q : (bound′ ≡ cost) × TreeGuessed (nodes b) marks cost w₁ w₂).
+                (λ (q : (bound′ ≡ cost) × TreeGiven (nodes b) marks cost w₁ w₂).
                 let t = q .1 in
                 let is = q .0 in
                 omega (arith, tree-bound estimate-more fair-price (t .tree) (t .node) (t .marked) (t .near), t .cost-here))
@@ -418,7 +418,7 @@ module _ {b : Block} {price weight : ℕ → ℕ} {marks sinks : List ℕ} (k : 
 
   module _ {w₀ w : List ℕ} {bound : ℕ} (run : Spreading b price weight marks sinks w₀ w bound) where
     ended : (most : ℕ) → nearestDistance b price marks sinks ≤ most
-        → ((v : ℕ) → v < nodes b → (guessAt (nodes b) w v ≡ estimate b weight marks sinks v) ⊎ (most < estimate b weight marks sinks v))
+        → ((v : ℕ) → v < nodes b → (estimateAt (nodes b) w v ≡ estimate b weight marks sinks v) ⊎ (most < estimate b weight marks sinks v))
         → EstimatesMade b price weight marks sinks w₀ w
     ended most within known =
         let s = run .holds in
@@ -429,7 +429,7 @@ module _ {b : Block} {price weight : ℕ → ℕ} {marks sinks : List ℕ} (k : 
                 bound = most;
                 within = within;
                 known = known;
-                top = guess-top s;
+                top = estimate-top s;
                 few = s .few;
                 above = above s;
                 goals = s .goals;
@@ -447,7 +447,7 @@ module _ {b : Block} {price weight : ℕ → ℕ} {marks sinks : List ℕ} (k : 
         (λ v h.
         ⊎-elim
         (λ e. inl e)
-        (λ (q : entryAt (nodes b) w 1 ≤ estimate b weight marks sinks v). inl (le-antisymm (omega (arith, guess-top (run .holds) v h)) (above (run .holds) v h)))
+        (λ (q : entryAt (nodes b) w 1 ≤ estimate b weight marks sinks v). inl (le-antisymm (omega (arith, estimate-top (run .holds) v h)) (above (run .holds) v h)))
         (exact (run .holds) v h))
 
     -- what waits is above the bound
@@ -460,7 +460,7 @@ module _ {b : Block} {price weight : ℕ → ℕ} {marks sinks : List ℕ} (k : 
         (λ (q : entryAt (nodes b) w 1 ≤ estimate b weight marks sinks v). inr (omega arith))
         (exact (run .holds) v h))
 
--- ---- as `guess_all` has it
+-- ---- as `give_all` has it
 
 module _ {kinds : List ℕ} {w : Weighting} {last earlier from marks work₀ : List ℕ} (r : SpreadReady kinds w last earlier from marks work₀) where
   abbrev graph : Block

@@ -1,5 +1,5 @@
 -- The beginning of a pass of estimates: none stands, then the unjoined sinks have theirs.
---     unguess-none, unguess-more, unguess-all    the loop that takes the old ones away
+--     none-given-none, none-given-more, none-given-all    the loop that takes the old ones away
 --     sinks-none                                 the queue that it leaves is empty: no sink has been looked at
 --     sinks-passed, sinks-more, all-sinks-wait        the loop over the sinks
 --     spread-ready, made-all                     a whole pass of the three parts
@@ -19,32 +19,32 @@ use Rattle.search.specs.Block.{graphOf}
 use Rattle.search.specs.Distance.{far, inTree}
 use Rattle.search.specs.Layout.{entryAt, leafAt}
 use Rattle.search.specs.Aimed.{weightAt}
-use Rattle.search.specs.Estimates.{guessAt, Beside, Guessed, Unguessed, SinkWaits, SinksWait, EstimateReady, SpreadReady, EstimatesMade}
+use Rattle.search.specs.Estimates.{estimateAt, Beside, Given, NoneGiven, SinkWaits, SinksWait, EstimateReady, SpreadReady, EstimatesMade}
 use Rattle.search.proofs.DistanceLaws.{out-of-tree, in-the-tree}
 use Rattle.search.proofs.StoreLaws.{store-here, store-other}
 use Rattle.search.proofs.EstimateLaws.{beside-none, beside-more}
 
 -- ---- no estimates
 
-pub unguess-none : (n : ℕ) (w : List ℕ) → Unguessed n w w 0
-unguess-none n w =
+pub none-given-none : (n : ℕ) (w : List ℕ) → NoneGiven n w w 0
+none-given-none n w =
     record {
       same = beside-none n w;
       entries = λ v l. absurd (omega arith);
       leaves = λ v l. absurd (omega arith);
-      guesses = λ v l. absurd (omega arith);
+      estimates = λ v l. absurd (omega arith);
     }
 
 -- one more node: three stores
-module _ {n : ℕ} {w w′ : List ℕ} {i : ℕ} (room : 8 * n ≤ length w) (h : i < n) (s : Unguessed n w w′ i) where
+module _ {n : ℕ} {w w′ : List ℕ} {i : ℕ} (room : 8 * n ≤ length w) (h : i < n) (s : NoneGiven n w w′ i) where
   abbrev with-entry : List ℕ
   with-entry = set w′ (n + i) far
 
   abbrev with-leaf : List ℕ
   with-leaf = set with-entry (2 * n + i) far
 
-  abbrev with-guess : List ℕ
-  with-guess = set with-leaf (6 * n + i) far
+  abbrev with-estimate : List ℕ
+  with-estimate = set with-leaf (6 * n + i) far
 
   entry-long : length with-entry ≡ length w
   entry-long = length-set w′ (n + i) far ∙ s .same .long
@@ -53,23 +53,23 @@ module _ {n : ℕ} {w w′ : List ℕ} {i : ℕ} (room : 8 * n ≤ length w) (h 
   leaf-long = length-set with-entry (2 * n + i) far ∙ entry-long
 
   -- a place that is none of the three
-  elsewhere : (j : ℕ) → (j ≡ n + i → ⊥) → (j ≡ 2 * n + i → ⊥) → (j ≡ 6 * n + i → ⊥) → getD with-guess j 0 ≡ getD w′ j 0
+  elsewhere : (j : ℕ) → (j ≡ n + i → ⊥) → (j ≡ 2 * n + i → ⊥) → (j ≡ 6 * n + i → ⊥) → getD with-estimate j 0 ≡ getD w′ j 0
   elsewhere j a b c = store-other with-leaf (6 * n + i) far j c ∙ store-other with-entry (2 * n + i) far j b ∙ store-other w′ (n + i) far j a
 
-  entry-here : entryAt n with-guess i ≡ far
+  entry-here : entryAt n with-estimate i ≡ far
   entry-here =
       store-other with-leaf (6 * n + i) far (n + i) (λ e. omega arith)
       ∙ store-other with-entry (2 * n + i) far (n + i) (λ e. omega arith)
       ∙ store-here w′ (n + i) far (let l = s .same .long in omega arith)
 
-  leaf-here : leafAt n with-guess i ≡ far
+  leaf-here : leafAt n with-estimate i ≡ far
   leaf-here = store-other with-leaf (6 * n + i) far (2 * n + i) (λ e. omega arith) ∙ store-here with-entry (2 * n + i) far (omega (arith, entry-long))
 
-  guess-here : guessAt n with-guess i ≡ far
-  guess-here = store-here with-leaf (6 * n + i) far (omega (arith, leaf-long))
+  estimate-here : estimateAt n with-estimate i ≡ far
+  estimate-here = store-here with-leaf (6 * n + i) far (omega (arith, leaf-long))
 
-  pub unguess-more : Unguessed n w with-guess (i + 1)
-  unguess-more =
+  pub none-given-more : NoneGiven n w with-estimate (i + 1)
+  none-given-more =
       let b = s .same in
       record {
         same =
@@ -89,23 +89,23 @@ module _ {n : ℕ} {w w′ : List ℕ} {i : ℕ} (room : 8 * n ≤ length w) (h 
             (λ (e : v ≡ i). rw e leaf-here)
             (λ (d : v ≡ i → ⊥). elsewhere (2 * n + v) (λ e. omega arith) (λ e. d (omega arith)) (λ e. omega arith) ∙ s .leaves v (omega arith))
             (same-or-not v i);
-        guesses = λ v l.
+        estimates = λ v l.
             ⊎-elim
-            (λ (e : v ≡ i). rw e guess-here)
-            (λ (d : v ≡ i → ⊥). elsewhere (6 * n + v) (λ e. omega arith) (λ e. omega arith) (λ e. d (omega arith)) ∙ s .guesses v (omega arith))
+            (λ (e : v ≡ i). rw e estimate-here)
+            (λ (d : v ≡ i → ⊥). elsewhere (6 * n + v) (λ e. omega arith) (λ e. omega arith) (λ e. d (omega arith)) ∙ s .estimates v (omega arith))
             (same-or-not v i);
       }
 
-pub unguess-all : {n : ℕ} {w w′ : List ℕ} {i : ℕ} → n ≤ i → Unguessed n w w′ i → Unguessed n w w′ n
-unguess-all l s =
+pub none-given-all : {n : ℕ} {w w′ : List ℕ} {i : ℕ} → n ≤ i → NoneGiven n w w′ i → NoneGiven n w w′ n
+none-given-all l s =
     record {
       same = s .same;
       entries = λ v h. s .entries v (omega arith);
       leaves = λ v h. s .leaves v (omega arith);
-      guesses = λ v h. s .guesses v (omega arith);
+      estimates = λ v h. s .estimates v (omega arith);
     }
 
-module _ {n : ℕ} {w w′ : List ℕ} (s : Unguessed n w w′ n) where
+module _ {n : ℕ} {w w′ : List ℕ} (s : NoneGiven n w w′ n) where
   -- every entry of the queue is `far`
   all-far : (k : ℕ) → k < 2 * n → entryAt n w′ k ≡ far
   all-far k h =
@@ -120,11 +120,11 @@ module _ {n : ℕ} {w w′ : List ℕ} (s : Unguessed n w w′ n) where
   pub sinks-none : (weight : ℕ → ℕ) (marks sinks : List ℕ) → SinksWait n weight marks sinks w′ 0
   sinks-none weight marks sinks =
       record {
-        heap = λ i p h.
+        queue = λ i p h.
             let left = all-far (2 * i) (omega arith) in
             let right = all-far (2 * i + 1) (omega arith) in
             all-far i (omega arith) ∙ sym (rw (left, right) (min-eq-left (le-refl far)));
-        each = λ v h. inl (s .guesses v h, s .leaves v h);
+        each = λ v h. inl (s .estimates v h, s .leaves v h);
         goals = λ j l. absurd (omega arith);
       }
 
@@ -135,7 +135,7 @@ module _ {n : ℕ} {weight : ℕ → ℕ} {marks sinks : List ℕ} {w : List ℕ
   pub sinks-passed : getD marks (getD sinks i 0) 0 ≡ 1 → SinksWait n weight marks sinks w (i + 1)
   sinks-passed joined =
       record {
-        heap = s .heap;
+        queue = s .queue;
         each = s .each;
         goals = λ j l o.
             ⊎-elim
@@ -145,18 +145,18 @@ module _ {n : ℕ} {weight : ℕ → ℕ} {marks sinks : List ℕ} {w : List ℕ
       }
 
   -- another gets estimate 0
-  module _ {w′ : List ℕ} (out : getD marks (getD sinks i 0) 0 ≡ 1 → ⊥) (t : Guessed n weight (getD sinks i 0) 0 0 w w′) where
-    sink-still : (v : ℕ) → v < n → (v ≡ getD sinks i 0 → ⊥) → ((guessAt n w v ≡ far) × (leafAt n w v ≡ far)) ⊎ SinkWaits n weight marks sinks w v
-        → ((guessAt n w′ v ≡ far) × (leafAt n w′ v ≡ far)) ⊎ SinkWaits n weight marks sinks w′ v
+  module _ {w′ : List ℕ} (out : getD marks (getD sinks i 0) 0 ≡ 1 → ⊥) (t : Given n weight (getD sinks i 0) 0 0 w w′) where
+    sink-still : (v : ℕ) → v < n → (v ≡ getD sinks i 0 → ⊥) → ((estimateAt n w v ≡ far) × (leafAt n w v ≡ far)) ⊎ SinkWaits n weight marks sinks w v
+        → ((estimateAt n w′ v ≡ far) × (leafAt n w′ v ≡ far)) ⊎ SinkWaits n weight marks sinks w′ v
     sink-still v l d =
         ⊎-elim
-        (λ (q : (guessAt n w v ≡ far) × (leafAt n w v ≡ far)). inl (t .guess-other v l d ∙ q .0, t .leaf-other v l d ∙ q .1))
+        (λ (q : (estimateAt n w v ≡ far) × (leafAt n w v ≡ far)). inl (t .estimate-other v l d ∙ q .0, t .leaf-other v l d ∙ q .1))
         (λ (q : SinkWaits n weight marks sinks w v).
         inr
         (record {
           listed = q .listed;
           out = q .out;
-          guess-here = t .guess-other v l d ∙ q .guess-here;
+          estimate-here = t .estimate-other v l d ∙ q .estimate-here;
           walk-here = t .walk-other v l d ∙ q .walk-here;
           leaf-here = t .leaf-other v l d ∙ q .leaf-here;
         }))
@@ -166,7 +166,7 @@ module _ {n : ℕ} {weight : ℕ → ℕ} {marks sinks : List ℕ} {w : List ℕ
         record {
           listed = has-at sinks i h;
           out = out-of-tree marks (getD sinks i 0) out;
-          guess-here = t .guess-here;
+          estimate-here = t .estimate-here;
           walk-here = t .walk-here;
           leaf-here = omega (arith, t .leaf-here);
         }
@@ -174,7 +174,7 @@ module _ {n : ℕ} {weight : ℕ → ℕ} {marks sinks : List ℕ} {w : List ℕ
     pub sinks-more : (nodes : (j : ℕ) → j < length sinks → getD sinks j 0 < n) → SinksWait n weight marks sinks w′ (i + 1)
     sinks-more nodes =
         record {
-          heap = t .heap;
+          queue = t .queue;
           each = λ v l.
               ⊎-elim
               (λ (e : v ≡ getD sinks i 0). inr (rw e sink-here))
@@ -182,10 +182,10 @@ module _ {n : ℕ} {weight : ℕ → ℕ} {marks sinks : List ℕ} {w : List ℕ
               (same-or-not v (getD sinks i 0));
           goals = λ j l o.
               ⊎-elim
-              (λ (e : getD sinks j 0 ≡ getD sinks i 0). rw e (t .guess-here))
+              (λ (e : getD sinks j 0 ≡ getD sinks i 0). rw e (t .estimate-here))
               (λ (d : getD sinks j 0 ≡ getD sinks i 0 → ⊥).
               let before : j < i = at-or-below d l in
-              t .guess-other (getD sinks j 0) (nodes j (omega arith)) d ∙ s .goals j before o)
+              t .estimate-other (getD sinks j 0) (nodes j (omega arith)) d ∙ s .goals j before o)
               (same-or-not (getD sinks j 0) (getD sinks i 0));
         }
       where
@@ -193,12 +193,12 @@ module _ {n : ℕ} {weight : ℕ → ℕ} {marks sinks : List ℕ} {w : List ℕ
         at-or-below {j} d l = ⊎-elim (λ (e : j ≡ i). absurd (d (ap (λ (k : ℕ). getD sinks k 0) e))) (λ (q : j ≡ i → ⊥). omega arith) (same-or-not j i)
 
 pub all-sinks-wait : {n : ℕ} {weight : ℕ → ℕ} {marks sinks w : List ℕ} {i : ℕ} → length sinks ≤ i → SinksWait n weight marks sinks w i → SinksWait n weight marks sinks w (length sinks)
-all-sinks-wait l s = record { heap = s .heap; each = s .each; goals = λ j h. s .goals j (omega arith) }
+all-sinks-wait l s = record { queue = s .queue; each = s .each; goals = λ j h. s .goals j (omega arith) }
 
 -- ---- a whole pass
 
 module _ {kinds : List ℕ} {weighting : Weighting} {last earlier from marks sinks w w₁ w₂ : List ℕ} (r : EstimateReady kinds weighting last earlier from marks sinks w)
-    (u : Unguessed (length kinds) w w₁ (length kinds))
+    (u : NoneGiven (length kinds) w w₁ (length kinds))
     (s : Beside (length kinds) w₁ w₂ × SinksWait (length kinds) (weightAt (graphOf kinds [] []) weighting) marks sinks w₂ (length sinks)) where
   pub same-start : Beside (length kinds) w w₂
   same-start = beside-more (u .same) (s .0)

@@ -8,9 +8,9 @@ use native.Mathlib.Nat.{le-min}
 use native.Mathlib.Omega.{arith}
 use lib.ListN.{getD}
 use Rattle.price.proofs.TestLaws.{le-or-lt}
-use Rattle.search.specs.Layout.{entryAt, leafAt, Heap}
+use Rattle.search.specs.Layout.{entryAt, leafAt, Tournament}
 
-module _ (n : ℕ) (w : List ℕ) (heap : Heap n w) (k : ℕ) (leaves : (v : ℕ) → v < n → k ≤ leafAt n w v) where
+module _ (n : ℕ) (w : List ℕ) (queue : Tournament n w) (k : ℕ) (leaves : (v : ℕ) → v < n → k ≤ leafAt n w v) where
   -- entry n + v is v's leaf
   at-leaf : (i : ℕ) → n ≤ i → i < 2 * n → k ≤ entryAt n w i
   at-leaf i l h =
@@ -22,7 +22,7 @@ module _ (n : ℕ) (w : List ℕ) (heap : Heap n w) (k : ℕ) (leaves : (v : ℕ
       ⊎-elim
       (λ (q : n ≤ i). at-leaf i q h)
       (λ (q : i < n).
-      rw (heap i p q) (le-min (from d (2 * i) (omega arith) (omega arith) (omega arith)) (from d (2 * i + 1) (omega arith) (omega arith) (omega arith))))
+      rw (queue i p q) (le-min (from d (2 * i) (omega arith) (omega arith) (omega arith)) (from d (2 * i + 1) (omega arith) (omega arith) (omega arith))))
       (le-or-lt n i)
 
   -- a number that is at most every leaf is at most the least entry

@@ -1,9 +1,9 @@
 -- Laws of the queue, a tournament tree: what a store leaves of it, how the loops put it right, and that entry 1 is the least.
---     heap-whole                          an entry that was left out is right too
---     heap-leaf, heap-node                a store at a leaf leaves only the entry above it
---     heap-same, heap-aside, heap-way     stores outside the queue leave it right
---     heap-here, heap-up                  a store that puts an inner entry right
---     entry-child, heap-least             an inner entry is one of its children; entry 1 is at most every leaf
+--     queue-whole                          an entry that was left out is right too
+--     queue-leaf, queue-node                a store at a leaf leaves only the entry above it
+--     queue-same, queue-aside, queue-way     stores outside the queue leave it right
+--     queue-here, queue-up                  a store that puts an inner entry right
+--     entry-child, queue-least             an inner entry is one of its children; entry 1 is at most every leaf
 --     Carrying, Lowering                  the invariants of `carry_up` and `lower_above`, with their steps and ends
 --     Building, Descending                those of `build` and `nearest`
 -- Assumes nothing.
@@ -15,19 +15,19 @@ use native.Mathlib.Nat.{not-suc-le-zero, lt-irrefl, le-refl, le-trans, min-le-le
 use native.Mathlib.Omega.{arith}
 use lib.ListN.{length, getD, set, length-set}
 use Rattle.price.proofs.TestLaws.{le-or-lt, same-or-not}
-use Rattle.search.specs.Layout.{entryAt, leafAt, HeapAt, HeapBut, LoweredBelow, Heap, SameBut}
+use Rattle.search.specs.Layout.{entryAt, leafAt, TournamentAt, TournamentBut, LoweredBelow, Tournament, SameBut}
 use Rattle.search.proofs.StoreLaws.{store-here, store-other, same-none, same-store}
 
 -- ---- inner entries that are the least of their children
 
 -- the entry that was left out is also the least of its children
-pub heap-whole : (n : ℕ) (w : List ℕ) (j : ℕ) → HeapBut n w j → HeapAt n w j → Heap n w
-heap-whole n w j b e i l h =
+pub queue-whole : (n : ℕ) (w : List ℕ) (j : ℕ) → TournamentBut n w j → TournamentAt n w j → Tournament n w
+queue-whole n w j b e i l h =
     ⊎-elim (λ (s : i ≡ j). rw s e) (λ (d : i ≡ j → ⊥). b i l h d) (same-or-not i j)
 
 -- an entry that stands with its children as before
-heap-kept : (n : ℕ) (w w′ : List ℕ) (i : ℕ) → entryAt n w′ i ≡ entryAt n w i → entryAt n w′ (2 * i) ≡ entryAt n w (2 * i) → entryAt n w′ (2 * i + 1) ≡ entryAt n w (2 * i + 1) → HeapAt n w i → HeapAt n w′ i
-heap-kept n w w′ i here left right e = cc
+queue-kept : (n : ℕ) (w w′ : List ℕ) (i : ℕ) → entryAt n w′ i ≡ entryAt n w i → entryAt n w′ (2 * i) ≡ entryAt n w (2 * i) → entryAt n w′ (2 * i + 1) ≡ entryAt n w (2 * i + 1) → TournamentAt n w i → TournamentAt n w′ i
+queue-kept n w w′ i here left right e = cc
 
 -- ---- a store at an entry
 
@@ -36,58 +36,58 @@ module _ (n : ℕ) (w : List ℕ) (i x : ℕ) where
   entry-other k d = store-other w (n + i) x (n + k) (λ e. d (omega arith))
 
   -- only the equations of the entry itself and of the entry above it can change
-  heap-far : (j : ℕ) → (j ≡ i → ⊥) → (j ≡ i / 2 → ⊥) → HeapAt n w j → HeapAt n (set w (n + i) x) j
-  heap-far j d u =
-      heap-kept n w (set w (n + i) x) j
+  queue-far : (j : ℕ) → (j ≡ i → ⊥) → (j ≡ i / 2 → ⊥) → TournamentAt n w j → TournamentAt n (set w (n + i) x) j
+  queue-far j d u =
+      queue-kept n w (set w (n + i) x) j
       (entry-other j d)
       (entry-other (2 * j) (λ e. u (omega arith)))
       (entry-other (2 * j + 1) (λ e. u (omega arith)))
 
   -- a store at a leaf
-  pub heap-leaf : n ≤ i → Heap n w → HeapBut n (set w (n + i) x) (i / 2)
-  heap-leaf leaf b j l h u = heap-far j (λ e. omega arith) u (b j l h)
+  pub queue-leaf : n ≤ i → Tournament n w → TournamentBut n (set w (n + i) x) (i / 2)
+  queue-leaf leaf b j l h u = queue-far j (λ e. omega arith) u (b j l h)
 
   -- a store at an inner entry that makes it the least of its children
   module _ (pos : 1 ≤ i) (inner : i < n) (long : 3 * n ≤ length w) (least : x ≡ min (entryAt n w (2 * i)) (entryAt n w (2 * i + 1))) where
-    pub heap-here : HeapAt n (set w (n + i) x) i
-    heap-here =
+    pub queue-here : TournamentAt n (set w (n + i) x) i
+    queue-here =
         let here : entryAt n (set w (n + i) x) i ≡ x = store-here w (n + i) x (omega arith) in
         let left : entryAt n (set w (n + i) x) (2 * i) ≡ entryAt n w (2 * i) = entry-other (2 * i) (λ e. omega arith) in
         let right : entryAt n (set w (n + i) x) (2 * i + 1) ≡ entryAt n w (2 * i + 1) = entry-other (2 * i + 1) (λ e. omega arith) in
         cc
 
-    pub heap-up : HeapBut n w i → HeapBut n (set w (n + i) x) (i / 2)
-    heap-up b j l h u =
+    pub queue-up : TournamentBut n w i → TournamentBut n (set w (n + i) x) (i / 2)
+    queue-up b j l h u =
         ⊎-elim
-        (λ (s : j ≡ i). rw s heap-here)
-        (λ (d : j ≡ i → ⊥). heap-far j d u (b j l h d))
+        (λ (s : j ≡ i). rw s queue-here)
+        (λ (d : j ≡ i → ⊥). queue-far j d u (b j l h d))
         (same-or-not j i)
 
 -- a store at a node's leaf
-pub heap-node : (n : ℕ) (w : List ℕ) (v x : ℕ) → Heap n w → HeapBut n (set w (2 * n + v) x) ((n + v) / 2)
-heap-node n w v x b =
+pub queue-node : (n : ℕ) (w : List ℕ) (v x : ℕ) → Tournament n w → TournamentBut n (set w (2 * n + v) x) ((n + v) / 2)
+queue-node n w v x b =
     let e : n + (n + v) ≡ 2 * n + v = omega arith in
-    subst (λ (k : ℕ). HeapBut n (set w k x) ((n + v) / 2)) e (heap-leaf n w (n + v) x (omega arith) b)
+    subst (λ (k : ℕ). TournamentBut n (set w k x) ((n + v) / 2)) e (queue-leaf n w (n + v) x (omega arith) b)
 
 -- where the entries are as before
-pub heap-same : (n : ℕ) (w w′ : List ℕ) → ((k : ℕ) → 1 ≤ k → k < 2 * n → entryAt n w′ k ≡ entryAt n w k) → Heap n w → Heap n w′
-heap-same n w w′ same b i l h =
-    heap-kept n w w′ i (same i l (omega arith)) (same (2 * i) (omega arith) (omega arith)) (same (2 * i + 1) (omega arith) (omega arith)) (b i l h)
+pub queue-same : (n : ℕ) (w w′ : List ℕ) → ((k : ℕ) → 1 ≤ k → k < 2 * n → entryAt n w′ k ≡ entryAt n w k) → Tournament n w → Tournament n w′
+queue-same n w w′ same b i l h =
+    queue-kept n w w′ i (same i l (omega arith)) (same (2 * i) (omega arith) (omega arith)) (same (2 * i + 1) (omega arith) (omega arith)) (b i l h)
 
 -- a store at a place that no entry of the queue has
-pub heap-aside : (n : ℕ) (w : List ℕ) (p x : ℕ) → (p ≤ n) ⊎ (3 * n ≤ p) → Heap n w → Heap n (set w p x)
-heap-aside n w p x out =
-    heap-same n w (set w p x) (λ k a z. store-other w p x (n + k) (λ e. ⊎-elim (λ q. omega arith) (λ q. omega arith) out))
+pub queue-aside : (n : ℕ) (w : List ℕ) (p x : ℕ) → (p ≤ n) ⊎ (3 * n ≤ p) → Tournament n w → Tournament n (set w p x)
+queue-aside n w p x out =
+    queue-same n w (set w p x) (λ k a z. store-other w p x (n + k) (λ e. ⊎-elim (λ q. omega arith) (λ q. omega arith) out))
 
 -- distance and predecessor of a shorter way to v
-pub heap-way : (n : ℕ) (w : List ℕ) (u v d : ℕ) → v < n → Heap n w → Heap n (set (set w v d) (4 * n + v) u)
-heap-way n w u v d h b =
-    heap-aside n (set w v d) (4 * n + v) u (inr (omega arith)) (heap-aside n w v d (inl (omega arith)) b)
+pub queue-way : (n : ℕ) (w : List ℕ) (u v d : ℕ) → v < n → Tournament n w → Tournament n (set (set w v d) (4 * n + v) u)
+queue-way n w u v d h b =
+    queue-aside n (set w v d) (4 * n + v) u (inr (omega arith)) (queue-aside n w v d (inl (omega arith)) b)
 
 -- ---- the least entry
 
 -- an inner entry is one of its children
-pub entry-child : (n : ℕ) (w : List ℕ) (i : ℕ) → HeapAt n w i → (entryAt n w (2 * i) ≡ entryAt n w i) ⊎ (entryAt n w (2 * i + 1) ≡ entryAt n w i)
+pub entry-child : (n : ℕ) (w : List ℕ) (i : ℕ) → TournamentAt n w i → (entryAt n w (2 * i) ≡ entryAt n w i) ⊎ (entryAt n w (2 * i + 1) ≡ entryAt n w i)
 entry-child n w i e =
     ⊎-elim
     (λ h. inl (sym (e ∙ min-eq-left h)))
@@ -95,9 +95,9 @@ entry-child n w i e =
     (le-or-lt (entryAt n w (2 * i)) (entryAt n w (2 * i + 1)))
 
 -- an entry is at least the one above it
-entry-above : (n : ℕ) (w : List ℕ) → Heap n w → (i : ℕ) → 2 ≤ i → i < 2 * n → entryAt n w (i / 2) ≤ entryAt n w i
+entry-above : (n : ℕ) (w : List ℕ) → Tournament n w → (i : ℕ) → 2 ≤ i → i < 2 * n → entryAt n w (i / 2) ≤ entryAt n w i
 entry-above n w b i l h =
-    let up : HeapAt n w (i / 2) = b (i / 2) (omega arith) (omega arith) in
+    let up : TournamentAt n w (i / 2) = b (i / 2) (omega arith) (omega arith) in
     ⊎-elim
     (λ (p : i ≤ 2 * (i / 2)).
     let e : 2 * (i / 2) ≡ i = omega arith in
@@ -108,7 +108,7 @@ entry-above n w b i l h =
     (le-or-lt i (2 * (i / 2)))
 
 -- entry 1 is at most every entry
-entry-least : (n : ℕ) (w : List ℕ) → Heap n w → (fuel i : ℕ) → i ≤ fuel → 1 ≤ i → i < 2 * n → entryAt n w 1 ≤ entryAt n w i
+entry-least : (n : ℕ) (w : List ℕ) → Tournament n w → (fuel i : ℕ) → i ≤ fuel → 1 ≤ i → i < 2 * n → entryAt n w 1 ≤ entryAt n w i
 entry-least n w b zero i f l h = absurd (not-suc-le-zero (le-trans l f))
 entry-least n w b (suc fuel) i f l h =
     ⊎-elim
@@ -116,8 +116,8 @@ entry-least n w b (suc fuel) i f l h =
     (λ (g : 1 < i). le-trans (entry-least n w b fuel (i / 2) (omega arith) (omega arith) (omega arith)) (entry-above n w b i g h))
     (eq-or-lt-of-le l)
 
-pub heap-least : (n : ℕ) (w : List ℕ) → Heap n w → (v : ℕ) → v < n → entryAt n w 1 ≤ leafAt n w v
-heap-least n w b v h =
+pub queue-least : (n : ℕ) (w : List ℕ) → Tournament n w → (v : ℕ) → v < n → entryAt n w 1 ≤ leafAt n w v
+queue-least n w b v h =
     let e : n + (n + v) ≡ 2 * n + v = omega arith in
     subst (λ (k : ℕ). entryAt n w 1 ≤ getD w k 0) e (entry-least n w b (n + v) (n + v) (le-refl _) (omega arith) (omega arith))
 
@@ -127,7 +127,7 @@ heap-least n w b v h =
 pub record Carrying (n : ℕ) (old w : List ℕ) (i : ℕ) : Type 0 where
   pub inner : i < n
   pub room : 3 * n ≤ length w
-  pub but : HeapBut n w i
+  pub but : TournamentBut n w i
   pub same : SameBut (n + 1) (2 * n) old w
 
 module _ (n : ℕ) (old w : List ℕ) (i : ℕ) where
@@ -137,7 +137,7 @@ module _ (n : ℕ) (old w : List ℕ) (i : ℕ) where
       record {
         inner = omega (arith, k .inner);
         room = k .room;
-        but = λ j l h d. heap-whole n w i (k .but) (e ∙ least) j l h;
+        but = λ j l h d. queue-whole n w i (k .but) (e ∙ least) j l h;
         same = k .same;
       }
 
@@ -147,12 +147,12 @@ module _ (n : ℕ) (old w : List ℕ) (i : ℕ) where
       record {
         inner = omega (arith, k .inner);
         room = omega (arith, k .room, length-set w (n + i) x);
-        but = heap-up n w i x pos (k .inner) (k .room) least (k .but);
+        but = queue-up n w i x pos (k .inner) (k .room) least (k .but);
         same = same-store (n + 1) (2 * n) old w (n + i) x (omega arith) (omega (arith, k .inner)) (k .same);
       }
 
   -- no inner entry is left
-  pub carried-all : i ≤ 0 → Carrying n old w i → Heap n w
+  pub carried-all : i ≤ 0 → Carrying n old w i → Tournament n w
   carried-all l k j p h = k .but j p h (λ e. omega arith)
 
 -- ---- carrying a lower key up
@@ -170,7 +170,7 @@ min-left a c key low =
 min-right : (a c key : ℕ) → key ≤ c → min a key ≡ min (min a c) key
 min-right a c key low = min-comm a key ∙ min-left c a key low ∙ rw (min-comm c a)
 
-module _ (n : ℕ) (w : List ℕ) (i key : ℕ) (some : 2 ≤ i) (inside : i < 2 * n) (long : 3 * n ≤ length w) (low : key ≤ entryAt n w i) (right : HeapAt n w (i / 2)) where
+module _ (n : ℕ) (w : List ℕ) (i key : ℕ) (some : 2 ≤ i) (inside : i < 2 * n) (long : 3 * n ≤ length w) (low : key ≤ entryAt n w i) (right : TournamentAt n w (i / 2)) where
   -- a store that lowers an entry
   lowered : LoweredBelow n key (set w (n + i) key) (i / 2)
   lowered h =
@@ -212,7 +212,7 @@ module _ (n : ℕ) (old w : List ℕ) (key i : ℕ) (pos : 0 < i) where
 
 -- a store at a node's leaf that lowers it
 pub lowered-node :
-    (n : ℕ) (w : List ℕ) (v key : ℕ) → v < n → 3 * n ≤ length w → key ≤ leafAt n w v → Heap n w → LoweredBelow n key (set w (2 * n + v) key) ((n + v) / 2)
+    (n : ℕ) (w : List ℕ) (v key : ℕ) → v < n → 3 * n ≤ length w → key ≤ leafAt n w v → Tournament n w → LoweredBelow n key (set w (2 * n + v) key) ((n + v) / 2)
 lowered-node n w v key node long low b h =
     let e : n + (n + v) ≡ 2 * n + v = omega arith in
     subst (λ (k : ℕ). LoweredBelow n key (set w k key) ((n + v) / 2)) e
@@ -224,7 +224,7 @@ lowered-node n w v key node long low b h =
 pub record Building (n : ℕ) (old w : List ℕ) (i : ℕ) : Type 0 where
   pub within : i ≤ n
   pub room : 3 * n ≤ length w
-  pub right : (j : ℕ) → i ≤ j → j < n → HeapAt n w j
+  pub right : (j : ℕ) → i ≤ j → j < n → TournamentAt n w j
   pub same : SameBut (n + 1) (2 * n) old w
 
 pub built-none : (n : ℕ) (w : List ℕ) → 3 * n ≤ length w → Building n w w n
@@ -245,13 +245,13 @@ module _ (n : ℕ) (old w : List ℕ) (i : ℕ) where
         room = omega (arith, b .room, length-set w (n + (i - 1)) x);
         right = λ j l h.
             ⊎-elim
-            (λ (e : i - 1 ≡ j). subst (HeapAt n (set w (n + (i - 1)) x)) e (heap-here n w (i - 1) x (omega arith) inner (b .room) least))
-            (λ (g : i - 1 < j). heap-far n w (i - 1) x j (λ e. omega arith) (λ e. omega arith) (b .right j (omega arith) h))
+            (λ (e : i - 1 ≡ j). subst (TournamentAt n (set w (n + (i - 1)) x)) e (queue-here n w (i - 1) x (omega arith) inner (b .room) least))
+            (λ (g : i - 1 < j). queue-far n w (i - 1) x j (λ e. omega arith) (λ e. omega arith) (b .right j (omega arith) h))
             (eq-or-lt-of-le l);
         same = same-store (n + 1) (2 * n) old w (n + (i - 1)) x (omega arith) (omega arith) (b .same);
       }
 
-  pub built : i ≤ 1 → Building n old w i → Heap n w
+  pub built : i ≤ 1 → Building n old w i → Tournament n w
   built l b j p h = b .right j (omega arith) h
 
 -- ---- going down to the least leaf
@@ -269,7 +269,7 @@ module _ (n : ℕ) (w : List ℕ) (i : ℕ) where
       let left : 2 * i + right ≡ 2 * i = omega arith in
       rw left (record { pos = omega (arith, d .pos); below = omega arith; least = e ∙ d .least })
 
-  pub down-right : {right : ℕ} → Heap n w → i < n → (entryAt n w (2 * i) ≡ entryAt n w i → ⊥) → right ≡ 1 → Descending n w i → Descending n w (2 * i + right)
+  pub down-right : {right : ℕ} → Tournament n w → i < n → (entryAt n w (2 * i) ≡ entryAt n w i → ⊥) → right ≡ 1 → Descending n w i → Descending n w (2 * i + right)
   down-right b h ne o d =
       rw o
       (record {

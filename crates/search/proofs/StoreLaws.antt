@@ -10,7 +10,7 @@ use Prim.Native.Nat.{ℕ, _+_, _*_, _≤_, _<_}
 use native.Mathlib.Omega.{arith}
 use lib.ListN.{length, getD, set, length-set}
 use lib.Seq.{getD-set-same, getD-set-other}
-use Rattle.search.specs.Layout.{Heap, SameBut, Queued, Shortened}
+use Rattle.search.specs.Layout.{Tournament, SameBut, Queued, Shortened}
 
 pub store-here : (w : List ℕ) (i x : ℕ) → i < length w → getD (set w i x) i 0 ≡ x
 store-here w i x h = getD-set-same w i x 0 h
@@ -36,11 +36,11 @@ same-store lo hi old w i x l h s =
 
 -- node v waits at this key: one store, and then the queue's inner entries
 pub queued :
-    {n v key : ℕ} {w w′ : List ℕ} → v < n → 8 * n ≤ length w → Heap n w′ → SameBut (n + 1) (2 * n) (set w (2 * n + v) key) w′ → Queued n v key w w′
-queued {n} {v} {key} {w} {w′} h room heap same =
+    {n v key : ℕ} {w w′ : List ℕ} → v < n → 8 * n ≤ length w → Tournament n w′ → SameBut (n + 1) (2 * n) (set w (2 * n + v) key) w′ → Queued n v key w w′
+queued {n} {v} {key} {w} {w′} h room queue same =
     record {
       long = same .long ∙ length-set w (2 * n + v) key;
-      heap = heap;
+      queue = queue;
       leaf-here = same .high (2 * n + v) (omega arith) ∙ store-here w (2 * n + v) key (omega arith);
       leaf-other = λ x l e. same .high (2 * n + x) (omega arith) ∙ store-other w (2 * n + v) key (2 * n + x) (λ q. e (omega arith));
       low = λ j l. same .low j (omega arith) ∙ store-other w (2 * n + v) key j (λ q. omega arith);
@@ -58,7 +58,7 @@ shortened {n} {u} {v} {d} {key} {w} {w′} h room q =
     λ j a b. store-other w₁ (4 * n + v) u j b ∙ store-other w v d j a in
     record {
       long = q .long ∙ length-set w₁ (4 * n + v) u ∙ long₁;
-      heap = q .heap;
+      queue = q .queue;
       dist-here = q .low v h ∙ store-other w₁ (4 * n + v) u v (λ e. omega arith) ∙ store-here w v d (omega arith);
       pred-here = q .high (4 * n + v) (omega arith) ∙ store-here w₁ (4 * n + v) u (omega arith);
       leaf-here = q .leaf-here;

@@ -17,9 +17,9 @@ use Rattle.search.specs.Tables.{Graph}
 use Rattle.search.specs.Paths.{anyPriceMost, Fair}
 use Rattle.search.specs.Distance.{far, inTree, distances, distance}
 use Rattle.search.specs.Turn.{before, nearestDistance}
-use Rattle.search.specs.Layout.{distAt, leafAt, priceIn, predAt, Heap, Shortened}
+use Rattle.search.specs.Layout.{distAt, leafAt, priceIn, predAt, Tournament, Shortened}
 use Rattle.search.specs.Aimed.{expands}
-use Rattle.search.specs.Estimates.{guessAt, keyMost, Estimated}
+use Rattle.search.specs.Estimates.{estimateAt, keyMost, Estimated}
 
 -- ---- one edge, and the edges of one node
 
@@ -27,7 +27,7 @@ use Rattle.search.specs.Estimates.{guessAt, keyMost, Estimated}
 pub record AimStarted (n : ℕ) (marks w w′ : List ℕ) : Type 0 where
   pub long : length w′ ≡ length w
   pub dist : (v : ℕ) → v < n → distAt w′ v ≡ choose (inTree marks v) 0 far
-  pub leaf : (v : ℕ) → v < n → leafAt n w′ v ≡ choose (inTree marks v) (guessAt n w v) far
+  pub leaf : (v : ℕ) → v < n → leafAt n w′ v ≡ choose (inTree marks v) (estimateAt n w v) far
   pub high : (j : ℕ) → 3 * n ≤ j → getD w′ j 0 ≡ getD w j 0
 
 -- how long the way to v over u is
@@ -37,12 +37,12 @@ wayOver n w u v = distAt w u + priceIn n w v
 -- what looking at the edge from u to v does: nothing where v has no estimate; else v gets a shorter way, or as short a way over a lower
 -- node, or nothing changes
 pub data AimedOver (n u v : ℕ) (w w′ : List ℕ) : Type 0 where
-  over-blind : guessAt n w v ≡ far → w′ ≡ w → AimedOver n u v w w′
+  over-blind : estimateAt n w v ≡ far → w′ ≡ w → AimedOver n u v w w′
   over-shorter :
-      (guessAt n w v ≡ far → ⊥) → wayOver n w u v < distAt w v
-      → Shortened n u v (wayOver n w u v) (wayOver n w u v + guessAt n w v) w w′ → AimedOver n u v w w′
+      (estimateAt n w v ≡ far → ⊥) → wayOver n w u v < distAt w v
+      → Shortened n u v (wayOver n w u v) (wayOver n w u v + estimateAt n w v) w w′ → AimedOver n u v w w′
   over-lower :
-      (guessAt n w v ≡ far → ⊥) → wayOver n w u v ≡ distAt w v → u < predAt n w v → w′ ≡ set w (4 * n + v) u → AimedOver n u v w w′
+      (estimateAt n w v ≡ far → ⊥) → wayOver n w u v ≡ distAt w v → u < predAt n w v → w′ ≡ set w (4 * n + v) u → AimedOver n u v w w′
   over-kept : distAt w v ≤ wayOver n w u v → (wayOver n w u v ≡ distAt w v → predAt n w v ≤ u) → w′ ≡ w → AimedOver n u v w w′
 
 -- what looking at edges of u has done to node x
@@ -51,17 +51,17 @@ pub data AimedAt (b : Block) (u : ℕ) (w w′ : List ℕ) (x : ℕ) : Type 0 wh
       distAt w′ x ≡ distAt w x → predAt (nodes b) w′ x ≡ predAt (nodes b) w x → leafAt (nodes b) w′ x ≡ leafAt (nodes b) w x
       → AimedAt b u w w′ x
   at-shorter :
-      hasEdge b u x ≡ true → (guessAt (nodes b) w x ≡ far → ⊥) → wayOver (nodes b) w u x < distAt w x
+      hasEdge b u x ≡ true → (estimateAt (nodes b) w x ≡ far → ⊥) → wayOver (nodes b) w u x < distAt w x
       → distAt w′ x ≡ wayOver (nodes b) w u x → predAt (nodes b) w′ x ≡ u
-      → leafAt (nodes b) w′ x ≡ wayOver (nodes b) w u x + guessAt (nodes b) w x → AimedAt b u w w′ x
+      → leafAt (nodes b) w′ x ≡ wayOver (nodes b) w u x + estimateAt (nodes b) w x → AimedAt b u w w′ x
   at-lower :
-      hasEdge b u x ≡ true → (guessAt (nodes b) w x ≡ far → ⊥) → wayOver (nodes b) w u x ≡ distAt w x → u < predAt (nodes b) w x
+      hasEdge b u x ≡ true → (estimateAt (nodes b) w x ≡ far → ⊥) → wayOver (nodes b) w u x ≡ distAt w x → u < predAt (nodes b) w x
       → distAt w′ x ≡ distAt w x → predAt (nodes b) w′ x ≡ u → leafAt (nodes b) w′ x ≡ leafAt (nodes b) w x → AimedAt b u w w′ x
 
 -- edges of u have been looked at; what stands outside queue, distances and predecessors stays
 pub record AimedSome (b : Block) (u : ℕ) (w w′ : List ℕ) : Type 0 where
   pub long : length w′ ≡ length w
-  pub heap : Heap (nodes b) w′
+  pub queue : Tournament (nodes b) w′
   pub each : (x : ℕ) → x < nodes b → AimedAt b u w w′ x
   pub price-same : (x : ℕ) → x < nodes b → priceIn (nodes b) w′ x ≡ priceIn (nodes b) w x
   pub high : (j : ℕ) → 5 * nodes b ≤ j → getD w′ j 0 ≡ getD w j 0
@@ -74,23 +74,23 @@ pub record EdgePassed (n u : ℕ) (w w′ : List ℕ) (x : ℕ) : Type 0 where
 -- every edge of u to a node that has an estimate has been looked at
 pub record AimedRow (b : Block) (u : ℕ) (w w′ : List ℕ) : Type 0 where
   pub some : AimedSome b u w w′
-  pub all : (x : ℕ) → hasEdge b u x ≡ true → (guessAt (nodes b) w x ≡ far → ⊥) → EdgePassed (nodes b) u w w′ x
+  pub all : (x : ℕ) → hasEdge b u x ≡ true → (estimateAt (nodes b) w x ≡ far → ⊥) → EdgePassed (nodes b) u w w′ x
 
 -- safe to look at the edges of u: no sum wraps
 pub record AimRowReady (b : Block) (w : List ℕ) (u : ℕ) : Type 0 where
   pub sound : Graph b
   pub node : u < nodes b
   pub long : 8 * nodes b ≤ length w
-  pub heap : Heap (nodes b) w
+  pub queue : Tournament (nodes b) w
   pub near : distAt w u < pathMost
   pub prices : (v : ℕ) → v < nodes b → priceIn (nodes b) w v ≤ anyPriceMost
-  pub guesses : (v : ℕ) → v < nodes b → (guessAt (nodes b) w v ≡ far → ⊥) → guessAt (nodes b) w v ≤ keyMost
+  pub estimates : (v : ℕ) → v < nodes b → (estimateAt (nodes b) w v ≡ far → ⊥) → estimateAt (nodes b) w v ≤ keyMost
 
 -- `best` is the least distance that an unjoined sink has so far, `far` where none has one: an unjoined sink has estimate 0
 pub record BestAim (n best : ℕ) (w : List ℕ) : Type 0 where
   pub most : best ≤ far
-  pub least : (v : ℕ) → v < n → guessAt n w v ≡ 0 → best ≤ distAt w v
-  pub some : (best ≡ far) ⊎ ((v : ℕ) × (v < n) × (guessAt n w v ≡ 0) × (distAt w v ≡ best))
+  pub least : (v : ℕ) → v < n → estimateAt n w v ≡ 0 → best ≤ distAt w v
+  pub some : (best ≡ far) ⊎ ((v : ℕ) × (v < n) × (estimateAt n w v ≡ 0) × (distAt w v ≡ best))
 
 -- ---- a whole pass
 
@@ -108,16 +108,16 @@ pub record Left (n : ℕ) (w : List ℕ) (v : ℕ) : Type 0 where
   pub node : v < n
   pub left : leafAt n w v ≡ far
   pub near : distAt w v < far
-  pub known : guessAt n w v < far
+  pub known : estimateAt n w v < far
 
 abbrev pub hasLeft : ℕ → List ℕ → ℕ → Bool
-hasLeft n w v = both (both (eqb (leafAt n w v) far) (ltb (distAt w v) far)) (ltb (guessAt n w v) far)
+hasLeft n w v = both (both (eqb (leafAt n w v) far) (ltb (distAt w v) far)) (ltb (estimateAt n w v) far)
 
 -- a node has left the queue, or it waits at its distance and estimate together, or it lacks one of the two
 pub data Place (n : ℕ) (w : List ℕ) (v : ℕ) : Type 0 where
   gone : Left n w v → Place n w v
-  waiting : distAt w v + guessAt n w v < far → leafAt n w v ≡ distAt w v + guessAt n w v → Place n w v
-  lacking : leafAt n w v ≡ far → far ≤ distAt w v + guessAt n w v → Place n w v
+  waiting : distAt w v + estimateAt n w v < far → leafAt n w v ≡ distAt w v + estimateAt n w v → Place n w v
+  lacking : leafAt n w v ≡ far → far ≤ distAt w v + estimateAt n w v → Place n w v
 
 -- v was reached from its predecessor, an expanded node, over an edge
 pub record AimReached (b : Block) (price : ℕ → ℕ) (w : List ℕ) (v : ℕ) : Type 0 where
@@ -128,18 +128,18 @@ pub record AimReached (b : Block) (price : ℕ → ℕ) (w : List ℕ) (v : ℕ)
 -- between two expansions: `best` is the nearest sink's distance so far, and so many nodes have been expanded
 pub record Aiming (b : Block) (marks : List ℕ) (t : AimTask b marks) (w : List ℕ) (best count : ℕ) : Type 0 where
   pub long : 8 * nodes b ≤ length w
-  pub heap : Heap (nodes b) w
+  pub queue : Tournament (nodes b) w
   pub prices : (v : ℕ) → v < nodes b → priceIn (nodes b) w v ≡ t .price v
   pub estimated : Estimated b (t .price) (t .weight) marks (t .sinks) w
   pub tree : (v : ℕ) → v < nodes b → inTree marks v ≡ true → distAt w v ≡ 0
   pub places : (v : ℕ) → v < nodes b → Place (nodes b) w v
   pub relaxed :
-      (u v : ℕ) → v < nodes b → Left (nodes b) w u → hasEdge b u v ≡ true → guessAt (nodes b) w v < far
+      (u v : ℕ) → v < nodes b → Left (nodes b) w u → hasEdge b u v ≡ true → estimateAt (nodes b) w v < far
       → distAt w v ≤ distAt w u + t .price v
   pub reached : (v : ℕ) → v < nodes b → inTree marks v ≡ false → distAt w v < far → AimReached b (t .price) w v
   -- the predecessor is the lowest-numbered expanded node over which v has its distance
   pub lowest :
-      (u v : ℕ) → v < nodes b → inTree marks v ≡ false → Left (nodes b) w u → hasEdge b u v ≡ true → guessAt (nodes b) w v < far
+      (u v : ℕ) → v < nodes b → inTree marks v ≡ false → Left (nodes b) w u → hasEdge b u v ≡ true → estimateAt (nodes b) w v < far
       → distAt w v ≡ distAt w u + t .price v → predAt (nodes b) w v ≤ u
   pub final :
       (v : ℕ) → Left (nodes b) w v

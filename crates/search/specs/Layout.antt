@@ -24,19 +24,19 @@ abbrev pub predAt : ℕ → List ℕ → ℕ → ℕ
 predAt n w v = getD w (4 * n + v) 0
 
 -- entry i is the least of its two children
-abbrev pub HeapAt : ℕ → List ℕ → ℕ → Type 0
-HeapAt n w i = entryAt n w i ≡ min (entryAt n w (2 * i)) (entryAt n w (2 * i + 1))
+abbrev pub TournamentAt : ℕ → List ℕ → ℕ → Type 0
+TournamentAt n w i = entryAt n w i ≡ min (entryAt n w (2 * i)) (entryAt n w (2 * i + 1))
 
 -- every inner entry but perhaps entry j is the least of its two children; j = 0 is no inner entry
-abbrev pub HeapBut : ℕ → List ℕ → ℕ → Type 0
-HeapBut n w j = (i : ℕ) → 1 ≤ i → i < n → (i ≡ j → ⊥) → HeapAt n w i
+abbrev pub TournamentBut : ℕ → List ℕ → ℕ → Type 0
+TournamentBut n w j = (i : ℕ) → 1 ≤ i → i < n → (i ≡ j → ⊥) → TournamentAt n w i
 
 -- inner entry i was the least of its two children before one of them fell to this key
 abbrev pub LoweredBelow : ℕ → ℕ → List ℕ → ℕ → Type 0
 LoweredBelow n key w i = 1 ≤ i → min (entryAt n w (2 * i)) (entryAt n w (2 * i + 1)) ≡ min (entryAt n w i) key
 
-abbrev pub Heap : ℕ → List ℕ → Type 0
-Heap n w = (i : ℕ) → 1 ≤ i → i < n → HeapAt n w i
+abbrev pub Tournament : ℕ → List ℕ → Type 0
+Tournament n w = (i : ℕ) → 1 ≤ i → i < n → TournamentAt n w i
 
 -- a list is as before but for places from lo to below hi
 pub record SameBut (lo hi : ℕ) (old new : List ℕ) : Type 0 where
@@ -47,7 +47,7 @@ pub record SameBut (lo hi : ℕ) (old new : List ℕ) : Type 0 where
 -- w′ is w with node v in the queue at this key; at `far` it is out of the queue
 pub record Queued (n v key : ℕ) (w w′ : List ℕ) : Type 0 where
   pub long : length w′ ≡ length w
-  pub heap : Heap n w′
+  pub queue : Tournament n w′
   pub leaf-here : leafAt n w′ v ≡ key
   pub leaf-other : (x : ℕ) → x < n → (x ≡ v → ⊥) → leafAt n w′ x ≡ leafAt n w x
   pub low : (j : ℕ) → j < n → getD w′ j 0 ≡ getD w j 0
@@ -56,7 +56,7 @@ pub record Queued (n v key : ℕ) (w w′ : List ℕ) : Type 0 where
 -- w′ is w with a shorter way to v: over u, at distance d; v waits at this key
 pub record Shortened (n u v d key : ℕ) (w w′ : List ℕ) : Type 0 where
   pub long : length w′ ≡ length w
-  pub heap : Heap n w′
+  pub queue : Tournament n w′
   pub dist-here : distAt w′ v ≡ d
   pub leaf-here : leafAt n w′ v ≡ key
   pub pred-here : predAt n w′ v ≡ u

@@ -7,8 +7,8 @@ ghost use Prim.Native.Nat.{ℕ, _+_, _*_, _^_, _≤_, _<_};
 ghost use lib.ListN.{length};
 ghost use Rattle.search.specs.Block.{graphOf};
 ghost use Rattle.search.specs.Distance.{far};
-ghost use Rattle.search.specs.Layout.{Heap, Shortened};
-ghost use Rattle.search.specs.Estimates.{guessAt};
+ghost use Rattle.search.specs.Layout.{Tournament, Shortened};
+ghost use Rattle.search.specs.Estimates.{estimateAt};
 ghost use Rattle.search.specs.Aiming.{wayOver, AimStarted, AimedOver, AimRowReady, AimedRow, BestAim};
 ghost use Rattle.search.specs.Aiming.{AimTask, Aiming, AimLaunched, AimReady, AimEnd};
 use crate::labels;
@@ -40,7 +40,7 @@ fn start_aim(in_tree: &[u8], work: &mut [u64], n: usize)
 
 // Node v has a shorter way, over u, and waits at this key.
 fn shorten(work: &mut [u64], n: usize, u: usize, v: usize, d: u64, key: u64)
-    requires { ⌜ (u < n) × (v < n) × (8 * n ≤ length (now work)) × Heap n (now work) ⌝ }
+    requires { ⌜ (u < n) × (v < n) × (8 * n ≤ length (now work)) × Tournament n (now work) ⌝ }
     ensures { λ _. ⌜ Shortened n u v d key (now (work .entry)) (now (work .exit)) ⌝ }
 {
     work[v] = d;
@@ -50,22 +50,22 @@ fn shorten(work: &mut [u64], n: usize, u: usize, v: usize, d: u64, key: u64)
 
 // Looks at the edge from u to v, unless v has no estimate. Answers the least distance of a sink so far; it was `best` before.
 fn aim(work: &mut [u64], n: usize, u: usize, v: usize, best: u64) -> u64
-    requires { ⌜ (u < n) × (v < n) × (8 * n ≤ length (now work)) × Heap n (now work) ⌝ }
-    requires { ⌜ ((guessAt n (now work) v ≡ far → ⊥) → wayOver n (now work) u v + guessAt n (now work) v < 2 ^ 64) ⌝ }
+    requires { ⌜ (u < n) × (v < n) × (8 * n ≤ length (now work)) × Tournament n (now work) ⌝ }
+    requires { ⌜ ((estimateAt n (now work) v ≡ far → ⊥) → wayOver n (now work) u v + estimateAt n (now work) v < 2 ^ 64) ⌝ }
     ensures { λ r. do
       let before = now (work .entry)
       let after = now (work .exit)
       ⌜ AimedOver n u v before after × (BestAim n best before → BestAim n r after) ⌝ }
 {
-    let guess = work[6 * n + v];
-    if guess == labels::FAR {
+    let estimate = work[6 * n + v];
+    if estimate == labels::FAR {
         return best;
     }
     let d = work[u] + work[3 * n + v];
     let old = work[v];
     if d < old {
-        shorten(work, n, u, v, d, d + guess);
-        if guess == 0 {
+        shorten(work, n, u, v, d, d + estimate);
+        if estimate == 0 {
             if d < best {
                 return d;
             }

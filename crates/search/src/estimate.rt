@@ -9,11 +9,11 @@ ghost use lib.ListN.{length, getD};
 ghost use Rattle.price.specs.Bounds.{nodesMost};
 ghost use Rattle.search.specs.Block.{graphOf};
 ghost use Rattle.search.specs.Distance.{far};
-ghost use Rattle.search.specs.Layout.{priceIn, Heap};
+ghost use Rattle.search.specs.Layout.{priceIn, Tournament};
 ghost use Rattle.search.specs.Links.{Links};
 ghost use Rattle.search.specs.Aimed.{weightAt};
-ghost use Rattle.search.specs.Estimates.{weightMost, keyMost, walkAt, WeightReady, Guessed, Tried, GuessedBefore};
-ghost use Rattle.search.specs.Estimates.{Beside, Unguessed, SinksWait, EstimateReady, SpreadReady, EstimatesMade};
+ghost use Rattle.search.specs.Estimates.{weightMost, keyMost, walkAt, WeightReady, Given, Tried, GivenBefore};
+ghost use Rattle.search.specs.Estimates.{Beside, NoneGiven, SinksWait, EstimateReady, SpreadReady, EstimatesMade};
 use crate::labels;
 use crate::queue;
 use price::PriceAnswer;
@@ -42,15 +42,15 @@ fn capped_sum(a: u64, b: u64) -> u64
 }
 
 // Node u gets its estimate, by a walk of this cost, and waits.
-fn guess(kind: &[u8], weighting: Weighting, work: &mut [u64], u: usize, estimate: u64, cost: u64)
+fn give(kind: &[u8], weighting: Weighting, work: &mut [u64], u: usize, estimate: u64, cost: u64)
     requires { do
       let n = length (now kind)
-      ⌜ WeightReady (now kind) weighting × (u < n) × (n ≤ nodesMost) × (8 * n ≤ length (now work)) × Heap n (now work)
+      ⌜ WeightReady (now kind) weighting × (u < n) × (n ≤ nodesMost) × (8 * n ≤ length (now work)) × Tournament n (now work)
           × (estimate ≤ keyMost) ⌝ }
     ensures { λ _. do
       let n = length (now (kind .entry))
       let weight = weightAt (graphOf (now (kind .entry)) [] []) weighting
-      ⌜ Guessed n weight u estimate cost (now (work .entry)) (now (work .exit)) ⌝ }
+      ⌜ Given n weight u estimate cost (now (work .entry)) (now (work .exit)) ⌝ }
 {
     let n = kind.len();
     let own = weight(kind, weighting, u);
@@ -61,7 +61,7 @@ fn guess(kind: &[u8], weighting: Weighting, work: &mut [u64], u: usize, estimate
 
 // Node u, with an edge to a node over which it has this estimate by a walk of this cost: it gets it, unless it has one. Answers the least
 // cost of a walk from a tree node so far; it was `bound` before.
-fn guess_over(
+fn give_over(
     kind: &[u8],
     weighting: Weighting,
     in_tree: &[u8],
@@ -73,7 +73,7 @@ fn guess_over(
 ) -> u64
     requires { do
       let n = length (now kind)
-      ⌜ WeightReady (now kind) weighting × (u < n) × (n ≤ nodesMost) × (8 * n ≤ length (now work)) × Heap n (now work)
+      ⌜ WeightReady (now kind) weighting × (u < n) × (n ≤ nodesMost) × (8 * n ≤ length (now work)) × Tournament n (now work)
           × (estimate ≤ keyMost) × (n ≤ length (now «in_tree»)) ⌝ }
     ensures { λ r. do
       let n = length (now (kind .entry))
@@ -84,7 +84,7 @@ fn guess_over(
     if work[6 * n + u] != labels::FAR {
         return bound;
     }
-    guess(kind, weighting, work, u, estimate, cost);
+    give(kind, weighting, work, u, estimate, cost);
     if in_tree[u] != 1 {
         return bound;
     }
@@ -93,7 +93,7 @@ fn guess_over(
 
 // The nodes that have an edge to v get this estimate, unless they have one. Answers the least cost of a walk from a tree node so far; it
 // was `bound` before.
-fn guess_before(
+fn give_before(
     kind: &[u8],
     weighting: Weighting,
     last: &[u16],
@@ -108,14 +108,14 @@ fn guess_before(
     requires { do
       let n = length (now kind)
       ⌜ WeightReady (now kind) weighting × (v < n) × Links (now kind) (now last) (now earlier) (now from) × (8 * n ≤ length (now work))
-          × Heap n (now work) × (estimate ≤ keyMost) × (n ≤ length (now «in_tree»)) ⌝ }
+          × Tournament n (now work) × (estimate ≤ keyMost) × (n ≤ length (now «in_tree»)) ⌝ }
     ensures { λ r. do
       let kinds = now (kind .entry)
       let weight = weightAt (graphOf kinds [] []) weighting
       let cost = min (walkAt (length kinds) (now (work .entry)) v + priceIn (length kinds) (now (work .entry)) v) far
       ⌜ ((l : Links kinds (now (last .entry)) (now (earlier .entry)) (now (from .entry))) → do
         let graph = graphOf kinds (l .firsts) (l .targets)
-        GuessedBefore graph weight (now («in_tree» .entry)) v estimate cost (now (work .entry)) (now (work .exit)) bound r) ⌝ }
+        GivenBefore graph weight (now («in_tree» .entry)) v estimate cost (now (work .entry)) (now (work .exit)) bound r) ⌝ }
 {
     let n = kind.len();
     let cost = capped_sum(work[7 * n + v], work[3 * n + v]);
@@ -123,16 +123,16 @@ fn guess_before(
     let mut k = last[v] as usize;
     while 0 < k {
         let u = from[k - 1] as usize;
-        least = guess_over(kind, weighting, in_tree, work, u, estimate, cost, least);
+        least = give_over(kind, weighting, in_tree, work, u, estimate, cost, least);
         k = earlier[k - 1] as usize;
     }
     least
 }
 
 // No node has an estimate, and none waits.
-fn no_guesses(work: &mut [u64], n: usize)
+fn none_given(work: &mut [u64], n: usize)
     requires { ⌜ 8 * n ≤ length (now work) ⌝ }
-    ensures { λ _. ⌜ Unguessed n (now (work .entry)) (now (work .exit)) n ⌝ }
+    ensures { λ _. ⌜ NoneGiven n (now (work .entry)) (now (work .exit)) n ⌝ }
 {
     let mut v = 0;
     while v < n {
@@ -144,7 +144,7 @@ fn no_guesses(work: &mut [u64], n: usize)
 }
 
 // The sinks that are still to be joined have estimate 0 and wait.
-fn guess_sinks(kind: &[u8], weighting: Weighting, in_tree: &[u8], sinks: &[u16], work: &mut [u64])
+fn give_sinks(kind: &[u8], weighting: Weighting, in_tree: &[u8], sinks: &[u16], work: &mut [u64])
     requires { do
       let kinds = now kind
       let n = length kinds
@@ -165,7 +165,7 @@ fn guess_sinks(kind: &[u8], weighting: Weighting, in_tree: &[u8], sinks: &[u16],
     while i < sinks.len() {
         let s = sinks[i] as usize;
         if in_tree[s] != 1 {
-            guess(kind, weighting, work, s, 0, 0);
+            give(kind, weighting, work, s, 0, 0);
         }
         i += 1;
     }
@@ -173,7 +173,7 @@ fn guess_sinks(kind: &[u8], weighting: Weighting, in_tree: &[u8], sinks: &[u16],
 
 // Gives the nodes their estimates, the waiting node of least estimate and weight first, until nothing waits or the least is above what a
 // walk from the tree costs: a node that is left out then has an estimate above the joined sink's distance.
-fn guess_all(
+fn give_all(
     kind: &[u8],
     weighting: Weighting,
     last: &[u16],
@@ -205,7 +205,7 @@ fn guess_all(
         }
         let v = queue::nearest(work, n);
         queue::wait(work, n, v, labels::FAR);
-        bound = guess_before(
+        bound = give_before(
             kind,
             weighting,
             last,
@@ -243,7 +243,7 @@ pub fn estimate_all(
         EstimatesMade graph (r .price) weight marks list before (now (work .exit))) ⌝ }
 {
     let n = kind.len();
-    no_guesses(work, n);
-    guess_sinks(kind, weighting, in_tree, sinks, work);
-    guess_all(kind, weighting, last, earlier, from, in_tree, work);
+    none_given(work, n);
+    give_sinks(kind, weighting, in_tree, sinks, work);
+    give_all(kind, weighting, last, earlier, from, in_tree, work);
 }

@@ -3,7 +3,7 @@
 ghost use mathlib.Core.Path.{_≡_};
 ghost use Prim.Native.Nat.{_+_, _*_, _/_, _≤_, _<_, min};
 ghost use lib.ListN.{length};
-ghost use Rattle.search.specs.Layout.{entryAt, leafAt, Heap, HeapBut, LoweredBelow, SameBut, Queued};
+ghost use Rattle.search.specs.Layout.{entryAt, leafAt, Tournament, TournamentBut, LoweredBelow, SameBut, Queued};
 
 // The least of the two children of entry i.
 fn lesser_child(work: &[u64], n: usize, i: usize) -> u64
@@ -17,8 +17,8 @@ fn lesser_child(work: &[u64], n: usize, i: usize) -> u64
 
 // Carries a change below entry i up, as far as it reaches.
 fn carry_up(work: &mut [u64], n: usize, from: usize)
-    requires { ⌜ (from < n) × (3 * n ≤ length (now work)) × HeapBut n (now work) from ⌝ }
-    ensures { λ _. ⌜ Heap n (now (work .exit)) × SameBut (n + 1) (2 * n) (now (work .entry)) (now (work .exit)) ⌝ }
+    requires { ⌜ (from < n) × (3 * n ≤ length (now work)) × TournamentBut n (now work) from ⌝ }
+    ensures { λ _. ⌜ Tournament n (now (work .exit)) × SameBut (n + 1) (2 * n) (now (work .entry)) (now (work .exit)) ⌝ }
 {
     let mut i = from;
     while 0 < i {
@@ -34,8 +34,8 @@ fn carry_up(work: &mut [u64], n: usize, from: usize)
 
 // Carries a lower key up from a child of entry i: an entry that is above the key becomes it, as far as there is one.
 fn lower_above(work: &mut [u64], n: usize, from: usize, key: u64)
-    requires { ⌜ (from < n) × (3 * n ≤ length (now work)) × HeapBut n (now work) from × LoweredBelow n key (now work) from ⌝ }
-    ensures { λ _. ⌜ Heap n (now (work .exit)) × SameBut (n + 1) (2 * n) (now (work .entry)) (now (work .exit)) ⌝ }
+    requires { ⌜ (from < n) × (3 * n ≤ length (now work)) × TournamentBut n (now work) from × LoweredBelow n key (now work) from ⌝ }
+    ensures { λ _. ⌜ Tournament n (now (work .exit)) × SameBut (n + 1) (2 * n) (now (work .entry)) (now (work .exit)) ⌝ }
 {
     let mut i = from;
     while 0 < i {
@@ -50,7 +50,7 @@ fn lower_above(work: &mut [u64], n: usize, from: usize, key: u64)
 
 // Node v waits at this key. At 2^64 - 1 it does not wait any more. A key that falls needs no look at the other child of an entry.
 pub fn wait(work: &mut [u64], n: usize, v: usize, key: u64)
-    requires { ⌜ (v < n) × (8 * n ≤ length (now work)) × Heap n (now work) ⌝ }
+    requires { ⌜ (v < n) × (8 * n ≤ length (now work)) × Tournament n (now work) ⌝ }
     ensures { λ _. ⌜ Queued n v key (now (work .entry)) (now (work .exit)) ⌝ }
 {
     let old = work[2 * n + v];
@@ -65,7 +65,7 @@ pub fn wait(work: &mut [u64], n: usize, v: usize, key: u64)
 // Makes every inner entry the least of its two children.
 pub fn build(work: &mut [u64], n: usize)
     requires { ⌜ 3 * n ≤ length (now work) ⌝ }
-    ensures { λ _. ⌜ Heap n (now (work .exit)) × SameBut (n + 1) (2 * n) (now (work .entry)) (now (work .exit)) ⌝ }
+    ensures { λ _. ⌜ Tournament n (now (work .exit)) × SameBut (n + 1) (2 * n) (now (work .entry)) (now (work .exit)) ⌝ }
 {
     let mut i = n;
     while 1 < i {
@@ -77,7 +77,7 @@ pub fn build(work: &mut [u64], n: usize)
 
 // A node whose leaf is the least entry.
 pub fn nearest(work: &[u64], n: usize) -> usize
-    requires { ⌜ (1 ≤ n) × (3 * n ≤ length (now work)) × Heap n (now work) ⌝ }
+    requires { ⌜ (1 ≤ n) × (3 * n ≤ length (now work)) × Tournament n (now work) ⌝ }
     ensures { λ r. ⌜ (r < n) × (leafAt n (now (work .entry)) r ≡ entryAt n (now (work .entry)) 1) ⌝ }
 {
     let mut i = 1;

@@ -8,17 +8,17 @@ use Rattle.search.proofs.BestLaws.{best-nearer, best-as-near, best-pred
 use Rattle.search.proofs.aim.aim.Statement.{statement}
 use Rattle.search.proofs.aim.aim.Tie as tie
 
-mul-guess : tie.Need-mul-guess
-mul-guess c = search needs
+mul-estimate : tie.Need-mul-estimate
+mul-estimate c = search needs
 
-add-guess : tie.Need-add-guess
-add-guess c = search needs
+add-estimate : tie.Need-add-estimate
+add-estimate c = search needs
 
-mul-guess-2 : tie.Need-mul-guess-2
-mul-guess-2 c = search needs
+mul-estimate-2 : tie.Need-mul-estimate-2
+mul-estimate-2 c = search needs
 
-slice-read-guess : tie.Need-slice-read-guess
-slice-read-guess c = search needs
+slice-read-estimate : tie.Need-slice-read-estimate
+slice-read-estimate c = search needs
 
 returns : tie.Need-returns
 returns c = (over-blind (c .if1 .taken) refl, λ s. s)
@@ -140,10 +140,10 @@ pub aim-spec : {M : Type 1} → statement M
 aim-spec =
     tie.close
     (tie.spec
-    mul-guess
-    add-guess
-    mul-guess-2
-    slice-read-guess
+    mul-estimate
+    add-estimate
+    mul-estimate-2
+    slice-read-estimate
     returns
     mul-d
     slice-read-d

@@ -45,7 +45,7 @@ cast-e : tie.Need-cast-e Inv-loop μ-loop
 cast-e c = omega (arith, c .shared-slice-known5 .given (entry (c .before .before) .args .u))
 
 loop-holds : tie.Need-loop-holds Inv-loop μ-loop
-loop-holds c = let r = entry (c .before .before) .pre in aim-row-none _ _ _ _ (r .heap) (row-order _ (r .sound) _ (r .node))
+loop-holds c = let r = entry (c .before .before) .pre in aim-row-none _ _ _ _ (r .queue) (row-order _ (r .sound) _ (r .node))
 
 mul-v : tie.Need-mul-v Inv-loop μ-loop
 mul-v c =

@@ -59,13 +59,13 @@ nearest-requires : tie.Need-nearest-requires Inv-loop μ-loop
 nearest-requires c κs =
     let r = c .before .before .before .before .loop .inv in
     let l = r .aiming .long in
-    (r .sound .some, omega arith, r .aiming .heap)
+    (r .sound .some, omega arith, r .aiming .queue)
 
 wait-requires : tie.Need-wait-requires Inv-loop μ-loop
 wait-requires c κs =
     let found = c .before in
     let r = head found .loop .inv in
-    (found .nearest .ensures .0, r .aiming .long, r .aiming .heap)
+    (found .nearest .ensures .0, r .aiming .long, r .aiming .queue)
 
 add-expanded : tie.Need-add-expanded Inv-loop μ-loop
 add-expanded c =

@@ -5,7 +5,7 @@ use native.Mathlib.Omega.{arith}
 use lib.ListN.{length-set}
 use borrow.Author.Needs.{needs}
 use Rattle.search.proofs.StoreLaws.{shortened}
-use Rattle.search.proofs.QueueLaws.{heap-way}
+use Rattle.search.proofs.QueueLaws.{queue-way}
 use Rattle.search.proofs.aim.shorten.Statement.{statement}
 use Rattle.search.proofs.aim.shorten.Tie as tie
 
@@ -31,7 +31,7 @@ wait-requires : tie.Need-wait-requires
 wait-requires c κs =
     let start = c .before .before in
     let a = start .args in
-    (start .pre .1, simp length-set (omega arith), heap-way (a .n) (a .work .now) (a .u) (a .v) (a .d) (start .pre .1) (start .pre .3))
+    (start .pre .1, simp length-set (omega arith), queue-way (a .n) (a .work .now) (a .u) (a .v) (a .d) (start .pre .1) (start .pre .3))
 
 same-length : tie.Need-same-length
 same-length c = c .before .before .wait .ensures .long ∙ simp length-set

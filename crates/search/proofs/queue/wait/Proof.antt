@@ -5,7 +5,7 @@ use native.Mathlib.Omega.{arith}
 use lib.ListN.{length-set}
 use borrow.Author.Needs.{needs}
 use Rattle.search.proofs.StoreLaws.{queued}
-use Rattle.search.proofs.QueueLaws.{heap-node, lowered-node}
+use Rattle.search.proofs.QueueLaws.{queue-node, lowered-node}
 use Rattle.search.proofs.queue.wait.Statement.{statement}
 use Rattle.search.proofs.queue.wait.Tie as tie
 
@@ -40,7 +40,7 @@ lower-above-requires : tie.Need-lower-above-requires
 lower-above-requires c κs =
     let start = c .before .before .before .before in
     let work = start .args .work .now in
-    (omega arith, simp length-set (omega arith), heap-node _ work _ _ (start .pre .2), lowered-node _ work _ _ (start .pre .0) (omega (arith, start .pre .1)) (c .before .if1 .taken) (start .pre .2))
+    (omega arith, simp length-set (omega arith), queue-node _ work _ _ (start .pre .2), lowered-node _ work _ _ (start .pre .0) (omega (arith, start .pre .1)) (c .before .if1 .taken) (start .pre .2))
 
 add-carry-up : tie.Need-add-carry-up
 add-carry-up c = search needs
@@ -48,7 +48,7 @@ add-carry-up c = search needs
 carry-up-requires : tie.Need-carry-up-requires
 carry-up-requires c κs =
     let start = c .before .before .before .before in
-    (omega arith, simp length-set (omega arith), heap-node _ (start .args .work .now) _ _ (start .pre .2))
+    (omega arith, simp length-set (omega arith), queue-node _ (start .args .work .now) _ _ (start .pre .2))
 
 same-length : tie.Need-same-length
 same-length c = c .before .before .lower-above .ensures .1 .long ∙ simp length-set

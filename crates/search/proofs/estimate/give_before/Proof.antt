@@ -1,4 +1,4 @@
--- `search::estimate::guess_before` meets its contract. The invariant: the places of v from k on have been passed. The measure is k.
+-- `search::estimate::give_before` meets its contract. The invariant: the places of v from k on have been passed. The measure is k.
 -- Assumes nothing.
 use mathlib.Core.List.{[]}
 use Prim.Native.Nat.{_-_, _*_, _≤_, _<_}
@@ -9,16 +9,16 @@ use Rattle.search.specs.Block.{graphOf}
 use Rattle.search.specs.Aimed.{weightAt}
 use Rattle.search.specs.Tables.{edgesMost}
 use Rattle.search.specs.Links.{Links}
-use Rattle.search.specs.Estimates.{SomeGuessed}
+use Rattle.search.specs.Estimates.{SomeGiven}
 use Rattle.search.proofs.LinkLaws.{edges-most}
-use Rattle.search.proofs.EstimateSteps.{some-guessed-none, some-guessed-more, FollowingLinks, links-none, links-node, links-more, links-falls, links-end, key-small}
-use Rattle.search.proofs.estimate.guess_before.Statement.{statement}
-use Rattle.search.proofs.estimate.guess_before.Tie as tie
+use Rattle.search.proofs.EstimateSteps.{some-given-none, some-given-more, FollowingLinks, links-none, links-node, links-more, links-falls, links-end, key-small}
+use Rattle.search.proofs.estimate.give_before.Statement.{statement}
+use Rattle.search.proofs.estimate.give_before.Tie as tie
 
 abbrev Inv-loop : tie.InvT-loop
 Inv-loop kind weighting last earlier from in-tree work₀ v estimate bound n cost least₀ k₀ work least k =
     (l : Links kind last earlier from)
-    → SomeGuessed (graphOf kind (l .firsts) (l .targets)) (weightAt (graphOf kind [] []) weighting) in-tree v estimate cost work₀ work bound least
+    → SomeGiven (graphOf kind (l .firsts) (l .targets)) (weightAt (graphOf kind [] []) weighting) in-tree v estimate cost work₀ work bound least
     × FollowingLinks (graphOf kind (l .firsts) (l .targets)) from v work k
 
 abbrev μ-loop : tie.MeasureT-loop
@@ -92,7 +92,7 @@ cast-k c = omega (arith, c .shared-slice-known6 .given (begun (c .before .before
 loop-holds : tie.Need-loop-holds Inv-loop μ-loop
 loop-holds c =
     let start = begun (c .before .before .before .before) in
-    λ l. (some-guessed-none (start .pre .4), links-none (l .graph) (l .linked) _ (start .pre .1))
+    λ l. (some-given-none (start .pre .4), links-none (l .graph) (l .linked) _ (start .pre .1))
 
 sub-u : tie.Need-sub-u Inv-loop μ-loop
 sub-u c = c .loop-test .taken
@@ -106,8 +106,8 @@ shared-slice-read-u c = next (c .before) .1
 cast-u : tie.Need-cast-u Inv-loop μ-loop
 cast-u c = omega (arith, c .shared-slice-known7 .given (c .before .before .loop .k - 1))
 
-guess-over-requires : tie.Need-guess-over-requires Inv-loop μ-loop
-guess-over-requires c κs =
+give-over-requires : tie.Need-give-over-requires Inv-loop μ-loop
+give-over-requires c κs =
     let turn = c .before .before in
     let start = entry turn in
     let l : Links _ _ _ _ = start .pre .2 in
@@ -116,7 +116,7 @@ guess-over-requires c κs =
       links-node (l .graph) (l .linked) (turn .loop-test .taken) (s .1) .1,
       l .graph .few,
       (let long = s .0 .same .long in let r = room start in omega arith),
-      s .0 .heap,
+      s .0 .queue,
       start .pre .5,
       start .pre .6,
     )
@@ -147,11 +147,11 @@ loop-again : tie.Need-loop-again Inv-loop μ-loop
 loop-again c =
     let here = turn (c .before) in
     let small = key-small (entry here .pre .5) in
-    let tried = c .before .before .before .guess-over .ensures in
+    let tried = c .before .before .before .give-over .ensures in
     λ l.
     let s = here .before .loop .inv l in
     let u = links-node (l .graph) (l .linked) (here .loop-test .taken) (s .1) in
-    (some-guessed-more small (s .0) (u .1) (u .2) tried, links-more (l .graph) (l .linked) small (here .loop-test .taken) (s .1) tried)
+    (some-given-more small (s .0) (u .1) (u .2) tried, links-more (l .graph) (l .linked) small (here .loop-test .taken) (s .1) tried)
 
 same-length : tie.Need-same-length Inv-loop μ-loop
 same-length c = let head = c .before in head .loop .inv (begun (head .before .before .before .before .before) .pre .2) .0 .same .long
@@ -162,8 +162,8 @@ returns c =
     let s = c .before .loop .inv l in
     links-end (l .graph) (l .linked) (c .before .before .before .capped-sum .ensures) (c .loop-test .left) (s .0) (s .1)
 
-pub guess-before-spec : {M : Type 1} → statement M
-guess-before-spec =
+pub give-before-spec : {M : Type 1} → statement M
+give-before-spec =
     tie.close
     (tie.spec
     Inv-loop
@@ -185,7 +185,7 @@ guess-before-spec =
     mul-u
     shared-slice-read-u
     cast-u
-    guess-over-requires
+    give-over-requires
     sub-k
     mul-k-2
     shared-slice-read-k-2

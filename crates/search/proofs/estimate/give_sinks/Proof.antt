@@ -1,4 +1,4 @@
--- `search::estimate::guess_sinks` meets its contract. The invariant: the unjoined sinks at places below i wait. The measure is how many sinks are left.
+-- `search::estimate::give_sinks` meets its contract. The invariant: the unjoined sinks at places below i wait. The measure is how many sinks are left.
 -- Assumes nothing.
 use mathlib.Core.List.{[]}
 use mathlib.Core.Logic.{⊎-elim}
@@ -11,8 +11,8 @@ use Rattle.search.specs.Aimed.{weightAt}
 use Rattle.search.specs.Estimates.{Beside, SinksWait}
 use Rattle.search.proofs.EstimateLaws.{beside-none, beside-more}
 use Rattle.search.proofs.EstimateStart.{sinks-passed, sinks-more, all-sinks-wait}
-use Rattle.search.proofs.estimate.guess_sinks.Statement.{statement}
-use Rattle.search.proofs.estimate.guess_sinks.Tie as tie
+use Rattle.search.proofs.estimate.give_sinks.Statement.{statement}
+use Rattle.search.proofs.estimate.give_sinks.Tie as tie
 
 abbrev Inv-loop : tie.InvT-loop
 Inv-loop kind weighting in-tree sinks work₀ i₀ work i =
@@ -43,14 +43,14 @@ shared-slice-read-if1 c =
     let pre = entry turn .pre in
     omega (arith, pre .4 (turn .before .loop .i) (turn .loop-test .taken), pre .2)
 
-guess-requires : tie.Need-guess-requires Inv-loop μ-loop
-guess-requires c κs =
+give-requires : tie.Need-give-requires Inv-loop μ-loop
+give-requires c κs =
     let turn = c .before .before .before .before in
     let pre = entry turn .pre in
     let inv = turn .before .loop .inv in
     let long = inv .0 .long in
     let room = pre .3 in
-    (pre .0, pre .4 (turn .before .loop .i) (turn .loop-test .taken), pre .1, omega arith, inv .1 .heap, omega arith)
+    (pre .0, pre .4 (turn .before .loop .i) (turn .loop-test .taken), pre .1, omega arith, inv .1 .queue, omega arith)
 
 add-i : tie.Need-add-i Inv-loop μ-loop
 add-i c = let t = c .before .before .before .loop-test .taken in omega arith
@@ -74,8 +74,8 @@ same-length c = c .before .loop .inv .0 .long
 returns : tie.Need-returns Inv-loop μ-loop
 returns c = (c .before .loop .inv .0, all-sinks-wait (c .loop-test .left) (c .before .loop .inv .1))
 
-pub guess-sinks-spec : {M : Type 1} → statement M
-guess-sinks-spec =
+pub give-sinks-spec : {M : Type 1} → statement M
+give-sinks-spec =
     tie.close
     (tie.spec
     Inv-loop
@@ -85,7 +85,7 @@ guess-sinks-spec =
     shared-slice-read-s
     cast-s
     shared-slice-read-if1
-    guess-requires
+    give-requires
     add-i
     loop-less
     loop-again

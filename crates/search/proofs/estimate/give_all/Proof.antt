@@ -1,4 +1,4 @@
--- `search::estimate::guess_all` meets its contract. The invariant: of any prices and sinks of the start, the estimates stand between two nodes that leave the queue.
+-- `search::estimate::give_all` meets its contract. The invariant: of any prices and sinks of the start, the estimates stand between two nodes that leave the queue.
 -- The measure is how many nodes have not left it.
 -- Assumes nothing.
 use Prim.Native.Nat.{_+_, _*_, _≤_, _<_}
@@ -11,8 +11,8 @@ use Rattle.search.specs.Distance.{far}
 use Rattle.search.specs.Layout.{entryAt}
 use Rattle.search.specs.Estimates.{SpreadReady}
 use Rattle.search.proofs.EstimateRun.{unspent, Run, lightness, spread-start, level-few, spread-more, unspent-falls, spread-all, spread-past}
-use Rattle.search.proofs.estimate.guess_all.Statement.{statement}
-use Rattle.search.proofs.estimate.guess_all.Tie as tie
+use Rattle.search.proofs.estimate.give_all.Statement.{statement}
+use Rattle.search.proofs.estimate.give_all.Tie as tie
 
 abbrev Inv-loop : tie.InvT-loop
 Inv-loop kind weighting last earlier from in-tree work₀ n bound₀ work bound =
@@ -79,16 +79,16 @@ nearest-requires : tie.Need-nearest-requires Inv-loop μ-loop
 nearest-requires c κs =
     let at : Head = c .before .before .before .before in
     let r = room at in
-    (r .0, omega arith, at .loop .inv (entry at .pre) .holds .heap)
+    (r .0, omega arith, at .loop .inv (entry at .pre) .holds .queue)
 
 wait-requires : tie.Need-wait-requires Inv-loop μ-loop
 wait-requires c κs =
     let found : Found = c .before in
     let at : Head = head found in
-    (found .nearest .ensures .0, room at .2, at .loop .inv (entry at .pre) .holds .heap)
+    (found .nearest .ensures .0, room at .2, at .loop .inv (entry at .pre) .holds .queue)
 
-guess-before-requires : tie.Need-guess-before-requires Inv-loop μ-loop
-guess-before-requires c κs =
+give-before-requires : tie.Need-give-before-requires Inv-loop μ-loop
+give-before-requires c κs =
     let waited = c .before .before .before in
     let found : Found = waited .before .before in
     let at : Head = head found in
@@ -96,7 +96,7 @@ guess-before-requires c κs =
     let v = found .nearest .ensures in
     let q = waited .wait .ensures in
     let level = level-few (lightness r) (at .loop .inv r .holds) (v .0) (v .1) (some found) in
-    (r .ready .weights, v .0, r .ready .links, (let l = q .long in let m = room at in omega arith), q .heap, level, r .ready .marks-long)
+    (r .ready .weights, v .0, r .ready .links, (let l = q .long in let m = room at in omega arith), q .queue, level, r .ready .marks-long)
 
 loop-less : tie.Need-loop-less Inv-loop μ-loop
 loop-less c =
@@ -106,7 +106,7 @@ loop-less c =
     let at : Head = head found in
     let r : SpreadReady _ _ _ _ _ _ _ = entry at .pre in
     let v = found .nearest .ensures in
-    unspent-falls (lightness r) (at .loop .inv r .holds) (v .0) (v .1) (some found) (waited .wait .ensures) (made .guess-before .ensures (r .ready .links))
+    unspent-falls (lightness r) (at .loop .inv r .holds) (v .0) (v .1) (some found) (waited .wait .ensures) (made .give-before .ensures (r .ready .links))
 
 loop-again : tie.Need-loop-again Inv-loop μ-loop
 loop-again c =
@@ -116,10 +116,10 @@ loop-again c =
     let v = found .nearest .ensures in
     λ r.
     let run = head found .loop .inv r in
-    spread-more (lightness r) (run .holds) (v .0) (v .1) (some found) (waited .wait .ensures) (made .guess-before .ensures (r .ready .links)) (r .ready .fair) (run .within) (run .same)
+    spread-more (lightness r) (run .holds) (v .0) (v .1) (some found) (waited .wait .ensures) (made .give-before .ensures (r .ready .links)) (r .ready .fair) (run .within) (run .same)
 
-pub guess-all-spec : {M : Type 1} → statement M
-guess-all-spec =
+pub give-all-spec : {M : Type 1} → statement M
+give-all-spec =
     tie.close
     (tie.spec
     Inv-loop
@@ -134,6 +134,6 @@ guess-all-spec =
     returns-2
     nearest-requires
     wait-requires
-    guess-before-requires
+    give-before-requires
     loop-less
     loop-again)

@@ -1,16 +1,16 @@
--- `search::estimate::no_guesses` meets its contract. The invariant: the nodes below v have no estimate and do not wait. The measure is how many are left.
+-- `search::estimate::none_given` meets its contract. The invariant: the nodes below v have no estimate and do not wait. The measure is how many are left.
 -- Assumes nothing.
 use Prim.Native.Nat.{_-_, _*_, _≤_, _<_}
 use native.Mathlib.Omega.{arith}
 use lib.ListN.{length, length-set}
 use borrow.Author.Needs.{needs}
-use Rattle.search.specs.Estimates.{Unguessed}
-use Rattle.search.proofs.EstimateStart.{unguess-none, unguess-more, unguess-all}
-use Rattle.search.proofs.estimate.no_guesses.Statement.{statement}
-use Rattle.search.proofs.estimate.no_guesses.Tie as tie
+use Rattle.search.specs.Estimates.{NoneGiven}
+use Rattle.search.proofs.EstimateStart.{none-given-none, none-given-more, none-given-all}
+use Rattle.search.proofs.estimate.none_given.Statement.{statement}
+use Rattle.search.proofs.estimate.none_given.Tie as tie
 
 abbrev Inv-loop : tie.InvT-loop
-Inv-loop work₀ n v₀ work v = Unguessed n work₀ work v × (v ≤ n)
+Inv-loop work₀ n v₀ work v = NoneGiven n work₀ work v × (v ≤ n)
 
 abbrev μ-loop : tie.MeasureT-loop
 μ-loop work₀ n v₀ work v = n - v
@@ -20,7 +20,7 @@ room : (c : tie.In-loop Inv-loop μ-loop) → (c .before .loop .v < c .before .b
 room c = (c .loop-test .taken, rw (c .before .loop .inv .0 .same .long) (c .before .before .pre))
 
 loop-holds : tie.Need-loop-holds Inv-loop μ-loop
-loop-holds c = (unguess-none _ _, omega arith)
+loop-holds c = (none-given-none _ _, omega arith)
 
 add-work : tie.Need-add-work Inv-loop μ-loop
 add-work c = search needs
@@ -62,16 +62,16 @@ loop-less : tie.Need-loop-less Inv-loop μ-loop
 loop-less c = search needs
 
 loop-again : tie.Need-loop-again Inv-loop μ-loop
-loop-again c = (unguess-more (c .before .before .pre) (c .loop-test .taken) (c .before .loop .inv .0), search needs)
+loop-again c = (none-given-more (c .before .before .pre) (c .loop-test .taken) (c .before .loop .inv .0), search needs)
 
 same-length : tie.Need-same-length Inv-loop μ-loop
 same-length c = search needs
 
 returns : tie.Need-returns Inv-loop μ-loop
-returns c = unguess-all (c .loop-test .left) (c .before .loop .inv .0)
+returns c = none-given-all (c .loop-test .left) (c .before .loop .inv .0)
 
-pub no-guesses-spec : {M : Type 1} → statement M
-no-guesses-spec =
+pub none-given-spec : {M : Type 1} → statement M
+none-given-spec =
     tie.close
     (tie.spec
     Inv-loop

@@ -1,11 +1,11 @@
--- `search::estimate::guess` meets its contract.
+-- `search::estimate::give` meets its contract.
 -- Assumes nothing.
 use native.Mathlib.Omega.{arith}
 use lib.ListN.{length-set}
 use borrow.Author.Needs.{needs}
-use Rattle.search.proofs.EstimateLaws.{guessed}
-use Rattle.search.proofs.estimate.guess.Statement.{statement}
-use Rattle.search.proofs.estimate.guess.Tie as tie
+use Rattle.search.proofs.EstimateLaws.{given}
+use Rattle.search.proofs.estimate.give.Statement.{statement}
+use Rattle.search.proofs.estimate.give.Tie as tie
 
 weight-requires : tie.Need-weight-requires
 weight-requires c κs = search needs
@@ -51,10 +51,10 @@ same-length c = search needs
 returns : tie.Need-returns
 returns c =
     let start = c .before .before .before .before .before .before .before in
-    guessed (start .pre .1) (start .pre .3) (c .before .before .before .before .weight .ensures .0) (c .before .before .wait .ensures)
+    given (start .pre .1) (start .pre .3) (c .before .before .before .before .weight .ensures .0) (c .before .before .wait .ensures)
 
-pub guess-spec : {M : Type 1} → statement M
-guess-spec =
+pub give-spec : {M : Type 1} → statement M
+give-spec =
     tie.close
     (tie.spec
     weight-requires
