@@ -26,12 +26,13 @@ use Rattle.negotiation.specs.Routable.{Routable}
 use Rattle.negotiation.specs.Runs.{Ran, start}
 use Rattle.job.specs.Join.{joined}
 use Rattle.job.proofs.JobLaws.{sound-job}
-use Rattle.negotiation.proofs.JoinedHolds.{joined-routable, joined-reachable}
+use Rattle.negotiation.proofs.JoinedHolds.{joined-routable}
 use Rattle.negotiation.proofs.RecordLaws.{fitting-begins}
 use Rattle.negotiation.proofs.NetLaws.{no-split}
 use Rattle.negotiation.proofs.RanLaws.{ran-iteration}
 use Rattle.negotiation.proofs.MachineRan.{Reached}
-use Rattle.negotiation.proofs.DemandLaws.{all-reached, none-unreachable, turn-holds, turn-below, final-trees-hold}
+use Rattle.negotiation.proofs.DemandLaws.{all-reached, none-unreachable, Stands, turn-stands, turn-holds, turn-below, final-trees-hold}
+use Rattle.negotiation.proofs.TurnReadLaws.{TurnRead, turn-read}
 use Rattle.negotiation.proofs.ReplyLogLaws.{LogHas, log-words, log-turns, refused-log, ran-log}
 
 -- a run makes an iteration at least, and no more than the limit
@@ -78,15 +79,19 @@ run-reached j p work log net place =
 
 -- ---- from what holds of some records
 
--- what demand 3 and the bound say of a reply whose words used are those of some records: of each turn after those that were lent
+-- what holds of a logged turn: demand 3, the bound on its cost, and that it is the turn that is read off the earlier ones
+abbrev pub TurnFacts : Job → List Record → Record → Type 0
+TurnFacts j earlier t = TurnHolds j earlier t × (t .cost < pathMost) × TurnRead j earlier t
+
+-- what is known of a reply whose words used are those of some records: of each turn after those that were lent
 pub record Facts (j : Job) (lent : List Record) (r : RouteReply) : Type 0 where
   pub records : List Record
   pub words : LogHas r records
   pub turns : r .turns ≡ length records
   pub each :
-      (earlier later : List Record) (t : Record) → records ≡ lent ++ (earlier ++ (t ∷ later)) → TurnHolds (joined j) (lent ++ earlier) t × (t .cost < pathMost)
+      (earlier later : List Record) (t : Record) → records ≡ lent ++ (earlier ++ (t ∷ later)) → TurnFacts (joined j) (lent ++ earlier) t
   pub final : r .refusal ≡ [] → FinalTrees (joined j) records
-  pub reached : AllReachable j → (net place : ℕ) → r .refusal ≡ 7 ∷ net ∷ place ∷ [] → ⊥
+  pub reached : AllReachable (joined j) → (net place : ℕ) → r .refusal ≡ 7 ∷ net ∷ place ∷ [] → ⊥
 
 module _ (j : Job) (lent : List Record) (r : RouteReply) (h : Facts j lent r) where
   pub logged-is : turnsLogged r ≡ h .records
@@ -100,19 +105,22 @@ module _ (j : Job) (lent : List Record) (r : RouteReply) (h : Facts j lent r) wh
 
 -- none was lent
 module _ (j : Job) (work log : List ℕ) (r : RouteReply) (h : Facts j [] r) where
+  each-logged : (earlier later : List Record) (t : Record) → turnsLogged r ≡ earlier ++ (t ∷ later) → TurnFacts (joined j) earlier t
+  each-logged earlier later t e = h .each earlier later t (sym (logged-is j [] r h) ∙ e)
+
   demand-of : r ≡ routeReply j work log → Demand3 j work log r
   demand-of reply =
       record {
         as-negotiated = reply;
         nothing-else = words-only j [] r h;
-        every-turn = λ earlier later t e. h .each earlier later t (sym (logged-is j [] r h) ∙ e) .0;
+        every-turn = λ earlier later t e. each-logged earlier later t e .0;
         final-trees = λ e. rw (logged-is j [] r h) (h .final e);
         not-unreachable = h .reached;
         turns-counted = turns-are j [] r h;
       }
 
   costs-of : CostsFit r
-  costs-of = record { below = λ earlier later t e. h .each earlier later t (sym (logged-is j [] r h) ∙ e) .1; fits = path-fits; timed-fits = omega arith }
+  costs-of = record { below = λ earlier later t e. each-logged earlier later t e .1; fits = path-fits; timed-fits = omega arith }
 
 -- ---- a run of joined nets
 
@@ -131,9 +139,10 @@ module _ (j : Job) (sound : Routable j) (all : Reached j) {m : ℕ} {rs : List R
       omega arith
 
   pub run-turn :
-      (earlier later : List Record) (t : Record) → recordsAfter j s (madeFrom j s) ≡ earlier ++ (t ∷ later) → TurnHolds j (rs ++ earlier) t × (t .cost < pathMost)
+      (earlier later : List Record) (t : Record) → recordsAfter j s (madeFrom j s) ≡ earlier ++ (t ∷ later) → TurnFacts j (rs ++ earlier) t
   run-turn earlier later t e =
-      (turn-holds j sound all r (madeFrom j s) made-few earlier later t e, turn-below j sound all r (madeFrom j s) made-few earlier later t e)
+      let at : Stands j (rs ++ earlier) t = turn-stands j sound all r (madeFrom j s) made-few earlier later t e in
+      (turn-holds j sound at, turn-below j sound at, turn-read j sound at)
 
   pub run-final : endNumbers j s ≡ [] → FinalTrees j (rs ++ recordsAfter j s (madeFrom j s))
   unfolding endNumbers
@@ -148,7 +157,7 @@ module _ (j : Job) (sound : Routable j) (all : Reached j) {m : ℕ} {rs : List R
 -- and goes on
 module _ (j : Job) (sound : Routable j) (all : Reached j) (m : ℕ) (p : Progress) (r : Ran j m (p .records) (p .state)) (below : m < j .terms .limit) where
   all-turn :
-      (earlier later : List Record) (t : Record) → allRecords j p ≡ p .records ++ (earlier ++ (t ∷ later)) → TurnHolds j (p .records ++ earlier) t × (t .cost < pathMost)
+      (earlier later : List Record) (t : Record) → allRecords j p ≡ p .records ++ (earlier ++ (t ∷ later)) → TurnFacts j (p .records ++ earlier) t
   unfolding allRecords
   all-turn earlier later t e =
       run-turn j sound all r below earlier later t
@@ -161,7 +170,7 @@ module _ (j : Job) (sound : Routable j) (all : Reached j) (m : ℕ) (p : Progres
   -- the records that fit are a beginning of all
   logged-turn :
       (room : ℕ) (earlier later : List Record) (t : Record) → loggedRecords j p room ≡ p .records ++ (earlier ++ (t ∷ later))
-      → TurnHolds j (p .records ++ earlier) t × (t .cost < pathMost)
+      → TurnFacts j (p .records ++ earlier) t
   unfolding loggedRecords
   logged-turn room earlier later t e =
       let whole = fitting-begins room (allRecords j p) in
@@ -175,7 +184,7 @@ module _ (j : Job) (work log : List ℕ) where
   -- what holds of every refusal before a run, and of a run of a sound job whose sinks have paths, holds of the reply
   pub tested-case :
       (P : (RouteReply → RouteReply) → Type 0)
-      → ((number : ℕ) (numbers left : List ℕ) → (AllReachable j → number ≡ 7 → ⊥) → P (λ _. refusedReply (number ∷ numbers) left log))
+      → ((number : ℕ) (numbers left : List ℕ) → (AllReachable (joined j) → number ≡ 7 → ⊥) → P (λ _. refusedReply (number ∷ numbers) left log))
       → (Routable (joined j) → Reached (joined j) → P (λ run. run)) → P (λ run. tested j work log run)
   tested-case P refused runs =
       ⊎-elim
@@ -193,7 +202,7 @@ module _ (j : Job) (work log : List ℕ) where
       (λ (v : ltb (unreachableNet (joined j)) (nets j) ≡ true).
       rw (t, x, u, v)
       (refused 7 (unreachableNet (joined j) ∷ unreachablePlace (joined j) ∷ []) (cleared (nodes j) [] work)
-      (λ all _. none-unreachable (joined j) (joined-routable j sound x) (joined-reachable j sound all) (ltb-true _ _ v))))
+      (λ all _. none-unreachable (joined j) (joined-routable j sound x) all (ltb-true _ _ v))))
       (λ (v : ltb (unreachableNet (joined j)) (nets j) ≡ false).
       rw (t, x, u, v) (runs (joined-routable j sound x) (all-reached (joined j) (ltb-false _ _ v))))
       (either-way (ltb (unreachableNet (joined j)) (nets j))))
@@ -203,7 +212,7 @@ module _ (j : Job) (work log : List ℕ) where
 
   -- a refusal before any turn leaves no record
   pub refused-facts :
-      (lent : List Record) (number : ℕ) (numbers left : List ℕ) → (AllReachable j → number ≡ 7 → ⊥) → Facts j lent (refusedReply (number ∷ numbers) left log)
+      (lent : List Record) (number : ℕ) (numbers left : List ℕ) → (AllReachable (joined j) → number ≡ 7 → ⊥) → Facts j lent (refusedReply (number ∷ numbers) left log)
   refused-facts lent number numbers left reached =
       record {
         records = [];
@@ -254,3 +263,7 @@ module _ (j : Job) (work log : List ℕ) where
 
   pub costs-fit : CostsFit (routeReply j work log)
   costs-fit = costs-of j work log (routeReply j work log) reply-facts
+
+  -- every logged turn is the one that is read off the earlier ones
+  pub logged-read : (earlier later : List Record) (t : Record) → turnsLogged (routeReply j work log) ≡ earlier ++ (t ∷ later) → TurnRead (joined j) earlier t
+  logged-read earlier later t e = each-logged j work log (routeReply j work log) reply-facts earlier later t e .2

@@ -261,27 +261,27 @@ regrouped :
     (rs earlier whole here nets own : List Record) → earlier ≡ whole ++ here → here ≡ nets ++ own → rs ++ earlier ≡ ((rs ++ whole) ++ nets) ++ own
 regrouped rs earlier whole here nets own e f = rw (e, f) (simp append-assoc)
 
--- whatever run leads to a state, the turns that the machine makes from there hold
-pub turn-holds :
-    (j : Job) → Routable j → Reached j → {m : ℕ} {rs : List Record} {s : State} → Ran j m rs s → (most : ℕ) → m + most ≤ j .terms .limit
-    → (earlier later : List Record) (t : Record) → recordsAfter j s most ≡ earlier ++ (t ∷ later) → TurnHolds j (rs ++ earlier) t
-turn-holds j sound all {m} {rs} {s} r most few earlier later t e =
-    let c : RunSplit j s most earlier t = run-split j s most earlier later t e in
-    let k : ℕ = c .whole in
-    let below : k < most = c .below in
-    let n : NetSplit j (stateAfter j s k) (nets j) (c .here) t = c .at in
-    let i : ℕ = n .net in
-    let net-below : i < nets j = n .below in
-    let hm : m + k < j .terms .limit = omega arith in
-    let ran : Ran j (m + k) (rs ++ recordsAfter j s k) (stateAfter j s k) = machine-ran j sound all r k (omega arith) in
-    turn-here j sound ran hm (machine-nets j sound all ran hm i (omega arith)) net-below (n .own) (n .rest) t (n .is) (rs ++ earlier)
-    (regrouped rs earlier (recordsAfter j s k) (c .here) (afterNets j (stateAfter j s k) i .records) (n .own) (c .before) (n .before))
+-- where a logged turn stands: after whole iterations, nets of the next one, and its net's own turns
+pub record Stands (j : Job) (earlier : List Record) (t : Record) : Type 0 where
+  pub whole : ℕ
+  pub made : List Record
+  pub state : State
+  pub ran : Ran j whole made state
+  pub below : whole < j .terms .limit
+  pub net : ℕ
+  pub progress : Progress
+  pub nets-ran : NetsRan j state net progress
+  pub net-below : net < nets j
+  pub own : List Record
+  pub rest : List Record
+  pub is : netRecords j (progress .state) net ≡ own ++ (t ∷ rest)
+  pub before : earlier ≡ (made ++ progress .records) ++ own
 
--- and their costs are below the bound on a path's
-pub turn-below :
+-- each turn that the machine makes from a state, whatever run leads there
+pub turn-stands :
     (j : Job) → Routable j → Reached j → {m : ℕ} {rs : List Record} {s : State} → Ran j m rs s → (most : ℕ) → m + most ≤ j .terms .limit
-    → (earlier later : List Record) (t : Record) → recordsAfter j s most ≡ earlier ++ (t ∷ later) → t .cost < pathMost
-turn-below j sound all {m} {rs} {s} r most few earlier later t e =
+    → (earlier later : List Record) (t : Record) → recordsAfter j s most ≡ earlier ++ (t ∷ later) → Stands j (rs ++ earlier) t
+turn-stands j sound all {m} {rs} {s} r most few earlier later t e =
     let c : RunSplit j s most earlier t = run-split j s most earlier later t e in
     let k : ℕ = c .whole in
     let below : k < most = c .below in
@@ -289,8 +289,32 @@ turn-below j sound all {m} {rs} {s} r most few earlier later t e =
     let net-below : n .net < nets j = n .below in
     let hm : m + k < j .terms .limit = omega arith in
     let ran : Ran j (m + k) (rs ++ recordsAfter j s k) (stateAfter j s k) = machine-ran j sound all r k (omega arith) in
-    let ready = ran-ready j sound ran (machine-nets j sound all ran hm (n .net) (omega arith)) hm in
-    turn-cost j sound _ ready (n .net) net-below (n .own) t (net-turn j sound _ ready (n .net) net-below (n .own) (n .rest) t (n .is))
+    record {
+      whole = m + k;
+      made = rs ++ recordsAfter j s k;
+      state = stateAfter j s k;
+      ran = ran;
+      below = hm;
+      net = n .net;
+      progress = afterNets j (stateAfter j s k) (n .net);
+      nets-ran = machine-nets j sound all ran hm (n .net) (omega arith);
+      net-below = net-below;
+      own = n .own;
+      rest = n .rest;
+      is = n .is;
+      before = regrouped rs earlier (recordsAfter j s k) (c .here) (afterNets j (stateAfter j s k) (n .net) .records) (n .own) (c .before) (n .before);
+    }
+
+module _ (j : Job) (sound : Routable j) {earlier : List Record} {t : Record} (at : Stands j earlier t) where
+  -- it holds
+  pub turn-holds : TurnHolds j earlier t
+  turn-holds = turn-here j sound (at .ran) (at .below) (at .nets-ran) (at .net-below) (at .own) (at .rest) t (at .is) earlier (at .before)
+
+  -- and its cost is below the bound on a path's
+  pub turn-below : t .cost < pathMost
+  turn-below =
+      let ready = ran-ready j sound (at .ran) (at .nets-ran) (at .below) in
+      turn-cost j sound _ ready (at .net) (at .net-below) (at .own) t (net-turn j sound _ ready (at .net) (at .net-below) (at .own) (at .rest) t (at .is))
 
 -- ---- the final trees
 

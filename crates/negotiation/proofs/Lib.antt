@@ -32,6 +32,7 @@
 -- Read off the log
 --     RanLaws           runs of whole iterations, whoever made the turns: trees, users and histories read off their records are the state's
 --     DemandLaws        a logged turn, the final trees, which sinks have a path
+--     TurnReadLaws      a logged turn is the machine's at what is read off the log: sink, cost and path
 --     AimedCountLaws    how many nodes turns expand: turn by turn, at most so many, and those of the machine's turns
 -- A lent log
 --     FollowLaws        one record that follows: what its test says, clause by clause; its words
@@ -52,7 +53,8 @@
 -- Theorems
 --     DemandHolds       demand 3, and the bound on every logged cost
 --     UnreachableHolds  what refusal 7 means
---     JoinedHolds       requests 2.3 and 2.9: joined nets; the joined job can be routed
+--     JoinedHolds       requests 2.3 and 2.9: joined nets; the joined job can be routed, and has paths where the listed one has
+--     OlderHolds        request 2.2: a job of 01's kinds makes its turns at 01's prices, and each turn in its log is such a one
 --     LongerHolds       request 2.6: two limits, two log lengths
 --     ResumeHolds       request 2.8: every resumed call: what is rebuilt, the lent words first, the appended turns as demand 3 asks
 --     OwnResumeHolds    request 2.8: a job's own log ends as the straight run
@@ -111,6 +113,7 @@ pub mod CutLaws
 pub mod RanLaws
 pub mod MachineRan
 pub mod DemandLaws
+pub mod TurnReadLaws
 pub mod FollowLaws
 pub mod ReplayLaws
 pub mod OwnReplayLaws
@@ -129,6 +132,7 @@ pub mod RouteLaws
 pub mod DemandHolds
 pub mod UnreachableHolds
 pub mod JoinedHolds
+pub mod OlderHolds
 pub mod LongerHolds
 pub mod ResumeHolds
 pub mod OwnResumeHolds

@@ -110,7 +110,7 @@ pub record Demand3 (j : Job) (work log : List ℕ) (r : RouteReply) : Type 0 whe
   -- "In every accepted job"
   pub final-trees : r .refusal ≡ [] → FinalTrees (joined j) (turnsLogged r)
   -- "No job is refused as unreachable if every sink has a path from its source."
-  pub not-unreachable : AllReachable j → (net place : ℕ) → r .refusal ≡ 7 ∷ net ∷ place ∷ [] → ⊥
+  pub not-unreachable : AllReachable (joined j) → (net place : ℕ) → r .refusal ≡ 7 ∷ net ∷ place ∷ [] → ⊥
   -- "Whatever the outcome, the reported turn count is the number of logged turns."
   pub turns-counted : r .turns ≡ length (turnsLogged r)
 

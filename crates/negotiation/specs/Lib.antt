@@ -7,6 +7,7 @@ pub mod Outcome
 pub mod Unreachable
 pub mod Demand
 pub mod Aimed
+pub mod OlderJobs
 pub mod Longer
 pub mod Resume
 pub mod Resumed

@@ -1,7 +1,6 @@
 -- Request 2.8, "Going on from a finished log": what is promised of a resumed call beside the definition of its reply. A job's own log ends
 -- as its straight run; what is rebuilt from any log that passes is read off it, and the appended turns are as demand 3 asks.
 -- Assumes nothing.
-use mathlib.Core.Bool.{true}
 use mathlib.Core.List.{List, [], _∷_, _++_}
 use mathlib.Core.Logic.{_⊎_}
 use mathlib.Core.Path.{_≡_}
@@ -92,4 +91,4 @@ pub record Resumed (j : Job) (used : ℕ) (work lent : List ℕ) (r : RouteReply
   -- "In every accepted job"
   pub final-trees : r .refusal ≡ [] → FinalTrees (joined j) (turnsLogged r)
   -- "No job is refused as unreachable if every sink has a path from its source."
-  pub not-unreachable : AllReachable j → (net place : ℕ) → r .refusal ≡ 7 ∷ net ∷ place ∷ [] → ⊥
+  pub not-unreachable : AllReachable (joined j) → (net place : ℕ) → r .refusal ≡ 7 ∷ net ∷ place ∷ [] → ⊥
