@@ -217,116 +217,93 @@ static void too_many_nodes(void)
 }
 
 /* Two nets that share wire 2 and never settle. It costs history x 20 x (100 + factor), with histories 1, 3, 5, 7 by a step of 2 and
- * factors 0, 100, 233, 543 by 7 / 3; the sinks cost 2,000 and 1,900. One net alone takes both sinks and settles, and so do two
- * of one source. */
+ * factors 0, 100, 233, 543 by 7 / 3; the sinks cost 2,000 and 1,900. Their log, and a word past it. */
+static const uint8_t kind_shared[] = { 0, 2, 4, 1, 3 }, capacity_shared[] = { 2, 1, 1, 3, 1 };
+static const uint32_t first_edge_shared[] = { 0, 1, 2, 4, 4, 4 }, two_nets[] = { 0, 1, 2 };
+static const uint16_t edge_target_shared[] = { 2, 2, 3, 4 }, two_sources[] = { 0, 1 }, sink_shared[] = { 3, 4 };
+static const uint32_t limit_4[] = { 4, 100, 7, 3, 2, 1, 9 }, limit_2[] = { 2, 100, 7, 3, 2 };
+static const uint32_t log_shared[73] = {
+    1, 0, 3, 4000,  0, 3, 0, 2, 3, 1, 1, 4, 3900,  0, 3, 1, 2, 4,
+    2, 0, 3, 14000, 0, 3, 0, 2, 3, 2, 1, 4, 13900, 0, 3, 1, 2, 4,
+    3, 0, 3, 35300, 0, 3, 0, 2, 3, 3, 1, 4, 35200, 0, 3, 1, 2, 4,
+    4, 0, 3, 92020, 0, 3, 0, 2, 3, 4, 1, 4, 91920, 0, 3, 1, 2, 4, OLD,
+};
+static const uint64_t cleared[40] = { 0 };
+
+/* The words of its first two iterations. */
+enum { LENT = 36 };
+
+/* One net alone takes both sinks and settles, and so do two of one source: their log. */
+static const uint16_t one_source[] = { 0, 0 };
+static const uint32_t one_net[] = { 0, 2 };
+static const uint32_t log_joined[] = { 1, 0, 4, 3900, 0, 3, 0, 2, 4, 1, 0, 3, 2000, 0, 2, 2, 3 };
+
+static uint32_t route_in(size_t kinds, const uint16_t *source, size_t nets, const uint32_t *first_sink, size_t count, uint64_t *work,
+                         size_t entries, uint32_t *log, size_t words)
+{
+    return arvumnao_route(kind_shared, kinds, capacity_shared, 5, first_edge_shared, 6, edge_target_shared, 4, source, nets, first_sink,
+                          nets + 1, sink_shared, 2, NULL, 0, NULL, 0, limit_4, count, work, entries, log, words, out, OUT);
+}
+
 static void route(void)
 {
-    const uint8_t kind[] = { 0, 2, 4, 1, 3 };
-    const uint8_t capacity[] = { 2, 1, 1, 3, 1 };
-    const uint32_t first_edge[] = { 0, 1, 2, 4, 4, 4 };
-    const uint16_t edge_target[] = { 2, 2, 3, 4 };
-    const uint16_t source[] = { 0, 1 };
-    const uint32_t first_sink[] = { 0, 1, 2 };
-    const uint16_t sink[] = { 3, 4 };
-    const uint32_t terms[] = { 4, 100, 7, 3, 2, 1, 9 };
-    const uint16_t one_source[] = { 0, 0 };
-    const uint32_t one_net[] = { 0, 2 };
     const uint64_t ended[] = { 4, 8, 72 }, begun[] = { 1, 0, 0 }, settled[] = { 1, 2, 17 };
-    const uint32_t expected[73] = {
-        1, 0, 3, 4000,  0, 3, 0, 2, 3, 1, 1, 4, 3900,  0, 3, 1, 2, 4,
-        2, 0, 3, 14000, 0, 3, 0, 2, 3, 2, 1, 4, 13900, 0, 3, 1, 2, 4,
-        3, 0, 3, 35300, 0, 3, 0, 2, 3, 3, 1, 4, 35200, 0, 3, 1, 2, 4,
-        4, 0, 3, 92020, 0, 3, 0, 2, 3, 4, 1, 4, 91920, 0, 3, 1, 2, 4, OLD,
-    };
-    const uint32_t joined[] = { 1, 0, 4, 3900, 0, 3, 0, 2, 4, 1, 0, 3, 2000, 0, 2, 2, 3 };
-    const uint64_t cleared[40] = { 0 };
     uint64_t work[41];
     uint32_t log[73];
     memset(work, 9, sizeof work);
     work[40] = OLD;
     log[72] = OLD;
     lend_out();
-    EXPECT(arvumnao_route(kind, COUNT(kind), capacity, COUNT(capacity), first_edge, COUNT(first_edge),
-                          edge_target, COUNT(edge_target), source, COUNT(source), first_sink, COUNT(first_sink),
-                          sink, COUNT(sink), NULL, 0, NULL, 0, terms, COUNT(terms), work, COUNT(work), log, COUNT(log),
-                          out, OUT) == 1);
-    EXPECT(told(9, 4, 1, ended, 3));
-    EXPECT(memcmp(log, expected, sizeof log) == 0);
+    EXPECT(route_in(5, two_sources, 2, two_nets, 7, work, 41, log, 73) == 1 && told(9, 4, 1, ended, 3));
+    EXPECT(memcmp(log, log_shared, sizeof log) == 0);
     EXPECT(memcmp(work, cleared, sizeof cleared) == 0 && work[40] == OLD);
-    arvumnao_route(kind, 5, capacity, 5, first_edge, 6, edge_target, 4, source, 2, first_sink, 3, sink, 2,
-                   NULL, 0, NULL, 0, terms, 6, work, 39, log, 73, out, OUT);
-    EXPECT(refused(6, 40, 0));
-    arvumnao_route(kind, 5, capacity, 5, first_edge, 6, edge_target, 4, source, 2, first_sink, 3, sink, 2,
-                   NULL, 0, NULL, 0, terms, 6, work, 41, log, 8, out, OUT);
-    EXPECT(told(8, 1, 0, begun, 3));
-    arvumnao_route(kind, 0, capacity, 5, first_edge, 6, edge_target, 4, source, 2, first_sink, 3, sink, 2,
-                   NULL, 0, NULL, 0, terms, 6, work, 41, log, 73, out, OUT);
-    EXPECT(refused(5, 1, 0));
-    arvumnao_route(kind, 5, capacity, 5, first_edge, 6, edge_target, 4, source, 1, one_net, 2, sink, 2,
-                   NULL, 0, NULL, 0, terms, 6, work, 41, log, 73, out, OUT);
-    EXPECT(told(0, 0, 0, settled, 3));
-    EXPECT(memcmp(log, joined, sizeof joined) == 0);
+    EXPECT(route_in(5, two_sources, 2, two_nets, 6, work, 39, log, 73) == 1 && refused(6, 40, 0));
+    EXPECT(route_in(5, two_sources, 2, two_nets, 6, work, 41, log, 8) == 1 && told(8, 1, 0, begun, 3));
+    EXPECT(route_in(0, two_sources, 2, two_nets, 6, work, 41, log, 73) == 1 && refused(5, 1, 0));
+    EXPECT(route_in(5, two_sources, 1, one_net, 6, work, 41, log, 73) == 1 && told(0, 0, 0, settled, 3));
+    EXPECT(memcmp(log, log_joined, sizeof log_joined) == 0);
     memset(log, 9, sizeof log);
-    arvumnao_route(kind, 5, capacity, 5, first_edge, 6, edge_target, 4, one_source, 2, first_sink, 3, sink, 2,
-                   NULL, 0, NULL, 0, terms, 6, work, 41, log, 73, out, OUT);
-    EXPECT(told(0, 0, 0, settled, 3));
-    EXPECT(memcmp(log, joined, sizeof joined) == 0);
+    EXPECT(route_in(5, one_source, 2, two_nets, 6, work, 41, log, 73) == 1 && told(0, 0, 0, settled, 3));
+    EXPECT(memcmp(log, log_joined, sizeof log_joined) == 0);
 }
 
 /* The same two nets, gone on from after two of their four iterations, in a log of this length with so many words used. */
 static uint32_t resume_in(const uint16_t *source, size_t nets, const uint32_t *terms, size_t count, uint64_t used, uint64_t *work,
                           size_t entries, uint32_t *log, size_t words)
 {
-    const uint8_t kind[] = { 0, 2, 4, 1, 3 };
-    const uint8_t capacity[] = { 2, 1, 1, 3, 1 };
-    const uint32_t first_edge[] = { 0, 1, 2, 4, 4, 4 };
-    const uint16_t edge_target[] = { 2, 2, 3, 4 };
-    const uint32_t first_sink[] = { 0, 1, 2 };
-    const uint16_t sink[] = { 3, 4 };
-    return arvumnao_resume(kind, COUNT(kind), capacity, COUNT(capacity), first_edge, COUNT(first_edge), edge_target,
-                           COUNT(edge_target), source, nets, first_sink, COUNT(first_sink), sink, COUNT(sink), NULL, 0, NULL, 0,
-                           terms, count, used, work, entries, log, words, out, OUT);
+    return arvumnao_resume(kind_shared, 5, capacity_shared, 5, first_edge_shared, 6, edge_target_shared, 4, source, nets,
+                           two_nets, 3, sink_shared, 2, NULL, 0, NULL, 0, terms, count, used, work, entries, log, words,
+                           out, OUT);
 }
 
 /* It ends as the straight run. Under a limit of 2 the log has no iteration below it, a word less cuts its last record, and a cost
  * that is off is the third record's. */
 static void resume(void)
 {
-    const uint16_t source[] = { 0, 1 };
-    const uint32_t terms[] = { 4, 100, 7, 3, 2, 1, 9 }, two[] = { 2, 100, 7, 3, 2 };
     const uint64_t ended[] = { 4, 8, 72 }, full[] = { 3, 5, 45 };
-    const uint32_t lent[] = {
-        1, 0, 3, 4000,  0, 3, 0, 2, 3, 1, 1, 4, 3900,  0, 3, 1, 2, 4,
-        2, 0, 3, 14000, 0, 3, 0, 2, 3, 2, 1, 4, 13900, 0, 3, 1, 2, 4,
-    };
-    const uint32_t appended[] = {
-        3, 0, 3, 35300, 0, 3, 0, 2, 3, 3, 1, 4, 35200, 0, 3, 1, 2, 4,
-        4, 0, 3, 92020, 0, 3, 0, 2, 3, 4, 1, 4, 91920, 0, 3, 1, 2, 4, OLD,
-    };
-    const uint64_t cleared[40] = { 0 };
     uint64_t work[41];
     uint32_t log[73], before[73];
     memset(work, 9, sizeof work);
     memset(log, 9, sizeof log);
-    memcpy(log, lent, sizeof lent);
+    memcpy(log, log_shared, LENT * sizeof log[0]);
     work[40] = log[72] = OLD;
     memcpy(before, log, sizeof log);
     lend_out();
-    EXPECT(resume_in(source, 2, terms, 7, 73 * UINT64_C(4294967296), work, 41, log, 73) == 1 && refused(ARVUMNAO_DIVERGES, 73, 0));
+    EXPECT(resume_in(two_sources, 2, limit_4, 7, 73 * UINT64_C(4294967296), work, 41, log, 73) == 1 && refused(ARVUMNAO_DIVERGES, 73, 0));
     EXPECT(memcmp(work, cleared, sizeof cleared) == 0 && work[40] == OLD);
-    EXPECT(resume_in(source, 2, terms, 7, 0, work, 41, log, 73) == 1 && refused(14, 0, 0));
-    EXPECT(resume_in(source, 2, two, 5, 36, work, 41, log, 73) == 1 && refused(14, 36, 0));
-    EXPECT(resume_in(source, 2, terms, 7, 35, work, 41, log, 73) == 1 && refused(14, 27, 0));
-    EXPECT(resume_in(source, 2, terms, 7, 36, work, 39, log, 73) == 1 && refused(6, 40, 0));
-    EXPECT(resume_in(source, 1, terms, 7, 36, work, 41, log, 73) == 1 && refused(5, 6, 0));
-    EXPECT(resume_in(source, 2, terms, 0, 36, work, 41, log, 73) == 1 && refused(5, 8, 0));
+    EXPECT(resume_in(two_sources, 2, limit_4, 7, 0, work, 41, log, 73) == 1 && refused(14, 0, 0));
+    EXPECT(resume_in(two_sources, 2, limit_2, 5, LENT, work, 41, log, 73) == 1 && refused(14, 36, 0));
+    EXPECT(resume_in(two_sources, 2, limit_4, 7, 35, work, 41, log, 73) == 1 && refused(14, 27, 0));
+    EXPECT(resume_in(two_sources, 2, limit_4, 7, LENT, work, 39, log, 73) == 1 && refused(6, 40, 0));
+    EXPECT(resume_in(two_sources, 1, limit_4, 7, LENT, work, 41, log, 73) == 1 && refused(5, 6, 0));
+    EXPECT(resume_in(two_sources, 2, limit_4, 0, LENT, work, 41, log, 73) == 1 && refused(5, 8, 0));
     log[21] = before[21] = 14001;
-    EXPECT(resume_in(source, 2, terms, 7, 36, work, 41, log, 73) == 1 && refused(14, 18, 0));
+    EXPECT(resume_in(two_sources, 2, limit_4, 7, LENT, work, 41, log, 73) == 1 && refused(14, 18, 0));
     EXPECT(memcmp(log, before, sizeof log) == 0);
     log[21] = 14000;
-    EXPECT(resume_in(source, 2, terms, 7, 36, work, 41, log, 53) == 1 && told(8, 3, 5, full, 3));
-    EXPECT(resume_in(source, 2, terms, 7, 36, work, 41, log, 73) == 1 && told(9, 4, 1, ended, 3));
-    EXPECT(memcmp(log, lent, sizeof lent) == 0 && memcmp(log + 36, appended, sizeof appended) == 0);
+    EXPECT(resume_in(two_sources, 2, limit_4, 7, LENT, work, 41, log, 53) == 1 && told(8, 3, 5, full, 3));
+    EXPECT(resume_in(two_sources, 2, limit_4, 7, LENT, work, 41, log, 73) == 1 && told(9, 4, 1, ended, 3));
+    EXPECT(memcmp(log, log_shared, sizeof log) == 0);
     EXPECT(memcmp(work, cleared, sizeof cleared) == 0 && work[40] == OLD);
 }
 
@@ -334,14 +311,9 @@ static void resume(void)
 static uint32_t route_aimed_in(const uint16_t *source, size_t nets, const uint32_t *first_sink, const uint32_t *terms, size_t count,
                                uint64_t *work, size_t entries, uint32_t *log, size_t words, size_t outs)
 {
-    const uint8_t kind[] = { 0, 2, 4, 1, 3 };
-    const uint8_t capacity[] = { 2, 1, 1, 3, 1 };
-    const uint32_t first_edge[] = { 0, 1, 2, 4, 4, 4 };
-    const uint16_t edge_target[] = { 2, 2, 3, 4 };
-    const uint16_t sink[] = { 3, 4 };
-    return arvumnao_route_aimed(kind, COUNT(kind), capacity, COUNT(capacity), first_edge, COUNT(first_edge), edge_target,
-                                COUNT(edge_target), source, nets, first_sink, nets + 1, sink, COUNT(sink), NULL, 0, NULL, 0,
-                                terms, count, work, entries, log, words, out, outs);
+    return arvumnao_route_aimed(kind_shared, 5, capacity_shared, 5, first_edge_shared, 6, edge_target_shared, 4, source, nets,
+                                first_sink, nets + 1, sink_shared, 2, NULL, 0, NULL, 0, terms, count, work, entries, log, words,
+                                out, outs);
 }
 
 /* Each of the two nets' turns expands the three nodes of its path: from the other net's sink no path leads to its own. One net alone
@@ -349,86 +321,58 @@ static uint32_t route_aimed_in(const uint16_t *source, size_t nets, const uint32
  * the source it is 4,000 away, and 2,000 from the wire. */
 static void route_aimed(void)
 {
-    const uint16_t source[] = { 0, 1 }, one_source[] = { 0, 0 };
-    const uint32_t first_sink[] = { 0, 1, 2 }, one_net[] = { 0, 2 };
-    const uint32_t terms[] = { 4, 100, 7, 3, 2, 1, 9 };
     const uint64_t ended[] = { 4, 8, 72, 24 }, full[] = { 1, 1, 9, 3 }, begun[] = { 1, 0, 0, 0 }, settled[] = { 1, 2, 17, 5 };
-    const uint32_t expected[73] = {
-        1, 0, 3, 4000,  0, 3, 0, 2, 3, 1, 1, 4, 3900,  0, 3, 1, 2, 4,
-        2, 0, 3, 14000, 0, 3, 0, 2, 3, 2, 1, 4, 13900, 0, 3, 1, 2, 4,
-        3, 0, 3, 35300, 0, 3, 0, 2, 3, 3, 1, 4, 35200, 0, 3, 1, 2, 4,
-        4, 0, 3, 92020, 0, 3, 0, 2, 3, 4, 1, 4, 91920, 0, 3, 1, 2, 4, OLD,
-    };
-    const uint32_t joined[] = { 1, 0, 4, 3900, 0, 3, 0, 2, 4, 1, 0, 3, 2000, 0, 2, 2, 3 };
-    const uint64_t cleared[40] = { 0 };
     uint64_t work[41];
     uint32_t log[73];
     memset(work, 9, sizeof work);
     work[40] = OLD;
     log[0] = log[72] = OLD;
     lend_out();
-    EXPECT(route_aimed_in(source, 2, first_sink, terms, 7, work, 41, log, 73, 15) == 0);
+    EXPECT(route_aimed_in(two_sources, 2, two_nets, limit_4, 7, work, 41, log, 73, 15) == 0);
     EXPECT(out[0] == OLD && out[14] == OLD && log[0] == OLD && work[0] != 0);
-    EXPECT(route_aimed_in(source, 2, first_sink, terms, 7, work, 41, log, 73, OUT) == 1 && told(9, 4, 1, ended, 4));
-    EXPECT(memcmp(log, expected, sizeof log) == 0);
+    EXPECT(route_aimed_in(two_sources, 2, two_nets, limit_4, 7, work, 41, log, 73, OUT) == 1 && told(9, 4, 1, ended, 4));
+    EXPECT(memcmp(log, log_shared, sizeof log) == 0);
     EXPECT(memcmp(work, cleared, sizeof cleared) == 0 && work[40] == OLD);
-    EXPECT(route_aimed_in(source, 2, first_sink, terms, 6, work, 39, log, 73, OUT) == 1 && refused(6, 40, 0));
-    EXPECT(route_aimed_in(source, 2, first_sink, terms, 0, work, 41, log, 73, OUT) == 1 && refused(5, 8, 0));
-    EXPECT(route_aimed_in(source, 2, first_sink, terms, 6, work, 41, log, 8, OUT) == 1 && told(8, 1, 0, begun, 4));
-    EXPECT(route_aimed_in(source, 2, first_sink, terms, 6, work, 41, log, 17, OUT) == 1 && told(8, 1, 1, full, 4));
-    EXPECT(route_aimed_in(source, 1, one_net, terms, 6, work, 41, log, 73, OUT) == 1 && told(0, 0, 0, settled, 4));
-    EXPECT(memcmp(log, joined, sizeof joined) == 0);
+    EXPECT(route_aimed_in(two_sources, 2, two_nets, limit_4, 6, work, 39, log, 73, OUT) == 1 && refused(6, 40, 0));
+    EXPECT(route_aimed_in(two_sources, 2, two_nets, limit_4, 0, work, 41, log, 73, OUT) == 1 && refused(5, 8, 0));
+    EXPECT(route_aimed_in(two_sources, 2, two_nets, limit_4, 6, work, 41, log, 8, OUT) == 1 && told(8, 1, 0, begun, 4));
+    EXPECT(route_aimed_in(two_sources, 2, two_nets, limit_4, 6, work, 41, log, 17, OUT) == 1 && told(8, 1, 1, full, 4));
+    EXPECT(route_aimed_in(two_sources, 1, one_net, limit_4, 6, work, 41, log, 73, OUT) == 1 && told(0, 0, 0, settled, 4));
+    EXPECT(memcmp(log, log_joined, sizeof log_joined) == 0);
     memset(log, 9, sizeof log);
-    EXPECT(route_aimed_in(one_source, 2, first_sink, terms, 6, work, 41, log, 73, OUT) == 1 && told(0, 0, 0, settled, 4));
-    EXPECT(memcmp(log, joined, sizeof joined) == 0);
+    EXPECT(route_aimed_in(one_source, 2, two_nets, limit_4, 6, work, 41, log, 73, OUT) == 1 && told(0, 0, 0, settled, 4));
+    EXPECT(memcmp(log, log_joined, sizeof log_joined) == 0);
 }
 
 static uint32_t resume_aimed_in(const uint16_t *source, size_t nets, const uint32_t *terms, size_t count, uint64_t used, uint64_t *work,
                                 size_t entries, uint32_t *log, size_t words, size_t outs)
 {
-    const uint8_t kind[] = { 0, 2, 4, 1, 3 };
-    const uint8_t capacity[] = { 2, 1, 1, 3, 1 };
-    const uint32_t first_edge[] = { 0, 1, 2, 4, 4, 4 };
-    const uint16_t edge_target[] = { 2, 2, 3, 4 };
-    const uint32_t first_sink[] = { 0, 1, 2 };
-    const uint16_t sink[] = { 3, 4 };
-    return arvumnao_resume_aimed(kind, COUNT(kind), capacity, COUNT(capacity), first_edge, COUNT(first_edge), edge_target,
-                                 COUNT(edge_target), source, nets, first_sink, COUNT(first_sink), sink, COUNT(sink), NULL, 0, NULL, 0,
-                                 terms, count, used, work, entries, log, words, out, outs);
+    return arvumnao_resume_aimed(kind_shared, 5, capacity_shared, 5, first_edge_shared, 6, edge_target_shared, 4, source, nets,
+                                 two_nets, 3, sink_shared, 2, NULL, 0, NULL, 0, terms, count, used, work, entries, log, words,
+                                 out, outs);
 }
 
 /* Four turns are appended to the four lent ones, and expand three nodes each; one where only one more fits; none after a refusal. */
 static void resume_aimed(void)
 {
-    const uint16_t source[] = { 0, 1 };
-    const uint32_t terms[] = { 4, 100, 7, 3, 2, 1, 9 }, two[] = { 2, 100, 7, 3, 2 };
     const uint64_t ended[] = { 4, 8, 72, 12 }, full[] = { 3, 5, 45, 3 };
-    const uint32_t lent[] = {
-        1, 0, 3, 4000,  0, 3, 0, 2, 3, 1, 1, 4, 3900,  0, 3, 1, 2, 4,
-        2, 0, 3, 14000, 0, 3, 0, 2, 3, 2, 1, 4, 13900, 0, 3, 1, 2, 4,
-    };
-    const uint32_t appended[] = {
-        3, 0, 3, 35300, 0, 3, 0, 2, 3, 3, 1, 4, 35200, 0, 3, 1, 2, 4,
-        4, 0, 3, 92020, 0, 3, 0, 2, 3, 4, 1, 4, 91920, 0, 3, 1, 2, 4, OLD,
-    };
-    const uint64_t cleared[40] = { 0 };
     uint64_t work[41];
     uint32_t log[73];
     memset(work, 9, sizeof work);
     memset(log, 9, sizeof log);
-    memcpy(log, lent, sizeof lent);
+    memcpy(log, log_shared, LENT * sizeof log[0]);
     work[40] = log[72] = OLD;
     lend_out();
-    EXPECT(resume_aimed_in(source, 2, terms, 7, 36, work, 41, log, 73, 15) == 0);
+    EXPECT(resume_aimed_in(two_sources, 2, limit_4, 7, LENT, work, 41, log, 73, 15) == 0);
     EXPECT(out[0] == OLD && out[14] == OLD && log[36] != 3 && work[0] != 0);
-    EXPECT(resume_aimed_in(source, 2, terms, 7, 73 * UINT64_C(4294967296), work, 41, log, 73, OUT) == 1 && refused(14, 73, 0));
-    EXPECT(resume_aimed_in(source, 2, two, 5, 36, work, 41, log, 73, OUT) == 1 && refused(14, 36, 0));
-    EXPECT(resume_aimed_in(source, 2, terms, 7, 35, work, 41, log, 73, OUT) == 1 && refused(14, 27, 0));
-    EXPECT(resume_aimed_in(source, 2, terms, 7, 36, work, 39, log, 73, OUT) == 1 && refused(6, 40, 0));
-    EXPECT(resume_aimed_in(source, 1, terms, 7, 36, work, 41, log, 73, OUT) == 1 && refused(5, 6, 0));
-    EXPECT(resume_aimed_in(source, 2, terms, 7, 36, work, 41, log, 53, OUT) == 1 && told(8, 3, 5, full, 4));
-    EXPECT(resume_aimed_in(source, 2, terms, 7, 36, work, 41, log, 73, OUT) == 1 && told(9, 4, 1, ended, 4));
-    EXPECT(memcmp(log, lent, sizeof lent) == 0 && memcmp(log + 36, appended, sizeof appended) == 0);
+    EXPECT(resume_aimed_in(two_sources, 2, limit_4, 7, 73 * UINT64_C(4294967296), work, 41, log, 73, OUT) == 1 && refused(14, 73, 0));
+    EXPECT(resume_aimed_in(two_sources, 2, limit_2, 5, LENT, work, 41, log, 73, OUT) == 1 && refused(14, 36, 0));
+    EXPECT(resume_aimed_in(two_sources, 2, limit_4, 7, 35, work, 41, log, 73, OUT) == 1 && refused(14, 27, 0));
+    EXPECT(resume_aimed_in(two_sources, 2, limit_4, 7, LENT, work, 39, log, 73, OUT) == 1 && refused(6, 40, 0));
+    EXPECT(resume_aimed_in(two_sources, 1, limit_4, 7, LENT, work, 41, log, 73, OUT) == 1 && refused(5, 6, 0));
+    EXPECT(resume_aimed_in(two_sources, 2, limit_4, 7, LENT, work, 41, log, 53, OUT) == 1 && told(8, 3, 5, full, 4));
+    EXPECT(resume_aimed_in(two_sources, 2, limit_4, 7, LENT, work, 41, log, 73, OUT) == 1 && told(9, 4, 1, ended, 4));
+    EXPECT(memcmp(log, log_shared, sizeof log) == 0);
     EXPECT(memcmp(work, cleared, sizeof cleared) == 0 && work[40] == OLD);
 }
 

@@ -199,7 +199,7 @@ impl Nets {
     /// A net's sinks as listed; none where tables 6 and 7 don't have them.
     pub fn sinks(&self, net: usize) -> &[u16] {
         let place = |owner: usize| Some(*self.first_sink.get(owner)? as usize);
-        let row = place(net).zip(place(net + 1));
+        let row = place(net).zip(net.checked_add(1).and_then(place));
         row.and_then(|(first, end)| self.sink.get(first..end)).unwrap_or(&[])
     }
 

@@ -24,7 +24,7 @@ pub(crate) fn quoted(text: &[u8], line: u64) -> Option<String> {
 pub(crate) fn reason(text: &[u8], number: u64, line: u64) -> Option<String> {
     let mut lines = lines(text);
     let mut before = Before::default();
-    for _ in 1..line {
+    for _ in 0..line.checked_sub(1)? {
         let (bytes, _) = lines.next()?;
         before.take(*bytes.first()?, &numbers(bytes)?)?;
     }

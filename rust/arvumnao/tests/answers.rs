@@ -11,6 +11,7 @@ fn job_b() {
     let job = Job::read(JOB_B).unwrap();
     assert_eq!(job.terms, Terms { limit: 2, ..Terms::default() });
     assert_eq!((job.nets.sinks(0), job.nets.sinks(1), job.nets.sinks(2)), (&[4][..], &[5][..], &[][..]));
+    assert_eq!(job.nets.sinks(usize::MAX), []);
     let answer = job.route().unwrap();
     assert_eq!((answer.iteration, answer.turns, answer.log.words().len()), (2, 4, 36));
     assert_eq!(answer.log.words()[18..27], [2, 0, 4, 6000, 0, 3, 0, 3, 4]);

@@ -1,6 +1,6 @@
 //! Every refusal in its numbers and its sentence.
 
-use arvumnao::{kind, Block, Congestion, Job, Log, Nets, Refusal, Terms, Timing, Use, UseCounts};
+use arvumnao::{kind, Block, Congestion, Job, LineFault, Log, Nets, Refusal, Terms, Timing, Use, UseCounts};
 
 const JOB_B: &str = include_str!("../../../examples/job_b.txt");
 const TIMED: &str = include_str!("../../../examples/timed.txt");
@@ -108,6 +108,15 @@ fn digits_and_commas() {
         [1, 4],
         "line 4: the letter N is not followed by a comma: \"N2,4,1\"",
     );
+}
+
+/// Lines are counted from 1.
+#[test]
+fn no_line_0() {
+    for number in 1..=3 {
+        let fault = LineFault::find(b"F,0,1,1,1\n", number, 0);
+        assert_eq!(fault, LineFault { number, line: 0, quoted: None, reason: None });
+    }
 }
 
 #[test]

@@ -47,24 +47,31 @@ pub fn all() -> Vec<Router> {
     routers
 }
 
+/// A call of a router with a job's tables and terms.
+macro_rules! call {
+    ($call:path, $job:expr, $work:expr, $log:expr $(, $out:expr)?) => {
+        $call(
+            &$job.kind,
+            &$job.capacity,
+            &$job.first_edge,
+            &$job.edge_target,
+            &$job.source,
+            &$job.first_sink,
+            &$job.sink,
+            &$job.delay,
+            &$job.criticality,
+            &$job.terms(),
+            $work,
+            $log,
+            $($out)?
+        )
+    };
+}
+
 #[cfg(all(feature = "proved", not(feature = "no-proved")))]
 fn proved(job: &Job, work: &mut [u64], log: &mut [u32]) -> Result {
     let mut out = [0; arvumnao::raw::OUT];
-    arvumnao::raw::route(
-        &job.kind,
-        &job.capacity,
-        &job.first_edge,
-        &job.edge_target,
-        &job.source,
-        &job.first_sink,
-        &job.sink,
-        &job.delay,
-        &job.criticality,
-        &job.terms(),
-        work,
-        log,
-        &mut out,
-    );
+    call!(arvumnao::raw::route, job, work, log, &mut out);
     let numbers: &[u64; 3] = arvumnao::raw::own(&out);
     Result { refusal: arvumnao::raw::refusal(&out).to_vec(), numbers: numbers.to_vec() }
 }
@@ -73,21 +80,7 @@ fn proved(job: &Job, work: &mut [u64], log: &mut [u32]) -> Result {
 #[cfg(all(feature = "proved", not(feature = "no-proved")))]
 pub fn aimed(job: &Job, work: &mut [u64], log: &mut [u32]) -> (Result, u64) {
     let mut out = [0; arvumnao::raw::OUT];
-    arvumnao::raw::route_aimed(
-        &job.kind,
-        &job.capacity,
-        &job.first_edge,
-        &job.edge_target,
-        &job.source,
-        &job.first_sink,
-        &job.sink,
-        &job.delay,
-        &job.criticality,
-        &job.terms(),
-        work,
-        log,
-        &mut out,
-    );
+    call!(arvumnao::raw::route_aimed, job, work, log, &mut out);
     let &[ref numbers @ .., expanded]: &[u64; 4] = arvumnao::raw::own(&out);
     let refusal = arvumnao::raw::refusal(&out).to_vec();
     (Result { refusal, numbers: numbers.to_vec() }, expanded)
@@ -105,38 +98,11 @@ fn proved(_: &Job, _: &mut [u64], _: &mut [u32]) -> Result {
 
 /// The nodes that an aimed search expands, counted by the plain router.
 pub fn plain_expanded(job: &Job, work: &mut [u64], log: &mut [u32]) -> u64 {
-    plain::route_aimed(
-        &job.kind,
-        &job.capacity,
-        &job.first_edge,
-        &job.edge_target,
-        &job.source,
-        &job.first_sink,
-        &job.sink,
-        &job.delay,
-        &job.criticality,
-        &job.terms(),
-        work,
-        log,
-    )
-    .numbers[3]
+    call!(plain::route_aimed, job, work, log).numbers[3]
 }
 
 fn plain(job: &Job, work: &mut [u64], log: &mut [u32]) -> Result {
-    let answer = plain::route(
-        &job.kind,
-        &job.capacity,
-        &job.first_edge,
-        &job.edge_target,
-        &job.source,
-        &job.first_sink,
-        &job.sink,
-        &job.delay,
-        &job.criticality,
-        &job.terms(),
-        work,
-        log,
-    );
+    let answer = call!(plain::route, job, work, log);
     Result { refusal: answer.refusal, numbers: answer.numbers }
 }
 

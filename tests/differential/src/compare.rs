@@ -2,6 +2,8 @@
 
 #[cfg(feature = "library")]
 use arvumnao::raw;
+
+use crate::itself;
 use job::Job;
 
 /// A call's refusal and own numbers, of either side.
@@ -185,68 +187,43 @@ macro_rules! call {
                     $($out)?
                 )
             }
-            Case::Route { job, terms, used: None, aimed: false, work, log } => $side::route(
-                &job.kind,
-                &job.capacity,
-                &job.first_edge,
-                &job.edge_target,
-                &job.source,
-                &job.first_sink,
-                &job.sink,
-                &job.delay,
-                &job.criticality,
-                &lent_terms(job, *terms),
-                lend(work),
-                lend(log),
-                $($out)?
-            ),
-            Case::Route { job, terms, used: Some(used), aimed: false, work, log } => $side::resume(
-                &job.kind,
-                &job.capacity,
-                &job.first_edge,
-                &job.edge_target,
-                &job.source,
-                &job.first_sink,
-                &job.sink,
-                &job.delay,
-                &job.criticality,
-                &lent_terms(job, *terms),
-                *used,
-                lend(work),
-                lend(log),
-                $($out)?
-            ),
-            Case::Route { job, terms, used: None, aimed: true, work, log } => $side::route_aimed(
-                &job.kind,
-                &job.capacity,
-                &job.first_edge,
-                &job.edge_target,
-                &job.source,
-                &job.first_sink,
-                &job.sink,
-                &job.delay,
-                &job.criticality,
-                &lent_terms(job, *terms),
-                lend(work),
-                lend(log),
-                $($out)?
-            ),
-            Case::Route { job, terms, used: Some(used), aimed: true, work, log } => $side::resume_aimed(
-                &job.kind,
-                &job.capacity,
-                &job.first_edge,
-                &job.edge_target,
-                &job.source,
-                &job.first_sink,
-                &job.sink,
-                &job.delay,
-                &job.criticality,
-                &lent_terms(job, *terms),
-                *used,
-                lend(work),
-                lend(log),
-                $($out)?
-            ),
+            Case::Route { job, terms, used: None, aimed, work, log } => {
+                let route = if *aimed { $side::route_aimed } else { $side::route };
+                route(
+                    &job.kind,
+                    &job.capacity,
+                    &job.first_edge,
+                    &job.edge_target,
+                    &job.source,
+                    &job.first_sink,
+                    &job.sink,
+                    &job.delay,
+                    &job.criticality,
+                    &lent_terms(job, *terms),
+                    lend(work),
+                    lend(log),
+                    $($out)?
+                )
+            }
+            Case::Route { job, terms, used: Some(used), aimed, work, log } => {
+                let resume = if *aimed { $side::resume_aimed } else { $side::resume };
+                resume(
+                    &job.kind,
+                    &job.capacity,
+                    &job.first_edge,
+                    &job.edge_target,
+                    &job.source,
+                    &job.first_sink,
+                    &job.sink,
+                    &job.delay,
+                    &job.criticality,
+                    &lent_terms(job, *terms),
+                    *used,
+                    lend(work),
+                    lend(log),
+                    $($out)?
+                )
+            }
             Case::Read { text, tables } => $side::read(
                 text,
                 lend(&mut tables.kind),
@@ -341,16 +318,17 @@ pub fn plain(case: &Case) -> After {
 }
 
 /// The library side's end of a call.
-fn of_library(case: &Case) -> After {
+pub fn of_library(case: &Case) -> After {
     let mut copy = case.clone();
     let answer = run_library(&mut copy);
     After { answer, case: copy }
 }
 
-/// Both sides' common end of a call, or what is wrong with it.
+/// Both sides' common end of a call, or what is wrong with it. The library's is first set beside others of its own.
 pub fn compare(case: &Case) -> Result<After, String> {
-    let one = plain(case);
     let other = of_library(case);
+    itself::check(case, &other)?;
+    let one = plain(case);
     if one.answer != other.answer {
         return Err(format!("answers differ\n  plain:   {:?}\n  library: {:?}", one.answer, other.answer));
     }
@@ -615,6 +593,12 @@ pub mod inject {
             {
                 counts[0] += 1;
             }
+            // a log adds more to counts that aren't the first's
+            (37, Case::AddUses { logs: 1, .. }, Case::AddUses { counts, .. })
+                if answer.refusal.is_empty() && !idle(before) =>
+            {
+                counts[0] += 1;
+            }
             // a refused log adds something
             (18, _, Case::AddUses { counts, .. }) if answer.refusal.first() == Some(&10) => counts[53] += 1,
             (fault, _, after) => of_requests(fault, before, after, &mut answer),
@@ -679,6 +663,8 @@ pub mod inject {
             (34, None, []) if job.is_timed() => answer.numbers[3] = answer.numbers[1] * job.kind.len() as u64,
             // a job without a path has a count
             (35, _, [7, ..]) => answer.numbers[3] = 1,
+            // an aimed call tells a turn more than the plain one
+            (36, None, []) => answer.numbers[1] += 1,
             _ => {}
         }
     }

@@ -6,6 +6,7 @@
 mod alone;
 mod compare;
 mod damage;
+mod itself;
 mod lengths;
 mod logs;
 mod outcomes;

@@ -34,20 +34,6 @@ impl Lent {
             log,
         }
     }
-
-    /// The router's straight run in the same log, of which it reads nothing.
-    pub fn straight(&self) -> Case {
-        let mut case = self.case();
-        if let Case::Route { used, .. } = &mut case {
-            *used = None;
-        }
-        case
-    }
-
-    /// Whether it is of the job's own run, whole iterations below the limit.
-    pub fn is_own(&self) -> bool {
-        matches!(self.name, "own log" | "log under a lower limit")
-    }
 }
 
 /// The words that the plain router uses for a job, and the iteration that it comes to. Long logs end early.

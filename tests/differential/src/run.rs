@@ -3,6 +3,7 @@
 use crate::alone::{self, work};
 use crate::compare::{self, After, Case};
 use crate::damage;
+use crate::itself;
 use crate::lengths::{self, around};
 use crate::logs;
 use crate::outcomes::{self, Outcomes};
@@ -55,7 +56,7 @@ impl Run {
         let out = out_length(&mut self.rng);
         let after = self.one(&case, out)?;
         if matches!(case, Case::Route { .. }) && self.aims.percent(AIMED) {
-            self.aimed(case, &after)?;
+            self.aimed(case)?;
         }
         Ok(after)
     }
@@ -72,19 +73,13 @@ impl Run {
         Ok(after)
     }
 
-    /// The same call of the router with an aimed search: but for the count of nodes expanded it ends as the plain one.
-    fn aimed(&mut self, mut case: Case, plain: &After) -> Result<(), Failure> {
+    /// The same call of the router with an aimed search.
+    fn aimed(&mut self, mut case: Case) -> Result<(), Failure> {
         if let Case::Route { aimed, .. } = &mut case {
             *aimed = true;
         }
         let out = out_length(&mut self.aims);
         let after = self.one(&case, out)?;
-        let mut same = after.clone();
-        same.answer.numbers.truncate(plain.answer.numbers.len());
-        if let Case::Route { aimed, .. } = &mut same.case {
-            *aimed = false;
-        }
-        assert!(same == *plain, "an aimed call doesn't end as the plain one");
         self.outcomes.count_aimed(&after);
         Ok(())
     }
@@ -222,29 +217,17 @@ impl Run {
             return Ok(());
         }
         let lent = resumes::lent(&mut self.rng, job);
-        let after = self.case(lent.case())?;
+        let case = lent.case();
+        let after = self.case(case.clone())?;
         self.outcomes.count_resumed(&lent, &after);
-        if lent.is_own() {
-            self.straight(&lent, &after);
+        if itself::straight(&case).is_some() {
+            let timed = if lent.job.is_timed() { ", timed" } else { "" };
+            self.outcomes.count(format!("straight run's end by a resume, {}{timed}", outcomes::end(&after)));
         }
         if self.rng.once_in(3) {
             self.refused_resume(&lent)?;
         }
         self.damaged_lent(&lent)
-    }
-
-    /// A job's own log ends as a straight run in as long a log does.
-    fn straight(&mut self, lent: &Lent, after: &After) {
-        let straight = compare::plain(&lent.straight());
-        let (Case::Route { log, .. }, Case::Route { log: other, .. }) = (&straight.case, &after.case) else {
-            return;
-        };
-        assert!(
-            straight.answer == after.answer && log == other,
-            "an own log doesn't end as the straight run"
-        );
-        let timed = if lent.job.is_timed() { ", timed" } else { "" };
-        self.outcomes.count(format!("straight run's end by a resume, {}{timed}", outcomes::end(after)));
     }
 
     /// The same with something wrong that is told before the log is looked at.
@@ -423,11 +406,16 @@ impl Run {
     fn other_order(&mut self, job: &Job, counts: &Counts, mut added: Vec<Vec<u32>>) -> Result<(), Failure> {
         let mut other = Counts::none();
         self.rng.shuffle(&mut added);
-        for log in &added {
-            let after = self.case(other.add(job, log))?;
+        for (place, log) in added.iter().enumerate() {
+            let case = other.add(job, log);
+            let after = self.case(case.clone())?;
             other.take(&after);
+            if place + 1 == added.len() && other != *counts {
+                let message =
+                    format!("the order of logs matters: {counts:?}, and in another order {other:?}");
+                return Err(Failure { case: Box::new(case), out: None, message });
+            }
         }
-        assert_eq!(&other, counts, "the order of logs matters");
         self.outcomes.count(format!("run of {} logs added in another order", added.len()));
         Ok(())
     }

@@ -786,6 +786,21 @@ mod tests {
         assert!(job.kind.len() == 2 && job.edge_target.is_empty() && log.is_empty());
     }
 
+    /// The library's own ends are set beside each other before plain's, and the fault is told so.
+    fn faults_beside_itself_are_made_small() {
+        let told = |case: &Case| examine(case, None).expect_err("it still fails");
+        let case = smallest(36);
+        assert!(told(&case).starts_with("an aimed call doesn't end as the plain one"), "{}", told(&case));
+        let Case::Route { job, aimed: true, .. } = &case else { panic!("fault 36") };
+        assert!(job.kind.len() <= 3 && job.sink.len() == 1 && job.limit == 1);
+        let case = smallest(20);
+        assert!(told(&case).starts_with("a resume from the job's own log doesn't end"), "{}", told(&case));
+        let case = smallest(37);
+        assert!(told(&case).starts_with("a log adds "), "{}", told(&case));
+        let Case::AddUses { graph, logs: 1, log, .. } = &case else { panic!("fault 37") };
+        assert!(graph.kind.len() == 1 && log.len() == 8);
+    }
+
     /// One test for all faults, since they are put in for all threads.
     #[test]
     fn faults_are_found_and_made_small() {
@@ -841,6 +856,7 @@ mod tests {
         assert!(job.rule == 2 && job.until > 1 && job.limit == 2 && used.is_some_and(|used| used <= 18));
         timed_faults_are_made_small();
         aimed_faults_are_made_small();
+        faults_beside_itself_are_made_small();
         FAULT.store(0, Ordering::Relaxed);
         assert!(first_failure().is_none());
     }

@@ -1,6 +1,8 @@
-//! A plain and slow router, written from 01-scope.md and 02-change-requests.md alone, to compare others with.
+//! A plain and slow router, written from 01-scope.md and 02-change-requests.md alone, to compare others with. But `cheapest_path` is an
+//! inner call of the proved router, and follows that in its parameters and in what it leaves.
 
 mod aim;
+mod flow;
 mod join;
 mod log;
 mod price;
@@ -13,6 +15,7 @@ mod uses;
 mod writer;
 
 pub use aim::aimed_path;
+pub use flow::{sizes, Lent, Routed, Tables, Writer};
 pub use price::{price, timed_price, Tuning};
 pub use reader::read;
 pub use resume::{resume, resume_aimed};

@@ -1,7 +1,7 @@
 //! Texts at the programs' bounds and just past them, each with what the answer to it begins with.
 
-use crate::expected::{BYTES, EDGES, NETS, NODES, SINKS, WORDS};
 use job::{jobs, texts, Job, Rng};
+use plain::sizes::{BYTES, EDGES, NETS, NODES, SINKS, WORDS};
 
 /// A text at a bound.
 pub struct Bound {

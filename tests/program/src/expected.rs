@@ -1,18 +1,6 @@
 //! What the programs must print, by the plain reader, router and writer.
 
-use job::Job;
-
-/// Bytes lent for the job text, and as many each for the answer, log and work.
-pub const BYTES: usize = 65_536;
-/// Nodes, edges, nets and sinks for which a program has tables.
-pub const NODES: usize = 1_024;
-pub const EDGES: usize = 8_192;
-pub const NETS: usize = 512;
-pub const SINKS: usize = 4_096;
-/// Words of the log, of 4 bytes each.
-pub const WORDS: usize = BYTES / 4;
-/// Entries of the work slice, of 8 bytes each.
-const ENTRIES: usize = BYTES / 8;
+use plain::{Lent, Writer};
 
 /// What each program prints for one input.
 pub struct Printed {
@@ -24,101 +12,27 @@ pub struct Printed {
 
 /// The routes text and the picture, or the line of the refusal: 12, then what the reader, the router and the writer refuse.
 pub fn printed(input: &[u8]) -> Printed {
-    let routed = routed(input);
-    let by = |write: Writer| {
-        let text = routed.as_ref().map_err(Vec::clone).and_then(|(job, log)| text(write, job, log));
-        text.unwrap_or_else(|refusal| refusal_line(&refusal))
+    let mut lent = Lent::program();
+    let taken = lent.take(input);
+    let mut by = |writer: Writer| {
+        let bytes = lent.print(&taken, writer);
+        lent.buffer[..bytes].to_vec()
     };
     Printed { routes: by(plain::write), picture: by(plain::dot) }
 }
 
-type Writer = fn(&[u16], &[u32], &mut [u8]) -> plain::Answer;
-
-/// `X,` and the refusal's numbers.
-fn refusal_line(refusal: &[u64]) -> Vec<u8> {
-    let numbers: Vec<String> = refusal.iter().map(u64::to_string).collect();
-    format!("X,{}\n", numbers.join(",")).into_bytes()
-}
-
-/// The job of an input and its log.
-fn routed(input: &[u8]) -> Result<(Job, Vec<u32>), Vec<u64>> {
-    if input.len() > BYTES {
-        return Err(vec![12, BYTES as u64]);
-    }
-    let job = read(input)?;
-    let log = route(&job)?;
-    Ok((job, log))
-}
-
-fn text(write: Writer, job: &Job, log: &[u32]) -> Result<Vec<u8>, Vec<u64>> {
-    let mut buffer = vec![0; BYTES];
-    let bytes = numbers(write(&job.source, log, &mut buffer))?[0];
-    buffer.truncate(bytes as usize);
-    Ok(buffer)
-}
-
 /// Whether a text is accepted with the tree of some net from an iteration before the last.
 pub fn keeps_tree(input: &[u8]) -> bool {
-    let Ok((_, log)) = routed(input) else { return false };
+    let mut lent = Lent::program();
+    let Ok(routed) = lent.take(input) else { return false };
     let mut latest = std::collections::BTreeMap::new();
-    let (mut last, mut rest) = (0, &log[..]);
+    let (mut last, mut rest) = (0, &lent.log[..routed.words]);
     while let [iteration, net, _, _, _, nodes, after @ ..] = rest {
         last = *iteration;
         latest.insert(*net, last);
         rest = &after[*nodes as usize..];
     }
     latest.values().any(|iteration| *iteration < last)
-}
-
-/// The job of a text, if the program's tables can hold it.
-fn read(text: &[u8]) -> Result<Job, Vec<u64>> {
-    let mut job = Job::unread([NODES, NODES, NODES + 1, EDGES, NETS, NETS + 1, SINKS, NODES, SINKS]);
-    let answer = plain::read(
-        text,
-        &mut job.kind,
-        &mut job.capacity,
-        &mut job.first_edge,
-        &mut job.edge_target,
-        &mut job.source,
-        &mut job.first_sink,
-        &mut job.sink,
-        &mut job.delay,
-        &mut job.criticality,
-    );
-    job.take_numbers(&numbers(answer)?);
-    Ok(job)
-}
-
-/// The words used of a job's log.
-fn route(job: &Job) -> Result<Vec<u32>, Vec<u64>> {
-    let mut work = vec![0; ENTRIES];
-    let mut log = vec![0; WORDS];
-    let answer = plain::route(
-        &job.kind,
-        &job.capacity,
-        &job.first_edge,
-        &job.edge_target,
-        &job.source,
-        &job.first_sink,
-        &job.sink,
-        &job.delay,
-        &job.criticality,
-        &job.terms(),
-        &mut work,
-        &mut log,
-    );
-    let words = numbers(answer)?[2];
-    log.truncate(words as usize);
-    Ok(log)
-}
-
-/// A call's own numbers, or its refusal.
-fn numbers(answer: plain::Answer) -> Result<Vec<u64>, Vec<u64>> {
-    if answer.refusal.is_empty() {
-        Ok(answer.numbers)
-    } else {
-        Err(answer.refusal)
-    }
 }
 
 #[cfg(test)]

@@ -1,7 +1,7 @@
 //! Texts from a seed: sound, damaged, and about the program's bounds.
 
-use crate::expected::{BYTES, EDGES, NODES, SINKS};
 use job::{jobs, texts, Job, Rng};
+use plain::sizes::{BYTES, EDGES, NODES, SINKS};
 
 /// The text of a seed.
 pub fn text(rng: &mut Rng) -> Vec<u8> {
