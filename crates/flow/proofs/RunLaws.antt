@@ -21,7 +21,7 @@ use Rattle.job.specs.Job.{Job, jobOf, ifTimed, nodes, nets}
 use Rattle.job.specs.Join.{joined}
 use Rattle.negotiation.specs.Records.{Record, encode}
 use Rattle.negotiation.specs.Machine.{Progress}
-use Rattle.negotiation.specs.Outcome.{RouteReply, routeRefusal, routeReplyOf, logWith, begun, loggedRecords, allRecords, unreachableNet, continued, routeReply}
+use Rattle.negotiation.specs.Outcome.{RouteReply, routeRefusal, routeReplyOf, logWith, firstProgress, loggedRecords, allRecords, unreachableNet, continued, routeReply}
 use Rattle.negotiation.specs.declared.RouteAnswer.{RouteAnswer}
 use Rattle.job.specs.declared.Terms.{Terms}
 use Rattle.negotiation.specs.declared.Outcome.{Outcome}
@@ -74,7 +74,7 @@ used-fits j work log =
     (λ (u : ltb (length work) (workNeeded (nodes j)) ≡ false).
     ⊎-elim
     (λ (v : ltb (unreachableNet (joined j)) (nets j) ≡ true). rw (t, x, u, v) zero-le)
-    (λ (v : ltb (unreachableNet (joined j)) (nets j) ≡ false). rw (t, x, u, v) (run-fits (joined j) (begun (joined j)) work log))
+    (λ (v : ltb (unreachableNet (joined j)) (nets j) ≡ false). rw (t, x, u, v) (run-fits (joined j) (firstProgress (joined j)) work log))
     (either-way (ltb (unreachableNet (joined j)) (nets j))))
     (either-way (ltb (length work) (workNeeded (nodes j)))))
     (either-way (exceeds (nodes j) (j .terms))))

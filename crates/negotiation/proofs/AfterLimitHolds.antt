@@ -17,7 +17,7 @@ use Rattle.job.specs.Tables.{limitSound, termsSound, faultyJob, exceeds}
 use Rattle.job.specs.Join.{joined}
 use Rattle.negotiation.specs.Records.{Record, encode, fitting}
 use Rattle.negotiation.specs.Machine.{State, Progress, firstState, recordsAfter, settlesAt}
-use Rattle.negotiation.specs.Outcome.{RouteReply, begun, allRecords, loggedRecords, endIteration, endNumbers, logWith, refusedReply, ranReply, continued, routeReply}
+use Rattle.negotiation.specs.Outcome.{RouteReply, firstProgress, allRecords, loggedRecords, endIteration, endNumbers, logWith, refusedReply, ranReply, continued, routeReply}
 use Rattle.negotiation.specs.Longer.{withLimit, AllowedLimit}
 use Rattle.negotiation.specs.Resume.{OwnLog}
 use Rattle.negotiation.specs.Resumed.{ResumedAfterLimit}
@@ -96,19 +96,19 @@ module _ (j : Job) (work log : List ℕ) (numbers : List ℕ) (limited : routeRe
 
 -- a run of joined nets that a limit ends: its records fit, and none of its iterations settles
 module _ (k : Job) (low over : ℕ) (work log : List ℕ) (some : 1 ≤ low)
-    (limited : continued (withLimit k low) (begun k) work log .refusal ≡ 9 ∷ low ∷ over ∷ []) where
+    (limited : continued (withLimit k low) (firstProgress k) work log .refusal ≡ 9 ∷ low ∷ over ∷ []) where
   abbrev rs : List Record
-  rs = allRecords (withLimit k low) (begun k)
+  rs = allRecords (withLimit k low) (firstProgress k)
 
   low-fits : length (encode rs) ≤ length log
   low-fits =
       ⊎-elim
       (λ full. let both = sym (full .2) ∙ limited in let z : _≡_ {A = ℕ} 8 9 = cc in absurd (omega arith))
       (λ fits. fits)
-      (full-or-fits (withLimit k low) (begun k) work log)
+      (full-or-fits (withLimit k low) (firstProgress k) work log)
 
-  low-reply : continued (withLimit k low) (begun k) work log ≡ ranReply (withLimit k low) (endNumbers (withLimit k low) (firstState k)) (endIteration (withLimit k low) (firstState k)) rs work log
-  low-reply = whole-reply (withLimit k low) (begun k) work log rs refl low-fits
+  low-reply : continued (withLimit k low) (firstProgress k) work log ≡ ranReply (withLimit k low) (endNumbers (withLimit k low) (firstState k)) (endIteration (withLimit k low) (firstState k)) rs work log
+  low-reply = whole-reply (withLimit k low) (firstProgress k) work log rs refl low-fits
 
   all-left : leftUnder low (firstState k) ≡ low
   unfolding firstState
@@ -121,14 +121,14 @@ module _ (k : Job) (low over : ℕ) (work log : List ℕ) (some : 1 ≤ low)
 
   -- so its records are those of as many iterations as the limit
   low-records : rs ≡ recordsAfter k (firstState k) low
-  low-records = all-alike k low (begun k) ∙ rw (all-left, made-late k (firstState k) low low-none)
+  low-records = all-alike k low (firstProgress k) ∙ rw (all-left, made-late k (firstState k) low low-none)
 
   -- and its log is the job's own under a larger limit
   low-own :
       (high : ℕ) → low < high
-      → OwnLog (withLimit k high) low (continued (withLimit k low) (begun k) work log .used) (continued (withLimit k low) (begun k) work log .log)
+      → OwnLog (withLimit k high) low (continued (withLimit k low) (firstProgress k) work log .used) (continued (withLimit k low) (firstProgress k) work log .log)
   low-own high less =
-      let r : RouteReply = continued (withLimit k low) (begun k) work log in
+      let r : RouteReply = continued (withLimit k low) (firstProgress k) work log in
       let has : LogHas r rs = rw low-reply (ran-log (withLimit k low) _ _ rs work log) in
       let size : length (r .log) ≡ length (encode rs) + length (has .rest) = ap length (has .log) ∙ length-append (encode rs) (has .rest) in
       let used = has .used in
@@ -147,11 +147,11 @@ module _ (k : Job) (low over : ℕ) (work log : List ℕ) (some : 1 ≤ low)
   -- in which a run under that limit leaves what it leaves in the log as it was
   low-again :
       (high : ℕ) → low < high → (work′ : List ℕ)
-      → continued (withLimit k high) (begun k) work′ (continued (withLimit k low) (begun k) work log .log) ≡ continued (withLimit k high) (begun k) work′ log
+      → continued (withLimit k high) (firstProgress k) work′ (continued (withLimit k low) (firstProgress k) work log .log) ≡ continued (withLimit k high) (firstProgress k) work′ log
   low-again high less work′ =
-      let all = raised-records k (begun k) low high (omega arith) in
-      ap (λ (l : List ℕ). continued (withLimit k high) (begun k) work′ l) (ap (λ (r : RouteReply). r .log) low-reply)
-      ∙ continued-again (withLimit k high) (begun k) rs (all .0) work′ log (all .1) low-fits
+      let all = raised-records k (firstProgress k) low high (omega arith) in
+      ap (λ (l : List ℕ). continued (withLimit k high) (firstProgress k) work′ l) (ap (λ (r : RouteReply). r .log) low-reply)
+      ∙ continued-again (withLimit k high) (firstProgress k) rs (all .0) work′ log (all .1) low-fits
 
 pub resumed-after-limit : (j : Job) (low high : ℕ) (work log work′ : List ℕ) → ResumedAfterLimit j low high work log work′
 resumed-after-limit j low high work log work′ over limited h less enough′ =
@@ -166,14 +166,14 @@ resumed-after-limit j low high work log work′ over limited h less enough′ =
     (one-number (r .number) 9 (r .numbers) (low ∷ over ∷ []) (r .left) log a (low-refused j low high l h work log work′ log r) limited)))
     (λ (r : Runs (withLimit j low) work work′).
     let k : Job = joined j in
-    let left : a ≡ continued (withLimit k low) (begun k) work log = low-runs j low high l h work log work′ log r in
-    let ended : continued (withLimit k low) (begun k) work log .refusal ≡ 9 ∷ low ∷ over ∷ [] = sym (ap (λ (r : RouteReply). r .refusal) left) ∙ limited in
+    let left : a ≡ continued (withLimit k low) (firstProgress k) work log = low-runs j low high l h work log work′ log r in
+    let ended : continued (withLimit k low) (firstProgress k) work log .refusal ≡ 9 ∷ low ∷ over ∷ [] = sym (ap (λ (r : RouteReply). r .refusal) left) ∙ limited in
     let own : OwnLog (joined (withLimit j high)) low (a .used) (a .log) =
     subst (λ (q : Job). OwnLog q low (a .used) (a .log)) (sym (joined-limit j high))
     (subst (λ (r : RouteReply). OwnLog (withLimit k high) low (r .used) (r .log)) (sym left) (low-own k low over work log (limit-least low sound) ended high less)) in
     own-resumed (withLimit j high) low (a .used) work′ (a .log) own .in-place
     ∙ high-runs j low high l h work log work′ (a .log) r
-    ∙ ap (λ (r : RouteReply). continued (withLimit k high) (begun k) work′ (r .log)) left
+    ∙ ap (λ (r : RouteReply). continued (withLimit k high) (firstProgress k) work′ (r .log)) left
     ∙ low-again k low over work log (limit-least low sound) ended high less work′
     ∙ sym (high-runs j low high l h work log work′ log r))
     (refused-or-runs (withLimit j low) work work′ (enough-alike (withLimit j low) work work′ enough enough′))

@@ -19,7 +19,7 @@ use Rattle.job.specs.Job.{Job, nodes, nets}
 use Rattle.job.specs.Tables.{faultyJob, exceeds, SoundJob}
 use Rattle.negotiation.specs.Records.{Record, encode}
 use Rattle.negotiation.specs.Machine.{State, Progress, recordsAfter, settlesAt}
-use Rattle.negotiation.specs.Outcome.{RouteReply, wordsUsed, turnsLogged, refusedReply, unreachableNet, unreachablePlace, iterationsMade, begun, iterationsLeft, madeFrom, allRecords, loggedRecords, endNumbers, continued, negotiated, tested, routeReply}
+use Rattle.negotiation.specs.Outcome.{RouteReply, wordsUsed, turnsLogged, refusedReply, unreachableNet, unreachablePlace, iterationsMade, firstProgress, iterationsLeft, madeFrom, allRecords, loggedRecords, endNumbers, continued, negotiated, tested, routeReply}
 use Rattle.negotiation.specs.Unreachable.{AllReachable}
 use Rattle.negotiation.specs.Demand.{TurnHolds, FinalTrees, Demand3, CostsFit}
 use Rattle.negotiation.specs.Routable.{Routable}
@@ -31,7 +31,7 @@ use Rattle.negotiation.proofs.RecordLaws.{fitting-begins}
 use Rattle.negotiation.proofs.NetLaws.{no-split}
 use Rattle.negotiation.proofs.RanLaws.{ran-iteration}
 use Rattle.negotiation.proofs.MachineRan.{Reached}
-use Rattle.negotiation.proofs.DemandLaws.{all-reached, none-unreachable, Stands, turn-stands, turn-holds, turn-below, final-trees-hold}
+use Rattle.negotiation.proofs.DemandLaws.{all-reached, none-unreachable, TurnPlace, turn-place, turn-holds, turn-below, final-trees-hold}
 use Rattle.negotiation.proofs.TurnReadLaws.{TurnRead, turn-read}
 use Rattle.negotiation.proofs.ReplyLogLaws.{LogHas, log-words, log-turns, refused-log, ran-log}
 
@@ -141,7 +141,7 @@ module _ (j : Job) (sound : Routable j) (all : Reached j) {m : ℕ} {rs : List R
   pub run-turn :
       (earlier later : List Record) (t : Record) → recordsAfter j s (madeFrom j s) ≡ earlier ++ (t ∷ later) → TurnFacts j (rs ++ earlier) t
   run-turn earlier later t e =
-      let at : Stands j (rs ++ earlier) t = turn-stands j sound all r (madeFrom j s) made-few earlier later t e in
+      let at : TurnPlace j (rs ++ earlier) t = turn-place j sound all r (madeFrom j s) made-few earlier later t e in
       (turn-holds j sound at, turn-below j sound at, turn-read j sound at)
 
   pub run-final : endNumbers j s ≡ [] → FinalTrees j (rs ++ recordsAfter j s (madeFrom j s))
@@ -256,7 +256,7 @@ module _ (j : Job) (work log : List ℕ) where
   unfolding routeReply
   reply-facts =
       tested-case (λ f. Facts j [] (f (negotiated (joined j) work log))) (refused-facts [])
-      (λ sound all. run-facts 0 (begun (joined j)) sound all start (sound .limit-some))
+      (λ sound all. run-facts 0 (firstProgress (joined j)) sound all start (sound .limit-some))
 
   pub demand-3 : Demand3 j work log (routeReply j work log)
   demand-3 = demand-of j work log (routeReply j work log) reply-facts refl

@@ -262,7 +262,7 @@ regrouped :
 regrouped rs earlier whole here nets own e f = rw (e, f) (simp append-assoc)
 
 -- where a logged turn stands: after whole iterations, nets of the next one, and its net's own turns
-pub record Stands (j : Job) (earlier : List Record) (t : Record) : Type 0 where
+pub record TurnPlace (j : Job) (earlier : List Record) (t : Record) : Type 0 where
   pub whole : ℕ
   pub made : List Record
   pub state : State
@@ -278,10 +278,10 @@ pub record Stands (j : Job) (earlier : List Record) (t : Record) : Type 0 where
   pub before : earlier ≡ (made ++ progress .records) ++ own
 
 -- each turn that the machine makes from a state, whatever run leads there
-pub turn-stands :
+pub turn-place :
     (j : Job) → Routable j → Reached j → {m : ℕ} {rs : List Record} {s : State} → Ran j m rs s → (most : ℕ) → m + most ≤ j .terms .limit
-    → (earlier later : List Record) (t : Record) → recordsAfter j s most ≡ earlier ++ (t ∷ later) → Stands j (rs ++ earlier) t
-turn-stands j sound all {m} {rs} {s} r most few earlier later t e =
+    → (earlier later : List Record) (t : Record) → recordsAfter j s most ≡ earlier ++ (t ∷ later) → TurnPlace j (rs ++ earlier) t
+turn-place j sound all {m} {rs} {s} r most few earlier later t e =
     let c : RunSplit j s most earlier t = run-split j s most earlier later t e in
     let k : ℕ = c .whole in
     let below : k < most = c .below in
@@ -305,7 +305,7 @@ turn-stands j sound all {m} {rs} {s} r most few earlier later t e =
       before = regrouped rs earlier (recordsAfter j s k) (c .here) (afterNets j (stateAfter j s k) (n .net) .records) (n .own) (c .before) (n .before);
     }
 
-module _ (j : Job) (sound : Routable j) {earlier : List Record} {t : Record} (at : Stands j earlier t) where
+module _ (j : Job) (sound : Routable j) {earlier : List Record} {t : Record} (at : TurnPlace j earlier t) where
   -- it holds
   pub turn-holds : TurnHolds j earlier t
   turn-holds = turn-here j sound (at .ran) (at .below) (at .nets-ran) (at .net-below) (at .own) (at .rest) t (at .is) earlier (at .before)

@@ -18,7 +18,7 @@ use Rattle.job.specs.Job.{Job, nodes, nets, netSinks}
 use Rattle.negotiation.specs.Routable.{Routable}
 use Rattle.negotiation.specs.Records.{encode, pathNodes}
 use Rattle.negotiation.specs.Machine.{Progress, usersOf, congestionFor, turnsOf, netRecords, treeFrom, allDue, due, afterNets, firstState, stateAfter, recordsAfter}
-use Rattle.negotiation.specs.Outcome.{begun, iterationsLeft, logWith}
+use Rattle.negotiation.specs.Outcome.{firstProgress, iterationsLeft, logWith}
 use Rattle.negotiation.specs.Steps.{takes, BeginReady, Begun, Idle}
 use Rattle.negotiation.specs.Kept.{Ready}
 use Rattle.negotiation.specs.Runs.{start}
@@ -62,7 +62,7 @@ no-users j users e =
 -- they are those of the first state
 pub begun-ready :
     (j : Job) → Routable j → {t : Tariff} {history users marks from to dues : List ℕ} → Starts j t history users marks from to dues → (log : List ℕ)
-    → Ready j (begun j) t history users marks from to dues log
+    → Ready j (firstProgress j) t history users marks from to dues log
 unfolding firstState nextFactor encode logWith
 begun-ready j sound {users = users} {from = from} {to = to} s log =
     record {
@@ -74,7 +74,7 @@ begun-ready j sound {users = users} {from = from} {to = to} s log =
             history-is = s .history-is;
             users-is = no-users j users (s .users-is);
             no-marks = s .no-marks;
-            places = first-places j (begun j) from to refl refl (s .from-is) (s .to-is);
+            places = first-places j (firstProgress j) from to refl refl (s .from-is) (s .to-is);
           };
       due-long = s .due-long;
       tallied = record { turns-is = s .turns-is; words-is = s .words-is; log-is = refl; fits = zero-le };

@@ -41,7 +41,7 @@ use Rattle.negotiation.specs.declared.tariff.Tariff.{Tariff}
 use Rattle.negotiation.specs.declared.turns.TurnMade.{TurnMade}
 use Rattle.negotiation.specs.declared.turns.TurnMade.the-variants.{Nothing, Full, Logged}
 use Rattle.negotiation.proofs.OrderLaws.{untimed-sinks, timed-sinks, weighting-timed, criticality-low, turn-nodes}
-use Rattle.negotiation.proofs.AimLaws.{part-at, tried-alike, weighting-alike}
+use Rattle.negotiation.proofs.NextTriedLaws.{part-at, tried-alike, weighting-alike}
 use Rattle.negotiation.proofs.StateLaws.{nets-factor}
 use Rattle.negotiation.proofs.RoutableLaws.{sinks-searched}
 use Rattle.negotiation.proofs.RecordLaws.{records-few}
@@ -358,11 +358,11 @@ pub lent-tables : (kinds capacities firstEdges edgeTargets sources firstSinks si
 lent-tables kinds capacities firstEdges edgeTargets sources firstSinks sinks delays cs terms = record { delays-are = λ w. rw w; criticalities-are = λ w. rw w }
 
 -- the net's part of tables 7 and 10 can be read
-pub aim-ready :
+pub tried-ready :
     (j : Job) → Routable j → (i : ℕ) → i < nets j → {delays cs : List ℕ} → Lent j delays cs → (marks : List ℕ) → length marks ≡ nodes j
     → SinksReady (j .terms .timed) (j .sinks) cs (getD (j .firstSinks) i 0) (getD (j .firstSinks) (i + 1) 0) marks
 unfolding netSinks
-aim-ready j sound i hi lent marks long =
+tried-ready j sound i hi lent marks long =
     let begins : ℕ = getD (j .firstSinks) i 0 in
     let ends : ℕ = getD (j .firstSinks) (i + 1) 0 in
     let within : ends ≤ length (j .sinks) = sound .sinks-end (i + 1) (omega arith) in
@@ -395,8 +395,8 @@ module _ (j : Job) (sound : Routable j) {p : Progress} {work₀ log₀ : List �
       head
 
   -- what the call asks: the net's part of tables 7 and 10, and that nothing is refused
-  pub call-aim : SinksReady (j .terms .timed) (j .sinks) cs (getD (j .firstSinks) i 0) (getD (j .firstSinks) (i + 1) 0) marks
-  call-aim = aim-ready j sound i (at-more .net) lent marks (tree-long j (at-more .opened))
+  pub call-tried : SinksReady (j .terms .timed) (j .sinks) cs (getD (j .firstSinks) i 0) (getD (j .firstSinks) (i + 1) 0) marks
+  call-tried = tried-ready j sound i (at-more .net) lent marks (tree-long j (at-more .opened))
 
   pub call-turn : t .expanded + nodes j < 2 ^ 64 → CanTurn (j .block) (pricesBy j i marks cs delays t history users) t (triedBy j i marks cs) marks work log
   call-turn = keep-can j sound enough at-more lent

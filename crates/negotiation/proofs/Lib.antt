@@ -67,7 +67,7 @@
 --     StepTwoLaws       a step that takes two numbers beside it
 --     RipLaws           a net's old tree dropped, its new one counted
 --     UserLaws          who uses a node: counts of nets by their trees
---     AimLaws           what a turn tries, as the code finds it: one pass over a net's sinks, and a part of table 7
+--     NextTriedLaws           what a turn tries, as the code finds it: one pass over a net's sinks, and a part of table 7
 --     FoundLaws         what either search answers for a turn where nothing is refused
 --     OneTurnLaws       one turn, as the search's contract gives it
 --     TurnStepLaws      a turn more of a net
@@ -102,7 +102,7 @@ pub mod FilledLaws
 pub mod FloodLaws
 pub mod TestedLaws
 pub mod OrderLaws
-pub mod AimLaws
+pub mod NextTriedLaws
 pub mod TreeLaws
 pub mod NetLaws
 pub mod DueLaws

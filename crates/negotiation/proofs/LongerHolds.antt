@@ -16,7 +16,7 @@ use Rattle.job.specs.Tables.{limitSound, termsSound, faultyNets, faultyUntimed,
 use Rattle.job.specs.Join.{joined}
 use Rattle.negotiation.specs.Records.{Record, encode, fitting}
 use Rattle.negotiation.specs.Machine.{Progress, othersOf, marksOf, congestionFor, firstState}
-use Rattle.negotiation.specs.Outcome.{RouteReply, hasPath, unreachableNet, unreachablePlace, begun, endIteration, allRecords, endNumbers, refusedReply, ranReply, continued, negotiated, reachedReply, tested, routeReply}
+use Rattle.negotiation.specs.Outcome.{RouteReply, hasPath, unreachableNet, unreachablePlace, firstProgress, endIteration, allRecords, endNumbers, refusedReply, ranReply, continued, negotiated, reachedReply, tested, routeReply}
 use Rattle.negotiation.specs.Longer.{withLimit, AllowedLimit, Begins, SameLog, LimitsCompared, RaisedInPlace, LogLengthened, LogsCompared}
 use Rattle.job.proofs.JobLaws.{limit-least}
 use Rattle.negotiation.proofs.JoiningLaws.{places-same}
@@ -123,10 +123,10 @@ pub joined-limit : (j : Job) (limit : ℕ) → joined (withLimit j limit) ≡ wi
 joined-limit j limit = simp (places-same (withLimit j limit) j refl refl refl)
 
 -- and every run begins alike
-begun-limit : (j : Job) (limit : ℕ) (work log : List ℕ) → negotiated (joined (withLimit j limit)) work log ≡ continued (withLimit (joined j) limit) (begun (joined j)) work log
+begun-limit : (j : Job) (limit : ℕ) (work log : List ℕ) → negotiated (joined (withLimit j limit)) work log ≡ continued (withLimit (joined j) limit) (firstProgress (joined j)) work log
 begun-limit j limit work log = rw (joined-limit j limit, first-alike (joined j) limit)
 
-begun-records : (j : Job) (limit : ℕ) → allRecords (joined (withLimit j limit)) (begun (joined (withLimit j limit))) ≡ allRecords (withLimit (joined j) limit) (begun (joined j))
+begun-records : (j : Job) (limit : ℕ) → allRecords (joined (withLimit j limit)) (firstProgress (joined (withLimit j limit))) ≡ allRecords (withLimit (joined j) limit) (firstProgress (joined j))
 begun-records j limit = rw (joined-limit j limit, first-alike (joined j) limit)
 
 -- of the tests of tables only that of table 8 reads it
@@ -186,7 +186,7 @@ log-lengthened j work short work′ long enough enough′ more =
     (λ (r : Runs j work work′).
     let left = reply-tested j work short ∙ r .reply short (negotiated (joined j) work short) in
     let right = reply-tested j work′ long ∙ r .reply′ long (negotiated (joined j) work′ long) in
-    let p : Progress = begun (joined j) in
+    let p : Progress = firstProgress (joined j) in
     lengthened j work short work′ long more (allRecords (joined j) p) (rw left (run-log (joined j) p work short)) (rw right (run-log (joined j) p work′ long))
     (λ unfilled.
     rw (left, right)
@@ -207,7 +207,7 @@ same-length j work log work′ log′ enough enough′ long =
     (refused-same (r .number ∷ r .numbers) (r .left) (r .left′) log log′))
     (λ (r : Runs j work work′).
     rw (reply-tested j work log ∙ r .reply log (negotiated (joined j) work log), reply-tested j work′ log′ ∙ r .reply′ log′ (negotiated (joined j) work′ log′))
-    (run-as-long (joined j) (begun (joined j)) work log work′ log′ long))
+    (run-as-long (joined j) (firstProgress (joined j)) work log work′ log′ long))
     (refused-or-runs j work work′ (enough-alike j work work′ enough enough′))
 
 -- ---- a larger limit
@@ -311,12 +311,12 @@ module _ (j : Job) (low high : ℕ) (l : AllowedLimit j low) (h : AllowedLimit j
   high-refused r =
       reply-tested (withLimit j high) work′ log′ ∙ tested-alike j low high l h work′ log′ _ ∙ r .reply′ log′ (negotiated (joined (withLimit j high)) work′ log′)
 
-  pub low-runs : Runs (withLimit j low) work work′ → routeReply (withLimit j low) work log ≡ continued (withLimit (joined j) low) (begun (joined j)) work log
+  pub low-runs : Runs (withLimit j low) work work′ → routeReply (withLimit j low) work log ≡ continued (withLimit (joined j) low) (firstProgress (joined j)) work log
   low-runs r =
       reply-tested (withLimit j low) work log ∙ r .reply log (negotiated (joined (withLimit j low)) work log)
       ∙ begun-limit j low work log
 
-  pub high-runs : Runs (withLimit j low) work work′ → routeReply (withLimit j high) work′ log′ ≡ continued (withLimit (joined j) high) (begun (joined j)) work′ log′
+  pub high-runs : Runs (withLimit j low) work work′ → routeReply (withLimit j high) work′ log′ ≡ continued (withLimit (joined j) high) (firstProgress (joined j)) work′ log′
   high-runs r =
       reply-tested (withLimit j high) work′ log′ ∙ tested-alike j low high l h work′ log′ _ ∙ r .reply′ log′ (negotiated (joined (withLimit j high)) work′ log′)
       ∙ begun-limit j high work′ log′
@@ -344,7 +344,7 @@ limit-raised j low high work log work′ log′ l h more enough enough′ =
     (λ (r : Runs (withLimit j low) work work′).
     let left = low-runs j low high l h work log work′ log′ r in
     let right = high-runs j low high l h work log work′ log′ r in
-    let p : Progress = begun (joined j) in
+    let p : Progress = firstProgress (joined j) in
     let fits = rw (begun-records j low) at (enough .log-long) in
     let fits′ = rw (begun-records j high) at (enough′ .log-long) in
     let some = begins-below (joined j) low (limit-least low (l .sound)) in
@@ -376,8 +376,8 @@ raised-in-place j low high work log l h more =
     let left = low-runs j low high l h work log work log r in
     let right = high-runs j low high l h work log work log r in
     record {
-      begins = rw (left, right) (placed-begins (joined j) (begun (joined j)) low high more work log);
-      same = λ accepted. right ∙ placed-same (joined j) (begun (joined j)) low high more (begins-below (joined j) low (limit-least low (l .sound))) work log (rw left at accepted) ∙ sym left;
+      begins = rw (left, right) (placed-begins (joined j) (firstProgress (joined j)) low high more work log);
+      same = λ accepted. right ∙ placed-same (joined j) (firstProgress (joined j)) low high more (begins-below (joined j) low (limit-least low (l .sound))) work log (rw left at accepted) ∙ sym left;
     })
     (refused-or-runs (withLimit j low) work work refl)
   where

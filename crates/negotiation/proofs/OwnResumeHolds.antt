@@ -8,7 +8,7 @@ use Rattle.job.specs.Job.{Job}
 use Rattle.job.specs.Join.{joined}
 use Rattle.negotiation.specs.Routable.{Routable}
 use Rattle.negotiation.specs.Machine.{firstState}
-use Rattle.negotiation.specs.Outcome.{begun, negotiated, routeReply}
+use Rattle.negotiation.specs.Outcome.{firstProgress, negotiated, routeReply}
 use Rattle.negotiation.specs.Longer.{SameLog}
 use Rattle.negotiation.specs.Resume.{OwnLog, replay, resumedReply, resumeReply}
 use Rattle.negotiation.specs.Resumed.{OwnResumed}
@@ -27,7 +27,7 @@ module _ (j : Job) (m used : ℕ) (work log : List ℕ) (own : OwnLog (joined j)
   -- what is taken up is the machine's run cut in two
   own-run : Routable (joined j) → Reached (joined j) → resumedReply (joined j) (replay (joined j) used log) work log ≡ negotiated (joined j) work log
   own-run sound all =
-      rw (own-taken (joined j) sound all m used log own) (continued-cut (joined j) (begun (joined j)) m (own .unsettled) some-left work log)
+      rw (own-taken (joined j) sound all m used log own) (continued-cut (joined j) (firstProgress (joined j)) m (own .unsettled) some-left work log)
 
   own-reply : resumeReply j used work log ≡ routeReply j work log
   unfolding resumeReply routeReply

@@ -15,7 +15,7 @@ use Rattle.job.specs.Tables.{SoundJob, faultyJob, exceeds}
 use Rattle.job.specs.Join.{joined}
 use Rattle.negotiation.specs.Records.{Record}
 use Rattle.negotiation.specs.Machine.{Progress}
-use Rattle.negotiation.specs.Outcome.{RouteReply, unreachableNet, unreachablePlace, begun, continued, refusedAnswer, refusedReply, routeReplyOf, reachedReply, tested, routeReply}
+use Rattle.negotiation.specs.Outcome.{RouteReply, unreachableNet, unreachablePlace, firstProgress, continued, refusedAnswer, refusedReply, routeReplyOf, reachedReply, tested, routeReply}
 use Rattle.negotiation.specs.Resume.{Replay, on, off, replay, resumedReply, runFrom, resumeReply}
 use Rattle.negotiation.specs.Resumed.{Resumed}
 use Rattle.negotiation.specs.Demand.{Demand3}
@@ -81,7 +81,7 @@ module _ (start : Start) (j : Job) (work log : List ℕ) where
     resumed-same (off word) = rw left-same
 
     run-same : (s : Start) → runFrom s j w log ≡ runFrom s j work log
-    run-same Anew = continued-same (begun j)
+    run-same Anew = continued-same (firstProgress j)
     run-same (After used) = resumed-same (replay j used log)
 
     pub unreachable-refused :

@@ -1,4 +1,4 @@
--- A run starts as it is begun, or after a lent log that is taken up from its words used; else the log is turned away.
+-- A run starts anew, or after a lent log that is taken up from its words used; else the log is turned away.
 -- Assumes nothing.
 use mathlib.Core.Bool.{Bool}
 use mathlib.Core.List.{List, [], _++_, append-assoc}
@@ -11,7 +11,7 @@ use borrow.Author.Tests.{lt-ltb, le-ltb}
 use Rattle.job.specs.Job.{Job, nodes}
 use Rattle.negotiation.specs.Records.{Record, encode, decode}
 use Rattle.negotiation.specs.Machine.{Progress, firstState}
-use Rattle.negotiation.specs.Outcome.{RouteReply, begun, logWith, continued, refusedAnswer, routeReplyOf}
+use Rattle.negotiation.specs.Outcome.{RouteReply, firstProgress, logWith, continued, refusedAnswer, routeReplyOf}
 use Rattle.negotiation.specs.Kept.{Tallied, Ready, SomeReady}
 use Rattle.negotiation.specs.Resume.{Replay, on, off, replayFrom, replay, resumedReply, runFrom, lentRecords}
 use Rattle.negotiation.specs.Routable.{Routable}
@@ -67,7 +67,7 @@ module _ (j : Job) {t : Tariff} {history users marks from to dues : List ℕ} wh
 
   -- a run that begins has no records, so any log will do
   pub begun-over :
-      {log : List ℕ} → Ready j (begun j) t history users marks from to dues log → (other : List ℕ) → Ready j (begun j) t history users marks from to dues other
+      {log : List ℕ} → Ready j (firstProgress j) t history users marks from to dues log → (other : List ℕ) → Ready j (firstProgress j) t history users marks from to dues other
   unfolding encode logWith
   begun-over r other =
       record {
@@ -83,10 +83,10 @@ module _ (j : Job) {t : Tariff} {history users marks from to dues : List ℕ} wh
 
 module _ (j : Job) (start : Start) (log : List ℕ) where
   pub start-anew :
-      start ≡ Anew → {t : Tariff} {history users marks from to dues : List ℕ} → Ready j (begun j) t history users marks from to dues log
+      start ≡ Anew → {t : Tariff} {history users marks from to dues : List ℕ} → Ready j (firstProgress j) t history users marks from to dues log
       → Started (On t) start j history users marks from to dues log
   unfolding Started
-  start-anew e r = record { progress = begun j; is = λ work. rw e; ready = r; iterations = 0; ran = none-ran; lent-is = rw e }
+  start-anew e r = record { progress = firstProgress j; is = λ work. rw e; ready = r; iterations = 0; ran = none-ran; lent-is = rw e }
 
   module _ (used : ℕ) (e : start ≡ After used) where
     after-so : (a : Replay) → replay j used log ≡ a → (work : List ℕ) → runFrom start j work log ≡ resumedReply j a work log

@@ -25,7 +25,7 @@ use Rattle.job.specs.Job.{Job, nodes, nets}
 use Rattle.negotiation.specs.Routable.{Routable}
 use Rattle.negotiation.specs.Records.{encode}
 use Rattle.negotiation.specs.Machine.{Progress, allDue, overCount, moveOn, firstState}
-use Rattle.negotiation.specs.Outcome.{begun}
+use Rattle.negotiation.specs.Outcome.{firstProgress}
 use Rattle.negotiation.specs.Steps.{takes, DueReady}
 use Rattle.negotiation.specs.TariffSteps.{endedTariff, startedTariff}
 use Rattle.negotiation.specs.Kept.{CanGoOn, Ready}
@@ -52,10 +52,10 @@ pub record Taking (j : Job) (more : Bool) (t : Tariff) (history users marks from
 
 -- none, at first
 pub take-start :
-    (j : Job) {t : Tariff} {history users marks from to dues log : List ℕ} → Ready j (begun j) t history users marks from to dues log
+    (j : Job) {t : Tariff} {history users marks from to dues log : List ℕ} → Ready j (firstProgress j) t history users marks from to dues log
     → Taking j true t history users marks from to dues log
 unfolding firstState
-take-start j r = record { progress = begun j; left = j .terms .limit; left-is = refl; is = refl; ready = r }
+take-start j r = record { progress = firstProgress j; left = j .terms .limit; left-is = refl; is = refl; ready = r }
 
 -- the lists keep their lengths
 pub taking-long :

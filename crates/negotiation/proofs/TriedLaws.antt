@@ -25,16 +25,16 @@ use Rattle.job.specs.Job.{Job, nodes, nets, netSinks}
 use Rattle.job.specs.Steps.{AllBelow, Stored}
 use Rattle.negotiation.specs.Routable.{Routable}
 use Rattle.negotiation.specs.Order.{weightingDue, turnSinks, turnWeighting, turnCongestion}
-use Rattle.negotiation.specs.OrderSteps.{Aimed}
+use Rattle.negotiation.specs.OrderSteps.{TriedSinks}
 use Rattle.negotiation.specs.Machine.{State, othersOf, marksOf, congestionFor}
 use Rattle.negotiation.specs.Resume.{turnPrice}
 use Rattle.negotiation.specs.ResumeSteps.{RecordReady, turnPasses}
 use Rattle.negotiation.specs.TakeSteps.{triedHere, congestionHere, goalsOf, TryReady, triedPasses, NetTables}
-use Rattle.negotiation.specs.declared.order.Aim.{Aim}
+use Rattle.negotiation.specs.declared.order.Tried.{Tried}
 use Rattle.negotiation.specs.declared.tariff.Tariff.{Tariff}
 use Rattle.negotiation.proofs.OrderLaws.{tried-listed, weighting-timed}
 use Rattle.negotiation.proofs.NetLaws.{StateReady, weighed-bounds}
-use Rattle.negotiation.proofs.AimLaws.{part-at}
+use Rattle.negotiation.proofs.NextTriedLaws.{part-at}
 use Rattle.negotiation.proofs.KeepProgress.{marks-length}
 use Rattle.negotiation.proofs.KeepStart.{take-replicate}
 use Rattle.negotiation.proofs.KeepTurn.{Lent}
@@ -74,15 +74,15 @@ module _ (n : ℕ) (few : n ≤ nodesMost) (part : List ℕ) where
     lent-are = subst (λ (k : ℕ). take k (ys ++ drop n none) ≡ ys) ys-long (take-append-seam ys (drop n none)) ∙ ys-are
 
 module _ {b : Block} {sinks delays criticalities : List ℕ} {timed : Bool} {from to : ℕ} {t : Tariff} {history users marks log : List ℕ}
-    (ready : TryReady b sinks delays criticalities timed from to t history users marks log) {aim : Aim} (aimed : Aimed timed marks sinks criticalities from to aim) where
+    (ready : TryReady b sinks delays criticalities timed from to t history users marks log) {next : Tried} (found : TriedSinks timed marks sinks criticalities from to next) where
   abbrev tried : List ℕ
   tried = triedHere sinks delays criticalities timed from to marks
 
   abbrev part : List ℕ
-  part = take (aim .to - aim .from) (drop (aim .from) sinks)
+  part = take (next .to - next .from) (drop (next .from) sinks)
 
   part-is : part ≡ tried
-  part-is = part-slice (aim .from) (aim .to) sinks ∙ aimed .tried
+  part-is = part-slice (next .from) (next .to) sinks ∙ found .tried
 
   few : block.nodes b ≤ nodesMost
   few = kinds-few _ (ready .tested .sound .kinds-sound)
@@ -122,14 +122,14 @@ module _ {b : Block} {sinks delays criticalities : List ℕ} {timed : Bool} {fro
     goals-on = lent-are (block.nodes b) few part given ∙ ap (goalsOf (block.nodes b)) part-is
 
     -- the record is tested with them
-    pub tried-tested : RecordReady b (weighedCongestion (aim .weighting) delays (t .factor) history users) goals marks log (t .words)
-    tried-tested = rw (goals-on, aimed .weighting-is) (ready .tested)
+    pub tried-tested : RecordReady b (weighedCongestion (next .weighting) delays (t .factor) history users) goals marks log (t .words)
+    tried-tested = rw (goals-on, found .weighting-is) (ready .tested)
 
     pub tried-answer :
         (net : ℕ) (ws : List ℕ) {count : ℕ}
-        → count ≡ choose (turnPasses b (priceAt b (weighedCongestion (aim .weighting) delays (t .factor) history users)) goals marks (t .iteration) net ws) (6 + getD ws 5 0) 0
+        → count ≡ choose (turnPasses b (priceAt b (weighedCongestion (next .weighting) delays (t .factor) history users)) goals marks (t .iteration) net ws) (6 + getD ws 5 0) 0
         → count ≡ choose (triedPasses b sinks delays criticalities timed from to t net history users marks ws) (6 + getD ws 5 0) 0
-    tried-answer net ws e = rw (goals-on, aimed .weighting-is) at e
+    tried-answer net ws e = rw (goals-on, found .weighting-is) at e
 
 -- ---- the job's turn
 
@@ -195,7 +195,7 @@ module _ {j : Job} {i : ℕ} {delays criticalities : List ℕ} {timed : Bool} {f
         try-ready within =
             let long : length marks ≡ nodes j = ap length marked ∙ marks-length j tree in
             record {
-              aims = rw (tables .timed-is, tables .from-is, tables .to-is) (keep.aim-ready j sound i hi lent marks long);
+              aims = rw (tables .timed-is, tables .from-is, tables .to-is) (keep.tried-ready j sound i hi lent marks long);
               tested =
                   rw weighting-is
                   (record {

@@ -20,7 +20,7 @@ use Rattle.negotiation.specs.Runs.{All, Of, NetsRan, Ran}
 use Rattle.negotiation.proofs.NetLaws.{NetTurn, net-turn, no-split}
 use Rattle.negotiation.proofs.RanLaws.{nets-iteration, nets-factor, ran-iteration, ran-factor, others-read, history-read}
 use Rattle.negotiation.proofs.MachineRan.{ran-ready}
-use Rattle.negotiation.proofs.DemandLaws.{own-same, own-all, Stands}
+use Rattle.negotiation.proofs.DemandLaws.{own-same, own-all, TurnPlace}
 
 -- ---- a record of a net's turns
 
@@ -103,15 +103,15 @@ module _ (j : Job) (sound : Routable j) {m : ℕ} {rs : List Record} {s : State}
   read-here :
       (e rest : List Record) (t : Record) → netRecords j (p .state) i ≡ e ++ (t ∷ rest) → (earlier : List Record) → earlier ≡ (rs ++ p .records) ++ e
       → TurnRead j earlier t
-  read-here e rest t is earlier stands =
+  read-here e rest t is earlier parts =
       let own : All (Of i (m + 1)) e = own-all j sound r hm n hi e (t ∷ rest) is in
       let turn : NetTurn j (p .state) i e t = net-turn j sound (p .state) (ran-ready j sound r n hm) i hi e rest t is in
       let at : p .state .iteration ≡ m + 1 = nets-iteration j n ∙ ran-iteration j r in
       let here : logRead j (m + 1) i ((rs ++ p .records) ++ e) ≡ t ∷ [] =
       rw (← own-same j sound r hm n hi e own, ← congestion-same e own, ← at) (net-logged j (p .state) i e rest t is) in
-      same-read j (turn .iteration-is ∙ at) (turn .net-is) stands ∙ here
+      same-read j (turn .iteration-is ∙ at) (turn .net-is) parts ∙ here
 
 -- each turn that the machine makes
-pub turn-read : (j : Job) → Routable j → {earlier : List Record} {t : Record} → Stands j earlier t → TurnRead j earlier t
+pub turn-read : (j : Job) → Routable j → {earlier : List Record} {t : Record} → TurnPlace j earlier t → TurnRead j earlier t
 turn-read j sound {earlier} {t} at =
     read-here j sound (at .ran) (at .below) (at .nets-ran) (at .net-below) (at .own) (at .rest) t (at .is) earlier (at .before)

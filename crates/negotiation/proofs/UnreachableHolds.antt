@@ -15,7 +15,7 @@ use Rattle.price.proofs.BelowLaws.{firstBelow-below, firstBelow-holds, firstBel
 use Rattle.search.specs.Replies.{workNeeded}
 use Rattle.job.specs.Job.{Job, nodes, nets, netSinks}
 use Rattle.job.specs.Tables.{SoundJob, faultyJob, exceeds}
-use Rattle.negotiation.specs.Outcome.{RouteReply, hasPath, unreachableNet, unreachablePlace, begun}
+use Rattle.negotiation.specs.Outcome.{RouteReply, hasPath, unreachableNet, unreachablePlace, firstProgress}
 use Rattle.negotiation.specs.Unreachable.{Reachable, FirstUnreachable, UnreachableRefused}
 use Rattle.negotiation.specs.Routable.{Routable}
 use Rattle.job.specs.Join.{joined}
@@ -139,7 +139,7 @@ unreachable-refused j work log =
           (λ (enough : workNeeded (nodes j) ≤ length work).
           ⊎-elim
           (λ (all : nets j ≤ unreachableNet (joined j)).
-          absurd (run-reached (joined j) (begun (joined j)) work log net place (sym (refusal (route-run j work log h x enough all)) ∙ e)))
+          absurd (run-reached (joined j) (firstProgress (joined j)) work log net place (sym (refusal (route-run j work log h x enough all)) ∙ e)))
           (λ (some : unreachableNet (joined j) < nets j).
           let same = sym (refusal (route-unreachable j work log h x enough some)) ∙ e in
           let at : unreachableNet (joined j) ≡ net = cc in

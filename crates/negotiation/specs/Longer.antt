@@ -11,7 +11,7 @@ use Rattle.job.specs.Job.{Job, nodes}
 use Rattle.job.specs.Tables.{limitSound, exceeds}
 use Rattle.job.specs.Join.{joined}
 use Rattle.negotiation.specs.Records.{Record, encode, fitting}
-use Rattle.negotiation.specs.Outcome.{RouteReply, wordsUsed, turnsLogged, begun, allRecords, routeReply}
+use Rattle.negotiation.specs.Outcome.{RouteReply, wordsUsed, turnsLogged, firstProgress, allRecords, routeReply}
 
 -- "one job under two allowed limits": the job under another limit
 abbrev pub withLimit : Job → ℕ → Job
@@ -40,7 +40,7 @@ pub record AllowedLimit (j : Job) (limit : ℕ) : Type 0 where
 -- "work and log long enough": 8 × nodes entries, and the words of all turns of its joined nets
 pub record LongEnough (j : Job) (work log : List ℕ) : Type 0 where
   pub work-long : workNeeded (nodes j) ≤ length work
-  pub log-long : length (encode (allRecords (joined j) (begun (joined j)))) ≤ length log
+  pub log-long : length (encode (allRecords (joined j) (firstProgress (joined j)))) ≤ length log
 
 -- "is the beginning of": of the words used, and of the turns that they hold
 pub record Begins (a b : RouteReply) : Type 0 where

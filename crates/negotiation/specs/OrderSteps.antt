@@ -9,7 +9,7 @@ use lib.Seq.{slice}
 use Rattle.price.specs.Bounds.{criticalityMost}
 use Rattle.search.specs.Distance.{inTree}
 use Rattle.negotiation.specs.Order.{sinksTried, weightingDue}
-use Rattle.negotiation.specs.declared.order.Aim.{Aim}
+use Rattle.negotiation.specs.declared.order.Tried.{Tried}
 
 -- a net's sinks stand in table 7 from one place to below another, each a node that has its mark; in a timed job with their criticalities
 pub record SinksReady (timed : Bool) (sinks criticalities : List ℕ) (from to : ℕ) (marks : List ℕ) : Type 0 where
@@ -20,7 +20,7 @@ pub record SinksReady (timed : Bool) (sinks criticalities : List ℕ) (from to :
   pub criticality-most : timed ≡ true → (p : ℕ) → p < length sinks → getD criticalities p 0 ≤ criticalityMost
 
 -- what a turn tries of them
-pub record Aimed (timed : Bool) (marks sinks criticalities : List ℕ) (from to : ℕ) (r : Aim) : Type 0 where
+pub record TriedSinks (timed : Bool) (marks sinks criticalities : List ℕ) (from to : ℕ) (r : Tried) : Type 0 where
   pub weighting-is : r .weighting ≡ weightingDue timed (inTree marks) (slice from to sinks) (slice from to criticalities)
   pub tried : slice (r .from) (r .to) sinks ≡ sinksTried timed (inTree marks) (slice from to sinks) (slice from to criticalities)
   pub order : r .from ≤ r .to

@@ -39,8 +39,8 @@ iterationsMade j s most =
     choose (ltb (firstBelow (settlesAt j s) most) most) (firstBelow (settlesAt j s) most + 1) most
 
 -- a run begins with no records
-abbrev pub begun : Job → Progress
-begun j = record { records = []; state = firstState j }
+abbrev pub firstProgress : Job → Progress
+firstProgress j = record { records = []; state = firstState j }
 
 -- how many iterations the limit leaves to a run that goes on from a state, and how many it makes
 unfoldable pub iterationsLeft : Job → State → ℕ
@@ -149,9 +149,9 @@ continued j p work log =
 
 -- and of one that begins
 abbrev pub negotiated : Job → List ℕ → List ℕ → RouteReply
-negotiated j work log = continued j (begun j) work log
+negotiated j work log = continued j (firstProgress j) work log
 
--- the reply of a job of joined nets where a run that is begun replies so: by request 2.3, "7 gives the first net's number and the place
+-- the reply of a job of joined nets where a run that has begun replies so: by request 2.3, "7 gives the first net's number and the place
 -- among its joined sinks"
 abbrev pub reachedReply : Job → List ℕ → List ℕ → RouteReply → RouteReply
 reachedReply j work log run =

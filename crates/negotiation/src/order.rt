@@ -6,11 +6,11 @@ ghost use Rattle.price.specs.Bounds.{criticalityMost};
 ghost use Rattle.search.specs.Distance.{inTree};
 ghost use Rattle.job.specs.Steps.{AllBelow};
 ghost use Rattle.negotiation.specs.Order.{placeDue};
-ghost use Rattle.negotiation.specs.OrderSteps.{SinksReady, Aimed};
+ghost use Rattle.negotiation.specs.OrderSteps.{SinksReady, TriedSinks};
 use price::Weighting;
 
 // The sinks that a turn tries stand in table 7 from one place to below another.
-pub struct Aim {
+pub struct Tried {
     pub weighting: Weighting,
     pub from: usize,
     pub to: usize,
@@ -40,19 +40,19 @@ fn place_due(sinks: &[u16], criticality: &[u8], in_tree: &[u8]) -> usize
 }
 
 // What a turn tries of the sinks from one place of table 7 to below another, which are a net's.
-pub fn next_aim(
+pub fn next_tried(
     timed: bool,
     sink: &[u16],
     criticality: &[u8],
     from: usize,
     to: usize,
     in_tree: &[u8],
-) -> Aim
+) -> Tried
     requires { ⌜ SinksReady timed (now sink) (now criticality) from to (now «in_tree») ⌝ }
-    ensures { λ r. ⌜ Aimed timed (now («in_tree» .entry)) (now (sink .entry)) (now (criticality .entry)) from to r ⌝ }
+    ensures { λ r. ⌜ TriedSinks timed (now («in_tree» .entry)) (now (sink .entry)) (now (criticality .entry)) from to r ⌝ }
 {
     if !timed {
-        return Aim {
+        return Tried {
             weighting: Weighting {
                 timed: false,
                 criticality: 0,
@@ -63,7 +63,7 @@ pub fn next_aim(
     }
     let place = place_due(&sink[from..to], &criticality[from..to], in_tree);
     if place == to - from {
-        return Aim {
+        return Tried {
             weighting: Weighting {
                 timed: true,
                 criticality: 0,
@@ -73,7 +73,7 @@ pub fn next_aim(
         };
     }
     let at = from + place;
-    Aim {
+    Tried {
         weighting: Weighting {
             timed: true,
             criticality: criticality[at] as u32,

@@ -6,7 +6,7 @@ ghost use Rattle.price.specs.Test.{choose};
 ghost use Rattle.search.specs.Block.{blockOf};
 ghost use Rattle.job.specs.Job.{jobOf};
 ghost use Rattle.negotiation.specs.Routable.{Routable};
-ghost use Rattle.negotiation.specs.Outcome.{begun as unbegun};
+ghost use Rattle.negotiation.specs.Outcome.{firstProgress};
 ghost use Rattle.job.specs.Steps.{AllBelow, Stored};
 ghost use Rattle.negotiation.specs.Kept.{Ready};
 ghost use Rattle.negotiation.specs.Resume.{recordPath};
@@ -76,16 +76,16 @@ fn follow_tried(
 {
     let n = kind.len();
     let mut goals = [0u8; NODES_MOST];
-    let aim = order::next_aim(timed, sink, criticality, from, to, in_tree);
-    let a = aim.from;
-    let e = aim.to;
+    let tried = order::next_tried(timed, sink, criticality, from, to, in_tree);
+    let a = tried.from;
+    let e = tried.to;
     set_goals(&sink[a..e], &mut goals[..n]);
     follow::follow_turn(
         kind,
         capacity,
         first_edge,
         edge_target,
-        aim.weighting,
+        tried.weighting,
         delay,
         net,
         tariff,
@@ -275,7 +275,7 @@ pub fn take_up(
       let job = jobOf (now kind) (now capacity) (now «first_edge») (now «edge_target») (now source) (now «first_sink») (now sink)
           (now delay) (now criticality) terms
       ⌜ Routable job
-          × Ready job (unbegun job) begun (now history) (now users) (now «in_tree») (now «tree_from») (now «tree_to») (now due)
+          × Ready job (firstProgress job) begun (now history) (now users) (now «in_tree») (now «tree_from») (now «tree_to») (now due)
           (now log) ⌝ }
     ensures { λ r. do
       let job = jobOf (now (kind .entry)) (now (capacity .entry)) (now («first_edge» .entry)) (now («edge_target» .entry))

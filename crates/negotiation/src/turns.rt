@@ -16,7 +16,7 @@ ghost use Rattle.negotiation.specs.Machine.{Progress};
 ghost use Rattle.negotiation.specs.Order.{sinksTried, weightingDue};
 ghost use Rattle.negotiation.specs.OrderSteps.{SinksReady};
 ghost use Rattle.search.specs.Replies.{sinkListSound};
-ghost use Rattle.negotiation.specs.Outcome.{unreachableNet, begun as unbegun, continued, routeReplyOf, turnsLogged};
+ghost use Rattle.negotiation.specs.Outcome.{unreachableNet, firstProgress, continued, routeReplyOf, turnsLogged};
 ghost use Rattle.negotiation.specs.Aimed.{expandedAfter};
 ghost use Rattle.negotiation.specs.Runs.{Ran};
 ghost use Rattle.negotiation.specs.Steps.{SameFrom, TurnReady, PathFound, turnCount, TurnDone, CanTurn};
@@ -269,10 +269,10 @@ fn net_turn(
       ⌜ TurnDone r made count tariff net tried (now (log .entry)) marks (now (log .exit)) (now («in_tree» .exit)) ⌝ }
     ensures { λ _. ⌜ SameFrom (8 * length (now (kind .entry))) (now (work .entry)) (now (work .exit)) ⌝ }
 {
-    let aim = order::next_aim(timed, sink, criticality, from, to, in_tree);
-    let weighting = aim.weighting;
-    let a = aim.from;
-    let e = aim.to;
+    let tried = order::next_tried(timed, sink, criticality, from, to, in_tree);
+    let weighting = tried.weighting;
+    let a = tried.from;
+    let e = tried.to;
     one_turn(
         kind,
         capacity,
@@ -451,7 +451,7 @@ fn start_at(
       let job = jobOf (now kind) (now capacity) (now «first_edge») (now «edge_target») (now source) (now «first_sink») (now sink)
           (now delay) (now criticality) terms
       ⌜ Routable job
-          × Ready job (unbegun job) begun (now history) (now users) (now «in_tree») (now «tree_from») (now «tree_to») (now due)
+          × Ready job (firstProgress job) begun (now history) (now users) (now «in_tree») (now «tree_from») (now «tree_to») (now due)
           (now log) ⌝ }
     ensures { λ r. do
       let job = jobOf (now (kind .entry)) (now (capacity .entry)) (now («first_edge» .entry)) (now («edge_target» .entry))
@@ -516,7 +516,7 @@ fn run_from(
       let job = jobOf (now kind) (now capacity) (now «first_edge») (now «edge_target») (now source) (now «first_sink») (now sink)
           (now delay) (now criticality) terms
       ⌜ (Routable job × (nets job ≤ unreachableNet job) × (8 * nodes job ≤ length (now work)))
-          × Ready job (unbegun job) begun (now history) (now users) (now «in_tree») (now «tree_from») (now «tree_to») (now due)
+          × Ready job (firstProgress job) begun (now history) (now users) (now «in_tree») (now «tree_from») (now «tree_to») (now due)
           (now log) ⌝ }
     ensures { λ r. do
       let job = jobOf (now (kind .entry)) (now (capacity .entry)) (now («first_edge» .entry)) (now («edge_target» .entry))

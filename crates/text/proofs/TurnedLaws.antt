@@ -26,7 +26,7 @@ use Rattle.negotiation.specs.Routable.{Routable}
 use Rattle.job.specs.Join.{firstOf, joined}
 use Rattle.negotiation.specs.Records.{Record, encode}
 use Rattle.negotiation.specs.Machine.{State, Progress, netRecords, treeFrom, hasSinks, due, afterNets, iterate, firstState, stateAfter, iterationAfter, recordsAfter}
-use Rattle.negotiation.specs.Outcome.{RouteReply, unreachableNet, unreachablePlace, begun, iterationsLeft, madeFrom, allRecords, loggedRecords, cutIteration, logWith, continued, negotiated, routeReply}
+use Rattle.negotiation.specs.Outcome.{RouteReply, unreachableNet, unreachablePlace, firstProgress, iterationsLeft, madeFrom, allRecords, loggedRecords, cutIteration, logWith, continued, negotiated, routeReply}
 use Rattle.negotiation.specs.Demand.{latest}
 use Rattle.job.proofs.JobLaws.{faulty-none}
 use Rattle.negotiation.proofs.RoutableLaws.{nets-some, all-sinks}
@@ -169,7 +169,7 @@ run-accepted j work log rests h e =
     record {
       whole = last;
       below = omega arith;
-      words-are = run-words j (begun j) work log e ∙ ap encode (all-made j (begun j) last made);
+      words-are = run-words j (firstProgress j) work log e ∙ ap encode (all-made j (firstProgress j) last made);
       reached = all-reached j h;
     }
 

@@ -8,7 +8,7 @@ use lib.ListN.{length, getD}
 use borrow.Author.Needs.{needs}
 use denote.Ref.{now}
 use Rattle.search.specs.Distance.{inTree}
-use Rattle.negotiation.proofs.AimLaws.{Leading, leading-start, leading-joined, leading-lower, leading-new, leading-all, marked, unmarked}
+use Rattle.negotiation.proofs.NextTriedLaws.{Leading, leading-start, leading-joined, leading-lower, leading-new, leading-all, marked, unmarked}
 use Rattle.negotiation.proofs.order.place_due.Statement.{statement}
 use Rattle.negotiation.proofs.order.place_due.Tie as tie
 

@@ -23,7 +23,7 @@ use Rattle.negotiation.proofs.DemandLaws.{all-reached}
 use Rattle.negotiation.proofs.KeepLaws.{AtIteration, AtNet, AtTurns}
 use Rattle.negotiation.proofs.KeepProgress.{due-ready, overUsed}
 use Rattle.negotiation.proofs.KeepStart.{keep-start, keep-due, keep-ready, keep-begun}
-use Rattle.negotiation.proofs.KeepTurn.{Lent, lent-tables, call-aim, call-turn, after-nothing, after-logged}
+use Rattle.negotiation.proofs.KeepTurn.{Lent, lent-tables, call-tried, call-turn, after-nothing, after-logged}
 use Rattle.negotiation.proofs.KeepNet.{keep-end-ready, keep-ended}
 use Rattle.negotiation.proofs.KeepEnd.{after-full, all-routed, keep-accepted, keep-limit, keep-growable, keep-below, keep-next}
 use Rattle.negotiation.proofs.KeepCount.{Counts, CountsOn, counts-start, counts-same, counts-answer, counts-fit, counts-nothing, counts-full, counts-logged}
@@ -418,7 +418,7 @@ net-turn-requires c κs =
     let few =
     counts-fit _ (routable (turn-entry at)) (reachable (turn-entry at)) (enough (turn-entry at)) (turn-safe at) left (tables at) ran
     (turn-counted at (some (turn-entry at)) _ (ready (turn-entry at)) ran) in (
-      call-aim _ (routable (turn-entry at)) (enough (turn-entry at)) (turn-safe at) left (tables at),
+      call-tried _ (routable (turn-entry at)) (enough (turn-entry at)) (turn-safe at) left (tables at),
       call-turn _ (routable (turn-entry at)) (enough (turn-entry at)) (turn-safe at) left (tables at) few,
     )
 

@@ -9,7 +9,7 @@ use borrow.Author.Needs.{needs}
 use Rattle.search.proofs.BlockLaws.{kinds-few}
 use Rattle.job.specs.Job.{Job, jobOf, nodes, nets}
 use Rattle.negotiation.specs.Records.{encode}
-use Rattle.negotiation.specs.Outcome.{begun}
+use Rattle.negotiation.specs.Outcome.{firstProgress}
 use Rattle.negotiation.specs.Kept.{Ready}
 use Rattle.negotiation.proofs.KeepStart.{take-replicate, begun-ready}
 use Rattle.negotiation.proofs.turns.negotiate.Statement.{statement}
@@ -30,7 +30,7 @@ module _ (e : tie.Start) where
   -- what is lent is ready for a run that begins
   ready :
       (log : List ℕ)
-      → Ready job (begun job) (record { iteration = 1; factor = 0; turns = 0; words = 0; aimed = e .args .aimed; expanded = 0 }) (take (nodes job) (replicate 4096 1)) (take (nodes job) (replicate 4096 0))
+      → Ready job (firstProgress job) (record { iteration = 1; factor = 0; turns = 0; words = 0; aimed = e .args .aimed; expanded = 0 }) (take (nodes job) (replicate 4096 1)) (take (nodes job) (replicate 4096 0))
       (take (nodes job) (replicate 4096 0)) (take (nets job) (replicate 512 0)) (take (nets job) (replicate 512 0)) (take (nets job) (replicate 512 0)) log
   ready log =
       begun-ready job (e .pre .0)

@@ -1,16 +1,16 @@
 -- `negotiation::turns::net_turn` meets its contract: it is one turn for what is tried.
 -- Assumes nothing.
 use borrow.Author.Needs.{needs}
-use Rattle.negotiation.proofs.AimLaws.{aim-can, aim-done}
+use Rattle.negotiation.proofs.NextTriedLaws.{tried-can, tried-done}
 use Rattle.negotiation.proofs.turns.net_turn.Statement.{statement}
 use Rattle.negotiation.proofs.turns.net_turn.Tie as tie
 
 -- the entry
-abbrev start : tie.After-next-aim → tie.Start
+abbrev start : tie.After-next-tried → tie.Start
 start c = c .before .before .before .before .before .before .before .before .before .before .before .before .before .before
 
-next-aim-requires : tie.Need-next-aim-requires
-next-aim-requires c κs = search needs
+next-tried-requires : tie.Need-next-tried-requires
+next-tried-requires c κs = search needs
 
 mul-one-turn : tie.Need-mul-one-turn
 mul-one-turn c = search needs
@@ -26,8 +26,8 @@ part-one-turn-end c = search needs
 
 one-turn-requires : tie.Need-one-turn-requires
 one-turn-requires c κs =
-    let at : tie.After-next-aim = c .before .before .before .before .before in
-    aim-can (at .next-aim .ensures) _ _ _ _ _ (start at .pre .1)
+    let at : tie.After-next-tried = c .before .before .before .before .before in
+    tried-can (at .next-tried .ensures) _ _ _ _ _ (start at .pre .1)
 
 same-length : tie.Need-same-length
 same-length c = search needs
@@ -41,14 +41,14 @@ same-length-3 c = search needs
 returns : tie.Need-returns
 returns c =
     let made = c .before .before .before .before .before .before in
-    let at : tie.After-next-aim = made .before .before .before .before .before .before in
-    (aim-done (at .next-aim .ensures) _ _ _ _ _ (made .one-turn .result) (start at .args .tariff) _ _ _ _ (made .one-turn .ensures .0), made .one-turn .ensures .1)
+    let at : tie.After-next-tried = made .before .before .before .before .before .before in
+    (tried-done (at .next-tried .ensures) _ _ _ _ _ (made .one-turn .result) (start at .args .tariff) _ _ _ _ (made .one-turn .ensures .0), made .one-turn .ensures .1)
 
 pub net-turn-spec : {M : Type 1} → statement M
 net-turn-spec =
     tie.close
     (tie.spec
-    next-aim-requires
+    next-tried-requires
     mul-one-turn
     sub-one-turn
     part-one-turn-start

@@ -1,4 +1,4 @@
--- `order::next_aim` meets its contract: all sinks in an untimed job, none or the one that is due in a timed one.
+-- `order::next_tried` meets its contract: all sinks in an untimed job, none or the one that is due in a timed one.
 -- Assumes nothing.
 use mathlib.Core.Bool.{true}
 use mathlib.Core.Path.{_≡_}
@@ -8,9 +8,9 @@ use native.Mathlib.Omega.{arith}
 use borrow.Author.Needs.{needs}
 use borrow.Author.Tests.{not-true, not-false}
 use lib.ListN.{length}
-use Rattle.negotiation.proofs.AimLaws.{aim-untimed, parts-long, parts-nodes, parts-low, criticalities-within, place-within, aim-none, aim-some}
-use Rattle.negotiation.proofs.order.next_aim.Statement.{statement}
-use Rattle.negotiation.proofs.order.next_aim.Tie as tie
+use Rattle.negotiation.proofs.NextTriedLaws.{tried-untimed, parts-long, parts-nodes, parts-low, criticalities-within, place-within, tried-none, tried-some}
+use Rattle.negotiation.proofs.order.next_tried.Statement.{statement}
+use Rattle.negotiation.proofs.order.next_tried.Tie as tie
 
 -- a timed job's entry
 abbrev start : tie.Else1 → tie.Start
@@ -27,7 +27,7 @@ within : (c : tie.Else2) → c .before .place-due .result < start (found c) .arg
 within c = let most = place-within (start (found c) .pre) (timed (found c)) (c .before .place-due .ensures) in let other = c .if2 .left in omega arith
 
 returns : tie.Need-returns
-returns c = aim-untimed (c .before .before .before .before .pre) (not-true _ (c .if1 .taken))
+returns c = tried-untimed (c .before .before .before .before .pre) (not-true _ (c .if1 .taken))
 
 mul-place-due : tie.Need-mul-place-due
 mul-place-due c = search needs
@@ -60,7 +60,7 @@ sub-if2 : tie.Need-sub-if2
 sub-if2 c = search needs
 
 returns-2 : tie.Need-returns-2
-returns-2 c = let at = c .before .before .before .before in aim-none (start at .pre) (timed at) (c .before .place-due .ensures) (c .if2 .taken)
+returns-2 c = let at = c .before .before .before .before in tried-none (start at .pre) (timed at) (c .before .place-due .ensures) (c .if2 .taken)
 
 add-at : tie.Need-add-at
 add-at c =
@@ -87,10 +87,10 @@ add-t13 c =
 returns-3 : tie.Need-returns-3
 returns-3 c =
     let at = found (c .before) in
-    aim-some (start at .pre) (timed at) (c .before .before .place-due .ensures) (within (c .before))
+    tried-some (start at .pre) (timed at) (c .before .before .place-due .ensures) (within (c .before))
 
-pub next-aim-spec : {M : Type 1} → statement M
-next-aim-spec =
+pub next-tried-spec : {M : Type 1} → statement M
+next-tried-spec =
     tie.close
     (tie.spec
     returns

@@ -21,9 +21,9 @@ use Rattle.search.specs.Distance.{inTree}
 use Rattle.search.specs.Turn.{Congestion, weighedCongestion, priceAt, turn}
 use Rattle.job.specs.Steps.{AllBelow}
 use Rattle.negotiation.specs.Order.{fallingFrom, firstOpen, placeDue, sinkDue, sinksTried, weightingDue}
-use Rattle.negotiation.specs.OrderSteps.{SinksReady, Aimed}
+use Rattle.negotiation.specs.OrderSteps.{SinksReady, TriedSinks}
 use Rattle.negotiation.specs.Steps.{CanTurn, turnCount, TurnDone}
-use Rattle.negotiation.specs.declared.order.Aim.{Aim}
+use Rattle.negotiation.specs.declared.order.Tried.{Tried}
 use Rattle.negotiation.specs.declared.tariff.Tariff.{Tariff}
 use Rattle.negotiation.specs.declared.turns.TurnMade.{TurnMade}
 use Rattle.negotiation.proofs.OrderLaws.{opened, falling-within, due-is}
@@ -194,8 +194,8 @@ module _ {timed : Bool} {sinks cs : List ℕ} {from to : ℕ} {marks : List ℕ}
   sinks-long : length (slice from to sinks) ≡ to - from
   sinks-long = length-slice from to sinks (ready .within)
 
-  pub aim-untimed : timed ≡ false → Aimed timed marks sinks cs from to (record { weighting = untimed; from = from; to = to })
-  aim-untimed t =
+  pub tried-untimed : timed ≡ false → TriedSinks timed marks sinks cs from to (record { weighting = untimed; from = from; to = to })
+  tried-untimed t =
       record {
         weighting-is = rw t;
         tried = rw t;
@@ -242,9 +242,9 @@ module _ {timed : Bool} {sinks cs : List ℕ} {from to : ℕ} {marks : List ℕ}
           let d = due in
           omega arith
 
-      pub aim-none : place ≡ to - from → Aimed timed marks sinks cs from to (record { weighting = record { timed = true; criticality = 0 }; from = to; to = to })
+      pub tried-none : place ≡ to - from → TriedSinks timed marks sinks cs from to (record { weighting = record { timed = true; criticality = 0 }; from = to; to = to })
       unfolding sinkDue
-      aim-none all =
+      tried-none all =
           let none : getD (slice from to cs) place 0 ≡ 0 = List·getD-eq-default (slice from to cs) 0 (let e = criticalities-long in omega arith) in
           let past : ltb place (length (slice from to sinks)) ≡ false = le-ltb place (length (slice from to sinks)) (let e = sinks-long in omega arith) in
           record {
@@ -254,11 +254,11 @@ module _ {timed : Bool} {sinks cs : List ℕ} {from to : ℕ} {marks : List ℕ}
             within = ready .within;
           }
 
-      pub aim-some :
+      pub tried-some :
           place < to - from
-          → Aimed timed marks sinks cs from to (record { weighting = record { timed = true; criticality = getD cs (from + place) 0 }; from = from + place; to = from + place + 1 })
+          → TriedSinks timed marks sinks cs from to (record { weighting = record { timed = true; criticality = getD cs (from + place) 0 }; from = from + place; to = from + place + 1 })
       unfolding sinkDue
-      aim-some l =
+      tried-some l =
           let i : from + place < to = omega arith in
           let w = ready .within in
           let below : ltb place (length (slice from to sinks)) ≡ true = lt-ltb place (length (slice from to sinks)) (let e = sinks-long in omega arith) in
@@ -273,7 +273,7 @@ module _ {timed : Bool} {sinks cs : List ℕ} {from to : ℕ} {marks : List ℕ}
 
 -- ---- a turn for what is tried
 
-module _ {timed : Bool} {marks sinks cs : List ℕ} {from to : ℕ} {r : Aim} (aimed : Aimed timed marks sinks cs from to r) where
+module _ {timed : Bool} {marks sinks cs : List ℕ} {from to : ℕ} {r : Tried} (aimed : TriedSinks timed marks sinks cs from to r) where
   abbrev due-weighting : Weighting
   due-weighting = weightingDue timed (inTree marks) (slice from to sinks) (slice from to cs)
 
@@ -291,15 +291,15 @@ module _ {timed : Bool} {marks sinks cs : List ℕ} {from to : ℕ} {r : Aim} (a
     abbrev prices : Weighting → Congestion
     prices w = weighedCongestion w delays factor history users
 
-    pub aim-can : {t : Tariff} {work log : List ℕ} → CanTurn b (prices due-weighting) t due-sinks marks work log → CanTurn b (prices (r .weighting)) t lent marks work log
-    aim-can {t} {work} {log} can =
+    pub tried-can : {t : Tariff} {work log : List ℕ} → CanTurn b (prices due-weighting) t due-sinks marks work log → CanTurn b (prices (r .weighting)) t lent marks work log
+    tried-can {t} {work} {log} can =
         subst (λ (w : Weighting). CanTurn b (prices w) t lent marks work log) (sym (aimed .weighting-is))
         (subst (λ (l : List ℕ). CanTurn b (prices due-weighting) t l marks work log) (sym lent-is) can)
 
-    pub aim-done :
+    pub tried-done :
         (made : TurnMade) (t : Tariff) (net : ℕ) (log log′ marks′ : List ℕ)
         → TurnDone made (turn b (priceAt b (prices (r .weighting))) marks lent) (turnCount (t .aimed) b (prices (r .weighting)) marks lent) t net lent log marks log′ marks′
         → TurnDone made (turn b (priceAt b (prices due-weighting)) marks due-sinks) (turnCount (t .aimed) b (prices due-weighting) marks due-sinks) t net due-sinks log marks log′ marks′
-    aim-done made t net log log′ marks′ done =
+    tried-done made t net log log′ marks′ done =
         subst (λ (w : Weighting). TurnDone made (turn b (priceAt b (prices w)) marks due-sinks) (turnCount (t .aimed) b (prices w) marks due-sinks) t net due-sinks log marks log′ marks′) (aimed .weighting-is)
         (subst (λ (l : List ℕ). TurnDone made (turn b (priceAt b (prices (r .weighting))) marks l) (turnCount (t .aimed) b (prices (r .weighting)) marks l) t net l log marks log′ marks′) lent-is done)
