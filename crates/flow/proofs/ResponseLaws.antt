@@ -4,10 +4,11 @@ use mathlib.Core.Bool.{true, false}
 use mathlib.Core.List.{List, [], _∷_}
 use mathlib.Core.Logic.{⊎-elim}
 use mathlib.Core.Path.{_≡_}
-use Prim.Native.Nat.{ℕ, _≤_, zero-le}
+use Prim.Native.Nat.{ℕ, _+_, _≤_, zero-le}
 use native.Mathlib.Omega.{arith}
 use lib.Dec.{leb, ltb}
 use lib.ListN.{length, take, drop, length-append}
+use borrow.Author.Tests.{leb-true}
 use Rattle.price.specs.Bounds.{nodesMost}
 use Rattle.price.proofs.TestLaws.{either-way}
 use Rattle.job.specs.Job.{Job, nodes}
@@ -15,13 +16,14 @@ use Rattle.negotiation.specs.Records.{decode}
 use Rattle.job.specs.Tables.{sourcesSound, exceeds}
 use Rattle.negotiation.specs.Outcome.{RouteReply, routeReply}
 use Rattle.text.specs.Lines.{letterX, printLine}
+use Rattle.text.specs.LineReplies.{lineReply}
 use Rattle.text.specs.JobText.{Part, part, stopped, readText}
 use Rattle.text.specs.ReadReplies.{Tables, shortTable, tablesWith, writtenOver}
 use Rattle.text.specs.Routes.{logSound, writable, textReply, testedReply}
 use Rattle.text.specs.Dot.{textIn, styleReply}
 use Rattle.text.specs.declared.Style.{Style}
-use Rattle.flow.specs.Refusals.{refusalLine}
-use Rattle.flow.specs.RunReplies.{Lent, RunReply, afterRoute, routeRun, runOf, runReply, inputMost, lineResponse, answered, responseOf, response}
+use Rattle.text.proofs.PlacedLaws.{placed-length}
+use Rattle.flow.specs.RunReplies.{Lent, RunReply, afterRoute, routeRun, runOf, runReply, inputMost, Response, lineResponse, answered, responseOf, response}
 
 -- what was written over a list lies within it
 pub over-long : (new old : List ℕ) → length new ≤ length (writtenOver new old)
@@ -69,13 +71,20 @@ run-of-fits style (part j at rest) l =
     (either-way (exceeds (nodes j) (j .terms))))
     (either-way (leb 1 (shortTable j (l .tables))))
 
-line-fits : (numbers : List ℕ) (l : Lent) → lineResponse (refusalLine numbers (l .routes)) l .bytes ≤ length (lineResponse (refusalLine numbers (l .routes)) l .lent .routes)
-unfolding refusalLine
+-- the line of a refusal, printed
+abbrev lineShown : List ℕ → Lent → Response
+lineShown numbers l = lineResponse (lineReply letterX numbers 0 (l .routes)) l
+
+line-fits : (numbers : List ℕ) (l : Lent) → lineShown numbers l .bytes ≤ length (lineShown numbers l .lent .routes)
+unfolding lineReply
 line-fits numbers l =
+    let size : ℕ = 0 + length (printLine letterX numbers) in
     ⊎-elim
-    (λ (e : ltb (length (l .routes)) (length (printLine letterX numbers)) ≡ true). rw e zero-le)
-    (λ (e : ltb (length (l .routes)) (length (printLine letterX numbers)) ≡ false). rw e (over-long (printLine letterX numbers) (l .routes)))
-    (either-way (ltb (length (l .routes)) (length (printLine letterX numbers))))
+    (λ (e : leb size (length (l .routes)) ≡ true).
+    let fits = leb-true size (length (l .routes)) e in
+    rw (e, placed-length 0 (printLine letterX numbers) (l .routes) fits) fits)
+    (λ (e : leb size (length (l .routes)) ≡ false). rw e zero-le)
+    (either-way (leb size (length (l .routes))))
 
 answer-fits : (refusal : List ℕ) (r : RunReply) → r .bytes ≤ length (r .lent .routes) → answered refusal r .bytes ≤ length (answered refusal r .lent .routes)
 answer-fits [] r h = h

@@ -29,6 +29,8 @@ use Rattle.negotiation.specs.declared.Outcome.the-variants.{Accepted}
 use Rattle.negotiation.specs.Routable.{Routable}
 use Rattle.negotiation.proofs.RoutableLaws.{routable-of}
 use Rattle.job.proofs.JobLaws as job
+use Rattle.text.specs.Lines.{letterX}
+use Rattle.text.specs.LineReplies.{PlaceReply, placeReplyOf, lineReply}
 use Rattle.text.specs.JobText.{Part, part, stopped, readText}
 use Rattle.text.specs.Printed.{PrintedAs}
 use Rattle.text.specs.ReadReplies.{Tables, shortTable, writtenOver, tablesWith, ReadReply, notRead, termsNumbers, jobNumbers, readWhole, storedReply, replyTo, readReply}
@@ -37,7 +39,6 @@ use Rattle.text.specs.Routes.{WriteReply}
 use Rattle.text.specs.Dot.{styleReply}
 use Rattle.text.specs.declared.Style.{Style}
 use Rattle.flow.specs.RunReplies.{Lent, lentOf, RunReply, runReplyWith, afterWrite, afterRoute, routeRun, runOf, runReply, writtenReplyOf, runReplyOf, inputMost, responseOf, lineResponse, answered, response}
-use Rattle.flow.specs.Refusals.{LineReply, lineReplyOf, refusalLine}
 use Rattle.flow.specs.Steps.{answerLine}
 use Rattle.flow.specs.declared.RunAnswer.{RunAnswer}
 use Rattle.flow.specs.declared.RunAnswer.the-variants as ra
@@ -272,11 +273,11 @@ read-taken style text n edges m count terms t t′ e =
 -- an input that is too long
 pub too-long :
     (style : Style) (input : List ℕ) (t : Tables) (work log routes : List ℕ) (bytes : ℕ) (routes′ : List ℕ) → inputMost < length input
-    → lineReplyOf bytes routes′ ≡ refusalLine (12 ∷ inputMost ∷ []) routes
+    → placeReplyOf bytes routes′ ≡ lineReply letterX (12 ∷ inputMost ∷ []) 0 routes
     → responseOf bytes (lentOf t work log routes′) ≡ response style input (lentOf t work log routes)
 unfolding response
 too-long style input t work log routes bytes routes′ h e =
-    rw (lt-ltb inputMost (length input) h) (ap (λ (x : LineReply). lineResponse x (lentOf t work log routes)) e)
+    rw (lt-ltb inputMost (length input) h) (ap (λ (x : PlaceReply). lineResponse x (lentOf t work log routes)) e)
 
 module _ (style : Style) (input : List ℕ) (l : Lent) (short : length input ≤ inputMost) where
   responded : (r : RunReply) → r ≡ runReply style input l → answered (r .refusal) r ≡ response style input l
@@ -286,14 +287,14 @@ module _ (style : Style) (input : List ℕ) (l : Lent) (short : length input ≤
   -- the routes text, or the line of the refusal
   pub shown-out :
       (r : RunAnswer) (t : Tables) (work log routes : List ℕ) (bytes : ℕ) (routes′ : List ℕ)
-      → runReplyOf r (lentOf t work log routes) ≡ runReply style input l → lineReplyOf bytes routes′ ≡ answerLine r routes
+      → runReplyOf r (lentOf t work log routes) ≡ runReply style input l → placeReplyOf bytes routes′ ≡ answerLine r routes
       → responseOf bytes (lentOf t work log routes′) ≡ response style input l
   shown-out (ra.Written b) t work log routes bytes routes′ e shown =
-      ap (λ (x : LineReply). lineResponse x (lentOf t work log routes)) shown
+      ap (λ (x : PlaceReply). lineResponse x (lentOf t work log routes)) shown
       ∙ responded (runReplyWith [] b (lentOf t work log routes)) e
   shown-out (ra.One k v) t work log routes bytes routes′ e shown =
-      ap (λ (x : LineReply). lineResponse x (lentOf t work log routes)) shown
+      ap (λ (x : PlaceReply). lineResponse x (lentOf t work log routes)) shown
       ∙ responded (runReplyWith (k ∷ v ∷ []) 0 (lentOf t work log routes)) e
   shown-out (ra.Two k v w) t work log routes bytes routes′ e shown =
-      ap (λ (x : LineReply). lineResponse x (lentOf t work log routes)) shown
+      ap (λ (x : PlaceReply). lineResponse x (lentOf t work log routes)) shown
       ∙ responded (runReplyWith (k ∷ v ∷ w ∷ []) 0 (lentOf t work log routes)) e

@@ -1,4 +1,3 @@
-pub mod Refusals
 pub mod RunReplies
 pub mod Steps
 pub mod Samples

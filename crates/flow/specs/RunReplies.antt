@@ -9,12 +9,13 @@ use Rattle.price.specs.Test.{choose}
 use Rattle.job.specs.Job.{Job, nodes}
 use Rattle.job.specs.Tables.{exceeds}
 use Rattle.negotiation.specs.Outcome.{RouteReply, routeReply}
+use Rattle.text.specs.Lines.{letterX}
+use Rattle.text.specs.LineReplies.{PlaceReply, lineReply}
 use Rattle.text.specs.JobText.{Part, part, stopped, readText}
 use Rattle.text.specs.ReadReplies.{Tables, shortTable, tablesWith}
 use Rattle.text.specs.Routes.{WriteReply}
 use Rattle.text.specs.Dot.{styleReply}
 use Rattle.text.specs.declared.Style.{Style}
-use Rattle.flow.specs.Refusals.{LineReply, refusalLine}
 use Rattle.flow.specs.declared.RunAnswer.{RunAnswer}
 use Rattle.flow.specs.declared.RunAnswer.the-variants as a
 
@@ -57,6 +58,8 @@ runOf style (part j at rest) l =
     (choose (exceeds (nodes j) (j .terms)) (runReplyWith (15 ∷ nodes j ∷ j .terms .limit ∷ []) 0 l)
     (routeRun style j (tablesWith j (l .tables)) (l .work) (l .log) (l .routes)))
 
+-- "routing of a directed graph by negotiated congestion, the job text before it and the routes text after it": what a run over any job text
+-- answers and leaves
 unfoldable pub runReply : Style → List ℕ → Lent → RunReply
 runReply style text l = runOf style (readText text) l
 
@@ -93,17 +96,19 @@ pub record Response : Type 0 where
 abbrev pub responseOf : ℕ → Lent → Response
 responseOf bytes lent = record { bytes = bytes; lent = lent }
 
-abbrev pub lineResponse : LineReply → Lent → Response
-lineResponse x l = responseOf (x .bytes) (lentOf (l .tables) (l .work) (l .log) (x .buffer))
+-- the routes buffer up to a place is printed
+abbrev pub lineResponse : PlaceReply → Lent → Response
+lineResponse x l = responseOf (x .next) (lentOf (l .tables) (l .work) (l .log) (x .buffer))
 
--- the routes text is in the buffer already, or the line of the refusal is put there: what a run leaves "untouched" by rows 1 to 6,
--- 10, 11 and 15 is still as it was but for that line, which has to be somewhere to be printed
+-- the routes text is in the buffer already, or the line of the refusal is put at its start: "`X,` and the numbers of the refusal's first
+-- column below, parted by commas, then LF", nothing where the buffer is too short for it. What a run leaves "untouched" by rows 1 to 6, 10,
+-- 11 and 15 is still as it was but for that line, which has to be somewhere to be printed
 abbrev pub answered : List ℕ → RunReply → Response
 answered [] r = responseOf (r .bytes) (r .lent)
-answered (k ∷ ks) r = lineResponse (refusalLine (k ∷ ks) (r .lent .routes)) (r .lent)
+answered (k ∷ ks) r = lineResponse (lineReply letterX (k ∷ ks) 0 (r .lent .routes)) (r .lent)
 
 -- "12, 65536 .. more input bytes": "only the X line printed"
 unfoldable pub response : Style → List ℕ → Lent → Response
 response style input l =
-    choose (ltb inputMost (length input)) (lineResponse (refusalLine (12 ∷ inputMost ∷ []) (l .routes)) l)
+    choose (ltb inputMost (length input)) (lineResponse (lineReply letterX (12 ∷ inputMost ∷ []) 0 (l .routes)) l)
     (answered (runReply style input l .refusal) (runReply style input l))

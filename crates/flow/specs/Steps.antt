@@ -2,12 +2,13 @@
 -- Assumes nothing.
 use mathlib.Core.List.{List, [], _∷_}
 use Prim.Native.Nat.{ℕ}
-use Rattle.flow.specs.Refusals.{LineReply, lineReplyOf, refusalLine}
+use Rattle.text.specs.Lines.{letterX}
+use Rattle.text.specs.LineReplies.{PlaceReply, placeReplyOf, lineReply}
 use Rattle.flow.specs.declared.RunAnswer.{RunAnswer}
 use Rattle.flow.specs.declared.RunAnswer.the-variants as a
 
 -- what an answer leaves in the routes buffer: the text that is there already, or the line of the refusal
-abbrev pub answerLine : RunAnswer → List ℕ → LineReply
-answerLine (a.Written bytes) buffer = lineReplyOf bytes buffer
-answerLine (a.One number value) buffer = refusalLine (number ∷ value ∷ []) buffer
-answerLine (a.Two number first second) buffer = refusalLine (number ∷ first ∷ second ∷ []) buffer
+abbrev pub answerLine : RunAnswer → List ℕ → PlaceReply
+answerLine (a.Written bytes) buffer = placeReplyOf bytes buffer
+answerLine (a.One number value) buffer = lineReply letterX (number ∷ value ∷ []) 0 buffer
+answerLine (a.Two number first second) buffer = lineReply letterX (number ∷ first ∷ second ∷ []) 0 buffer

@@ -5,7 +5,7 @@ ghost use lib.ListN.{length, take};
 ghost use Rattle.price.specs.Test.{choose};
 ghost use Rattle.job.specs.Job.{jobOf};
 ghost use Rattle.text.specs.ReadReplies.{Tables, tablesOf};
-ghost use Rattle.flow.specs.Refusals.{lineReplyOf};
+ghost use Rattle.text.specs.LineReplies.{placeReplyOf};
 ghost use Rattle.text.specs.Dot.{styleReply};
 ghost use Rattle.flow.specs.RunReplies.{lentOf, routeRun, runReply, runReplyOf, writtenReplyOf, responseOf, response};
 ghost use Rattle.flow.specs.Steps.{answerLine};
@@ -244,7 +244,7 @@ pub fn run(
 
 // What an answer leaves in the routes buffer: the text that is there already, or the line of the refusal.
 fn put_answer(answer: RunAnswer, routes: &mut [u8]) -> usize
-    ensures { λ r. ⌜ lineReplyOf r (now (routes .exit)) ≡ answerLine answer (now (routes .entry)) ⌝ }
+    ensures { λ r. ⌜ placeReplyOf r (now (routes .exit)) ≡ answerLine answer (now (routes .entry)) ⌝ }
 {
     match answer {
         RunAnswer::Written(bytes) => bytes,

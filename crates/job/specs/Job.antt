@@ -11,6 +11,7 @@ use Rattle.search.specs.Block.{Block}
 use Rattle.search.specs.Block as b
 use Rattle.job.specs.declared.Terms.{Terms}
 
+-- "The router is lent seven tables, each of exactly its length", with table 8 and by request 2.9 two more
 pub record Job : Type 0 where
   -- tables 1 to 4
   pub block : Block

@@ -81,7 +81,8 @@ sourcePins kinds sources = pinsOf sourceKind kinds sources
 abbrev pub sinkPins : List ℕ → List ℕ → Bool
 sinkPins kinds sinks = pinsOf sinkKind kinds sinks
 
--- the lowest of tables 5 to 8 that breaks its rule, 0 where none does
+-- the lowest of tables 5 to 8 that breaks its rule, 0 where none does; a pin of another kind is by request 2.5 "in tables, 5 with table 5
+-- or 7"
 unfoldable pub faultyNets : List ℕ → List ℕ → List ℕ → List ℕ → Terms → ℕ
 faultyNets kinds sources firstSinks sinks terms =
     choose (both (sourcesSound (length kinds) sources) (sourcePins kinds sources))

@@ -60,6 +60,7 @@ fn rises(first_sink: &[u32]) -> bool
     true
 }
 
+// Table 6: "nets + 1 entries: begins with 0, strictly rises, ends with table 7's length."
 fn first_sinks_sound(nets: usize, places: usize, first_sink: &[u32]) -> bool
     requires { ⌜ nets ≤ netsMost ⌝ }
     ensures { λ r. ⌜ r ≡ firstSinksSound nets places (now («first_sink» .entry)) ⌝ }
@@ -97,6 +98,7 @@ fn mark_sinks(n: usize, sinks: &[u16], seen: &mut [u8]) -> bool
     true
 }
 
+// Takes the sinks' marks away again.
 fn unmark_sinks(sinks: &[u16], seen: &mut [u8])
     requires { ⌜ AllBelow (length (now seen)) (now sinks) ⌝ }
     ensures { λ _. ⌜ Stored 0 (now (sinks .entry)) (now (seen .entry)) (now (seen .exit)) ⌝ }

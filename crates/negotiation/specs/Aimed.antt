@@ -30,6 +30,7 @@ expandedIn j earlier [] = 0
 expandedIn j earlier (r ∷ rs) = turnExpanded j earlier r + expandedIn j (earlier ++ (r ∷ [])) rs
 
 -- "The aimed answer also counts the nodes expanded, over the turns that call logged": of all records in its words used, those after the
--- lent ones. With the plain search nothing is counted
+-- lent ones. "Callers of router and resume choose either search, over the work slice of 8 × nodes entries that there is": `aimed` is that
+-- choice, and `tested` of Outcome.antt asks for as many entries whichever it is. With the plain search nothing is counted
 unfoldable pub expandedAfter : Bool → Job → (lent all : List Record) → ℕ
 expandedAfter aimed j lent all = choose aimed (expandedIn j lent (drop (length lent) all)) 0

@@ -50,9 +50,11 @@ weightingDue timed joined sinks cs =
 
 -- ---- of a net with this tree
 
+-- the sinks of which its turn joins one: "the unjoined sink of least distance" of all, in a timed job "the sink whose turn it is"
 unfoldable pub turnSinks : Job → ℕ → List ℕ → List ℕ
 turnSinks j i tree = sinksTried (j .terms .timed) (λ s. has s tree) (netSinks j i) (netCriticalities j i)
 
+-- how its turn weighs delay: in a timed job by that sink's criticality, "A node's price for that sink"
 unfoldable pub turnWeighting : Job → ℕ → List ℕ → Weighting
 turnWeighting j i tree = weightingDue (j .terms .timed) (λ s. has s tree) (netSinks j i) (netCriticalities j i)
 

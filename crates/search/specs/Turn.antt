@@ -79,10 +79,11 @@ unfoldable pub joinAt : Block → (ℕ → ℕ) → List ℕ → List ℕ → �
 joinAt b price marks sinks place =
     joins place (pathCost price (pathTo b price marks (getD sinks place 0))) (pathTo b price marks (getD sinks place 0))
 
--- the least of them, 2^64 − 1 where no unjoined sink has a path; and the first place at which it stands
+-- "least distance": the least of them, 2^64 − 1 where no unjoined sink has a path
 abbrev pub nearestDistance : Block → (ℕ → ℕ) → List ℕ → List ℕ → ℕ
 nearestDistance b price marks sinks = least far (openDistances b price marks sinks)
 
+-- "ties to the first listed": the first place at which it stands
 abbrev pub nearestPlace : Block → (ℕ → ℕ) → List ℕ → List ℕ → ℕ
 nearestPlace b price marks sinks = placeOf (nearestDistance b price marks sinks) (openDistances b price marks sinks)
 

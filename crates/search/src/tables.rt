@@ -21,6 +21,7 @@ const KIND_MOST: u8 = 53;
 
 const DELAY_MOST: u16 = 1000;
 
+// Table 1: "kind, a byte a node: 1 to 4,096 nodes", by request 2.2 of kinds 0 to 53.
 fn kinds_sound(kind: &[u8]) -> bool
     ensures { λ r. ⌜ r ≡ kindsSound (now (kind .entry)) ⌝ }
 {
@@ -39,6 +40,7 @@ fn kinds_sound(kind: &[u8]) -> bool
     fine
 }
 
+// Table 2: "capacity, a byte a node, 1 to 255."
 fn capacities_sound(n: usize, capacity: &[u8]) -> bool
     ensures { λ r. ⌜ r ≡ capacitiesSound n (now (capacity .entry)) ⌝ }
 {
@@ -71,6 +73,7 @@ fn never_falls(first_edge: &[u32]) -> bool
     fine
 }
 
+// Table 3: "nodes + 1 entries: begins with 0, never falls, ends with table 4's length."
 fn first_edges_sound(n: usize, edges: usize, first_edge: &[u32]) -> bool
     requires { ⌜ n ≤ nodesMost ⌝ }
     ensures { λ r. ⌜ r ≡ firstEdgesSound n edges (now («first_edge» .entry)) ⌝ }

@@ -11,8 +11,8 @@ use borrow.Author.Tests.{le-leb, lt-leb}
 use Rattle.text.specs.Decimal.{decimal}
 use Rattle.text.specs.Lines.{lf, comma, printFields, printLine}
 use Rattle.text.specs.Routes.{capped}
-use Rattle.text.specs.WriteSteps.{placed, Put}
-use Rattle.text.specs.LineReplies.{PlaceReply, placeReplyOf, lineReply}
+use Rattle.text.specs.WriteSteps.{Put}
+use Rattle.text.specs.LineReplies.{placed, PlaceReply, placeReplyOf, lineReply}
 use Rattle.text.proofs.PlacedLaws.{put-room, put-length, put-field-then}
 
 -- what is left of the line from a field on

@@ -8,7 +8,7 @@ use mathlib.Core.List.{List, [], _∷_, _++_, append-assoc, flatMap, List·Mem�
 use mathlib.Core.Path.{_≡_, refl, sym, _∙_, ap, subst}
 use Prim.Native.Nat.{ℕ, _^_, _<_}
 use native.Mathlib.Omega.{arith}
-use lib.Dec.{ltb, eqb}
+use lib.Dec.{ltb}
 use lib.ListN.{length, getD, drop}
 use borrow.Author.Tests.{eq-eqb, ltb-true}
 use Rattle.price.specs.Bounds.{nodesMost}
@@ -18,14 +18,14 @@ use Rattle.negotiation.specs.Records.{decode}
 use Rattle.job.specs.Tables.{sourcesSound}
 use Rattle.text.specs.Decimal.{isDigit, decimal}
 use Rattle.text.specs.Lines.{Field, field, Fields, taken, withValue, afterField}
-use Rattle.text.specs.Routes.{logSound, writable, Branch, branchOf, Join, routesText}
-use Rattle.text.specs.Dot.{dotHead, dotArrow, dotLabel, dotClose, dotEnd, dotLine, dotText}
-use Rattle.text.specs.Listed.{RouteLines, stepsByNet, Listed}
-use Rattle.text.specs.Pictured.{afterBytes, numberThen, dotFields, DotLines, ended, branch, Pictured}
+use Rattle.text.specs.Routes.{logSound, writable, Branch, branchOf}
+use Rattle.text.specs.Dot.{dotArrow, dotLabel, dotClose, dotEnd, dotLine, dotText}
+use Rattle.text.specs.Listed.{stepsByNet}
+use Rattle.text.specs.Pictured.{afterBytes, numberThen, dotFields, DotLines, ended, branch, Pictured, PicturedSame}
 use Rattle.text.proofs.PrintLaws.{field-printed}
 use Rattle.text.proofs.RouteLineLaws.{branchFields, Printable}
 use Rattle.text.proofs.StepListLaws.{branches-are}
-use Rattle.text.proofs.ListedHolds.{steps-printable, read-once}
+use Rattle.text.proofs.ListedHolds.{steps-printable, routes-listed, read-once}
 
 -- ---- a line
 
@@ -113,8 +113,10 @@ picture-once {cs = cs} p q =
 -- ---- both texts
 
 -- the branches read off the routes text and those read off the picture
-pub picture-same :
-    (sources log : List ℕ) → sourcesSound nodesMost sources ≡ true → logSound (writable sources) log ≡ true
-    → {bs cs : List Branch} {ps : List Join} (l : Listed sources log (routesText sources (decode log))) → RouteLines (l .rest) bs ps
-    → Pictured (dotText sources (decode log)) cs → bs ≡ cs
-picture-same sources log table t l p q = read-once p (l .lines) .0 ∙ picture-once (picture-shows sources log table t) q
+pub picture-same : (sources log : List ℕ) → sourcesSound nodesMost sources ≡ true → logSound (writable sources) log ≡ true → PicturedSame sources log
+picture-same sources log table t =
+    record {
+      listed = routes-listed sources log table t;
+      pictured = picture-shows sources log table t;
+      same = λ l p q. read-once p (l .lines) .0 ∙ picture-once (picture-shows sources log table t) q;
+    }

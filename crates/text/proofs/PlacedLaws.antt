@@ -11,7 +11,8 @@ use lib.Seq.{length-take-le, take-all, take-length, take-at, drop-append-add, dr
 use Rattle.text.specs.Decimal.{decimal}
 use Rattle.text.specs.Lines.{lf, comma, printFields, printLine}
 use Rattle.text.specs.ReadReplies.{writtenOver}
-use Rattle.text.specs.WriteSteps.{placed, Put}
+use Rattle.text.specs.WriteSteps.{Put}
+use Rattle.text.specs.LineReplies.{placed}
 use Rattle.text.proofs.DecimalLaws.{Parted, parted-start, parted-next, parted-end, parted-long}
 
 -- one piece behind the other is both pieces

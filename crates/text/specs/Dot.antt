@@ -56,5 +56,6 @@ abbrev pub textIn : Style → List ℕ → List Record → List ℕ
 textIn s.Lines = routesText
 textIn s.Picture = dotText
 
+-- "It shares the writer's 5, 10 and 11.": what the writer of either text answers and leaves
 abbrev pub styleReply : Style → List ℕ → List ℕ → List ℕ → WriteReply
 styleReply style sources log buffer = testedReply (textIn style) sources log buffer

@@ -302,6 +302,8 @@ jobRead c ns es ts =
     jobOf (ns .kinds) (ns .capacities) (firstPlaces (c .nodes) (es .froms)) (es .targets)
     (ts .sources) (ts .firstSinks ++ (length (ts .sinks) ∷ [])) (ts .sinks) (ns .delays) (ts .criticalities) (c .terms)
 
+-- "`F,nodes,edges,nets,limit`; `N,node,kind,capacity` in order; `E,from,to` rising by from, then to; per net in order `S,net,node`, then
+-- one or more `T,net,node`; end of text.": the job of a whole text, or its first faulty line
 unfoldable pub readText : List ℕ → Part Job
 readText bs =
     andThen (headPart bs) (λ c at rest.

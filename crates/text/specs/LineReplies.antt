@@ -1,12 +1,15 @@
 -- Printing one line from a place of a buffer on: the next place, and the buffer afterwards.
 -- Assumes nothing.
-use mathlib.Core.List.{List}
+use mathlib.Core.List.{List, _++_}
 use Prim.Native.Nat.{ℕ, _+_}
 use lib.Dec.{leb}
-use lib.ListN.{length}
+use lib.ListN.{length, take, drop}
 use Rattle.price.specs.Test.{choose}
 use Rattle.text.specs.Lines.{printLine}
-use Rattle.text.specs.WriteSteps.{placed}
+
+-- the buffer with these bytes from a place on
+unfoldable pub placed : ℕ → List ℕ → List ℕ → List ℕ
+placed at bytes buffer = take at buffer ++ (bytes ++ drop (at + length bytes) buffer)
 
 pub record PlaceReply : Type 0 where
   pub next : ℕ

@@ -112,6 +112,8 @@ abbrev pub replyTo : Part Job → Tables → ReadReply
 replyTo (stopped k at) t = notRead (k ∷ at ∷ []) t
 replyTo (part j at rest) t = storedReply j t
 
+-- what the reader answers to any text and leaves: "The reader returns nodes, edges, nets, sinks and limit.", or the numbers of rows 1 to 4
+-- or of 15
 unfoldable pub readReply : List ℕ → Tables → ReadReply
 readReply text t = replyTo (readText text) t
 

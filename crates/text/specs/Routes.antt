@@ -185,6 +185,7 @@ testedReply text sources log buffer =
     (choose (not (logSound (writable sources) log)) (notWritten (10 ∷ soundWords (writable sources) log ∷ []) buffer)
     (textReply (text sources (decode log)) buffer))
 
+-- what the writer answers to any table 5 and log and leaves: "The writer returns the bytes written.", or the numbers of rows 5, 10 or 11
 abbrev pub writeReply : List ℕ → List ℕ → List ℕ → WriteReply
 writeReply sources log buffer = testedReply routesText sources log buffer
 

@@ -1,7 +1,7 @@
 -- What the contracts of the writer's private functions say.
 -- Assumes nothing.
 use mathlib.Core.Bool.{Bool, true}
-use mathlib.Core.List.{List, [], _∷_, _++_}
+use mathlib.Core.List.{List, [], _∷_}
 use mathlib.Core.Path.{_≡_}
 use Prim.Native.Nat.{ℕ, _+_, _-_, _^_, _≤_, _<_}
 use lib.Dec.{eqb}
@@ -12,16 +12,13 @@ use Rattle.negotiation.specs.Records.{Record, decode}
 use Rattle.text.specs.Lines.{letterR, printLine}
 use Rattle.text.specs.Routes.{Named, soundWords, lastIteration, passing, finalRecords, routeJoins, joinText, capped}
 use Rattle.text.specs.Dot.{dotHead, dotEnd}
+use Rattle.text.specs.LineReplies.{placed}
 use Rattle.text.specs.declared.Style.{Style}
 use Rattle.text.specs.declared.Style.the-variants as s
 
 -- the place after the record at a place of a log
 abbrev pub nextAt : List ℕ → ℕ → ℕ
 nextAt log at = at + 6 + getD log (at + 5) 0
-
--- the buffer with these bytes from a place on
-unfoldable pub placed : ℕ → List ℕ → List ℕ → List ℕ
-placed at bytes buffer = take at buffer ++ (bytes ++ drop (at + length bytes) buffer)
 
 -- the bytes stand in the buffer from a place to the next
 pub record Put (at : ℕ) (bytes before after : List ℕ) (next : ℕ) : Type 0 where

@@ -8,6 +8,7 @@ ghost use Rattle.price.specs.Test.{choose};
 ghost use Rattle.text.specs.Steps.{commaField, fieldAt, FieldPlace, noFields, withField, placeAfter, lineEnd, fieldsAt, FieldsPlace};
 use crate::decimal::LF;
 
+// "Each field reading gives a number with the next place, or a fault."
 pub enum Field {
     Number { value: u32, next: usize },
     Fault,

@@ -17,6 +17,7 @@ pub enum Lines {
     Stopped { number: u32, line: usize },
 }
 
+// The numbers of the F line and the place after it, or the refusal's number.
 pub enum Head {
     Counts {
         nodes: u32,
@@ -70,6 +71,7 @@ fn head_within(nodes: u32, edges: u32, nets: u32, limit: u32) -> bool
     limit <= bounds::LIMIT_MOST
 }
 
+// The F line, which stands at the beginning of the text.
 fn head_line(text: &[u8]) -> Head
     ensures { λ r. ⌜ headAt (now (text .entry)) r ≡ headLine (now (text .entry)) ⌝ }
     ensures { λ r. ⌜ HeadPlace (now (text .entry)) r ⌝ }

@@ -17,11 +17,13 @@ use crate::fields::LineFields;
 use search::NODES_MOST;
 use search::SINKS_MOST;
 
+// The node of an S line and the place after it, or the refusal's number.
 pub enum PinLine {
     Pin { node: u16, next: usize },
     Refused(u32),
 }
 
+// The node and the criticality of a T line and the place after it, or the refusal's number. In an untimed job the criticality is 0.
 pub enum SinkLine {
     Sink {
         node: u16,
@@ -40,6 +42,7 @@ pub struct NetCursor {
     pub first: usize,
 }
 
+// How far the nets are read after one line more, or the refusal's number.
 pub enum NetStep {
     On(NetCursor),
     Stopped(u32),

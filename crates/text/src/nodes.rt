@@ -11,6 +11,7 @@ use crate::fields;
 use crate::fields::LineFields;
 use crate::head::Lines;
 
+// The numbers of an N line and the place after it, or the refusal's number. In an untimed job the delay is 0.
 pub enum NodeLine {
     Node {
         kind: u8,

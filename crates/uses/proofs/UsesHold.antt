@@ -1,12 +1,12 @@
--- Theorems of request 2.11: the uses of a log sum to the size of its final trees, counts that pass 13 pass it after any log, and the order of
--- accepted logs makes no difference.
+-- Theorems of request 2.11: the uses of a log, and those after a run of calls, sum to the size of the final trees; counts that pass 13 pass it
+-- after any log; and the order of accepted logs makes no difference.
 -- Assumes nothing.
 use mathlib.Core.Bool.{Bool, true, false, not}
 use mathlib.Core.List.{List, [], _∷_}
 use mathlib.Core.Logic.{_⊎_, ⊎-elim, inl, inr}
 use mathlib.Core.Path.{_≡_, refl, sym, _∙_, ap, subst}
 use Prim.Native.Nat.{ℕ, zero, suc, _+_, _*_, _≤_, _<_}
-use native.Mathlib.Nat.{add-mul, le-trans, min-le-left}
+use native.Mathlib.Nat.{zero-add, add-zero, add-assoc, add-mul, le-trans, min-le-left}
 use native.Mathlib.Omega.{arith}
 use lib.Dec.{eqb, leb, ltb}
 use lib.ListN.{length, getD, replicate}
@@ -26,7 +26,7 @@ use Rattle.negotiation.specs.Demand.{treeRead}
 use Rattle.text.specs.Routes.{logSound, soundWords}
 use Rattle.text.specs.Users.{netsWith}
 use Rattle.uses.specs.Uses.{kindCount, logsMost, sumBelow, overKind, usesIn, nodesOf, UseCounts, useCountsOf, tooMany, countsRefusal, withLog, ofBlock, AddReply, addReplyWith, testedReply, addReply}
-use Rattle.uses.specs.Runs.{treeSize, UsesSum, UsesGrow, TreesWithin, noCounts, afterCalls, Accepted, Reordered, same, swap, under, through, OrderFree, StaysWithin, NeverOver}
+use Rattle.uses.specs.Runs.{treeSize, UsesSum, allUses, treesSize, UsesGrow, TreesWithin, noCounts, afterCalls, treesAdded, UsesTotal, Accepted, Reordered, same, swap, under, through, OrderFree, StaysWithin, NeverOver}
 use Rattle.uses.proofs.TreeLaws.{tree-named}
 use Rattle.uses.proofs.SumLaws.{zeros-at, upTo-same, sum-same, sum-plus, sum-turned, count-sum, sum-one, kind-sum-most}
 
@@ -196,6 +196,41 @@ uses-grow b c log e =
     (sum-same (λ k. getD (withLog b c (decode log) .uses) k 0) (λ k. getD (c .uses) k 0 + usesIn b (decode log) k) kindCount (λ k l. with-at b (decode log) c k l)
     ∙ sum-plus (λ k. getD (c .uses) k 0) (usesIn b (decode log)) kindCount
     ∙ ap (λ (s : ℕ). sumBelow (λ k. getD (c .uses) k 0) kindCount + s) (uses-sum b (h .fine .sound) (decode log)))
+
+-- a list that is not empty has an entry
+some : (xs : List ℕ) → (xs ≡ [] → ⊥) → 1 ≤ length xs
+some [] filled = absurd (filled refl)
+some (x ∷ xs) filled = omega arith
+
+-- and a refused one nothing
+call-total :
+    (b : Block) (c : UseCounts) (log : List ℕ)
+    → allUses (addReply b c log .counts) ≡ allUses c + choose (leb 1 (length (addReply b c log .refusal))) 0 (treesSize b log)
+call-total b c log =
+    ⊎-elim
+    (λ (h : Adds b c log).
+    let e : addReply b c log .refusal ≡ [] = ap (λ (r : AddReply). r .refusal) (adds-reply b c log h) in
+    uses-grow b c log e ∙ rw e)
+    (λ h. rw (h .0, le-leb 1 (length (addReply b c log .refusal)) (some (addReply b c log .refusal) (h .1))) (sym (add-zero (allUses c))))
+    (reply-cases b c log)
+
+-- of a run that begins with any counts
+run-total : (b : Block) (logs : List (List ℕ)) (c : UseCounts) → allUses (afterCalls b c logs) ≡ allUses c + treesAdded b c logs
+unfolding afterCalls treesAdded
+run-total b [] c = sym (add-zero (allUses c))
+run-total b (log ∷ more) c =
+    let after = addReply b c log .counts in
+    let size = choose (leb 1 (length (addReply b c log .refusal))) 0 (treesSize b log) in
+    run-total b more after
+    ∙ ap (λ (s : ℕ). s + treesAdded b after more) (call-total b c log)
+    ∙ add-assoc (allUses c) size (treesAdded b after more)
+
+no-uses : allUses noCounts ≡ 0
+unfolding sumBelow
+no-uses = refl
+
+pub uses-total : (b : Block) → UsesTotal b
+uses-total b logs = run-total b logs noCounts ∙ ap (λ (s : ℕ). s + treesAdded b noCounts logs) no-uses ∙ zero-add (treesAdded b noCounts logs)
 
 pub trees-within : (b : Block) → TreesWithin b
 trees-within b c log e i v h =

@@ -4,7 +4,9 @@ use mathlib.Core.Bool.{true}
 use mathlib.Core.List.{List, [], _∷_}
 use mathlib.Core.Path.{_≡_}
 use Prim.Native.Nat.{ℕ, _+_, _<_}
-use lib.ListN.{getD, replicate}
+use lib.Dec.{leb}
+use lib.ListN.{length, getD, replicate}
+use Rattle.price.specs.Test.{choose}
 use Rattle.price.specs.Lists.{has, countBelow}
 use Rattle.search.specs.Block.{Block, nodes}
 use Rattle.search.specs.Tables.{faultyTable}
@@ -17,16 +19,23 @@ use Rattle.uses.specs.Uses.{kindCount, sumBelow, usesIn, UseCounts, useC
 unfoldable pub treeSize : Block → List Record → ℕ → ℕ
 treeSize b rs i = countBelow (λ v. has v (treeRead i rs)) (nodes b)
 
--- "The uses sum to the total size of all final trees.": of a log
+-- the uses of a log sum to the size of its final trees
 abbrev pub UsesSum : Block → List Record → Type 0
 UsesSum b rs = sumBelow (usesIn b rs) kindCount ≡ sumBelow (treeSize b rs) netsMost
 
--- and so of a run: each log that is added adds the size of its final trees to the sum
+-- the sum of the counts' uses over all kinds
+abbrev pub allUses : UseCounts → ℕ
+allUses c = sumBelow (λ k. getD (c .uses) k 0) kindCount
+
+-- the size of all final trees of a log
+abbrev pub treesSize : Block → List ℕ → ℕ
+treesSize b log = sumBelow (treeSize b (decode log)) netsMost
+
+-- each log that is added adds the size of its final trees to the sum
 abbrev pub UsesGrow : Block → Type 0
 UsesGrow b =
     (c : UseCounts) (log : List ℕ) → addReply b c log .refusal ≡ []
-    → sumBelow (λ k. getD (addReply b c log .counts .uses) k 0) kindCount
-    ≡ sumBelow (λ k. getD (c .uses) k 0) kindCount + sumBelow (treeSize b (decode log)) netsMost
+    → allUses (addReply b c log .counts) ≡ allUses c + treesSize b log
 
 -- nothing is left out of these sums: a final tree of a log that is added has only nodes of the block, and only nets below 512 have one
 abbrev pub TreesWithin : Block → Type 0
@@ -42,6 +51,16 @@ noCounts = useCountsOf (replicate kindCount 0) 0
 unfoldable pub afterCalls : Block → UseCounts → List (List ℕ) → UseCounts
 afterCalls b c [] = c
 afterCalls b c (log ∷ more) = afterCalls b (addReply b c log .counts) more
+
+-- the size of the final trees of those of these logs that are added: "a refused log adds nothing"
+unfoldable pub treesAdded : Block → UseCounts → List (List ℕ) → ℕ
+treesAdded b c [] = 0
+treesAdded b c (log ∷ more) =
+    choose (leb 1 (length (addReply b c log .refusal))) 0 (treesSize b log) + treesAdded b (addReply b c log .counts) more
+
+-- "The uses sum to the total size of all final trees.": of the counts after any calls that begin with 0
+abbrev pub UsesTotal : Block → Type 0
+UsesTotal b = (logs : List (List ℕ)) → allUses (afterCalls b noCounts logs) ≡ treesAdded b noCounts logs
 
 -- none of these calls is refused
 unfoldable pub Accepted : Block → UseCounts → List (List ℕ) → Type 0

@@ -15,6 +15,7 @@ use search::NODES_MOST;
 // The most nets, which can each use a node once a log.
 const NETS_MOST: u64 = 512;
 
+// What the test of the block and of the counts handed in finds.
 pub enum CountsTest {
     Fine,
     // 5: this table breaks its rule.

@@ -1,7 +1,6 @@
 -- `refusals::write_refusal` meets its contract: the line is printed at the buffer's start where it fits.
 -- Assumes nothing.
 use borrow.Author.Needs.{needs}
-use Rattle.flow.proofs.RefusalLineLaws.{line-printed}
 use Rattle.flow.proofs.refusals.write_refusal.Statement.{statement}
 use Rattle.flow.proofs.refusals.write_refusal.Tie as tie
 
@@ -15,7 +14,7 @@ same-length : tie.Need-same-length
 same-length c = search needs
 
 returns : tie.Need-returns
-returns c = line-printed _ _ _ _ (c .before .before .print-line .ensures)
+returns c = c .before .before .print-line .ensures
 
 pub write-refusal-spec : {M : Type 1} → statement M
 write-refusal-spec =

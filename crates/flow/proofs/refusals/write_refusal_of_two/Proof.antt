@@ -1,7 +1,6 @@
 -- `refusals::write_refusal_of_two` meets its contract: the line is printed at the buffer's start where it fits.
 -- Assumes nothing.
 use borrow.Author.Needs.{needs}
-use Rattle.flow.proofs.RefusalLineLaws.{line-printed}
 use Rattle.flow.proofs.refusals.write_refusal_of_two.Statement.{statement}
 use Rattle.flow.proofs.refusals.write_refusal_of_two.Tie as tie
 
@@ -15,7 +14,7 @@ same-length : tie.Need-same-length
 same-length c = search needs
 
 returns : tie.Need-returns
-returns c = line-printed _ _ _ _ (c .before .before .print-line .ensures)
+returns c = c .before .before .print-line .ensures
 
 pub write-refusal-of-two-spec : {M : Type 1} → statement M
 write-refusal-of-two-spec =
