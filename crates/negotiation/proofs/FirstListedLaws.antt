@@ -11,8 +11,8 @@ use native.Mathlib.Omega.{arith}
 use lib.Dec.{eqb}
 use lib.ListN.{length, getD, length-append, length-map}
 use lib.Seq.{take-append-seam, drop-append-seam}
-use borrow.Author.Tests.{eq-eqb, eqb-true}
-use Rattle.price.specs.Test.{choose, either}
+use borrow.Author.Tests.{eq-eqb}
+use Rattle.price.specs.Test.{choose}
 use Rattle.price.specs.Lists.{has, upTo}
 use Rattle.price.proofs.TestLaws.{either-way, either-true, true≢false}
 use Rattle.price.proofs.ListLaws.{getD-upTo}
@@ -21,7 +21,7 @@ use Rattle.job.specs.Job.{Job, nets, source, sinksBetween, netCriticalities}
 use Rattle.job.specs.Join.{leads, placesFrom, listedPlaces, entriesAt, taking, placesOfFirst, joinedPlaces, placesBefore, joined}
 use Rattle.negotiation.specs.JoinSteps.{Joinable, listedCount}
 use Rattle.negotiation.proofs.MemberLaws.{has-append-split, no-entry}
-use Rattle.negotiation.proofs.TakingLaws.{from-within, from-has, taking-split, entries-more}
+use Rattle.negotiation.proofs.TakingLaws.{from-within, taking-split, entries-more}
 use Rattle.negotiation.proofs.JoinLaws.{before-more}
 
 -- ---- places taken in turn

@@ -15,7 +15,7 @@ use borrow.Author.Tests.{eq-eqb, ne-eqb, eqb-true}
 use Rattle.price.specs.Lists.{neighbours, has, distinct, upTo, placeOf}
 use Rattle.price.proofs.TestLaws.{either-way, true≢false, le-or-lt}
 use Rattle.price.proofs.ListLaws.{has-at, getD-upTo}
-use Rattle.price.proofs.EntryLaws.{placeOf-is, placeOf-none, placeOf-at, placeOf-most, placeOf-lt}
+use Rattle.price.proofs.EntryLaws.{placeOf-most}
 use Rattle.search.proofs.DistinctLaws.{lacks, distinct-short}
 use Rattle.job.specs.Job.{Job, nets, source, netSinks}
 use Rattle.job.specs.Join.{firstOf, leads, listedPlaces, entriesAt, placesOfFirst, joinedPlaces, placesBefore, joined}

@@ -1,10 +1,10 @@
 -- Laws of the sink whose turn it is: it is the first listed of the most critical that the tree lacks, and there is one as long as the tree lacks any.
--- So a turn tries listed sinks, in a job of either kind at least one that the tree lacks, and all that a turn goes by hangs on the tree's nodes alone.
+-- So a turn tries listed sinks, in a job of either kind at least one that the tree lacks.
 -- Assumes nothing.
 use mathlib.Core.Bool.{Bool, true, false}
 use mathlib.Core.List.{List, [], _∷_, _++_, append-nil}
 use mathlib.Core.Logic.{_⊎_, inl, inr, ⊎-elim}
-use mathlib.Core.Path.{_≡_, refl, sym, _∙_, ap, subst, fun-ext}
+use mathlib.Core.Path.{_≡_, refl, sym, _∙_}
 use Prim.Native.Nat.{ℕ, zero, suc, _+_, _-_, _≤_, _<_}
 use native.Mathlib.Nat.{not-suc-le-zero, le-of-suc-le-suc, eq-or-lt-of-le, zero-add}
 use native.Mathlib.Omega.{arith}
@@ -12,16 +12,14 @@ use lib.Dec.{eqb, ltb}
 use lib.ListN.{length, getD, take, List·getD-eq-default}
 use lib.Seq.{length-slice, getD-drop, getD-take}
 use borrow.Author.Tests.{eq-eqb, eqb-true, ltb-true, lt-ltb}
-use Rattle.price.specs.Test.{choose}
 use Rattle.price.specs.Bounds.{criticalityMost}
 use Rattle.price.specs.Lists.{has}
 use Rattle.price.specs.Timed.{untimed}
 use Rattle.price.proofs.TestLaws.{either-way, le-or-lt, true≢false}
 use Rattle.price.proofs.ListLaws.{has-at, has-place, has-append-left, has-append-right}
-use Rattle.search.specs.Turn.{Congestion, congestionOf}
 use Rattle.search.proofs.DistinctLaws.{has-cons, has-first, has-rest}
 use Rattle.job.specs.Job.{Job, nodes, nets, netSinks, netCriticalities}
-use Rattle.negotiation.specs.Order.{placesWith, fallingFrom, firstOpen, placeDue, sinkDue, sinksTried, weightingDue, turnSinks, turnWeighting, turnCongestion}
+use Rattle.negotiation.specs.Order.{placesWith, fallingFrom, firstOpen, placeDue, sinkDue, sinksTried, turnSinks, turnWeighting}
 use Rattle.negotiation.specs.Routable.{Routable, Timing}
 use Rattle.negotiation.proofs.MemberLaws.{no-entry, has-append-split}
 
@@ -202,9 +200,6 @@ module _ (joined : ℕ → Bool) (sinks : List ℕ) where
     pub due-listed : (x : ℕ) → has x (sinkDue joined sinks cs) ≡ true → has x sinks ≡ true
     due-listed x h = let at = due-place x h in rw (at .1) (has-at sinks (placeDue joined sinks cs) (at .0))
 
-    pub due-open : (x : ℕ) → has x (sinkDue joined sinks cs) ≡ true → joined x ≡ false
-    due-open x h = let at = due-place x h in rw (at .1) (place-open (at .0))
-
     -- where a place is due it is that sink alone
     pub due-alone : placeDue joined sinks cs < length sinks → sinkDue joined sinks cs ≡ getD sinks (placeDue joined sinks cs) 0 ∷ []
     unfolding sinkDue
@@ -238,30 +233,9 @@ module _ (timed : Bool) (joined : ℕ → Bool) (sinks cs : List ℕ) where
       (λ (t : timed ≡ false). rw t (x, h, e))
       (either-way timed)
 
--- tests that agree make the same turn
-pub tried-same : (timed : Bool) (old new : ℕ → Bool) (sinks cs : List ℕ) → ((v : ℕ) → old v ≡ new v) → sinksTried timed old sinks cs ≡ sinksTried timed new sinks cs
-tried-same timed old new sinks cs same = ap (λ (f : ℕ → Bool). sinksTried timed f sinks cs) (fun-ext same)
-
-pub weighting-same : (timed : Bool) (old new : ℕ → Bool) (sinks cs : List ℕ) → ((v : ℕ) → old v ≡ new v) → weightingDue timed old sinks cs ≡ weightingDue timed new sinks cs
-weighting-same timed old new sinks cs same = ap (λ (f : ℕ → Bool). weightingDue timed f sinks cs) (fun-ext same)
-
 -- ---- of a net with a tree
 
 module _ (j : Job) (i : ℕ) where
-  -- trees with the same nodes
-  pub turn-sinks-same : (old new : List ℕ) → ((v : ℕ) → has v old ≡ has v new) → turnSinks j i old ≡ turnSinks j i new
-  unfolding turnSinks
-  turn-sinks-same old new same = tried-same (j .terms .timed) (λ s. has s old) (λ s. has s new) (netSinks j i) (netCriticalities j i) same
-
-  pub turn-weighting-same : (old new : List ℕ) → ((v : ℕ) → has v old ≡ has v new) → turnWeighting j i old ≡ turnWeighting j i new
-  unfolding turnWeighting
-  turn-weighting-same old new same =
-      weighting-same (j .terms .timed) (λ s. has s old) (λ s. has s new) (netSinks j i) (netCriticalities j i) same
-
-  pub turn-congestion-same : (c : Congestion) (old new : List ℕ) → ((v : ℕ) → has v old ≡ has v new) → turnCongestion j c i old ≡ turnCongestion j c i new
-  unfolding turnCongestion
-  turn-congestion-same c old new same = rw (turn-weighting-same old new same)
-
   module _ (tree : List ℕ) where
     pub turn-listed : (x : ℕ) → has x (turnSinks j i tree) ≡ true → has x (netSinks j i) ≡ true
     unfolding turnSinks
@@ -272,10 +246,6 @@ module _ (j : Job) (i : ℕ) where
       pub untimed-sinks : turnSinks j i tree ≡ netSinks j i
       unfolding turnSinks
       untimed-sinks = rw plain
-
-      pub untimed-weighting : turnWeighting j i tree ≡ untimed
-      unfolding turnWeighting
-      untimed-weighting = rw plain
 
     -- a timed job's
     module _ (weighs : j .terms .timed ≡ true) where

@@ -14,7 +14,7 @@ use Rattle.price.proofs.ListLaws.{every-at, every-all, every-none, has-at, has-
 use Rattle.price.proofs.BelowLaws.{firstBelow-below, firstBelow-holds, firstBelow-is}
 use Rattle.search.specs.Replies.{workNeeded}
 use Rattle.job.specs.Job.{Job, nodes, nets, netSinks}
-use Rattle.job.specs.Tables.{SoundJob, faultyJob, exceeds}
+use Rattle.job.specs.Tables.{faultyJob, exceeds}
 use Rattle.negotiation.specs.Outcome.{RouteReply, hasPath, unreachableNet, unreachablePlace, firstProgress}
 use Rattle.negotiation.specs.Unreachable.{Reachable, FirstUnreachable, UnreachableRefused}
 use Rattle.negotiation.specs.Routable.{Routable}

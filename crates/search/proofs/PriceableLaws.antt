@@ -204,9 +204,6 @@ module _ (ks cs fs ts : List ℕ) (c : Congestion) (marks : List ℕ) where
         (λ (l : length marks < length ks). absurd (let m = ready-node (length marks) l .has-mark in omega arith))
         (le-or-lt (length ks) (length marks))
 
-    pub ready-bit : (v : ℕ) → v < length ks → getD marks v 0 ≤ 1
-    ready-bit v h = ready-node v h .mark-bit
-
 -- ---- what the price's answer says of a node that is ready to be priced
 
 -- the delay is read only where it is weighed

@@ -4,7 +4,7 @@
 --     PuttingRecords, records-         going from record to record
 --     PuttingNets, nets-               going from net to net
 -- Assumes nothing.
-use mathlib.Core.Bool.{Bool, true, false}
+use mathlib.Core.Bool.{true, false}
 use mathlib.Core.List.{List, [], _++_, flatMap}
 use mathlib.Core.Logic.{⊎-elim}
 use mathlib.Core.Path.{_≡_, subst}

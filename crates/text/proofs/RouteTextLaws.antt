@@ -3,7 +3,7 @@
 --     write-                           refusals before the text, and the text of a sound log
 -- Assumes nothing.
 use mathlib.Core.Bool.{Bool, true, false}
-use mathlib.Core.List.{List, [], _∷_, _++_, append-assoc}
+use mathlib.Core.List.{List, [], _∷_, _++_}
 use mathlib.Core.Path.{_≡_, refl, sym, _∙_, ap, fun-ext}
 use Prim.Native.Nat.{ℕ, _+_, _^_, _≤_, _<_}
 use native.Mathlib.Omega.{arith}
@@ -16,7 +16,7 @@ use Rattle.price.proofs.TestLaws.{both-left}
 use Rattle.job.specs.Tables.{netsMost, sourcesSound}
 use Rattle.job.specs.Join.{leads}
 use Rattle.job.proofs.JobLaws.{sources-few}
-use Rattle.text.specs.Routes.{WriteReply, Named, netWritable, writable, routeBranches, lastIteration, routesText, capped, notWritten, textReply, testedReply}
+use Rattle.text.specs.Routes.{WriteReply, netWritable, writable, routeBranches, lastIteration, routesText, capped, notWritten, textReply, testedReply}
 use Rattle.text.specs.Dot.{dotText, styleText, textIn}
 use Rattle.text.specs.Users.{sound, unsound, logChecked}
 use Rattle.text.specs.WriteSteps.{Put, Filled, headText, tailText, netMarked, namedBy, LogTested}

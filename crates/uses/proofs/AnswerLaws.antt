@@ -1,14 +1,13 @@
 -- What the two calls answer, from what the test of the counts found.
 -- Assumes nothing.
-use mathlib.Core.Bool.{true}
 use mathlib.Core.List.{List, [], _∷_}
-use mathlib.Core.Path.{_≡_, refl, sym, _∙_, ap}
-use Prim.Native.Nat.{ℕ, _≤_}
+use mathlib.Core.Path.{_≡_, sym, _∙_, ap}
+use Prim.Native.Nat.{ℕ}
 use native.Mathlib.Nat.{le-trans}
 use native.Mathlib.Omega.{arith}
-use Rattle.search.specs.Block.{Block, blockOf, nodes}
+use Rattle.search.specs.Block.{Block, blockOf}
 use Rattle.text.specs.Routes.{WriteReply, notWritten, textReply}
-use Rattle.uses.specs.Uses.{logsMost, usesIn, nodesOf, capacityOf, UseCounts, countsRefusal, withLog, AddReply, addReplyWith, testedReply, addReply, useLine, usesText, printReply}
+use Rattle.uses.specs.Uses.{usesIn, nodesOf, capacityOf, UseCounts, countsRefusal, withLog, AddReply, addReplyWith, testedReply, addReply, useLine, usesText, printReply}
 use Rattle.uses.specs.Steps.{countMost, AtMost, testRefusal}
 use Rattle.uses.specs.declared.counts.CountsTest.{CountsTest}
 use Rattle.uses.specs.declared.counts.CountsTest.the-variants as t

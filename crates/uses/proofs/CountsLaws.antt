@@ -2,22 +2,20 @@
 -- Assumes nothing.
 use mathlib.Core.Bool.{Bool, true, false}
 use mathlib.Core.List.{List, [], _∷_}
-use mathlib.Core.Path.{_≡_, refl, sym, _∙_, ap}
+use mathlib.Core.Path.{_≡_, refl, sym, _∙_}
 use Prim.Native.Nat.{ℕ, zero, suc, _+_, _*_, _≤_, _<_}
 use native.Mathlib.Nat.{mul-le-mul}
 use native.Mathlib.Omega.{arith}
-use lib.Dec.{leb, ltb}
-use lib.ListN.{length, getD, replicate, getD-replicate}
+use lib.ListN.{getD, replicate, getD-replicate}
 use borrow.Author.Tests.{le-leb, lt-leb, lt-ltb, le-ltb}
-use borrow.Author.Count.{below-none, below-more}
-use Rattle.price.specs.Test.{choose}
+use borrow.Author.Count.{below-more}
 use Rattle.price.specs.Bounds.{nodesMost}
 use Rattle.price.specs.Lists.{firstBelow}
 use Rattle.price.proofs.BelowLaws.{firstBelow-is, firstBelow-all}
 use Rattle.search.specs.Block.{Block, nodes}
 use Rattle.search.specs.Tables.{faultyTable}
 use Rattle.search.proofs.BlockLaws.{sound-of, kinds-few}
-use Rattle.uses.specs.Uses.{kindCount, logsMost, overKind, nodesOf, UseCounts, tooMany, countsRefusal}
+use Rattle.uses.specs.Uses.{kindCount, logsMost, nodesOf, UseCounts, tooMany, countsRefusal}
 use Rattle.uses.specs.Steps.{tallied, AtMost, overNodes}
 use Rattle.uses.proofs.SumLaws.{kind-nodes-most}
 use Rattle.uses.proofs.TallyLaws.{tallied-at}

@@ -1,16 +1,14 @@
 -- The U lines: a kind's total capacity, the text's length, and what printing answers.
 -- Assumes nothing.
 use mathlib.Core.Bool.{true}
-use mathlib.Core.List.{List, [], _∷_, _++_}
-use mathlib.Core.Path.{_≡_, refl, sym, _∙_, ap, subst}
-use Prim.Native.Nat.{ℕ, zero, suc, _+_, _*_, _^_, _≤_, _<_, min}
+use mathlib.Core.List.{List, [], _++_}
+use mathlib.Core.Path.{_≡_, sym, _∙_, ap}
+use Prim.Native.Nat.{ℕ, _+_, _*_, _^_, _≤_, _<_}
 use native.Mathlib.Nat.{mul-le-mul}
 use native.Mathlib.Omega.{arith}
-use lib.Dec.{ltb}
 use lib.ListN.{length, getD, drop, replicate, length-append, length-drop, length-replicate, getD-replicate, List·getD-append}
 use borrow.Author.Tests.{lt-ltb, le-ltb}
-use Rattle.price.specs.Test.{choose}
-use Rattle.search.specs.Block.{Block, blockOf}
+use Rattle.search.specs.Block.{blockOf}
 use Rattle.search.specs.Tables.{kindsSound, capacitiesSound}
 use Rattle.search.proofs.BlockLaws.{kinds-few, capacities-long, capacity-most}
 use Rattle.text.specs.Printed.{concatFrom}
@@ -19,7 +17,7 @@ use Rattle.text.specs.WriteSteps.{Put}
 use Rattle.text.proofs.DecimalLaws.{decimal-length, three-size}
 use Rattle.text.proofs.PlacedLaws.{placed-start}
 use Rattle.text.proofs.JoiningLaws.{concat-alike, concat-size}
-use Rattle.uses.specs.Uses.{kindCount, logsMost, letterU, overKind, capacityOf, useCountsOf, useLine, usesText, printReplyOf}
+use Rattle.uses.specs.Uses.{kindCount, logsMost, letterU, capacityOf, useCountsOf, useLine, usesText, printReplyOf}
 use Rattle.uses.specs.declared.PrintAnswer.the-variants as p
 use Rattle.uses.specs.Steps.{tallied, totalLine}
 use Rattle.uses.proofs.SumLaws.{kind-sum-most, kind-nodes-most}

@@ -4,11 +4,11 @@ use mathlib.Core.Bool.{true}
 use mathlib.Core.List.{List, _++_}
 use mathlib.Core.Logic.{⊎-elim}
 use mathlib.Core.Path.{_≡_, refl, sym, _∙_}
-use Prim.Native.Nat.{ℕ, suc, _+_, _*_, _≤_, _<_}
+use Prim.Native.Nat.{ℕ, _+_, _*_, _≤_, _<_}
 use native.Mathlib.Numerals.{add-one}
 use native.Mathlib.Omega.{arith}
 use lib.Dec.{eqb}
-use lib.ListN.{length, getD, set, drop, length-set, List·getD-append}
+use lib.ListN.{length, getD, set, drop, length-set}
 use lib.Seq.{getD-set-same, getD-set-other, ext-getD, take-all}
 use borrow.Author.Tests.{eq-eqb, ne-eqb}
 use Rattle.price.specs.Test.{choose}
@@ -20,7 +20,7 @@ use Rattle.search.proofs.BlockLaws.{kind-most, kinds-few}
 use Rattle.text.proofs.CopyLaws.{Copied}
 use Rattle.uses.specs.Uses.{kindCount, sumBelow, overKind}
 use Rattle.uses.specs.Steps.{tallied, countMost, AtMost}
-use Rattle.uses.proofs.SumLaws.{sum-same, kind-sum-most, kind-nodes-most}
+use Rattle.uses.proofs.SumLaws.{sum-same}
 
 -- what node u adds to the sum of kind k
 abbrev share : List ℕ → List ℕ → ℕ → ℕ → ℕ

@@ -1,32 +1,32 @@
 -- Theorems of request 2.11: the uses of a log, and those after a run of calls, sum to the size of the final trees; counts that pass 13 pass it
 -- after any log; and the order of accepted logs makes no difference.
 -- Assumes nothing.
-use mathlib.Core.Bool.{Bool, true, false, not}
+use mathlib.Core.Bool.{true, false, not}
 use mathlib.Core.List.{List, [], _∷_}
 use mathlib.Core.Logic.{_⊎_, ⊎-elim, inl, inr}
 use mathlib.Core.Path.{_≡_, refl, sym, _∙_, ap, subst}
-use Prim.Native.Nat.{ℕ, zero, suc, _+_, _*_, _≤_, _<_}
+use Prim.Native.Nat.{ℕ, _+_, _*_, _≤_, _<_}
 use native.Mathlib.Nat.{zero-add, add-zero, add-assoc, add-mul, le-trans, min-le-left}
 use native.Mathlib.Omega.{arith}
 use lib.Dec.{eqb, leb, ltb}
-use lib.ListN.{length, getD, replicate}
-use borrow.Author.Tests.{le-leb, lt-leb, leb-true, leb-false, lt-ltb, le-ltb, ltb-true, ltb-false, not-true, not-false}
+use lib.ListN.{length, getD}
+use borrow.Author.Tests.{le-leb, lt-leb, leb-true, leb-false, le-ltb, ltb-true, ltb-false}
 use Rattle.price.specs.Test.{choose}
-use Rattle.price.specs.Bounds.{kindMost, nodesMost}
+use Rattle.price.specs.Bounds.{nodesMost}
 use Rattle.price.specs.Lists.{has, upTo, firstBelow, countBelow}
-use Rattle.price.proofs.TestLaws.{either-way, true≢false}
+use Rattle.price.proofs.TestLaws.{either-way}
 use Rattle.price.proofs.ListLaws.{getD-upTo, length-upTo}
-use Rattle.price.proofs.BelowLaws.{firstBelow-le, firstBelow-below, firstBelow-all, count-most}
+use Rattle.price.proofs.BelowLaws.{firstBelow-below, firstBelow-all, count-most}
 use Rattle.search.specs.Block.{Block, nodes}
 use Rattle.search.specs.Tables.{faultyTable}
 use Rattle.search.proofs.BlockLaws.{sound-of, kind-most}
 use Rattle.job.specs.Tables.{netsMost}
 use Rattle.negotiation.specs.Records.{Record, decode}
 use Rattle.negotiation.specs.Demand.{treeRead}
-use Rattle.text.specs.Routes.{logSound, soundWords}
+use Rattle.text.specs.Routes.{logSound}
 use Rattle.text.specs.Users.{netsWith}
 use Rattle.uses.specs.Uses.{kindCount, logsMost, sumBelow, overKind, usesIn, nodesOf, UseCounts, useCountsOf, tooMany, countsRefusal, withLog, ofBlock, AddReply, addReplyWith, testedReply, addReply}
-use Rattle.uses.specs.Runs.{treeSize, UsesSum, allUses, treesSize, UsesGrow, TreesWithin, noCounts, afterCalls, treesAdded, UsesTotal, Accepted, Reordered, same, swap, under, through, OrderFree, StaysWithin, NeverOver}
+use Rattle.uses.specs.Runs.{treeSize, UsesSum, allUses, treesSize, UsesGrow, TreesWithin, noCounts, afterCalls, treesAdded, UsesTotal, Accepted, same, swap, under, through, OrderFree, StaysWithin, NeverOver}
 use Rattle.uses.proofs.TreeLaws.{tree-named}
 use Rattle.uses.proofs.SumLaws.{zeros-at, upTo-same, sum-same, sum-plus, sum-turned, count-sum, sum-one, kind-sum-most}
 

@@ -1,14 +1,11 @@
 -- What the contracts of private functions say.
 -- Assumes nothing.
-use mathlib.Core.Bool.{Bool, not}
+use mathlib.Core.Bool.{Bool}
 use mathlib.Core.List.{List, [], _∷_}
-use mathlib.Core.Path.{_≡_}
 use Prim.Native.Nat.{ℕ, _+_, _*_, _^_, _≤_, _<_}
-use lib.Dec.{eqb, ltb}
-use lib.ListN.{length, getD}
-use Rattle.price.specs.Test.{choose, both}
-use Rattle.price.specs.Lists.{has, upTo}
-use Rattle.job.specs.Steps.{Stored}
+use lib.Dec.{ltb}
+use lib.ListN.{getD}
+use Rattle.price.specs.Lists.{upTo}
 use Rattle.job.specs.Tables.{netsMost}
 use Rattle.negotiation.specs.Records.{Record}
 use Rattle.text.specs.Lines.{printLine}

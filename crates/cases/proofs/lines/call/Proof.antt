@@ -1,6 +1,5 @@
 -- `cases::lines::call` meets its contract: the letter stands after line 1's place, or the text ends before it.
 -- Assumes nothing.
-use native.Mathlib.Omega.{arith}
 use borrow.Author.Needs.{needs}
 use Rattle.cases.proofs.LineLaws.{letter-past, letter-there}
 use Rattle.cases.proofs.lines.call.Statement.{statement}

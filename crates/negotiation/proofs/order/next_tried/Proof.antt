@@ -2,12 +2,10 @@
 -- Assumes nothing.
 use mathlib.Core.Bool.{true}
 use mathlib.Core.Path.{_≡_}
-use Prim.Native.Nat.{_+_, _-_, _≤_, _<_}
-use native.Mathlib.Nat.{le-trans}
+use Prim.Native.Nat.{_+_, _-_, _<_}
 use native.Mathlib.Omega.{arith}
 use borrow.Author.Needs.{needs}
 use borrow.Author.Tests.{not-true, not-false}
-use lib.ListN.{length}
 use Rattle.negotiation.proofs.NextTriedLaws.{tried-untimed, parts-long, parts-nodes, parts-low, criticalities-within, place-within, tried-none, tried-some}
 use Rattle.negotiation.proofs.order.next_tried.Statement.{statement}
 use Rattle.negotiation.proofs.order.next_tried.Tie as tie

@@ -1,12 +1,10 @@
 -- `order::place_due` meets its contract. The loop's invariant: of the places passed the one found leads, or none is open.
 -- Assumes nothing.
 use mathlib.Core.Logic.{⊎-elim}
-use mathlib.Core.Path.{_≡_}
-use Prim.Native.Nat.{_-_, _<_, _≤_}
+use Prim.Native.Nat.{_-_, _≤_}
 use native.Mathlib.Omega.{arith}
-use lib.ListN.{length, getD}
+use lib.ListN.{length}
 use borrow.Author.Needs.{needs}
-use denote.Ref.{now}
 use Rattle.search.specs.Distance.{inTree}
 use Rattle.negotiation.proofs.NextTriedLaws.{Leading, leading-start, leading-joined, leading-lower, leading-new, leading-all, marked, unmarked}
 use Rattle.negotiation.proofs.order.place_due.Statement.{statement}

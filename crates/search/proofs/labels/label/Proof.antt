@@ -1,7 +1,6 @@
 -- `search::labels::label` meets its contract: two stores and, where v has a row, a place in the heap.
 -- Assumes nothing.
 use mathlib.Core.Path.{refl, _∙_}
-use native.Mathlib.Omega.{arith}
 use Rattle.search.specs.Spread.{ends, waits}
 use Rattle.search.proofs.SpreadSteps.{labelled-long, label-heap}
 use borrow.Author.Needs.{needs}
