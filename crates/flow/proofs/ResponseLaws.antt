@@ -11,19 +11,19 @@ use lib.ListN.{length, take, drop, length-append}
 use borrow.Author.Tests.{leb-true}
 use Rattle.price.specs.Bounds.{nodesMost}
 use Rattle.price.proofs.TestLaws.{either-way}
-use Rattle.job.specs.Job.{Job, nodes}
+use Rattle.job.specs.Job.{Job}
 use Rattle.negotiation.specs.Records.{decode}
-use Rattle.job.specs.Tables.{sourcesSound, exceeds}
+use Rattle.job.specs.Tables.{sourcesSound}
 use Rattle.negotiation.specs.Outcome.{RouteReply, routeReply}
 use Rattle.text.specs.Lines.{letterX, printLine}
 use Rattle.text.specs.LineReplies.{lineReply}
 use Rattle.text.specs.JobText.{Part, part, stopped, readText}
-use Rattle.text.specs.ReadReplies.{Tables, shortTable, tablesWith, writtenOver}
+use Rattle.text.specs.ReadReplies.{Tables, writtenOver, storedReply}
 use Rattle.text.specs.Routes.{logSound, writable, textReply, testedReply}
 use Rattle.text.specs.Dot.{textIn, styleReply}
 use Rattle.text.specs.declared.Style.{Style}
 use Rattle.text.proofs.PlacedLaws.{placed-length}
-use Rattle.flow.specs.RunReplies.{Lent, RunReply, afterRoute, routeRun, runOf, runReply, inputMost, Response, lineResponse, answered, responseOf, response}
+use Rattle.flow.specs.RunReplies.{Lent, RunReply, afterRoute, routeRun, afterRead, runOf, runReply, inputMost, Response, lineResponse, answered, responseOf, response}
 
 -- what was written over a list lies within it
 pub over-long : (new old : List ℕ) → length new ≤ length (writtenOver new old)
@@ -56,20 +56,16 @@ after-fits :
 after-fits style [] sources t r routes = write-fits style sources (take (r .used) (r .log)) routes
 after-fits style (k ∷ ks) sources t r routes = zero-le
 
-run-of-fits : (style : Style) (p : Part Job) (l : Lent) → runOf style p l .bytes ≤ length (runOf style p l .lent .routes)
+read-fits :
+    (style : Style) (j : Job) (refusal : List ℕ) (t : Tables) (l : Lent)
+    → afterRead style j refusal t l .bytes ≤ length (afterRead style j refusal t l .lent .routes)
 unfolding routeRun
+read-fits style j [] t l = after-fits style (routeReply j (l .work) (l .log) .refusal) (j .sources) t (routeReply j (l .work) (l .log)) (l .routes)
+read-fits style j (k ∷ ks) t l = zero-le
+
+run-of-fits : (style : Style) (p : Part Job) (l : Lent) → runOf style p l .bytes ≤ length (runOf style p l .lent .routes)
 run-of-fits style (stopped k at) l = zero-le
-run-of-fits style (part j at rest) l =
-    ⊎-elim
-    (λ (e : leb 1 (shortTable j (l .tables)) ≡ true). rw e zero-le)
-    (λ (e : leb 1 (shortTable j (l .tables)) ≡ false).
-    ⊎-elim
-    (λ (x : exceeds (nodes j) (j .terms) ≡ true). rw (e, x) zero-le)
-    (λ (x : exceeds (nodes j) (j .terms) ≡ false).
-    rw (e, x)
-    (after-fits style (routeReply j (l .work) (l .log) .refusal) (j .sources) (tablesWith j (l .tables)) (routeReply j (l .work) (l .log)) (l .routes)))
-    (either-way (exceeds (nodes j) (j .terms))))
-    (either-way (leb 1 (shortTable j (l .tables))))
+run-of-fits style (part j at rest) l = read-fits style j (storedReply j (l .tables) .refusal) (storedReply j (l .tables) .tables) l
 
 -- the line of a refusal, printed
 abbrev lineShown : List ℕ → Lent → Response

@@ -38,7 +38,7 @@ use Rattle.text.specs.Accepted.{AllowedText, AcceptedText}
 use Rattle.text.specs.Routes.{WriteReply}
 use Rattle.text.specs.Dot.{styleReply}
 use Rattle.text.specs.declared.Style.{Style}
-use Rattle.flow.specs.RunReplies.{Lent, lentOf, RunReply, runReplyWith, afterWrite, afterRoute, routeRun, runOf, runReply, writtenReplyOf, runReplyOf, inputMost, responseOf, lineResponse, answered, response}
+use Rattle.flow.specs.RunReplies.{Lent, lentOf, RunReply, runReplyWith, afterWrite, afterRoute, routeRun, afterRead, runOf, runReply, writtenReplyOf, runReplyOf, inputMost, responseOf, lineResponse, answered, response}
 use Rattle.flow.specs.Steps.{answerLine}
 use Rattle.flow.specs.declared.RunAnswer.{RunAnswer}
 use Rattle.flow.specs.declared.RunAnswer.the-variants as ra
@@ -116,25 +116,10 @@ module _ (j : Job) (work log : List ℕ) (r : RouteAnswer) (work′ log′ : Lis
 refused-of :
     (style : Style) (p : Part Job) (k : ℕ) (ks : List ℕ) (t t′ : Tables) (work log routes : List ℕ) → notRead (k ∷ ks) t′ ≡ replyTo p t
     → runReplyWith (k ∷ ks) 0 (lentOf t′ work log routes) ≡ runOf style p (lentOf t work log routes)
-unfolding storedReply
 refused-of style (stopped n at) k ks t t′ work log routes e =
     ap (λ (x : ReadReply). runReplyWith (x .refusal) 0 (lentOf (x .tables) work log routes)) e
 refused-of style (part j at rest) k ks t t′ work log routes e =
-    ⊎-elim
-    (λ (h : leb 1 (shortTable j t) ≡ true).
-    let short : notRead (k ∷ ks) t′ ≡ notRead (4 ∷ shortTable j t ∷ []) t = rw h at e in
-    rw h (ap (λ (x : ReadReply). runReplyWith (x .refusal) 0 (lentOf (x .tables) work log routes)) short))
-    (λ (h : leb 1 (shortTable j t) ≡ false).
-    ⊎-elim
-    (λ (x : exceeds (nodes j) (j .terms) ≡ true).
-    let large : notRead (k ∷ ks) t′ ≡ notRead (15 ∷ nodes j ∷ j .terms .limit ∷ []) t = rw (h, x) at e in
-    rw (h, x) (ap (λ (y : ReadReply). runReplyWith (y .refusal) 0 (lentOf (y .tables) work log routes)) large))
-    (λ (x : exceeds (nodes j) (j .terms) ≡ false).
-    let none : (k ∷ ks) ≡ [] = ap (λ (y : ReadReply). y .refusal) (rw (h, x) at e) in
-    let z : _≡_ {A = ℕ} 0 1 = cc in
-    absurd (omega arith))
-    (either-way (exceeds (nodes j) (j .terms))))
-    (either-way (leb 1 (shortTable j t)))
+    subst (λ (x : ReadReply). runReplyWith (k ∷ ks) 0 (lentOf t′ work log routes) ≡ afterRead style j (x .refusal) (x .tables) (lentOf t work log routes)) e refl
 
 pub read-refused :
     (style : Style) (text : List ℕ) (k : ℕ) (ks : List ℕ) (t t′ : Tables) (work log routes : List ℕ) → notRead (k ∷ ks) t′ ≡ readReply text t
@@ -189,7 +174,7 @@ if-timed terms table n long none =
 job-taken :
     (style : Style) (text : List ℕ) (t : Tables) (j : Job) → AllowedText text j → shortTable j t ≡ 0
     → Taken style text (nodes j) (length (j .block .edgeTargets)) (nets j) (length (j .sinks)) (j .terms) t (tablesWith j t)
-unfolding tablesWith runReply
+unfolding tablesWith runReply storedReply
 job-taken style text t j allowed long =
     let s : SoundJob j = allowed .sound in
     let form : PrintedAs text j = allowed .printed in

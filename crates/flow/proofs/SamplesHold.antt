@@ -16,7 +16,7 @@ use Rattle.text.specs.LineReplies.{placed, lineReply}
 use Rattle.text.specs.JobText.{headWithin, headLine, tuningWithin, tuningLine, ruleFields, ruleWithin, ruleLine, timedLine, nodeWithin, nodeLine, rises, edgeWithin, edgeOrdered, edgeLine}
 use Rattle.text.specs.JobText.{pinWithin, sourceLine, sinkOrdered, sinkWithin, sinkLine, tuningPart, rulePart, timedPart, termsPart, headPart, nodeLines, edgeLines, sinksNow, sourceDue, sinkDue}
 use Rattle.text.specs.JobText.{complete, netEnd, nextSource, nextSink, netLine, netLines, firstPlaces, jobRead, readText}
-use Rattle.text.specs.ReadReplies.{lowestShort, shortTimes, shortUntimed, shortTable, writtenOver, tablesWith}
+use Rattle.text.specs.ReadReplies.{lowestShort, shortTimes, shortUntimed, shortTable, writtenOver, tablesWith, storedReply}
 use Rattle.text.specs.Routes.{pathSound, recordSound, soundUpTo, soundWords, logSound, netWritable, steps, lastIteration, passing, finalRecords, recordBranches, treeBranches, routeBranches, branchLine, joinsBefore, routeJoins, joinText, routesText, textReply, testedReply}
 use Rattle.flow.specs.RunReplies.{routeRun, runReply, response}
 use Rattle.flow.specs.Samples.{lined, linesB, shown, routed, limited, filled, texts, samples}
@@ -25,7 +25,7 @@ use Rattle.flow.specs.Samples.{lined, linesB, shown, routed, limited, fi
 computing : Unit {0}
 unfolding response lineReply placed runReply routeRun
     testedReply textReply routesText joinText routeJoins joinsBefore flatMap branchLine routeBranches treeBranches recordBranches finalRecords passing latest lastIteration steps netWritable leads firstOf logSound soundWords soundUpTo recordSound pathSound
-    tablesWith writtenOver shortTable shortTimes shortUntimed lowestShort readText jobRead firstPlaces netLines netLine nextSink nextSource netEnd complete sinkDue sourceDue sinksNow edgeLines nodeLines headPart termsPart timedPart rulePart tuningPart
+    storedReply tablesWith writtenOver shortTable shortTimes shortUntimed lowestShort readText jobRead firstPlaces netLines netLine nextSink nextSource netEnd complete sinkDue sourceDue sinksNow edgeLines nodeLines headPart termsPart timedPart rulePart tuningPart
     sinkLine sinkWithin sinkOrdered sourceLine pinWithin edgeLine edgeOrdered edgeWithin rises nodeLine nodeWithin timedLine ruleLine ruleWithin ruleFields tuningLine tuningWithin headLine headWithin
     printLine printFields line fields begins field digitsAfter decimal digits isDigit lined decode decodeUpTo
     n-hold.computing

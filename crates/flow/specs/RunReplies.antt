@@ -3,16 +3,15 @@
 -- Assumes nothing.
 use mathlib.Core.List.{List, [], _∷_}
 use Prim.Native.Nat.{ℕ}
-use lib.Dec.{leb, ltb}
+use lib.Dec.{ltb}
 use lib.ListN.{length, take}
 use Rattle.price.specs.Test.{choose}
-use Rattle.job.specs.Job.{Job, nodes}
-use Rattle.job.specs.Tables.{exceeds}
+use Rattle.job.specs.Job.{Job}
 use Rattle.negotiation.specs.Outcome.{RouteReply, routeReply}
 use Rattle.text.specs.Lines.{letterX}
 use Rattle.text.specs.LineReplies.{PlaceReply, lineReply}
 use Rattle.text.specs.JobText.{Part, part, stopped, readText}
-use Rattle.text.specs.ReadReplies.{Tables, shortTable, tablesWith}
+use Rattle.text.specs.ReadReplies.{Tables, storedReply}
 use Rattle.text.specs.Routes.{WriteReply}
 use Rattle.text.specs.Dot.{styleReply}
 use Rattle.text.specs.declared.Style.{Style}
@@ -50,13 +49,15 @@ afterRoute style (k ∷ ks) sources t r routes = runReplyWith (k ∷ ks) 0 (lent
 unfoldable pub routeRun : Style → Job → Tables → List ℕ → List ℕ → List ℕ → RunReply
 routeRun style j t work log routes = afterRoute style (routeReply j work log .refusal) (j .sources) t (routeReply j work log) routes
 
+-- a job is routed where the reader refuses nothing; the tables are as the reader left them, and all else as it was
+abbrev pub afterRead : Style → Job → List ℕ → Tables → Lent → RunReply
+afterRead style j [] t l = routeRun style j t (l .work) (l .log) (l .routes)
+afterRead style j (k ∷ ks) t l = runReplyWith (k ∷ ks) 0 (lentOf t (l .work) (l .log) (l .routes))
+
 -- a text that is refused leaves all that was lent as it was
 abbrev pub runOf : Style → Part Job → Lent → RunReply
 runOf style (stopped k at) l = runReplyWith (k ∷ at ∷ []) 0 l
-runOf style (part j at rest) l =
-    choose (leb 1 (shortTable j (l .tables))) (runReplyWith (4 ∷ shortTable j (l .tables) ∷ []) 0 l)
-    (choose (exceeds (nodes j) (j .terms)) (runReplyWith (15 ∷ nodes j ∷ j .terms .limit ∷ []) 0 l)
-    (routeRun style j (tablesWith j (l .tables)) (l .work) (l .log) (l .routes)))
+runOf style (part j at rest) l = afterRead style j (storedReply j (l .tables) .refusal) (storedReply j (l .tables) .tables) l
 
 -- "routing of a directed graph by negotiated congestion, the job text before it and the routes text after it": what a run over any job text
 -- answers and leaves
