@@ -95,9 +95,9 @@ module _ {b : Block} {sinks delays criticalities : List ℕ} {timed : Bool} {fro
   listed-below : (x : ℕ) → has x (slice from to sinks) ≡ true → x < block.nodes b
   listed-below x h =
       let place = has-place x (slice from to sinks) h in
-      let inside : place .0 < to - from = rw (length-slice from to sinks (ready .aims .within)) at (place .1) in
+      let inside : place .0 < to - from = rw (length-slice from to sinks (ready .choosable .within)) at (place .1) in
       let is : getD (slice from to sinks) (place .0) 0 ≡ getD sinks (from + place .0) 0 = part-at from to sinks (place .0) (omega arith) in
-      let low : getD sinks (from + place .0) 0 < length marks = ready .aims .nodes (from + place .0) (omega arith) (omega arith) in
+      let low : getD sinks (from + place .0) 0 < length marks = ready .choosable .nodes (from + place .0) (omega arith) (omega arith) in
       let long = ready .tested .marks-long in
       let same : x ≡ getD sinks (from + place .0) 0 = sym (place .2) ∙ is in
       omega arith
@@ -195,7 +195,7 @@ module _ {j : Job} {i : ℕ} {delays criticalities : List ℕ} {timed : Bool} {f
         try-ready within =
             let long : length marks ≡ nodes j = ap length marked ∙ marks-length j tree in
             record {
-              aims = rw (tables .timed-is, tables .from-is, tables .to-is) (keep.tried-ready j sound i hi lent marks long);
+              choosable = rw (tables .timed-is, tables .from-is, tables .to-is) (keep.tried-ready j sound i hi lent marks long);
               tested =
                   rw weighting-is
                   (record {

@@ -57,7 +57,7 @@ goalsOf n xs = upTo (λ v. choose (has v xs) 1 0) n
 -- it can be followed: its sinks can be chosen, and its record be tested at their prices
 pub record TryReady (b : Block) (sinks delays criticalities : List ℕ) (timed : Bool) (from to : ℕ) (t : Tariff)
     (history users marks log : List ℕ) : Type 0 where
-  pub aims : SinksReady timed sinks criticalities from to marks
+  pub choosable : SinksReady timed sinks criticalities from to marks
   pub tested :
       RecordReady b (congestionHere sinks delays criticalities timed from to marks t history users)
       (goalsOf (block.nodes b) (triedHere sinks delays criticalities timed from to marks)) marks log (t .words)
