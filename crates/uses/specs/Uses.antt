@@ -58,7 +58,7 @@ nodesOf b k = overKind (b .kinds) (λ v. 1) k
 
 -- ---- counts
 
--- "UseCounts are handed in and back": the uses of each kind so far, and how many logs they are of
+-- "Counts are handed in and back": the uses of each kind so far, and how many logs they are of
 pub record UseCounts : Type 0 where
   pub uses : List ℕ
   pub logs : ℕ
