@@ -9,7 +9,7 @@
 --     AddLaws           the uses of a log, and what is answered to it
 --     AnswerLaws        what the two calls answer
 -- Theorems that CLAIMS cites
---     UsesHold          the uses of a log and of a run sum to the size of the final trees; counts never pass 13's bounds; the order of logs is free
+--     UsesHold          the uses of a log and of a run sum to the size of the final trees; counts never pass 13's bounds; the order of logs is free; runs add up
 --     SamplesHold       job B with two logs, computed
 -- Assumes nothing.
 pub mod SumLaws

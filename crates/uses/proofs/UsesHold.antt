@@ -1,21 +1,21 @@
 -- Theorems of request 2.11: the uses of a log, and those after a run of calls, sum to the size of the final trees; counts that pass 13 pass it
--- after any log; and the order of accepted logs makes no difference.
+-- after any log; the order of accepted logs makes no difference; and the counts of two runs add up to those of one run over both.
 -- Assumes nothing.
 use mathlib.Core.Bool.{true, false, not}
-use mathlib.Core.List.{List, [], _∷_}
+use mathlib.Core.List.{List, [], _∷_, _++_}
 use mathlib.Core.Logic.{_⊎_, ⊎-elim, inl, inr}
-use mathlib.Core.Path.{_≡_, refl, sym, _∙_, ap, subst}
+use mathlib.Core.Path.{_≡_, refl, sym, _∙_, ap, ap₂, subst}
 use Prim.Native.Nat.{ℕ, _+_, _*_, _≤_, _<_}
-use native.Mathlib.Nat.{zero-add, add-zero, add-assoc, add-mul, le-trans, min-le-left}
+use native.Mathlib.Nat.{zero-add, add-zero, add-assoc, add-mul, mul-add, le-trans, min-le-left}
 use native.Mathlib.Omega.{arith}
 use lib.Dec.{eqb, leb, ltb}
-use lib.ListN.{length, getD}
+use lib.ListN.{length, getD, length-replicate}
 use borrow.Author.Tests.{le-leb, lt-leb, leb-true, leb-false, le-ltb, ltb-true, ltb-false}
 use Rattle.price.specs.Test.{choose}
 use Rattle.price.specs.Bounds.{nodesMost}
 use Rattle.price.specs.Lists.{has, upTo, firstBelow, countBelow}
 use Rattle.price.proofs.TestLaws.{either-way}
-use Rattle.price.proofs.ListLaws.{getD-upTo, length-upTo}
+use Rattle.price.proofs.ListLaws.{getD-upTo, length-upTo, up-to-is}
 use Rattle.price.proofs.BelowLaws.{firstBelow-below, firstBelow-all, count-most}
 use Rattle.search.specs.Block.{Block, nodes}
 use Rattle.search.specs.Tables.{faultyTable}
@@ -26,7 +26,7 @@ use Rattle.negotiation.specs.Demand.{treeRead}
 use Rattle.text.specs.Routes.{logSound}
 use Rattle.text.specs.Users.{netsWith}
 use Rattle.uses.specs.Uses.{kindCount, logsMost, sumBelow, overKind, usesIn, nodesOf, UseCounts, useCountsOf, tooMany, countsRefusal, withLog, ofBlock, AddReply, addReplyWith, testedReply, addReply}
-use Rattle.uses.specs.Runs.{treeSize, UsesSum, allUses, treesSize, UsesGrow, TreesWithin, noCounts, afterCalls, treesAdded, UsesTotal, Accepted, same, swap, under, through, OrderFree, StaysWithin, NeverOver}
+use Rattle.uses.specs.Runs.{treeSize, UsesSum, allUses, treesSize, UsesGrow, TreesWithin, noCounts, afterCalls, treesAdded, UsesTotal, Accepted, same, swap, under, through, OrderFree, together, PartsAddUp, StaysWithin, NeverOver}
 use Rattle.uses.proofs.TreeLaws.{tree-named}
 use Rattle.uses.proofs.SumLaws.{zeros-at, upTo-same, sum-same, sum-plus, sum-turned, count-sum, sum-one, kind-sum-most}
 
@@ -183,10 +183,11 @@ unfolding afterCalls
 run-within b [] c passes = passes
 run-within b (log ∷ logs) c passes = run-within b logs (addReply b c log .counts) (stays-within b c log passes)
 
+none-fine : (b : Block) → faultyTable b ≡ 0 → Fine b noCounts
+none-fine b sound = record { sound = sound; few = omega arith; within = λ k l. rw (zeros-at kindCount k) (omega arith) }
+
 pub never-over : (b : Block) → NeverOver b
-never-over b logs sound =
-    run-within b logs noCounts
-    (fine-passes b noCounts (record { sound = sound; few = omega arith; within = λ k l. rw (zeros-at kindCount k) (omega arith) }))
+never-over b logs sound = run-within b logs noCounts (fine-passes b noCounts (none-fine b sound))
 
 -- each log that is added adds the size of its final trees
 pub uses-grow : (b : Block) → UsesGrow b
@@ -299,3 +300,124 @@ module _ (b : Block) where
       let first = order-free c xs us r a in
       let then = order-free c us ys s (first .0) in
       (then .0, first .1 ∙ then .1)
+
+-- ---- a run in parts
+
+module _ (b : Block) where
+  module _ (c d : UseCounts) where
+    together-at : (k : ℕ) → k < kindCount → getD (together c d .uses) k 0 ≡ getD (c .uses) k 0 + getD (d .uses) k 0
+    unfolding together
+    together-at k l = getD-upTo (λ k. getD (c .uses) k 0 + getD (d .uses) k 0) kindCount k 0 l
+
+    together-logs : together c d .logs ≡ c .logs + d .logs
+    unfolding together
+    together-logs = refl
+
+    both-within : (m n x y z : ℕ) → x ≤ 512 * m * z → y ≤ 512 * n * z → x + y ≤ 512 * (m + n) * z
+    both-within m n x y z p q =
+        let parts : (512 * m + 512 * n) * z ≡ 512 * m * z + 512 * n * z = add-mul (512 * m) (512 * n) z in
+        let e : 512 * (m + n) ≡ 512 * m + 512 * n = mul-add 512 m n in
+        rw e (omega arith)
+
+    fine-together : Fine b c → Fine b d → c .logs + d .logs ≤ logsMost → Fine b (together c d)
+    fine-together f g l =
+        record {
+          sound = f .sound;
+          few = rw together-logs l;
+          within = λ k h. rw (together-at k h, together-logs) (both-within (c .logs) (d .logs) (getD (c .uses) k 0) (getD (d .uses) k 0) (nodesOf b k) (f .within k h) (g .within k h));
+        }
+
+    -- one log more in the second run is one more in both together
+    together-more : (rs : List Record) → withLog b (together c d) rs ≡ together c (withLog b d rs)
+    unfolding withLog together
+    together-more rs =
+        ap₂ useCountsOf
+        (upTo-same
+        (λ k. getD (upTo (λ m. getD (c .uses) m 0 + getD (d .uses) m 0) kindCount) k 0 + usesIn b rs k)
+        (λ k. getD (c .uses) k 0 + getD (upTo (λ m. getD (d .uses) m 0 + usesIn b rs m) kindCount) k 0)
+        kindCount
+        (λ k l. omega (arith, getD-upTo (λ m. getD (c .uses) m 0 + getD (d .uses) m 0) kindCount k 0 l, getD-upTo (λ m. getD (d .uses) m 0 + usesIn b rs m) kindCount k 0 l)))
+        (add-assoc (c .logs) (d .logs) 1)
+
+  -- a log that is added counts
+  logs-added : (d : UseCounts) (log : List ℕ) → Adds b d log → addReply b d log .counts .logs ≡ d .logs + 1
+  logs-added d log h = ap (λ (x : UseCounts). x .logs) (added b d log h) ∙ with-logs b (decode log) d
+
+  -- a run never has fewer logs than it began with
+  logs-grow : (logs : List (List ℕ)) (d : UseCounts) → d .logs ≤ afterCalls b d logs .logs
+  unfolding afterCalls
+  logs-grow [] d = omega arith
+  logs-grow (log ∷ logs) d =
+      let rest = logs-grow logs (addReply b d log .counts) in
+      ⊎-elim
+      (λ (h : Adds b d log). let e = logs-added d log h in omega arith)
+      (λ h. let e : addReply b d log .counts .logs ≡ d .logs = ap (λ (x : UseCounts). x .logs) (h .0) in omega arith)
+      (reply-cases b d log)
+
+  module _ (c : UseCounts) (c-fine : faultyTable b ≡ 0 → Fine b c) where
+    -- a log is added to both together where it is added to the second, which then has room for it
+    call-together :
+        (d : UseCounts) (log : List ℕ) → (faultyTable b ≡ 0 → Fine b d) → c .logs + addReply b d log .counts .logs ≤ logsMost
+        → addReply b (together c d) log .counts ≡ together c (addReply b d log .counts)
+    call-together d log d-fine few =
+        ⊎-elim
+        (λ (h : Adds b d log).
+        let more = logs-added d log h in
+        let adds : Adds b (together c d) log =
+        record {
+          fine = fine-together c d (c-fine (h .fine .sound)) (h .fine) (omega arith);
+          log-sound = h .log-sound;
+          room = rw (together-logs c d) (omega arith);
+        } in
+        added b (together c d) log adds ∙ together-more c d (decode log) ∙ ap (together c) (sym (added b d log h)))
+        (λ stays.
+        ⊎-elim
+        (λ (h : Adds b (together c d) log).
+        let room : c .logs + d .logs < logsMost = rw (together-logs c d) at (h .room) in
+        let adds : Adds b d log = record { fine = d-fine (h .fine .sound); log-sound = h .log-sound; room = omega arith } in
+        absurd (stays .1 (ap (λ (r : AddReply). r .refusal) (adds-reply b d log adds))))
+        (λ same. same .0 ∙ ap (together c) (sym (stays .0)))
+        (reply-cases b (together c d) log))
+        (reply-cases b d log)
+
+    fine-after : (d : UseCounts) (log : List ℕ) → (faultyTable b ≡ 0 → Fine b d) → faultyTable b ≡ 0 → Fine b (addReply b d log .counts)
+    fine-after d log fine sound = passes-fine b (addReply b d log .counts) (stays-within b d log (fine-passes b d (fine sound)))
+
+    run-together :
+        (logs : List (List ℕ)) (d : UseCounts) → (faultyTable b ≡ 0 → Fine b d) → c .logs + afterCalls b d logs .logs ≤ logsMost
+        → afterCalls b (together c d) logs ≡ together c (afterCalls b d logs)
+    unfolding afterCalls
+    run-together [] d fine few = refl
+    run-together (log ∷ logs) d fine few =
+        let grown = logs-grow logs (addReply b d log .counts) in
+        ap (λ (x : UseCounts). afterCalls b x logs) (call-together d log fine (omega arith))
+        ∙ run-together logs (addReply b d log .counts) (fine-after d log fine) few
+
+  run-append : (xs ys : List (List ℕ)) (d : UseCounts) → afterCalls b d (xs ++ ys) ≡ afterCalls b (afterCalls b d xs) ys
+  unfolding afterCalls
+  run-append [] ys d = refl
+  run-append (x ∷ xs) ys d = run-append xs ys (addReply b d x .counts)
+
+  run-long : (logs : List (List ℕ)) (d : UseCounts) → length (d .uses) ≡ kindCount → length (afterCalls b d logs .uses) ≡ kindCount
+  unfolding afterCalls
+  run-long [] d long = long
+  run-long (log ∷ logs) d long = run-long logs (addReply b d log .counts) (counts-long b d log long)
+
+  together-none : (c : UseCounts) → length (c .uses) ≡ kindCount → together c noCounts ≡ c
+  unfolding together
+  together-none c long =
+      ap₂ useCountsOf
+      (sym (up-to-is (λ k. getD (c .uses) k 0 + getD (noCounts .uses) k 0) kindCount (c .uses) long (λ k l. rw (zeros-at kindCount k) (sym (add-zero (getD (c .uses) k 0))))))
+      (add-zero (c .logs))
+
+  run-fine : (logs : List (List ℕ)) → faultyTable b ≡ 0 → Fine b (afterCalls b noCounts logs)
+  run-fine logs sound = passes-fine b (afterCalls b noCounts logs) (never-over b logs sound)
+
+  pub parts-add-up : PartsAddUp b
+  parts-add-up xs ys few =
+      let first : UseCounts = afterCalls b noCounts xs in
+      let long : length (first .uses) ≡ kindCount = run-long xs noCounts (length-replicate {A = ℕ} kindCount 0) in
+      sym
+      (run-append xs ys noCounts
+      ∙ ap (λ (x : UseCounts). afterCalls b x ys) (sym (together-none first long))
+      ∙ run-together first (run-fine xs) ys noCounts (none-fine b) few)

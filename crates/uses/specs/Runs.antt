@@ -1,19 +1,19 @@
 -- Request 2.11: what is proved of the uses, the counts and a run of calls that add logs.
 -- Assumes nothing.
 use mathlib.Core.Bool.{true}
-use mathlib.Core.List.{List, [], _∷_}
+use mathlib.Core.List.{List, [], _∷_, _++_}
 use mathlib.Core.Path.{_≡_}
-use Prim.Native.Nat.{ℕ, _+_, _<_}
+use Prim.Native.Nat.{ℕ, _+_, _≤_, _<_}
 use lib.Dec.{leb}
 use lib.ListN.{length, getD, replicate}
 use Rattle.price.specs.Test.{choose}
-use Rattle.price.specs.Lists.{has, countBelow}
+use Rattle.price.specs.Lists.{has, upTo, countBelow}
 use Rattle.search.specs.Block.{Block, nodes}
 use Rattle.search.specs.Tables.{faultyTable}
 use Rattle.job.specs.Tables.{netsMost}
 use Rattle.negotiation.specs.Records.{Record, decode}
 use Rattle.negotiation.specs.Demand.{treeRead}
-use Rattle.uses.specs.Uses.{kindCount, sumBelow, usesIn, UseCounts, useCountsOf, countsRefusal, addReply}
+use Rattle.uses.specs.Uses.{kindCount, logsMost, sumBelow, usesIn, UseCounts, useCountsOf, countsRefusal, addReply}
 
 -- how many nodes the final tree of net i has
 unfoldable pub treeSize : Block → List Record → ℕ → ℕ
@@ -78,6 +78,17 @@ pub data Reordered : List (List ℕ) → List (List ℕ) → Type 0 where
 abbrev pub OrderFree : Block → Type 0
 OrderFree b =
     (c : UseCounts) (xs ys : List (List ℕ)) → Reordered xs ys → Accepted b c xs → Accepted b c ys × (afterCalls b c xs ≡ afterCalls b c ys)
+
+-- the counts of two runs, added entry by entry, and their logs with them
+unfoldable pub together : UseCounts → UseCounts → UseCounts
+together c d = useCountsOf (upTo (λ k. getD (c .uses) k 0 + getD (d .uses) k 0) kindCount) (c .logs + d .logs)
+
+-- a run may be made in parts: two runs that begin with 0 leave, together, what one run over the logs of both leaves, as long as they have
+-- no more logs than counts may be of. Logs that are refused may be among them
+abbrev pub PartsAddUp : Block → Type 0
+PartsAddUp b =
+    (xs ys : List (List ℕ)) → afterCalls b noCounts xs .logs + afterCalls b noCounts ys .logs ≤ logsMost
+    → together (afterCalls b noCounts xs) (afterCalls b noCounts ys) ≡ afterCalls b noCounts (xs ++ ys)
 
 -- counts that pass 5 and 13 pass them after any log, added or refused
 abbrev pub StaysWithin : Block → Type 0
