@@ -57,7 +57,8 @@
  *   out[ARVUMNAO_REFUSAL_2]   its second, else 0
  *   the rest                  the call's own numbers, at the places defined with the call, and 0
  * A refused call's own numbers are 0, but for those of the four calls that route or resume after ARVUMNAO_LOG_FULL and
- * ARVUMNAO_LIMIT_REACHED. A refused call leaves every other slice as it was, but where its comment says more.
+ * ARVUMNAO_LIMIT_REACHED, and that of arvumnao_uses_add. A refused call leaves every other slice as it was, but where its comment
+ * says more.
  *
  * TABLES. A job is seven tables, and terms that count as an eighth; a timed job has two tables more. Nodes and nets are numbered
  * from 0: a node has an entry in table 1, a net in table 5.
@@ -375,12 +376,13 @@ uint32_t arvumnao_dot(const uint16_t *source, size_t source_count, const uint32_
 /* Adds the log of a job to counts of how much the nodes of one block are used, kind by kind, over many jobs. A kind's uses are the
  * sum, over all logs added and all nodes of the kind, of the nets whose final tree has the node: a node on two paths of a net
  * counts once. A net's final tree is the nodes of its records of the latest iteration in which it has any. The order
- * in which logs are added makes no difference, and the uses of a log sum to the sizes of its final trees.
+ * in which logs are added makes no difference, and the uses of a log sum to the sizes of its final trees. Parts that were counted
+ * apart, each from 0, may be added entry by entry, and their numbers of logs too.
  *
  * counts    ARVUMNAO_COUNTS entries, the uses of each kind, at first all 0; those past them stay. If there are fewer the call
  *           does nothing and returns 0, as with a short `out`.
- * logs      how many logs the counts are of, at first 0. An accepted log makes it one more, and that is told for the next
- *           call. After a refusal, which tells 0, go on with the number handed in.
+ * logs      how many logs the counts are of, at first 0. The number for the next call is told: one more after an accepted log,
+ *           the number handed in after a refusal.
  * log       the words used of it. Its records must be sound as for arvumnao_write, but may be of any net below 512, and have
  *           no node that the block lacks. Which job it is of, and whether that job was accepted, is not asked.
  * Refusals, tested in this order: ARVUMNAO_BAD_TABLE (1 to 4); ARVUMNAO_BAD_NUMBER with 54 for more than ARVUMNAO_LOGS_MOST logs, else with

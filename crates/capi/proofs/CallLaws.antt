@@ -22,12 +22,11 @@ use Rattle.negotiation.specs.declared.RouteAnswer.{RouteAnswer}
 use Rattle.text.specs.ReadReplies.{Tables, readRefusal, readNumbers, readReplyOf, readReply}
 use Rattle.text.specs.Routes.{WriteReply}
 use Rattle.text.specs.declared.ReadAnswer.{ReadAnswer}
-use Rattle.uses.specs.Uses.{kindCount, useCountsOf, AddReply, addRefusal, addReplyOf, addReply, printReply}
+use Rattle.uses.specs.Uses.{kindCount, useCountsOf, AddReply, addRefusal, logsAfter, addReplyOf, addReply, printReply}
 use Rattle.uses.specs.declared.AddAnswer.{AddAnswer}
-use Rattle.uses.specs.declared.AddAnswer.the-variants as a
 use Rattle.uses.proofs.UsesHold.{counts-long}
 use Rattle.capi.specs.Calls.{outEntries, Call, callOf, outWith, pricedCall, searchDone, searchedCall, RouteCall, routeDone, routedCall, countedCall, readDone, readCall, WriteCall, writeDone, writtenCall}
-use Rattle.capi.specs.Calls.{addDone, logsAdded, logsReturned, addCall, usesCall}
+use Rattle.capi.specs.Calls.{addDone, addCall, usesCall}
 
 -- ---- numbers in `out`: stores over entries of 0
 
@@ -169,13 +168,6 @@ module _ (counts : List ℕ) {all : List ℕ} (copied : all ≡ take kindCount c
           ap (drop kindCount) back ∙ drop-at after (drop kindCount counts) kindCount size,
         )
 
-logs-returned : (logs : ℕ) (r : AddAnswer) (uses : List ℕ) → logsAdded r ≡ logsReturned (addReplyOf logs r uses)
-logs-returned logs (a.Added n) uses = refl
-logs-returned logs (a.BadTable table) uses = refl
-logs-returned logs (a.BadCount kind) uses = refl
-logs-returned logs (a.Unsound word) uses = refl
-logs-returned logs (a.LogsFull most) uses = refl
-
 module _ (b : Block) (counts : List ℕ) (logs : ℕ) (log out : List ℕ) where
   pub add-few : length counts < kindCount → addDone (callOf 0 out) counts ≡ addCall b counts logs log out
   unfolding addCall
@@ -189,12 +181,12 @@ module _ (b : Block) (counts : List ℕ) (logs : ℕ) (log out : List ℕ) where
     pub add-called :
         (left : List ℕ) (call : Call) (r : AddAnswer) → outEntries ≤ length out
         → (addReplyOf logs r (take kindCount left) ≡ addReply b (useCountsOf (take kindCount counts) logs) log) × (drop kindCount left ≡ drop kindCount counts)
-        → call ≡ callOf 1 (outWith (addRefusal r) (logsAdded r ∷ []) out) → addDone call left ≡ addCall b counts logs log out
+        → call ≡ callOf 1 (outWith (addRefusal r) (logsAfter logs r ∷ []) out) → addDone call left ≡ addCall b counts logs log out
     unfolding addCall
     add-called left call r h (answers, stays) put =
         let whole : take kindCount left ++ drop kindCount counts ≡ left =
         ap (λ (xs : List ℕ). take kindCount left ++ xs) (sym stays) ∙ take-append-drop kindCount left in
-        rw (le-ltb (length counts) kindCount long, le-ltb (length out) outEntries h, ← answers, whole, put, logs-returned logs r (take kindCount left))
+        rw (le-ltb (length counts) kindCount long, le-ltb (length out) outEntries h, ← answers, whole, put)
 
 module _ (b : Block) (counts : List ℕ) (logs : ℕ) (buffer out : List ℕ) where
   pub uses-few : length counts < kindCount → writeDone (callOf 0 out) buffer ≡ usesCall b counts logs buffer out

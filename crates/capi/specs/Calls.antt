@@ -23,8 +23,6 @@ use Rattle.text.specs.ReadReplies.{Tables, ReadReply, readReply}
 use Rattle.text.specs.Routes.{WriteReply, writeReply}
 use Rattle.text.specs.Dot.{dotReply}
 use Rattle.uses.specs.Uses.{kindCount, useCountsOf, AddReply, addReply, printReply}
-use Rattle.uses.specs.declared.AddAnswer.{AddAnswer}
-use Rattle.uses.specs.declared.AddAnswer.the-variants as a
 
 -- so many entries: those of the list, then 0
 abbrev pub padded : ℕ → List ℕ → List ℕ
@@ -177,7 +175,7 @@ dotCall sources log buffer out = writtenCall (dotReply sources log buffer) buffe
 
 -- Nor does one do anything whose `counts` have fewer than 54 entries. Those past 54 aren't read and stay.
 
--- uses_add: 3 logs, with `counts` afterwards; as with every own number, 0 after a refusal
+-- uses_add: 3 logs, with `counts` afterwards; after a refusal both are those handed in
 pub record AddCall : Type 0 where
   pub call : Call
   pub counts : List ℕ
@@ -185,18 +183,8 @@ pub record AddCall : Type 0 where
 abbrev pub addDone : Call → List ℕ → AddCall
 addDone call counts = record { call = call; counts = counts }
 
-abbrev pub logsAdded : AddAnswer → ℕ
-logsAdded (a.Added logs) = logs
-logsAdded (a.BadTable table) = 0
-logsAdded (a.BadCount kind) = 0
-logsAdded (a.Unsound word) = 0
-logsAdded (a.LogsFull most) = 0
-
-abbrev pub logsReturned : AddReply → ℕ
-logsReturned r = choose (leb 1 (length (r .refusal))) 0 (r .counts .logs)
-
 abbrev pub addCallWith : AddReply → List ℕ → List ℕ → AddCall
-addCallWith r counts out = addDone (callOf 1 (outWith (r .refusal) (logsReturned r ∷ []) out)) (r .counts .uses ++ drop kindCount counts)
+addCallWith r counts out = addDone (callOf 1 (outWith (r .refusal) (r .counts .logs ∷ []) out)) (r .counts .uses ++ drop kindCount counts)
 
 unfoldable pub addCall : Block → List ℕ → ℕ → List ℕ → List ℕ → AddCall
 addCall b counts logs log out =

@@ -549,7 +549,7 @@ pub extern "C" fn arvumnao_uses_add(
         return 0;
     }
     let answer = counts::add_log(kind, capacity, first_edge, edge_target, counts, logs, log);
-    out::put_added(answer, out)
+    out::put_added(answer, logs, out)
 }
 
 // Writes the text of counts of uses.

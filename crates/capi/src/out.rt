@@ -9,8 +9,8 @@ ghost use Rattle.search.specs.Replies.{searchRefusal};
 ghost use Rattle.negotiation.specs.Outcome.{routeRefusal};
 ghost use Rattle.text.specs.ReadReplies.{termsNumbers, readRefusal, readNumbers};
 ghost use Rattle.text.specs.Routes.{writeRefusal, writtenBytes};
-ghost use Rattle.uses.specs.Uses.{addRefusal, printRefusal, printedBytes};
-ghost use Rattle.capi.specs.Calls.{outEntries, callOf, outWith, logsAdded};
+ghost use Rattle.uses.specs.Uses.{addRefusal, logsAfter, printRefusal, printedBytes};
+ghost use Rattle.capi.specs.Calls.{outEntries, callOf, outWith};
 use job::Terms;
 use negotiation::Outcome;
 use negotiation::RouteAnswer;
@@ -198,19 +198,19 @@ pub fn put_written(answer: WriteAnswer, out: &mut [u64]) -> u32
     }
 }
 
-// Writes the numbers of an adding.
-pub fn put_added(answer: AddAnswer, out: &mut [u64]) -> u32
+// Writes the numbers of an adding to counts of so many logs.
+pub fn put_added(answer: AddAnswer, logs: u64, out: &mut [u64]) -> u32
     requires { ⌜ outEntries ≤ length (now out) ⌝ }
     ensures { λ r. do
-      let after = outWith (addRefusal answer) (logsAdded answer ∷ []) (now (out .entry))
+      let after = outWith (addRefusal answer) (logsAfter logs answer ∷ []) (now (out .entry))
       ⌜ callOf r (now (out .exit)) ≡ callOf 1 after ⌝ }
 {
     match answer {
-        AddAnswer::Added(logs) => put_numbers(out, 0, 0, 0, logs, 0, 0),
-        AddAnswer::BadTable(table) => put_numbers(out, 5, table as u64, 0, 0, 0, 0),
-        AddAnswer::BadCount(kind) => put_numbers(out, 13, kind as u64, 0, 0, 0, 0),
-        AddAnswer::Unsound(word) => put_numbers(out, 10, word as u64, 0, 0, 0, 0),
-        AddAnswer::LogsFull(most) => put_numbers(out, 16, most, 0, 0, 0, 0),
+        AddAnswer::Added(after) => put_numbers(out, 0, 0, 0, after, 0, 0),
+        AddAnswer::BadTable(table) => put_numbers(out, 5, table as u64, 0, logs, 0, 0),
+        AddAnswer::BadCount(kind) => put_numbers(out, 13, kind as u64, 0, logs, 0, 0),
+        AddAnswer::Unsound(word) => put_numbers(out, 10, word as u64, 0, logs, 0, 0),
+        AddAnswer::LogsFull(most) => put_numbers(out, 16, most, 0, logs, 0, 0),
     }
 }
 

@@ -215,7 +215,7 @@ call! {
 }
 
 call! {
-    /// Adds a log to counts of uses. Own number: the logs that they are of afterwards.
+    /// Adds a log to counts of uses. Own number: the logs that they are of afterwards, after a refusal those handed in.
     fn uses_add = arvumnao_uses_add(
         kind: &[u8],
         capacity: &[u8],

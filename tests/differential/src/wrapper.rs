@@ -85,8 +85,7 @@ fn same(before: &Case, after: &Case, refusal: &[u64], numbers: &[u64]) -> Option
         (Case::AddUses { graph, counts, logs, log }, Case::AddUses { counts: after, .. }) => {
             let mut uses = use_counts(counts, *logs);
             let added = uses.add(&typed(graph).block, log);
-            let logs = if refusal.is_empty() { numbers[0] } else { *logs };
-            told(added.map(|()| Vec::new())) == accepted(Vec::new()) && uses == use_counts(after, logs)
+            told(added.map(|()| Vec::new())) == accepted(Vec::new()) && uses == use_counts(after, numbers[0])
         }
         (Case::WriteUses { graph, counts, logs, .. }, Case::WriteUses { buffer, .. }) => {
             let text = use_counts(counts, *logs).text(&typed(graph).block);

@@ -29,24 +29,21 @@ fn uses(kind: &[u8], records: &[Record]) -> [u64; KINDS] {
     by_kind(kind, |node| trees.iter().filter(|tree| tree.contains(&(node as u32))).count() as u64)
 }
 
-/// What ends either call at once: counts that are too short, with which it does nothing; 5; 13 for so many logs; 13 for a kind
-/// with more uses than these logs can have.
-fn stopped(graph: &Graph, counts: &[u64], logs: u64) -> Option<Answer> {
-    if counts.len() < KINDS {
-        return Some(Answer::good(&[]));
-    }
+/// What either call refuses at once: 5; 13 for so many logs; 13 for a kind with more uses than these logs can have.
+fn stopped(graph: &Graph, counts: &[u64], logs: u64) -> Option<[u64; 2]> {
     if let Some(table) = graph.broken() {
-        return Some(Answer::refused(&[5, table], 1));
+        return Some([5, table]);
     }
     if logs > MAX_LOGS {
-        return Some(Answer::refused(&[13, KINDS as u64], 1));
+        return Some([13, KINDS as u64]);
     }
     let nodes = by_kind(graph.kind, |_| 1);
     let over = (0..KINDS).find(|&kind| counts[kind] > MAX_NETS as u64 * logs * nodes[kind]);
-    over.map(|kind| Answer::refused(&[13, kind as u64], 1))
+    over.map(|kind| [13, kind as u64])
 }
 
-/// Adds a log to counts, of which the first 54 entries count. Its number is that of the logs afterwards.
+/// Adds a log to counts, of which the first 54 entries count; with fewer it does nothing. Its number is that of the logs afterwards:
+/// after a refusal, as the counts are, the one handed in.
 pub fn uses_add(
     kind: &[u8],
     capacity: &[u8],
@@ -56,17 +53,21 @@ pub fn uses_add(
     logs: u64,
     log: &[u32],
 ) -> Answer {
+    if counts.len() < KINDS {
+        return Answer::good(&[]);
+    }
+    let refused = |refusal: [u64; 2]| Answer { refusal: refusal.to_vec(), numbers: vec![logs] };
     let graph = Graph { kind, capacity, first_edge, edge_target };
-    if let Some(answer) = stopped(&graph, counts, logs) {
-        return answer;
+    if let Some(refusal) = stopped(&graph, counts, logs) {
+        return refused(refusal);
     }
     let named = Named { net: |net| net < MAX_NETS, nodes: graph.nodes() };
     let records = match records(&named, log) {
         Ok(records) => records,
-        Err(word) => return Answer::refused(&[10, word], 1),
+        Err(word) => return refused([10, word]),
     };
     if logs == MAX_LOGS {
-        return Answer::refused(&[16, MAX_LOGS], 1);
+        return refused([16, MAX_LOGS]);
     }
     counts.iter_mut().zip(uses(kind, &records)).for_each(|(count, uses)| *count += uses);
     Answer::good(&[logs + 1])
@@ -82,9 +83,12 @@ pub fn uses_write(
     logs: u64,
     buffer: &mut [u8],
 ) -> Answer {
+    if counts.len() < KINDS {
+        return Answer::good(&[]);
+    }
     let graph = Graph { kind, capacity, first_edge, edge_target };
-    if let Some(answer) = stopped(&graph, counts, logs) {
-        return answer;
+    if let Some(refusal) = stopped(&graph, counts, logs) {
+        return Answer::refused(&refusal, 1);
     }
     let total = by_kind(kind, |node| capacity[node] as u64);
     let line = |kind: usize| format!("U,{kind},{},{}\n", counts[kind], total[kind] * logs);

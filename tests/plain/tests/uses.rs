@@ -42,7 +42,7 @@ impl Counts {
             self.logs += 1;
             assert_eq!(answer.numbers, [self.logs]);
         } else {
-            assert_eq!((&answer.numbers, &*self), (&vec![0], &before));
+            assert_eq!((&answer.numbers, &*self), (&vec![before.logs], &before));
         }
         assert_eq!(self.uses[KINDS], MARK as u64);
         answer.refusal
