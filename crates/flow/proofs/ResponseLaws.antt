@@ -3,11 +3,11 @@
 use mathlib.Core.Bool.{true, false}
 use mathlib.Core.List.{List, [], _∷_}
 use mathlib.Core.Logic.{⊎-elim}
-use mathlib.Core.Path.{_≡_}
+use mathlib.Core.Path.{_≡_, sym, ap, subst}
 use Prim.Native.Nat.{ℕ, _+_, _≤_, zero-le}
 use native.Mathlib.Omega.{arith}
 use lib.Dec.{leb, ltb}
-use lib.ListN.{length, take, drop, length-append}
+use lib.ListN.{length, take, drop, replicate, length-append}
 use borrow.Author.Tests.{leb-true}
 use Rattle.price.specs.Bounds.{nodesMost}
 use Rattle.price.proofs.TestLaws.{either-way}
@@ -16,14 +16,15 @@ use Rattle.negotiation.specs.Records.{decode}
 use Rattle.job.specs.Tables.{sourcesSound}
 use Rattle.negotiation.specs.Outcome.{RouteReply, routeReply}
 use Rattle.text.specs.Lines.{letterX, printLine}
-use Rattle.text.specs.LineReplies.{lineReply}
+use Rattle.text.specs.LineReplies.{PlaceReply, placeReplyOf, lineReply}
 use Rattle.text.specs.JobText.{Part, part, stopped, readText}
-use Rattle.text.specs.ReadReplies.{Tables, writtenOver, storedReply}
+use Rattle.text.specs.ReadReplies.{Tables, tablesOf, writtenOver, storedReply}
+use Rattle.text.specs.Sizes.{wordsLent, entriesLent, nodesLent, edgesLent, netsLent, sinksLent, tablesLent, workLent, logLent}
 use Rattle.text.specs.Routes.{logSound, writable, textReply, testedReply}
 use Rattle.text.specs.Dot.{textIn, styleReply}
 use Rattle.text.specs.declared.Style.{Style}
 use Rattle.text.proofs.PlacedLaws.{placed-length}
-use Rattle.flow.specs.RunReplies.{Lent, RunReply, afterRoute, routeRun, afterRead, runOf, runReply, inputMost, Response, lineResponse, answered, responseOf, response}
+use Rattle.flow.specs.RunReplies.{Lent, RunReply, afterRoute, routeRun, afterRead, runOf, runReply, inputMost, Response, lineResponse, answered, responseOf, response, lentOf, shownIn, programLent}
 
 -- what was written over a list lies within it
 pub over-long : (new old : List ℕ) → length new ≤ length (writtenOver new old)
@@ -95,6 +96,20 @@ response-fits style input l =
     rw e (answer-fits (runOf style (readText input) l .refusal) (runOf style (readText input) l) (run-of-fits style (readText input) l)))
     (either-way (ltb inputMost (length input)))
 
--- the same for an answer that is the response
-pub bytes-fit : (style : Style) (input : List ℕ) (l after : Lent) (bytes : ℕ) → responseOf bytes after ≡ response style input l → bytes ≤ length (after .routes)
-bytes-fit style input l after bytes e = rw (← e) at (response-fits style input l)
+-- what is shown with tables, work memory and log of 01's sizes, all 0
+pub shown-lent :
+    (style : Style) (input routes : List ℕ) (after : Lent) (bytes : ℕ)
+    → responseOf bytes after
+    ≡ response style input
+    (lentOf
+    (tablesOf (replicate nodesLent 0) (replicate nodesLent 0) (replicate (nodesLent + 1) 0) (replicate edgesLent 0) (replicate netsLent 0) (replicate (netsLent + 1) 0)
+    (replicate sinksLent 0) (replicate nodesLent 0) (replicate sinksLent 0))
+    (replicate entriesLent 0) (replicate wordsLent 0) routes)
+    → placeReplyOf bytes (after .routes) ≡ shownIn (response style input (programLent routes))
+unfolding tablesLent workLent logLent
+shown-lent style input routes after bytes e = ap shownIn e
+
+-- and printed: it lies within the buffer
+pub shown-fits :
+    (style : Style) (input : List ℕ) (l : Lent) (bytes : ℕ) (routes : List ℕ) → placeReplyOf bytes routes ≡ shownIn (response style input l) → bytes ≤ length routes
+shown-fits style input l bytes routes e = subst (λ (x : PlaceReply). x .next ≤ length (x .buffer)) (sym e) (response-fits style input l)

@@ -176,8 +176,8 @@ job-taken :
     → Taken style text (nodes j) (length (j .block .edgeTargets)) (nets j) (length (j .sinks)) (j .terms) t (tablesWith j t)
 unfolding tablesWith runReply storedReply
 job-taken style text t j allowed long =
-    let s : SoundJob j = allowed .sound in
-    let form : PrintedAs text j = allowed .printed in
+    let s : SoundJob j = allowed .written .sound in
+    let form : PrintedAs text j = allowed .written .printed in
     let capacities-are : length (j .block .capacities) ≡ nodes j = capacities-long (nodes j) (j .block .capacities) (s .block-sound .capacities-sound) in
     let first-edges-are : length (j .block .firstEdges) ≡ nodes j + 1 =
     block.firsts-long (nodes j) (length (j .block .edgeTargets)) (j .block .firstEdges) (s .block-sound .firstEdges-sound) in
@@ -265,7 +265,7 @@ too-long style input t work log routes bytes routes′ h e =
     rw (lt-ltb inputMost (length input) h) (ap (λ (x : PlaceReply). lineResponse x (lentOf t work log routes)) e)
 
 module _ (style : Style) (input : List ℕ) (l : Lent) (short : length input ≤ inputMost) where
-  responded : (r : RunReply) → r ≡ runReply style input l → answered (r .refusal) r ≡ response style input l
+  pub responded : (r : RunReply) → r ≡ runReply style input l → answered (r .refusal) r ≡ response style input l
   unfolding response
   responded r e = rw (le-ltb inputMost (length input) short) (ap (λ (x : RunReply). answered (x .refusal) x) e)
 

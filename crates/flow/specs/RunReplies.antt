@@ -9,9 +9,10 @@ use Rattle.price.specs.Test.{choose}
 use Rattle.job.specs.Job.{Job}
 use Rattle.negotiation.specs.Outcome.{RouteReply, routeReply}
 use Rattle.text.specs.Lines.{letterX}
-use Rattle.text.specs.LineReplies.{PlaceReply, lineReply}
+use Rattle.text.specs.LineReplies.{PlaceReply, placeReplyOf, lineReply}
 use Rattle.text.specs.JobText.{Part, part, stopped, readText}
 use Rattle.text.specs.ReadReplies.{Tables, storedReply}
+use Rattle.text.specs.Sizes.{bytesLent, tablesLent, workLent, logLent, routesLent}
 use Rattle.text.specs.Routes.{WriteReply}
 use Rattle.text.specs.Dot.{styleReply}
 use Rattle.text.specs.declared.Style.{Style}
@@ -85,9 +86,9 @@ runReplyOf r l = runReplyWith (runNumbers r) (runBytes r) l
 
 -- ---- the program
 
--- "It lends 65,536 bytes each for job, routes, log and work"
+-- "65,536 bytes each for job, .."
 abbrev pub inputMost : ℕ
-inputMost = 65536
+inputMost = bytesLent
 
 -- the bytes to print, and what was lent afterwards
 pub record Response : Type 0 where
@@ -113,3 +114,19 @@ unfoldable pub response : Style → List ℕ → Lent → Response
 response style input l =
     choose (ltb inputMost (length input)) (lineResponse (lineReply letterX (12 ∷ inputMost ∷ []) 0 (l .routes)) l)
     (answered (runReply style input l .refusal) (runReply style input l))
+
+-- "The program reads a job from standard input and prints the routes text, or `X,` and the numbers": the bytes at the routes buffer's start
+abbrev pub printed : Response → List ℕ
+printed r = take (r .bytes) (r .lent .routes)
+
+-- how many they are, and the buffer
+abbrev pub shownIn : Response → PlaceReply
+shownIn r = placeReplyOf (r .bytes) (r .lent .routes)
+
+-- what the program lends beside the job text, in a routes buffer that holds these bytes
+abbrev pub programLent : List ℕ → Lent
+programLent routes = lentOf tablesLent workLent logLent routes
+
+-- what it prints
+abbrev pub programPrints : Style → List ℕ → List ℕ
+programPrints style input = printed (response style input (programLent routesLent))

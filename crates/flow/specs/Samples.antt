@@ -1,15 +1,16 @@
--- Document 01, "Sample jobs": job B as text, and every starred sample of all crates in one list.
+-- Document 01, "Sample jobs": job B as text, printed by the program with all that it lends, and every starred sample of all crates in one
+-- list.
 -- Assumes nothing.
 use mathlib.Core.List.{List, [], _∷_, _++_}
 use Prim.Native.Nat.{ℕ}
-use lib.ListN.{take, replicate}
+use lib.ListN.{replicate}
 use Rattle.price.specs.Samples.{Sample}
 use Rattle.price.specs.Samples as p
 use Rattle.negotiation.specs.Samples as n
 use Rattle.text.specs.Lines.{lf}
-use Rattle.text.specs.ReadReplies.{tablesOf}
+use Rattle.text.specs.Sizes.{tablesLent, workLent, routesLent}
 use Rattle.text.specs.declared.Style.the-variants as s
-use Rattle.flow.specs.RunReplies.{lentOf, Response, response}
+use Rattle.flow.specs.RunReplies.{lentOf, response, printed, programPrints}
 
 -- "one a line": each line ended by LF
 unfoldable pub lined : List (List ℕ) → List ℕ
@@ -55,19 +56,6 @@ linesB limit =
     ∷ (84 ∷ 44 ∷ 49 ∷ 44 ∷ 53 ∷ [])
     ∷ []
 
--- what the program prints for a text, with tables of their exact length for job B, which is untimed, enough work memory, so long a log
--- and a long enough buffer
-abbrev pub printed : Response → List ℕ
-printed r = take (r .bytes) (r .lent .routes)
-
-abbrev pub shown : List ℕ → ℕ → List ℕ
-shown text room =
-    printed
-    (response s.Lines text
-    (lentOf
-    (tablesOf (replicate 6 7) (replicate 6 7) (replicate 7 7) (replicate 6 7) (replicate 2 7) (replicate 3 7) (replicate 2 7) [] [])
-    (replicate 48 7) (replicate room 7) (replicate 48 7)))
-
 -- "The program prints, one a line, `R,2,4` `B,0,0,3` `B,0,3,4` `B,1,1,2` `B,1,2,5`."
 abbrev pub routed : Sample
 routed = record {
@@ -77,16 +65,19 @@ routed = record {
       ∷ 66 ∷ 44 ∷ 48 ∷ 44 ∷ 51 ∷ 44 ∷ 52 ∷ 10
       ∷ 66 ∷ 44 ∷ 49 ∷ 44 ∷ 49 ∷ 44 ∷ 50 ∷ 10
       ∷ 66 ∷ 44 ∷ 49 ∷ 44 ∷ 50 ∷ 44 ∷ 53 ∷ 10 ∷ [];
-  defined = shown (lined (linesB 50)) 36;
+  defined = programPrints s.Lines (lined (linesB 50));
 }
 
 -- "B with limit 1: 9,1,1": `X,9,1,1`
 abbrev pub limited : Sample
-limited = record { stated = 88 ∷ 44 ∷ 57 ∷ 44 ∷ 49 ∷ 44 ∷ 49 ∷ 10 ∷ []; defined = shown (lined (linesB 49)) 36 }
+limited = record { stated = 88 ∷ 44 ∷ 57 ∷ 44 ∷ 49 ∷ 44 ∷ 49 ∷ 10 ∷ []; defined = programPrints s.Lines (lined (linesB 49)) }
 
--- "B with a 35-word log: 8,2,3": `X,8,2,3`
+-- "B with a 35-word log: 8,2,3": `X,8,2,3`, in such a log beside all else that the program lends
 abbrev pub filled : Sample
-filled = record { stated = 88 ∷ 44 ∷ 56 ∷ 44 ∷ 50 ∷ 44 ∷ 51 ∷ 10 ∷ []; defined = shown (lined (linesB 50)) 35 }
+filled = record {
+  stated = 88 ∷ 44 ∷ 56 ∷ 44 ∷ 50 ∷ 44 ∷ 51 ∷ 10 ∷ [];
+  defined = printed (response s.Lines (lined (linesB 50)) (lentOf tablesLent workLent (replicate 35 0) routesLent));
+}
 
 unfoldable pub texts : List Sample
 texts = routed ∷ limited ∷ filled ∷ []

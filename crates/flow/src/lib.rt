@@ -8,6 +8,7 @@ ghost use Rattle.text.specs.ReadReplies.{Tables, tablesOf};
 ghost use Rattle.text.specs.LineReplies.{placeReplyOf};
 ghost use Rattle.text.specs.Dot.{styleReply};
 ghost use Rattle.flow.specs.RunReplies.{lentOf, routeRun, runReply, runReplyOf, writtenReplyOf, responseOf, response};
+ghost use Rattle.flow.specs.RunReplies.{shownIn, programLent};
 ghost use Rattle.flow.specs.Steps.{answerLine};
 
 mod refusals;
@@ -35,8 +36,26 @@ pub enum RunAnswer {
     },
 }
 
-// The program takes no more input bytes than these.
-const INPUT_MOST: usize = 65536;
+// What the program lends: bytes of the job text, which may have no more, and of the routes buffer ..
+pub const BYTES: usize = 65536;
+
+// .. as many bytes of log and of work ..
+const WORDS: usize = 16384;
+
+const ENTRIES: usize = 8192;
+
+// .. and tables for so many nodes, edges, nets and sinks.
+const NODES: usize = 1024;
+
+const FIRST_EDGES: usize = 1025;
+
+const EDGES: usize = 8192;
+
+const NETS: usize = 512;
+
+const FIRST_SINKS: usize = 513;
+
+const SINKS: usize = 4096;
 
 // Writes the routes from the words used.
 fn write_used(
@@ -284,8 +303,8 @@ pub fn respond(
       let after = lentOf left (now (work .exit)) (now (log .exit)) (now (routes .exit))
       ⌜ responseOf r after ≡ response style (now (input .entry)) lent ⌝ }
 {
-    if INPUT_MOST < input.len() {
-        return refusals::write_refusal(12, INPUT_MOST as u64, routes);
+    if BYTES < input.len() {
+        return refusals::write_refusal(12, BYTES as u64, routes);
     }
     let answer = run(
         style,
@@ -304,4 +323,39 @@ pub fn respond(
         routes,
     );
     put_answer(answer, routes)
+}
+
+// The same with what the program lends.
+pub fn answer(style: Style, input: &[u8], routes: &mut [u8; BYTES]) -> usize
+    ensures answers { λ r. do
+      let shown = shownIn (response style (now (input .entry)) (programLent (now (routes .entry))))
+      ⌜ placeReplyOf r (now (routes .exit)) ≡ shown ⌝ }
+{
+    let mut kind = [0u8; NODES];
+    let mut capacity = [0u8; NODES];
+    let mut first_edge = [0u32; FIRST_EDGES];
+    let mut edge_target = [0u16; EDGES];
+    let mut source = [0u16; NETS];
+    let mut first_sink = [0u32; FIRST_SINKS];
+    let mut sink = [0u16; SINKS];
+    let mut delay = [0u16; NODES];
+    let mut criticality = [0u8; SINKS];
+    let mut work = [0u64; ENTRIES];
+    let mut log = [0u32; WORDS];
+    respond(
+        style,
+        input,
+        &mut kind,
+        &mut capacity,
+        &mut first_edge,
+        &mut edge_target,
+        &mut source,
+        &mut first_sink,
+        &mut sink,
+        &mut delay,
+        &mut criticality,
+        &mut work,
+        &mut log,
+        routes,
+    )
 }

@@ -5,39 +5,18 @@ use mathlib.Core.Path.{_≡_, refl}
 use Prim.Native.Nat.{ℕ, _+_, _≤_}
 use native.Mathlib.Omega.{arith}
 use lib.ListN.{length}
-use borrow.Author.Tests.{le-ltb}
 use Rattle.price.proofs.ListLaws.{length-upTo}
-use Rattle.job.specs.Job.{Job, nodes, nets}
+use Rattle.job.specs.Job.{nodes}
 use Rattle.job.specs.Tables.{exceeds}
 use Rattle.text.specs.Printed.{shortest, PrintedAs}
-use Rattle.text.specs.ReadReplies.{Tables, lowestShort, shortTimes, shortUntimed, shortTable}
 use Rattle.text.specs.Accepted.{AllowedText}
+use Rattle.text.proofs.SizeLaws.{router-long}
 use Rattle.text.proofs.TextHolds.{reader-exact}
 use Rattle.generator.specs.Load.{rowsFrom, netsFrom, loadSink, loadJob, loadText}
 use Rattle.generator.specs.Taken.{LoadTaken}
 use Rattle.generator.proofs.RowLaws.{rows-few}
 use Rattle.generator.proofs.LoadLaws.{node-count, net-count, load-sound}
 use Rattle.generator.proofs.LoadTextLaws.{load-size}
-
--- tables that have these lengths at least are long enough
-long-enough :
-    (j : Job) (t : Tables) → nodes j ≤ length (t .kinds) → nodes j ≤ length (t .capacities) → nodes j + 1 ≤ length (t .firstEdges)
-    → length (j .block .edgeTargets) ≤ length (t .edgeTargets) → nets j ≤ length (t .sources) → nets j + 1 ≤ length (t .firstSinks)
-    → length (j .sinks) ≤ length (t .sinks) → length (j .delays) ≤ length (t .delays) → length (j .criticalities) ≤ length (t .criticalities)
-    → shortTable j t ≡ 0
-unfolding shortTable shortUntimed lowestShort shortTimes
-long-enough j t a b c d e f g h i =
-    rw (
-      le-ltb (length (t .kinds)) (nodes j) a,
-      le-ltb (length (t .capacities)) (nodes j) b,
-      le-ltb (length (t .firstEdges)) (nodes j + 1) c,
-      le-ltb (length (t .edgeTargets)) (length (j .block .edgeTargets)) d,
-      le-ltb (length (t .sources)) (nets j) e,
-      le-ltb (length (t .firstSinks)) (nets j + 1) f,
-      le-ltb (length (t .sinks)) (length (j .sinks)) g,
-      le-ltb (length (t .delays)) (length (j .delays)) h,
-      le-ltb (length (t .criticalities)) (length (j .criticalities)) i,
-    )
 
 module _ (seed n count : ℕ) (least : 8 ≤ n) (most : n ≤ 256) (some : 1 ≤ count) (few : count ≤ 64) where
   printed : PrintedAs (loadText seed n count) (loadJob seed n count)
@@ -73,7 +52,7 @@ module _ (seed n count : ℕ) (least : 8 ≤ n) (most : n ≤ 256) (some : 1 ≤
   no-criticalities = refl
 
   allowed : AllowedText (loadText seed n count) (loadJob seed n count)
-  allowed = record { sound = load-sound seed n count least most some few; within = within; printed = printed }
+  allowed = record { written = record { sound = load-sound seed n count least most some few; printed = printed }; within = within }
 
   pub load-taken : LoadTaken seed n count
   load-taken =
@@ -84,8 +63,6 @@ module _ (seed n count : ℕ) (least : 8 ≤ n) (most : n ≤ 256) (some : 1 ≤
         allowed = allowed;
         given-back = λ t long. reader-exact (loadText seed n count) t .all (loadJob seed n count) allowed long;
         enough = λ t r.
-            long-enough (loadJob seed n count) t (omega (arith, r .kinds)) (omega (arith, r .capacities)) (omega (arith, r .first-edges))
-            (omega (arith, r .edge-targets, edges-few)) (omega (arith, r .sources)) (omega (arith, r .first-sinks)) (omega (arith, r .sinks, sinks-few))
-            (omega (arith, no-delays)) (omega (arith, no-criticalities));
+            router-long (loadJob seed n count) t r (omega arith) (omega (arith, edges-few)) (omega arith) (omega (arith, sinks-few)) no-delays no-criticalities;
         fits = omega arith;
       }

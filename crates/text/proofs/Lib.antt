@@ -22,6 +22,7 @@
 --     StoppedLaws       a text that is stopped at a line is refused by 1, 2 or 3
 --     CopyLaws          copying the first entries of a table
 --     ReadJobLaws       row 4, then 15, and the tables afterwards
+--     SizeLaws          which jobs tables are long enough for, and how long what the program lends is
 -- What is read against what is printed, for TextHolds:
 --     LastLaws          a list with one entry more
 --     DecimalLaws       a number's digits, printed and counted
@@ -70,6 +71,7 @@ pub mod CopyLaws
 pub mod ReaderLaws
 pub mod StoppedLaws
 pub mod ReadJobLaws
+pub mod SizeLaws
 pub mod DecimalLaws
 pub mod PlacedLaws
 pub mod DotLaws

@@ -1,5 +1,5 @@
 -- A text is read to a job exactly where the job is sound and the text is a printed form of it, so no two sound jobs have the same printed form. It is
--- accepted exactly where that job is within 2.9's limits too and every table is long enough for it, and the job is what is given back.
+-- accepted exactly where that job is within 2.9's limits too and every table is long enough for it, and the job is what is given back; else it is 4 or 15.
 -- Assumes nothing.
 use mathlib.Core.Bool.{Bool, true, false}
 use mathlib.Core.List.{List, [], _∷_, _++_}
@@ -31,7 +31,7 @@ use Rattle.text.specs.JobText.{Part, part, stopped, andThen, Counts, hea
 use Rattle.text.specs.JobText.{NetLists, netLists, netLines, firstPlaces, jobRead, readText}
 use Rattle.text.specs.Printed.{concatFrom, nodeText, rowText, netText, Form, termsText, Allowed, printJob, PrintedAs}
 use Rattle.text.specs.ReadReplies.{Tables, shortTable, notRead, readWhole, storedReply, replyTo, readReply}
-use Rattle.text.specs.Accepted.{AcceptedText, AcceptsExactly}
+use Rattle.text.specs.Accepted.{SoundText, AcceptedText, AcceptsExactly}
 use Rattle.text.proofs.PrintLaws.{then-part}
 use Rattle.text.proofs.HeadTextLaws.{HeadBounds, HeadGiven, head-read, head-printed}
 use Rattle.text.proofs.OptionalTextLaws.{linesAfter}
@@ -369,10 +369,15 @@ stored-short : (j : Job) (t : Tables) → 1 ≤ shortTable j t → storedReply j
 unfolding storedReply
 stored-short j t some = rw (le-leb 1 (shortTable j t) some)
 
--- the reply to a printed form of a sound job
-printed-stored : (bs : List ℕ) (j : Job) (t : Tables) → SoundJob j → PrintedAs bs j → readReply bs t ≡ storedReply j t
+stored-large :
+    (j : Job) (t : Tables) → shortTable j t ≡ 0 → exceeds (nodes j) (j .terms) ≡ true → storedReply j t ≡ notRead (15 ∷ nodes j ∷ j .terms .limit ∷ []) t
+unfolding storedReply
+stored-large j t long over = rw (long, over)
+
+-- the reply to a sound text
+sound-stored : (bs : List ℕ) (j : Job) (t : Tables) → SoundText bs j → readReply bs t ≡ storedReply j t
 unfolding readReply
-printed-stored bs j t s p = ap (λ (x : Part Job). replyTo x t) (printed-read bs j s p .1)
+sound-stored bs j t s = ap (λ (x : Part Job). replyTo x t) (printed-read bs j (s .sound) (s .printed) .1)
 
 -- a reply that refuses nothing, by what was read of the text
 read-accepted : (bs : List ℕ) (t : Tables) (p : Part Job) → readText bs ≡ p → replyTo p t .refusal ≡ [] → AcceptedText bs t
@@ -383,7 +388,7 @@ read-accepted bs t (part j at rest) is e =
     let found = read-printed bs j at rest is in
     record {
       job = j;
-      allowed = record { sound = found .0; within = kept .1; printed = found .1 };
+      allowed = record { written = record { sound = found .0; printed = found .1 }; within = kept .1 };
       long-enough = kept .0;
       given-back = ap (λ (x : Part Job). replyTo x t) is ∙ stored-whole j t (kept .0) (kept .1);
     }
@@ -393,6 +398,7 @@ unfolding readReply
 reader-exact bs t =
     record {
       only = λ e. read-accepted bs t (readText bs) refl e;
-      all = λ j a long. printed-stored bs j t (a .sound) (a .printed) ∙ stored-whole j t long (a .within);
-      short = λ j a some. printed-stored bs j t (a .sound) (a .printed) ∙ stored-short j t some;
+      all = λ j a long. sound-stored bs j t (a .written) ∙ stored-whole j t long (a .within);
+      short = λ j s some. sound-stored bs j t s ∙ stored-short j t some;
+      too-large = λ j s over long. sound-stored bs j t s ∙ stored-large j t long over;
     }

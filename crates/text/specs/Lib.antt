@@ -4,6 +4,7 @@ pub mod JobText
 pub mod Printed
 pub mod Steps
 pub mod ReadReplies
+pub mod Sizes
 pub mod Accepted
 pub mod Routes
 pub mod Dot
