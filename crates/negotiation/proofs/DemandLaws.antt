@@ -21,7 +21,7 @@ use Rattle.price.proofs.BelowLaws.{firstBelow-below, firstBelow-holds}
 use Rattle.search.specs.Block.{Block}
 use Rattle.search.specs.Block as block
 use Rattle.search.specs.Tables.{Graph}
-use Rattle.search.specs.Paths.{Walk, stay, step, pathCost, CheapestPath}
+use Rattle.search.specs.Paths.{Walk, stay, step, pathCost, JoiningPath, CheapestPath}
 use Rattle.search.specs.Distance.{inTree}
 use Rattle.search.specs.Turn.{congestedAt, priceAt}
 use Rattle.search.proofs.BlockLaws.{graph-of, edge-to}
@@ -83,11 +83,11 @@ module _ (b : Block) (g : Graph b) (p q : ℕ → ℕ) (same : (v : ℕ) → v <
   cost-same (step {u} {w} {v} {path} e r) =
       step-cost p u r ∙ rw (same w (edge-to b g u w e), cost-same r) (sym (step-cost q u r))
 
-  -- a cheapest path by one is one by the other
-  pub cheapest-same :
+  -- a path that joins, or a cheapest one, by one is one by the other
+  pub joining-same :
       {tree : ℕ → Bool} {sinks : List ℕ} {sink cost : ℕ} {path : List ℕ}
-      → CheapestPath b p tree sinks sink cost path → CheapestPath b q tree sinks sink cost path
-  cheapest-same c =
+      → JoiningPath b p tree sinks sink cost path → JoiningPath b q tree sinks sink cost path
+  joining-same c =
       record {
         start = c .start;
         starts-in-tree = c .starts-in-tree;
@@ -95,8 +95,13 @@ module _ (b : Block) (g : Graph b) (p q : ℕ → ℕ) (same : (v : ℕ) → v <
         sink-listed = c .sink-listed;
         sink-open = c .sink-open;
         costs = c .costs ∙ cost-same (c .follows);
-        cheapest = λ t s other m l o w. rw (cost-same w) at (c .cheapest t s other m l o w);
       }
+
+  pub cheapest-same :
+      {tree : ℕ → Bool} {sinks : List ℕ} {sink cost : ℕ} {path : List ℕ}
+      → CheapestPath b p tree sinks sink cost path → CheapestPath b q tree sinks sink cost path
+  cheapest-same c =
+      record { joins = joining-same (c .joins); cheapest = λ t s other m l o w. rw (cost-same w) at (c .cheapest t s other m l o w) }
 
 -- ---- where a logged turn stands in the run
 

@@ -212,7 +212,7 @@ pub turn-cost :
     (j : Job) → Routable j → (s : State) → StateReady j s → (i : ℕ) → i < nets j → (earlier : List Record) (r : Record) → NetTurn j s i earlier r
     → r .cost < pathMost
 turn-cost j sound s ready i hi earlier r t =
-    rw (t .cheapest .costs)
+    rw (t .cheapest .joins .costs)
     (cost-most (turnPrice j s i (treeFrom j i earlier)) (turn-fair j sound s ready i hi (treeFrom j i earlier)) (r .path) (t .path-nodes) (t .path-short))
 
 -- the tree of the source alone

@@ -49,11 +49,11 @@ module _ (b : Block) (g : Graph b) (price : ℕ → ℕ) (pos : (v : ℕ) → v 
       (λ (q : eqb v sink ≡ false).
       ⊎-elim
       (λ (t : unjoined sinks tree v ≡ true).
-      let f = shorter (c .follows) v h (eqb-false v sink q) in
+      let f = shorter (c .joins .follows) v h (eqb-false v sink q) in
       let listed : has v sinks ≡ true = both-left (has v sinks) (not (has v tree)) t in
       let out : has v tree ≡ false = not-true (has v tree) (both-right (has v sinks) (not (has v tree)) t) in
-      let least = c .cheapest (c .start) v (f .0) (c .starts-in-tree) listed out (f .1) in
-      let is = c .costs in
+      let least = c .cheapest (c .joins .start) v (f .0) (c .joins .starts-in-tree) listed out (f .1) in
+      let is = c .joins .costs in
       absurd (omega (arith, f .2)))
       (λ (t : unjoined sinks tree v ≡ false). rw (q, t))
       (either-way (unjoined sinks tree v)))

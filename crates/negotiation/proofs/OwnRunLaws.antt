@@ -82,13 +82,13 @@ module _ (j : Job) (sound : Routable j) (s : State) (ready : StateReady j s) (i 
   turn-path : (earlier : List Record) (r : Record) → NetTurn j s i earlier r → PathHolds j i (treeFrom j i earlier) (r .sink) (r .path)
   turn-path earlier r t =
       record {
-        edges = walk-edges (t .cheapest .follows);
+        edges = walk-edges (t .cheapest .joins .follows);
         once = t .path-distinct;
         begins = t .begins;
         new-nodes = t .new-nodes;
-        ends = walk-end (t .cheapest .follows);
-        sink-listed = t .cheapest .sink-listed;
-        sink-open = t .cheapest .sink-open;
+        ends = walk-end (t .cheapest .joins .follows);
+        sink-listed = t .cheapest .joins .sink-listed;
+        sink-open = t .cheapest .joins .sink-open;
         alone =
             one-sink (j .block) (graph-of (j .block) (sound .block-sound)) (turnPrice j s i (treeFrom j i earlier))
             (turn-fair j sound s ready i hi (treeFrom j i earlier) .pos) (treeFrom j i earlier) (turnSinks j i (treeFrom j i earlier)) (r .sink) (r .cost) (r .path)
@@ -103,7 +103,7 @@ module _ (j : Job) (sound : Routable j) (s : State) (ready : StateReady j s) (i 
       (λ (q : every (λ x. has x (treeFrom j i earlier)) (netSinks j i) ≡ true).
       absurd
       (true≢false
-      (sym (every-has (λ x. has x (treeFrom j i earlier)) (netSinks j i) q (r .sink) (turn-listed j i (treeFrom j i earlier) (r .sink) (t .cheapest .sink-listed))) ∙ t .cheapest .sink-open)))
+      (sym (every-has (λ x. has x (treeFrom j i earlier)) (netSinks j i) q (r .sink) (turn-listed j i (treeFrom j i earlier) (r .sink) (t .cheapest .joins .sink-listed))) ∙ t .cheapest .joins .sink-open)))
       (λ q. q)
       (either-way (every (λ x. has x (treeFrom j i earlier)) (netSinks j i)))
 
@@ -117,8 +117,8 @@ module _ (j : Job) (sound : Routable j) (s : State) (ready : StateReady j s) (i 
       (λ x h. subst (λ (l : List Record). has x (treeFrom j i l) ≡ true) whole (net-joins j sound s ready i hi all x h)))
   net-follow all made (r ∷ rest) e =
       let t : NetTurn j s i made r = net-turn j sound s ready i hi made rest r e in
-      more (still-open made r t) (t .cheapest .costs)
-      (λ ws. words-follow j s i (treeFrom j i made) r (turn-path made r t) ws (t .iteration-is) (t .net-is) (t .cheapest .costs))
+      more (still-open made r t) (t .cheapest .joins .costs)
+      (λ ws. words-follow j s i (treeFrom j i made) r (turn-path made r t) ws (t .iteration-is) (t .net-is) (t .cheapest .joins .costs))
       (net-follow all (made ++ (r ∷ [])) rest (e ∙ sym (append-snoc made r rest)))
 
 -- ---- whole iterations

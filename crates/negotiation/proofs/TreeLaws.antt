@@ -89,13 +89,17 @@ pub data Turns (j : Job) (t : ℕ) (c : Congestion) (i : ℕ) : ℕ → List ℕ
 -- the same tree, as a test that agrees at every node
 same-tree : {b : Block} {price : ℕ → ℕ} {old new : ℕ → Bool} {sinks : List ℕ} {sink cost : ℕ} {path : List ℕ} → ((v : ℕ) → old v ≡ new v) → CheapestPath b price old sinks sink cost path → CheapestPath b price new sinks sink cost path
 same-tree {sink = sink} same p =
+    let joins = p .joins in
     record {
-      start = p .start;
-      starts-in-tree = sym (same (p .start)) ∙ p .starts-in-tree;
-      follows = p .follows;
-      sink-listed = p .sink-listed;
-      sink-open = sym (same sink) ∙ p .sink-open;
-      costs = p .costs;
+      joins =
+          record {
+            start = joins .start;
+            starts-in-tree = sym (same (joins .start)) ∙ joins .starts-in-tree;
+            follows = joins .follows;
+            sink-listed = joins .sink-listed;
+            sink-open = sym (same sink) ∙ joins .sink-open;
+            costs = joins .costs;
+          };
       cheapest = λ t s other m l o w. p .cheapest t s other (same t ∙ m) l (same s ∙ o) w;
     }
 
@@ -203,7 +207,7 @@ module _ (j : Job) (c : Congestion) (i : ℕ) (g : Shaped (j .block)) (fair : (t
       let grown : List ℕ = tree ++ r .path in
       let less : missing grown (netSinks j i) < missing tree (netSinks j i) =
       missing-less tree grown (netSinks j i) (r .sink) (λ v h. has-append-left v tree (r .path) h)
-      (turn-listed j i tree (r .sink) (joined .cheapest .sink-listed)) (joined .cheapest .sink-open) (has-append-right (r .sink) tree (r .path) (joined .ends)) in
+      (turn-listed j i tree (r .sink) (joined .cheapest .joins .sink-listed)) (joined .cheapest .joins .sink-open) (has-append-right (r .sink) tree (r .path) (joined .ends)) in
       subst (λ (l : List ℕ). has x l ≡ true) (append-assoc tree (r .path) (pathNodes rs))
       (turns-join some rest (grown-nodes tree (r .path) all (joined .path-nodes)) (omega arith) from (has-append-left from tree (r .path) at) reach x m)
 

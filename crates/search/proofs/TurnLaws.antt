@@ -102,12 +102,15 @@ module _ (b : Block) (price : ℕ → ℕ) (marks : List ℕ) (g : Shaped b) (fa
       joins-cheapest =
           let start = path-walk b price marks g fair (getD sinks place 0) (all-nodes place joins-within) joins-near in
           record {
-            start = start .0;
-            starts-in-tree = start .2;
-            follows = subst (λ (p : List ℕ). Walk b (start .0) p (getD sinks place 0)) (sym joins-path) (start .3);
-            sink-listed = has-at sinks place joins-within;
-            sink-open = joins-nearest .0 .out;
-            costs = joins-nearest .1;
+            joins =
+                record {
+                  start = start .0;
+                  starts-in-tree = start .2;
+                  follows = subst (λ (p : List ℕ). Walk b (start .0) p (getD sinks place 0)) (sym joins-path) (start .3);
+                  sink-listed = has-at sinks place joins-within;
+                  sink-open = joins-nearest .0 .out;
+                  costs = joins-nearest .1;
+                };
             cheapest = λ t s other m l o w. le-trans (joins-least s l o) (no-path-cheaper b price marks g fair t s other (listed-node s l) m w);
           }
 

@@ -31,15 +31,18 @@ pub record Fair (b : Block) (price : ℕ → ℕ) : Type 0 where
   pub pos : (v : ℕ) → v < nodes b → 0 < price v
   pub most : (v : ℕ) → v < nodes b → price v ≤ ceiling
 
--- A path along edges from a node of the tree to a listed sink that the tree lacks, at its cost; and every path in the graph from any node
--- of the tree to any such sink costs at least as much.
-pub record CheapestPath (b : Block) (price : ℕ → ℕ) (tree : ℕ → Bool) (sinks : List ℕ) (sink cost : ℕ) (path : List ℕ) : Type 0 where
+-- A path along edges from a node of the tree to a listed sink that the tree lacks, at its cost.
+pub record JoiningPath (b : Block) (price : ℕ → ℕ) (tree : ℕ → Bool) (sinks : List ℕ) (sink cost : ℕ) (path : List ℕ) : Type 0 where
   pub start : ℕ
   pub starts-in-tree : tree start ≡ true
   pub follows : Walk b start path sink
   pub sink-listed : has sink sinks ≡ true
   pub sink-open : tree sink ≡ false
   pub costs : cost ≡ pathCost price path
+
+-- Such a path, and every path in the graph from any node of the tree to any such sink costs at least as much.
+pub record CheapestPath (b : Block) (price : ℕ → ℕ) (tree : ℕ → Bool) (sinks : List ℕ) (sink cost : ℕ) (path : List ℕ) : Type 0 where
+  pub joins : JoiningPath b price tree sinks sink cost path
   pub cheapest :
       (t s : ℕ) (other : List ℕ) → tree t ≡ true → has s sinks ≡ true → tree s ≡ false → Walk b t other s
       → cost ≤ pathCost price other

@@ -82,13 +82,13 @@ net-turned j s i t earlier r hi sinks at turn =
       net-below = omega (arith, turn .net-is);
       has-sinks = rw (turn .net-is) sinks;
       path-long =
-          walk-long (j .block) (turn .cheapest .follows)
+          walk-long (j .block) (turn .cheapest .joins .follows)
           (λ e.
           true≢false
-          (sym (turn .cheapest .starts-in-tree) ∙ ap (λ (v : ℕ). has v (treeFrom j i earlier)) e ∙ turn .cheapest .sink-open));
+          (sym (turn .cheapest .joins .starts-in-tree) ∙ ap (λ (v : ℕ). has v (treeFrom j i earlier)) e ∙ turn .cheapest .joins .sink-open));
       path-short = turn .path-short;
       path-nodes = turn .path-nodes;
-      path-end = walk-end (j .block) (turn .cheapest .follows);
+      path-end = walk-end (j .block) (turn .cheapest .joins .follows);
     }
 
 -- the records of the iteration after m whole ones
