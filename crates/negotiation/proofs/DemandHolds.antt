@@ -1,4 +1,4 @@
--- Demand 3 holds of every call, and every logged cost is below the bound on a path's.
+-- Demand 3 holds of every call, and with it that every logged cost is below the bound on a path's.
 -- Assumes nothing.
 use mathlib.Core.Bool.{Bool, true, false}
 use mathlib.Core.List.{List, [], _∷_, _++_, append-assoc, append-cancel-left}
@@ -22,6 +22,7 @@ use Rattle.negotiation.specs.Machine.{State, Progress, recordsAfter, set
 use Rattle.negotiation.specs.Outcome.{RouteReply, wordsUsed, turnsLogged, refusedReply, unreachableNet, unreachablePlace, iterationsMade, firstProgress, iterationsLeft, madeFrom, allRecords, loggedRecords, endNumbers, continued, negotiated, tested, routeReply}
 use Rattle.negotiation.specs.Unreachable.{AllReachable}
 use Rattle.negotiation.specs.Demand.{TurnHolds, FinalTrees, Demand3, CostsFit}
+use Rattle.negotiation.specs.Resumed.{takenUp}
 use Rattle.negotiation.specs.Routable.{Routable}
 use Rattle.negotiation.specs.Runs.{Ran, start}
 use Rattle.job.specs.Join.{joined}
@@ -103,6 +104,10 @@ module _ (j : Job) (lent : List Record) (r : RouteReply) (h : Facts j lent r) wh
   pub turns-are : r .turns ≡ length (turnsLogged r)
   turns-are = h .turns ∙ sym (ap length logged-is)
 
+-- costs that are below the bound fit
+pub costs-of : (r : RouteReply) → ((earlier later : List Record) (t : Record) → turnsLogged r ≡ earlier ++ (t ∷ later) → t .cost < pathMost) → CostsFit r
+costs-of r below = record { below = below; fits = path-fits; timed-fits = omega arith }
+
 -- none was lent
 module _ (j : Job) (work log : List ℕ) (r : RouteReply) (h : Facts j [] r) where
   each-logged : (earlier later : List Record) (t : Record) → turnsLogged r ≡ earlier ++ (t ∷ later) → TurnFacts (joined j) earlier t
@@ -117,10 +122,8 @@ module _ (j : Job) (work log : List ℕ) (r : RouteReply) (h : Facts j [] r) whe
         final-trees = λ e. rw (logged-is j [] r h) (h .final e);
         not-unreachable = h .reached;
         turns-counted = turns-are j [] r h;
+        costs-fit = costs-of r (λ earlier later t e. each-logged earlier later t e .1);
       }
-
-  costs-of : CostsFit r
-  costs-of = record { below = λ earlier later t e. each-logged earlier later t e .1; fits = path-fits; timed-fits = omega arith }
 
 -- ---- a run of joined nets
 
@@ -184,24 +187,25 @@ module _ (j : Job) (work log : List ℕ) where
   -- what holds of every refusal before a run, and of a run of a sound job whose sinks have paths, holds of the reply
   pub tested-case :
       (P : (RouteReply → RouteReply) → Type 0)
-      → ((number : ℕ) (numbers left : List ℕ) → (AllReachable (joined j) → number ≡ 7 → ⊥) → P (λ _. refusedReply (number ∷ numbers) left log))
+      → ((number : ℕ) (numbers left : List ℕ) → takenUp (number ∷ numbers) ≡ false → (AllReachable (joined j) → number ≡ 7 → ⊥) → P (λ _. refusedReply (number ∷ numbers) left log))
       → (Routable (joined j) → Reached (joined j) → P (λ run. run)) → P (λ run. tested j work log run)
+  unfolding takenUp
   tested-case P refused runs =
       ⊎-elim
-      (λ (t : leb 1 (faultyJob j) ≡ true). rw t (refused 5 (faultyJob j ∷ []) work (λ _ z. omega arith)))
+      (λ (t : leb 1 (faultyJob j) ≡ true). rw t (refused 5 (faultyJob j ∷ []) work refl (λ _ z. omega arith)))
       (λ (t : leb 1 (faultyJob j) ≡ false).
       let none : faultyJob j < 1 = leb-false 1 (faultyJob j) t in
       let sound : SoundJob j = sound-job j (omega arith) in
       ⊎-elim
-      (λ (x : exceeds (nodes j) (j .terms) ≡ true). rw (t, x) (refused 15 (nodes j ∷ j .terms .limit ∷ []) work (λ _ z. omega arith)))
+      (λ (x : exceeds (nodes j) (j .terms) ≡ true). rw (t, x) (refused 15 (nodes j ∷ j .terms .limit ∷ []) work refl (λ _ z. omega arith)))
       (λ (x : exceeds (nodes j) (j .terms) ≡ false).
       ⊎-elim
-      (λ (u : ltb (length work) (workNeeded (nodes j)) ≡ true). rw (t, x, u) (refused 6 (workNeeded (nodes j) ∷ []) work (λ _ z. omega arith)))
+      (λ (u : ltb (length work) (workNeeded (nodes j)) ≡ true). rw (t, x, u) (refused 6 (workNeeded (nodes j) ∷ []) work refl (λ _ z. omega arith)))
       (λ (u : ltb (length work) (workNeeded (nodes j)) ≡ false).
       ⊎-elim
       (λ (v : ltb (unreachableNet (joined j)) (nets j) ≡ true).
       rw (t, x, u, v)
-      (refused 7 (unreachableNet (joined j) ∷ unreachablePlace (joined j) ∷ []) (cleared (nodes j) [] work)
+      (refused 7 (unreachableNet (joined j) ∷ unreachablePlace (joined j) ∷ []) (cleared (nodes j) [] work) refl
       (λ all _. none-unreachable (joined j) (joined-routable j sound x) all (ltb-true _ _ v))))
       (λ (v : ltb (unreachableNet (joined j)) (nets j) ≡ false).
       rw (t, x, u, v) (runs (joined-routable j sound x) (all-reached (joined j) (ltb-false _ _ v))))
@@ -255,14 +259,11 @@ module _ (j : Job) (work log : List ℕ) where
   reply-facts : Facts j [] (routeReply j work log)
   unfolding routeReply
   reply-facts =
-      tested-case (λ f. Facts j [] (f (negotiated (joined j) work log))) (refused-facts [])
+      tested-case (λ f. Facts j [] (f (negotiated (joined j) work log))) (λ number numbers left _. refused-facts [] number numbers left)
       (λ sound all. run-facts 0 (firstProgress (joined j)) sound all start (sound .limit-some))
 
   pub demand-3 : Demand3 j work log (routeReply j work log)
   demand-3 = demand-of j work log (routeReply j work log) reply-facts refl
-
-  pub costs-fit : CostsFit (routeReply j work log)
-  costs-fit = costs-of j work log (routeReply j work log) reply-facts
 
   -- every logged turn is the one that is read off the earlier ones
   pub logged-read : (earlier later : List Record) (t : Record) → turnsLogged (routeReply j work log) ≡ earlier ++ (t ∷ later) → TurnRead (joined j) earlier t

@@ -35,7 +35,7 @@ use Rattle.negotiation.specs.Order.{turnSinks, turnWeighting, turnConges
 use Rattle.negotiation.specs.Resume.{turnPrice}
 use Rattle.negotiation.specs.Machine.{State, Progress, othersOf, usersOf, marksOf, congestionFor, netRecords, treeFrom, due, afterNets, iterate, overfull, overCount, moveOn, firstState, stateAfter, iterationAfter, recordsAfter, settlesAt}
 use Rattle.negotiation.specs.Outcome.{hasPath, unreachableNet}
-use Rattle.negotiation.specs.Demand.{ownTree, othersRead, historyRead, congestedRead, priceRead, TurnHolds, FinalTrees}
+use Rattle.negotiation.specs.Demand.{ownTree, othersRead, historyRead, congestedRead, priceRead, OfTurn, TurnHolds, FinalTrees}
 use Rattle.negotiation.specs.Unreachable.{AllReachable}
 use Rattle.negotiation.proofs.StateLaws.{route-if}
 use Rattle.negotiation.specs.Routable.{Routable}
@@ -200,17 +200,17 @@ same-price : (kind capacity : ℕ) {f f′ o o′ h h′ : ℕ} → f ≡ f′ �
 same-price kind capacity p q r = rw (p, q, r)
 
 -- a turn of net i in iteration k
-turn-of :
-    (j : Job) (earlier before : List Record) (t : Record) (i k : ℕ) → t .net ≡ i → t .iteration ≡ k → earlier ≡ before
-    → CheapestPath (j .block) (priceRead j i k before) (λ v. has v (ownTree j i k before)) (turnSinks j i (ownTree j i k before)) (t .sink) (t .cost) (t .path)
-    → TurnHolds j earlier t
-turn-of j earlier before t i k p q r c = rw (p, q, r) c
+pub turn-of :
+    (Asked : Block → (ℕ → ℕ) → (ℕ → Bool) → List ℕ → ℕ → ℕ → List ℕ → Type 0) (j : Job) (earlier before : List Record) (t : Record) (i k : ℕ) → t .net ≡ i → t .iteration ≡ k → earlier ≡ before
+    → Asked (j .block) (priceRead j i k before) (λ v. has v (ownTree j i k before)) (turnSinks j i (ownTree j i k before)) (t .sink) (t .cost) (t .path)
+    → OfTurn Asked j earlier t
+turn-of Asked j earlier before t i k p q r c = rw (p, q, r) c
 
 -- the tree, by another list
-tree-as :
-    (j : Job) (i : ℕ) {price : ℕ → ℕ} {xs ys : List ℕ} {sink cost : ℕ} {path : List ℕ} → xs ≡ ys
-    → CheapestPath (j .block) price (λ v. has v xs) (turnSinks j i xs) sink cost path → CheapestPath (j .block) price (λ v. has v ys) (turnSinks j i ys) sink cost path
-tree-as j i e c = rw e at c
+pub tree-as :
+    (Asked : Block → (ℕ → ℕ) → (ℕ → Bool) → List ℕ → ℕ → ℕ → List ℕ → Type 0) (j : Job) (i : ℕ) {price : ℕ → ℕ} {xs ys : List ℕ} {sink cost : ℕ} {path : List ℕ} → xs ≡ ys
+    → Asked (j .block) price (λ v. has v xs) (turnSinks j i xs) sink cost path → Asked (j .block) price (λ v. has v ys) (turnSinks j i ys) sink cost path
+tree-as Asked j i e c = rw e at c
 
 -- a turn of the machine's in a run: of net i, after its own records e and those before them in the run
 module _ (j : Job) (sound : Routable j) {m : ℕ} {rs : List Record} {s : State} (r : Ran j m rs s) (hm : m < j .terms .limit)
@@ -258,8 +258,8 @@ module _ (j : Job) (sound : Routable j) {m : ℕ} {rs : List Record} {s : State}
   turn-here e rest t is earlier parts =
       let own : All (Of i (m + 1)) e = own-all e (t ∷ rest) is in
       let turn : NetTurn j (p .state) i e t = net-turn j sound (p .state) (ran-ready j sound r n hm) i hi e rest t is in
-      turn-of j earlier ((rs ++ p .records) ++ e) t i (m + 1) (turn .net-is) (turn .iteration-is ∙ nets-iteration j n ∙ ran-iteration j r) parts
-      (tree-as j i (own-same e own)
+      turn-of CheapestPath j earlier ((rs ++ p .records) ++ e) t i (m + 1) (turn .net-is) (turn .iteration-is ∙ nets-iteration j n ∙ ran-iteration j r) parts
+      (tree-as CheapestPath j i (own-same e own)
       (cheapest-same (j .block) (graph-of (j .block) (sound .block-sound)) _ _ (price-same e own) (turn .cheapest)))
 
 regrouped :

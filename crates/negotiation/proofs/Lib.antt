@@ -37,6 +37,7 @@
 -- A lent log
 --     FollowLaws        one record that follows: what its test says, clause by clause; its words
 --     ReplayLaws        a log that passes is a run, its words are the records', it has fewer iterations than the limit
+--     LentLaws          a lent turn that follows is legal at prices read off the turns before it, and its cost fits
 --     OwnReplayLaws     a log whose turns follow, one after the other, is taken up
 --     OneSinkLaws       a cheapest path passes no other unjoined sink
 --     SomeTurnLaws      an iteration that leaves a node overfull has a turn
@@ -56,7 +57,7 @@
 --     JoinedHolds       requests 2.3 and 2.9: joined nets; the joined job can be routed, and has paths where the listed one has
 --     OlderHolds        request 2.2: a job of 01's kinds makes its turns at 01's prices, and each turn in its log is such a one
 --     LongerHolds       request 2.6: two limits, two log lengths
---     ResumeHolds       request 2.8: every resumed call: what is rebuilt, the lent words first, the appended turns as demand 3 asks
+--     ResumeHolds       request 2.8: every resumed call: what is rebuilt, the lent words first, lent turns legal, the appended ones as demand 3 asks, costs within their bound
 --     OwnResumeHolds    request 2.8: a job's own log ends as the straight run
 --     AfterLimitHolds   request 2.8: so does the log of a run that refusal 9 ended, under a larger limit
 --     SamplesHold       the starred jobs, and one of request 2.9, timed and not
@@ -116,6 +117,7 @@ pub mod DemandLaws
 pub mod TurnReadLaws
 pub mod FollowLaws
 pub mod ReplayLaws
+pub mod LentLaws
 pub mod OwnReplayLaws
 pub mod AimedCountLaws
 pub mod OneSinkLaws

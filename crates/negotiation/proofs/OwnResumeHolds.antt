@@ -33,7 +33,7 @@ module _ (j : Job) (m used : ℕ) (work log : List ℕ) (own : OwnLog (joined j)
   unfolding resumeReply routeReply
   own-reply =
       tested-case j work log (λ f. f (resumedReply (joined j) (replay (joined j) used log) work log) ≡ f (negotiated (joined j) work log))
-      (λ number numbers left reached. refl) own-run
+      (λ number numbers left before reached. refl) own-run
 
 pub own-resumed : (j : Job) (m used : ℕ) (work log : List ℕ) → OwnResumed j m used work log
 own-resumed j m used work log own =

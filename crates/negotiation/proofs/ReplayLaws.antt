@@ -1,5 +1,5 @@
--- A lent log that follows the job is a run: its records lead to the state that is rebuilt, its words are theirs, and it has fewer iterations
--- than the limit allows.
+-- A lent log that follows the job is a run: its records lead to the state that is rebuilt, its words are theirs, it has fewer iterations
+-- than the limit allows, and each of its turns has what the test of a record says.
 -- Assumes nothing.
 use mathlib.Core.Bool.{Bool, true, false}
 use mathlib.Core.List.{List, [], _∷_, _++_, append-nil, append-assoc}
@@ -17,6 +17,7 @@ use Rattle.price.specs.Lists.{has, distinct}
 use Rattle.price.proofs.TestLaws.{either-way, true≢false}
 use Rattle.price.proofs.ListLaws.{has-at, has-append-left, has-append-right}
 use Rattle.search.proofs.DistinctLaws.{has-first, has-rest, has-cons, lacks, distinct-rest}
+use Rattle.search.specs.Paths.{pathCost}
 use Rattle.job.specs.Job.{Job, nets, source, netSinks}
 use Rattle.negotiation.specs.Records.{Record, words, encode, pathNodes}
 use Rattle.negotiation.specs.Machine.{State, Progress, treeFrom, withNet, due, overCount, moveOn, firstState}
@@ -24,9 +25,11 @@ use Rattle.negotiation.specs.Resume.{recordIn, wholeRecord, costFollows,
 use Rattle.negotiation.specs.Runs.{All, Of, stepEnds, branchEnds, Owns, NetsRan, none, kept, routed, Ran, start, next}
 use Rattle.negotiation.proofs.DueLaws.{due-some}
 use Rattle.negotiation.proofs.RecordLaws.{encode-append, pathNodes-append}
+use Rattle.negotiation.proofs.NetLaws.{no-split}
 use Rattle.negotiation.proofs.MemberLaws.{every-has, has-append-split, no-entry, none-has, distinct-append}
 use Rattle.negotiation.proofs.FilterLaws.{all-append}
 use Rattle.negotiation.proofs.RanLaws.{nets-iteration, ran-iteration}
+use Rattle.negotiation.proofs.DemandLaws.{split-append}
 use Rattle.negotiation.proofs.FollowLaws.{PathHolds, first-there, Follows, follows-of, whole-long, words-there}
 
 -- ---- answers by cases
@@ -79,6 +82,43 @@ begins-more ws rs price b w c =
       b,
       same,
     )
+
+-- ---- every turn, beside the records before it
+
+-- every turn of the records has the property
+abbrev pub EachTurn : (List Record → Record → Type 0) → List Record → Type 0
+EachTurn P rs = (earlier later : List Record) (t : Record) → rs ≡ earlier ++ (t ∷ later) → P earlier t
+
+each-none : (P : List Record → Record → Type 0) → EachTurn P []
+each-none P earlier later t e = absurd (no-split earlier later t e)
+
+-- a turn more
+each-more : (P : List Record → Record → Type 0) (rs : List Record) (r : Record) → EachTurn P rs → P rs r → EachTurn P (rs ++ (r ∷ []))
+each-more P rs r each here earlier later t e =
+    ⊎-elim
+    (λ q. each earlier (q .0) t (q .1))
+    (λ q. last-turn (q .0) (q .1) (q .2))
+    (split-append rs (r ∷ []) earlier later t e)
+  where
+    last-turn : (front : List Record) → r ∷ [] ≡ front ++ (t ∷ later) → earlier ≡ rs ++ front → P earlier t
+    last-turn [] is before =
+        let same : r ≡ t = cc in
+        subst (λ (x : Record). P earlier x) same (subst (λ (l : List Record). P l r) (sym (before ∙ append-nil rs)) here)
+    last-turn (x ∷ xs) is before = absurd (no-split xs later t (let tail : [] ≡ xs ++ (t ∷ later) = cc in tail))
+
+-- what the property asks of a lent turn that follows, of net i after its own turns and all before them
+abbrev pub LentStep : Job → (List Record → Record → Type 0) → Type 0
+LentStep j P =
+    (m i : ℕ) (rs : List Record) (s : State) (p : Progress) → Ran j m rs s → m < j .terms .limit → NetsRan j s i p → i < nets j
+    → (made : List Record) → All (Of i (m + 1)) made → (t : Record) → Of i (m + 1) t → PathHolds j i (treeFrom j i made) (t .sink) (t .path)
+    → t .cost ≡ pathCost (turnPrice j (p .state) i (treeFrom j i made)) (t .path) → P ((rs ++ p .records) ++ made) t
+
+-- the same of one net, from this progress
+abbrev NetStep : Job → (List Record → Record → Type 0) → ℕ → Progress → Type 0
+NetStep j P i p =
+    (made : List Record) → All (Of i (p .state .iteration)) made → (t : Record) → Of i (p .state .iteration) t
+    → PathHolds j i (treeFrom j i made) (t .sink) (t .path) → t .cost ≡ pathCost (turnPrice j (p .state) i (treeFrom j i made)) (t .path)
+    → P (p .records ++ made) t
 
 -- ---- the turns of one net
 
@@ -158,33 +198,37 @@ made-more j s i made ws price m f =
     }
 
 -- what the turns of a net give where they follow
-record NetFollowed (j : Job) (ws : List ℕ) (i : ℕ) (p q : Progress) : Type 0 where
+record NetFollowed (j : Job) (P : List Record → Record → Type 0) (ws : List ℕ) (i : ℕ) (p q : Progress) : Type 0 where
   rs : List Record
   is : q ≡ withNet j i p rs
   made : MadeSo j i (p .state .iteration) rs
   joined : allJoined j i rs ≡ true
   begins : Begins ws (p .records ++ rs)
+  each : EachTurn P (p .records ++ rs)
 
-module _ (j : Job) (ws : List ℕ) (i : ℕ) (p : Progress) where
+module _ (j : Job) (P : List Record → Record → Type 0) (ws : List ℕ) (i : ℕ) (p : Progress) (step : NetStep j P i p) where
   turns-followed :
       (k : ℕ) (made : List Record) (q : Progress) → replayTurns j ws i p k made ≡ on q → MadeSo j i (p .state .iteration) made
-      → Begins ws (p .records ++ made) → NetFollowed j ws i p q
+      → Begins ws (p .records ++ made) → EachTurn P (p .records ++ made) → NetFollowed j P ws i p q
   unfolding replayTurns
-  turns-followed zero made q e m b =
+  turns-followed zero made q e m b a =
       let c = chosen-on (allJoined j i made) (on (withNet j i p made)) _ q e in
-      record { rs = made; is = cc; made = m; joined = c .0; begins = b }
-  turns-followed (suc k) made q e m b =
+      record { rs = made; is = cc; made = m; joined = c .0; begins = b; each = a }
+  turns-followed (suc k) made q e m b a =
       ⊎-elim
       (λ (t : allJoined j i made ≡ true).
       let now : on (withNet j i p made) ≡ on q = rw t at e in
-      record { rs = made; is = cc; made = m; joined = t; begins = b })
+      record { rs = made; is = cc; made = m; joined = t; begins = b; each = a })
       (λ (t : allJoined j i made ≡ false).
       let price : (ℕ → ℕ) = turnPrice j (p .state) i (treeFrom j i made) in
       let there : List ℕ = after ws (p .records ++ made) in
       let c = chosen-on (turnFollows j (p .state) i (treeFrom j i made) there) (replayTurns j ws i p k (made ++ (recordIn price there ∷ []))) _ q (rw t at e) in
       let f : Follows j (p .state) i (treeFrom j i made) there = follows-of j (p .state) i (treeFrom j i made) there (c .0) in
-      turns-followed k (made ++ (recordIn price there ∷ [])) q (c .1) (made-more j (p .state) i made there price m f)
-      (rw (← append-assoc (p .records) made (recordIn price there ∷ [])) (begins-more ws (p .records ++ made) price b (f .is-whole) (f .cost))))
+      let r : Record = recordIn price there in
+      let here : P (p .records ++ made) r = step made (m .own) r (record { net-is = f .net-is; iteration-is = f .iteration-is }) (f .path) refl in
+      turns-followed k (made ++ (r ∷ [])) q (c .1) (made-more j (p .state) i made there price m f)
+      (rw (← append-assoc (p .records) made (r ∷ [])) (begins-more ws (p .records ++ made) price b (f .is-whole) (f .cost)))
+      (rw (← append-assoc (p .records) made (r ∷ [])) (each-more P (p .records ++ made) r a here)))
       (either-way (allJoined j i made))
 
 -- ---- the nets of an iteration
@@ -225,23 +269,33 @@ with-before :
     → withNet j i p ss ≡ record { records = rs ++ withNet j i n ss .records; state = withNet j i n ss .state }
 with-before j i rs n p ss e = ap (λ (x : Progress). withNet j i x ss) e ∙ rw (append-assoc rs (n .records) ss)
 
-module _ (j : Job) (clean : (i : ℕ) → i < nets j → has (source j i) (netSinks j i) ≡ false) (ws : List ℕ) where
+module _ (j : Job) (clean : (i : ℕ) → i < nets j → has (source j i) (netSinks j i) ≡ false) (P : List Record → Record → Type 0) (step : LentStep j P) (ws : List ℕ) where
   -- the first nets of the iteration from s, after these records
   record NetsFollowed (s : State) (rs : List Record) (i : ℕ) (q : Progress) : Type 0 where
     p : Progress
     ran : NetsRan j s i p
     is : q ≡ record { records = rs ++ p .records; state = p .state }
     begins : Begins ws (q .records)
+    each : EachTurn P (q .records)
+
+  -- the step of one net
+  net-step : {m : ℕ} {s : State} {rs : List Record} → Ran j m rs s → m < j .terms .limit → (i : ℕ) (p : Progress) → i < nets j → NetsFollowed s rs i p → NetStep j P i p
+  net-step {m} {s} {rs} r low i p h n =
+      let at : n .p .state .iteration ≡ m + 1 = nets-iteration j (n .ran) ∙ ran-iteration j r in
+      subst (NetStep j P i) (sym (n .is))
+      (λ made own t of path cost.
+      step m i rs s (n .p) r low (n .ran) h made (subst (λ (k : ℕ). All (Of i k) made) at own) t (subst (λ (k : ℕ). Of i k t) at of) path cost)
 
   -- a net more, as its rule says
   net-more :
-      (s : State) (rs : List Record) (i : ℕ) (p q : Progress) → i < nets j → NetsFollowed s rs i p
+      {m : ℕ} (s : State) (rs : List Record) → Ran j m rs s → m < j .terms .limit → (i : ℕ) (p q : Progress) → i < nets j → NetsFollowed s rs i p
       → choose (due j s i) (replayTurns j ws i p (length (netSinks j i)) []) (on p) ≡ on q → NetsFollowed s rs (suc i) q
-  net-more s rs i p q h n e =
+  net-more s rs r low i p q h n e =
       ⊎-elim
       (λ (d : due j s i ≡ true).
-      let f : NetFollowed j ws i p q =
-      turns-followed j ws i p (length (netSinks j i)) [] q (rw d at e) (made-none j i (p .state .iteration)) (rw (append-nil (p .records)) (n .begins)) in
+      let f : NetFollowed j P ws i p q =
+      turns-followed j P ws i p (net-step r low i p h n) (length (netSinks j i)) [] q (rw d at e) (made-none j i (p .state .iteration))
+      (rw (append-nil (p .records)) (n .begins)) (rw (append-nil (p .records)) (n .each)) in
       let t : p .state .iteration ≡ s .iteration = ap (λ (x : Progress). x .state .iteration) (n .is) ∙ nets-iteration j (n .ran) in
       record {
         p = withNet j i (n .p) (f .rs);
@@ -250,6 +304,7 @@ module _ (j : Job) (clean : (i : ℕ) → i < nets j → has (source j i) (netSi
             (owns-of j i (s .iteration) (f .rs) (due-some j s i d) (clean i h) (subst (λ (k : ℕ). MadeSo j i k (f .rs)) t (f .made)) (f .joined));
         is = f .is ∙ with-before j i rs (n .p) p (f .rs) (n .is);
         begins = rw (f .is) (f .begins);
+        each = rw (f .is) (f .each);
       })
       (λ (d : due j s i ≡ false).
       let same : p ≡ q = let o : on p ≡ on q = rw d at e in cc in
@@ -258,19 +313,20 @@ module _ (j : Job) (clean : (i : ℕ) → i < nets j → has (source j i) (netSi
         ran = kept (n .ran) d;
         is = sym same ∙ n .is;
         begins = subst (λ (x : Progress). Begins ws (x .records)) same (n .begins);
+        each = subst (λ (x : Progress). EachTurn P (x .records)) same (n .each);
       })
       (either-way (due j s i))
 
   nets-followed :
-      (s : State) (rs : List Record) → Begins ws rs → (i : ℕ) → i ≤ nets j → (q : Progress) → replayNets j ws s rs i ≡ on q
-      → NetsFollowed s rs i q
+      {m : ℕ} (s : State) (rs : List Record) → Ran j m rs s → m < j .terms .limit → Begins ws rs → EachTurn P rs → (i : ℕ) → i ≤ nets j → (q : Progress)
+      → replayNets j ws s rs i ≡ on q → NetsFollowed s rs i q
   unfolding replayNets
-  nets-followed s rs b zero h q e =
+  nets-followed s rs r low b a zero h q e =
       let is : q ≡ record { records = rs; state = s } = cc in
-      record { p = record { records = []; state = s }; ran = none; is = is ∙ rw (append-nil rs); begins = rw is b }
-  nets-followed s rs b (suc i) h q e =
+      record { p = record { records = []; state = s }; ran = none; is = is ∙ rw (append-nil rs); begins = rw is b; each = rw is a }
+  nets-followed s rs r low b a (suc i) h q e =
       let c = then-on (replayNets j ws s rs i) (λ p. choose (due j s i) (replayTurns j ws i p (length (netSinks j i)) []) (on p)) q e in
-      net-more s rs i (c .0) q h (nets-followed s rs b i (omega arith) (c .0) (c .1)) (c .2)
+      net-more s rs r low i (c .0) q h (nets-followed s rs r low b a i (omega arith) (c .0) (c .1)) (c .2)
 
   -- ---- iterations
 
@@ -282,11 +338,12 @@ module _ (j : Job) (clean : (i : ℕ) → i < nets j → has (source j i) (netSi
     pub begins : Begins ws (q .records)
     pub ends : length ws ≤ length (encode (q .records))
     pub below : whole < j .terms .limit
+    pub each : EachTurn P (q .records)
 
   -- an iteration more, which leaves a node overfull below the limit
   iteration-more :
       (m : ℕ) (rs : List Record) (s : State) (p q : Progress) (next-ones : State → List Record → Replay) → Ran j m rs s → NetsFollowed s rs (nets j) p
-      → ((rs : List Record) (s : State) → Ran j (suc m) rs s → Begins ws rs → next-ones s rs ≡ on q → Followed (suc m) q)
+      → ((rs : List Record) (s : State) → Ran j (suc m) rs s → Begins ws rs → EachTurn P rs → next-ones s rs ≡ on q → Followed (suc m) q)
       → replayNext j ws p next-ones ≡ on q → Followed m q
   iteration-more m rs s p q next-ones r n again e =
       let stops : Bool = either (eqb (overCount j (p .state .trees)) 0) (leb (j .terms .limit) (p .state .iteration)) in
@@ -310,21 +367,23 @@ module _ (j : Job) (clean : (i : ℕ) → i < nets j → has (source j i) (netSi
         begins = n .begins;
         ends = leb-true (length ws) (length (encode (p .records))) u;
         below = omega arith;
+        each = n .each;
       }))
       (λ (u : leb (length ws) (length (encode (p .records))) ≡ false).
-      let f : Followed (suc m) q = again (p .records) (moveOn j (p .state)) ran (n .begins) (rw (t, u) at e) in
-      record { whole = f .whole; more = omega (arith, f .more); ran = f .ran; begins = f .begins; ends = f .ends; below = f .below })
+      let f : Followed (suc m) q = again (p .records) (moveOn j (p .state)) ran (n .begins) (n .each) (rw (t, u) at e) in
+      record { whole = f .whole; more = omega (arith, f .more); ran = f .ran; begins = f .begins; ends = f .ends; below = f .below; each = f .each })
       (either-way (leb (length ws) (length (encode (p .records))))))
       (either-way stops)
 
   from-followed :
-      (k m : ℕ) (rs : List Record) (s : State) → Ran j m rs s → Begins ws rs → (q : Progress) → replayFrom j ws k s rs ≡ on q → Followed m q
+      (k m : ℕ) (rs : List Record) (s : State) → m + k ≤ j .terms .limit → Ran j m rs s → Begins ws rs → EachTurn P rs → (q : Progress) → replayFrom j ws k s rs ≡ on q
+      → Followed m q
   unfolding replayFrom
-  from-followed zero m rs s r b q e = absurd (off-on e)
-  from-followed (suc k) m rs s r b q e =
+  from-followed zero m rs s few r b a q e = absurd (off-on e)
+  from-followed (suc k) m rs s few r b a q e =
       let c = then-on (replayNets j ws s rs (nets j)) (λ p. replayNext j ws p (replayFrom j ws k)) q e in
-      iteration-more m rs s (c .0) q (replayFrom j ws k) r (nets-followed s rs b (nets j) (le-refl (nets j)) (c .0) (c .1))
-      (λ rs s r b e. from-followed k (suc m) rs s r b q e) (c .2)
+      iteration-more m rs s (c .0) q (replayFrom j ws k) r (nets-followed s rs r (omega arith) b a (nets j) (le-refl (nets j)) (c .0) (c .1))
+      (λ rs s r b a e. from-followed k (suc m) rs s (omega arith) r b a q e) (c .2)
 
 -- ---- a log that is taken up
 
@@ -337,22 +396,31 @@ pub record TakenUp (j : Job) (used : ℕ) (log : List ℕ) (q : Progress) : Type
   pub within : used ≤ length log
   pub words-are : take used log ≡ encode (q .records)
 
-pub taken-up :
-    (j : Job) → ((i : ℕ) → i < nets j → has (source j i) (netSinks j i) ≡ false) → (used : ℕ) (log : List ℕ) (q : Progress) → replay j used log ≡ on q
-    → TakenUp j used log q
+-- so it is, and each of its turns has what a turn that follows has
+pub taken-each :
+    (j : Job) → ((i : ℕ) → i < nets j → has (source j i) (netSinks j i) ≡ false) → (P : List Record → Record → Type 0) → LentStep j P
+    → (used : ℕ) (log : List ℕ) (q : Progress) → replay j used log ≡ on q → TakenUp j used log q × EachTurn P (q .records)
 unfolding replay
-taken-up j clean used log q e =
+taken-each j clean P step used log q e =
     ⊎-elim
     (λ (t : ltb (length log) used ≡ true). absurd (off-on (rw t at e)))
     (λ (t : ltb (length log) used ≡ false).
     let ws : List ℕ = take used log in
-    let f : Followed j clean ws 0 q = from-followed j clean ws (j .terms .limit) 0 [] (firstState j) start (begins-none ws) q (rw t at e) in
-    record {
-      whole = f .whole;
-      some = f .more;
-      below = f .below;
-      ran = f .ran;
-      within = ltb-false (length log) used t;
-      words-are = sym (take-all (length (encode (q .records))) ws (f .ends)) ∙ f .begins;
-    })
+    let f : Followed j clean P step ws 0 q =
+    from-followed j clean P step ws (j .terms .limit) 0 [] (firstState j) (omega arith) start (begins-none ws) (each-none P) q (rw t at e) in (
+      record {
+        whole = f .whole;
+        some = f .more;
+        below = f .below;
+        ran = f .ran;
+        within = ltb-false (length log) used t;
+        words-are = sym (take-all (length (encode (q .records))) ws (f .ends)) ∙ f .begins;
+      },
+      f .each,
+    ))
     (either-way (ltb (length log) used))
+
+pub taken-up :
+    (j : Job) → ((i : ℕ) → i < nets j → has (source j i) (netSinks j i) ≡ false) → (used : ℕ) (log : List ℕ) (q : Progress) → replay j used log ≡ on q
+    → TakenUp j used log q
+taken-up j clean used log q e = taken-each j clean (λ _ _. Unit {0}) (λ _ _ _ _ _ _ _ _ _ _ _ _ _ _ _. tt) used log q e .0

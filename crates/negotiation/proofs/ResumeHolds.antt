@@ -1,22 +1,26 @@
--- Request 2.8, of every resumed call: what is rebuilt is read off the lent log, its words stand first, the appended turns and the final trees are as demand 3 asks.
+-- Request 2.8, of every resumed call: what is rebuilt is read off the lent log, its words stand first, its turns are legal, the appended turns and the final trees are as demand 3 asks, and all costs fit.
 -- Assumes nothing.
+use mathlib.Core.Bool.{true, false}
 use mathlib.Core.List.{List, [], _∷_, _++_, append-nil, append-assoc}
-use mathlib.Core.Logic.{_⊎_, inl, inr}
+use mathlib.Core.Logic.{_⊎_, ⊎-elim, inl, inr}
 use mathlib.Core.Path.{_≡_, refl, sym, _∙_, ap, subst}
-use Prim.Native.Nat.{ℕ, _+_, _≤_, _<_}
+use Prim.Native.Nat.{ℕ, _+_, _-_, _≤_, _<_}
 use native.Mathlib.Omega.{arith}
+use lib.Dec.{ltb}
 use lib.ListN.{length, take, length-append}
 use lib.Seq.{length-take-le, take-append-seam}
+use Rattle.price.specs.Bounds.{pathMost}
+use Rattle.price.proofs.TestLaws.{either-way, true≢false}
 use Rattle.search.specs.Replies.{cleared}
 use Rattle.job.specs.Job.{Job, nodes}
 use Rattle.job.specs.Join.{joined}
 use Rattle.negotiation.specs.Routable.{Routable}
 use Rattle.negotiation.specs.Records.{Record, encode, decode, fitting}
-use Rattle.negotiation.specs.Machine.{Progress, recordsAfter}
-use Rattle.negotiation.specs.Outcome.{RouteReply, madeFrom, allRecords, refusedReply, continued}
+use Rattle.negotiation.specs.Machine.{Progress, recordsAfter, settlesAt}
+use Rattle.negotiation.specs.Outcome.{RouteReply, turnsLogged, madeFrom, allRecords, loggedRecords, refusedReply, endNumbers, continued}
 use Rattle.negotiation.specs.Resume.{Replay, on, off, replay, resumedReply, resumeReply}
 use Rattle.negotiation.specs.Demand.{historyRead, FinalTrees}
-use Rattle.negotiation.specs.Resumed.{NotTakenUp, LentFirst, Rebuilt, RebuiltAsRead, Resumed}
+use Rattle.negotiation.specs.Resumed.{takenUp, NotTakenUp, LentFirst, LentTurn, Rebuilt, RebuiltAsRead, Resumed}
 use Rattle.negotiation.specs.Runs.{Ran}
 use Rattle.negotiation.proofs.RecordLaws.{decode-encode, encode-append, fitting-all, fitting-append}
 use Rattle.negotiation.proofs.LimitLaws.{not-accepted}
@@ -24,8 +28,10 @@ use Rattle.negotiation.proofs.ReplyLogLaws.{LogHas, log-turns, run-log}
 use Rattle.negotiation.proofs.RanLaws.{ran-iteration, ran-factor, ran-read, ran-history}
 use Rattle.negotiation.proofs.JoinedHolds.{joined-no-source}
 use Rattle.negotiation.proofs.MachineRan.{Reached}
-use Rattle.negotiation.proofs.ReplayLaws.{TakenUp, taken-up}
-use Rattle.negotiation.proofs.DemandHolds.{Facts, logged-is, words-only, turns-are, tested-case, refused-facts, run-facts}
+use Rattle.negotiation.proofs.DemandLaws.{split-append}
+use Rattle.negotiation.proofs.ReplayLaws.{EachTurn, LentStep, TakenUp, taken-each, taken-up}
+use Rattle.negotiation.proofs.LentLaws.{lent-turn, lent-below}
+use Rattle.negotiation.proofs.DemandHolds.{Facts, logged-is, words-only, turns-are, costs-of, tested-case, refused-facts, run-facts}
 
 -- ---- a log that is taken up
 
@@ -90,44 +96,104 @@ rebuilt-as-read j used log sound p e =
 
 -- ---- each case of the reply
 
-module _ (j : Job) (used : ℕ) (work log : List ℕ) where
-  abbrev Holds : RouteReply → Type 0
-  Holds r = Facts j (decode (take used log)) r × (NotTakenUp log r ⊎ LentFirst used log r)
+-- a run that goes on is accepted or ends by 8 or 9
+run-taken-up : (j : Job) (p : Progress) (work log : List ℕ) → takenUp (continued j p work log .refusal) ≡ true
+unfolding continued takenUp endNumbers
+run-taken-up j p work log =
+    ⊎-elim
+    (λ (q : ltb (length (loggedRecords j p (length log))) (length (allRecords j p)) ≡ true). rw q)
+    (λ (q : ltb (length (loggedRecords j p (length log))) (length (allRecords j p)) ≡ false).
+    ⊎-elim
+    (λ (t : settlesAt j (p .state) (madeFrom j (p .state) - 1) ≡ true). rw (q, t))
+    (λ (t : settlesAt j (p .state) (madeFrom j (p .state) - 1) ≡ false). rw (q, t))
+    (either-way (settlesAt j (p .state) (madeFrom j (p .state) - 1))))
+    (either-way (ltb (length (loggedRecords j p (length log))) (length (allRecords j p))))
 
-  refused-holds : (number : ℕ) (numbers left : List ℕ) → Facts j (decode (take used log)) (refusedReply (number ∷ numbers) left log) → Holds (refusedReply (number ∷ numbers) left log)
-  refused-holds number numbers left facts =
-      (facts, inl (record { refused = λ e. not-accepted number numbers (sym e); no-turns = refl; no-words = refl; log-stays = refl }))
+module _ (j : Job) (used : ℕ) (work log : List ℕ) where
+  abbrev lent : List Record
+  lent = decode (take used log)
+
+  -- a lent turn is legal, and its cost fits
+  abbrev LentFits : List Record → Record → Type 0
+  LentFits earlier t = LentTurn (joined j) earlier t × (t .cost < pathMost)
+
+  -- the log is taken up, or it is not
+  abbrev Holds : RouteReply → Type 0
+  Holds r =
+      Facts j lent r
+      × (((takenUp (r .refusal) ≡ true) × LentFirst used log r × EachTurn LentFits lent) ⊎ ((takenUp (r .refusal) ≡ false) × NotTakenUp log r))
+
+  lent-fits : Routable (joined j) → LentStep (joined j) LentFits
+  lent-fits sound m i rs s p r low n hi made own t of path cost =
+      (lent-turn (joined j) sound r low n hi made own t of path cost, lent-below (joined j) sound r low n hi made own t of path cost)
+
+  refused-holds :
+      (number : ℕ) (numbers left : List ℕ) → takenUp (number ∷ numbers) ≡ false → Facts j lent (refusedReply (number ∷ numbers) left log)
+      → Holds (refusedReply (number ∷ numbers) left log)
+  refused-holds number numbers left before facts =
+      (facts, inr (before, record { refused = λ e. not-accepted number numbers (sym e); no-turns = refl; no-words = refl; log-stays = refl }))
 
   -- 14, or a run that goes on
   replay-holds : Routable (joined j) → Reached (joined j) → (a : Replay) → replay (joined j) used log ≡ a → Holds (resumedReply (joined j) a work log)
+  unfolding takenUp
   replay-holds sound all (off word) e =
-      refused-holds 14 (word ∷ []) (cleared (nodes j) [] work)
-      (refused-facts j work log (decode (take used log)) 14 (word ∷ []) (cleared (nodes j) [] work) (λ _ z. omega arith))
+      refused-holds 14 (word ∷ []) (cleared (nodes j) [] work) refl
+      (refused-facts j work log lent 14 (word ∷ []) (cleared (nodes j) [] work) (λ _ z. omega arith))
   replay-holds sound all (on p) e =
-      let taken : TakenUp (joined j) used log p = taken-up (joined j) (sound .source-no-sink) used log p e in (
-        subst (λ (rs : List Record). Facts j rs (continued (joined j) p work log)) (sym (lent-is (joined j) used log p taken))
+      let up : TakenUp (joined j) used log p × EachTurn LentFits (p .records) =
+      taken-each (joined j) (sound .source-no-sink) LentFits (lent-fits sound) used log p e in
+      let taken : TakenUp (joined j) used log p = up .0 in
+      let is : decode (take used log) ≡ p .records = lent-is (joined j) used log p taken in (
+        subst (λ (rs : List Record). Facts j rs (continued (joined j) p work log)) (sym is)
             (run-facts j work log (taken .whole) p sound all (taken .ran) (taken .below)),
-        inr (lent-stays (joined j) used log p taken work),
+        inl (run-taken-up (joined j) p work log, lent-stays (joined j) used log p taken work, subst (EachTurn LentFits) (sym is) (up .1)),
       )
 
   resume-holds : Holds (resumeReply j used work log)
   unfolding resumeReply
   resume-holds =
       tested-case j work log (λ f. Holds (f (resumedReply (joined j) (replay (joined j) used log) work log)))
-      (λ number numbers left reached. refused-holds number numbers left (refused-facts j work log (decode (take used log)) number numbers left reached))
+      (λ number numbers left before reached. refused-holds number numbers left before (refused-facts j work log lent number numbers left reached))
       (λ sound all. replay-holds sound all (replay (joined j) used log) refl)
+
+  module _ (r : RouteReply) (h : Holds r) where
+    -- what holds of a reply by which the log is taken up, and by which it is not
+    when-taken : takenUp (r .refusal) ≡ true → LentFirst used log r × EachTurn LentFits lent
+    when-taken e = ⊎-elim (λ q. (q .1, q .2)) (λ q. absurd (true≢false (sym e ∙ q .0))) (h .1)
+
+    when-not : takenUp (r .refusal) ≡ false → NotTakenUp log r
+    when-not e = ⊎-elim (λ q. absurd (true≢false (sym (q .0) ∙ e))) (λ q. q .1) (h .1)
+
+    -- costs of lent turns, of appended ones, and of none
+    each-below : (earlier later : List Record) (t : Record) → turnsLogged r ≡ earlier ++ (t ∷ later) → t .cost < pathMost
+    each-below earlier later t e =
+        ⊎-elim
+        (λ q.
+        let turns = q .1 .turns in
+        ⊎-elim
+        (λ c. q .2 earlier (c .0) t (c .1) .1)
+        (λ c. h .0 .each (c .0) later t (sym (logged-is j lent r (h .0)) ∙ turns .1 ∙ ap (λ (l : List Record). lent ++ l) (c .1)) .1)
+        (split-append lent (turns .0) earlier later t (sym (turns .1) ∙ e)))
+        (λ q.
+        let none = q .1 .no-turns in
+        let counted = turns-are j lent r (h .0) in
+        let long : length (turnsLogged r) ≡ length earlier + length (t ∷ later) = ap length e ∙ length-append earlier (t ∷ later) in
+        absurd (omega arith))
+        (h .1)
 
   pub resumed : Resumed j used work log (resumeReply j used work log)
   resumed =
       let r : RouteReply = resumeReply j used work log in
-      let lent : List Record = decode (take used log) in
       let h : Facts j lent r = resume-holds .0 in
       record {
         as-resumed = refl;
         nothing-else = words-only j lent r h;
         turns-counted = turns-are j lent r h;
-        lent-first = resume-holds .1;
+        lent-first = λ e. when-taken r resume-holds e .0;
+        not-taken-up = when-not r resume-holds;
+        lent-turns = λ e earlier later t is. when-taken r resume-holds e .1 earlier later t is .0;
         appended = λ earlier later t e. h .each earlier later t (sym (logged-is j lent r h) ∙ e) .0;
         final-trees = λ e. subst (λ (rs : List Record). FinalTrees (joined j) rs) (sym (logged-is j lent r h)) (h .final e);
         not-unreachable = h .reached;
+        costs-fit = costs-of r (each-below r resume-holds);
       }

@@ -1,7 +1,7 @@
 -- Demand 3, whole, as one statement about a call: its job, its log and its answer. Only its first clause mentions the machine: trees and
 -- prices are read off the log as document 01's section "Trees and prices read off the log" says.
 -- Assumes nothing.
-use mathlib.Core.Bool.{true, not}
+use mathlib.Core.Bool.{Bool, true, not}
 use mathlib.Core.List.{List, [], _∷_, _++_}
 use mathlib.Core.Path.{_≡_}
 use Prim.Native.Nat.{ℕ, zero, suc, _+_, _-_, _^_, _≤_, _<_, max}
@@ -12,7 +12,8 @@ use Rattle.price.specs.Bounds.{priceMost, pathMost, timedPriceMost}
 use Rattle.price.specs.Lists.{has, distinct, countBelow}
 use Rattle.price.specs.Prices.{priceOf, factorAt, nextHistory}
 use Rattle.price.specs.Timed.{weighed}
-use Rattle.search.specs.Paths.{CheapestPath}
+use Rattle.search.specs.Block.{Block}
+use Rattle.search.specs.Paths.{JoiningPath, CheapestPath}
 use Rattle.job.specs.Job.{Job, nodes, nets, source, netSinks}
 use Rattle.job.specs.Join.{joined}
 use Rattle.negotiation.specs.Records.{Record, encode}
@@ -75,14 +76,22 @@ priceRead j i t earlier v =
 
 -- ---- the demand
 
--- a logged turn: "the logged path follows edges from a node of that net's tree before the turn to one of its sinks not yet joined. The
--- logged cost is that path's cost, at prices worked out from the job and the log's earlier turns alone. At these prices every other path in
--- the graph, from any node of that tree to any of the net's sinks not yet joined, costs at least as much." Request 2.9: "The cheapest-path
--- claim for timed jobs is about the sink whose turn it is", which is then the only one of `turnSinks`
-abbrev pub TurnHolds : Job → List Record → Record → Type 0
-TurnHolds j earlier r =
-    CheapestPath (j .block) (priceRead j (r .net) (r .iteration) earlier) (λ v. has v (ownTree j (r .net) (r .iteration) earlier))
+-- what is asked of a turn's path and cost, at prices and from a tree that are read off the earlier turns, to the sinks that it tries
+abbrev pub OfTurn : (Block → (ℕ → ℕ) → (ℕ → Bool) → List ℕ → ℕ → ℕ → List ℕ → Type 0) → Job → List Record → Record → Type 0
+OfTurn Asked j earlier r =
+    Asked (j .block) (priceRead j (r .net) (r .iteration) earlier) (λ v. has v (ownTree j (r .net) (r .iteration) earlier))
     (turnSinks j (r .net) (ownTree j (r .net) (r .iteration) earlier)) (r .sink) (r .cost) (r .path)
+
+-- "the logged path follows edges from a node of that net's tree before the turn to one of its sinks not yet joined. The logged cost is that
+-- path's cost, at prices worked out from the job and the log's earlier turns alone."
+abbrev pub TurnJoins : Job → List Record → Record → Type 0
+TurnJoins j earlier r = OfTurn JoiningPath j earlier r
+
+-- a logged turn: it joins so, and "At these prices every other path in the graph, from any node of that tree to any of the net's sinks not
+-- yet joined, costs at least as much." Request 2.9: "The cheapest-path claim for timed jobs is about the sink whose turn it is", which is
+-- then the only one of `turnSinks`
+abbrev pub TurnHolds : Job → List Record → Record → Type 0
+TurnHolds j earlier r = OfTurn CheapestPath j earlier r
 
 -- the nodes in which branches of net i end, of its records of iteration t: "The branches of a final tree are the path steps of the records
 -- that it is read from."
@@ -96,6 +105,13 @@ pub record FinalTrees (j : Job) (rs : List Record) : Type 0 where
   -- "A node is reached twice when two of them end in it, or when it is the source and one ends in it."
   pub none-twice : (i : ℕ) → i < nets j → distinct (source j i ∷ endsIn i (latest i rs) rs) ≡ true
   pub within-capacity : (v : ℕ) → v < nodes j → usersRead j rs v ≤ getD (j .block .capacities) v 0
+
+-- "The new bound on a path's cost still fits 64 bits, with 2.1's step of 2 too": every logged turn's cost is below `pathMost`, which fits
+-- 64 bits with one more price, timed or not
+pub record CostsFit (r : RouteReply) : Type 0 where
+  pub below : (earlier later : List Record) (t : Record) → turnsLogged r ≡ earlier ++ (t ∷ later) → t .cost < pathMost
+  pub fits : pathMost + priceMost < 2 ^ 64
+  pub timed-fits : pathMost + timedPriceMost < 2 ^ 64
 
 -- Demand 3 of one call: a job, the work slice and the log that it is lent, and the reply. It is asked of jobs with sound tables and enough
 -- work memory; it holds of every call, since after refusals 5 and 6 no words are used. Request 2.3: "Negotiation and all of demand 3 are
@@ -113,10 +129,5 @@ pub record Demand3 (j : Job) (work log : List ℕ) (r : RouteReply) : Type 0 whe
   pub not-unreachable : AllReachable (joined j) → (net place : ℕ) → r .refusal ≡ 7 ∷ net ∷ place ∷ [] → ⊥
   -- "Whatever the outcome, the reported turn count is the number of logged turns."
   pub turns-counted : r .turns ≡ length (turnsLogged r)
-
--- "The new bound on a path's cost still fits 64 bits, with 2.1's step of 2 too": every logged turn's cost is below `pathMost`, which fits
--- 64 bits with one more price, timed or not
-pub record CostsFit (r : RouteReply) : Type 0 where
-  pub below : (earlier later : List Record) (t : Record) → turnsLogged r ≡ earlier ++ (t ∷ later) → t .cost < pathMost
-  pub fits : pathMost + priceMost < 2 ^ 64
-  pub timed-fits : pathMost + timedPriceMost < 2 ^ 64
+  -- no part of the demand: the bound on a path's cost
+  pub costs-fit : CostsFit r
