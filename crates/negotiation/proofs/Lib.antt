@@ -56,6 +56,7 @@
 --     UnreachableHolds  what refusal 7 means
 --     JoinedHolds       requests 2.3 and 2.9: joined nets; the joined job can be routed, and has paths where the listed one has
 --     OlderHolds        request 2.2: a job of 01's kinds makes its turns at 01's prices, and each turn in its log is such a one
+--     FallingHolds      request 2.9: one sink is due, the first listed of the most critical that are not joined
 --     LongerHolds       request 2.6: two limits, two log lengths
 --     ResumeHolds       request 2.8: every resumed call: what is rebuilt, the lent words first, lent turns legal, the appended ones as demand 3 asks, costs within their bound
 --     OwnResumeHolds    request 2.8: a job's own log ends as the straight run
@@ -134,6 +135,7 @@ pub mod RouteLaws
 pub mod DemandHolds
 pub mod UnreachableHolds
 pub mod JoinedHolds
+pub mod FallingHolds
 pub mod OlderHolds
 pub mod LongerHolds
 pub mod ResumeHolds

@@ -1,5 +1,6 @@
 pub mod Records
 pub mod Order
+pub mod Falling
 pub mod Routable
 pub mod JoinedNets
 pub mod Machine
