@@ -1,6 +1,6 @@
 -- What labels that have stopped spreading say of the turn: the least label of a goal is the distance of the nearest sink that is still to be joined, or none of them has a path.
 -- Assumes nothing.
-use mathlib.Core.Bool.{true, false}
+use mathlib.Core.Bool.{Bool, true, false}
 use mathlib.Core.List.{List, _++_}
 use mathlib.Core.Logic.{_⊎_, ⊎-elim}
 use mathlib.Core.Path.{_≡_, sym, _∙_}
@@ -9,7 +9,7 @@ use native.Mathlib.Nat.{le-antisymm}
 use native.Mathlib.Omega.{arith}
 use lib.ListN.{length, getD, take, drop, replicate, List·getD-eq-default}
 use Rattle.price.proofs.TestLaws.{le-or-lt, never-true}
-use Rattle.search.specs.Block.{Block, nodes}
+use Rattle.search.specs.Block.{Block, nodes, hasEdge}
 use Rattle.search.specs.Distance.{far, inTree, distances, distance}
 use Rattle.search.specs.Turn.{joins, stuck, pathTo, turn}
 use Rattle.search.specs.Paths.{Fair}
@@ -22,9 +22,9 @@ use Rattle.search.specs.declared.PathAnswer.the-variants.{Stuck}
 use Rattle.search.proofs.EdgeLaws.{Shaped}
 use Rattle.search.proofs.DistanceLaws.{length-distances, distance-top}
 use Rattle.search.proofs.PathToLaws.{path-short}
-use Rattle.search.proofs.TrailLaws.{trail-is}
+use Rattle.search.proofs.TrailLaws.{trail-to, OnTheWay}
 use Rattle.search.proofs.TurnLaws.{turn-is, stuck-is}
-use Rattle.search.proofs.SpreadExact.{exact, exact-label, pred-exact}
+use Rattle.search.proofs.SpreadExact.{Live, edge-live, exact, exact-label, pred-exact}
 
 -- a listed node outside the tree
 abbrev pub OpenAt : (n : ℕ) (marks sinks : List ℕ) (j : ℕ) → Type 0
@@ -39,7 +39,10 @@ pub record Halted (b : Block) (price : ℕ → ℕ) (marks sinks w₀ w : List �
   pub count : ℕ
   pub level : ℕ
   pub step : ℕ
-  pub spread : Spread b price w count level (nodes b) 0
+  pub goals : Bool
+  pub start : List ℕ
+  pub spread : Spread b price goals start w count level (nodes b) 0
+  pub live : (j : ℕ) → OpenAt (nodes b) marks sinks j → Live b goals start (getD sinks j 0)
   pub zero-in : (v : ℕ) → v < nodes b → inTree marks v ≡ true → labelAt w v ≡ 0
   pub pos-out : (v : ℕ) → v < nodes b → inTree marks v ≡ false → 0 < labelAt w v
   pub most : best ≤ far
@@ -74,7 +77,7 @@ module _ {b : Block} {price : ℕ → ℕ} {marks sinks w₀ w : List ℕ} {best
       (λ (q : distance b price marks (getD sinks j 0) < best).
       let o : OpenAt (nodes b) marks sinks j = (l, h, out) in
       let near : distance b price marks (getD sinks j 0) < far = let m = s .most in omega arith in
-      let final = exact marks (s .shaped) (s .fair) (s .spread) (s .zero-in) (s .pos-out) (getD sinks j 0) h near (sink-close j (distance b price marks (getD sinks j 0)) o (omega arith) near) in
+      let final = exact marks (s .shaped) (s .fair) (s .spread) (s .zero-in) (s .pos-out) (getD sinks j 0) h (s .live j o) near (sink-close j (distance b price marks (getD sinks j 0)) o (omega arith) near) in
       let is : labelAt w (getD sinks j 0) ≡ distance b price marks (getD sinks j 0) = final .1 in
       absurd (omega (arith, s .least j o (final .0))))
       (le-or-lt best (distance b price marks (getD sinks j 0))))
@@ -119,16 +122,24 @@ module _ {b : Block} {price : ℕ → ℕ} {marks sinks w₀ w : List ℕ} {best
       sink-final : labelAt w (getD sinks j 0) ≡ distance b price marks (getD sinks j 0)
       sink-final =
           let n = near in
-          exact-label marks (s .shaped) (s .fair) (s .spread) (s .zero-in) (s .pos-out) (getD sinks j 0) (o .1) (omega arith)
+          exact-label marks (s .shaped) (s .fair) (s .spread) (s .zero-in) (s .pos-out) (getD sinks j 0) (o .1) (s .live j o) (omega arith)
           (sink-close j (labelAt w (getD sinks j 0)) o (omega arith) (omega arith))
+
+      -- nodes on the way to it were not spared
+      way-live : (x : ℕ) → OnTheWay b price marks (s .shaped) (s .fair) (getD sinks j 0) x → Live b (s .goals) (s .start) x
+      way-live x way =
+          ⊎-elim
+          (λ (q : x ≡ getD sinks j 0). rw q (s .live j o))
+          (λ (q : (y : ℕ) × (hasEdge b x y ≡ true)). edge-live b (s .goals) (s .start) x (q .0) (q .1))
+          way
 
       path-in : pathIn (nodes b) marks w (getD sinks j 0) ≡ pathTo b price marks (getD sinks j 0)
       path-in =
           let final = sink-final in
           let n = near in
-          trail-is b price marks (s .shaped) (s .fair) (getD sinks j 0) (o .1) (omega arith) w (labelAt w (getD sinks j 0)) (s .level) (omega arith)
+          trail-to b price marks (s .shaped) (s .fair) (getD sinks j 0) (o .1) (omega arith) w (labelAt w (getD sinks j 0)) (s .level) (omega arith)
           (sink-close j (distance b price marks (getD sinks j 0)) o (omega arith) (omega arith))
-          (λ x hx out close le. pred-exact marks (s .shaped) (s .fair) (s .spread) (s .zero-in) (s .pos-out) x hx out close le)
+          (λ x way hx out close le. pred-exact marks (s .shaped) (s .fair) (s .spread) (s .zero-in) (s .pos-out) x hx (way-live x way) out close le)
 
       path-fits : length (pathIn (nodes b) marks w (getD sinks j 0)) ≤ nodes b
       path-fits =
@@ -185,7 +196,7 @@ module _ {b : Block} {price : ℕ → ℕ} {marks sinks w₀ w : List ℕ} {best
           ⊎-elim
           (λ (h : nodes b ≤ getD sinks j 0). let z = beyond (getD sinks j 0) h in omega arith)
           (λ (h : getD sinks j 0 < nodes b).
-          let final = exact marks (s .shaped) (s .fair) (s .spread) (s .zero-in) (s .pos-out) (getD sinks j 0) h (omega arith)
+          let final = exact marks (s .shaped) (s .fair) (s .spread) (s .zero-in) (s .pos-out) (getD sinks j 0) h (s .live j (within, h, out)) (omega arith)
           (sink-close j (distance b price marks (getD sinks j 0)) (within, h, out) (omega arith) (omega arith)) in
           d .first .earlier j l h (final .1 ∙ e))
           (le-or-lt (nodes b) (getD sinks j 0)))

@@ -1,9 +1,9 @@
 -- A turn, step by step: the lists have their lengths, tree and goals are marked, the labels have spread and stopped; and what the turn answers then.
 -- Assumes nothing.
-use mathlib.Core.Bool.{true, false}
+use mathlib.Core.Bool.{Bool, true, false}
 use mathlib.Core.List.{List, _++_}
 use mathlib.Core.Logic.{_⊎_, ⊎-elim, inl, inr}
-use mathlib.Core.Path.{_≡_, sym, _∙_, ap}
+use mathlib.Core.Path.{_≡_, refl, sym, _∙_, ap}
 use Prim.Native.Nat.{ℕ, _+_, _-_, _*_, _/_, _≤_, _<_}
 use native.Mathlib.Nat.{mul-le-mul-right}
 use native.Mathlib.Omega.{arith}
@@ -115,9 +115,9 @@ module _ {n : ℕ} {marks sinks w₀ w₁ w₂ : List ℕ} {count : ℕ} (t : Tr
 
 -- nothing has spread yet
 marked-spread :
-    (b : Block) (price : ℕ → ℕ) {marks sinks w₀ w₁ w₂ : List ℕ} {count : ℕ} → TreeMarked (nodes b) marks w₀ w₁ count → GoalsMarked (nodes b) sinks w₁ w₂ (length sinks)
-    → 3 * nodes b ≤ length w₀ → Fair b price → Spread b price w₂ count 0 (nodes b) 0
-marked-spread b price {marks} {sinks} {w₀} {w₁} {w₂} {count} t g long fair =
+    (b : Block) (price : ℕ → ℕ) (goals : Bool) {marks sinks w₀ w₁ w₂ : List ℕ} {count : ℕ} → TreeMarked (nodes b) marks w₀ w₁ count → GoalsMarked (nodes b) sinks w₁ w₂ (length sinks)
+    → 3 * nodes b ≤ length w₀ → Fair b price → Spread b price goals w₂ w₂ count 0 (nodes b) 0
+marked-spread b price goals {marks} {sinks} {w₀} {w₁} {w₂} {count} t g long fair =
     let same : bareCount (nodes b) w₂ ≡ bareCount (nodes b) w₁ = count-same (bare w₂) (bare w₁) (nodes b) (bare-same t g) in
     let room = t .room in
     record {
@@ -134,6 +134,7 @@ marked-spread b price {marks} {sinks} {w₀} {w₁} {w₂} {count} t g long fair
       waits-far = λ i l. omega arith;
       bound = λ v h l. let z = marked-low t g v h l .1 in let most : bareCount (nodes b) w₂ * fair .ceiling ≤ nodes b * fair .ceiling = mul-le-mul-right (fair .ceiling) (omega arith) in omega arith;
       came = λ v h p l. absurd (let z = marked-low t g v h l .1 in omega arith);
+      unmet = λ v h l. refl;
       done = λ u h l.
           let z = marked-low t g u h l in
           let q = t .waits u h (t .labels u h ∙ rw (z .0)) in
@@ -144,18 +145,18 @@ marked-spread b price {marks} {sinks} {w₀} {w₁} {w₂} {count} t g long fair
 
 module _ (ks cs fs ts : List ℕ) (c : Congestion) {marks sinks w₀ w₁ w₂ : List ℕ} {count step : ℕ} (f : Fitted (blockOf ks cs fs ts) c marks sinks w₀)
     (t : TreeMarked (length ks) marks w₀ w₁ count) (g : GoalsMarked (length ks) sinks w₁ w₂ (length sinks))
-    (m : LeastGoal (length ks) (clampedPrice ks cs c) sinks w₂ (length sinks) step) where
+    (m : LeastGoal (length ks) (clampedPrice ks cs c) sinks w₂ (length sinks) step) (goals : Bool) where
   join-fair : Fair (graphOf ks fs ts) (clampedPrice ks cs c)
   join-fair = fair-clamped (graphOf ks fs ts) ks cs c (f .few) (f .timed-few)
 
-  pub join-ready : RunReady (graphOf ks fs ts) (clampedPrice ks cs c) w₂ count step
+  pub join-ready : RunReady (graphOf ks fs ts) (clampedPrice ks cs c) goals w₂ count step
   join-ready = record {
     firsts-long = f .firsts-long;
-    spread = marked-spread (graphOf ks fs ts) (clampedPrice ks cs c) t g (let e = f .enough in omega arith) join-fair;
+    spread = marked-spread (graphOf ks fs ts) (clampedPrice ks cs c) goals t g (let e = f .enough in omega arith) join-fair;
     small = m .most;
   }
 
-  pub join-halts : {w₃ : List ℕ} {best : ℕ} → SpreadStopped (graphOf ks fs ts) (clampedPrice ks cs c) step w₂ w₃ best → Halted (graphOf ks fs ts) (clampedPrice ks cs c) marks sinks w₀ w₃ best
+  pub join-halts : {w₃ : List ℕ} {best : ℕ} → SpreadStopped (graphOf ks fs ts) (clampedPrice ks cs c) goals step w₂ w₃ best → Halted (graphOf ks fs ts) (clampedPrice ks cs c) marks sinks w₀ w₃ best
   join-halts {w₃} {best} r = record {
     shaped = record { few = f .few; firsts-long = f .firsts-long };
     fair = join-fair;
@@ -164,7 +165,10 @@ module _ (ks cs fs ts : List ℕ) (c : Congestion) {marks sinks w₀ w₁ w₂ :
     count = r .count;
     level = r .level;
     step = step;
+    goals = goals;
+    start = w₂;
     spread = r .spread;
+    live = λ j o spared. spared .1 .no-goal (marked-goal t g j o);
     zero-in = λ v h i. let z = marked-in t g v h i in r .onward .kept v h (omega arith) ∙ z;
     pos-out = λ v h o. r .onward .pos v h (marked-bare t g v h o);
     most = r .onward .less;
@@ -193,7 +197,7 @@ module _ (ks cs fs ts : List ℕ) {c : Congestion} {marks sinks w₀ w₁ : List
     pub goals-room : length ks ≤ length w₂
     goals-room = let r = tree-room in let l = g .same .long in omega arith
 
-    pub run-room : {b : Block} {price : ℕ → ℕ} {step best : ℕ} {w₃ : List ℕ} → SpreadStopped b price step w₂ w₃ best → (0 ≤ 3 * length ks) × (3 * length ks ≤ length w₃)
+    pub run-room : {b : Block} {price : ℕ → ℕ} {goals : Bool} {step best : ℕ} {w₃ : List ℕ} → SpreadStopped b price goals step w₂ w₃ best → (0 ≤ 3 * length ks) × (3 * length ks ≤ length w₃)
     run-room r =
         let room = fitted-room ks cs fs ts f in
         let l = t .long in

@@ -10,7 +10,7 @@ use native.Mathlib.Omega.{arith}
 use lib.ListN.{length, getD, take, drop, replicate}
 use lib.Seq.{length-take-le, getD-take, ext-getD}
 use Rattle.price.specs.Lists.{every}
-use Rattle.price.proofs.TestLaws.{le-or-lt, never-true}
+use Rattle.price.proofs.TestLaws.{le-or-lt, never-true, true≢false}
 use Rattle.price.proofs.ListLaws.{drop-same}
 use Rattle.search.specs.Block.{blockOf, graphOf}
 use Rattle.search.specs.Tables.{Sound}
@@ -26,7 +26,7 @@ use Rattle.search.proofs.DistanceLaws.{length-distances, distance-top}
 use Rattle.search.proofs.GraphLaws.{distances-same}
 use Rattle.search.proofs.PriceSameLaws.{distances-same as distances-price}
 use Rattle.search.proofs.StoreLaws.{same-none}
-use Rattle.search.proofs.SpreadExact.{exact, exact-label}
+use Rattle.search.proofs.SpreadExact.{Live, exact, exact-label}
 use Rattle.search.proofs.HaltLaws.{Halted, OpenAt}
 use Rattle.search.proofs.PriceableLaws.{fitted}
 use Rattle.search.proofs.JoinLaws.{fitted-lent, join-ready, join-halts}
@@ -62,12 +62,16 @@ module _ (ks cs fs ts : List ℕ) (c : Congestion) (marks w₀ : List ℕ) (soun
   search-marks = (search-fits .few, search-fits .marks-long, omega arith)
 
   module _ {w₁ : List ℕ} {count : ℕ} (t : TreeMarked (length ks) marks w₀ w₁ count) where
-    pub search-ready : RunReady (graphOf ks fs ts) (clampedPrice ks cs c) w₁ count 0
-    search-ready = join-ready ks cs fs ts c search-fits t (no-goals (length ks) w₁) (no-step (length ks) (clampedPrice ks cs c) w₁)
+    pub search-ready : RunReady (graphOf ks fs ts) (clampedPrice ks cs c) false w₁ count 0
+    search-ready = join-ready ks cs fs ts c search-fits t (no-goals (length ks) w₁) (no-step (length ks) (clampedPrice ks cs c) w₁) false
 
-    module _ {w₂ : List ℕ} {best : ℕ} (r : SpreadStopped (graphOf ks fs ts) (clampedPrice ks cs c) 0 w₁ w₂ best) where
+    module _ {w₂ : List ℕ} {best : ℕ} (r : SpreadStopped (graphOf ks fs ts) (clampedPrice ks cs c) false 0 w₁ w₂ best) where
       halted : Halted (graphOf ks fs ts) (clampedPrice ks cs c) marks [] w₀ w₂ best
-      halted = join-halts ks cs fs ts c search-fits t (no-goals (length ks) w₁) (no-step (length ks) (clampedPrice ks cs c) w₁) r
+      halted = join-halts ks cs fs ts c search-fits t (no-goals (length ks) w₁) (no-step (length ks) (clampedPrice ks cs c) w₁) false r
+
+      -- without goals every edge is looked at
+      none-spared : (v : ℕ) → Live (graphOf ks fs ts) false w₁ v
+      none-spared v spared = absurd (true≢false (sym (spared .0)))
 
       -- no goal is near, so the labels have stopped where nothing waits
       level-far : far ≤ r .level
@@ -96,9 +100,9 @@ module _ (ks cs fs ts : List ℕ) (c : Congestion) (marks w₀ : List ℕ) (soun
           ⊎-elim
           (λ (q : far ≤ distance (graphOf ks fs ts) (clampedPrice ks cs c) marks v). omega arith)
           (λ (q : distance (graphOf ks fs ts) (clampedPrice ks cs c) marks v < far).
-          exact marks (halted .shaped) (halted .fair) (r .spread) (halted .zero-in) (halted .pos-out) v h q (omega (arith, halted .fair .pos v h)) .1)
+          exact marks (halted .shaped) (halted .fair) (r .spread) (halted .zero-in) (halted .pos-out) v h (none-spared v) q (omega (arith, halted .fair .pos v h)) .1)
           (le-or-lt far (distance (graphOf ks fs ts) (clampedPrice ks cs c) marks v)))
-          (λ (l : labelAt w₂ v < goal). exact-label marks (halted .shaped) (halted .fair) (r .spread) (halted .zero-in) (halted .pos-out) v h l (omega (arith, halted .fair .pos v h)))
+          (λ (l : labelAt w₂ v < goal). exact-label marks (halted .shaped) (halted .fair) (r .spread) (halted .zero-in) (halted .pos-out) v h (none-spared v) l (omega (arith, halted .fair .pos v h)))
           (le-or-lt goal (labelAt w₂ v))
 
       still-long : length w₂ ≡ length w₀

@@ -2,7 +2,7 @@
 --     LabelRowSoFar, row-..     the row of a node that is being settled, looked at up to a place
 --     LabelsRunning, run-..     the nodes settled so far, and where that stops
 -- Assumes nothing.
-use mathlib.Core.Bool.{true}
+use mathlib.Core.Bool.{Bool, true}
 use mathlib.Core.List.{List}
 use mathlib.Core.Logic.{_⊎_, ⊎-elim, inl, inr}
 use mathlib.Core.Path.{_≡_, refl, _∙_}
@@ -20,7 +20,7 @@ use Rattle.search.specs.Turn.{Congestion}
 use Rattle.search.specs.Paths.{anyPriceMost, Fair}
 use Rattle.search.specs.Clamped.{clampedPrice, ListsLong}
 use Rattle.search.specs.Labels.{goal, labelAt, fromAt, waitAt, keyAt, Waits, Heaped, Taken}
-use Rattle.search.specs.Spread.{bare, bareCount, Came, PlacePassed, EdgeLooked, Spread, SpreadOnward, EdgeRelaxed, RelaxReady, SettleReady, NodeSettled, RunReady, SpreadStopped}
+use Rattle.search.specs.Spread.{bare, bareCount, Came, PlacePassed, EdgeLooked, EdgePast, Spread, SpreadOnward, EdgeRelaxed, RelaxReady, SettleReady, NodeSettled, RunReady, SpreadStopped}
 use Rattle.search.proofs.ClampedLaws.{clamped-pos, clamped-fair}
 use Rattle.search.proofs.EdgeLaws.{place-edge}
 use Rattle.search.proofs.HeapLaws.{first-least}
@@ -40,19 +40,18 @@ fair-clamped b kinds capacities c few timed-few = record {
 -- ---- one row
 
 -- the row of u, looked at up to place e
-pub record LabelRowSoFar (b : Block) (price : ℕ → ℕ) (u : ℕ) (w₀ w : List ℕ) (e count₀ count best₀ best : ℕ) : Type 0 where
-  pub spread : Spread b price w count (labelAt w₀ u) u e
+pub record LabelRowSoFar (b : Block) (price : ℕ → ℕ) (goals : Bool) (u : ℕ) (w₀ w : List ℕ) (e count₀ count best₀ best : ℕ) : Type 0 where
+  pub spread : (start : List ℕ) → Spread b price goals start w₀ count₀ (labelAt w₀ u) u 0 → Spread b price goals start w count (labelAt w₀ u) u e
   pub here : labelAt w u ≡ labelAt w₀ u
   pub onward : SpreadOnward (nodes b) w₀ w best₀ best
   pub fewer : 2 * bareCount (nodes b) w + count ≤ 2 * bareCount (nodes b) w₀ + count₀
   pub from : min (rowStart b u) (length (b .edgeTargets)) ≤ e
 
-module _ {b : Block} {price : ℕ → ℕ} {u : ℕ} {w₀ : List ℕ} {count₀ : ℕ} (ready : SettleReady b price w₀ count₀ u) where
-  pub row-begin : {e best : ℕ} → e ≡ min (rowStart b u) (length (b .edgeTargets)) → LabelRowSoFar b price u w₀ w₀ e count₀ count₀ best best
+module _ {b : Block} {price : ℕ → ℕ} {goals : Bool} {u : ℕ} {w₀ : List ℕ} {count₀ : ℕ} (ready : SettleReady b price goals w₀ count₀ u) where
+  pub row-begin : {e best : ℕ} → e ≡ min (rowStart b u) (length (b .edgeTargets)) → LabelRowSoFar b price goals u w₀ w₀ e count₀ count₀ best best
   row-begin {e} {best} is =
-      let s = ready .spread in
       record {
-        spread = record {
+        spread = λ start s. record {
           fair = s .fair;
           heap = s .heap;
           room = s .room;
@@ -60,10 +59,11 @@ module _ {b : Block} {price : ℕ → ℕ} {u : ℕ} {w₀ : List ℕ} {count₀
           waits-far = s .waits-far;
           bound = s .bound;
           came = s .came;
+          unmet = s .unmet;
           done = λ x h l.
               ⊎-elim
               inl
-              (λ (f : (k : ℕ) → PlacePassed b u 0 x k → getD (b .edgeTargets) k 0 < nodes b → EdgeLooked (nodes b) price w₀ x (getD (b .edgeTargets) k 0)).
+              (λ (f : (k : ℕ) → PlacePassed b u 0 x k → getD (b .edgeTargets) k 0 < nodes b → EdgePast b price goals start w₀ x (getD (b .edgeTargets) k 0)).
               inr
               (λ k p t.
               f k
@@ -86,8 +86,12 @@ module _ {b : Block} {price : ℕ → ℕ} {u : ℕ} {w₀ : List ℕ} {count₀
         from = rw is (le-refl _);
       }
 
-  module _ (few : nodes b ≤ nodesMost) {w : List ℕ} {e count best₀ best to : ℕ} (r : LabelRowSoFar b price u w₀ w e count₀ count best₀ best)
+  module _ (few : nodes b ≤ nodesMost) {w : List ℕ} {e count best₀ best to : ℕ} (r : LabelRowSoFar b price goals u w₀ w e count₀ count best₀ best)
       (is : to ≡ min (rowStart b (u + 1)) (length (b .edgeTargets))) where
+    -- as far as it has spread by the marks that are known
+    pub row-spread : Spread b price goals (ready .start) w count (labelAt w₀ u) u e
+    row-spread = r .spread (ready .start) (ready .spread)
+
     module _ (more : e < to) where
       row-from : rowStart b u ≤ e
       row-from = omega (arith, r .from)
@@ -99,25 +103,24 @@ module _ {b : Block} {price : ℕ → ℕ} {u : ℕ} {w₀ : List ℕ} {count₀
       row-within = omega arith
 
       pub row-low : labelAt w₀ u < pathMost
-      row-low = spread-low (r .spread) few (ready .node) (r .here) (ready .labelled)
+      row-low = spread-low row-spread few (ready .node) (r .here) (ready .labelled)
 
-      pub row-more : {w′ : List ℕ} {count′ best′ : ℕ} → EdgeRelaxed (nodes b) (b .firstEdges) price u (getD (b .edgeTargets) e 0) (labelAt w₀ u) w w′ count count′ best best′ → LabelRowSoFar b price u w₀ w′ (e + 1) count₀ count′ best₀ best′
+      pub row-more : {w′ : List ℕ} {count′ best′ : ℕ} → EdgeRelaxed (nodes b) (b .firstEdges) (b .edgeTargets) goals price u (getD (b .edgeTargets) e 0) (labelAt w₀ u) w w′ count count′ best best′ → LabelRowSoFar b price goals u w₀ w′ (e + 1) count₀ count′ best₀ best′
       row-more made =
-          let t = relax-at (r .spread) few (ready .node) (r .here) (ready .labelled) (ready .firsts-long) (getD (b .edgeTargets) e 0) refl
-          (place-edge b u e row-from row-below row-within) made in
+          let edge = place-edge b u e row-from row-below row-within in
+          let t = relax-at row-spread few (ready .node) (r .here) (ready .labelled) (ready .firsts-long) (getD (b .edgeTargets) e 0) refl edge made in
           record {
-            spread = t .spread;
+            spread = λ start s. relax-at (r .spread start s) few (ready .node) (r .here) (ready .labelled) (ready .firsts-long) (getD (b .edgeTargets) e 0) refl edge made .spread;
             here = t .here;
             onward = onward-trans (r .onward) (t .onward);
             fewer = le-trans (t .fewer) (r .fewer);
             from = let f = r .from in omega arith;
           }
 
-    pub row-end : to ≤ e → NodeSettled b price (labelAt w₀ u) w₀ w count₀ count best₀ best
+    pub row-end : to ≤ e → NodeSettled b price goals (labelAt w₀ u) u w₀ w count₀ count best₀ best
     row-end end =
-        let s = r .spread in
         record {
-          spread = record {
+          spread = λ start s₀. let s = r .spread start s₀ in record {
             fair = s .fair;
             heap = s .heap;
             room = s .room;
@@ -125,10 +128,11 @@ module _ {b : Block} {price : ℕ → ℕ} {u : ℕ} {w₀ : List ℕ} {count₀
             waits-far = s .waits-far;
             bound = s .bound;
             came = s .came;
+            unmet = s .unmet;
             done = λ x h l.
                 ⊎-elim
                 inl
-                (λ (f : (k : ℕ) → PlacePassed b u e x k → getD (b .edgeTargets) k 0 < nodes b → EdgeLooked (nodes b) price w x (getD (b .edgeTargets) k 0)).
+                (λ (f : (k : ℕ) → PlacePassed b u e x k → getD (b .edgeTargets) k 0 < nodes b → EdgePast b price goals start w x (getD (b .edgeTargets) k 0)).
                 inr
                 (λ k p t.
                 f k
@@ -150,36 +154,37 @@ module _ {b : Block} {price : ℕ → ℕ} {u : ℕ} {w₀ : List ℕ} {count₀
 
 -- safe to look at the edge at place e
 pub row-ready :
-    {ks cs fs ts : List ℕ} {c : Congestion} {u : ℕ} {w₀ w : List ℕ} {e count₀ count best₀ best to : ℕ} → ListsLong ks cs c
-    → SettleReady (graphOf ks fs ts) (clampedPrice ks cs c) w₀ count₀ u → LabelRowSoFar (graphOf ks fs ts) (clampedPrice ks cs c) u w₀ w e count₀ count best₀ best
+    {ks cs fs ts : List ℕ} {c : Congestion} {goals : Bool} {u : ℕ} {w₀ w : List ℕ} {e count₀ count best₀ best to : ℕ} → ListsLong ks cs c
+    → SettleReady (graphOf ks fs ts) (clampedPrice ks cs c) goals w₀ count₀ u → LabelRowSoFar (graphOf ks fs ts) (clampedPrice ks cs c) goals u w₀ w e count₀ count best₀ best
     → to ≡ min (getD fs (u + 1) 0) (length ts) → e < to → RelaxReady ks cs c fs w count u (getD ts e 0) (labelAt w₀ u)
-row-ready {ks} {cs} {fs} {ts} {c} {u} lent ready r is more =
+row-ready {ks} {cs} {fs} {ts} {c} {goals} {u} lent ready r is more =
+    let s = row-spread ready (lent .few) r is in
     record {
       lent = lent;
       firsts-long = ready .firsts-long;
-      heap = r .spread .heap;
-      labels-low = r .spread .waits-label;
+      heap = s .heap;
+      labels-low = s .waits-label;
       near = row-low ready (lent .few) r is more;
       u-node = ready .node;
-      more = λ h l. label-ready (r .spread) (lent .few) (ready .node) (r .here) (ready .labelled) (ready .firsts-long) _ h l .more;
-      from-node = λ h p l. r .spread .came _ h p l .node;
+      more = λ h l. label-ready s (lent .few) (ready .node) (r .here) (ready .labelled) (ready .firsts-long) _ h l .more;
+      from-node = λ h p l. s .came _ h p l .node;
     }
 
 -- ---- one node after the other
 
 -- nodes have been settled from w₀ to w
-pub record LabelsRunning (b : Block) (price : ℕ → ℕ) (w₀ w : List ℕ) (best count : ℕ) : Type 0 where
+pub record LabelsRunning (b : Block) (price : ℕ → ℕ) (goals : Bool) (w₀ w : List ℕ) (best count : ℕ) : Type 0 where
   pub level : ℕ
-  pub spread : Spread b price w count level (nodes b) 0
+  pub spread : Spread b price goals w₀ w count level (nodes b) 0
   pub onward : SpreadOnward (nodes b) w₀ w far best
 
-pub run-start : {b : Block} {price : ℕ → ℕ} {w : List ℕ} {count step : ℕ} → RunReady b price w count step → LabelsRunning b price w w far count
-run-start {b} {price} {w} r = record { level = 0; spread = r .spread; onward = onward-none (nodes b) w far }
+pub run-start : {b : Block} {price : ℕ → ℕ} {goals : Bool} {w : List ℕ} {count step : ℕ} → RunReady b price goals w count step → LabelsRunning b price goals w w far count
+run-start {b} {price} {goals} {w} r = record { level = 0; spread = r .spread; onward = onward-none (nodes b) w far }
 
 -- a higher level, where every waiting node is as far
-raised : {b : Block} {price : ℕ → ℕ} {w : List ℕ} {count level cur place : ℕ} (level′ : ℕ) → Spread b price w count level cur place
+raised : {b : Block} {price : ℕ → ℕ} {goals : Bool} {start w : List ℕ} {count level cur place : ℕ} (level′ : ℕ) → Spread b price goals start w count level cur place
     → ((i : ℕ) → i < count → level′ ≤ keyAt (nodes b) w i) → ((v : ℕ) → v < nodes b → Came b price w level v → labelAt w v < goal → labelAt w (fromAt (nodes b) w v) ≤ level′)
-    → Spread b price w count level′ cur place
+    → Spread b price goals start w count level′ cur place
 raised level′ s above near = record {
   fair = s .fair;
   heap = s .heap;
@@ -190,6 +195,7 @@ raised level′ s above near = record {
   came = λ v h p l.
       let c = s .came v h p l in
       record { node = c .node; near = near v h c l; edge = c .edge; sum = c .sum };
+  unmet = s .unmet;
   done = s .done;
 }
 
@@ -197,8 +203,8 @@ raised level′ s above near = record {
 first-wait : (n : ℕ) (w : List ℕ) → waitAt n w 0 ≡ getD w n 0 / 65536
 first-wait n w = let z : n + 0 ≡ n = omega arith in rw z
 
-module _ {b : Block} {price : ℕ → ℕ} {w₀ w : List ℕ} {best count : ℕ} (r : LabelsRunning b price w₀ w best count) where
-  pub run-end : {step : ℕ} → count ≤ 0 → SpreadStopped b price step w₀ w best
+module _ {b : Block} {price : ℕ → ℕ} {goals : Bool} {w₀ w : List ℕ} {best count : ℕ} (r : LabelsRunning b price goals w₀ w best count) where
+  pub run-end : {step : ℕ} → count ≤ 0 → SpreadStopped b price goals step w₀ w best
   run-end none = record {
     count = count;
     level = far;
@@ -217,7 +223,7 @@ module _ {b : Block} {price : ℕ → ℕ} {w₀ w : List ℕ} {best count : ℕ
     run-label : labelAt w (getD w (nodes b) 0 / 65536) < goal
     run-label = rw run-key at (r .spread .waits-label 0 some)
 
-    run-raised : Spread b price w count (labelAt w (getD w (nodes b) 0 / 65536)) (nodes b) 0
+    run-raised : Spread b price goals w₀ w count (labelAt w (getD w (nodes b) 0 / 65536)) (nodes b) 0
     run-raised =
         let level : r .level ≤ labelAt w (getD w (nodes b) 0 / 65536) = rw run-key at (r .spread .waits-far 0 some) in
         raised (labelAt w (getD w (nodes b) 0 / 65536)) (r .spread)
@@ -230,7 +236,7 @@ module _ {b : Block} {price : ℕ → ℕ} {w₀ w : List ℕ} {best count : ℕ
         let top : nodes b * r .spread .fair .ceiling < pathMost = r .spread .fair .fits in
         omega arith
 
-    pub run-early : {step : ℕ} → best < labelAt w (getD w (nodes b) 0 / 65536) + step → SpreadStopped b price step w₀ w best
+    pub run-early : {step : ℕ} → best < labelAt w (getD w (nodes b) 0 / 65536) + step → SpreadStopped b price goals step w₀ w best
     run-early less = record { count = count; level = labelAt w (getD w (nodes b) 0 / 65536); spread = run-raised; onward = r .onward; stopped = inr less }
 
     pub run-take : nodes b ≤ nodesMost → Heaped (nodes b) (count - 1 + 1) w × (nodes b < 65536)
@@ -281,7 +287,7 @@ module _ {b : Block} {price : ℕ → ℕ} {w₀ w : List ℕ} {best count : ℕ
                 rw at (f .lowest p′ (omega arith));
           }
 
-      took-spread : Spread b price w₁ (count - 1) (labelAt w (getD w (nodes b) 0 / 65536)) (getD w (nodes b) 0 / 65536) 0
+      took-spread : Spread b price goals w₀ w₁ (count - 1) (labelAt w (getD w (nodes b) 0 / 65536)) (getD w (nodes b) 0 / 65536) 0
       took-spread =
           let s = run-raised in
           record {
@@ -292,6 +298,7 @@ module _ {b : Block} {price : ℕ → ℕ} {w₀ w : List ℕ} {best count : ℕ
             waits-far = λ i l. let q = took-key i l in rw (q .2) (s .waits-far (q .0) (q .1));
             bound = λ x h l. rw (took-label x h, took-bare) (s .bound x h (rw (took-label x h) at l));
             came = λ x h p l. took-came (labelAt w (getD w (nodes b) 0 / 65536)) x h (s .came x h (rw (took-label x h) at p) (rw (took-label x h) at l));
+            unmet = λ x h l. rw (took-label x h) (s .unmet x h (rw (took-label x h) at l));
             done = λ x h l.
                 ⊎-elim
                 (λ (q : Waits (nodes b) count w x).
@@ -301,18 +308,20 @@ module _ {b : Block} {price : ℕ → ℕ} {w₀ w : List ℕ} {best count : ℕ
                 inr (λ k p d. absurd (let n : k < 0 = p .seen (z ∙ first-wait (nodes b) w) in omega arith)))
                 inl
                 (t .kept x (rw e q)))
-                (λ (f : (k : ℕ) → PlacePassed b (nodes b) 0 x k → getD (b .edgeTargets) k 0 < nodes b → EdgeLooked (nodes b) price w x (getD (b .edgeTargets) k 0)).
+                (λ (f : (k : ℕ) → PlacePassed b (nodes b) 0 x k → getD (b .edgeTargets) k 0 < nodes b → EdgePast b price goals w₀ w x (getD (b .edgeTargets) k 0)).
                 inr
                 (λ k p d.
-                took-looked x (getD (b .edgeTargets) k 0) h d
+                ⊎-elim
+                (λ (g : EdgeLooked (nodes b) price w x (getD (b .edgeTargets) k 0)). inl (took-looked x (getD (b .edgeTargets) k 0) h d g))
+                inr
                 (f k (record { from = p .from; below = p .below; within = p .within; seen = λ q. absurd (omega arith) }) d)))
                 (s .done x h (rw (took-label x h) at l));
           }
 
-      pub run-settle : length (b .firstEdges) ≡ nodes b + 1 → SettleReady b price w₁ (count - 1) (getD w (nodes b) 0 / 65536)
+      pub run-settle : length (b .firstEdges) ≡ nodes b + 1 → SettleReady b price goals w₁ (count - 1) (getD w (nodes b) 0 / 65536)
       run-settle long =
           let same : labelAt w₁ (getD w (nodes b) 0 / 65536) ≡ labelAt w (getD w (nodes b) 0 / 65536) = took-label (getD w (nodes b) 0 / 65536) run-node in
-          record { firsts-long = long; node = run-node; labelled = rw same run-label; spread = rw same took-spread }
+          record { firsts-long = long; node = run-node; labelled = rw same run-label; start = w₀; spread = rw same took-spread }
 
       took-onward : SpreadOnward (nodes b) w w₁ best best
       took-onward = record {
@@ -326,9 +335,10 @@ module _ {b : Block} {price : ℕ → ℕ} {w₀ w : List ℕ} {best count : ℕ
         some = inl refl;
       }
 
-      module _ {level : ℕ} {w₂ : List ℕ} {count₂ best₂ : ℕ} (s : NodeSettled b price level w₁ w₂ (count - 1) count₂ best best₂) where
-        pub run-more : LabelsRunning b price w₀ w₂ best₂ count₂
-        run-more = record { level = level; spread = s .spread; onward = onward-trans (r .onward) (onward-trans took-onward (s .onward)) }
+      module _ {w₂ : List ℕ} {count₂ best₂ : ℕ}
+          (s : NodeSettled b price goals (labelAt w₁ (getD w (nodes b) 0 / 65536)) (getD w (nodes b) 0 / 65536) w₁ w₂ (count - 1) count₂ best best₂) where
+        pub run-more : LabelsRunning b price goals w₀ w₂ best₂ count₂
+        run-more = record { level = labelAt w₁ (getD w (nodes b) 0 / 65536); spread = s .spread w₀ (rw (took-label (getD w (nodes b) 0 / 65536) run-node) took-spread); onward = onward-trans (r .onward) (onward-trans took-onward (s .onward)) }
 
         pub run-falls : 2 * bareCount (nodes b) w₂ + count₂ < 2 * bareCount (nodes b) w + count
         run-falls = let f = s .fewer in let e = took-bare in omega arith

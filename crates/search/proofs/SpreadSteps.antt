@@ -1,11 +1,11 @@
 -- Looking at an edge keeps what holds while labels spread.
---     label-heap                      a label on a bare node leaves the heap in order
+--     label-heap, label-row           a label on a bare node leaves the heap in order, and its row can be looked at
 --     pass-more                       one more place of a row is passed
 --     spread-lower, spread-label      a lower predecessor; a first label
 --     onward-none, onward-trans       what stays from step to step
 --     relax-step                      what looking at one edge does, whole
 -- Assumes nothing.
-use mathlib.Core.Bool.{true, false}
+use mathlib.Core.Bool.{Bool, true, false}
 use mathlib.Core.List.{List}
 use mathlib.Core.Logic.{_⊎_, ⊎-elim, inl, inr}
 use mathlib.Core.Path.{_≡_, refl, sym, _∙_, ap}
@@ -19,7 +19,7 @@ use Rattle.price.proofs.TestLaws.{le-or-lt, true≢false, same-or-not}
 use Rattle.price.proofs.BelowLaws.{count-less, count-same}
 use Rattle.search.specs.Block.{Block, nodes, rowStart, hasEdge}
 use Rattle.search.specs.Labels.{goal, labelAt, fromAt, withFrom, waitAt, keyAt, besideAt, Waits, Heaped}
-use Rattle.search.specs.Spread.{bare, bareCount, Came, PlacePassed, EdgeLooked, Spread, SpreadOnward, labelled, Labelled, ends, waits, GoalMet, lowered, stays, EdgeRelaxed, beyond, labels, lowers, tree, LabelReady}
+use Rattle.search.specs.Spread.{bare, bareCount, Came, PlacePassed, EdgeLooked, DeadEnd, Spared, EdgePast, Spread, SpreadOnward, labelled, Idle, Labelled, ends, waits, GoalMet, lowered, stays, EdgeRelaxed, beyond, labels, lowers, tree, RowReady, LabelReady}
 use Rattle.search.proofs.StoreLaws.{store-here, store-other}
 use Rattle.search.proofs.HeapLaws.{from-else, from-here, from-other, from-wait}
 
@@ -77,8 +77,11 @@ module _ {n count u v : ℕ} {firsts w : List ℕ} (r : LabelReady n firsts w co
   pub label-heap : {w₁ : List ℕ} → w₁ ≡ labelled n w u v d → Heaped n count w₁ × ((count < n) × (v < n) × (n < 65536) × (labelAt w₁ v ≡ d))
   label-heap e = rw e (labelled-heap, (r .more, r .v-node, omega (arith, r .few), labelled-here))
 
+  pub label-row : {w₁ : List ℕ} → w₁ ≡ labelled n w u v d → RowReady n firsts w₁ v
+  label-row e = rw e (record { few = r .few; firsts-long = r .firsts-long; long = rw labelled-long (omega (arith, r .heap .long)); node = r .v-node })
+
 -- what a first label leaves: v has label d from u and nothing else has changed, but that v may wait
-record Fresh (n : ℕ) (firsts : List ℕ) (u v d : ℕ) (w w′ : List ℕ) (count count′ : ℕ) : Type 0 where
+record Fresh (n : ℕ) (firsts targets : List ℕ) (goals : Bool) (u v d : ℕ) (w w′ : List ℕ) (count count′ : ℕ) : Type 0 where
   long : length w′ ≡ length w
   high : (j : ℕ) → 3 * n ≤ j → getD w′ j 0 ≡ getD w j 0
   label-here : labelAt w′ v ≡ d
@@ -89,11 +92,13 @@ record Fresh (n : ℕ) (firsts : List ℕ) (u v d : ℕ) (w w′ : List ℕ) (co
   most : count′ ≤ count + 1
   all : (i : ℕ) → i < count′ → (waitAt n w′ i ≡ v) ⊎ Waits n count w (waitAt n w′ i)
   kept : (x : ℕ) → Waits n count w x → Waits n count′ w′ x
-  out : Waits n count′ w′ v ⊎ (getD firsts (v + 1) 0 ≤ getD firsts v 0)
+  out : Waits n count′ w′ v ⊎ Idle n firsts targets goals w′ v
 
 module _ {n count u v : ℕ} {firsts w : List ℕ} (r : LabelReady n firsts w count u v) (d : ℕ) where
-  fresh-of : {w′ : List ℕ} {count′ : ℕ} → Labelled n firsts u v d w w′ count count′ → Fresh n firsts u v d w w′ count count′
-  fresh-of (ends empty e ec) = rw (e, ec) (record {
+  fresh-of :
+      {targets : List ℕ} {goals : Bool} {w′ : List ℕ} {count′ : ℕ} → Labelled n firsts targets goals u v d w w′ count count′
+      → Fresh n firsts targets goals u v d w w′ count count′
+  fresh-of (ends idle e ec) = rw (e, ec) (record {
     long = labelled-long r d;
     high = λ j l. labelled-other r d j (λ q. omega (arith, r .v-node)) (λ q. omega (arith, r .v-node));
     label-here = labelled-here r d;
@@ -104,9 +109,9 @@ module _ {n count u v : ℕ} {firsts w : List ℕ} (r : LabelReady n firsts w co
     most = omega arith;
     all = λ i l. inr (i, l, sym (labelled-wait r d i));
     kept = λ x q. (q .0, q .1, labelled-wait r d (q .0) ∙ q .2);
-    out = inr empty;
+    out = inr idle;
   })
-  fresh-of {w′} (waits a ec) = rw ec (record {
+  fresh-of {targets} {goals} {w′} (waits a ec) = rw ec (record {
     long = a .moved .same .long ∙ labelled-long r d;
     high = λ j l. a .moved .same .high j l ∙ labelled-other r d j (λ q. omega (arith, r .v-node)) (λ q. omega (arith, r .v-node));
     label-here = a .moved .same .low v (r .v-node) ∙ labelled-here r d;
@@ -223,17 +228,17 @@ more-room m n c l =
     rw (suc-mul m c) at z
 
 -- what looking at one edge of u, of label d, does
-pub record Stepped (b : Block) (price : ℕ → ℕ) (d u place : ℕ) (w w′ : List ℕ) (count count′ best best′ : ℕ) : Type 0 where
-  pub spread : Spread b price w′ count′ d u place
+pub record Stepped (b : Block) (price : ℕ → ℕ) (goals : Bool) (start : List ℕ) (d u place : ℕ) (w w′ : List ℕ) (count count′ best best′ : ℕ) : Type 0 where
+  pub spread : Spread b price goals start w′ count′ d u place
   pub here : labelAt w′ u ≡ d
   pub onward : SpreadOnward (nodes b) w w′ best best′
   pub fewer : 2 * bareCount (nodes b) w′ + count′ ≤ 2 * bareCount (nodes b) w + count
 
 -- one more place of the row is passed
 passed :
-    {b : Block} {price : ℕ → ℕ} {w : List ℕ} {count d u place : ℕ} → Spread b price w count d u place
-    → (getD (b .edgeTargets) place 0 < nodes b → EdgeLooked (nodes b) price w u (getD (b .edgeTargets) place 0)) → Spread b price w count d u (place + 1)
-passed {b} {price} {w} {count} {d} {u} {place} s look = record {
+    {b : Block} {price : ℕ → ℕ} {goals : Bool} {start w : List ℕ} {count d u place : ℕ} → Spread b price goals start w count d u place
+    → (getD (b .edgeTargets) place 0 < nodes b → EdgeLooked (nodes b) price w u (getD (b .edgeTargets) place 0)) → Spread b price goals start w count d u (place + 1)
+passed {b} {price} {goals} {start} {w} {count} {d} {u} {place} s look = record {
   fair = s .fair;
   heap = s .heap;
   room = s .room;
@@ -241,16 +246,17 @@ passed {b} {price} {w} {count} {d} {u} {place} s look = record {
   waits-far = s .waits-far;
   bound = s .bound;
   came = s .came;
+  unmet = s .unmet;
   done = λ x h l.
       ⊎-elim
       inl
-      (λ (f : (k : ℕ) → PlacePassed b u place x k → getD (b .edgeTargets) k 0 < nodes b → EdgeLooked (nodes b) price w x (getD (b .edgeTargets) k 0)).
+      (λ (f : (k : ℕ) → PlacePassed b u place x k → getD (b .edgeTargets) k 0 < nodes b → EdgePast b price goals start w x (getD (b .edgeTargets) k 0)).
       inr
       (λ k p t.
       ⊎-elim
       (λ (e : k ≡ place).
       ⊎-elim
-      (λ (ex : x ≡ u). rw (ex, e) (look (rw e at t)))
+      (λ (ex : x ≡ u). rw (ex, e) (inl (look (rw e at t))))
       (λ (dx : x ≡ u → ⊥). f k (record { from = p .from; below = p .below; within = p .within; seen = λ q. absurd (dx q) }) t)
       (same-or-not x u))
       (λ (dk : k ≡ place → ⊥).
@@ -260,12 +266,12 @@ passed {b} {price} {w} {count} {d} {u} {place} s look = record {
 }
 
 pass-on :
-    {b : Block} {price : ℕ → ℕ} {w : List ℕ} {count d u place : ℕ} → Spread b price w count d u place → labelAt w u ≡ d
-    → (v : ℕ) → getD (b .edgeTargets) place 0 ≡ v → EdgeLooked (nodes b) price w u v → Spread b price w count d u (place + 1)
-pass-on {b} {price} {w} {count} {d} {u} {place} s here v at look = passed s (λ t. rw at look)
+    {b : Block} {price : ℕ → ℕ} {goals : Bool} {start w : List ℕ} {count d u place : ℕ} → Spread b price goals start w count d u place → labelAt w u ≡ d
+    → (v : ℕ) → getD (b .edgeTargets) place 0 ≡ v → EdgeLooked (nodes b) price w u v → Spread b price goals start w count d u (place + 1)
+pass-on {b} {price} {goals} {start} {w} {count} {d} {u} {place} s here v at look = passed s (λ t. rw at look)
 
-module _ {b : Block} {price : ℕ → ℕ} {w : List ℕ} {count d u place : ℕ}
-    (s : Spread b price w count d u place) (few : nodes b ≤ nodesMost) (node : u < nodes b) (here : labelAt w u ≡ d) (low : d < goal) where
+module _ {b : Block} {price : ℕ → ℕ} {goals : Bool} {start w : List ℕ} {count d u place : ℕ}
+    (s : Spread b price goals start w count d u place) (few : nodes b ≤ nodesMost) (node : u < nodes b) (here : labelAt w u ≡ d) (low : d < goal) where
   -- a label is far below `goal`
   pub spread-low : d < pathMost
   spread-low =
@@ -285,7 +291,7 @@ module _ {b : Block} {price : ℕ → ℕ} {w : List ℕ} {count d u place : ℕ
       let near : labelAt w (fromAt (nodes b) w v) ≤ d = c .near in
       record { labelled = l; near = omega arith; lowest = λ q e. lowest (e ∙ here) }
 
-  kept-step : {best : ℕ} → (getD (b .edgeTargets) place 0 < nodes b → EdgeLooked (nodes b) price w u (getD (b .edgeTargets) place 0)) → Stepped b price d u (place + 1) w w count count best best
+  kept-step : {best : ℕ} → (getD (b .edgeTargets) place 0 < nodes b → EdgeLooked (nodes b) price w u (getD (b .edgeTargets) place 0)) → Stepped b price goals start d u (place + 1) w w count count best best
   kept-step {best} look = record { spread = passed s look; here = here; onward = onward-none (nodes b) w best; fewer = le-refl _ }
 
   -- a lower predecessor of v
@@ -354,7 +360,7 @@ module _ {b : Block} {price : ℕ → ℕ} {w : List ℕ} {count d u place : ℕ
               (same-or-not y v);
         }
 
-    spread-lower : Spread b price (withFrom (nodes b) w u v) count d u place
+    spread-lower : Spread b price goals start (withFrom (nodes b) w u v) count d u place
     spread-lower = record {
       fair = s .fair;
       heap = record {
@@ -373,11 +379,12 @@ module _ {b : Block} {price : ℕ → ℕ} {w : List ℕ} {count d u place : ℕ
           (λ (q : x ≡ v). rw q low-came)
           (λ (q : x ≡ v → ⊥). low-came-other x k q (s .came x k (rw (low-label x k) at p) (rw (low-label x k) at m)))
           (same-or-not x v);
+      unmet = λ x k m. rw (low-label x k) (s .unmet x k (rw (low-label x k) at m));
       done = λ x k m.
           ⊎-elim
           (λ (q : Waits (nodes b) count w x). inl (q .0, q .1, low-wait (q .0) ∙ q .2))
-          (λ (f : (j : ℕ) → PlacePassed b u place x j → getD (b .edgeTargets) j 0 < nodes b → EdgeLooked (nodes b) price w x (getD (b .edgeTargets) j 0)).
-          inr (λ j p t. low-looked x (getD (b .edgeTargets) j 0) k t (f j p t)))
+          (λ (f : (j : ℕ) → PlacePassed b u place x j → getD (b .edgeTargets) j 0 < nodes b → EdgePast b price goals start w x (getD (b .edgeTargets) j 0)).
+          inr (λ j p t. ⊎-elim (λ (l : EdgeLooked (nodes b) price w x (getD (b .edgeTargets) j 0)). inl (low-looked x (getD (b .edgeTargets) j 0) k t l)) inr (f j p t)))
           (s .done x k (rw (low-label x k) at m));
     }
 
@@ -403,7 +410,7 @@ module _ {b : Block} {price : ℕ → ℕ} {w : List ℕ} {count d u place : ℕ
 
   -- a first label on v
   module _ {firsts w′ : List ℕ} {v count′ : ℕ} (r : LabelReady (nodes b) firsts w count u v) (rows : firsts ≡ b .firstEdges) (edge : hasEdge b u v ≡ true)
-      (f : Fresh (nodes b) firsts u v (d + price v) w w′ count count′) where
+      (f : Fresh (nodes b) firsts (b .edgeTargets) goals u v (d + price v) w w′ count count′) where
     v-node : v < nodes b
     v-node = r .v-node
 
@@ -467,7 +474,51 @@ module _ {b : Block} {price : ℕ → ℕ} {w : List ℕ} {count d u place : ℕ
               rw at (l .lowest p′ (omega arith));
         }
 
-    spread-label : Spread b price w′ count′ d u place
+    all-came : (x : ℕ) → x < nodes b → 0 < labelAt w′ x → labelAt w′ x < goal → Came b price w′ d x
+    all-came x k p m =
+        ⊎-elim
+        (λ (q : x ≡ v). rw q new-came)
+        (λ (q : x ≡ v → ⊥). old-came x k q (rw (f .label-other x k q) at p) (rw (f .label-other x k q) at m))
+        (same-or-not x v)
+
+    all-unmet : (x : ℕ) → x < nodes b → goal ≤ labelAt w′ x → labelAt start x ≡ labelAt w′ x
+    all-unmet x k m =
+        let other : labelAt w′ x ≡ labelAt w x = f .label-other x k (λ q. let z : labelAt w′ x ≡ d + price v = rw q (f .label-here) in let n = new-low in omega arith) in
+        rw other (s .unmet x k (rw other at m))
+
+    -- a node that has a label got it from a node nearer than v, so that v changes nothing there
+    idle-looked : (x : ℕ) → x < nodes b → labelAt w′ x < goal → EdgeLooked (nodes b) price w′ v x
+    idle-looked x k m =
+        let here-v = f .label-here in
+        let pos = s .fair .pos v v-node in
+        record {
+          labelled = m;
+          near =
+              ⊎-elim
+              (λ (z : labelAt w′ x ≤ 0). omega arith)
+              (λ (p : 0 < labelAt w′ x).
+              let c = all-came x k p m in
+              let sum : labelAt w′ x ≡ labelAt w′ (fromAt (nodes b) w′ x) + price x = c .sum in
+              let near : labelAt w′ (fromAt (nodes b) w′ x) ≤ d = c .near in
+              omega arith)
+              (le-or-lt (labelAt w′ x) 0);
+          lowest = λ p e. absurd (let near : labelAt w′ (fromAt (nodes b) w′ x) ≤ d = all-came x k p m .near in omega arith);
+        }
+
+    -- no edge of v has to be looked at: its targets have their labels, or are dead ends
+    idle-past : Idle (nodes b) firsts (b .edgeTargets) goals w′ v → (j : ℕ) → PlacePassed b u place v j → getD (b .edgeTargets) j 0 < nodes b → EdgePast b price goals start w′ v (getD (b .edgeTargets) j 0)
+    idle-past idle j p t =
+        let from : getD firsts v 0 ≤ j = rw rows (p .from) in
+        let below : j < getD firsts (v + 1) 0 = rw rows (p .below) in
+        let spared = idle j from below (p .within) t in
+        ⊎-elim
+        (λ (m : goal ≤ labelAt w′ (getD (b .edgeTargets) j 0)).
+        let same : labelAt start (getD (b .edgeTargets) j 0) ≡ labelAt w′ (getD (b .edgeTargets) j 0) = all-unmet (getD (b .edgeTargets) j 0) t m in
+        inr (spared .0, record { no-edges = rw rows at (spared .1 .no-edges); no-goal = λ e. spared .1 .no-goal (sym same ∙ e) }))
+        (λ (m : labelAt w′ (getD (b .edgeTargets) j 0) < goal). inl (idle-looked (getD (b .edgeTargets) j 0) t m))
+        (le-or-lt goal (labelAt w′ (getD (b .edgeTargets) j 0)))
+
+    spread-label : Spread b price goals start w′ count′ d u place
     spread-label =
         let fewer : bareCount (nodes b) w′ < bareCount (nodes b) w = new-bare in
         record {
@@ -498,25 +549,16 @@ module _ {b : Block} {price : ℕ → ℕ} {w : List ℕ} {count d u place : ℕ
               let room : bareCount (nodes b) w′ * s .fair .ceiling + s .fair .ceiling ≤ bareCount (nodes b) w * s .fair .ceiling = more-room _ _ (s .fair .ceiling) fewer in
               omega arith)
               (same-or-not x v);
-          came = λ x k p m.
-              ⊎-elim
-              (λ (q : x ≡ v). rw q new-came)
-              (λ (q : x ≡ v → ⊥). old-came x k q (rw (f .label-other x k q) at p) (rw (f .label-other x k q) at m))
-              (same-or-not x v);
+          came = all-came;
+          unmet = all-unmet;
           done = λ x k m.
               ⊎-elim
-              (λ (q : x ≡ v).
-              rw q
-              (⊎-elim
-              inl
-              (λ (empty : getD firsts (v + 1) 0 ≤ getD firsts v 0).
-              inr (λ j p t. absurd (let a : rowStart b v ≤ j = p .from in let z : j < rowStart b (v + 1) = p .below in let e : getD (b .firstEdges) (v + 1) 0 ≤ getD (b .firstEdges) v 0 = rw rows at empty in omega arith)))
-              (f .out)))
+              (λ (q : x ≡ v). rw q (⊎-elim inl (λ (idle : Idle (nodes b) firsts (b .edgeTargets) goals w′ v). inr (idle-past idle)) (f .out)))
               (λ (q : x ≡ v → ⊥).
               ⊎-elim
               (λ (p : Waits (nodes b) count w x). inl (f .kept x p))
-              (λ (g : (j : ℕ) → PlacePassed b u place x j → getD (b .edgeTargets) j 0 < nodes b → EdgeLooked (nodes b) price w x (getD (b .edgeTargets) j 0)).
-              inr (λ j p t. old-looked x (getD (b .edgeTargets) j 0) k q t (g j p t)))
+              (λ (g : (j : ℕ) → PlacePassed b u place x j → getD (b .edgeTargets) j 0 < nodes b → EdgePast b price goals start w x (getD (b .edgeTargets) j 0)).
+              inr (λ j p t. ⊎-elim (λ (l : EdgeLooked (nodes b) price w x (getD (b .edgeTargets) j 0)). inl (old-looked x (getD (b .edgeTargets) j 0) k q t l)) inr (g j p t)))
               (s .done x k (rw (f .label-other x k q) at m)))
               (same-or-not x v);
         }
@@ -572,14 +614,14 @@ module _ {b : Block} {price : ℕ → ℕ} {w : List ℕ} {count d u place : ℕ
   -- looking at the edge at `place`
   pub relax-at :
       length (b .firstEdges) ≡ nodes b + 1 → (v : ℕ) → getD (b .edgeTargets) place 0 ≡ v → hasEdge b u v ≡ true
-      → {w′ : List ℕ} {count′ best best′ : ℕ} → EdgeRelaxed (nodes b) (b .firstEdges) price u v d w w′ count count′ best best′
-      → Stepped b price d u (place + 1) w w′ count count′ best best′
+      → {w′ : List ℕ} {count′ best best′ : ℕ} → EdgeRelaxed (nodes b) (b .firstEdges) (b .edgeTargets) goals price u v d w w′ count count′ best best′
+      → Stepped b price goals start d u (place + 1) w w′ count count′ best best′
   relax-at long v at edge (beyond far-off e ec eb) = rw (e, ec, eb) (kept-step (λ t. absurd (let z : v < nodes b = rw at at t in omega arith)))
   relax-at long v at edge (tree h z e ec eb) = rw (e, ec, eb) (kept-step (λ t. rw at (look-tree v z)))
   relax-at long v at edge (lowers h pos l (stays lowest e) ec eb) = rw (e, ec, eb) (kept-step (λ t. rw at (look-kept v h pos l lowest)))
   relax-at long v at edge {w′} {count′} {best} {best′} (lowers h pos l (lowered less same e) ec eb) =
       rw (e, ec, eb)
-      (let next : Spread b price (withFrom (nodes b) w u v) count d u place = spread-lower v h pos l edge less same in
+      (let next : Spread b price goals start (withFrom (nodes b) w u v) count d u place = spread-lower v h pos l edge less same in
       let lu : labelAt (withFrom (nodes b) w u v) u ≡ d = low-label v h pos l edge less same u node ∙ here in
       record {
         spread = pass-on next lu v at (lower-looked v h pos l edge less same);

@@ -49,6 +49,7 @@ pub fn distances_from_tree(
         factor,
         first_edge,
         edge_target,
+        false,
         work,
         waits,
         0,

@@ -280,6 +280,7 @@ pub fn join(
         factor,
         first_edge,
         edge_target,
+        true,
         work,
         waits,
         last_step,

@@ -1,17 +1,17 @@
--- `search::labels::label` meets its contract: two stores and, where v has a row, a place in the heap.
+-- `search::labels::label` meets its contract: two stores and, where v has something to spread, a place in the heap.
 -- Assumes nothing.
 use mathlib.Core.Path.{refl, _∙_}
 use Rattle.search.specs.Spread.{ends, waits}
-use Rattle.search.proofs.SpreadSteps.{labelled-long, label-heap}
+use Rattle.search.proofs.SpreadSteps.{labelled-long, label-heap, label-row}
 use borrow.Author.Needs.{needs}
 use Rattle.search.proofs.labels.label.Statement.{statement}
 use Rattle.search.proofs.labels.label.Tie as tie
 
--- the entry, from where the predecessor is set; and that place, from where the row's bounds are read
+-- the entry, from where the predecessor is set; and that place, from where it is known whether v has to wait
 abbrev entry : tie.After-set-from → tie.Start
-entry c = c .before .before .before .before .before .before
+entry c = c .before .before .before .before .before .before .before
 
-abbrev preceded : tie.After-shared-slice-known3 → tie.After-set-from
+abbrev preceded : tie.After-has-to-wait → tie.After-set-from
 preceded c = c .before .before .before .before
 
 mul-met : tie.Need-mul-met
@@ -32,31 +32,11 @@ slice-write-work c = search needs
 set-from-requires : tie.Need-set-from-requires
 set-from-requires c κs = search needs
 
-add-if1 : tie.Need-add-if1
-add-if1 c = search needs
-
-mul-if1 : tie.Need-mul-if1
-mul-if1 c = search needs
-
-shared-slice-read-if1 : tie.Need-shared-slice-read-if1
-shared-slice-read-if1 c = search needs
-
-mul-if1-2 : tie.Need-mul-if1-2
-mul-if1-2 c = search needs
-
-shared-slice-read-if1-2 : tie.Need-shared-slice-read-if1-2
-shared-slice-read-if1-2 c = search needs
-
-same-length : tie.Need-same-length
-same-length c =
-    let from = preceded (c .before) in
+has-to-wait-requires : tie.Need-has-to-wait-requires
+has-to-wait-requires c κs =
+    let from = c .before .before .before in
     let start = entry from in
-    rw (from .set-from .ensures) (labelled-long (start .pre) (start .args .d))
-
-returns : tie.Need-returns
-returns c =
-    let from = preceded (c .before) in
-    (ends (c .if1 .taken) (from .set-from .ensures) refl, from .before .before .met .ensures)
+    label-row (start .pre) (start .args .d) (from .set-from .ensures)
 
 add-requires : tie.Need-add-requires
 add-requires c κs =
@@ -64,21 +44,32 @@ add-requires c κs =
     let start = entry from in
     label-heap (start .pre) (start .args .d) (from .set-from .ensures)
 
-add-t10 : tie.Need-add-t10
-add-t10 c = search needs
+add-t25 : tie.Need-add-t25
+add-t25 c = search needs
 
-same-length-2 : tie.Need-same-length-2
-same-length-2 c =
+same-length : tie.Need-same-length
+same-length c =
     let added = c .before .before in
     let from = preceded (added .before .before .before) in
     let start = entry from in
     added .add .ensures .moved .same .long ∙ rw (from .set-from .ensures) (labelled-long (start .pre) (start .args .d))
 
-returns-2 : tie.Need-returns-2
-returns-2 c =
+returns : tie.Need-returns
+returns c =
     let added = c .before .before in
     let from = preceded (added .before .before .before) in
     (waits (rw (from .set-from .ensures) at (added .add .ensures)) refl, from .before .before .met .ensures)
+
+same-length-2 : tie.Need-same-length-2
+same-length-2 c =
+    let from = preceded (c .before) in
+    let start = entry from in
+    rw (from .set-from .ensures) (labelled-long (start .pre) (start .args .d))
+
+returns-2 : tie.Need-returns-2
+returns-2 c =
+    let from = preceded (c .before) in
+    (ends (rw (from .set-from .ensures) at (c .before .has-to-wait .ensures (c .if1 .left))) (from .set-from .ensures) refl, from .before .before .met .ensures)
 
 pub label-spec : {M : Type 1} → statement M
 label-spec =
@@ -90,14 +81,10 @@ label-spec =
     mul-work
     slice-write-work
     set-from-requires
-    add-if1
-    mul-if1
-    shared-slice-read-if1
-    mul-if1-2
-    shared-slice-read-if1-2
+    has-to-wait-requires
+    add-requires
+    add-t25
     same-length
     returns
-    add-requires
-    add-t10
     same-length-2
     returns-2)

@@ -11,7 +11,7 @@ use Rattle.search.proofs.labels.relax.Tie as tie
 
 -- the entry, from where v is seen to be a node
 abbrev entry : tie.Else1 → tie.Start
-entry c = c .before .before .before .before .before .before .before .before
+entry c = c .before .before .before .before .before .before .before .before .before
 
 returns : tie.Need-returns
 returns c = beyond (c .if1 .taken) refl refl refl

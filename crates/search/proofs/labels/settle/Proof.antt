@@ -10,11 +10,11 @@ use Rattle.search.proofs.labels.settle.Statement.{statement}
 use Rattle.search.proofs.labels.settle.Tie as tie
 
 abbrev Inv-loop : tie.InvT-loop
-Inv-loop kind capacity history others weighting delay factor first-edge edge-target work₀ u d to e₀ r₀ work e r =
-    LabelRowSoFar (graphOf kind first-edge edge-target) (clampedPrice kind capacity (weighedCongestion weighting delay factor history others)) u work₀ work e (r₀ .count) (r .count) (r₀ .best) (r .best)
+Inv-loop kind capacity history others weighting delay factor first-edge edge-target goals work₀ u d to e₀ r₀ work e r =
+    LabelRowSoFar (graphOf kind first-edge edge-target) (clampedPrice kind capacity (weighedCongestion weighting delay factor history others)) goals u work₀ work e (r₀ .count) (r .count) (r₀ .best) (r .best)
 
 abbrev μ-loop : tie.MeasureT-loop
-μ-loop kind capacity history others weighting delay factor first-edge edge-target work₀ u d to e₀ r₀ work e r = to - e
+μ-loop kind capacity history others weighting delay factor first-edge edge-target goals work₀ u d to e₀ r₀ work e r = to - e
 
 -- the entry, from where the bounds of the lists are known, and from the loop's head
 abbrev entry : tie.After-slice-known Inv-loop μ-loop → tie.Start Inv-loop μ-loop

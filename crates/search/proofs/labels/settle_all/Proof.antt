@@ -13,10 +13,11 @@ use Rattle.search.proofs.labels.settle_all.Statement.{statement}
 use Rattle.search.proofs.labels.settle_all.Tie as tie
 
 abbrev Inv-loop : tie.InvT-loop
-Inv-loop kind capacity history others weighting delay factor first-edge edge-target work₀ waits last-step n r₀ work r = LabelsRunning (graphOf kind first-edge edge-target) (clampedPrice kind capacity (weighedCongestion weighting delay factor history others)) work₀ work (r .best) (r .count)
+Inv-loop kind capacity history others weighting delay factor first-edge edge-target goals work₀ waits last-step n r₀ work r =
+    LabelsRunning (graphOf kind first-edge edge-target) (clampedPrice kind capacity (weighedCongestion weighting delay factor history others)) goals work₀ work (r .best) (r .count)
 
 abbrev μ-loop : tie.MeasureT-loop
-μ-loop kind capacity history others weighting delay factor first-edge edge-target work₀ waits last-step n r₀ work r = 2 * bareCount (length kind) work + r .count
+μ-loop kind capacity history others weighting delay factor first-edge edge-target goals work₀ waits last-step n r₀ work r = 2 * bareCount (length kind) work + r .count
 
 -- the entry, from where the bounds of the lists are known, and from the loop's head
 abbrev entry : tie.After-slice-known Inv-loop μ-loop → tie.Start Inv-loop μ-loop

@@ -1,5 +1,6 @@
 -- `search::turn::join` meets its contract: tree and goals are marked, the labels spread until they stop, and the path is read off.
 -- Assumes nothing.
+use mathlib.Core.Bool.{true}
 use native.Mathlib.Omega.{arith}
 use lib.ListN.{length}
 use Prim.Native.Nat.{_≤_}
@@ -45,7 +46,7 @@ settle-all-requires c κs =
     let at-mark-goals = at-least-price .before .before .before .before in
     let at-mark-tree = tree at-mark-goals in
     let f = entry (at-mark-tree .before) .pre in
-    (fitted-lent _ _ _ _ f, join-ready _ _ _ _ _ f (at-mark-tree .mark-tree .ensures) (at-mark-goals .mark-goals .ensures) (at-least-price .least-price .ensures))
+    (fitted-lent _ _ _ _ f, join-ready _ _ _ _ _ f (at-mark-tree .mark-tree .ensures) (at-mark-goals .mark-goals .ensures) (at-least-price .least-price .ensures) true)
 
 -- the labels have stopped spreading
 module _ (c : tie.After-settle-all) where
@@ -56,9 +57,9 @@ module _ (c : tie.After-settle-all) where
       Halted (graphOf (start .args .kind .now) (start .args .first-edge .now) (start .args .edge-target .now))
       (clampedPrice (start .args .kind .now) (start .args .capacity .now)
       (weighedCongestion (start .args .weighting) (start .args .delay .now) (start .args .factor) (start .args .history .now) (start .args .others .now)))
-      (start .args .in-tree .now) (start .args .sinks .now) (start .args .work .now) (c .settle-all .last .1 .1 .1 .1 .1 .1 .1 .1 .1 .0) (c .settle-all .result)
+      (start .args .in-tree .now) (start .args .sinks .now) (start .args .work .now) (c .settle-all .last .1 .1 .1 .1 .1 .1 .1 .1 .1 .1 .0) (c .settle-all .result)
   halts =
-      join-halts _ _ _ _ _ (start .pre) (tree (goals c) .mark-tree .ensures) (goals c .mark-goals .ensures) (c .before .before .least-price .ensures)
+      join-halts _ _ _ _ _ (start .pre) (tree (goals c) .mark-tree .ensures) (goals c .mark-goals .ensures) (c .before .before .least-price .ensures) true
       (c .settle-all .ensures)
 
 mul-clear : tie.Need-mul-clear

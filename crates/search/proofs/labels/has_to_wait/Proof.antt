@@ -1,0 +1,45 @@
+-- `search::labels::has_to_wait` meets its contract.
+-- Assumes nothing.
+use borrow.Author.Needs.{needs}
+use Rattle.search.proofs.RelaxLaws.{idle-empty}
+use Rattle.search.proofs.labels.has_to_wait.Statement.{statement}
+use Rattle.search.proofs.labels.has_to_wait.Tie as tie
+
+leads-on-requires : tie.Need-leads-on-requires
+leads-on-requires c κs = search needs
+
+returns : tie.Need-returns
+returns c = λ e k a b l t. (c .before .if1 .taken, c .leads-on .ensures e k a b l t)
+
+mul-result : tie.Need-mul-result
+mul-result c = search needs
+
+shared-slice-read-result : tie.Need-shared-slice-read-result
+shared-slice-read-result c = search needs
+
+add-result : tie.Need-add-result
+add-result c = search needs
+
+mul-result-2 : tie.Need-mul-result-2
+mul-result-2 c = search needs
+
+shared-slice-read-result-2 : tie.Need-shared-slice-read-result-2
+shared-slice-read-result-2 c = search needs
+
+returns-2 : tie.Need-returns-2
+returns-2 c =
+    let entry = c .before .before .before .before .before .before .args in
+    idle-empty (entry .n) (entry .first-edge .now) (entry .edge-target .now) (entry .goals) (entry .work .now) (entry .v)
+
+pub has-to-wait-spec : {M : Type 1} → statement M
+has-to-wait-spec =
+    tie.close
+    (tie.spec
+    leads-on-requires
+    returns
+    mul-result
+    shared-slice-read-result
+    add-result
+    mul-result-2
+    shared-slice-read-result-2
+    returns-2)
