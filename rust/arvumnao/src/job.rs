@@ -1,6 +1,5 @@
 //! A job: the block, its nets, and the terms on which they are routed.
 
-use crate::log::Log;
 use crate::refusal::{LineFault, Refusal, TableFault};
 use crate::{out, raw};
 
@@ -17,9 +16,6 @@ pub const SINKS: usize = 4_096;
 pub const TIMED_NODES: usize = 1_024;
 /// The highest limit of a timed job.
 pub const TIMED_LIMIT: u32 = 40;
-
-/// The words of the log that [`Job::route`] begins with.
-const LOG: usize = 16_384;
 
 /// The block: wires and pins are its nodes, switches its edges.
 #[derive(Clone, Debug, PartialEq, Eq)]
@@ -132,26 +128,6 @@ pub struct Job {
     pub timing: Option<Timing>,
 }
 
-/// A job that was accepted: no wire is overfull.
-#[derive(Clone, Debug, PartialEq, Eq)]
-pub struct Answer {
-    /// The iteration in which it settled.
-    pub iteration: u32,
-    /// The turns made, as many as the log has records.
-    pub turns: u64,
-    /// Every turn's path and cost.
-    pub log: Log,
-}
-
-/// What [`Job::route_aimed`] and [`Job::resume_aimed`] tell.
-#[derive(Clone, Debug, PartialEq, Eq)]
-pub struct Aimed {
-    /// What [`Job::route`] or [`Job::resume`] answers: the search that is chosen makes no difference to it.
-    pub answer: Result<Answer, Refusal>,
-    /// The nodes expanded in the turns that the call logged, also where it was stopped by log or limit.
-    pub expanded: u64,
-}
-
 impl Default for Block {
     /// No nodes.
     fn default() -> Block {
@@ -166,6 +142,14 @@ impl Block {
         self.capacity.push(capacity);
         self.edge_target.extend(targets);
         self.first_edge.push(self.edge_target.len() as u32);
+    }
+
+    /// Whether a switch leads from one node to another; never where table 3 or 4 lacks them.
+    pub fn has_edge(&self, from: u32, to: u32) -> bool {
+        let place = |node: usize| Some(*self.first_edge.get(node)? as usize);
+        let row = place(from as usize).zip(place(from as usize + 1));
+        let row = row.and_then(|(first, end)| self.edge_target.get(first..end));
+        row.is_some_and(|row| row.binary_search_by(|target| u32::from(*target).cmp(&to)).is_ok())
     }
 
     /// The refusal of one of its tables.
@@ -245,51 +229,6 @@ impl Timing {
     }
 }
 
-/// The library's call that routes, by either search.
-type Router = fn(
-    &[u8],
-    &[u8],
-    &[u32],
-    &[u16],
-    &[u16],
-    &[u32],
-    &[u16],
-    &[u16],
-    &[u8],
-    &[u32],
-    &mut [u64],
-    &mut [u32],
-    &mut [u64],
-) -> u32;
-
-/// The one that goes on from a log.
-type Resumer = fn(
-    &[u8],
-    &[u8],
-    &[u32],
-    &[u16],
-    &[u16],
-    &[u32],
-    &[u16],
-    &[u16],
-    &[u8],
-    &[u32],
-    u64,
-    &mut [u64],
-    &mut [u32],
-    &mut [u64],
-) -> u32;
-
-/// A run in a log that is twice as long each time one is full.
-fn growing(mut words: usize, run: impl Fn(usize) -> Aimed) -> Aimed {
-    loop {
-        match run(words) {
-            Aimed { answer: Err(Refusal::LogFull { .. }), .. } => words *= 2,
-            aimed => return aimed,
-        }
-    }
-}
-
 impl Job {
     /// Reads a job text. Refused by [`Refusal::Line`], which says what is wrong with which line, and by [`Refusal::TooLarge`].
     ///
@@ -353,187 +292,14 @@ impl Job {
         self.timing = (timed != 0).then_some(timing);
     }
 
-    /// The terms in the order in which the library takes them.
-    fn numbers(&self) -> [u32; 8] {
-        let Terms { limit, first, up, down, step, rule, until } = self.terms;
+    /// The terms in the order in which the library takes them, with this limit.
+    pub(crate) fn numbers(&self, limit: u32) -> [u32; 8] {
+        let Terms { limit: _, first, up, down, step, rule, until } = self.terms;
         [limit, first, up, down, step, rule, until, self.timing.is_some().into()]
     }
 
     /// Tables 9 and 10, empty where the job isn't timed.
-    fn timed_tables(&self) -> (&[u16], &[u8]) {
+    pub(crate) fn timed_tables(&self) -> (&[u16], &[u8]) {
         self.timing.as_ref().map_or((&[], &[]), |timing| (&timing.delay, &timing.criticality))
-    }
-
-    /// Routes the job in a log as long as it needs. Refused by [`Refusal::Table`], [`Refusal::TooLarge`], [`Refusal::Unreachable`] or
-    /// [`Refusal::Limit`].
-    ///
-    /// It begins with a log of 16,384 words and tries again with twice as many when one is full; the job's outcome and log are
-    /// those of any log that is long enough. A log needs at most limit × sinks × (nodes + 6) words.
-    pub fn route(&self) -> Result<Answer, Refusal> {
-        growing(LOG, |words| self.routed_in(raw::route, words)).answer
-    }
-
-    /// Routes the job in a log of so many words. Refused as [`Job::route`] is, and by [`Refusal::LogFull`].
-    pub fn route_in(&self, words: usize) -> Result<Answer, Refusal> {
-        self.routed_in(raw::route, words).answer
-    }
-
-    /// Routes the job as [`Job::route`] does, by a search that aims, and counts the nodes that it expanded. The answer is the same.
-    ///
-    /// A turn expands the nodes whose distance from the net's tree plus an estimate of what is left to the sink is at most the joined
-    /// sink's distance; `docs/FORMAT.md` has the estimate.
-    ///
-    /// ```
-    /// let job = arvumnao::Job::read(include_bytes!("../../../examples/job_b.txt"))?;
-    /// let aimed = job.route_aimed();
-    /// assert_eq!(aimed.answer, job.route());
-    /// assert_eq!(aimed.expanded, 12);
-    /// # Ok::<(), arvumnao::Refusal>(())
-    /// ```
-    pub fn route_aimed(&self) -> Aimed {
-        growing(LOG, |words| self.routed_in(raw::route_aimed, words))
-    }
-
-    /// The same in a log of so many words.
-    pub fn route_aimed_in(&self, words: usize) -> Aimed {
-        self.routed_in(raw::route_aimed, words)
-    }
-
-    /// Routes the job by this call in a log of so many words.
-    fn routed_in(&self, route: Router, words: usize) -> Aimed {
-        let Job { block, nets, .. } = self;
-        let (delay, criticality) = self.timed_tables();
-        let mut work = self.work();
-        let mut log = vec![0; words];
-        let told = out(|out| {
-            route(
-                &block.kind,
-                &block.capacity,
-                &block.first_edge,
-                &block.edge_target,
-                &nets.source,
-                &nets.first_sink,
-                &nets.sink,
-                delay,
-                criticality,
-                &self.numbers(),
-                &mut work,
-                &mut log,
-                out,
-            )
-        });
-        self.aimed(&told, log, 0)
-    }
-
-    /// Goes on from the log of a run that ended in whole iterations, as one stopped by [`Refusal::Limit`] does, under a limit above
-    /// those: histories, factor and trees are rebuilt from it, and turns are appended. Refused as [`Job::route`] is, and by
-    /// [`Refusal::Diverges`] unless the log follows the job. The answer is about the whole log.
-    ///
-    /// From the job's own log it ends as [`Job::route`] does, without making its turns again. Any other log that follows the job is gone on
-    /// from as it is: its paths need not be the cheapest. In a timed job each of its turns must join the sink that is due.
-    ///
-    /// ```
-    /// use arvumnao::{Job, Refusal};
-    ///
-    /// let mut job = Job::read(include_bytes!("../../../examples/job_b.txt"))?;
-    /// job.terms.limit = 1;
-    /// let Err(Refusal::Limit { log, .. }) = job.route() else { panic!("job B settles in iteration 2") };
-    /// job.terms.limit = 2;
-    /// assert_eq!(job.resume(&log)?, job.route()?);
-    /// # Ok::<(), Refusal>(())
-    /// ```
-    pub fn resume(&self, log: impl AsRef<[u32]>) -> Result<Answer, Refusal> {
-        self.resumed(raw::resume, log.as_ref()).answer
-    }
-
-    /// The same in a log of so many words, or of as many as it has where that is more. Refused as [`Job::resume`] is, and by
-    /// [`Refusal::LogFull`].
-    pub fn resume_in(&self, log: impl AsRef<[u32]>, words: usize) -> Result<Answer, Refusal> {
-        self.resumed_in(raw::resume, log.as_ref(), words).answer
-    }
-
-    /// Goes on as [`Job::resume`] does, by the search that aims, and counts the nodes that it expanded in the turns that it appends. The
-    /// answer is the same.
-    pub fn resume_aimed(&self, log: impl AsRef<[u32]>) -> Aimed {
-        self.resumed(raw::resume_aimed, log.as_ref())
-    }
-
-    /// The same in a log of so many words, or of as many as it has where that is more.
-    pub fn resume_aimed_in(&self, log: impl AsRef<[u32]>, words: usize) -> Aimed {
-        self.resumed_in(raw::resume_aimed, log.as_ref(), words)
-    }
-
-    /// Goes on by this call in a log as long as it needs.
-    fn resumed(&self, resume: Resumer, log: &[u32]) -> Aimed {
-        growing(LOG.max(2 * log.len()), |words| self.resumed_in(resume, log, words))
-    }
-
-    /// Goes on by this call in a log of so many words, or of as many as it has where that is more.
-    fn resumed_in(&self, resume: Resumer, log: &[u32], words: usize) -> Aimed {
-        let Job { block, nets, .. } = self;
-        let (delay, criticality) = self.timed_tables();
-        let mut log = log.to_vec();
-        let used = log.len();
-        log.resize(words.max(used), 0);
-        let mut work = self.work();
-        let told = out(|out| {
-            resume(
-                &block.kind,
-                &block.capacity,
-                &block.first_edge,
-                &block.edge_target,
-                &nets.source,
-                &nets.first_sink,
-                &nets.sink,
-                delay,
-                criticality,
-                &self.numbers(),
-                used as u64,
-                &mut work,
-                &mut log,
-                out,
-            )
-        });
-        self.aimed(&told, log, used)
-    }
-
-    /// Work memory that is enough.
-    fn work(&self) -> Vec<u64> {
-        vec![0; 8 * self.block.kind.len()]
-    }
-
-    /// What the router and resume tell, with the log that they leave, of which so many words were lent.
-    fn aimed(&self, told: &[u64; raw::OUT], log: Vec<u32>, lent: usize) -> Aimed {
-        let &[.., expanded] = raw::own::<4>(told);
-        let answer = match *raw::refusal(told) {
-            [14, word] => Err(Refusal::Diverges { word, words: lent as u64 }),
-            _ => self.answer(told, log),
-        };
-        Aimed { answer, expanded }
-    }
-
-    /// The answer, where the lent log is not what was refused.
-    fn answer(&self, told: &[u64; raw::OUT], mut log: Vec<u32>) -> Result<Answer, Refusal> {
-        let &[iteration, turns, used] = raw::own::<3>(told);
-        log.truncate(used as usize);
-        let (iteration, log) = (iteration as u32, Log::of_run(log));
-        match *raw::refusal(told) {
-            [] => Ok(Answer { iteration, turns, log }),
-            [5, table] => Err(Refusal::Table(TableFault::find(self, table as u32))),
-            [15, nodes, limit] => Err(Refusal::too_large(nodes, limit)),
-            [7, net, place] => Err(self.unreachable(net as u32, place as u32)),
-            [8, iteration, turns] => Err(Refusal::LogFull { iteration: iteration as u32, turns, log }),
-            [9, iteration, over] => {
-                Err(Refusal::Limit { iteration: iteration as u32, over: over as u32, turns, log })
-            }
-            ref numbers => Err(Refusal::unexpected(numbers)),
-        }
-    }
-
-    /// The refusal of a sink without a path.
-    fn unreachable(&self, net: u32, place: u32) -> Refusal {
-        let source = self.nets.source.get(net as usize).copied().unwrap_or_default();
-        let sink = self.nets.joined_sinks(net as usize).get(place as usize).copied().unwrap_or_default();
-        Refusal::Unreachable { net, place, source, sink }
     }
 }

@@ -26,6 +26,24 @@ pub const fn wire(tiles: u8) -> u8 {
     tiles + 3
 }
 
+/// The base cost of a node of this kind: 20, an input pin 19, a wire 20 a tile. None where there is no such kind.
+///
+/// ```
+/// use arvumnao::kind;
+///
+/// assert_eq!(kind::base_cost(kind::INPUT_PIN), Some(19));
+/// assert_eq!(kind::base_cost(kind::wire(3)), Some(60));
+/// assert_eq!(kind::base_cost(54), None);
+/// ```
+pub const fn base_cost(kind: u8) -> Option<u32> {
+    match kind {
+        SOURCE | SINK | OUTPUT_PIN => Some(20),
+        INPUT_PIN => Some(19),
+        4..=MOST => Some(20 * (kind as u32 - 3)),
+        _ => None,
+    }
+}
+
 /// Whether a net may begin at a node of this kind.
 pub const fn may_be_source(kind: u8) -> bool {
     kind == SOURCE || kind == OUTPUT_PIN

@@ -10,7 +10,7 @@
 //! let answer = job.route()?;
 //! assert_eq!(answer.log.routes(&job.nets)?, "R,1,1\nB,0,0,1\nB,0,1,2\n");
 //! for turn in &answer.log {
-//!     println!("{turn}"); // iteration 1, net 0: sink 2 joined at cost 4000 by 0 > 1 > 2
+//!     println!("{turn}"); // iteration 1, net 0, sink 2, cost 4000, path 0 1 2
 //! }
 //! # Ok::<(), arvumnao::Refusal>(())
 //! ```
@@ -55,18 +55,27 @@ mod job;
 pub mod kind;
 mod line;
 mod log;
+mod logtext;
 pub mod raw;
 mod refusal;
+mod replay;
+mod run;
 mod table;
+mod text;
+mod trees;
 mod uses;
+mod walk;
+mod watch;
 
 pub use alone::{Congestion, Use};
-pub use job::{
-    Aimed, Answer, Block, Job, Nets, Terms, Timing, EDGES, NETS, NODES, SINKS, TIMED_LIMIT, TIMED_NODES,
-};
+pub use job::{Block, Job, Nets, Terms, Timing, EDGES, NETS, NODES, SINKS, TIMED_LIMIT, TIMED_NODES};
 pub use log::{Log, Record, Records};
 pub use refusal::{LineFault, Refusal, TableFault};
+pub use replay::{Iteration, Replay, Step, Turn};
+pub use run::{Aimed, Answer, Search};
+pub use trees::{Overfull, Tree};
 pub use uses::UseCounts;
+pub use watch::Progress;
 
 /// What a call tells in an `out` of its own.
 fn out(call: impl FnOnce(&mut [u64]) -> u32) -> [u64; raw::OUT] {

@@ -7,8 +7,11 @@ use std::ops::RangeInclusive;
 /// The bytes of a line that are quoted.
 const QUOTED: usize = 80;
 
+/// With which some editors begin a file.
+const BYTE_ORDER_MARK: &[u8] = b"\xef\xbb\xbf";
+
 /// The text's lines, each without its LF and whether it has one.
-fn lines(text: &[u8]) -> impl Iterator<Item = (&[u8], bool)> {
+pub(crate) fn lines(text: &[u8]) -> impl Iterator<Item = (&[u8], bool)> {
     let whole = text.split_inclusive(|byte| *byte == b'\n');
     whole.map(|line| line.strip_suffix(b"\n").map_or((line, false), |bytes| (bytes, true)))
 }
@@ -20,20 +23,32 @@ pub(crate) fn quoted(text: &[u8], line: u64) -> Option<String> {
     Some(format!("{}{dots}", bytes[..bytes.len().min(QUOTED)].escape_ascii()))
 }
 
+/// What is wrong with a line, and where in it, in bytes from 0.
+type Found = (usize, String);
+
 /// What is wrong with the line by that number, or nothing if it isn't the first faulty one.
-pub(crate) fn reason(text: &[u8], number: u64, line: u64) -> Option<String> {
+pub(crate) fn reason(text: &[u8], number: u64, line: u64) -> Option<Found> {
     let mut lines = lines(text);
     let mut before = Before::default();
     for _ in 0..line.checked_sub(1)? {
         let (bytes, _) = lines.next()?;
         before.take(*bytes.first()?, &numbers(bytes)?)?;
     }
-    match number {
-        1 => before.shape(lines.next()),
-        2 => before.value(lines.next()?.0),
-        3 => before.order(lines.next()?.0),
-        _ => None,
+    if number == 1 {
+        return before.shape(lines.next());
     }
+    let (bytes, _) = lines.next()?;
+    let (place, reason) = match number {
+        2 => before.value(bytes)?,
+        3 => before.order(bytes)?,
+        _ => return None,
+    };
+    Some((column(bytes, place), reason))
+}
+
+/// Where in a line its number of that place begins.
+fn column(line: &[u8], place: usize) -> usize {
+    line.split(|byte| *byte == b',').take(place + 1).map(|field| field.len() + 1).sum()
 }
 
 /// The numbers of a line of sound shape.
@@ -57,6 +72,15 @@ fn names(letter: u8, timed: bool) -> &'static [&'static str] {
         b'E' => &["from", "to"],
         b'S' | b'T' => &["net", "node"],
         _ => &[],
+    }
+}
+
+/// The number of a line that only a timed job has.
+fn timed_number(letter: u8) -> Option<&'static str> {
+    match letter {
+        b'N' => Some("delay"),
+        b'T' => Some("criticality"),
+        _ => None,
     }
 }
 
@@ -138,51 +162,91 @@ impl Before {
     }
 
     /// What is wrong with the shape of a line.
-    fn shape(&self, line: Option<(&[u8], bool)>) -> Option<String> {
+    fn shape(&self, line: Option<(&[u8], bool)>) -> Option<Found> {
         let (letters, due) = self.due();
         let Some((bytes, ended)) = line else {
-            return Some(format!("the text ends where {due} should come"));
+            return Some((0, self.without_sink(format!("the text ends where {due} should come"))));
         };
         let Some(letter) = bytes.first() else {
-            return Some(format!("an empty line where {due} should come"));
+            return Some((0, self.without_sink(format!("an empty line where {due} should come"))));
         };
-        if !letters.contains(letter) {
-            return Some(format!("begins with {} where {due} should come", shown(*letter)));
+        if bytes.starts_with(BYTE_ORDER_MARK) {
+            return Some((
+                0,
+                format!(
+                    "begins with a byte order mark, which a job text doesn't have, where {due} should come"
+                ),
+            ));
         }
-        let fault = if *letter == b'W' { alone(&bytes[1..]) } else { self.fields(*letter, &bytes[1..]) };
-        fault.or_else(|| (!ended).then(|| String::from("the last line is not ended by LF")))
+        if !letters.contains(letter) {
+            let fault = format!("begins with {} where {due} should come", shown(*letter));
+            return Some((0, self.without_sink(fault)));
+        }
+        let fault = if *letter == b'W' { alone(bytes) } else { self.fields(*letter, bytes) };
+        fault.or_else(|| (!ended).then(|| (bytes.len(), String::from("the last line is not ended by LF"))))
+    }
+
+    /// The fault, with the net that it leaves without a sink.
+    fn without_sink(&self, fault: String) -> String {
+        if self.nets > 0 && self.sinks.is_empty() {
+            format!("net {} has no sink: {fault}", self.nets - 1)
+        } else {
+            fault
+        }
     }
 
     /// What is wrong with what follows a letter that takes numbers.
-    fn fields(&self, letter: u8, rest: &[u8]) -> Option<String> {
-        let (names, shown) = (names(letter, self.timed), char::from(letter));
-        let Some(fields) = rest.strip_prefix(b",") else {
-            return Some(format!("the letter {shown} is not followed by a comma"));
+    fn fields(&self, letter: u8, line: &[u8]) -> Option<Found> {
+        let names = names(letter, self.timed);
+        let Some(fields) = line[1..].strip_prefix(b",") else {
+            return Some((1, format!("the letter {} is not followed by a comma", char::from(letter))));
         };
         let fields: Vec<&[u8]> = fields.split(|byte| *byte == b',').collect();
-        if let Some(fault) = fields.iter().zip(names).find_map(|(field, name)| digits(field, name)) {
-            return Some(fault);
+        let mut listed = fields.iter().zip(names).enumerate();
+        let fault = listed.find_map(|(place, (field, name))| Some((place, digits(field, name, 6)?)));
+        if let Some((place, (within, fault))) = fault {
+            return Some((column(line, place) + within, fault));
         }
-        let (has, most) = (fields.len(), names.len());
-        let fewest = if letter == b'V' { 1 } else { most };
-        if !(fewest..=most).contains(&has) {
-            let takes = if fewest < most { format!("{fewest} to {most}") } else { most.to_string() };
-            return Some(format!("has {has} numbers, where {shown} takes {takes}: {}", names.join(", ")));
+        let fewest = if letter == b'V' { 1 } else { names.len() };
+        if !(fewest..=names.len()).contains(&fields.len()) {
+            let place = column(line, names.len()).min(line.len());
+            return Some((place, self.count(letter, fields.len())));
         }
         if let (b'V', [b"1", _]) = (letter, &fields[..]) {
-            return Some(String::from("has a second number, which rule 1 takes none of"));
+            return Some((column(line, 1), String::from("has a second number, which rule 1 takes none of")));
         }
         None
     }
 
-    /// Which value of a line is beyond its bounds.
-    fn value(&self, line: &[u8]) -> Option<String> {
+    /// That a line has so many numbers, where its letter takes fewer or more.
+    fn count(&self, letter: u8, has: usize) -> String {
+        let names = names(letter, self.timed);
+        let (shown, most) = (char::from(letter), names.len());
+        if let Some(name) = timed_number(letter) {
+            if !self.timed && has == most + 1 {
+                return format!(
+                    "has a {name}, which only a timed job has: that has a W line before its N lines"
+                );
+            }
+            if self.timed && has + 1 == most {
+                return format!(
+                    "has no {name}, which a timed job has in each {shown} line: there is a W line above"
+                );
+            }
+        }
+        let takes = if letter == b'V' { String::from("1 to 2") } else { most.to_string() };
+        format!("has {has} numbers, where {shown} takes {takes}: {}", names.join(", "))
+    }
+
+    /// Which value of a line is beyond its bounds, and its place.
+    fn value(&self, line: &[u8]) -> Option<Found> {
         let values = numbers(line)?;
         let letter = *line.first()?;
         let bounds = self.bounds(letter, &values)?;
-        let mut listed = names(letter, self.timed).iter().zip(values).zip(bounds);
-        let ((name, value), bounds) = listed.find(|((_, value), bounds)| !bounds.contains(value))?;
-        Some(format!("{name} {value} is beyond {} to {}", bounds.start(), bounds.end()))
+        let mut listed = names(letter, self.timed).iter().zip(values).zip(bounds).enumerate();
+        let (place, ((name, value), bounds)) =
+            listed.find(|(_, ((_, value), bounds))| !bounds.contains(value))?;
+        Some((place, format!("{name} {value} is beyond {} to {}", bounds.start(), bounds.end())))
     }
 
     /// The bounds of a line's values.
@@ -206,29 +270,37 @@ impl Before {
         })
     }
 
-    /// What is wrong with a line's order or number.
-    fn order(&self, line: &[u8]) -> Option<String> {
+    /// What is wrong with a line's order or number, and the place of the number.
+    fn order(&self, line: &[u8]) -> Option<Found> {
         let values = numbers(line)?;
+        let due = self.nets.saturating_sub(1);
         match (*line.first()?, &values[..]) {
-            (b'N', [node, ..]) => Some(format!("node {node} out of order: node {} is due", self.kinds.len())),
-            (b'E', &[from, to]) => self.edge(from, to),
+            (b'N', [node, ..]) => {
+                Some((0, format!("node {node} out of order: node {} is due", self.kinds.len())))
+            }
+            (b'E', &[from, to]) => Some((0, self.edge(from, to)?)),
             (b'S', &[net, _]) if net != self.nets => {
-                Some(format!("net {net} out of order: net {} is due", self.nets))
+                Some((0, format!("net {net} out of order: net {} is due", self.nets)))
             }
-            (b'S', &[_, node]) => self.pin(node, "source", "0 or 2"),
-            (b'T', &[net, ..]) if net + 1 != self.nets => Some(format!(
-                "net {net} is not that of the S line above, net {}",
-                self.nets.saturating_sub(1)
-            )),
-            (b'T', &[_, node, ..]) if node == self.source => {
-                Some(format!("node {node} is the net's own source"))
+            (b'S', &[_, node]) => Some((1, self.pin(node, "source", "0 or 2")?)),
+            (b'T', &[net, ..]) if net + 1 != self.nets => {
+                Some((0, format!("net {net} is not that of the S line above, net {due}")))
             }
-            (b'T', &[_, node, ..]) if self.sinks.contains(&node) => {
-                Some(format!("node {node} is a sink of this net already"))
-            }
-            (b'T', _) if self.all_sinks >= SINKS => Some(format!("a job has at most {SINKS} sinks")),
-            (b'T', &[_, node, ..]) => self.pin(node, "sink", "1 or 3"),
+            (b'T', &[_, node, ..]) => Some((1, self.sink(node)?)),
             _ => None,
+        }
+    }
+
+    /// What is wrong with a sink.
+    fn sink(&self, node: u32) -> Option<String> {
+        if node == self.source {
+            Some(format!("node {node} is the net's own source"))
+        } else if self.sinks.contains(&node) {
+            Some(format!("node {node} is a sink of this net already"))
+        } else if self.all_sinks >= SINKS {
+            Some(format!("a job has at most {SINKS} sinks"))
+        } else {
+            self.pin(node, "sink", "1 or 3")
         }
     }
 
@@ -253,24 +325,24 @@ impl Before {
     }
 }
 
-/// What is wrong with what follows the letter of a W line.
-fn alone(rest: &[u8]) -> Option<String> {
-    let byte = rest.first()?;
-    Some(format!("{} after the letter W, which stands alone in its line", shown(*byte)))
+/// What is wrong with a W line.
+fn alone(line: &[u8]) -> Option<Found> {
+    let byte = line.get(1)?;
+    Some((1, format!("{} after the letter W, which stands alone in its line", shown(*byte))))
 }
 
-/// What is wrong with a number's digits.
-fn digits(field: &[u8], name: &str) -> Option<String> {
-    if field.contains(&b'\r') {
-        return Some(format!("a carriage return after {name}: lines end in LF alone"));
+/// What is wrong with a number's digits, of which it may have so many, and where in it.
+pub(crate) fn digits(field: &[u8], name: &str, most: usize) -> Option<Found> {
+    if let Some(place) = field.iter().position(|byte| *byte == b'\r') {
+        return Some((place, format!("a carriage return after {name}: lines end in LF alone")));
     }
-    if let Some(byte) = field.iter().find(|byte| !byte.is_ascii_digit()) {
-        return Some(format!("{} in {name}, where only digits may stand", shown(*byte)));
+    if let Some(place) = field.iter().position(|byte| !byte.is_ascii_digit()) {
+        return Some((place, format!("{} in {name}, where only digits may stand", shown(field[place]))));
     }
     match field {
-        [] => Some(format!("{name} has no digits")),
-        [b'0', _, ..] => Some(format!("{name} has a leading zero")),
-        _ if field.len() > 6 => Some(format!("{name} has more than 6 digits")),
+        [] => Some((0, format!("{name} has no digits"))),
+        [b'0', _, ..] => Some((0, format!("{name} has a leading zero"))),
+        _ if field.len() > most => Some((0, format!("{name} has more than {most} digits"))),
         _ => None,
     }
 }

@@ -19,7 +19,7 @@ pub struct Log {
 /// let turn = answer.log.records().last().unwrap();
 /// assert_eq!((turn.iteration, turn.net, turn.sink, turn.cost), (2, 1, 5, 6000));
 /// assert_eq!(turn.path, [1, 2, 5]);
-/// assert_eq!(turn.to_string(), "iteration 2, net 1: sink 5 joined at cost 6000 by 1 > 2 > 5");
+/// assert_eq!(turn.to_string(), "iteration 2, net 1, sink 5, cost 6000, path 1 2 5");
 /// # Ok::<(), arvumnao::Refusal>(())
 /// ```
 #[derive(Clone, Copy, Debug, PartialEq, Eq)]
@@ -62,7 +62,7 @@ impl Log {
 
     /// The turns, in order.
     pub fn records(&self) -> Records<'_> {
-        Records { rest: &self.words }
+        Records::of(&self.words)
     }
 
     /// The routes text: net by net the branches of its records of the latest iteration in which it has any, and a J line for each net
@@ -121,6 +121,20 @@ fn needed(write: Writer, source: &[u16], words: &[u32]) -> Result<usize, Refusal
     }
 }
 
+impl Record<'_> {
+    /// The words that it has in the log.
+    pub(crate) fn words(&self) -> u64 {
+        6 + self.path.len() as u64
+    }
+}
+
+impl<'l> Records<'l> {
+    /// The records in these words.
+    pub(crate) fn of(words: &'l [u32]) -> Records<'l> {
+        Records { rest: words }
+    }
+}
+
 impl AsRef<[u32]> for Log {
     fn as_ref(&self) -> &[u32] {
         &self.words
@@ -151,11 +165,7 @@ impl<'l> IntoIterator for &'l Log {
 impl fmt::Display for Record<'_> {
     fn fmt(&self, f: &mut fmt::Formatter<'_>) -> fmt::Result {
         let Record { iteration, net, sink, cost, path } = self;
-        let path: Vec<String> = path.iter().map(u32::to_string).collect();
-        write!(
-            f,
-            "iteration {iteration}, net {net}: sink {sink} joined at cost {cost} by {}",
-            path.join(" > ")
-        )
+        write!(f, "iteration {iteration}, net {net}, sink {sink}, cost {cost}, path")?;
+        path.iter().try_for_each(|node| write!(f, " {node}"))
     }
 }

@@ -2,6 +2,7 @@
 
 use crate::job::{Job, TIMED_LIMIT, TIMED_NODES};
 use crate::log::Log;
+use crate::trees::Overfull;
 use crate::{line, table};
 use std::error::Error;
 use std::fmt;
@@ -28,6 +29,8 @@ pub enum Refusal {
         source: u16,
         /// The sink's node.
         sink: u16,
+        /// The T line that lists it first, without its LF, as `T,0,4`.
+        line: String,
     },
     /// 8: the log had no room for the next turn.
     LogFull {
@@ -44,6 +47,10 @@ pub enum Refusal {
         iteration: u32,
         /// How many nodes were over capacity after it.
         over: u32,
+        /// These nodes, with their nets.
+        overfull: Vec<Overfull>,
+        /// Whether a higher limit is allowed: 100 is the highest, in a timed job [`TIMED_LIMIT`].
+        may_rise: bool,
         /// The turns made.
         turns: u64,
         /// Their records.
@@ -82,14 +89,32 @@ pub enum Refusal {
         /// So many: 65,535.
         logs: u64,
     },
+    /// No refusal of the library's: a run was [stopped](Job::route_with) after an iteration by who watched it.
+    Stopped {
+        /// The last iteration, which is whole.
+        iteration: u32,
+        /// The turns made.
+        turns: u64,
+        /// Their records, of whole iterations: [`Job::resume`] goes on from them.
+        log: Log,
+    },
+    /// No refusal of the library's: a log that is [gone through again](Log::replay) doesn't come to the costs that it has.
+    Replay {
+        /// The place of the record's first word.
+        word: u64,
+        /// What is wrong with it.
+        reason: String,
+    },
+    /// No refusal of the library's: a line of a [log text](Log::read) is faulty.
+    LogLine(LineFault),
     /// A refusal that the call shouldn't come to: the library is of another version than this crate.
     Unexpected(Vec<u64>),
 }
 
-/// What is wrong with a line of a job text.
+/// What is wrong with a line of a job text, or of a log text.
 #[derive(Clone, Debug, PartialEq, Eq)]
 pub struct LineFault {
-    /// 1 for its shape, 2 for a value beyond its bounds, 3 for order or number.
+    /// 1 for its shape, 2 for a value beyond its bounds, 3 for order or number; in a log text 10 for an unsound record.
     pub number: u64,
     /// The line, from 1.
     pub line: u64,
@@ -97,6 +122,8 @@ pub struct LineFault {
     pub quoted: Option<String>,
     /// What is wrong with it. None only if the line is not the first faulty one.
     pub reason: Option<String>,
+    /// Where in the line, in bytes from 0, that stands. None where the text ends before the line, or without a reason.
+    pub column: Option<usize>,
 }
 
 /// What is wrong with a job's tables.
@@ -109,7 +136,7 @@ pub struct TableFault {
 }
 
 impl Refusal {
-    /// The refusal's number and its further numbers, as `docs/FORMAT.md` lists them.
+    /// The refusal's number and its further numbers, as `docs/FORMAT.md` lists them; none for what the library didn't refuse.
     pub fn numbers(&self) -> Vec<u64> {
         match self {
             Refusal::Line(fault) => vec![fault.number, fault.line],
@@ -122,6 +149,7 @@ impl Refusal {
             Refusal::Diverges { word, .. } => vec![14, *word],
             Refusal::TooLarge { nodes, limit } => vec![15, (*nodes).into(), (*limit).into()],
             Refusal::CountsFull { logs } => vec![16, *logs],
+            Refusal::Stopped { .. } | Refusal::Replay { .. } | Refusal::LogLine(_) => Vec::new(),
             Refusal::Unexpected(numbers) => numbers.clone(),
         }
     }
@@ -140,7 +168,9 @@ impl Refusal {
 impl LineFault {
     /// What is wrong with the line that the reader, or the program, refused by these two numbers.
     pub fn find(text: &[u8], number: u64, line: u64) -> LineFault {
-        LineFault { number, line, quoted: line::quoted(text, line), reason: line::reason(text, number, line) }
+        let quoted = line::quoted(text, line);
+        let (column, reason) = line::reason(text, number, line).unzip();
+        LineFault { number, line, column: column.filter(|_| quoted.is_some()), quoted, reason }
     }
 }
 
@@ -183,20 +213,24 @@ impl fmt::Display for Refusal {
         match self {
             Refusal::Line(fault) => fault.fmt(f),
             Refusal::Table(fault) => fault.fmt(f),
-            Refusal::Unreachable { net, place, source, sink } => write!(
-                f,
-                "net {net}: no path leads from its source, node {source}, to sink {sink}, at place {place} of that source's sinks (from 0)"
-            ),
+            Refusal::Unreachable { net, source, sink, line, .. } => {
+                write!(f, "{line}: no path leads from node {source}, the source of net {net}, to sink {sink}")
+            }
             Refusal::LogFull { iteration, turns, .. } => write!(
                 f,
                 "the log is full after {turns} turns, in iteration {iteration}: a longer log lets the job go on"
             ),
-            Refusal::Limit { iteration, over, .. } => write!(
-                f,
-                "not settled by iteration {iteration}, the limit: {over} node{} over capacity; raise the limit, tune the \
-                 tariff or give those nodes room",
-                if *over == 1 { " is" } else { "s are" }
-            ),
+            Refusal::Limit { iteration, over, overfull, may_rise, .. } => {
+                let are = if *over == 1 { " is" } else { "s are" };
+                let raise = if *may_rise { "raise the limit, " } else { "" };
+                write!(
+                    f,
+                    "not settled by iteration {iteration}, the {}limit: {over} node{are} over capacity: {}; {raise}tune the tariff or give \
+                     those nodes room",
+                    if *may_rise { "" } else { "highest " },
+                    listed(overfull)
+                )
+            }
             Refusal::Record { word: 0 } => write!(f, "the log is empty or its first record is unsound"),
             Refusal::Record { word } => write!(f, "the log's record at word {word} is unsound"),
             Refusal::Number { reason, .. } => f.write_str(reason),
@@ -219,10 +253,27 @@ impl fmt::Display for Refusal {
             Refusal::CountsFull { logs } => {
                 write!(f, "the counts are of {logs} logs already, and may be of no more: begin new ones")
             }
+            Refusal::Stopped { iteration, turns, .. } => {
+                write!(f, "stopped after iteration {iteration} and {turns} turns; the log may be gone on from")
+            }
+            Refusal::Replay { word, reason } => write!(f, "the log's record at word {word}: {reason}"),
+            Refusal::LogLine(fault) => fault.fmt(f),
             Refusal::Unexpected(numbers) => {
                 write!(f, "refused by {numbers:?}: the library is not of this version")
             }
         }
+    }
+}
+
+/// The most things that a sentence lists.
+const LISTED: usize = 8;
+
+/// Things in a row, the first few of many.
+pub(crate) fn listed<T: fmt::Display>(things: &[T]) -> String {
+    let shown: Vec<String> = things.iter().take(LISTED).map(T::to_string).collect();
+    match things.len().saturating_sub(LISTED) {
+        0 => shown.join(", "),
+        more => format!("{} and {more} more", shown.join(", ")),
     }
 }
 

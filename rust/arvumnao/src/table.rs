@@ -87,6 +87,9 @@ fn places(table: &[u32], owners: usize, end: usize, rise: u64) -> Option<String>
         .or_else(|| {
             entry(table, |place, entry| match place.checked_sub(1) {
                 None => (entry != 0).then(|| format!("{entry}, where the first is 0")),
+                Some(last) if rise > 0 && entry == table[last] => {
+                    Some(format!("{entry} again: net {last} has no sink"))
+                }
                 Some(last) => (u64::from(entry) < u64::from(table[last]) + rise)
                     .then(|| format!("{entry} comes after {}", table[last])),
             })

@@ -1,6 +1,8 @@
 //! Every refusal in its numbers and its sentence.
 
-use arvumnao::{kind, Block, Congestion, Job, LineFault, Log, Nets, Refusal, Terms, Timing, Use, UseCounts};
+use arvumnao::{
+    kind, Block, Congestion, Job, LineFault, Log, Nets, Overfull, Refusal, Terms, Timing, Use, UseCounts,
+};
 
 const JOB_B: &str = include_str!("../../../examples/job_b.txt");
 const TIMED: &str = include_str!("../../../examples/timed.txt");
@@ -65,7 +67,18 @@ fn lines_that_are_due() {
     refused(
         &changed("T,0,4\nS,1,1\n", "S,1,1\n"),
         [1, 15],
-        "line 15: begins with 'S' where a T line of net 0 should come: \"S,1,1\"",
+        "line 15: net 0 has no sink: begins with 'S' where a T line of net 0 should come: \"S,1,1\"",
+    );
+    refused(
+        &changed("T,1,5\n", ""),
+        [1, 17],
+        "line 17: net 1 has no sink: the text ends where a T line of net 1 should come",
+    );
+    refused(
+        &format!("\u{feff}{JOB_B}"),
+        [1, 1],
+        "line 1: begins with a byte order mark, which a job text doesn't have, where the F line should come: \
+         \"\\xef\\xbb\\xbfF,6,6,2,2\"",
     );
     refused(
         &changed("T,1,5\n", "T,1,5\nS,2,0\n"),
@@ -115,7 +128,7 @@ fn digits_and_commas() {
 fn no_line_0() {
     for number in 1..=3 {
         let fault = LineFault::find(b"F,0,1,1,1\n", number, 0);
-        assert_eq!(fault, LineFault { number, line: 0, quoted: None, reason: None });
+        assert_eq!(fault, LineFault { number, line: 0, quoted: None, reason: None, column: None });
     }
 }
 
@@ -213,19 +226,19 @@ fn timed_lines() {
     timed("W\n", "W,\n", [1, 2], &format!("line 2: ',' {alone}: \"W,\""));
     timed("W\n", "W1\n", [1, 2], &format!("line 2: '1' {alone}: \"W1\""));
     timed("W\n", "W\r\n", [1, 2], &format!("line 2: a carriage return {alone}: \"W\\r\""));
-    timed("W\n", "", [1, 2], "line 2: has 4 numbers, where N takes 3: node, kind, capacity: \"N,0,0,1,0\"");
+    timed("W\n", "", [1, 2], "line 2: has a delay, which only a timed job has: that has a W line before its N lines: \"N,0,0,1,0\"");
     timed(
         "N,1,4,1,60\n",
         "N,1,4,1\n",
         [1, 4],
-        "line 4: has 3 numbers, where N takes 4: node, kind, capacity, delay: \"N,1,4,1\"",
+        "line 4: has no delay, which a timed job has in each N line: there is a W line above: \"N,1,4,1\"",
     );
     timed("N,1,4,1,60\n", "N,1,4,1,\n", [1, 4], "line 4: delay has no digits: \"N,1,4,1,\"");
     timed(
         "T,0,4,9\n",
         "T,0,4\n",
         [1, 15],
-        "line 15: has 2 numbers, where T takes 3: net, node, criticality: \"T,0,4\"",
+        "line 15: has no criticality, which a timed job has in each T line: there is a W line above: \"T,0,4\"",
     );
     timed("S,0,0\n", "S,0,0,0\n", [1, 13], "line 13: has 3 numbers, where S takes 2: net, node: \"S,0,0,0\"");
     timed(
@@ -334,7 +347,8 @@ fn tables() {
         5,
         "(source): entry 1: node 2 is a wire of length 1, of kind 4; a source must be of kind 0 or 2",
     );
-    table_refused(|job| job.nets.first_sink[1] = 0, 6, "(first_sink): entry 1: 0 comes after 0");
+    table_refused(|job| job.nets.first_sink[1] = 0, 6, "(first_sink): entry 1: 0 again: net 0 has no sink");
+    table_refused(|job| job.nets.first_sink[2] = 0, 6, "(first_sink): entry 2: 0 comes after 1");
     table_refused(|job| job.nets.sink[1] = 6, 7, "(sink): sinks of net 1, entry 0: 6 is not a node of 6");
     table_refused(|job| job.terms.limit = 0, 8, "(terms): limit 0 is beyond 1 to 100");
     table_refused(|job| job.terms = Terms { up: 1, ..job.terms }, 8, "(terms): up 1 is beyond 2 to 8");
@@ -372,10 +386,12 @@ fn runs() {
     assert_eq!(refusal.numbers(), [9, 1, 1]);
     assert_eq!(
         refusal.to_string(),
-        "not settled by iteration 1, the limit: 1 node is over capacity; raise the limit, tune the tariff or give those nodes room"
+        "not settled by iteration 1, the limit: 1 node is over capacity: node 2 (2 of 1: nets 0, 1); raise the limit, tune the tariff or \
+         give those nodes room"
     );
-    let Refusal::Limit { turns, log, .. } = refusal else { panic!() };
-    assert_eq!((turns, log.words().len()), (2, 18));
+    let Refusal::Limit { turns, log, overfull, may_rise, .. } = refusal else { panic!() };
+    assert_eq!((turns, log.words().len(), may_rise), (2, 18, true));
+    assert_eq!(overfull, [Overfull { node: 2, capacity: 1, nets: vec![0, 1] }]);
 
     let refusal = job_b().route_in(35).unwrap_err();
     assert_eq!(refusal.numbers(), [8, 2, 3]);
@@ -392,10 +408,7 @@ fn runs() {
     job.block.first_edge[3..].iter_mut().for_each(|place| *place -= 1);
     let refusal = job.route().unwrap_err();
     assert_eq!(refusal.numbers(), [7, 1, 0]);
-    assert_eq!(
-        refusal.to_string(),
-        "net 1: no path leads from its source, node 1, to sink 4, at place 0 of that source's sinks (from 0)"
-    );
+    assert_eq!(refusal.to_string(), "T,1,4: no path leads from node 1, the source of net 1, to sink 4");
 
     // net 1 joins net 0: its sink is the second of them
     job.nets.source[1] = 0;
@@ -404,10 +417,64 @@ fn runs() {
     job.block.first_edge = vec![0, 2, 3, 4, 4, 4, 4];
     let refusal = job.route().unwrap_err();
     assert_eq!(refusal.numbers(), [7, 0, 1]);
-    assert_eq!(
-        refusal.to_string(),
-        "net 0: no path leads from its source, node 0, to sink 5, at place 1 of that source's sinks (from 0)"
-    );
+    assert_eq!(refusal.to_string(), "T,1,5: no path leads from node 0, the source of net 0, to sink 5");
+}
+
+/// At the highest limit, 100 or 40 in a timed job, a sentence doesn't say that it may be raised.
+#[test]
+fn the_highest_limit() {
+    // nine nets from sources of their own over one wire
+    let mut job = Job::default();
+    for _ in 0..9 {
+        job.block.add(kind::SOURCE, 1, &[9]);
+    }
+    job.block.add(kind::wire(1), 1, &[10]);
+    job.block.add(kind::SINK, 9, &[]);
+    (0..9).for_each(|net| job.nets.add(net, &[10]));
+    let sentence = "limit: 1 node is over capacity: node 9 (9 of 1: nets 0, 1, 2, 3, 4, 5, 6, 7 and 1 more)";
+    let told = |job: &Job| job.route().unwrap_err().to_string();
+    let without = format!("{sentence}; tune the tariff or give those nodes room");
+    assert_eq!(told(&job), format!("not settled by iteration 100, the highest {without}"));
+    job.terms.limit = 40;
+    let with = format!("{sentence}; raise the limit, tune the tariff or give those nodes room");
+    assert_eq!(told(&job), format!("not settled by iteration 40, the {with}"));
+    job.timing = Some(Timing { delay: vec![0; 11], criticality: vec![0; 9] });
+    assert_eq!(told(&job), format!("not settled by iteration 40, the highest {without}"));
+}
+
+/// The T line of a timed job has its criticality.
+#[test]
+fn out_of_reach_in_a_timed_job() {
+    let mut job = Job::read(TIMED.as_bytes()).unwrap();
+    job.block.edge_target = vec![1, 2, 3];
+    job.block.first_edge = vec![0, 2, 3, 3, 3, 3];
+    let refusal = job.route().unwrap_err();
+    assert_eq!(refusal.numbers(), [7, 0, 1]);
+    assert_eq!(refusal.to_string(), "T,0,4,9: no path leads from node 0, the source of net 0, to sink 4");
+}
+
+/// Where in its line a fault stands.
+#[test]
+fn columns() {
+    let column = |from: &str, to: &str| match Job::read(changed(from, to).as_bytes()) {
+        Err(Refusal::Line(fault)) => fault.column,
+        other => panic!("{other:?}"),
+    };
+    assert_eq!(column("N,2,4,1\n", "N,2, 4,1\n"), Some(4));
+    assert_eq!(column("N,2,4,1\n", "N,2,4x,1\n"), Some(5));
+    assert_eq!(column("N,2,4,1\n", "N,2,4,0\n"), Some(6));
+    assert_eq!(column("N,2,4,1\n", "N,2,4\n"), Some(5));
+    assert_eq!(column("N,2,4,1\n", "N,2,4,1,3\n"), Some(8));
+    assert_eq!(column("N,2,4,1\n", "N2,4,1\n"), Some(1));
+    assert_eq!(column("N,2,4,1\n", "M,2,4,1\n"), Some(0));
+    assert_eq!(column("N,2,4,1\n", "N,3,4,1\n"), Some(2));
+    assert_eq!(column("S,1,1\n", "S,1,3\n"), Some(4));
+    assert_eq!(column("T,1,5\n", "T,1,5"), Some(5));
+    assert_eq!(column("T,1,5\n", "T,0,5\n"), Some(2));
+    assert_eq!(column("T,1,5\n", "T,1,5\nS"), Some(0));
+    assert_eq!(column("T,1,5\n", ""), None);
+    assert_eq!(column("F,6,6,2,2\n", "F,6,6,2,2\nV,1,1\n"), Some(4));
+    assert_eq!(column("F,6,6,2,2\n", "F,6,6,2,2\nW,\n"), Some(1));
 }
 
 /// Logs that can't be gone on from.
