@@ -96,9 +96,13 @@
 #include <stddef.h>
 #include <stdint.h>
 
-/* The version of these declarations. The library itself carries none: header and library must be of one build.
- * Until 1.0.0 the second number rises with every change to a call, a place in `out` or a refusal. */
-#define ARVUMNAO_VERSION "0.6.0"
+/* The version of these declarations, and of the Rust wrapper. The library itself carries none: header and library must be of one build.
+ * Until 1.0.0 the second number rises with every change to a call, a place in `out` or a refusal, and with what changes for the
+ * wrapper's callers. CHANGELOG.md says what came when. */
+#define ARVUMNAO_VERSION "0.7.0"
+#define ARVUMNAO_VERSION_MAJOR 0
+#define ARVUMNAO_VERSION_MINOR 7
+#define ARVUMNAO_VERSION_PATCH 0
 
 /* The most that a job has. */
 #define ARVUMNAO_NODES_MOST 4096

@@ -2,6 +2,7 @@
 
 use std::env;
 use std::path::PathBuf;
+use std::process::exit;
 
 /// The folder named by ARVUMNAO_LIB_DIR, else target/staticlib two levels above the package, where `rt staticlib capi` writes it.
 fn directory() -> PathBuf {
@@ -18,7 +19,9 @@ fn main() {
     println!("cargo:rerun-if-changed=build.rs");
     println!("cargo:rerun-if-changed={}", file.display());
     if !file.exists() {
-        println!("cargo:warning={} is missing: build the static library first", file.display());
+        eprintln!("{} is missing: that is the library which this crate links.", file.display());
+        eprintln!("Build it by `rt staticlib capi` in the repository, or name the folder that has it in ARVUMNAO_LIB_DIR.");
+        exit(1);
     }
     println!("cargo:rustc-link-search=native={}", directory.display());
     println!("cargo:rustc-link-lib=static=capi");

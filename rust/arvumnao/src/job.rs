@@ -12,6 +12,9 @@ pub const NETS: usize = 512;
 /// The most sinks of all nets together.
 pub const SINKS: usize = 4_096;
 
+/// The highest limit of iterations.
+pub const LIMIT: u32 = 100;
+
 /// The most nodes of a timed job.
 pub const TIMED_NODES: usize = 1_024;
 /// The highest limit of a timed job.

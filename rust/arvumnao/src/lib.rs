@@ -36,6 +36,9 @@
 //! # Ok::<(), Refusal>(())
 //! ```
 //!
+//! [`Job::route_with`] tells of each iteration as the run goes, and may stop it. [`Log::replay`] goes through a log again and tells what each
+//! turn paid for; [`Log::trees`] has the trees that it leaves. [`Job::text`] and [`Log::text`] write what [`Job::read`] and [`Log::read`] read.
+//!
 //! A job with a [`Timing`] is timed: its critical sinks pay for delay rather than for room. [`Job::route_aimed`] routes by a search that
 //! aims, to the same answer, and counts the nodes that it expanded.
 //!
@@ -60,6 +63,8 @@ pub mod raw;
 mod refusal;
 mod replay;
 mod run;
+#[cfg(test)]
+mod steps;
 mod table;
 mod text;
 mod trees;
@@ -68,7 +73,7 @@ mod walk;
 mod watch;
 
 pub use alone::{Congestion, Use};
-pub use job::{Block, Job, Nets, Terms, Timing, EDGES, NETS, NODES, SINKS, TIMED_LIMIT, TIMED_NODES};
+pub use job::{Block, Job, Nets, Terms, Timing, EDGES, LIMIT, NETS, NODES, SINKS, TIMED_LIMIT, TIMED_NODES};
 pub use log::{Log, Record, Records};
 pub use refusal::{LineFault, Refusal, TableFault};
 pub use replay::{Iteration, Replay, Step, Turn};
@@ -76,6 +81,23 @@ pub use run::{Aimed, Answer, Search};
 pub use trees::{Overfull, Tree};
 pub use uses::UseCounts;
 pub use watch::Progress;
+
+/// This crate's version, as three numbers: major, minor, patch. The header has the same.
+pub const VERSION: [u32; 3] = [
+    number(env!("CARGO_PKG_VERSION_MAJOR")),
+    number(env!("CARGO_PKG_VERSION_MINOR")),
+    number(env!("CARGO_PKG_VERSION_PATCH")),
+];
+
+/// The number that some digits are.
+const fn number(digits: &str) -> u32 {
+    let (digits, mut place, mut sum) = (digits.as_bytes(), 0, 0);
+    while place < digits.len() {
+        sum = 10 * sum + (digits[place] - b'0') as u32;
+        place += 1;
+    }
+    sum
+}
 
 /// What a call tells in an `out` of its own.
 fn out(call: impl FnOnce(&mut [u64]) -> u32) -> [u64; raw::OUT] {

@@ -1,10 +1,10 @@
 //! A log as text.
 
-use crate::job::{Nets, NODES};
+use crate::job::{Nets, LIMIT, NODES};
 use crate::line;
 use crate::log::Log;
 use crate::refusal::{LineFault, Refusal};
-use crate::walk::{firsts, LIMIT};
+use crate::walk::firsts;
 
 /// The names of a record's words before its path.
 const NAMES: [&str; 6] = ["iteration", "net", "sink", "cost's low word", "cost's high word", "path's length"];

@@ -37,7 +37,7 @@ pub enum Search {
 }
 
 /// The words of log that a call is lent beyond those used, at most, where one iteration needs fewer.
-const ROOM: usize = 1 << 24;
+const ROOM: usize = 1 << 26;
 
 /// A run so far: of whole iterations, unless it is at its end.
 pub(crate) struct Run<'j> {
@@ -185,7 +185,7 @@ impl<'j> Run<'j> {
     }
 
     /// One call under the job's limit.
-    fn in_words(mut self, words: usize) -> Aimed {
+    pub(crate) fn in_words(mut self, words: usize) -> Aimed {
         self.call(self.job.terms.limit, words);
         self.ended()
     }
@@ -238,7 +238,7 @@ impl Job {
     /// Routes the job in a log as long as it needs. Refused by [`Refusal::Table`], [`Refusal::TooLarge`], [`Refusal::Unreachable`] or
     /// [`Refusal::Limit`].
     ///
-    /// It lends a log that is long enough for as many iterations as fit 64 MB, and goes on from what these leave if there are more; the answer
+    /// It lends a log that is long enough for as many iterations as fit 256 MB, and goes on from what these leave if there are more; the answer
     /// is that of one call in a log that is long enough. Memory that no record is written to is not touched.
     pub fn route(&self) -> Result<Answer, Refusal> {
         Run::new(self, Search::Plain, None).finish().answer

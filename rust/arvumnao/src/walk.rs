@@ -3,7 +3,7 @@
 //! "Before a turn of net i in iteration t, the tree of i is its source with the nodes of its earlier records of iteration t. Any other net's
 //! tree is the nodes of its records in the latest iteration in which it has an earlier record; without one it is empty."
 
-use crate::job::{Job, TIMED_LIMIT};
+use crate::job::{Job, LIMIT, TIMED_LIMIT};
 use crate::kind;
 use crate::log::Record;
 use crate::replay::Step;
@@ -12,8 +12,6 @@ use std::collections::BTreeMap;
 
 /// The highest factor.
 const MOST_FACTOR: u32 = 65_535;
-/// The highest limit of a job that isn't timed.
-pub(crate) const LIMIT: u32 = 100;
 
 /// The highest limit that the job may have.
 pub(crate) fn highest_limit(job: &Job) -> u32 {

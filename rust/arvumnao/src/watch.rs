@@ -27,9 +27,9 @@ pub struct Progress {
     pub tree_cost: u64,
 }
 
-/// A call is to take at least so long, and so many times what it costs to take up the log that it goes on from.
-const LEAST: Duration = Duration::from_millis(250);
-const TIMES: f64 = 15.0;
+/// A call is to take at least so many seconds, and so many times what it costs to take up the log that it goes on from.
+const LEAST: f64 = 0.25;
+const TIMES: f64 = 20.0;
 
 // Times on a machine of 2023, in nanoseconds, with something to spare: they choose how often a run is looked at, and nothing else.
 /// The paths that a call looks for first, for each net, node and edge; and what it reads of a log, for each word.
@@ -38,27 +38,34 @@ const WORD: f64 = 40.0;
 /// A turn of iteration 1, for each node and edge.
 const TURN: f64 = 3.0;
 
-/// How many iterations a call is to make: taking up a log costs time, and so does waiting for whoever watches.
-struct Pace {
-    /// Seconds that an iteration took last, or is expected to take.
-    iteration: f64,
-    /// Seconds that a call takes before it reads a log.
-    flood: f64,
+/// How many iterations a call is to make: taking up a log costs time, and so does waiting for whoever watches. All in seconds.
+pub(crate) struct Pace {
+    /// What a call is to take at least.
+    pub(crate) least: f64,
+    /// What it takes before it reads a log, and for each word that it reads.
+    pub(crate) flood: f64,
+    pub(crate) word: f64,
+    /// What an iteration took last, or is expected to take.
+    pub(crate) iteration: f64,
 }
 
 impl Pace {
     fn new(job: &Job) -> Pace {
         let size = (job.block.kind.len() + job.block.edge_target.len()) as f64;
         let (nets, sinks) = (job.nets.source.len() as f64, job.nets.sink.len() as f64);
-        Pace { iteration: sinks * size * TURN / 1e9, flood: nets * size * FLOOD / 1e9 }
+        Pace {
+            least: LEAST,
+            flood: nets * size * FLOOD / 1e9,
+            word: WORD / 1e9,
+            iteration: sinks * size * TURN / 1e9,
+        }
     }
 
     /// The iterations of the next call, which goes on from so many words.
     fn iterations(&self, words: usize) -> u32 {
-        let take_up = self.flood + words as f64 * WORD / 1e9;
-        let least = LEAST.as_secs_f64().max(TIMES * take_up);
+        let take_up = self.flood + words as f64 * self.word;
         // a number beyond the bounds becomes the nearest within
-        (least / self.iteration.max(1e-9)).ceil() as u32
+        (self.least.max(TIMES * take_up) / self.iteration.max(1e-9)).ceil() as u32
     }
 
     /// So many iterations took so long.
@@ -105,10 +112,13 @@ impl Teller<'_> {
     }
 }
 
-/// A run to its end, or to where `watch` breaks.
-fn watched(mut run: Run, mut watch: impl FnMut(&Progress) -> ControlFlow<()>) -> Aimed {
+/// A run to its end at this pace, or to where `watch` breaks.
+pub(crate) fn watched(
+    mut run: Run,
+    mut pace: Pace,
+    mut watch: impl FnMut(&Progress) -> ControlFlow<()>,
+) -> Aimed {
     let (job, lent) = (run.job, run.iteration);
-    let mut pace = Pace::new(job);
     let mut teller: Option<Teller> = None;
     loop {
         let (start, before) = (Instant::now(), run.iteration);
@@ -156,7 +166,7 @@ impl Job {
     /// # Ok::<(), Refusal>(())
     /// ```
     pub fn route_with(&self, search: Search, watch: impl FnMut(&Progress) -> ControlFlow<()>) -> Aimed {
-        watched(Run::new(self, search, None), watch)
+        watched(Run::new(self, search, None), Pace::new(self), watch)
     }
 
     /// Goes on from a log as [`Job::resume`] does, and tells `watch` of each iteration that is appended, as [`Job::route_with`] does.
@@ -166,6 +176,6 @@ impl Job {
         log: impl AsRef<[u32]>,
         watch: impl FnMut(&Progress) -> ControlFlow<()>,
     ) -> Aimed {
-        watched(Run::new(self, search, Some(log.as_ref())), watch)
+        watched(Run::new(self, search, Some(log.as_ref())), Pace::new(self), watch)
     }
 }

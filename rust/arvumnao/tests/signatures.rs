@@ -58,6 +58,7 @@ fn numbers_agree() {
     assert_eq!(defined("ARVUMNAO_EDGES_MOST"), arvumnao::EDGES);
     assert_eq!(defined("ARVUMNAO_NETS_MOST"), arvumnao::NETS);
     assert_eq!(defined("ARVUMNAO_SINKS_MOST"), arvumnao::SINKS);
+    assert_eq!(defined("ARVUMNAO_LIMIT_MOST"), arvumnao::LIMIT as usize);
     assert_eq!(defined("ARVUMNAO_TIMED_NODES_MOST"), arvumnao::TIMED_NODES);
     assert_eq!(defined("ARVUMNAO_TIMED_LIMIT_MOST"), arvumnao::TIMED_LIMIT as usize);
     assert_eq!(defined("ARVUMNAO_KIND_MOST"), arvumnao::kind::MOST.into());
@@ -65,6 +66,8 @@ fn numbers_agree() {
     assert_eq!(defined("ARVUMNAO_SINK"), arvumnao::kind::SINK.into());
     assert_eq!(defined("ARVUMNAO_OUTPUT_PIN"), arvumnao::kind::OUTPUT_PIN.into());
     assert_eq!(defined("ARVUMNAO_INPUT_PIN"), arvumnao::kind::INPUT_PIN.into());
+    let numbers = ["MAJOR", "MINOR", "PATCH"].map(|part| defined(&format!("ARVUMNAO_VERSION_{part}")) as u32);
+    assert_eq!(numbers, arvumnao::VERSION);
     let version = format!("#define ARVUMNAO_VERSION \"{}\"", env!("CARGO_PKG_VERSION"));
     assert!(header().contains(&version));
 }

@@ -3,6 +3,8 @@
 //!
 //! differential [JOBS] [TEXTS] [SEED]
 
+#[cfg(feature = "library")]
+mod again;
 mod alone;
 mod compare;
 mod damage;

@@ -1,7 +1,11 @@
 //! The wrapper's types beside the library's calls: it gives the same answers, and a reason for each refused line and table.
 
+use crate::again;
 use crate::compare::{idle, taken, After, Answer, Case};
-use arvumnao::{Block, Congestion, LineFault, Log, Nets, Refusal, TableFault, Terms, Timing, Use, UseCounts};
+use arvumnao::{
+    Aimed, Block, Congestion, LineFault, Log, Nets, Refusal, Search, TableFault, Terms, Timing, Use,
+    UseCounts,
+};
 use job::Job;
 
 /// What is wrong with the wrapper's word on a call that the library has answered.
@@ -26,7 +30,35 @@ pub fn check(before: &Case, after: &After) -> Result<(), String> {
         return Err(format!("the wrapper has no reason for {refusal:?}"));
     }
     let Some(same) = same(before, &after.case, refusal, numbers) else { return Ok(()) };
-    same.then_some(()).ok_or_else(|| format!("the wrapper's answer is not {:?}", after.answer))
+    if !same {
+        return Err(format!("the wrapper's answer is not {:?}", after.answer));
+    }
+    run_again(before).unwrap_or(Ok(()))
+}
+
+/// What the wrapper makes of a run by itself; nothing of other calls.
+fn run_again(case: &Case) -> Option<Result<(), String>> {
+    let Case::Route { job, terms, .. } = case else { return None };
+    let job = typed(&taken(job, *terms));
+    let (lent, search, call) = called(case, &job)?;
+    Some(again::check(&job, lent, search, &call))
+}
+
+/// A run as the case has it, by the wrapper: the words lent, the search, and what it tells.
+fn called<'c>(case: &'c Case, job: &arvumnao::Job) -> Option<(Option<&'c [u32]>, Search, Aimed)> {
+    let Case::Route { used, aimed, log, .. } = case else { return None };
+    let lent = match used {
+        None => None,
+        Some(used) => Some(log.get(..usize::try_from(*used).ok()?)?),
+    };
+    let search = if *aimed { Search::Aimed } else { Search::Plain };
+    let call = match (lent, search) {
+        (None, Search::Plain) => Aimed { answer: job.route_in(log.len()), expanded: 0 },
+        (None, Search::Aimed) => job.route_aimed_in(log.len()),
+        (Some(lent), Search::Plain) => Aimed { answer: job.resume_in(lent, log.len()), expanded: 0 },
+        (Some(lent), Search::Aimed) => job.resume_aimed_in(lent, log.len()),
+    };
+    Some((lent, search, call))
 }
 
 /// Whether the wrapper answers the same; nothing where it lends more than the case does.
@@ -47,25 +79,11 @@ fn same(before: &Case, after: &Case, refusal: &[u64], numbers: &[u64]) -> Option
         (Case::Search { graph, .. }, Case::Search { work, .. }) => {
             told(distances(before)) == accepted(work.iter().take(graph.kind.len()).copied().collect())
         }
-        (Case::Route { job, terms, used, aimed, log: lent, .. }, Case::Route { log, .. }) => {
-            let job = typed(&taken(job, *terms));
-            let lent_words = match used {
-                None => None,
-                Some(used) => Some(lent.get(..usize::try_from(*used).ok()?)?),
-            };
-            if *aimed {
-                let aimed = match lent_words {
-                    None => job.route_aimed_in(lent.len()),
-                    Some(words) => job.resume_aimed_in(words, lent.len()),
-                };
-                let (numbers, expanded) = numbers.split_at(3);
-                return Some(routed(aimed.answer, refusal, numbers, log) && expanded == [aimed.expanded]);
-            }
-            let answer = match lent_words {
-                None => job.route_in(lent.len()),
-                Some(words) => job.resume_in(words, lent.len()),
-            };
-            routed(answer, refusal, numbers, log)
+        (Case::Route { job, terms, .. }, Case::Route { log, .. }) => {
+            let (_, search, call) = called(before, &typed(&taken(job, *terms)))?;
+            let (numbers, expanded) = numbers.split_at(3);
+            routed(call.answer, refusal, numbers, log)
+                && (search == Search::Plain || expanded == [call.expanded])
         }
         (Case::Read { text, .. }, Case::Read { tables, .. }) => match arvumnao::Job::read(text) {
             Ok(read) => {
