@@ -179,6 +179,9 @@ impl<'j> Walk<'j> {
         if let Some(node) = rest.iter().find(|node| self.has(**node)) {
             return Err(format!("its path comes to node {node}, which the net's tree has already"));
         }
+        if let Some(node) = twice(rest) {
+            return Err(format!("its path passes node {node} twice"));
+        }
         match path.iter().zip(rest).find(|(from, to)| !self.job.block.has_edge(**from, **to)) {
             Some((from, to)) => Err(format!("no switch leads from node {from} to node {to}")),
             None => Ok(()),
@@ -256,6 +259,13 @@ impl<'j> Walk<'j> {
         }
         list
     }
+}
+
+/// A node that stands twice among these.
+fn twice(nodes: &[u32]) -> Option<u32> {
+    let mut sorted = nodes.to_vec();
+    sorted.sort_unstable();
+    sorted.windows(2).find(|pair| pair[0] == pair[1]).map(|pair| pair[0])
 }
 
 /// By how many nets each node is over its capacity.

@@ -19,17 +19,6 @@ fn blocks(document: &str) -> Vec<(&str, String)> {
     blocks
 }
 
-/// A log as the documents show it, a record a line.
-fn shown(log: &Log) -> String {
-    let record = |turn: arvumnao::Record| {
-        let (low, high) = (turn.cost as u32, (turn.cost >> 32) as u32);
-        let head = [turn.iteration, turn.net, turn.sink, low, high, turn.path.len() as u32];
-        let words: Vec<String> = head.iter().chain(turn.path).map(u32::to_string).collect();
-        words.join(",") + "\n"
-    };
-    log.records().map(record).collect()
-}
-
 /// The uses of a log alone, so many lines; the other kinds have none.
 fn uses(job: &Job, log: &Log, lines: usize) -> String {
     let mut counts = UseCounts::default();
@@ -55,7 +44,7 @@ fn jobs(document: &str) -> usize {
                 answer = Some(Job::read(text.as_bytes()).and_then(run));
                 continue;
             }
-            ("log", Some(Ok((_, answer)))) => shown(&answer.log),
+            ("log", Some(Ok((_, answer)))) => answer.log.text(),
             ("routes", Some(Ok((job, answer)))) => answer.log.routes(&job.nets).unwrap(),
             ("uses", Some(Ok((job, answer)))) => uses(job, &answer.log, text.lines().count()),
             ("refused", Some(Err(refusal))) => x_line(refusal),
