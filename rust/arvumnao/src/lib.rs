@@ -36,8 +36,9 @@
 //! # Ok::<(), Refusal>(())
 //! ```
 //!
-//! [`Job::route_with`] tells of each iteration as the run goes, and may stop it. [`Log::replay`] goes through a log again and tells what each
-//! turn paid for; [`Log::trees`] has the trees that it leaves. [`Job::text`] and [`Log::text`] write what [`Job::read`] and [`Log::read`] read.
+//! [`Job::route_with`] tells of each iteration as the run goes, and may stop it. [`Log::replay`] goes through a log again and tells what
+//! each turn paid for; [`Log::trees`] has the trees that it leaves. [`Job::text`] and [`Log::text`] write what [`Job::read`] and
+//! [`Log::read`] read.
 //!
 //! A job with a [`Timing`] is timed: its critical sinks pay for delay rather than for room. [`Job::route_aimed`] routes by a search that
 //! aims, to the same answer, and counts the nodes that it expanded.

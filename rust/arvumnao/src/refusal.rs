@@ -220,29 +220,13 @@ impl fmt::Display for Refusal {
                 f,
                 "the log is full after {turns} turns, in iteration {iteration}: a longer log lets the job go on"
             ),
-            Refusal::Limit { iteration, over, overfull, may_rise, .. } => {
-                let are = if *over == 1 { " is" } else { "s are" };
-                let raise = if *may_rise { "raise the limit, " } else { "" };
-                write!(
-                    f,
-                    "not settled by iteration {iteration}, the {}limit: {over} node{are} over capacity: {}; {raise}tune the tariff or give \
-                     those nodes room",
-                    if *may_rise { "" } else { "highest " },
-                    listed(overfull)
-                )
+            Refusal::Limit { iteration, overfull, may_rise, .. } => {
+                not_settled(f, *iteration, overfull, *may_rise)
             }
             Refusal::Record { word: 0 } => write!(f, "the log is empty or its first record is unsound"),
             Refusal::Record { word } => write!(f, "the log's record at word {word} is unsound"),
             Refusal::Number { reason, .. } => f.write_str(reason),
-            Refusal::Diverges { words: 0, .. } => write!(f, "the log is empty: there is no run to go on from"),
-            Refusal::Diverges { word, words } if word < words => {
-                write!(f, "the log's record at word {word} does not follow the job")
-            }
-            Refusal::Diverges { word, .. } => write!(
-                f,
-                "the log follows the job to its end, at word {word}, but can't be gone on from: its last iteration is not whole, \
-                 leaves no node over capacity, or is the limit"
-            ),
+            Refusal::Diverges { word, words } => diverges(f, *word, *words),
             Refusal::TooLarge { nodes, limit: 0 } => {
                 write!(f, "{nodes} nodes: a timed search takes at most {TIMED_NODES}")
             }
@@ -262,6 +246,34 @@ impl fmt::Display for Refusal {
                 write!(f, "refused by {numbers:?}: the library is not of this version")
             }
         }
+    }
+}
+
+/// The limit was reached with these nodes over capacity.
+fn not_settled(f: &mut fmt::Formatter, iteration: u32, overfull: &[Overfull], may_rise: bool) -> fmt::Result {
+    let (highest, raise) = if may_rise { ("", "raise the limit, ") } else { ("highest ", "") };
+    let are = if overfull.len() == 1 { " is" } else { "s are" };
+    write!(
+        f,
+        "not settled by iteration {iteration}, the {highest}limit: {} node{are} over capacity: {}; {raise}tune the tariff or give \
+         those nodes room",
+        overfull.len(),
+        listed(overfull)
+    )
+}
+
+/// A log of so many words follows the job up to this one.
+fn diverges(f: &mut fmt::Formatter, word: u64, words: u64) -> fmt::Result {
+    if words == 0 {
+        write!(f, "the log is empty: there is no run to go on from")
+    } else if word < words {
+        write!(f, "the log's record at word {word} does not follow the job")
+    } else {
+        write!(
+            f,
+            "the log follows the job to its end, at word {word}, but can't be gone on from: its last iteration is not whole, leaves no \
+             node over capacity, or is the limit"
+        )
     }
 }
 

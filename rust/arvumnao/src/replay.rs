@@ -8,8 +8,8 @@ use crate::walk::Walk;
 
 /// What one node of a path cost in its turn.
 ///
-/// The price is history × base × (100 + factor × excess), with the [iteration's](Iteration) factor; in a timed job criticality × delay × 100 +
-/// (10 − criticality) × that, with the [turn's](Turn) criticality.
+/// The price is history × base × (100 + factor × excess), with the [iteration's](Iteration) factor; in a timed job criticality × delay ×
+/// 100 + (10 − criticality) × that, with the [turn's](Turn) criticality.
 #[derive(Clone, Copy, Debug, PartialEq, Eq)]
 pub struct Step {
     /// The node.
@@ -56,8 +56,8 @@ pub struct Iteration<'l> {
     pub tree_cost: u64,
 }
 
-/// The iterations of a log, gone through again one after the other. A record that is no path of its net, or whose cost is not the sum of the
-/// prices worked out anew, ends it with [`Refusal::Replay`]; nothing is told of its iteration.
+/// The iterations of a log, gone through again one after the other. A record that is no path of its net, or whose cost is not the sum of
+/// the prices worked out anew, ends it with [`Refusal::Replay`]; nothing is told of its iteration.
 #[derive(Clone, Debug)]
 pub struct Replay<'l> {
     walk: Walk<'l>,

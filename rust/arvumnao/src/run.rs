@@ -1,7 +1,7 @@
 //! Runs: the library's calls that route a job or go on from a log, and as many of them as the log needs.
 
 use crate::job::{Job, NETS, NODES, SINKS};
-use crate::log::Log;
+use crate::log::{Log, Records};
 use crate::refusal::{Refusal, TableFault};
 use crate::walk::{firsts, highest_limit};
 use crate::{out, raw};
@@ -58,7 +58,7 @@ impl<'j> Run<'j> {
     /// A run from the start, or from the words of a log.
     pub(crate) fn new(job: &'j Job, search: Search, log: Option<&[u32]>) -> Run<'j> {
         let words = log.unwrap_or_default();
-        let iteration = Log::of_run(words.to_vec()).records().last().map_or(0, |record| record.iteration);
+        let iteration = Records::of(words).last().map_or(0, |record| record.iteration);
         Run {
             job,
             search,
@@ -238,8 +238,8 @@ impl Job {
     /// Routes the job in a log as long as it needs. Refused by [`Refusal::Table`], [`Refusal::TooLarge`], [`Refusal::Unreachable`] or
     /// [`Refusal::Limit`].
     ///
-    /// It lends a log that is long enough for as many iterations as fit 256 MB, and goes on from what these leave if there are more; the answer
-    /// is that of one call in a log that is long enough. Memory that no record is written to is not touched.
+    /// It lends a log that is long enough for as many iterations as fit 256 MB, and goes on from what these leave if there are more; the
+    /// answer is that of one call in a log that is long enough. Memory that no record is written to is not touched.
     pub fn route(&self) -> Result<Answer, Refusal> {
         Run::new(self, Search::Plain, None).finish().answer
     }

@@ -65,8 +65,8 @@ impl Tree {
         self.nodes().filter_map(base).map(u64::from).sum()
     }
 
-    /// The delays of the nodes from the source, which is left out, to this one, summed: what the prices of its way count. None where the tree
-    /// doesn't have the node or the job isn't timed.
+    /// The delays of the nodes from the source, which is left out, to this one, summed: what the prices of its way count. None where the
+    /// tree doesn't have the node or the job isn't timed.
     pub fn delay(&self, job: &Job, node: u32) -> Option<u64> {
         let timing = job.timing.as_ref()?;
         let path = self.path(node)?;
@@ -75,8 +75,8 @@ impl Tree {
 }
 
 impl Log {
-    /// The final trees, of each net that has a record, in order. Refused by [`Refusal::Table`] and [`Refusal::TooLarge`] unless the job's tables
-    /// keep their rules, and by [`Refusal::Replay`] where a record is no path of its net.
+    /// The final trees, of each net that has a record, in order. Refused by [`Refusal::Table`] and [`Refusal::TooLarge`] unless the job's
+    /// tables keep their rules, and by [`Refusal::Replay`] where a record is no path of its net.
     pub fn trees(&self, job: &Job) -> Result<Vec<Tree>, Refusal> {
         let walk = self.walked(job)?;
         let found =

@@ -1,7 +1,7 @@
 //! Trees, factor and histories as they are read off a log, record after record.
 //!
-//! "Before a turn of net i in iteration t, the tree of i is its source with the nodes of its earlier records of iteration t. Any other net's
-//! tree is the nodes of its records in the latest iteration in which it has an earlier record; without one it is empty."
+//! "Before a turn of net i in iteration t, the tree of i is its source with the nodes of its earlier records of iteration t. Any other
+//! net's tree is the nodes of its records in the latest iteration in which it has an earlier record; without one it is empty."
 
 use crate::job::{Job, LIMIT, TIMED_LIMIT};
 use crate::kind;

@@ -31,7 +31,7 @@ pub struct Progress {
 const LEAST: f64 = 0.25;
 const TIMES: f64 = 20.0;
 
-// Times on a machine of 2023, in nanoseconds, with something to spare: they choose how often a run is looked at, and nothing else.
+// Nanoseconds as measured on one machine, with something to spare: they choose how often a run is looked at, and nothing else.
 /// The paths that a call looks for first, for each net, node and edge; and what it reads of a log, for each word.
 const FLOOD: f64 = 1.5;
 const WORD: f64 = 40.0;
@@ -140,8 +140,8 @@ pub(crate) fn watched(
 }
 
 impl Job {
-    /// Routes the job as [`Job::route`] does, and tells `watch` of each iteration, in order. Where that breaks before the run is at its end,
-    /// it ends with [`Refusal::Stopped`], which has the log up to that iteration; [`Job::resume`] and [`Job::resume_with`] go on from it.
+    /// Routes the job as [`Job::route`] does, and tells `watch` of each iteration, in order. Where that breaks before the run is at its
+    /// end, it ends with [`Refusal::Stopped`], which has the log up to that iteration; [`Job::resume`] and [`Job::resume_with`] go on from it.
     ///
     /// The library makes a few iterations in a call, so that taking up their log again costs less than a tenth of the time; they are told
     /// of when the call ends. So it may take a quarter of a second until `watch` is asked, on the largest blocks some seconds.

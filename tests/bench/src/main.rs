@@ -6,6 +6,8 @@ mod clock;
 mod cost;
 mod jobs;
 mod routers;
+#[cfg(feature = "proved")]
+mod wrapper;
 
 use job::Job;
 use jobs::{Shape, SHAPES, SIZES};
@@ -296,6 +298,11 @@ fn main() {
         }
     }
     print_ratios(&rows);
+    #[cfg(feature = "proved")]
+    {
+        println!();
+        wrapper::print(largest);
+    }
     println!();
     rules(largest, &mut lent);
 }

@@ -1,4 +1,4 @@
-//! What the wrapper makes of a run by itself: the same run in a log of its own length and watched, its log gone through again, and its texts.
+//! What the wrapper makes of a run by itself: the same run in a log of its own length and watched, its log gone through again, its texts.
 
 use arvumnao::{Aimed, Job, Log, Refusal, Search, Terms};
 use std::ops::ControlFlow::Continue;
