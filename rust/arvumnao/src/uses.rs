@@ -4,6 +4,9 @@ use crate::job::{Block, NETS};
 use crate::refusal::Refusal;
 use crate::{kind, out, raw};
 
+/// The most logs that counts may be of.
+const LOGS: u64 = 65_535;
+
 /// How much the nodes of one block are used, kind by kind, over the logs of many jobs. The default is of no logs.
 ///
 /// ```
@@ -55,6 +58,34 @@ impl UseCounts {
         Ok(())
     }
 
+    /// Adds counts of other logs of the same block, entry by entry: the counts of two parts, added, are those of both. So parts may be
+    /// counted side by side. Refused by [`Refusal::CountsFull`] where both together are of more logs than counts may be of; then nothing
+    /// is added.
+    ///
+    /// ```
+    /// use arvumnao::{Job, UseCounts};
+    ///
+    /// let job = Job::read(include_bytes!("../../../examples/job_b.txt"))?;
+    /// let log = job.route()?.log;
+    /// let (mut part, mut both) = (UseCounts::default(), UseCounts::default());
+    /// part.add(&job.block, &log)?;
+    /// both.add(&job.block, &log)?;
+    /// both.add(&job.block, &log)?;
+    /// let other = part.clone();
+    /// part.merge(&other)?;
+    /// assert_eq!(part, both);
+    /// # Ok::<(), arvumnao::Refusal>(())
+    /// ```
+    pub fn merge(&mut self, other: &UseCounts) -> Result<(), Refusal> {
+        let logs = self.logs.saturating_add(other.logs);
+        if logs > LOGS {
+            return Err(Refusal::CountsFull { logs: LOGS });
+        }
+        self.logs = logs;
+        self.uses.iter_mut().zip(other.uses).for_each(|(uses, more)| *uses = uses.saturating_add(more));
+        Ok(())
+    }
+
     /// For each kind from 0 to 53 a line `U,kind,uses,capacity`, where capacity is that of all nodes of the kind times the number of
     /// logs. Refused by [`Refusal::Table`] and [`Refusal::Number`], as [`UseCounts::add`] is.
     pub fn text(&self, block: &Block) -> Result<String, Refusal> {
@@ -91,7 +122,7 @@ impl UseCounts {
     /// Why the logs, or the uses of a kind, are too many.
     fn too_many(&self, block: &Block, place: u64) -> String {
         let Some(uses) = self.uses.get(place as usize) else {
-            return format!("counts of {} logs: they may be of at most 65535", self.logs);
+            return format!("counts of {} logs: they may be of at most {LOGS}", self.logs);
         };
         let nodes = block.kind.iter().filter(|kind| u64::from(**kind) == place).count();
         let most = NETS as u64 * self.logs * nodes as u64;
