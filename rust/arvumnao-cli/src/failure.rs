@@ -1,0 +1,81 @@
+//! How the command ends.
+
+use arvumnao::Refusal;
+use std::fmt;
+use std::io;
+
+/// The exit status. Of several jobs the highest counts.
+#[derive(Clone, Copy, Debug, PartialEq, Eq, PartialOrd, Ord)]
+pub enum Status {
+    /// Every job was routed.
+    Routed = 0,
+    /// A text or a table was refused: it has to be mended.
+    Refused = 1,
+    /// The arguments or the files are the trouble.
+    Trouble = 2,
+    /// The job is sound, but was not routed.
+    NotRouted = 3,
+    /// Ctrl-C ended it: 128 and the signal's number, as shells count.
+    Interrupted = 130,
+}
+
+impl Status {
+    /// That of a refused job, or of a refused log.
+    pub fn of(refusal: &Refusal) -> Status {
+        match (refusal, refusal.numbers().first()) {
+            (Refusal::Stopped { .. }, _) => Status::Interrupted,
+            (Refusal::LogLine(_), _) | (_, Some(1..=5 | 10 | 14 | 15)) => Status::Refused,
+            (_, Some(7..=9)) => Status::NotRouted,
+            _ => Status::Trouble,
+        }
+    }
+}
+
+/// Why the command ended before its work was done.
+#[derive(Debug)]
+pub enum Failure {
+    /// The arguments are not those of the subcommand.
+    Usage(String),
+    /// A file can't be read or written, or doesn't hold what it should: its name, and why.
+    File(String, String),
+    /// Whoever read standard output has gone.
+    ClosedPipe,
+    /// All is told: nothing is left but to end.
+    Told(Status),
+}
+
+impl Failure {
+    /// A file that can't be read or written.
+    pub fn file(name: impl fmt::Display, error: &io::Error) -> Failure {
+        Failure::File(name.to_string(), sentence(error))
+    }
+
+    /// The status with which the command ends.
+    pub fn status(&self) -> Status {
+        match self {
+            Failure::Told(status) => *status,
+            _ => Status::Trouble,
+        }
+    }
+
+    /// Arguments that can't be.
+    pub fn usage(text: impl Into<String>) -> Failure {
+        Failure::Usage(text.into())
+    }
+}
+
+/// An error without the number that std adds to it.
+fn sentence(error: &io::Error) -> String {
+    let text = error.to_string();
+    text.split(" (os error").next().unwrap_or_default().to_string()
+}
+
+impl fmt::Display for Failure {
+    fn fmt(&self, f: &mut fmt::Formatter<'_>) -> fmt::Result {
+        match self {
+            Failure::Usage(text) => f.write_str(text),
+            Failure::File(name, why) => write!(f, "{name}: {why}"),
+            Failure::ClosedPipe | Failure::Told(_) => Ok(()),
+        }
+    }
+}
