@@ -104,7 +104,7 @@ fn print(bytes: &[u8]) -> Result<(), Failure> {
 /// Whether a name is that of something which is not a file, as a pipe or a device: that is written to as it is. A folder is an error.
 fn special(path: &Path) -> io::Result<bool> {
     match fs::metadata(path) {
-        Ok(found) if found.is_dir() => Err(io::Error::new(io::ErrorKind::Other, "is a folder")),
+        Ok(found) if found.is_dir() => Err(io::Error::other("is a folder")),
         Ok(found) => Ok(!found.is_file()),
         Err(_) => Ok(false),
     }
@@ -129,8 +129,7 @@ impl Whole {
     fn begin(path: &Path) -> io::Result<Whole> {
         // through links, so that these stay
         let target = fs::canonicalize(path).unwrap_or_else(|_| path.to_path_buf());
-        let name =
-            target.file_name().ok_or_else(|| io::Error::new(io::ErrorKind::Other, "is no name of a file"))?;
+        let name = target.file_name().ok_or_else(|| io::Error::other("is no name of a file"))?;
         let beside = target.with_file_name(format!(".{}.{}.part", name.to_string_lossy(), process::id()));
         let file = OpenOptions::new().write(true).create_new(true).open(&beside)?;
         Ok(Whole { target, beside, file })

@@ -70,6 +70,7 @@ fn overfull_nodes_are_named() {
     assert_eq!(lines[1], "  node  kind              use/capacity  history  nets");
     assert_eq!(lines[2], "     2  wire of length 1           2/1        1  0 1");
     assert!(lines[3].starts_with("  to try: a higher limit (arvumnao route --limit N); "), "{}", lines[3]);
+    assert_eq!(lines.len(), 4);
     // at the highest limit there is no higher one
     folder.write(
         "b.txt",
@@ -85,6 +86,17 @@ fn overfull_nodes_are_named() {
         "{}",
         ended.told
     );
+}
+
+/// Two nets with one sink of capacity 1: no limit helps.
+#[test]
+fn a_sink_of_too_many_nets_is_told() {
+    let folder = Folder::new("hopeless");
+    folder.write("b.txt", JOB_B.replacen("T,1,5", "T,1,4", 1));
+    let ended = folder.words("check b.txt");
+    assert_eq!(ended.status, 3);
+    let line = "  sinks of more nets than they have room for, which no limit or tariff helps: 4\n";
+    assert!(ended.told.contains(line), "{}", ended.told);
 }
 
 /// Refusal 7: the T line, and what can be reached.

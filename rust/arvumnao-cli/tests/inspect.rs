@@ -46,10 +46,6 @@ fn a_report_has_detours_crowded_nodes_and_uses() {
     folder.write("b.txt", JOB_B);
     folder.words("report b.txt").printed(
         "b.txt: settled in iteration 2, after 4 turns\n\n\
-         Iterations: nodes overfull after each, and the trees' base costs\n\
-         iteration  factor  nets  turns  overfull  overuse  tree cost\n        \
-         1       0     2      2         1        1        120\n        \
-         2      50     2      2         0        0        140\n\n\
          Detours: 1 of 2 nets dearer than alone, that is in iteration 1; trees at base costs\n\
          net  sinks  alone  now  more  percent\n  \
          0      1     60   80    20    133.3\n  \
@@ -62,7 +58,11 @@ fn a_report_has_detours_crowded_nodes_and_uses() {
          0  source               2         2    100.0\n   \
          1  sink                 2         2    100.0\n   \
          4  wire of length 1     1         1    100.0\n   \
-         5  wire of length 2     1         1    100.0\n",
+         5  wire of length 2     1         1    100.0\n\n\
+         Iterations: nodes overfull after each, and the trees' base costs\n\
+         iteration  factor  nets  turns  overfull  overuse  tree cost\n        \
+         1       0     2      2         1        1        120\n        \
+         2      50     2      2         0        0        140\n",
     );
     let top = folder.words("report b.txt --top 1").out;
     assert!(top.contains("133.3") && !top.contains("     1     60   60"), "{top}");

@@ -73,7 +73,7 @@ fn unsettled(text: &Text, job: &Job, refusal: &Refusal, console: &Console) -> St
     let nodes = counted(overfull.len(), "node");
     let reason = format!("not settled by iteration {iteration}, the limit: {nodes} over capacity");
     let head = verdict::told(&text.name, &verdict::x_line(refusal), &reason, console);
-    head + &crowded(job, overfull, log) + &to_try(job, *may_rise)
+    head + &crowded(job, overfull, log) + &hopeless(job, overfull) + &to_try(job, *may_rise)
 }
 
 /// What a source leads to, and what leads to a sink.
@@ -130,6 +130,23 @@ fn crowded(job: &Job, overfull: &[Overfull], log: &Log) -> String {
     let rest = overfull.len().saturating_sub(ROWS);
     let more = if rest > 0 { format!("  .. and {rest} nodes more\n") } else { String::new() };
     table.text() + &more
+}
+
+/// A node that is the sink of more nets than it has room for: nothing but room for it helps.
+fn hopeless(job: &Job, overfull: &[Overfull]) -> String {
+    let mut wanted = vec![0; job.block.kind.len()];
+    for net in 0..job.nets.source.len() {
+        job.nets.joined_sinks(net).iter().for_each(|sink| wanted[usize::from(*sink)] += 1);
+    }
+    let tight = |crowd: &&Overfull| wanted[crowd.node as usize] > crowd.capacity;
+    let nodes: Vec<u32> = overfull.iter().filter(tight).map(|crowd| crowd.node).collect();
+    match nodes.is_empty() {
+        true => String::new(),
+        false => format!(
+            "  sinks of more nets than they have room for, which no limit or tariff helps: {}\n",
+            listed(&nodes, LISTED)
+        ),
+    }
 }
 
 /// What may let a job settle.

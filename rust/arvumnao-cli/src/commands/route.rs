@@ -54,7 +54,7 @@ fn run(args: &Args, console: &Console) -> Result<Status, Failure> {
     let plan = Plan::of(args)?;
     // standard input is read before Ctrl-C is listened to, which ends the waiting for it
     let input = plan.jobs.iter().find(|job| *job == "-").map(|job| Text::read(job)).transpose()?;
-    let resumed = plan.resume.as_deref().map(|name| Text::read_long(name)).transpose()?;
+    let resumed = plan.resume.as_deref().map(Text::read_long).transpose()?;
     interrupt::listen();
     let (mut status, mut gathered) = (Status::Routed, Vec::new());
     let mut jobs = Jobs::new(console, plan.jobs.len());

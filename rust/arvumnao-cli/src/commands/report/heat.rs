@@ -52,9 +52,14 @@ pub fn colour(using: usize, capacity: u32) -> String {
     }
 }
 
-/// Rows from left to right, about twice as wide as high.
+/// How many nodes stand in a row where they are in order: about twice as many as there are rows.
+pub fn columns(nodes: usize) -> usize {
+    ((2.0 * nodes as f64).sqrt().ceil() as usize).max(1)
+}
+
+/// Rows from left to right.
 fn in_order(nodes: usize) -> Vec<Square> {
-    let columns = ((2.0 * nodes as f64).sqrt().ceil() as usize).max(1);
+    let columns = columns(nodes);
     let side = (WIDTH / columns as f64).min(SQUARE_MOST);
     let at = |node: usize| (node, side * (node % columns) as f64, side * (node / columns) as f64, side);
     (0..nodes).map(at).collect()

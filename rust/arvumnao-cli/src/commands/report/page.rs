@@ -17,9 +17,16 @@ pub fn of(figures: &Figures, top: usize, places: Option<&Places>) -> String {
     );
     let _ = write!(page, "<h2>Overfull nodes</h2>\n{}", chart::of(&figures.iterations));
     let order = match places {
-        None => String::from("nodes in the order of their numbers, from left to right"),
+        None => {
+            let columns = heat::columns(figures.nodes.len());
+            format!("nodes in the order of their numbers, {columns} in a row; each square tells its node when pointed at")
+        }
         Some(places) => {
-            format!("{} of {} nodes, as they are placed", places.list().count(), figures.nodes.len())
+            format!(
+                "{} of {} nodes, as they are placed; each square tells its node when pointed at",
+                places.list().count(),
+                figures.nodes.len()
+            )
         }
     };
     let _ = write!(

@@ -26,11 +26,13 @@ pub fn text(figures: &Figures, top: usize) -> String {
 
 /// All sections, with at most so many rows of nets, nodes and sinks.
 pub fn of(figures: &Figures, top: usize) -> Vec<Section> {
-    let mut sections = vec![iterations(figures), detours(figures, top), crowded(figures, top)];
+    let mut sections = vec![detours(figures, top), crowded(figures, top)];
     if figures.timed {
         sections.push(delays(figures, top));
     }
     sections.push(uses(figures));
+    // the longest comes last
+    sections.push(iterations(figures));
     sections
 }
 
