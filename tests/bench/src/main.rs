@@ -1,8 +1,11 @@
 //! Times the routers on the same jobs, checks that they agree, prints a table.
 //!
-//! cargo run --release -p bench [-- largest-size]
+//! cargo run --release -p bench [-- largest-size [command]]
+//!
+//! With `command` nothing but the command's table, which comes last, is printed.
 
 mod clock;
+mod command;
 mod cost;
 mod jobs;
 mod routers;
@@ -283,6 +286,9 @@ fn print_rule(row: &Row) {
 fn main() {
     let largest = std::env::args().nth(1).and_then(|a| a.parse().ok()).unwrap_or(4096);
     let mut lent = Lent { work: vec![0; 8 * 4096], log: vec![0; LOG] };
+    if std::env::args().nth(2).is_some_and(|word| word == "command") {
+        return command::print(largest, &mut lent);
+    }
     if !HAS_PROVED {
         println!("Built without the proved router.");
     }
@@ -305,4 +311,8 @@ fn main() {
     }
     println!();
     rules(largest, &mut lent);
+    if HAS_PROVED {
+        println!();
+        command::print(largest, &mut lent);
+    }
 }
