@@ -4,8 +4,8 @@
 #   make install PREFIX=/usr/local  installs it; DESTDIR=.. before that, for a package
 #   make uninstall                  takes away what install brought
 #
-# The programs get the name arvumnao- before theirs, since router, picture and load are anybody's words; the library is called
-# libarvumnao.a. LIBRARY names another static library than the one that is built here.
+# The programs get arvumnao- before their names, since router, picture and load are anybody's words; the library is called libarvumnao.a.
+# Where the variable ARVUMNAO_LIB_DIR names a folder, the library that stands there is taken.
 
 PREFIX = /usr/local
 DESTDIR =
@@ -16,7 +16,7 @@ MANDIR = $(PREFIX)/share/man
 INSTALL = install
 
 PROGRAMS = router picture load
-LIBRARY = target/staticlib/libcapi.a
+LIBRARY = $(or $(ARVUMNAO_LIB_DIR),target/staticlib)/libcapi.a
 COMMAND = rust/arvumnao-cli/target/release/arvumnao
 VERSION := $(shell sed -n 's/^version = "\(.*\)"/\1/p' rust/arvumnao-cli/Cargo.toml)
 SOURCES := $(shell find crates -name '*.rt' -o -name '*.antt')
@@ -33,7 +33,8 @@ target/bin/%: $(SOURCES)
 	touch $@
 
 $(COMMAND): $(RUST) $(LIBRARY)
-	cd rust/arvumnao-cli && ARVUMNAO_LIB_DIR='$(abspath $(dir $(LIBRARY)))' cargo build --release --offline
+	cd rust/arvumnao-cli && cargo build --release --offline
+	touch $@
 
 install: all
 	$(INSTALL) -d '$(DESTDIR)$(BINDIR)' '$(DESTDIR)$(LIBDIR)/pkgconfig' '$(DESTDIR)$(INCLUDEDIR)' '$(DESTDIR)$(MANDIR)/man1'

@@ -45,12 +45,13 @@ fn blocks(document: &str, word: &str) -> Vec<String> {
     document.split(&fence).skip(1).map(|rest| format!("{}\n", rest.split("\n```").next().unwrap())).collect()
 }
 
-/// A folder with the jobs of examples/.
-fn examples(name: &str) -> Folder {
+/// A folder with the jobs of examples/, or with that folder in it.
+fn examples(name: &str, within: &str) -> Folder {
     let folder = Folder::new(name);
+    fs::create_dir_all(folder.0.join(within)).unwrap();
     let texts = fs::read_dir(format!("{}/../../examples", env!("CARGO_MANIFEST_DIR"))).unwrap();
     for text in texts.map(|entry| entry.unwrap().path()) {
-        fs::copy(&text, folder.0.join(text.file_name().unwrap())).unwrap();
+        fs::copy(&text, folder.0.join(within).join(text.file_name().unwrap())).unwrap();
     }
     folder
 }
@@ -89,13 +90,18 @@ fn run_all(document: &str, folder: &Folder) -> usize {
 
 #[test]
 fn the_examples_of_the_command() {
-    assert_eq!(run_all(&document("../../docs/COMMAND.md"), &examples("command_examples")), 12);
+    assert_eq!(run_all(&document("../../docs/COMMAND.md"), &examples("command_examples", ".")), 12);
+}
+
+#[test]
+fn the_examples_of_the_readme() {
+    assert_eq!(run_all(&document("../../README.md"), &examples("readme_examples", "examples")), 1);
 }
 
 /// What a terminal shows of a run, by `script`.
 #[test]
 fn the_rows_of_the_command() {
-    let folder = examples("command_rows");
+    let folder = examples("command_rows", ".");
     let line = format!("{} route job_b.txt -o out", env!("CARGO_BIN_EXE_arvumnao"));
     let mut script = Command::new("script");
     script.args(["-qec", &line, "/dev/null"]).current_dir(&folder.0).env("NO_COLOR", "1");
