@@ -4,15 +4,13 @@
 //!
 //! With `command` nothing but the command's table, which comes last, is printed.
 
-mod clock;
 mod command;
-mod cost;
 mod jobs;
 mod routers;
 #[cfg(feature = "proved")]
 mod wrapper;
 
-use job::Job;
+use job::{clock, cost, Job};
 use jobs::{Shape, SHAPES, SIZES};
 use routers::{Result, Router, HAS_PROVED};
 use std::time::Duration;

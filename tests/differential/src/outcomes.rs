@@ -6,7 +6,7 @@ use crate::resumes::Lent;
 use job::{texts, Counts, Job, Tuning};
 
 /// Every outcome that a whole run must come to.
-const EXPECTED: [&str; 394] = [
+const EXPECTED: [&str; 399] = [
     "price accepted",
     "price 13,0",
     "price 13,1",
@@ -401,6 +401,11 @@ const EXPECTED: [&str; 394] = [
     "out of 15 entries",
     "out of 16 entries",
     "out of 17 entries",
+    "window under rule 1,1 accepted",
+    "window under rule 2,1 accepted",
+    "window under rule 2,3 accepted",
+    "nets over the window accepted",
+    "nets over the window 9",
 ];
 
 /// How often each outcome came.

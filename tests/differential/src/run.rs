@@ -9,10 +9,17 @@ use crate::logs;
 use crate::outcomes::{self, Outcomes};
 use crate::resumes::{self, Lent};
 use crate::uses::{self, Counts};
-use job::{jobs, texts, Job, Lengths, Rng, TERMS};
+use job::{jobs, texts, window, Job, Lengths, Rng, TERMS};
 
 /// Of how many in a hundred of the router's calls the aimed one is compared too.
 const AIMED: usize = 25;
+
+/// Of 4,000 jobs those whose nets are drawn over the window of a chip.
+const WINDOW_FIRST: usize = 9;
+const WINDOW_LAST: usize = 11;
+
+/// Words lent for the log of the window's own nets.
+const WINDOW_LOG: usize = 5_000;
 
 /// A case that fails, and how.
 pub struct Failure {
@@ -96,15 +103,20 @@ impl Run {
     /// All calls for one job.
     pub fn job(&mut self, seed: u64) -> Result<(), Failure> {
         self.begin("job", seed, seed);
-        let job = match self.rng.below(4_000) {
+        let family = self.rng.below(4_000);
+        let job = match family {
             0 => jobs::full(182, 32_768),
             1 => jobs::many_sinks(&mut self.rng, 4_096),
             2 => jobs::line(4_096),
             3..=8 => self.timed_line(),
+            WINDOW_FIRST..=WINDOW_LAST => window::seeded(&mut self.rng),
             _ => jobs::job(&mut self.rng),
         };
-        let words = self.whole(&job)?;
-        self.cut_logs(&job, words)?;
+        let after = self.whole(&job)?;
+        if (WINDOW_FIRST..=WINDOW_LAST).contains(&family) {
+            self.outcomes.count(format!("nets over the window {}", outcomes::end(&after)));
+        }
+        self.cut_logs(&job, after.answer.numbers[2] as usize)?;
         self.work_lengths(&job)?;
         self.term_counts(&job)?;
         self.damaged(&job)?;
@@ -123,14 +135,28 @@ impl Run {
         Ok(())
     }
 
+    /// The stored window of a chip under every rule, by both searches.
+    pub fn window(&mut self) -> Result<(), Failure> {
+        self.begin("window", 0, 0);
+        for (rule, until) in [(1, 1), (2, 1), (2, 3)] {
+            let job = Job { rule, until, ..window::stored() };
+            let log = self.old_log(WINDOW_LOG);
+            let case = route(&job, 8 * job.kind.len(), log);
+            let after = self.one(&case, None)?;
+            self.outcomes.count(format!("window under rule {rule},{until} {}", outcomes::end(&after)));
+            self.aimed(case)?;
+        }
+        Ok(())
+    }
+
     /// A timed line of as many nodes as there may be, or one or two more.
     fn timed_line(&mut self) -> Job {
         let job = jobs::line(self.rng.pick(&[1_024, 1_024, 1_025, 1_026]));
         jobs::timed(&mut self.rng, job)
     }
 
-    /// The job with as much log as it can need, as far as that is not too much; the words used.
-    fn whole(&mut self, job: &Job) -> Result<usize, Failure> {
+    /// The job with as much log as it can need, as far as that is not too much.
+    fn whole(&mut self, job: &Job) -> Result<After, Failure> {
         let turns = job.limit as usize * job.sink.len();
         let length = (turns * (6 + job.kind.len())).min(30_000) + self.rng.below(3);
         let length = if self.rng.once_in(50) { self.rng.below(200) } else { length };
@@ -141,7 +167,7 @@ impl Run {
         self.outcomes.count_tuning(job.tuning, &after);
         self.outcomes.count_rule(job, &after);
         self.outcomes.count_timed(job, &after);
-        Ok(after.answer.numbers[2] as usize)
+        Ok(after)
     }
 
     /// A log slice with old content: a pattern, or small numbers as records have them.

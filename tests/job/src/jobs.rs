@@ -17,7 +17,7 @@ pub struct Plan {
 
 impl Plan {
     /// A graph of wires of length 1, capacities 1, without edges and nets, with the plain tuning and rule.
-    fn empty(nodes: usize) -> Plan {
+    pub(crate) fn empty(nodes: usize) -> Plan {
         Plan {
             kind: vec![4; nodes],
             capacity: vec![1; nodes],
@@ -140,7 +140,7 @@ pub fn plan(rng: &mut Rng) -> Plan {
 }
 
 /// What jobs of every family may have: a tuning, either rule from any iteration on, and nets broken into several of one source.
-fn finish(rng: &mut Rng, plan: &mut Plan) {
+pub(crate) fn finish(rng: &mut Rng, plan: &mut Plan) {
     plan.tuning = tuning(rng);
     plan.rule = rule(rng);
     plan.until = until(rng);

@@ -1,9 +1,13 @@
-//! What the test crates share: a job with its own tables, the seeded generator with jobs and job texts made by it, and counts.
+//! What the test crates share: a job with its own tables, the seeded generator with jobs and job texts made by it,
+//! counts, the processor's clock, and what trees cost.
 
+pub mod clock;
+pub mod cost;
 mod counts;
 pub mod jobs;
 mod rng;
 pub mod texts;
+pub mod window;
 
 pub use counts::Counts;
 pub use rng::Rng;

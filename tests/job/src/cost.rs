@@ -1,10 +1,10 @@
 //! What the final trees of a log cost: the base costs of their nodes, summed.
 
-use job::Job;
+use crate::Job;
 use std::collections::{BTreeMap, BTreeSet};
 
-/// 20, 20, 20, 19, then 20 a tile.
-fn base(kind: u8) -> u64 {
+/// A kind's base cost: 20, 20, 20, 19, then 20 a tile.
+pub fn base(kind: u8) -> u64 {
     match kind {
         0..=2 => 20,
         3 => 19,
