@@ -1,4 +1,5 @@
-//! Times the routers on the same jobs, checks that they agree, prints a table.
+//! Times the routers on the same jobs, checks that they agree, prints tables in Markdown: milliseconds of processor time, best of several runs.
+//! Every run's outcome and log are checked against those of carried's first.
 //!
 //! cargo run --release -p bench [-- largest-size [command]]
 //!
@@ -10,6 +11,7 @@ mod routers;
 #[cfg(feature = "proved")]
 mod wrapper;
 
+use job::table::{cell, head, line, ratio_head, ratio_line};
 use job::{clock, cost, Job};
 use jobs::{Shape, SHAPES, SIZES};
 use routers::{Result, Router, HAS_PROVED};
@@ -69,6 +71,10 @@ impl Row {
     /// Nodes that the aimed search expands a turn.
     fn expanded(&self) -> Option<f64> {
         Some(self.expanded? as f64 / self.turns())
+    }
+
+    fn name(&self) -> String {
+        format!("{:?}", self.shape).to_lowercase()
     }
 
     fn outcome(&self) -> String {
@@ -157,128 +163,124 @@ fn make_row(shape: Shape, job: Job, choose: impl Fn(&Job, f64) -> Vec<Router>, l
     Row { shape, job, result, cost, best, expanded }
 }
 
-fn cell(value: Option<f64>, width: usize, places: usize) -> String {
-    match value {
-        None => format!("{:>width$}", "-"),
-        Some(v) => format!("{v:>width$.places$}"),
-    }
-}
-
-fn print_head() {
-    println!("The job | milliseconds of processor time, best of {LEAST} to {MOST} runs | ratios |");
-    println!("picoseconds per turn and (nodes + edges) x log2 nodes | microseconds a turn | nodes expanded a turn.");
-    println!("aimed: the proved router with its aimed search, whose nodes expanded these are.");
-    println!("heap: binary heap and early stop. pruned: besides, less is searched. carried: besides, a net's search goes on from turn to turn.");
-    println!("Every run's outcome and log are checked against carried's first.");
-    print!("{:<10}{:>6}{:>7}{:>5}{:>6}", "shape", "nodes", "edges", "nets", "sinks");
-    print!("{:>5}{:>7}  {:<10}|", "iter", "turns", "outcome");
-    print!("{:>10}{:>10}{:>9}{:>9}{:>9}{:>10}  |", "proved", "aimed", "heap", "pruned", "carried", "plain");
-    print!("{:>8}{:>8}{:>8}{:>8}{:>8}  |", "pro/hea", "pro/pru", "pro/car", "pla/pro", "aim/pro");
-    print!("{:>8}{:>8}{:>8}  |", "proved", "heap", "plain");
-    println!("{:>8}{:>8}  |{:>8}", "proved", "aimed", "aimed");
-}
-
-fn print_row(row: &Row) {
+/// The routers side by side.
+fn print_floor(rows: &[Row]) {
     use Router::*;
-    let job = &row.job;
-    print!(
-        "{:<10}{:>6}{:>7}",
-        format!("{:?}", row.shape).to_lowercase(),
-        job.kind.len(),
-        job.edge_target.len()
-    );
-    print!(
-        "{:>5}{:>6}{:>5}{:>7}",
-        job.source.len(),
-        job.sink.len(),
-        row.result.numbers[0],
-        row.result.numbers[1]
-    );
-    print!("  {:<10}|", row.outcome());
-    let columns = [(Proved, 10), (Aimed, 10), (Heap, 9), (Pruned, 9), (Carried, 9), (Plain, 10)];
-    for (router, width) in columns {
-        print!("{}", cell(row.seconds(router).map(|s| s * 1e3), width, 3));
+    head(&[
+        "job",
+        "nodes",
+        "edges",
+        "nets",
+        "sinks",
+        "turns",
+        "proved, ms",
+        "heap, ms",
+        "pruned, ms",
+        "carried, ms",
+        "plain, ms",
+        "proved / heap",
+        "proved / pruned",
+        "proved / carried",
+    ]);
+    for row in rows {
+        let job = &row.job;
+        let mut cells = vec![row.name()];
+        let counts =
+            [job.kind.len(), job.edge_target.len(), job.source.len(), job.sink.len(), row.turns() as usize];
+        cells.extend(counts.map(|count| count.to_string()));
+        cells.extend(
+            [Proved, Heap, Pruned, Carried, Plain]
+                .map(|router| cell(row.seconds(router).map(|s| s * 1e3), 3)),
+        );
+        cells.extend([Heap, Pruned, Carried].map(|under| cell(row.ratio(Proved, under), 2)));
+        line(&cells);
     }
-    print!("  |");
-    let ratios = [(Proved, Heap), (Proved, Pruned), (Proved, Carried), (Plain, Proved), (Aimed, Proved)];
-    for (over, under) in ratios {
-        print!("{}", cell(row.ratio(over, under), 8, 1));
-    }
-    print!("  |");
-    for router in [Proved, Heap, Plain] {
-        print!("{}", cell(row.unit(router), 8, 0));
-    }
-    print!("  |");
-    for router in [Proved, Aimed] {
-        print!("{}", cell(row.turn(router), 8, 1));
-    }
-    println!("  |{}", cell(row.expanded(), 8, 1));
-}
-
-/// Least, geometric mean and most of a ratio over all rows that have it.
-fn print_ratio(name: &str, ratios: &[f64]) {
-    if ratios.is_empty() {
-        return;
-    }
-    let least = ratios.iter().copied().fold(f64::INFINITY, f64::min);
-    let most = ratios.iter().copied().fold(0.0, f64::max);
-    let mean = (ratios.iter().map(|r| r.ln()).sum::<f64>() / ratios.len() as f64).exp();
-    println!("{name}: {least:.2} to {most:.2}, geometric mean {mean:.2}, {} jobs", ratios.len());
-}
-
-fn print_ratios(rows: &[Row]) {
-    use Router::*;
+    println!();
+    ratio_head();
     let pairs = [
-        ("proved/heap", Proved, Heap),
-        ("proved/pruned", Proved, Pruned),
-        ("proved/carried", Proved, Carried),
-        ("plain/proved", Plain, Proved),
-        ("aimed/proved", Aimed, Proved),
+        ("proved / heap", Proved, Heap),
+        ("proved / pruned", Proved, Pruned),
+        ("proved / carried", Proved, Carried),
+        ("plain / proved", Plain, Proved),
     ];
     for (name, over, under) in pairs {
-        let ratios: Vec<f64> = rows.iter().filter_map(|row| row.ratio(over, under)).collect();
-        print_ratio(name, &ratios);
+        ratio_line(name, rows.iter().map(|row| row.ratio(over, under)));
     }
-    let shares = rows.iter().filter_map(|row| Some(row.expanded()? / row.job.kind.len() as f64));
-    print_ratio("nodes expanded/nodes", &shares.collect::<Vec<_>>());
+}
+
+/// The two searches side by side.
+fn print_searches(rows: &[Row]) {
+    use Router::*;
+    head(&[
+        "job",
+        "nodes",
+        "plain search, µs a turn",
+        "search that aims, µs a turn",
+        "nodes expanded a turn",
+    ]);
+    for row in rows {
+        let mut cells = vec![row.name(), row.job.kind.len().to_string()];
+        cells.extend([row.turn(Proved), row.turn(Aimed), row.expanded()].map(|number| cell(number, 1)));
+        line(&cells);
+    }
+    println!();
+    ratio_head();
+    ratio_line("search that aims / plain search", rows.iter().map(|row| row.ratio(Aimed, Proved)));
+    ratio_line(
+        "nodes expanded / nodes",
+        rows.iter().map(|row| Some(row.expanded()? / row.job.kind.len() as f64)),
+    );
 }
 
 /// The routers whose times are shown there.
 const RULED: [Router; 3] = [Router::Proved, Router::Heap, Router::Carried];
 
 /// The congested jobs under rule 1 and rule 2, with a limit that lets them settle.
-fn rules(largest: usize, lent: &mut Lent) {
-    println!("The congested jobs with limit 100 under rule 1 and under rule 2: iterations, turns, milliseconds of processor time,");
-    println!("and the base costs of the final trees' nodes, summed.");
-    print!("{:>5}{:>6}{:>5}{:>7}{:>7}", "nodes", "sinks", "rule", "iter", "turns");
-    println!("  {:<10}{:>10}{:>10}{:>10}{:>9}", "outcome", "proved", "heap", "carried", "cost");
+fn rules(largest: usize, lent: &mut Lent) -> Vec<[Row; 2]> {
     let timed: Vec<Router> = routers::all().into_iter().filter(|router| RULED.contains(router)).collect();
-    let mut ratios = [Vec::new(), Vec::new(), Vec::new()];
-    for nodes in SIZES.into_iter().filter(|&n| n <= largest) {
-        let rows = [1, 2].map(|rule| {
+    let sizes = SIZES.into_iter().filter(|&n| n <= largest);
+    let both = |nodes| {
+        [1, 2].map(|rule| {
+            eprintln!("congested {nodes}, rule {rule}");
             let job = Job { rule, limit: 100, ..jobs::make(Shape::Congested, nodes) };
-            let row = make_row(Shape::Congested, job, |_, _| timed.clone(), lent);
-            print_rule(&row);
-            row
-        });
-        let [one, two] = rows.map(|row| (row.turns(), row.seconds(timed[0]).unwrap_or(1.0), row.cost as f64));
-        let pairs = [(one.0, two.0), (one.1, two.1), (one.2, two.2)];
-        ratios.iter_mut().zip(pairs).for_each(|(list, (one, two))| list.push(two / one));
-    }
-    for (name, list) in ["turns", "time", "cost"].iter().zip(&ratios) {
-        print_ratio(&format!("{name}, rule 2/rule 1"), list);
-    }
+            make_row(Shape::Congested, job, |_, _| timed.clone(), lent)
+        })
+    };
+    sizes.map(both).collect()
 }
 
-fn print_rule(row: &Row) {
-    let job = &row.job;
-    let [iteration, turns] = [0, 1].map(|place| row.result.numbers[place]);
-    print!("{:>5}{:>6}{:>5}{iteration:>7}{turns:>7}", job.kind.len(), job.sink.len(), job.rule);
-    print!("  {:<10}", row.outcome());
-    for router in RULED {
-        print!("{}", cell(row.seconds(router).map(|s| s * 1e3), 10, 3));
+fn print_rules(pairs: &[[Row; 2]]) {
+    head(&[
+        "nodes",
+        "sinks",
+        "rule",
+        "iterations",
+        "turns",
+        "outcome",
+        "proved, ms",
+        "heap, ms",
+        "carried, ms",
+        "wire cost",
+    ]);
+    for row in pairs.iter().flatten() {
+        let job = &row.job;
+        let mut cells =
+            [job.kind.len(), job.sink.len(), job.rule as usize].map(|count| count.to_string()).to_vec();
+        cells.extend([0, 1].map(|place| row.result.numbers[place].to_string()));
+        cells.push(row.outcome());
+        cells.extend(RULED.map(|router| cell(row.seconds(router).map(|s| s * 1e3), 3)));
+        cells.push(row.cost.to_string());
+        line(&cells);
     }
-    println!("{:>9}", row.cost);
+    println!();
+    ratio_head();
+    let time = |row: &Row| row.seconds(Router::Proved).or(row.seconds(Router::Heap));
+    let ratios = |of: &dyn Fn(&Row) -> Option<f64>| {
+        pairs.iter().map(|[one, two]| Some(of(two)? / of(one)?)).collect::<Vec<_>>()
+    };
+    ratio_line("turns, rule 2 / rule 1", ratios(&|row| Some(row.turns())).into_iter());
+    ratio_line("time, rule 2 / rule 1", ratios(&time).into_iter());
+    ratio_line("wire cost, rule 2 / rule 1", ratios(&|row| Some(row.cost as f64)).into_iter());
 }
 
 fn main() {
@@ -288,28 +290,28 @@ fn main() {
         return command::print(largest, &mut lent);
     }
     if !HAS_PROVED {
-        println!("Built without the proved router.");
+        println!("Built without the proved router.\n");
     }
-    print_head();
     let mut rows: Vec<Row> = Vec::new();
     for shape in SHAPES {
         for nodes in SIZES.into_iter().filter(|&n| n <= largest) {
+            eprintln!("{shape:?} {nodes}");
             let before = rows.last().filter(|row| row.shape == shape);
             let choose = |job: &Job, turns: f64| chosen(before, job, turns);
             let row = make_row(shape, jobs::make(shape, nodes), choose, &mut lent);
-            print_row(&row);
             rows.push(row);
         }
     }
-    print_ratios(&rows);
+    let pairs = rules(largest, &mut lent);
+    print_searches(&rows);
+    println!();
+    print_rules(&pairs);
+    println!();
+    print_floor(&rows);
     #[cfg(feature = "proved")]
     {
         println!();
         wrapper::print(largest);
-    }
-    println!();
-    rules(largest, &mut lent);
-    if HAS_PROVED {
         println!();
         command::print(largest, &mut lent);
     }

@@ -1,11 +1,12 @@
 //! What the test crates share: a job with its own tables, the seeded generator with jobs and job texts made by it,
-//! counts, the processor's clock, and what trees cost.
+//! counts, the processor's clock, what trees cost, and tables in Markdown.
 
 pub mod clock;
 pub mod cost;
 mod counts;
 pub mod jobs;
 mod rng;
+pub mod table;
 pub mod texts;
 pub mod window;
 

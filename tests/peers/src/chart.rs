@@ -64,9 +64,8 @@ fn scales(svg: &mut String, title: &str, across: &Axis, up: &Axis) {
     label(svg, across.drawn.0, up.drawn.1 - 10.0, "start", title);
 }
 
-/// A line with its points, and its name at the last one.
+/// A line with its points.
 fn draw(svg: &mut String, series: &Series, across: &Axis, up: &Axis) {
-    let Some(last) = series.points.last() else { return };
     let colour = series.colour;
     let places: Vec<(f64, f64)> =
         series.points.iter().map(|point| (across.place(point.0), up.place(point.1))).collect();
@@ -79,8 +78,24 @@ fn draw(svg: &mut String, series: &Series, across: &Axis, up: &Axis) {
     for (x, y) in &places {
         let _ = writeln!(svg, "<circle cx=\"{x:.1}\" cy=\"{y:.1}\" r=\"3\" fill=\"{colour}\"/>");
     }
-    let (x, y) = (across.place(last.0) + 8.0, up.place(last.1) + 4.0);
-    let _ = writeln!(svg, "<text x=\"{x:.0}\" y=\"{y:.0}\" fill=\"{colour}\">{}</text>", series.name);
+}
+
+/// Each line's name beside its last point, moved down where it would touch the one above.
+fn names(svg: &mut String, series: &[Series], across: &Axis, up: &Axis) {
+    let mut ends: Vec<(f64, f64, &Series)> = Vec::new();
+    for line in series {
+        if let Some(last) = line.points.last() {
+            ends.push((up.place(last.1) + 4.0, across.place(last.0) + 8.0, line));
+        }
+    }
+    ends.sort_by(|one, other| one.0.total_cmp(&other.0));
+    let mut least = 0.0;
+    for (y, x, line) in ends {
+        let y = f64::max(y, least);
+        let _ =
+            writeln!(svg, "<text x=\"{x:.0}\" y=\"{y:.0}\" fill=\"{}\">{}</text>", line.colour, line.name);
+        least = y + 14.0;
+    }
 }
 
 /// Panels side by side, each with its title.
@@ -95,6 +110,7 @@ pub fn svg(panels: &[(&str, Vec<Series>)]) -> String {
         let up = Axis { ends: tens(series), drawn: (HEIGHT - BELOW, ABOVE) };
         scales(&mut svg, title, &across, &up);
         series.iter().for_each(|line| draw(&mut svg, line, &across, &up));
+        names(&mut svg, series, &across, &up);
     }
     svg.push_str("</svg>\n");
     svg

@@ -2,20 +2,7 @@
 
 use crate::measure::{Entry, Row};
 use crate::nextpnr::Router;
-
-fn line(cells: &[String]) {
-    println!("| {} |", cells.join(" | "));
-}
-
-fn head(names: &[&str]) {
-    line(&names.iter().map(|name| name.to_string()).collect::<Vec<_>>());
-    println!("|{}", "---|".repeat(names.len()));
-}
-
-/// A number, or a dash where there is none.
-fn cell(value: Option<f64>, places: usize) -> String {
-    value.map_or("-".to_string(), |value| format!("{value:.places$}"))
-}
+use job::table::{cell, head, line, ratio_head, ratio_line};
 
 pub fn ms(entry: &Entry) -> f64 {
     entry.time.as_secs_f64() * 1e3
@@ -117,20 +104,8 @@ pub fn outcomes(rows: &[Row]) {
     }
 }
 
-/// Least, most and geometric mean of what the rows have.
-fn spread(name: &str, values: impl Iterator<Item = Option<f64>>) {
-    let values: Vec<f64> = values.flatten().collect();
-    if values.is_empty() {
-        return;
-    }
-    let least = values.iter().copied().fold(f64::INFINITY, f64::min);
-    let most = values.iter().copied().fold(0.0, f64::max);
-    let mean = (values.iter().map(|value| value.ln()).sum::<f64>() / values.len() as f64).exp();
-    println!("| {name} | {least:.2} | {most:.2} | {mean:.2} | {} |", values.len());
-}
-
 pub fn means(rows: &[Row]) {
-    head(&["ratio", "least", "most", "geometric mean", "jobs"]);
+    ratio_head();
     for (what, of) in [("time", ms as fn(&Entry) -> f64), ("wire cost", cost)] {
         for rule in [1, 2] {
             for (router, eager) in
@@ -138,20 +113,23 @@ pub fn means(rows: &[Row]) {
             {
                 let name =
                     format!("{what}, rule {rule} / {}{}", router.name(), if eager { ", eager" } else { "" });
-                spread(
+                ratio_line(
                     &name,
                     rows.iter().map(|row| ratio(Some(row.ours(rule, false)), row.peer(router, eager), of)),
                 );
             }
         }
-        spread(
+        ratio_line(
             &format!("{what}, rule 2 / rule 1"),
             rows.iter().map(|row| ratio(four(row)[1], four(row)[0], of)),
         );
     }
     for rule in [1, 2] {
         let aimed = |row: &Row| Some(ms(row.ours(rule, true)) / ms(row.ours(rule, false)));
-        spread(&format!("time under rule {rule}, search that aims / plain search"), rows.iter().map(aimed));
+        ratio_line(
+            &format!("time under rule {rule}, search that aims / plain search"),
+            rows.iter().map(aimed),
+        );
     }
 }
 
