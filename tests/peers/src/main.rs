@@ -103,9 +103,7 @@ fn compare(chip: &Chip) -> Result<(), String> {
     let growing = measure_all(chip, &GROWING, &folder)?;
     let _ = std::fs::remove_dir_all(&folder);
     println!("{version}\n");
-    table::times(&rows);
-    println!();
-    table::outcomes(&rows);
+    table::jobs(&rows);
     println!();
     table::means(&rows);
     println!();

@@ -97,3 +97,27 @@ pub fn draw(window: &Window, used: usize, seed: u64) -> Vec<Net> {
     nets.retain(|net| !net.1.is_empty());
     nets
 }
+
+#[cfg(test)]
+mod tests {
+    use super::*;
+
+    /// Two outputs, wires that both reach, and two inputs that every wire enters.
+    fn window(wires: u16) -> Window {
+        let (first, second) = (2 + wires, 3 + wires);
+        let mut rows = vec![(2..first).collect::<Vec<u16>>(); 2];
+        rows.extend((0..wires).map(|_| vec![first, second]));
+        rows.extend([vec![], vec![]]);
+        let kind = [vec![2; 2], vec![4; wires.into()], vec![3; 2]].concat();
+        let switch_place = rows.iter().map(|row| vec![(1, 1); row.len()]).collect();
+        Window { place: vec![(1, 1); kind.len()], kind, rows, switch_place }
+    }
+
+    #[test]
+    fn sinks_without_an_entry_are_left_out() {
+        for seed in 0..20 {
+            let sinks = |wires| draw(&window(wires), 100, seed).iter().map(|net| net.1.len()).sum::<usize>();
+            assert_eq!([sinks(1), sinks(2), sinks(3)], [1, 2, 2], "seed {seed}");
+        }
+    }
+}

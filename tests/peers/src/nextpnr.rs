@@ -186,3 +186,23 @@ impl Bench {
         Ok(runs)
     }
 }
+
+#[cfg(test)]
+mod tests {
+    use super::*;
+
+    #[test]
+    fn answers_and_logs_are_read() {
+        let runs = read_answer("A,1,2000,30\nB,1,4,5\nA,0,7,8\n", 2);
+        assert_eq!(runs.len(), 2);
+        assert_eq!(
+            (runs[0].settled, runs[0].time, runs[0].again),
+            (true, Duration::from_nanos(2_000), Duration::from_nanos(30))
+        );
+        assert_eq!((&runs[0].branches, runs[1].settled), (&vec![vec![], vec![(4, 5)]], false));
+        let one = "Info: Routing..\nInfo:    IterCnt |  w/ripup |\nInfo:        741 |      451 |\nInfo: Routing..\nInfo:          0 |  0 |\n";
+        assert_eq!(read_steps(one, Router::One), [741, 0]);
+        let two = "Info: Running router2...\nInfo:     iter=1 wires=9\nInfo:     iter=2 wires=9\nInfo: Running router2...\n";
+        assert_eq!(read_steps(two, Router::Two), [2, 0]);
+    }
+}

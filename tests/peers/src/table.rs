@@ -1,7 +1,7 @@
 //! The tables, as Markdown, and what they come to.
 
 use crate::measure::{Entry, Row};
-use crate::nextpnr::Router;
+use crate::nextpnr::{Router, Setting, SETTINGS};
 use job::table::{cell, head, line, ratio_head, ratio_line};
 
 pub fn ms(entry: &Entry) -> f64 {
@@ -11,15 +11,6 @@ pub fn ms(entry: &Entry) -> f64 {
 /// Its time, if it has settled.
 pub fn settled_ms(entry: Option<&Entry>) -> Option<f64> {
     entry.filter(|entry| entry.settled).map(ms)
-}
-
-/// A count, marked where the job has not settled.
-fn count(entry: Option<&Entry>, of: fn(&Entry) -> u64) -> String {
-    match entry {
-        None => "-".to_string(),
-        Some(entry) if entry.settled => of(entry).to_string(),
-        Some(entry) => format!("{}, not settled", of(entry)),
-    }
 }
 
 /// A number of one entry over that of another, where both have settled.
@@ -48,7 +39,18 @@ fn four(row: &Row) -> [Option<&Entry>; 4] {
     [one, two, row.peer(Router::One, false), row.peer(Router::Two, false)]
 }
 
-pub fn times(rows: &[Row]) {
+/// The iterations of rule 1, rule 2 and router2.
+fn iterations(row: &Row) -> String {
+    let [one, two, _, second] = four(row);
+    let count = |entry: Option<&Entry>| match entry.filter(|entry| entry.settled) {
+        None => "-".to_string(),
+        Some(entry) => entry.iterations.to_string(),
+    };
+    [one, two, second].map(count).join(", ")
+}
+
+/// A row a job: sizes, iterations, times, and the wire cost of the others over that of rule 1.
+pub fn jobs(rows: &[Row]) {
     head(&[
         "window",
         "wires removed",
@@ -56,61 +58,36 @@ pub fn times(rows: &[Row]) {
         "edges",
         "nets",
         "sinks",
+        "iterations: rule 1, rule 2, router2",
         "rule 1, ms",
         "rule 2, ms",
         "router1, ms",
         "router2, ms",
-        "rule 1 / router1",
         "rule 1 / router2",
-        "rule 2 / router1",
         "rule 2 / router2",
-    ]);
-    for row in rows {
-        let entries = four(row);
-        let mut cells = sizes(row);
-        cells.extend(entries.map(|entry| cell(settled_ms(entry), 1)));
-        for (one, other) in [(0, 2), (0, 3), (1, 2), (1, 3)] {
-            cells.push(cell(ratio(entries[one], entries[other], ms), 2));
-        }
-        line(&cells);
-    }
-}
-
-pub fn outcomes(rows: &[Row]) {
-    head(&[
-        "window",
-        "nets",
-        "iterations: rule 1",
-        "rule 2",
-        "router2",
-        "searches: rule 1",
-        "rule 2",
-        "router1",
-        "wire cost: rule 1",
+        "cost: rule 1",
         "rule 2 / rule 1",
         "router1 / rule 1",
         "router2 / rule 1",
     ]);
     for row in rows {
         let [one, two, first, second] = four(row);
-        let mut cells = vec![row.case.name(), row.job.source.len().to_string()];
-        cells.extend([one, two, second].map(|entry| count(entry, |entry| entry.iterations)));
-        cells.extend(
-            [one, two, first].map(|entry| entry.map_or("-".to_string(), |entry| entry.turns.to_string())),
-        );
-        cells.push(count(one, |entry| entry.cost));
-        cells.extend([two, first, second].map(|entry| cell(ratio(entry, one, cost), 3)));
+        let mut cells = sizes(row);
+        cells.push(iterations(row));
+        cells.extend([one, two, first, second].map(|entry| cell(settled_ms(entry), 1)));
+        cells.extend([one, two].map(|entry| cell(ratio(entry, second, ms), 2)));
+        cells.push(cell(one.filter(|entry| entry.settled).map(cost), 0));
+        cells.extend([two, first, second].map(|entry| cell(ratio(entry, one, cost), 2)));
         line(&cells);
     }
 }
 
+/// Time and wire cost over all jobs beside each router of nextpnr, and of one search and one rule beside the other.
 pub fn means(rows: &[Row]) {
     ratio_head();
     for (what, of) in [("time", ms as fn(&Entry) -> f64), ("wire cost", cost)] {
         for rule in [1, 2] {
-            for (router, eager) in
-                [(Router::One, false), (Router::Two, false), (Router::One, true), (Router::Two, true)]
-            {
+            for Setting { router, eager } in SETTINGS {
                 let name =
                     format!("{what}, rule {rule} / {}{}", router.name(), if eager { ", eager" } else { "" });
                 ratio_line(
@@ -119,6 +96,12 @@ pub fn means(rows: &[Row]) {
                 );
             }
         }
+    }
+    println!();
+    ratio_head();
+    for (what, of) in
+        [("time", ms as fn(&Entry) -> f64), ("turns", |entry| entry.turns as f64), ("wire cost", cost)]
+    {
         ratio_line(
             &format!("{what}, rule 2 / rule 1"),
             rows.iter().map(|row| ratio(four(row)[1], four(row)[0], of)),
@@ -164,7 +147,8 @@ pub fn growth(rows: &[Row]) {
     for row in rows {
         let entries = four(row);
         let mut cells = sizes(row);
-        cells.extend([0, 1].map(|place| count(entries[place], |entry| entry.turns)));
+        let turns = |entry: &Entry| entry.turns as f64;
+        cells.extend([0, 1].map(|place| cell(entries[place].filter(|entry| entry.settled).map(turns), 0)));
         cells.extend(entries.map(|entry| cell(settled_ms(entry), 2)));
         cells.push(cell(Some(turn(row)), 1));
         line(&cells);

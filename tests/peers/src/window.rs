@@ -167,3 +167,28 @@ impl Window {
         self.pins(INPUT)
     }
 }
+
+#[cfg(test)]
+mod tests {
+    use super::*;
+
+    /// An output that a wire over four tiles leads to an input of another tile; a wire that leads nowhere; a switch outside the window.
+    const CHIP: &str = "\
+.net 0\n1 1 lutff_0/out\n2 1 neigh_op_lft_0\n\n\
+.net 1\n2 1 local_g0_0\n\n\
+.net 2\n2 1 lutff_1/in_0\n\n\
+.net 3\n1 1 sp4_h_r_0\n2 1 sp4_h_r_13\n3 1 sp4_h_r_24\n4 1 sp4_h_r_37\n5 1 sp4_h_l_37\n\n\
+.net 4\n1 1 local_g0_1\n\n\
+.buffer 1 1 3 B0[0]\n1 0\n\n.buffer 2 1 1 B0[0]\n1 3\n\n.buffer 2 1 2 B0[0]\n1 1\n\n.buffer 1 1 4 B0[0]\n1 0\n\n.buffer 3 1 1 B0[0]\n1 0\n";
+
+    #[test]
+    fn what_is_on_no_way_is_left_out() {
+        let chip = Chip::read(CHIP).unwrap();
+        let window = Window::cut(&chip, Area { low: (1, 1), high: (2, 1) }, 0, 1);
+        assert_eq!(window.kind, [OUTPUT, WIRE, INPUT, WIRE + 3]);
+        assert_eq!(window.rows, [vec![3], vec![2], vec![], vec![1]]);
+        assert_eq!(window.place, [(1, 1), (2, 1), (2, 1), (3, 1)]);
+        assert_eq!(window.switch_place, [vec![(1, 1)], vec![(2, 1)], vec![], vec![(2, 1)]]);
+        assert!(Window::cut(&chip, Area { low: (1, 1), high: (2, 1) }, 100, 1).kind.is_empty());
+    }
+}
