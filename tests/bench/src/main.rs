@@ -198,10 +198,10 @@ fn print_floor(rows: &[Row]) {
     println!();
     ratio_head();
     let pairs = [
-        ("proved / heap", Proved, Heap),
-        ("proved / pruned", Proved, Pruned),
-        ("proved / carried", Proved, Carried),
-        ("plain / proved", Plain, Proved),
+        ("made-up jobs: proved / heap", Proved, Heap),
+        ("made-up jobs: proved / pruned", Proved, Pruned),
+        ("made-up jobs: proved / carried", Proved, Carried),
+        ("made-up jobs: plain / proved", Plain, Proved),
     ];
     for (name, over, under) in pairs {
         ratio_line(name, rows.iter().map(|row| row.ratio(over, under)));
@@ -225,9 +225,12 @@ fn print_searches(rows: &[Row]) {
     }
     println!();
     ratio_head();
-    ratio_line("search that aims / plain search", rows.iter().map(|row| row.ratio(Aimed, Proved)));
     ratio_line(
-        "nodes expanded / nodes",
+        "made-up jobs: search that aims / plain search",
+        rows.iter().map(|row| row.ratio(Aimed, Proved)),
+    );
+    ratio_line(
+        "made-up jobs: nodes expanded / nodes",
         rows.iter().map(|row| Some(row.expanded()? / row.job.kind.len() as f64)),
     );
 }
@@ -278,9 +281,9 @@ fn print_rules(pairs: &[[Row; 2]]) {
     let ratios = |of: &dyn Fn(&Row) -> Option<f64>| {
         pairs.iter().map(|[one, two]| Some(of(two)? / of(one)?)).collect::<Vec<_>>()
     };
-    ratio_line("turns, rule 2 / rule 1", ratios(&|row| Some(row.turns())).into_iter());
-    ratio_line("time, rule 2 / rule 1", ratios(&time).into_iter());
-    ratio_line("wire cost, rule 2 / rule 1", ratios(&|row| Some(row.cost as f64)).into_iter());
+    ratio_line("made-up jobs: turns, rule 2 / rule 1", ratios(&|row| Some(row.turns())).into_iter());
+    ratio_line("made-up jobs: time, rule 2 / rule 1", ratios(&time).into_iter());
+    ratio_line("made-up jobs: wire cost, rule 2 / rule 1", ratios(&|row| Some(row.cost as f64)).into_iter());
 }
 
 fn main() {

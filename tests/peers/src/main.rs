@@ -2,6 +2,7 @@
 //! processor time of the routing alone. Every answer is checked. Prints tables in Markdown and draws docs/growth.svg.
 //!
 //! cargo run --release -p peers              all of it
+//! cargo run --release -p peers -- 3         the first three windows of each table alone, and no chart
 //! cargo run --release -p peers -- window    the text of the smallest window, as tests/job/src/window.txt has it
 //!
 //! It needs Debian's packages nextpnr-generic and fpga-icestorm-chipdb.
@@ -96,11 +97,12 @@ fn draw(rows: &[Row]) -> String {
     chart::svg(&[("milliseconds", times), ("turns", counts)])
 }
 
-fn compare(chip: &Chip) -> Result<(), String> {
+/// The tables of so many windows each, at most; the chart if these are all.
+fn compare(chip: &Chip, most: usize) -> Result<(), String> {
     let version = nextpnr_version()?;
     let folder = std::env::temp_dir().join(format!("peers-{}", std::process::id()));
-    let rows = measure_all(chip, &CASES, &folder)?;
-    let growing = measure_all(chip, &GROWING, &folder)?;
+    let rows = measure_all(chip, &CASES[..most.min(CASES.len())], &folder)?;
+    let growing = measure_all(chip, &GROWING[..most.min(GROWING.len())], &folder)?;
     let _ = std::fs::remove_dir_all(&folder);
     println!("{version}\n");
     table::jobs(&rows);
@@ -108,22 +110,29 @@ fn compare(chip: &Chip) -> Result<(), String> {
     table::means(&rows);
     println!();
     table::growth(&growing);
+    println!();
+    table::own(&rows);
+    if growing.len() < GROWING.len() {
+        return Ok(());
+    }
     std::fs::write(CHART, draw(&growing)).map_err(|error| format!("{CHART}: {error}"))
 }
 
 fn run() -> Result<(), String> {
     let chip = read_chip()?;
     let smallest = smallest(&chip);
-    match std::env::args().nth(1).as_deref() {
-        None if smallest != job::window::TEXT.as_bytes() => {
-            Err("tests/job/src/window.txt is not the window that this chip database has".to_string())
-        }
-        None => compare(&chip),
-        Some("window") => {
-            print!("{}", String::from_utf8_lossy(&smallest));
-            Ok(())
-        }
-        Some(_) => Err("peers [window]".to_string()),
+    let argument = std::env::args().nth(1);
+    if argument.as_deref() == Some("window") {
+        print!("{}", String::from_utf8_lossy(&smallest));
+        return Ok(());
+    }
+    if smallest != job::window::TEXT.as_bytes() {
+        return Err("tests/job/src/window.txt is not the window that this chip database has".to_string());
+    }
+    match argument.map(|text| text.parse()) {
+        None => compare(&chip, usize::MAX),
+        Some(Ok(most @ 1..)) => compare(&chip, most),
+        Some(_) => Err("peers [WINDOWS | window]".to_string()),
     }
 }
 

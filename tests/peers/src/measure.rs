@@ -29,11 +29,12 @@ pub struct Entry {
     pub cost: u64,
 }
 
-/// A job's entries, in the order of WAYS and SETTINGS. A router of nextpnr that was given up has none.
+/// A job's entries, in the order of WAYS, tuned::WAYS and SETTINGS. A router of nextpnr that was given up has none.
 pub struct Row {
     pub case: Case,
     pub job: Job,
     pub ours: Vec<Entry>,
+    pub unproved: Vec<Entry>,
     pub peers: Vec<Option<Entry>>,
 }
 
@@ -49,24 +50,25 @@ impl Row {
     }
 }
 
-/// A round of the library. Every run of a rule must leave the same log, by either search, and what has settled must be legal.
-fn our_round(job: &Job, way: Way, lent: &mut Lent, hash: &mut Option<u64>) -> Entry {
-    let (mut best, mut spent) = (Duration::MAX, Duration::ZERO);
-    let mut last = None;
-    for round in 0.. {
-        if round >= LEAST && spent >= SHORT {
-            break;
-        }
-        let run = ours::route(job, way, lent);
+/// A round of one of our routers. Every run of a rule must leave the same log, and what has settled must be legal.
+fn our_round(
+    job: &Job,
+    route: impl Fn(&mut Lent) -> ours::Run,
+    lent: &mut Lent,
+    hash: &mut Option<u64>,
+) -> Entry {
+    let mut run = route(lent);
+    let (mut best, mut spent, mut runs) = (run.time, run.time, 1);
+    while runs < LEAST || spent < SHORT {
+        run = route(lent);
         best = best.min(run.time);
         spent += run.time;
-        last = Some(run);
+        runs += 1;
     }
-    let run = last.expect("LEAST is above 0");
     let log = ours::log_hash(&run, lent);
-    assert_eq!(*hash.get_or_insert(log), log, "{way:?} leaves another log");
+    assert_eq!(*hash.get_or_insert(log), log, "another log");
     let cost = legal::cost(job, &ours::branches(job, &run, lent));
-    assert_eq!(cost.is_ok(), run.settled, "{way:?}: {cost:?}");
+    assert_eq!(cost.is_ok(), run.settled, "{cost:?}");
     Entry {
         time: best,
         settled: run.settled,
@@ -74,6 +76,12 @@ fn our_round(job: &Job, way: Way, lent: &mut Lent, hash: &mut Option<u64>) -> En
         turns: run.turns,
         cost: cost.unwrap_or(0),
     }
+}
+
+/// Keeps the better time.
+fn keep(entry: &mut Option<Entry>, new: Entry) {
+    let time = entry.map_or(new.time, |old| old.time.min(new.time));
+    *entry = Some(Entry { time, ..new });
 }
 
 /// All runs of a setting so far.
@@ -112,12 +120,15 @@ pub fn measure(chip: &Chip, case: Case, lent: &mut Lent, folder: &Path) -> std::
     let bench = Bench::new(folder, &window, &job)?;
     let mut hashes = [None; 2];
     let mut ours: Vec<Option<Entry>> = vec![None; WAYS.len()];
+    let mut unproved: Vec<Option<Entry>> = vec![None; tuned::WAYS.len()];
     let mut runs: Vec<Vec<nextpnr::Run>> = SETTINGS.iter().map(|_| Vec::new()).collect();
     for _ in 0..ROUNDS {
-        for (way, entry) in WAYS.iter().zip(&mut ours) {
-            let new = our_round(&job, *way, lent, &mut hashes[way.rule as usize - 1]);
-            let time = entry.map_or(new.time, |old| old.time.min(new.time));
-            *entry = Some(Entry { time, ..new });
+        for (way, entry) in WAYS.into_iter().zip(&mut ours) {
+            let hash = &mut hashes[way.rule as usize - 1];
+            keep(entry, our_round(&job, |lent| ours::route(&job, way, lent), lent, hash));
+        }
+        for (way, entry) in tuned::WAYS.into_iter().zip(&mut unproved) {
+            keep(entry, our_round(&job, |lent| ours::route_unproved(&job, way, lent), lent, &mut hashes[0]));
         }
         for (setting, runs) in SETTINGS.iter().zip(&mut runs) {
             peer_round(&bench, *setting, runs)?;
@@ -126,5 +137,6 @@ pub fn measure(chip: &Chip, case: Case, lent: &mut Lent, folder: &Path) -> std::
     let idle = idle(&runs);
     let peers =
         SETTINGS.iter().zip(&runs).map(|(setting, runs)| peer_entry(&job, *setting, runs, idle)).collect();
-    Ok(Row { case, job, ours: ours.into_iter().flatten().collect(), peers })
+    let [ours, unproved] = [ours, unproved].map(|list| list.into_iter().flatten().collect());
+    Ok(Row { case, job, ours, unproved, peers })
 }

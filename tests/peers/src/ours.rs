@@ -1,4 +1,4 @@
-//! The proved library, by rule and search.
+//! The proved library, by rule and search, and our routers without proof.
 
 use crate::legal::Branches;
 use arvumnao::raw;
@@ -71,6 +71,31 @@ pub fn route(job: &Job, way: Way, lent: &mut Lent) -> Run {
     assert!(matches!(refusal.first(), None | Some(9)), "refusal {refusal:?}");
     let &[iterations, turns, words]: &[u64; 3] = raw::own(&out);
     Run { settled: refusal.is_empty(), iterations, turns, words: words as usize, time }
+}
+
+/// The same under rule 1 by a router without proof.
+pub fn route_unproved(job: &Job, way: tuned::Way, lent: &mut Lent) -> Run {
+    let start = clock::cpu_time();
+    let outcome = tuned::route(
+        way,
+        &job.kind,
+        &job.capacity,
+        &job.first_edge,
+        &job.edge_target,
+        &job.source,
+        &job.first_sink,
+        &job.sink,
+        Job { rule: 1, ..job.clone() }.terms(),
+        &mut lent.log,
+    );
+    let time = clock::cpu_time() - start;
+    Run {
+        settled: outcome.refusal.is_empty(),
+        iterations: outcome.iteration,
+        turns: outcome.turns,
+        words: outcome.words as usize,
+        time,
+    }
 }
 
 /// The final trees' branches, from the records of each net's latest iteration.

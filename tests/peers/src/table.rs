@@ -82,7 +82,7 @@ pub fn jobs(rows: &[Row]) {
     }
 }
 
-/// Time and wire cost over all jobs beside each router of nextpnr, and of one search and one rule beside the other.
+/// Time and wire cost over all jobs beside each router of nextpnr.
 pub fn means(rows: &[Row]) {
     ratio_head();
     for (what, of) in [("time", ms as fn(&Entry) -> f64), ("wire cost", cost)] {
@@ -97,22 +97,27 @@ pub fn means(rows: &[Row]) {
             }
         }
     }
-    println!();
+}
+
+/// One search beside the other, one rule beside the other, and the library beside our routers without proof.
+pub fn own(rows: &[Row]) {
     ratio_head();
-    for (what, of) in
-        [("time", ms as fn(&Entry) -> f64), ("turns", |entry| entry.turns as f64), ("wire cost", cost)]
-    {
-        ratio_line(
-            &format!("{what}, rule 2 / rule 1"),
-            rows.iter().map(|row| ratio(four(row)[1], four(row)[0], of)),
-        );
-    }
     for rule in [1, 2] {
         let aimed = |row: &Row| Some(ms(row.ours(rule, true)) / ms(row.ours(rule, false)));
-        ratio_line(
-            &format!("time under rule {rule}, search that aims / plain search"),
-            rows.iter().map(aimed),
-        );
+        ratio_line(&format!("windows, rule {rule}: search that aims / plain search"), rows.iter().map(aimed));
+    }
+    println!();
+    ratio_head();
+    let turns: fn(&Entry) -> f64 = |entry| entry.turns as f64;
+    for (what, of) in [("turns", turns), ("time", ms), ("wire cost", cost)] {
+        let name = format!("windows: {what}, rule 2 / rule 1");
+        ratio_line(&name, rows.iter().map(|row| ratio(four(row)[1], four(row)[0], of)));
+    }
+    println!();
+    ratio_head();
+    for (place, way) in tuned::WAYS.iter().enumerate() {
+        let name = format!("windows: proved / {way:?}").to_lowercase();
+        ratio_line(&name, rows.iter().map(|row| Some(ms(row.ours(1, false)) / ms(&row.unproved[place]))));
     }
 }
 
