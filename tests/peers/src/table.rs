@@ -82,12 +82,14 @@ pub fn jobs(rows: &[Row]) {
     }
 }
 
-/// Time and wire cost over all jobs beside each router of nextpnr.
+/// Time and wire cost over all jobs beside each router of nextpnr, and under rule 1 beside its eager ones too.
 pub fn means(rows: &[Row]) {
     ratio_head();
     for (what, of) in [("time", ms as fn(&Entry) -> f64), ("wire cost", cost)] {
         for rule in [1, 2] {
-            for Setting { router, eager } in SETTINGS {
+            for Setting { router, eager } in
+                SETTINGS.into_iter().filter(|setting| rule == 1 || !setting.eager)
+            {
                 let name =
                     format!("{what}, rule {rule} / {}{}", router.name(), if eager { ", eager" } else { "" });
                 ratio_line(
