@@ -30,12 +30,13 @@ const SEED: u64 = 1;
 
 /// Runs all jobs and texts, up to the first that fails.
 fn run_all(run: &mut Run, jobs: u64, texts: u64, seed: u64) -> Result<(), (String, Failure)> {
-    if jobs > 0 {
-        run.window().map_err(|failure| ("differential 1 0".to_string(), failure))?;
-    }
     for index in 0..jobs {
         let one = seed.wrapping_add(index);
         run.job(one).map_err(|failure| (format!("differential 1 0 {one}"), failure))?;
+    }
+    // after the small jobs, on which a fault is found in a smaller form
+    if jobs > 0 {
+        run.window().map_err(|failure| ("differential 1 0".to_string(), failure))?;
     }
     for index in 0..texts {
         let one = seed.wrapping_add(index);
