@@ -1,20 +1,23 @@
 -- The search that aims, at its start and at its end.
 --     aim-begins       what holds between two expansions holds before the first
+--     expands-exactly  theorem: which nodes have left the queue at the end, each once
 --     aim-ends         what holds when nothing waits, or the least key is above the nearest sink's distance
 --     AimRun           the loop over all expansions
 -- Assumes nothing.
 use mathlib.Core.Bool.{Bool, true, false}
-use mathlib.Core.List.{List}
+use mathlib.Core.List.{List, [], _∷_}
 use mathlib.Core.Logic.{_⊎_, ⊎-elim, inl}
-use mathlib.Core.Path.{_≡_, refl, sym, _∙_}
+use mathlib.Core.Path.{_≡_, refl, sym, _∙_, subst}
 use Prim.Native.Nat.{ℕ, suc, _+_, _*_, _≤_, _<_}
 use native.Mathlib.Nat.{le-antisymm}
 use native.Mathlib.Omega.{arith}
 use lib.ListN.{length, getD}
-use Rattle.price.specs.Lists.{countBelow}
-use Rattle.price.proofs.TestLaws.{either-way, test-same, le-or-lt, never-true}
+use borrow.Author.Tests.{eq-eqb, ne-eqb}
+use Rattle.price.specs.Test.{choose}
+use Rattle.price.specs.Lists.{has, distinct, countBelow}
+use Rattle.price.proofs.TestLaws.{either-way, test-same, le-or-lt, never-true, true≢false, same-or-not}
 use Rattle.price.proofs.ListLaws.{has-at}
-use Rattle.price.proofs.BelowLaws.{count-most, count-same, count-zero}
+use Rattle.price.proofs.BelowLaws.{count-most, count-same, count-zero, count-less}
 use Rattle.search.specs.Block.{Block, nodes}
 use Rattle.search.specs.Tables.{Graph}
 use Rattle.search.specs.Distance.{far, inTree, distances, distance}
@@ -22,14 +25,15 @@ use Rattle.search.specs.Turn.{before, nearestDistance, nearestPlace}
 use Rattle.search.specs.Layout.{distAt, entryAt, leafAt, predAt, Tournament, SameBut, Queued}
 use Rattle.search.specs.Aimed.{expands}
 use Rattle.search.specs.Estimates.{estimateAt}
-use Rattle.search.specs.Aiming.{AimStarted, AimedRow, AimRowReady, BestAim, AimTask, Left, hasLeft, Place, waiting, lacking, Aiming, AimLaunched, AimReady, AimEnd}
+use Rattle.search.specs.Aiming.{AimStarted, AimedRow, AimRowReady, BestAim, AimTask, Left, hasLeft, Place, gone, waiting, lacking, Aiming, AimLaunched, AimReady, AimEnd, Expansions, none-yet, one-more, ExpandsExactly}
 use Rattle.search.proofs.EdgeLaws.{shape-of}
+use Rattle.search.proofs.DistinctLaws.{distinct-cons}
 use Rattle.search.proofs.BeforeLaws.{before-edge, before-sum, before-lowest}
 use Rattle.search.proofs.NearestLaws.{open-least, nearest}
 use Rattle.search.proofs.PriceSameLaws.{beyond}
 use Rattle.search.proofs.AimedLaws.{stuck-far, expands-near, before-expands, sink-expands}
 use Rattle.search.proofs.AimedExact.{never-below, aim-all}
-use Rattle.search.proofs.AimSteps.{left-test, left-of, estimated-same, aim-forward, nearest-top, aim-ready, aim-more}
+use Rattle.search.proofs.AimSteps.{left-test, left-of, estimated-same, aim-forward, nearest-top, joins, aim-ready, not-left, left-here, left-other, aim-more}
 
 -- ---- the start
 
@@ -113,10 +117,48 @@ module _ (b : Block) (marks w w₁ w₂ : List ℕ) (r : AimReady b marks w) (s 
   pub aim-launched : AimLaunched b w₂
   aim-launched = record { sound = r .sound; marks = marks; task = r .task; aiming = aim-begins }
 
+-- before the first expansion nothing has left the queue, so that the tree's nodes wait at their estimates and no others wait
+module _ (b : Block) {marks : List ℕ} (t : AimTask b marks) (w : List ℕ) (a : Aiming b marks t w far 0) where
+  pub first-left : (v : ℕ) → v < nodes b → hasLeft (nodes b) w v ≡ false
+  first-left v h =
+      never-true (hasLeft (nodes b) w v)
+      (λ q. let c = count-less (hasLeft (nodes b) w) (λ x. false) (nodes b) v (λ x k e. absurd (true≢false (sym e))) h q refl in let z = a .counted in omega arith)
+
+  none-first : (v : ℕ) → Left (nodes b) w v → ⊥
+  none-first v l = true≢false (sym (left-test (nodes b) w v l) ∙ first-left v (l .node))
+
+  pub tree-waits : (v : ℕ) → v < nodes b → leafAt (nodes b) w v ≡ choose (inTree marks v) (estimateAt (nodes b) w v) far
+  tree-waits v h =
+      ⊎-elim
+      (λ (i : inTree marks v ≡ true). rw i (inside i (a .places v h)))
+      (λ (o : inTree marks v ≡ false). rw o (outside o (a .places v h)))
+      (either-way (inTree marks v))
+    where
+      inside : inTree marks v ≡ true → Place (nodes b) w v → leafAt (nodes b) w v ≡ estimateAt (nodes b) w v
+      inside i (gone l) = absurd (none-first v l)
+      inside i (waiting near key) = let z = a .tree v h i in omega arith
+      inside i (lacking key top) = let z = a .tree v h i in let m = a .estimated .top v h in omega arith
+
+      outside : inTree marks v ≡ false → Place (nodes b) w v → leafAt (nodes b) w v ≡ far
+      outside o (gone l) = l .left
+      outside o (waiting near key) = absurd (none-first (predAt (nodes b) w v) (a .reached v h o (omega arith) .pred-left))
+      outside o (lacking key top) = key
+
+-- ---- the nodes that were expanded
+
+-- from one slice to another: which nodes left the queue, each once; where no sink can be joined, none
+pub record AimOrder (b : Block) (w₀ w : List ℕ) (count : ℕ) : Type 0 where
+  pub order : List ℕ
+  pub expansions : Expansions b w₀ w order
+  pub counted : count ≡ length order
+  pub once : distinct order ≡ true
+  pub left : (v : ℕ) → v < nodes b → has v order ≡ hasLeft (nodes b) w v
+  pub none-stuck : {marks : List ℕ} (t : AimTask b marks) → Aiming b marks t w₀ far 0 → nearestDistance b (t .price) marks (t .sinks) ≡ far → order ≡ []
+
 -- ---- the end
 
 module _ (b : Block) (g : Graph b) {marks : List ℕ} (t : AimTask b marks) (w₀ w : List ℕ) (best count : ℕ) (a : Aiming b marks t w best count)
-    (stop : (entryAt (nodes b) w 1 ≡ far) ⊎ (best < entryAt (nodes b) w 1)) where
+    (stop : (entryAt (nodes b) w 1 ≡ far) ⊎ (best < entryAt (nodes b) w 1)) (begun : Aiming b marks t w₀ far 0) (o : AimOrder b w₀ w count) where
   abbrev cost : ℕ
   cost = nearestDistance b (t .price) marks (t .sinks)
 
@@ -161,11 +203,13 @@ module _ (b : Block) (g : Graph b) {marks : List ℕ} (t : AimTask b marks) (w�
         let x = sink-expands b (t .price) (t .weight) marks (t .sinks) (shape-of b g) (t .fair-weight) (t .dear) s hs listed (m .out) (m .here) in
         omega (arith, settled s x .0, m .here, a .best-aim .least s hs (a .estimated .goals s hs listed (m .out)))
 
+    -- what has left the queue is what the turn expands
+    left-chosen : (x : ℕ) → x < nodes b → hasLeft (nodes b) w x ≡ chosen x
+    left-chosen x h =
+        test-same (hasLeft (nodes b) w x) (chosen x) (λ q. a .final x (left-of (nodes b) w x h q) .1) (λ q. left-test (nodes b) w x (settled x q .1))
+
     all-counted : count ≡ countBelow chosen (nodes b)
-    all-counted =
-        a .counted
-        ∙ count-same (hasLeft (nodes b) w) chosen (nodes b)
-        (λ x h. test-same (hasLeft (nodes b) w x) (chosen x) (λ q. a .final x (left-of (nodes b) w x h q) .1) (λ q. left-test (nodes b) w x (settled x q .1)))
+    all-counted = a .counted ∙ count-same (hasLeft (nodes b) w) chosen (nodes b) left-chosen
 
     -- the predecessor is the lowest-numbered node over which the distance is had
     pred-last : (v : ℕ) → v < nodes b → inTree marks v ≡ false → chosen v ≡ true → predAt (nodes b) w v ≡ last v
@@ -204,6 +248,20 @@ module _ (b : Block) (g : Graph b) {marks : List ℕ} (t : AimTask b marks) (w�
   near-cost : best < far → cost < far
   near-cost l = omega (arith, best-least)
 
+  -- the theorem of request 2.13: which nodes left the queue, each once
+  pub expands-exactly : ExpandsExactly b (t .price) (t .weight) marks (t .sinks) w best count
+  expands-exactly =
+      record {
+        start = w₀;
+        tree-waits = tree-waits b t w₀ begun;
+        order = o .order;
+        expansions = o .expansions;
+        counted = o .counted;
+        once = o .once;
+        exactly = λ l v h. o .left v h ∙ left-chosen (near-cost l) (past-cost l) v h;
+        none-stuck = λ e. o .none-stuck t begun (le-antisymm (nearest-top b t w best count a) (let m = best-most in omega arith));
+      }
+
   pub aim-ends :
       length w ≡ length w₀ → ((j : ℕ) → 5 * nodes b ≤ j → getD w j 0 ≡ getD w₀ j 0)
       → AimEnd b (t .price) (t .weight) marks (t .sinks) w₀ w best count
@@ -214,6 +272,7 @@ module _ (b : Block) (g : Graph b) {marks : List ℕ} (t : AimTask b marks) (w�
         done =
             record {
               cost-is = le-antisymm best-most best-least;
+              exactly = expands-exactly;
               count-is = λ l. all-counted (near-cost l) (past-cost l);
               dist-least = not-below;
               dist-tree = a .tree;
@@ -242,17 +301,28 @@ pub record AimRun (b : Block) (w₀ w : List ℕ) (best count : ℕ) : Type 0 wh
   pub task : AimTask b marks
   pub aiming : Aiming b marks task w best count
   pub goes : {marks : List ℕ} (t : AimTask b marks) → Aiming b marks t w₀ far 0 → Aiming b marks t w best count
+  pub order : AimOrder b w₀ w count
   pub long : length w ≡ length w₀
   pub high : (j : ℕ) → 5 * nodes b ≤ j → getD w j 0 ≡ getD w₀ j 0
 
 pub run-begins : {b : Block} {w : List ℕ} → AimLaunched b w → AimRun b w w far 0
-run-begins l =
+unfolding has distinct
+run-begins {b} {w} l =
     record {
       sound = l .sound;
       marks = l .marks;
       task = l .task;
       aiming = l .aiming;
       goes = λ t a. a;
+      order =
+          record {
+            order = [];
+            expansions = none-yet;
+            counted = refl;
+            once = refl;
+            left = λ v h. sym (first-left b (l .task) w (l .aiming) v h);
+            none-stuck = λ t a none. refl;
+          };
       long = refl;
       high = λ j h. refl;
     }
@@ -263,7 +333,7 @@ run-count {b} {w₀} {w} r = omega (arith, r .aiming .counted, count-most (hasLe
 pub run-ends :
     {b : Block} {w₀ w : List ℕ} {best count : ℕ} → AimRun b w₀ w best count → (entryAt (nodes b) w 1 ≡ far) ⊎ (best < entryAt (nodes b) w 1)
     → (marks : List ℕ) (t : AimTask b marks) → Aiming b marks t w₀ far 0 → AimEnd b (t .price) (t .weight) marks (t .sinks) w₀ w best count
-run-ends {b} {w₀} {w} {best} {count} r stop marks t a = aim-ends b (r .sound) t w₀ w best count (r .goes t a) stop (r .long) (r .high)
+run-ends {b} {w₀} {w} {best} {count} r stop marks t a = aim-ends b (r .sound) t w₀ w best count (r .goes t a) stop a (r .order) (r .long) (r .high)
 
 module _ {b : Block} {w₀ w : List ℕ} {best count u : ℕ} (r : AimRun b w₀ w best count) (node : u < nodes b)
     (first : leafAt (nodes b) w u ≡ entryAt (nodes b) w 1) (low : entryAt (nodes b) w 1 < far) (most : entryAt (nodes b) w 1 ≤ best)
@@ -273,6 +343,7 @@ module _ {b : Block} {w₀ w : List ℕ} {best count u : ℕ} (r : AimRun b w₀
 
   pub run-more :
       {w₂ : List ℕ} {best′ : ℕ} → AimedRow b u w₁ w₂ → (BestAim (nodes b) best w₁ → BestAim (nodes b) best′ w₂) → AimRun b w₀ w₂ best′ (count + 1)
+  unfolding has
   run-more {w₂} {best′} row goes =
       record {
         sound = r .sound;
@@ -280,9 +351,35 @@ module _ {b : Block} {w₀ w : List ℕ} {best count u : ℕ} (r : AimRun b w₀
         task = r .task;
         aiming = next (r .task) (r .aiming);
         goes = λ t a. next t (r .goes t a);
+        order = next-order;
         long = row .some .long ∙ out .long ∙ r .long;
         high = λ j h. row .some .high j h ∙ out .high j (omega arith) ∙ r .high j h;
       }
     where
       next : {marks : List ℕ} (t : AimTask b marks) → Aiming b marks t w best count → Aiming b marks t w₂ best′ (count + 1)
       next t a = aim-more b (r .sound) t w best count a u node first low most w₁ out w₂ row best′ goes
+
+      -- u had not left, so it is new in the order
+      had-not : has u (r .order .order) ≡ false
+      had-not = r .order .left u node ∙ not-left b (r .sound) (r .task) w best count (r .aiming) u node first low most w₁ out w₂ row
+
+      has-next : (v : ℕ) → v < nodes b → has v (u ∷ r .order .order) ≡ hasLeft (nodes b) w₂ v
+      has-next v h =
+          ⊎-elim
+          (λ (e : v ≡ u).
+          rw (eq-eqb v u e) (sym (subst (λ (x : ℕ). hasLeft (nodes b) w₂ x ≡ true) (sym e) (left-here b (r .sound) (r .task) w best count (r .aiming) u node first low most w₁ out w₂ row))))
+          (λ (ne : v ≡ u → ⊥).
+          rw (ne-eqb v u ne) (r .order .left v h ∙ left-other b (r .sound) (r .task) w best count (r .aiming) u node first low most w₁ out w₂ row v h ne))
+          (same-or-not v u)
+
+      next-order : AimOrder b w₀ w₂ (count + 1)
+      next-order =
+          record {
+            order = u ∷ r .order .order;
+            expansions = one-more u (r .order .expansions) (record { node = node; waited = omega arith; least = first; without = w₁; left = out; looked = row });
+            counted = let c = r .order .counted in omega arith;
+            once = distinct-cons u (r .order .order) had-not (r .order .once);
+            left = has-next;
+            none-stuck = λ t a none.
+                absurd (omega (arith, none, joins b (r .sound) t w best count (r .goes t a) u node first low most));
+          }

@@ -3,6 +3,7 @@
 --     aim-forward             between two expansions the state is one of `Forward`
 --     taken-final             the node that is taken has its distance, and the turn expands it
 --     aim-ready               no sum over its edges wraps
+--     not-left, left-here, left-other   which nodes have left, after it
 --     aim-more                what holds before an expansion holds after it
 -- Assumes nothing.
 use mathlib.Core.Bool.{Bool, true, false}
@@ -117,7 +118,7 @@ module _ (b : Block) (g : Graph b) {marks : List ℕ} (t : AimTask b marks) (w :
       by (lacking key top) = absurd (omega arith)
 
   -- so a sink can be joined
-  joins : nearestDistance b (t .price) marks (t .sinks) < far
+  pub joins : nearestDistance b (t .price) marks (t .sinks) < far
   joins =
       ⊎-elim
       (λ (q : far ≤ nearestDistance b (t .price) marks (t .sinks)).
@@ -419,22 +420,26 @@ module _ (b : Block) (g : Graph b) {marks : List ℕ} (t : AimTask b marks) (w :
           (λ (l : Left n w x). (still-left x l .1 ∙ a .final x l .0, a .final x l .1))
           (only-left x s)
 
+      -- the taken node had not left, and now what had left and it have
+      pub not-left : hasLeft n w u ≡ false
+      not-left = never-true (hasLeft n w u) (λ q. let l = left-of n w u node q .left in omega arith)
+
+      pub left-here : hasLeft n w₂ u ≡ true
+      left-here = left-test n w₂ u (here-left .0)
+
+      pub left-other : (x : ℕ) → x < n → (x ≡ u → ⊥) → hasLeft n w x ≡ hasLeft n w₂ x
+      left-other x h ne =
+          test-same (hasLeft n w x) (hasLeft n w₂ x)
+          (λ q. left-test n w₂ x (still-left x (left-of n w x h q) .0))
+          (λ q. ⊎-elim (λ (e : x ≡ u). absurd (ne e)) (λ (l : Left n w x). left-test n w x l) (only-left x (left-of n w₂ x h q)))
+
       -- one node more has left
       next-counted : count + 1 ≡ countBelow (hasLeft n w₂) n
       next-counted =
           let one : countBelow (hasLeft n w₂) n ≡ countBelow (hasLeft n w) n + 1 =
-          count-one (hasLeft n w) (hasLeft n w₂) n u node was-not (left-test n w₂ u (here-left .0)) same in
+          count-one (hasLeft n w) (hasLeft n w₂) n u node not-left left-here left-other in
           let c = a .counted in
           omega arith
-        where
-          was-not : hasLeft n w u ≡ false
-          was-not = never-true (hasLeft n w u) (λ q. let l = left-of n w u node q .left in omega arith)
-
-          same : (x : ℕ) → x < n → (x ≡ u → ⊥) → hasLeft n w x ≡ hasLeft n w₂ x
-          same x h ne =
-              test-same (hasLeft n w x) (hasLeft n w₂ x)
-              (λ q. left-test n w₂ x (still-left x (left-of n w x h q) .0))
-              (λ q. ⊎-elim (λ (e : x ≡ u). absurd (ne e)) (λ (l : Left n w x). left-test n w x l) (only-left x (left-of n w₂ x h q)))
 
       pub aim-more : (best′ : ℕ) → (BestAim n best w₁ → BestAim n best′ w₂) → Aiming b marks t w₂ best′ (count + 1)
       aim-more best′ goes =

@@ -3,6 +3,7 @@
 --     spread-start                 it holds when the unjoined sinks alone wait
 --     level-few                    the level is small enough that no key wraps
 --     spread-more, unspent-falls   it holds after one more node, and one node more has left
+--     exact-here                   an estimate that stands is right, whatever the prices are
 --     spread-all, spread-past      theorem: once nothing waits, or the level is above the bound, the estimates are right as far as a turn needs them
 -- Assumes nothing.
 use mathlib.Core.Bool.{Bool, true, false, not}
@@ -29,7 +30,7 @@ use Rattle.search.specs.Distance.{far, inTree}
 use Rattle.search.specs.Turn.{nearestDistance, openDistances}
 use Rattle.search.specs.Layout.{entryAt, leafAt, priceIn, Tournament, Queued}
 use Rattle.search.specs.Aimed.{estimate, weightAt}
-use Rattle.search.specs.Estimates.{estimateAt, walkAt, weightMost, keyMost, Beside, NodeGiven, given-stays, given-new, TreeGiven, GivenBefore, SinkWaits, SinksWait, SpreadReady, EstimatesMade}
+use Rattle.search.specs.Estimates.{estimateAt, walkAt, weightMost, keyMost, Beside, NodeGiven, given-stays, given-new, TreeGiven, GivenBefore, SinkWaits, SinksWait, SpreadReady, EstimatesRight, EstimatesMade}
 use Rattle.search.proofs.EdgeLaws.{Shaped, shape-of, edge-node}
 use Rattle.search.proofs.WalkLaws.{stay-cost, step-cost}
 use Rattle.search.proofs.QueueLaws.{queue-least}
@@ -186,6 +187,17 @@ module _ {b : Block} {price weight : ℕ → ℕ} {marks sinks : List ℕ} (k : 
 
     above : (v : ℕ) → v < nodes b → estimate b weight marks sinks v ≤ estimateAt (nodes b) w v
     above = back-above b price weight marks sinks (k .shape) (k .fair) (estimateAt (nodes b) w) (walkAt (nodes b) w) (Spent (nodes b) w) (entryAt (nodes b) w 1) behind
+
+    -- one that stands is right: it is at most the level
+    pub exact-here : EstimatesRight b weight marks sinks w
+    exact-here =
+        record {
+          right = λ v h near.
+              ⊎-elim
+              (λ e. e)
+              (λ (q : entryAt (nodes b) w 1 ≤ estimate b weight marks sinks v). le-antisymm (omega (arith, s .below v h near)) (above v h))
+              (exact v h);
+        }
 
     tree-bound : Fair b price → (t : ℕ) → t < nodes b → inTree marks t ≡ true → estimateAt (nodes b) w t < far → nearestDistance b price marks sinks ≤ walkAt (nodes b) w t
     tree-bound = back-bound b price weight marks sinks (k .shape) (k .fair) (estimateAt (nodes b) w) (walkAt (nodes b) w) (Spent (nodes b) w) (entryAt (nodes b) w 1) behind

@@ -3,7 +3,7 @@
 -- file: no caller has to believe it.
 -- Assumes nothing.
 use mathlib.Core.Bool.{Bool, true, false}
-use mathlib.Core.List.{List}
+use mathlib.Core.List.{List, [], _∷_}
 use mathlib.Core.Logic.{_⊎_}
 use mathlib.Core.Path.{_≡_}
 use Prim.Native.Nat.{ℕ, _+_, _*_, _≤_, _<_}
@@ -11,13 +11,13 @@ use lib.Dec.{eqb, ltb}
 use lib.ListN.{length, getD, set}
 use Rattle.price.specs.Test.{choose, both}
 use Rattle.price.specs.Bounds.{pathMost}
-use Rattle.price.specs.Lists.{countBelow}
+use Rattle.price.specs.Lists.{has, distinct, countBelow}
 use Rattle.search.specs.Block.{Block, nodes, hasEdge}
 use Rattle.search.specs.Tables.{Graph}
 use Rattle.search.specs.Paths.{anyPriceMost, Fair}
 use Rattle.search.specs.Distance.{far, inTree, distances, distance}
 use Rattle.search.specs.Turn.{before, nearestDistance}
-use Rattle.search.specs.Layout.{distAt, leafAt, priceIn, predAt, Tournament, Shortened}
+use Rattle.search.specs.Layout.{distAt, entryAt, leafAt, priceIn, predAt, Tournament, Queued, Shortened}
 use Rattle.search.specs.Aimed.{expands}
 use Rattle.search.specs.Estimates.{estimateAt, keyMost, Estimated}
 
@@ -165,9 +165,40 @@ pub record AimReady (b : Block) (marks w : List ℕ) : Type 0 where
   pub prices : (v : ℕ) → v < nodes b → priceIn (nodes b) w v ≡ task .price v
   pub estimated : Estimated b (task .price) (task .weight) marks (task .sinks) w
 
+-- ---- which nodes are expanded
+
+-- w′ is w once node u has left the queue, in which its key was the least, and its edges have been looked at
+pub record Expanded (b : Block) (u : ℕ) (w w′ : List ℕ) : Type 0 where
+  pub node : u < nodes b
+  pub waited : leafAt (nodes b) w u < far
+  pub least : leafAt (nodes b) w u ≡ entryAt (nodes b) w 1
+  pub without : List ℕ
+  pub left : Queued (nodes b) u far w without
+  pub looked : AimedRow b u without w′
+
+-- from w to w′ by expansions alone: the nodes that left the queue, the last one first
+pub data Expansions (b : Block) (w : List ℕ) : List ℕ → List ℕ → Type 0 where
+  none-yet : Expansions b w w []
+  one-more : {w₁ w₂ order : List ℕ} (u : ℕ) → Expansions b w w₁ order → Expanded b u w₁ w₂ → Expansions b w w₂ (u ∷ order)
+
+-- request 2.13, "A turn expands, each once, exactly the nodes whose distance plus that estimate is at most the joined sink's distance":
+-- from a queue in which the tree's nodes wait at their estimates, those nodes have left it, none twice, and no others; where no sink is
+-- joined none has. `count` is how many.
+pub record ExpandsExactly (b : Block) (price weight : ℕ → ℕ) (marks sinks w : List ℕ) (cost count : ℕ) : Type 0 where
+  pub start : List ℕ
+  pub tree-waits :
+      (v : ℕ) → v < nodes b → leafAt (nodes b) start v ≡ choose (inTree marks v) (estimateAt (nodes b) start v) far
+  pub order : List ℕ
+  pub expansions : Expansions b start w order
+  pub counted : count ≡ length order
+  pub once : distinct order ≡ true
+  pub exactly : cost < far → (v : ℕ) → v < nodes b → has v order ≡ expands b price weight marks sinks v
+  pub none-stuck : cost ≡ far → order ≡ []
+
 -- a turn has aimed: `cost` is the joined sink's distance, `far` where none has one, and so many nodes were expanded
 pub record AimDone (b : Block) (price weight : ℕ → ℕ) (marks sinks w : List ℕ) (cost count : ℕ) : Type 0 where
   pub cost-is : cost ≡ nearestDistance b price marks sinks
+  pub exactly : ExpandsExactly b price weight marks sinks w cost count
   pub count-is : cost < far → count ≡ countBelow (expands b price weight marks sinks) (nodes b)
   -- a distance so far is never too low, and it is final on the nodes that the turn expands
   pub dist-least : (v : ℕ) → v < nodes b → distance b price marks v ≤ distAt w v

@@ -151,6 +151,10 @@ pub record Estimated (b : Block) (price weight : ℕ → ℕ) (marks sinks w : L
   pub goals : (s : ℕ) → s < nodes b → has s sinks ≡ true → inTree marks s ≡ false → estimateAt (nodes b) w s ≡ 0
   pub goals-only : (s : ℕ) → s < nodes b → estimateAt (nodes b) w s ≡ 0 → (has s sinks ≡ true) × (inTree marks s ≡ false)
 
+-- request 2.13, "work out from 100 × base costs alone": each estimate that stands is the one by the weights, whatever the prices are
+pub record EstimatesRight (b : Block) (weight : ℕ → ℕ) (marks sinks w : List ℕ) : Type 0 where
+  pub right : (v : ℕ) → v < nodes b → estimateAt (nodes b) w v < far → estimateAt (nodes b) w v ≡ estimate b weight marks sinks v
+
 -- w′ is w with the estimates made; distances and prices stay
 pub record EstimatesMade (b : Block) (price weight : ℕ → ℕ) (marks sinks w w′ : List ℕ) : Type 0 where
   pub same : Beside (nodes b) w w′

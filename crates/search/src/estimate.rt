@@ -13,7 +13,7 @@ ghost use Rattle.search.specs.Layout.{priceIn, Tournament};
 ghost use Rattle.search.specs.Links.{Links};
 ghost use Rattle.search.specs.Aimed.{weightAt};
 ghost use Rattle.search.specs.Estimates.{weightMost, keyMost, walkAt, WeightReady, Given, Tried, GivenBefore};
-ghost use Rattle.search.specs.Estimates.{Beside, NoneGiven, SinksWait, EstimateReady, SpreadReady, EstimatesMade};
+ghost use Rattle.search.specs.Estimates.{Beside, NoneGiven, SinksWait, EstimateReady, SpreadReady, EstimatesRight, EstimatesMade};
 use crate::labels;
 use crate::queue;
 use price::PriceAnswer;
@@ -192,6 +192,14 @@ fn give_all(
         let links = r .ready .links
         let graph = graphOf kinds (links .firsts) (links .targets)
         EstimatesMade graph (r .ready .price) weight marks (r .sinks) before (now (work .exit))) ⌝ }
+    ensures { λ _. do
+      let kinds = now (kind .entry)
+      let marks = now («in_tree» .entry)
+      let before = now (work .entry)
+      let weight = weightAt (graphOf kinds [] []) weighting
+      ⌜ ((r : SpreadReady kinds weighting (now (last .entry)) (now (earlier .entry)) (now (from .entry)) marks before) → do
+        let links = r .ready .links
+        EstimatesRight (graphOf kinds (links .firsts) (links .targets)) weight marks (r .sinks) (now (work .exit))) ⌝ }
 {
     let n = kind.len();
     let mut bound = labels::FAR;
@@ -241,6 +249,14 @@ pub fn estimate_all(
       ⌜ ((r : EstimateReady kinds weighting (now (last .entry)) (now (earlier .entry)) (now (from .entry)) marks list before) → do
         let graph = graphOf kinds (r .links .firsts) (r .links .targets)
         EstimatesMade graph (r .price) weight marks list before (now (work .exit))) ⌝ }
+    ensures { λ _. do
+      let kinds = now (kind .entry)
+      let marks = now («in_tree» .entry)
+      let list = now (sinks .entry)
+      let before = now (work .entry)
+      let weight = weightAt (graphOf kinds [] []) weighting
+      ⌜ ((r : EstimateReady kinds weighting (now (last .entry)) (now (earlier .entry)) (now (from .entry)) marks list before)
+          → EstimatesRight (graphOf kinds (r .links .firsts) (r .links .targets)) weight marks list (now (work .exit))) ⌝ }
 {
     let n = kind.len();
     none_given(work, n);

@@ -47,7 +47,7 @@ aim-all-requires c κs =
     let p = entry (links .before) .pre in
     let kept = links .link-edges .kept .1 .1 .1 in
     let ready = turn-estimates p (kept .0) (kept .1 .0) (kept .1 .1 .0) (links .link-edges .ensures) in
-    turn-aims p (estimated .estimate-all .ensures ready)
+    turn-aims p (estimated .estimate-all .ensures .0 ready)
 
 same-length : tie.Need-same-length
 same-length c = search needs
@@ -59,7 +59,7 @@ returns c p =
     let links = linked (estimated .before) in
     let kept = links .link-edges .kept .1 .1 .1 in
     let ready = turn-estimates p (kept .0) (kept .1 .0) (kept .1 .1 .0) (links .link-edges .ensures) in
-    let made = estimated .estimate-all .ensures ready in
+    let made = estimated .estimate-all .ensures .0 ready in
     turn-aimed p made (aimed .aim-all .ensures (turn-aims p made))
 
 pub aim-at-sinks-spec : {M : Type 1} → statement M

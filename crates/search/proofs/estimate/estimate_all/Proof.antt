@@ -35,7 +35,8 @@ returns c =
     let sunk = spread .before .before .before .before in
     let u = sunk .before .before .before .before .none-given .ensures in
     let s = sunk .give-sinks .ensures in
-    λ r. made-all r u s (spread .give-all .ensures (spread-ready r u s))
+    let made = spread .give-all .ensures in
+    (λ r. made-all r u s (made .0 (spread-ready r u s)), λ r. made .1 (spread-ready r u s))
 
 pub estimate-all-spec : {M : Type 1} → statement M
 estimate-all-spec =

@@ -10,7 +10,7 @@ use Rattle.price.specs.Lists.{countBelow}
 use Rattle.search.specs.Distance.{far}
 use Rattle.search.specs.Layout.{entryAt}
 use Rattle.search.specs.Estimates.{SpreadReady}
-use Rattle.search.proofs.EstimateRun.{unspent, Run, lightness, spread-start, level-few, spread-more, unspent-falls, spread-all, spread-past}
+use Rattle.search.proofs.EstimateRun.{unspent, Run, lightness, spread-start, level-few, spread-more, unspent-falls, spread-all, spread-past, exact-here}
 use Rattle.search.proofs.estimate.give_all.Statement.{statement}
 use Rattle.search.proofs.estimate.give_all.Tie as tie
 
@@ -67,13 +67,17 @@ same-length : tie.Need-same-length Inv-loop μ-loop
 same-length c = let at : Head = c .before .before in at .loop .inv (entry at .pre) .same .long
 
 returns : tie.Need-returns Inv-loop μ-loop
-returns c = λ r. spread-all (lightness r) (c .before .before .loop .inv r) (c .if1 .taken)
+returns c =
+    let at : Head = c .before .before in
+    (λ r. spread-all (lightness r) (at .loop .inv r) (c .if1 .taken), λ r. exact-here (lightness r) (at .loop .inv r .holds))
 
 same-length-2 : tie.Need-same-length-2 Inv-loop μ-loop
 same-length-2 c = let at : Head = c .before .before .before in at .loop .inv (entry at .pre) .same .long
 
 returns-2 : tie.Need-returns-2 Inv-loop μ-loop
-returns-2 c = λ r. spread-past (lightness r) (c .before .before .before .loop .inv r) (c .if2 .taken)
+returns-2 c =
+    let at : Head = c .before .before .before in
+    (λ r. spread-past (lightness r) (at .loop .inv r) (c .if2 .taken), λ r. exact-here (lightness r) (at .loop .inv r .holds))
 
 nearest-requires : tie.Need-nearest-requires Inv-loop μ-loop
 nearest-requires c κs =
