@@ -2,7 +2,6 @@
 -- Assumes nothing.
 use mathlib.Core.Bool.{true, false}
 use mathlib.Core.List.{List, [], _∷_}
-use mathlib.Core.Logic.{⊎-elim}
 use mathlib.Core.Path.{_≡_, sym, ap, subst}
 use Prim.Native.Nat.{ℕ, _+_, _≤_, zero-le}
 use native.Mathlib.Omega.{arith}
@@ -10,7 +9,7 @@ use lib.Dec.{leb, ltb}
 use lib.ListN.{length, take, drop, replicate, length-append}
 use borrow.Author.Tests.{leb-true}
 use Rattle.price.specs.Bounds.{nodesMost}
-use Rattle.price.proofs.TestLaws.{either-way}
+use Rattle.price.proofs.TestLaws.{by-test}
 use Rattle.job.specs.Job.{Job}
 use Rattle.negotiation.specs.Records.{decode}
 use Rattle.job.specs.Tables.{sourcesSound}
@@ -34,22 +33,19 @@ over-long new old = let long = length-append new (drop (length new) old) in omeg
 text-fits : (text buffer : List ℕ) → textReply text buffer .bytes ≤ length (textReply text buffer .buffer)
 unfolding textReply
 text-fits text buffer =
-    ⊎-elim
-    (λ (e : ltb (length buffer) (length text) ≡ true). rw e zero-le)
-    (λ (e : ltb (length buffer) (length text) ≡ false). rw e (over-long text buffer))
-    (either-way (ltb (length buffer) (length text)))
+    by-test (ltb (length buffer) (length text))
+    (λ e. rw e zero-le)
+    (λ e. rw e (over-long text buffer))
 
 write-fits : (style : Style) (sources log buffer : List ℕ) → styleReply style sources log buffer .bytes ≤ length (styleReply style sources log buffer .buffer)
 unfolding testedReply
 write-fits style sources log buffer =
-    ⊎-elim
-    (λ (t : sourcesSound nodesMost sources ≡ true).
-    ⊎-elim
-    (λ (e : logSound (writable sources) log ≡ true). rw (t, e) (text-fits (textIn style sources (decode log)) buffer))
-    (λ (e : logSound (writable sources) log ≡ false). rw (t, e) zero-le)
-    (either-way (logSound (writable sources) log)))
-    (λ (t : sourcesSound nodesMost sources ≡ false). rw t zero-le)
-    (either-way (sourcesSound nodesMost sources))
+    by-test (sourcesSound nodesMost sources)
+    (λ t.
+    by-test (logSound (writable sources) log)
+    (λ e. rw (t, e) (text-fits (textIn style sources (decode log)) buffer))
+    (λ e. rw (t, e) zero-le))
+    (λ t. rw t zero-le)
 
 after-fits :
     (style : Style) (refusal sources : List ℕ) (t : Tables) (r : RouteReply) (routes : List ℕ)
@@ -76,12 +72,11 @@ line-fits : (numbers : List ℕ) (l : Lent) → lineShown numbers l .bytes ≤ l
 unfolding lineReply
 line-fits numbers l =
     let size : ℕ = 0 + length (printLine letterX numbers) in
-    ⊎-elim
-    (λ (e : leb size (length (l .routes)) ≡ true).
+    by-test (leb size (length (l .routes)))
+    (λ e.
     let fits = leb-true size (length (l .routes)) e in
     rw (e, placed-length 0 (printLine letterX numbers) (l .routes) fits) fits)
-    (λ (e : leb size (length (l .routes)) ≡ false). rw e zero-le)
-    (either-way (leb size (length (l .routes))))
+    (λ e. rw e zero-le)
 
 answer-fits : (refusal : List ℕ) (r : RunReply) → r .bytes ≤ length (r .lent .routes) → answered refusal r .bytes ≤ length (answered refusal r .lent .routes)
 answer-fits [] r h = h
@@ -90,11 +85,10 @@ answer-fits (k ∷ ks) r h = line-fits (k ∷ ks) (r .lent)
 pub response-fits : (style : Style) (input : List ℕ) (l : Lent) → response style input l .bytes ≤ length (response style input l .lent .routes)
 unfolding response runReply
 response-fits style input l =
-    ⊎-elim
-    (λ (e : ltb inputMost (length input) ≡ true). rw e (line-fits (12 ∷ inputMost ∷ []) l))
-    (λ (e : ltb inputMost (length input) ≡ false).
+    by-test (ltb inputMost (length input))
+    (λ e. rw e (line-fits (12 ∷ inputMost ∷ []) l))
+    (λ e.
     rw e (answer-fits (runOf style (readText input) l .refusal) (runOf style (readText input) l) (run-of-fits style (readText input) l)))
-    (either-way (ltb inputMost (length input)))
 
 -- what is shown with tables, work memory and log of 01's sizes, all 0
 pub shown-lent :

@@ -2,7 +2,6 @@
 -- Assumes nothing.
 use mathlib.Core.Bool.{Bool, true, false}
 use mathlib.Core.List.{List, [], _∷_}
-use mathlib.Core.Logic.{⊎-elim}
 use mathlib.Core.Path.{_≡_, refl, sym, _∙_, ap, subst}
 use Prim.Native.Nat.{ℕ, _+_, _≤_, _<_, zero-le}
 use native.Mathlib.Omega.{arith}
@@ -12,7 +11,7 @@ use lib.Seq.{take-at}
 use borrow.Author.Tests.{lt-ltb, le-ltb}
 use Rattle.price.specs.Test.{choose}
 use Rattle.price.specs.Bounds.{nodesMost}
-use Rattle.price.proofs.TestLaws.{either-way}
+use Rattle.price.proofs.TestLaws.{by-test}
 use Rattle.search.specs.Replies.{workNeeded}
 use Rattle.search.proofs.BlockLaws.{kinds-few, capacities-long}
 use Rattle.search.proofs.BlockLaws as block
@@ -56,30 +55,25 @@ ran-fits rs log = let long = length-append (encode rs) (drop (length (encode rs)
 run-fits : (j : Job) (p : Progress) (work log : List ℕ) → continued j p work log .used ≤ length (continued j p work log .log)
 unfolding continued
 run-fits j p work log =
-    ⊎-elim
-    (λ (w : ltb (length (loggedRecords j p (length log))) (length (allRecords j p)) ≡ true). rw w (ran-fits (loggedRecords j p (length log)) log))
-    (λ (w : ltb (length (loggedRecords j p (length log))) (length (allRecords j p)) ≡ false). rw w (ran-fits (allRecords j p) log))
-    (either-way (ltb (length (loggedRecords j p (length log))) (length (allRecords j p))))
+    by-test (ltb (length (loggedRecords j p (length log))) (length (allRecords j p)))
+    (λ w. rw w (ran-fits (loggedRecords j p (length log)) log))
+    (λ w. rw w (ran-fits (allRecords j p) log))
 
 used-fits : (j : Job) (work log : List ℕ) → routeReply j work log .used ≤ length (routeReply j work log .log)
 unfolding routeReply
 used-fits j work log =
-    ⊎-elim
-    (λ (t : leb 1 (faultyJob j) ≡ true). rw t zero-le)
-    (λ (t : leb 1 (faultyJob j) ≡ false).
-    ⊎-elim
-    (λ (x : exceeds (nodes j) (j .terms) ≡ true). rw (t, x) zero-le)
-    (λ (x : exceeds (nodes j) (j .terms) ≡ false).
-    ⊎-elim
-    (λ (u : ltb (length work) (workNeeded (nodes j)) ≡ true). rw (t, x, u) zero-le)
-    (λ (u : ltb (length work) (workNeeded (nodes j)) ≡ false).
-    ⊎-elim
-    (λ (v : ltb (unreachableNet (joined j)) (nets j) ≡ true). rw (t, x, u, v) zero-le)
-    (λ (v : ltb (unreachableNet (joined j)) (nets j) ≡ false). rw (t, x, u, v) (run-fits (joined j) (firstProgress (joined j)) work log))
-    (either-way (ltb (unreachableNet (joined j)) (nets j))))
-    (either-way (ltb (length work) (workNeeded (nodes j)))))
-    (either-way (exceeds (nodes j) (j .terms))))
-    (either-way (leb 1 (faultyJob j)))
+    by-test (leb 1 (faultyJob j))
+    (λ t. rw t zero-le)
+    (λ t.
+    by-test (exceeds (nodes j) (j .terms))
+    (λ x. rw (t, x) zero-le)
+    (λ x.
+    by-test (ltb (length work) (workNeeded (nodes j)))
+    (λ u. rw (t, x, u) zero-le)
+    (λ u.
+    by-test (ltb (unreachableNet (joined j)) (nets j))
+    (λ v. rw (t, x, u, v) zero-le)
+    (λ v. rw (t, x, u, v) (run-fits (joined j) (firstProgress (joined j)) work log)))))
 
 module _ (j : Job) (work log : List ℕ) (r : RouteAnswer) (work′ log′ : List ℕ) (is : routeReplyOf r work′ log′ ≡ routeReply j work log) where
   pub words-fit : r .used ≤ length log′
@@ -166,10 +160,9 @@ if-timed :
     (terms : Terms) (table : List ℕ) (n : ℕ) → (terms .timed ≡ true → length table ≡ n) → (terms .timed ≡ false → table ≡ [])
     → (length table ≡ choose (terms .timed) n 0) × (ifTimed terms table ≡ table)
 if-timed terms table n long none =
-    ⊎-elim
-    (λ (e : terms .timed ≡ true). rw e (long e, refl))
-    (λ (e : terms .timed ≡ false). rw (e, none e) (refl, refl))
-    (either-way (terms .timed))
+    by-test (terms .timed)
+    (λ e. rw e (long e, refl))
+    (λ e. rw (e, none e) (refl, refl))
 
 job-taken :
     (style : Style) (text : List ℕ) (t : Tables) (j : Job) → AllowedText text j → shortTable j t ≡ 0
@@ -230,10 +223,9 @@ termsIn xs =
 terms-back : (n edges m count : ℕ) (t : Terms) → termsIn (n ∷ edges ∷ m ∷ count ∷ termsNumbers t) ≡ t
 terms-back n edges m count t =
     ap (λ (timed : Bool). record { limit = t .limit; tuning = t .tuning; rule = t .rule; until = t .until; timed = timed })
-    (⊎-elim
-    (λ (e : t .timed ≡ true). let is : eqb (choose (t .timed) 1 0) 1 ≡ t .timed = rw e in is)
-    (λ (e : t .timed ≡ false). let is : eqb (choose (t .timed) 1 0) 1 ≡ t .timed = rw e in is)
-    (either-way (t .timed)))
+    (by-test (t .timed)
+    (λ e. let is : eqb (choose (t .timed) 1 0) 1 ≡ t .timed = rw e in is)
+    (λ e. let is : eqb (choose (t .timed) 1 0) 1 ≡ t .timed = rw e in is))
 
 pub read-taken :
     (style : Style) (text : List ℕ) (n edges m count : ℕ) (terms : Terms) (t t′ : Tables)

@@ -2,7 +2,6 @@
 -- Assumes nothing.
 use mathlib.Core.Bool.{Bool, true, false, not}
 use mathlib.Core.List.{List, [], _∷_, _++_, append-nil}
-use mathlib.Core.Logic.{⊎-elim}
 use mathlib.Core.Path.{_≡_, refl, sym, _∙_, ap, subst}
 use Prim.Native.Nat.{ℕ, zero, suc, _+_, _-_, _*_, _≤_, _<_}
 use native.Mathlib.Nat.{zero-add, suc-add}
@@ -16,7 +15,7 @@ use Rattle.price.specs.Test.{choose, both}
 use Rattle.price.specs.Bounds.{kindMost, capacityMost, nodesMost}
 use Rattle.price.specs.Lists.{every, neighbours, has, distinct, upTo}
 use Rattle.price.specs.Tuning.{tuningSound}
-use Rattle.price.proofs.TestLaws.{either-way, true≢false, both-true, both-left, both-right}
+use Rattle.price.proofs.TestLaws.{by-test, true≢false, both-true, both-left, both-right}
 use Rattle.price.proofs.ListLaws.{every-all, neighbours-all, rises-last, getD-upTo, length-upTo}
 use Rattle.search.specs.Block.{row, rowStart}
 use Rattle.search.specs.Block as block
@@ -44,19 +43,17 @@ module _ (t : ℕ → Bool) where
   passing-all p zero h = refl
   passing-all p (suc n) h =
       every-append p (passing t n) (choose (t n) (n ∷ []) []) (passing-all p n (λ u l. h u (omega arith)))
-      (⊎-elim
-      (λ (q : t n ≡ true). rw (q, h n (omega arith) q))
-      (λ (q : t n ≡ false). rw q)
-      (either-way (t n)))
+      (by-test (t n)
+      (λ q. rw (q, h n (omega arith) q))
+      (λ q. rw q))
 
   passing-rises : (n : ℕ) → neighbours ltb (passing t n) ≡ true
   unfolding passing neighbours
   passing-rises zero = refl
   passing-rises (suc n) =
-      ⊎-elim
-      (λ (q : t n ≡ true). rw q (rises-last (passing t n) n (passing-rises n) (passing-all (λ x. ltb x n) n (λ u l _. lt-ltb u n l))))
-      (λ (q : t n ≡ false). rw (q, append-nil (passing t n)) (passing-rises n))
-      (either-way (t n))
+      by-test (t n)
+      (λ q. rw q (rises-last (passing t n) n (passing-rises n) (passing-all (λ x. ltb x n) n (λ u l _. lt-ltb u n l))))
+      (λ q. rw (q, append-nil (passing t n)) (passing-rises n))
 
 -- a list of f 0, f 1, ..
 module _ (f : ℕ → ℕ) (n : ℕ) where

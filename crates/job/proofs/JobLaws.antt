@@ -3,7 +3,6 @@
 -- Assumes nothing.
 use mathlib.Core.Bool.{Bool, true, false}
 use mathlib.Core.List.{List}
-use mathlib.Core.Logic.{⊎-elim}
 use mathlib.Core.Path.{_≡_, refl}
 use Prim.Native.Nat.{ℕ, zero, suc, _+_, _-_, _≤_, _<_}
 use native.Mathlib.Nat.{le-trans}
@@ -15,7 +14,7 @@ use borrow.Author.Tests.{leb-true, leb-false, ltb-true, ltb-false, eqb-true}
 use Rattle.price.specs.Test.{choose, both, either}
 use Rattle.price.specs.Bounds.{criticalityMost, timedNodesMost, timedLimitMost}
 use Rattle.price.specs.Lists.{neighbours, upTo}
-use Rattle.price.proofs.TestLaws.{either-way, true≢false, both-left, both-right}
+use Rattle.price.proofs.TestLaws.{by-test, true≢false, both-left, both-right}
 use Rattle.price.proofs.ListLaws.{every-at, neighbours-at, length-upTo, getD-upTo}
 use Rattle.search.specs.Tables.{faultyTable, delaysSound}
 use Rattle.search.specs.Replies.{sinksMost}
@@ -34,15 +33,14 @@ chosen false a k e = absurd (let z : suc k ≡ 0 = e in omega arith)
 -- a table that is chosen where it is at least 1 is 0 only where it is 0 itself, and then the other is chosen
 first-none : (a b : ℕ) → choose (leb 1 a) a b ≡ 0 → (a ≡ 0) × (b ≡ 0)
 first-none a b e =
-    ⊎-elim
-    (λ (q : leb 1 a ≡ true).
+    by-test (leb 1 a)
+    (λ q.
     let some : 1 ≤ a = leb-true 1 a q in
     let none : a ≡ 0 = rw q at e in
     absurd (omega arith))
-    (λ (q : leb 1 a ≡ false).
+    (λ q.
     let none : a < 1 = leb-false 1 a q in
     (omega arith, rw q at e))
-    (either-way (leb 1 a))
 
 -- a timed job's tables 9 and 10 keep their rules
 times-sound :
@@ -82,10 +80,9 @@ untimed-none j s =
 times-none : (j : Job) → SoundJob j → faultyTimes (j .terms) (nodes j) (length (j .sinks)) (j .delays) (j .criticalities) ≡ 0
 unfolding faultyTimes
 times-none j s =
-    ⊎-elim
-    (λ (q : j .terms .timed ≡ true). rw (q, s .delays-sound q, s .criticalities-sound q))
-    (λ (q : j .terms .timed ≡ false). rw q)
-    (either-way (j .terms .timed))
+    by-test (j .terms .timed)
+    (λ q. rw (q, s .delays-sound q, s .criticalities-sound q))
+    (λ q. rw q)
 
 pub faulty-none : (j : Job) → SoundJob j → faultyJob j ≡ 0
 unfolding faultyJob

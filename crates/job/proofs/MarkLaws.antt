@@ -7,7 +7,6 @@
 -- Assumes nothing.
 use mathlib.Core.Bool.{Bool, true, false}
 use mathlib.Core.List.{List, [], _∷_, _++_}
-use mathlib.Core.Logic.{⊎-elim}
 use mathlib.Core.Path.{_≡_, refl, _∙_, subst}
 use Prim.Native.Nat.{ℕ, _+_, _-_, _≤_, _<_}
 use native.Mathlib.Numerals.{add-one}
@@ -18,7 +17,7 @@ use lib.Seq.{length-take-le, take-suc, drop-append-le, take-take, getD-append-ad
 use borrow.Author.Tests.{eqb-true, eqb-false}
 use Rattle.price.specs.Test.{choose, either}
 use Rattle.price.specs.Lists.{has}
-use Rattle.price.proofs.TestLaws.{either-way}
+use Rattle.price.proofs.TestLaws.{by-test}
 use Rattle.price.proofs.ListLaws.{has-append}
 use Rattle.job.specs.Steps.{AllBelow, Stored}
 
@@ -70,10 +69,9 @@ unfolding has
 stored-one a y old l = record {
   long = length-set old y a;
   at = λ v.
-      ⊎-elim
-      (λ (q : eqb v y ≡ true). let e : v ≡ y = eqb-true v y q in rw (q, e) (getD-set-same old y a 0 l))
-      (λ (q : eqb v y ≡ false). rw q (getD-set-other old y v a 0 (eqb-false v y q)))
-      (either-way (eqb v y));
+      by-test (eqb v y)
+      (λ q. let e : v ≡ y = eqb-true v y q in rw (q, e) (getD-set-same old y a 0 l))
+      (λ q. rw q (getD-set-other old y v a 0 (eqb-false v y q)));
 }
 
 pub stored-append : {a : ℕ} {xs ys old now later : List ℕ} → Stored a xs old now → Stored a ys now later → Stored a (xs ++ ys) old later

@@ -24,7 +24,7 @@ use Rattle.price.specs.Tuning.{tuningSound}
 use Rattle.price.specs.Timed.{untimed}
 use Rattle.price.specs.declared.Weighting.{Weighting}
 use Rattle.price.specs.Lists.{every, neighbours, upTo}
-use Rattle.price.proofs.TestLaws.{either-way, le-or-lt, both-true, both-false-right}
+use Rattle.price.proofs.TestLaws.{by-test, le-or-lt, both-true, both-false-right}
 use Rattle.price.proofs.ListLaws.{every-all, every-none, neighbours-all, neighbours-none, length-upTo, getD-upTo, part-slice}
 use Rattle.search.specs.Block.{Block}
 use Rattle.search.specs.Block as block
@@ -249,7 +249,7 @@ module _ (m : ℕ) (cs : List ℕ) where
 times-lent : (t : Terms) (n m : ℕ) (ds cs : List ℕ) → faultyTimes t n m (ifTimed t ds) (ifTimed t cs) ≡ faultyTimes t n m ds cs
 unfolding faultyTimes
 times-lent t n m ds cs =
-    ⊎-elim (λ (q : t .timed ≡ true). rw q) (λ (q : t .timed ≡ false). rw q) (either-way (t .timed))
+    by-test (t .timed) (λ q. rw q) (λ q. rw q)
 
 pub times-untimed : (t : Terms) (n m : ℕ) (ds cs : List ℕ) → t .timed ≡ false → faultyTimes t n m ds cs ≡ 0
 unfolding faultyTimes
@@ -263,26 +263,23 @@ module _ (b : Block) (t : Terms) (m : ℕ) (ds cs : List ℕ) {delays : ℕ} (ti
   by-delays =
       e
       ∙ rw sound
-      (⊎-elim
-      (λ (q : delaysSound (block.nodes b) ds ≡ true). rw q)
-      (λ (q : delaysSound (block.nodes b) ds ≡ false). rw q)
-      (either-way (delaysSound (block.nodes b) ds)))
+      (by-test (delaysSound (block.nodes b) ds)
+      (λ q. rw q)
+      (λ q. rw q))
 
   pub times-9 : 1 ≤ delays → faultyTimes t (block.nodes b) m ds cs ≡ delays
   unfolding faultyTimes
   times-9 h =
-      ⊎-elim
-      (λ (q : delaysSound (block.nodes b) ds ≡ true). absurd (let none : delays ≡ 0 = by-delays ∙ rw q in omega arith))
-      (λ (q : delaysSound (block.nodes b) ds ≡ false). rw (timed, q) (sym (by-delays ∙ rw q)))
-      (either-way (delaysSound (block.nodes b) ds))
+      by-test (delaysSound (block.nodes b) ds)
+      (λ q. absurd (let none : delays ≡ 0 = by-delays ∙ rw q in omega arith))
+      (λ q. rw (timed, q) (sym (by-delays ∙ rw q)))
 
   module _ (h : delays < 1) where
     delays-kept : delaysSound (block.nodes b) ds ≡ true
     delays-kept =
-        ⊎-elim
+        by-test (delaysSound (block.nodes b) ds)
         (λ q. q)
-        (λ (q : delaysSound (block.nodes b) ds ≡ false). absurd (let nine : delays ≡ 9 = by-delays ∙ rw q in omega arith))
-        (either-way (delaysSound (block.nodes b) ds))
+        (λ q. absurd (let nine : delays ≡ 9 = by-delays ∙ rw q in omega arith))
 
     pub times-10 : criticalitiesSound m cs ≡ false → faultyTimes t (block.nodes b) m ds cs ≡ 10
     unfolding faultyTimes
@@ -375,17 +372,16 @@ module _ (b : Block) (w : Weighting) (ds : List ℕ) (factor : ℕ) (histories o
   -- one entry is too few for any job
   unfit : fitting b priced marks [] work ≡ false
   unfit =
-      ⊎-elim
-      (λ (q : fitting b priced marks [] work ≡ true).
+      by-test (fitting b priced marks [] work)
+      (λ q.
       absurd (let f = fitted b priced marks [] work q in let some = f .some in let enough = f .enough in omega arith))
       (λ q. q)
-      (either-way (fitting b priced marks [] work))
 
   -- of what prices the turn the tables' test reads the delays alone
   no-sinks : faultyWithSinks b priced [] ≡ faultyWithDelays b (weighedCongestion w ds 0 [] [])
   unfolding faultyWithSinks faultyWithDelays search.sinkListSound every
   no-sinks =
-      ⊎-elim (λ (q : leb 1 (faultyTable b) ≡ true). rw q) (λ (q : leb 1 (faultyTable b) ≡ false). rw q) (either-way (leb 1 (faultyTable b)))
+      by-test (leb 1 (faultyTable b)) (λ q. rw q) (λ q. rw q)
 
   refused : tableNamed (pathReply b priced marks [] work .refusal) ≡ faultyWithDelays b (weighedCongestion w ds 0 [] [])
   unfolding pathReply

@@ -4,7 +4,6 @@
 -- Assumes nothing.
 use mathlib.Core.Bool.{true, false, not}
 use mathlib.Core.List.{List, [], _∷_, _++_}
-use mathlib.Core.Logic.{⊎-elim}
 use mathlib.Core.Path.{_≡_, refl, sym, _∙_}
 use Prim.Native.Nat.{ℕ, zero, suc, _+_, _≤_, _<_}
 use native.Mathlib.Nat.{not-suc-le-zero, le-of-suc-le-suc}
@@ -17,7 +16,7 @@ use borrow.Author.Count.{below-none, below-more}
 use borrow.Author.Tests.{lt-ltb, le-ltb, eq-eqb, ne-eqb, eqb-true, eqb-false, ltb-true}
 use Rattle.price.specs.Test.{choose, either}
 use Rattle.price.specs.Lists.{every, has, distinct}
-use Rattle.price.proofs.TestLaws.{either-way, true≢false, both-true, both-left, both-false-left, both-false-right, either-false}
+use Rattle.price.proofs.TestLaws.{by-test, true≢false, both-true, both-left, both-false-left, both-false-right, either-false}
 use Rattle.price.proofs.ListLaws.{every-all, every-none, every-at, has-at}
 use Rattle.search.proofs.DistinctLaws.{has-first, has-rest, lacks, distinct-cons, distinct-first, distinct-rest}
 use Rattle.job.specs.Tables.{netSound}
@@ -30,7 +29,7 @@ has-last : (v : ℕ) (xs : List ℕ) (x : ℕ) → has v (xs ++ (x ∷ [])) ≡ 
 unfolding has
 has-last v [] x = either-false (eqb v x)
 has-last v (y ∷ ys) x =
-    ⊎-elim (λ (q : eqb v y ≡ true). rw q) (λ (q : eqb v y ≡ false). rw q (has-last v ys x)) (either-way (eqb v y))
+    by-test (eqb v y) (λ q. rw q) (λ q. rw q (has-last v ys x))
 
 distinct-last : (xs : List ℕ) (x : ℕ) → distinct xs ≡ true → has x xs ≡ false → distinct (xs ++ (x ∷ [])) ≡ true
 unfolding distinct has
@@ -50,14 +49,13 @@ unfolding distinct has
 distinct-none [] i h e = absurd (not-suc-le-zero h)
 distinct-none (x ∷ xs) zero h e = absurd (true≢false (sym e))
 distinct-none (x ∷ xs) (suc i) h e =
-    ⊎-elim
-    (λ (q : eqb (getD xs i 0) x ≡ true).
+    by-test (eqb (getD xs i 0) x)
+    (λ q.
     let same : getD xs i 0 ≡ x = eqb-true (getD xs i 0) x q in
     let again : has x xs ≡ true = rw same at (has-at xs i (le-of-suc-le-suc h)) in
     rw again)
-    (λ (q : eqb (getD xs i 0) x ≡ false).
+    (λ q.
     both-false-right (not (has x xs)) (distinct xs) (distinct-none xs i (le-of-suc-le-suc h) (rw q at e)))
-    (either-way (eqb (getD xs i 0) x))
 
 -- ---- marks stored at places
 
@@ -94,12 +92,11 @@ module _ {n : ℕ} {sinks old new : List ℕ} {i : ℕ} (m : Marking n sinks old
   pub marking-more : i < length sinks → n ≤ length old → getD sinks i 0 < n → getD new (getD sinks i 0) 0 ≡ 0 → Marking n sinks old (set new (getD sinks i 0) 1) (i + 1)
   marking-more h few node none =
       let new-one : has (getD sinks i 0) (take i sinks) ≡ false =
-      ⊎-elim
-      (λ (q : has (getD sinks i 0) (take i sinks) ≡ true).
+      by-test (has (getD sinks i 0) (take i sinks))
+      (λ q.
       let one : getD new (getD sinks i 0) 0 ≡ 1 = rw q at here in
       absurd (omega arith))
-      (λ q. q)
-      (either-way (has (getD sinks i 0) (take i sinks))) in
+      (λ q. q) in
       let free : getD old (getD sinks i 0) 0 ≡ 0 = sym (rw new-one at here) ∙ none in
       record {
         stored = stored-more sinks i h (omega arith) (m .stored);
@@ -117,14 +114,13 @@ module _ {n : ℕ} {sinks old new : List ℕ} {i : ℕ} (m : Marking n sinks old
   unfolding sinksFree
   marking-twice h some =
       both-false-right (every (λ s. ltb s n) sinks) _
-      (⊎-elim
-      (λ (q : has (getD sinks i 0) (take i sinks) ≡ true).
+      (by-test (has (getD sinks i 0) (take i sinks))
+      (λ q.
       both-false-left (distinct sinks) _ (distinct-none sinks i h q))
-      (λ (q : has (getD sinks i 0) (take i sinks) ≡ false).
+      (λ q.
       let marked : getD old (getD sinks i 0) 0 ≡ 0 → ⊥ = λ e. some (here ∙ rw q e) in
       both-false-right (distinct sinks) _
-      (every-none (λ s. eqb (getD old s 0) 0) sinks i h (ne-eqb (getD old (getD sinks i 0) 0) 0 marked)))
-      (either-way (has (getD sinks i 0) (take i sinks))))
+      (every-none (λ s. eqb (getD old s 0) 0) sinks i h (ne-eqb (getD old (getD sinks i 0) 0) 0 marked))))
 
   pub marking-free : length sinks ≤ i → sinksFree n sinks old ≡ true
   unfolding sinksFree
@@ -144,13 +140,12 @@ unmarked-sinks : (marks : List ℕ) (from : ℕ) (sinks : List ℕ) → Unmarked
 unfolding every has
 unmarked-sinks marks from [] none h = refl
 unmarked-sinks marks from (x ∷ xs) none h =
-    ⊎-elim
-    (λ (q : eqb from x ≡ true).
+    by-test (eqb from x)
+    (λ q.
     rw (q, ← eqb-true from x q, getD-set-same marks from 1 0 h))
-    (λ (q : eqb from x ≡ false).
+    (λ q.
     let other : x ≡ from → ⊥ = λ e. eqb-false from x q (sym e) in
     rw (q, getD-set-other marks from x 1 0 other, none x) (unmarked-sinks marks from xs none h))
-    (either-way (eqb from x))
 
 -- where only the source was marked, the sinks are sound if they are free
 pub free-source : (n from : ℕ) (sinks marks : List ℕ) → Unmarked marks → from < length marks → sinksFree n sinks (set marks from 1) ≡ netSound n from sinks
@@ -170,16 +165,14 @@ module _ {sinks marked : List ℕ} (marks : List ℕ) (from : ℕ) (none : Unmar
   pub unmarked-again : {clear : List ℕ} → Stored 1 sinks (set marks from 1) marked → Stored 0 sinks marked clear → Unmarked (set clear from 0)
   unmarked-again {clear} s u v =
       let long : length clear ≡ length marks = u .long ∙ s .long ∙ length-set marks from 1 in
-      ⊎-elim
-      (λ (q : eqb v from ≡ true). rw (eqb-true v from q) (getD-set-same clear from 0 0 (omega arith)))
-      (λ (q : eqb v from ≡ false).
+      by-test (eqb v from)
+      (λ q. rw (eqb-true v from q) (getD-set-same clear from 0 0 (omega arith)))
+      (λ q.
       let other : v ≡ from → ⊥ = eqb-false v from q in
       getD-set-other clear from v 0 0 other ∙ u .at v
-      ∙ ⊎-elim
-      (λ (p : has v sinks ≡ true). rw p)
-      (λ (p : has v sinks ≡ false). rw p (never-marked s v other p))
-      (either-way (has v sinks)))
-      (either-way (eqb v from))
+      ∙ by-test (has v sinks)
+      (λ p. rw p)
+      (λ p. rw p (never-marked s v other p)))
 
 pub unmarked-new : (n : ℕ) → Unmarked (replicate n 0)
 unmarked-new zero v = refl

@@ -9,7 +9,7 @@ use native.Mathlib.Omega.{arith}
 use lib.ListN.{length, drop, length-append}
 use lib.Seq.{drop-append-add, drop-drop}
 use Rattle.price.specs.Lists.{firstBelow}
-use Rattle.price.proofs.TestLaws.{either-way, both-left, le-or-lt}
+use Rattle.price.proofs.TestLaws.{by-test, both-left, le-or-lt}
 use Rattle.price.proofs.BelowLaws.{firstBelow-below}
 use Rattle.search.specs.Replies.{workNeeded}
 use Rattle.job.specs.Job.{Job, nodes}
@@ -73,12 +73,11 @@ module _ (j : Job) (work log : List ℕ) (numbers : List ℕ) (limited : routeRe
 
   not-large : exceeds (nodes j) (j .terms) ≡ false
   not-large =
-      ⊎-elim
-      (λ (h : exceeds (nodes j) (j .terms) ≡ true).
+      by-test (exceeds (nodes j) (j .terms))
+      (λ h.
       let z : 15 ≡ 9 = one-number 15 9 (nodes j ∷ j .terms .limit ∷ []) numbers work log (routeReply j work log) (route-large j work log not-faulty h) limited in
       absurd (omega arith))
       (λ h. h)
-      (either-way (exceeds (nodes j) (j .terms)))
 
   not-short : workNeeded (nodes j) ≤ length work
   not-short =

@@ -7,7 +7,6 @@
 -- Assumes nothing.
 use mathlib.Core.Bool.{Bool, true, false}
 use mathlib.Core.List.{List, [], _∷_, _++_, append-nil, append-assoc}
-use mathlib.Core.Logic.{⊎-elim}
 use mathlib.Core.Path.{_≡_, refl, sym, _∙_, ap}
 use Prim.Native.Nat.{ℕ, zero, suc, _+_, _-_, _*_, _^_, _≤_, _<_, zero-le}
 use native.Mathlib.Omega.{arith}
@@ -16,7 +15,7 @@ use lib.ListN.{length, getD, length-append}
 use lib.Seq.{append-snoc, drop-append-seam, drop-nil, length-slice}
 use Rattle.price.specs.Test.{choose}
 use Rattle.price.specs.Bounds.{nodesMost, limitMost}
-use Rattle.price.proofs.TestLaws.{either-way}
+use Rattle.price.proofs.TestLaws.{by-test}
 use Rattle.price.proofs.BelowLaws.{count-most}
 use Rattle.search.specs.Distance.{far}
 use Rattle.search.specs.Turn.{priceAt, nearestDistance}
@@ -91,10 +90,9 @@ turn-most j earlier r =
     let marks : List ℕ = marksOf j tree in
     let sinks : List ℕ = turnSinks j (r .net) tree in
     let weight : (ℕ → ℕ) = weightAt (j .block) (turnWeighting j (r .net) tree) in
-    ⊎-elim
-    (λ (q : eqb (nearestDistance (j .block) price marks sinks) far ≡ true). rw q zero-le)
-    (λ (q : eqb (nearestDistance (j .block) price marks sinks) far ≡ false). rw q (count-most (expands (j .block) price weight marks sinks) (nodes j)))
-    (either-way (eqb (nearestDistance (j .block) price marks sinks) far))
+    by-test (eqb (nearestDistance (j .block) price marks sinks) far)
+    (λ q. rw q zero-le)
+    (λ q. rw q (count-most (expands (j .block) price weight marks sinks) (nodes j)))
 
 module _ (j : Job) (few : nodes j ≤ nodesMost) where
   turns-most : (lent rs : List Record) → expandedIn j lent rs ≤ nodesMost * length rs

@@ -2,7 +2,6 @@
 -- Assumes nothing.
 use mathlib.Core.Bool.{Bool, true, false}
 use mathlib.Core.List.{List, [], _∷_, _++_, append-assoc, append-cancel-left}
-use mathlib.Core.Logic.{⊎-elim}
 use mathlib.Core.Path.{_≡_, refl, sym, _∙_, ap}
 use Prim.Native.Nat.{ℕ, suc, _+_, _-_, _≤_, _<_}
 use native.Mathlib.Omega.{arith}
@@ -12,7 +11,7 @@ use borrow.Author.Tests.{leb-false, ltb-true, ltb-false}
 use Rattle.price.specs.Test.{choose}
 use Rattle.price.specs.Bounds.{pathMost}
 use Rattle.price.specs.Lists.{firstBelow}
-use Rattle.price.proofs.TestLaws.{either-way}
+use Rattle.price.proofs.TestLaws.{by-test}
 use Rattle.price.proofs.PriceLaws.{path-fits}
 use Rattle.search.specs.Replies.{workNeeded, cleared}
 use Rattle.job.specs.Job.{Job, nodes, nets}
@@ -40,18 +39,16 @@ use Rattle.negotiation.proofs.ReplyLogLaws.{LogHas, log-words, log-turn
 pub made-most : (j : Job) (s : State) (most : ℕ) → iterationsMade j s most ≤ most
 unfolding iterationsMade
 made-most j s most =
-    ⊎-elim
-    (λ (q : ltb (firstBelow (settlesAt j s) most) most ≡ true). let h = ltb-true (firstBelow (settlesAt j s) most) most q in rw q (omega arith))
-    (λ (q : ltb (firstBelow (settlesAt j s) most) most ≡ false). rw q (omega arith))
-    (either-way (ltb (firstBelow (settlesAt j s) most) most))
+    by-test (ltb (firstBelow (settlesAt j s) most) most)
+    (λ q. let h = ltb-true (firstBelow (settlesAt j s) most) most q in rw q (omega arith))
+    (λ q. rw q (omega arith))
 
 some-made : (j : Job) (s : State) (most : ℕ) → 1 ≤ most → 1 ≤ iterationsMade j s most
 unfolding iterationsMade
 some-made j s most h =
-    ⊎-elim
-    (λ (q : ltb (firstBelow (settlesAt j s) most) most ≡ true). rw q (omega arith))
-    (λ (q : ltb (firstBelow (settlesAt j s) most) most ≡ false). rw q h)
-    (either-way (ltb (firstBelow (settlesAt j s) most) most))
+    by-test (ltb (firstBelow (settlesAt j s) most) most)
+    (λ q. rw q (omega arith))
+    (λ q. rw q h)
 
 -- where the run's end has no numbers, its last iteration settles
 chosen-none : (t : Bool) (k : ℕ) (ks : List ℕ) → choose t [] (k ∷ ks) ≡ [] → t ≡ true
@@ -72,11 +69,10 @@ end-reached j s net place e =
 pub run-reached : (j : Job) (p : Progress) (work log : List ℕ) (net place : ℕ) → continued j p work log .refusal ≡ 7 ∷ net ∷ place ∷ [] → ⊥
 unfolding continued
 run-reached j p work log net place =
-    ⊎-elim
-    (λ (q : ltb (length (loggedRecords j p (length log))) (length (allRecords j p)) ≡ true).
+    by-test (ltb (length (loggedRecords j p (length log))) (length (allRecords j p)))
+    (λ q.
     rw q (λ e. let z : _≡_ {A = ℕ} 8 7 = cc in omega arith))
-    (λ (q : ltb (length (loggedRecords j p (length log))) (length (allRecords j p)) ≡ false). rw q (end-reached j (p .state) net place))
-    (either-way (ltb (length (loggedRecords j p (length log))) (length (allRecords j p))))
+    (λ q. rw q (end-reached j (p .state) net place))
 
 -- ---- from what holds of some records
 
@@ -191,28 +187,24 @@ module _ (j : Job) (work log : List ℕ) where
       → (Routable (joined j) → Reached (joined j) → P (λ run. run)) → P (λ run. tested j work log run)
   unfolding takenUp
   tested-case P refused runs =
-      ⊎-elim
-      (λ (t : leb 1 (faultyJob j) ≡ true). rw t (refused 5 (faultyJob j ∷ []) work refl (λ _ z. omega arith)))
-      (λ (t : leb 1 (faultyJob j) ≡ false).
+      by-test (leb 1 (faultyJob j))
+      (λ t. rw t (refused 5 (faultyJob j ∷ []) work refl (λ _ z. omega arith)))
+      (λ t.
       let none : faultyJob j < 1 = leb-false 1 (faultyJob j) t in
       let sound : SoundJob j = sound-job j (omega arith) in
-      ⊎-elim
-      (λ (x : exceeds (nodes j) (j .terms) ≡ true). rw (t, x) (refused 15 (nodes j ∷ j .terms .limit ∷ []) work refl (λ _ z. omega arith)))
-      (λ (x : exceeds (nodes j) (j .terms) ≡ false).
-      ⊎-elim
-      (λ (u : ltb (length work) (workNeeded (nodes j)) ≡ true). rw (t, x, u) (refused 6 (workNeeded (nodes j) ∷ []) work refl (λ _ z. omega arith)))
-      (λ (u : ltb (length work) (workNeeded (nodes j)) ≡ false).
-      ⊎-elim
-      (λ (v : ltb (unreachableNet (joined j)) (nets j) ≡ true).
+      by-test (exceeds (nodes j) (j .terms))
+      (λ x. rw (t, x) (refused 15 (nodes j ∷ j .terms .limit ∷ []) work refl (λ _ z. omega arith)))
+      (λ x.
+      by-test (ltb (length work) (workNeeded (nodes j)))
+      (λ u. rw (t, x, u) (refused 6 (workNeeded (nodes j) ∷ []) work refl (λ _ z. omega arith)))
+      (λ u.
+      by-test (ltb (unreachableNet (joined j)) (nets j))
+      (λ v.
       rw (t, x, u, v)
       (refused 7 (unreachableNet (joined j) ∷ unreachablePlace (joined j) ∷ []) (cleared (nodes j) [] work) refl
       (λ all _. none-unreachable (joined j) (joined-routable j sound x) all (ltb-true _ _ v))))
-      (λ (v : ltb (unreachableNet (joined j)) (nets j) ≡ false).
-      rw (t, x, u, v) (runs (joined-routable j sound x) (all-reached (joined j) (ltb-false _ _ v))))
-      (either-way (ltb (unreachableNet (joined j)) (nets j))))
-      (either-way (ltb (length work) (workNeeded (nodes j)))))
-      (either-way (exceeds (nodes j) (j .terms))))
-      (either-way (leb 1 (faultyJob j)))
+      (λ v.
+      rw (t, x, u, v) (runs (joined-routable j sound x) (all-reached (joined j) (ltb-false _ _ v)))))))
 
   -- a refusal before any turn leaves no record
   pub refused-facts :
@@ -233,8 +225,8 @@ module _ (j : Job) (work log : List ℕ) where
   unfolding continued
   run-facts m p sound all r below =
       let k : Job = joined j in
-      ⊎-elim
-      (λ (q : ltb (length (loggedRecords k p (length log))) (length (allRecords k p)) ≡ true).
+      by-test (ltb (length (loggedRecords k p (length log))) (length (allRecords k p)))
+      (λ q.
       rw q
       (record {
         records = loggedRecords k p (length log);
@@ -244,7 +236,7 @@ module _ (j : Job) (work log : List ℕ) where
         final = λ e. absurd (let z : _≡_ {A = ℕ} 0 1 = cc in omega arith);
         reached = λ _ net place e. let z : _≡_ {A = ℕ} 8 7 = cc in omega arith;
       }))
-      (λ (q : ltb (length (loggedRecords k p (length log))) (length (allRecords k p)) ≡ false).
+      (λ q.
       rw q
       (record {
         records = allRecords k p;
@@ -254,7 +246,6 @@ module _ (j : Job) (work log : List ℕ) where
         final = all-final k sound all m p r below;
         reached = λ _. end-reached k (p .state);
       }))
-      (either-way (ltb (length (loggedRecords k p (length log))) (length (allRecords k p))))
 
   reply-facts : Facts j [] (routeReply j work log)
   unfolding routeReply

@@ -15,7 +15,7 @@ use Rattle.price.specs.Bounds.{pathMost}
 use Rattle.price.specs.Lists.{every, has, upTo, firstBelow, countBelow, total}
 use Rattle.price.specs.Prices.{priceOf}
 use Rattle.price.specs.Timed.{weighed}
-use Rattle.price.proofs.TestLaws.{either-way, true≢false}
+use Rattle.price.proofs.TestLaws.{by-test, true≢false}
 use Rattle.price.proofs.ListLaws.{every-at, every-all, has-at, has-place, getD-upTo}
 use Rattle.price.proofs.BelowLaws.{firstBelow-below, firstBelow-holds}
 use Rattle.search.specs.Block.{Block}
@@ -64,14 +64,13 @@ count-none : (t : ℕ → Bool) (n : ℕ) → countBelow t n ≡ 0 → (x : ℕ)
 unfolding countBelow
 count-none t zero e x l = absurd (not-suc-le-zero l)
 count-none t (suc n) e x l =
-    ⊎-elim
-    (λ (q : t n ≡ true).
+    by-test (t n)
+    (λ q.
     let z : countBelow t n + 1 ≡ 0 = rw q at e in
     absurd (omega arith))
-    (λ (q : t n ≡ false).
+    (λ q.
     let z : countBelow t n + 0 ≡ 0 = rw q at e in
     ⊎-elim (λ (h : x ≡ n). rw h q) (λ h. count-none t n (omega arith) x h) (eq-or-lt-of-le (le-of-suc-le-suc l)))
-    (either-way (t n))
 
 -- ---- costs by two prices
 

@@ -1,7 +1,6 @@
 -- Which nets an iteration takes: a net that is due has sinks; under rule 1, and up to iteration k, a net that has sinks is due.
 -- Assumes nothing.
 use mathlib.Core.Bool.{true, false}
-use mathlib.Core.Logic.{⊎-elim}
 use mathlib.Core.Path.{_≡_, sym, _∙_}
 use Prim.Native.Nat.{ℕ, _≤_, _<_}
 use native.Mathlib.Omega.{arith}
@@ -9,7 +8,7 @@ use lib.Dec.{eqb, leb}
 use lib.ListN.{length}
 use borrow.Author.Tests.{le-leb, lt-leb, leb-true, eq-eqb, ne-eqb}
 use Rattle.price.specs.Test.{both}
-use Rattle.price.proofs.TestLaws.{either-way, both-left, either-true}
+use Rattle.price.proofs.TestLaws.{by-test, both-left, either-true}
 use Rattle.job.specs.Job.{Job, netSinks}
 use Rattle.negotiation.specs.Machine.{State, hasSinks, allDue, crowded, due}
 use Rattle.job.specs.declared.Terms.{Terms}
@@ -46,7 +45,7 @@ module _ (j : Job) (s : State) (i : ℕ) where
   all-taken : allDue (j .terms) (s .iteration) ≡ true → due j s i ≡ hasSinks j i
   unfolding due
   all-taken q =
-      ⊎-elim (λ (p : hasSinks j i ≡ true). rw (p, q)) (λ (p : hasSinks j i ≡ false). rw p) (either-way (hasSinks j i))
+      by-test (hasSinks j i) (λ p. rw (p, q)) (λ p. rw p)
 
   -- request 2.7: "Under rule 1, or without the line, negotiation and log are as before"
   pub rule-1 : j .terms .rule ≡ 1 → due j s i ≡ hasSinks j i

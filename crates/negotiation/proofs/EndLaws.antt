@@ -12,7 +12,7 @@ use lib.Dec.{ltb}
 use lib.ListN.{length, getD, drop, replicate, length-append}
 use borrow.Author.Tests.{lt-ltb, le-ltb}
 use Rattle.price.specs.Lists.{firstBelow}
-use Rattle.price.proofs.TestLaws.{either-way, le-or-lt, true≢false}
+use Rattle.price.proofs.TestLaws.{by-test, le-or-lt, true≢false}
 use Rattle.price.proofs.ListLaws.{drop-same}
 use Rattle.price.proofs.BelowLaws.{firstBelow-holds, firstBelow-is, firstBelow-all}
 use Rattle.search.specs.Replies.{cleared}
@@ -62,10 +62,9 @@ module _ (j : Job) (s : State) (most m : ℕ) (below : m < most) (unsettled : (k
       (λ (l : m ≤ first). l)
       (λ (l : first < m). absurd (true≢false (sym (firstBelow-holds (settlesAt j s) most (omega arith)) ∙ unsettled first l)))
       (le-or-lt m first) in
-      ⊎-elim
-      (λ (t : ltb (firstBelow (settlesAt j s) most) most ≡ true). rw t (omega arith))
-      (λ (t : ltb (firstBelow (settlesAt j s) most) most ≡ false). rw t below)
-      (either-way (ltb (firstBelow (settlesAt j s) most) most))
+      by-test (ltb (firstBelow (settlesAt j s) most) most)
+      (λ t. rw t (omega arith))
+      (λ t. rw t below)
 
 -- ---- its records
 

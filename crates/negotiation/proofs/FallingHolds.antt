@@ -9,7 +9,7 @@ use native.Mathlib.Omega.{arith}
 use lib.ListN.{length, getD}
 use Rattle.price.specs.Bounds.{criticalityMost}
 use Rattle.price.specs.Lists.{has}
-use Rattle.price.proofs.TestLaws.{either-way, le-or-lt, true≢false}
+use Rattle.price.proofs.TestLaws.{by-test, le-or-lt, true≢false}
 use Rattle.price.proofs.ListLaws.{has-place}
 use Rattle.job.specs.Job.{Job, nets, netSinks, netCriticalities}
 use Rattle.job.specs.Join.{joined}
@@ -27,14 +27,13 @@ module _ (in-tree : ℕ → Bool) (sinks cs : List ℕ) where
 
   leading-more : (n : ℕ) → LeadingAt n → LeadingAt (n + 1)
   leading-more n l =
-      ⊎-elim
-      (λ (e : in-tree (getD sinks n 0) ≡ true). (l .0, l .1, leading-joined in-tree sinks cs (l .2) e))
-      (λ (e : in-tree (getD sinks n 0) ≡ false).
+      by-test (in-tree (getD sinks n 0))
+      (λ e. (l .0, l .1, leading-joined in-tree sinks cs (l .2) e))
+      (λ e.
       ⊎-elim
       (λ (h : l .1 ≤ getD cs n 0). (n, getD cs n 0 + 1, leading-new in-tree sinks cs (l .2) e h))
       (λ (h : getD cs n 0 < l .1). (l .0, l .1, leading-lower in-tree sinks cs (l .2) h))
       (le-or-lt (l .1) (getD cs n 0)))
-      (either-way (in-tree (getD sinks n 0)))
 
   leading-at : (n : ℕ) → LeadingAt n
   leading-at zero = (length sinks, 0, leading-start in-tree sinks cs)

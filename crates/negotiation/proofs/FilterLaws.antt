@@ -2,7 +2,6 @@
 -- Assumes nothing.
 use mathlib.Core.Bool.{Bool, true, false}
 use mathlib.Core.List.{List, [], _∷_, _++_, append-assoc}
-use mathlib.Core.Logic.{⊎-elim}
 use mathlib.Core.Path.{_≡_, refl, sym, ap}
 use Prim.Native.Nat.{ℕ, _≤_, _<_, max, zero-le}
 use native.Mathlib.Nat.{max-le}
@@ -12,7 +11,7 @@ use lib.ListN.{drop}
 use borrow.Author.Tests.{eq-eqb, ne-eqb, eqb-true, le-leb, lt-leb}
 use Rattle.price.specs.Test.{choose, both}
 use Rattle.price.specs.Lists.{has}
-use Rattle.price.proofs.TestLaws.{either-way, true≢false, both-false-right}
+use Rattle.price.proofs.TestLaws.{by-test, true≢false, both-false-right}
 use Rattle.negotiation.specs.Records.{Record, pathNodes}
 use Rattle.negotiation.specs.Demand.{nodesIn, latest, upToIteration, endsIn}
 use Rattle.negotiation.specs.Runs.{All, Of, branchEnds}
@@ -101,10 +100,9 @@ unfolding latest
 latest-le i t [] h = zero-le
 latest-le i t (r ∷ rs) h =
     let later = latest-le i t rs (h .1) in
-    ⊎-elim
-    (λ (q : eqb (r .net) i ≡ true). rw q (max-le (h .0) later))
-    (λ (q : eqb (r .net) i ≡ false). rw q later)
-    (either-way (eqb (r .net) i))
+    by-test (eqb (r .net) i)
+    (λ q. rw q (max-le (h .0) later))
+    (λ q. rw q later)
 
 -- a list of one net with a node on a path has records
 pub latest-of : (i t x : ℕ) (rs : List Record) → All (Of i t) rs → has x (pathNodes rs) ≡ true → latest i rs ≡ t
@@ -123,11 +121,10 @@ Elsewhere i t r = r .net ≡ i → r .iteration ≡ t → ⊥
 module _ (i t : ℕ) where
   elsewhere-both : (r : Record) → Elsewhere i t r → both (eqb (r .net) i) (eqb (r .iteration) t) ≡ false
   elsewhere-both r h =
-      ⊎-elim
-      (λ (q : eqb (r .net) i ≡ true).
+      by-test (eqb (r .net) i)
+      (λ q.
       both-false-right (eqb (r .net) i) (eqb (r .iteration) t) (ne-eqb (r .iteration) t (h (eqb-true (r .net) i q))))
-      (λ (q : eqb (r .net) i ≡ false). rw q)
-      (either-way (eqb (r .net) i))
+      (λ q. rw q)
 
   pub nodes-none : (rs : List Record) → All (Elsewhere i t) rs → nodesIn i t rs ≡ []
   unfolding nodesIn

@@ -14,7 +14,7 @@ use lib.Seq.{take-append-seam, drop-append-seam}
 use borrow.Author.Tests.{eq-eqb}
 use Rattle.price.specs.Test.{choose}
 use Rattle.price.specs.Lists.{has, upTo}
-use Rattle.price.proofs.TestLaws.{either-way, either-true, true≢false}
+use Rattle.price.proofs.TestLaws.{by-test, either-true, true≢false}
 use Rattle.price.proofs.ListLaws.{getD-upTo}
 use Rattle.search.proofs.DistinctLaws.{has-cons}
 use Rattle.job.specs.Job.{Job, nets, source, sinksBetween, netCriticalities}
@@ -85,13 +85,12 @@ taking-firsts :
 unfolding taking placesFrom
 taking-firsts sinks seen taken a zero below f = firsts-of (λ p h. ⊎-elim (λ old. old) (λ m. absurd (no-entry p m)) h) f
 taking-firsts sinks seen taken a (suc n) below f =
-    ⊎-elim
-    (λ (t : has (getD sinks a 0) (entriesAt sinks taken) ≡ true).
+    by-test (has (getD sinks a 0) (entriesAt sinks taken))
+    (λ t.
     subst goes (sym t) (firsts-of later (taking-firsts sinks (Seen sinks seen taken a below f) taken (suc a) n (λ q m. let low = below q m in omega arith) (left-out sinks seen taken a below f t))))
-    (λ (t : has (getD sinks a 0) (entriesAt sinks taken) ≡ false).
+    (λ t.
     subst goes (sym t)
     (firsts-of later (taking-firsts sinks (Seen sinks seen taken a below f) (taken ++ (a ∷ [])) (suc a) n (below-next sinks seen taken a below f) (taken-too sinks seen taken a below f t))))
-    (either-way (has (getD sinks a 0) (entriesAt sinks taken)))
   where
     goes : Bool → Type 0
     goes known = Firsts sinks (λ p. seen p ⊎ (has p (a ∷ placesFrom (suc a) n) ≡ true)) (taking sinks (choose known taken (taken ++ (a ∷ []))) (placesFrom (suc a) n))
@@ -112,8 +111,8 @@ module _ (j : Job) (tables : Joinable (j .sources) (j .firstSinks) (j .sinks)) (
   places-below zero h q m = absurd (no-entry q m)
   places-below (suc k) h q m =
       let order : getD (j .firstSinks) k 0 ≤ getD (j .firstSinks) (suc k) 0 = rw add-one at (tables .order k h) in
-      ⊎-elim
-      (λ (e : eqb (source j k) (source j i) ≡ true).
+      by-test (eqb (source j k) (source j i))
+      (λ e.
       ⊎-elim
       (λ (old : has q (placesOfFirst j i k) ≡ true). let low = places-below k (omega arith) q old in omega arith)
       (λ (new : has q (listedPlaces j k) ≡ true).
@@ -121,16 +120,15 @@ module _ (j : Job) (tables : Joinable (j .sources) (j .firstSinks) (j .sinks)) (
       rw add-one at (from-within q (getD (j .firstSinks) k 0) (listedCount (j .firstSinks) k) new .1) in
       omega arith)
       (taking-split (j .sinks) (placesOfFirst j i k) (listedPlaces j k) q (rw e at m)))
-      (λ (e : eqb (source j k) (source j i) ≡ false). let low = places-below k (omega arith) q (rw e at m) in omega arith)
-      (either-way (eqb (source j k) (source j i)))
+      (λ e. let low = places-below k (omega arith) q (rw e at m) in omega arith)
 
   places-firsts : (k : ℕ) → k ≤ nets j → Firsts (j .sinks) (Listed k) (placesOfFirst j i k)
   unfolding placesOfFirst listedPlaces
   places-firsts zero h = record { covered = λ p l. let low = l .1 in absurd (omega arith); first = λ p q l. let low = l .1 in absurd (omega arith) }
   places-firsts (suc k) h =
       let old : Firsts (j .sinks) (Listed k) (placesOfFirst j i k) = places-firsts k (omega arith) in
-      ⊎-elim
-      (λ (e : eqb (source j k) (source j i) ≡ true).
+      by-test (eqb (source j k) (source j i))
+      (λ e.
       rw e
       (firsts-of
       (λ p l.
@@ -139,7 +137,7 @@ module _ (j : Job) (tables : Joinable (j .sources) (j .firstSinks) (j .sinks)) (
       (λ (earlier : l .0 < k). inl (l .0, earlier, l .2, l .3))
       (eq-or-lt-of-le (le-of-suc-le-suc (l .1))))
       (taking-firsts (j .sinks) (Listed k) (placesOfFirst j i k) (getD (j .firstSinks) k 0) (listedCount (j .firstSinks) k) (places-below k (omega arith)) old)))
-      (λ (e : eqb (source j k) (source j i) ≡ false).
+      (λ e.
       rw e
       (firsts-of
       (λ p l.
@@ -148,7 +146,6 @@ module _ (j : Job) (tables : Joinable (j .sources) (j .firstSinks) (j .sinks)) (
       (λ (earlier : l .0 < k). (l .0, earlier, l .2, l .3))
       (eq-or-lt-of-le (le-of-suc-le-suc (l .1))))
       old))
-      (either-way (eqb (source j k) (source j i)))
 
   -- no net of the source lists the sink at an earlier place
   pub first-listed :
@@ -156,10 +153,9 @@ module _ (j : Job) (tables : Joinable (j .sources) (j .firstSinks) (j .sinks)) (
       → getD (j .sinks) p 0 ≡ getD (j .sinks) q 0 → q ≤ p
   unfolding joinedPlaces
   first-listed k p q h e listed m same =
-      ⊎-elim
-      (λ (l : leads (j .sources) i ≡ true). places-firsts (nets j) (le-refl (nets j)) .first p q (k, h, e, listed) (rw l at m) same)
-      (λ (l : leads (j .sources) i ≡ false). absurd (no-entry q (rw l at m)))
-      (either-way (leads (j .sources) i))
+      by-test (leads (j .sources) i)
+      (λ l. places-firsts (nets j) (le-refl (nets j)) .first p q (k, h, e, listed) (rw l at m) same)
+      (λ l. absurd (no-entry q (rw l at m)))
 
 -- ---- a table by the places of the joined nets
 

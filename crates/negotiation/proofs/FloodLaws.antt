@@ -12,7 +12,7 @@ use lib.ListN.{length, getD, set, replicate, length-set, length-replicate, getD-
 use lib.Seq.{getD-set-same, getD-set-other, set-getD}
 use borrow.Author.Count.{below-none, below-more}
 use borrow.Author.Tests.{eqb-true, eqb-false, eq-eqb, ne-eqb}
-use Rattle.price.proofs.TestLaws.{either-way, le-or-lt}
+use Rattle.price.proofs.TestLaws.{by-test, le-or-lt}
 use Rattle.price.proofs.BelowLaws.{count-most, count-less}
 use Rattle.search.specs.Block.{Block, nodes, rowStart, hasEdge}
 use Rattle.search.specs.Tables.{Graph}
@@ -43,7 +43,7 @@ same-from-set lo k a w h =
 
 same-or-other : (x v : ℕ) → (x ≡ v) ⊎ (x ≡ v → ⊥)
 same-or-other x v =
-    ⊎-elim (λ (q : eqb x v ≡ true). inl (eqb-true x v q)) (λ (q : eqb x v ≡ false). inr (eqb-false x v q)) (either-way (eqb x v))
+    by-test (eqb x v) (λ q. inl (eqb-true x v q)) (λ q. inr (eqb-false x v q))
 
 unmarked : (n v : ℕ) → v < n → _≡_ {A = ℕ} (getD (replicate n 0) v 0) 0
 unmarked n v h = getD-replicate n v 0 0 h

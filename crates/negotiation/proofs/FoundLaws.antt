@@ -2,7 +2,6 @@
 -- Assumes nothing.
 use mathlib.Core.Bool.{Bool, true, false, not}
 use mathlib.Core.List.{List, [], _∷_, _++_}
-use mathlib.Core.Logic.{⊎-elim}
 use mathlib.Core.Path.{_≡_, refl, sym, _∙_, ap, subst}
 use Prim.Native.Nat.{ℕ, _+_, _*_, _-_, _≤_, _<_}
 use native.Mathlib.Nat.{le-refl}
@@ -13,7 +12,7 @@ use lib.Seq.{getD-append-add, getD-drop, take-at}
 use borrow.Author.Tests.{le-ltb}
 use Rattle.price.specs.Bounds.{factorMost, criticalityMost, timedNodesMost}
 use Rattle.price.specs.Test.{both}
-use Rattle.price.proofs.TestLaws.{either-way}
+use Rattle.price.proofs.TestLaws.{by-test}
 use Rattle.price.proofs.BelowLaws.{count-most as count-below}
 use Rattle.search.specs.Block as block
 use Rattle.search.specs.Block.{Block}
@@ -106,14 +105,12 @@ pub count-most : (aimed : Bool) (b : Block) (c : Congestion) (marks sinks : List
 unfolding expanded
 count-most aimed b c marks sinks =
     let none : Bool = eqb (nearestDistance b (priceAt b c) marks sinks) far in
-    ⊎-elim
-    (λ (q : aimed ≡ true).
-    ⊎-elim
-    (λ (e : none ≡ true). rw (q, e) (omega arith))
-    (λ (e : none ≡ false). rw (q, e) (count-below (expands b (priceAt b c) (weightAt b (c .weighting)) marks sinks) (block.nodes b)))
-    (either-way none))
-    (λ (q : aimed ≡ false). rw q (omega arith))
-    (either-way aimed)
+    by-test aimed
+    (λ q.
+    by-test none
+    (λ e. rw (q, e) (omega arith))
+    (λ e. rw (q, e) (count-below (expands b (priceAt b c) (weightAt b (c .weighting)) marks sinks) (block.nodes b))))
+    (λ q. rw q (omega arith))
 
 module _ {b : Block} {c : Congestion} {marks work : List ℕ} (ready : TurnReady b c marks work) where
   -- every price is fair
@@ -134,24 +131,21 @@ module _ {b : Block} {c : Congestion} {marks work : List ℕ} (ready : TurnReady
   -- a timed turn has few enough nodes, a criticality within its bound and sound delays
   many : tooMany (c .weighting) (block.nodes b) ≡ false
   many =
-      ⊎-elim
-      (λ (t : c .weighting .timed ≡ true). rw (t, le-ltb timedNodesMost (block.nodes b) (ready .weighable t .few)))
-      (λ (t : c .weighting .timed ≡ false). rw t)
-      (either-way (c .weighting .timed))
+      by-test (c .weighting .timed)
+      (λ t. rw (t, le-ltb timedNodesMost (block.nodes b) (ready .weighable t .few)))
+      (λ t. rw t)
 
   critical : badCriticality (c .weighting) ≡ false
   critical =
-      ⊎-elim
-      (λ (t : c .weighting .timed ≡ true). rw (t, le-ltb criticalityMost (c .weighting .criticality) (ready .weighable t .criticality-most)))
-      (λ (t : c .weighting .timed ≡ false). rw t)
-      (either-way (c .weighting .timed))
+      by-test (c .weighting .timed)
+      (λ t. rw (t, le-ltb criticalityMost (c .weighting .criticality) (ready .weighable t .criticality-most)))
+      (λ t. rw t)
 
   delayed : both (c .weighting .timed) (not (delaysSound (block.nodes b) (c .delays))) ≡ false
   delayed =
-      ⊎-elim
-      (λ (t : c .weighting .timed ≡ true). rw (t, ready .weighable t .delays-sound))
-      (λ (t : c .weighting .timed ≡ false). rw t)
-      (either-way (c .weighting .timed))
+      by-test (c .weighting .timed)
+      (λ t. rw (t, ready .weighable t .delays-sound))
+      (λ t. rw t)
 
   module _ (sinks : List ℕ) (listed : sinkListSound (block.nodes b) sinks ≡ true) where
     abbrev made : Turn

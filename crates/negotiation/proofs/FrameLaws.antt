@@ -6,7 +6,6 @@
 -- Assumes nothing.
 use mathlib.Core.Bool.{Bool, true, false}
 use mathlib.Core.List.{List}
-use mathlib.Core.Logic.{⊎-elim}
 use mathlib.Core.Path.{_≡_, sym, _∙_, ap}
 use Prim.Native.Nat.{ℕ, _+_, _-_, _≤_, _<_}
 use native.Mathlib.Nat.{add-zero}
@@ -16,7 +15,7 @@ use lib.ListN.{length, getD, take, drop, length-drop}
 use lib.Seq.{slice, getD-take, getD-drop, drop-drop}
 use borrow.Author.Tests.{eqb-true, eq-eqb, leb-true, le-leb}
 use Rattle.price.specs.Test.{both}
-use Rattle.price.proofs.TestLaws.{either-way, both-left, both-right}
+use Rattle.price.proofs.TestLaws.{by-test, both-left, both-right}
 use Rattle.price.proofs.ListLaws.{part-slice}
 use Rattle.negotiation.specs.Resume.{recordPath, wholeRecord, endsAt}
 use Rattle.negotiation.specs.ResumeSteps.{frameFollows}
@@ -133,10 +132,9 @@ module _ (most iteration net : ℕ) (log : List ℕ) (at : ℕ) where
 
   pub no-frame : (FrameAt most iteration net log at → ⊥) → false ≡ frameFollows most iteration net (drop at log)
   no-frame off =
-      ⊎-elim
-      (λ (t : frameFollows most iteration net (drop at log) ≡ true). absurd (off (frame-at t)))
-      (λ (t : frameFollows most iteration net (drop at log) ≡ false). sym t)
-      (either-way (frameFollows most iteration net (drop at log)))
+      by-test (frameFollows most iteration net (drop at log))
+      (λ t. absurd (off (frame-at t)))
+      (λ t. sym t)
 
   pub frame-ends :
       6 + pathCount log at ≤ length log - at → 2 ≤ pathCount log at → pathCount log at ≤ most → getD log at 0 ≡ iteration → getD log (at + 1) 0 ≡ net

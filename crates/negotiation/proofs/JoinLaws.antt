@@ -13,7 +13,7 @@ use lib.ListN.{length, getD, length-append, length-map}
 use lib.Seq.{take-append-seam, drop-append-seam}
 use borrow.Author.Tests.{eq-eqb, ne-eqb, eqb-true}
 use Rattle.price.specs.Lists.{neighbours, has, distinct, upTo, placeOf}
-use Rattle.price.proofs.TestLaws.{either-way, true≢false, le-or-lt}
+use Rattle.price.proofs.TestLaws.{by-test, true≢false, le-or-lt}
 use Rattle.price.proofs.ListLaws.{has-at, getD-upTo}
 use Rattle.price.proofs.EntryLaws.{placeOf-most}
 use Rattle.search.proofs.DistinctLaws.{lacks, distinct-short}
@@ -97,14 +97,13 @@ module _ (j : Job) (tables : Joinable (j .sources) (j .firstSinks) (j .sinks)) w
   unfolding placesOfFirst
   listed-for i zero p h t = absurd (no-entry p t)
   listed-for i (suc k) p h t =
-      ⊎-elim
-      (λ (q : eqb (source j k) (source j i) ≡ true).
+      by-test (eqb (source j k) (source j i))
+      (λ q.
       ⊎-elim
       (λ (l : has p (placesOfFirst j i k) ≡ true). listed-more (omega arith) (listed-for i k p (omega arith) l))
       (λ (r : has p (listedPlaces j k) ≡ true). listed-own i k p h (eqb-true (source j k) (source j i) q) r)
       (taking-split (j .sinks) (placesOfFirst j i k) (listedPlaces j k) p (rw q at t)))
-      (λ (q : eqb (source j k) (source j i) ≡ false). listed-more (omega arith) (listed-for i k p (omega arith) (rw q at t)))
-      (either-way (eqb (source j k) (source j i)))
+      (λ q. listed-more (omega arith) (listed-for i k p (omega arith) (rw q at t)))
 
   -- table 6 never falls
   rises : (a d : ℕ) → a + d ≤ nets j → getD (j .firstSinks) a 0 ≤ getD (j .firstSinks) (a + d) 0
@@ -141,8 +140,8 @@ module _ (j : Job) (tables : Joinable (j .sources) (j .firstSinks) (j .sinks)) w
   unfolding placesOfFirst listedPlaces neighbours
   first-rises i zero h = refl
   first-rises i (suc k) h =
-      ⊎-elim
-      (λ (q : eqb (source j k) (source j i) ≡ true).
+      by-test (eqb (source j k) (source j i))
+      (λ q.
       rw q
       (taking-rises (j .sinks) (placesOfFirst j i k) (getD (j .firstSinks) k 0) (listedCount (j .firstSinks) k) (first-rises i k (omega arith))
       (λ p t.
@@ -150,8 +149,7 @@ module _ (j : Job) (tables : Joinable (j .sources) (j .firstSinks) (j .sinks)) w
       let e : l .net + 1 + (k - (l .net + 1)) ≡ k = omega (arith, l .below) in
       let r : getD (j .firstSinks) (l .net + 1) 0 ≤ getD (j .firstSinks) k 0 = rw e at (rises (l .net + 1) (k - (l .net + 1)) (omega (arith, l .below))) in
       le-trans (l .high) r)))
-      (λ (q : eqb (source j k) (source j i) ≡ false). rw q (first-rises i k (omega arith)))
-      (either-way (eqb (source j k) (source j i)))
+      (λ q. rw q (first-rises i k (omega arith)))
 
   -- and their sinks are all there
   pub first-covers : (i k m s : ℕ) → m < k → source j m ≡ source j i → has s (entriesAt (j .sinks) (listedPlaces j m)) ≡ true → has s (entriesAt (j .sinks) (placesOfFirst j i k)) ≡ true
@@ -164,10 +162,9 @@ module _ (j : Job) (tables : Joinable (j .sources) (j .firstSinks) (j .sinks)) w
       (taking-covers (j .sinks) (placesOfFirst j i k) (listedPlaces j k) s (inr (rw o at h))))
       (λ (o : m < k).
       let old : has s (entriesAt (j .sinks) (placesOfFirst j i k)) ≡ true = first-covers i k m s o e h in
-      ⊎-elim
-      (λ (q : eqb (source j k) (source j i) ≡ true). rw q (taking-covers (j .sinks) (placesOfFirst j i k) (listedPlaces j k) s (inl old)))
-      (λ (q : eqb (source j k) (source j i) ≡ false). rw q old)
-      (either-way (eqb (source j k) (source j i))))
+      by-test (eqb (source j k) (source j i))
+      (λ q. rw q (taking-covers (j .sinks) (placesOfFirst j i k) (listedPlaces j k) s (inl old)))
+      (λ q. rw q old))
       (eq-or-lt-of-le (le-of-suc-le-suc l))
 
   -- ---- no place twice
@@ -176,10 +173,9 @@ module _ (j : Job) (tables : Joinable (j .sources) (j .firstSinks) (j .sinks)) w
   unfolding placesOfFirst distinct
   first-once i zero = refl
   first-once i (suc k) =
-      ⊎-elim
-      (λ (q : eqb (source j k) (source j i) ≡ true). rw q (taking-once (j .sinks) (placesOfFirst j i k) (listedPlaces j k) (first-once i k)))
-      (λ (q : eqb (source j k) (source j i) ≡ false). rw q (first-once i k))
-      (either-way (eqb (source j k) (source j i)))
+      by-test (eqb (source j k) (source j i))
+      (λ q. rw q (taking-once (j .sinks) (placesOfFirst j i k) (listedPlaces j k) (first-once i k)))
+      (λ q. rw q (first-once i k))
 
   first-distinct : (i k : ℕ) → distinct (placesOfFirst j i k) ≡ true
   first-distinct i k = entries-distinct (j .sinks) (placesOfFirst j i k) (first-once i k)
@@ -188,10 +184,9 @@ module _ (j : Job) (tables : Joinable (j .sources) (j .firstSinks) (j .sinks)) w
   pub joined-for : (i p : ℕ) → has p (joinedPlaces j i) ≡ true → (leads (j .sources) i ≡ true) × ListedFor j i (nets j) p
   unfolding joinedPlaces
   joined-for i p h =
-      ⊎-elim
-      (λ (q : leads (j .sources) i ≡ true). (q, listed-for i (nets j) p (le-refl (nets j)) (rw q at h)))
-      (λ (q : leads (j .sources) i ≡ false). absurd (no-entry p (rw q at h)))
-      (either-way (leads (j .sources) i))
+      by-test (leads (j .sources) i)
+      (λ q. (q, listed-for i (nets j) p (le-refl (nets j)) (rw q at h)))
+      (λ q. absurd (no-entry p (rw q at h)))
 
   -- two nets of one source that lead are one
   one-leads : (a b : ℕ) → leads (j .sources) a ≡ true → leads (j .sources) b ≡ true → source j a ≡ source j b → a ≡ b
@@ -215,10 +210,9 @@ module _ (j : Job) (tables : Joinable (j .sources) (j .firstSinks) (j .sinks)) w
   joined-distinct : (i : ℕ) → distinct (joinedPlaces j i) ≡ true
   unfolding joinedPlaces distinct
   joined-distinct i =
-      ⊎-elim
-      (λ (q : leads (j .sources) i ≡ true). rw q (first-distinct i (nets j)))
-      (λ (q : leads (j .sources) i ≡ false). rw q)
-      (either-way (leads (j .sources) i))
+      by-test (leads (j .sources) i)
+      (λ q. rw q (first-distinct i (nets j)))
+      (λ q. rw q)
 
   -- no earlier net has a place that is listed for a net that leads
   apart : (i p : ℕ) → leads (j .sources) i ≡ true → ListedFor j i (nets j) p → has p (placesBefore j i) ≡ false

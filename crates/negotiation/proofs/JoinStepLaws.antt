@@ -2,7 +2,6 @@
 -- Assumes nothing.
 use mathlib.Core.Bool.{true, false}
 use mathlib.Core.List.{List, [], _∷_, _++_, map-append, append-assoc}
-use mathlib.Core.Logic.{⊎-elim}
 use mathlib.Core.Path.{_≡_, refl, sym, _∙_}
 use Prim.Native.Nat.{ℕ, suc, _+_, _-_, _≤_, _<_, zero-le}
 use native.Mathlib.Nat.{le-refl}
@@ -14,7 +13,7 @@ use lib.Seq.{getD-set-same, getD-set-other, getD-take, take-suc, length-take-le,
 use borrow.Author.Tests.{eq-eqb, ne-eqb, eqb-true, eqb-false}
 use Rattle.price.specs.Test.{choose}
 use Rattle.price.specs.Lists.{has}
-use Rattle.price.proofs.TestLaws.{either-way, either-true, either-false}
+use Rattle.price.proofs.TestLaws.{by-test, either-true, either-false}
 use Rattle.job.specs.Join.{placesFrom, entriesAt, taking}
 use Rattle.negotiation.specs.JoinSteps.{PlacesTaken}
 use Rattle.job.specs.Steps.{AllBelow}
@@ -66,18 +65,16 @@ has-taken-more {stamp} {sinks} {before} {taken} {seen} {places} {count} p node r
       within = rw length-set (omega arith);
       placed = rw (add-one, take-suc-set places count p room, has-taken .placed) (append-assoc before taken (p ∷ []));
       stamped = λ v h.
-          ⊎-elim
-          (λ (q : eqb v sink ≡ true).
+          by-test (eqb v sink)
+          (λ q.
           rw (entries-more sinks taken p v, q, either-true, eqb-true v sink q, getD-set-same seen sink stamp 0 node) (eq-eqb stamp stamp refl))
-          (λ (q : eqb v sink ≡ false).
+          (λ q.
           rw (entries-more sinks taken p v, q, either-false, getD-set-other seen sink v stamp 0 (eqb-false v sink q))
-          (has-taken .stamped v (rw length-set at h)))
-          (either-way (eqb v sink));
+          (has-taken .stamped v (rw length-set at h)));
       stamps = λ v h.
-          ⊎-elim
-          (λ (q : eqb v sink ≡ true). rw (eqb-true v sink q, getD-set-same seen sink stamp 0 node) (le-refl stamp))
-          (λ (q : eqb v sink ≡ false). rw (getD-set-other seen sink v stamp 0 (eqb-false v sink q)) (has-taken .stamps v (rw length-set at h)))
-          (either-way (eqb v sink));
+          by-test (eqb v sink)
+          (λ q. rw (eqb-true v sink q, getD-set-same seen sink stamp 0 node) (le-refl stamp))
+          (λ q. rw (getD-set-other seen sink v stamp 0 (eqb-false v sink q)) (has-taken .stamps v (rw length-set at h)));
     }
 
 module _ {stamp from to start : ℕ} {sinks seen₀ places₀ seen places : List ℕ} {count p : ℕ} (t : Taking stamp from to start sinks seen₀ places₀ seen places count p) (h : p < to) (node : getD sinks p 0 < length seen) where

@@ -12,7 +12,7 @@ use lib.ListN.{length, getD, length-map, length-append, List·getD-eq-default}
 use lib.Seq.{slice, slice-empty, slice-cons}
 use Rattle.price.specs.Bounds.{criticalityMost}
 use Rattle.price.specs.Lists.{neighbours, has, distinct, upTo}
-use Rattle.price.proofs.TestLaws.{either-way, true≢false, le-or-lt}
+use Rattle.price.proofs.TestLaws.{by-test, true≢false, le-or-lt}
 use Rattle.price.proofs.ListLaws.{every-at, has-at, has-place, length-upTo, getD-upTo}
 use Rattle.search.specs.Paths.{Walk}
 use Rattle.search.proofs.BlockLaws.{kinds-few}
@@ -84,10 +84,9 @@ module _ (j : Job) (i : ℕ) where
   pub sinks-lead : i < nets j → hasSinks (joined j) i ≡ true → leads (j .sources) i ≡ true
   unfolding hasSinks
   sinks-lead h e =
-      ⊎-elim
-      (λ (q : leads (j .sources) i ≡ true). q)
-      (λ (q : leads (j .sources) i ≡ false). absurd (true≢false (sym e ∙ rw (joined-others h q) refl)))
-      (either-way (leads (j .sources) i))
+      by-test (leads (j .sources) i)
+      (λ q. q)
+      (λ q. absurd (true≢false (sym e ∙ rw (joined-others h q) refl)))
 
   pub due-leads : (t : State) → i < nets j → due (joined j) t i ≡ true → leads (j .sources) i ≡ true
   due-leads t h e = sinks-lead h (due-sinks (joined j) t i e)
@@ -161,15 +160,13 @@ module _ (j : Job) (s : SoundJob j) where
         only = only-listed;
         sinks-at = joined-sinks j;
         in-order = λ i h.
-            ⊎-elim
-            (λ (q : leads (j .sources) i ≡ true). rw (joined-all j i q) (first-rises j joinable-of i (nets j) (le-refl (nets j))))
-            (λ (q : leads (j .sources) i ≡ false). rw (joined-none j i q))
-            (either-way (leads (j .sources) i));
+            by-test (leads (j .sources) i)
+            (λ q. rw (joined-all j i q) (first-rises j joinable-of i (nets j) (le-refl (nets j))))
+            (λ q. rw (joined-none j i q));
         once = λ i h.
-            ⊎-elim
-            (λ (q : leads (j .sources) i ≡ true). rw (joined-sinks j i h, joined-all j i q) (first-once j joinable-of i (nets j)))
-            (λ (q : leads (j .sources) i ≡ false). rw (joined-others j i h q))
-            (either-way (leads (j .sources) i));
+            by-test (leads (j .sources) i)
+            (λ q. rw (joined-sinks j i h, joined-all j i q) (first-once j joinable-of i (nets j)))
+            (λ q. rw (joined-others j i h q));
         criticalities-at = joined-criticalities j;
         first-listed = first-listed j joinable-of;
       }

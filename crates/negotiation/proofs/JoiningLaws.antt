@@ -2,7 +2,6 @@
 -- Assumes nothing.
 use mathlib.Core.Bool.{Bool, true, false}
 use mathlib.Core.List.{List, [], append-nil}
-use mathlib.Core.Logic.{⊎-elim}
 use mathlib.Core.Path.{_≡_, refl, sym, _∙_, ap, fun-ext}
 use Prim.Native.Nat.{ℕ, zero, suc, _+_, _≤_, _<_, zero-le}
 use native.Mathlib.Nat.{le-refl}
@@ -14,7 +13,7 @@ use borrow.Author.Count.{below-none, below-more}
 use borrow.Author.Tests.{eq-eqb, ne-eqb}
 use Rattle.price.specs.Bounds.{nodesMost}
 use Rattle.price.specs.Lists.{has, upTo}
-use Rattle.price.proofs.TestLaws.{either-way}
+use Rattle.price.proofs.TestLaws.{by-test}
 use Rattle.price.proofs.ListLaws.{has-at, length-upTo, getD-upTo}
 use Rattle.search.specs.Replies.{sinksMost}
 use Rattle.job.specs.declared.Terms.{Terms}
@@ -282,14 +281,13 @@ module _ {sources firstSinks sinks criticalities firsts joint jointly : List ℕ
 
   criticalities-same : ifTimed t (take count jointly) ≡ joined listed .criticalities
   criticalities-same =
-      ⊎-elim
-      (λ (w : t .timed ≡ true).
+      by-test (t .timed)
+      (λ w.
       if-timed t w (take count jointly) ∙ tables .criticalities-are w ∙ ap (entriesAt criticalities) (same (length sources))
       ∙ ap (λ (cs : List ℕ). entriesAt cs (placesBefore listed (length sources))) (sym (if-timed t w criticalities))
       ∙ sym (if-timed t w (entriesAt (listed .criticalities) (placesBefore listed (length sources)))))
-      (λ (w : t .timed ≡ false).
+      (λ w.
       if-untimed t w (take count jointly) ∙ sym (if-untimed t w (entriesAt (listed .criticalities) (placesBefore listed (length sources)))))
-      (either-way (t .timed))
 
   pub joined-job : jobOf kinds capacities firstEdges edgeTargets sources (take (length sources + 1) firsts) (take count joint) delays (take count jointly) t ≡ joined listed
   joined-job = rw (firsts-same, sinks-same, criticalities-same)

@@ -2,7 +2,6 @@
 -- Assumes nothing.
 use mathlib.Core.Bool.{true, false}
 use mathlib.Core.List.{List, [], _++_, append-assoc, append-nil}
-use mathlib.Core.Logic.{⊎-elim}
 use mathlib.Core.Path.{_≡_, refl, sym, _∙_, ap}
 use Prim.Native.Nat.{ℕ, _+_, _≤_, _<_}
 use native.Mathlib.Nat.{not-suc-le-zero}
@@ -12,7 +11,7 @@ use lib.ListN.{length, getD, set, drop, replicate, length-append, length-set, le
 use lib.Seq.{slice, take-append-seam, drop-append-seam, getD-set-same, getD-set-other}
 use borrow.Author.Tests.{eqb-true, eqb-false}
 use Rattle.price.specs.Lists.{has, upTo}
-use Rattle.price.proofs.TestLaws.{either-way}
+use Rattle.price.proofs.TestLaws.{by-test}
 use Rattle.price.proofs.ListLaws.{length-upTo, getD-upTo}
 use Rattle.job.specs.Job.{Job, nodes, nets}
 use Rattle.negotiation.specs.Records.{Record, encode, decode, pathNodes}
@@ -150,8 +149,8 @@ routed-places {j} {p} {from} {to} places i hi tree made a b ea eb below same =
       from-long = length-set from i a ∙ places .from-long;
       to-long = length-set to i b ∙ places .to-long;
       words = λ k h.
-          ⊎-elim
-          (λ (q : eqb k i ≡ true).
+          by-test (eqb k i)
+          (λ q.
           let from-long = places .from-long in
           let to-long = places .to-long in
           rw (
@@ -170,9 +169,8 @@ routed-places {j} {p} {from} {to} places i hi tree made a b ea eb below same =
             below = below;
             tree-is = same;
           }))
-          (λ (q : eqb k i ≡ false).
+          (λ q.
           let ne = eqb-false k i q in
           rw (getD-set-other from i k a 0 ne, getD-set-other to i k b 0 ne, getD-set-other (p .state .trees) i k (treeFrom j i made) [] ne)
-          (words-more made (places .words k h)))
-          (either-way (eqb k i));
+          (words-more made (places .words k h)));
     }

@@ -3,7 +3,6 @@
 -- Assumes nothing.
 use mathlib.Core.Bool.{true, false, not}
 use mathlib.Core.List.{List, [], _∷_, _++_}
-use mathlib.Core.Logic.{⊎-elim}
 use mathlib.Core.Path.{_≡_, refl, sym, _∙_, ap, subst}
 use Prim.Native.Nat.{ℕ, _+_, _-_, _<_}
 use native.Mathlib.Nat.{le-trans}
@@ -15,7 +14,7 @@ use borrow.Author.Tests.{le-leb, lt-leb, ltb-true, ltb-false, eqb-true, eqb-fals
 use Rattle.price.specs.Test.{choose}
 use Rattle.price.specs.Lists.{has, upTo, countBelow}
 use Rattle.price.specs.Prices.{nextHistory}
-use Rattle.price.proofs.TestLaws.{either-way}
+use Rattle.price.proofs.TestLaws.{by-test}
 use Rattle.price.proofs.ListLaws.{length-upTo, getD-upTo, has-place, up-to-is}
 use Rattle.price.proofs.BelowLaws.{count-same}
 use Rattle.search.proofs.BlockLaws.{capacities-long}
@@ -70,10 +69,9 @@ unfolding has
 one-mark j marks s long l none =
     marks-are j (s ∷ []) (set marks s 1) (length-set marks s 1 ∙ long)
     (λ v h.
-    ⊎-elim
-    (λ (q : eqb v s ≡ true). rw (q, eqb-true v s q) (getD-set-same marks s 1 0 (rw long l)))
-    (λ (q : eqb v s ≡ false). rw q (getD-set-other marks s v 1 0 (eqb-false v s q) ∙ none v h))
-    (either-way (eqb v s)))
+    by-test (eqb v s)
+    (λ q. rw (q, eqb-true v s q) (getD-set-same marks s 1 0 (rw long l)))
+    (λ q. rw q (getD-set-other marks s v 1 0 (eqb-false v s q) ∙ none v h)))
 
 -- fewer than 512 others have a node
 pub others-below : (j : Job) → Routable j → (trees : List (List ℕ)) (i v : ℕ) → i < nets j → othersOf j trees i v < netsMost
@@ -108,10 +106,9 @@ sinks-is j sound i h =
     let a : ℕ = getD (j .firstSinks) i 0 in
     let b : ℕ = getD (j .firstSinks) (i + 1) 0 in
     let long : length (slice a b (j .sinks)) ≡ b - a = length-slice a b (j .sinks) (sound .sinks-end (i + 1) (omega arith)) in
-    ⊎-elim
-    (λ (q : ltb a b ≡ true). let l = ltb-true a b q in rw q (le-leb 1 (length (slice a b (j .sinks))) (omega arith)))
-    (λ (q : ltb a b ≡ false). let l = ltb-false a b q in rw q (lt-leb 1 (length (slice a b (j .sinks))) (omega arith)))
-    (either-way (ltb a b))
+    by-test (ltb a b)
+    (λ q. let l = ltb-true a b q in rw q (le-leb 1 (length (slice a b (j .sinks))) (omega arith)))
+    (λ q. let l = ltb-false a b q in rw q (lt-leb 1 (length (slice a b (j .sinks))) (omega arith)))
 
 module _ (j : Job) (sound : Routable j) {p : Progress} {log₀ : List ℕ} {t : Tariff} {history users marks from to log : List ℕ}
     (kept : Kept j p history users marks from to) (tallied : Tallied (p .records) log₀ t log) where

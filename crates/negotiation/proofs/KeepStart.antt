@@ -2,7 +2,7 @@
 -- Assumes nothing.
 use mathlib.Core.Bool.{true, false}
 use mathlib.Core.List.{List, [], append-nil}
-use mathlib.Core.Logic.{⊎-elim, inl, inr}
+use mathlib.Core.Logic.{inl, inr}
 use mathlib.Core.Path.{_≡_, refl, sym, _∙_, ap}
 use Prim.Native.Nat.{ℕ, _+_, _-_, _≤_, _<_, zero-le}
 use native.Mathlib.Nat.{not-suc-le-zero, le-trans}
@@ -12,7 +12,7 @@ use lib.Seq.{length-slice, length-take-le, getD-take, ext-getD}
 use Rattle.price.specs.Test.{choose}
 use Rattle.price.specs.Lists.{upTo}
 use Rattle.price.specs.Prices.{nextFactor}
-use Rattle.price.proofs.TestLaws.{either-way}
+use Rattle.price.proofs.TestLaws.{by-test}
 use Rattle.price.proofs.ListLaws.{up-to-is}
 use Rattle.job.specs.Job.{Job, nodes, nets, netSinks}
 use Rattle.negotiation.specs.Routable.{Routable}
@@ -173,9 +173,8 @@ module _ (j : Job) (sound : Routable j) {p : Progress} {work₀ log₀ : List �
         → AtTurns j p work₀ log₀ m i left t history users′ marks′ from to dues work log (t .words)
     keep-begun without with-turns =
         let mark = due-mark j (startOf j p m) (at .due-is) i hi in
-        ⊎-elim
-        (λ (q : due j (startOf j p m) i ≡ true).
+        by-test (due j (startOf j p m) i)
+        (λ q.
         let one : getD dues i 0 ≡ 1 = mark ∙ rw q in
         inr (taken q (with-turns (λ z. let n : 0 ≡ 1 = sym z ∙ one in omega arith))))
-        (λ (q : due j (startOf j p m) i ≡ false). inl (idle q (without (mark ∙ rw q))))
-        (either-way (due j (startOf j p m) i))
+        (λ q. inl (idle q (without (mark ∙ rw q))))

@@ -16,7 +16,7 @@ use Rattle.price.specs.Lists.{has, upTo}
 use Rattle.price.specs.Test.{choose}
 use Rattle.price.specs.Timed.{weighed, historyBound}
 use Rattle.price.specs.declared.Weighting.{Weighting}
-use Rattle.price.proofs.TestLaws.{either-way, le-or-lt, both-true, one-most}
+use Rattle.price.proofs.TestLaws.{by-test, le-or-lt, both-true, one-most}
 use Rattle.price.proofs.ListLaws.{every-all}
 use Rattle.search.specs.Block.{Block}
 use Rattle.search.specs.Distance.{inTree}
@@ -85,21 +85,19 @@ price-untimed b w old new factor histories others e = rw e
 due-short : (joined : ℕ → Bool) (sinks cs : List ℕ) → length (sinkDue joined sinks cs) ≤ 1
 unfolding sinkDue
 due-short joined sinks cs =
-    ⊎-elim
-    (λ (q : ltb (placeDue joined sinks cs) (length sinks) ≡ true). rw q (omega arith))
-    (λ (q : ltb (placeDue joined sinks cs) (length sinks) ≡ false). rw q (omega arith))
-    (either-way (ltb (placeDue joined sinks cs) (length sinks)))
+    by-test (ltb (placeDue joined sinks cs) (length sinks))
+    (λ q. rw q (omega arith))
+    (λ q. rw q (omega arith))
 
 module _ (j : Job) (sound : Routable j) (i : ℕ) (hi : i < nets j) (tree : List ℕ) where
   -- the search takes the sinks that a turn tries
   turn-searched : sinkListSound (nodes j) (turnSinks j i tree) ≡ true
   turn-searched =
       let few : length (turnSinks j i tree) ≤ sinksMost =
-      ⊎-elim
-      (λ (w : j .terms .timed ≡ true).
+      by-test (j .terms .timed)
+      (λ w.
       rw (timed-sinks j i tree w) (le-trans (due-short (λ s. has s tree) (netSinks j i) (netCriticalities j i)) (omega arith)))
-      (λ (w : j .terms .timed ≡ false). rw (untimed-sinks j i tree w) (sinks-few (nodes j) (netSinks j i) (sinks-searched j sound i hi)))
-      (either-way (j .terms .timed)) in
+      (λ w. rw (untimed-sinks j i tree w) (sinks-few (nodes j) (netSinks j i) (sinks-searched j sound i hi))) in
       sinks-all (nodes j) (turnSinks j i tree) (length (turnSinks j i tree)) few (omega arith) (turn-nodes j sound i hi tree)
 
   module _ {delays cs : List ℕ} (lent : Lent j delays cs) {marks : List ℕ} (marked : marks ≡ marksOf j tree) where
@@ -115,29 +113,27 @@ module _ (j : Job) (sound : Routable j) (i : ℕ) (hi : i < nets j) (tree : List
         (λ (l : p < length (netSinks j i)). sound .sink-node i hi p l)
         (le-or-lt (length (netSinks j i)) p) in
         let is : getD marks v 0 ≡ choose (has v tree) 1 0 = ap (λ (l : List ℕ). getD l v 0) marked ∙ mark-at j tree v node in
-        rw is (⊎-elim (λ (q : has v tree ≡ true). rw q) (λ (q : has v tree ≡ false). rw q) (either-way (has v tree)))
+        rw is (by-test (has v tree) (λ q. rw q) (λ q. rw q))
 
     pub tried-is : triedBy j i marks cs ≡ turnSinks j i tree
     unfolding turnSinks netSinks netCriticalities
     tried-is =
         let sinks : List ℕ = sinksBetween (j .firstSinks) (j .sinks) i in
-        ⊎-elim
-        (λ (w : j .terms .timed ≡ true).
+        by-test (j .terms .timed)
+        (λ w.
         ap (λ (l : List ℕ). sinksTried (j .terms .timed) (inTree marks) sinks (sinksBetween (j .firstSinks) l i)) (lent .criticalities-are w)
         ∙ tried-alike (inTree marks) (λ s. has s tree) sinks marks-agree (j .terms .timed) (sinksBetween (j .firstSinks) (j .criticalities) i))
-        (λ (w : j .terms .timed ≡ false). rw w)
-        (either-way (j .terms .timed))
+        (λ w. rw w)
 
     pub weighting-is : weightingBy j i marks cs ≡ turnWeighting j i tree
     unfolding turnWeighting netSinks netCriticalities
     weighting-is =
         let sinks : List ℕ = sinksBetween (j .firstSinks) (j .sinks) i in
-        ⊎-elim
-        (λ (w : j .terms .timed ≡ true).
+        by-test (j .terms .timed)
+        (λ w.
         ap (λ (l : List ℕ). weightingDue (j .terms .timed) (inTree marks) sinks (sinksBetween (j .firstSinks) l i)) (lent .criticalities-are w)
         ∙ weighting-alike (inTree marks) (λ s. has s tree) sinks marks-agree (j .terms .timed) (sinksBetween (j .firstSinks) (j .criticalities) i))
-        (λ (w : j .terms .timed ≡ false). rw w)
-        (either-way (j .terms .timed))
+        (λ w. rw w)
 
     -- the weighting is timed where the job is
     timed-is : weightingBy j i marks cs .timed ≡ j .terms .timed
@@ -149,12 +145,11 @@ module _ (j : Job) (sound : Routable j) (i : ℕ) (hi : i < nets j) (tree : List
         → priceAt (j .block) (weighedCongestion (weightingBy j i marks cs) delays factor histories others)
         ≡ priceAt (j .block) (weighedCongestion (turnWeighting j i tree) (j .delays) factor histories others)
     price-is factor histories others =
-        ⊎-elim
-        (λ (w : j .terms .timed ≡ true).
+        by-test (j .terms .timed)
+        (λ w.
         ap (λ (l : List ℕ). priceAt (j .block) (weighedCongestion (weightingBy j i marks cs) l factor histories others)) (lent .delays-are w))
-        (λ (w : j .terms .timed ≡ false).
+        (λ w.
         price-untimed (j .block) (weightingBy j i marks cs) delays (j .delays) factor histories others (timed-is ∙ w))
-        (either-way (j .terms .timed))
         ∙ ap (λ (x : Weighting). priceAt (j .block) (weighedCongestion x (j .delays) factor histories others)) weighting-is
 
     -- a turn by the same numbers

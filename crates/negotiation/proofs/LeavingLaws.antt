@@ -6,7 +6,6 @@
 -- Assumes nothing.
 use mathlib.Core.Bool.{Bool, true, false}
 use mathlib.Core.List.{List, [], _∷_, _++_}
-use mathlib.Core.Logic.{⊎-elim}
 use mathlib.Core.Path.{_≡_, refl, sym, _∙_}
 use Prim.Native.Nat.{ℕ, _+_, _-_, _≤_, _<_}
 use native.Mathlib.Omega.{arith}
@@ -16,7 +15,7 @@ use lib.Seq.{getD-set-same, getD-set-other, slice, slice-cons}
 use borrow.Author.Tests.{eq-eqb, ne-eqb, eqb-true, eqb-false}
 use Rattle.price.specs.Test.{choose, both, either}
 use Rattle.price.specs.Lists.{has}
-use Rattle.price.proofs.TestLaws.{either-way}
+use Rattle.price.proofs.TestLaws.{by-test}
 use Rattle.price.proofs.ListLaws.{has-append, has-append-left, has-append-right}
 use Rattle.job.specs.Steps.{AllBelow}
 use Rattle.negotiation.specs.Steps.{Dropped, UsersAdded, CanDrop, CanAddMarked}
@@ -39,14 +38,13 @@ module _ (n y : ℕ) (users marks : List ℕ) (l : y < length marks) where
     users-long = length-set users y (getD users y 0 - 1);
     marks-set = stored-one 1 y marks l;
     users-at = λ v b.
-        ⊎-elim
-        (λ (q : eqb v y ≡ true).
+        by-test (eqb v y)
+        (λ q.
         let e : v ≡ y = eqb-true v y q in
         let m : eqb (getD marks y 0) 0 ≡ true = eq-eqb (getD marks y 0) 0 z in
         rw (q, e, m) (getD-set-same users y (getD users y 0 - 1) 0 h))
-        (λ (q : eqb v y ≡ false).
-        rw q (getD-set-other users y v (getD users y 0 - 1) 0 (eqb-false v y q) ∙ sub-none (getD users v 0)))
-        (either-way (eqb v y));
+        (λ q.
+        rw q (getD-set-other users y v (getD users y 0 - 1) 0 (eqb-false v y q) ∙ sub-none (getD users v 0)));
   }
 
   -- a node that was marked
@@ -56,13 +54,12 @@ module _ (n y : ℕ) (users marks : List ℕ) (l : y < length marks) where
     users-long = refl;
     marks-set = stored-one 1 y marks l;
     users-at = λ v b.
-        ⊎-elim
-        (λ (q : eqb v y ≡ true).
+        by-test (eqb v y)
+        (λ q.
         let e : v ≡ y = eqb-true v y q in
         let m : eqb (getD marks y 0) 0 ≡ false = ne-eqb (getD marks y 0) 0 z in
         rw (q, e, m) (sub-none (getD users y 0)))
-        (λ (q : eqb v y ≡ false). rw q (sub-none (getD users v 0)))
-        (either-way (eqb v y));
+        (λ q. rw q (sub-none (getD users v 0)));
   }
 
 drop-again : (s t : Bool) (m u : ℕ) → u - choose (both s (eqb m 0)) 1 0 - choose (both t (eqb (choose s 1 m) 0)) 1 0 ≡ u - choose (both (either s t) (eqb m 0)) 1 0
@@ -98,14 +95,13 @@ module _ (n y : ℕ) (users marks : List ℕ) (l : y < length marks) where
     users-long = length-set users y (getD users y 0 + 1);
     marks-cleared = stored-one 0 y marks l;
     users-at = λ v b.
-        ⊎-elim
-        (λ (q : eqb v y ≡ true).
+        by-test (eqb v y)
+        (λ q.
         let e : v ≡ y = eqb-true v y q in
         let m : eqb (getD marks y 0) 1 ≡ true = eq-eqb (getD marks y 0) 1 z in
         rw (q, e, m) (getD-set-same users y (getD users y 0 + 1) 0 h))
-        (λ (q : eqb v y ≡ false).
-        rw q (getD-set-other users y v (getD users y 0 + 1) 0 (eqb-false v y q) ∙ add-none (getD users v 0)))
-        (either-way (eqb v y));
+        (λ q.
+        rw q (getD-set-other users y v (getD users y 0 + 1) 0 (eqb-false v y q) ∙ add-none (getD users v 0)));
   }
 
   -- a node that was not marked
@@ -115,13 +111,12 @@ module _ (n y : ℕ) (users marks : List ℕ) (l : y < length marks) where
     users-long = refl;
     marks-cleared = stored-one 0 y marks l;
     users-at = λ v b.
-        ⊎-elim
-        (λ (q : eqb v y ≡ true).
+        by-test (eqb v y)
+        (λ q.
         let e : v ≡ y = eqb-true v y q in
         let m : eqb (getD marks y 0) 1 ≡ false = ne-eqb (getD marks y 0) 1 z in
         rw (q, e, m) (add-none (getD users y 0)))
-        (λ (q : eqb v y ≡ false). rw q (add-none (getD users v 0)))
-        (either-way (eqb v y));
+        (λ q. rw q (add-none (getD users v 0)));
   }
 
 add-again : (s t : Bool) (m u : ℕ) → u + choose (both s (eqb m 1)) 1 0 + choose (both t (eqb (choose s 0 m) 1)) 1 0 ≡ u + choose (both (either s t) (eqb m 1)) 1 0
@@ -145,15 +140,14 @@ added-append {n} {xs} {ys} {users} {marks} s t = record {
 -- a node that is not marked now was not passed
 pub can-drop-rest : {n : ℕ} {xs users marks usersNow marksNow : List ℕ} (ys : List ℕ) → CanDrop n (xs ++ ys) users marks → Dropped n xs users marks usersNow marksNow → CanDrop n ys usersNow marksNow
 can-drop-rest {n} {xs} {users} {marks} {usersNow} {marksNow} ys can s v b among z =
-    ⊎-elim
-    (λ (q : has v xs ≡ true).
+    by-test (has v xs)
+    (λ q.
     let one : getD marksNow v 0 ≡ 1 = rw q at (s .marks-set .at v) in
     absurd (omega arith))
-    (λ (q : has v xs ≡ false).
+    (λ q.
     let same : getD marksNow v 0 ≡ getD marks v 0 = rw q at (s .marks-set .at v) in
     let kept : getD usersNow v 0 ≡ getD users v 0 - 0 = rw q at (s .users-at v b) in
     omega (arith, can v b (has-append-right v xs ys among) (sym same ∙ z)))
-    (either-way (has v xs))
 
 pub can-drop-left : {n : ℕ} (users marks xs ys : List ℕ) → CanDrop n (xs ++ ys) users marks → CanDrop n xs users marks
 can-drop-left users marks xs ys can v b among z = can v b (has-append-left v xs ys among) z
@@ -161,15 +155,14 @@ can-drop-left users marks xs ys can v b among z = can v b (has-append-left v xs 
 -- a node that is marked now was not passed
 pub can-add-rest : {n : ℕ} {xs users marks usersNow marksNow : List ℕ} → CanAddMarked n users marks → UsersAdded n xs users marks usersNow marksNow → CanAddMarked n usersNow marksNow
 can-add-rest {n} {xs} {users} {marks} {usersNow} {marksNow} can s v b o =
-    ⊎-elim
-    (λ (q : has v xs ≡ true).
+    by-test (has v xs)
+    (λ q.
     let gone : getD marksNow v 0 ≡ 0 = rw q at (s .marks-cleared .at v) in
     absurd (omega arith))
-    (λ (q : has v xs ≡ false).
+    (λ q.
     let same : getD marksNow v 0 ≡ getD marks v 0 = rw q at (s .marks-cleared .at v) in
     let kept : getD usersNow v 0 ≡ getD users v 0 + 0 = rw q at (s .users-at v b) in
     omega (arith, can v b (sym same ∙ o)))
-    (either-way (has v xs))
 
 -- a node that is not marked when it is reached has a user
 pub node-can-drop :

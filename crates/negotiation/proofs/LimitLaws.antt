@@ -12,7 +12,7 @@ use lib.ListN.{length}
 use borrow.Author.Tests.{lt-ltb, le-ltb, ltb-true}
 use Rattle.price.specs.Test.{choose}
 use Rattle.price.specs.Lists.{firstBelow}
-use Rattle.price.proofs.TestLaws.{either-way, le-or-lt, true≢false}
+use Rattle.price.proofs.TestLaws.{by-test, le-or-lt, true≢false}
 use Rattle.price.proofs.BelowLaws.{firstBelow-holds, firstBelow-below, firstBelow-is}
 use Rattle.search.specs.Turn.{Congestion, Turn, joins, stuck}
 use Rattle.job.specs.Job.{Job, nets, source, netSinks, netCriticalities}
@@ -134,16 +134,15 @@ module _ (j : Job) (s : State) (low high : ℕ) (more : low ≤ high) where
   made-past : low ≤ firstBelow (settlesAt j s) low → (k : ℕ) → k ≤ low + 1 → k ≤ high → k ≤ iterationsMade j s high
   unfolding iterationsMade
   made-past l k near below =
-      ⊎-elim
-      (λ (t : ltb (firstBelow (settlesAt j s) high) high ≡ true).
+      by-test (ltb (firstBelow (settlesAt j s) high) high)
+      (λ t.
       let settles : settlesAt j s (firstBelow (settlesAt j s) high) ≡ true = firstBelow-holds (settlesAt j s) high (ltb-true _ _ t) in
       ⊎-elim
       (λ (h : low ≤ firstBelow (settlesAt j s) high). rw t (omega arith))
       (λ (h : firstBelow (settlesAt j s) high < low).
       absurd (true≢false (sym settles ∙ firstBelow-below (settlesAt j s) low (firstBelow (settlesAt j s) high) (omega arith))))
       (le-or-lt low (firstBelow (settlesAt j s) high)))
-      (λ (t : ltb (firstBelow (settlesAt j s) high) high ≡ false). rw t below)
-      (either-way (ltb (firstBelow (settlesAt j s) high) high))
+      (λ t. rw t below)
 
   made-more : iterationsMade j s low ≤ iterationsMade j s high
   made-more =
@@ -190,10 +189,9 @@ module _ (j : Job) (limit : ℕ) (s : State) where
   pub end-settles : endNumbers (withLimit j limit) s ≡ [] → settlesAt j s (madeUnder - 1) ≡ true
   unfolding endNumbers
   end-settles e =
-      ⊎-elim
-      (λ (t : settlesAt j s (madeUnder - 1) ≡ true). t)
-      (λ (t : settlesAt j s (madeUnder - 1) ≡ false). absurd (not-accepted _ _ (sym (rw (last-alike, t) at e))))
-      (either-way (settlesAt j s (madeUnder - 1)))
+      by-test (settlesAt j s (madeUnder - 1))
+      (λ t. t)
+      (λ t. absurd (not-accepted _ _ (sym (rw (last-alike, t) at e))))
 
   pub settled-end : settlesAt j s (madeUnder - 1) ≡ true → endNumbers (withLimit j limit) s ≡ []
   unfolding endNumbers
@@ -201,10 +199,9 @@ module _ (j : Job) (limit : ℕ) (s : State) where
 
   pub end-unsettled : (number : ℕ) (numbers : List ℕ) → endNumbers (withLimit j limit) s ≡ number ∷ numbers → settlesAt j s (madeUnder - 1) ≡ false
   end-unsettled number numbers e =
-      ⊎-elim
-      (λ (t : settlesAt j s (madeUnder - 1) ≡ true). absurd (not-accepted number numbers (sym (settled-end t) ∙ e)))
-      (λ (t : settlesAt j s (madeUnder - 1) ≡ false). t)
-      (either-way (settlesAt j s (madeUnder - 1)))
+      by-test (settlesAt j s (madeUnder - 1))
+      (λ t. absurd (not-accepted number numbers (sym (settled-end t) ∙ e)))
+      (λ t. t)
 
 module _ (j : Job) (p : Progress) (low high : ℕ) (more : low ≤ high) where
   -- the records under the smaller are a beginning of those under the larger

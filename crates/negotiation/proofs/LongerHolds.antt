@@ -9,7 +9,7 @@ use native.Mathlib.Omega.{arith}
 use lib.Dec.{leb, ltb}
 use lib.ListN.{length}
 use borrow.Author.Tests.{le-ltb}
-use Rattle.price.proofs.TestLaws.{either-way}
+use Rattle.price.proofs.TestLaws.{by-test}
 use Rattle.search.specs.Replies.{workNeeded, cleared}
 use Rattle.job.specs.Job.{Job, nodes, nets, netSinks}
 use Rattle.job.specs.Tables.{limitSound, termsSound, faultyNets, faultyUntimed, faultyTimes, faultyJob, exceeds}
@@ -52,8 +52,8 @@ pub record Runs (j : Job) (work work′ : List ℕ) : Type 0 where
 
 pub refused-or-runs : (j : Job) (work work′ : List ℕ) → Alike j work work′ → Refused j work work′ ⊎ Runs j work work′
 refused-or-runs j work work′ alike =
-    ⊎-elim
-    (λ (t : leb 1 (faultyJob j) ≡ true).
+    by-test (leb 1 (faultyJob j))
+    (λ t.
     inl
     (record {
       number = 5;
@@ -64,9 +64,9 @@ refused-or-runs j work work′ alike =
       reply = λ log run. rw t;
       reply′ = λ log run. rw t;
     }))
-    (λ (t : leb 1 (faultyJob j) ≡ false).
-    ⊎-elim
-    (λ (x : exceeds (nodes j) (j .terms) ≡ true).
+    (λ t.
+    by-test (exceeds (nodes j) (j .terms))
+    (λ x.
     inl
     (record {
       number = 15;
@@ -77,9 +77,9 @@ refused-or-runs j work work′ alike =
       reply = λ log run. rw (t, x);
       reply′ = λ log run. rw (t, x);
     }))
-    (λ (x : exceeds (nodes j) (j .terms) ≡ false).
-    ⊎-elim
-    (λ (u : ltb (length work) (workNeeded (nodes j)) ≡ true).
+    (λ x.
+    by-test (ltb (length work) (workNeeded (nodes j)))
+    (λ u.
     inl
     (record {
       number = 6;
@@ -90,9 +90,9 @@ refused-or-runs j work work′ alike =
       reply = λ log run. rw (t, x, u);
       reply′ = λ log run. rw (t, x, sym alike ∙ u);
     }))
-    (λ (u : ltb (length work) (workNeeded (nodes j)) ≡ false).
-    ⊎-elim
-    (λ (v : ltb (unreachableNet (joined j)) (nets j) ≡ true).
+    (λ u.
+    by-test (ltb (unreachableNet (joined j)) (nets j))
+    (λ v.
     inl
     (record {
       number = 7;
@@ -103,12 +103,8 @@ refused-or-runs j work work′ alike =
       reply = λ log run. rw (t, x, u, v);
       reply′ = λ log run. rw (t, x, sym alike ∙ u, v);
     }))
-    (λ (v : ltb (unreachableNet (joined j)) (nets j) ≡ false).
-    inr (record { reply = λ log run. rw (t, x, u, v); reply′ = λ log run. rw (t, x, sym alike ∙ u, v) }))
-    (either-way (ltb (unreachableNet (joined j)) (nets j))))
-    (either-way (ltb (length work) (workNeeded (nodes j)))))
-    (either-way (exceeds (nodes j) (j .terms))))
-    (either-way (leb 1 (faultyJob j)))
+    (λ v.
+    inr (record { reply = λ log run. rw (t, x, u, v); reply′ = λ log run. rw (t, x, sym alike ∙ u, v) })))))
 
 -- two refusals by the same numbers
 refused-same : (numbers left left′ log log′ : List ℕ) → SameLog (refusedReply numbers left log) (refusedReply numbers left′ log′)

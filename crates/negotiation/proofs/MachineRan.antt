@@ -2,14 +2,13 @@
 -- Assumes nothing.
 use mathlib.Core.Bool.{true, false}
 use mathlib.Core.List.{List, _++_, append-nil, append-assoc}
-use mathlib.Core.Logic.{⊎-elim}
 use mathlib.Core.Path.{_≡_, _∙_}
 use Prim.Native.Nat.{ℕ, zero, suc, _+_, _≤_, _<_}
 use native.Mathlib.Nat.{le-refl}
 use native.Mathlib.Omega.{arith}
 use lib.ListN.{length}
 use Rattle.price.specs.Lists.{has}
-use Rattle.price.proofs.TestLaws.{either-way}
+use Rattle.price.proofs.TestLaws.{by-test}
 use Rattle.job.specs.Job.{Job, nets, netSinks}
 use Rattle.negotiation.specs.Records.{Record}
 use Rattle.negotiation.specs.Machine.{State, Progress, netRecords, due, afterNets, iterate, stateAfter, recordsAfter}
@@ -67,13 +66,12 @@ module _ (j : Job) (sound : Routable j) (all : Reached j) where
   machine-nets r h zero l = none
   machine-nets {s = s} r h (suc i) l =
       let before : NetsRan j s i (afterNets j s i) = machine-nets r h i (omega arith) in
-      ⊎-elim
-      (λ (q : due j s i ≡ true).
+      by-test (due j s i)
+      (λ q.
       rw q
       (routed before q
       (net-owns (afterNets j s i .state) (ran-ready j sound r before h) i (s .iteration) l (nets-iteration j s i) (due-some j s i q))))
-      (λ (q : due j s i ≡ false). rw q (kept before q))
-      (either-way (due j s i))
+      (λ q. rw q (kept before q))
 
   -- so many iterations more
   pub machine-ran :

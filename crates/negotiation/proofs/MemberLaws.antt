@@ -11,7 +11,7 @@ use lib.ListN.{length, getD}
 use borrow.Author.Tests.{not-true}
 use Rattle.price.specs.Test.{choose, both}
 use Rattle.price.specs.Lists.{every, has, distinct, total}
-use Rattle.price.proofs.TestLaws.{either-way, true≢false}
+use Rattle.price.proofs.TestLaws.{by-test, true≢false}
 use Rattle.price.proofs.ListLaws.{has-at, has-place, every-at, every-all, total-most, has-append-left, has-append-right}
 use Rattle.search.proofs.DistinctLaws.{has-cons, has-first, has-rest, lacks, distinct-cons, distinct-first, distinct-rest}
 
@@ -28,10 +28,9 @@ has-append-split x (z ∷ zs) ys h =
 pub every-append : (t : ℕ → Bool) (xs ys : List ℕ) → every t (xs ++ ys) ≡ both (every t xs) (every t ys)
 unfolding every
 every-append t [] ys = refl
-every-append t (x ∷ xs) ys = ⊎-elim
-    (λ (q : t x ≡ true). rw q (every-append t xs ys))
-    (λ (q : t x ≡ false). rw q)
-    (either-way (t x))
+every-append t (x ∷ xs) ys = by-test (t x)
+    (λ q. rw q (every-append t xs ys))
+    (λ q. rw q)
 
 -- a test of every entry, by membership
 pub every-has : (t : ℕ → Bool) (xs : List ℕ) → every t xs ≡ true → (v : ℕ) → has v xs ≡ true → t v ≡ true
@@ -44,16 +43,14 @@ every-members t xs h = every-all t xs (λ i l. h (getD xs i 0) (has-at xs i l))
 pub every-alike :
     (t u : ℕ → Bool) (xs ys : List ℕ) → ((v : ℕ) → has v xs ≡ has v ys) → ((v : ℕ) → has v xs ≡ true → t v ≡ u v) → every t xs ≡ every u ys
 every-alike t u xs ys same agree =
-    ⊎-elim
-    (λ (p : every t xs ≡ true).
+    by-test (every t xs)
+    (λ p.
     p ∙ sym (every-members u ys (λ v h. let on = same v ∙ h in sym (agree v on) ∙ every-has t xs p v on)))
-    (λ (p : every t xs ≡ false).
-    ⊎-elim
-    (λ (q : every u ys ≡ true).
+    (λ p.
+    by-test (every u ys)
+    (λ q.
     absurd (true≢false (sym (every-members t xs (λ v h. agree v h ∙ every-has u ys q v (sym (same v) ∙ h))) ∙ p)))
-    (λ (q : every u ys ≡ false). p ∙ sym q)
-    (either-way (every u ys)))
-    (either-way (every t xs))
+    (λ q. p ∙ sym q))
 
 -- none of the entries is in a list
 pub none-has : (ys xs : List ℕ) → every (λ v. not (has v ys)) xs ≡ true → (v : ℕ) → has v xs ≡ true → has v ys ≡ false
@@ -92,7 +89,7 @@ missing tree xs = total (lacking tree) xs
 
 lacking-most : (tree : List ℕ) (x : ℕ) → lacking tree x ≤ 1
 lacking-most tree x =
-    ⊎-elim (λ (q : has x tree ≡ true). rw q (omega arith)) (λ (q : has x tree ≡ false). rw q (omega arith)) (either-way (has x tree))
+    by-test (has x tree) (λ q. rw q (omega arith)) (λ q. rw q (omega arith))
 
 pub missing-most : (tree xs : List ℕ) → missing tree xs ≤ length xs
 missing-most tree xs =
@@ -112,20 +109,18 @@ missing-none tree (y ∷ ys) e x h =
     ⊎-elim
     (λ (p : x ≡ y).
     rw p
-    (⊎-elim
+    (by-test (has y tree)
     (λ q. q)
-    (λ (q : has y tree ≡ false). let z : 1 + missing tree ys ≡ 0 = rw q at e in absurd (omega arith))
-    (either-way (has y tree))))
+    (λ q. let z : 1 + missing tree ys ≡ 0 = rw q at e in absurd (omega arith))))
     (λ (m : has x ys ≡ true). missing-none tree ys (let z : lacking tree y + missing tree ys ≡ 0 = e in omega arith) x m)
     (has-cons x y ys h)
 
 -- a tree that has grown lacks no more
 lacking-le : (tree grown : List ℕ) → ((v : ℕ) → has v tree ≡ true → has v grown ≡ true) → (x : ℕ) → lacking grown x ≤ lacking tree x
 lacking-le tree grown more x =
-    ⊎-elim
-    (λ (q : has x tree ≡ true). rw (q, more x q) (le-refl 0))
-    (λ (q : has x tree ≡ false). rw q (lacking-most grown x))
-    (either-way (has x tree))
+    by-test (has x tree)
+    (λ q. rw (q, more x q) (le-refl 0))
+    (λ q. rw q (lacking-most grown x))
 
 missing-le : (tree grown xs : List ℕ) → ((v : ℕ) → has v tree ≡ true → has v grown ≡ true) → missing grown xs ≤ missing tree xs
 unfolding total

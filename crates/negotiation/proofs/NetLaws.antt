@@ -17,7 +17,7 @@ use Rattle.price.specs.Test.{both}
 use Rattle.price.specs.Lists.{every, has, distinct, upTo}
 use Rattle.price.specs.Replies.{InBounds}
 use Rattle.price.specs.Timed.{weighed, WeighedInBounds, historyBound, weighedMost}
-use Rattle.price.proofs.TestLaws.{either-way, true≢false}
+use Rattle.price.proofs.TestLaws.{by-test, true≢false}
 use Rattle.price.proofs.ListLaws.{length-upTo, getD-upTo, has-at, has-place}
 use Rattle.price.proofs.BelowLaws.{count-most, count-less}
 use Rattle.price.proofs.PriceLaws as price
@@ -165,10 +165,9 @@ module _ (j : Job) (sound : Routable j) (s : State) (ready : StateReady j s) (i 
 
     history-bounded : (v : ℕ) → v < nodes j → getD (s .histories) v 0 ≤ historyBound (turnWeighting j i tree)
     history-bounded v h =
-        ⊎-elim
-        (λ (t : turnWeighting j i tree .timed ≡ true). rw (bound-timed (turnWeighting j i tree) t) (ready .history-timed (weighs t) v h))
-        (λ (t : turnWeighting j i tree .timed ≡ false). rw (bound-untimed (turnWeighting j i tree) t) (ready .history-most v h))
-        (either-way (turnWeighting j i tree .timed))
+        by-test (turnWeighting j i tree .timed)
+        (λ t. rw (bound-timed (turnWeighting j i tree) t) (ready .history-timed (weighs t) v h))
+        (λ t. rw (bound-untimed (turnWeighting j i tree) t) (ready .history-most v h))
 
     pub weighed-bounds :
         (v : ℕ) → v < nodes j

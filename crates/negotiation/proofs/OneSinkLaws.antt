@@ -10,7 +10,7 @@ use lib.Dec.{eqb}
 use borrow.Author.Tests.{eqb-false, not-true}
 use Rattle.price.specs.Test.{either}
 use Rattle.price.specs.Lists.{has, total}
-use Rattle.price.proofs.TestLaws.{either-way, both-left, both-right}
+use Rattle.price.proofs.TestLaws.{by-test, both-left, both-right}
 use Rattle.search.specs.Block.{Block, nodes}
 use Rattle.search.specs.Tables.{Graph}
 use Rattle.search.specs.Paths.{Walk, stay, step, pathCost, CheapestPath}
@@ -44,17 +44,15 @@ module _ (b : Block) (g : Graph b) (price : ℕ → ℕ) (pos : (v : ℕ) → v 
   one-sink tree sinks sink cost path c =
       every-members (λ v. either (eqb v sink) (not (unjoined sinks tree v))) path
       (λ v h.
-      ⊎-elim
-      (λ (q : eqb v sink ≡ true). rw q)
-      (λ (q : eqb v sink ≡ false).
-      ⊎-elim
-      (λ (t : unjoined sinks tree v ≡ true).
+      by-test (eqb v sink)
+      (λ q. rw q)
+      (λ q.
+      by-test (unjoined sinks tree v)
+      (λ t.
       let f = shorter (c .joins .follows) v h (eqb-false v sink q) in
       let listed : has v sinks ≡ true = both-left (has v sinks) (not (has v tree)) t in
       let out : has v tree ≡ false = not-true (has v tree) (both-right (has v sinks) (not (has v tree)) t) in
       let least = c .cheapest (c .joins .start) v (f .0) (c .joins .starts-in-tree) listed out (f .1) in
       let is = c .joins .costs in
       absurd (omega (arith, f .2)))
-      (λ (t : unjoined sinks tree v ≡ false). rw (q, t))
-      (either-way (unjoined sinks tree v)))
-      (either-way (eqb v sink)))
+      (λ t. rw (q, t))))

@@ -15,7 +15,7 @@ use borrow.Author.Tests.{eq-eqb, eqb-true, ltb-true, lt-ltb}
 use Rattle.price.specs.Bounds.{criticalityMost}
 use Rattle.price.specs.Lists.{has}
 use Rattle.price.specs.Timed.{untimed}
-use Rattle.price.proofs.TestLaws.{either-way, le-or-lt, true≢false}
+use Rattle.price.proofs.TestLaws.{by-test, le-or-lt, true≢false}
 use Rattle.price.proofs.ListLaws.{has-at, has-place, has-append-left, has-append-right}
 use Rattle.search.proofs.DistinctLaws.{has-cons, has-first, has-rest}
 use Rattle.job.specs.Job.{Job, nodes, nets, netSinks, netCriticalities}
@@ -31,12 +31,11 @@ module _ (joined : ℕ → Bool) (sinks : List ℕ) where
   skip c at (x ∷ xs) ps h =
       let rest : (k : ℕ) → k < length xs → getD xs k 0 ≡ c → joined (getD sinks (at + 1 + k) 0) ≡ true =
       λ k l e. let q : at + suc k ≡ at + 1 + k = omega arith in rw q at (h (suc k) (omega arith) e) in
-      ⊎-elim
-      (λ (e : eqb x c ≡ true).
+      by-test (eqb x c)
+      (λ e.
       let here : joined (getD sinks at 0) ≡ true = let z : at + 0 ≡ at = omega arith in rw z at (h 0 (omega arith) (eqb-true x c e)) in
       rw (e, here) (skip c (at + 1) xs ps rest))
-      (λ (e : eqb x c ≡ false). rw e (skip c (at + 1) xs ps rest))
-      (either-way (eqb x c))
+      (λ e. rw e (skip c (at + 1) xs ps rest))
 
   -- the first whose sink the tree lacks is found
   found : (c at : ℕ) (xs ps : List ℕ) (k : ℕ) → k < length xs → getD xs k 0 ≡ c → joined (getD sinks (at + k) 0) ≡ false → ((m : ℕ) → m < k → getD xs m 0 ≡ c → joined (getD sinks (at + m) 0) ≡ true) → firstOpen joined sinks (placesWith c at xs ++ ps) ≡ at + k
@@ -51,12 +50,11 @@ module _ (joined : ℕ → Bool) (sinks : List ℕ) where
       let rest : (m : ℕ) → m < k → getD xs m 0 ≡ c → joined (getD sinks (at + 1 + m) 0) ≡ true =
       λ m b g. let p : at + suc m ≡ at + 1 + m = omega arith in rw p at (h (suc m) (omega arith) g) in
       let on : firstOpen joined sinks (placesWith c (at + 1) xs ++ ps) ≡ at + suc k = found c (at + 1) xs ps k (le-of-suc-le-suc l) e (rw q at o) rest ∙ sym q in
-      ⊎-elim
-      (λ (g : eqb x c ≡ true).
+      by-test (eqb x c)
+      (λ g.
       let here : joined (getD sinks at 0) ≡ true = let z : at + 0 ≡ at = omega arith in rw z at (h 0 (omega arith) (eqb-true x c g)) in
       rw (g, here) on)
-      (λ (g : eqb x c ≡ false). rw g on)
-      (either-way (eqb x c))
+      (λ g. rw g on)
 
   -- a place that the tree lacks, none more critical, none earlier as critical
   pub record Due (cs : List ℕ) (p : ℕ) : Type 0 where
@@ -68,11 +66,11 @@ module _ (joined : ℕ → Bool) (sinks : List ℕ) where
   module _ (cs : List ℕ) (p : ℕ) (d : Due cs p) where
     in-tree : (c q : ℕ) → q < length cs → getD cs q 0 ≡ c → getD cs p 0 < c → joined (getD sinks q 0) ≡ true
     in-tree c q l e above =
-        ⊎-elim (λ t. t) (λ (o : joined (getD sinks q 0) ≡ false). absurd (omega (arith, d .most q l o))) (either-way (joined (getD sinks q 0)))
+        by-test (joined (getD sinks q 0)) (λ t. t) (λ o. absurd (omega (arith, d .most q l o)))
 
     earlier : (q : ℕ) → q < p → getD cs q 0 ≡ getD cs p 0 → joined (getD sinks q 0) ≡ true
     earlier q l e =
-        ⊎-elim (λ t. t) (λ (o : joined (getD sinks q 0) ≡ false). absurd (omega (arith, d .first q l o))) (either-way (joined (getD sinks q 0)))
+        by-test (joined (getD sinks q 0)) (λ t. t) (λ o. absurd (omega (arith, d .first q l o)))
 
     here : (ps : List ℕ) → firstOpen joined sinks (placesWith (getD cs p 0) 0 cs ++ ps) ≡ p
     here ps =
@@ -98,12 +96,11 @@ unfolding placesWith
 places-within c at [] p h = absurd (no-entry p h)
 places-within c at (x ∷ xs) p h =
     let rest : has p (placesWith c (at + 1) xs) ≡ true → p < at + suc (length xs) = λ m. omega (arith, places-within c (at + 1) xs p m) in
-    ⊎-elim
-    (λ (e : eqb x c ≡ true).
+    by-test (eqb x c)
+    (λ e.
     let m : has p (at ∷ placesWith c (at + 1) xs) ≡ true = rw e at h in
     ⊎-elim (λ (q : p ≡ at). omega arith) rest (has-cons p at (placesWith c (at + 1) xs) m))
-    (λ (e : eqb x c ≡ false). rest (rw e at h))
-    (either-way (eqb x c))
+    (λ e. rest (rw e at h))
 
 pub falling-within : (c : ℕ) (cs : List ℕ) (p : ℕ) → has p (fallingFrom c cs) ≡ true → p < length cs
 unfolding fallingFrom
@@ -124,10 +121,9 @@ places-all c at (x ∷ xs) zero l e =
 places-all c at (x ∷ xs) (suc k) l e =
     let q : at + 1 + k ≡ at + suc k = omega arith in
     let rest : has (at + suc k) (placesWith c (at + 1) xs) ≡ true = rw q at (places-all c (at + 1) xs k (le-of-suc-le-suc l) e) in
-    ⊎-elim
-    (λ (g : eqb x c ≡ true). rw g (has-rest (at + suc k) at (placesWith c (at + 1) xs) rest))
-    (λ (g : eqb x c ≡ false). rw g rest)
-    (either-way (eqb x c))
+    by-test (eqb x c)
+    (λ g. rw g (has-rest (at + suc k) at (placesWith c (at + 1) xs) rest))
+    (λ g. rw g rest)
 
 falling-all : (c : ℕ) (cs : List ℕ) (p : ℕ) → p < length cs → getD cs p 0 ≤ c → has p (fallingFrom c cs) ≡ true
 unfolding fallingFrom
@@ -163,10 +159,9 @@ module _ (joined : ℕ → Bool) (sinks : List ℕ) where
   unfolding firstOpen
   opened [] = inr (refl, λ p h. absurd (no-entry p h))
   opened (p ∷ ps) =
-      ⊎-elim
-      (λ (e : joined (getD sinks p 0) ≡ true). opened-more p ps e (opened ps))
-      (λ (e : joined (getD sinks p 0) ≡ false). inl (rw e (has-first p ps), rw e e))
-      (either-way (joined (getD sinks p 0)))
+      by-test (joined (getD sinks p 0))
+      (λ e. opened-more p ps e (opened ps))
+      (λ e. inl (rw e (has-first p ps), rw e e))
 
   module _ (cs : List ℕ) where
     -- a place that is due is open
@@ -190,12 +185,11 @@ module _ (joined : ℕ → Bool) (sinks : List ℕ) where
     pub due-place : (x : ℕ) → has x (sinkDue joined sinks cs) ≡ true → (placeDue joined sinks cs < length sinks) × (x ≡ getD sinks (placeDue joined sinks cs) 0)
     unfolding sinkDue
     due-place x h =
-        ⊎-elim
-        (λ (b : ltb (placeDue joined sinks cs) (length sinks) ≡ true).
+        by-test (ltb (placeDue joined sinks cs) (length sinks))
+        (λ b.
         let m : has x (getD sinks (placeDue joined sinks cs) 0 ∷ []) ≡ true = rw b at h in
         (ltb-true (placeDue joined sinks cs) (length sinks) b, ⊎-elim (λ q. q) (λ q. absurd (no-entry x q)) (has-cons x (getD sinks (placeDue joined sinks cs) 0) [] m)))
-        (λ (b : ltb (placeDue joined sinks cs) (length sinks) ≡ false). absurd (no-entry x (rw b at h)))
-        (either-way (ltb (placeDue joined sinks cs) (length sinks)))
+        (λ b. absurd (no-entry x (rw b at h)))
 
     pub due-listed : (x : ℕ) → has x (sinkDue joined sinks cs) ≡ true → has x sinks ≡ true
     due-listed x h = let at = due-place x h in rw (at .1) (has-at sinks (placeDue joined sinks cs) (at .0))
@@ -219,19 +213,17 @@ module _ (joined : ℕ → Bool) (sinks : List ℕ) where
 module _ (timed : Bool) (joined : ℕ → Bool) (sinks cs : List ℕ) where
   pub tried-listed : (x : ℕ) → has x (sinksTried timed joined sinks cs) ≡ true → has x sinks ≡ true
   tried-listed x h =
-      ⊎-elim
-      (λ (t : timed ≡ true). due-listed joined sinks cs x (rw t at h))
-      (λ (t : timed ≡ false). rw t at h)
-      (either-way timed)
+      by-test timed
+      (λ t. due-listed joined sinks cs x (rw t at h))
+      (λ t. rw t at h)
 
   pub tried-some :
       (timed ≡ true → (length cs ≡ length sinks) × ((p : ℕ) → p < length sinks → getD cs p 0 ≤ criticalityMost))
       → (x : ℕ) → has x sinks ≡ true → joined x ≡ false → (y : ℕ) × (has y (sinksTried timed joined sinks cs) ≡ true) × (joined y ≡ false)
   tried-some fit x h e =
-      ⊎-elim
-      (λ (t : timed ≡ true). rw t (due-some joined sinks cs (fit t .0) (fit t .1) x h e))
-      (λ (t : timed ≡ false). rw t (x, h, e))
-      (either-way timed)
+      by-test timed
+      (λ t. rw t (due-some joined sinks cs (fit t .0) (fit t .1) x h e))
+      (λ t. rw t (x, h, e))
 
 -- ---- of a net with a tree
 
@@ -260,7 +252,7 @@ module _ (j : Job) (i : ℕ) where
     pub weighting-timed : turnWeighting j i tree .timed ≡ j .terms .timed
     unfolding turnWeighting
     weighting-timed =
-        ⊎-elim (λ (t : j .terms .timed ≡ true). rw t) (λ (t : j .terms .timed ≡ false). rw t) (either-way (j .terms .timed))
+        by-test (j .terms .timed) (λ t. rw t) (λ t. rw t)
 
 -- ---- of a job that can be routed
 

@@ -1,7 +1,6 @@
 -- A log whose turns follow, one after the other, is taken up: the other way round of ReplayLaws.
 -- Assumes nothing.
 use mathlib.Core.Bool.{Bool, true, false}
-use mathlib.Core.Logic.{⊎-elim}
 use mathlib.Core.List.{List, [], _∷_, _++_, append-nil, append-assoc}
 use mathlib.Core.Path.{_≡_, _∙_, ap, subst}
 use Prim.Native.Nat.{ℕ, zero, suc, _+_, _-_, _≤_, _<_, zero-le, suc-le-suc}
@@ -12,7 +11,7 @@ use lib.ListN.{length, take, length-append}
 use lib.Seq.{take-append-seam, drop-append-seam, append-snoc}
 use borrow.Author.Tests.{le-leb, lt-leb}
 use Rattle.price.specs.Test.{either}
-use Rattle.price.proofs.TestLaws.{either-way}
+use Rattle.price.proofs.TestLaws.{by-test}
 use Rattle.search.specs.Paths.{pathCost}
 use Rattle.search.specs.Turn.{Congestion, Turn, joins, stuck}
 use Rattle.job.specs.Job.{Job, nets, source, netSinks}
@@ -99,8 +98,8 @@ module _ (j : Job) (ws : List ℕ) (s : State) (rs : List Record) (follow : Nets
   unfolding replayNets afterNets
   own-nets zero h later e = rw (append-nil rs)
   own-nets (suc i) h later e =
-      ⊎-elim
-      (λ (d : due j s i ≡ true).
+      by-test (due j s i)
+      (λ d.
       let p : Progress = afterNets j s i in
       let own : List Record = netRecords j (p .state) i in
       let q : Progress = afterThese rs p in
@@ -112,11 +111,10 @@ module _ (j : Job) (ws : List ℕ) (s : State) (rs : List Record) (follow : Nets
       own-turns j ws later i q (follow i h d) (length (netSinks j i)) (net-few j (p .state) i)
       (words-are ∙ rw (append-nil (rs ++ p .records), ← append-assoc rs (p .records) own)) in
       rw (before, d, turns, append-assoc rs (p .records) own))
-      (λ (d : due j s i ≡ false).
+      (λ d.
       let same : ws ≡ encode (rs ++ afterNets j s i .records) ++ later =
       subst (λ (b : Bool). ws ≡ encode (rs ++ routeIf b j i (afterNets j s i) .records) ++ later) d e in
       rw (own-nets i (omega arith) later same, d))
-      (either-way (due j s i))
 
 -- ---- iterations
 

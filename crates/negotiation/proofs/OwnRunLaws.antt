@@ -2,7 +2,6 @@
 -- Assumes nothing.
 use mathlib.Core.Bool.{true, false}
 use mathlib.Core.List.{List, [], _∷_, _++_, append-nil}
-use mathlib.Core.Logic.{⊎-elim}
 use mathlib.Core.Path.{_≡_, refl, sym, _∙_, subst}
 use Prim.Native.Nat.{ℕ, suc, _+_, _-_, _/_, _%_, _^_, _≤_, _<_}
 use native.Mathlib.Nat.{le-refl}
@@ -11,7 +10,7 @@ use lib.ListN.{length, getD, take, length-append}
 use lib.Seq.{take-append-seam, append-snoc}
 use borrow.Author.Tests.{eq-eqb, le-leb, le-ltb, eqb-false}
 use Rattle.price.specs.Lists.{every, has, neighbours}
-use Rattle.price.proofs.TestLaws.{either-way, true≢false}
+use Rattle.price.proofs.TestLaws.{by-test, true≢false}
 use Rattle.search.specs.Block.{Block, hasEdge}
 use Rattle.search.specs.Paths.{Walk, stay, step, pathCost}
 use Rattle.search.proofs.BlockLaws.{graph-of}
@@ -99,13 +98,12 @@ module _ (j : Job) (sound : Routable j) (s : State) (ready : StateReady j s) (i 
   still-open : (earlier : List Record) (r : Record) → NetTurn j s i earlier r → allJoined j i earlier ≡ false
   unfolding allJoined
   still-open earlier r t =
-      ⊎-elim
-      (λ (q : every (λ x. has x (treeFrom j i earlier)) (netSinks j i) ≡ true).
+      by-test (every (λ x. has x (treeFrom j i earlier)) (netSinks j i))
+      (λ q.
       absurd
       (true≢false
       (sym (every-has (λ x. has x (treeFrom j i earlier)) (netSinks j i) q (r .sink) (turn-listed j i (treeFrom j i earlier) (r .sink) (t .cheapest .joins .sink-listed))) ∙ t .cheapest .joins .sink-open)))
       (λ q. q)
-      (either-way (every (λ x. has x (treeFrom j i earlier)) (netSinks j i)))
 
   net-follow :
       ((x : ℕ) → has x (netSinks j i) ≡ true → hasPath j i x ≡ true) → (made rest : List Record) → netRecords j s i ≡ made ++ rest → Follow j s i made rest

@@ -24,7 +24,7 @@ use Rattle.price.specs.Replies.{priceReplyOf}
 use Rattle.price.specs.Timed.{weighedReply, weighedMost}
 use Rattle.price.specs.declared.PriceAnswer.{PriceAnswer}
 use Rattle.price.specs.declared.PriceAnswer.the-variants.{Price}
-use Rattle.price.proofs.TestLaws.{either-way, both-left}
+use Rattle.price.proofs.TestLaws.{by-test, both-left}
 use Rattle.price.proofs.TimedLaws.{weighed-most, weighed-path}
 use Rattle.search.specs.Block.{Block, blockOf, graphOf, nodes, rowStart, row, hasEdge}
 use Rattle.search.specs.Tables.{Graph}
@@ -150,10 +150,9 @@ unfolding has
 stored-same y marks is = record {
   long = refl;
   at = λ v.
-      ⊎-elim
-      (λ (q : eqb v y ≡ true). rw (q, eqb-true v y q) is)
-      (λ (q : eqb v y ≡ false). rw q)
-      (either-way (eqb v y));
+      by-test (eqb v y)
+      (λ q. rw (q, eqb-true v y q) is)
+      (λ q. rw q);
 }
 
 module _ {b : Block} {c : Congestion} {goals marks₀ log : List ℕ} {from to : ℕ} (ready : PassReady b c goals marks₀ log from to) where

@@ -14,7 +14,7 @@ use lib.ListN.{length, getD}
 use borrow.Author.Tests.{eqb-true, eq-eqb, ne-eqb}
 use Rattle.price.specs.Test.{both, either}
 use Rattle.price.specs.Lists.{has, total}
-use Rattle.price.proofs.TestLaws.{either-way, true≢false, both-left, both-right, both-false-right, either-true}
+use Rattle.price.proofs.TestLaws.{by-test, true≢false, both-left, both-right, both-false-right, either-true}
 use Rattle.price.proofs.ListLaws.{neighbours-at}
 use Rattle.search.specs.Block.{hasEdge}
 use Rattle.search.specs.Block as block
@@ -146,12 +146,11 @@ module _ (j : Job) (g : Graph (j .block)) (price : ℕ → ℕ) (i : ℕ) (tree 
   path-passed [] two ends some = absurd (omega arith)
   path-passed (u ∷ []) two ends some = absurd (omega arith)
   path-passed (u ∷ v ∷ rest) two ends some =
-      ⊎-elim
-      (λ (t : eqb (getD marks u 0) 1 ≡ true).
+      by-test (eqb (getD marks u 0) 1)
+      (λ t.
       path-back u v rest ends (mark-in (has u tree) (sym (marked u) ∙ eqb-true (getD marks u 0) 1 t))
       (steps-of (j .block) g price goals (v ∷ rest) tree marks u 0 long marked (λ none. some (rw t none))))
-      (λ (t : eqb (getD marks u 0) 1 ≡ false). absurd (some (rw t)))
-      (either-way (eqb (getD marks u 0) 1))
+      (λ t. absurd (some (rw t)))
 
 -- ---- a record that follows
 

@@ -14,7 +14,7 @@ use borrow.Author.Tests.{eqb-true, eqb-false, leb-false}
 use Rattle.price.specs.Test.{both}
 use Rattle.price.specs.Lists.{has, distinct}
 use Rattle.price.specs.Prices.{factorAt, nextHistory}
-use Rattle.price.proofs.TestLaws.{either-way, true≢false}
+use Rattle.price.proofs.TestLaws.{by-test, true≢false}
 use Rattle.price.proofs.ListLaws.{getD-upTo, has-place}
 use Rattle.price.proofs.BelowLaws.{count-same}
 use Rattle.price.proofs.PriceLaws.{factor-steps}
@@ -140,10 +140,9 @@ read-own j i t rs ss o most absent =
 pub source-twice : (j : Job) (i v : ℕ) (rs : List Record) → has (source j i) (pathNodes rs) ≡ true → has v (pathNodes rs) ≡ has v (treeFrom j i rs)
 unfolding has
 source-twice j i v rs on =
-    ⊎-elim
-    (λ (q : eqb v (source j i) ≡ true). rw (q, eqb-true v (source j i) q) on)
-    (λ (q : eqb v (source j i) ≡ false). rw q)
-    (either-way (eqb v (source j i)))
+    by-test (eqb v (source j i))
+    (λ q. rw (q, eqb-true v (source j i) q) on)
+    (λ q. rw q)
 
 -- the records before net i's in this iteration
 module _ (j : Job) {s : State} (rs : List Record) (most : All (λ r. r .iteration < s .iteration) rs) {i : ℕ} {p : Progress} (n : NetsRan j s i p) where
@@ -169,20 +168,19 @@ module _ (j : Job) {s : State} (rs : List Record) (most : All (λ r. r .iteratio
   nets-read (kept r d) k v h l = nets-read r k v (omega arith) l
   nets-read (routed {i = i} {p = p} {rs = ss} r d o) k v h l =
       rw (← append-assoc rs (p .records) ss)
-      (⊎-elim
-      (λ (q : eqb k i ≡ true).
+      (by-test (eqb k i)
+      (λ q.
       let e : k ≡ i = eqb-true k i q in
       let t = nets-trees j r in
       rw (e, getD-set-same (p .state .trees) i (treeFrom j i ss) [] (omega arith), read-own j i (s .iteration) (rs ++ p .records) ss o (up-to-now j rs most r) (not-yet j rs most r))
       (source-twice j i v ss (o .source-on)))
-      (λ (q : eqb k i ≡ false).
+      (λ q.
       let ne = eqb-false k i q in
       rw (
         read-other i k (rs ++ p .records) ss (all-map (Of i (s .iteration)) (λ r. r .net ≡ i) (λ r o. o .net-is) ss (o .own)) ne,
         getD-set-other (p .state .trees) i k (treeFrom j i ss) [] ne,
       )
-      (nets-read r k v (omega arith) l))
-      (either-way (eqb k i)))
+      (nets-read r k v (omega arith) l)))
 
 module _ (j : Job) where
   ran-before : {m : ℕ} {rs : List Record} {s : State} → Ran j m rs s → All (λ r. r .iteration < s .iteration) rs
@@ -235,12 +233,11 @@ module _ (j : Job) {m : ℕ} {rs : List Record} {s : State} (r : Ran j m rs s) {
   others-read v =
       count-same (λ k. both (not (eqb k i)) (has v (treeRead k before))) (λ k. both (not (eqb k i)) (has v (treeAt (p .state .trees) k))) (nets j)
       (λ k l.
-      ⊎-elim
-      (λ (q : eqb k i ≡ true). rw q)
-      (λ (q : eqb k i ≡ false).
+      by-test (eqb k i)
+      (λ q. rw q)
+      (λ q.
       rw (q, read-other i k (rs ++ p .records) e of-net (eqb-false k i q))
-      (nets-read j rs (ran-before j r) (λ k v h. ran-read j r k v h) (ran-trees j r) n k v (omega arith) l))
-      (either-way (eqb k i)))
+      (nets-read j rs (ran-before j r) (λ k v h. ran-read j r k v h) (ran-trees j r) n k v (omega arith) l)))
 
   pub own-read : nodesIn i (m + 1) before ≡ pathNodes e
   own-read =

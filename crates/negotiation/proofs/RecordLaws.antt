@@ -2,7 +2,6 @@
 -- Assumes nothing.
 use mathlib.Core.Bool.{true, false}
 use mathlib.Core.List.{List, [], _∷_, _++_, append-assoc}
-use mathlib.Core.Logic.{⊎-elim}
 use mathlib.Core.Path.{_≡_, refl, sym, ap}
 use Prim.Native.Nat.{ℕ, zero, suc, _+_, _*_, _-_, _/_, _%_, _^_, _≤_, _<_, zero-le}
 use native.Mathlib.Nat.{not-suc-le-zero, le-of-suc-le-suc}
@@ -11,7 +10,7 @@ use lib.Dec.{leb}
 use lib.ListN.{length, length-append}
 use lib.Seq.{take-append-seam, drop-append-seam}
 use borrow.Author.Tests.{le-leb, lt-leb, leb-true}
-use Rattle.price.proofs.TestLaws.{either-way}
+use Rattle.price.proofs.TestLaws.{by-test}
 use Rattle.negotiation.specs.Records.{Record, words, encode, decodeUpTo, decode, fitting, pathNodes}
 
 -- the cost is read back from its two words
@@ -88,62 +87,56 @@ pub fitting-begins : (room : ℕ) (rs : List Record) → (later : List Record) �
 unfolding fitting
 fitting-begins room [] = ([], refl)
 fitting-begins room (r ∷ rs) =
-    ⊎-elim
-    (λ (t : leb (length (words r)) room ≡ true).
+    by-test (leb (length (words r)) room)
+    (λ t.
     let rest = fitting-begins (room - length (words r)) rs in
     (rest .0, rw t (ap (λ (l : List Record). r ∷ l) (rest .1))))
-    (λ (t : leb (length (words r)) room ≡ false). (r ∷ rs, rw t))
-    (either-way (leb (length (words r)) room))
+    (λ t. (r ∷ rs, rw t))
 
 -- it takes no more words than there are
 pub fitting-fits : (room : ℕ) (rs : List Record) → length (encode (fitting room rs)) ≤ room
 unfolding fitting
 fitting-fits room [] = let none = encode-none in omega arith
 fitting-fits room (r ∷ rs) =
-    ⊎-elim
-    (λ (t : leb (length (words r)) room ≡ true).
+    by-test (leb (length (words r)) room)
+    (λ t.
     let here = leb-true (length (words r)) room t in
     let rest = fitting-fits (room - length (words r)) rs in
     let long = encode-length r (fitting (room - length (words r)) rs) in
     rw t (omega arith))
-    (λ (t : leb (length (words r)) room ≡ false). let none = encode-none in rw t (omega arith))
-    (either-way (leb (length (words r)) room))
+    (λ t. let none = encode-none in rw t (omega arith))
 
 -- of what fits much room, as much fits less room as of all
 pub fitting-less : (low high : ℕ) (rs : List Record) → low ≤ high → fitting low (fitting high rs) ≡ fitting low rs
 unfolding fitting
 fitting-less low high [] h = refl
 fitting-less low high (r ∷ rs) h =
-    ⊎-elim
-    (λ (t : leb (length (words r)) low ≡ true).
+    by-test (leb (length (words r)) low)
+    (λ t.
     let here = leb-true (length (words r)) low t in
     rw (le-leb (length (words r)) high (omega arith), t, fitting-less (low - length (words r)) (high - length (words r)) rs (omega arith)))
-    (λ (t : leb (length (words r)) low ≡ false).
-    ⊎-elim
-    (λ (u : leb (length (words r)) high ≡ true). rw (u, t))
-    (λ (u : leb (length (words r)) high ≡ false). rw (u, t))
-    (either-way (leb (length (words r)) high)))
-    (either-way (leb (length (words r)) low))
+    (λ t.
+    by-test (leb (length (words r)) high)
+    (λ u. rw (u, t))
+    (λ u. rw (u, t)))
 
 -- later records change nothing of what is logged before them
 pub fitting-append : (room : ℕ) (rs ss : List Record) → (later : List Record) × (fitting room (rs ++ ss) ≡ fitting room rs ++ later)
 unfolding fitting
 fitting-append room [] ss = (fitting room ss, refl)
 fitting-append room (r ∷ rs) ss =
-    ⊎-elim
-    (λ (t : leb (length (words r)) room ≡ true).
+    by-test (leb (length (words r)) room)
+    (λ t.
     let rest = fitting-append (room - length (words r)) rs ss in
     (rest .0, rw t (ap (λ (l : List Record). r ∷ l) (rest .1))))
-    (λ (t : leb (length (words r)) room ≡ false). ([], rw t))
-    (either-way (leb (length (words r)) room))
+    (λ t. ([], rw t))
 
 -- where no fewer are logged than there are, all are
 pub fitting-whole : (room : ℕ) (rs : List Record) → length rs ≤ length (fitting room rs) → fitting room rs ≡ rs
 unfolding fitting
 fitting-whole room [] h = refl
 fitting-whole room (r ∷ rs) h =
-    ⊎-elim
-    (λ (t : leb (length (words r)) room ≡ true).
+    by-test (leb (length (words r)) room)
+    (λ t.
     rw t (ap (λ (l : List Record). r ∷ l) (fitting-whole (room - length (words r)) rs (le-of-suc-le-suc (rw t at h)))))
-    (λ (t : leb (length (words r)) room ≡ false). absurd (not-suc-le-zero (rw t at h)))
-    (either-way (leb (length (words r)) room))
+    (λ t. absurd (not-suc-le-zero (rw t at h)))

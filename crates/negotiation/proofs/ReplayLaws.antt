@@ -14,7 +14,7 @@ use lib.Seq.{length-take-le, take-all, take-add}
 use borrow.Author.Tests.{leb-true, leb-false, ltb-false}
 use Rattle.price.specs.Test.{choose, either}
 use Rattle.price.specs.Lists.{has, distinct}
-use Rattle.price.proofs.TestLaws.{either-way, true≢false}
+use Rattle.price.proofs.TestLaws.{by-test, true≢false}
 use Rattle.price.proofs.ListLaws.{has-at, has-append-left, has-append-right}
 use Rattle.search.proofs.DistinctLaws.{has-first, has-rest, has-cons, lacks, distinct-rest}
 use Rattle.search.specs.Paths.{pathCost}
@@ -215,11 +215,11 @@ module _ (j : Job) (P : List Record → Record → Type 0) (ws : List ℕ) (i : 
       let c = chosen-on (allJoined j i made) (on (withNet j i p made)) _ q e in
       record { rs = made; is = cc; made = m; joined = c .0; begins = b; each = a }
   turns-followed (suc k) made q e m b a =
-      ⊎-elim
-      (λ (t : allJoined j i made ≡ true).
+      by-test (allJoined j i made)
+      (λ t.
       let now : on (withNet j i p made) ≡ on q = rw t at e in
       record { rs = made; is = cc; made = m; joined = t; begins = b; each = a })
-      (λ (t : allJoined j i made ≡ false).
+      (λ t.
       let price : (ℕ → ℕ) = turnPrice j (p .state) i (treeFrom j i made) in
       let there : List ℕ = after ws (p .records ++ made) in
       let c = chosen-on (turnFollows j (p .state) i (treeFrom j i made) there) (replayTurns j ws i p k (made ++ (recordIn price there ∷ []))) _ q (rw t at e) in
@@ -229,7 +229,6 @@ module _ (j : Job) (P : List Record → Record → Type 0) (ws : List ℕ) (i : 
       turns-followed k (made ++ (r ∷ [])) q (c .1) (made-more j (p .state) i made there price m f)
       (rw (← append-assoc (p .records) made (r ∷ [])) (begins-more ws (p .records ++ made) price b (f .is-whole) (f .cost)))
       (rw (← append-assoc (p .records) made (r ∷ [])) (each-more P (p .records ++ made) r a here)))
-      (either-way (allJoined j i made))
 
 -- ---- the nets of an iteration
 
@@ -291,8 +290,8 @@ module _ (j : Job) (clean : (i : ℕ) → i < nets j → has (source j i) (netSi
       {m : ℕ} (s : State) (rs : List Record) → Ran j m rs s → m < j .terms .limit → (i : ℕ) (p q : Progress) → i < nets j → NetsFollowed s rs i p
       → choose (due j s i) (replayTurns j ws i p (length (netSinks j i)) []) (on p) ≡ on q → NetsFollowed s rs (suc i) q
   net-more s rs r low i p q h n e =
-      ⊎-elim
-      (λ (d : due j s i ≡ true).
+      by-test (due j s i)
+      (λ d.
       let f : NetFollowed j P ws i p q =
       turns-followed j P ws i p (net-step r low i p h n) (length (netSinks j i)) [] q (rw d at e) (made-none j i (p .state .iteration))
       (rw (append-nil (p .records)) (n .begins)) (rw (append-nil (p .records)) (n .each)) in
@@ -306,7 +305,7 @@ module _ (j : Job) (clean : (i : ℕ) → i < nets j → has (source j i) (netSi
         begins = rw (f .is) (f .begins);
         each = rw (f .is) (f .each);
       })
-      (λ (d : due j s i ≡ false).
+      (λ d.
       let same : p ≡ q = let o : on p ≡ on q = rw d at e in cc in
       record {
         p = n .p;
@@ -315,7 +314,6 @@ module _ (j : Job) (clean : (i : ℕ) → i < nets j → has (source j i) (netSi
         begins = subst (λ (x : Progress). Begins ws (x .records)) same (n .begins);
         each = subst (λ (x : Progress). EachTurn P (x .records)) same (n .each);
       })
-      (either-way (due j s i))
 
   nets-followed :
       {m : ℕ} (s : State) (rs : List Record) → Ran j m rs s → m < j .terms .limit → Begins ws rs → EachTurn P rs → (i : ℕ) → i ≤ nets j → (q : Progress)
@@ -349,14 +347,14 @@ module _ (j : Job) (clean : (i : ℕ) → i < nets j → has (source j i) (netSi
       let stops : Bool = either (eqb (overCount j (p .state .trees)) 0) (leb (j .terms .limit) (p .state .iteration)) in
       let ran : Ran j (suc m) (p .records) (moveOn j (p .state)) =
       subst (λ (x : Progress). Ran j (suc m) (x .records) (moveOn j (x .state))) (sym (n .is)) (next r (n .ran)) in
-      ⊎-elim
-      (λ (t : stops ≡ true). absurd (off-on (rw t at e)))
-      (λ (t : stops ≡ false).
+      by-test stops
+      (λ t. absurd (off-on (rw t at e)))
+      (λ t.
       let low : p .state .iteration < j .terms .limit =
       leb-false (j .terms .limit) (p .state .iteration) (either-no (eqb (overCount j (p .state .trees)) 0) (leb (j .terms .limit) (p .state .iteration)) t) in
       let at : p .state .iteration ≡ m + 1 = ap (λ (x : Progress). x .state .iteration) (n .is) ∙ nets-iteration j (n .ran) ∙ ran-iteration j r in
-      ⊎-elim
-      (λ (u : leb (length ws) (length (encode (p .records))) ≡ true).
+      by-test (leb (length ws) (length (encode (p .records))))
+      (λ u.
       let same : q ≡ record { records = p .records; state = moveOn j (p .state) } =
       let o : on (record { records = p .records; state = moveOn j (p .state) }) ≡ on q = rw (t, u) at e in cc in
       rw same
@@ -369,11 +367,9 @@ module _ (j : Job) (clean : (i : ℕ) → i < nets j → has (source j i) (netSi
         below = omega arith;
         each = n .each;
       }))
-      (λ (u : leb (length ws) (length (encode (p .records))) ≡ false).
+      (λ u.
       let f : Followed (suc m) q = again (p .records) (moveOn j (p .state)) ran (n .begins) (n .each) (rw (t, u) at e) in
-      record { whole = f .whole; more = omega (arith, f .more); ran = f .ran; begins = f .begins; ends = f .ends; below = f .below; each = f .each })
-      (either-way (leb (length ws) (length (encode (p .records))))))
-      (either-way stops)
+      record { whole = f .whole; more = omega (arith, f .more); ran = f .ran; begins = f .begins; ends = f .ends; below = f .below; each = f .each }))
 
   from-followed :
       (k m : ℕ) (rs : List Record) (s : State) → m + k ≤ j .terms .limit → Ran j m rs s → Begins ws rs → EachTurn P rs → (q : Progress) → replayFrom j ws k s rs ≡ on q
@@ -402,9 +398,9 @@ pub taken-each :
     → (used : ℕ) (log : List ℕ) (q : Progress) → replay j used log ≡ on q → TakenUp j used log q × EachTurn P (q .records)
 unfolding replay
 taken-each j clean P step used log q e =
-    ⊎-elim
-    (λ (t : ltb (length log) used ≡ true). absurd (off-on (rw t at e)))
-    (λ (t : ltb (length log) used ≡ false).
+    by-test (ltb (length log) used)
+    (λ t. absurd (off-on (rw t at e)))
+    (λ t.
     let ws : List ℕ = take used log in
     let f : Followed j clean P step ws 0 q =
     from-followed j clean P step ws (j .terms .limit) 0 [] (firstState j) (omega arith) start (begins-none ws) (each-none P) q (rw t at e) in (
@@ -418,7 +414,6 @@ taken-each j clean P step used log q e =
       },
       f .each,
     ))
-    (either-way (ltb (length log) used))
 
 pub taken-up :
     (j : Job) → ((i : ℕ) → i < nets j → has (source j i) (netSinks j i) ≡ false) → (used : ℕ) (log : List ℕ) (q : Progress) → replay j used log ≡ on q

@@ -2,7 +2,7 @@
 -- Assumes nothing.
 use mathlib.Core.Bool.{true, false}
 use mathlib.Core.List.{List, [], _∷_, _++_, append-assoc}
-use mathlib.Core.Logic.{_⊎_, ⊎-elim, inl, inr}
+use mathlib.Core.Logic.{_⊎_, inl, inr}
 use mathlib.Core.Path.{_≡_, refl, sym, _∙_, ap}
 use Prim.Native.Nat.{ℕ, _+_, _≤_}
 use native.Mathlib.Omega.{arith}
@@ -10,7 +10,7 @@ use lib.Dec.{ltb}
 use lib.ListN.{length, drop, length-append}
 use lib.Seq.{take-append-seam}
 use borrow.Author.Tests.{ltb-false}
-use Rattle.price.proofs.TestLaws.{either-way}
+use Rattle.price.proofs.TestLaws.{by-test}
 use Rattle.job.specs.Job.{Job}
 use Rattle.negotiation.specs.Records.{Record, encode, decode, fitting}
 use Rattle.negotiation.specs.Machine.{Progress}
@@ -56,12 +56,11 @@ module _ (j : Job) (p : Progress) (work log : List ℕ) where
   pub run-log : LogHas (continued j p work log) (fitting (length log) (allRecords j p))
   unfolding continued loggedRecords
   run-log =
-      ⊎-elim
-      (λ (t : ltb (length (fitting (length log) (allRecords j p))) (length (allRecords j p)) ≡ true).
+      by-test (ltb (length (fitting (length log) (allRecords j p))) (length (allRecords j p)))
+      (λ t.
       rw t (ran-log j _ _ (fitting (length log) (allRecords j p)) work log))
-      (λ (t : ltb (length (fitting (length log) (allRecords j p))) (length (allRecords j p)) ≡ false).
+      (λ t.
       rw (t, fitting-whole (length log) (allRecords j p) (ltb-false _ _ t)) (ran-log j _ _ (allRecords j p) work log))
-      (either-way (ltb (length (fitting (length log) (allRecords j p))) (length (allRecords j p))))
 
   -- it fills its log, or all its records fit
   pub full-or-fits :
@@ -69,13 +68,12 @@ module _ (j : Job) (p : Progress) (work log : List ℕ) where
       ⊎ (length (encode (allRecords j p)) ≤ length log)
   unfolding continued loggedRecords
   full-or-fits =
-      ⊎-elim
-      (λ (t : ltb (length (fitting (length log) (allRecords j p))) (length (allRecords j p)) ≡ true).
+      by-test (ltb (length (fitting (length log) (allRecords j p))) (length (allRecords j p)))
+      (λ t.
       inl (cutIteration j p (length log), length (loggedRecords j p (length log)), rw t))
-      (λ (t : ltb (length (fitting (length log) (allRecords j p))) (length (allRecords j p)) ≡ false).
+      (λ t.
       let whole : fitting (length log) (allRecords j p) ≡ allRecords j p = fitting-whole (length log) (allRecords j p) (ltb-false _ _ t) in
       inr (rw whole at (fitting-fits (length log) (allRecords j p))))
-      (either-way (ltb (length (fitting (length log) (allRecords j p))) (length (allRecords j p))))
 
 -- where all fit both logs, the run ends alike, whatever the work slices
 pub run-same :
@@ -106,9 +104,8 @@ module _ (j : Job) (p : Progress) (work log work′ log′ : List ℕ) (long : l
   unfolding continued
   run-as-long =
       let same = as-long-words in
-      ⊎-elim
-      (λ (t : ltb (length (loggedRecords j p (length log′))) (length (allRecords j p)) ≡ true).
+      by-test (ltb (length (loggedRecords j p (length log′))) (length (allRecords j p)))
+      (λ t.
       record { refusal = rw (long, t); iteration = rw (long, t); turns = rw (long, t); used = rw (long, t); words = same })
-      (λ (t : ltb (length (loggedRecords j p (length log′))) (length (allRecords j p)) ≡ false).
+      (λ t.
       record { refusal = rw (long, t); iteration = rw (long, t); turns = rw (long, t); used = rw (long, t); words = same })
-      (either-way (ltb (length (loggedRecords j p (length log′))) (length (allRecords j p))))

@@ -10,7 +10,7 @@ use lib.Dec.{ltb}
 use lib.ListN.{length, take, length-append}
 use lib.Seq.{length-take-le, take-append-seam}
 use Rattle.price.specs.Bounds.{pathMost}
-use Rattle.price.proofs.TestLaws.{either-way, true≢false}
+use Rattle.price.proofs.TestLaws.{by-test, true≢false}
 use Rattle.search.specs.Replies.{cleared}
 use Rattle.job.specs.Job.{Job, nodes}
 use Rattle.job.specs.Join.{joined}
@@ -100,14 +100,12 @@ rebuilt-as-read j used log sound p e =
 run-taken-up : (j : Job) (p : Progress) (work log : List ℕ) → takenUp (continued j p work log .refusal) ≡ true
 unfolding continued takenUp endNumbers
 run-taken-up j p work log =
-    ⊎-elim
-    (λ (q : ltb (length (loggedRecords j p (length log))) (length (allRecords j p)) ≡ true). rw q)
-    (λ (q : ltb (length (loggedRecords j p (length log))) (length (allRecords j p)) ≡ false).
-    ⊎-elim
-    (λ (t : settlesAt j (p .state) (madeFrom j (p .state) - 1) ≡ true). rw (q, t))
-    (λ (t : settlesAt j (p .state) (madeFrom j (p .state) - 1) ≡ false). rw (q, t))
-    (either-way (settlesAt j (p .state) (madeFrom j (p .state) - 1))))
-    (either-way (ltb (length (loggedRecords j p (length log))) (length (allRecords j p))))
+    by-test (ltb (length (loggedRecords j p (length log))) (length (allRecords j p)))
+    (λ q. rw q)
+    (λ q.
+    by-test (settlesAt j (p .state) (madeFrom j (p .state) - 1))
+    (λ t. rw (q, t))
+    (λ t. rw (q, t)))
 
 module _ (j : Job) (used : ℕ) (work log : List ℕ) where
   abbrev lent : List Record

@@ -2,7 +2,6 @@
 -- Assumes nothing.
 use mathlib.Core.Bool.{true, false}
 use mathlib.Core.List.{List}
-use mathlib.Core.Logic.{⊎-elim}
 use mathlib.Core.Path.{_≡_, _∙_}
 use Prim.Native.Nat.{ℕ}
 use lib.Dec.{eqb}
@@ -10,7 +9,7 @@ use lib.ListN.{length, getD}
 use lib.Seq.{slice}
 use borrow.Author.Tests.{eq-eqb}
 use Rattle.price.specs.Lists.{has}
-use Rattle.price.proofs.TestLaws.{either-way}
+use Rattle.price.proofs.TestLaws.{by-test}
 use Rattle.negotiation.specs.Records.{decode, pathNodes}
 use Rattle.job.specs.Steps.{Stored}
 use Rattle.negotiation.specs.Steps.{Dropped, UsersAdded, CanDrop, CanAddMarked, RipReady, RippedUp, CountReady, TreeCounted}
@@ -32,14 +31,13 @@ module _ {from to : ℕ} {log users marks : List ℕ} (r : RipReady (length mark
     marks-long = m .long ∙ d .marks-set .long;
     no-marks = λ v h.
         m .at v ∙
-        ⊎-elim
-        (λ (t : has v old ≡ true). rw t)
-        (λ (t : has v old ≡ false). rw (t, d .marks-set .at v, t) (r .no-marks v h))
-        (either-way (has v old));
+        by-test (has v old)
+        (λ t. rw t)
+        (λ t. rw (t, d .marks-set .at v, t) (r .no-marks v h));
     users-at = λ v h.
         let bare : eqb (getD marks v 0) 0 ≡ true = eq-eqb (getD marks v 0) 0 (r .no-marks v h) in
         d .users-at v h ∙
-        ⊎-elim (λ (t : has v old ≡ true). rw (t, bare)) (λ (t : has v old ≡ false). rw t) (either-way (has v old));
+        by-test (has v old) (λ t. rw (t, bare)) (λ t. rw t);
   }
 
 -- the new tree: its nodes are marked, and counted by that
@@ -57,11 +55,10 @@ module _ {from to : ℕ} {log users marks : List ℕ} (r : CountReady (length ma
     marks-long = a .marks-cleared .long;
     no-marks = λ v h.
         a .marks-cleared .at v ∙
-        ⊎-elim
-        (λ (t : has v new ≡ true). rw t)
-        (λ (t : has v new ≡ false). rw (t, r .marked v h, t))
-        (either-way (has v new));
+        by-test (has v new)
+        (λ t. rw t)
+        (λ t. rw (t, r .marked v h, t));
     users-at = λ v h.
         a .users-at v h ∙
-        ⊎-elim (λ (t : has v new ≡ true). rw (r .marked v h, t)) (λ (t : has v new ≡ false). rw t) (either-way (has v new));
+        by-test (has v new) (λ t. rw (r .marked v h, t)) (λ t. rw t);
   }

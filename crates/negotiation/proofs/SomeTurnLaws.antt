@@ -12,7 +12,7 @@ use lib.ListN.{length, getD, getD-replicate}
 use lib.Seq.{getD-set-other}
 use borrow.Author.Tests.{eqb-true, eqb-false, ltb-true, not-true}
 use Rattle.price.specs.Lists.{every, has, firstBelow, countBelow}
-use Rattle.price.proofs.TestLaws.{either-way, true≢false, either-true, le-or-lt}
+use Rattle.price.proofs.TestLaws.{by-test, true≢false, either-true, le-or-lt}
 use Rattle.price.proofs.BelowLaws.{firstBelow-below, firstBelow-holds}
 use Rattle.job.specs.Job.{Job, nets}
 use Rattle.negotiation.specs.Records.{Record}
@@ -31,12 +31,11 @@ count-place : (t : ℕ → Bool) (n : ℕ) → (countBelow t n ≡ 0 → ⊥) �
 unfolding countBelow
 count-place t zero some = absurd (some refl)
 count-place t (suc n) some =
-    ⊎-elim
-    (λ (q : t n ≡ true). (n, le-refl (suc n), q))
-    (λ (q : t n ≡ false).
+    by-test (t n)
+    (λ q. (n, le-refl (suc n), q))
+    (λ q.
     let low = count-place t n (λ (e : countBelow t n ≡ 0). some (rw (q, e))) in
     (low .0, omega (arith, low .1), low .2))
-    (either-way (t n))
 
 user-of : (j : Job) (trees : List (List ℕ)) (v : ℕ) → overfull j trees v ≡ true → (k : ℕ) × (k < nets j) × (has v (treeAt trees k) ≡ true)
 unfolding overfull usersOf
@@ -48,11 +47,10 @@ user-of j trees v over =
 user-crowded : (j : Job) (trees : List (List ℕ)) (k v : ℕ) → overfull j trees v ≡ true → has v (treeAt trees k) ≡ true → crowded j trees k ≡ true
 unfolding crowded
 user-crowded j trees k v over h =
-    ⊎-elim
-    (λ (q : every (λ u. not (overfull j trees u)) (treeAt trees k) ≡ true).
+    by-test (every (λ u. not (overfull j trees u)) (treeAt trees k))
+    (λ q.
     absurd (true≢false (sym over ∙ not-true (overfull j trees v) (every-has (λ u. not (overfull j trees u)) (treeAt trees k) q v h))))
-    (λ (q : every (λ u. not (overfull j trees u)) (treeAt trees k) ≡ false). rw q)
-    (either-way (every (λ u. not (overfull j trees u)) (treeAt trees k)))
+    (λ q. rw q)
 
 -- ---- only nets with sinks have trees
 
@@ -63,11 +61,10 @@ nets-owned : (j : Job) {s : State} {i : ℕ} {p : Progress} → NetsRan j s i p 
 nets-owned j none old k v l h = old k v l h
 nets-owned j (kept r d) old k v l h = nets-owned j r old k v l h
 nets-owned j {s = s} (routed {i = i} {p = p} {rs = rs} r d o) old k v l h =
-    ⊎-elim
-    (λ (q : eqb k i ≡ true). rw (eqb-true k i q) (due-sinks j s i d))
-    (λ (q : eqb k i ≡ false).
+    by-test (eqb k i)
+    (λ q. rw (eqb-true k i q) (due-sinks j s i d))
+    (λ q.
     nets-owned j r old k v l (rw (getD-set-other (p .state .trees) i k (treeFrom j i rs) [] (eqb-false k i q)) at h))
-    (either-way (eqb k i))
 
 ran-owned : (j : Job) {m : ℕ} {rs : List Record} {s : State} → Ran j m rs s → Owned j (s .trees)
 unfolding firstState moveOn

@@ -17,7 +17,7 @@ use lib.Seq.{getD-set-same, getD-set-other}
 use borrow.Author.Tests.{eqb-true, eqb-false, eq-eqb}
 use Rattle.price.specs.Test.{choose, both}
 use Rattle.price.specs.Lists.{neighbours, has, distinct, total}
-use Rattle.price.proofs.TestLaws.{either-way, true≢false, both-left, both-right}
+use Rattle.price.proofs.TestLaws.{by-test, true≢false, both-left, both-right}
 use Rattle.search.specs.Block.{Block, hasEdge}
 use Rattle.search.specs.Block as block
 use Rattle.search.specs.Tables.{Graph}
@@ -45,10 +45,9 @@ mark-in false e = absurd (omega arith)
 marks-more : (xs marks : List ℕ) (v : ℕ) → v < length marks → Marks xs marks → Marks (v ∷ xs) (set marks v 1)
 unfolding has
 marks-more xs marks v l m x =
-    ⊎-elim
-    (λ (q : eqb x v ≡ true). rw (q, eqb-true x v q) (getD-set-same marks v 1 0 l))
-    (λ (q : eqb x v ≡ false). rw q (getD-set-other marks v x 1 0 (eqb-false x v q) ∙ m x))
-    (either-way (eqb x v))
+    by-test (eqb x v)
+    (λ q. rw (q, eqb-true x v q) (getD-set-same marks v 1 0 l))
+    (λ q. rw q (getD-set-other marks v x 1 0 (eqb-false x v q) ∙ m x))
 
 -- ---- steps that pass
 
@@ -80,8 +79,8 @@ module _ (b : Block) (g : Graph b) (price : ℕ → ℕ) (goals : List ℕ) wher
       let edge : Bool = hasEdge b u v in
       let free : Bool = eqb (getD marks v 0) 0 in
       let last : Bool = eqb (getD goals v 0) (lastMark rest) in
-      ⊎-elim
-      (λ (t : both edge (both free last) ≡ true).
+      by-test (both edge (both free last))
+      (λ t.
       let e : hasEdge b u v ≡ true = both-left edge (both free last) t in
       let others : both free last ≡ true = both-right edge (both free last) t in
       let out : has v seen ≡ false = mark-out (has v seen) (sym (m v) ∙ eqb-true (getD marks v 0) 0 (both-left free last others)) in
@@ -89,8 +88,7 @@ module _ (b : Block) (g : Graph b) (price : ℕ → ℕ) (goals : List ℕ) wher
       step e out (eqb-true (getD goals v 0) (lastMark rest) (both-right free last others))
       (steps-of rest (v ∷ seen) (set marks v 1) v (cost + price v) (length-set marks v 1 ∙ long) (marks-more seen marks v (omega arith) m)
       (λ none. some (rw t none))))
-      (λ (t : both edge (both free last) ≡ false). absurd (some (rw t)))
-      (either-way (both edge (both free last)))
+      (λ t. absurd (some (rw t)))
 
 -- ---- what they say of the path
 

@@ -20,7 +20,7 @@ use borrow.Author.Tests.{eq-eqb, ne-eqb, le-leb, lt-leb, ltb-true, ltb-false}
 use Rattle.price.specs.Test.{choose, either}
 use Rattle.price.specs.Lists.{upTo}
 use Rattle.price.specs.Prices.{nextFactor}
-use Rattle.price.proofs.TestLaws.{either-way, either-true}
+use Rattle.price.proofs.TestLaws.{by-test, either-true}
 use Rattle.job.specs.Job.{Job, nodes, nets}
 use Rattle.negotiation.specs.Routable.{Routable}
 use Rattle.negotiation.specs.Records.{encode}
@@ -227,14 +227,13 @@ module _ (j : Job) (sound : Routable j) {more : Bool} {t : Tariff} {history user
             → replayFrom j log (j .terms .limit) (firstState j) [] ≡ choose more′ (replayFrom j log (a .left - 1) (moved .state) (moved .records)) (on moved)
         ended more′ e =
             let words-are = n .at .tallied .words-is in
-            ⊎-elim
-            (λ (q : ltb (t′ .words) (length log) ≡ true).
+            by-test (ltb (t′ .words) (length log))
+            (λ q.
             let l = ltb-true (t′ .words) (length log) q in
             whole ∙ rw (e, q, goes, lt-leb (length log) (length (encode (end .records))) (omega arith)))
-            (λ (q : ltb (t′ .words) (length log) ≡ false).
+            (λ q.
             let l = ltb-false (t′ .words) (length log) q in
             whole ∙ rw (e, q, goes, le-leb (length log) (length (encode (end .records))) (omega arith)))
-            (either-way (ltb (t′ .words) (length log)))
 
         pub take-next :
             {dues′ : List ℕ} → length dues′ ≡ nets j → {history′ : List ℕ} → history′ ≡ upTo (grow j (n .kept)) (length history)

@@ -16,7 +16,7 @@ use native.Mathlib.Numerals.{add-one}
 use native.Mathlib.Omega.{arith}
 use lib.ListN.{length, getD}
 use Rattle.price.specs.Test.{choose}
-use Rattle.price.proofs.TestLaws.{either-way, true≢false}
+use Rattle.price.proofs.TestLaws.{by-test, either-way, true≢false}
 use Rattle.job.specs.Job.{Job, jobOf, nodes, nets, netSinks}
 use Rattle.negotiation.specs.Routable.{Routable}
 use Rattle.negotiation.specs.Records.{Record, pathNodes}
@@ -128,7 +128,7 @@ module _ (j : Job) (sound : Routable j) {p : Progress} {i : ℕ} {t : Tariff} {h
     -- one with turns is due
     is-due : 0 < turns → due j (p .state) i ≡ true
     is-due some =
-        ⊎-elim (λ d. d) (λ (d : due j (p .state) i ≡ false). absurd (let z = without (unmarked d) .none-left in omega arith)) (either-way (due j (p .state) i))
+        by-test (due j (p .state) i) (λ d. d) (λ d. absurd (let z = without (unmarked d) .none-left in omega arith))
 
     module _ {delays criticalities : List ℕ} {timed : Bool} {low high : ℕ} (tables : NetTables j i delays criticalities timed low high) where
       net-opens : due j (p .state) i ≡ true → NetOpens j here i delays criticalities timed low high turns t history users′ marks′ log
@@ -162,10 +162,9 @@ module _ (j : Job) (sound : Routable j) {p : Progress} {i : ℕ} {t : Tariff} {h
         -- they stray
         strays : (w : ℕ) → r ≡ Off w → choose (due j (p .state) i) (replayTurns j log i here (length (netSinks j i)) []) (on here) ≡ off w
         strays w e =
-            ⊎-elim
-            (λ (d : due j (p .state) i ≡ true). rw d (case d (Off w) e))
-            (λ (d : due j (p .state) i ≡ false). absurd (on-off (sym (none (idle-is d .0) .0) ∙ e)))
-            (either-way (due j (p .state) i))
+            by-test (due j (p .state) i)
+            (λ d. rw d (case d (Off w) e))
+            (λ d. absurd (on-off (sym (none (idle-is d .0) .0) ∙ e)))
 
         net-off : (w : ℕ) → r ≡ Off w → replayNets j log (p .state) (p .records) (nets j) ≡ off w
         net-off w e =
@@ -201,11 +200,10 @@ module _ (j : Job) (sound : Routable j) {p : Progress} {i : ℕ} {t : Tariff} {h
                 from-listed = omega arith;
                 to-listed = omega arith;
                 countable = λ some.
-                    ⊎-elim
-                    (λ (d : due j (p .state) i ≡ true).
+                    by-test (due j (p .state) i)
+                    (λ d.
                     countable j sound (grown d) (made d .at .tallied) hi (t .words) (at .at .tallied .words-is) (made d .below) (made d .source-on))
-                    (λ (d : due j (p .state) i ≡ false). absurd (some (unmarked d)))
-                    (either-way (due j (p .state) i));
+                    (λ d. absurd (some (unmarked d)));
               }
 
           module _ {users″ marks‴ from′ to′ : List ℕ} (passed : getD dues i 0 ≡ 0 → Passed users′ marks″ from to users″ marks‴ from′ to′)

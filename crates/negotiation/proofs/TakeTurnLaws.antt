@@ -21,7 +21,7 @@ use lib.ListN.{length, getD, take, drop, length-append, length-drop, length-set,
 use lib.Seq.{length-slice, take-append-seam}
 use Rattle.price.specs.Test.{choose}
 use Rattle.price.specs.Lists.{every, has}
-use Rattle.price.proofs.TestLaws.{either-way, true≢false, le-or-lt}
+use Rattle.price.proofs.TestLaws.{by-test, true≢false, le-or-lt}
 use Rattle.price.proofs.ListLaws.{part-slice, has-at, has-place}
 use Rattle.search.specs.Replies.{sinksMost}
 use Rattle.search.specs.Tables.{Graph}
@@ -141,10 +141,9 @@ missing-more {sinks} {path} {old} {new} {place} a s r =
           (λ (h : place ≤ p). r .before p l h)
           (λ (h : p < place).
           let v : ℕ = getD sinks p 0 in
-          ⊎-elim
-          (λ (q : has v path ≡ true). rw (s .at v, q) (omega arith))
-          (λ (q : has v path ≡ false). rw (s .at v, q) (a .before p h (omega arith)))
-          (either-way (has v path)))
+          by-test (has v path)
+          (λ q. rw (s .at v, q) (omega arith))
+          (λ q. rw (s .at v, q) (a .before p h (omega arith))))
           (le-or-lt place p);
       here = r .here;
     }
@@ -170,11 +169,10 @@ module _ (j : Job) (i : ℕ) (made : List Record) {marks sinks : List ℕ} (mark
   not-joined l =
       let x : ℕ = getD sinks place 0 in
       let out : has x (treeFrom j i made) ≡ false = mark-out (has x (treeFrom j i made)) (sym (marked x) ∙ first .here l) in
-      ⊎-elim
-      (λ (t : every (λ x. has x (treeFrom j i made)) (netSinks j i) ≡ true).
+      by-test (every (λ x. has x (treeFrom j i made)) (netSinks j i))
+      (λ t.
       absurd (true≢false (sym (every-has (λ x. has x (treeFrom j i made)) (netSinks j i) t x (rw (← is) (has-at sinks place l))) ∙ out)))
       (λ t. t)
-      (either-way (every (λ x. has x (treeFrom j i made)) (netSinks j i)))
 
 -- where all are joined the net makes no more turns
 turns-done :

@@ -12,7 +12,7 @@ use lib.ListN.{length, getD}
 use borrow.Author.Tests.{eq-eqb, lt-ltb}
 use Rattle.price.specs.Test.{choose, either}
 use Rattle.price.specs.Lists.{neighbours, has, distinct}
-use Rattle.price.proofs.TestLaws.{either-way, either-true, either-false, true≢false}
+use Rattle.price.proofs.TestLaws.{by-test, either-true, either-false, true≢false}
 use Rattle.price.proofs.ListLaws.{rises-last, has-append}
 use Rattle.search.proofs.DistinctLaws.{has-cons, has-first, has-rest, lacks, distinct-cons, distinct-first, distinct-rest}
 use Rattle.job.specs.Join.{placesFrom, entriesAt, taking}
@@ -58,10 +58,10 @@ pub taking-split : (sinks taken ps : List ℕ) (p : ℕ) → has p (taking sinks
 unfolding taking
 taking-split sinks taken [] p h = inl h
 taking-split sinks taken (q ∷ qs) p h =
-    ⊎-elim
-    (λ (t : has (getD sinks q 0) (entriesAt sinks taken) ≡ true).
+    by-test (has (getD sinks q 0) (entriesAt sinks taken))
+    (λ t.
     ⊎-elim (λ l. inl l) (λ r. inr (has-rest p q qs r)) (taking-split sinks taken qs p (rw t at h)))
-    (λ (t : has (getD sinks q 0) (entriesAt sinks taken) ≡ false).
+    (λ t.
     ⊎-elim
     (λ (l : has p (taken ++ (q ∷ [])) ≡ true).
     ⊎-elim
@@ -70,7 +70,6 @@ taking-split sinks taken (q ∷ qs) p h =
     (has-append-split p taken (q ∷ []) l))
     (λ r. inr (has-rest p q qs r))
     (taking-split sinks (taken ++ (q ∷ [])) qs p (rw t at h)))
-    (either-way (has (getD sinks q 0) (entriesAt sinks taken)))
 
 pub entry-has : (sinks ps : List ℕ) (p : ℕ) → has p ps ≡ true → has (getD sinks p 0) (entriesAt sinks ps) ≡ true
 entry-has sinks [] p h = absurd (no-entry p h)
@@ -92,10 +91,9 @@ pub taking-once : (sinks taken ps : List ℕ) → distinct (entriesAt sinks take
 unfolding taking distinct has
 taking-once sinks taken [] d = d
 taking-once sinks taken (q ∷ qs) d =
-    ⊎-elim
-    (λ (t : has (getD sinks q 0) (entriesAt sinks taken) ≡ true). rw t (taking-once sinks taken qs d))
-    (λ (t : has (getD sinks q 0) (entriesAt sinks taken) ≡ false). rw t (taking-once sinks (taken ++ (q ∷ [])) qs (more t)))
-    (either-way (has (getD sinks q 0) (entriesAt sinks taken)))
+    by-test (has (getD sinks q 0) (entriesAt sinks taken))
+    (λ t. rw t (taking-once sinks taken qs d))
+    (λ t. rw t (taking-once sinks (taken ++ (q ∷ [])) qs (more t)))
   where
     more : has (getD sinks q 0) (entriesAt sinks taken) ≡ false → distinct (entriesAt sinks (taken ++ (q ∷ []))) ≡ true
     more t =
@@ -117,15 +115,15 @@ pub taking-covers : (sinks taken ps : List ℕ) (s : ℕ) → (has s (entriesAt 
 unfolding taking
 taking-covers sinks taken [] s h = ⊎-elim (λ l. l) (λ z. absurd (no-entry s z)) h
 taking-covers sinks taken (q ∷ qs) s h =
-    ⊎-elim
-    (λ (t : has (getD sinks q 0) (entriesAt sinks taken) ≡ true).
+    by-test (has (getD sinks q 0) (entriesAt sinks taken))
+    (λ t.
     rw t
     (taking-covers sinks taken qs s
     (⊎-elim
     (λ l. inl l)
     (λ r. ⊎-elim (λ (e : s ≡ getD sinks q 0). inl (rw e t)) (λ z. inr z) (has-cons s (getD sinks q 0) (entriesAt sinks qs) r))
     h)))
-    (λ (t : has (getD sinks q 0) (entriesAt sinks taken) ≡ false).
+    (λ t.
     rw t
     (taking-covers sinks (taken ++ (q ∷ [])) qs s
     (⊎-elim
@@ -136,17 +134,16 @@ taking-covers sinks taken (q ∷ qs) s h =
     (λ z. inr z)
     (has-cons s (getD sinks q 0) (entriesAt sinks qs) r))
     h)))
-    (either-way (has (getD sinks q 0) (entriesAt sinks taken)))
 
 -- places taken in turn rise
 pub taking-rises : (sinks taken : List ℕ) (a n : ℕ) → neighbours ltb taken ≡ true → ((p : ℕ) → has p taken ≡ true → p < a) → neighbours ltb (taking sinks taken (placesFrom a n)) ≡ true
 unfolding taking placesFrom
 taking-rises sinks taken a zero r below = r
 taking-rises sinks taken a (suc n) r below =
-    ⊎-elim
-    (λ (t : has (getD sinks a 0) (entriesAt sinks taken) ≡ true).
+    by-test (has (getD sinks a 0) (entriesAt sinks taken))
+    (λ t.
     subst goes (sym t) (taking-rises sinks taken (suc a) n r (λ p h. let l = below p h in omega arith)))
-    (λ (t : has (getD sinks a 0) (entriesAt sinks taken) ≡ false).
+    (λ t.
     subst goes (sym t)
     (taking-rises sinks (taken ++ (a ∷ [])) (suc a) n
     (rises-last taken a r (every-members (λ x. ltb x a) taken (λ p h. lt-ltb p a (below p h))))
@@ -155,7 +152,6 @@ taking-rises sinks taken a (suc n) r below =
     (λ (l : has p taken ≡ true). let low = below p l in omega arith)
     (λ (m : has p (a ∷ []) ≡ true). ⊎-elim (λ (e : p ≡ a). omega arith) (λ z. absurd (no-entry p z)) (has-cons p a [] m))
     (has-append-split p taken (a ∷ []) h))))
-    (either-way (has (getD sinks a 0) (entriesAt sinks taken)))
   where
     goes : Bool → Type 0
     goes seen = neighbours ltb (taking sinks (choose seen taken (taken ++ (a ∷ []))) (placesFrom (suc a) n)) ≡ true

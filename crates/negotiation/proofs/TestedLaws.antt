@@ -12,7 +12,7 @@ use lib.Seq.{length-take-le, length-front, take-at, length-slice}
 use borrow.Author.Count.{below-more}
 use borrow.Author.Tests.{lt-ltb, le-ltb, not-true, not-false}
 use Rattle.price.specs.Lists.{every, firstBelow}
-use Rattle.price.proofs.TestLaws.{either-way, le-or-lt}
+use Rattle.price.proofs.TestLaws.{by-test, le-or-lt}
 use Rattle.price.proofs.ListLaws.{every-all, every-none, part-slice}
 use Rattle.price.proofs.BelowLaws.{firstBelow-below, firstBelow-holds, firstBelow-is, firstBelow-all}
 use Rattle.search.specs.Block.{Block, graphOf, row, hasEdge}
@@ -136,8 +136,8 @@ module _ (j : Job) (sound : Routable j) (i : ℕ) (h : i < nets j) where
       mark-none : (k : ℕ) → k < length (netSinks j i) → getD flooded (getD (netSinks j i) k 0) 0 ≡ 0 → hasPath j i (getD (netSinks j i) k 0) ≡ false
       mark-none k l e =
           let s : ℕ = getD (netSinks j i) k 0 in
-          ⊎-elim
-          (λ (q : hasPath j i (getD (netSinks j i) k 0) ≡ true).
+          by-test (hasPath j i (getD (netSinks j i) k 0))
+          (λ q.
           let p = path-from j sound i h s (sound .sink-node i h k l) q in
           ⊎-elim
           (λ (all : (n : ℕ) → n < length part → getD flooded (getD part n 0) 0 ≡ 1).
@@ -147,7 +147,6 @@ module _ (j : Job) (sound : Routable j) (i : ℕ) (h : i < nets j) where
           absurd (let one = whole (getD (netSinks j i) k 0) (p .0) (graph-walk j (p .1)) in omega arith))
           (f .complete))
           (λ q. q)
-          (either-way (hasPath j i (getD (netSinks j i) k 0)))
 
       marks-are : take (nodes j) (flooded ++ drop (nodes j) marks) ≡ flooded
       marks-are = take-at flooded (drop (nodes j) marks) (nodes j) (f .long)

@@ -10,7 +10,7 @@ use native.Mathlib.Omega.{arith}
 use lib.ListN.{length, getD, drop, List·getD-eq-default}
 use Rattle.price.specs.Test.{choose}
 use Rattle.price.specs.Lists.{every, has, distinct, upTo}
-use Rattle.price.proofs.TestLaws.{either-way, le-or-lt}
+use Rattle.price.proofs.TestLaws.{by-test, le-or-lt}
 use Rattle.price.proofs.ListLaws.{has-at, has-place, length-upTo, getD-upTo, has-append-left, has-append-right}
 use Rattle.search.specs.Block.{Block}
 use Rattle.search.specs.Paths.{Walk, stay, step, CheapestPath, Fair}
@@ -39,7 +39,7 @@ mark-node : (j : Job) (tree : List ℕ) (v : ℕ) → v < nodes j → inTree (ma
 unfolding inTree marksOf
 mark-node j tree v h =
     rw (getD-upTo (markOf tree) (nodes j) v 0 h)
-    (⊎-elim (λ (q : has v tree ≡ true). rw q) (λ (q : has v tree ≡ false). rw q) (either-way (has v tree)))
+    (by-test (has v tree) (λ q. rw q) (λ q. rw q))
 
 mark-out : (j : Job) (tree : List ℕ) (v : ℕ) → nodes j ≤ v → inTree (marksOf j tree) v ≡ false
 unfolding inTree marksOf
@@ -196,13 +196,12 @@ module _ (j : Job) (c : Congestion) (i : ℕ) (g : Shaped (j .block)) (fair : (t
       has-append-left x tree [] (missing-none tree (netSinks j i) (omega arith) x m)
   turns-join some {tree = tree} (stop is) all few from at reach x m =
       has-append-left x tree []
-      (⊎-elim
+      (by-test (has x tree)
       (λ q. q)
-      (λ (q : has x tree ≡ false).
+      (λ q.
       let y = some tree x m q in
       let p = reach (y .0) (turn-listed j i tree (y .0) (y .1)) in
-      absurd (stuck-none tree all is from (y .0) (p .0) at (y .1) (y .2) (p .1)))
-      (either-way (has x tree)))
+      absurd (stuck-none tree all is from (y .0) (p .0) at (y .1) (y .2) (p .1))))
   turns-join some {tree = tree} (more {r = r} {rs = rs} a b joined rest) all few from at reach x m =
       let grown : List ℕ = tree ++ r .path in
       let less : missing grown (netSinks j i) < missing tree (netSinks j i) =

@@ -15,7 +15,7 @@ use Rattle.price.specs.Bounds.{othersMost}
 use Rattle.price.specs.Timed.{historyBound}
 use Rattle.price.specs.Test.{choose}
 use Rattle.price.specs.Lists.{has}
-use Rattle.price.proofs.TestLaws.{either-way, le-or-lt, both-true}
+use Rattle.price.proofs.TestLaws.{by-test, le-or-lt, both-true}
 use Rattle.price.proofs.ListLaws.{has-append-left, has-append-right, getD-upTo}
 use Rattle.search.specs.Turn.{Congestion, joins, stuck}
 use Rattle.search.specs.Replies.{nodeSound}
@@ -51,14 +51,12 @@ mark-at j tree v h = getD-upTo {A = ℕ} (λ u. choose (has u tree) 1 0) (nodes 
 -- a path that joins the tree is marked beside it
 pub mark-more : (v : ℕ) (tree path : List ℕ) → _≡_ {A = ℕ} (choose (has v path) 1 (choose (has v tree) 1 0)) (choose (has v (tree ++ path)) 1 0)
 mark-more v tree path =
-    ⊎-elim
-    (λ (p : has v path ≡ true). rw (p, has-append-right v tree path p))
-    (λ (p : has v path ≡ false).
-    ⊎-elim
-    (λ (q : has v tree ≡ true). rw (p, q, has-append-left v tree path q))
-    (λ (q : has v tree ≡ false). rw (p, q, lacks-append v tree path q p))
-    (either-way (has v tree)))
-    (either-way (has v path))
+    by-test (has v path)
+    (λ p. rw (p, has-append-right v tree path p))
+    (λ p.
+    by-test (has v tree)
+    (λ q. rw (p, q, has-append-left v tree path q))
+    (λ q. rw (p, q, lacks-append v tree path q p)))
 
 -- ---- the machine's turns
 

@@ -9,7 +9,7 @@ use native.Mathlib.Omega.{arith}
 use lib.ListN.{length, getD}
 use borrow.Author.Tests.{not-true, not-false}
 use Rattle.price.specs.Lists.{every, firstBelow}
-use Rattle.price.proofs.TestLaws.{either-way, le-or-lt, true≢false}
+use Rattle.price.proofs.TestLaws.{by-test, le-or-lt, true≢false}
 use Rattle.price.proofs.ListLaws.{every-at, every-all, every-none, has-at, has-place}
 use Rattle.price.proofs.BelowLaws.{firstBelow-below, firstBelow-holds, firstBelow-is}
 use Rattle.search.specs.Replies.{workNeeded}
@@ -91,11 +91,10 @@ module _ (j : Job) (sound : Routable j) where
   module _ (net place : ℕ) (f : FirstUnreachable j net place) where
     lacks : hasPath j net (sinkAt net place) ≡ false
     lacks =
-        ⊎-elim
-        (λ (q : hasPath j net (sinkAt net place) ≡ true).
+        by-test (hasPath j net (sinkAt net place))
+        (λ q.
         absurd (f .no-path (reached net place (f .net-below) (f .place-below) q)))
         (λ q. q)
-        (either-way (hasPath j net (sinkAt net place)))
 
     found-before : (p : ℕ) → p < place → hasPath j net (sinkAt net p) ≡ true
     found-before p l = let w = f .sinks-before p l in walk-path j sound net (sinkAt net p) (w .0) (f .net-below) (w .1)
@@ -131,10 +130,10 @@ unreachable-refused j work log =
           (λ (h : 1 ≤ faultyJob j).
           absurd (not-seven 5 net place _ (λ z. omega arith) (sym (refusal (route-table j work log h)) ∙ e)))
           (λ (h : faultyJob j < 1).
-          ⊎-elim
-          (λ (x : exceeds (nodes j) (j .terms) ≡ true).
+          by-test (exceeds (nodes j) (j .terms))
+          (λ x.
           absurd (not-seven 15 net place _ (λ z. omega arith) (sym (refusal (route-large j work log h x)) ∙ e)))
-          (λ (x : exceeds (nodes j) (j .terms) ≡ false).
+          (λ x.
           ⊎-elim
           (λ (enough : workNeeded (nodes j) ≤ length work).
           ⊎-elim
@@ -148,8 +147,7 @@ unreachable-refused j work log =
           (le-or-lt (nets j) (unreachableNet (joined j))))
           (λ (short : length work < workNeeded (nodes j)).
           absurd (not-seven 6 net place _ (λ z. omega arith) (sym (refusal (route-work j work log h x short)) ∙ e)))
-          (le-or-lt (workNeeded (nodes j)) (length work)))
-          (either-way (exceeds (nodes j) (j .terms))))
+          (le-or-lt (workNeeded (nodes j)) (length work))))
           (le-or-lt 1 (faultyJob j));
       given = λ sound x enough net place f.
           let none : faultyJob j < 1 = rw (faulty-none j sound) (omega arith) in

@@ -13,7 +13,7 @@ use lib.Seq.{getD-set-same, getD-set-other}
 use borrow.Author.Tests.{eq-eqb, ne-eqb, eqb-false}
 use Rattle.price.specs.Test.{choose, both}
 use Rattle.price.specs.Lists.{has, countBelow}
-use Rattle.price.proofs.TestLaws.{true≢false, either-way}
+use Rattle.price.proofs.TestLaws.{by-test, true≢false}
 use Rattle.price.proofs.BelowLaws.{count-less, count-same}
 use Rattle.job.specs.Job.{Job, nets}
 use Rattle.negotiation.specs.Machine.{treeAt, usersOf, othersOf, firstState}
@@ -53,10 +53,9 @@ users-with j trees i tree v h l =
     ∙ rw (
       getD-set-same trees i tree [] l,
       count-same (λ k. both (not (eqb k i)) (has v (treeAt (set trees i tree) k))) (λ k. both (not (eqb k i)) (has v (treeAt trees k))) (nets j)
-          (λ k b. ⊎-elim
-          (λ (q : eqb k i ≡ true). rw q)
-          (λ (q : eqb k i ≡ false). rw (q, getD-set-other trees i k tree [] (eqb-false k i q)))
-          (either-way (eqb k i))),
+          (λ k b. by-test (eqb k i)
+          (λ q. rw q)
+          (λ q. rw (q, getD-set-other trees i k tree [] (eqb-false k i q)))),
     )
 
 -- who has a node in its tree uses it

@@ -9,7 +9,7 @@ use native.Mathlib.Omega.{arith}
 use lib.Dec.{ltb}
 use borrow.Author.Tests.{ltb-true, ltb-false}
 use Rattle.price.specs.Lists.{firstBelow, countBelow}
-use Rattle.price.proofs.TestLaws.{either-way, le-or-lt, true≢false}
+use Rattle.price.proofs.TestLaws.{by-test, le-or-lt, true≢false}
 
 -- ---- the lowest number that passes a test
 
@@ -18,41 +18,36 @@ module _ (t : ℕ → Bool) where
   unfolding firstBelow
   firstBelow-le zero = zero-le
   firstBelow-le (suc n) =
-      ⊎-elim
+      by-test (ltb (firstBelow t n) n)
       (λ q. rw q (let r = firstBelow-le n in omega arith))
-      (λ q. rw q (⊎-elim (λ p. rw p (omega arith)) (λ p. rw p (omega arith)) (either-way (t n))))
-      (either-way (ltb (firstBelow t n) n))
+      (λ q. rw q (by-test (t n) (λ p. rw p (omega arith)) (λ p. rw p (omega arith))))
 
   -- no lower number passes
   pub firstBelow-below : (n k : ℕ) → k < firstBelow t n → t k ≡ false
   unfolding firstBelow
   firstBelow-below zero k l = absurd (not-suc-le-zero l)
   firstBelow-below (suc n) k l =
-      ⊎-elim
+      by-test (ltb (firstBelow t n) n)
       (λ q. firstBelow-below n k (rw q at l))
       (λ q.
       let whole : n ≤ firstBelow t n = ltb-false (firstBelow t n) n q in
-      ⊎-elim
+      by-test (t n)
       (λ p. firstBelow-below n k (omega (arith, rw (q, p) at l)))
-      (λ (p : t n ≡ false).
+      (λ p.
       let h : k < suc n = rw (q, p) at l in
-      ⊎-elim (λ e. rw e p) (λ g. firstBelow-below n k (omega arith)) (eq-or-lt-of-le (le-of-suc-le-suc h)))
-      (either-way (t n)))
-      (either-way (ltb (firstBelow t n) n))
+      ⊎-elim (λ e. rw e p) (λ g. firstBelow-below n k (omega arith)) (eq-or-lt-of-le (le-of-suc-le-suc h))))
 
   -- it passes itself, where there is one
   pub firstBelow-holds : (n : ℕ) → firstBelow t n < n → t (firstBelow t n) ≡ true
   unfolding firstBelow
   firstBelow-holds zero l = absurd (not-suc-le-zero l)
   firstBelow-holds (suc n) l =
-      ⊎-elim
+      by-test (ltb (firstBelow t n) n)
       (λ q. rw q (firstBelow-holds n (ltb-true (firstBelow t n) n q)))
-      (λ (q : ltb (firstBelow t n) n ≡ false).
-      ⊎-elim
-      (λ (p : t n ≡ true). rw (q, p) p)
-      (λ (p : t n ≡ false). absurd (lt-irrefl (suc n) (rw (q, p) at l)))
-      (either-way (t n)))
-      (either-way (ltb (firstBelow t n) n))
+      (λ q.
+      by-test (t n)
+      (λ p. rw (q, p) p)
+      (λ p. absurd (lt-irrefl (suc n) (rw (q, p) at l))))
 
   -- a number that passes, with none below it that does, is the lowest
   pub firstBelow-is : (n k : ℕ) → k < n → t k ≡ true → ((j : ℕ) → j < k → t j ≡ false) → firstBelow t n ≡ k
@@ -81,7 +76,7 @@ module _ (t : ℕ → Bool) where
   count-most zero = zero-le
   count-most (suc n) =
       let r = count-most n in
-      ⊎-elim (λ (q : t n ≡ true). rw q (omega arith)) (λ (q : t n ≡ false). rw q (omega arith)) (either-way (t n))
+      by-test (t n) (λ q. rw q (omega arith)) (λ q. rw q (omega arith))
 
   module _ (s : ℕ → Bool) where
     -- where no more pass, no more are counted
@@ -90,11 +85,10 @@ module _ (t : ℕ → Bool) where
     count-le zero more = zero-le
     count-le (suc n) more =
         let r = count-le n (λ x l. more x (omega arith)) in
-        ⊎-elim
-        (λ (q : s n ≡ true). rw (q, more n (omega arith) q) (omega arith))
-        (λ (q : s n ≡ false).
-        ⊎-elim (λ (p : t n ≡ true). rw (q, p) (omega arith)) (λ (p : t n ≡ false). rw (q, p) (omega arith)) (either-way (t n)))
-        (either-way (s n))
+        by-test (s n)
+        (λ q. rw (q, more n (omega arith) q) (omega arith))
+        (λ q.
+        by-test (t n) (λ p. rw (q, p) (omega arith)) (λ p. rw (q, p) (omega arith)))
 
     -- where one passes no more, fewer are counted
     pub count-less : (n u : ℕ) → ((x : ℕ) → x < n → s x ≡ true → t x ≡ true) → u < n → t u ≡ true → s u ≡ false → countBelow s n < countBelow t n
@@ -107,11 +101,10 @@ module _ (t : ℕ → Bool) where
         rw (rw e at su, rw e at tu) (omega arith))
         (λ (h : u < n).
         let r = count-less n u (λ x k. more x (omega arith)) h tu su in
-        ⊎-elim
-        (λ (q : s n ≡ true). rw (q, more n (omega arith) q) (omega arith))
-        (λ (q : s n ≡ false).
-        ⊎-elim (λ (p : t n ≡ true). rw (q, p) (omega arith)) (λ (p : t n ≡ false). rw (q, p) (omega arith)) (either-way (t n)))
-        (either-way (s n)))
+        by-test (s n)
+        (λ q. rw (q, more n (omega arith) q) (omega arith))
+        (λ q.
+        by-test (t n) (λ p. rw (q, p) (omega arith)) (λ p. rw (q, p) (omega arith))))
         (eq-or-lt-of-le (le-of-suc-le-suc l))
 
 -- where the same pass, as many are counted

@@ -10,7 +10,7 @@ use lib.Dec.{eqb}
 use lib.ListN.{length, getD}
 use borrow.Author.Tests.{eq-eqb, ne-eqb, eqb-true}
 use Rattle.price.specs.Lists.{least, placeOf}
-use Rattle.price.proofs.TestLaws.{either-way, le-or-lt}
+use Rattle.price.proofs.TestLaws.{by-test, le-or-lt}
 
 -- ---- the least entry
 
@@ -67,10 +67,9 @@ pub placeOf-at : (x : ℕ) (xs : List ℕ) → placeOf x xs < length xs → getD
 unfolding placeOf
 placeOf-at x [] l = absurd (not-suc-le-zero l)
 placeOf-at x (y ∷ ys) l =
-    ⊎-elim
+    by-test (eqb x y)
     (λ q. rw q (sym (eqb-true x y q)))
     (λ q. rw q (placeOf-at x ys (le-of-suc-le-suc (rw q at l))))
-    (either-way (eqb x y))
 
 -- the place is the lowest at which x stands
 pub placeOf-most : (x : ℕ) (xs : List ℕ) (i : ℕ) → i < length xs → getD xs i 0 ≡ x → placeOf x xs ≤ i
@@ -78,10 +77,9 @@ unfolding placeOf
 placeOf-most x [] i l e = absurd (not-suc-le-zero l)
 placeOf-most x (y ∷ ys) zero l e = rw (eq-eqb x y (sym e)) zero-le
 placeOf-most x (y ∷ ys) (suc i) l e =
-    ⊎-elim
+    by-test (eqb x y)
     (λ q. rw q zero-le)
     (λ q. rw q (suc-le-suc (placeOf-most x ys i (le-of-suc-le-suc l) e)))
-    (either-way (eqb x y))
 
 -- where x stands anywhere, its place is within the list
 pub placeOf-lt : (x : ℕ) (xs : List ℕ) (i : ℕ) → i < length xs → getD xs i 0 ≡ x → placeOf x xs < length xs

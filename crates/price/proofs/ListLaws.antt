@@ -14,7 +14,7 @@ use lib.Seq.{getD-at, getD-drop, slice, take-nil, ext-getD}
 use borrow.Author.Tests.{eq-eqb, eqb-true}
 use Rattle.price.specs.Test.{either}
 use Rattle.price.specs.Lists.{every, neighbours, has, upTo, total}
-use Rattle.price.proofs.TestLaws.{both-false-left, both-false-right, both-left, both-right, both-true, either-way, true≢false}
+use Rattle.price.proofs.TestLaws.{by-test, both-false-left, both-false-right, both-left, both-right, both-true, true≢false}
 
 -- ---- every entry
 
@@ -84,27 +84,25 @@ pub has-place : (x : ℕ) (xs : List ℕ) → has x xs ≡ true → (i : ℕ) ×
 unfolding has
 has-place x [] e = absurd (true≢false (sym e))
 has-place x (y ∷ ys) e =
-    ⊎-elim
+    by-test (eqb x y)
     (λ q. (0, suc-le-suc zero-le, sym (eqb-true x y q)))
     (λ q.
     let r = has-place x ys (subst (λ (t : Bool). either t (has x ys) ≡ true) q e) in
     (suc (r .0), suc-le-suc (r .1), r .2))
-    (either-way (eqb x y))
 
 pub has-append : (x : ℕ) (xs ys : List ℕ) → has x (xs ++ ys) ≡ either (has x xs) (has x ys)
 unfolding has
 has-append x [] ys = refl
 has-append x (z ∷ zs) ys =
-    ⊎-elim (λ q. rw q) (λ (q : eqb x z ≡ false). rw q (has-append x zs ys)) (either-way (eqb x z))
+    by-test (eqb x z) (λ q. rw q) (λ q. rw q (has-append x zs ys))
 
 pub has-append-left : (x : ℕ) (xs ys : List ℕ) → has x xs ≡ true → has x (xs ++ ys) ≡ true
 unfolding has
 has-append-left x [] ys e = absurd (true≢false (sym e))
 has-append-left x (z ∷ zs) ys e =
-    ⊎-elim
+    by-test (eqb x z)
     (λ q. rw q)
     (λ q. rw q (has-append-left x zs ys (subst (λ (t : Bool). either t (has x zs) ≡ true) q e)))
-    (either-way (eqb x z))
 
 pub has-append-right : (x : ℕ) (xs ys : List ℕ) → has x ys ≡ true → has x (xs ++ ys) ≡ true
 unfolding has

@@ -14,6 +14,10 @@ pub either-way : (t : Bool) → (t ≡ true) ⊎ (t ≡ false)
 either-way true = inl refl
 either-way false = inr refl
 
+-- by cases of a test
+pub by-test : {A : Type 0} (t : Bool) → (t ≡ true → A) → (t ≡ false → A) → A
+by-test t f g = ⊎-elim f g (either-way t)
+
 pub true≢false : true ≡ false → ⊥
 true≢false e = let z : _≡_ {A = ℕ} 0 1 = cc in omega arith
 

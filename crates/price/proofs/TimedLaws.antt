@@ -5,7 +5,6 @@
 --     -refused, -delay, -criticality, -priced    the answer, case by case
 -- Assumes nothing.
 use mathlib.Core.Bool.{Bool, true, false}
-use mathlib.Core.Logic.{⊎-elim}
 use mathlib.Core.Path.{_≡_, refl, sym, _∙_, ap}
 use Prim.Native.Nat.{ℕ, _+_, _-_, _*_, _≤_, _<_}
 use native.Mathlib.Nat.{mul-le-mul, mul-pos, le-refl}
@@ -21,7 +20,7 @@ use Rattle.price.specs.Timed.{timedPrice, timedReply, weighed, weighedRe
 use Rattle.price.specs.declared.Weighting.{Weighting}
 use Rattle.price.specs.declared.PriceAnswer.{PriceAnswer}
 use Rattle.price.specs.declared.PriceAnswer.the-variants.{Price, Refused}
-use Rattle.price.proofs.TestLaws.{either-way, both-left, both-right}
+use Rattle.price.proofs.TestLaws.{by-test, both-left, both-right}
 use Rattle.price.proofs.PriceLaws.{base-most, congestion-most, price-pos, price-most, path-most}
 use Rattle.price.proofs.ReplyLaws.{reply-priced, not-priced}
 
@@ -101,52 +100,46 @@ module _ (w : Weighting) where
   -- a search takes no history that the price does not take, and some
   pub bound-most : historyBound w ≤ historyMost
   bound-most =
-      ⊎-elim
-      (λ (t : w .timed ≡ true). rw (bound-timed t) (omega arith))
-      (λ (t : w .timed ≡ false). rw (bound-untimed t) (omega arith))
-      (either-way (w .timed))
+      by-test (w .timed)
+      (λ t. rw (bound-timed t) (omega arith))
+      (λ t. rw (bound-untimed t) (omega arith))
 
   pub bound-least : 1 ≤ historyBound w
   bound-least =
-      ⊎-elim
-      (λ (t : w .timed ≡ true). rw (bound-timed t) (omega arith))
-      (λ (t : w .timed ≡ false). rw (bound-untimed t) (omega arith))
-      (either-way (w .timed))
+      by-test (w .timed)
+      (λ t. rw (bound-timed t) (omega arith))
+      (λ t. rw (bound-untimed t) (omega arith))
 
   -- so many of the largest prices as a path has nodes add up to less than `pathMost`
   pub weighed-path : (n : ℕ) → n ≤ nodesMost → (w .timed ≡ true → n ≤ timedNodesMost) → n * weighedMost w < pathMost
   weighed-path n few timed-few =
-      ⊎-elim
-      (λ (t : w .timed ≡ true). rw (most-timed t) (timed-path-most n (timed-few t)))
-      (λ (t : w .timed ≡ false). rw (most-untimed t) (path-most n few))
-      (either-way (w .timed))
+      by-test (w .timed)
+      (λ t. rw (most-timed t) (timed-path-most n (timed-few t)))
+      (λ t. rw (most-untimed t) (path-most n few))
 
   -- a timed price may be above every other
   pub weighed-low : weighedMost w ≤ timedPriceMost
   weighed-low =
-      ⊎-elim
-      (λ (t : w .timed ≡ true). rw (most-timed t) (omega arith))
-      (λ (t : w .timed ≡ false). rw (most-untimed t) (omega arith))
-      (either-way (w .timed))
+      by-test (w .timed)
+      (λ t. rw (most-timed t) (omega arith))
+      (λ t. rw (most-untimed t) (omega arith))
 
 module _ {w : Weighting} {k f o c h d : ℕ} (b : WeighedInBounds w k f o c h d) where
   pub weighed-pos : 0 < weighed w d (priceOf k f o c h)
   weighed-pos =
       let p : 0 < priceOf k f o c h = price-pos k f o c h (b .five .history-least) in
-      ⊎-elim
-      (λ (t : w .timed ≡ true). rw (weighed-timed w d (priceOf k f o c h) t) (timed-pos (w .criticality) d (priceOf k f o c h) (b .criticality-most t) p))
-      (λ (t : w .timed ≡ false). rw (weighed-untimed w d (priceOf k f o c h) t) p)
-      (either-way (w .timed))
+      by-test (w .timed)
+      (λ t. rw (weighed-timed w d (priceOf k f o c h) t) (timed-pos (w .criticality) d (priceOf k f o c h) (b .criticality-most t) p))
+      (λ t. rw (weighed-untimed w d (priceOf k f o c h) t) p)
 
   pub weighed-most : weighed w d (priceOf k f o c h) ≤ weighedMost w
   weighed-most =
-      ⊎-elim
-      (λ (t : w .timed ≡ true).
+      by-test (w .timed)
+      (λ t.
       let low : h ≤ timedHistoryMost = rw (bound-timed w t) at (b .history-bound) in
       rw (weighed-timed w d (priceOf k f o c h) t, most-timed w t)
       (timed-most (w .criticality) d (priceOf k f o c h) (b .criticality-most t) (b .delay-most t) (timed-congested-most (b .five) low)))
-      (λ (t : w .timed ≡ false). rw (weighed-untimed w d (priceOf k f o c h) t, most-untimed w t) (price-most (b .five)))
-      (either-way (w .timed))
+      (λ t. rw (weighed-untimed w d (priceOf k f o c h) t, most-untimed w t) (price-most (b .five)))
 
 -- ---- what a call answers
 
@@ -243,18 +236,16 @@ module _ (w : Weighting) (k f o c h d : ℕ) where
   -- a delay that is not weighed says nothing
   pub reply-delay : {e : ℕ} → (w .timed ≡ true → d ≡ e) → weighedReply w k f o c h d ≡ weighedReply w k f o c h e
   reply-delay {e} same =
-      ⊎-elim
-      (λ (t : w .timed ≡ true). ap (λ (x : ℕ). weighedReply w k f o c h x) (same t))
-      (λ (t : w .timed ≡ false). rw t)
-      (either-way (w .timed))
+      by-test (w .timed)
+      (λ t. ap (λ (x : ℕ). weighedReply w k f o c h x) (same t))
+      (λ t. rw t)
 
   -- the price where all keep their bounds
   pub weighed-priced : WeighedInBounds w k f o c h d → weighedReply w k f o c h d ≡ priced (weighed w d (priceOf k f o c h))
   weighed-priced b =
-      ⊎-elim
-      (λ (t : w .timed ≡ true).
+      by-test (w .timed)
+      (λ t.
       sym (reply-timed t (sym (timed-priced k f o c h d (w .criticality) (b .five) (b .delay-most t) (b .criticality-most t))))
       ∙ ap priced (sym (weighed-timed w d (priceOf k f o c h) t)))
-      (λ (t : w .timed ≡ false).
+      (λ t.
       sym (reply-untimed t (sym (reply-priced k f o c h (b .five)))) ∙ ap priced (sym (weighed-untimed w d (priceOf k f o c h) t)))
-      (either-way (w .timed))

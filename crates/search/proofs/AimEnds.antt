@@ -15,7 +15,7 @@ use lib.ListN.{length, getD}
 use borrow.Author.Tests.{eq-eqb, ne-eqb}
 use Rattle.price.specs.Test.{choose}
 use Rattle.price.specs.Lists.{has, distinct, countBelow}
-use Rattle.price.proofs.TestLaws.{either-way, test-same, le-or-lt, never-true, true≢false, same-or-not}
+use Rattle.price.proofs.TestLaws.{by-test, test-same, le-or-lt, never-true, true≢false, same-or-not}
 use Rattle.price.proofs.ListLaws.{has-at}
 use Rattle.price.proofs.BelowLaws.{count-most, count-same, count-zero, count-less}
 use Rattle.search.specs.Block.{Block, nodes}
@@ -60,16 +60,15 @@ module _ (b : Block) (marks w w₁ w₂ : List ℕ) (r : AimReady b marks w) (s 
   -- nothing has left the queue
   none-left : (v : ℕ) → Left n w₂ v → ⊥
   none-left v l =
-      ⊎-elim
-      (λ (i : inTree marks v ≡ true). omega (arith, in-leaf v (l .node) i, estimate-kept v (l .node), l .left, l .known))
-      (λ (i : inTree marks v ≡ false). omega (arith, out-dist v (l .node) i, l .near))
-      (either-way (inTree marks v))
+      by-test (inTree marks v)
+      (λ i. omega (arith, in-leaf v (l .node) i, estimate-kept v (l .node), l .left, l .known))
+      (λ i. omega (arith, out-dist v (l .node) i, l .near))
 
   first-place : (v : ℕ) → v < n → Place n w₂ v
   first-place v h =
       let q = estimate-kept v h in
-      ⊎-elim
-      (λ (i : inTree marks v ≡ true).
+      by-test (inTree marks v)
+      (λ i.
       let d = in-dist v h i in
       let l = in-leaf v h i in
       let top = r .estimated .top v h in
@@ -77,17 +76,15 @@ module _ (b : Block) (marks w w₁ w₂ : List ℕ) (r : AimReady b marks w) (s 
       (λ (m : far ≤ estimateAt n w v). lacking (omega arith) (omega arith))
       (λ (m : estimateAt n w v < far). waiting (omega arith) (omega arith))
       (le-or-lt far (estimateAt n w v)))
-      (λ (i : inTree marks v ≡ false). let d = out-dist v h i in lacking (out-leaf v h i) (omega arith))
-      (either-way (inTree marks v))
+      (λ i. let d = out-dist v h i in lacking (out-leaf v h i) (omega arith))
 
   none-waits : nearestDistance b (r .task .price) marks (r .task .sinks) ≡ far → (v : ℕ) → v < n → leafAt n w₂ v ≡ far
   none-waits none v h =
-      ⊎-elim
-      (λ (i : inTree marks v ≡ true).
+      by-test (inTree marks v)
+      (λ i.
       let e = stuck-far b (r .task .price) (r .task .weight) marks (r .task .sinks) (shape-of b (r .sound)) (r .task .fair) (r .task .fair-weight) none v i in
       in-leaf v h i ∙ le-antisymm (r .estimated .top v h) (omega (arith, r .estimated .above v h)))
-      (λ (i : inTree marks v ≡ false). out-leaf v h i)
-      (either-way (inTree marks v))
+      (λ i. out-leaf v h i)
 
   pub aim-begins : Aiming b marks (r .task) w₂ far 0
   aim-begins =
@@ -129,10 +126,9 @@ module _ (b : Block) {marks : List ℕ} (t : AimTask b marks) (w : List ℕ) (a 
 
   pub tree-waits : (v : ℕ) → v < nodes b → leafAt (nodes b) w v ≡ choose (inTree marks v) (estimateAt (nodes b) w v) far
   tree-waits v h =
-      ⊎-elim
-      (λ (i : inTree marks v ≡ true). rw i (inside i (a .places v h)))
-      (λ (o : inTree marks v ≡ false). rw o (outside o (a .places v h)))
-      (either-way (inTree marks v))
+      by-test (inTree marks v)
+      (λ i. rw i (inside i (a .places v h)))
+      (λ o. rw o (outside o (a .places v h)))
     where
       inside : inTree marks v ≡ true → Place (nodes b) w v → leafAt (nodes b) w v ≡ estimateAt (nodes b) w v
       inside i (gone l) = absurd (none-first v l)

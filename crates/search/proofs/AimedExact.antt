@@ -16,7 +16,7 @@ use native.Mathlib.Nat.{le-antisymm}
 use native.Mathlib.Omega.{arith}
 use lib.ListN.{getD}
 use Rattle.price.specs.Lists.{has}
-use Rattle.price.proofs.TestLaws.{either-way, le-or-lt}
+use Rattle.price.proofs.TestLaws.{by-test, le-or-lt}
 use Rattle.price.proofs.ListLaws.{has-at}
 use Rattle.search.specs.Block.{Block, nodes, hasEdge}
 use Rattle.search.specs.Paths.{Walk, stay, step, pathCost, Fair}
@@ -127,9 +127,9 @@ module _ (b : Block) (price weight : ℕ → ℕ) (marks sinks : List ℕ) (g : 
   pub never-below : (k v : ℕ) → d v < k → v < nodes b → distance b price marks v ≤ d v
   never-below zero v l hv = absurd (omega arith)
   never-below (suc k) v l hv =
-      ⊎-elim
-      (λ (t : inTree marks v ≡ true). omega (arith, distance-tree b price marks v hv t))
-      (λ (t : inTree marks v ≡ false).
+      by-test (inTree marks v)
+      (λ t. omega (arith, distance-tree b price marks v hv t))
+      (λ t.
       ⊎-elim
       (λ (top : far ≤ d v). omega (arith, distance-top b price marks v))
       (λ (near : d v < far).
@@ -139,7 +139,6 @@ module _ (b : Block) (price weight : ℕ → ℕ) (marks sinks : List ℕ) (g : 
       let low = never-below k (r .pred) (omega arith) (edge-node b g (r .pred) v (r .edge)) in
       omega (arith, distance-step b price marks g fair (r .pred) v hv (r .edge)))
       (le-or-lt far (d v)))
-      (either-way (inTree marks v))
 
   -- a node whose distance and estimate are below the level and known is settled, once it has its distance
   now-settled : (top v : ℕ) → top < level → top ≤ bound → v < nodes b → distance b price marks v + est v ≤ top → d v ≤ distance b price marks v → settled v
@@ -158,9 +157,9 @@ module _ (b : Block) (price weight : ℕ → ℕ) (marks sinks : List ℕ) (g : 
       → distance b price marks v + est v ≤ top → d v ≤ distance b price marks v
   never-above top below known near zero v l hv fits = absurd (omega arith)
   never-above top below known near (suc k) v l hv fits =
-      ⊎-elim
-      (λ (t : inTree marks v ≡ true). omega (arith, f .tree v hv t))
-      (λ (t : inTree marks v ≡ false).
+      by-test (inTree marks v)
+      (λ t. omega (arith, f .tree v hv t))
+      (λ t.
       let o = distance-over b price marks g fair v hv t (omega arith) in
       let u : ℕ = o .0 in
       let hu : u < nodes b = edge-node b g u v (o .1) in
@@ -173,7 +172,6 @@ module _ (b : Block) (price weight : ℕ → ℕ) (marks sinks : List ℕ) (g : 
       (λ (e : h v ≡ est v). let r = f .relaxed u v hv s (o .1) (omega arith) in omega arith)
       (λ (q : bound < est v). absurd (omega arith))
       (f .known v hv))
-      (either-way (inTree marks v))
 
   pub aim-exact :
       (top v : ℕ) → top < level → top ≤ bound → top < far → v < nodes b → distance b price marks v + est v ≤ top

@@ -22,7 +22,7 @@ use Rattle.price.specs.Bounds.{kindMost, nodesMost, baseMost, criticalityMost}
 use Rattle.price.specs.Lists.{has, least, countBelow}
 use Rattle.price.specs.Prices.{baseCost, priceOf}
 use Rattle.price.specs.declared.Weighting.{Weighting}
-use Rattle.price.proofs.TestLaws.{either-way, le-or-lt}
+use Rattle.price.proofs.TestLaws.{by-test, le-or-lt}
 use Rattle.price.proofs.ListLaws.{has-at, has-place, getD-upTo, total-most}
 use Rattle.price.proofs.EntryLaws.{least-top, least-le, least-is}
 use Rattle.price.proofs.BelowLaws.{count-same}
@@ -59,28 +59,25 @@ weight-least b c v l =
     let d : ℕ = getD (c .delays) v 0 in
     let p : ℕ = priceOf k (c .factor) (getD (c .others) v 0) (getD (b .capacities) v 0) (getD (c .histories) v 0) in
     let low : 100 * baseCost k ≤ p = price-least k (c .factor) (getD (c .others) v 0) (getD (b .capacities) v 0) (getD (c .histories) v 0) l in
-    ⊎-elim
-    (λ (t : w .timed ≡ true).
+    by-test (w .timed)
+    (λ t.
     rw (scale-timed w t, weighed-timed w d p t)
     (le-trans (mul-le-mul (le-refl (10 - w .criticality)) low) (timed-share (w .criticality) d p)))
-    (λ (t : w .timed ≡ false). rw (scale-untimed w t, weighed-untimed w d p t) (omega arith))
-    (either-way (w .timed))
+    (λ t. rw (scale-untimed w t, weighed-untimed w d p t) (omega arith))
 
 -- a search can work with the weights
 module _ (w : Weighting) (low : w .timed ≡ true → w .criticality ≤ criticalityMost) where
   scale-pos : 1 ≤ scaleOf w
   scale-pos =
-      ⊎-elim
-      (λ (t : w .timed ≡ true). let l = low t in rw (scale-timed w t) (omega arith))
-      (λ (t : w .timed ≡ false). rw (scale-untimed w t) (omega arith))
-      (either-way (w .timed))
+      by-test (w .timed)
+      (λ t. let l = low t in rw (scale-timed w t) (omega arith))
+      (λ t. rw (scale-untimed w t) (omega arith))
 
   scale-most : scaleOf w ≤ 10
   scale-most =
-      ⊎-elim
-      (λ (t : w .timed ≡ true). rw (scale-timed w t) (omega arith))
-      (λ (t : w .timed ≡ false). rw (scale-untimed w t) (omega arith))
-      (either-way (w .timed))
+      by-test (w .timed)
+      (λ t. rw (scale-timed w t) (omega arith))
+      (λ t. rw (scale-untimed w t) (omega arith))
 
   pub weight-most : (b : Block) (v : ℕ) → getD (b .kinds) v 0 ≤ kindMost → weightAt b w v ≤ 10 * (100 * baseMost)
   unfolding weightAt
@@ -108,10 +105,9 @@ alone-only : (b : Block) (v t : ℕ) → t < nodes b → inTree (alone b v) t �
 unfolding alone inTree
 alone-only b v t h e =
     let is : _≡_ {A = ℕ} (choose (eqb t v) 1 0) 1 = sym (getD-upTo {A = ℕ} (λ u. choose (eqb u v) 1 0) (nodes b) t 0 h) ∙ eqb-true _ _ e in
-    ⊎-elim
-    (λ (q : eqb t v ≡ true). eqb-true t v q)
-    (λ (q : eqb t v ≡ false). let z : _≡_ {A = ℕ} 0 1 = rw q at is in absurd (omega arith))
-    (either-way (eqb t v))
+    by-test (eqb t v)
+    (λ q. eqb-true t v q)
+    (λ q. let z : _≡_ {A = ℕ} 0 1 = rw q at is in absurd (omega arith))
 
 -- a sink that the tree lacks, and a walk to it from v
 pub record WalkOut (b : Block) (marks sinks : List ℕ) (v : ℕ) (path : List ℕ) : Type 0 where
@@ -169,13 +165,12 @@ module _ (b : Block) (weight : ℕ → ℕ) (marks sinks : List ℕ) where
         (λ (q : (i : ℕ) × (i < length (map f sinks)) × (getD (map f sinks) i 0 ≡ least far (map f sinks))).
         let l : q .0 < length sinks = rw length-map at (q .1) in
         let is : f (getD sinks (q .0) 0) ≡ least far (map f sinks) = sym (getD-map-lt f sinks (q .0) l) ∙ q .2 in
-        ⊎-elim
-        (λ (t : inTree marks (getD sinks (q .0) 0) ≡ true). let z : far ≡ least far (map f sinks) = rw t at is in absurd (omega arith))
-        (λ (t : inTree marks (getD sinks (q .0) 0) ≡ false).
+        by-test (inTree marks (getD sinks (q .0) 0))
+        (λ t. let z : far ≡ least far (map f sinks) = rw t at is in absurd (omega arith))
+        (λ t.
         let d : distance b weight (alone b v) (getD sinks (q .0) 0) ≡ least far (map f sinks) = rw t at is in
         let p = alone-walk v (getD sinks (q .0) 0) (omega arith) in
-        (p .0, record { sink = getD sinks (q .0) 0; node = p .1; listed = has-at sinks (q .0) l; out = t; walk = p .2 }, p .3 ∙ d))
-        (either-way (inTree marks (getD sinks (q .0) 0))))
+        (p .0, record { sink = getD sinks (q .0) 0; node = p .1; listed = has-at sinks (q .0) l; out = t; walk = p .2 }, p .3 ∙ d)))
         (least-is far (map f sinks))
 
     -- that walk need not have a node twice

@@ -14,7 +14,7 @@ use borrow.Author.Tests.{eq-eqb, ne-eqb}
 use Rattle.price.specs.Bounds.{nodesMost}
 use Rattle.price.specs.Lists.{upTo}
 use Rattle.price.specs.declared.Weighting.{Weighting}
-use Rattle.price.proofs.TestLaws.{either-way, le-or-lt, never-true}
+use Rattle.price.proofs.TestLaws.{by-test, le-or-lt, never-true}
 use Rattle.price.proofs.ListLaws.{has-at, getD-upTo}
 use Rattle.price.proofs.EntryLaws.{least-top}
 use Rattle.search.specs.Block.{Block, graphOf, nodes}
@@ -81,10 +81,9 @@ trail-same :
 unfolding trail
 trail-same n marks w w′ on c zero v path o = refl
 trail-same n marks w w′ on c (suc fuel) v path o =
-    ⊎-elim
-    (λ (q : inTree marks v ≡ true). rw q)
-    (λ (q : inTree marks v ≡ false). rw (q, c .same v o q) (trail-same n marks w w′ on c fuel (fromAt n w′ v) (v ∷ path) (c .next v o q)))
-    (either-way (inTree marks v))
+    by-test (inTree marks v)
+    (λ q. rw q)
+    (λ q. rw (q, c .same v o q) (trail-same n marks w w′ on c fuel (fromAt n w′ v) (v ∷ path) (c .next v o q)))
 
 -- a lower part that is small
 small-part : (x : ℕ) → x < 4096 → x % 65536 ≡ x

@@ -14,7 +14,7 @@ use Rattle.price.specs.Prices.{priceOf}
 use Rattle.price.specs.Replies.{priced}
 use Rattle.price.specs.Timed.{weighed, weighedReply, historyBound, weighedMost, WeighedInBounds}
 use Rattle.price.specs.declared.Weighting.{Weighting}
-use Rattle.price.proofs.TestLaws.{either-way, le-or-lt}
+use Rattle.price.proofs.TestLaws.{by-test, le-or-lt}
 use Rattle.price.proofs.TimedLaws.{bound-most, bound-least, weighed-timed, weighed-untimed, weighed-pos, weighed-most, reply-delay, weighed-priced}
 use Rattle.search.specs.Block.{Block}
 use Rattle.search.specs.Turn.{Congestion, congestedAt, priceAt}
@@ -98,12 +98,11 @@ weighed-same :
     (w : Weighting) (d p : ℕ) → (w .timed ≡ true → d ≤ delayMost) → (w .timed ≡ true → w .criticality ≤ criticalityMost)
     → weighed (clampedWeighting w) (clamped 0 delayMost d) p ≡ weighed w d p
 weighed-same w d p low lower =
-    ⊎-elim
-    (λ (t : w .timed ≡ true).
+    by-test (w .timed)
+    (λ t.
     weighed-timed (clampedWeighting w) (clamped 0 delayMost d) p t
     ∙ rw (clamped-in 0 delayMost d (omega arith) (low t), clamped-in 0 criticalityMost (w .criticality) (omega arith) (lower t)) (sym (weighed-timed w d p t)))
-    (λ (t : w .timed ≡ false). weighed-untimed (clampedWeighting w) (clamped 0 delayMost d) p t ∙ sym (weighed-untimed w d p t))
-    (either-way (w .timed))
+    (λ t. weighed-untimed (clampedWeighting w) (clamped 0 delayMost d) p t ∙ sym (weighed-untimed w d p t))
 
 -- where each number keeps its bounds it is the price
 pub clamped-is :

@@ -13,7 +13,7 @@ use borrow.Author.Tests.{eq-eqb, ne-eqb}
 use Rattle.price.specs.Bounds.{pathMost}
 use Rattle.price.specs.Test.{choose}
 use Rattle.price.specs.Lists.{upTo, least}
-use Rattle.price.proofs.TestLaws.{either-way, true≢false, le-or-lt}
+use Rattle.price.proofs.TestLaws.{by-test, true≢false, le-or-lt}
 use Rattle.price.proofs.ListLaws.{length-upTo, getD-upTo}
 use Rattle.price.proofs.EntryLaws.{least-top, least-le, least-is}
 use Rattle.search.specs.Block.{Block, nodes, hasEdge}
@@ -82,10 +82,9 @@ module _ (b : Block) (price : ℕ → ℕ) (marks : List ℕ) where
   after-top-node : (k v : ℕ) → v < nodes b → after b price marks k v ≤ far
   after-top-node zero v h =
       rw (after-none v h)
-      (⊎-elim
-      (λ (t : inTree marks v ≡ true). rw t zero-le)
-      (λ (t : inTree marks v ≡ false). rw t (le-refl far))
-      (either-way (inTree marks v)))
+      (by-test (inTree marks v)
+      (λ t. rw t zero-le)
+      (λ t. rw t (le-refl far)))
   after-top-node (suc k) v h = le-trans (after-keeps k v h) (after-top-node k v h)
 
   after-top : (k v : ℕ) → after b price marks k v ≤ far
@@ -103,12 +102,11 @@ module _ (b : Block) (price : ℕ → ℕ) (marks : List ℕ) where
   -- where it is not `far` a path costs exactly that
   after-path : (k v : ℕ) → v < nodes b → after b price marks k v < far → Path-at b price marks v (after b price marks k v)
   after-path zero v h l =
-      ⊎-elim
-      (λ (t : inTree marks v ≡ true). (v, v ∷ [], h, t, stay v, stay-cost price v ∙ sym (after-tree 0 v h t)))
-      (λ (t : inTree marks v ≡ false).
+      by-test (inTree marks v)
+      (λ t. (v, v ∷ [], h, t, stay v, stay-cost price v ∙ sym (after-tree 0 v h t)))
+      (λ t.
       let none : after b price marks 0 v ≡ far = after-none v h ∙ rw t in
       absurd (lt-irrefl far (rw none at l)))
-      (either-way (inTree marks v))
   after-path (suc k) v h l =
       let ds = rounds b price (treeDistances b marks) k in
       ⊎-elim
@@ -121,8 +119,8 @@ module _ (b : Block) (price : ℕ → ℕ) (marks : List ℕ) where
       let hu : u < nodes b = rw long at (q .1) in
       let way : choose (hasEdge b u v) (after b price marks k u + price v) far ≡ after b price marks (suc k) v =
       sym (getD-upTo (λ x. choose (hasEdge b x v) (getD ds x far + price v) far) (nodes b) u 0 hu) ∙ q .2 ∙ sym (after-one k v h) in
-      ⊎-elim
-      (λ (e : hasEdge b u v ≡ true).
+      by-test (hasEdge b u v)
+      (λ e.
       let sum : after b price marks k u + price v ≡ after b price marks (suc k) v = rw e at way in
       let near : after b price marks k u < far = omega arith in
       let r = after-path k u hu near in (
@@ -133,10 +131,9 @@ module _ (b : Block) (price : ℕ → ℕ) (marks : List ℕ) where
         snoc (r .4) e,
         snoc-cost price v (r .4) ∙ rw (r .5) sum,
       ))
-      (λ (e : hasEdge b u v ≡ false).
+      (λ e.
       let none : far ≡ after b price marks (suc k) v = rw e at way in
-      absurd (lt-irrefl far (rw (← none) at l)))
-      (either-way (hasEdge b u v)))
+      absurd (lt-irrefl far (rw (← none) at l))))
       (least-is (getD ds v far) (ways b price ds v))
 
   -- rounds as many as a walk has nodes go along it

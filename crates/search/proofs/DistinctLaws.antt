@@ -10,17 +10,16 @@ use lib.Dec.{eqb}
 use lib.ListN.{length, getD}
 use borrow.Author.Tests.{eq-eqb, eqb-true, not-true}
 use Rattle.price.specs.Lists.{has, distinct}
-use Rattle.price.proofs.TestLaws.{either-way, true≢false, both-left, both-right, never-true}
+use Rattle.price.proofs.TestLaws.{by-test, true≢false, both-left, both-right, never-true}
 use Rattle.price.proofs.ListLaws.{has-place}
 
 -- an entry of a longer list is its first entry, or an entry of the rest
 pub has-cons : (x y : ℕ) (ys : List ℕ) → has x (y ∷ ys) ≡ true → (x ≡ y) ⊎ (has x ys ≡ true)
 unfolding has
 has-cons x y ys h =
-    ⊎-elim
-    (λ (q : eqb x y ≡ true). inl (eqb-true x y q))
-    (λ (q : eqb x y ≡ false). inr (rw q at h))
-    (either-way (eqb x y))
+    by-test (eqb x y)
+    (λ q. inl (eqb-true x y q))
+    (λ q. inr (rw q at h))
 
 -- and the first entry and each of the rest are entries
 pub has-first : (x : ℕ) (ys : List ℕ) → has x (x ∷ ys) ≡ true
@@ -29,7 +28,7 @@ has-first x ys = rw (eq-eqb x x refl)
 
 pub has-rest : (x y : ℕ) (ys : List ℕ) → has x ys ≡ true → has x (y ∷ ys) ≡ true
 unfolding has
-has-rest x y ys h = ⊎-elim (λ (q : eqb x y ≡ true). rw q) (λ (q : eqb x y ≡ false). rw q h) (either-way (eqb x y))
+has-rest x y ys h = by-test (eqb x y) (λ q. rw q) (λ q. rw q h)
 
 -- what is no entry
 pub lacks : (x : ℕ) (xs : List ℕ) → (has x xs ≡ true → ⊥) → has x xs ≡ false
@@ -92,17 +91,16 @@ short-has : (n : ℕ) (xs : List ℕ) → distinct xs ≡ true → ((z : ℕ) �
 short-has zero [] d all = zero-le
 short-has zero (x ∷ xs) d all = absurd (not-suc-le-zero (all x (has-first x xs)))
 short-has (suc n) xs d all =
-    ⊎-elim
-    (λ (h : has n xs ≡ true).
+    by-test (has n xs)
+    (λ h.
     let r = without n xs h d in
     rw (r .shorter)
     (suc-le-suc
     (short-has n (r .rest) (r .still-distinct)
     (λ z m. below-other n z (all z (r .within z m)) (λ (e : z ≡ n). r .gone (rw e at m))))))
-    (λ (h : has n xs ≡ false).
+    (λ h.
     le-step
     (short-has n xs d (λ z m. below-other n z (all z m) (λ (e : z ≡ n). true≢false (sym (rw e at m) ∙ h)))))
-    (either-way (has n xs))
 
 pub distinct-short : (n : ℕ) (xs : List ℕ) → distinct xs ≡ true → ((i : ℕ) → i < length xs → getD xs i 0 < n) → length xs ≤ n
 distinct-short n xs d all =

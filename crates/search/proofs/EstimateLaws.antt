@@ -13,7 +13,7 @@ use Rattle.price.specs.Prices.{baseCost, overuse, priceOf}
 use Rattle.price.specs.Replies.{priced}
 use Rattle.price.specs.Timed.{timedPrice, weighed, weighedReply, WeighedInBounds}
 use Rattle.price.specs.declared.Weighting.{Weighting}
-use Rattle.price.proofs.TestLaws.{either-way, le-or-lt}
+use Rattle.price.proofs.TestLaws.{by-test, le-or-lt}
 use Rattle.price.proofs.TimedLaws.{weighed-priced, weighed-timed, weighed-untimed, bound-least}
 use Rattle.search.specs.Block.{graphOf}
 use Rattle.search.specs.Paths.{Fair}
@@ -67,10 +67,9 @@ module _ {ks : List ℕ} {w : Weighting} {v : ℕ} (r : WeightReady ks w) (h : v
   weight-priced : weightAt (graphOf ks [] []) w v ≡ weighed w 0 (priceOf kind 0 0 1 1)
   unfolding weightAt timedPrice
   weight-priced =
-      ⊎-elim
-      (λ (t : w .timed ≡ true). rw (scale-timed w t, weighed-timed w 0 (priceOf kind 0 0 1 1) t, alone-price kind) (omega arith))
-      (λ (t : w .timed ≡ false). rw (scale-untimed w t, weighed-untimed w 0 (priceOf kind 0 0 1 1) t, alone-price kind) (omega arith))
-      (either-way (w .timed))
+      by-test (w .timed)
+      (λ t. rw (scale-timed w t, weighed-timed w 0 (priceOf kind 0 0 1 1) t, alone-price kind) (omega arith))
+      (λ t. rw (scale-untimed w t, weighed-untimed w 0 (priceOf kind 0 0 1 1) t, alone-price kind) (omega arith))
 
   pub weight-reply : weighedReply w kind 0 0 1 1 0 ≡ priced (weightAt (graphOf ks [] []) w v)
   weight-reply = weighed-priced w kind 0 0 1 1 0 (alone-bounds kind w (r .kind-most v h) (r .criticality-most)) ∙ ap priced (sym weight-priced)

@@ -20,7 +20,7 @@ use Rattle.price.specs.Bounds.{nodesMost}
 use Rattle.price.specs.Test.{both}
 use Rattle.price.specs.Lists.{has, countBelow}
 use Rattle.price.specs.declared.Weighting.{Weighting}
-use Rattle.price.proofs.TestLaws.{both-left, both-right, either-way, true≢false, same-or-not}
+use Rattle.price.proofs.TestLaws.{by-test, both-left, both-right, true≢false, same-or-not}
 use Rattle.price.proofs.ListLaws.{has-place}
 use Rattle.price.proofs.EntryLaws.{least-top}
 use Rattle.price.proofs.BelowLaws.{count-less}
@@ -414,16 +414,14 @@ module _ {b : Block} {price weight : ℕ → ℕ} {marks sinks : List ℕ} (k : 
       unspent-falls =
           count-less (unspent (nodes b) w) (unspent (nodes b) w₂) (nodes b) v
           (λ x h e.
-          ⊎-elim
-          (λ (t : unspent (nodes b) w x ≡ true). t)
-          (λ (t : unspent (nodes b) w x ≡ false).
-          absurd (true≢false (sym e ∙ spent-test (nodes b) w₂ x (spent-still x (spent-of (nodes b) w x h t)))))
-          (either-way (unspent (nodes b) w x)))
+          by-test (unspent (nodes b) w x)
+          (λ t. t)
+          (λ t.
+          absurd (true≢false (sym e ∙ spent-test (nodes b) w₂ x (spent-still x (spent-of (nodes b) w x h t))))))
           node
-          (⊎-elim
-          (λ (t : unspent (nodes b) w v ≡ true). t)
-          (λ (t : unspent (nodes b) w v ≡ false). absurd (let l = spent-of (nodes b) w v node t .left in omega arith))
-          (either-way (unspent (nodes b) w v)))
+          (by-test (unspent (nodes b) w v)
+          (λ t. t)
+          (λ t. absurd (let l = spent-of (nodes b) w v node t .left in omega arith)))
           (spent-test (nodes b) w₂ v spent-here)
 
   -- ---- the end

@@ -15,7 +15,7 @@ use lib.ListN.{length, getD, set, take, drop, length-set}
 use lib.Seq.{getD-set-same, drop-set-lt, take-set-lt, slice, slice-cons, slice-empty, length-slice}
 use borrow.Author.Tests.{le-leb, lt-leb, leb-true}
 use Rattle.price.specs.Test.{choose}
-use Rattle.price.proofs.TestLaws.{either-way}
+use Rattle.price.proofs.TestLaws.{by-test}
 use Rattle.search.specs.Distance.{inTree}
 use Rattle.search.specs.Layout.{SameBut}
 use Rattle.search.specs.Labels.{labelAt, fromAt}
@@ -44,20 +44,18 @@ module _ (n : ℕ) (marks w : List ℕ) where
   unfolding trail
   trail-least zero v path = omega arith
   trail-least (suc k) v path =
-      ⊎-elim
-      (λ (q : inTree marks v ≡ true). rw q (omega arith))
-      (λ (q : inTree marks v ≡ false). rw q (omega (arith, trail-least k (fromAt n w v) (v ∷ path))))
-      (either-way (inTree marks v))
+      by-test (inTree marks v)
+      (λ q. rw q (omega arith))
+      (λ q. rw q (omega (arith, trail-least k (fromAt n w v) (v ∷ path))))
 
   -- a trail that adds one node adds v alone
   pub trail-end : (fuel v : ℕ) (path : List ℕ) → length (trail n marks w fuel v path) ≡ length path + 1 → trail n marks w fuel v path ≡ v ∷ path
   unfolding trail
   trail-end zero v path e = refl
   trail-end (suc k) v path e =
-      ⊎-elim
-      (λ (q : inTree marks v ≡ true). rw q)
-      (λ (q : inTree marks v ≡ false). absurd (omega (arith, trail-least k (fromAt n w v) (v ∷ path), rw q at e)))
-      (either-way (inTree marks v))
+      by-test (inTree marks v)
+      (λ q. rw q)
+      (λ q. absurd (omega (arith, trail-least k (fromAt n w v) (v ∷ path), rw q at e)))
 
 -- v is the next node of the path to the sink, after which the nodes `built` come
 pub record OnTrail (n : ℕ) (marks w : List ℕ) (sink v : ℕ) (built : List ℕ) : Type 0 where
@@ -92,10 +90,9 @@ unfolding above
 above-most zero w d = omega arith
 above-most (suc n) w d =
     let rest = above-most n w d in
-    ⊎-elim
-    (λ (q : leb d (getD w n 0) ≡ true). rw q (omega arith))
-    (λ (q : leb d (getD w n 0) ≡ false). rw q (omega arith))
-    (either-way (leb d (getD w n 0)))
+    by-test (leb d (getD w n 0))
+    (λ q. rw q (omega arith))
+    (λ q. rw q (omega arith))
 
 -- no fewer are at least as much as a lower number
 above-lower : (n : ℕ) (w : List ℕ) (d e : ℕ) → e ≤ d → above n w d ≤ above n w e
@@ -103,10 +100,9 @@ unfolding above
 above-lower zero w d e l = omega arith
 above-lower (suc n) w d e l =
     let rest = above-lower n w d e l in
-    ⊎-elim
-    (λ (q : leb d (getD w n 0) ≡ true). rw (q, le-leb e (getD w n 0) (omega (arith, leb-true d (getD w n 0) q))) (omega arith))
-    (λ (q : leb d (getD w n 0) ≡ false). rw q (omega arith))
-    (either-way (leb d (getD w n 0)))
+    by-test (leb d (getD w n 0))
+    (λ q. rw (q, le-leb e (getD w n 0) (omega (arith, leb-true d (getD w n 0) q))) (omega arith))
+    (λ q. rw q (omega arith))
 
 -- and one more, where an entry is the lower number itself
 pub above-more : (n : ℕ) (w : List ℕ) (d v : ℕ) → v < n → getD w v 0 < d → above n w d < above n w (getD w v 0)
@@ -119,10 +115,9 @@ above-more (suc n) w d v b l =
     rw (e, lt-leb d (getD w n 0) (rw (← e) l), le-leb (getD w n 0) (getD w n 0) (omega arith)) (omega arith))
     (λ (h : v < n).
     let rest = above-more n w d v h l in
-    ⊎-elim
-    (λ (q : leb d (getD w n 0) ≡ true). rw (q, le-leb (getD w v 0) (getD w n 0) (omega (arith, leb-true d (getD w n 0) q))) (omega arith))
-    (λ (q : leb d (getD w n 0) ≡ false). rw q (omega arith))
-    (either-way (leb d (getD w n 0))))
+    by-test (leb d (getD w n 0))
+    (λ q. rw (q, le-leb (getD w v 0) (getD w n 0) (omega (arith, leb-true d (getD w n 0) q))) (omega arith))
+    (λ q. rw q (omega arith)))
     (eq-or-lt-of-le (le-of-suc-le-suc b))
 
 -- ---- the loops that follow predecessors
@@ -187,12 +182,11 @@ module _ {n : ℕ} {marks w : List ℕ} {sink count : ℕ} {w′ : List ℕ} {v 
   -- while places are left, the path goes on
   writing-out : 1 < i → inTree marks v ≡ false
   writing-out l =
-      ⊎-elim
-      (λ (t : inTree marks v ≡ true).
+      by-test (inTree marks v)
+      (λ t.
       let e : pathIn n marks w sink ≡ v ∷ slice i count w′ = s .on .rest ∙ trail-tree n marks w (s .on .fuel) v (slice i count w′) t in
       absurd (omega (arith, written, ap length e, s .most)))
       (λ t. t)
-      (either-way (inTree marks v))
 
   pub writing-more : 1 < i → Writing n marks w sink count (set w′ (i - 1) v) (fromAt n (set w′ (i - 1) v) v) (i - 1)
   writing-more l =

@@ -9,7 +9,7 @@ use native.Mathlib.Nat.{mul-le-mul-right}
 use native.Mathlib.Omega.{arith}
 use lib.ListN.{length, getD, take, drop, replicate}
 use borrow.Author.Tests.{le-leb}
-use Rattle.price.proofs.TestLaws.{either-way, never-true}
+use Rattle.price.proofs.TestLaws.{by-test, never-true}
 use Rattle.price.proofs.BelowLaws.{count-same}
 use Rattle.price.proofs.ListLaws.{drop-same}
 use Rattle.search.specs.Block.{Block, nodes, blockOf, graphOf}
@@ -67,10 +67,9 @@ module _ {n : ℕ} {marks sinks w₀ w₁ w₂ : List ℕ} {count : ℕ} (t : Tr
 
   marked-low : (v : ℕ) → v < n → labelAt w₂ v < goal → (inTree marks v ≡ true) × (labelAt w₂ v ≡ 0)
   marked-low v h l =
-      ⊎-elim
-      (λ (m : inTree marks v ≡ true). (m, marked-in v h m))
-      (λ (m : inTree marks v ≡ false). absurd (let f = marked-bare v h m in omega arith))
-      (either-way (inTree marks v))
+      by-test (inTree marks v)
+      (λ m. (m, marked-in v h m))
+      (λ m. absurd (let f = marked-bare v h m in omega arith))
 
   -- the goals are the listed nodes outside the tree
   marked-goal : (j : ℕ) → OpenAt n marks sinks j → labelAt w₂ (getD sinks j 0) ≡ goal

@@ -9,7 +9,7 @@ use native.Mathlib.Nat.{not-suc-le-zero, le-of-suc-le-suc, eq-or-lt-of-le}
 use lib.ListN.{length, getD, length-map}
 use borrow.Author.Tests.{eq-eqb, ne-eqb}
 use Rattle.price.specs.Lists.{has}
-use Rattle.price.proofs.TestLaws.{either-way, never-true}
+use Rattle.price.proofs.TestLaws.{by-test, never-true}
 use Rattle.price.proofs.ListLaws.{has-place}
 use Rattle.price.proofs.EntryLaws.{least-top, least-le, least-is, least-above, placeOf-at, placeOf-lt}
 use Rattle.search.specs.Block.{Block}
@@ -57,10 +57,9 @@ module _ (b : Block) (price : ℕ → ℕ) (marks sinks : List ℕ) where
       least-above far k (openDistances b price marks sinks) top
       (λ j l.
       let within : j < length sinks = rw open-long at l in
-      ⊎-elim
-      (λ (q : inTree marks (getD sinks j 0) ≡ true). rw (open-in j within q) top)
-      (λ (q : inTree marks (getD sinks j 0) ≡ false). rw (open-out j within q) (h j within q))
-      (either-way (inTree marks (getD sinks j 0))))
+      by-test (inTree marks (getD sinks j 0))
+      (λ q. rw (open-in j within q) top)
+      (λ q. rw (open-out j within q) (h j within q)))
 
   pub turn-far : nearestDistance b price marks sinks ≡ far → turn b price marks sinks ≡ stuck
   unfolding turn

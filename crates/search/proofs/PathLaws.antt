@@ -3,14 +3,13 @@
 -- Assumes nothing.
 use mathlib.Core.Bool.{true, false, not}
 use mathlib.Core.List.{List, [], _∷_}
-use mathlib.Core.Logic.{⊎-elim}
 use mathlib.Core.Path.{_≡_, refl, ap}
 use Prim.Native.Nat.{ℕ, zero, suc, _+_, _<_}
 use native.Mathlib.Nat.{not-suc-le-zero, le-of-suc-le-suc}
 use native.Mathlib.Omega.{arith}
 use lib.ListN.{length, getD}
 use Rattle.price.specs.Lists.{every, has, distinct, total}
-use Rattle.price.proofs.TestLaws.{either-way, both-true}
+use Rattle.price.proofs.TestLaws.{by-test, both-true}
 use Rattle.price.proofs.ListLaws.{has-place}
 use Rattle.search.specs.Block.{Block, nodes, hasEdge}
 use Rattle.search.specs.Paths.{Walk, stay, step, Fair}
@@ -56,13 +55,12 @@ module _ (b : Block) (price : ℕ → ℕ) (marks : List ℕ) where
 
     onward-new : {u s : ℕ} {path : List ℕ} → Onward b price marks u path s → has u path ≡ false
     onward-new {u} {s} {path} r =
-        ⊎-elim
-        (λ (q : has u path ≡ true).
+        by-test (has u path)
+        (λ q.
         let at = has-place u path q in
         let same : distance b price marks (getD path (at .0) 0) ≡ distance b price marks u = ap (distance b price marks) (at .2) in
         absurd (omega (arith, onward-rise r (at .0) (at .1))))
         (λ q. q)
-        (either-way (has u path))
 
     pub onward-distinct : {u s : ℕ} {path : List ℕ} → Onward b price marks u path s → distinct (u ∷ path) ≡ true
     unfolding distinct

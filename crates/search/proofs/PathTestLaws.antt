@@ -2,14 +2,13 @@
 -- Assumes nothing.
 use mathlib.Core.Bool.{true, false}
 use mathlib.Core.List.{List, []}
-use mathlib.Core.Logic.{⊎-elim}
 use mathlib.Core.Path.{_≡_, sym, _∙_, ap}
 use Prim.Native.Nat.{ℕ, _*_, _≤_}
 use native.Mathlib.Omega.{arith}
 use lib.ListN.{length}
 use Rattle.price.specs.Test.{choose}
 use Rattle.price.specs.Bounds.{nodesMost}
-use Rattle.price.proofs.TestLaws.{either-way}
+use Rattle.price.proofs.TestLaws.{by-test}
 use Rattle.search.specs.Block.{Block, blockOf, nodes}
 use Rattle.search.specs.Tables.{faultyTable, delaysSound, Sound}
 use Rattle.search.specs.Turn.{Congestion}
@@ -26,10 +25,9 @@ no-fault : (b : Block) (c : Congestion) (sinks : List ℕ) → faultyWithSinks b
 unfolding faultyWithSinks
 no-fault b c sinks e =
     let rest : choose (sinkListSound (nodes b) sinks) (faultyWithDelays b c) 7 ≡ 0 = fault-none (faultyTable b) _ e .1 in
-    ⊎-elim
-    (λ (s : sinkListSound (nodes b) sinks ≡ true). (rw s at rest, s))
-    (λ (s : sinkListSound (nodes b) sinks ≡ false). absurd (let z : _≡_ {A = ℕ} 7 0 = rw s at rest in omega arith))
-    (either-way (sinkListSound (nodes b) sinks))
+    by-test (sinkListSound (nodes b) sinks)
+    (λ s. (rw s at rest, s))
+    (λ s. absurd (let z : _≡_ {A = ℕ} 7 0 = rw s at rest in omega arith))
 
 module _ (ks cs fs ts : List ℕ) (c : Congestion) (sinks : List ℕ) where
   path-kept :

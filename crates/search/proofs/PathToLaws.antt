@@ -2,14 +2,13 @@
 -- Assumes nothing.
 use mathlib.Core.Bool.{true, false, not}
 use mathlib.Core.List.{List, [], _∷_}
-use mathlib.Core.Logic.{⊎-elim}
 use mathlib.Core.Path.{_≡_, refl}
 use Prim.Native.Nat.{ℕ, zero, suc, _+_, _≤_, _<_}
 use native.Mathlib.Nat.{le-trans}
 use native.Mathlib.Omega.{arith}
 use lib.ListN.{length, getD, drop}
 use Rattle.price.specs.Lists.{every, distinct}
-use Rattle.price.proofs.TestLaws.{either-way}
+use Rattle.price.proofs.TestLaws.{by-test}
 use Rattle.search.specs.Block.{Block, nodes}
 use Rattle.search.specs.Paths.{Walk, pathCost, Fair}
 use Rattle.search.specs.Distance.{far, inTree, distances, distance}
@@ -36,15 +35,14 @@ module _ (b : Block) (price : ℕ → ℕ) (marks : List ℕ) (g : Shaped b) (fa
     unfolding back
     back-ends zero v path node near r e = absurd (omega (arith, onward-short b price marks fair node r))
     back-ends (suc k) v path node near r e =
-        ⊎-elim
-        (λ (q : inTree marks v ≡ true). rw q (record { start = v; rest = path; node = node; in-tree = q; onward = r; is = refl }))
-        (λ (q : inTree marks v ≡ false).
+        by-test (inTree marks v)
+        (λ q. rw q (record { start = v; rest = path; node = node; in-tree = q; onward = r; is = refl }))
+        (λ q.
         rw q
         (back-ends k (before b price (distances b price marks) v) (v ∷ path) (before-node b price marks g fair v node q near)
         (le-trans (before-near b price marks g fair v node q near) (omega arith))
         (on node q (before-edge b price marks g fair v node q near) (before-sum b price marks g fair v node q near) r)
         (omega arith)))
-        (either-way (inTree marks v))
 
   -- the path to a node that has a distance
   module _ (v : ℕ) (node : v < nodes b) (near : distance b price marks v < far) where

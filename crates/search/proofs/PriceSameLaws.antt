@@ -12,7 +12,7 @@ use lib.Seq.{ext-getD}
 use borrow.Author.Tests.{eqb-true, eqb-false}
 use Rattle.price.specs.Test.{both}
 use Rattle.price.specs.Lists.{upTo, firstBelow, total}
-use Rattle.price.proofs.TestLaws.{either-way, le-or-lt}
+use Rattle.price.proofs.TestLaws.{by-test, le-or-lt}
 use Rattle.price.proofs.ListLaws.{length-upTo, getD-upTo}
 use Rattle.search.specs.Block.{Block, nodes, hasEdge}
 use Rattle.search.specs.Paths.{pathCost, Fair}
@@ -85,14 +85,13 @@ module _ (b : Block) (p q : ℕ → ℕ) (same : (v : ℕ) → v < nodes b → p
     unfolding back
     back-same zero v path h near = refl
     back-same (suc k) v path h near =
-        ⊎-elim
-        (λ (t : inTree marks v ≡ true). rw t)
-        (λ (t : inTree marks v ≡ false).
+        by-test (inTree marks v)
+        (λ t. rw t)
+        (λ t.
         let closer = before-near b p marks g fair v h t near in
         rw t
         (back-same k (before b p (distances b p marks) v) (v ∷ path) (before-node b p marks g fair v h t near) (omega arith)
         ∙ ap (λ (u : ℕ). back b q marks (distances b p marks) k u (v ∷ path)) (before-same (distances b p marks) v h)))
-        (either-way (inTree marks v))
 
     pathTo-same : (s : ℕ) → s < nodes b → distance b p marks s < far → pathTo b p marks s ≡ pathTo b q marks s
     unfolding pathTo
@@ -108,11 +107,11 @@ module _ (b : Block) (p q : ℕ → ℕ) (same : (v : ℕ) → v < nodes b → p
         let os : openDistances b p marks sinks ≡ openDistances b q marks sinks = open-same sinks in
         let least : nearestDistance b p marks sinks ≡ nearestDistance b q marks sinks = rw os in
         let place : nearestPlace b p marks sinks ≡ nearestPlace b q marks sinks = rw os in
-        ⊎-elim
-        (λ (t : eqb (nearestDistance b p marks sinks) far ≡ true).
+        by-test (eqb (nearestDistance b p marks sinks) far)
+        (λ t.
         let none : nearestDistance b p marks sinks ≡ far = eqb-true _ _ t in
         turn-far b p marks sinks none ∙ sym (turn-far b q marks sinks (sym least ∙ none)))
-        (λ (t : eqb (nearestDistance b p marks sinks) far ≡ false).
+        (λ t.
         let some : nearestDistance b p marks sinks ≡ far → ⊥ = eqb-false _ _ t in
         let n = nearest b p marks sinks some in
         let s : ℕ = getD sinks (nearestPlace b p marks sinks) 0 in
@@ -120,4 +119,3 @@ module _ (b : Block) (p q : ℕ → ℕ) (same : (v : ℕ) → v < nodes b → p
         let same-join : joinAt b p marks sinks (nearestPlace b p marks sinks) ≡ joinAt b q marks sinks (nearestPlace b q marks sinks) =
         rw (cost-same s h (n .near), pathTo-same s h (n .near), place) in
         turn-near b p marks sinks some ∙ same-join ∙ sym (turn-near b q marks sinks (λ e. some (least ∙ e))))
-        (either-way (eqb (nearestDistance b p marks sinks) far))

@@ -2,7 +2,6 @@
 -- Assumes nothing.
 use mathlib.Core.Bool.{Bool, true, false}
 use mathlib.Core.List.{List, [], _∷_}
-use mathlib.Core.Logic.{⊎-elim}
 use mathlib.Core.Path.{_≡_, refl}
 use Prim.Native.Nat.{ℕ, _*_, _≤_, _<_}
 use native.Mathlib.Omega.{arith}
@@ -11,7 +10,7 @@ use lib.ListN.{length}
 use borrow.Author.Tests.{leb-true, leb-false, ltb-false}
 use Rattle.price.specs.Test.{choose, both}
 use Rattle.price.specs.Bounds.{factorMost, criticalityMost, timedNodesMost}
-use Rattle.price.proofs.TestLaws.{either-way}
+use Rattle.price.proofs.TestLaws.{by-test}
 use Rattle.search.specs.Block.{Block, nodes, blockOf}
 use Rattle.search.specs.Tables.{Sound, faultyTable, delaysSound}
 use Rattle.search.specs.Turn.{Congestion}
@@ -64,15 +63,14 @@ refusal-none table n c marks entries e =
 -- where a table that comes first is not faulty, neither is what comes after it
 pub fault-none : (table rest : ℕ) → choose (leb 1 table) table rest ≡ 0 → (table ≡ 0) × (rest ≡ 0)
 fault-none table rest e =
-    ⊎-elim
-    (λ (q : leb 1 table ≡ true).
+    by-test (leb 1 table)
+    (λ q.
     let some : 1 ≤ table = leb-true _ _ q in
     let none : table ≡ 0 = rw q at e in
     absurd (omega arith))
-    (λ (q : leb 1 table ≡ false).
+    (λ q.
     let none : table < 1 = leb-false _ _ q in
     (omega arith, rw q at e))
-    (either-way (leb 1 table))
 
 -- where neither a table nor a timed turn's delays are faulty, each keeps its rule
 pub delays-kept : (b : Block) (c : Congestion) → faultyWithDelays b c ≡ 0 → (faultyTable b ≡ 0) × (c .weighting .timed ≡ true → delaysSound (nodes b) (c .delays) ≡ true)
@@ -81,10 +79,9 @@ delays-kept b c e =
     let z = fault-none (faultyTable b) _ e in (
       z .0,
       λ t.
-          ⊎-elim
+          by-test (delaysSound (nodes b) (c .delays))
           (λ s. s)
-          (λ (s : delaysSound (nodes b) (c .delays) ≡ false). absurd (let n : _≡_ {A = ℕ} 9 0 = rw (t, s) at (z .1) in omega arith))
-          (either-way (delaysSound (nodes b) (c .delays))),
+          (λ s. absurd (let n : _≡_ {A = ℕ} 9 0 = rw (t, s) at (z .1) in omega arith)),
     )
 
 pub passed-ready : (ks cs fs ts : List ℕ) (c : Congestion) (marks : List ℕ) {table entries : ℕ} → Sound (blockOf ks cs fs ts) → (c .weighting .timed ≡ true → delaysSound (length ks) (c .delays) ≡ true) → Passed table (length ks) c marks entries → PricesReady ks cs c marks

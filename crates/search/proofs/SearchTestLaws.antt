@@ -2,7 +2,6 @@
 -- Assumes nothing.
 use mathlib.Core.Bool.{true, false}
 use mathlib.Core.List.{List, [], _∷_}
-use mathlib.Core.Logic.{⊎-elim}
 use mathlib.Core.Path.{_≡_, sym, _∙_, ap}
 use Prim.Native.Nat.{ℕ, _*_, _≤_, _<_}
 use native.Mathlib.Omega.{arith}
@@ -10,7 +9,7 @@ use lib.Dec.{leb}
 use lib.ListN.{length}
 use borrow.Author.Tests.{leb-false}
 use Rattle.price.specs.Bounds.{nodesMost}
-use Rattle.price.proofs.TestLaws.{either-way}
+use Rattle.price.proofs.TestLaws.{by-test}
 use Rattle.search.specs.Block.{Block, blockOf}
 use Rattle.search.specs.Tables.{faultyTable, Sound}
 use Rattle.search.specs.Distance.{distances}
@@ -67,10 +66,9 @@ module _ (ks cs fs ts : List ℕ) (c : Congestion) (marks work : List ℕ) {tabl
 no-delays : (b : Block) (factor : ℕ) (hs os : List ℕ) → faultyWithDelays b (congestionOf factor hs os) ≡ faultyTable b
 unfolding faultyWithDelays
 no-delays b factor hs os =
-    ⊎-elim
-    (λ (q : leb 1 (faultyTable b) ≡ true). rw q)
-    (λ (q : leb 1 (faultyTable b) ≡ false). let none : faultyTable b < 1 = leb-false _ _ q in let is : faultyTable b ≡ 0 = omega arith in rw (q, is))
-    (either-way (leb 1 (faultyTable b)))
+    by-test (leb 1 (faultyTable b))
+    (λ q. rw q)
+    (λ q. let none : faultyTable b < 1 = leb-false _ _ q in let is : faultyTable b ≡ 0 = omega arith in rw (q, is))
 
 pub untimed-reply : (b : Block) (factor : ℕ) (hs os marks work : List ℕ) {x : SearchReply} → x ≡ timedSearchReply b (congestionOf factor hs os) marks work → x ≡ searchReply b (congestionOf factor hs os) marks work
 unfolding timedSearchReply searchReply

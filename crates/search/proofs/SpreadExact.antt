@@ -9,7 +9,7 @@ use Prim.Native.Nat.{ℕ, zero, suc, _+_, _≤_, _<_}
 use native.Mathlib.Nat.{le-antisymm}
 use native.Mathlib.Omega.{arith}
 use lib.ListN.{getD}
-use Rattle.price.proofs.TestLaws.{either-way}
+use Rattle.price.proofs.TestLaws.{by-test}
 use Rattle.search.specs.Block.{Block, nodes, hasEdge}
 use Rattle.search.specs.Distance.{far, inTree, distances, distance}
 use Rattle.search.specs.Turn.{before}
@@ -34,9 +34,9 @@ module _ {b : Block} {price : ℕ → ℕ} {goals : Bool} (marks : List ℕ) {st
       (v : ℕ) → v < nodes b → labelAt w v < goal → ((p : ℕ) → labelAt w p < labelAt w v → p < nodes b → labelAt w p < goal → distance b price marks p ≤ labelAt w p)
       → distance b price marks v ≤ labelAt w v
   below-by v h l nearer =
-      ⊎-elim
-      (λ (t : inTree marks v ≡ true). omega (arith, distance-tree b price marks v h t))
-      (λ (t : inTree marks v ≡ false).
+      by-test (inTree marks v)
+      (λ t. omega (arith, distance-tree b price marks v h t))
+      (λ t.
       let c = s .came v h (pos-out v h t) l in
       let p : ℕ = fromAt (nodes b) w v in
       let pos = fair .pos v h in
@@ -44,7 +44,6 @@ module _ {b : Block} {price : ℕ → ℕ} {goals : Bool} (marks : List ℕ) {st
       let low : distance b price marks (fromAt (nodes b) w v) ≤ labelAt w (fromAt (nodes b) w v) = nearer (fromAt (nodes b) w v) (omega arith) (c .node) (omega arith) in
       let edge = distance-step b price marks g fair (fromAt (nodes b) w v) v h (c .edge) in
       omega arith)
-      (either-way (inTree marks v))
 
   never-below : (k v : ℕ) → labelAt w v < k → v < nodes b → labelAt w v < goal → distance b price marks v ≤ labelAt w v
   never-below zero v m h l = absurd (omega arith)
@@ -73,9 +72,9 @@ module _ {b : Block} {price : ℕ → ℕ} {goals : Bool} (marks : List ℕ) {st
       → ((u : ℕ) → distance b price marks u < distance b price marks v → distance b price marks u < level → u < nodes b → Live b goals start u → (labelAt w u < goal) × (labelAt w u ≤ distance b price marks u))
       → (labelAt w v < goal) × (labelAt w v ≤ distance b price marks v)
   above-by v h live near le nearer =
-      ⊎-elim
-      (λ (t : inTree marks v ≡ true). let z = zero-in v h t in (omega arith, omega arith))
-      (λ (t : inTree marks v ≡ false).
+      by-test (inTree marks v)
+      (λ t. let z = zero-in v h t in (omega arith, omega arith))
+      (λ t.
       let o = distance-over b price marks g fair v h t near in
       let u : ℕ = o .0 in
       let hu : o .0 < nodes b = edge-node b g (o .0) v (o .1) in
@@ -86,7 +85,6 @@ module _ {b : Block} {price : ℕ → ℕ} {goals : Bool} (marks : List ℕ) {st
       let f = looked (o .0) v hu h live (o .1) (low .0) (omega arith) in
       let close : labelAt w v ≤ labelAt w (o .0) + price v = f .near in
       (f .labelled, omega arith))
-      (either-way (inTree marks v))
 
   never-above : (k v : ℕ) → distance b price marks v < k → v < nodes b → Live b goals start v → distance b price marks v < far → distance b price marks v < level + price v → (labelAt w v < goal) × (labelAt w v ≤ distance b price marks v)
   never-above zero v m h live near le = absurd (omega arith)

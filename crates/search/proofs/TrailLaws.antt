@@ -2,13 +2,13 @@
 -- Assumes nothing.
 use mathlib.Core.Bool.{true, false}
 use mathlib.Core.List.{List, [], _∷_}
-use mathlib.Core.Logic.{_⊎_, ⊎-elim, inl, inr}
+use mathlib.Core.Logic.{_⊎_, inl, inr}
 use mathlib.Core.Path.{_≡_, refl}
 use Prim.Native.Nat.{ℕ, zero, suc, _+_, _≤_, _<_}
 use native.Mathlib.Nat.{le-trans}
 use native.Mathlib.Omega.{arith}
 use lib.ListN.{length}
-use Rattle.price.proofs.TestLaws.{either-way}
+use Rattle.price.proofs.TestLaws.{by-test}
 use Rattle.search.specs.Block.{Block, nodes, hasEdge}
 use Rattle.search.specs.Paths.{Fair}
 use Rattle.search.specs.Distance.{far, inTree, distances, distance}
@@ -39,14 +39,13 @@ module _ (b : Block) (price : ℕ → ℕ) (marks : List ℕ) (g : Shaped b) (fa
   unfolding trail back
   trail-back s w level same zero fuel v path way node near close enough r e = absurd (omega (arith, onward-short b price marks fair node r))
   trail-back s w level same (suc k) zero v path way node near close enough r e =
-      ⊎-elim
-      (λ (q : inTree marks v ≡ true). rw q)
-      (λ (q : inTree marks v ≡ false). absurd (omega (arith, before-near b price marks g fair v node q near)))
-      (either-way (inTree marks v))
+      by-test (inTree marks v)
+      (λ q. rw q)
+      (λ q. absurd (omega (arith, before-near b price marks g fair v node q near)))
   trail-back s w level same (suc k) (suc fuel) v path way node near close enough r e =
-      ⊎-elim
-      (λ (q : inTree marks v ≡ true). rw q)
-      (λ (q : inTree marks v ≡ false).
+      by-test (inTree marks v)
+      (λ q. rw q)
+      (λ q.
       rw (q, same v way node q near close)
       (trail-back s w level same k fuel (before b price (distances b price marks) v) (v ∷ path) (inr (v, before-edge b price marks g fair v node q near)) (before-node b price marks g fair v node q near)
       (le-trans (before-near b price marks g fair v node q near) (omega arith))
@@ -54,7 +53,6 @@ module _ (b : Block) (price : ℕ → ℕ) (marks : List ℕ) (g : Shaped b) (fa
       (omega (arith, before-near b price marks g fair v node q near))
       (on node q (before-edge b price marks g fair v node q near) (before-sum b price marks g fair v node q near) r)
       (omega arith)))
-      (either-way (inTree marks v))
 
   -- it is the path to the node
   pub trail-to :

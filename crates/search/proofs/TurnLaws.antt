@@ -3,7 +3,6 @@
 -- Assumes nothing.
 use mathlib.Core.Bool.{true, false}
 use mathlib.Core.List.{List}
-use mathlib.Core.Logic.{⊎-elim}
 use mathlib.Core.Path.{_≡_, sym, _∙_, ap, subst}
 use Prim.Native.Nat.{ℕ, _≤_, _<_}
 use native.Mathlib.Nat.{le-trans, le-antisymm}
@@ -12,7 +11,7 @@ use lib.Dec.{eqb}
 use lib.ListN.{length, getD}
 use borrow.Author.Tests.{eqb-true, eqb-false}
 use Rattle.price.specs.Lists.{has}
-use Rattle.price.proofs.TestLaws.{either-way}
+use Rattle.price.proofs.TestLaws.{by-test}
 use Rattle.price.proofs.ListLaws.{has-at, has-place}
 use Rattle.price.proofs.EntryLaws.{least-top, least-le, placeOf-is}
 use Rattle.search.specs.Block.{Block, nodes}
@@ -42,10 +41,9 @@ module _ (b : Block) (price : ℕ → ℕ) (marks : List ℕ) (g : Shaped b) (fa
         le-antisymm (rw at at (least-le far os place (omega arith))) (open-above b price marks sinks d (omega arith) low) in
         let earlier : (j : ℕ) → j < place → getD os j 0 ≡ d → ⊥ =
         λ j l e.
-        ⊎-elim
-        (λ (q : inTree marks (getD sinks j 0) ≡ true). omega (arith, open-in b price marks sinks j (omega arith) q))
-        (λ (q : inTree marks (getD sinks j 0) ≡ false). first j l q (sym (open-out b price marks sinks j (omega arith) q) ∙ e))
-        (either-way (inTree marks (getD sinks j 0))) in
+        by-test (inTree marks (getD sinks j 0))
+        (λ q. omega (arith, open-in b price marks sinks j (omega arith) q))
+        (λ q. first j l q (sym (open-out b price marks sinks j (omega arith) q) ∙ e)) in
         let this : nearestPlace b price marks sinks ≡ place =
         rw lowest (placeOf-is d os place (omega arith) at earlier) in
         turn-near b price marks sinks (λ e. omega arith)
@@ -70,17 +68,16 @@ module _ (b : Block) (price : ℕ → ℕ) (marks : List ℕ) (g : Shaped b) (fa
       joins-nearest : Nearest b price marks sinks place × (cost ≡ pathCost price path) × (path ≡ pathTo b price marks (getD sinks place 0))
       unfolding joinAt
       joins-nearest =
-          ⊎-elim
-          (λ (q : eqb (nearestDistance b price marks sinks) far ≡ true).
+          by-test (eqb (nearestDistance b price marks sinks) far)
+          (λ q.
           let e : turn b price marks sinks ≡ stuck = turn-far b price marks sinks (eqb-true _ _ q) in
           let z : _≡_ {A = ℕ} 0 1 = cc in
           absurd (omega arith))
-          (λ (q : eqb (nearestDistance b price marks sinks) far ≡ false).
+          (λ q.
           let some : nearestDistance b price marks sinks ≡ far → ⊥ = eqb-false _ _ q in
           let e = turn-near b price marks sinks some in
           let p : place ≡ nearestPlace b price marks sinks = cc in
           (rw p (nearest b price marks sinks some), cc, cc))
-          (either-way (eqb (nearestDistance b price marks sinks) far))
 
       pub joins-within : place < length sinks
       joins-within = joins-nearest .0 .within
@@ -119,12 +116,11 @@ module _ (b : Block) (price : ℕ → ℕ) (marks : List ℕ) (g : Shaped b) (fa
     unfolding joinAt
     stuck-no-path is t s path m l o w =
         let close = path-near b price marks g fair t s path (listed-node s l) m w in
-        ⊎-elim
-        (λ (q : eqb (nearestDistance b price marks sinks) far ≡ true).
+        by-test (eqb (nearestDistance b price marks sinks) far)
+        (λ q.
         let none : nearestDistance b price marks sinks ≡ far = eqb-true _ _ q in
         omega (arith, open-least b price marks sinks s l o))
-        (λ (q : eqb (nearestDistance b price marks sinks) far ≡ false).
+        (λ q.
         let e = turn-near b price marks sinks (eqb-false _ _ q) in
         let z : _≡_ {A = ℕ} 0 1 = cc in
         omega arith)
-        (either-way (eqb (nearestDistance b price marks sinks) far))

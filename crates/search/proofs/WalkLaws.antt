@@ -10,7 +10,7 @@ use native.Mathlib.Omega.{arith}
 use lib.ListN.{length, getD}
 use Rattle.price.specs.Bounds.{pathMost}
 use Rattle.price.specs.Lists.{has, distinct, total}
-use Rattle.price.proofs.TestLaws.{either-way, true≢false}
+use Rattle.price.proofs.TestLaws.{by-test, true≢false}
 use Rattle.price.proofs.ListLaws.{total-append, total-most}
 use Rattle.search.specs.Block.{Block, nodes, hasEdge}
 use Rattle.search.specs.Paths.{Walk, stay, step, pathCost, Fair}
@@ -140,13 +140,12 @@ module _ {b : Block} where
   once price (stay u) = record { path′ = u ∷ []; walk = stay u; once = refl; less = le-refl (total price (u ∷ [])) }
   once price {v = v} (step {u = u} {path = path} e w) =
       let r = once price w in
-      ⊎-elim
-      (λ (h : has u (r .path′) ≡ true).
+      by-test (has u (r .path′))
+      (λ h.
       let s = from-node price u (r .walk) h (r .once) in
       record { path′ = s .path′; walk = s .walk; once = s .once; less = le-trans (s .less) (le-trans (r .less) (rest-less price u path)) })
-      (λ (h : has u (r .path′) ≡ false).
+      (λ h.
       record { path′ = u ∷ r .path′; walk = step e (r .walk); once = distinct-cons u (r .path′) h (r .once); less = cons-less price u (r .path′) path (r .less) })
-      (either-way (has u (r .path′)))
 
   module _ (g : Shaped b) where
     -- a walk to a node starts at a node

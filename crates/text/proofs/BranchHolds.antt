@@ -17,7 +17,7 @@ use lib.ListN.{length, drop}
 use borrow.Author.Tests.{ltb-true, ne-eqb, eqb-true}
 use Rattle.price.specs.Test.{both}
 use Rattle.price.specs.Lists.{has, countBelow}
-use Rattle.price.proofs.TestLaws.{either-way, both-left, true≢false, le-or-lt}
+use Rattle.price.proofs.TestLaws.{by-test, both-left, true≢false, le-or-lt}
 use Rattle.job.specs.Job.{Job, nets}
 use Rattle.job.specs.Tables.{netsMost}
 use Rattle.job.specs.Join.{leads}
@@ -46,10 +46,9 @@ module _ (i : ℕ) where
   unfolding ofNet
   of-append [] cs = refl
   of-append (b ∷ bs) cs =
-      ⊎-elim
-      (λ (q : eqb (b .net) i ≡ true). rw (q, of-append bs cs))
-      (λ (q : eqb (b .net) i ≡ false). rw (q, of-append bs cs))
-      (either-way (eqb (b .net) i))
+      by-test (eqb (b .net) i)
+      (λ q. rw (q, of-append bs cs))
+      (λ q. rw (q, of-append bs cs))
 
   -- a path's steps are of its record's net
   of-own : (n : ℕ) → eqb n i ≡ true → (path : List ℕ) → ofNet i (steps n path) ≡ steps n path
@@ -71,23 +70,22 @@ module _ (i : ℕ) where
   unfolding ofNet passing recordBranches
   own-in t [] = refl
   own-in t (r ∷ rs) =
-      ⊎-elim
-      (λ (q : both (eqb (r .net) i) (eqb (r .iteration) t) ≡ true).
+      by-test (both (eqb (r .net) i) (eqb (r .iteration) t))
+      (λ q.
       rw (
         q,
         of-append (steps (r .net) (r .path)) (recordBranches (recordsIn i t rs)),
         of-own (r .net) (both-left (eqb (r .net) i) (eqb (r .iteration) t) q) (r .path),
         own-in t rs,
       ))
-      (λ (q : both (eqb (r .net) i) (eqb (r .iteration) t) ≡ false). rw q (own-in t rs))
-      (either-way (both (eqb (r .net) i) (eqb (r .iteration) t)))
+      (λ q. rw q (own-in t rs))
 
   other-in : (k t : ℕ) → (k ≡ i → ⊥) → (rs : List Record) → ofNet i (recordBranches (recordsIn k t rs)) ≡ []
   unfolding ofNet passing recordBranches
   other-in k t ne [] = refl
   other-in k t ne (r ∷ rs) =
-      ⊎-elim
-      (λ (q : both (eqb (r .net) k) (eqb (r .iteration) t) ≡ true).
+      by-test (both (eqb (r .net) k) (eqb (r .iteration) t))
+      (λ q.
       let is : r .net ≡ k = eqb-true (r .net) k (both-left (eqb (r .net) k) (eqb (r .iteration) t) q) in
       rw (
         q,
@@ -95,8 +93,7 @@ module _ (i : ℕ) where
         of-other (r .net) (ne-eqb (r .net) i (λ e. ne (sym is ∙ e))) (r .path),
       )
       (other-in k t ne rs))
-      (λ (q : both (eqb (r .net) k) (eqb (r .iteration) t) ≡ false). rw q (other-in k t ne rs))
-      (either-way (both (eqb (r .net) k) (eqb (r .iteration) t)))
+      (λ q. rw q (other-in k t ne rs))
 
   -- the first nets have no branch of a later one
   routes-before : (n : ℕ) (rs : List Record) → n ≤ i → ofNet i (routeBranches n rs) ≡ []
@@ -122,10 +119,9 @@ module _ (i : ℕ) where
   unfolding nodesIn pathNodes passing
   nodes-in t [] = refl
   nodes-in t (r ∷ rs) =
-      ⊎-elim
-      (λ (q : both (eqb (r .net) i) (eqb (r .iteration) t) ≡ true). rw (q, nodes-in t rs))
-      (λ (q : both (eqb (r .net) i) (eqb (r .iteration) t) ≡ false). rw q (nodes-in t rs))
-      (either-way (both (eqb (r .net) i) (eqb (r .iteration) t)))
+      by-test (both (eqb (r .net) i) (eqb (r .iteration) t))
+      (λ q. rw (q, nodes-in t rs))
+      (λ q. rw q (nodes-in t rs))
 
   -- the final tree of demand 3 is read from the same records
   pub tree-read : (rs : List Record) → treeRead i rs ≡ pathNodes (finalRecords i rs)
@@ -136,11 +132,10 @@ module _ (i : ℕ) where
   unfolding recordBranches passing endsIn
   ends-in t [] = refl
   ends-in t (r ∷ rs) =
-      ⊎-elim
-      (λ (q : both (eqb (r .net) i) (eqb (r .iteration) t) ≡ true).
+      by-test (both (eqb (r .net) i) (eqb (r .iteration) t))
+      (λ q.
       rw (q, map-append (λ (b : Branch). b .to) (steps (r .net) (r .path)) (recordBranches (recordsIn i t rs)), step-ends (r .net) (r .path), ends-in t rs))
-      (λ (q : both (eqb (r .net) i) (eqb (r .iteration) t) ≡ false). rw q (ends-in t rs))
-      (either-way (both (eqb (r .net) i) (eqb (r .iteration) t)))
+      (λ q. rw q (ends-in t rs))
 
   -- the branches that are printed end in the nodes of which demand 3 says that none is reached twice
   pub tree-ends : (rs : List Record) → endsOf (treeBranches i rs) ≡ endsIn i (latest i rs) rs

@@ -6,14 +6,13 @@
 -- Assumes nothing.
 use mathlib.Core.Bool.{true, false}
 use mathlib.Core.List.{List, [], _++_, flatMap}
-use mathlib.Core.Logic.{⊎-elim}
 use mathlib.Core.Path.{_≡_, subst}
 use Prim.Native.Nat.{ℕ, _+_, _-_, _^_, _≤_, _<_}
 use native.Mathlib.Numerals.{add-one}
 use native.Mathlib.Omega.{arith}
 use lib.ListN.{length, getD, take, drop, length-drop, drop-of-length-le}
 use borrow.Author.Tests.{eq-eqb, ne-eqb}
-use Rattle.price.proofs.TestLaws.{either-way}
+use Rattle.price.proofs.TestLaws.{by-test}
 use Rattle.negotiation.specs.Records.{Record, decode}
 use Rattle.text.specs.Routes.{Named, recordSound, soundWords, Branch, steps, passing, recordBranches, treeBranches, routeBranches}
 use Rattle.text.specs.WriteSteps.{nextAt, Filled, AllSound, part, ownRecords, Latest}
@@ -38,10 +37,9 @@ module _ {log : List ℕ} {at : ℕ} (p : Rest log at) (l : at < length log) whe
   pub sound-here : recordSound (p .named) (p .last) (drop at log) ≡ true
   sound-here =
       let long = length-drop at log in
-      ⊎-elim
+      by-test (recordSound (p .named) (p .last) (drop at log))
       (λ t. t)
-      (λ (t : recordSound (p .named) (p .last) (drop at log) ≡ false). absurd (omega (arith, sound-stop (p .named) (p .last) (drop at log) t, p .all-sound)))
-      (either-way (recordSound (p .named) (p .last) (drop at log)))
+      (λ t. absurd (omega (arith, sound-stop (p .named) (p .last) (drop at log) t, p .all-sound)))
 
   pub rest-fits : nextAt log at ≤ length log
   rest-fits = fits-at log at (p .named) (p .last) sound-here (p .within)

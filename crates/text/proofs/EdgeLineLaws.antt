@@ -6,7 +6,6 @@
 -- Assumes nothing.
 use mathlib.Core.Bool.{Bool, true, false, not}
 use mathlib.Core.List.{List, [], _∷_, _++_, append-assoc, append-nil}
-use mathlib.Core.Logic.{⊎-elim}
 use mathlib.Core.Path.{_≡_, refl, sym, _∙_, ap, subst}
 use Prim.Native.Nat.{ℕ, zero, suc, _+_, _-_, _≤_, _<_}
 use native.Mathlib.Nat.{add-zero, add-suc}
@@ -18,7 +17,7 @@ use lib.Seq.{length-take-le, take-suc-set, drop-cons, set-at, take-at}
 use borrow.Author.Tests.{lt-ltb, le-ltb, eq-eqb, ne-eqb, ltb-true, eqb-true}
 use Rattle.price.specs.Test.{choose}
 use Rattle.price.specs.Lists.{upTo, total}
-use Rattle.price.proofs.TestLaws.{either-way, both-left, both-right}
+use Rattle.price.proofs.TestLaws.{by-test, both-left, both-right}
 use Rattle.price.proofs.ListLaws.{total-append}
 use Rattle.text.specs.Lines.{letterE, taken, line}
 use Rattle.text.specs.JobText.{values, refused, lastOf, rises, edgeWithin, edgeOrdered, edgeLine, part, stopped, edgeLists, edgeLines, firstPlaces}
@@ -53,16 +52,14 @@ module _ (count lastFrom lastTo from to : ℕ) where
   pub rises-least : (count ≡ 0 → lastFrom ≡ 0) → rises count lastFrom lastTo from to ≡ true → lastFrom ≤ from
   unfolding rises
   rises-least z r =
-      ⊎-elim
-      (λ (e : eqb count 0 ≡ true). let f : lastFrom ≡ 0 = z (eqb-true count 0 e) in omega arith)
-      (λ (e : eqb count 0 ≡ false).
-      ⊎-elim
-      (λ (l : ltb lastFrom from ≡ true). let f : lastFrom < from = ltb-true lastFrom from l in omega arith)
-      (λ (l : ltb lastFrom from ≡ false).
+      by-test (eqb count 0)
+      (λ e. let f : lastFrom ≡ 0 = z (eqb-true count 0 e) in omega arith)
+      (λ e.
+      by-test (ltb lastFrom from)
+      (λ l. let f : lastFrom < from = ltb-true lastFrom from l in omega arith)
+      (λ l.
       let f : lastFrom ≡ from = eqb-true lastFrom from (both-left (eqb lastFrom from) (ltb lastTo to) (rw (e, l) at r)) in
-      omega arith)
-      (either-way (ltb lastFrom from)))
-      (either-way (eqb count 0))
+      omega arith))
 
 -- ---- an E line
 

@@ -13,7 +13,7 @@ use lib.ListN.{length, getD}
 use lib.Seq.{slice}
 use borrow.Author.Tests.{ltb-true, leb-true, eqb-true, eqb-false, not-true, lt-ltb, le-leb, eq-eqb, ne-eqb}
 use Rattle.price.specs.Test.{both, either}
-use Rattle.price.proofs.TestLaws.{either-way, true≢false, both-true, both-left, both-right, le-or-lt}
+use Rattle.price.proofs.TestLaws.{by-test, true≢false, both-true, both-left, both-right, le-or-lt}
 use Rattle.price.proofs.ListLaws.{neighbours-all, neighbours-at}
 use Rattle.search.specs.Tables.{rowSound}
 use Rattle.search.proofs.BlockLaws.{firsts-most}
@@ -49,28 +49,25 @@ unfolding rises
 risen-of c f t f' t' e =
     let some : eqb (suc c) 0 ≡ false = ne-eqb (suc c) 0 (λ (z : suc c ≡ 0). omega arith) in
     let r : either (ltb f f') (both (eqb f f') (ltb t t')) ≡ true = rw some at e in
-    ⊎-elim
-    (λ (q : ltb f f' ≡ true). inl (ltb-true f f' q))
-    (λ (q : ltb f f' ≡ false).
+    by-test (ltb f f')
+    (λ q. inl (ltb-true f f' q))
+    (λ q.
     let b : both (eqb f f') (ltb t t') ≡ true = rw q at r in
     inr (eqb-true f f' (both-left (eqb f f') (ltb t t') b), ltb-true t t' (both-right (eqb f f') (ltb t t') b)))
-    (either-way (ltb f f'))
 
 rises-of : (c f t f' t' : ℕ) → Risen f t f' t' → rises c f t f' t' ≡ true
 unfolding rises
 rises-of c f t f' t' s =
-    ⊎-elim
-    (λ (q : eqb c 0 ≡ true). rw q)
-    (λ (q : eqb c 0 ≡ false).
+    by-test (eqb c 0)
+    (λ q. rw q)
+    (λ q.
     ⊎-elim
     (λ (h : f < f'). rw (q, lt-ltb f f' h))
     (λ (h : (f ≡ f') × (t < t')).
-    ⊎-elim
-    (λ (r : ltb f f' ≡ true). rw (q, r))
-    (λ (r : ltb f f' ≡ false). rw (q, r, eq-eqb f f' (h .0), lt-ltb t t' (h .1)))
-    (either-way (ltb f f')))
+    by-test (ltb f f')
+    (λ r. rw (q, r))
+    (λ r. rw (q, r, eq-eqb f f' (h .0), lt-ltb t t' (h .1))))
     s)
-    (either-way (eqb c 0))
 
 edge-of : (n f t : ℕ) → edgeWithin n (f ∷ t ∷ []) ≡ true → not (eqb f t) ≡ true → Edge n f t
 unfolding edgeWithin

@@ -14,7 +14,7 @@ use lib.Seq.{ext-getD, getD-append-add}
 use borrow.Author.Tests.{ltb-true, ltb-false, leb-true, eqb-true, lt-ltb, le-ltb, le-leb, eq-eqb}
 use Rattle.price.specs.Test.{choose}
 use Rattle.price.specs.Lists.{neighbours, total}
-use Rattle.price.proofs.TestLaws.{either-way, both-left, both-right, le-or-lt}
+use Rattle.price.proofs.TestLaws.{by-test, both-left, both-right, le-or-lt}
 use Rattle.price.proofs.ListLaws.{neighbours-all, length-upTo, getD-upTo}
 use Rattle.search.specs.Tables.{firstEdgesSound}
 use Rattle.search.proofs.BlockLaws.{firsts-long, firsts-end, firsts-order, firsts-most}
@@ -68,19 +68,18 @@ module _ (u : ℕ) where
   under-most [] = zero-le
   under-most (x ∷ xs) =
       let rest : under u xs ≤ length xs = under-most xs in
-      ⊎-elim (λ (q : ltb x u ≡ true). rw q (omega arith)) (λ (q : ltb x u ≡ false). rw q (omega arith)) (either-way (ltb x u))
+      by-test (ltb x u) (λ q. rw q (omega arith)) (λ q. rw q (omega arith))
 
 under-more : (u v : ℕ) → u ≤ v → (keys : List ℕ) → under u keys ≤ under v keys
 unfolding total
 under-more u v h [] = zero-le
 under-more u v h (x ∷ xs) =
     let rest : under u xs ≤ under v xs = under-more u v h xs in
-    ⊎-elim
-    (λ (q : ltb x u ≡ true).
+    by-test (ltb x u)
+    (λ q.
     let low : x < u = ltb-true x u q in
     rw (q, lt-ltb x v (omega arith)) (omega arith))
-    (λ (q : ltb x u ≡ false). rw q (omega arith))
-    (either-way (ltb x u))
+    (λ q. rw q (omega arith))
 
 -- ---- keys that never fall
 
@@ -109,17 +108,15 @@ module _ (u : ℕ) where
   unfolding total
   under-low [] s p h = absurd (not-suc-le-zero h)
   under-low (x ∷ xs) s zero h =
-      ⊎-elim
-      (λ (q : ltb x u ≡ true). ltb-true x u q)
-      (λ (q : ltb x u ≡ false). absurd (omega (arith, least-none x xs s q)))
-      (either-way (ltb x u))
+      by-test (ltb x u)
+      (λ q. ltb-true x u q)
+      (λ q. absurd (omega (arith, least-none x xs s q)))
   under-low (x ∷ xs) s (suc p) h =
-      ⊎-elim
-      (λ (q : ltb x u ≡ true).
+      by-test (ltb x u)
+      (λ q.
       let here : suc p < 1 + under u xs = rw q at h in
       under-low xs (order-rest x xs s) p (omega arith))
-      (λ (q : ltb x u ≡ false). absurd (omega (arith, least-none x xs s q)))
-      (either-way (ltb x u))
+      (λ q. absurd (omega (arith, least-none x xs s q)))
 
   pub low-under : (keys : List ℕ) → neighbours leb keys ≡ true → (p : ℕ) → p < length keys → getD keys p 0 < u → p < under u keys
   unfolding total

@@ -13,7 +13,7 @@ use lib.ListN.{length, getD}
 use borrow.Author.Tests.{lt-ltb, ne-eqb, eqb-false}
 use Rattle.price.specs.Test.{choose}
 use Rattle.price.specs.Lists.{every}
-use Rattle.price.proofs.TestLaws.{either-way, both-true}
+use Rattle.price.proofs.TestLaws.{by-test, both-true}
 use Rattle.price.proofs.EntryLaws.{placeOf-is, placeOf-most}
 use Rattle.job.specs.Join.{firstOf, leads}
 use Rattle.job.specs.Tables.{netsMost}
@@ -41,14 +41,13 @@ module _ (sources : List ℕ) where
       let r = before-only n p h in
       record { below = omega (arith, r .below); not-first = r .not-first; first-is = r .first-is })
       (λ (h : List·Memᴰ p (choose (leads sources n) [] (joinAt n ∷ []))).
-      ⊎-elim
-      (λ (q : leads sources n ≡ true). absurd (List·Memᴰ·not-nil (rw q at h)))
-      (λ (q : leads sources n ≡ false).
+      by-test (leads sources n)
+      (λ q. absurd (List·Memᴰ·not-nil (rw q at h)))
+      (λ q.
       ⊎-elim
       (λ (e : p ≡ joinAt n). rw e (record { below = omega arith; not-first = q; first-is = refl }))
       (λ (none : List·Memᴰ p []). absurd (List·Memᴰ·not-nil none))
-      (List·Memᴰ·cases-cons (rw q at h)))
-      (either-way (leads sources n)))
+      (List·Memᴰ·cases-cons (rw q at h))))
       (List·Memᴰ·append-cases (joinsBefore sources n) m)
 
   before-all : (n i : ℕ) → i < n → leads sources i ≡ false → List·Memᴰ (joinAt i) (joinsBefore sources n)

@@ -8,13 +8,12 @@
 -- Assumes nothing.
 use mathlib.Core.Bool.{Bool, true, false}
 use mathlib.Core.List.{List, [], _∷_}
-use mathlib.Core.Logic.{⊎-elim}
 use mathlib.Core.Path.{_≡_, refl, sym, _∙_, ap, subst}
 use Prim.Native.Nat.{ℕ, _+_}
 use native.Mathlib.Omega.{arith}
 use lib.ListN.{take, drop}
 use lib.Seq.{drop-drop}
-use Rattle.price.proofs.TestLaws.{either-way, true≢false}
+use Rattle.price.proofs.TestLaws.{by-test, true≢false}
 use Rattle.text.specs.Lines.{Fields, taken, malformed, fields, line, begins}
 use Rattle.text.specs.JobText.{Reading, values, refused, judged, Part, onward, taking}
 use Rattle.text.specs.Steps.{After, fieldsAt, FieldsPlace}
@@ -72,21 +71,19 @@ pub record Judged (within ordered : List ℕ → Bool) (f : Fields) (vs rest : L
 pub judged-values : (within ordered : List ℕ → Bool) (f : Fields) (vs rest : List ℕ) → judged within ordered f ≡ values vs rest → Judged within ordered f vs rest
 judged-values within ordered malformed vs rest e = let z : _≡_ {A = ℕ} 0 1 = cc in absurd (omega arith)
 judged-values within ordered (taken us mid) vs rest e =
-    ⊎-elim
-    (λ (p : within us ≡ true).
-    ⊎-elim
-    (λ (q : ordered us ≡ true).
+    by-test (within us)
+    (λ p.
+    by-test (ordered us)
+    (λ q.
     let given : values us mid ≡ values vs rest = rw (p, q) at e in
     let same : us ≡ vs = cc in
     record { is = cc; bounds = ap within (sym same) ∙ p; order = ap ordered (sym same) ∙ q })
-    (λ (q : ordered us ≡ false).
+    (λ q.
     let bad : refused 3 ≡ values vs rest = rw (p, q) at e in
-    let z : _≡_ {A = ℕ} 0 1 = cc in absurd (omega arith))
-    (either-way (ordered us)))
-    (λ (p : within us ≡ false).
+    let z : _≡_ {A = ℕ} 0 1 = cc in absurd (omega arith)))
+    (λ p.
     let bad : refused 2 ≡ values vs rest = rw p at e in
     let z : _≡_ {A = ℕ} 0 1 = cc in absurd (omega arith))
-    (either-way (within us))
 
 -- ---- values that are taken through a function
 

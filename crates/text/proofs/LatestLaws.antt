@@ -17,7 +17,7 @@ use lib.Seq.{getD-take, getD-drop, getD-set-same, getD-set-other, drop-drop, ext
 use borrow.Author.Tests.{eq-eqb, ne-eqb, le-leb, eqb-true, eqb-false, not-true, not-false}
 use Rattle.price.specs.Test.{choose, both, either}
 use Rattle.price.specs.Bounds.{nodesMost}
-use Rattle.price.proofs.TestLaws.{either-way, true≢false, le-or-lt, same-or-not}
+use Rattle.price.proofs.TestLaws.{by-test, true≢false, le-or-lt, same-or-not}
 use Rattle.price.proofs.ListLaws.{part-slice}
 use Rattle.job.specs.Tables.{netsMost}
 use Rattle.negotiation.specs.Records.{Record, decode}
@@ -56,12 +56,11 @@ none-later : (i t : ℕ) (rs : List Record) → latest i rs < t → recordsIn i 
 unfolding passing latest
 none-later i t [] h = refl
 none-later i t (r ∷ rs) h =
-    ⊎-elim
-    (λ (q : eqb (r .net) i ≡ true).
+    by-test (eqb (r .net) i)
+    (λ q.
     let later : max (r .iteration) (latest i rs) < t = rw q at h in
     rw (q, ne-eqb (r .iteration) t (λ e. omega arith)) (none-later i t rs (omega arith)))
-    (λ (q : eqb (r .net) i ≡ false). rw q (none-later i t rs (rw q at h)))
-    (either-way (eqb (r .net) i))
+    (λ q. rw q (none-later i t rs (rw q at h)))
 
 module _ (i : ℕ) (rs : List Record) (r : Record) where
   one-in : (t : ℕ) → r .net ≡ i → r .iteration ≡ t → recordsIn i t (r ∷ []) ≡ r ∷ []
@@ -361,17 +360,15 @@ anew-other {to} t e = rw (ne-eqb to 0 e)
 -- the net has no record yet, or none of this iteration
 anew-why : (to x y : ℕ) → either (eqb to 0) (not (eqb x y)) ≡ true → (to ≡ 0) ⊎ (x ≡ y → ⊥)
 anew-why to x y e =
-    ⊎-elim
-    (λ (q : eqb to 0 ≡ true). inl (eqb-true to 0 q))
-    (λ (q : eqb to 0 ≡ false). inr (eqb-false x y (not-true (eqb x y) (rw q at e))))
-    (either-way (eqb to 0))
+    by-test (eqb to 0)
+    (λ q. inl (eqb-true to 0 q))
+    (λ q. inr (eqb-false x y (not-true (eqb x y) (rw q at e))))
 
 same-why : (to x y : ℕ) → either (eqb to 0) (not (eqb x y)) ≡ false → (to ≡ 0 → ⊥) × (x ≡ y)
 same-why to x y e =
-    ⊎-elim
-    (λ (q : eqb to 0 ≡ true). absurd (true≢false (rw q at e)))
-    (λ (q : eqb to 0 ≡ false). (eqb-false to 0 q, eqb-true x y (not-false (eqb x y) (rw q at e))))
-    (either-way (eqb to 0))
+    by-test (eqb to 0)
+    (λ q. absurd (true≢false (rw q at e)))
+    (λ q. (eqb-false to 0 q, eqb-true x y (not-false (eqb x y) (rw q at e))))
 
 module _ {log froms tos : List ℕ} {at : ℕ} (p : Finding log froms tos at) (l : at < length log) where
   abbrev here : ℕ

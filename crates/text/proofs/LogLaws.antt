@@ -11,7 +11,7 @@ use lib.Dec.{leb, eqb}
 use lib.ListN.{length, getD, take, drop, length-drop, drop-of-length-le}
 use lib.Seq.{getD-drop, drop-drop}
 use borrow.Author.Tests.{le-leb, lt-leb, eq-eqb, ne-eqb, eqb-true}
-use Rattle.price.proofs.TestLaws.{either-way, both-right, le-or-lt}
+use Rattle.price.proofs.TestLaws.{by-test, both-right, le-or-lt}
 use Rattle.price.specs.Bounds.{nodesMost}
 use Rattle.job.specs.Tables.{netsMost}
 use Rattle.negotiation.specs.Records.{Record, recordOf, decodeUpTo, decode}
@@ -33,14 +33,13 @@ sound-enough named zero zero last ws h g = refl
 sound-enough named zero (suc m) last ws h g = rw (unsound-short named last ws (omega arith))
 sound-enough named (suc k) zero last ws h g = rw (unsound-short named last ws (omega arith))
 sound-enough named (suc k) (suc m) last ws h g =
-    ⊎-elim
-    (λ (t : recordSound named last ws ≡ true).
+    by-test (recordSound named last ws)
+    (λ t.
     let short = length-drop (recordLength ws) ws in
     rw t
     (ap (λ (x : ℕ). recordLength ws + x)
     (sound-enough named k m (getD ws 0 0) (drop (recordLength ws) ws) (omega arith) (omega arith))))
-    (λ (t : recordSound named last ws ≡ false). rw t)
-    (either-way (recordSound named last ws))
+    (λ t. rw t)
 
 -- the words of sound records from here on
 abbrev pub soundAfter : Named → ℕ → List ℕ → ℕ
@@ -265,8 +264,8 @@ module _ (named : Named) (log : List ℕ) where
       → (logSound named log ≡ true) × LogTested log iteration turns
   unfolding logChecked
   found {iteration} {turns} nets-few nodes-few e =
-      ⊎-elim
-      (λ (t : logSound named log ≡ true).
+      by-test (logSound named log)
+      (λ t.
       let same : sound iteration turns ≡ sound (lastIteration (decode log)) (length (decode log)) = rw t at e in (
         t,
         record {
@@ -275,21 +274,19 @@ module _ (named : Named) (log : List ℕ) where
           turns-are = cc;
         },
       ))
-      (λ (t : logSound named log ≡ false).
+      (λ t.
       let same : sound iteration turns ≡ unsound (soundWords named log) = rw t at e in
       let z : _≡_ {A = ℕ} 0 1 = cc in
       absurd (omega arith))
-      (either-way (logSound named log))
 
   pub found-none : {word : ℕ} → unsound word ≡ logChecked named log → (logSound named log ≡ false) × (word ≡ soundWords named log)
   unfolding logChecked
   found-none {word} e =
-      ⊎-elim
-      (λ (t : logSound named log ≡ true).
+      by-test (logSound named log)
+      (λ t.
       let same : unsound word ≡ sound (lastIteration (decode log)) (length (decode log)) = rw t at e in
       let z : _≡_ {A = ℕ} 0 1 = cc in
       absurd (omega arith))
-      (λ (t : logSound named log ≡ false).
+      (λ t.
       let same : unsound word ≡ unsound (soundWords named log) = rw t at e in
       (t, cc))
-      (either-way (logSound named log))

@@ -20,7 +20,7 @@ use lib.ListN.{getD, take, drop}
 use borrow.Author.Tests.{lt-ltb, le-ltb, le-leb, lt-leb, eq-eqb, ne-eqb, ltb-true}
 use Rattle.price.specs.Test.{choose, both}
 use Rattle.price.specs.Lists.{has}
-use Rattle.price.proofs.TestLaws.{either-way, both-right, both-true, both-false-right}
+use Rattle.price.proofs.TestLaws.{by-test, both-right, both-true, both-false-right}
 use Rattle.search.specs.Replies.{sinksMost}
 use Rattle.job.specs.Tables.{sinkKind}
 use Rattle.text.specs.Lines.{letterS, letterT, taken, line}
@@ -205,15 +205,14 @@ module _ (test : ℕ → Bool) (kinds : List ℕ) where
   -- a line that is read was taken, and its pin is of such a kind
   pub of-values : (r : Reading (List ℕ)) (vs rest : List ℕ) → ofKind test kinds r ≡ values vs rest → (r ≡ values vs rest) × (test (getD kinds (getD vs 1 0) 0) ≡ true)
   of-values (values us left) vs rest e =
-      ⊎-elim
-      (λ (q : test (getD kinds (getD us 1 0) 0) ≡ true).
+      by-test (test (getD kinds (getD us 1 0) 0))
+      (λ q.
       let same : values us left ≡ values vs rest = rw q at e in
       let these : us ≡ vs = cc in
       (same, rw these at q))
-      (λ (q : test (getD kinds (getD us 1 0) 0) ≡ false).
+      (λ q.
       let none : refused 3 ≡ values vs rest = rw q at e in
       absurd (let z : _≡_ {A = ℕ} 0 1 = cc in omega arith))
-      (either-way (test (getD kinds (getD us 1 0) 0)))
   of-values (refused k) vs rest e = absurd (let z : _≡_ {A = ℕ} 0 1 = cc in omega arith)
 
 -- the kind is that of the second value, which three of them have too
@@ -239,10 +238,9 @@ module _ (stamp : ℕ) (seen : List ℕ) where
   bearing-below zero v l = refl
   bearing-below (suc n) v l =
       let none : has v (bearing n stamp seen) ≡ false = bearing-below n v (omega arith) in
-      ⊎-elim
-      (λ (q : eqb (getD seen n 0) stamp ≡ true). rw (q, ne-eqb v n (λ e. omega arith)) none)
-      (λ (q : eqb (getD seen n 0) stamp ≡ false). rw q none)
-      (either-way (eqb (getD seen n 0) stamp))
+      by-test (eqb (getD seen n 0) stamp)
+      (λ q. rw (q, ne-eqb v n (λ e. omega arith)) none)
+      (λ q. rw q none)
 
   pub bearing-marked : (n : ℕ) → Marked n stamp seen (bearing n stamp seen)
   unfolding has bearing
@@ -250,15 +248,13 @@ module _ (stamp : ℕ) (seen : List ℕ) where
   bearing-marked (suc n) v l =
       ⊎-elim
       (λ (e : v ≡ n).
-      ⊎-elim
-      (λ (q : eqb (getD seen n 0) stamp ≡ true). rw (e, q, eq-eqb n n refl))
-      (λ (q : eqb (getD seen n 0) stamp ≡ false). rw (e, q) (sym (bearing-below n n (omega arith))))
-      (either-way (eqb (getD seen n 0) stamp)))
+      by-test (eqb (getD seen n 0) stamp)
+      (λ q. rw (e, q, eq-eqb n n refl))
+      (λ q. rw (e, q) (sym (bearing-below n n (omega arith)))))
       (λ (b : v < n).
-      ⊎-elim
-      (λ (q : eqb (getD seen n 0) stamp ≡ true). rw (q, ne-eqb v n (λ e. omega arith)) (bearing-marked n v b))
-      (λ (q : eqb (getD seen n 0) stamp ≡ false). rw q (bearing-marked n v b))
-      (either-way (eqb (getD seen n 0) stamp)))
+      by-test (eqb (getD seen n 0) stamp)
+      (λ q. rw (q, ne-eqb v n (λ e. omega arith)) (bearing-marked n v b))
+      (λ q. rw q (bearing-marked n v b)))
       (eq-or-lt-of-le (le-of-suc-le-suc l))
 
 pub sink-few :

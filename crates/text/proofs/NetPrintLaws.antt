@@ -14,7 +14,7 @@ use lib.Seq.{slice, slice-empty, slice-cons, length-slice, take-suc, take-all, l
 use borrow.Author.Tests.{le-leb, lt-ltb, leb-true, ltb-true, eqb-true, eq-eqb}
 use Rattle.price.specs.Bounds.{nodesMost, criticalityMost}
 use Rattle.price.specs.Lists.{every, has}
-use Rattle.price.proofs.TestLaws.{either-way, both-true, both-left, both-right}
+use Rattle.price.proofs.TestLaws.{by-test, both-true, both-left, both-right}
 use Rattle.price.proofs.ListLaws.{every-at}
 use Rattle.search.specs.Replies.{sinksMost}
 use Rattle.job.specs.Job.{sinksBetween}
@@ -222,11 +222,10 @@ module _
       let passed : length (take (suc i) ss) ≡ suc i = length-take-le (suc i) ss (omega arith) in
       let less : getD fs i 0 < getD fs (suc i) 0 = rw add-one at (order i (omega arith)) in
       both-true (lt-ltb (length (take (suc i) ss)) (length ss) (omega arith))
-      (⊎-elim
-      (λ (q : eqb (length (take (suc i) ss)) 0 ≡ true). rw q)
-      (λ (q : eqb (length (take (suc i) ss)) 0 ≡ false).
-      rw q (now-some (suc i) i (getD fs (suc i) 0) (add-one i) (omega arith) less (inside (suc i) (omega arith))))
-      (either-way (eqb (length (take (suc i) ss)) 0)))
+      (by-test (eqb (length (take (suc i) ss)) 0)
+      (λ q. rw q)
+      (λ q.
+      rw q (now-some (suc i) i (getD fs (suc i) 0) (add-one i) (omega arith) less (inside (suc i) (omega arith)))))
 
   -- all its sinks are read, and a net is left
   source-next : (m : ℕ) → m < length ss → Next timed kinds n ss fs ts cs m (getD fs m 0)

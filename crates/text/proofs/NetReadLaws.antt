@@ -12,7 +12,7 @@ use borrow.Author.Tests.{leb-true, ltb-true, eqb-true, eq-eqb, not-true}
 use Rattle.price.specs.Test.{choose, both}
 use Rattle.price.specs.Bounds.{criticalityMost}
 use Rattle.price.specs.Lists.{every, has}
-use Rattle.price.proofs.TestLaws.{either-way, both-true, both-left, both-right}
+use Rattle.price.proofs.TestLaws.{by-test, both-true, both-left, both-right}
 use Rattle.search.specs.Replies.{sinksMost}
 use Rattle.job.specs.Tables.{netsMost, sourcesSound, firstSinksSound, sinksSound, criticalitiesSound, oneOf, sourceKind, sinkKind, pinsOf, sourcePins, sinkPins}
 use Rattle.job.proofs.NetTableLaws.{sources-all, nets-all}
@@ -111,16 +111,14 @@ module _ (timed : Bool) (kinds : List ℕ) (n nets : ℕ) (l : NetLists) where
   unfolding netLine
   net-line [] next rest e = absurd (let z : _≡_ {A = ℕ} 0 1 = cc in omega arith)
   net-line (b ∷ bs) next rest e =
-      ⊎-elim
-      (λ (p : both (eqb b letterS) (sourceDue nets l) ≡ true). inl (sourced (b ∷ bs) next rest (both-right (eqb b letterS) _ p) (rw p at e)))
-      (λ (p : both (eqb b letterS) (sourceDue nets l) ≡ false).
-      ⊎-elim
-      (λ (q : both (eqb b letterT) (sinkDue l) ≡ true). inr (sunk (b ∷ bs) next rest (both-right (eqb b letterT) _ q) (rw (p, q) at e)))
-      (λ (q : both (eqb b letterT) (sinkDue l) ≡ false).
+      by-test (both (eqb b letterS) (sourceDue nets l))
+      (λ p. inl (sourced (b ∷ bs) next rest (both-right (eqb b letterS) _ p) (rw p at e)))
+      (λ p.
+      by-test (both (eqb b letterT) (sinkDue l))
+      (λ q. inr (sunk (b ∷ bs) next rest (both-right (eqb b letterT) _ q) (rw (p, q) at e)))
+      (λ q.
       let e2 : refused 1 ≡ values next rest = rw (p, q) at e in
-      absurd (let z : _≡_ {A = ℕ} 0 1 = cc in omega arith))
-      (either-way (both (eqb b letterT) (sinkDue l))))
-      (either-way (both (eqb b letterS) (sourceDue nets l)))
+      absurd (let z : _≡_ {A = ℕ} 0 1 = cc in omega arith)))
 
 -- ---- all lines
 
@@ -164,8 +162,8 @@ ended :
     → Ended timed kinds n nets (written timed m (l .sources) (l .firstSinks) (l .sinks) (l .criticalities)) [] l2 rest
 unfolding netEnd complete
 ended timed kinds n nets m l l2 at at2 rest g q e =
-    ⊎-elim
-    (λ (p : complete nets l ≡ true).
+    by-test (complete nets l)
+    (λ p.
     let e2 : part l at [] ≡ part l2 at2 rest = rw p at e in
     let same : l ≡ l2 = cc in
     let none : [] ≡ rest = cc in
@@ -178,10 +176,9 @@ ended timed kinds n nets m l l2 at at2 rest g q e =
       last = λ i h. now-some l i (g .long ∙ all ∙ sym h) (both-right (eqb (length (l .sources)) nets) _ p);
       text = sym (append-nil _);
     })
-    (λ (p : complete nets l ≡ false).
+    (λ p.
     let e2 : stopped 1 at ≡ part l2 at2 rest = rw p at e in
     absurd (let z : _≡_ {A = ℕ} 0 1 = cc in omega arith))
-    (either-way (complete nets l))
 
 -- one line before them
 more-text :
@@ -195,10 +192,9 @@ source-ready : (nets m : ℕ) (l : NetLists) → length (l .sources) ≡ m → l
 unfolding sourceDue
 source-ready nets m l count long due i e =
     let second = both-right (ltb (length (l .sources)) nets) _ due in
-    ⊎-elim
-    (λ (q : eqb (length (l .sources)) 0 ≡ true). let none : length (l .sources) ≡ 0 = eqb-true (length (l .sources)) 0 q in absurd (omega arith))
-    (λ (q : eqb (length (l .sources)) 0 ≡ false). now-some l i (long ∙ sym e) (rw q at second))
-    (either-way (eqb (length (l .sources)) 0))
+    by-test (eqb (length (l .sources)) 0)
+    (λ q. let none : length (l .sources) ≡ 0 = eqb-true (length (l .sources)) 0 q in absurd (omega arith))
+    (λ q. now-some l i (long ∙ sym e) (rw q at second))
 
 nets-on :
     (timed : Bool) (kinds : List ℕ) (n nets k m : ℕ) (l l2 : NetLists) (at at2 : ℕ) (bs rest : List ℕ) → Good n nets m (l .sources) (l .firstSinks) (l .sinks) (l .criticalities)

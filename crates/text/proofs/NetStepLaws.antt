@@ -17,7 +17,7 @@ use lib.Seq.{length-take-le, drop-cons, drop-append-le, take-suc-set, getD-set-s
 use borrow.Author.Tests.{lt-ltb, le-ltb, le-leb, lt-leb, eq-eqb, ne-eqb, eqb-true, eqb-false, ltb-true}
 use Rattle.price.specs.Test.{both, either}
 use Rattle.price.specs.Lists.{has}
-use Rattle.price.proofs.TestLaws.{either-false, either-way, le-or-lt, both-left, both-false-right}
+use Rattle.price.proofs.TestLaws.{by-test, either-false, le-or-lt, both-left, both-false-right}
 use Rattle.price.proofs.ListLaws.{has-append, has-append-right}
 use Rattle.search.specs.Replies.{sinksMost}
 use Rattle.text.specs.Lines.{letterS, letterT}
@@ -63,36 +63,33 @@ some-left a b =
 -- a mark no higher than the others' bound
 set-most : (top node mark v : ℕ) (seen : List ℕ) → node < length seen → mark ≤ top → getD seen v 0 ≤ top → getD (set seen node mark) v 0 ≤ top
 set-most top node mark v seen l m h =
-    ⊎-elim
-    (λ (q : eqb v node ≡ true). let e : v ≡ node = eqb-true v node q in rw (e, getD-set-same seen node mark 0 l) m)
-    (λ (q : eqb v node ≡ false). rw (getD-set-other seen node v mark 0 (eqb-false v node q)) h)
-    (either-way (eqb v node))
+    by-test (eqb v node)
+    (λ q. let e : v ≡ node = eqb-true v node q in rw (e, getD-set-same seen node mark 0 l) m)
+    (λ q. rw (getD-set-other seen node v mark 0 (eqb-false v node q)) h)
 
 -- a new stamp marks one node alone
 source-marks : (n k node : ℕ) (seen : List ℕ) → node < length seen → ((v : ℕ) → v < n → getD seen v 0 ≤ k) → Marked n (k + 1) (set seen node (k + 1)) (node ∷ [])
 unfolding has
 source-marks n k node seen l s v b =
-    ⊎-elim
-    (λ (q : eqb v node ≡ true).
+    by-test (eqb v node)
+    (λ q.
     let e : v ≡ node = eqb-true v node q in
     rw (q, e, getD-set-same seen node (k + 1) 0 l) (eq-eqb (k + 1) (k + 1) refl))
-    (λ (q : eqb v node ≡ false).
+    (λ q.
     rw (q, getD-set-other seen node v (k + 1) 0 (eqb-false v node q)) (ne-eqb (getD seen v 0) (k + 1) (λ e. omega (arith, s v b))))
-    (either-way (eqb v node))
 
 -- the same stamp marks one node more
 sink-marks : (n k node : ℕ) (seen pins : List ℕ) → node < length seen → Marked n k seen pins → Marked n k (set seen node k) (pins ++ (node ∷ []))
 unfolding has
 sink-marks n k node seen pins l m v b =
-    ⊎-elim
-    (λ (q : eqb v node ≡ true).
+    by-test (eqb v node)
+    (λ q.
     let e : v ≡ node = eqb-true v node q in
     let in-it : has v (pins ++ (node ∷ [])) ≡ true = has-append-right v pins (node ∷ []) (rw q) in
     rw (in-it, e, getD-set-same seen node k 0 l) (eq-eqb k k refl))
-    (λ (q : eqb v node ≡ false).
+    (λ q.
     let same : has v (pins ++ (node ∷ [])) ≡ has v pins = has-append v pins (node ∷ []) ∙ rw q (either-false (has v pins)) in
     rw (getD-set-other seen node v k 0 (eqb-false v node q), same) (m v b))
-    (either-way (eqb v node))
 
 -- ---- a line of the nets by its letter
 

@@ -5,7 +5,6 @@
 -- Assumes nothing.
 use mathlib.Core.Bool.{Bool, true, false}
 use mathlib.Core.List.{List, [], _∷_, _++_, append-assoc}
-use mathlib.Core.Logic.{⊎-elim}
 use mathlib.Core.Path.{_≡_, refl, sym, _∙_, ap, subst}
 use Prim.Native.Nat.{ℕ, _+_, _^_, _≤_, _<_}
 use native.Mathlib.Omega.{arith}
@@ -15,7 +14,7 @@ use borrow.Author.Tests.{leb-true, lt-ltb, ne-eqb, eqb-true, eqb-false}
 use Rattle.price.specs.Test.{choose, both, either}
 use Rattle.price.specs.Lists.{every}
 use Rattle.price.specs.Tuning.{plain, tuningSound}
-use Rattle.price.proofs.TestLaws.{either-way, both-true, both-left, both-right, true≢false}
+use Rattle.price.proofs.TestLaws.{by-test, both-true, both-left, both-right, true≢false}
 use Rattle.price.proofs.TuningLaws.{TuningWithin, tuning-within}
 use Rattle.job.specs.Job.{plainTerms}
 use Rattle.job.specs.Tables.{oneOf, untilMost, ruleSound}
@@ -37,8 +36,8 @@ module _ (letter : ℕ) (read : List ℕ → Fields) (within : List ℕ → Bool
       → ((vs mid : List ℕ) → Judged within (λ vs. true) (read bs) vs mid → P (change vs) mid) → P t bs
       → optional letter (judged within (λ vs. true) (read bs)) change t at bs ≡ part t′ at′ rest → P t′ rest
   optional-read at at′ bs rest t′ P answered none e =
-      ⊎-elim
-      (λ (q : begins letter bs ≡ true).
+      by-test (begins letter bs)
+      (λ q.
       let r = onward-part (judged within (λ vs. true) (read bs)) at (λ vs rest. part (change vs) (at + 1) rest) t′ at′ rest (rw q at e) in
       let vs : List ℕ = r .0 in
       let mid : List ℕ = r .1 in
@@ -46,12 +45,11 @@ module _ (letter : ℕ) (read : List ℕ → Fields) (within : List ℕ → Bool
       let same : change vs ≡ t′ = cc in
       let follow : mid ≡ rest = cc in
       rw (same, follow) at (answered vs mid (judged-values within (λ vs. true) (read bs) vs mid (r .2))))
-      (λ (q : begins letter bs ≡ false).
+      (λ q.
       let made : part t at bs ≡ part t′ at′ rest = rw q at e in
       let same : t ≡ t′ = cc in
       let follow : bs ≡ rest = cc in
       rw (same, follow) at none)
-      (either-way (begins letter bs))
 
   pub optional-written :
       (at : ℕ) (bs vs rest : List ℕ) → begins letter bs ≡ true → read bs ≡ taken vs rest → within vs ≡ true
@@ -134,11 +132,11 @@ rule-read bs vs rest (taken us mid) two e f is s =
       text = printed .1 ∙ ap (λ (xs : List ℕ). printLine letterV xs ++ mid) (one-of us (printed .0));
     })
 rule-read bs vs rest malformed (taken us mid) e f is s =
-    ⊎-elim
-    (λ (q : eqb (getD us 0 0) 1 ≡ true).
+    by-test (eqb (getD us 0 0) 1)
+    (λ q.
     let bad : malformed ≡ taken vs rest = rw q at is in
     let z : _≡_ {A = ℕ} 0 1 = cc in absurd (omega arith))
-    (λ (q : eqb (getD us 0 0) 1 ≡ false).
+    (λ q.
     let given : taken us mid ≡ taken vs rest = rw q at is in
     let same : us ≡ vs = cc in
     let follow : mid ≡ rest = cc in
@@ -150,7 +148,6 @@ rule-read bs vs rest malformed (taken us mid) e f is s =
       may = rule-two (getD us 0 0) (getD us 1 0) sound (eqb-false (getD us 0 0) 1 q);
       text = printed .1 ∙ ap (λ (xs : List ℕ). printLine letterV xs ++ mid) (two-of us (printed .0));
     }))
-    (either-way (eqb (getD us 0 0) 1))
 rule-read bs vs rest malformed malformed e f is s =
     let bad : malformed ≡ taken vs rest = is in
     let z : _≡_ {A = ℕ} 0 1 = cc in absurd (omega arith)
@@ -289,10 +286,9 @@ rule-begins whole rule until rest e = refl
 
 rule-few : (rule until : ℕ) → ruleSound rule until ≡ true → rule ≤ 2
 rule-few rule until e =
-    ⊎-elim
-    (λ (q : eqb rule 1 ≡ true). let is : rule ≡ 1 = eqb-true rule 1 q in omega arith)
-    (λ (q : eqb rule 1 ≡ false). let is : rule ≡ 2 = rule-two rule until e (eqb-false rule 1 q) in omega arith)
-    (either-way (eqb rule 1))
+    by-test (eqb rule 1)
+    (λ q. let is : rule ≡ 1 = eqb-true rule 1 q in omega arith)
+    (λ q. let is : rule ≡ 2 = rule-two rule until e (eqb-false rule 1 q) in omega arith)
 
 until-few : (rule until : ℕ) → ruleSound rule until ≡ true → until ≤ untilMost
 unfolding ruleSound

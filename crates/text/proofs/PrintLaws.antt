@@ -18,7 +18,7 @@ use lib.ListN.{length, getD}
 use borrow.Author.Tests.{le-leb, ltb-true, eq-eqb, ne-eqb, eqb-true, eqb-false}
 use Rattle.price.specs.Test.{choose}
 use Rattle.price.specs.Lists.{every}
-use Rattle.price.proofs.TestLaws.{either-way, both-true, both-left, both-right, le-or-lt}
+use Rattle.price.proofs.TestLaws.{by-test, both-true, both-left, both-right, le-or-lt}
 use Rattle.text.specs.Decimal.{zeroByte, isDigit, decimal}
 use Rattle.text.specs.Lines.{Field, number, fault, digitsAfter, field, lf, comma, Fields, taken, malformed, withValue, afterField, fields, line, printFields, printLine}
 use Rattle.text.specs.JobText.{Reading, values, refused, judged, Part, part, stopped, onward, andThen}
@@ -59,8 +59,8 @@ unfolding digitsAfter
 digits-read zero j v bs w rest some l few e = number-both v w bs rest (six j v l (omega arith)) e
 digits-read (suc k) j v [] w rest some l few e = number-both v w [] rest (six j v l (omega arith)) e
 digits-read (suc k) j v (b ∷ bs) w rest some l few e =
-    ⊎-elim
-    (λ (q : isDigit b ≡ true).
+    by-test (isDigit b)
+    (λ q.
     let low : 48 ≤ b = digit-least b q in
     let high : b ≤ 57 = digit-most b q in
     let next : v * 10 + (b - 48) < 10 ^ suc j = rw pow-succ' (omega arith) in
@@ -69,22 +69,21 @@ digits-read (suc k) j v (b ∷ bs) w rest some l few e =
     let more : decimal (v * 10 + (b - 48)) ≡ decimal v ++ (b ∷ []) =
     decimal-more v (b - 48) some (six j v l (omega arith)) (omega arith) ∙ rw byte in
     (r .0, sym (append-assoc (decimal v) (b ∷ []) bs) ∙ ap (λ (ds : List ℕ). ds ++ bs) (sym more) ∙ r .1))
-    (λ (q : isDigit b ≡ false). number-both v w (b ∷ bs) rest (six j v l (omega arith)) (rw q at e))
-    (either-way (isDigit b))
+    (λ q. number-both v w (b ∷ bs) rest (six j v l (omega arith)) (rw q at e))
 
 pub printed-field : (bs : List ℕ) (v : ℕ) (rest : List ℕ) → field bs ≡ number v rest → (v < 10 ^ 6) × (bs ≡ decimal v ++ rest)
 unfolding field
 printed-field [] v rest e = let z : _≡_ {A = ℕ} 0 1 = cc in absurd (omega arith)
 printed-field (b ∷ bs) v rest e =
-    ⊎-elim
-    (λ (q : eqb b zeroByte ≡ true).
+    by-test (eqb b zeroByte)
+    (λ q.
     let zeroed : number 0 bs ≡ number v rest = rw q at e in
     let r = number-both 0 v bs rest (omega arith) zeroed in
     let byte : b ≡ 48 = eqb-true b 48 q in
     (r .0, rw byte (ap (λ (ds : List ℕ). ds ++ bs) (sym (decimal-small 0 (omega arith))) ∙ r .1)))
-    (λ (q : eqb b zeroByte ≡ false).
-    ⊎-elim
-    (λ (p : isDigit b ≡ true).
+    (λ q.
+    by-test (isDigit b)
+    (λ p.
     let low : 48 ≤ b = digit-least b p in
     let high : b ≤ 57 = digit-most b p in
     let other : b ≡ 48 → ⊥ = eqb-false b 48 q in
@@ -92,11 +91,9 @@ printed-field (b ∷ bs) v rest e =
     let byte : 48 + (b - 48) ≡ b = omega arith in
     let first : decimal (b - 48) ≡ b ∷ [] = decimal-small (b - 48) (omega arith) ∙ rw byte in
     (r .0, ap (λ (ds : List ℕ). ds ++ bs) (sym first) ∙ r .1))
-    (λ (p : isDigit b ≡ false).
+    (λ p.
     let none : fault ≡ number v rest = rw (q, p) at e in
-    let z : _≡_ {A = ℕ} 0 1 = cc in absurd (omega arith))
-    (either-way (isDigit b)))
-    (either-way (eqb b zeroByte))
+    let z : _≡_ {A = ℕ} 0 1 = cc in absurd (omega arith)))
 
 -- ---- a field's bytes
 
@@ -186,43 +183,40 @@ printed-fields : (k : ℕ) (bs vs rest : List ℕ) → fields k bs ≡ taken vs 
 unfolding fields printFields
 printed-fields zero [] vs rest e = let z : _≡_ {A = ℕ} 0 1 = cc in absurd (omega arith)
 printed-fields zero (b ∷ bs) vs rest e =
-    ⊎-elim
-    (λ (q : eqb b lf ≡ true).
+    by-test (eqb b lf)
+    (λ q.
     let end : taken [] bs ≡ taken vs rest = rw q at e in
     let none : [] ≡ vs = cc in
     let follow : bs ≡ rest = cc in
     let byte : b ≡ lf = eqb-true b lf q in
     (rw (← none), rw (← none, byte, follow)))
-    (λ (q : eqb b lf ≡ false).
+    (λ q.
     let bad : malformed ≡ taken vs rest = rw q at e in
     let z : _≡_ {A = ℕ} 0 1 = cc in absurd (omega arith))
-    (either-way (eqb b lf))
 printed-fields (suc k) [] vs rest e = let z : _≡_ {A = ℕ} 0 1 = cc in absurd (omega arith)
 printed-fields (suc k) (b ∷ bs) vs rest e =
-    ⊎-elim
-    (λ (q : eqb b comma ≡ true).
+    by-test (eqb b comma)
+    (λ q.
     let r = after-taken (field bs) (λ rest. fields k rest) vs rest (rw q at e) in
     let here = printed-field bs (r .0) (r .1) (r .3) in
     let others = printed-fields k (r .1) (r .2) rest (r .4) in
     (rw (r .5, others .0), first-field b (r .0) bs (r .1) (r .2) vs rest (eqb-true b comma q) (here .1) (others .1) (r .5)))
-    (λ (q : eqb b comma ≡ false).
+    (λ q.
     let bad : malformed ≡ taken vs rest = rw q at e in
     let z : _≡_ {A = ℕ} 0 1 = cc in absurd (omega arith))
-    (either-way (eqb b comma))
 
 pub printed-line : (letter k : ℕ) (bs vs rest : List ℕ) → line letter k bs ≡ taken vs rest → (length vs ≡ k) × (bs ≡ printLine letter vs ++ rest)
 unfolding line printLine
 printed-line letter k [] vs rest e = let z : _≡_ {A = ℕ} 0 1 = cc in absurd (omega arith)
 printed-line letter k (b ∷ bs) vs rest e =
-    ⊎-elim
-    (λ (q : eqb b letter ≡ true).
+    by-test (eqb b letter)
+    (λ q.
     let r = printed-fields k bs vs rest (rw q at e) in
     let byte : b ≡ letter = eqb-true b letter q in
     (r .0, rw (byte, r .1)))
-    (λ (q : eqb b letter ≡ false).
+    (λ q.
     let bad : malformed ≡ taken vs rest = rw q at e in
     let z : _≡_ {A = ℕ} 0 1 = cc in absurd (omega arith))
-    (either-way (eqb b letter))
 
 -- ---- a line whose values are tested
 

@@ -15,7 +15,7 @@ use borrow.Author.Tests.{lt-ltb, ltb-true}
 use Rattle.price.specs.Test.{both}
 use Rattle.price.specs.Bounds.{nodesMost}
 use Rattle.price.specs.Lists.{every}
-use Rattle.price.proofs.TestLaws.{either-way, both-true, both-left, both-right, le-or-lt}
+use Rattle.price.proofs.TestLaws.{by-test, both-true, both-left, both-right, le-or-lt}
 use Rattle.price.proofs.ListLaws.{every-at}
 use Rattle.job.specs.Tables.{netsMost}
 use Rattle.negotiation.specs.Records.{Record, decode}
@@ -48,10 +48,9 @@ module _ (named : Named) (last : ℕ) (ws : List ℕ) (e : recordSound named las
 module _ (named : Named) (last : ℕ) (ws : List ℕ) (all : soundAfter named last ws ≡ length ws) (some : 1 ≤ length ws) where
   sound-first : recordSound named last ws ≡ true
   sound-first =
-      ⊎-elim
+      by-test (recordSound named last ws)
       (λ t. t)
-      (λ (t : recordSound named last ws ≡ false). absurd (omega (arith, sound-stop named last ws t)))
-      (either-way (recordSound named last ws))
+      (λ t. absurd (omega (arith, sound-stop named last ws t)))
 
   sound-rest : soundAfter named (getD ws 0 0) (drop (recordLength ws) ws) ≡ length (drop (recordLength ws) ws)
   sound-rest = omega (arith, sound-next named last ws sound-first, sound-fits named last ws sound-first, length-drop (recordLength ws) ws)

@@ -3,7 +3,6 @@
 -- Assumes nothing.
 use mathlib.Core.Bool.{Bool, true, false}
 use mathlib.Core.List.{List, [], _∷_, _++_}
-use mathlib.Core.Logic.{⊎-elim}
 use mathlib.Core.Path.{_≡_, refl, sym, _∙_, ap}
 use Prim.Native.Nat.{ℕ, zero, suc, _+_, _≤_, _<_}
 use native.Mathlib.Omega.{arith}
@@ -14,7 +13,7 @@ use Rattle.price.specs.Test.{choose, both}
 use Rattle.price.specs.Bounds.{limitMost, delayMost, criticalityMost}
 use Rattle.price.specs.Lists.{every, upTo}
 use Rattle.price.specs.Tuning.{tuningSound}
-use Rattle.price.proofs.TestLaws.{true≢false, either-way, both-true, both-left, both-right}
+use Rattle.price.proofs.TestLaws.{by-test, true≢false, both-true, both-left, both-right}
 use Rattle.price.proofs.ListLaws.{every-all, every-at, length-upTo, getD-upTo}
 use Rattle.search.specs.Block.{blockOf, row}
 use Rattle.search.specs.Tables.{edgesMost, kindsSound, capacitiesSound, delaysSound, firstEdgesSound, rowSound, edgeTargetsSound}
@@ -352,14 +351,12 @@ printed-once bs j k s t p q =
 stored-none : (j : Job) (t : Tables) → storedReply j t .refusal ≡ [] → (shortTable j t ≡ 0) × (exceeds (nodes j) (j .terms) ≡ false)
 unfolding storedReply
 stored-none j t e =
-    ⊎-elim
-    (λ (h : leb 1 (shortTable j t) ≡ true). absurd (not-accepted 4 (shortTable j t ∷ []) (sym (rw h at e))))
-    (λ (h : leb 1 (shortTable j t) ≡ false).
-    ⊎-elim
-    (λ (x : exceeds (nodes j) (j .terms) ≡ true). absurd (not-accepted 15 (nodes j ∷ j .terms .limit ∷ []) (sym (rw (h, x) at e))))
-    (λ (x : exceeds (nodes j) (j .terms) ≡ false). (omega (arith, leb-false 1 (shortTable j t) h), x))
-    (either-way (exceeds (nodes j) (j .terms))))
-    (either-way (leb 1 (shortTable j t)))
+    by-test (leb 1 (shortTable j t))
+    (λ h. absurd (not-accepted 4 (shortTable j t ∷ []) (sym (rw h at e))))
+    (λ h.
+    by-test (exceeds (nodes j) (j .terms))
+    (λ x. absurd (not-accepted 15 (nodes j ∷ j .terms .limit ∷ []) (sym (rw (h, x) at e))))
+    (λ x. (omega (arith, leb-false 1 (shortTable j t) h), x)))
 
 stored-whole : (j : Job) (t : Tables) → shortTable j t ≡ 0 → exceeds (nodes j) (j .terms) ≡ false → storedReply j t ≡ readWhole j t
 unfolding storedReply

@@ -16,7 +16,7 @@ use lib.ListN.{length, getD, take, drop, length-append}
 use lib.Seq.{take-append-seam}
 use borrow.Author.Tests.{le-leb, lt-ltb, leb-true}
 use Rattle.price.specs.Lists.{has}
-use Rattle.price.proofs.TestLaws.{either-way, both-true, true≢false, le-or-lt}
+use Rattle.price.proofs.TestLaws.{by-test, both-true, true≢false, le-or-lt}
 use Rattle.price.proofs.ListLaws.{has-at, has-place}
 use Rattle.search.specs.Block.{Block}
 use Rattle.search.specs.Paths.{Walk, stay, step}
@@ -100,16 +100,15 @@ module _ (j : Job) (rests : Routable j) (m : ℕ) (hm : m < j .terms .limit) whe
       let p : Progress = afterNets j (stateAfter j (firstState j) m) i in
       let s : State = p .state in
       let before = nets-turned i (omega arith) in
-      ⊎-elim
-      (λ (d : due j (stateAfter j (firstState j) m) i ≡ true).
+      by-test (due j (stateAfter j (firstState j) m) i)
+      (λ d.
       rw d
       (all-append (Turned j (m + 1)) (p .records) (netRecords j s i) before
       (all-splits (Turned j (m + 1)) (netRecords j s i)
       (λ earlier later r e.
       net-turned j s i (m + 1) earlier r h (due-sinks j (stateAfter j (firstState j) m) i d) (nets-iteration j (stateAfter j (firstState j) m) i ∙ first-iteration j m)
       (net-turn j rests s (state-ready j rests (grown-first j rests) m i (omega (arith, hm))) i h earlier later r e)))))
-      (λ (d : due j (stateAfter j (firstState j) m) i ≡ false). rw d before)
-      (either-way (due j (stateAfter j (firstState j) m) i))
+      (λ d. rw d before)
 
   pub iteration-turned : All (Turned j (m + 1)) (iterationAfter j (firstState j) m .records)
   unfolding iterate
@@ -147,14 +146,13 @@ pub record Accepted (j : Job) (r : RouteReply) : Type 0 where
 run-words : (j : Job) (p : Progress) (work log : List ℕ) → continued j p work log .refusal ≡ [] → take (continued j p work log .used) (continued j p work log .log) ≡ encode (allRecords j p)
 unfolding continued logWith
 run-words j p work log e =
-    ⊎-elim
-    (λ (q : ltb (length (loggedRecords j p (length log))) (length (allRecords j p)) ≡ true).
+    by-test (ltb (length (loggedRecords j p (length log))) (length (allRecords j p)))
+    (λ q.
     let none : (8 ∷ cutIteration j p (length log) ∷ length (loggedRecords j p (length log)) ∷ []) ≡ [] = rw q at e in
     let z : _≡_ {A = ℕ} 0 1 = cc in
     absurd (omega arith))
-    (λ (q : ltb (length (loggedRecords j p (length log))) (length (allRecords j p)) ≡ false).
+    (λ q.
     rw q (take-append-seam (encode (allRecords j p)) (drop (length (encode (allRecords j p))) log)))
-    (either-way (ltb (length (loggedRecords j p (length log))) (length (allRecords j p))))
 
 -- the run of a job that can be routed
 pub run-accepted :
@@ -177,14 +175,13 @@ run-accepted j work log rests h e =
 pub accepted-fits : (j : Job) (work log : List ℕ) → SoundJob j → routeReply j work log .refusal ≡ [] → exceeds (nodes j) (j .terms) ≡ false
 accepted-fits j work log sound e =
     let fine = faulty-none j sound in
-    ⊎-elim
-    (λ (h : exceeds (nodes j) (j .terms) ≡ true).
+    by-test (exceeds (nodes j) (j .terms))
+    (λ h.
     let is = route-large j work log (omega arith) h in
     let none : (15 ∷ nodes j ∷ j .terms .limit ∷ []) ≡ [] = rw is at e in
     let z : _≡_ {A = ℕ} 0 1 = cc in
     absurd (omega arith))
-    (λ (h : exceeds (nodes j) (j .terms) ≡ false). h)
-    (either-way (exceeds (nodes j) (j .terms)))
+    (λ h. h)
 
 -- an accepted job's reply is that of the joined job's run
 pub accepted :

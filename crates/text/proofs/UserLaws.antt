@@ -3,7 +3,6 @@
 -- Assumes nothing.
 use mathlib.Core.Bool.{Bool, true, false, not}
 use mathlib.Core.List.{List, [], _∷_, _++_}
-use mathlib.Core.Logic.{⊎-elim}
 use mathlib.Core.Path.{_≡_, refl, sym, _∙_, ap, subst}
 use Prim.Native.Nat.{ℕ, _+_, _-_, _≤_, _<_}
 use native.Mathlib.Numerals.{add-one}
@@ -15,7 +14,7 @@ use borrow.Author.Tests.{eq-eqb, ne-eqb, eqb-true, eqb-false, ltb-true}
 use Rattle.price.specs.Test.{choose, both, either}
 use Rattle.price.specs.Bounds.{nodesMost}
 use Rattle.price.specs.Lists.{every, has, countBelow}
-use Rattle.price.proofs.TestLaws.{either-way}
+use Rattle.price.proofs.TestLaws.{by-test}
 use Rattle.price.proofs.ListLaws.{every-at, has-append, part-slice}
 use Rattle.price.proofs.BelowLaws.{count-most}
 use Rattle.negotiation.specs.Records.{decode, pathNodes}
@@ -48,12 +47,11 @@ module _ (stamp y : ℕ) (users stamps : List ℕ) (l : y < length stamps) where
   counted-one h z = record {
     users-long = length-set users y (getD users y 0 + 1);
     users-at = λ v.
-        ⊎-elim
-        (λ (q : eqb v y ≡ true).
+        by-test (eqb v y)
+        (λ q.
         let e : v ≡ y = eqb-true v y q in
         rw (q, e, ne-eqb (getD stamps y 0) stamp z) (getD-set-same users y (getD users y 0 + 1) 0 h))
-        (λ (q : eqb v y ≡ false). rw q (getD-set-other users y v (getD users y 0 + 1) 0 (eqb-false v y q) ∙ add-none (getD users v 0)))
-        (either-way (eqb v y));
+        (λ q. rw q (getD-set-other users y v (getD users y 0 + 1) 0 (eqb-false v y q) ∙ add-none (getD users v 0)));
     stamps-set = stored-one stamp y stamps l;
   }
 
@@ -63,10 +61,9 @@ module _ (stamp y : ℕ) (users stamps : List ℕ) (l : y < length stamps) where
   counted-kept z = record {
     users-long = refl;
     users-at = λ v.
-        ⊎-elim
-        (λ (q : eqb v y ≡ true). let e : v ≡ y = eqb-true v y q in rw (q, e, eq-eqb (getD stamps y 0) stamp z) (add-none (getD users y 0)))
-        (λ (q : eqb v y ≡ false). rw q (add-none (getD users v 0)))
-        (either-way (eqb v y));
+        by-test (eqb v y)
+        (λ q. let e : v ≡ y = eqb-true v y q in rw (q, e, eq-eqb (getD stamps y 0) stamp z) (add-none (getD users y 0)))
+        (λ q. rw q (add-none (getD users v 0)));
     stamps-set = stored-one stamp y stamps l;
   }
 
@@ -96,10 +93,9 @@ few-more :
     → u′ ≤ netsMost + choose (eqb (choose t stamp m) stamp) 1 0
 few-more true stamp m u u′ few e =
     rw (eq-eqb stamp stamp refl)
-    (⊎-elim
-    (λ (q : eqb m stamp ≡ true). let f : u ≤ netsMost + 1 = rw q at few in let g : u′ ≡ u + 0 = rw q at e in omega arith)
-    (λ (q : eqb m stamp ≡ false). let f : u ≤ netsMost + 0 = rw q at few in let g : u′ ≡ u + 1 = rw q at e in omega arith)
-    (either-way (eqb m stamp)))
+    (by-test (eqb m stamp)
+    (λ q. let f : u ≤ netsMost + 1 = rw q at few in let g : u′ ≡ u + 0 = rw q at e in omega arith)
+    (λ q. let f : u ≤ netsMost + 0 = rw q at few in let g : u′ ≡ u + 1 = rw q at e in omega arith))
 few-more false stamp m u u′ few e = omega arith
 
 pub few-counted : {stamp : ℕ} {xs users stamps usersNow stampsNow : List ℕ} → FewUsers stamp users stamps → Counted stamp xs users stamps usersNow stampsNow → FewUsers stamp usersNow stampsNow

@@ -11,7 +11,7 @@ use lib.ListN.{length}
 use borrow.Author.Tests.{ltb-true, eqb-true}
 use Rattle.price.specs.Test.{both}
 use Rattle.price.specs.Lists.{has}
-use Rattle.price.proofs.TestLaws.{either-way, both-left, true≢false}
+use Rattle.price.proofs.TestLaws.{by-test, both-left, true≢false}
 use Rattle.negotiation.specs.Records.{Record, decode}
 use Rattle.negotiation.specs.Demand.{nodesIn, latest, treeRead}
 use Rattle.negotiation.proofs.MemberLaws.{has-append-split, every-has}
@@ -27,8 +27,8 @@ module _ (named : Named) (i v : ℕ) where
   unfolding nodesIn has
   nodes-named t [] short h = absurd (true≢false (sym h))
   nodes-named t (r ∷ rs) short h =
-      ⊎-elim
-      (λ (q : both (eqb (r .net) i) (eqb (r .iteration) t) ≡ true).
+      by-test (both (eqb (r .net) i) (eqb (r .iteration) t))
+      (λ q.
       ⊎-elim
       (λ (m : has v (r .path) ≡ true).
       let first = short r (List·Memᴰ·head refl) in (
@@ -37,8 +37,7 @@ module _ (named : Named) (i v : ℕ) where
       ))
       (λ (m : has v (nodesIn i t rs) ≡ true). nodes-named t rs (λ s p. short s (List·Memᴰ·tail p)) m)
       (has-append-split v (r .path) (nodesIn i t rs) (rw q at h)))
-      (λ (q : both (eqb (r .net) i) (eqb (r .iteration) t) ≡ false). nodes-named t rs (λ s p. short s (List·Memᴰ·tail p)) (rw q at h))
-      (either-way (both (eqb (r .net) i) (eqb (r .iteration) t)))
+      (λ q. nodes-named t rs (λ s p. short s (List·Memᴰ·tail p)) (rw q at h))
 
   pub tree-named : (log : List ℕ) → logSound named log ≡ true → has v (treeRead i (decode log)) ≡ true → (named .net i ≡ true) × (v < named .nodes)
   unfolding treeRead soundWords

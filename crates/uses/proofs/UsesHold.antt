@@ -14,7 +14,7 @@ use borrow.Author.Tests.{le-leb, lt-leb, leb-true, leb-false, le-ltb, ltb-true, 
 use Rattle.price.specs.Test.{choose}
 use Rattle.price.specs.Bounds.{nodesMost}
 use Rattle.price.specs.Lists.{has, upTo, firstBelow, countBelow}
-use Rattle.price.proofs.TestLaws.{either-way}
+use Rattle.price.proofs.TestLaws.{by-test}
 use Rattle.price.proofs.ListLaws.{getD-upTo, length-upTo, up-to-is}
 use Rattle.price.proofs.BelowLaws.{firstBelow-below, firstBelow-all, count-most}
 use Rattle.search.specs.Block.{Block, nodes}
@@ -76,15 +76,15 @@ module _ (b : Block) (c : UseCounts) where
   pub passes-fine : countsRefusal b c ≡ [] → Fine b c
   unfolding countsRefusal tooMany
   passes-fine e =
-      ⊎-elim
-      (λ (t : leb 1 (faultyTable b) ≡ true). absurd (no-numbers (rw t at e)))
-      (λ (t : leb 1 (faultyTable b) ≡ false).
-      ⊎-elim
-      (λ (u : ltb logsMost (c .logs) ≡ true). absurd (no-numbers (rw (t, u) at e)))
-      (λ (u : ltb logsMost (c .logs) ≡ false).
-      ⊎-elim
-      (λ (w : ltb lowest kindCount ≡ true). absurd (no-numbers (rw (t, u, w) at e)))
-      (λ (w : ltb lowest kindCount ≡ false).
+      by-test (leb 1 (faultyTable b))
+      (λ t. absurd (no-numbers (rw t at e)))
+      (λ t.
+      by-test (ltb logsMost (c .logs))
+      (λ u. absurd (no-numbers (rw (t, u) at e)))
+      (λ u.
+      by-test (ltb lowest kindCount)
+      (λ w. absurd (no-numbers (rw (t, u, w) at e)))
+      (λ w.
       let none : kindCount ≤ lowest = ltb-false lowest kindCount w in
       let zero-table = leb-false 1 (faultyTable b) t in
       record {
@@ -92,10 +92,7 @@ module _ (b : Block) (c : UseCounts) where
         few = ltb-false logsMost (c .logs) u;
         within = λ k l.
             ltb-false (netsMost * c .logs * nodesOf b k) (getD (c .uses) k 0) (firstBelow-below (tooMany b c) kindCount k (omega arith));
-      })
-      (either-way (ltb lowest kindCount)))
-      (either-way (ltb logsMost (c .logs))))
-      (either-way (leb 1 (faultyTable b)))
+      })))
 
 -- ---- counts stay within their bounds
 
@@ -144,20 +141,17 @@ module _ (b : Block) (c : UseCounts) (log : List ℕ) where
   reply-cases : Adds b c log ⊎ ((addReply b c log .counts ≡ c) × (addReply b c log .refusal ≡ [] → ⊥))
   unfolding addReply testedReply
   reply-cases =
-      ⊎-elim
-      (λ (t : leb 1 (length (countsRefusal b c)) ≡ true).
+      by-test (leb 1 (length (countsRefusal b c)))
+      (λ t.
       inr (rw t, λ e. let some = leb-true 1 (length (countsRefusal b c)) t in let none : length (countsRefusal b c) ≡ 0 = ap length (rw t at e) in omega arith))
-      (λ (t : leb 1 (length (countsRefusal b c)) ≡ false).
-      ⊎-elim
-      (λ (u : logSound (ofBlock b) log ≡ true).
-      ⊎-elim
-      (λ (w : leb logsMost (c .logs) ≡ true). inr (rw (t, u, w), λ e. no-numbers (rw (t, u, w) at e)))
-      (λ (w : leb logsMost (c .logs) ≡ false).
-      inl (record { fine = passes-fine b c (empty (countsRefusal b c) (leb-false 1 (length (countsRefusal b c)) t)); log-sound = u; room = leb-false logsMost (c .logs) w }))
-      (either-way (leb logsMost (c .logs))))
-      (λ (u : logSound (ofBlock b) log ≡ false). inr (rw (t, u), λ e. no-numbers (rw (t, u) at e)))
-      (either-way (logSound (ofBlock b) log)))
-      (either-way (leb 1 (length (countsRefusal b c))))
+      (λ t.
+      by-test (logSound (ofBlock b) log)
+      (λ u.
+      by-test (leb logsMost (c .logs))
+      (λ w. inr (rw (t, u, w), λ e. no-numbers (rw (t, u, w) at e)))
+      (λ w.
+      inl (record { fine = passes-fine b c (empty (countsRefusal b c) (leb-false 1 (length (countsRefusal b c)) t)); log-sound = u; room = leb-false logsMost (c .logs) w })))
+      (λ u. inr (rw (t, u), λ e. no-numbers (rw (t, u) at e))))
 
   pub adds-of : addReply b c log .refusal ≡ [] → Adds b c log
   adds-of e = ⊎-elim (λ h. h) (λ h. absurd (h .1 e)) reply-cases

@@ -14,14 +14,10 @@ price-requires c κs = search needs
 put-price-requires : tie.Need-put-price-requires
 put-price-requires c κs = search needs
 
-same-length : tie.Need-same-length
-same-length c = search needs
-
 returns-2 : tie.Need-returns-2
 returns-2 c =
     let asked = c .before .before .before .before in
     price-called _ _ _ (asked .price .result) (asked .before .if1 .left) (asked .price .ensures) (c .before .before .put-price .ensures)
 
 pub arvumnao-price-spec : {M : Type 1} → statement M
-arvumnao-price-spec =
-    tie.close (tie.spec returns price-requires put-price-requires same-length returns-2)
+arvumnao-price-spec = tie.close (tie.spec returns price-requires put-price-requires (λ c. search needs) returns-2)

@@ -8,17 +8,8 @@ use Rattle.capi.proofs.arvumnao_resume.Tie as tie
 resume-by-requires : tie.Need-resume-by-requires
 resume-by-requires c κs = search needs
 
-same-length : tie.Need-same-length
-same-length c = search needs
-
-same-length-2 : tie.Need-same-length-2
-same-length-2 c = search needs
-
-same-length-3 : tie.Need-same-length-3
-same-length-3 c = search needs
-
 returns : tie.Need-returns
 returns c = plain-called _ _ _ _ _ _ (c .before .before .before .before .before .before .resume-by .ensures)
 
 pub arvumnao-resume-spec : {M : Type 1} → statement M
-arvumnao-resume-spec = tie.close (tie.spec resume-by-requires same-length same-length-2 same-length-3 returns)
+arvumnao-resume-spec = tie.close (tie.spec resume-by-requires (λ c. search needs) (λ c. search needs) (λ c. search needs) returns)

@@ -8,17 +8,8 @@ use Rattle.capi.proofs.arvumnao_route.Tie as tie
 route-by-requires : tie.Need-route-by-requires
 route-by-requires c κs = search needs
 
-same-length : tie.Need-same-length
-same-length c = search needs
-
-same-length-2 : tie.Need-same-length-2
-same-length-2 c = search needs
-
-same-length-3 : tie.Need-same-length-3
-same-length-3 c = search needs
-
 returns : tie.Need-returns
 returns c = plain-called _ _ _ _ _ _ (c .before .before .before .before .before .before .route-by .ensures)
 
 pub arvumnao-route-spec : {M : Type 1} → statement M
-arvumnao-route-spec = tie.close (tie.spec route-by-requires same-length same-length-2 same-length-3 returns)
+arvumnao-route-spec = tie.close (tie.spec route-by-requires (λ c. search needs) (λ c. search needs) (λ c. search needs) returns)

@@ -17,12 +17,6 @@ search-requires c κs = search needs
 put-search-requires : tie.Need-put-search-requires
 put-search-requires c κs = search needs
 
-same-length : tie.Need-same-length
-same-length c = search needs
-
-same-length-2 : tie.Need-same-length-2
-same-length-2 c = search needs
-
 returns-2 : tie.Need-returns-2
 returns-2 c =
     let asked = c .before .before .before .before .before .before in
@@ -32,6 +26,4 @@ returns-2 c =
     search-called (searchReply block congestion _ _) _ _ _ _ (asked .search .result) (asked .before .before .if1 .left) (asked .search .ensures .0) (c .before .before .put-search .ensures)
 
 pub arvumnao-search-spec : {M : Type 1} → statement M
-arvumnao-search-spec =
-    tie.close
-    (tie.spec returns search-requires put-search-requires same-length same-length-2 returns-2)
+arvumnao-search-spec = tie.close (tie.spec returns search-requires put-search-requires (λ c. search needs) (λ c. search needs) returns-2)

@@ -17,12 +17,6 @@ timed-search-requires c κs = search needs
 put-search-requires : tie.Need-put-search-requires
 put-search-requires c κs = search needs
 
-same-length : tie.Need-same-length
-same-length c = search needs
-
-same-length-2 : tie.Need-same-length-2
-same-length-2 c = search needs
-
 returns-2 : tie.Need-returns-2
 returns-2 c =
     let asked = c .before .before .before .before .before .before in
@@ -34,4 +28,4 @@ returns-2 c =
 pub arvumnao-timed-search-spec : {M : Type 1} → statement M
 arvumnao-timed-search-spec =
     tie.close
-    (tie.spec returns timed-search-requires put-search-requires same-length same-length-2 returns-2)
+    (tie.spec returns timed-search-requires put-search-requires (λ c. search needs) (λ c. search needs) returns-2)

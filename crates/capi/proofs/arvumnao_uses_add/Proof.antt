@@ -17,12 +17,6 @@ add-log-requires c κs = search needs
 put-added-requires : tie.Need-put-added-requires
 put-added-requires c κs = search needs
 
-same-length : tie.Need-same-length
-same-length c = search needs
-
-same-length-2 : tie.Need-same-length-2
-same-length-2 c = search needs
-
 returns-3 : tie.Need-returns-3
 returns-3 c =
     let asked = c .before .before .before .before .before .before in
@@ -32,11 +26,4 @@ returns-3 c =
 pub arvumnao-uses-add-spec : {M : Type 1} → statement M
 arvumnao-uses-add-spec =
     tie.close
-    (tie.spec
-    returns
-    returns-2
-    add-log-requires
-    put-added-requires
-    same-length
-    same-length-2
-    returns-3)
+    (tie.spec returns returns-2 add-log-requires put-added-requires (λ c. search needs) (λ c. search needs) returns-3)

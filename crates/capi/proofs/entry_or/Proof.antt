@@ -12,12 +12,6 @@ use Rattle.capi.proofs.entry_or.Tie as tie
 returns : tie.Need-returns
 returns c = sym (List·getD-eq-default (c .before .args .terms .now) (c .before .args .plain) (c .if1 .taken))
 
-mul-result : tie.Need-mul-result
-mul-result c = search needs
-
-shared-slice-read-result : tie.Need-shared-slice-read-result
-shared-slice-read-result c = search needs
-
 returns-2 : tie.Need-returns-2
 returns-2 c =
     let a = c .before .before .args in
@@ -26,4 +20,4 @@ returns-2 c =
     sym (getD-set-same ts (a .place) entry (a .plain) (c .before .if1 .left)) ∙ ap (λ (l : List ℕ). getD l (a .place) (a .plain)) (set-getD ts (a .place) 0)
 
 pub entry-or-spec : {M : Type 1} → statement M
-entry-or-spec = tie.close (tie.spec returns mul-result shared-slice-read-result returns-2)
+entry-or-spec = tie.close (tie.spec returns (λ c. search needs) (λ c. search needs) returns-2)

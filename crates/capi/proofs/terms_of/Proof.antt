@@ -65,14 +65,5 @@ returns c =
 pub terms-of-spec : {M : Type 1} → statement M
 terms-of-spec =
     tie.close
-    (tie.spec
-    plain-terms-requires
-    entry-or-requires
-    entry-or-requires-2
-    entry-or-requires-3
-    entry-or-requires-4
-    entry-or-requires-5
-    entry-or-requires-6
-    entry-or-requires-7
-    entry-or-requires-8
-    returns)
+    (tie.spec plain-terms-requires entry-or-requires entry-or-requires-2 entry-or-requires-3 entry-or-requires-4 entry-or-requires-5
+    entry-or-requires-6 entry-or-requires-7 entry-or-requires-8 returns)

@@ -14,24 +14,10 @@ write-style-requires c κs = search needs
 put-written-requires : tie.Need-put-written-requires
 put-written-requires c κs = search needs
 
-same-length : tie.Need-same-length
-same-length c = search needs
-
-same-length-2 : tie.Need-same-length-2
-same-length-2 c = search needs
-
 returns-2 : tie.Need-returns-2
 returns-2 c =
     let asked = c .before .before .before .before .before .before in
     write-called _ _ _ _ _ (asked .before .before .if1 .left) (asked .write-style .ensures) (c .before .before .put-written .ensures)
 
 pub write-style-spec : {M : Type 1} → statement M
-write-style-spec =
-    tie.close
-    (tie.spec
-    returns
-    write-style-requires
-    put-written-requires
-    same-length
-    same-length-2
-    returns-2)
+write-style-spec = tie.close (tie.spec returns write-style-requires put-written-requires (λ c. search needs) (λ c. search needs) returns-2)

@@ -47,68 +47,11 @@ refused c =
 route-requires : tie.Need-route-requires
 route-requires c κs = search needs
 
-enum-told : tie.Need-enum-told
-enum-told c = search needs
-
 write-used-requires : tie.Need-write-used-requires
 write-used-requires c κs =
     let r = routed (c .before .before .before .before) in
     let a = entry r .args in
     words-fit (job (entry r)) (a .work .now) (a .log .now) (r .route .result) (work-left r) (log-left r) (r .route .ensures .0 .as-negotiated)
-
-enum-known-outcome : tie.Need-enum-known-outcome
-enum-known-outcome c = search needs
-
-cast-t35 : tie.Need-cast-t35
-cast-t35 c = search needs
-
-cast-t36 : tie.Need-cast-t36
-cast-t36 c = search needs
-
-enum-told-2 : tie.Need-enum-told-2
-enum-told-2 c = search needs
-
-cast-t37 : tie.Need-cast-t37
-cast-t37 c = search needs
-
-enum-known-outcome-2 : tie.Need-enum-known-outcome-2
-enum-known-outcome-2 c = search needs
-
-cast-t38 : tie.Need-cast-t38
-cast-t38 c = search needs
-
-cast-t39 : tie.Need-cast-t39
-cast-t39 c = search needs
-
-enum-known-outcome-3 : tie.Need-enum-known-outcome-3
-enum-known-outcome-3 c = search needs
-
-cast-t40 : tie.Need-cast-t40
-cast-t40 c = search needs
-
-enum-known-outcome-4 : tie.Need-enum-known-outcome-4
-enum-known-outcome-4 c = search needs
-
-enum-known-outcome-5 : tie.Need-enum-known-outcome-5
-enum-known-outcome-5 c = search needs
-
-enum-known-outcome-6 : tie.Need-enum-known-outcome-6
-enum-known-outcome-6 c = search needs
-
-cast-t41 : tie.Need-cast-t41
-cast-t41 c = search needs
-
-cast-t42 : tie.Need-cast-t42
-cast-t42 c = search needs
-
-same-length : tie.Need-same-length
-same-length c = search needs
-
-same-length-2 : tie.Need-same-length-2
-same-length-2 c = search needs
-
-same-length-3 : tie.Need-same-length-3
-same-length-3 c = search needs
 
 returns : tie.Need-returns
 returns c =
@@ -119,65 +62,23 @@ returns c =
     run-accepted (job (entry r)) (a .work .now) (a .log .now) (r .route .result) (work-left r) (log-left r) (r .route .ensures .0 .as-negotiated)
     (a .style) (a .routes .now) (written .write-used .result) (written .write-used .last .1 .1 .1 .1 .0) (accepted .enum-told .given .1) (written .write-used .ensures)
 
-same-length-4 : tie.Need-same-length-4
-same-length-4 c = search needs
-
-same-length-5 : tie.Need-same-length-5
-same-length-5 c = search needs
-
 returns-2 : tie.Need-returns-2
 returns-2 c = refused (routed (c .before .before .before)) _ _ _ (c .before .outcome .given .1) refl
-
-same-length-6 : tie.Need-same-length-6
-same-length-6 c = search needs
-
-same-length-7 : tie.Need-same-length-7
-same-length-7 c = search needs
 
 returns-3 : tie.Need-returns-3
 returns-3 c = refused (routed (c .before .before .before)) _ _ _ (c .before .enum-told2 .given .1) refl
 
-same-length-8 : tie.Need-same-length-8
-same-length-8 c = search needs
-
-same-length-9 : tie.Need-same-length-9
-same-length-9 c = search needs
-
 returns-4 : tie.Need-returns-4
 returns-4 c = refused (routed (c .before .before .before .before)) _ _ _ (c .before .before .outcome2 .given .1) refl
-
-same-length-10 : tie.Need-same-length-10
-same-length-10 c = search needs
-
-same-length-11 : tie.Need-same-length-11
-same-length-11 c = search needs
 
 returns-5 : tie.Need-returns-5
 returns-5 c = refused (routed (c .before .before .before)) _ _ _ (c .before .outcome3 .given .1) refl
 
-same-length-12 : tie.Need-same-length-12
-same-length-12 c = search needs
-
-same-length-13 : tie.Need-same-length-13
-same-length-13 c = search needs
-
 returns-6 : tie.Need-returns-6
 returns-6 c = refused (routed (c .before .before .before)) _ _ _ (c .before .outcome4 .given .1) refl
 
-same-length-14 : tie.Need-same-length-14
-same-length-14 c = search needs
-
-same-length-15 : tie.Need-same-length-15
-same-length-15 c = search needs
-
 returns-7 : tie.Need-returns-7
 returns-7 c = refused (routed (c .before .before .before)) _ _ _ (c .before .outcome5 .given .1) refl
-
-same-length-16 : tie.Need-same-length-16
-same-length-16 c = search needs
-
-same-length-17 : tie.Need-same-length-17
-same-length-17 c = search needs
 
 returns-8 : tie.Need-returns-8
 returns-8 c = refused (routed (c .before .before .before)) _ _ _ (c .before .outcome6 .given .1) refl
@@ -185,47 +86,10 @@ returns-8 c = refused (routed (c .before .before .before)) _ _ _ (c .before .out
 pub route-job-spec : {M : Type 1} → statement M
 route-job-spec =
     tie.close
-    (tie.spec
-    route-requires
-    enum-told
-    write-used-requires
-    enum-known-outcome
-    cast-t35
-    cast-t36
-    enum-told-2
-    cast-t37
-    enum-known-outcome-2
-    cast-t38
-    cast-t39
-    enum-known-outcome-3
-    cast-t40
-    enum-known-outcome-4
-    enum-known-outcome-5
-    enum-known-outcome-6
-    cast-t41
-    cast-t42
-    same-length
-    same-length-2
-    same-length-3
-    returns
-    same-length-4
-    same-length-5
-    returns-2
-    same-length-6
-    same-length-7
-    returns-3
-    same-length-8
-    same-length-9
-    returns-4
-    same-length-10
-    same-length-11
-    returns-5
-    same-length-12
-    same-length-13
-    returns-6
-    same-length-14
-    same-length-15
-    returns-7
-    same-length-16
-    same-length-17
-    returns-8)
+    (tie.spec route-requires (λ c. search needs) write-used-requires (λ c. search needs) (λ c. search needs) (λ c. search needs)
+    (λ c. search needs) (λ c. search needs) (λ c. search needs) (λ c. search needs) (λ c. search needs) (λ c. search needs)
+    (λ c. search needs) (λ c. search needs) (λ c. search needs) (λ c. search needs) (λ c. search needs) (λ c. search needs)
+    (λ c. search needs) (λ c. search needs) (λ c. search needs) returns (λ c. search needs) (λ c. search needs) returns-2
+    (λ c. search needs) (λ c. search needs) returns-3 (λ c. search needs) (λ c. search needs) returns-4 (λ c. search needs)
+    (λ c. search needs) returns-5 (λ c. search needs) (λ c. search needs) returns-6 (λ c. search needs) (λ c. search needs) returns-7
+    (λ c. search needs) (λ c. search needs) returns-8)

@@ -60,9 +60,6 @@ criticalities-fit c = taken (counted c) .criticalities-fit _ (c .if-timed2 .ensu
 read-job-requires : tie.Need-read-job-requires
 read-job-requires c κs = search needs
 
-enum-known-nodes : tie.Need-enum-known-nodes
-enum-known-nodes c = search needs
-
 add-places : tie.Need-add-places
 add-places c = let f = taken c .few-nodes in omega arith
 
@@ -135,27 +132,6 @@ slice-aggregate-route-job-9 c = sym (length-take-le _ _ (criticalities-fit (five
 
 route-job-requires : tie.Need-route-job-requires
 route-job-requires c κs = search needs
-
-enum-known-line : tie.Need-enum-known-line
-enum-known-line c = search needs
-
-enum-known-line-2 : tie.Need-enum-known-line-2
-enum-known-line-2 c = search needs
-
-enum-known-line-3 : tie.Need-enum-known-line-3
-enum-known-line-3 c = search needs
-
-enum-known-table : tie.Need-enum-known-table
-enum-known-table c = search needs
-
-cast-t77 : tie.Need-cast-t77
-cast-t77 c = search needs
-
-enum-known-nodes-2 : tie.Need-enum-known-nodes-2
-enum-known-nodes-2 c = search needs
-
-cast-t79 : tie.Need-cast-t79
-cast-t79 c = search needs
 
 -- the calls before the returns, which leave the lengths of the slices as they were
 abbrev routed : tie.After-slice-known24 → tie.After-route-job
@@ -386,99 +362,17 @@ returns-6 c =
 pub run-spec : {M : Type 1} → statement M
 run-spec =
     tie.close
-    (tie.spec
-    read-job-requires
-    enum-known-nodes
-    add-places
-    add-firsts
-    if-timed-requires
-    if-timed-requires-2
-    slice-reshare-prefix-route-job
-    slice-aggregate-route-job
-    slice-reshare-prefix-route-job-2
-    slice-aggregate-route-job-2
-    slice-reshare-prefix-route-job-3
-    slice-aggregate-route-job-3
-    slice-reshare-prefix-route-job-4
-    slice-aggregate-route-job-4
-    slice-reshare-prefix-route-job-5
-    slice-aggregate-route-job-5
-    slice-reshare-prefix-route-job-6
-    slice-aggregate-route-job-6
-    slice-reshare-prefix-route-job-7
-    slice-aggregate-route-job-7
-    slice-reshare-prefix-route-job-8
-    slice-aggregate-route-job-8
-    slice-reshare-prefix-route-job-9
-    slice-aggregate-route-job-9
-    route-job-requires
-    enum-known-line
-    enum-known-line-2
-    enum-known-line-3
-    enum-known-table
-    cast-t77
-    enum-known-nodes-2
-    cast-t79
-    same-length
-    same-length-2
-    same-length-3
-    same-length-4
-    same-length-5
-    same-length-6
-    same-length-7
-    same-length-8
-    same-length-9
-    same-length-10
-    same-length-11
-    same-length-12
-    returns
-    same-length-13
-    same-length-14
-    same-length-15
-    same-length-16
-    same-length-17
-    same-length-18
-    same-length-19
-    same-length-20
-    same-length-21
-    returns-2
-    same-length-22
-    same-length-23
-    same-length-24
-    same-length-25
-    same-length-26
-    same-length-27
-    same-length-28
-    same-length-29
-    same-length-30
-    returns-3
-    same-length-31
-    same-length-32
-    same-length-33
-    same-length-34
-    same-length-35
-    same-length-36
-    same-length-37
-    same-length-38
-    same-length-39
-    returns-4
-    same-length-40
-    same-length-41
-    same-length-42
-    same-length-43
-    same-length-44
-    same-length-45
-    same-length-46
-    same-length-47
-    same-length-48
-    returns-5
-    same-length-49
-    same-length-50
-    same-length-51
-    same-length-52
-    same-length-53
-    same-length-54
-    same-length-55
-    same-length-56
-    same-length-57
-    returns-6)
+    (tie.spec read-job-requires (λ c. search needs) add-places add-firsts if-timed-requires if-timed-requires-2
+    slice-reshare-prefix-route-job slice-aggregate-route-job slice-reshare-prefix-route-job-2 slice-aggregate-route-job-2
+    slice-reshare-prefix-route-job-3 slice-aggregate-route-job-3 slice-reshare-prefix-route-job-4 slice-aggregate-route-job-4
+    slice-reshare-prefix-route-job-5 slice-aggregate-route-job-5 slice-reshare-prefix-route-job-6 slice-aggregate-route-job-6
+    slice-reshare-prefix-route-job-7 slice-aggregate-route-job-7 slice-reshare-prefix-route-job-8 slice-aggregate-route-job-8
+    slice-reshare-prefix-route-job-9 slice-aggregate-route-job-9 route-job-requires (λ c. search needs) (λ c. search needs)
+    (λ c. search needs) (λ c. search needs) (λ c. search needs) (λ c. search needs) (λ c. search needs) same-length same-length-2
+    same-length-3 same-length-4 same-length-5 same-length-6 same-length-7 same-length-8 same-length-9 same-length-10 same-length-11
+    same-length-12 returns same-length-13 same-length-14 same-length-15 same-length-16 same-length-17 same-length-18 same-length-19
+    same-length-20 same-length-21 returns-2 same-length-22 same-length-23 same-length-24 same-length-25 same-length-26 same-length-27
+    same-length-28 same-length-29 same-length-30 returns-3 same-length-31 same-length-32 same-length-33 same-length-34 same-length-35
+    same-length-36 same-length-37 same-length-38 same-length-39 returns-4 same-length-40 same-length-41 same-length-42 same-length-43
+    same-length-44 same-length-45 same-length-46 same-length-47 same-length-48 returns-5 same-length-49 same-length-50 same-length-51
+    same-length-52 same-length-53 same-length-54 same-length-55 same-length-56 same-length-57 returns-6)

@@ -12,41 +12,14 @@ slice-aggregate-write-style c = sym (length-take-le _ _ (c .before .before .befo
 write-style-requires : tie.Need-write-style-requires
 write-style-requires c κs = search needs
 
-enum-known-bytes : tie.Need-enum-known-bytes
-enum-known-bytes c = search needs
-
-enum-known-table : tie.Need-enum-known-table
-enum-known-table c = search needs
-
-cast-t16 : tie.Need-cast-t16
-cast-t16 c = search needs
-
-enum-known-word : tie.Need-enum-known-word
-enum-known-word c = search needs
-
-enum-known-needed : tie.Need-enum-known-needed
-enum-known-needed c = search needs
-
-same-length : tie.Need-same-length
-same-length c = search needs
-
 returns : tie.Need-returns
 returns c = rw (c .before .bytes .given .1) at (c .before .before .before .before .before .write-style .ensures)
-
-same-length-2 : tie.Need-same-length-2
-same-length-2 c = search needs
 
 returns-2 : tie.Need-returns-2
 returns-2 c = rw (c .before .table .given .1) at (c .before .before .before .before .before .write-style .ensures)
 
-same-length-3 : tie.Need-same-length-3
-same-length-3 c = search needs
-
 returns-3 : tie.Need-returns-3
 returns-3 c = rw (c .before .word .given .1) at (c .before .before .before .before .before .write-style .ensures)
-
-same-length-4 : tie.Need-same-length-4
-same-length-4 c = search needs
 
 returns-4 : tie.Need-returns-4
 returns-4 c = rw (c .before .needed .given .1) at (c .before .before .before .before .before .write-style .ensures)
@@ -54,19 +27,6 @@ returns-4 c = rw (c .before .needed .given .1) at (c .before .before .before .be
 pub write-used-spec : {M : Type 1} → statement M
 write-used-spec =
     tie.close
-    (tie.spec
-    slice-aggregate-write-style
-    write-style-requires
-    enum-known-bytes
-    enum-known-table
-    cast-t16
-    enum-known-word
-    enum-known-needed
-    same-length
-    returns
-    same-length-2
-    returns-2
-    same-length-3
-    returns-3
-    same-length-4
-    returns-4)
+    (tie.spec slice-aggregate-write-style write-style-requires (λ c. search needs) (λ c. search needs) (λ c. search needs)
+    (λ c. search needs) (λ c. search needs) (λ c. search needs) returns (λ c. search needs) returns-2 (λ c. search needs) returns-3
+    (λ c. search needs) returns-4)

@@ -10,17 +10,11 @@ use Rattle.generator.proofs.load_text.Tie as tie
 asked-requires : tie.Need-asked-requires
 asked-requires c κs = search needs
 
-enum-known-seed : tie.Need-enum-known-seed
-enum-known-seed c = search needs
-
 put-load-requires : tie.Need-put-load-requires
 put-load-requires c κs =
     let w = load-within (c .before .before .seed .given .1) (c .before .before .before .before .asked .ensures .1) in
     let size = load-size (c .before .before .seed .given .0 .0) (c .before .before .seed .given .0 .1 .0) (c .before .before .seed .given .0 .1 .1 .0) (w .0) (w .1) (w .2) (w .3) in
     (w .0, w .1, omega arith)
-
-enum-known-place : tie.Need-enum-known-place
-enum-known-place c = search needs
 
 put-refusal-requires : tie.Need-put-refusal-requires
 put-refusal-requires c κs =
@@ -36,11 +30,4 @@ returns-2 c = shown-away _ (c .before .before .before .before .before .asked .en
 pub load-text-spec : {M : Type 1} → statement M
 load-text-spec =
     tie.close
-    (tie.spec
-    asked-requires
-    enum-known-seed
-    put-load-requires
-    enum-known-place
-    put-refusal-requires
-    returns
-    returns-2)
+    (tie.spec asked-requires (λ c. search needs) put-load-requires (λ c. search needs) put-refusal-requires returns returns-2)

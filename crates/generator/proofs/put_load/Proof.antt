@@ -19,29 +19,14 @@ module _ (c : tie.After-print-line) where
   abbrev counted : tie.After-edge-count
   counted = c .before .before .before
 
-mul-steps : tie.Need-mul-steps
-mul-steps c = search needs
-
-sub-steps : tie.Need-sub-steps
-sub-steps c = search needs
-
 steps-requires : tie.Need-steps-requires
 steps-requires c κs = search needs
-
-mul-steps-2 : tie.Need-mul-steps-2
-mul-steps-2 c = search needs
 
 steps-requires-2 : tie.Need-steps-requires-2
 steps-requires-2 c κs = search needs
 
 edge-count-requires : tie.Need-edge-count-requires
 edge-count-requires c κs = search needs
-
-cast-t16 : tie.Need-cast-t16
-cast-t16 c = search needs
-
-slice-aggregate-print-line : tie.Need-slice-aggregate-print-line
-slice-aggregate-print-line c = search needs
 
 print-line-requires : tie.Need-print-line-requires
 print-line-requires c κs = search needs
@@ -71,9 +56,6 @@ put-nets-requires c κs =
           (counted head .edge-count .ensures) (entry head .args .buffer .now) (entry head .pre .2) (head .print-line .ensures) (nodes .put-nodes .ensures) (rows .put-rows .ensures),
     )
 
-same-length : tie.Need-same-length
-same-length c = search needs
-
 returns : tie.Need-returns
 returns c =
     let nets : tie.After-put-nets = c .before .before in
@@ -87,18 +69,6 @@ returns c =
 pub put-load-spec : {M : Type 1} → statement M
 put-load-spec =
     tie.close
-    (tie.spec
-    mul-steps
-    sub-steps
-    steps-requires
-    mul-steps-2
-    steps-requires-2
-    edge-count-requires
-    cast-t16
-    slice-aggregate-print-line
-    print-line-requires
-    put-nodes-requires
-    put-rows-requires
-    put-nets-requires
-    same-length
+    (tie.spec (λ c. search needs) (λ c. search needs) steps-requires (λ c. search needs) steps-requires-2 edge-count-requires
+    (λ c. search needs) (λ c. search needs) print-line-requires put-nodes-requires put-rows-requires put-nets-requires (λ c. search needs)
     returns)

@@ -5,18 +5,11 @@ use Rattle.text.proofs.LineReplyLaws.{line-put}
 use Rattle.generator.proofs.put_refusal.Statement.{statement}
 use Rattle.generator.proofs.put_refusal.Tie as tie
 
-slice-aggregate-print-line : tie.Need-slice-aggregate-print-line
-slice-aggregate-print-line c = search needs
-
 print-line-requires : tie.Need-print-line-requires
 print-line-requires c κs = search needs
-
-same-length : tie.Need-same-length
-same-length c = search needs
 
 returns : tie.Need-returns
 returns c = line-put 88 _ (c .before .before .print-line .ensures) (search needs)
 
 pub put-refusal-spec : {M : Type 1} → statement M
-put-refusal-spec =
-    tie.close (tie.spec slice-aggregate-print-line print-line-requires same-length returns)
+put-refusal-spec = tie.close (tie.spec (λ c. search needs) print-line-requires (λ c. search needs) returns)

@@ -7,17 +7,8 @@ use Rattle.generator.proofs.AnswerLaws.{bytes-fit}
 use Rattle.load.proofs.main.Statement.{statement}
 use Rattle.load.proofs.main.Tie as tie
 
-slice-aggregate-read-full : tie.Need-slice-aggregate-read-full
-slice-aggregate-read-full c = search needs
-
 read-full-requires : tie.Need-read-full-requires
 read-full-requires c κs = search needs
-
-array-share-prefix-input : tie.Need-array-share-prefix-input
-array-share-prefix-input c = search needs
-
-slice-aggregate-load-text : tie.Need-slice-aggregate-load-text
-slice-aggregate-load-text c = search needs
 
 load-text-requires : tie.Need-load-text-requires
 load-text-requires c κs = search needs
@@ -33,19 +24,8 @@ slice-aggregate-write-all c =
 write-all-requires : tie.Need-write-all-requires
 write-all-requires c κs = search needs
 
-returns : tie.Need-returns
-returns c = search needs
-
 pub main-spec : {M : Type 1} → statement M
 main-spec =
     tie.close
-    (tie.spec
-    slice-aggregate-read-full
-    read-full-requires
-    array-share-prefix-input
-    slice-aggregate-load-text
-    load-text-requires
-    array-share-prefix-text
-    slice-aggregate-write-all
-    write-all-requires
-    returns)
+    (tie.spec (λ c. search needs) read-full-requires (λ c. search needs) (λ c. search needs) load-text-requires array-share-prefix-text
+    slice-aggregate-write-all write-all-requires (λ c. search needs))

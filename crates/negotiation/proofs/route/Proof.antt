@@ -16,12 +16,6 @@ job e =
 routed-from-requires : tie.Need-routed-from-requires
 routed-from-requires c κs = search needs
 
-same-length : tie.Need-same-length
-same-length c = search needs
-
-same-length-2 : tie.Need-same-length-2
-same-length-2 c = search needs
-
 returns : tie.Need-returns
 returns c =
     let called : tie.After-routed-from = c .before .before .before .before in
@@ -32,4 +26,4 @@ returns c =
     )
 
 pub route-spec : {M : Type 1} → statement M
-route-spec = tie.close (tie.spec routed-from-requires same-length same-length-2 returns)
+route-spec = tie.close (tie.spec routed-from-requires (λ c. search needs) (λ c. search needs) returns)

@@ -48,9 +48,6 @@ unreachable-requires c κs =
       e .pre .1,
     )
 
-enum-known-net : tie.Need-enum-known-net
-enum-known-net c = search needs
-
 mul-clear : tie.Need-mul-clear
 mul-clear c =
     let e : tie.Start = reached (found (c .before .before)) in
@@ -63,9 +60,6 @@ clear-requires c κs = search needs
 refused-requires : tie.Need-refused-requires
 refused-requires c κs = search needs
 
-enum-told : tie.Need-enum-told
-enum-told c = search needs
-
 negotiate-requires : tie.Need-negotiate-requires
 negotiate-requires c κs =
     let u : tie.After-unreachable = not-found (c .before .before) in
@@ -74,9 +68,6 @@ negotiate-requires c κs =
       none-missing (job e) _ (test u) (c .before .before .enum-told .given .1),
       le-trans (e .pre .1) (le-of-eq (sym (u .unreachable .ensures .1 .long))),
     )
-
-same-length : tie.Need-same-length
-same-length c = search needs
 
 returns : tie.Need-returns
 returns c =
@@ -87,12 +78,6 @@ returns c =
           _ _ _ _ (n .net .given .1) (c .refused .ensures) (c .before .before .before .clear .ensures),
       refused-counts (e .args .aimed) (job e) _ (c .refused .result) (e .args .log .now) (c .refused .ensures),
     )
-
-same-length-2 : tie.Need-same-length-2
-same-length-2 c = search needs
-
-same-length-3 : tie.Need-same-length-3
-same-length-3 c = search needs
 
 returns-2 : tie.Need-returns-2
 returns-2 c =
@@ -109,16 +94,5 @@ returns-2 c =
 pub route-joined-spec : {M : Type 1} → statement M
 route-joined-spec =
     tie.close
-    (tie.spec
-    unreachable-requires
-    enum-known-net
-    mul-clear
-    clear-requires
-    refused-requires
-    enum-told
-    negotiate-requires
-    same-length
-    returns
-    same-length-2
-    same-length-3
-    returns-2)
+    (tie.spec unreachable-requires (λ c. search needs) mul-clear clear-requires refused-requires (λ c. search needs) negotiate-requires
+    (λ c. search needs) returns (λ c. search needs) (λ c. search needs) returns-2)

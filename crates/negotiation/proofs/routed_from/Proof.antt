@@ -119,18 +119,6 @@ returns-3 c =
       refused-counts (lent at .args .aimed) (joined (job at)) _ (c .refused3 .result) _ (c .refused3 .ensures),
     )
 
-add-ends : tie.Need-add-ends
-add-ends c = search needs
-
-slice-aggregate-joined-tables : tie.Need-slice-aggregate-joined-tables
-slice-aggregate-joined-tables c = search needs
-
-slice-aggregate-joined-tables-2 : tie.Need-slice-aggregate-joined-tables-2
-slice-aggregate-joined-tables-2 c = search needs
-
-slice-aggregate-joined-tables-3 : tie.Need-slice-aggregate-joined-tables-3
-slice-aggregate-joined-tables-3 c = search needs
-
 joined-tables-requires : tie.Need-joined-tables-requires
 joined-tables-requires c κs =
     let sized : tie.Else2 = c .before .before .before .before in
@@ -139,20 +127,11 @@ joined-tables-requires c κs =
     let few = routable sized .nets-few in
     (tables, ((omega arith, tables .sinks-few), (critical at, tables .sinks-few)))
 
-array-share-prefix-firsts : tie.Need-array-share-prefix-firsts
-array-share-prefix-firsts c = search needs
-
 slice-aggregate-route-joined : tie.Need-slice-aggregate-route-joined
 slice-aggregate-route-joined c = sym (length-take-le _ _ (c .before .before .before .before .joined-tables .ensures .ends-within))
 
-array-share-prefix-sinks : tie.Need-array-share-prefix-sinks
-array-share-prefix-sinks c = search needs
-
 slice-aggregate-route-joined-2 : tie.Need-slice-aggregate-route-joined-2
 slice-aggregate-route-joined-2 c = sym (length-take-le _ _ (c .before .before .before .before .before .joined-tables .ensures .within))
-
-array-share-prefix-criticalities : tie.Need-array-share-prefix-criticalities
-array-share-prefix-criticalities c = search needs
 
 slice-aggregate-route-joined-3 : tie.Need-slice-aggregate-route-joined-3
 slice-aggregate-route-joined-3 c = sym (length-take-le _ _ (c .before .before .before .before .before .before .joined-tables .ensures .criticalities-within))
@@ -161,12 +140,6 @@ route-joined-requires : tie.Need-route-joined-requires
 route-joined-requires c κs =
     let at : tie.After-joined-tables = c .before .before .before .before .before .before .before .before in
     (subst Routable (sym (made-is at)) (routable (sized at)), at .before .before .before .before .if3 .left)
-
-same-length : tie.Need-same-length
-same-length c = search needs
-
-same-length-2 : tie.Need-same-length-2
-same-length-2 c = search needs
 
 returns-4 : tie.Need-returns-4
 returns-4 c =
@@ -181,29 +154,7 @@ returns-4 c =
 pub routed-from-spec : {M : Type 1} → statement M
 routed-from-spec =
     tie.close
-    (tie.spec
-    faulty-job-requires
-    refused-requires
-    returns
-    exceeds-requires
-    cast-t27
-    refused-requires-2
-    returns-2
-    mul-needed
-    refused-requires-3
-    returns-3
-    add-ends
-    slice-aggregate-joined-tables
-    slice-aggregate-joined-tables-2
-    slice-aggregate-joined-tables-3
-    joined-tables-requires
-    array-share-prefix-firsts
-    slice-aggregate-route-joined
-    array-share-prefix-sinks
-    slice-aggregate-route-joined-2
-    array-share-prefix-criticalities
-    slice-aggregate-route-joined-3
-    route-joined-requires
-    same-length
-    same-length-2
-    returns-4)
+    (tie.spec faulty-job-requires refused-requires returns exceeds-requires cast-t27 refused-requires-2 returns-2 mul-needed
+    refused-requires-3 returns-3 (λ c. search needs) (λ c. search needs) (λ c. search needs) (λ c. search needs) joined-tables-requires
+    (λ c. search needs) slice-aggregate-route-joined (λ c. search needs) slice-aggregate-route-joined-2 (λ c. search needs)
+    slice-aggregate-route-joined-3 route-joined-requires (λ c. search needs) (λ c. search needs) returns-4)

@@ -27,8 +27,5 @@ returns-3 c =
     (λ w. ap (λ t. 20 * t) (w .1) ∙ sym (base-wire _ (search needs)))
     (c .before .before .before .before .if1 .came)
 
-returns-4 : tie.Need-returns-4
-returns-4 c = search needs
-
 pub base-cost-spec : {M : Type 1} → statement M
-base-cost-spec = tie.close (tie.spec cast-wire mul-wire returns returns-2 returns-3 returns-4)
+base-cost-spec = tie.close (tie.spec cast-wire mul-wire returns returns-2 returns-3 (λ c. search needs))

@@ -13,9 +13,6 @@ use Rattle.price.proofs.congested_cost.Tie as tie
 base-cost-requires : tie.Need-base-cost-requires
 base-cost-requires c κs = search needs
 
-cast-base : tie.Need-cast-base
-cast-base c = search needs
-
 overuse-requires : tie.Need-overuse-requires
 overuse-requires c κs = search needs
 
@@ -54,4 +51,4 @@ returns c = is-congested c
 pub congested-cost-spec : {M : Type 1} → statement M
 congested-cost-spec =
     tie.close
-    (tie.spec base-cost-requires cast-base overuse-requires mul-present add-present mul-result returns)
+    (tie.spec base-cost-requires (λ c. search needs) overuse-requires mul-present add-present mul-result returns)

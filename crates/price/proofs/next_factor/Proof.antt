@@ -16,23 +16,8 @@ returns-2 c = sym (next-factor-second _ _ _ (search needs))
 returns-3 : tie.Need-returns-3
 returns-3 c = sym (next-factor-none _ _ _ (search needs) (search needs) (search needs))
 
-cast-grown : tie.Need-cast-grown
-cast-grown c = search needs
-
 mul-grown : tie.Need-mul-grown
 mul-grown c = record { fits = product-fits (search needs) (search needs) }
-
-cast-grown-2 : tie.Need-cast-grown-2
-cast-grown-2 c = search needs
-
-div-grown : tie.Need-div-grown
-div-grown c = search needs
-
-cast-most : tie.Need-cast-most
-cast-most c = search needs
-
-cast-result : tie.Need-cast-result
-cast-result c = search needs
 
 returns-4 : tie.Need-returns-4
 returns-4 c = sym (next-factor-later _ _ _ (search needs) (search needs) ∙ min-eq-left (search needs))
@@ -43,4 +28,5 @@ returns-5 c = sym (next-factor-later _ _ _ (search needs) (search needs) ∙ min
 pub next-factor-spec : {M : Type 1} → statement M
 next-factor-spec =
     tie.close
-    (tie.spec returns returns-2 returns-3 cast-grown mul-grown cast-grown-2 div-grown cast-most cast-result returns-4 returns-5)
+    (tie.spec returns returns-2 returns-3 (λ c. search needs) mul-grown (λ c. search needs) (λ c. search needs) (λ c. search needs)
+    (λ c. search needs) returns-4 returns-5)

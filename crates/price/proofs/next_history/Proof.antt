@@ -7,15 +7,6 @@ use Rattle.price.proofs.PriceLaws.{product-fits, sum-fits, history-stay
 use Rattle.price.proofs.next_history.Statement.{statement}
 use Rattle.price.proofs.next_history.Tie as tie
 
-cast-result : tie.Need-cast-result
-cast-result c = search needs
-
-sub-result : tie.Need-sub-result
-sub-result c = search needs
-
-cast-result-2 : tie.Need-cast-result-2
-cast-result-2 c = search needs
-
 mul-result : tie.Need-mul-result
 mul-result c = record { fits = product-fits (search needs) (search needs) }
 
@@ -30,6 +21,4 @@ returns-2 : tie.Need-returns-2
 returns-2 c = sym (history-stays _ _ _ _ (search needs))
 
 pub next-history-spec : {M : Type 1} → statement M
-next-history-spec =
-    tie.close
-    (tie.spec cast-result sub-result cast-result-2 mul-result add-result returns returns-2)
+next-history-spec = tie.close (tie.spec (λ c. search needs) (λ c. search needs) (λ c. search needs) mul-result add-result returns returns-2)

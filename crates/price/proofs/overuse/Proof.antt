@@ -5,15 +5,6 @@ use borrow.Author.Needs.{needs}
 use Rattle.price.proofs.overuse.Statement.{statement}
 use Rattle.price.proofs.overuse.Tie as tie
 
-add-result : tie.Need-add-result
-add-result c = search needs
-
-sub-result : tie.Need-sub-result
-sub-result c = search needs
-
-cast-result : tie.Need-cast-result
-cast-result c = search needs
-
 returns : tie.Need-returns
 unfolding overuse
 returns c = search needs
@@ -23,4 +14,4 @@ unfolding overuse
 returns-2 c = search needs
 
 pub overuse-spec : {M : Type 1} → statement M
-overuse-spec = tie.close (tie.spec add-result sub-result cast-result returns returns-2)
+overuse-spec = tie.close (tie.spec (λ c. search needs) (λ c. search needs) (λ c. search needs) returns returns-2)

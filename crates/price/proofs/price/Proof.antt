@@ -36,15 +36,4 @@ returns-8 : tie.Need-returns-8
 returns-8 c = ap priced (c .historic-cost .ensures ∙ historic-price _ _ _ _ _) ∙ sym (reply-priced _ _ _ _ _ (search needs))
 
 pub price-spec : {M : Type 1} → statement M
-price-spec =
-    tie.close
-    (tie.spec
-    returns
-    returns-2
-    returns-3
-    returns-4
-    returns-5
-    returns-6
-    returns-7
-    historic-cost-requires
-    returns-8)
+price-spec = tie.close (tie.spec returns returns-2 returns-3 returns-4 returns-5 returns-6 returns-7 historic-cost-requires returns-8)

@@ -10,12 +10,6 @@ use Rattle.price.proofs.timed_price.Tie as tie
 price-requires : tie.Need-price-requires
 price-requires c κs = search needs
 
-enum-known-answer : tie.Need-enum-known-answer
-enum-known-answer c = search needs
-
-enum-told : tie.Need-enum-told
-enum-told c = search needs
-
 returns : tie.Need-returns
 returns c = timed-refused _ _ _ _ _ _ _ (c .enum-told .given .1) (c .before .before .price .ensures)
 
@@ -43,12 +37,4 @@ returns-4 c =
 pub timed-price-spec : {M : Type 1} → statement M
 timed-price-spec =
     tie.close
-    (tie.spec
-    price-requires
-    enum-known-answer
-    enum-told
-    returns
-    returns-2
-    returns-3
-    weigh-requires
-    returns-4)
+    (tie.spec price-requires (λ c. search needs) (λ c. search needs) returns returns-2 returns-3 weigh-requires returns-4)

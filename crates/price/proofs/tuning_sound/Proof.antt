@@ -28,5 +28,4 @@ returns-7 : tie.Need-returns-7
 returns-7 c = sym (tuning-step _ (search needs) (search needs) (search needs) (search needs) (search needs) (search needs))
 
 pub tuning-sound-spec : {M : Type 1} → statement M
-tuning-sound-spec =
-    tie.close (tie.spec returns returns-2 returns-3 returns-4 returns-5 returns-6 returns-7)
+tuning-sound-spec = tie.close (tie.spec returns returns-2 returns-3 returns-4 returns-5 returns-6 returns-7)

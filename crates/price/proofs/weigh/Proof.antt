@@ -14,12 +14,6 @@ mul-result c = let m = timed-delay-fits (c .args .criticality) (c .args .delay) 
 mul-result-2 : tie.Need-mul-result-2
 mul-result-2 c = let m = timed-delay-fits (c .args .criticality) (c .args .delay) (c .pre .0) (c .pre .1) in omega arith
 
-sub-result : tie.Need-sub-result
-sub-result c = search needs
-
-cast-result : tie.Need-cast-result
-cast-result c = search needs
-
 mul-result-3 : tie.Need-mul-result-3
 mul-result-3 c = let m = timed-share-fits (c .args .criticality) (c .args .congestion) (c .pre .2) in omega arith
 
@@ -34,4 +28,4 @@ unfolding timedPrice
 returns c = refl
 
 pub weigh-spec : {M : Type 1} → statement M
-weigh-spec = tie.close (tie.spec mul-result mul-result-2 sub-result cast-result mul-result-3 add-result returns)
+weigh-spec = tie.close (tie.spec mul-result mul-result-2 (λ c. search needs) (λ c. search needs) mul-result-3 add-result returns)

@@ -7,17 +7,8 @@ use Rattle.flow.proofs.ResponseLaws.{shown-fits}
 use Rattle.program.proofs.answer_input.Statement.{statement}
 use Rattle.program.proofs.answer_input.Tie as tie
 
-slice-aggregate-read-full : tie.Need-slice-aggregate-read-full
-slice-aggregate-read-full c = search needs
-
 read-full-requires : tie.Need-read-full-requires
 read-full-requires c κs = search needs
-
-array-share-prefix-input : tie.Need-array-share-prefix-input
-array-share-prefix-input c = search needs
-
-slice-aggregate-answer : tie.Need-slice-aggregate-answer
-slice-aggregate-answer c = search needs
 
 answer-requires : tie.Need-answer-requires
 answer-requires c κs = search needs
@@ -33,19 +24,8 @@ slice-aggregate-write-all c =
 write-all-requires : tie.Need-write-all-requires
 write-all-requires c κs = search needs
 
-returns : tie.Need-returns
-returns c = search needs
-
 pub answer-input-spec : {M : Type 1} → statement M
 answer-input-spec =
     tie.close
-    (tie.spec
-    slice-aggregate-read-full
-    read-full-requires
-    array-share-prefix-input
-    slice-aggregate-answer
-    answer-requires
-    array-share-prefix-routes
-    slice-aggregate-write-all
-    write-all-requires
-    returns)
+    (tie.spec (λ c. search needs) read-full-requires (λ c. search needs) (λ c. search needs) answer-requires array-share-prefix-routes
+    slice-aggregate-write-all write-all-requires (λ c. search needs))

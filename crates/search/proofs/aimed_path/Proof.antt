@@ -27,16 +27,10 @@ module _ (c : tie.After-refused) where
 refused-requires : tie.Need-refused-requires
 refused-requires c κs = search needs
 
-enum-told : tie.Need-enum-told
-enum-told c = search needs
-
 join-requires : tie.Need-join-requires
 join-requires c κs =
     let matched = c .before in
     due-allowed _ _ _ _ _ _ _ (start (matched .before .before) .args .work .now) (none-due (matched .before .before) (matched .enum-told .given .1))
-
-same-length : tie.Need-same-length
-same-length c = search needs
 
 returns : tie.Need-returns
 returns c =
@@ -50,5 +44,4 @@ returns-2 c =
     (c .before .refused .ensures .0) (c .before .refused .ensures .1)
 
 pub aimed-path-spec : {M : Type 1} → statement M
-aimed-path-spec =
-    tie.close (tie.spec refused-requires enum-told join-requires same-length returns returns-2)
+aimed-path-spec = tie.close (tie.spec refused-requires (λ c. search needs) join-requires (λ c. search needs) returns returns-2)

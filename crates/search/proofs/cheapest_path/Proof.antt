@@ -36,9 +36,6 @@ fits-timed-requires c κs = search needs
 join-requires : tie.Need-join-requires
 join-requires c κs = fitted _ _ _ _ _ (all-fit (c .before .before) (c .before .if1 .taken))
 
-same-length : tie.Need-same-length
-same-length c = search needs
-
 returns : tie.Need-returns
 returns c =
     let joined = c .before .before in
@@ -53,4 +50,5 @@ returns-2 c = path-refused _ _ _ _ _ _ _ _ (c .refused .result) (all-fit (c .bef
 
 pub cheapest-path-spec : {M : Type 1} → statement M
 cheapest-path-spec =
-    tie.close (tie.spec fits-requires fits-timed-requires join-requires same-length returns refused-requires returns-2)
+    tie.close
+    (tie.spec fits-requires fits-timed-requires join-requires (λ c. search needs) returns refused-requires returns-2)

@@ -32,4 +32,5 @@ returns-3 c =
 
 pub faulty-with-sinks-spec : {M : Type 1} → statement M
 faulty-with-sinks-spec =
-    tie.close (tie.spec faulty-table-requires returns sink-list-sound-requires faulty-delays-requires returns-2 returns-3)
+    tie.close
+    (tie.spec faulty-table-requires returns sink-list-sound-requires faulty-delays-requires returns-2 returns-3)

@@ -15,17 +15,11 @@ returns-2 c = sym (unfit-many-nodes _ _ _ _ _ _ _ _ _ (c .before .if1 .left) (c 
 returns-3 : tie.Need-returns-3
 returns-3 c = sym (unfit-capacities _ _ _ _ _ _ _ _ _ (c .before .before .if1 .left) (c .before .if2 .left) (c .if3 .taken))
 
-add-if4 : tie.Need-add-if4
-add-if4 c = search needs
-
 returns-4 : tie.Need-returns-4
 returns-4 c = sym (unfit-first-edges _ _ _ _ _ _ _ _ _ (c .before .before .before .if1 .left) (c .before .before .if2 .left) (c .before .if3 .left) (c .if4 .taken))
 
 returns-5 : tie.Need-returns-5
 returns-5 c = sym (unfit-many-edges _ _ _ _ _ _ _ _ _ (c .before .before .before .before .if1 .left) (c .before .before .before .if2 .left) (c .before .before .if3 .left) (c .before .if4 .left) (c .if5 .taken))
-
-mul-if6 : tie.Need-mul-if6
-mul-if6 c = search needs
 
 returns-6 : tie.Need-returns-6
 returns-6 c =
@@ -88,16 +82,5 @@ returns-10 c =
 pub fits-spec : {M : Type 1} → statement M
 fits-spec =
     tie.close
-    (tie.spec
-    returns
-    returns-2
-    returns-3
-    add-if4
-    returns-4
-    returns-5
-    mul-if6
-    returns-6
-    returns-7
-    returns-8
-    returns-9
-    returns-10)
+    (tie.spec returns returns-2 returns-3 (λ c. search needs) returns-4 returns-5 (λ c. search needs) returns-6 returns-7 returns-8
+    returns-9 returns-10)

@@ -12,11 +12,8 @@ slice-aggregate-searched c = refl
 searched-requires : tie.Need-searched-requires
 searched-requires c κs = search needs
 
-same-length : tie.Need-same-length
-same-length c = search needs
-
 returns : tie.Need-returns
 returns c = let done = c .before .before .searched .ensures in (untimed-reply _ _ _ _ _ _ (done .0), done .1)
 
 pub search-spec : {M : Type 1} → statement M
-search-spec = tie.close (tie.spec slice-aggregate-searched searched-requires same-length returns)
+search-spec = tie.close (tie.spec slice-aggregate-searched searched-requires (λ c. search needs) returns)

@@ -15,21 +15,6 @@ faulty-with-delays-requires c κs = search needs
 first-refusal-requires : tie.Need-first-refusal-requires
 first-refusal-requires c κs = few-nodes _ _ _ _ _ (c .faulty-with-delays .ensures 0 [] [])
 
-enum-known-t : tie.Need-enum-known-t
-enum-known-t c = search needs
-
-enum-known-n : tie.Need-enum-known-n
-enum-known-n c = search needs
-
-enum-known-needed : tie.Need-enum-known-needed
-enum-known-needed c = search needs
-
-enum-known-place : tie.Need-enum-known-place
-enum-known-place c = search needs
-
-enum-told : tie.Need-enum-told
-enum-told c = search needs
-
 distances-from-tree-requires : tie.Need-distances-from-tree-requires
 distances-from-tree-requires c κs =
     let tested = c .before .before .before in
@@ -55,9 +40,6 @@ returns-4 c =
     let tested = c .before .before .before in
     (search-refused _ _ _ _ _ _ _ (tested .before .faulty-with-delays .ensures _ _ _) _ (tested .first-refusal .ensures _) (c .before .place .given .1) refl, tt)
 
-same-length : tie.Need-same-length
-same-length c = search needs
-
 returns-5 : tie.Need-returns-5
 returns-5 c =
     let ran = c .before .before in
@@ -69,18 +51,5 @@ returns-5 c =
 pub searched-spec : {M : Type 1} → statement M
 searched-spec =
     tie.close
-    (tie.spec
-    faulty-with-delays-requires
-    first-refusal-requires
-    enum-known-t
-    enum-known-n
-    enum-known-needed
-    enum-known-place
-    enum-told
-    distances-from-tree-requires
-    returns
-    returns-2
-    returns-3
-    returns-4
-    same-length
-    returns-5)
+    (tie.spec faulty-with-delays-requires first-refusal-requires (λ c. search needs) (λ c. search needs) (λ c. search needs)
+    (λ c. search needs) (λ c. search needs) distances-from-tree-requires returns returns-2 returns-3 returns-4 (λ c. search needs) returns-5)

@@ -29,65 +29,8 @@ over c = c .before .before .before .before .before .before .before .before .befo
 abbrev known : tie.After-store-job → tie.After-known-told
 known c = c .before .before .before .before .before .before .before .before .before .before .before .before .before .before .before .before .before .before .before
 
-slice-aggregate-read-lines : tie.Need-slice-aggregate-read-lines
-slice-aggregate-read-lines c = search needs
-
-slice-aggregate-read-lines-2 : tie.Need-slice-aggregate-read-lines-2
-slice-aggregate-read-lines-2 c = search needs
-
-slice-aggregate-read-lines-3 : tie.Need-slice-aggregate-read-lines-3
-slice-aggregate-read-lines-3 c = search needs
-
-slice-aggregate-read-lines-4 : tie.Need-slice-aggregate-read-lines-4
-slice-aggregate-read-lines-4 c = search needs
-
-slice-aggregate-read-lines-5 : tie.Need-slice-aggregate-read-lines-5
-slice-aggregate-read-lines-5 c = search needs
-
-slice-aggregate-read-lines-6 : tie.Need-slice-aggregate-read-lines-6
-slice-aggregate-read-lines-6 c = search needs
-
-slice-aggregate-read-lines-7 : tie.Need-slice-aggregate-read-lines-7
-slice-aggregate-read-lines-7 c = search needs
-
-slice-aggregate-read-lines-8 : tie.Need-slice-aggregate-read-lines-8
-slice-aggregate-read-lines-8 c = search needs
-
-slice-aggregate-read-lines-9 : tie.Need-slice-aggregate-read-lines-9
-slice-aggregate-read-lines-9 c = search needs
-
 read-lines-requires : tie.Need-read-lines-requires
 read-lines-requires c κs = search needs
-
-enum-known-nodes : tie.Need-enum-known-nodes
-enum-known-nodes c = search needs
-
-slice-aggregate-store-job : tie.Need-slice-aggregate-store-job
-slice-aggregate-store-job c = search needs
-
-slice-aggregate-store-job-2 : tie.Need-slice-aggregate-store-job-2
-slice-aggregate-store-job-2 c = search needs
-
-slice-aggregate-store-job-3 : tie.Need-slice-aggregate-store-job-3
-slice-aggregate-store-job-3 c = search needs
-
-slice-aggregate-store-job-4 : tie.Need-slice-aggregate-store-job-4
-slice-aggregate-store-job-4 c = search needs
-
-slice-aggregate-store-job-5 : tie.Need-slice-aggregate-store-job-5
-slice-aggregate-store-job-5 c = search needs
-
-slice-aggregate-store-job-6 : tie.Need-slice-aggregate-store-job-6
-slice-aggregate-store-job-6 c = search needs
-
-slice-aggregate-store-job-7 : tie.Need-slice-aggregate-store-job-7
-slice-aggregate-store-job-7 c = search needs
-
-slice-aggregate-store-job-8 : tie.Need-slice-aggregate-store-job-8
-slice-aggregate-store-job-8 c = search needs
-
-slice-aggregate-store-job-9 : tie.Need-slice-aggregate-store-job-9
-slice-aggregate-store-job-9 c = search needs
 
 store-job-requires : tie.Need-store-job-requires
 store-job-requires c κs =
@@ -109,9 +52,6 @@ store-job-requires c κs =
       },
       (counts .0, counts .1),
     )
-
-enum-known-number : tie.Need-enum-known-number
-enum-known-number c = search needs
 
 bad-line-requires : tie.Need-bad-line-requires
 bad-line-requires c κs =
@@ -176,38 +116,8 @@ returns-2 c =
 pub read-job-spec : {M : Type 1} → statement M
 read-job-spec =
     tie.close
-    (tie.spec
-    slice-aggregate-read-lines
-    slice-aggregate-read-lines-2
-    slice-aggregate-read-lines-3
-    slice-aggregate-read-lines-4
-    slice-aggregate-read-lines-5
-    slice-aggregate-read-lines-6
-    slice-aggregate-read-lines-7
-    slice-aggregate-read-lines-8
-    slice-aggregate-read-lines-9
-    read-lines-requires
-    enum-known-nodes
-    slice-aggregate-store-job
-    slice-aggregate-store-job-2
-    slice-aggregate-store-job-3
-    slice-aggregate-store-job-4
-    slice-aggregate-store-job-5
-    slice-aggregate-store-job-6
-    slice-aggregate-store-job-7
-    slice-aggregate-store-job-8
-    slice-aggregate-store-job-9
-    store-job-requires
-    enum-known-number
-    bad-line-requires
-    same-length
-    same-length-2
-    same-length-3
-    same-length-4
-    same-length-5
-    same-length-6
-    same-length-7
-    same-length-8
-    same-length-9
-    returns
-    returns-2)
+    (tie.spec (λ c. search needs) (λ c. search needs) (λ c. search needs) (λ c. search needs) (λ c. search needs) (λ c. search needs)
+    (λ c. search needs) (λ c. search needs) (λ c. search needs) read-lines-requires (λ c. search needs) (λ c. search needs)
+    (λ c. search needs) (λ c. search needs) (λ c. search needs) (λ c. search needs) (λ c. search needs) (λ c. search needs)
+    (λ c. search needs) (λ c. search needs) store-job-requires (λ c. search needs) bad-line-requires same-length same-length-2 same-length-3
+    same-length-4 same-length-5 same-length-6 same-length-7 same-length-8 same-length-9 returns returns-2)

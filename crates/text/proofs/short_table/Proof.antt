@@ -12,9 +12,6 @@ returns c = sym (short-kinds _ _ _ _ _ _ _ _ _ _ _ (search needs))
 returns-2 : tie.Need-returns-2
 returns-2 c = sym (short-capacities _ _ _ _ _ _ _ _ _ _ _ (search needs) (search needs))
 
-add-if3 : tie.Need-add-if3
-add-if3 c = search needs
-
 returns-3 : tie.Need-returns-3
 returns-3 c = sym (short-first-edges _ _ _ _ _ _ _ _ _ _ _ (search needs) (search needs) (search needs))
 
@@ -23,9 +20,6 @@ returns-4 c = sym (short-edges _ _ _ _ _ _ _ _ _ _ _ (search needs) (search need
 
 returns-5 : tie.Need-returns-5
 returns-5 c = sym (short-sources _ _ _ _ _ _ _ _ _ _ _ (search needs) (search needs) (search needs) (search needs) (search needs))
-
-add-if6 : tie.Need-add-if6
-add-if6 c = search needs
 
 returns-6 : tie.Need-returns-6
 returns-6 c = sym (short-first-sinks _ _ _ _ _ _ _ _ _ _ _ (search needs) (search needs) (search needs) (search needs) (search needs) (search needs))
@@ -39,14 +33,4 @@ returns-8 c = sym (short-none _ _ _ _ _ _ _ _ _ _ _ (search needs) (search needs
 pub short-table-spec : {M : Type 1} → statement M
 short-table-spec =
     tie.close
-    (tie.spec
-    returns
-    returns-2
-    add-if3
-    returns-3
-    returns-4
-    returns-5
-    add-if6
-    returns-6
-    returns-7
-    returns-8)
+    (tie.spec returns returns-2 (λ c. search needs) returns-3 returns-4 returns-5 (λ c. search needs) returns-6 returns-7 returns-8)

@@ -152,23 +152,6 @@ returns-3 c =
 pub store-job-spec : {M : Type 1} → statement M
 store-job-spec =
     tie.close
-    (tie.spec
-    if-timed-requires
-    if-timed-requires-2
-    lowest-short-requires
-    returns
-    exceeds-requires
-    returns-2
-    copy-block-requires
-    copy-nets-requires
-    copy-times-requires
-    same-length
-    same-length-2
-    same-length-3
-    same-length-4
-    same-length-5
-    same-length-6
-    same-length-7
-    same-length-8
-    same-length-9
-    returns-3)
+    (tie.spec if-timed-requires if-timed-requires-2 lowest-short-requires returns exceeds-requires returns-2 copy-block-requires
+    copy-nets-requires copy-times-requires same-length same-length-2 same-length-3 same-length-4 same-length-5 same-length-6 same-length-7
+    same-length-8 same-length-9 returns-3)

@@ -33,12 +33,6 @@ head-length-requires c κs = search needs
 tail-length-requires : tie.Need-tail-length-requires
 tail-length-requires c κs = search needs
 
-add-capped-sum : tie.Need-add-capped-sum
-add-capped-sum c = search needs
-
-slice-aggregate-put-branches : tie.Need-slice-aggregate-put-branches
-slice-aggregate-put-branches c = search needs
-
 put-branches-requires : tie.Need-put-branches-requires
 put-branches-requires c κs = search needs
 
@@ -61,9 +55,6 @@ put-tail-requires c κs =
     let e = entry (room .before) in
     tail-room (e .args .style) (e .pre .0 .1) (e .args .source .now) (e .args .buffer .now) (short e) (fits room) (head .put-head .ensures) (c .before .before .before .put-branches2 .ensures)
 
-same-length : tie.Need-same-length
-same-length c = search needs
-
 returns-2 : tie.Need-returns-2
 returns-2 c =
     let joins = c .before .before in
@@ -76,16 +67,5 @@ returns-2 c =
 pub write-lines-spec : {M : Type 1} → statement M
 write-lines-spec =
     tie.close
-    (tie.spec
-    head-length-requires
-    tail-length-requires
-    add-capped-sum
-    slice-aggregate-put-branches
-    put-branches-requires
-    capped-sum-requires
-    returns
-    put-head-requires
-    put-branches-requires-2
-    put-tail-requires
-    same-length
-    returns-2)
+    (tie.spec head-length-requires tail-length-requires (λ c. search needs) (λ c. search needs) put-branches-requires capped-sum-requires
+    returns put-head-requires put-branches-requires-2 put-tail-requires (λ c. search needs) returns-2)

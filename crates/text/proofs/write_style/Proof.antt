@@ -28,14 +28,8 @@ returns c = write-table _ _ _ _ (refused (c .before .sources-sound .ensures) (c 
 first-marks-requires : tie.Need-first-marks-requires
 first-marks-requires c κs = sources-few _ _ (table c)
 
-slice-aggregate-check-log : tie.Need-slice-aggregate-check-log
-slice-aggregate-check-log c = search needs
-
 check-log-requires : tie.Need-check-log-requires
 check-log-requires c κs = search needs
-
-enum-known-iteration : tie.Need-enum-known-iteration
-enum-known-iteration c = search needs
 
 write-text-requires : tie.Need-write-text-requires
 write-text-requires c κs =
@@ -45,12 +39,6 @@ write-text-requires c κs =
       found (namedBy (marks .first-marks .result) nodesMost) _ (marks-few _ _ (table (marks .before)) (marks .first-marks .ensures)) (omega arith)
           (ap checkedAt (sym (arm .iteration .given .1)) ∙ arm .before .before .check-log .ensures) .1,
     )
-
-enum-known-word : tie.Need-enum-known-word
-enum-known-word c = search needs
-
-same-length : tie.Need-same-length
-same-length c = search needs
 
 returns-2 : tie.Need-returns-2
 returns-2 c =
@@ -69,15 +57,5 @@ returns-3 c =
 pub write-style-spec : {M : Type 1} → statement M
 write-style-spec =
     tie.close
-    (tie.spec
-    sources-sound-requires
-    returns
-    first-marks-requires
-    slice-aggregate-check-log
-    check-log-requires
-    enum-known-iteration
-    write-text-requires
-    enum-known-word
-    same-length
-    returns-2
-    returns-3)
+    (tie.spec sources-sound-requires returns first-marks-requires (λ c. search needs) check-log-requires (λ c. search needs)
+    write-text-requires (λ c. search needs) (λ c. search needs) returns-2 returns-3)

@@ -21,9 +21,6 @@ counts c = useCountsOf (c .args .uses .now) (c .args .logs)
 test-counts-requires : tie.Need-test-counts-requires
 test-counts-requires c κs = search needs
 
-enum-told : tie.Need-enum-told
-enum-told c = search needs
-
 add-tested-requires : tie.Need-add-tested-requires
 add-tested-requires c κs =
     let tested = c .before .before .before in
@@ -31,12 +28,6 @@ add-tested-requires c κs =
     let n = counts (entry tested) in
     let fine = test-fine b n (tested .test-counts .ensures) (c .before .enum-told .given .1) in
     (sound-of b (fine .sound) .kinds-sound, uses-low b n fine)
-
-enum-known-table : tie.Need-enum-known-table
-enum-known-table c = search needs
-
-enum-known-k : tie.Need-enum-known-k
-enum-known-k c = search needs
 
 returns : tie.Need-returns
 returns c = add-fine _ _ (c .before .before .before .before .test-counts .ensures) _ (c .before .before .enum-told .given .1) (c .add-tested .ensures)
@@ -50,12 +41,5 @@ returns-3 c = add-count _ _ (c .before .before .before .test-counts .ensures) _ 
 pub add-log-spec : {M : Type 1} → statement M
 add-log-spec =
     tie.close
-    (tie.spec
-    test-counts-requires
-    enum-told
-    add-tested-requires
-    enum-known-table
-    enum-known-k
-    returns
-    returns-2
+    (tie.spec test-counts-requires (λ c. search needs) add-tested-requires (λ c. search needs) (λ c. search needs) returns returns-2
     returns-3)

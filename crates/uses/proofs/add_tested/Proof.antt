@@ -12,12 +12,6 @@ use Rattle.uses.proofs.add_tested.Tie as tie
 node-users-requires : tie.Need-node-users-requires
 node-users-requires c κs = search needs
 
-enum-known-word : tie.Need-enum-known-word
-enum-known-word c = search needs
-
-enum-told : tie.Need-enum-told
-enum-told c = search needs
-
 returns : tie.Need-returns
 returns c =
     let users = c .before .before .before .node-users in
@@ -41,9 +35,6 @@ tally-requires c κs =
     let long = users-long (now (start .args .kind)) (now (start .args .log)) (replicate 4096 0) (counted .node-users .ensures) (c .before .before .before .enum-told .given .1) in
     ((start .pre .0, omega (arith, long, kinds-few _ (start .pre .0))), (search needs, start .pre .1))
 
-add-t17 : tie.Need-add-t17
-add-t17 c = search needs
-
 returns-2 : tie.Need-returns-2
 returns-2 c = add-unsound _ _ _ (c .before .before .before .node-users .ensures) _ (c .before .word .given .1)
 
@@ -55,13 +46,5 @@ returns-3 c =
 pub add-tested-spec : {M : Type 1} → statement M
 add-tested-spec =
     tie.close
-    (tie.spec
-    node-users-requires
-    enum-known-word
-    enum-told
-    returns
-    slice-aggregate-tally
-    tally-requires
-    add-t17
-    returns-2
-    returns-3)
+    (tie.spec node-users-requires (λ c. search needs) (λ c. search needs) returns slice-aggregate-tally tally-requires (λ c. search needs)
+    returns-2 returns-3)

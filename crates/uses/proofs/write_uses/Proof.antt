@@ -22,9 +22,6 @@ counts c = useCountsOf (c .args .uses .now) (c .args .logs)
 test-counts-requires : tie.Need-test-counts-requires
 test-counts-requires c κs = search needs
 
-enum-told : tie.Need-enum-told
-enum-told c = search needs
-
 put-uses-requires : tie.Need-put-uses-requires
 put-uses-requires c κs =
     let tested = c .before .before .before in
@@ -32,15 +29,6 @@ put-uses-requires c κs =
     let fine = test-fine b (counts (entry tested)) (tested .test-counts .ensures) (c .before .enum-told .given .1) in
     let sound = sound-of b (fine .sound) in
     (sound .kinds-sound, sound .capacities-sound, omega (arith, fine .few))
-
-enum-known-table : tie.Need-enum-known-table
-enum-known-table c = search needs
-
-enum-known-k : tie.Need-enum-known-k
-enum-known-k c = search needs
-
-same-length : tie.Need-same-length
-same-length c = search needs
 
 returns : tie.Need-returns
 returns c = print-fine _ _ (c .before .before .before .before .before .before .test-counts .ensures) _ (c .before .before .before .before .enum-told .given .1) (c .before .before .put-uses .ensures)
@@ -54,13 +42,5 @@ returns-3 c = print-count _ _ (c .before .before .before .test-counts .ensures) 
 pub write-uses-spec : {M : Type 1} → statement M
 write-uses-spec =
     tie.close
-    (tie.spec
-    test-counts-requires
-    enum-told
-    put-uses-requires
-    enum-known-table
-    enum-known-k
-    same-length
-    returns
-    returns-2
-    returns-3)
+    (tie.spec test-counts-requires (λ c. search needs) put-uses-requires (λ c. search needs) (λ c. search needs) (λ c. search needs) returns
+    returns-2 returns-3)

@@ -11,9 +11,6 @@ use Rattle.capi.proofs.CallLaws.{after-long, log-added}
 use Rattle.capi.proofs.counts.add_log.Statement.{statement}
 use Rattle.capi.proofs.counts.add_log.Tie as tie
 
-slice-aggregate-copy-counts : tie.Need-slice-aggregate-copy-counts
-slice-aggregate-copy-counts c = search needs
-
 copy-counts-requires : tie.Need-copy-counts-requires
 copy-counts-requires c κs = search needs
 
@@ -37,9 +34,6 @@ slice-aggregate-copy-counts-2 c = sym (left-long (c .before))
 copy-counts-requires-2 : tie.Need-copy-counts-requires-2
 copy-counts-requires-2 c κs = (omega (arith, left-long (c .before .before)), entry (c .before .before) .pre)
 
-same-length : tie.Need-same-length
-same-length c = search needs
-
 returns : tie.Need-returns
 returns c =
     let logged = c .before .before .before .before .before in
@@ -48,11 +42,5 @@ returns c =
 pub add-log-spec : {M : Type 1} → statement M
 add-log-spec =
     tie.close
-    (tie.spec
-    slice-aggregate-copy-counts
-    copy-counts-requires
-    add-log-requires
-    slice-aggregate-copy-counts-2
-    copy-counts-requires-2
-    same-length
-    returns)
+    (tie.spec (λ c. search needs) copy-counts-requires add-log-requires slice-aggregate-copy-counts-2 copy-counts-requires-2
+    (λ c. search needs) returns)

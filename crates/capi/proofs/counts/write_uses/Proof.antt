@@ -5,17 +5,11 @@ use Rattle.capi.proofs.CallLaws.{uses-written}
 use Rattle.capi.proofs.counts.write_uses.Statement.{statement}
 use Rattle.capi.proofs.counts.write_uses.Tie as tie
 
-slice-aggregate-copy-counts : tie.Need-slice-aggregate-copy-counts
-slice-aggregate-copy-counts c = search needs
-
 copy-counts-requires : tie.Need-copy-counts-requires
 copy-counts-requires c κs = search needs
 
 write-uses-requires : tie.Need-write-uses-requires
 write-uses-requires c κs = search needs
-
-same-length : tie.Need-same-length
-same-length c = search needs
 
 returns : tie.Need-returns
 returns c =
@@ -24,11 +18,4 @@ returns c =
     uses-written (start .args .counts .now) (copied .copy-counts .ensures) _ _ _ (c .before .before .write-uses .ensures)
 
 pub write-uses-spec : {M : Type 1} → statement M
-write-uses-spec =
-    tie.close
-    (tie.spec
-    slice-aggregate-copy-counts
-    copy-counts-requires
-    write-uses-requires
-    same-length
-    returns)
+write-uses-spec = tie.close (tie.spec (λ c. search needs) copy-counts-requires write-uses-requires (λ c. search needs) returns)

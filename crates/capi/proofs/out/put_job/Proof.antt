@@ -14,9 +14,6 @@ use Rattle.capi.proofs.out.put_job.Tie as tie
 clear-requires : tie.Need-clear-requires
 clear-requires c κs = search needs
 
-slice-write-out : tie.Need-slice-write-out
-slice-write-out c = search needs
-
 slice-write-out-2 : tie.Need-slice-write-out-2
 slice-write-out-2 c = simp length-set (omega arith)
 
@@ -26,44 +23,23 @@ slice-write-out-3 c = simp length-set (omega arith)
 slice-write-out-4 : tie.Need-slice-write-out-4
 slice-write-out-4 c = simp length-set (omega arith)
 
-cast-out : tie.Need-cast-out
-cast-out c = search needs
-
 slice-write-out-5 : tie.Need-slice-write-out-5
 slice-write-out-5 c = simp length-set (omega arith)
-
-cast-out-2 : tie.Need-cast-out-2
-cast-out-2 c = search needs
 
 slice-write-out-6 : tie.Need-slice-write-out-6
 slice-write-out-6 c = simp length-set (omega arith)
 
-cast-out-3 : tie.Need-cast-out-3
-cast-out-3 c = search needs
-
 slice-write-out-7 : tie.Need-slice-write-out-7
 slice-write-out-7 c = simp length-set (omega arith)
-
-cast-out-4 : tie.Need-cast-out-4
-cast-out-4 c = search needs
 
 slice-write-out-8 : tie.Need-slice-write-out-8
 slice-write-out-8 c = simp length-set (omega arith)
 
-cast-out-5 : tie.Need-cast-out-5
-cast-out-5 c = search needs
-
 slice-write-out-9 : tie.Need-slice-write-out-9
 slice-write-out-9 c = simp length-set (omega arith)
 
-cast-out-6 : tie.Need-cast-out-6
-cast-out-6 c = search needs
-
 slice-write-out-10 : tie.Need-slice-write-out-10
 slice-write-out-10 c = simp length-set (omega arith)
-
-cast-out-7 : tie.Need-cast-out-7
-cast-out-7 c = search needs
 
 slice-write-out-11 : tie.Need-slice-write-out-11
 slice-write-out-11 c = simp length-set (omega arith)
@@ -90,27 +66,7 @@ returns c =
 pub put-job-spec : {M : Type 1} → statement M
 put-job-spec =
     tie.close
-    (tie.spec
-    clear-requires
-    slice-write-out
-    slice-write-out-2
-    slice-write-out-3
-    slice-write-out-4
-    cast-out
-    slice-write-out-5
-    cast-out-2
-    slice-write-out-6
-    cast-out-3
-    slice-write-out-7
-    cast-out-4
-    slice-write-out-8
-    cast-out-5
-    slice-write-out-9
-    cast-out-6
-    slice-write-out-10
-    cast-out-7
-    slice-write-out-11
-    one-if-requires
-    slice-write-out-12
-    same-length
-    returns)
+    (tie.spec clear-requires (λ c. search needs) slice-write-out-2 slice-write-out-3 slice-write-out-4 (λ c. search needs) slice-write-out-5
+    (λ c. search needs) slice-write-out-6 (λ c. search needs) slice-write-out-7 (λ c. search needs) slice-write-out-8 (λ c. search needs)
+    slice-write-out-9 (λ c. search needs) slice-write-out-10 (λ c. search needs) slice-write-out-11 one-if-requires slice-write-out-12
+    same-length returns)

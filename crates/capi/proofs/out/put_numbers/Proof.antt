@@ -14,9 +14,6 @@ use Rattle.capi.proofs.out.put_numbers.Tie as tie
 clear-requires : tie.Need-clear-requires
 clear-requires c κs = search needs
 
-slice-write-out : tie.Need-slice-write-out
-slice-write-out c = search needs
-
 slice-write-out-2 : tie.Need-slice-write-out-2
 slice-write-out-2 c = simp length-set (omega arith)
 
@@ -32,9 +29,6 @@ slice-write-out-5 c = simp length-set (omega arith)
 slice-write-out-6 : tie.Need-slice-write-out-6
 slice-write-out-6 c = simp length-set (omega arith)
 
-same-length : tie.Need-same-length
-same-length c = search needs
-
 returns : tie.Need-returns
 returns c =
     let cleared = c .before .before in
@@ -43,13 +37,5 @@ returns c =
 pub put-numbers-spec : {M : Type 1} → statement M
 put-numbers-spec =
     tie.close
-    (tie.spec
-    clear-requires
-    slice-write-out
-    slice-write-out-2
-    slice-write-out-3
-    slice-write-out-4
-    slice-write-out-5
-    slice-write-out-6
-    same-length
-    returns)
+    (tie.spec clear-requires (λ c. search needs) slice-write-out-2 slice-write-out-3 slice-write-out-4 slice-write-out-5 slice-write-out-6
+    (λ c. search needs) returns)

@@ -8,12 +8,6 @@ use Rattle.capi.proofs.out.put_routed.Tie as tie
 put-outcome-requires : tie.Need-put-outcome-requires
 put-outcome-requires c κs = search needs
 
-slice-write-out : tie.Need-slice-write-out
-slice-write-out c = search needs
-
-same-length : tie.Need-same-length
-same-length c = search needs
-
 returns : tie.Need-returns
 returns c =
     let put = c .before .before in
@@ -21,4 +15,4 @@ returns c =
     expanded-put (a .r) (a .out .now) _ _ (put .put-outcome .ensures)
 
 pub put-routed-spec : {M : Type 1} → statement M
-put-routed-spec = tie.close (tie.spec put-outcome-requires slice-write-out same-length returns)
+put-routed-spec = tie.close (tie.spec put-outcome-requires (λ c. search needs) (λ c. search needs) returns)

@@ -14,20 +14,11 @@ line-requires c κs = search needs
 returns : tie.Need-returns
 returns c = let a = entry (c .before) .args in letter-past (a .case .now) (a .letter) (c .before .line .ensures) (search needs)
 
-sub-if2 : tie.Need-sub-if2
-sub-if2 c = search needs
-
 returns-2 : tie.Need-returns-2
 returns-2 c = let a = entry (c .before .before) .args in letter-past (a .case .now) (a .letter) (c .before .before .line .ensures) (search needs)
-
-add-result : tie.Need-add-result
-add-result c = search needs
-
-shared-slice-read-result : tie.Need-shared-slice-read-result
-shared-slice-read-result c = search needs
 
 returns-3 : tie.Need-returns-3
 returns-3 c = let b = c .before .before .before in let a = entry b .args in letter-there (a .case .now) (a .letter) (b .line .ensures)
 
 pub call-spec : {M : Type 1} → statement M
-call-spec = tie.close (tie.spec line-requires returns sub-if2 returns-2 add-result shared-slice-read-result returns-3)
+call-spec = tie.close (tie.spec line-requires returns (λ c. search needs) returns-2 (λ c. search needs) (λ c. search needs) returns-3)

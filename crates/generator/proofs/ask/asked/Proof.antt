@@ -52,23 +52,11 @@ at-lf c = begins-within 10 _ (text (seed-at (nodes-at (c .before .before)))) (pa
 whole-field-requires : tie.Need-whole-field-requires
 whole-field-requires c κs = search needs
 
-enum-known-seed : tie.Need-enum-known-seed
-enum-known-seed c = search needs
-
-enum-told : tie.Need-enum-told
-enum-told c = search needs
-
 returns : tie.Need-returns
 returns c = (sym (away-seed _ (read-fault (c .before .before .before .before .args .input .now) (c .enum-told .given .1) (c .before .before .whole-field .ensures .0))), search needs)
 
 next-field-requires : tie.Need-next-field-requires
 next-field-requires c κs = search needs
-
-enum-known-nodes : tie.Need-enum-known-nodes
-enum-known-nodes c = search needs
-
-enum-told-2 : tie.Need-enum-told-2
-enum-told-2 c = search needs
 
 returns-2 : tie.Need-returns-2
 returns-2 c =
@@ -77,12 +65,6 @@ returns-2 c =
 
 next-field-requires-2 : tie.Need-next-field-requires-2
 next-field-requires-2 c κs = search needs
-
-enum-known-nets : tie.Need-enum-known-nets
-enum-known-nets c = search needs
-
-enum-told-3 : tie.Need-enum-told-3
-enum-told-3 c = search needs
 
 returns-3 : tie.Need-returns-3
 returns-3 c =
@@ -142,24 +124,6 @@ returns-6 c =
 pub asked-spec : {M : Type 1} → statement M
 asked-spec =
     tie.close
-    (tie.spec
-    whole-field-requires
-    enum-known-seed
-    enum-told
-    returns
-    next-field-requires
-    enum-known-nodes
-    enum-told-2
-    returns-2
-    next-field-requires-2
-    enum-known-nets
-    enum-told-3
-    returns-3
-    byte-is-requires
-    returns-4
-    add-if2
-    returns-5
-    cast-t15
-    cast-t16
-    cast-t17
-    returns-6)
+    (tie.spec whole-field-requires (λ c. search needs) (λ c. search needs) returns next-field-requires (λ c. search needs)
+    (λ c. search needs) returns-2 next-field-requires-2 (λ c. search needs) (λ c. search needs) returns-3 byte-is-requires returns-4 add-if2
+    returns-5 cast-t15 cast-t16 cast-t17 returns-6)

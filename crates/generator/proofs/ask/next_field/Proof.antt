@@ -30,5 +30,4 @@ returns-2 c = (
 )
 
 pub next-field-spec : {M : Type 1} → statement M
-next-field-spec =
-    tie.close (tie.spec byte-is-requires returns add-whole-field whole-field-requires returns-2)
+next-field-spec = tie.close (tie.spec byte-is-requires returns add-whole-field whole-field-requires returns-2)

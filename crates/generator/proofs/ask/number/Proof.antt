@@ -22,12 +22,6 @@ digit c = passed (c .before .is-digit .ensures) (c .if3 .left)
 returns : tie.Need-returns
 returns c = (sym (number-past _ (c .before .before .args .at) (c .before .before .args .input .now) (search needs)), tt)
 
-shared-slice-read-b : tie.Need-shared-slice-read-b
-shared-slice-read-b c = search needs
-
-add-t9 : tie.Need-add-t9
-add-t9 c = search needs
-
 returns-2 : tie.Need-returns-2
 returns-2 c = (sym (number-zero _ (c .before .before .before .before .args .at) (c .before .before .before .before .args .input .now) (search needs) (search needs)), search needs)
 
@@ -38,9 +32,6 @@ returns-3 : tie.Need-returns-3
 returns-3 c =
     let from : tie.Start = entry (c .before) in
     (sym (number-other _ (from .args .at) (from .args .input .now) (search needs) (search needs) (refused (c .before .is-digit .ensures) (c .if3 .taken))), tt)
-
-add-further-digits : tie.Need-add-further-digits
-add-further-digits c = search needs
 
 sub-further-digits : tie.Need-sub-further-digits
 sub-further-digits c = digit-least _ (digit c)
@@ -61,15 +52,5 @@ returns-4 c =
 pub number-spec : {M : Type 1} → statement M
 number-spec =
     tie.close
-    (tie.spec
-    returns
-    shared-slice-read-b
-    add-t9
-    returns-2
-    is-digit-requires
-    returns-3
-    add-further-digits
-    sub-further-digits
-    cast-further-digits
-    further-digits-requires
-    returns-4)
+    (tie.spec returns (λ c. search needs) (λ c. search needs) returns-2 is-digit-requires returns-3 (λ c. search needs) sub-further-digits
+    cast-further-digits further-digits-requires returns-4)

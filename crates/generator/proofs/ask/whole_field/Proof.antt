@@ -22,12 +22,6 @@ module _ (c : tie.After-known-told) where
 number-requires : tie.Need-number-requires
 number-requires c κs = search needs
 
-enum-known-value : tie.Need-enum-known-value
-enum-known-value c = search needs
-
-enum-told : tie.Need-enum-told
-enum-told c = search needs
-
 returns : tie.Need-returns
 returns c = (sym (whole-fault _ _ _ _ (read-fault (c .before .before .before .before .args .input .now) (c .enum-told .given .1) (c .before .before .number .ensures .0))), tt)
 
@@ -53,13 +47,4 @@ returns-5 c =
 pub whole-field-spec : {M : Type 1} → statement M
 whole-field-spec =
     tie.close
-    (tie.spec
-    number-requires
-    enum-known-value
-    enum-told
-    returns
-    field-ends-requires
-    returns-2
-    returns-3
-    returns-4
-    returns-5)
+    (tie.spec number-requires (λ c. search needs) (λ c. search needs) returns field-ends-requires returns-2 returns-3 returns-4 returns-5)

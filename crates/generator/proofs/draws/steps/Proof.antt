@@ -21,12 +21,6 @@ loop-holds c = (state-none _, search needs)
 step-requires : tie.Need-step-requires Inv-loop μ-loop
 step-requires c κs = search needs
 
-add-k : tie.Need-add-k Inv-loop μ-loop
-add-k c = search needs
-
-loop-less : tie.Need-loop-less Inv-loop μ-loop
-loop-less c = search needs
-
 loop-again : tie.Need-loop-again Inv-loop μ-loop
 loop-again c = (state-next _ (c .before .before .loop .k) (c .before .before .loop .inv .0) (c .step .ensures), search needs)
 
@@ -36,6 +30,4 @@ returns c =
     c .before .loop .inv .0 ∙ ap (stateAfter (c .before .before .args .first)) end
 
 pub steps-spec : {M : Type 1} → statement M
-steps-spec =
-    tie.close
-    (tie.spec Inv-loop μ-loop loop-holds step-requires add-k loop-less loop-again returns)
+steps-spec = tie.close (tie.spec Inv-loop μ-loop loop-holds step-requires (λ c. search needs) (λ c. search needs) loop-again returns)

@@ -10,20 +10,11 @@ use Rattle.text.proofs.JoiningLaws.{part-first, part-rest, part-both}
 use Rattle.generator.proofs.nets.put_net.Statement.{statement}
 use Rattle.generator.proofs.nets.put_net.Tie as tie
 
-slice-aggregate-print-line : tie.Need-slice-aggregate-print-line
-slice-aggregate-print-line c = search needs
-
 print-line-requires : tie.Need-print-line-requires
 print-line-requires c κs = search needs
 
-slice-aggregate-print-line-2 : tie.Need-slice-aggregate-print-line-2
-slice-aggregate-print-line-2 c = search needs
-
 print-line-requires-2 : tie.Need-print-line-requires-2
 print-line-requires-2 c κs = search needs
-
-same-length : tie.Need-same-length
-same-length c = search needs
 
 returns : tie.Need-returns
 returns c =
@@ -39,10 +30,4 @@ returns c =
 pub put-net-spec : {M : Type 1} → statement M
 put-net-spec =
     tie.close
-    (tie.spec
-    slice-aggregate-print-line
-    print-line-requires
-    slice-aggregate-print-line-2
-    print-line-requires-2
-    same-length
-    returns)
+    (tie.spec (λ c. search needs) print-line-requires (λ c. search needs) print-line-requires-2 (λ c. search needs) returns)

@@ -43,9 +43,6 @@ step-requires-2 c κs = search needs
 drawn-requires : tie.Need-drawn-requires Inv-loop μ-loop
 drawn-requires c κs = search needs
 
-sub-sink : tie.Need-sub-sink Inv-loop μ-loop
-sub-sink c = search needs
-
 drawn-requires-2 : tie.Need-drawn-requires-2 Inv-loop μ-loop
 drawn-requires-2 c κs = search needs
 
@@ -56,12 +53,6 @@ add-sink c =
 
 put-net-requires : tie.Need-put-net-requires Inv-loop μ-loop
 put-net-requires c κs = net-room (drew (c .before)) _ _ (joining-room _ _ _ _ _ (from-first _ _ _ _ (search needs)) (head (c .before) .loop .inv .1) (search needs))
-
-add-i : tie.Need-add-i Inv-loop μ-loop
-add-i c = search needs
-
-loop-less : tie.Need-loop-less Inv-loop μ-loop
-loop-less c = search needs
 
 loop-again : tie.Need-loop-again Inv-loop μ-loop
 loop-again c =
@@ -78,19 +69,5 @@ returns c = all-put _ _ (joining-all _ _ _ _ _ (from-first _ _ _ _ (search needs
 pub put-nets-spec : {M : Type 1} → statement M
 put-nets-spec =
     tie.close
-    (tie.spec
-    Inv-loop
-    μ-loop
-    loop-holds
-    step-requires
-    step-requires-2
-    drawn-requires
-    sub-sink
-    drawn-requires-2
-    add-sink
-    put-net-requires
-    add-i
-    loop-less
-    loop-again
-    same-length
-    returns)
+    (tie.spec Inv-loop μ-loop loop-holds step-requires step-requires-2 drawn-requires (λ c. search needs) drawn-requires-2 add-sink
+    put-net-requires (λ c. search needs) (λ c. search needs) loop-again same-length returns)

@@ -15,22 +15,13 @@ sources c = c .before .before .before .before
 put-pins-requires : tie.Need-put-pins-requires
 put-pins-requires c κs = (search needs, sources-room _ _ _ (c .before .before .args .buffer .now) (c .before .before .pre))
 
-sub-put-wires : tie.Need-sub-put-wires
-sub-put-wires c = search needs
-
 put-wires-requires : tie.Need-put-wires-requires
 put-wires-requires c κs = (search needs, wires-room _ _ _ _ (entry (c .before .before .before) .pre) (c .before .before .before .put-pins .ensures))
-
-sub-put-pins : tie.Need-sub-put-pins
-sub-put-pins c = search needs
 
 put-pins-requires-2 : tie.Need-put-pins-requires-2
 put-pins-requires-2 c κs =
     let wires : tie.After-put-wires = c .before .before .before in
     (search needs, sinks-room _ _ _ _ (entry (sources wires) .pre) (sources wires .put-pins .ensures) (wires .put-wires .ensures))
-
-same-length : tie.Need-same-length
-same-length c = search needs
 
 returns : tie.Need-returns
 returns c =
@@ -40,11 +31,4 @@ returns c =
 pub put-nodes-spec : {M : Type 1} → statement M
 put-nodes-spec =
     tie.close
-    (tie.spec
-    put-pins-requires
-    sub-put-wires
-    put-wires-requires
-    sub-put-pins
-    put-pins-requires-2
-    same-length
-    returns)
+    (tie.spec put-pins-requires (λ c. search needs) put-wires-requires (λ c. search needs) put-pins-requires-2 (λ c. search needs) returns)

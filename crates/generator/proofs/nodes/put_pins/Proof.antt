@@ -17,20 +17,8 @@ abbrev μ-loop : tie.MeasureT-loop
 loop-holds : tie.Need-loop-holds Inv-loop μ-loop
 loop-holds c = joining-none _ _ _ _ _ (search needs) (search needs)
 
-cast-t10 : tie.Need-cast-t10 Inv-loop μ-loop
-cast-t10 c = search needs
-
-slice-aggregate-print-line : tie.Need-slice-aggregate-print-line Inv-loop μ-loop
-slice-aggregate-print-line c = search needs
-
 print-line-requires : tie.Need-print-line-requires Inv-loop μ-loop
 print-line-requires c κs = search needs
-
-add-v : tie.Need-add-v Inv-loop μ-loop
-add-v c = search needs
-
-loop-less : tie.Need-loop-less Inv-loop μ-loop
-loop-less c = search needs
 
 loop-again : tie.Need-loop-again Inv-loop μ-loop
 loop-again c =
@@ -46,15 +34,5 @@ returns c = joining-all _ _ _ _ _ (search needs) (c .before .loop .inv) (search 
 pub put-pins-spec : {M : Type 1} → statement M
 put-pins-spec =
     tie.close
-    (tie.spec
-    Inv-loop
-    μ-loop
-    loop-holds
-    cast-t10
-    slice-aggregate-print-line
-    print-line-requires
-    add-v
-    loop-less
-    loop-again
-    same-length
-    returns)
+    (tie.spec Inv-loop μ-loop loop-holds (λ c. search needs) (λ c. search needs) print-line-requires (λ c. search needs) (λ c. search needs)
+    loop-again same-length returns)

@@ -6,14 +6,8 @@ use Rattle.job.specs.Steps.{pinKind}
 use Rattle.job.proofs.pins.pin_kind.Statement.{statement}
 use Rattle.job.proofs.pins.pin_kind.Tie as tie
 
-enum-told : tie.Need-enum-told
-enum-told c = search needs
-
 source-kind-requires : tie.Need-source-kind-requires
 source-kind-requires c κs = search needs
-
-enum-told-2 : tie.Need-enum-told-2
-enum-told-2 c = search needs
 
 sink-kind-requires : tie.Need-sink-kind-requires
 sink-kind-requires c κs = search needs
@@ -25,6 +19,4 @@ returns-2 : tie.Need-returns-2
 returns-2 c = c .sink-kind .ensures ∙ ap (λ pin. pinKind pin (c .before .before .before .args .kind)) (sym (c .before .enum-told2 .given .1))
 
 pub pin-kind-spec : {M : Type 1} → statement M
-pin-kind-spec =
-    tie.close
-    (tie.spec enum-told source-kind-requires enum-told-2 sink-kind-requires returns returns-2)
+pin-kind-spec = tie.close (tie.spec (λ c. search needs) source-kind-requires (λ c. search needs) sink-kind-requires returns returns-2)

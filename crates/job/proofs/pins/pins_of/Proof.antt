@@ -22,12 +22,6 @@ abbrev μ-loop : tie.MeasureT-loop
 loop-holds : tie.Need-loop-holds Inv-loop μ-loop
 loop-holds c = below-none _
 
-mul-kind-at : tie.Need-mul-kind-at Inv-loop μ-loop
-mul-kind-at c = search needs
-
-shared-slice-read-kind-at : tie.Need-shared-slice-read-kind-at Inv-loop μ-loop
-shared-slice-read-kind-at c = search needs
-
 cast-kind-at : tie.Need-cast-kind-at Inv-loop μ-loop
 cast-kind-at c = omega (arith, c .shared-slice-known3 .given (c .before .before .loop .i))
 
@@ -44,12 +38,6 @@ returns c =
     sym (pin-bad _ _ _ (head .loop .i) (search needs)
     (refused (c .before .pin-kind .ensures ∙ ap (pinKind (entry .args .pin)) (c .before .before .kind-at .ensures)) (c .if1 .taken)))
 
-add-i : tie.Need-add-i Inv-loop μ-loop
-add-i c = search needs
-
-loop-less : tie.Need-loop-less Inv-loop μ-loop
-loop-less c = search needs
-
 loop-again : tie.Need-loop-again Inv-loop μ-loop
 loop-again c =
     let head = c .before .before .before .before .before in
@@ -63,17 +51,5 @@ returns-2 c = sym (pins-all _ _ _ _ (search needs) (c .before .loop .inv))
 pub pins-of-spec : {M : Type 1} → statement M
 pins-of-spec =
     tie.close
-    (tie.spec
-    Inv-loop
-    μ-loop
-    loop-holds
-    mul-kind-at
-    shared-slice-read-kind-at
-    cast-kind-at
-    kind-at-requires
-    pin-kind-requires
-    returns
-    add-i
-    loop-less
-    loop-again
-    returns-2)
+    (tie.spec Inv-loop μ-loop loop-holds (λ c. search needs) (λ c. search needs) cast-kind-at kind-at-requires pin-kind-requires returns
+    (λ c. search needs) (λ c. search needs) loop-again returns-2)

@@ -23,20 +23,11 @@ returns c = sym (criticalities-length _ _ (search needs))
 loop-holds : tie.Need-loop-holds Inv-loop μ-loop
 loop-holds c = below-none _
 
-shared-slice-read-if2 : tie.Need-shared-slice-read-if2 Inv-loop μ-loop
-shared-slice-read-if2 c = search needs
-
 cast-if2 : tie.Need-cast-if2 Inv-loop μ-loop
 cast-if2 c = omega (arith, c .shared-slice-known .given (c .before .before .loop .i))
 
 returns-2 : tie.Need-returns-2 Inv-loop μ-loop
 returns-2 c = sym (criticalities-bad _ _ (c .before .before .before .loop .i) (search needs) (search needs))
-
-add-i : tie.Need-add-i Inv-loop μ-loop
-add-i c = search needs
-
-loop-less : tie.Need-loop-less Inv-loop μ-loop
-loop-less c = search needs
 
 loop-again : tie.Need-loop-again Inv-loop μ-loop
 loop-again c = below-more _ _ (c .before .before .before .loop .inv) (search needs)
@@ -47,15 +38,5 @@ returns-3 c = sym (criticalities-all _ _ _ (search needs) (search needs) (c .bef
 pub criticalities-sound-spec : {M : Type 1} → statement M
 criticalities-sound-spec =
     tie.close
-    (tie.spec
-    Inv-loop
-    μ-loop
-    returns
-    loop-holds
-    shared-slice-read-if2
-    cast-if2
-    returns-2
-    add-i
-    loop-less
-    loop-again
+    (tie.spec Inv-loop μ-loop returns loop-holds (λ c. search needs) cast-if2 returns-2 (λ c. search needs) (λ c. search needs) loop-again
     returns-3)

@@ -5,9 +5,6 @@ use Rattle.job.proofs.NetTableLaws.{named-untimed}
 use Rattle.job.proofs.tables.faulty_block.Statement.{statement}
 use Rattle.job.proofs.tables.faulty_block.Tie as tie
 
-slice-aggregate-faulty-with-delays : tie.Need-slice-aggregate-faulty-with-delays
-slice-aggregate-faulty-with-delays c = search needs
-
 faulty-with-delays-requires : tie.Need-faulty-with-delays-requires
 faulty-with-delays-requires c κs = search needs
 
@@ -15,4 +12,4 @@ returns : tie.Need-returns
 returns c = named-untimed _ _ (c .faulty-with-delays .ensures)
 
 pub faulty-block-spec : {M : Type 1} → statement M
-faulty-block-spec = tie.close (tie.spec slice-aggregate-faulty-with-delays faulty-with-delays-requires returns)
+faulty-block-spec = tie.close (tie.spec (λ c. search needs) faulty-with-delays-requires returns)

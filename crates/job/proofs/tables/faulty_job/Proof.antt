@@ -43,5 +43,4 @@ returns-3 c =
     faulty-by-times (job (entry sound)) (sound .before .faulty-block .ensures) (sound .if1 .left) (c .before .before .faulty-nets .ensures) _ _ (c .before .if2 .left) refl refl (c .faulty-times .ensures)
 
 pub faulty-job-spec : {M : Type 1} → statement M
-faulty-job-spec =
-    tie.close (tie.spec faulty-block-requires returns faulty-nets-requires returns-2 faulty-times-requires returns-3)
+faulty-job-spec = tie.close (tie.spec faulty-block-requires returns faulty-nets-requires returns-2 faulty-times-requires returns-3)

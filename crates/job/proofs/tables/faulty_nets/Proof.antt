@@ -101,17 +101,5 @@ returns-7 c =
 pub faulty-nets-spec : {M : Type 1} → statement M
 faulty-nets-spec =
     tie.close
-    (tie.spec
-    sources-sound-requires
-    returns
-    pins-of-requires
-    returns-2
-    first-sinks-sound-requires
-    returns-3
-    sinks-sound-requires
-    returns-4
-    pins-of-requires-2
-    returns-5
-    terms-sound-requires
-    returns-6
-    returns-7)
+    (tie.spec sources-sound-requires returns pins-of-requires returns-2 first-sinks-sound-requires returns-3 sinks-sound-requires returns-4
+    pins-of-requires-2 returns-5 terms-sound-requires returns-6 returns-7)

@@ -41,12 +41,4 @@ returns-4 c =
     (passed (c .before .criticalities-sound .ensures) (c .if3 .left)))
 
 pub faulty-times-spec : {M : Type 1} → statement M
-faulty-times-spec =
-    tie.close
-    (tie.spec
-    returns
-    faulty-with-delays-requires
-    returns-2
-    criticalities-sound-requires
-    returns-3
-    returns-4)
+faulty-times-spec = tie.close (tie.spec returns faulty-with-delays-requires returns-2 criticalities-sound-requires returns-3 returns-4)

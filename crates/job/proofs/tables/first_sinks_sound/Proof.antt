@@ -8,14 +8,8 @@ use Rattle.job.proofs.NetTableLaws.{firsts-length, firsts-begin, firsts
 use Rattle.job.proofs.tables.first_sinks_sound.Statement.{statement}
 use Rattle.job.proofs.tables.first_sinks_sound.Tie as tie
 
-add-if1 : tie.Need-add-if1
-add-if1 c = search needs
-
 returns : tie.Need-returns
 returns c = sym (firsts-length _ _ _ (search needs))
-
-shared-slice-read-if2 : tie.Need-shared-slice-read-if2
-shared-slice-read-if2 c = search needs
 
 returns-2 : tie.Need-returns-2
 returns-2 c = sym (firsts-begin _ _ _ (search needs) (search needs))
@@ -26,12 +20,6 @@ rises-requires c κs = search needs
 returns-3 : tie.Need-returns-3
 returns-3 c = sym (firsts-stay _ _ _ (search needs) (search needs) (refused (c .before .rises .ensures) (c .if3 .taken)))
 
-mul-result : tie.Need-mul-result
-mul-result c = search needs
-
-shared-slice-read-result : tie.Need-shared-slice-read-result
-shared-slice-read-result c = search needs
-
 cast-result : tie.Need-cast-result
 cast-result c = omega (arith, c .shared-slice-known3 .given (c .before .before .before .before .before .before .before .args .nets))
 
@@ -41,14 +29,5 @@ returns-4 c = sym (firsts-last _ _ _ (search needs) (search needs) (passed (c .b
 pub first-sinks-sound-spec : {M : Type 1} → statement M
 first-sinks-sound-spec =
     tie.close
-    (tie.spec
-    add-if1
-    returns
-    shared-slice-read-if2
-    returns-2
-    rises-requires
-    returns-3
-    mul-result
-    shared-slice-read-result
-    cast-result
-    returns-4)
+    (tie.spec (λ c. search needs) returns (λ c. search needs) returns-2 rises-requires returns-3 (λ c. search needs) (λ c. search needs)
+    cast-result returns-4)

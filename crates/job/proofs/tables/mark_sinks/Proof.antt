@@ -22,12 +22,6 @@ head c = c .before .before .before .before
 loop-holds : tie.Need-loop-holds Inv-loop μ-loop
 loop-holds c = marking-none _ _ _
 
-mul-s : tie.Need-mul-s Inv-loop μ-loop
-mul-s c = omega arith
-
-shared-slice-read-s : tie.Need-shared-slice-read-s Inv-loop μ-loop
-shared-slice-read-s c = omega arith
-
 cast-s : tie.Need-cast-s Inv-loop μ-loop
 cast-s c = omega (arith, c .shared-slice-known .given (c .before .before .loop .i))
 
@@ -49,12 +43,6 @@ returns-2 c = (sym (marking-twice (head (c .before) .loop .inv) (omega arith) (c
 slice-write-seen : tie.Need-slice-write-seen Inv-loop μ-loop
 slice-write-seen c = omega (arith, head (c .before) .loop .inv .stored .long)
 
-add-i : tie.Need-add-i Inv-loop μ-loop
-add-i c = omega arith
-
-loop-less : tie.Need-loop-less Inv-loop μ-loop
-loop-less c = omega arith
-
 loop-again : tie.Need-loop-again Inv-loop μ-loop
 loop-again c = marking-more (head (c .before) .loop .inv) (omega arith) (omega arith) (omega arith) (c .if2 .left)
 
@@ -67,21 +55,5 @@ returns-3 c = (sym (marking-free (c .before .loop .inv) (omega arith)), λ e. st
 pub mark-sinks-spec : {M : Type 1} → statement M
 mark-sinks-spec =
     tie.close
-    (tie.spec
-    Inv-loop
-    μ-loop
-    loop-holds
-    mul-s
-    shared-slice-read-s
-    cast-s
-    same-length
-    returns
-    slice-read-if2
-    same-length-2
-    returns-2
-    slice-write-seen
-    add-i
-    loop-less
-    loop-again
-    same-length-3
-    returns-3)
+    (tie.spec Inv-loop μ-loop loop-holds (λ c. omega arith) (λ c. omega arith) cast-s same-length returns slice-read-if2 same-length-2
+    returns-2 slice-write-seen (λ c. omega arith) (λ c. omega arith) loop-again same-length-3 returns-3)

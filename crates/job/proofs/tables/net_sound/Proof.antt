@@ -17,9 +17,6 @@ entry c = c .before .before .before .before
 abbrev marked : tie.After-unmark-sinks → tie.After-mark-sinks
 marked c = c .before .before .before .before .before
 
-slice-write-seen : tie.Need-slice-write-seen
-slice-write-seen c = search needs
-
 mark-sinks-requires : tie.Need-mark-sinks-requires
 mark-sinks-requires c κs = search needs
 
@@ -70,12 +67,4 @@ returns-2 c =
 pub net-sound-spec : {M : Type 1} → statement M
 net-sound-spec =
     tie.close
-    (tie.spec
-    slice-write-seen
-    mark-sinks-requires
-    same-length
-    returns
-    unmark-sinks-requires
-    slice-write-seen-2
-    same-length-2
-    returns-2)
+    (tie.spec (λ c. search needs) mark-sinks-requires same-length returns unmark-sinks-requires slice-write-seen-2 same-length-2 returns-2)

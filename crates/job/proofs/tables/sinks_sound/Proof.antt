@@ -44,9 +44,6 @@ shared-slice-read-from c = omega (arith, firsts-long _ _ _ (entry (c .before .be
 cast-from : tie.Need-cast-from Inv-loop μ-loop
 cast-from c = omega (arith, c .shared-slice-known4 .given (c .before .before .loop .i))
 
-add-to : tie.Need-add-to Inv-loop μ-loop
-add-to c = omega arith
-
 mul-to : tie.Need-mul-to Inv-loop μ-loop
 mul-to c = omega (arith, firsts-long _ _ _ (entry (c .before .before) .pre .1 .1))
 
@@ -55,12 +52,6 @@ shared-slice-read-to c = omega (arith, firsts-long _ _ _ (entry (c .before .befo
 
 cast-to : tie.Need-cast-to Inv-loop μ-loop
 cast-to c = omega (arith, c .shared-slice-known5 .given (c .before .before .before .loop .i + 1))
-
-mul-net-sound : tie.Need-mul-net-sound Inv-loop μ-loop
-mul-net-sound c = omega arith
-
-shared-slice-read-net-sound : tie.Need-shared-slice-read-net-sound Inv-loop μ-loop
-shared-slice-read-net-sound c = omega arith
 
 mul-net-sound-2 : tie.Need-mul-net-sound-2 Inv-loop μ-loop
 mul-net-sound-2 c = omega (arith, firsts-most _ _ _ (entry (turn c) .pre .1 .1) (turn c .loop .i) (omega arith))
@@ -91,12 +82,6 @@ returns-2 c =
     let answer = net-answer (a .n) (a .source .now) (a .first-sink .now) (a .sink .now) i (c .before .before .net-sound .ensures .0) in
     sym (nets-bad _ _ _ _ i (read .before .before .before .loop-test .taken) (refused answer (c .if2 .taken)))
 
-add-i : tie.Need-add-i Inv-loop μ-loop
-add-i c = omega arith
-
-loop-less : tie.Need-loop-less Inv-loop μ-loop
-loop-less c = omega arith
-
 loop-again : tie.Need-loop-again Inv-loop μ-loop
 loop-again c =
     let at : Head = turn (c .before .before .before .before .before) in
@@ -112,28 +97,6 @@ returns-3 c = sym (nets-all _ _ _ _ (c .before .loop .i) (omega arith) (omega ar
 pub sinks-sound-spec : {M : Type 1} → statement M
 sinks-sound-spec =
     tie.close
-    (tie.spec
-    Inv-loop
-    μ-loop
-    returns
-    loop-holds
-    mul-from
-    shared-slice-read-from
-    cast-from
-    add-to
-    mul-to
-    shared-slice-read-to
-    cast-to
-    mul-net-sound
-    shared-slice-read-net-sound
-    mul-net-sound-2
-    sub-net-sound
-    part-net-sound-start
-    part-net-sound-end
-    slice-aggregate-net-sound
-    net-sound-requires
-    returns-2
-    add-i
-    loop-less
-    loop-again
-    returns-3)
+    (tie.spec Inv-loop μ-loop returns loop-holds mul-from shared-slice-read-from cast-from (λ c. omega arith) mul-to shared-slice-read-to
+    cast-to (λ c. omega arith) (λ c. omega arith) mul-net-sound-2 sub-net-sound part-net-sound-start part-net-sound-end
+    slice-aggregate-net-sound net-sound-requires returns-2 (λ c. omega arith) (λ c. omega arith) loop-again returns-3)

@@ -25,23 +25,11 @@ returns-2 c = sym (sources-many _ _ (search needs))
 loop-holds : tie.Need-loop-holds Inv-loop μ-loop
 loop-holds c = below-none _
 
-mul-if3 : tie.Need-mul-if3 Inv-loop μ-loop
-mul-if3 c = search needs
-
-shared-slice-read-if3 : tie.Need-shared-slice-read-if3 Inv-loop μ-loop
-shared-slice-read-if3 c = search needs
-
 cast-if3 : tie.Need-cast-if3 Inv-loop μ-loop
 cast-if3 c = omega (arith, c .shared-slice-known .given (c .before .before .loop .i))
 
 returns-3 : tie.Need-returns-3 Inv-loop μ-loop
 returns-3 c = sym (sources-bad _ _ (c .before .before .before .loop .i) (search needs) (search needs))
-
-add-i : tie.Need-add-i Inv-loop μ-loop
-add-i c = search needs
-
-loop-less : tie.Need-loop-less Inv-loop μ-loop
-loop-less c = search needs
 
 loop-again : tie.Need-loop-again Inv-loop μ-loop
 loop-again c = below-more _ _ (c .before .before .before .loop .inv) (search needs)
@@ -52,17 +40,5 @@ returns-4 c = sym (sources-all _ _ _ (search needs) (search needs) (search needs
 pub sources-sound-spec : {M : Type 1} → statement M
 sources-sound-spec =
     tie.close
-    (tie.spec
-    Inv-loop
-    μ-loop
-    returns
-    returns-2
-    loop-holds
-    mul-if3
-    shared-slice-read-if3
-    cast-if3
-    returns-3
-    add-i
-    loop-less
-    loop-again
-    returns-4)
+    (tie.spec Inv-loop μ-loop returns returns-2 loop-holds (λ c. search needs) (λ c. search needs) cast-if3 returns-3 (λ c. search needs)
+    (λ c. search needs) loop-again returns-4)

@@ -48,23 +48,8 @@ entry t = t .before .before .before .before .before
 loop-holds : tie.Need-loop-holds Inv-loop μ-loop
 loop-holds c = (omega arith, refl, filled-none (becomes (c .before .before .before)) _)
 
-mul-next-history : tie.Need-mul-next-history Inv-loop μ-loop
-mul-next-history c = omega arith
-
-slice-read-next-history : tie.Need-slice-read-next-history Inv-loop μ-loop
-slice-read-next-history c = omega arith
-
-mul-next-history-2 : tie.Need-mul-next-history-2 Inv-loop μ-loop
-mul-next-history-2 c = omega arith
-
-shared-slice-read-next-history : tie.Need-shared-slice-read-next-history Inv-loop μ-loop
-shared-slice-read-next-history c = omega arith
-
 cast-next-history : tie.Need-cast-next-history Inv-loop μ-loop
 cast-next-history c = omega (arith, c .shared-slice-known3 .given (c .before .before .before .loop .v))
-
-shared-slice-read-next-history-2 : tie.Need-shared-slice-read-next-history-2 Inv-loop μ-loop
-shared-slice-read-next-history-2 c = omega arith
 
 cast-next-history-2 : tie.Need-cast-next-history-2 Inv-loop μ-loop
 cast-next-history-2 c = omega (arith, c .shared-slice-known4 .given (c .before .before .before .before .loop .v))
@@ -89,18 +74,6 @@ cast-history c =
           (c .before .before .shared-slice-known3 .given (turn .before .loop .v) .fits);
     })
 
-mul-history : tie.Need-mul-history Inv-loop μ-loop
-mul-history c = omega arith
-
-slice-write-history : tie.Need-slice-write-history Inv-loop μ-loop
-slice-write-history c = omega arith
-
-add-v : tie.Need-add-v Inv-loop μ-loop
-add-v c = omega arith
-
-loop-less : tie.Need-loop-less Inv-loop μ-loop
-loop-less c = omega arith
-
 loop-again : tie.Need-loop-again Inv-loop μ-loop
 loop-again c =
     let turn = c .before .before .before .before in (
@@ -121,23 +94,6 @@ returns c =
 pub grow-histories-spec : {M : Type 1} → statement M
 grow-histories-spec =
     tie.close
-    (tie.spec
-    Inv-loop
-    μ-loop
-    loop-holds
-    mul-next-history
-    slice-read-next-history
-    mul-next-history-2
-    shared-slice-read-next-history
-    cast-next-history
-    shared-slice-read-next-history-2
-    cast-next-history-2
-    next-history-requires
-    cast-history
-    mul-history
-    slice-write-history
-    add-v
-    loop-less
-    loop-again
-    same-length
-    returns)
+    (tie.spec Inv-loop μ-loop loop-holds (λ c. omega arith) (λ c. omega arith) (λ c. omega arith) (λ c. omega arith) cast-next-history
+    (λ c. omega arith) cast-next-history-2 next-history-requires cast-history (λ c. omega arith) (λ c. omega arith) (λ c. omega arith)
+    (λ c. omega arith) loop-again same-length returns)

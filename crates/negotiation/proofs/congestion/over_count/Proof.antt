@@ -38,29 +38,14 @@ abbrev μ-loop : tie.MeasureT-loop
 loop-holds : tie.Need-loop-holds Inv-loop μ-loop
 loop-holds c = (omega arith, none _)
 
-shared-slice-read-if1 : tie.Need-shared-slice-read-if1 Inv-loop μ-loop
-shared-slice-read-if1 c = omega arith
-
 cast-if1 : tie.Need-cast-if1 Inv-loop μ-loop
 cast-if1 c = omega (arith, c .shared-slice-known .given (c .before .before .loop .v))
-
-mul-if1 : tie.Need-mul-if1 Inv-loop μ-loop
-mul-if1 c = omega arith
-
-shared-slice-read-if1-2 : tie.Need-shared-slice-read-if1-2 Inv-loop μ-loop
-shared-slice-read-if1-2 c = omega arith
 
 add-over : tie.Need-add-over Inv-loop μ-loop
 add-over c =
     let head = c .before .before .before .before in
     let a = head .before .args in
     omega (arith, count-most (λ (u : ℕ). ltb (getD (a .capacity .now) u 0) (getD (a .users .now) u 0)) (head .loop .v))
-
-add-v : tie.Need-add-v Inv-loop μ-loop
-add-v c = omega arith
-
-loop-less : tie.Need-loop-less Inv-loop μ-loop
-loop-less c = omega arith
 
 loop-again : tie.Need-loop-again Inv-loop μ-loop
 loop-again c =
@@ -80,16 +65,5 @@ returns c =
 pub over-count-spec : {M : Type 1} → statement M
 over-count-spec =
     tie.close
-    (tie.spec
-    Inv-loop
-    μ-loop
-    loop-holds
-    shared-slice-read-if1
-    cast-if1
-    mul-if1
-    shared-slice-read-if1-2
-    add-over
-    add-v
-    loop-less
-    loop-again
-    returns)
+    (tie.spec Inv-loop μ-loop loop-holds (λ c. omega arith) cast-if1 (λ c. omega arith) (λ c. omega arith) add-over (λ c. omega arith)
+    (λ c. omega arith) loop-again returns)

@@ -8,21 +8,6 @@ use Rattle.negotiation.proofs.CrowdedLaws.{takes-none, takes-all, takes
 use Rattle.negotiation.proofs.due.due_mark.Statement.{statement}
 use Rattle.negotiation.proofs.due.due_mark.Tie as tie
 
-add-if1 : tie.Need-add-if1
-add-if1 c = search needs
-
-mul-if1 : tie.Need-mul-if1
-mul-if1 c = search needs
-
-shared-slice-read-if1 : tie.Need-shared-slice-read-if1
-shared-slice-read-if1 c = search needs
-
-mul-if1-2 : tie.Need-mul-if1-2
-mul-if1-2 c = search needs
-
-shared-slice-read-if1-2 : tie.Need-shared-slice-read-if1-2
-shared-slice-read-if1-2 c = search needs
-
 returns : tie.Need-returns
 returns c =
     let a = c .before .before .before .before .before .before .before .before .before .args in
@@ -32,18 +17,6 @@ returns-2 : tie.Need-returns-2
 returns-2 c =
     let a = c .before .before .before .before .before .before .before .before .before .before .args in
     takes-all (a .all) (a .capacity .now) (a .first-sink .now) (a .log .now) (a .tree-from .now) (a .tree-to .now) (a .users .now) (a .net) (omega (arith, c .before .if1 .left)) (c .if2 .taken)
-
-mul-from : tie.Need-mul-from
-mul-from c = search needs
-
-shared-slice-read-from : tie.Need-shared-slice-read-from
-shared-slice-read-from c = search needs
-
-mul-to : tie.Need-mul-to
-mul-to c = search needs
-
-shared-slice-read-to : tie.Need-shared-slice-read-to
-shared-slice-read-to c = search needs
 
 records-crowded-requires : tie.Need-records-crowded-requires
 records-crowded-requires c κs =
@@ -70,18 +43,5 @@ returns-4 c =
 pub due-mark-spec : {M : Type 1} → statement M
 due-mark-spec =
     tie.close
-    (tie.spec
-    add-if1
-    mul-if1
-    shared-slice-read-if1
-    mul-if1-2
-    shared-slice-read-if1-2
-    returns
-    returns-2
-    mul-from
-    shared-slice-read-from
-    mul-to
-    shared-slice-read-to
-    records-crowded-requires
-    returns-3
-    returns-4)
+    (tie.spec (λ c. search needs) (λ c. search needs) (λ c. search needs) (λ c. search needs) (λ c. search needs) returns returns-2
+    (λ c. search needs) (λ c. search needs) (λ c. search needs) (λ c. search needs) records-crowded-requires returns-3 returns-4)

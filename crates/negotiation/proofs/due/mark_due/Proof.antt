@@ -42,15 +42,6 @@ loop-holds c = (omega arith, refl, filled-none (mark-at (c .before .before .befo
 due-mark-requires : tie.Need-due-mark-requires Inv-loop μ-loop
 due-mark-requires c κs = let pre = entry (c .before) .pre in (pre .0, omega (arith, pre .1))
 
-slice-write-due : tie.Need-slice-write-due Inv-loop μ-loop
-slice-write-due c = omega arith
-
-add-net : tie.Need-add-net Inv-loop μ-loop
-add-net c = omega arith
-
-loop-less : tie.Need-loop-less Inv-loop μ-loop
-loop-less c = omega arith
-
 loop-again : tie.Need-loop-again Inv-loop μ-loop
 loop-again c =
     let head : tie.At-loop Inv-loop μ-loop = c .before .before in
@@ -74,15 +65,5 @@ returns c =
 pub mark-due-spec : {M : Type 1} → statement M
 mark-due-spec =
     tie.close
-    (tie.spec
-    Inv-loop
-    μ-loop
-    all-due-requires
-    loop-holds
-    due-mark-requires
-    slice-write-due
-    add-net
-    loop-less
-    loop-again
-    same-length
-    returns)
+    (tie.spec Inv-loop μ-loop all-due-requires loop-holds due-mark-requires (λ c. omega arith) (λ c. omega arith) (λ c. omega arith)
+    loop-again same-length returns)

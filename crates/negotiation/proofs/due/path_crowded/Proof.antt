@@ -25,12 +25,6 @@ node c = node-below (c .loop-test .taken) (c .before .before .pre .1) (c .before
 loop-holds : tie.Need-loop-holds Inv-loop μ-loop
 loop-holds c = (between-none _ _ _ (c .pre .0 .0) (c .pre .0 .1), rw slice-empty (over-none _ _))
 
-mul-v : tie.Need-mul-v Inv-loop μ-loop
-mul-v c = omega arith
-
-shared-slice-read-v : tie.Need-shared-slice-read-v Inv-loop μ-loop
-shared-slice-read-v c = omega arith
-
 cast-v : tie.Need-cast-v Inv-loop μ-loop
 cast-v c = omega (arith, c .shared-slice-known .given (c .before .before .loop .k))
 
@@ -54,12 +48,6 @@ returns c =
     let inv = inside .before .loop .inv in
     sym (over-node _ _ (inside .loop-test .taken) (inv .0) (inv .1) (omega (arith, c .if1 .taken)))
 
-add-k : tie.Need-add-k Inv-loop μ-loop
-add-k c = omega arith
-
-loop-less : tie.Need-loop-less Inv-loop μ-loop
-loop-less c = omega arith
-
 loop-again : tie.Need-loop-again Inv-loop μ-loop
 loop-again c =
     let inside = c .before .before .before .before in
@@ -76,19 +64,5 @@ returns-2 c =
 pub path-crowded-spec : {M : Type 1} → statement M
 path-crowded-spec =
     tie.close
-    (tie.spec
-    Inv-loop
-    μ-loop
-    loop-holds
-    mul-v
-    shared-slice-read-v
-    cast-v
-    shared-slice-read-if1
-    cast-if1
-    mul-if1
-    shared-slice-read-if1-2
-    returns
-    add-k
-    loop-less
-    loop-again
-    returns-2)
+    (tie.spec Inv-loop μ-loop loop-holds (λ c. omega arith) (λ c. omega arith) cast-v shared-slice-read-if1 cast-if1 mul-if1
+    shared-slice-read-if1-2 returns (λ c. omega arith) (λ c. omega arith) loop-again returns-2)

@@ -77,19 +77,5 @@ returns-2 c = sym (walking-all (c .before .loop .inv) (c .loop-test .left))
 pub records-crowded-spec : {M : Type 1} → statement M
 records-crowded-spec =
     tie.close
-    (tie.spec
-    Inv-loop
-    μ-loop
-    loop-holds
-    add-end
-    add-end-2
-    mul-end
-    shared-slice-read-end
-    cast-end
-    add-end-3
-    add-path-crowded
-    path-crowded-requires
-    returns
-    loop-less
-    loop-again
-    returns-2)
+    (tie.spec Inv-loop μ-loop loop-holds add-end add-end-2 mul-end shared-slice-read-end cast-end add-end-3 add-path-crowded
+    path-crowded-requires returns loop-less loop-again returns-2)

@@ -122,23 +122,5 @@ returns-2 c =
 pub flood-spec : {M : Type 1} → statement M
 flood-spec =
     tie.close
-    (tie.spec
-    Inv-loop
-    μ-loop
-    clear-marks-requires
-    slice-write-reached
-    slice-write-work
-    loop-holds
-    missing-sink-requires
-    same-length
-    same-length-2
-    returns
-    mul-u
-    slice-read-u
-    flood-row-requires
-    add-next
-    loop-less
-    loop-again
-    same-length-3
-    same-length-4
-    returns-2)
+    (tie.spec Inv-loop μ-loop clear-marks-requires slice-write-reached slice-write-work loop-holds missing-sink-requires same-length
+    same-length-2 returns mul-u slice-read-u flood-row-requires add-next loop-less loop-again same-length-3 same-length-4 returns-2)

@@ -107,9 +107,6 @@ add-last c =
 add-e : tie.Need-add-e Inv-loop μ-loop
 add-e c = omega (arith, row-within (entry (turn (c .before))))
 
-loop-less : tie.Need-loop-less Inv-loop μ-loop
-loop-less c = omega arith
-
 -- (the turn is written out: under `turn` the second `rw` finds no motive)
 loop-again : tie.Need-loop-again Inv-loop μ-loop
 loop-again c =
@@ -149,28 +146,6 @@ returns c =
 pub flood-row-spec : {M : Type 1} → statement M
 flood-row-spec =
     tie.close
-    (tie.spec
-    Inv-loop
-    μ-loop
-    add-to
-    mul-to
-    shared-slice-read-to
-    cast-to
-    mul-e
-    shared-slice-read-e
-    cast-e
-    loop-holds
-    mul-v
-    shared-slice-read-v
-    cast-v
-    mul-work
-    slice-write-work
-    slice-read-if2
-    slice-write-reached
-    add-last
-    add-e
-    loop-less
-    loop-again
-    same-length
-    same-length-2
-    returns)
+    (tie.spec Inv-loop μ-loop add-to mul-to shared-slice-read-to cast-to mul-e shared-slice-read-e cast-e loop-holds mul-v
+    shared-slice-read-v cast-v mul-work slice-write-work slice-read-if2 slice-write-reached add-last add-e (λ c. omega arith) loop-again
+    same-length same-length-2 returns)

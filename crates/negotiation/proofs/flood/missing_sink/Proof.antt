@@ -16,12 +16,6 @@ abbrev μ-loop : tie.MeasureT-loop
 loop-holds : tie.Need-loop-holds Inv-loop μ-loop
 loop-holds c = (c .pre .1, λ p l h. absurd (omega arith))
 
-mul-s : tie.Need-mul-s Inv-loop μ-loop
-mul-s c = omega arith
-
-shared-slice-read-s : tie.Need-shared-slice-read-s Inv-loop μ-loop
-shared-slice-read-s c = omega arith
-
 cast-s : tie.Need-cast-s Inv-loop μ-loop
 cast-s c = omega (arith, c .shared-slice-known .given (c .before .before .loop .place))
 
@@ -30,12 +24,6 @@ shared-slice-read-if1 c = c .before .before .before .before .pre .0 (c .before .
 
 returns : tie.Need-returns Inv-loop μ-loop
 returns c = let inv = c .before .before .before .before .loop .inv in record { within = inv .0; before = inv .1; here = λ h. c .if1 .taken }
-
-add-place : tie.Need-add-place Inv-loop μ-loop
-add-place c = omega arith
-
-loop-less : tie.Need-loop-less Inv-loop μ-loop
-loop-less c = omega arith
 
 loop-again : tie.Need-loop-again Inv-loop μ-loop
 loop-again c = (omega arith, below-more _ _ (c .before .before .before .before .loop .inv .1) (λ h. omega (arith, c .if1 .left)))
@@ -46,16 +34,5 @@ returns-2 c = record { within = c .before .loop .inv .0; before = c .before .loo
 pub missing-sink-spec : {M : Type 1} → statement M
 missing-sink-spec =
     tie.close
-    (tie.spec
-    Inv-loop
-    μ-loop
-    loop-holds
-    mul-s
-    shared-slice-read-s
-    cast-s
-    shared-slice-read-if1
-    returns
-    add-place
-    loop-less
-    loop-again
-    returns-2)
+    (tie.spec Inv-loop μ-loop loop-holds (λ c. omega arith) (λ c. omega arith) cast-s shared-slice-read-if1 returns (λ c. omega arith)
+    (λ c. omega arith) loop-again returns-2)

@@ -7,15 +7,6 @@ use Rattle.negotiation.proofs.TurnTestLaws.{cost-low, cost-high}
 use Rattle.negotiation.proofs.follow.cost_is.Statement.{statement}
 use Rattle.negotiation.proofs.follow.cost_is.Tie as tie
 
-add-if1 : tie.Need-add-if1
-add-if1 c = search needs
-
-mul-if1 : tie.Need-mul-if1
-mul-if1 c = search needs
-
-shared-slice-read-if1 : tie.Need-shared-slice-read-if1
-shared-slice-read-if1 c = search needs
-
 cast-if1 : tie.Need-cast-if1
 cast-if1 c = omega (arith, c .shared-slice-known .given (c .before .args .at + 3))
 
@@ -23,15 +14,6 @@ returns : tie.Need-returns
 returns c =
     let a = c .before .before .args in
     cost-low (a .log .now) (a .at) (a .cost) (c .if1 .taken)
-
-add-result : tie.Need-add-result
-add-result c = search needs
-
-mul-result : tie.Need-mul-result
-mul-result c = search needs
-
-shared-slice-read-result : tie.Need-shared-slice-read-result
-shared-slice-read-result c = search needs
 
 cast-result : tie.Need-cast-result
 cast-result c = omega (arith, c .shared-slice-known2 .given (c .before .before .before .args .at + 4))
@@ -44,14 +26,5 @@ returns-2 c =
 pub cost-is-spec : {M : Type 1} → statement M
 cost-is-spec =
     tie.close
-    (tie.spec
-    add-if1
-    mul-if1
-    shared-slice-read-if1
-    cast-if1
-    returns
-    add-result
-    mul-result
-    shared-slice-read-result
-    cast-result
-    returns-2)
+    (tie.spec (λ c. search needs) (λ c. search needs) (λ c. search needs) cast-if1 returns (λ c. search needs) (λ c. search needs)
+    (λ c. search needs) cast-result returns-2)

@@ -48,15 +48,6 @@ frame-follows-requires c κs = search needs
 returns : tie.Need-returns
 returns c = (turn-unframed (entry (c .before) .pre) _ _ (refused (c .before .frame-follows .ensures) (c .if1 .taken)), λ some. absurd (some refl))
 
-add-to : tie.Need-add-to
-add-to c = search needs
-
-add-to-2 : tie.Need-add-to-2
-add-to-2 c = search needs
-
-mul-to : tie.Need-mul-to
-mul-to c = search needs
-
 shared-slice-read-to : tie.Need-shared-slice-read-to
 shared-slice-read-to c = let long = frame (c .before) .long in omega arith
 
@@ -66,23 +57,11 @@ cast-to c = omega (arith, c .shared-slice-known10 .given (entry (c .before .befo
 add-to-3 : tie.Need-add-to-3
 add-to-3 c = let long = frame (c .before) .long in omega arith
 
-add-path-cost : tie.Need-add-path-cost
-add-path-cost c = search needs
-
 path-cost-requires : tie.Need-path-cost-requires
 path-cost-requires c κs = turn-ready (entry (c .before .before .before) .pre) _ _ (follows (c .before .before))
 
-enum-told : tie.Need-enum-told
-enum-told c = search needs
-
-enum-known-cost : tie.Need-enum-known-cost
-enum-known-cost c = search needs
-
 cost-is-requires : tie.Need-cost-is-requires
 cost-is-requires c κs = let long = frame (framed (costing (c .before))) .long in omega arith
-
-same-length : tie.Need-same-length
-same-length c = search needs
 
 returns-2 : tie.Need-returns-2
 returns-2 c =
@@ -93,21 +72,12 @@ returns-2 c =
       λ some. absurd (some refl),
     )
 
-sub-result : tie.Need-sub-result
-sub-result c = search needs
-
-same-length-2 : tie.Need-same-length-2
-same-length-2 c = search needs
-
 returns-3 : tie.Need-returns-3
 returns-3 c =
     let made : tie.After-path-cost = passing (c .before .before) in (
       turn-strays (entry (framed made .before) .pre) _ _ (follows (framed made)) (made .path-cost .ensures .0) (c .enum-told .given .1),
       λ some. absurd (some refl),
     )
-
-same-length-3 : tie.Need-same-length-3
-same-length-3 c = search needs
 
 returns-4 : tie.Need-returns-4
 returns-4 c =
@@ -121,24 +91,6 @@ returns-4 c =
 pub follow-turn-spec : {M : Type 1} → statement M
 follow-turn-spec =
     tie.close
-    (tie.spec
-    frame-follows-requires
-    returns
-    add-to
-    add-to-2
-    mul-to
-    shared-slice-read-to
-    cast-to
-    add-to-3
-    add-path-cost
-    path-cost-requires
-    enum-told
-    enum-known-cost
-    cost-is-requires
-    same-length
-    returns-2
-    sub-result
-    same-length-2
-    returns-3
-    same-length-3
-    returns-4)
+    (tie.spec frame-follows-requires returns (λ c. search needs) (λ c. search needs) (λ c. search needs) shared-slice-read-to cast-to
+    add-to-3 (λ c. search needs) path-cost-requires (λ c. search needs) (λ c. search needs) cost-is-requires (λ c. search needs) returns-2
+    (λ c. search needs) (λ c. search needs) returns-3 (λ c. search needs) returns-4)

@@ -65,9 +65,6 @@ returns c =
 add-e : tie.Need-add-e Inv-loop μ-loop
 add-e c = omega (arith, row-within (entry (c .before .before)))
 
-loop-less : tie.Need-loop-less Inv-loop μ-loop
-loop-less c = omega arith
-
 loop-again : tie.Need-loop-again Inv-loop μ-loop
 loop-again c =
     let t = c .before .before in
@@ -79,22 +76,5 @@ returns-2 c = sym (row-none (c .before .loop .inv) (omega (arith, c .loop-test .
 pub has-edge-spec : {M : Type 1} → statement M
 has-edge-spec =
     tie.close
-    (tie.spec
-    Inv-loop
-    μ-loop
-    add-to
-    mul-to
-    shared-slice-read-to
-    cast-to
-    mul-e
-    shared-slice-read-e
-    cast-e
-    loop-holds
-    mul-if1
-    shared-slice-read-if1
-    cast-if1
-    returns
-    add-e
-    loop-less
-    loop-again
-    returns-2)
+    (tie.spec Inv-loop μ-loop add-to mul-to shared-slice-read-to cast-to mul-e shared-slice-read-e cast-e loop-holds mul-if1
+    shared-slice-read-if1 cast-if1 returns add-e (λ c. omega arith) loop-again returns-2)

@@ -114,9 +114,6 @@ shared-slice-read-v c =
 cast-v : tie.Need-cast-v Inv-loop μ-loop
 cast-v c = omega (arith, c .shared-slice-known11 .given (c .before .before .loop .k))
 
-add-last-mark : tie.Need-add-last-mark Inv-loop μ-loop
-add-last-mark c = omega arith
-
 last-mark-requires : tie.Need-last-mark-requires Inv-loop μ-loop
 last-mark-requires c κs = tt
 
@@ -151,12 +148,6 @@ slice-write-in-tree c =
     let long = turn (c .before .before) .before .loop .inv .marks-long in
     omega (arith, reached (c .before))
 
-add-k-2 : tie.Need-add-k-2 Inv-loop μ-loop
-add-k-2 c = omega arith
-
-loop-less : tie.Need-loop-less Inv-loop μ-loop
-loop-less c = omega arith
-
 loop-again : tie.Need-loop-again Inv-loop μ-loop
 loop-again c =
     let t : Turn = turn (c .before .before) in
@@ -175,30 +166,6 @@ returns-4 c =
 pub path-cost-spec : {M : Type 1} → statement M
 path-cost-spec =
     tie.close
-    (tie.spec
-    Inv-loop
-    μ-loop
-    mul-u
-    shared-slice-read-u
-    cast-u
-    returns
-    slice-read-if2
-    returns-2
-    add-k
-    loop-holds
-    mul-v
-    shared-slice-read-v
-    cast-v
-    add-last-mark
-    last-mark-requires
-    step-passes-requires
-    same-length
-    returns-3
-    node-price-requires
-    add-cost
-    slice-write-in-tree
-    add-k-2
-    loop-less
-    loop-again
-    same-length-2
-    returns-4)
+    (tie.spec Inv-loop μ-loop mul-u shared-slice-read-u cast-u returns slice-read-if2 returns-2 add-k loop-holds mul-v shared-slice-read-v
+    cast-v (λ c. omega arith) last-mark-requires step-passes-requires same-length returns-3 node-price-requires add-cost slice-write-in-tree
+    (λ c. omega arith) (λ c. omega arith) loop-again same-length-2 returns-4)

@@ -44,12 +44,4 @@ returns-3 : tie.Need-returns-3
 returns-3 c = step-goal _ _ _ _ _ _ (edge (c .before .before .before)) (c .before .if2 .left)
 
 pub step-passes-spec : {M : Type 1} → statement M
-step-passes-spec =
-    tie.close
-    (tie.spec
-    has-edge-requires
-    returns
-    shared-slice-read-if2
-    returns-2
-    shared-slice-read-result
-    returns-3)
+step-passes-spec = tie.close (tie.spec has-edge-requires returns shared-slice-read-if2 returns-2 shared-slice-read-result returns-3)

@@ -21,12 +21,6 @@ place c = let start = c .before .before in gather-within _ _ _ _ (start .pre .1)
 loop-holds : tie.Need-loop-holds Inv-loop μ-loop
 loop-holds c = gathering-none _ _ _ _
 
-mul-p : tie.Need-mul-p Inv-loop μ-loop
-mul-p c = search needs
-
-shared-slice-read-p : tie.Need-shared-slice-read-p Inv-loop μ-loop
-shared-slice-read-p c = search needs
-
 cast-p : tie.Need-cast-p Inv-loop μ-loop
 cast-p c = omega (arith, c .shared-slice-known .given (c .before .before .loop .k))
 
@@ -36,17 +30,8 @@ mul-entries c = omega (arith, place (c .before))
 shared-slice-read-entries : tie.Need-shared-slice-read-entries Inv-loop μ-loop
 shared-slice-read-entries c = place (c .before .before)
 
-mul-entries-2 : tie.Need-mul-entries-2 Inv-loop μ-loop
-mul-entries-2 c = omega arith
-
 slice-write-entries : tie.Need-slice-write-entries Inv-loop μ-loop
 slice-write-entries c = omega (arith, c .before .before .before .loop .inv .long)
-
-add-k : tie.Need-add-k Inv-loop μ-loop
-add-k c = search needs
-
-loop-less : tie.Need-loop-less Inv-loop μ-loop
-loop-less c = search needs
 
 loop-again : tie.Need-loop-again Inv-loop μ-loop
 loop-again c =
@@ -63,19 +48,5 @@ returns c = gathering-all (c .before .loop .inv) (search needs)
 pub gather-spec : {M : Type 1} → statement M
 gather-spec =
     tie.close
-    (tie.spec
-    Inv-loop
-    μ-loop
-    loop-holds
-    mul-p
-    shared-slice-read-p
-    cast-p
-    mul-entries
-    shared-slice-read-entries
-    mul-entries-2
-    slice-write-entries
-    add-k
-    loop-less
-    loop-again
-    same-length
-    returns)
+    (tie.spec Inv-loop μ-loop loop-holds (λ c. search needs) (λ c. search needs) cast-p mul-entries shared-slice-read-entries
+    (λ c. omega arith) slice-write-entries (λ c. search needs) (λ c. search needs) loop-again same-length returns)

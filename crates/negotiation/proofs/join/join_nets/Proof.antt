@@ -25,9 +25,6 @@ loop-holds c = joining-none _ _ _ _ _
 cast-firsts : tie.Need-cast-firsts Inv-loop μ-loop
 cast-firsts c = omega (arith, joining-few (c .before .loop .inv) (entry (c .before) .pre .0))
 
-mul-firsts : tie.Need-mul-firsts Inv-loop μ-loop
-mul-firsts c = search needs
-
 slice-write-firsts : tie.Need-slice-write-firsts Inv-loop μ-loop
 slice-write-firsts c = omega (arith, c .before .loop .inv .firsts-long)
 
@@ -40,12 +37,6 @@ join-one-requires c κs =
     let start = entry (inside .before) in
     let inv = inside .before .loop .inv in
     ((start .pre .0, joining-room inv (start .pre .1 .1)), (inside .loop-test .taken, inv .places-of))
-
-add-net : tie.Need-add-net Inv-loop μ-loop
-add-net c = search needs
-
-loop-less : tie.Need-loop-less Inv-loop μ-loop
-loop-less c = search needs
 
 loop-again : tie.Need-loop-again Inv-loop μ-loop
 loop-again c =
@@ -76,21 +67,5 @@ returns c = joining-all (c .before .loop .inv) (c .loop-test .left) (entry (c .b
 pub join-nets-spec : {M : Type 1} → statement M
 join-nets-spec =
     tie.close
-    (tie.spec
-    Inv-loop
-    μ-loop
-    loop-holds
-    cast-firsts
-    mul-firsts
-    slice-write-firsts
-    slice-aggregate-join-one
-    join-one-requires
-    add-net
-    loop-less
-    loop-again
-    cast-firsts-2
-    mul-firsts-2
-    slice-write-firsts-2
-    same-length
-    same-length-2
-    returns)
+    (tie.spec Inv-loop μ-loop loop-holds cast-firsts (λ c. search needs) slice-write-firsts slice-aggregate-join-one join-one-requires
+    (λ c. search needs) (λ c. search needs) loop-again cast-firsts-2 mul-firsts-2 slice-write-firsts-2 same-length same-length-2 returns)

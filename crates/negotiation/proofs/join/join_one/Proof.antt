@@ -31,12 +31,6 @@ take-net-requires c κs =
     let inv = inside .before .loop .inv in
     ((tables, room-kept inv room), ((start .pre .1 .0, inside .loop-test .taken), nets-room inv tables room (inside .loop-test .taken)))
 
-add-k : tie.Need-add-k Inv-loop μ-loop
-add-k c = search needs
-
-loop-less : tie.Need-loop-less Inv-loop μ-loop
-loop-less c = search needs
-
 loop-again : tie.Need-loop-again Inv-loop μ-loop
 loop-again c =
     let called = c .before .before .before .before in
@@ -56,16 +50,5 @@ returns-2 c = nets-all (c .before .loop .inv) (c .loop-test .left)
 pub join-one-spec : {M : Type 1} → statement M
 join-one-spec =
     tie.close
-    (tie.spec
-    Inv-loop
-    μ-loop
-    first-of-requires
-    returns
-    loop-holds
-    take-net-requires
-    add-k
-    loop-less
-    loop-again
-    same-length
-    same-length-2
-    returns-2)
+    (tie.spec Inv-loop μ-loop first-of-requires returns loop-holds take-net-requires (λ c. search needs) (λ c. search needs) loop-again
+    same-length same-length-2 returns-2)

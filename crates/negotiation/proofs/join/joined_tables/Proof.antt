@@ -30,22 +30,13 @@ module _ (c : tie.After-join-nets) where
 room : (c : tie.After-gather) → nets c .join-nets .result ≤ length (c .gather .last .1 .1 .1 .0)
 room c = omega (arith, few (nets c), entry (nets c) .pre .1 .0 .1, c .gather .kept .1 .1 .1 .0)
 
-slice-aggregate-join-nets : tie.Need-slice-aggregate-join-nets
-slice-aggregate-join-nets c = search needs
-
 join-nets-requires : tie.Need-join-nets-requires
 join-nets-requires c κs = search needs
-
-slice-aggregate-gather : tie.Need-slice-aggregate-gather
-slice-aggregate-gather c = search needs
 
 gather-requires : tie.Need-gather-requires
 gather-requires c κs =
     let at : tie.After-join-nets = c .before .before .before .before .before in
     ((at .join-nets .ensures .within, le-trans (few at) (entry at .pre .1 .0 .1)), places-below (entry at .pre .0) (at .join-nets .ensures))
-
-slice-aggregate-gather-bytes : tie.Need-slice-aggregate-gather-bytes
-slice-aggregate-gather-bytes c = search needs
 
 gather-bytes-requires : tie.Need-gather-bytes-requires
 gather-bytes-requires c κs =
@@ -56,27 +47,12 @@ gather-bytes-requires c κs =
       subst (λ (k : ℕ). AllBelow k (take (at .join-nets .result) (at .join-nets .last .1 .1 .1 .1 .0))) (sym (entry at .pre .1 .1 .0 weighs)) low,
     )
 
-same-length : tie.Need-same-length
-same-length c = search needs
-
-same-length-2 : tie.Need-same-length-2
-same-length-2 c = search needs
-
-same-length-3 : tie.Need-same-length-3
-same-length-3 c = search needs
-
 returns : tie.Need-returns
 returns c =
     let at : tie.After-gather = c .before .before .before .before .before .before .before .before in
     let bytes = c .before .before .gather-bytes in
     let room-too : nets at .join-nets .result ≤ length (bytes .last .1 .1 .1 .0) = omega (arith, few (nets at), entry (nets at) .pre .1 .1 .1, bytes .kept .1 .1 .1 .0) in
     tables-joined (entry (nets at) .pre .0) (nets at .join-nets .ensures) (room at) room-too (ends (nets at)) (at .gather .ensures) (λ w. bytes .ensures)
-
-same-length-4 : tie.Need-same-length-4
-same-length-4 c = search needs
-
-same-length-5 : tie.Need-same-length-5
-same-length-5 c = search needs
 
 returns-2 : tie.Need-returns-2
 returns-2 c =
@@ -87,17 +63,5 @@ returns-2 c =
 pub joined-tables-spec : {M : Type 1} → statement M
 joined-tables-spec =
     tie.close
-    (tie.spec
-    slice-aggregate-join-nets
-    join-nets-requires
-    slice-aggregate-gather
-    gather-requires
-    slice-aggregate-gather-bytes
-    gather-bytes-requires
-    same-length
-    same-length-2
-    same-length-3
-    returns
-    same-length-4
-    same-length-5
-    returns-2)
+    (tie.spec (λ c. search needs) join-nets-requires (λ c. search needs) gather-requires (λ c. search needs) gather-bytes-requires
+    (λ c. search needs) (λ c. search needs) (λ c. search needs) returns (λ c. search needs) (λ c. search needs) returns-2)

@@ -26,12 +26,6 @@ room c = omega arith
 loop-holds : tie.Need-loop-holds Inv-loop μ-loop
 loop-holds c = taking-none _ _ _ _ _ _ _ (search needs)
 
-mul-s : tie.Need-mul-s Inv-loop μ-loop
-mul-s c = search needs
-
-shared-slice-read-s : tie.Need-shared-slice-read-s Inv-loop μ-loop
-shared-slice-read-s c = search needs
-
 cast-s : tie.Need-cast-s Inv-loop μ-loop
 cast-s c = omega (arith, c .shared-slice-known .given (c .before .before .loop .p))
 
@@ -47,23 +41,8 @@ mul-seen c = omega (arith, node (c .before .before .before))
 slice-write-seen : tie.Need-slice-write-seen Inv-loop μ-loop
 slice-write-seen c = node (c .before .before .before)
 
-cast-places : tie.Need-cast-places Inv-loop μ-loop
-cast-places c = search needs
-
-mul-places : tie.Need-mul-places Inv-loop μ-loop
-mul-places c = search needs
-
 slice-write-places : tie.Need-slice-write-places Inv-loop μ-loop
 slice-write-places c = room (c .before .before .before)
-
-add-count : tie.Need-add-count Inv-loop μ-loop
-add-count c = search needs
-
-add-p : tie.Need-add-p Inv-loop μ-loop
-add-p c = search needs
-
-loop-less : tie.Need-loop-less Inv-loop μ-loop
-loop-less c = search needs
 
 loop-again : tie.Need-loop-again Inv-loop μ-loop
 loop-again c =
@@ -85,24 +64,6 @@ returns c = taking-all (c .before .loop .inv) (search needs)
 pub take-listed-spec : {M : Type 1} → statement M
 take-listed-spec =
     tie.close
-    (tie.spec
-    Inv-loop
-    μ-loop
-    loop-holds
-    mul-s
-    shared-slice-read-s
-    cast-s
-    mul-if1
-    slice-read-if1
-    mul-seen
-    slice-write-seen
-    cast-places
-    mul-places
-    slice-write-places
-    add-count
-    add-p
-    loop-less
-    loop-again
-    same-length
-    same-length-2
-    returns)
+    (tie.spec Inv-loop μ-loop loop-holds (λ c. search needs) (λ c. search needs) cast-s mul-if1 slice-read-if1 mul-seen slice-write-seen
+    (λ c. search needs) (λ c. search needs) slice-write-places (λ c. search needs) (λ c. search needs) (λ c. search needs) loop-again
+    same-length same-length-2 returns)

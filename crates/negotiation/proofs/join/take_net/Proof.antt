@@ -8,49 +8,16 @@ use Rattle.negotiation.proofs.JoiningLaws.{has-taken-other, has-taken-l
 use Rattle.negotiation.proofs.join.take_net.Statement.{statement}
 use Rattle.negotiation.proofs.join.take_net.Tie as tie
 
-mul-if1 : tie.Need-mul-if1
-mul-if1 c = search needs
-
-shared-slice-read-if1 : tie.Need-shared-slice-read-if1
-shared-slice-read-if1 c = search needs
-
-mul-if1-2 : tie.Need-mul-if1-2
-mul-if1-2 c = search needs
-
-shared-slice-read-if1-2 : tie.Need-shared-slice-read-if1-2
-shared-slice-read-if1-2 c = search needs
-
 returns : tie.Need-returns
 returns c =
     let args = c .before .before .before .before .before .before .before .before .args in
     λ before taken has-taken. has-taken-other (args .source .now) (args .first-sink .now) (args .net) (args .k) taken (c .if1 .taken) has-taken
 
-mul-from : tie.Need-mul-from
-mul-from c = search needs
-
-shared-slice-read-from : tie.Need-shared-slice-read-from
-shared-slice-read-from c = search needs
-
 cast-from : tie.Need-cast-from
 cast-from c = omega (arith, c .shared-slice-known6 .given (c .before .before .before .before .before .before .before .before .before .args .k))
 
-add-to : tie.Need-add-to
-add-to c = search needs
-
-mul-to : tie.Need-mul-to
-mul-to c = search needs
-
-shared-slice-read-to : tie.Need-shared-slice-read-to
-shared-slice-read-to c = search needs
-
 cast-to : tie.Need-cast-to
 cast-to c = omega (arith, c .shared-slice-known7 .given (c .before .before .before .before .before .before .before .before .before .before .args .k + 1))
-
-cast-take-listed : tie.Need-cast-take-listed
-cast-take-listed c = search needs
-
-add-take-listed : tie.Need-add-take-listed
-add-take-listed c = search needs
 
 take-listed-requires : tie.Need-take-listed-requires
 take-listed-requires c κs =
@@ -60,12 +27,6 @@ take-listed-requires c κs =
       (tables .order k (start .pre .1 .0 .1), tables .end (k + 1) (search needs), tables .sinks-few),
       (λ i l. le-trans (tables .sinks-below i l) (start .pre .0 .1 .seen-room), start .pre .1 .1 (c .before .before .before .before .if1 .left)),
     )
-
-same-length : tie.Need-same-length
-same-length c = search needs
-
-same-length-2 : tie.Need-same-length-2
-same-length-2 c = search needs
 
 returns-2 : tie.Need-returns-2
 returns-2 c =
@@ -77,22 +38,6 @@ returns-2 c =
 pub take-net-spec : {M : Type 1} → statement M
 take-net-spec =
     tie.close
-    (tie.spec
-    mul-if1
-    shared-slice-read-if1
-    mul-if1-2
-    shared-slice-read-if1-2
-    returns
-    mul-from
-    shared-slice-read-from
-    cast-from
-    add-to
-    mul-to
-    shared-slice-read-to
-    cast-to
-    cast-take-listed
-    add-take-listed
-    take-listed-requires
-    same-length
-    same-length-2
-    returns-2)
+    (tie.spec (λ c. search needs) (λ c. search needs) (λ c. search needs) (λ c. search needs) returns (λ c. search needs)
+    (λ c. search needs) cast-from (λ c. search needs) (λ c. search needs) (λ c. search needs) cast-to (λ c. search needs)
+    (λ c. search needs) take-listed-requires (λ c. search needs) (λ c. search needs) returns-2)

@@ -10,16 +10,10 @@ add-records-requires c κs =
     let ready = c .before .before .before .before .before .pre in
     ((ready .order, ready .within, ready .users-long), (ready .whole, count-can-add ready))
 
-same-length : tie.Need-same-length
-same-length c = search needs
-
-same-length-2 : tie.Need-same-length-2
-same-length-2 c = search needs
-
 returns : tie.Need-returns
 returns c =
     let called = c .before .before .before .before in
     count-done (called .before .before .before .before .before .before .pre) (called .add-records .ensures)
 
 pub count-tree-spec : {M : Type 1} → statement M
-count-tree-spec = tie.close (tie.spec add-records-requires same-length same-length-2 returns)
+count-tree-spec = tie.close (tie.spec add-records-requires (λ c. search needs) (λ c. search needs) returns)

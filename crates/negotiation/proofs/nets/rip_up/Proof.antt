@@ -16,18 +16,10 @@ unmark-records-requires c κs =
     let ready = called .before .before .before .before .before .before .pre in
     ((ready .order, ready .within), rw (called .drop-records .ensures .marks-set .long) (ready .whole))
 
-same-length : tie.Need-same-length
-same-length c = search needs
-
-same-length-2 : tie.Need-same-length-2
-same-length-2 c = search needs
-
 returns : tie.Need-returns
 returns c =
     let called = c .before .before .before .before .before .before .before .before in
     rip-done (called .before .before .before .before .before .before .pre) (called .drop-records .ensures) (c .before .before .unmark-records .ensures)
 
 pub rip-up-spec : {M : Type 1} → statement M
-rip-up-spec =
-    tie.close
-    (tie.spec drop-records-requires unmark-records-requires same-length same-length-2 returns)
+rip-up-spec = tie.close (tie.spec drop-records-requires unmark-records-requires (λ c. search needs) (λ c. search needs) returns)

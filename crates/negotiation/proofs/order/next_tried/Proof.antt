@@ -27,24 +27,6 @@ within c = let most = place-within (start (found c) .pre) (timed (found c)) (c .
 returns : tie.Need-returns
 returns c = tried-untimed (c .before .before .before .before .pre) (not-true _ (c .if1 .taken))
 
-mul-place-due : tie.Need-mul-place-due
-mul-place-due c = search needs
-
-sub-place-due : tie.Need-sub-place-due
-sub-place-due c = search needs
-
-part-place-due-start : tie.Need-part-place-due-start
-part-place-due-start c = search needs
-
-part-place-due-end : tie.Need-part-place-due-end
-part-place-due-end c = search needs
-
-sub-place-due-2 : tie.Need-sub-place-due-2
-sub-place-due-2 c = search needs
-
-part-place-due-start-2 : tie.Need-part-place-due-start-2
-part-place-due-start-2 c = search needs
-
 part-place-due-end-2 : tie.Need-part-place-due-end-2
 part-place-due-end-2 c = criticalities-within (start (c .before) .pre) (timed (c .before))
 
@@ -53,9 +35,6 @@ place-due-requires c κs =
     let at = c .before .before in
     let ready = start at .pre in
     ((parts-long ready (timed at), parts-nodes ready (timed at)), parts-low ready (timed at))
-
-sub-if2 : tie.Need-sub-if2
-sub-if2 c = search needs
 
 returns-2 : tie.Need-returns-2
 returns-2 c = let at = c .before .before .before .before in tried-none (start at .pre) (timed at) (c .before .place-due .ensures) (c .if2 .taken)
@@ -90,20 +69,6 @@ returns-3 c =
 pub next-tried-spec : {M : Type 1} → statement M
 next-tried-spec =
     tie.close
-    (tie.spec
-    returns
-    mul-place-due
-    sub-place-due
-    part-place-due-start
-    part-place-due-end
-    sub-place-due-2
-    part-place-due-start-2
-    part-place-due-end-2
-    place-due-requires
-    sub-if2
-    returns-2
-    add-at
-    shared-slice-read-t22
-    cast-t23
-    add-t13
+    (tie.spec returns (λ c. search needs) (λ c. search needs) (λ c. search needs) (λ c. search needs) (λ c. search needs)
+    (λ c. search needs) part-place-due-end-2 place-due-requires (λ c. search needs) returns-2 add-at shared-slice-read-t22 cast-t23 add-t13
     returns-3)

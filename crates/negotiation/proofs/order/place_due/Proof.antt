@@ -19,12 +19,6 @@ abbrev μ-loop : tie.MeasureT-loop
 loop-holds : tie.Need-loop-holds Inv-loop μ-loop
 loop-holds c = (leading-start _ _ _, omega arith)
 
-mul-s : tie.Need-mul-s Inv-loop μ-loop
-mul-s c = search needs
-
-shared-slice-read-s : tie.Need-shared-slice-read-s Inv-loop μ-loop
-shared-slice-read-s c = search needs
-
 cast-s : tie.Need-cast-s Inv-loop μ-loop
 cast-s c = omega (arith, c .shared-slice-known .given (c .before .before .loop .place))
 
@@ -33,24 +27,12 @@ shared-slice-read-if1 c =
     let start = c .before .before .before .before in
     start .pre .0 .1 _ (c .before .before .loop-test .taken)
 
-shared-slice-read-if2 : tie.Need-shared-slice-read-if2 Inv-loop μ-loop
-shared-slice-read-if2 c = search needs
-
-shared-slice-read-least : tie.Need-shared-slice-read-least Inv-loop μ-loop
-shared-slice-read-least c = search needs
-
 add-least : tie.Need-add-least Inv-loop μ-loop
 add-least c =
     let start = c .before .before .before .before .before .before .before .before in
     let at = c .before .before .before .before .before .before in
     let low = start .pre .1 (c .before .before .before .before .before .before .before .loop .place) (omega (arith, at .loop-test .taken, start .pre .0 .0)) in
     record { fits = omega arith }
-
-add-place : tie.Need-add-place Inv-loop μ-loop
-add-place c = search needs
-
-loop-less : tie.Need-loop-less Inv-loop μ-loop
-loop-less c = search needs
 
 loop-again : tie.Need-loop-again Inv-loop μ-loop
 loop-again c =
@@ -74,18 +56,5 @@ returns c =
 pub place-due-spec : {M : Type 1} → statement M
 place-due-spec =
     tie.close
-    (tie.spec
-    Inv-loop
-    μ-loop
-    loop-holds
-    mul-s
-    shared-slice-read-s
-    cast-s
-    shared-slice-read-if1
-    shared-slice-read-if2
-    shared-slice-read-least
-    add-least
-    add-place
-    loop-less
-    loop-again
-    returns)
+    (tie.spec Inv-loop μ-loop loop-holds (λ c. search needs) (λ c. search needs) cast-s shared-slice-read-if1 (λ c. search needs)
+    (λ c. search needs) add-least (λ c. search needs) (λ c. search needs) loop-again returns)

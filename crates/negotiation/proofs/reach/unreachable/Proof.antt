@@ -89,17 +89,11 @@ loop-holds c capacities delays criticalities terms s =
       passed = below-none _;
     }
 
-mul-from : tie.Need-mul-from Inv-loop μ-loop
-mul-from c = omega arith
-
 shared-slice-read-from : tie.Need-shared-slice-read-from Inv-loop μ-loop
 shared-slice-read-from c = omega (arith, sound (entry (c .before)) .firstSinks-long)
 
 cast-from : tie.Need-cast-from Inv-loop μ-loop
 cast-from c = omega (arith, c .shared-slice-known7 .given (c .before .before .loop .net))
-
-add-to : tie.Need-add-to Inv-loop μ-loop
-add-to c = omega arith
 
 mul-to : tie.Need-mul-to Inv-loop μ-loop
 mul-to c = omega (arith, sound (entry (c .before)) .nets-few)
@@ -109,12 +103,6 @@ shared-slice-read-to c = omega (arith, sound (entry (c .before .before)) .firstS
 
 cast-to : tie.Need-cast-to Inv-loop μ-loop
 cast-to c = omega (arith, c .shared-slice-known8 .given (c .before .before .before .loop .net + 1))
-
-mul-s : tie.Need-mul-s Inv-loop μ-loop
-mul-s c = omega arith
-
-shared-slice-read-s : tie.Need-shared-slice-read-s Inv-loop μ-loop
-shared-slice-read-s c = omega arith
 
 cast-s : tie.Need-cast-s Inv-loop μ-loop
 cast-s c = omega (arith, c .shared-slice-known9 .given (c .before .before .before .before .loop .net))
@@ -201,9 +189,6 @@ returns c =
       tested-same (job (entry t)) (sound (entry t)) (net t) (t .loop-test .taken) (few (entry t)) (entry t .pre .1) (tested (t .before)) (f .flood .ensures),
     )
 
-add-net : tie.Need-add-net Inv-loop μ-loop
-add-net c = omega arith
-
 loop-less : tie.Need-loop-less Inv-loop μ-loop
 loop-less c = omega (arith, turn (flooded (c .before)) .loop-test .taken)
 
@@ -224,41 +209,8 @@ returns-2 c =
 pub unreachable-spec : {M : Type 1} → statement M
 unreachable-spec =
     tie.close
-    (tie.spec
-    Inv-loop
-    μ-loop
-    loop-holds
-    mul-from
-    shared-slice-read-from
-    cast-from
-    add-to
-    mul-to
-    shared-slice-read-to
-    cast-to
-    mul-s
-    shared-slice-read-s
-    cast-s
-    mul-flood
-    sub-flood
-    part-flood-start
-    part-flood-end
-    array-borrow-prefix-reached
-    slice-aggregate-flood
-    flood-requires
-    array-share-prefix-reached
-    slice-aggregate-missing-sink
-    mul-missing-sink
-    sub-missing-sink
-    part-missing-sink-start
-    part-missing-sink-end
-    missing-sink-requires
-    sub-if1
-    cast-t36
-    cast-t37
-    same-length
-    returns
-    add-net
-    loop-less
-    loop-again
-    same-length-2
-    returns-2)
+    (tie.spec Inv-loop μ-loop loop-holds (λ c. omega arith) shared-slice-read-from cast-from (λ c. omega arith) mul-to shared-slice-read-to
+    cast-to (λ c. omega arith) (λ c. omega arith) cast-s mul-flood sub-flood part-flood-start part-flood-end array-borrow-prefix-reached
+    slice-aggregate-flood flood-requires array-share-prefix-reached slice-aggregate-missing-sink mul-missing-sink sub-missing-sink
+    part-missing-sink-start part-missing-sink-end missing-sink-requires sub-if1 cast-t36 cast-t37 same-length returns (λ c. omega arith)
+    loop-less loop-again same-length-2 returns-2)

@@ -24,32 +24,11 @@ abbrev μ-loop : tie.MeasureT-loop
 loop-holds : tie.Need-loop-holds Inv-loop μ-loop
 loop-holds c = (omega arith, refl, paste-zero (c .args .log .now) (c .args .at) (c .args .work .now))
 
-mul-log : tie.Need-mul-log Inv-loop μ-loop
-mul-log c = omega arith
-
-shared-slice-read-log : tie.Need-shared-slice-read-log Inv-loop μ-loop
-shared-slice-read-log c = omega arith
-
 cast-log : tie.Need-cast-log Inv-loop μ-loop
 cast-log c =
     let k = c .before .before .loop .k in
     let args = c .before .before .before .args in
     record { fits = below (2 ^ 32) (args .work .now) (args .count) k (omega arith) (omega arith) (c .before .before .before .pre .1) }
-
-add-log : tie.Need-add-log Inv-loop μ-loop
-add-log c = omega arith
-
-mul-log-2 : tie.Need-mul-log-2 Inv-loop μ-loop
-mul-log-2 c = omega arith
-
-slice-write-log : tie.Need-slice-write-log Inv-loop μ-loop
-slice-write-log c = omega arith
-
-add-k : tie.Need-add-k Inv-loop μ-loop
-add-k c = omega arith
-
-loop-less : tie.Need-loop-less Inv-loop μ-loop
-loop-less c = omega arith
 
 loop-again : tie.Need-loop-again Inv-loop μ-loop
 loop-again c =
@@ -72,18 +51,5 @@ returns c =
 pub copy-path-spec : {M : Type 1} → statement M
 copy-path-spec =
     tie.close
-    (tie.spec
-    Inv-loop
-    μ-loop
-    loop-holds
-    mul-log
-    shared-slice-read-log
-    cast-log
-    add-log
-    mul-log-2
-    slice-write-log
-    add-k
-    loop-less
-    loop-again
-    same-length
-    returns)
+    (tie.spec Inv-loop μ-loop loop-holds (λ c. omega arith) (λ c. omega arith) cast-log (λ c. omega arith) (λ c. omega arith)
+    (λ c. omega arith) (λ c. omega arith) (λ c. omega arith) loop-again same-length returns)

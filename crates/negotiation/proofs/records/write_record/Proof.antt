@@ -58,68 +58,20 @@ record-written l path at count t i s k fits long is =
     ∙ rw (six l at t i s (k % 2 ^ 32) (k / 2 ^ 32) count, long)
     (written l (t ∷ i ∷ s ∷ k % 2 ^ 32 ∷ k / 2 ^ 32 ∷ count ∷ []) path at count (omega arith))
 
-mul-log : tie.Need-mul-log
-mul-log c = search needs
-
-slice-write-log : tie.Need-slice-write-log
-slice-write-log c = search needs
-
-add-log : tie.Need-add-log
-add-log c = search needs
-
-mul-log-2 : tie.Need-mul-log-2
-mul-log-2 c = search needs
-
 slice-write-log-2 : tie.Need-slice-write-log-2
 slice-write-log-2 c = simp length-set (omega arith)
-
-add-log-2 : tie.Need-add-log-2
-add-log-2 c = search needs
-
-mul-log-3 : tie.Need-mul-log-3
-mul-log-3 c = search needs
 
 slice-write-log-3 : tie.Need-slice-write-log-3
 slice-write-log-3 c = simp length-set (omega arith)
 
-cast-log : tie.Need-cast-log
-cast-log c = search needs
-
-add-log-3 : tie.Need-add-log-3
-add-log-3 c = search needs
-
-mul-log-4 : tie.Need-mul-log-4
-mul-log-4 c = search needs
-
 slice-write-log-4 : tie.Need-slice-write-log-4
 slice-write-log-4 c = simp length-set (omega arith)
-
-cast-log-2 : tie.Need-cast-log-2
-cast-log-2 c = search needs
-
-add-log-4 : tie.Need-add-log-4
-add-log-4 c = search needs
-
-mul-log-5 : tie.Need-mul-log-5
-mul-log-5 c = search needs
 
 slice-write-log-5 : tie.Need-slice-write-log-5
 slice-write-log-5 c = simp length-set (omega arith)
 
-cast-log-3 : tie.Need-cast-log-3
-cast-log-3 c = search needs
-
-add-log-5 : tie.Need-add-log-5
-add-log-5 c = search needs
-
-mul-log-6 : tie.Need-mul-log-6
-mul-log-6 c = search needs
-
 slice-write-log-6 : tie.Need-slice-write-log-6
 slice-write-log-6 c = simp length-set (omega arith)
-
-add-copy-path : tie.Need-add-copy-path
-add-copy-path c = search needs
 
 copy-path-requires : tie.Need-copy-path-requires
 copy-path-requires c κs = ((omega arith, simp length-set (omega arith)), c .before .before .before .pre .1)
@@ -136,28 +88,7 @@ returns c =
 pub write-record-spec : {M : Type 1} → statement M
 write-record-spec =
     tie.close
-    (tie.spec
-    mul-log
-    slice-write-log
-    add-log
-    mul-log-2
-    slice-write-log-2
-    add-log-2
-    mul-log-3
-    slice-write-log-3
-    cast-log
-    add-log-3
-    mul-log-4
-    slice-write-log-4
-    cast-log-2
-    add-log-4
-    mul-log-5
-    slice-write-log-5
-    cast-log-3
-    add-log-5
-    mul-log-6
-    slice-write-log-6
-    add-copy-path
-    copy-path-requires
-    same-length
-    returns)
+    (tie.spec (λ c. search needs) (λ c. search needs) (λ c. search needs) (λ c. search needs) slice-write-log-2 (λ c. search needs)
+    (λ c. search needs) slice-write-log-3 (λ c. search needs) (λ c. search needs) (λ c. search needs) slice-write-log-4 (λ c. search needs)
+    (λ c. search needs) (λ c. search needs) slice-write-log-5 (λ c. search needs) (λ c. search needs) (λ c. search needs) slice-write-log-6
+    (λ c. search needs) copy-path-requires same-length returns)

@@ -205,30 +205,7 @@ returns-4 c =
 pub follow-net-spec : {M : Type 1} → statement M
 follow-net-spec =
     tie.close
-    (tie.spec
-    Inv-loop
-    μ-loop
-    returns
-    mul-missing-sink
-    sub-missing-sink
-    part-missing-sink-start
-    part-missing-sink-end
-    missing-sink-requires
-    loop-holds
-    sub-loop
-    same-length
-    returns-2
-    follow-tried-requires
-    same-length-2
-    returns-3
-    turn-logged-requires
-    sub-left
-    mul-missing-sink-2
-    sub-missing-sink-2
-    part-missing-sink-start-2
-    part-missing-sink-end-2
-    missing-sink-requires-2
-    loop-less
-    loop-again
-    same-length-3
+    (tie.spec Inv-loop μ-loop returns mul-missing-sink sub-missing-sink part-missing-sink-start part-missing-sink-end missing-sink-requires
+    loop-holds sub-loop same-length returns-2 follow-tried-requires same-length-2 returns-3 turn-logged-requires sub-left mul-missing-sink-2
+    sub-missing-sink-2 part-missing-sink-start-2 part-missing-sink-end-2 missing-sink-requires-2 loop-less loop-again same-length-3
     returns-4)

@@ -262,33 +262,6 @@ returns-2 c = λ terms p w o. nets-all _ (c .before .loop .inv .0 _ _ w o) (c .b
 pub follow-nets-spec : {M : Type 1} → statement M
 follow-nets-spec =
     tie.close
-    (tie.spec
-    Inv-loop
-    μ-loop
-    loop-holds
-    mul-from
-    shared-slice-read-from
-    cast-from
-    add-to
-    mul-to
-    shared-slice-read-to
-    cast-to
-    begin-net-requires
-    cast-follow-net
-    follow-net-requires
-    enum-known-taken
-    enum-told
-    same-length
-    same-length-2
-    same-length-3
-    same-length-4
-    returns
-    end-net-requires
-    add-net
-    loop-less
-    loop-again
-    same-length-5
-    same-length-6
-    same-length-7
-    same-length-8
-    returns-2)
+    (tie.spec Inv-loop μ-loop loop-holds mul-from shared-slice-read-from cast-from add-to mul-to shared-slice-read-to cast-to
+    begin-net-requires cast-follow-net follow-net-requires enum-known-taken enum-told same-length same-length-2 same-length-3 same-length-4
+    returns end-net-requires add-net loop-less loop-again same-length-5 same-length-6 same-length-7 same-length-8 returns-2)

@@ -25,18 +25,6 @@ chosen c = c .before .before .before
 next-tried-requires : tie.Need-next-tried-requires
 next-tried-requires c κs = search needs
 
-mul-set-goals : tie.Need-mul-set-goals
-mul-set-goals c = search needs
-
-sub-set-goals : tie.Need-sub-set-goals
-sub-set-goals c = search needs
-
-part-set-goals-start : tie.Need-part-set-goals-start
-part-set-goals-start c = search needs
-
-part-set-goals-end : tie.Need-part-set-goals-end
-part-set-goals-end c = search needs
-
 array-borrow-prefix-goals : tie.Need-array-borrow-prefix-goals
 array-borrow-prefix-goals c = let a : Chosen = c .before in goals-enough (entry a .pre) (a .next-tried .ensures)
 
@@ -59,9 +47,6 @@ follow-turn-requires c κs =
     let s : Set = c .before .before .before in
     tried-tested (entry (chosen s) .pre) (chosen s .next-tried .ensures) (s .set-goals .ensures)
 
-same-length : tie.Need-same-length
-same-length c = search needs
-
 returns : tie.Need-returns
 returns c =
     let f : tie.After-follow-turn = c .before .before in
@@ -71,17 +56,6 @@ returns c =
 pub follow-tried-spec : {M : Type 1} → statement M
 follow-tried-spec =
     tie.close
-    (tie.spec
-    next-tried-requires
-    mul-set-goals
-    sub-set-goals
-    part-set-goals-start
-    part-set-goals-end
-    array-borrow-prefix-goals
-    slice-aggregate-set-goals
-    set-goals-requires
-    array-share-prefix-goals
-    slice-aggregate-follow-turn
-    follow-turn-requires
-    same-length
-    returns)
+    (tie.spec next-tried-requires (λ c. search needs) (λ c. search needs) (λ c. search needs) (λ c. search needs) array-borrow-prefix-goals
+    slice-aggregate-set-goals set-goals-requires array-share-prefix-goals slice-aggregate-follow-turn follow-turn-requires
+    (λ c. search needs) returns)

@@ -18,23 +18,11 @@ abbrev μ-loop : tie.MeasureT-loop
 loop-holds : tie.Need-loop-holds Inv-loop μ-loop
 loop-holds c = stored-none _ _
 
-mul-goals : tie.Need-mul-goals Inv-loop μ-loop
-mul-goals c = omega arith
-
-shared-slice-read-goals : tie.Need-shared-slice-read-goals Inv-loop μ-loop
-shared-slice-read-goals c = omega arith
-
 cast-goals : tie.Need-cast-goals Inv-loop μ-loop
 cast-goals c = omega (arith, c .shared-slice-known .given (c .before .before .loop .k))
 
 slice-write-goals : tie.Need-slice-write-goals Inv-loop μ-loop
 slice-write-goals c = omega (arith, c .before .before .loop .inv .long, c .before .before .before .pre (c .before .before .loop .k) (c .before .loop-test .taken))
-
-add-k : tie.Need-add-k Inv-loop μ-loop
-add-k c = omega arith
-
-loop-less : tie.Need-loop-less Inv-loop μ-loop
-loop-less c = omega arith
 
 loop-again : tie.Need-loop-again Inv-loop μ-loop
 loop-again c =
@@ -50,16 +38,5 @@ returns c = stored-all _ (c .loop-test .left) (c .before .loop .inv)
 pub set-goals-spec : {M : Type 1} → statement M
 set-goals-spec =
     tie.close
-    (tie.spec
-    Inv-loop
-    μ-loop
-    loop-holds
-    mul-goals
-    shared-slice-read-goals
-    cast-goals
-    slice-write-goals
-    add-k
-    loop-less
-    loop-again
-    same-length
-    returns)
+    (tie.spec Inv-loop μ-loop loop-holds (λ c. omega arith) (λ c. omega arith) cast-goals slice-write-goals (λ c. omega arith)
+    (λ c. omega arith) loop-again same-length returns)

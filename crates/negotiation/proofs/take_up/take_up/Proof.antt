@@ -369,45 +369,8 @@ returns-4 c = take-on _ (c .before .loop .inv) (c .loop-test .left)
 pub take-up-spec : {M : Type 1} → statement M
 take-up-spec =
     tie.close
-    (tie.spec
-    Inv-loop
-    μ-loop
-    loop-holds
-    mark-due-requires
-    follow-nets-requires
-    enum-known-taken
-    enum-told
-    same-length
-    same-length-2
-    same-length-3
-    same-length-4
-    same-length-5
-    same-length-6
-    returns
-    over-count-requires
-    same-length-7
-    same-length-8
-    same-length-9
-    same-length-10
-    same-length-11
-    same-length-12
-    returns-2
-    same-length-13
-    same-length-14
-    same-length-15
-    same-length-16
-    same-length-17
-    same-length-18
-    returns-3
-    grow-histories-requires
-    iteration-ended-requires
-    iteration-started-requires
-    loop-less
-    loop-again
-    same-length-19
-    same-length-20
-    same-length-21
-    same-length-22
-    same-length-23
-    same-length-24
-    returns-4)
+    (tie.spec Inv-loop μ-loop loop-holds mark-due-requires follow-nets-requires enum-known-taken enum-told same-length same-length-2
+    same-length-3 same-length-4 same-length-5 same-length-6 returns over-count-requires same-length-7 same-length-8 same-length-9
+    same-length-10 same-length-11 same-length-12 returns-2 same-length-13 same-length-14 same-length-15 same-length-16 same-length-17
+    same-length-18 returns-3 grow-histories-requires iteration-ended-requires iteration-started-requires loop-less loop-again same-length-19
+    same-length-20 same-length-21 same-length-22 same-length-23 same-length-24 returns-4)

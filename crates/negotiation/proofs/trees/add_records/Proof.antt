@@ -84,20 +84,5 @@ returns c = walking-all (c .before .loop .inv) (c .loop-test .left)
 pub add-records-spec : {M : Type 1} → statement M
 add-records-spec =
     tie.close
-    (tie.spec
-    Inv-loop
-    μ-loop
-    loop-holds
-    add-end
-    add-end-2
-    mul-end
-    shared-slice-read-end
-    cast-end
-    add-end-3
-    add-add-path
-    add-path-requires
-    loop-less
-    loop-again
-    same-length
-    same-length-2
-    returns)
+    (tie.spec Inv-loop μ-loop loop-holds add-end add-end-2 mul-end shared-slice-read-end cast-end add-end-3 add-add-path add-path-requires
+    loop-less loop-again same-length same-length-2 returns)

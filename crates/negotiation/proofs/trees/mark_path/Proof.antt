@@ -24,20 +24,8 @@ node c =
 loop-holds : tie.Need-loop-holds Inv-loop μ-loop
 loop-holds c = (between-none _ _ _ (omega arith) (c .pre .0), stored-none _ _)
 
-mul-v : tie.Need-mul-v Inv-loop μ-loop
-mul-v c = omega arith
-
-shared-slice-read-v : tie.Need-shared-slice-read-v Inv-loop μ-loop
-shared-slice-read-v c = omega arith
-
 slice-write-in-tree : tie.Need-slice-write-in-tree Inv-loop μ-loop
 slice-write-in-tree c = omega (arith, node (c .before))
-
-add-k : tie.Need-add-k Inv-loop μ-loop
-add-k c = omega arith
-
-loop-less : tie.Need-loop-less Inv-loop μ-loop
-loop-less c = omega arith
 
 loop-again : tie.Need-loop-again Inv-loop μ-loop
 loop-again c =
@@ -54,15 +42,5 @@ returns c = let inv = c .before .loop .inv in rw (between-all (c .loop-test .lef
 pub mark-path-spec : {M : Type 1} → statement M
 mark-path-spec =
     tie.close
-    (tie.spec
-    Inv-loop
-    μ-loop
-    loop-holds
-    mul-v
-    shared-slice-read-v
-    slice-write-in-tree
-    add-k
-    loop-less
-    loop-again
-    same-length
-    returns)
+    (tie.spec Inv-loop μ-loop loop-holds (λ c. omega arith) (λ c. omega arith) slice-write-in-tree (λ c. omega arith) (λ c. omega arith)
+    loop-again same-length returns)

@@ -67,19 +67,5 @@ returns c = walking-all (c .before .loop .inv) (c .loop-test .left)
 pub unmark-records-spec : {M : Type 1} → statement M
 unmark-records-spec =
     tie.close
-    (tie.spec
-    Inv-loop
-    μ-loop
-    loop-holds
-    add-end
-    add-end-2
-    mul-end
-    shared-slice-read-end
-    cast-end
-    add-end-3
-    add-unmark-path
-    unmark-path-requires
-    loop-less
-    loop-again
-    same-length
-    returns)
+    (tie.spec Inv-loop μ-loop loop-holds add-end add-end-2 mul-end shared-slice-read-end cast-end add-end-3 add-unmark-path
+    unmark-path-requires loop-less loop-again same-length returns)

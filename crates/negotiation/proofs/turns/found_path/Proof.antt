@@ -8,9 +8,6 @@ use Rattle.negotiation.proofs.turns.found_path.Tie as tie
 aimed-path-requires : tie.Need-aimed-path-requires
 aimed-path-requires c κs = search needs
 
-same-length : tie.Need-same-length
-same-length c = search needs
-
 returns : tie.Need-returns
 returns c =
     let called : tie.After-aimed-path = c .before .before in
@@ -21,9 +18,6 @@ returns c =
 cheapest-path-requires : tie.Need-cheapest-path-requires
 cheapest-path-requires c κs = search needs
 
-same-length-2 : tie.Need-same-length-2
-same-length-2 c = search needs
-
 returns-2 : tie.Need-returns-2
 returns-2 c =
     let called : tie.After-cheapest-path = c .before .before in
@@ -32,4 +26,4 @@ returns-2 c =
     plain-found (entry .pre .0) _ (entry .pre .1) (tested .if1 .left) (called .cheapest-path .result) (called .cheapest-path .ensures .0)
 
 pub found-path-spec : {M : Type 1} → statement M
-found-path-spec = tie.close (tie.spec aimed-path-requires same-length returns cheapest-path-requires same-length-2 returns-2)
+found-path-spec = tie.close (tie.spec aimed-path-requires (λ c. search needs) returns cheapest-path-requires (λ c. search needs) returns-2)

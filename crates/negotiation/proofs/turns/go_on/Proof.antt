@@ -783,75 +783,11 @@ returns-3 c =
 pub go-on-spec : {M : Type 1} → statement M
 go-on-spec =
     tie.close
-    (tie.spec
-    Inv-loop2
-    μ-loop2
-    Inv-loop
-    μ-loop
-    Inv-iterations
-    μ-iterations
-    iterations-holds
-    mark-due-requires
-    loop-holds
-    mul-from
-    shared-slice-read-from
-    cast-from
-    add-to
-    mul-to
-    shared-slice-read-to
-    cast-to
-    begin-net-requires
-    loop2-holds
-    cast-net-turn
-    net-turn-requires
-    enum-told
-    enum-told-2
-    enum-known-t
-    sub-left
-    loop2-less
-    loop2-again
-    end-net-requires
-    add-net
-    loop-less
-    loop-again
-    over-count-requires
-    mul-clear
-    clear-requires
-    answer-requires
-    same-length
-    same-length-2
-    same-length-3
-    same-length-4
-    same-length-5
-    same-length-6
-    same-length-7
-    same-length-8
-    returns
-    mul-clear-2
-    clear-requires-2
-    answer-requires-2
-    same-length-9
-    same-length-10
-    same-length-11
-    same-length-12
-    same-length-13
-    same-length-14
-    same-length-15
-    same-length-16
-    returns-2
-    grow-histories-requires
-    next-iteration-requires
-    iterations-less
-    iterations-again
-    mul-clear-3
-    clear-requires-3
-    answer-requires-3
-    same-length-17
-    same-length-18
-    same-length-19
-    same-length-20
-    same-length-21
-    same-length-22
-    same-length-23
-    same-length-24
-    returns-3)
+    (tie.spec Inv-loop2 μ-loop2 Inv-loop μ-loop Inv-iterations μ-iterations iterations-holds mark-due-requires loop-holds mul-from
+    shared-slice-read-from cast-from add-to mul-to shared-slice-read-to cast-to begin-net-requires loop2-holds cast-net-turn
+    net-turn-requires enum-told enum-told-2 enum-known-t sub-left loop2-less loop2-again end-net-requires add-net loop-less loop-again
+    over-count-requires mul-clear clear-requires answer-requires same-length same-length-2 same-length-3 same-length-4 same-length-5
+    same-length-6 same-length-7 same-length-8 returns mul-clear-2 clear-requires-2 answer-requires-2 same-length-9 same-length-10
+    same-length-11 same-length-12 same-length-13 same-length-14 same-length-15 same-length-16 returns-2 grow-histories-requires
+    next-iteration-requires iterations-less iterations-again mul-clear-3 clear-requires-3 answer-requires-3 same-length-17 same-length-18
+    same-length-19 same-length-20 same-length-21 same-length-22 same-length-23 same-length-24 returns-3)

@@ -101,32 +101,13 @@ run-from-requires c κs =
       },
     )
 
-same-length : tie.Need-same-length
-same-length c = search needs
-
-same-length-2 : tie.Need-same-length-2
-same-length-2 c = search needs
-
 returns : tie.Need-returns
 returns c = c .before .before .before .before .before .before .before .before .before .before .run-from .ensures
 
 pub negotiate-spec : {M : Type 1} → statement M
 negotiate-spec =
     tie.close
-    (tie.spec
-    array-borrow-prefix-history
-    slice-aggregate-run-from
-    array-borrow-prefix-users
-    slice-aggregate-run-from-2
-    array-borrow-prefix-in-tree
-    slice-aggregate-run-from-3
-    array-borrow-prefix-tree-from
-    slice-aggregate-run-from-4
-    array-borrow-prefix-tree-to
-    slice-aggregate-run-from-5
-    array-borrow-prefix-due
-    slice-aggregate-run-from-6
-    run-from-requires
-    same-length
-    same-length-2
-    returns)
+    (tie.spec array-borrow-prefix-history slice-aggregate-run-from array-borrow-prefix-users slice-aggregate-run-from-2
+    array-borrow-prefix-in-tree slice-aggregate-run-from-3 array-borrow-prefix-tree-from slice-aggregate-run-from-4
+    array-borrow-prefix-tree-to slice-aggregate-run-from-5 array-borrow-prefix-due slice-aggregate-run-from-6 run-from-requires
+    (λ c. search needs) (λ c. search needs) returns)

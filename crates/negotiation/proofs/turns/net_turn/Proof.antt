@@ -12,31 +12,10 @@ start c = c .before .before .before .before .before .before .before .before .bef
 next-tried-requires : tie.Need-next-tried-requires
 next-tried-requires c κs = search needs
 
-mul-one-turn : tie.Need-mul-one-turn
-mul-one-turn c = search needs
-
-sub-one-turn : tie.Need-sub-one-turn
-sub-one-turn c = search needs
-
-part-one-turn-start : tie.Need-part-one-turn-start
-part-one-turn-start c = search needs
-
-part-one-turn-end : tie.Need-part-one-turn-end
-part-one-turn-end c = search needs
-
 one-turn-requires : tie.Need-one-turn-requires
 one-turn-requires c κs =
     let at : tie.After-next-tried = c .before .before .before .before .before in
     tried-can (at .next-tried .ensures) _ _ _ _ _ (start at .pre .1)
-
-same-length : tie.Need-same-length
-same-length c = search needs
-
-same-length-2 : tie.Need-same-length-2
-same-length-2 c = search needs
-
-same-length-3 : tie.Need-same-length-3
-same-length-3 c = search needs
 
 returns : tie.Need-returns
 returns c =
@@ -47,14 +26,5 @@ returns c =
 pub net-turn-spec : {M : Type 1} → statement M
 net-turn-spec =
     tie.close
-    (tie.spec
-    next-tried-requires
-    mul-one-turn
-    sub-one-turn
-    part-one-turn-start
-    part-one-turn-end
-    one-turn-requires
-    same-length
-    same-length-2
-    same-length-3
-    returns)
+    (tie.spec next-tried-requires (λ c. search needs) (λ c. search needs) (λ c. search needs) (λ c. search needs) one-turn-requires
+    (λ c. search needs) (λ c. search needs) (λ c. search needs) returns)

@@ -28,50 +28,17 @@ found-path-requires c κs =
     let e : tie.Start = c .before .before .before .before .before .before .before .before .before .before .before .before .before .before in
     (e .pre .ready, e .pre .sinks-sound)
 
-cast-expanded : tie.Need-cast-expanded
-cast-expanded c = search needs
-
-enum-known-answer : tie.Need-enum-known-answer
-enum-known-answer c = search needs
-
-same-length : tie.Need-same-length
-same-length c = search needs
-
-same-length-2 : tie.Need-same-length-2
-same-length-2 c = search needs
-
 returns-2 : tie.Need-returns-2
 returns-2 c =
     let found : tie.After-found-path = c .before .before .before .before in
     turn-other (start found .pre) (found .found-path .result .answer)
     (λ place cost count e. miss (1 ∷ 2 ∷ 3 ∷ 4 ∷ 5 ∷ []) 0 tt (rw e at (c .match .keys2))) (found .found-path .ensures .0)
 
-cast-count : tie.Need-cast-count
-cast-count c = search needs
-
-sub-if2 : tie.Need-sub-if2
-sub-if2 c = search needs
-
-add-if2 : tie.Need-add-if2
-add-if2 c = search needs
-
-same-length-3 : tie.Need-same-length-3
-same-length-3 c = search needs
-
-same-length-4 : tie.Need-same-length-4
-same-length-4 c = search needs
-
 returns-3 : tie.Need-returns-3
 returns-3 c =
     let answered = c .before .before in
     let j = turn-joined (entry answered .pre) (answered .answer .given .1) (called answered .found-path .ensures .0) in
     (turn-full j (c .if2 .taken) (entry answered .pre .within), j .rest)
-
-cast-p : tie.Need-cast-p
-cast-p c = search needs
-
-mul-write-record : tie.Need-mul-write-record
-mul-write-record c = search needs
 
 shared-slice-read-write-record : tie.Need-shared-slice-read-write-record
 shared-slice-read-write-record c =
@@ -94,9 +61,6 @@ mark-path-requires c κs =
     let j = turn-joined (entry answered .pre) (answered .answer .given .1) (called answered .found-path .ensures .0) in
     (j .long, j .nodes-below)
 
-add-turn-logged : tie.Need-add-turn-logged
-add-turn-logged c = search needs
-
 turn-logged-requires : tie.Need-turn-logged-requires
 turn-logged-requires c κs =
     let tested = c .before .before .before .before .before .before .before .before .before .before .before in
@@ -106,15 +70,6 @@ turn-logged-requires c κs =
       omega (arith, tested .if2 .left, e .pre .within, log-short),
       turn-counts (e .pre) (called (tested .before .before) .found-path .ensures .1),
     )
-
-same-length-5 : tie.Need-same-length-5
-same-length-5 c = search needs
-
-same-length-6 : tie.Need-same-length-6
-same-length-6 c = search needs
-
-same-length-7 : tie.Need-same-length-7
-same-length-7 c = search needs
 
 returns-4 : tie.Need-returns-4
 returns-4 c =
@@ -131,29 +86,7 @@ returns-4 c =
 pub one-turn-spec : {M : Type 1} → statement M
 one-turn-spec =
     tie.close
-    (tie.spec
-    returns
-    found-path-requires
-    cast-expanded
-    enum-known-answer
-    same-length
-    same-length-2
-    returns-2
-    cast-count
-    sub-if2
-    add-if2
-    same-length-3
-    same-length-4
-    returns-3
-    cast-p
-    mul-write-record
-    shared-slice-read-write-record
-    cast-write-record
-    write-record-requires
-    mark-path-requires
-    add-turn-logged
-    turn-logged-requires
-    same-length-5
-    same-length-6
-    same-length-7
-    returns-4)
+    (tie.spec returns found-path-requires (λ c. search needs) (λ c. search needs) (λ c. search needs) (λ c. search needs) returns-2
+    (λ c. search needs) (λ c. search needs) (λ c. search needs) (λ c. search needs) (λ c. search needs) returns-3 (λ c. search needs)
+    (λ c. search needs) shared-slice-read-write-record cast-write-record write-record-requires mark-path-requires (λ c. search needs)
+    turn-logged-requires (λ c. search needs) (λ c. search needs) (λ c. search needs) returns-4)

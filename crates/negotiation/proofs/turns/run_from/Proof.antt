@@ -46,9 +46,6 @@ start-at-requires c κs =
     let e : tie.Start = c .before .before .before .before .before .before .before .before .before .before .before .before .before .before .before .before .before .before .before .before .before .before .before .before in
     (e .pre .0 .0, e .pre .1)
 
-enum-known-word : tie.Need-enum-known-word
-enum-known-word c = search needs
-
 mul-clear : tie.Need-mul-clear
 mul-clear c =
     let e : tie.Start = lent (away (c .before .before)) in
@@ -62,9 +59,6 @@ clear-requires c κs =
 
 refused-requires : tie.Need-refused-requires
 refused-requires c κs = search needs
-
-enum-known-tariff : tie.Need-enum-known-tariff
-enum-known-tariff c = search needs
 
 going-on-requires : tie.Need-going-on-requires
 going-on-requires c κs = search needs
@@ -96,9 +90,6 @@ same-length-6 c = away (refused-at c) .start-at .kept .1 .1 .1 .1 .1 .1 .1 .1 .1
 
 same-length-7 : tie.Need-same-length-7
 same-length-7 c = c .before .before .before .clear .kept .0
-
-same-length-8 : tie.Need-same-length-8
-same-length-8 c = search needs
 
 returns : tie.Need-returns
 returns c =
@@ -149,30 +140,6 @@ returns-2 c =
 pub run-from-spec : {M : Type 1} → statement M
 run-from-spec =
     tie.close
-    (tie.spec
-    start-at-requires
-    enum-known-word
-    mul-clear
-    clear-requires
-    refused-requires
-    enum-known-tariff
-    going-on-requires
-    go-on-requires
-    same-length
-    same-length-2
-    same-length-3
-    same-length-4
-    same-length-5
-    same-length-6
-    same-length-7
-    same-length-8
-    returns
-    same-length-9
-    same-length-10
-    same-length-11
-    same-length-12
-    same-length-13
-    same-length-14
-    same-length-15
-    same-length-16
-    returns-2)
+    (tie.spec start-at-requires (λ c. search needs) mul-clear clear-requires refused-requires (λ c. search needs) going-on-requires
+    go-on-requires same-length same-length-2 same-length-3 same-length-4 same-length-5 same-length-6 same-length-7 (λ c. search needs)
+    returns same-length-9 same-length-10 same-length-11 same-length-12 same-length-13 same-length-14 same-length-15 same-length-16 returns-2)

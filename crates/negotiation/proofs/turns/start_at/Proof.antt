@@ -19,12 +19,6 @@ job e =
 abbrev taken : tie.After-slice-known12 → tie.After-take-up
 taken c = c .before .before .before .before .before .before .before .before .before .before .before .before
 
-enum-told : tie.Need-enum-told
-enum-told c = search needs
-
-enum-known-start : tie.Need-enum-known-start
-enum-known-start c = search needs
-
 returns : tie.Need-returns
 returns c =
     let e : tie.Start = c .before .before .before .before .before .before .before .before .before .before .before .before .before .before .before .before .before .before .before .before in
@@ -71,17 +65,5 @@ returns-3 c =
 pub start-at-spec : {M : Type 1} → statement M
 start-at-spec =
     tie.close
-    (tie.spec
-    enum-told
-    enum-known-start
-    returns
-    slice-aggregate-take-up
-    take-up-requires
-    returns-2
-    same-length
-    same-length-2
-    same-length-3
-    same-length-4
-    same-length-5
-    same-length-6
-    returns-3)
+    (tie.spec (λ c. search needs) (λ c. search needs) returns slice-aggregate-take-up take-up-requires returns-2 same-length same-length-2
+    same-length-3 same-length-4 same-length-5 same-length-6 returns-3)

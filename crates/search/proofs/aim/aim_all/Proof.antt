@@ -20,9 +20,6 @@ expand-all-requires c κs =
     let queue = built .build .ensures in
     aim-launched _ _ _ _ _ (started .before .before .before .before .before .before .before .pre) (started .start-aim .ensures) (queue .0) (queue .1)
 
-same-length : tie.Need-same-length
-same-length c = search needs
-
 returns : tie.Need-returns
 returns c r =
     let ended = c .before .before in
@@ -33,5 +30,4 @@ returns c r =
     (ended .expand-all .ensures _ (r .task) (aim-begins _ _ _ _ _ r started (built .0) (built .1)))
 
 pub aim-all-spec : {M : Type 1} → statement M
-aim-all-spec =
-    tie.close (tie.spec start-aim-requires build-requires expand-all-requires same-length returns)
+aim-all-spec = tie.close (tie.spec start-aim-requires build-requires expand-all-requires (λ c. search needs) returns)

@@ -23,9 +23,6 @@ entry c = c .before .before .before .before
 abbrev loop-entry : tie.At-loop Inv-loop μ-loop → tie.Start Inv-loop μ-loop
 loop-entry c = entry (c .before .before .before)
 
-add-to : tie.Need-add-to Inv-loop μ-loop
-add-to c = search needs
-
 mul-to : tie.Need-mul-to Inv-loop μ-loop
 mul-to c = let r = entry c .pre in let few = r .sound .few in let h = r .node in omega arith
 
@@ -81,9 +78,6 @@ add-e c =
     let g = start .good in
     omega arith
 
-loop-less : tie.Need-loop-less Inv-loop μ-loop
-loop-less c = search needs
-
 loop-again : tie.Need-loop-again Inv-loop μ-loop
 loop-again c =
     let turn = c .before .before .before .before .before in
@@ -99,23 +93,5 @@ returns c = (aim-row-all _ _ _ _ _ _ _ (loop-entry (c .before) .pre) (c .before 
 pub aim-row-spec : {M : Type 1} → statement M
 aim-row-spec =
     tie.close
-    (tie.spec
-    Inv-loop
-    μ-loop
-    add-to
-    mul-to
-    shared-slice-read-to
-    cast-to
-    mul-e
-    shared-slice-read-e
-    cast-e
-    loop-holds
-    mul-v
-    shared-slice-read-v
-    cast-v
-    aim-requires
-    add-e
-    loop-less
-    loop-again
-    same-length
-    returns)
+    (tie.spec Inv-loop μ-loop (λ c. search needs) mul-to shared-slice-read-to cast-to mul-e shared-slice-read-e cast-e loop-holds mul-v
+    shared-slice-read-v cast-v aim-requires add-e (λ c. search needs) loop-again same-length returns)

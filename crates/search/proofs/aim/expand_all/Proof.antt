@@ -100,20 +100,5 @@ loop-less c = omega (arith, run-count (loop-again c))
 pub expand-all-spec : {M : Type 1} → statement M
 expand-all-spec =
     tie.close
-    (tie.spec
-    Inv-loop
-    μ-loop
-    loop-holds
-    add-key
-    mul-key
-    slice-read-key
-    same-length
-    returns
-    same-length-2
-    returns-2
-    nearest-requires
-    wait-requires
-    add-expanded
-    aim-row-requires
-    loop-less
-    loop-again)
+    (tie.spec Inv-loop μ-loop loop-holds add-key mul-key slice-read-key same-length returns same-length-2 returns-2 nearest-requires
+    wait-requires add-expanded aim-row-requires loop-less loop-again)

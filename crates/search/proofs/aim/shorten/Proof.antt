@@ -9,21 +9,6 @@ use Rattle.search.proofs.QueueLaws.{queue-way}
 use Rattle.search.proofs.aim.shorten.Statement.{statement}
 use Rattle.search.proofs.aim.shorten.Tie as tie
 
-mul-work : tie.Need-mul-work
-mul-work c = search needs
-
-slice-write-work : tie.Need-slice-write-work
-slice-write-work c = search needs
-
-mul-work-2 : tie.Need-mul-work-2
-mul-work-2 c = search needs
-
-add-work : tie.Need-add-work
-add-work c = search needs
-
-mul-work-3 : tie.Need-mul-work-3
-mul-work-3 c = search needs
-
 slice-write-work-2 : tie.Need-slice-write-work-2
 slice-write-work-2 c = simp length-set (omega arith)
 
@@ -45,13 +30,5 @@ returns c =
 pub shorten-spec : {M : Type 1} → statement M
 shorten-spec =
     tie.close
-    (tie.spec
-    mul-work
-    slice-write-work
-    mul-work-2
-    add-work
-    mul-work-3
-    slice-write-work-2
-    wait-requires
-    same-length
-    returns)
+    (tie.spec (λ c. search needs) (λ c. search needs) (λ c. search needs) (λ c. search needs) (λ c. search needs) slice-write-work-2
+    wait-requires same-length returns)

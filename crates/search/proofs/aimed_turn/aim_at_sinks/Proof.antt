@@ -13,26 +13,8 @@ entry c = c .before .before .before .before .before .before .before .before .bef
 abbrev linked : tie.After-estimate-all-arg → tie.After-link-edges
 linked c = c .before .before .before .before .before .before .before
 
-slice-aggregate-link-edges : tie.Need-slice-aggregate-link-edges
-slice-aggregate-link-edges c = search needs
-
-slice-aggregate-link-edges-2 : tie.Need-slice-aggregate-link-edges-2
-slice-aggregate-link-edges-2 c = search needs
-
-slice-aggregate-link-edges-3 : tie.Need-slice-aggregate-link-edges-3
-slice-aggregate-link-edges-3 c = search needs
-
 link-edges-requires : tie.Need-link-edges-requires
 link-edges-requires c κs = link-room _ (entry c .pre .graph)
-
-slice-aggregate-estimate-all : tie.Need-slice-aggregate-estimate-all
-slice-aggregate-estimate-all c = search needs
-
-slice-aggregate-estimate-all-2 : tie.Need-slice-aggregate-estimate-all-2
-slice-aggregate-estimate-all-2 c = search needs
-
-slice-aggregate-estimate-all-3 : tie.Need-slice-aggregate-estimate-all-3
-slice-aggregate-estimate-all-3 c = search needs
 
 estimate-all-requires : tie.Need-estimate-all-requires
 estimate-all-requires c κs =
@@ -49,9 +31,6 @@ aim-all-requires c κs =
     let ready = turn-estimates p (kept .0) (kept .1 .0) (kept .1 .1 .0) (links .link-edges .ensures) in
     turn-aims p (estimated .estimate-all .ensures .0 ready)
 
-same-length : tie.Need-same-length
-same-length c = search needs
-
 returns : tie.Need-returns
 returns c p =
     let aimed = c .before .before in
@@ -65,15 +44,5 @@ returns c p =
 pub aim-at-sinks-spec : {M : Type 1} → statement M
 aim-at-sinks-spec =
     tie.close
-    (tie.spec
-    slice-aggregate-link-edges
-    slice-aggregate-link-edges-2
-    slice-aggregate-link-edges-3
-    link-edges-requires
-    slice-aggregate-estimate-all
-    slice-aggregate-estimate-all-2
-    slice-aggregate-estimate-all-3
-    estimate-all-requires
-    aim-all-requires
-    same-length
-    returns)
+    (tie.spec (λ c. search needs) (λ c. search needs) (λ c. search needs) link-edges-requires (λ c. search needs) (λ c. search needs)
+    (λ c. search needs) estimate-all-requires aim-all-requires (λ c. search needs) returns)

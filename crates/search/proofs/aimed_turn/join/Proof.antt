@@ -27,9 +27,6 @@ read-aimed-requires c κs =
     let priced = aimed .before .before .before .before in
     turn-readable _ _ _ _ _ _ _ (entry priced .pre) (priced .fill-prices .ensures) (aimed .aim-at-sinks .ensures)
 
-same-length : tie.Need-same-length
-same-length c = search needs
-
 returns : tie.Need-returns
 returns c =
     let read = c .before .before in
@@ -38,6 +35,4 @@ returns c =
     turn-replies _ _ _ _ _ _ _ (entry priced .pre) (priced .fill-prices .ensures) (aimed .aim-at-sinks .ensures) (read .read-aimed .ensures)
 
 pub join-spec : {M : Type 1} → statement M
-join-spec =
-    tie.close
-    (tie.spec fill-prices-requires aim-at-sinks-requires read-aimed-requires same-length returns)
+join-spec = tie.close (tie.spec fill-prices-requires aim-at-sinks-requires read-aimed-requires (λ c. search needs) returns)

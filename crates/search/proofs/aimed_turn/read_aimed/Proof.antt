@@ -7,14 +7,8 @@ use borrow.Author.Needs.{needs}
 use Rattle.search.proofs.aimed_turn.read_aimed.Statement.{statement}
 use Rattle.search.proofs.aimed_turn.read_aimed.Tie as tie
 
-mul-clear : tie.Need-mul-clear
-mul-clear c = search needs
-
 clear-requires : tie.Need-clear-requires
 clear-requires c κs = search needs
-
-same-length : tie.Need-same-length
-same-length c = search needs
 
 returns : tie.Need-returns
 returns c = none (c .before .before .before .before .if1 .taken) refl refl (all-cleared _ _ (c .before .before .clear .ensures))
@@ -28,17 +22,8 @@ read-path-requires c κs =
     let tested = moved .before .before in
     tested .before .before .before .before .pre .found (tested .if1 .left) _ (moved .move-predecessors .ensures)
 
-mul-clear-2 : tie.Need-mul-clear-2
-mul-clear-2 c = search needs
-
-mul-clear-3 : tie.Need-mul-clear-3
-mul-clear-3 c = search needs
-
 clear-requires-2 : tie.Need-clear-requires-2
 clear-requires-2 c κs = search needs
-
-same-length-2 : tie.Need-same-length-2
-same-length-2 c = search needs
 
 returns-2 : tie.Need-returns-2
 returns-2 c =
@@ -51,15 +36,5 @@ returns-2 c =
 pub read-aimed-spec : {M : Type 1} → statement M
 read-aimed-spec =
     tie.close
-    (tie.spec
-    mul-clear
-    clear-requires
-    same-length
-    returns
-    move-predecessors-requires
-    read-path-requires
-    mul-clear-2
-    mul-clear-3
-    clear-requires-2
-    same-length-2
-    returns-2)
+    (tie.spec (λ c. search needs) clear-requires (λ c. search needs) returns move-predecessors-requires read-path-requires
+    (λ c. search needs) (λ c. search needs) clear-requires-2 (λ c. search needs) returns-2)

@@ -38,9 +38,6 @@ clear-requires c κs =
     let pre = entry (tree .before) .pre in
     search-room _ _ _ _ _ _ _ (pre .1) (pre .0) (pre .2) (tree .mark-tree .ensures) (spread .settle-all .ensures)
 
-same-length : tie.Need-same-length
-same-length c = search needs
-
 returns : tie.Need-returns
 returns c =
     let spread = c .before .before .before .before .before .before in
@@ -49,6 +46,4 @@ returns c =
     search-leaves _ _ _ _ _ _ _ (pre .1) (pre .0) (pre .2) (tree .mark-tree .ensures) (spread .settle-all .ensures) (c .before .before .clear .ensures)
 
 pub distances-from-tree-spec : {M : Type 1} → statement M
-distances-from-tree-spec =
-    tie.close
-    (tie.spec mark-tree-requires settle-all-requires mul-clear clear-requires same-length returns)
+distances-from-tree-spec = tie.close (tie.spec mark-tree-requires settle-all-requires mul-clear clear-requires (λ c. search needs) returns)

@@ -26,9 +26,6 @@ give-all-requires c κs =
     let none : tie.After-none-given = sunk .before .before .before .before in
     spread-ready (entry none .pre) (none .none-given .ensures) (sunk .give-sinks .ensures)
 
-same-length : tie.Need-same-length
-same-length c = search needs
-
 returns : tie.Need-returns
 returns c =
     let spread = c .before .before in
@@ -39,6 +36,4 @@ returns c =
     (λ r. made-all r u s (made .0 (spread-ready r u s)), λ r. made .1 (spread-ready r u s))
 
 pub estimate-all-spec : {M : Type 1} → statement M
-estimate-all-spec =
-    tie.close
-    (tie.spec none-given-requires give-sinks-requires give-all-requires same-length returns)
+estimate-all-spec = tie.close (tie.spec none-given-requires give-sinks-requires give-all-requires (λ c. search needs) returns)

@@ -125,19 +125,5 @@ loop-again c =
 pub give-all-spec : {M : Type 1} → statement M
 give-all-spec =
     tie.close
-    (tie.spec
-    Inv-loop
-    μ-loop
-    loop-holds
-    add-level
-    mul-level
-    slice-read-level
-    same-length
-    returns
-    same-length-2
-    returns-2
-    nearest-requires
-    wait-requires
-    give-before-requires
-    loop-less
-    loop-again)
+    (tie.spec Inv-loop μ-loop loop-holds add-level mul-level slice-read-level same-length returns same-length-2 returns-2 nearest-requires
+    wait-requires give-before-requires loop-less loop-again)

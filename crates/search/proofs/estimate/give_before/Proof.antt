@@ -165,32 +165,6 @@ returns c =
 pub give-before-spec : {M : Type 1} → statement M
 give-before-spec =
     tie.close
-    (tie.spec
-    Inv-loop
-    μ-loop
-    mul-capped-sum
-    add-capped-sum
-    mul-capped-sum-2
-    slice-read-capped-sum
-    mul-capped-sum-3
-    add-capped-sum-2
-    mul-capped-sum-4
-    slice-read-capped-sum-2
-    capped-sum-requires
-    mul-k
-    shared-slice-read-k
-    cast-k
-    loop-holds
-    sub-u
-    mul-u
-    shared-slice-read-u
-    cast-u
-    give-over-requires
-    sub-k
-    mul-k-2
-    shared-slice-read-k-2
-    cast-k-2
-    loop-less
-    loop-again
-    same-length
-    returns)
+    (tie.spec Inv-loop μ-loop mul-capped-sum add-capped-sum mul-capped-sum-2 slice-read-capped-sum mul-capped-sum-3 add-capped-sum-2
+    mul-capped-sum-4 slice-read-capped-sum-2 capped-sum-requires mul-k shared-slice-read-k cast-k loop-holds sub-u mul-u shared-slice-read-u
+    cast-u give-over-requires sub-k mul-k-2 shared-slice-read-k-2 cast-k-2 loop-less loop-again same-length returns)

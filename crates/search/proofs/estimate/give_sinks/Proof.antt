@@ -28,12 +28,6 @@ entry c = c .before .before .before .before .before .before
 loop-holds : tie.Need-loop-holds Inv-loop μ-loop
 loop-holds c = (beside-none _ _, c .before .before .before .before .pre .5)
 
-mul-s : tie.Need-mul-s Inv-loop μ-loop
-mul-s c = search needs
-
-shared-slice-read-s : tie.Need-shared-slice-read-s Inv-loop μ-loop
-shared-slice-read-s c = search needs
-
 cast-s : tie.Need-cast-s Inv-loop μ-loop
 cast-s c = omega (arith, c .shared-slice-known4 .given (c .before .before .loop .i))
 
@@ -77,17 +71,5 @@ returns c = (c .before .loop .inv .0, all-sinks-wait (c .loop-test .left) (c .be
 pub give-sinks-spec : {M : Type 1} → statement M
 give-sinks-spec =
     tie.close
-    (tie.spec
-    Inv-loop
-    μ-loop
-    loop-holds
-    mul-s
-    shared-slice-read-s
-    cast-s
-    shared-slice-read-if1
-    give-requires
-    add-i
-    loop-less
-    loop-again
-    same-length
-    returns)
+    (tie.spec Inv-loop μ-loop loop-holds (λ c. search needs) (λ c. search needs) cast-s shared-slice-read-if1 give-requires add-i loop-less
+    loop-again same-length returns)

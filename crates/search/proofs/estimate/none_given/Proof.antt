@@ -22,50 +22,14 @@ room c = (c .loop-test .taken, rw (c .before .loop .inv .0 .same .long) (c .befo
 loop-holds : tie.Need-loop-holds Inv-loop μ-loop
 loop-holds c = (none-given-none _ _, omega arith)
 
-add-work : tie.Need-add-work Inv-loop μ-loop
-add-work c = search needs
-
-mul-work : tie.Need-mul-work Inv-loop μ-loop
-mul-work c = search needs
-
-slice-write-work : tie.Need-slice-write-work Inv-loop μ-loop
-slice-write-work c = search needs
-
-mul-work-2 : tie.Need-mul-work-2 Inv-loop μ-loop
-mul-work-2 c = search needs
-
-add-work-2 : tie.Need-add-work-2 Inv-loop μ-loop
-add-work-2 c = search needs
-
-mul-work-3 : tie.Need-mul-work-3 Inv-loop μ-loop
-mul-work-3 c = search needs
-
 slice-write-work-2 : tie.Need-slice-write-work-2 Inv-loop μ-loop
 slice-write-work-2 c = let r = room c in simp length-set (omega arith)
-
-mul-work-4 : tie.Need-mul-work-4 Inv-loop μ-loop
-mul-work-4 c = search needs
-
-add-work-3 : tie.Need-add-work-3 Inv-loop μ-loop
-add-work-3 c = search needs
-
-mul-work-5 : tie.Need-mul-work-5 Inv-loop μ-loop
-mul-work-5 c = search needs
 
 slice-write-work-3 : tie.Need-slice-write-work-3 Inv-loop μ-loop
 slice-write-work-3 c = let r = room c in simp length-set (omega arith)
 
-add-v : tie.Need-add-v Inv-loop μ-loop
-add-v c = search needs
-
-loop-less : tie.Need-loop-less Inv-loop μ-loop
-loop-less c = search needs
-
 loop-again : tie.Need-loop-again Inv-loop μ-loop
 loop-again c = (none-given-more (c .before .before .pre) (c .loop-test .taken) (c .before .loop .inv .0), search needs)
-
-same-length : tie.Need-same-length Inv-loop μ-loop
-same-length c = search needs
 
 returns : tie.Need-returns Inv-loop μ-loop
 returns c = none-given-all (c .loop-test .left) (c .before .loop .inv .0)
@@ -73,23 +37,6 @@ returns c = none-given-all (c .loop-test .left) (c .before .loop .inv .0)
 pub none-given-spec : {M : Type 1} → statement M
 none-given-spec =
     tie.close
-    (tie.spec
-    Inv-loop
-    μ-loop
-    loop-holds
-    add-work
-    mul-work
-    slice-write-work
-    mul-work-2
-    add-work-2
-    mul-work-3
-    slice-write-work-2
-    mul-work-4
-    add-work-3
-    mul-work-5
-    slice-write-work-3
-    add-v
-    loop-less
-    loop-again
-    same-length
-    returns)
+    (tie.spec Inv-loop μ-loop loop-holds (λ c. search needs) (λ c. search needs) (λ c. search needs) (λ c. search needs) (λ c. search needs)
+    (λ c. search needs) slice-write-work-2 (λ c. search needs) (λ c. search needs) (λ c. search needs) slice-write-work-3
+    (λ c. search needs) (λ c. search needs) loop-again (λ c. search needs) returns)

@@ -8,20 +8,11 @@ use Rattle.search.proofs.EstimateLaws.{weight-reply, weights-light}
 use Rattle.search.proofs.estimate.weight.Statement.{statement}
 use Rattle.search.proofs.estimate.weight.Tie as tie
 
-shared-slice-read-k : tie.Need-shared-slice-read-k
-shared-slice-read-k c = search needs
-
 cast-k : tie.Need-cast-k
 cast-k c = omega (arith, c .shared-slice-known2 .given (c .before .before .args .v))
 
 weighed-price-requires : tie.Need-weighed-price-requires
 weighed-price-requires c κs = search needs
-
-enum-known-p : tie.Need-enum-known-p
-enum-known-p c = search needs
-
-enum-told : tie.Need-enum-told
-enum-told c = search needs
 
 returns : tie.Need-returns
 returns c =
@@ -39,11 +30,4 @@ returns-2 c =
 pub weight-spec : {M : Type 1} → statement M
 weight-spec =
     tie.close
-    (tie.spec
-    shared-slice-read-k
-    cast-k
-    weighed-price-requires
-    enum-known-p
-    enum-told
-    returns
-    returns-2)
+    (tie.spec (λ c. search needs) cast-k weighed-price-requires (λ c. search needs) (λ c. search needs) returns returns-2)

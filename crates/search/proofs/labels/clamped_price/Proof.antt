@@ -16,9 +16,6 @@ use Rattle.search.proofs.labels.clamped_price.Tie as tie
 abbrev entry : tie.After-shared-slice-known6 → tie.Start
 entry c = c .before .before .before .before .before .before
 
-shared-slice-read-clamped : tie.Need-shared-slice-read-clamped
-shared-slice-read-clamped c = search needs
-
 cast-clamped : tie.Need-cast-clamped
 cast-clamped c = omega (arith, c .shared-slice-known6 .given (entry c .args .v))
 
@@ -28,20 +25,11 @@ clamped-requires c κs = search needs
 clamped-requires-2 : tie.Need-clamped-requires-2
 clamped-requires-2 c κs = search needs
 
-mul-clamped : tie.Need-mul-clamped
-mul-clamped c = search needs
-
-shared-slice-read-clamped-2 : tie.Need-shared-slice-read-clamped-2
-shared-slice-read-clamped-2 c = search needs
-
 cast-clamped-2 : tie.Need-cast-clamped-2
 cast-clamped-2 c = omega (arith, c .shared-slice-known7 .given (entry (c .before .before .before) .args .v))
 
 clamped-requires-3 : tie.Need-clamped-requires-3
 clamped-requires-3 c κs = search needs
-
-shared-slice-read-clamped-3 : tie.Need-shared-slice-read-clamped-3
-shared-slice-read-clamped-3 c = search needs
 
 cast-clamped-3 : tie.Need-cast-clamped-3
 cast-clamped-3 c = omega (arith, c .shared-slice-known8 .given (entry (c .before .before .before .before .before) .args .v))
@@ -51,12 +39,6 @@ clamped-requires-4 c κs = search needs
 
 history-bound-requires : tie.Need-history-bound-requires
 history-bound-requires c κs = search needs
-
-mul-clamped-2 : tie.Need-mul-clamped-2
-mul-clamped-2 c = search needs
-
-shared-slice-read-clamped-4 : tie.Need-shared-slice-read-clamped-4
-shared-slice-read-clamped-4 c = search needs
 
 clamped-requires-5 : tie.Need-clamped-requires-5
 clamped-requires-5 c κs = search needs
@@ -72,12 +54,6 @@ clamped-weighting-requires c κs = search needs
 
 weighed-price-requires : tie.Need-weighed-price-requires
 weighed-price-requires c κs = search needs
-
-enum-known-p : tie.Need-enum-known-p
-enum-known-p c = search needs
-
-enum-told : tie.Need-enum-told
-enum-told c = search needs
 
 -- the price answers the clamped price
 module _ (c : tie.After-weighed-price) where
@@ -125,27 +101,7 @@ returns-2 c =
 pub clamped-price-spec : {M : Type 1} → statement M
 clamped-price-spec =
     tie.close
-    (tie.spec
-    shared-slice-read-clamped
-    cast-clamped
-    clamped-requires
-    clamped-requires-2
-    mul-clamped
-    shared-slice-read-clamped-2
-    cast-clamped-2
-    clamped-requires-3
-    shared-slice-read-clamped-3
-    cast-clamped-3
-    clamped-requires-4
-    history-bound-requires
-    mul-clamped-2
-    shared-slice-read-clamped-4
-    clamped-requires-5
-    delay-at-requires
-    clamped-requires-6
-    clamped-weighting-requires
-    weighed-price-requires
-    enum-known-p
-    enum-told
-    returns
-    returns-2)
+    (tie.spec (λ c. search needs) cast-clamped clamped-requires clamped-requires-2 (λ c. search needs) (λ c. search needs) cast-clamped-2
+    clamped-requires-3 (λ c. search needs) cast-clamped-3 clamped-requires-4 history-bound-requires (λ c. search needs) (λ c. search needs)
+    clamped-requires-5 delay-at-requires clamped-requires-6 clamped-weighting-requires weighed-price-requires (λ c. search needs)
+    (λ c. search needs) returns returns-2)

@@ -11,21 +11,6 @@ leads-on-requires c κs = search needs
 returns : tie.Need-returns
 returns c = λ e k a b l t. (c .before .if1 .taken, c .leads-on .ensures e k a b l t)
 
-mul-result : tie.Need-mul-result
-mul-result c = search needs
-
-shared-slice-read-result : tie.Need-shared-slice-read-result
-shared-slice-read-result c = search needs
-
-add-result : tie.Need-add-result
-add-result c = search needs
-
-mul-result-2 : tie.Need-mul-result-2
-mul-result-2 c = search needs
-
-shared-slice-read-result-2 : tie.Need-shared-slice-read-result-2
-shared-slice-read-result-2 c = search needs
-
 returns-2 : tie.Need-returns-2
 returns-2 c =
     let entry = c .before .before .before .before .before .before .args in
@@ -34,12 +19,5 @@ returns-2 c =
 pub has-to-wait-spec : {M : Type 1} → statement M
 has-to-wait-spec =
     tie.close
-    (tie.spec
-    leads-on-requires
-    returns
-    mul-result
-    shared-slice-read-result
-    add-result
-    mul-result-2
-    shared-slice-read-result-2
+    (tie.spec leads-on-requires returns (λ c. search needs) (λ c. search needs) (λ c. search needs) (λ c. search needs) (λ c. search needs)
     returns-2)

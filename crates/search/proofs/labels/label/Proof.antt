@@ -14,20 +14,8 @@ entry c = c .before .before .before .before .before .before .before
 abbrev preceded : tie.After-has-to-wait → tie.After-set-from
 preceded c = c .before .before .before .before
 
-mul-met : tie.Need-mul-met
-mul-met c = search needs
-
-slice-read-met : tie.Need-slice-read-met
-slice-read-met c = search needs
-
 met-requires : tie.Need-met-requires
 met-requires c κs = search needs
-
-mul-work : tie.Need-mul-work
-mul-work c = search needs
-
-slice-write-work : tie.Need-slice-write-work
-slice-write-work c = search needs
 
 set-from-requires : tie.Need-set-from-requires
 set-from-requires c κs = search needs
@@ -43,9 +31,6 @@ add-requires c κs =
     let from = preceded (c .before .before) in
     let start = entry from in
     label-heap (start .pre) (start .args .d) (from .set-from .ensures)
-
-add-t25 : tie.Need-add-t25
-add-t25 c = search needs
 
 same-length : tie.Need-same-length
 same-length c =
@@ -74,17 +59,5 @@ returns-2 c =
 pub label-spec : {M : Type 1} → statement M
 label-spec =
     tie.close
-    (tie.spec
-    mul-met
-    slice-read-met
-    met-requires
-    mul-work
-    slice-write-work
-    set-from-requires
-    has-to-wait-requires
-    add-requires
-    add-t25
-    same-length
-    returns
-    same-length-2
-    returns-2)
+    (tie.spec (λ c. search needs) (λ c. search needs) met-requires (λ c. search needs) (λ c. search needs) set-from-requires
+    has-to-wait-requires add-requires (λ c. search needs) same-length returns same-length-2 returns-2)

@@ -14,29 +14,14 @@ Inv-loop first-edge edge-target work n v to e₀ e = NowhereSoFar n first-edge e
 abbrev μ-loop : tie.MeasureT-loop
 μ-loop first-edge edge-target work n v to e₀ e = to - e
 
-add-row-place : tie.Need-add-row-place Inv-loop μ-loop
-add-row-place c = search needs
-
 row-place-requires : tie.Need-row-place-requires Inv-loop μ-loop
 row-place-requires c κs = search needs
-
-mul-e : tie.Need-mul-e Inv-loop μ-loop
-mul-e c = search needs
-
-shared-slice-read-e : tie.Need-shared-slice-read-e Inv-loop μ-loop
-shared-slice-read-e c = search needs
 
 cast-e : tie.Need-cast-e Inv-loop μ-loop
 cast-e c = omega (arith, c .shared-slice-known4 .given (c .before .before .before .before .before .args .v))
 
 loop-holds : tie.Need-loop-holds Inv-loop μ-loop
 loop-holds c = nowhere-begin
-
-mul-w : tie.Need-mul-w Inv-loop μ-loop
-mul-w c = search needs
-
-shared-slice-read-w : tie.Need-shared-slice-read-w Inv-loop μ-loop
-shared-slice-read-w c = search needs
 
 cast-w : tie.Need-cast-w Inv-loop μ-loop
 cast-w c = omega (arith, c .shared-slice-known5 .given (c .before .before .loop .e))
@@ -56,9 +41,6 @@ add-e c =
     let g = head .before .before .before .before .before .before .good in
     omega arith
 
-loop-less : tie.Need-loop-less Inv-loop μ-loop
-loop-less c = search needs
-
 loop-again : tie.Need-loop-again Inv-loop μ-loop
 loop-again c = nowhere-more (c .before .before .before .before .loop .inv) (c .before .matters .ensures (c .if1 .left))
 
@@ -68,21 +50,5 @@ returns-2 c = λ e. nowhere-end (c .before .loop .inv) (c .before .before .befor
 pub leads-on-spec : {M : Type 1} → statement M
 leads-on-spec =
     tie.close
-    (tie.spec
-    Inv-loop
-    μ-loop
-    add-row-place
-    row-place-requires
-    mul-e
-    shared-slice-read-e
-    cast-e
-    loop-holds
-    mul-w
-    shared-slice-read-w
-    cast-w
-    matters-requires
-    returns
-    add-e
-    loop-less
-    loop-again
-    returns-2)
+    (tie.spec Inv-loop μ-loop (λ c. search needs) row-place-requires (λ c. search needs) (λ c. search needs) cast-e loop-holds
+    (λ c. search needs) (λ c. search needs) cast-w matters-requires returns add-e (λ c. search needs) loop-again returns-2)

@@ -6,26 +6,8 @@ use borrow.Author.Needs.{needs}
 use Rattle.search.proofs.labels.lower.Statement.{statement}
 use Rattle.search.proofs.labels.lower.Tie as tie
 
-add-w : tie.Need-add-w
-add-w c = search needs
-
-mul-w : tie.Need-mul-w
-mul-w c = search needs
-
-slice-read-w : tie.Need-slice-read-w
-slice-read-w c = search needs
-
-mul-if1 : tie.Need-mul-if1
-mul-if1 c = search needs
-
-slice-read-if1 : tie.Need-slice-read-if1
-slice-read-if1 c = search needs
-
 set-from-requires : tie.Need-set-from-requires
 set-from-requires c κs = search needs
-
-same-length : tie.Need-same-length
-same-length c = search needs
 
 returns : tie.Need-returns
 returns c = lowered (c .before .before .before .before .if2 .taken) (c .before .before .before .before .before .if1 .taken) (c .before .before .set-from .ensures)
@@ -39,14 +21,5 @@ returns-3 c = stays (λ e. absurd (c .if1 .left e)) refl
 pub lower-spec : {M : Type 1} → statement M
 lower-spec =
     tie.close
-    (tie.spec
-    add-w
-    mul-w
-    slice-read-w
-    mul-if1
-    slice-read-if1
-    set-from-requires
-    same-length
-    returns
-    returns-2
-    returns-3)
+    (tie.spec (λ c. search needs) (λ c. search needs) (λ c. search needs) (λ c. search needs) (λ c. search needs) set-from-requires
+    (λ c. search needs) returns returns-2 returns-3)

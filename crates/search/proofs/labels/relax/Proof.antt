@@ -16,12 +16,6 @@ entry c = c .before .before .before .before .before .before .before .before .bef
 returns : tie.Need-returns
 returns c = beyond (c .if1 .taken) refl refl refl
 
-mul-old : tie.Need-mul-old
-mul-old c = search needs
-
-slice-read-old : tie.Need-slice-read-old
-slice-read-old c = search needs
-
 clamped-price-requires : tie.Need-clamped-price-requires
 clamped-price-requires c κs = let at-if1 = c .before .before in (entry at-if1 .pre .lent, at-if1 .if1 .left)
 
@@ -35,9 +29,6 @@ add-label c =
 
 label-requires : tie.Need-label-requires
 label-requires c κs = let at-if2 = c .before .before in let at-if1 = at-if2 .before .before in relax-label (entry at-if1 .pre) (at-if1 .if1 .left) (at-if2 .if2 .taken)
-
-same-length : tie.Need-same-length
-same-length c = search needs
 
 returns-2 : tie.Need-returns-2
 returns-2 c =
@@ -55,9 +46,6 @@ lower-requires c κs =
     let r = entry at-if1 .pre in
     (r .u-node, at-if1 .if1 .left, r .lent .few, r .heap .long, r .from-node (at-if1 .if1 .left) (at-if3 .if3 .taken) (at-if2 .if2 .left))
 
-same-length-2 : tie.Need-same-length-2
-same-length-2 c = search needs
-
 returns-3 : tie.Need-returns-3
 returns-3 c =
     let at-if3 = c .before .before .before .before in
@@ -70,16 +58,5 @@ returns-4 c = let z = c .if3 .left in tree (c .before .before .before .if1 .left
 pub relax-spec : {M : Type 1} → statement M
 relax-spec =
     tie.close
-    (tie.spec
-    returns
-    mul-old
-    slice-read-old
-    clamped-price-requires
-    add-label
-    label-requires
-    same-length
-    returns-2
-    lower-requires
-    same-length-2
-    returns-3
-    returns-4)
+    (tie.spec returns (λ c. search needs) (λ c. search needs) clamped-price-requires add-label label-requires (λ c. search needs) returns-2
+    lower-requires (λ c. search needs) returns-3 returns-4)

@@ -89,21 +89,5 @@ returns c =
 pub settle-spec : {M : Type 1} → statement M
 settle-spec =
     tie.close
-    (tie.spec
-    Inv-loop
-    μ-loop
-    mul-d
-    slice-read-d
-    add-row-place
-    row-place-requires
-    row-place-requires-2
-    loop-holds
-    mul-v
-    shared-slice-read-v
-    cast-v
-    relax-requires
-    add-e
-    loop-less
-    loop-again
-    same-length
-    returns)
+    (tie.spec Inv-loop μ-loop mul-d slice-read-d add-row-place row-place-requires row-place-requires-2 loop-holds mul-v shared-slice-read-v
+    cast-v relax-requires add-e loop-less loop-again same-length returns)

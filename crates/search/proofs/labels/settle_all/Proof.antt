@@ -100,21 +100,5 @@ returns-2 c = run-end (c .before .before .loop .inv) (c .if1 .left)
 pub settle-all-spec : {M : Type 1} → statement M
 settle-all-spec =
     tie.close
-    (tie.spec
-    Inv-loop
-    μ-loop
-    loop-holds
-    mul-u
-    slice-read-u
-    mul-if2
-    slice-read-if2
-    add-if2
-    same-length
-    returns
-    sub-rest
-    take-requires
-    settle-requires
-    loop-less
-    loop-again
-    same-length-2
-    returns-2)
+    (tie.spec Inv-loop μ-loop loop-holds mul-u slice-read-u mul-if2 slice-read-if2 add-if2 same-length returns sub-rest take-requires
+    settle-requires loop-less loop-again same-length-2 returns-2)

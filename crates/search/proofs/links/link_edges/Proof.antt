@@ -71,15 +71,4 @@ returns c =
 pub link-edges-spec : {M : Type 1} → statement M
 link-edges-spec =
     tie.close
-    (tie.spec
-    Inv-loop
-    μ-loop
-    loop-holds
-    link-row-requires
-    add-u
-    loop-less
-    loop-again
-    same-length
-    same-length-2
-    same-length-3
-    returns)
+    (tie.spec Inv-loop μ-loop loop-holds link-row-requires add-u loop-less loop-again same-length same-length-2 same-length-3 returns)

@@ -139,35 +139,6 @@ returns c =
 pub link-row-spec : {M : Type 1} → statement M
 link-row-spec =
     tie.close
-    (tie.spec
-    Inv-loop
-    μ-loop
-    add-to
-    mul-to
-    shared-slice-read-to
-    cast-to
-    mul-k
-    shared-slice-read-k
-    cast-k
-    loop-holds
-    mul-v
-    shared-slice-read-v
-    cast-v
-    mul-earlier
-    slice-read-earlier
-    mul-earlier-2
-    slice-write-earlier
-    add-last
-    cast-last
-    mul-last
-    slice-write-last
-    cast-from
-    mul-from
-    slice-write-from
-    add-k
-    loop-less
-    loop-again
-    same-length
-    same-length-2
-    same-length-3
-    returns)
+    (tie.spec Inv-loop μ-loop add-to mul-to shared-slice-read-to cast-to mul-k shared-slice-read-k cast-k loop-holds mul-v
+    shared-slice-read-v cast-v mul-earlier slice-read-earlier mul-earlier-2 slice-write-earlier add-last cast-last mul-last slice-write-last
+    cast-from mul-from slice-write-from add-k loop-less loop-again same-length same-length-2 same-length-3 returns)

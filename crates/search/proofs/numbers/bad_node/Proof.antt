@@ -28,12 +28,6 @@ node-sound-requires c κs = search needs
 returns : tie.Need-returns Inv-loop μ-loop
 returns c = sym (bad-here _ _ _ _ (c .before .before .before .loop .inv .1) (search needs) (refused (c .before .node-sound .ensures) (c .if1 .taken)))
 
-add-v : tie.Need-add-v Inv-loop μ-loop
-add-v c = search needs
-
-loop-less : tie.Need-loop-less Inv-loop μ-loop
-loop-less c = search needs
-
 loop-again : tie.Need-loop-again Inv-loop μ-loop
 loop-again c = (search needs, below-more _ _ (c .before .before .before .loop .inv .1) (passed (c .before .node-sound .ensures) (c .if1 .left)))
 
@@ -43,13 +37,4 @@ returns-2 c = sym (bad-nowhere _ _ _ _ (c .before .loop .inv .1) (search needs))
 pub bad-node-spec : {M : Type 1} → statement M
 bad-node-spec =
     tie.close
-    (tie.spec
-    Inv-loop
-    μ-loop
-    loop-holds
-    node-sound-requires
-    returns
-    add-v
-    loop-less
-    loop-again
-    returns-2)
+    (tie.spec Inv-loop μ-loop loop-holds node-sound-requires returns (λ c. search needs) (λ c. search needs) loop-again returns-2)

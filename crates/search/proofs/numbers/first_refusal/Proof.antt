@@ -111,22 +111,5 @@ returns-7 c =
 pub first-refusal-spec : {M : Type 1} → statement M
 first-refusal-spec =
     tie.close
-    (tie.spec
-    returns
-    too-many-requires
-    cast-t12
-    returns-2
-    mul-if3
-    mul-t14
-    returns-3
-    lists-sound-requires
-    bad-node-requires
-    cast-t17
-    returns-4
-    cast-t18
-    returns-5
-    bad-criticality-requires
-    cast-t20
-    add-t21
-    returns-6
-    returns-7)
+    (tie.spec returns too-many-requires cast-t12 returns-2 mul-if3 mul-t14 returns-3 lists-sound-requires bad-node-requires cast-t17
+    returns-4 cast-t18 returns-5 bad-criticality-requires cast-t20 add-t21 returns-6 returns-7)

@@ -33,11 +33,4 @@ returns-3 c =
 pub lists-sound-spec : {M : Type 1} → statement M
 lists-sound-spec =
     tie.close
-    (tie.spec
-    history-bound-requires
-    histories-sound-requires
-    returns
-    others-sound-requires
-    returns-2
-    marks-sound-requires
-    returns-3)
+    (tie.spec history-bound-requires histories-sound-requires returns others-sound-requires returns-2 marks-sound-requires returns-3)

@@ -21,15 +21,6 @@ returns c = short-fails _ (c .before .args .in-tree .now) (λ v. leb (getD (c .b
 loop-holds : tie.Need-loop-holds Inv-loop μ-loop
 loop-holds c = passing-none _ _
 
-shared-slice-read-if2 : tie.Need-shared-slice-read-if2 Inv-loop μ-loop
-shared-slice-read-if2 c = search needs
-
-add-v : tie.Need-add-v Inv-loop μ-loop
-add-v c = search needs
-
-loop-less : tie.Need-loop-less Inv-loop μ-loop
-loop-less c = search needs
-
 loop-again : tie.Need-loop-again Inv-loop μ-loop
 loop-again c =
     bounded-more (c .before .before .before .before .before .args .in-tree .now) (c .before .before .loop-test .taken) (c .before .before .before .before .if1 .left) (c .if2 .came) 1 (λ w. w .taken) (λ w. w .left) (c .before .before .before .loop .inv)
@@ -40,13 +31,4 @@ returns-2 c = passing-all _ _ (c .loop-test .left) (c .before .loop .inv)
 pub marks-sound-spec : {M : Type 1} → statement M
 marks-sound-spec =
     tie.close
-    (tie.spec
-    Inv-loop
-    μ-loop
-    returns
-    loop-holds
-    shared-slice-read-if2
-    add-v
-    loop-less
-    loop-again
-    returns-2)
+    (tie.spec Inv-loop μ-loop returns loop-holds (λ c. search needs) (λ c. search needs) (λ c. search needs) loop-again returns-2)

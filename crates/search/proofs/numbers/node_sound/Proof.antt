@@ -12,20 +12,8 @@ history-bound-requires c κs = search needs
 returns : tie.Need-returns
 returns c = sym (history-missing _ _ _ (search needs))
 
-mul-if2 : tie.Need-mul-if2
-mul-if2 c = search needs
-
-shared-slice-read-if2 : tie.Need-shared-slice-read-if2
-shared-slice-read-if2 c = search needs
-
 returns-2 : tie.Need-returns-2
 returns-2 c = sym (history-low _ _ _ (search needs))
-
-mul-if3 : tie.Need-mul-if3
-mul-if3 c = search needs
-
-shared-slice-read-if3 : tie.Need-shared-slice-read-if3
-shared-slice-read-if3 c = search needs
 
 returns-3 : tie.Need-returns-3
 returns-3 c = sym (history-high _ _ _ (search needs))
@@ -33,20 +21,11 @@ returns-3 c = sym (history-high _ _ _ (search needs))
 returns-4 : tie.Need-returns-4
 returns-4 c = sym (others-missing _ _ _ (search needs))
 
-mul-if5 : tie.Need-mul-if5
-mul-if5 c = search needs
-
-shared-slice-read-if5 : tie.Need-shared-slice-read-if5
-shared-slice-read-if5 c = search needs
-
 returns-5 : tie.Need-returns-5
 returns-5 c = sym (others-high _ _ _ (search needs))
 
 returns-6 : tie.Need-returns-6
 returns-6 c = sym (mark-missing _ _ _ (search needs))
-
-shared-slice-read-result : tie.Need-shared-slice-read-result
-shared-slice-read-result c = search needs
 
 returns-7 : tie.Need-returns-7
 returns-7 c = sym (mark-last _ _ _ (search needs) (search needs) (search needs) (search needs) (search needs) (search needs))
@@ -54,19 +33,5 @@ returns-7 c = sym (mark-last _ _ _ (search needs) (search needs) (search needs) 
 pub node-sound-spec : {M : Type 1} → statement M
 node-sound-spec =
     tie.close
-    (tie.spec
-    history-bound-requires
-    returns
-    mul-if2
-    shared-slice-read-if2
-    returns-2
-    mul-if3
-    shared-slice-read-if3
-    returns-3
-    returns-4
-    mul-if5
-    shared-slice-read-if5
-    returns-5
-    returns-6
-    shared-slice-read-result
-    returns-7)
+    (tie.spec history-bound-requires returns (λ c. search needs) (λ c. search needs) returns-2 (λ c. search needs) (λ c. search needs)
+    returns-3 returns-4 (λ c. search needs) (λ c. search needs) returns-5 returns-6 (λ c. search needs) returns-7)

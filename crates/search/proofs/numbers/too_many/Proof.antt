@@ -7,8 +7,5 @@ use Rattle.search.proofs.numbers.too_many.Tie as tie
 returns : tie.Need-returns
 returns c = rw (c .if1 .taken)
 
-returns-2 : tie.Need-returns-2
-returns-2 c = search needs
-
 pub too-many-spec : {M : Type 1} → statement M
-too-many-spec = tie.close (tie.spec returns returns-2)
+too-many-spec = tie.close (tie.spec returns (λ c. search needs))

@@ -25,29 +25,8 @@ loop-holds c = pricing-none _ _ _
 node-price-requires : tie.Need-node-price-requires Inv-loop μ-loop
 node-price-requires c κs = entry c .pre .0 _ (c .loop-test .taken)
 
-mul-work : tie.Need-mul-work Inv-loop μ-loop
-mul-work c = omega arith
-
-add-work : tie.Need-add-work Inv-loop μ-loop
-add-work c = omega arith
-
-mul-work-2 : tie.Need-mul-work-2 Inv-loop μ-loop
-mul-work-2 c = omega arith
-
-slice-write-work : tie.Need-slice-write-work Inv-loop μ-loop
-slice-write-work c = omega arith
-
-add-v : tie.Need-add-v Inv-loop μ-loop
-add-v c = omega arith
-
-loop-less : tie.Need-loop-less Inv-loop μ-loop
-loop-less c = omega arith
-
 loop-again : tie.Need-loop-again Inv-loop μ-loop
 loop-again c = pricing-more _ (entry (c .before) .pre .1) (c .before .loop-test .taken) (c .node-price .ensures) (c .before .before .loop .inv)
-
-same-length : tie.Need-same-length Inv-loop μ-loop
-same-length c = omega arith
 
 returns : tie.Need-returns Inv-loop μ-loop
 returns c = pricing-all (c .loop-test .left) (c .before .loop .inv)
@@ -55,17 +34,5 @@ returns c = pricing-all (c .loop-test .left) (c .before .loop .inv)
 pub fill-prices-spec : {M : Type 1} → statement M
 fill-prices-spec =
     tie.close
-    (tie.spec
-    Inv-loop
-    μ-loop
-    loop-holds
-    node-price-requires
-    mul-work
-    add-work
-    mul-work-2
-    slice-write-work
-    add-v
-    loop-less
-    loop-again
-    same-length
-    returns)
+    (tie.spec Inv-loop μ-loop loop-holds node-price-requires (λ c. omega arith) (λ c. omega arith) (λ c. omega arith) (λ c. omega arith)
+    (λ c. omega arith) (λ c. omega arith) loop-again (λ c. omega arith) returns)

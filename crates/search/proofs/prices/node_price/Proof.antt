@@ -9,44 +9,11 @@ use Rattle.search.proofs.prices.node_price.Tie as tie
 abbrev entry : tie.After-shared-slice-known9 → tie.Start
 entry c = c .before .before .before .before .before .before .before .before .before
 
-shared-slice-read-k : tie.Need-shared-slice-read-k
-shared-slice-read-k c = search needs
-
-cast-k : tie.Need-cast-k
-cast-k c = search needs
-
-shared-slice-read-c : tie.Need-shared-slice-read-c
-shared-slice-read-c c = search needs
-
-cast-c : tie.Need-cast-c
-cast-c c = search needs
-
-mul-h : tie.Need-mul-h
-mul-h c = search needs
-
-shared-slice-read-h : tie.Need-shared-slice-read-h
-shared-slice-read-h c = search needs
-
-mul-o : tie.Need-mul-o
-mul-o c = search needs
-
-shared-slice-read-o : tie.Need-shared-slice-read-o
-shared-slice-read-o c = search needs
-
-cast-o : tie.Need-cast-o
-cast-o c = search needs
-
 delay-at-requires : tie.Need-delay-at-requires
 delay-at-requires c κs = entry c .pre .has-delay
 
 weighed-price-requires : tie.Need-weighed-price-requires
 weighed-price-requires c κs = search needs
-
-enum-known-p : tie.Need-enum-known-p
-enum-known-p c = search needs
-
-enum-told : tie.Need-enum-told
-enum-told c = search needs
 
 returns : tie.Need-returns
 returns c =
@@ -63,19 +30,6 @@ returns-2 c =
 pub node-price-spec : {M : Type 1} → statement M
 node-price-spec =
     tie.close
-    (tie.spec
-    shared-slice-read-k
-    cast-k
-    shared-slice-read-c
-    cast-c
-    mul-h
-    shared-slice-read-h
-    mul-o
-    shared-slice-read-o
-    cast-o
-    delay-at-requires
-    weighed-price-requires
-    enum-known-p
-    enum-told
-    returns
-    returns-2)
+    (tie.spec (λ c. search needs) (λ c. search needs) (λ c. search needs) (λ c. search needs) (λ c. search needs) (λ c. search needs)
+    (λ c. search needs) (λ c. search needs) (λ c. search needs) delay-at-requires weighed-price-requires (λ c. search needs)
+    (λ c. search needs) returns returns-2)

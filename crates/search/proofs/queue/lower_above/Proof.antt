@@ -17,32 +17,8 @@ loop-holds c =
     let pre = c .pre in
     record { carrying = record { inner = pre .0; room = pre .1; but = pre .2; same = same-none _ _ _ }; below = pre .3 }
 
-add-if1 : tie.Need-add-if1 Inv-loop μ-loop
-add-if1 c = search needs
-
-mul-if1 : tie.Need-mul-if1 Inv-loop μ-loop
-mul-if1 c = search needs
-
-slice-read-if1 : tie.Need-slice-read-if1 Inv-loop μ-loop
-slice-read-if1 c = search needs
-
-loop-less : tie.Need-loop-less Inv-loop μ-loop
-loop-less c = search needs
-
 loop-again : tie.Need-loop-again Inv-loop μ-loop
 loop-again c = let turn = c .before .before in lowered-all _ _ _ _ _ (turn .loop-test .taken) (c .if1 .taken) (turn .before .loop .inv)
-
-add-work : tie.Need-add-work Inv-loop μ-loop
-add-work c = search needs
-
-mul-work : tie.Need-mul-work Inv-loop μ-loop
-mul-work c = search needs
-
-slice-write-work : tie.Need-slice-write-work Inv-loop μ-loop
-slice-write-work c = search needs
-
-loop-less-2 : tie.Need-loop-less-2 Inv-loop μ-loop
-loop-less-2 c = search needs
 
 loop-again-2 : tie.Need-loop-again-2 Inv-loop μ-loop
 loop-again-2 c = let turn = c .before .before in lowered-up _ _ _ _ _ (turn .loop-test .taken) (c .if1 .left) (turn .before .loop .inv)
@@ -56,19 +32,5 @@ returns c = let k = c .before .loop .inv .carrying in (carried-all _ _ _ _ (c .l
 pub lower-above-spec : {M : Type 1} → statement M
 lower-above-spec =
     tie.close
-    (tie.spec
-    Inv-loop
-    μ-loop
-    loop-holds
-    add-if1
-    mul-if1
-    slice-read-if1
-    loop-less
-    loop-again
-    add-work
-    mul-work
-    slice-write-work
-    loop-less-2
-    loop-again-2
-    same-length
-    returns)
+    (tie.spec Inv-loop μ-loop loop-holds (λ c. search needs) (λ c. search needs) (λ c. search needs) (λ c. search needs) loop-again
+    (λ c. search needs) (λ c. search needs) (λ c. search needs) (λ c. search needs) loop-again-2 same-length returns)

@@ -9,41 +9,11 @@ use Rattle.search.proofs.QueueLaws.{queue-node, lowered-node}
 use Rattle.search.proofs.queue.wait.Statement.{statement}
 use Rattle.search.proofs.queue.wait.Tie as tie
 
-mul-old : tie.Need-mul-old
-mul-old c = search needs
-
-add-old : tie.Need-add-old
-add-old c = search needs
-
-mul-old-2 : tie.Need-mul-old-2
-mul-old-2 c = search needs
-
-slice-read-old : tie.Need-slice-read-old
-slice-read-old c = search needs
-
-mul-work : tie.Need-mul-work
-mul-work c = search needs
-
-add-work : tie.Need-add-work
-add-work c = search needs
-
-mul-work-2 : tie.Need-mul-work-2
-mul-work-2 c = search needs
-
-slice-write-work : tie.Need-slice-write-work
-slice-write-work c = search needs
-
-add-lower-above : tie.Need-add-lower-above
-add-lower-above c = search needs
-
 lower-above-requires : tie.Need-lower-above-requires
 lower-above-requires c κs =
     let start = c .before .before .before .before in
     let work = start .args .work .now in
     (omega arith, simp length-set (omega arith), queue-node _ work _ _ (start .pre .2), lowered-node _ work _ _ (start .pre .0) (omega (arith, start .pre .1)) (c .before .if1 .taken) (start .pre .2))
-
-add-carry-up : tie.Need-add-carry-up
-add-carry-up c = search needs
 
 carry-up-requires : tie.Need-carry-up-requires
 carry-up-requires c κs =
@@ -71,20 +41,6 @@ returns-2 c =
 pub wait-spec : {M : Type 1} → statement M
 wait-spec =
     tie.close
-    (tie.spec
-    mul-old
-    add-old
-    mul-old-2
-    slice-read-old
-    mul-work
-    add-work
-    mul-work-2
-    slice-write-work
-    add-lower-above
-    lower-above-requires
-    add-carry-up
-    carry-up-requires
-    same-length
-    returns
-    same-length-2
-    returns-2)
+    (tie.spec (λ c. search needs) (λ c. search needs) (λ c. search needs) (λ c. search needs) (λ c. search needs) (λ c. search needs)
+    (λ c. search needs) (λ c. search needs) (λ c. search needs) lower-above-requires (λ c. search needs) carry-up-requires same-length
+    returns same-length-2 returns-2)

@@ -41,9 +41,6 @@ shared-slice-read-from c = omega (arith, firsts-long _ _ _ (entry (c .before .be
 cast-from : tie.Need-cast-from Inv-loop μ-loop
 cast-from c = omega (arith, c .shared-slice-known4 .given (c .before .before .loop .u))
 
-add-to : tie.Need-add-to Inv-loop μ-loop
-add-to c = omega arith
-
 mul-to : tie.Need-mul-to Inv-loop μ-loop
 mul-to c = omega (arith, firsts-long _ _ _ (entry (c .before .before) .pre))
 
@@ -60,12 +57,6 @@ returns-2 : tie.Need-returns-2 Inv-loop μ-loop
 unfolding row
 returns-2 c = sym (edges-bad _ (c .before .before .before .before .before .loop .u) (search needs) (refused (c .before .row-sound .ensures) (c .if2 .taken)))
 
-add-u : tie.Need-add-u Inv-loop μ-loop
-add-u c = search needs
-
-loop-less : tie.Need-loop-less Inv-loop μ-loop
-loop-less c = search needs
-
 loop-again : tie.Need-loop-again Inv-loop μ-loop
 unfolding row
 loop-again c = below-more _ _ (c .before .before .before .before .before .loop .inv) (passed (c .before .row-sound .ensures) (c .if2 .left))
@@ -76,21 +67,5 @@ returns-3 c = sym (edges-all _ (search needs) (c .before .loop .u) (search needs
 pub edge-targets-sound-spec : {M : Type 1} → statement M
 edge-targets-sound-spec =
     tie.close
-    (tie.spec
-    Inv-loop
-    μ-loop
-    returns
-    loop-holds
-    mul-from
-    shared-slice-read-from
-    cast-from
-    add-to
-    mul-to
-    shared-slice-read-to
-    cast-to
-    row-sound-requires
-    returns-2
-    add-u
-    loop-less
-    loop-again
-    returns-3)
+    (tie.spec Inv-loop μ-loop returns loop-holds mul-from shared-slice-read-from cast-from (λ c. omega arith) mul-to shared-slice-read-to
+    cast-to row-sound-requires returns-2 (λ c. search needs) (λ c. search needs) loop-again returns-3)

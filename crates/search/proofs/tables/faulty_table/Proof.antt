@@ -63,13 +63,5 @@ returns-5 c =
 pub faulty-table-spec : {M : Type 1} → statement M
 faulty-table-spec =
     tie.close
-    (tie.spec
-    kinds-sound-requires
-    returns
-    capacities-sound-requires
-    returns-2
-    first-edges-sound-requires
-    returns-3
-    edge-targets-sound-requires
-    returns-4
-    returns-5)
+    (tie.spec kinds-sound-requires returns capacities-sound-requires returns-2 first-edges-sound-requires returns-3
+    edge-targets-sound-requires returns-4 returns-5)

@@ -22,23 +22,11 @@ returns c = sym (sinks-many _ _ (search needs))
 loop-holds : tie.Need-loop-holds Inv-loop μ-loop
 loop-holds c = below-none _
 
-mul-if2 : tie.Need-mul-if2 Inv-loop μ-loop
-mul-if2 c = search needs
-
-shared-slice-read-if2 : tie.Need-shared-slice-read-if2 Inv-loop μ-loop
-shared-slice-read-if2 c = search needs
-
 cast-if2 : tie.Need-cast-if2 Inv-loop μ-loop
 cast-if2 c = omega (arith, c .shared-slice-known .given (c .before .before .loop .i))
 
 returns-2 : tie.Need-returns-2 Inv-loop μ-loop
 returns-2 c = sym (sinks-bad _ _ (c .before .before .before .loop .i) (search needs) (search needs))
-
-add-i : tie.Need-add-i Inv-loop μ-loop
-add-i c = search needs
-
-loop-less : tie.Need-loop-less Inv-loop μ-loop
-loop-less c = search needs
 
 loop-again : tie.Need-loop-again Inv-loop μ-loop
 loop-again c = below-more _ _ (c .before .before .before .loop .inv) (search needs)
@@ -49,16 +37,5 @@ returns-3 c = sym (sinks-all _ _ _ (search needs) (search needs) (c .before .loo
 pub sink-list-sound-spec : {M : Type 1} → statement M
 sink-list-sound-spec =
     tie.close
-    (tie.spec
-    Inv-loop
-    μ-loop
-    returns
-    loop-holds
-    mul-if2
-    shared-slice-read-if2
-    cast-if2
-    returns-2
-    add-i
-    loop-less
-    loop-again
-    returns-3)
+    (tie.spec Inv-loop μ-loop returns loop-holds (λ c. search needs) (λ c. search needs) cast-if2 returns-2 (λ c. search needs)
+    (λ c. search needs) loop-again returns-3)

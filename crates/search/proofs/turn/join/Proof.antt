@@ -75,9 +75,6 @@ clear-requires c κs =
     let at-mark-tree = tree at-mark-goals in
     run-room _ _ _ _ (entry (at-mark-tree .before) .pre) (at-mark-tree .mark-tree .ensures) (at-mark-goals .mark-goals .ensures) (at-settle-all .settle-all .ensures)
 
-same-length : tie.Need-same-length
-same-length c = search needs
-
 returns : tie.Need-returns
 returns c =
     let at-clear = c .before .before in
@@ -89,9 +86,6 @@ read-path-requires c κs =
     let at-if1 = c .before in
     halted-found (halts (at-if1 .before .before .before)) (at-if1 .if1 .left)
 
-same-length-2 : tie.Need-same-length-2
-same-length-2 c = search needs
-
 returns-2 : tie.Need-returns-2
 returns-2 c =
     let at-read-path = c .before .before in
@@ -101,15 +95,5 @@ returns-2 c =
 pub join-spec : {M : Type 1} → statement M
 join-spec =
     tie.close
-    (tie.spec
-    mark-tree-requires
-    mark-goals-requires
-    least-price-requires
-    settle-all-requires
-    mul-clear
-    clear-requires
-    same-length
-    returns
-    read-path-requires
-    same-length-2
-    returns-2)
+    (tie.spec mark-tree-requires mark-goals-requires least-price-requires settle-all-requires mul-clear clear-requires (λ c. search needs)
+    returns read-path-requires (λ c. search needs) returns-2)

@@ -25,12 +25,6 @@ entry c = c .before .before .before .before .before .before .before .before .bef
 loop-holds : tie.Need-loop-holds Inv-loop μ-loop
 loop-holds c = least-none _ _ _ _
 
-mul-s : tie.Need-mul-s Inv-loop μ-loop
-mul-s c = search needs
-
-shared-slice-read-s : tie.Need-shared-slice-read-s Inv-loop μ-loop
-shared-slice-read-s c = search needs
-
 cast-s : tie.Need-cast-s Inv-loop μ-loop
 cast-s c = omega (arith, c .shared-slice-known8 .given (c .before .before .loop .i))
 
@@ -67,17 +61,5 @@ returns c = least-all (c .before .loop .inv) (c .loop-test .left)
 pub least-price-spec : {M : Type 1} → statement M
 least-price-spec =
     tie.close
-    (tie.spec
-    Inv-loop
-    μ-loop
-    loop-holds
-    mul-s
-    shared-slice-read-s
-    cast-s
-    mul-if2
-    shared-slice-read-if2
-    clamped-price-requires
-    add-i
-    loop-less
-    loop-again
-    returns)
+    (tie.spec Inv-loop μ-loop loop-holds (λ c. search needs) (λ c. search needs) cast-s mul-if2 shared-slice-read-if2 clamped-price-requires
+    add-i loop-less loop-again returns)

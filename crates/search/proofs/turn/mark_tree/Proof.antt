@@ -95,19 +95,5 @@ returns c = tree-all (c .loop-test .left) (filled (c .before) .fill-far .ensures
 pub mark-tree-spec : {M : Type 1} → statement M
 mark-tree-spec =
     tie.close
-    (tie.spec
-    Inv-loop
-    μ-loop
-    fill-far-requires
-    next-marked-requires
-    loop-holds
-    mul-work
-    slice-write-work
-    put-requires
-    add-count
-    add-next-marked
-    next-marked-requires-2
-    loop-less
-    loop-again
-    same-length
-    returns)
+    (tie.spec Inv-loop μ-loop fill-far-requires next-marked-requires loop-holds mul-work slice-write-work put-requires add-count
+    add-next-marked next-marked-requires-2 loop-less loop-again same-length returns)

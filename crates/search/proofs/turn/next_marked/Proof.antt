@@ -20,17 +20,8 @@ pass-over-requires c κs = search needs
 loop-holds : tie.Need-loop-holds Inv-loop μ-loop
 loop-holds c = c .pass-over .ensures
 
-shared-slice-read-if1 : tie.Need-shared-slice-read-if1 Inv-loop μ-loop
-shared-slice-read-if1 c = search needs
-
 returns : tie.Need-returns Inv-loop μ-loop
 returns c = record { over = c .before .before .before .loop .inv; marked = λ l. c .if1 .taken }
-
-add-v : tie.Need-add-v Inv-loop μ-loop
-add-v c = search needs
-
-loop-less : tie.Need-loop-less Inv-loop μ-loop
-loop-less c = search needs
 
 loop-again : tie.Need-loop-again Inv-loop μ-loop
 loop-again c = over-one (c .before .before .loop-test .taken) (c .if1 .left) (c .before .before .before .loop .inv)
@@ -41,14 +32,5 @@ returns-2 c = let t = c .loop-test .left in record { over = c .before .loop .inv
 pub next-marked-spec : {M : Type 1} → statement M
 next-marked-spec =
     tie.close
-    (tie.spec
-    Inv-loop
-    μ-loop
-    pass-over-requires
-    loop-holds
-    shared-slice-read-if1
-    returns
-    add-v
-    loop-less
-    loop-again
+    (tie.spec Inv-loop μ-loop pass-over-requires loop-holds (λ c. search needs) returns (λ c. search needs) (λ c. search needs) loop-again
     returns-2)

@@ -42,15 +42,4 @@ returns c = follow-end (c .before .before .before .pre .1) (c .if1 .left) (c .be
 pub path-length-spec : {M : Type 1} → statement M
 path-length-spec =
     tie.close
-    (tie.spec
-    Inv-loop
-    μ-loop
-    loop-holds
-    shared-slice-read-if1
-    add-v
-    mul-v
-    shared-slice-read-v
-    add-count
-    loop-less
-    loop-again
-    returns)
+    (tie.spec Inv-loop μ-loop loop-holds shared-slice-read-if1 add-v mul-v shared-slice-read-v add-count loop-less loop-again returns)

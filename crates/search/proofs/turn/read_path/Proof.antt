@@ -18,9 +18,6 @@ found c = c .before .before .before
 first-at-requires : tie.Need-first-at-requires
 first-at-requires c κs = let l = entry c .pre .leads in let w = l .long in (l .few, omega arith)
 
-mul-sink : tie.Need-mul-sink
-mul-sink c = search needs
-
 shared-slice-read-sink : tie.Need-shared-slice-read-sink
 shared-slice-read-sink c = found-within (entry (c .before .before) .pre) (c .before .first-at .ensures)
 
@@ -67,9 +64,6 @@ cast-t22 c =
     let count = counted .path-length .ensures in
     omega (arith, f .leads .few)
 
-same-length : tie.Need-same-length
-same-length c = search needs
-
 returns : tie.Need-returns
 returns c =
     let at-clear = c .before .before in
@@ -82,16 +76,5 @@ returns c =
 pub read-path-spec : {M : Type 1} → statement M
 read-path-spec =
     tie.close
-    (tie.spec
-    first-at-requires
-    mul-sink
-    shared-slice-read-sink
-    cast-sink
-    path-length-requires
-    write-path-requires
-    mul-clear
-    clear-requires
-    cast-t21
-    cast-t22
-    same-length
-    returns)
+    (tie.spec first-at-requires (λ c. search needs) shared-slice-read-sink cast-sink path-length-requires write-path-requires mul-clear
+    clear-requires cast-t21 cast-t22 (λ c. search needs) returns)

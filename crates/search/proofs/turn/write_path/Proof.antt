@@ -15,9 +15,6 @@ abbrev μ-loop : tie.MeasureT-loop
 loop-holds : tie.Need-loop-holds Inv-loop μ-loop
 loop-holds c = writing-none _ _ _ _ _ (c .pre .0 .0) (c .pre .1 .0)
 
-sub-i : tie.Need-sub-i Inv-loop μ-loop
-sub-i c = omega arith
-
 mul-work : tie.Need-mul-work Inv-loop μ-loop
 mul-work c = let m = c .before .loop .inv .most in let k = c .before .before .pre .1 .1 in let f = c .before .before .pre .0 .1 .few in omega arith
 
@@ -32,9 +29,6 @@ mul-v c = let o = c .before .loop .inv .on .node in let f = c .before .before .p
 
 slice-read-v : tie.Need-slice-read-v Inv-loop μ-loop
 slice-read-v c = let o = c .before .before .loop .inv .on .node in let l = c .before .before .before .pre .0 .1 .long in let s = c .before .before .loop .inv .same .long in simp length-set (omega arith)
-
-loop-less : tie.Need-loop-less Inv-loop μ-loop
-loop-less c = omega arith
 
 loop-again : tie.Need-loop-again Inv-loop μ-loop
 loop-again c = let s = c .before .before .before in writing-more (s .pre .0 .1) (s .pre .1 .0) (s .pre .1 .1) (c .before .before .loop .inv) (c .before .loop-test .taken)
@@ -51,18 +45,5 @@ returns c = let s = c .before .before in writing-end (s .pre .0 .1) (s .pre .1 .
 pub write-path-spec : {M : Type 1} → statement M
 write-path-spec =
     tie.close
-    (tie.spec
-    Inv-loop
-    μ-loop
-    loop-holds
-    sub-i
-    mul-work
-    slice-write-work
-    add-v
-    mul-v
-    slice-read-v
-    loop-less
-    loop-again
-    slice-write-work-2
-    same-length
-    returns)
+    (tie.spec Inv-loop μ-loop loop-holds (λ c. omega arith) mul-work slice-write-work add-v mul-v slice-read-v (λ c. omega arith) loop-again
+    slice-write-work-2 same-length returns)

@@ -37,9 +37,6 @@ capped-sum-requires c κs = search needs
 put-line-requires : tie.Need-put-line-requires
 put-line-requires c κs = fits (c .before)
 
-same-length : tie.Need-same-length
-same-length c = search needs
-
 returns : tie.Need-returns
 returns c = filled-put (counted (c .before .before .before .before .before)) (fits (c .before .before .before .before)) (c .before .before .put-line .ensures)
 
@@ -47,12 +44,4 @@ returns-2 : tie.Need-returns-2
 returns-2 c = filled-over (counted (c .before)) (c .if1 .left)
 
 pub put-branch-spec : {M : Type 1} → statement M
-put-branch-spec =
-    tie.close
-    (tie.spec
-    branch-length-requires
-    capped-sum-requires
-    put-line-requires
-    same-length
-    returns
-    returns-2)
+put-branch-spec = tie.close (tie.spec branch-length-requires capped-sum-requires put-line-requires (λ c. search needs) returns returns-2)

@@ -27,18 +27,6 @@ places c = entry c .pre .1 (c .before .loop .net) (omega (arith, c .loop-test .t
 loop-holds : tie.Need-loop-holds Inv-loop μ-loop
 loop-holds c = nets-none _ _ _ _ _ (search needs)
 
-mul-put-records : tie.Need-mul-put-records Inv-loop μ-loop
-mul-put-records c = search needs
-
-shared-slice-read-put-records : tie.Need-shared-slice-read-put-records Inv-loop μ-loop
-shared-slice-read-put-records c = search needs
-
-mul-put-records-2 : tie.Need-mul-put-records-2 Inv-loop μ-loop
-mul-put-records-2 c = search needs
-
-shared-slice-read-put-records-2 : tie.Need-shared-slice-read-put-records-2 Inv-loop μ-loop
-shared-slice-read-put-records-2 c = search needs
-
 mul-put-records-3 : tie.Need-mul-put-records-3 Inv-loop μ-loop
 mul-put-records-3 c = omega (arith, places (c .before .before) .rises, places (c .before .before) .within)
 
@@ -51,17 +39,8 @@ part-put-records-start c = places (c .before .before) .rises
 part-put-records-end : tie.Need-part-put-records-end Inv-loop μ-loop
 part-put-records-end c = places (c .before .before) .within
 
-cast-put-records : tie.Need-cast-put-records Inv-loop μ-loop
-cast-put-records c = search needs
-
 put-records-requires : tie.Need-put-records-requires Inv-loop μ-loop
 put-records-requires c κs = places (c .before .before .before .before) .part-sound
-
-add-net : tie.Need-add-net Inv-loop μ-loop
-add-net c = search needs
-
-loop-less : tie.Need-loop-less Inv-loop μ-loop
-loop-less c = search needs
 
 loop-again : tie.Need-loop-again Inv-loop μ-loop
 loop-again c =
@@ -77,22 +56,6 @@ returns c = nets-all (c .before .loop .inv) (search needs)
 pub put-branches-spec : {M : Type 1} → statement M
 put-branches-spec =
     tie.close
-    (tie.spec
-    Inv-loop
-    μ-loop
-    loop-holds
-    mul-put-records
-    shared-slice-read-put-records
-    mul-put-records-2
-    shared-slice-read-put-records-2
-    mul-put-records-3
-    sub-put-records
-    part-put-records-start
-    part-put-records-end
-    cast-put-records
-    put-records-requires
-    add-net
-    loop-less
-    loop-again
-    same-length
-    returns)
+    (tie.spec Inv-loop μ-loop loop-holds (λ c. search needs) (λ c. search needs) (λ c. search needs) (λ c. search needs) mul-put-records-3
+    sub-put-records part-put-records-start part-put-records-end (λ c. search needs) put-records-requires (λ c. search needs)
+    (λ c. search needs) loop-again same-length returns)

@@ -70,19 +70,5 @@ returns c = records-all (c .before .loop .inv) (search needs)
 pub put-records-spec : {M : Type 1} → statement M
 put-records-spec =
     tie.close
-    (tie.spec
-    Inv-loop
-    μ-loop
-    loop-holds
-    record-end-requires
-    add-if1
-    mul-if1
-    shared-slice-read-if1
-    add-put-steps
-    put-steps-requires
-    loop-less
-    loop-again
-    loop-less-2
-    loop-again-2
-    same-length
-    returns)
+    (tie.spec Inv-loop μ-loop loop-holds record-end-requires add-if1 mul-if1 shared-slice-read-if1 add-put-steps put-steps-requires
+    loop-less loop-again loop-less-2 loop-again-2 same-length returns)

@@ -13,35 +13,11 @@ Inv-loop style log from to net buffer₀ start next₀ k₀ buffer next k = Putt
 abbrev μ-loop : tie.MeasureT-loop
 μ-loop style log from to net buffer₀ start next₀ k₀ buffer next k = to - k
 
-add-k : tie.Need-add-k Inv-loop μ-loop
-add-k c = search needs
-
 loop-holds : tie.Need-loop-holds Inv-loop μ-loop
 loop-holds c = putting-none _ _ _ _ _ _ _ (search needs)
 
-sub-put-branch : tie.Need-sub-put-branch Inv-loop μ-loop
-sub-put-branch c = search needs
-
-mul-put-branch : tie.Need-mul-put-branch Inv-loop μ-loop
-mul-put-branch c = search needs
-
-shared-slice-read-put-branch : tie.Need-shared-slice-read-put-branch Inv-loop μ-loop
-shared-slice-read-put-branch c = search needs
-
-mul-put-branch-2 : tie.Need-mul-put-branch-2 Inv-loop μ-loop
-mul-put-branch-2 c = search needs
-
-shared-slice-read-put-branch-2 : tie.Need-shared-slice-read-put-branch-2 Inv-loop μ-loop
-shared-slice-read-put-branch-2 c = search needs
-
 put-branch-requires : tie.Need-put-branch-requires Inv-loop μ-loop
 put-branch-requires c κs = search needs
-
-add-k-2 : tie.Need-add-k-2 Inv-loop μ-loop
-add-k-2 c = search needs
-
-loop-less : tie.Need-loop-less Inv-loop μ-loop
-loop-less c = search needs
 
 loop-again : tie.Need-loop-again Inv-loop μ-loop
 loop-again c = putting-more (search needs) (c .before .before .before .before .before .before .before .loop .inv) (search needs) (c .before .before .put-branch .ensures)
@@ -55,19 +31,5 @@ returns c = putting-all (search needs) (c .before .loop .inv) (search needs)
 pub put-steps-spec : {M : Type 1} → statement M
 put-steps-spec =
     tie.close
-    (tie.spec
-    Inv-loop
-    μ-loop
-    add-k
-    loop-holds
-    sub-put-branch
-    mul-put-branch
-    shared-slice-read-put-branch
-    mul-put-branch-2
-    shared-slice-read-put-branch-2
-    put-branch-requires
-    add-k-2
-    loop-less
-    loop-again
-    same-length
-    returns)
+    (tie.spec Inv-loop μ-loop (λ c. search needs) loop-holds (λ c. search needs) (λ c. search needs) (λ c. search needs) (λ c. search needs)
+    (λ c. search needs) put-branch-requires (λ c. search needs) (λ c. search needs) loop-again same-length returns)

@@ -22,9 +22,6 @@ loop-holds c = (count-start (c .args .n) (search needs), search needs)
 add-count : tie.Need-add-count Inv-loop μ-loop
 add-count c = omega (arith, decimal-length (c .before .before .args .n))
 
-loop-less : tie.Need-loop-less Inv-loop μ-loop
-loop-less c = search needs
-
 loop-again : tie.Need-loop-again Inv-loop μ-loop
 loop-again c = (omega (arith, count-next (c .before .loop .left) (search needs) (search needs)), search needs)
 
@@ -35,5 +32,4 @@ returns c =
     search needs
 
 pub digit-count-spec : {M : Type 1} → statement M
-digit-count-spec =
-    tie.close (tie.spec Inv-loop μ-loop loop-holds add-count loop-less loop-again returns)
+digit-count-spec = tie.close (tie.spec Inv-loop μ-loop loop-holds add-count (λ c. search needs) loop-again returns)

@@ -20,32 +20,8 @@ digit-count-requires c κs = search needs
 loop-holds : tie.Need-loop-holds Inv-loop μ-loop
 loop-holds c = (search needs, writing-start _ _ _ _ (search needs) (search needs) (search needs))
 
-sub-k : tie.Need-sub-k Inv-loop μ-loop
-sub-k c = search needs
-
-add-buffer : tie.Need-add-buffer Inv-loop μ-loop
-add-buffer c = search needs
-
-cast-buffer : tie.Need-cast-buffer Inv-loop μ-loop
-cast-buffer c = search needs
-
-add-buffer-2 : tie.Need-add-buffer-2 Inv-loop μ-loop
-add-buffer-2 c = search needs
-
-slice-write-buffer : tie.Need-slice-write-buffer Inv-loop μ-loop
-slice-write-buffer c = search needs
-
-loop-less : tie.Need-loop-less Inv-loop μ-loop
-loop-less c = search needs
-
 loop-again : tie.Need-loop-again Inv-loop μ-loop
 loop-again c = (search needs, writing-next _ _ _ _ _ _ (search needs) (c .before .loop .inv .1))
-
-add-result : tie.Need-add-result Inv-loop μ-loop
-add-result c = search needs
-
-same-length : tie.Need-same-length Inv-loop μ-loop
-same-length c = search needs
 
 returns : tie.Need-returns Inv-loop μ-loop
 returns c = record { written = writing-end _ _ _ _ _ _ (search needs) (c .before .loop .inv .1); next-is = search needs }
@@ -53,18 +29,5 @@ returns c = record { written = writing-end _ _ _ _ _ _ (search needs) (c .before
 pub put-number-spec : {M : Type 1} → statement M
 put-number-spec =
     tie.close
-    (tie.spec
-    Inv-loop
-    μ-loop
-    digit-count-requires
-    loop-holds
-    sub-k
-    add-buffer
-    cast-buffer
-    add-buffer-2
-    slice-write-buffer
-    loop-less
-    loop-again
-    add-result
-    same-length
-    returns)
+    (tie.spec Inv-loop μ-loop digit-count-requires loop-holds (λ c. search needs) (λ c. search needs) (λ c. search needs)
+    (λ c. search needs) (λ c. search needs) (λ c. search needs) loop-again (λ c. search needs) (λ c. search needs) returns)

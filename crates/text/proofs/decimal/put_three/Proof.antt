@@ -49,9 +49,6 @@ put-byte-requires-2 c κs =
     let l = three-size (a .letter) (a .first) (a .second) (a .third) in
     search needs
 
-same-length : tie.Need-same-length
-same-length c = search needs
-
 returns : tie.Need-returns
 returns c =
     let third : tie.After-put-field3 = c .before .before .before .before .before .before in
@@ -64,11 +61,4 @@ returns c =
 pub put-three-spec : {M : Type 1} → statement M
 put-three-spec =
     tie.close
-    (tie.spec
-    put-byte-requires
-    put-field-requires
-    put-field-requires-2
-    put-field-requires-3
-    put-byte-requires-2
-    same-length
-    returns)
+    (tie.spec put-byte-requires put-field-requires put-field-requires-2 put-field-requires-3 put-byte-requires-2 (λ c. search needs) returns)

@@ -40,9 +40,6 @@ put-byte-requires-2 c κs =
     let l = two-size (a .letter) (a .first) (a .second) in
     search needs
 
-same-length : tie.Need-same-length
-same-length c = search needs
-
 returns : tie.Need-returns
 returns c =
     let second : tie.After-put-field2 = c .before .before .before .before .before .before in
@@ -54,10 +51,4 @@ returns c =
 pub put-two-spec : {M : Type 1} → statement M
 put-two-spec =
     tie.close
-    (tie.spec
-    put-byte-requires
-    put-field-requires
-    put-field-requires-2
-    put-byte-requires-2
-    same-length
-    returns)
+    (tie.spec put-byte-requires put-field-requires put-field-requires-2 put-byte-requires-2 (λ c. search needs) returns)

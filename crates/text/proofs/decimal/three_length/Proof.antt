@@ -11,17 +11,8 @@ digit-count-requires c κs = search needs
 digit-count-requires-2 : tie.Need-digit-count-requires-2
 digit-count-requires-2 c κs = search needs
 
-add-result : tie.Need-add-result
-add-result c = search needs
-
 digit-count-requires-3 : tie.Need-digit-count-requires-3
 digit-count-requires-3 c κs = search needs
-
-add-result-2 : tie.Need-add-result-2
-add-result-2 c = search needs
-
-add-result-3 : tie.Need-add-result-3
-add-result-3 c = search needs
 
 returns : tie.Need-returns
 returns c =
@@ -32,11 +23,5 @@ returns c =
 pub three-length-spec : {M : Type 1} → statement M
 three-length-spec =
     tie.close
-    (tie.spec
-    digit-count-requires
-    digit-count-requires-2
-    add-result
-    digit-count-requires-3
-    add-result-2
-    add-result-3
+    (tie.spec digit-count-requires digit-count-requires-2 (λ c. search needs) digit-count-requires-3 (λ c. search needs) (λ c. search needs)
     returns)

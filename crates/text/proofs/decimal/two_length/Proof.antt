@@ -11,12 +11,6 @@ digit-count-requires c κs = search needs
 digit-count-requires-2 : tie.Need-digit-count-requires-2
 digit-count-requires-2 c κs = search needs
 
-add-result : tie.Need-add-result
-add-result c = search needs
-
-add-result-2 : tie.Need-add-result-2
-add-result-2 c = search needs
-
 returns : tie.Need-returns
 returns c =
     let a = c .before .before .args in
@@ -24,6 +18,4 @@ returns c =
     search needs
 
 pub two-length-spec : {M : Type 1} → statement M
-two-length-spec =
-    tie.close
-    (tie.spec digit-count-requires digit-count-requires-2 add-result add-result-2 returns)
+two-length-spec = tie.close (tie.spec digit-count-requires digit-count-requires-2 (λ c. search needs) (λ c. search needs) returns)

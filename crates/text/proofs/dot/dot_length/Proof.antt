@@ -9,9 +9,6 @@ use Rattle.text.proofs.dot.dot_length.Tie as tie
 three-length-requires : tie.Need-three-length-requires
 three-length-requires c κs = search needs
 
-add-result : tie.Need-add-result
-add-result c = search needs
-
 returns : tie.Need-returns
 returns c =
     let a = c .before .args in
@@ -20,4 +17,4 @@ returns c =
     search needs
 
 pub dot-length-spec : {M : Type 1} → statement M
-dot-length-spec = tie.close (tie.spec three-length-requires add-result returns)
+dot-length-spec = tie.close (tie.spec three-length-requires (λ c. search needs) returns)

@@ -5,23 +5,8 @@ use Rattle.text.proofs.PlacedLaws.{put-over}
 use Rattle.text.proofs.dot.put_bytes.Statement.{statement}
 use Rattle.text.proofs.dot.put_bytes.Tie as tie
 
-sub-copy-bytes : tie.Need-sub-copy-bytes
-sub-copy-bytes c = search needs
-
-part-copy-bytes-start : tie.Need-part-copy-bytes-start
-part-copy-bytes-start c = search needs
-
-part-copy-bytes-end : tie.Need-part-copy-bytes-end
-part-copy-bytes-end c = search needs
-
 copy-bytes-requires : tie.Need-copy-bytes-requires
 copy-bytes-requires c κs = search needs
-
-add-result : tie.Need-add-result
-add-result c = search needs
-
-same-length : tie.Need-same-length
-same-length c = search needs
 
 returns : tie.Need-returns
 returns c = put-over _ _ _ (search needs) (c .before .before .copy-bytes .ensures)
@@ -29,11 +14,5 @@ returns c = put-over _ _ _ (search needs) (c .before .before .copy-bytes .ensure
 pub put-bytes-spec : {M : Type 1} → statement M
 put-bytes-spec =
     tie.close
-    (tie.spec
-    sub-copy-bytes
-    part-copy-bytes-start
-    part-copy-bytes-end
-    copy-bytes-requires
-    add-result
-    same-length
+    (tie.spec (λ c. search needs) (λ c. search needs) (λ c. search needs) copy-bytes-requires (λ c. search needs) (λ c. search needs)
     returns)

@@ -27,9 +27,6 @@ put-number-requires c κs =
     let l = dot-size (a .net) (a .from) (a .to) in
     search needs
 
-slice-aggregate-put-bytes : tie.Need-slice-aggregate-put-bytes
-slice-aggregate-put-bytes c = search needs
-
 put-bytes-requires : tie.Need-put-bytes-requires
 put-bytes-requires c κs =
     let a = entry (c .before .before .before .before) .args in
@@ -41,9 +38,6 @@ put-number-requires-2 c κs =
     let a = entry (from (c .before .before .before)) .args in
     let l = dot-size (a .net) (a .from) (a .to) in
     search needs
-
-slice-aggregate-put-bytes-2 : tie.Need-slice-aggregate-put-bytes-2
-slice-aggregate-put-bytes-2 c = search needs
 
 put-bytes-requires-2 : tie.Need-put-bytes-requires-2
 put-bytes-requires-2 c κs =
@@ -57,17 +51,11 @@ put-number-requires-3 c κs =
     let l = dot-size (a .net) (a .from) (a .to) in
     search needs
 
-slice-aggregate-put-bytes-3 : tie.Need-slice-aggregate-put-bytes-3
-slice-aggregate-put-bytes-3 c = search needs
-
 put-bytes-requires-3 : tie.Need-put-bytes-requires-3
 put-bytes-requires-3 c κs =
     let a = entry (from (arrow (to (label (c .before .before .before .before))))) .args in
     let l = dot-size (a .net) (a .from) (a .to) in
     search needs
-
-same-length : tie.Need-same-length
-same-length c = search needs
 
 returns : tie.Need-returns
 returns c =
@@ -81,15 +69,5 @@ returns c =
 pub put-dot-spec : {M : Type 1} → statement M
 put-dot-spec =
     tie.close
-    (tie.spec
-    put-number-requires
-    slice-aggregate-put-bytes
-    put-bytes-requires
-    put-number-requires-2
-    slice-aggregate-put-bytes-2
-    put-bytes-requires-2
-    put-number-requires-3
-    slice-aggregate-put-bytes-3
-    put-bytes-requires-3
-    same-length
-    returns)
+    (tie.spec put-number-requires (λ c. search needs) put-bytes-requires put-number-requires-2 (λ c. search needs) put-bytes-requires-2
+    put-number-requires-3 (λ c. search needs) put-bytes-requires-3 (λ c. search needs) returns)

@@ -23,19 +23,10 @@ fields-of k = k .before .before .before
 line-fields-requires : tie.Need-line-fields-requires
 line-fields-requires c κs = search needs
 
-enum-known-first : tie.Need-enum-known-first
-enum-known-first c = search needs
-
-enum-told : tie.Need-enum-told
-enum-told c = search needs
-
 returns : tie.Need-returns
 returns c =
     let d = c .before .before in
     (edge-shape _ _ _ _ (at-of d) (text-of d) (d .line-fields .ensures .0) (c .enum-told .given .1), tt)
-
-cast-if1 : tie.Need-cast-if1
-cast-if1 c = search needs
 
 returns-2 : tie.Need-returns-2
 returns-2 c =
@@ -43,9 +34,6 @@ returns-2 c =
       edge-beyond _ _ _ _ (at-of d) (text-of d) (d .line-fields .ensures .0) (c .before .before .first .given .1) (edge-beyond-from _ _ _ (c .if1 .taken)),
       tt,
     )
-
-cast-if2 : tie.Need-cast-if2
-cast-if2 c = search needs
 
 returns-3 : tie.Need-returns-3
 returns-3 c =
@@ -62,12 +50,6 @@ returns-4 c =
       tt,
     )
 
-cast-edge-rises : tie.Need-cast-edge-rises
-cast-edge-rises c = search needs
-
-cast-edge-rises-2 : tie.Need-cast-edge-rises-2
-cast-edge-rises-2 c = search needs
-
 edge-rises-requires : tie.Need-edge-rises-requires
 edge-rises-requires c κs = search needs
 
@@ -80,12 +62,6 @@ returns-5 c =
           (edge-order _ _ _ _ _ (apart .if3 .left) (not-true _ (c .if4 .taken)) (c .before .edge-rises .ensures)),
       tt,
     )
-
-cast-t15 : tie.Need-cast-t15
-cast-t15 c = search needs
-
-cast-t16 : tie.Need-cast-t16
-cast-t16 c = search needs
 
 returns-6 : tie.Need-returns-6
 returns-6 c =
@@ -100,20 +76,6 @@ returns-6 c =
 pub edge-line-spec : {M : Type 1} → statement M
 edge-line-spec =
     tie.close
-    (tie.spec
-    line-fields-requires
-    enum-known-first
-    enum-told
-    returns
-    cast-if1
-    returns-2
-    cast-if2
-    returns-3
-    returns-4
-    cast-edge-rises
-    cast-edge-rises-2
-    edge-rises-requires
-    returns-5
-    cast-t15
-    cast-t16
+    (tie.spec line-fields-requires (λ c. search needs) (λ c. search needs) returns (λ c. search needs) returns-2 (λ c. search needs)
+    returns-3 returns-4 (λ c. search needs) (λ c. search needs) edge-rises-requires returns-5 (λ c. search needs) (λ c. search needs)
     returns-6)

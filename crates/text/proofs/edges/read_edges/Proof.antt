@@ -27,9 +27,6 @@ turn c = c .before .before
 abbrev end : tie.After-fill2 Inv-loop μ-loop → tie.At-loop Inv-loop μ-loop
 end c = c .before .before .before
 
-slice-write-first-edge : tie.Need-slice-write-first-edge Inv-loop μ-loop
-slice-write-first-edge c = search needs
-
 loop-holds : tie.Need-loop-holds Inv-loop μ-loop
 loop-holds c = edges-none _ _ _ _ _ (c .before .before .before .args .first-edge .now) _ (c .before .before .before .pre .0 .0) (c .before .before .before .pre .0 .1) (c .before .before .before .pre .1 .0)
 
@@ -42,48 +39,12 @@ room c = (rw length-set (entry c .pre .1 .0), entry c .pre .1 .1)
 edge-line-requires : tie.Need-edge-line-requires Inv-loop μ-loop
 edge-line-requires c κs = search needs
 
-enum-known-u : tie.Need-enum-known-u Inv-loop μ-loop
-enum-known-u c = search needs
-
-add-fill : tie.Need-add-fill Inv-loop μ-loop
-add-fill c = search needs
-
-cast-fill : tie.Need-cast-fill Inv-loop μ-loop
-cast-fill c = search needs
-
-add-fill-2 : tie.Need-add-fill-2 Inv-loop μ-loop
-add-fill-2 c = search needs
-
-cast-fill-2 : tie.Need-cast-fill-2 Inv-loop μ-loop
-cast-fill-2 c = search needs
-
 fill-requires : tie.Need-fill-requires Inv-loop μ-loop
 fill-requires c κs =
     let after-edge-line = c .before .before .before .before in
     let there = after-edge-line .before in
     let head = there .before in
     edges-rows (room (head)) (head .loop .inv) (there .loop-test .taken) (c .before .before .u .given .1) (after-edge-line .edge-line .ensures .0) (after-edge-line .edge-line .ensures .1)
-
-mul-edge-target : tie.Need-mul-edge-target Inv-loop μ-loop
-mul-edge-target c = search needs
-
-slice-write-edge-target : tie.Need-slice-write-edge-target Inv-loop μ-loop
-slice-write-edge-target c = search needs
-
-cast-row : tie.Need-cast-row Inv-loop μ-loop
-cast-row c = search needs
-
-cast-target : tie.Need-cast-target Inv-loop μ-loop
-cast-target c = search needs
-
-add-line : tie.Need-add-line Inv-loop μ-loop
-add-line c = search needs
-
-add-k : tie.Need-add-k Inv-loop μ-loop
-add-k c = search needs
-
-loop-less : tie.Need-loop-less Inv-loop μ-loop
-loop-less c = search needs
 
 loop-again : tie.Need-loop-again Inv-loop μ-loop
 loop-again c =
@@ -92,9 +53,6 @@ loop-again c =
     let there = after-edge-line .before in
     let head = there .before in
     edges-more (room (head)) (head .loop .inv) (there .loop-test .taken) (known-u .u .given .1) (after-edge-line .edge-line .ensures .0) (after-edge-line .edge-line .ensures .1) (c .before .before .fill .ensures)
-
-enum-known-number : tie.Need-enum-known-number Inv-loop μ-loop
-enum-known-number c = search needs
 
 same-length : tie.Need-same-length Inv-loop μ-loop
 same-length c = turn (c .before .before .before) .loop .inv .firsts-same ∙ length-set (entry (turn (c .before .before .before)) .args .first-edge .now) 0 0
@@ -108,15 +66,6 @@ returns c =
     let there = after-edge-line .before in
     let head = there .before in
     (edges-stop (room (head)) (head .loop .inv) (there .loop-test .taken) (c .before .number .given .1) (after-edge-line .edge-line .ensures .0), tt)
-
-add-fill-3 : tie.Need-add-fill-3 Inv-loop μ-loop
-add-fill-3 c = search needs
-
-add-fill-4 : tie.Need-add-fill-4 Inv-loop μ-loop
-add-fill-4 c = search needs
-
-cast-fill-3 : tie.Need-cast-fill-3 Inv-loop μ-loop
-cast-fill-3 c = search needs
 
 fill-requires-2 : tie.Need-fill-requires-2 Inv-loop μ-loop
 fill-requires-2 c κs = edges-last-rows (room (c .before .before)) (c .before .before .loop .inv)
@@ -138,34 +87,7 @@ returns-2 c =
 pub read-edges-spec : {M : Type 1} → statement M
 read-edges-spec =
     tie.close
-    (tie.spec
-    Inv-loop
-    μ-loop
-    slice-write-first-edge
-    loop-holds
-    edge-line-requires
-    enum-known-u
-    add-fill
-    cast-fill
-    add-fill-2
-    cast-fill-2
-    fill-requires
-    mul-edge-target
-    slice-write-edge-target
-    cast-row
-    cast-target
-    add-line
-    add-k
-    loop-less
-    loop-again
-    enum-known-number
-    same-length
-    same-length-2
-    returns
-    add-fill-3
-    add-fill-4
-    cast-fill-3
-    fill-requires-2
-    same-length-3
-    same-length-4
-    returns-2)
+    (tie.spec Inv-loop μ-loop (λ c. search needs) loop-holds edge-line-requires (λ c. search needs) (λ c. search needs) (λ c. search needs)
+    (λ c. search needs) (λ c. search needs) fill-requires (λ c. search needs) (λ c. search needs) (λ c. search needs) (λ c. search needs)
+    (λ c. search needs) (λ c. search needs) (λ c. search needs) loop-again (λ c. search needs) same-length same-length-2 returns
+    (λ c. search needs) (λ c. search needs) (λ c. search needs) fill-requires-2 same-length-3 same-length-4 returns-2)

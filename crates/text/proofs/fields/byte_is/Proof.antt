@@ -9,11 +9,8 @@ use Rattle.text.proofs.fields.byte_is.Tie as tie
 returns : tie.Need-returns
 returns c = sym (begins-past _ (c .before .args .at) (c .before .args .text .now) (search needs))
 
-shared-slice-read-result : tie.Need-shared-slice-read-result
-shared-slice-read-result c = search needs
-
 returns-2 : tie.Need-returns-2
 returns-2 c = sym (begins-at _ (c .before .before .args .at) (c .before .before .args .text .now) (search needs))
 
 pub byte-is-spec : {M : Type 1} → statement M
-byte-is-spec = tie.close (tie.spec returns shared-slice-read-result returns-2)
+byte-is-spec = tie.close (tie.spec returns (λ c. search needs) returns-2)

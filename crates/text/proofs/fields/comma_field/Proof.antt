@@ -27,5 +27,4 @@ returns-2 c =
     field-onward (entry .args .at) (entry .args .text .now) (c .number .result) (c .number .ensures) (comma-begins (entry .args .at) (entry .args .text .now) (passed (c .before .before .byte-is .ensures) (c .before .if1 .left)))
 
 pub comma-field-spec : {M : Type 1} → statement M
-comma-field-spec =
-    tie.close (tie.spec byte-is-requires returns add-number number-requires returns-2)
+comma-field-spec = tie.close (tie.spec byte-is-requires returns add-number number-requires returns-2)

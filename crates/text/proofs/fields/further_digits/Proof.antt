@@ -35,9 +35,6 @@ loop-holds c = digits-start _ _ _ (c .before .pre .0) (c .before .pre .1)
 returns : tie.Need-returns Inv-loop μ-loop
 returns c = digits-past (c .before .before .loop .inv) (search needs)
 
-shared-slice-read-b : tie.Need-shared-slice-read-b Inv-loop μ-loop
-shared-slice-read-b c = search needs
-
 is-digit-requires : tie.Need-is-digit-requires Inv-loop μ-loop
 is-digit-requires c κs = search needs
 
@@ -56,14 +53,8 @@ cast-value c = omega (arith, digit-most _ (digit c))
 add-value : tie.Need-add-value Inv-loop μ-loop
 add-value c = omega (arith, digits-room (head c .loop .inv) (some c), digit-most _ (digit c))
 
-add-next : tie.Need-add-next Inv-loop μ-loop
-add-next c = search needs
-
 sub-left : tie.Need-sub-left Inv-loop μ-loop
 sub-left c = some c
-
-loop-less : tie.Need-loop-less Inv-loop μ-loop
-loop-less c = search needs
 
 loop-again : tie.Need-loop-again Inv-loop μ-loop
 loop-again c = digits-step (head c .loop .inv) (some c) (search needs) (digit c)
@@ -74,20 +65,5 @@ returns-3 c = let none : c .before .loop .left ≤ 0 = c .loop-test .left in dig
 pub further-digits-spec : {M : Type 1} → statement M
 further-digits-spec =
     tie.close
-    (tie.spec
-    Inv-loop
-    μ-loop
-    loop-holds
-    returns
-    shared-slice-read-b
-    is-digit-requires
-    returns-2
-    mul-value
-    sub-value
-    cast-value
-    add-value
-    add-next
-    sub-left
-    loop-less
-    loop-again
-    returns-3)
+    (tie.spec Inv-loop μ-loop loop-holds returns (λ c. search needs) is-digit-requires returns-2 mul-value sub-value cast-value add-value
+    (λ c. search needs) sub-left (λ c. search needs) loop-again returns-3)

@@ -15,15 +15,6 @@ line c = c .before .before
 abbrev entry : tie.After-byte-is → tie.Start
 entry c = line c .before .before .before
 
-enum-known-line : tie.Need-enum-known-line
-enum-known-line c = search needs
-
-enum-told : tie.Need-enum-told
-enum-told c = search needs
-
-returns : tie.Need-returns
-returns c = search needs
-
 byte-is-requires : tie.Need-byte-is-requires
 byte-is-requires c κs = search needs
 
@@ -44,4 +35,6 @@ returns-3 c =
     end-there (line (c .before) .line .given .1) (a .at) (a .text .now) (passed (c .before .byte-is .ensures) (c .if1 .left))
 
 pub line-end-spec : {M : Type 1} → statement M
-line-end-spec = tie.close (tie.spec enum-known-line enum-told returns byte-is-requires returns-2 add-t10 returns-3)
+line-end-spec =
+    tie.close
+    (tie.spec (λ c. search needs) (λ c. search needs) (λ c. search needs) byte-is-requires returns-2 add-t10 returns-3)

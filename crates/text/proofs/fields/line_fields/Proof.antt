@@ -35,5 +35,4 @@ returns-2 c =
     )
 
 pub line-fields-spec : {M : Type 1} → statement M
-line-fields-spec =
-    tie.close (tie.spec byte-is-requires returns add-fields-from fields-from-requires returns-2)
+line-fields-spec = tie.close (tie.spec byte-is-requires returns add-fields-from fields-from-requires returns-2)

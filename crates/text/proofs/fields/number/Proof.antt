@@ -21,12 +21,6 @@ digit c = passed (c .before .is-digit .ensures) (c .if3 .left)
 returns : tie.Need-returns
 returns c = (sym (field-past (c .before .before .args .at) (c .before .before .args .text .now) (search needs)), tt)
 
-shared-slice-read-b : tie.Need-shared-slice-read-b
-shared-slice-read-b c = search needs
-
-add-t8 : tie.Need-add-t8
-add-t8 c = search needs
-
 returns-2 : tie.Need-returns-2
 returns-2 c = (sym (field-zero (c .before .before .before .before .args .at) (c .before .before .before .before .args .text .now) (search needs) (search needs)), (search needs, search needs))
 
@@ -37,9 +31,6 @@ returns-3 : tie.Need-returns-3
 returns-3 c =
     let start : tie.Start = entry (c .before) in
     (sym (field-other (start .args .at) (start .args .text .now) (search needs) (search needs) (refused (c .before .is-digit .ensures) (c .if3 .taken))), tt)
-
-add-further-digits : tie.Need-add-further-digits
-add-further-digits c = search needs
 
 sub-further-digits : tie.Need-sub-further-digits
 sub-further-digits c = digit-least _ (digit c)
@@ -59,15 +50,5 @@ returns-4 c =
 pub number-spec : {M : Type 1} → statement M
 number-spec =
     tie.close
-    (tie.spec
-    returns
-    shared-slice-read-b
-    add-t8
-    returns-2
-    is-digit-requires
-    returns-3
-    add-further-digits
-    sub-further-digits
-    cast-further-digits
-    further-digits-requires
-    returns-4)
+    (tie.spec returns (λ c. search needs) (λ c. search needs) returns-2 is-digit-requires returns-3 (λ c. search needs) sub-further-digits
+    cast-further-digits further-digits-requires returns-4)

@@ -5,35 +5,8 @@ use Rattle.text.proofs.FieldLaws.{with-fault, with-number}
 use Rattle.text.proofs.fields.with_field.Statement.{statement}
 use Rattle.text.proofs.fields.with_field.Tie as tie
 
-enum-known-line : tie.Need-enum-known-line
-enum-known-line c = search needs
-
-enum-told : tie.Need-enum-told
-enum-told c = search needs
-
-returns : tie.Need-returns
-returns c = search needs
-
-enum-known-read : tie.Need-enum-known-read
-enum-known-read c = search needs
-
-enum-told-2 : tie.Need-enum-told-2
-enum-told-2 c = search needs
-
 returns-2 : tie.Need-returns-2
 returns-2 c = let line = c .before .before .before in with-fault (line .line .given .1) (line .before .before .args .k) (c .enum-told2 .given .1)
-
-one-of-two-requires : tie.Need-one-of-two-requires
-one-of-two-requires c = search needs
-
-one-of-two-requires-2 : tie.Need-one-of-two-requires-2
-one-of-two-requires-2 c = search needs
-
-one-of-two-requires-3 : tie.Need-one-of-two-requires-3
-one-of-two-requires-3 c = search needs
-
-one-of-two-requires-4 : tie.Need-one-of-two-requires-4
-one-of-two-requires-4 c = search needs
 
 returns-3 : tie.Need-returns-3
 returns-3 c =
@@ -45,15 +18,5 @@ returns-3 c =
 pub with-field-spec : {M : Type 1} → statement M
 with-field-spec =
     tie.close
-    (tie.spec
-    enum-known-line
-    enum-told
-    returns
-    enum-known-read
-    enum-told-2
-    returns-2
-    one-of-two-requires
-    one-of-two-requires-2
-    one-of-two-requires-3
-    one-of-two-requires-4
-    returns-3)
+    (tie.spec (λ c. search needs) (λ c. search needs) (λ c. search needs) (λ c. search needs) (λ c. search needs) returns-2
+    (λ c. search needs) (λ c. search needs) (λ c. search needs) (λ c. search needs) returns-3)

@@ -15,12 +15,6 @@ text-of d = d .before .before .args .text .now
 line-fields-requires : tie.Need-line-fields-requires
 line-fields-requires c κs = search needs
 
-enum-known-first : tie.Need-enum-known-first
-enum-known-first c = search needs
-
-enum-told : tie.Need-enum-told
-enum-told c = search needs
-
 returns : tie.Need-returns
 returns c = let d = c .before .before in (head-malformed (text-of d) (d .line-fields .ensures .0) (c .enum-told .given .1), tt)
 
@@ -44,4 +38,4 @@ returns-3 c =
 pub head-line-spec : {M : Type 1} → statement M
 head-line-spec =
     tie.close
-    (tie.spec line-fields-requires enum-known-first enum-told returns head-within-requires returns-2 returns-3)
+    (tie.spec line-fields-requires (λ c. search needs) (λ c. search needs) returns head-within-requires returns-2 returns-3)

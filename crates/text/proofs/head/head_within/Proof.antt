@@ -28,5 +28,4 @@ returns-7 : tie.Need-returns-7
 returns-7 c = sym (head-limit _ _ _ _ (search needs) (search needs) (search needs) (search needs) (search needs) (search needs))
 
 pub head-within-spec : {M : Type 1} → statement M
-head-within-spec =
-    tie.close (tie.spec returns returns-2 returns-3 returns-4 returns-5 returns-6 returns-7)
+head-within-spec = tie.close (tie.spec returns returns-2 returns-3 returns-4 returns-5 returns-6 returns-7)

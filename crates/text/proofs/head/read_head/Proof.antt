@@ -10,9 +10,6 @@ use Rattle.text.proofs.head.read_head.Tie as tie
 head-line-requires : tie.Need-head-line-requires
 head-line-requires c κs = search needs
 
-enum-known-nodes : tie.Need-enum-known-nodes
-enum-known-nodes c = search needs
-
 -- where the head's line is read, from where its numbers are known
 abbrev headed : tie.After-known-told → tie.After-head-line
 headed c = c .before .before .before
@@ -22,24 +19,6 @@ read-terms-requires c κs =
     let head = headed c .head-line in
     let place = head-place (headed c .before .before .args .text .now) (head .result) (c .before .nodes .given .1) (head .ensures .1) in
     (place .1, omega (arith, place .0))
-
-enum-known-terms : tie.Need-enum-known-terms
-enum-known-terms c = search needs
-
-cast-t17 : tie.Need-cast-t17
-cast-t17 c = search needs
-
-cast-t18 : tie.Need-cast-t18
-cast-t18 c = search needs
-
-cast-t19 : tie.Need-cast-t19
-cast-t19 c = search needs
-
-enum-known-number : tie.Need-enum-known-number
-enum-known-number c = search needs
-
-enum-known-number-2 : tie.Need-enum-known-number-2
-enum-known-number-2 c = search needs
 
 returns : tie.Need-returns
 returns c =
@@ -66,16 +45,5 @@ returns-3 c = let head = c .before .before .before .head-line in (head-refused _
 pub read-head-spec : {M : Type 1} → statement M
 read-head-spec =
     tie.close
-    (tie.spec
-    head-line-requires
-    enum-known-nodes
-    read-terms-requires
-    enum-known-terms
-    cast-t17
-    cast-t18
-    cast-t19
-    enum-known-number
-    enum-known-number-2
-    returns
-    returns-2
-    returns-3)
+    (tie.spec head-line-requires (λ c. search needs) read-terms-requires (λ c. search needs) (λ c. search needs) (λ c. search needs)
+    (λ c. search needs) (λ c. search needs) (λ c. search needs) returns returns-2 returns-3)

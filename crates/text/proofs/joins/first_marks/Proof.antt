@@ -20,15 +20,6 @@ loop-holds c = first-none _
 first-of-requires : tie.Need-first-of-requires Inv-loop μ-loop
 first-of-requires c κs = search needs
 
-array-write-marks : tie.Need-array-write-marks Inv-loop μ-loop
-array-write-marks c = search needs
-
-add-net : tie.Need-add-net Inv-loop μ-loop
-add-net c = search needs
-
-loop-less : tie.Need-loop-less Inv-loop μ-loop
-loop-less c = search needs
-
 loop-again : tie.Need-loop-again Inv-loop μ-loop
 loop-again c =
     let i = c .before .before .before in
@@ -43,13 +34,4 @@ returns c = first-all (c .before .loop .inv) (search needs)
 pub first-marks-spec : {M : Type 1} → statement M
 first-marks-spec =
     tie.close
-    (tie.spec
-    Inv-loop
-    μ-loop
-    loop-holds
-    first-of-requires
-    array-write-marks
-    add-net
-    loop-less
-    loop-again
-    returns)
+    (tie.spec Inv-loop μ-loop loop-holds first-of-requires (λ c. search needs) (λ c. search needs) (λ c. search needs) loop-again returns)

@@ -23,15 +23,6 @@ first-of-requires c κs = search needs
 two-length-requires : tie.Need-two-length-requires Inv-loop μ-loop
 two-length-requires c κs = search needs
 
-add-bytes : tie.Need-add-bytes Inv-loop μ-loop
-add-bytes c = search needs
-
-add-net : tie.Need-add-net Inv-loop μ-loop
-add-net c = search needs
-
-loop-less : tie.Need-loop-less Inv-loop μ-loop
-loop-less c = search needs
-
 loop-again : tie.Need-loop-again Inv-loop μ-loop
 loop-again c =
     let i = c .before .before .before in
@@ -46,14 +37,5 @@ returns c = counted-all (c .before .loop .inv) (search needs) (search needs)
 pub joins-length-spec : {M : Type 1} → statement M
 joins-length-spec =
     tie.close
-    (tie.spec
-    Inv-loop
-    μ-loop
-    loop-holds
-    first-of-requires
-    two-length-requires
-    add-bytes
-    add-net
-    loop-less
-    loop-again
-    returns)
+    (tie.spec Inv-loop μ-loop loop-holds first-of-requires two-length-requires (λ c. search needs) (λ c. search needs) (λ c. search needs)
+    loop-again returns)

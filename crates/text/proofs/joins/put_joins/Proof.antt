@@ -25,12 +25,6 @@ put-two-requires c κs =
     let i = c .before .before .before .before in
     joins-room (search needs) (i .loop .inv) (search needs) (c .before .before .first-of .ensures) (search needs)
 
-add-net : tie.Need-add-net Inv-loop μ-loop
-add-net c = search needs
-
-loop-less : tie.Need-loop-less Inv-loop μ-loop
-loop-less c = search needs
-
 loop-again : tie.Need-loop-again Inv-loop μ-loop
 loop-again c =
     let i = c .before .before .before in
@@ -48,14 +42,5 @@ returns c = joins-all (search needs) (c .before .loop .inv) (search needs)
 pub put-joins-spec : {M : Type 1} → statement M
 put-joins-spec =
     tie.close
-    (tie.spec
-    Inv-loop
-    μ-loop
-    loop-holds
-    first-of-requires
-    put-two-requires
-    add-net
-    loop-less
-    loop-again
-    same-length
+    (tie.spec Inv-loop μ-loop loop-holds first-of-requires put-two-requires (λ c. search needs) (λ c. search needs) loop-again same-length
     returns)

@@ -105,26 +105,6 @@ returns c = finding-all (c .before .loop .inv) (search needs)
 pub latest-records-spec : {M : Type 1} → statement M
 latest-records-spec =
     tie.close
-    (tie.spec
-    Inv-loop
-    μ-loop
-    loop-holds
-    add-net
-    mul-net
-    shared-slice-read-net
-    cast-net
-    record-end-requires
-    mul-begins-anew
-    slice-read-begins-anew
-    mul-begins-anew-2
-    slice-read-begins-anew-2
-    begins-anew-requires
-    mul-from
-    slice-write-from
-    mul-to
-    slice-write-to
-    loop-less
-    loop-again
-    same-length
-    same-length-2
-    returns)
+    (tie.spec Inv-loop μ-loop loop-holds add-net mul-net shared-slice-read-net cast-net record-end-requires mul-begins-anew
+    slice-read-begins-anew mul-begins-anew-2 slice-read-begins-anew-2 begins-anew-requires mul-from slice-write-from mul-to slice-write-to
+    loop-less loop-again same-length same-length-2 returns)

@@ -42,12 +42,6 @@ returns c =
     checked-unsound (c .before .before .before .loop .inv) (search needs)
     (sym (c .before .record-sound .ensures) ∙ not-true _ (c .if1 .taken))
 
-mul-iteration : tie.Need-mul-iteration Inv-loop μ-loop
-mul-iteration c = search needs
-
-shared-slice-read-iteration : tie.Need-shared-slice-read-iteration Inv-loop μ-loop
-shared-slice-read-iteration c = search needs
-
 record-end-requires : tie.Need-record-end-requires Inv-loop μ-loop
 record-end-requires c κs = next (c .before)
 
@@ -69,17 +63,5 @@ returns-3 c = checked-sound (c .before .before .loop .inv) (search needs) (c .if
 pub check-log-spec : {M : Type 1} → statement M
 check-log-spec =
     tie.close
-    (tie.spec
-    Inv-loop
-    μ-loop
-    loop-holds
-    record-sound-requires
-    returns
-    mul-iteration
-    shared-slice-read-iteration
-    record-end-requires
-    add-turns
-    loop-less
-    loop-again
-    returns-2
-    returns-3)
+    (tie.spec Inv-loop μ-loop loop-holds record-sound-requires returns (λ c. search needs) (λ c. search needs) record-end-requires add-turns
+    loop-less loop-again returns-2 returns-3)

@@ -10,12 +10,9 @@ use Rattle.text.proofs.log_check.net_marked.Tie as tie
 returns : tie.Need-returns
 returns c = sym (marked-none _ _ (search needs))
 
-shared-slice-read-result : tie.Need-shared-slice-read-result
-shared-slice-read-result c = search needs
-
 returns-2 : tie.Need-returns-2
 unfolding netMarked
 returns-2 c = search needs
 
 pub net-marked-spec : {M : Type 1} → statement M
-net-marked-spec = tie.close (tie.spec returns shared-slice-read-result returns-2)
+net-marked-spec = tie.close (tie.spec returns (λ c. search needs) returns-2)

@@ -16,22 +16,10 @@ returns-2 c =
     let a = c .before .before .before .args in
     sym (path-many (a .nodes) (a .log .now) (a .at) _ _ (search needs) (search needs))
 
-sub-if3 : tie.Need-sub-if3
-sub-if3 c = search needs
-
-add-if3 : tie.Need-add-if3
-add-if3 c = search needs
-
 returns-3 : tie.Need-returns-3
 returns-3 c =
     let a = c .before .before .before .before .args in
     sym (path-cut (a .nodes) (a .log .now) (a .at) _ _ (search needs) (search needs) (search needs))
-
-add-from : tie.Need-add-from
-add-from c = search needs
-
-add-to : tie.Need-add-to
-add-to c = search needs
 
 nodes-sound-requires : tie.Need-nodes-sound-requires
 nodes-sound-requires c κs = search needs
@@ -42,15 +30,6 @@ returns-4 c =
     sym (path-nodes (a .nodes) (a .log .now) (a .at) _ _ (search needs) (search needs) (search needs)
     (c .before .nodes-sound .ensures) (c .if4 .taken))
 
-sub-result : tie.Need-sub-result
-sub-result c = search needs
-
-mul-result : tie.Need-mul-result
-mul-result c = search needs
-
-shared-slice-read-result : tie.Need-shared-slice-read-result
-shared-slice-read-result c = search needs
-
 returns-5 : tie.Need-returns-5
 returns-5 c =
     let a = c .before .before .before .before .before .before .before .args in
@@ -60,17 +39,5 @@ returns-5 c =
 pub path-sound-spec : {M : Type 1} → statement M
 path-sound-spec =
     tie.close
-    (tie.spec
-    returns
-    returns-2
-    sub-if3
-    add-if3
-    returns-3
-    add-from
-    add-to
-    nodes-sound-requires
-    returns-4
-    sub-result
-    mul-result
-    shared-slice-read-result
-    returns-5)
+    (tie.spec returns returns-2 (λ c. search needs) (λ c. search needs) returns-3 (λ c. search needs) (λ c. search needs)
+    nodes-sound-requires returns-4 (λ c. search needs) (λ c. search needs) (λ c. search needs) returns-5)

@@ -15,19 +15,10 @@ entry c = c .before .before .before .before
 abbrev in-order : tie.Else4 → tie.After-shared-slice-known3
 in-order c = c .before .before .before
 
-sub-if1 : tie.Need-sub-if1
-sub-if1 c = search needs
-
 returns : tie.Need-returns
 returns c =
     let a = c .before .before .before .args in
     sym (record-cut (namedBy (a .marks .now) (a .nodes)) (a .last) (a .log .now) (a .at) (search needs))
-
-mul-iteration : tie.Need-mul-iteration
-mul-iteration c = search needs
-
-shared-slice-read-iteration : tie.Need-shared-slice-read-iteration
-shared-slice-read-iteration c = search needs
 
 returns-2 : tie.Need-returns-2
 returns-2 c =
@@ -44,15 +35,6 @@ returns-4 c =
     let a = entry (c .before .before .before) .args in
     sym (record-falls (namedBy (a .marks .now) (a .nodes)) (a .last) (a .log .now) (a .at) (search needs) (search needs) (search needs) (search needs))
 
-add-net-marked : tie.Need-add-net-marked
-add-net-marked c = search needs
-
-mul-net-marked : tie.Need-mul-net-marked
-mul-net-marked c = search needs
-
-shared-slice-read-net-marked : tie.Need-shared-slice-read-net-marked
-shared-slice-read-net-marked c = search needs
-
 net-marked-requires : tie.Need-net-marked-requires
 net-marked-requires c κs = search needs
 
@@ -61,24 +43,6 @@ returns-5 c =
     let a = entry (in-order (c .before .before .before)) .args in
     sym (record-other (namedBy (a .marks .now) (a .nodes)) (a .last) (a .log .now) (a .at) (search needs) (search needs) (search needs) (search needs)
     (refused (c .before .net-marked .ensures) (c .if5 .taken)))
-
-add-path-sound : tie.Need-add-path-sound
-add-path-sound c = search needs
-
-mul-path-sound : tie.Need-mul-path-sound
-mul-path-sound c = search needs
-
-shared-slice-read-path-sound : tie.Need-shared-slice-read-path-sound
-shared-slice-read-path-sound c = search needs
-
-add-path-sound-2 : tie.Need-add-path-sound-2
-add-path-sound-2 c = search needs
-
-mul-path-sound-2 : tie.Need-mul-path-sound-2
-mul-path-sound-2 c = search needs
-
-shared-slice-read-path-sound-2 : tie.Need-shared-slice-read-path-sound-2
-shared-slice-read-path-sound-2 c = search needs
 
 path-sound-requires : tie.Need-path-sound-requires
 path-sound-requires c κs = search needs
@@ -92,24 +56,6 @@ returns-6 c =
 pub record-sound-spec : {M : Type 1} → statement M
 record-sound-spec =
     tie.close
-    (tie.spec
-    sub-if1
-    returns
-    mul-iteration
-    shared-slice-read-iteration
-    returns-2
-    returns-3
-    returns-4
-    add-net-marked
-    mul-net-marked
-    shared-slice-read-net-marked
-    net-marked-requires
-    returns-5
-    add-path-sound
-    mul-path-sound
-    shared-slice-read-path-sound
-    add-path-sound-2
-    mul-path-sound-2
-    shared-slice-read-path-sound-2
-    path-sound-requires
-    returns-6)
+    (tie.spec (λ c. search needs) returns (λ c. search needs) (λ c. search needs) returns-2 returns-3 returns-4 (λ c. search needs)
+    (λ c. search needs) (λ c. search needs) net-marked-requires returns-5 (λ c. search needs) (λ c. search needs) (λ c. search needs)
+    (λ c. search needs) (λ c. search needs) (λ c. search needs) path-sound-requires returns-6)

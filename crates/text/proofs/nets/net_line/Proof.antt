@@ -14,9 +14,6 @@ of-source c = c .before .before .before .before .before .before .before .before 
 abbrev of-other : tie.Else1 → tie.Start
 of-other c = c .before .before .before .before .before .before .before .before .before
 
-shared-slice-read-b : tie.Need-shared-slice-read-b
-shared-slice-read-b c = search needs
-
 source-due-requires : tie.Need-source-due-requires
 source-due-requires c κs = search needs
 
@@ -27,15 +24,6 @@ add-source-requires c κs =
     let a = s .args in
     let below = due-below (a .c .nets) (a .nets) (a .c .first) (a .c .sinks) (due .before .source-due .ensures) (due .if2 .taken) in
     omega (arith, below, s .pre)
-
-same-length : tie.Need-same-length
-same-length c = search needs
-
-same-length-2 : tie.Need-same-length-2
-same-length-2 c = search needs
-
-same-length-3 : tie.Need-same-length-3
-same-length-3 c = search needs
 
 returns : tie.Need-returns
 returns c =
@@ -57,15 +45,6 @@ returns-2 c =
 
 add-sink-requires : tie.Need-add-sink-requires
 add-sink-requires c κs = search needs
-
-same-length-4 : tie.Need-same-length-4
-same-length-4 c = search needs
-
-same-length-5 : tie.Need-same-length-5
-same-length-5 c = search needs
-
-same-length-6 : tie.Need-same-length-6
-same-length-6 c = search needs
 
 returns-3 : tie.Need-returns-3
 returns-3 c =
@@ -90,19 +69,5 @@ returns-5 c =
 pub net-line-spec : {M : Type 1} → statement M
 net-line-spec =
     tie.close
-    (tie.spec
-    shared-slice-read-b
-    source-due-requires
-    add-source-requires
-    same-length
-    same-length-2
-    same-length-3
-    returns
-    returns-2
-    add-sink-requires
-    same-length-4
-    same-length-5
-    same-length-6
-    returns-3
-    returns-4
-    returns-5)
+    (tie.spec (λ c. search needs) source-due-requires add-source-requires (λ c. search needs) (λ c. search needs) (λ c. search needs)
+    returns returns-2 add-sink-requires (λ c. search needs) (λ c. search needs) (λ c. search needs) returns-3 returns-4 returns-5)

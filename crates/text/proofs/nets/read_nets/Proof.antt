@@ -48,14 +48,8 @@ loop-holds c =
       refl,
     )
 
-slice-aggregate-net-line : tie.Need-slice-aggregate-net-line Inv-loop μ-loop
-slice-aggregate-net-line c = search needs
-
 net-line-requires : tie.Need-net-line-requires Inv-loop μ-loop
 net-line-requires c κs = search needs
-
-enum-known-next : tie.Need-enum-known-next Inv-loop μ-loop
-enum-known-next c = search needs
 
 loop-less : tie.Need-loop-less Inv-loop μ-loop
 loop-less c =
@@ -77,79 +71,19 @@ loop-again c =
       kept .1 .1 .1 .1 .0 ∙ inv .5,
     )
 
-enum-known-number : tie.Need-enum-known-number Inv-loop μ-loop
-enum-known-number c = search needs
-
-same-length : tie.Need-same-length Inv-loop μ-loop
-same-length c = search needs
-
-same-length-2 : tie.Need-same-length-2 Inv-loop μ-loop
-same-length-2 c = search needs
-
-same-length-3 : tie.Need-same-length-3 Inv-loop μ-loop
-same-length-3 c = search needs
-
-same-length-4 : tie.Need-same-length-4 Inv-loop μ-loop
-same-length-4 c = search needs
-
 returns : tie.Need-returns Inv-loop μ-loop
 returns c =
     let there = stopped c in
     let call = there .net-line in
     (going-stops (head (turn there) .loop .inv .0) (turn there .if1 .taken) (call .result) _ _ _ _ (c .before .number .given .1) (call .ensures .0), tt)
 
-same-length-5 : tie.Need-same-length-5 Inv-loop μ-loop
-same-length-5 c = search needs
-
-same-length-6 : tie.Need-same-length-6 Inv-loop μ-loop
-same-length-6 c = search needs
-
-same-length-7 : tie.Need-same-length-7 Inv-loop μ-loop
-same-length-7 c = search needs
-
-same-length-8 : tie.Need-same-length-8 Inv-loop μ-loop
-same-length-8 c = search needs
-
 returns-2 : tie.Need-returns-2 Inv-loop μ-loop
 returns-2 c = (going-short (c .before .before .before .before .loop .inv .0) (c .before .before .if1 .left) (c .if2 .taken), tt)
-
-same-length-9 : tie.Need-same-length-9 Inv-loop μ-loop
-same-length-9 c = search needs
-
-same-length-10 : tie.Need-same-length-10 Inv-loop μ-loop
-same-length-10 c = search needs
-
-same-length-11 : tie.Need-same-length-11 Inv-loop μ-loop
-same-length-11 c = search needs
-
-same-length-12 : tie.Need-same-length-12 Inv-loop μ-loop
-same-length-12 c = search needs
 
 returns-3 : tie.Need-returns-3 Inv-loop μ-loop
 returns-3 c =
     let past-if1 = c .before .before .before .before in
     (going-empty (past-if1 .before .before .loop .inv .0) (past-if1 .if1 .left) (c .if3 .taken), tt)
-
-cast-first-sink : tie.Need-cast-first-sink Inv-loop μ-loop
-cast-first-sink c = search needs
-
-mul-first-sink : tie.Need-mul-first-sink Inv-loop μ-loop
-mul-first-sink c = search needs
-
-slice-write-first-sink : tie.Need-slice-write-first-sink Inv-loop μ-loop
-slice-write-first-sink c = search needs
-
-same-length-13 : tie.Need-same-length-13 Inv-loop μ-loop
-same-length-13 c = search needs
-
-same-length-14 : tie.Need-same-length-14 Inv-loop μ-loop
-same-length-14 c = search needs
-
-same-length-15 : tie.Need-same-length-15 Inv-loop μ-loop
-same-length-15 c = search needs
-
-same-length-16 : tie.Need-same-length-16 Inv-loop μ-loop
-same-length-16 c = search needs
 
 returns-4 : tie.Need-returns-4 Inv-loop μ-loop
 returns-4 c =
@@ -163,36 +97,8 @@ returns-4 c =
 pub read-nets-spec : {M : Type 1} → statement M
 read-nets-spec =
     tie.close
-    (tie.spec
-    Inv-loop
-    μ-loop
-    loop-holds
-    slice-aggregate-net-line
-    net-line-requires
-    enum-known-next
-    loop-less
-    loop-again
-    enum-known-number
-    same-length
-    same-length-2
-    same-length-3
-    same-length-4
-    returns
-    same-length-5
-    same-length-6
-    same-length-7
-    same-length-8
-    returns-2
-    same-length-9
-    same-length-10
-    same-length-11
-    same-length-12
-    returns-3
-    cast-first-sink
-    mul-first-sink
-    slice-write-first-sink
-    same-length-13
-    same-length-14
-    same-length-15
-    same-length-16
-    returns-4)
+    (tie.spec Inv-loop μ-loop loop-holds (λ c. search needs) net-line-requires (λ c. search needs) loop-less loop-again (λ c. search needs)
+    (λ c. search needs) (λ c. search needs) (λ c. search needs) (λ c. search needs) returns (λ c. search needs) (λ c. search needs)
+    (λ c. search needs) (λ c. search needs) returns-2 (λ c. search needs) (λ c. search needs) (λ c. search needs) (λ c. search needs)
+    returns-3 (λ c. search needs) (λ c. search needs) (λ c. search needs) (λ c. search needs) (λ c. search needs) (λ c. search needs)
+    (λ c. search needs) returns-4)

@@ -23,17 +23,8 @@ known p = p .before .before .before .before
 one-of-two-requires : tie.Need-one-of-two-requires
 one-of-two-requires c κs = search needs
 
-cast-numbers : tie.Need-cast-numbers
-cast-numbers c = search needs
-
 line-fields-requires : tie.Need-line-fields-requires
 line-fields-requires c κs = rw (c .one-of-two .ensures) (sink-numbers (c .before .before .before .before .args .timed))
-
-enum-known-first : tie.Need-enum-known-first
-enum-known-first c = search needs
-
-enum-told : tie.Need-enum-told
-enum-told c = search needs
 
 returns : tie.Need-returns
 returns c =
@@ -41,18 +32,12 @@ returns c =
     let a = entry d .args in
     (λ pins m. of-refused sinkKind (a .kind .now) (sink-fault (a .timed) _ _ _ (a .at) _ (a .text .now) (d .before .one-of-two .ensures) (d .line-fields .ensures .0) pins (c .enum-told .given .1)), tt)
 
-cast-if1 : tie.Need-cast-if1
-cast-if1 c = search needs
-
 returns-2 : tie.Need-returns-2
 returns-2 c =
     let k : tie.After-known-told = c .before in
     let d = lined k in
     let a = entry d .args in
     (λ pins m. of-refused sinkKind (a .kind .now) (sink-net (a .timed) _ _ _ (a .at) _ (a .text .now) (d .before .one-of-two .ensures) (d .line-fields .ensures .0) (k .before .first .given .1) refl pins (c .if1 .taken)), tt)
-
-cast-if2 : tie.Need-cast-if2
-cast-if2 c = search needs
 
 returns-3 : tie.Need-returns-3
 returns-3 c =
@@ -71,9 +56,6 @@ returns-4 c =
     let a = entry d .args in
     (λ pins m. of-refused sinkKind (a .kind .now) (sink-tenths (a .timed) _ _ _ (a .at) _ (a .text .now) (d .before .one-of-two .ensures) (d .line-fields .ensures .0) (k .before .first .given .1) (c .before .one-of-two2 .ensures) pins (c .if3 .taken)), tt)
 
-cast-if4 : tie.Need-cast-if4
-cast-if4 c = search needs
-
 returns-5 : tie.Need-returns-5
 returns-5 c =
     let p : tie.Else3 = c .before in
@@ -85,15 +67,6 @@ returns-5 c =
           (b .before .if1 .left) (b .if2 .left) (p .if3 .left) pins (c .if4 .taken)),
       tt,
     )
-
-cast-if5 : tie.Need-cast-if5
-cast-if5 c = search needs
-
-mul-if5 : tie.Need-mul-if5
-mul-if5 c = search needs
-
-shared-slice-read-if5 : tie.Need-shared-slice-read-if5
-shared-slice-read-if5 c = search needs
 
 returns-6 : tie.Need-returns-6
 returns-6 c =
@@ -119,12 +92,6 @@ returns-7 c =
       tt,
     )
 
-cast-sink-kind : tie.Need-cast-sink-kind
-cast-sink-kind c = search needs
-
-shared-slice-read-sink-kind : tie.Need-shared-slice-read-sink-kind
-shared-slice-read-sink-kind c = search needs
-
 sink-kind-requires : tie.Need-sink-kind-requires
 sink-kind-requires c κs = search needs
 
@@ -142,12 +109,6 @@ returns-8 c =
           (b .before .if1 .left) (b .if2 .left) (p .if3 .left) (a .stamp) (a .seen .now) pins m (n .if4 .left) (o .if5 .left) (q .if6 .left)) (refused (c .before .sink-kind .ensures) (c .if7 .taken)),
       tt,
     )
-
-cast-t23 : tie.Need-cast-t23
-cast-t23 c = search needs
-
-cast-t25 : tie.Need-cast-t25
-cast-t25 c = search needs
 
 returns-9 : tie.Need-returns-9
 returns-9 c =
@@ -167,30 +128,7 @@ returns-9 c =
 pub sink-line-spec : {M : Type 1} → statement M
 sink-line-spec =
     tie.close
-    (tie.spec
-    one-of-two-requires
-    cast-numbers
-    line-fields-requires
-    enum-known-first
-    enum-told
-    returns
-    cast-if1
-    returns-2
-    cast-if2
-    returns-3
-    one-of-two-requires-2
-    returns-4
-    cast-if4
-    returns-5
-    cast-if5
-    mul-if5
-    shared-slice-read-if5
-    returns-6
-    returns-7
-    cast-sink-kind
-    shared-slice-read-sink-kind
-    sink-kind-requires
-    returns-8
-    cast-t23
-    cast-t25
-    returns-9)
+    (tie.spec one-of-two-requires (λ c. search needs) line-fields-requires (λ c. search needs) (λ c. search needs) returns
+    (λ c. search needs) returns-2 (λ c. search needs) returns-3 one-of-two-requires-2 returns-4 (λ c. search needs) returns-5
+    (λ c. search needs) (λ c. search needs) (λ c. search needs) returns-6 returns-7 (λ c. search needs) (λ c. search needs)
+    sink-kind-requires returns-8 (λ c. search needs) (λ c. search needs) returns-9)

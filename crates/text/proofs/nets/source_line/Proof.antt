@@ -12,12 +12,6 @@ use Rattle.text.proofs.nets.source_line.Tie as tie
 line-fields-requires : tie.Need-line-fields-requires
 line-fields-requires c κs = search needs
 
-enum-known-first : tie.Need-enum-known-first
-enum-known-first c = search needs
-
-enum-told : tie.Need-enum-told
-enum-told c = search needs
-
 -- the entry, from where the line is read
 abbrev entry : tie.After-line-fields → tie.Start
 entry c = c .before .before .before
@@ -28,26 +22,17 @@ returns c =
     let a = entry read .args in
     (of-refused sourceKind (a .kind .now) (source-fault _ _ _ (a .at) (a .text .now) _ (read .line-fields .ensures .0) (c .enum-told .given .1)), tt)
 
-cast-if1 : tie.Need-cast-if1
-cast-if1 c = search needs
-
 returns-2 : tie.Need-returns-2
 returns-2 c =
     let read : tie.After-line-fields = c .before .before .before .before in
     let a = entry read .args in
     (of-refused sourceKind (a .kind .now) (source-net _ _ _ (a .at) (a .text .now) _ (read .line-fields .ensures .0) (c .before .before .first .given .1) (c .if1 .taken)), tt)
 
-cast-if2 : tie.Need-cast-if2
-cast-if2 c = search needs
-
 returns-3 : tie.Need-returns-3
 returns-3 c =
     let read : tie.After-line-fields = c .before .before .before .before .before in
     let a = entry read .args in
     (of-refused sourceKind (a .kind .now) (source-node _ _ _ (a .at) (a .text .now) _ (read .line-fields .ensures .0) (c .before .before .before .first .given .1) (c .if2 .taken)), tt)
-
-cast-if3 : tie.Need-cast-if3
-cast-if3 c = search needs
 
 returns-4 : tie.Need-returns-4
 returns-4 c =
@@ -57,12 +42,6 @@ returns-4 c =
           (source-order _ _ _ (a .at) (a .text .now) _ (read .line-fields .ensures .0) (c .before .before .before .before .first .given .1) (c .before .before .if1 .left) (c .before .if2 .left) (c .if3 .taken)),
       tt,
     )
-
-cast-source-kind : tie.Need-cast-source-kind
-cast-source-kind c = search needs
-
-shared-slice-read-source-kind : tie.Need-shared-slice-read-source-kind
-shared-slice-read-source-kind c = search needs
 
 source-kind-requires : tie.Need-source-kind-requires
 source-kind-requires c κs = search needs
@@ -77,9 +56,6 @@ returns-5 c =
     let entry = after-line-fields .before .before .before in
     let a = entry .args in
     (of-none sourceKind (a .kind .now) (source-pin _ _ _ (a .at) (a .text .now) _ (after-line-fields .line-fields .ensures .0) (known-first .first .given .1) (past-if1 .if1 .left) (past-if2 .if2 .left) (past-if3 .if3 .left)) (refused (c .before .source-kind .ensures) (c .if4 .taken)), tt)
-
-cast-t16 : tie.Need-cast-t16
-cast-t16 c = search needs
 
 returns-6 : tie.Need-returns-6
 returns-6 c =
@@ -102,20 +78,6 @@ returns-6 c =
 pub source-line-spec : {M : Type 1} → statement M
 source-line-spec =
     tie.close
-    (tie.spec
-    line-fields-requires
-    enum-known-first
-    enum-told
-    returns
-    cast-if1
-    returns-2
-    cast-if2
-    returns-3
-    cast-if3
-    returns-4
-    cast-source-kind
-    shared-slice-read-source-kind
-    source-kind-requires
-    returns-5
-    cast-t16
+    (tie.spec line-fields-requires (λ c. search needs) (λ c. search needs) returns (λ c. search needs) returns-2 (λ c. search needs)
+    returns-3 (λ c. search needs) returns-4 (λ c. search needs) (λ c. search needs) source-kind-requires returns-5 (λ c. search needs)
     returns-6)

@@ -24,26 +24,14 @@ known-4 c = c .before .before .before .before
 one-of-two-requires : tie.Need-one-of-two-requires
 one-of-two-requires c κs = search needs
 
-cast-count : tie.Need-cast-count
-cast-count c = search needs
-
 line-fields-requires : tie.Need-line-fields-requires
 line-fields-requires c κs = rw (c .one-of-two .ensures) (node-numbers (c .before .before .args .timed))
-
-enum-known-first : tie.Need-enum-known-first
-enum-known-first c = search needs
-
-enum-told : tie.Need-enum-told
-enum-told c = search needs
 
 returns : tie.Need-returns
 returns c =
     let d : tie.After-line-fields = c .before .before in
     let a = entry d .args in
     (node-shape (a .timed) (a .nodes) (a .v) (a .at) (a .text .now) (d .before .one-of-two .ensures) (d .line-fields .ensures .0) (c .enum-told .given .1), tt)
-
-cast-if1 : tie.Need-cast-if1
-cast-if1 c = search needs
 
 returns-2 : tie.Need-returns-2
 returns-2 c =
@@ -99,9 +87,6 @@ returns-6 c =
       tt,
     )
 
-cast-if6 : tie.Need-cast-if6
-cast-if6 c = search needs
-
 returns-7 : tie.Need-returns-7
 returns-7 c =
     let q : tie.Else5 = c .before in
@@ -113,15 +98,6 @@ returns-7 c =
           (node-within _ _ _ _ _ (p .before .before .before .if1 .left) (p .before .before .if2 .left) (p .before .if3 .left) (p .if4 .left) (omega (arith, q .if5 .left))) (c .if6 .taken),
       tt,
     )
-
-cast-t17 : tie.Need-cast-t17
-cast-t17 c = search needs
-
-cast-t18 : tie.Need-cast-t18
-cast-t18 c = search needs
-
-cast-t19 : tie.Need-cast-t19
-cast-t19 c = search needs
 
 returns-8 : tie.Need-returns-8
 returns-8 c =
@@ -138,23 +114,6 @@ returns-8 c =
 pub node-line-spec : {M : Type 1} → statement M
 node-line-spec =
     tie.close
-    (tie.spec
-    one-of-two-requires
-    cast-count
-    line-fields-requires
-    enum-known-first
-    enum-told
-    returns
-    cast-if1
-    returns-2
-    returns-3
-    returns-4
-    returns-5
-    one-of-two-requires-2
-    returns-6
-    cast-if6
-    returns-7
-    cast-t17
-    cast-t18
-    cast-t19
-    returns-8)
+    (tie.spec one-of-two-requires (λ c. search needs) line-fields-requires (λ c. search needs) (λ c. search needs) returns
+    (λ c. search needs) returns-2 returns-3 returns-4 returns-5 one-of-two-requires-2 returns-6 (λ c. search needs) returns-7
+    (λ c. search needs) (λ c. search needs) (λ c. search needs) returns-8)

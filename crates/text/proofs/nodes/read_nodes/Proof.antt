@@ -29,38 +29,11 @@ loop-holds c =
 node-line-requires : tie.Need-node-line-requires Inv-loop μ-loop
 node-line-requires c κs = search needs
 
-enum-known-k : tie.Need-enum-known-k Inv-loop μ-loop
-enum-known-k c = search needs
-
-slice-write-kind : tie.Need-slice-write-kind Inv-loop μ-loop
-slice-write-kind c = search needs
-
-slice-write-capacity : tie.Need-slice-write-capacity Inv-loop μ-loop
-slice-write-capacity c = search needs
-
-mul-delay : tie.Need-mul-delay Inv-loop μ-loop
-mul-delay c = search needs
-
-slice-write-delay : tie.Need-slice-write-delay Inv-loop μ-loop
-slice-write-delay c = search needs
-
-add-line : tie.Need-add-line Inv-loop μ-loop
-add-line c = search needs
-
-add-v : tie.Need-add-v Inv-loop μ-loop
-add-v c = search needs
-
-loop-less : tie.Need-loop-less Inv-loop μ-loop
-loop-less c = search needs
-
 loop-again : tie.Need-loop-again Inv-loop μ-loop
 loop-again c =
     let answered = c .before .before .before in
     let head = answered .before .before in
     nodes-more (entry head .pre .1) (head .loop .inv) (answered .before .loop-test .taken) (c .before .k .given .1) (answered .node-line .ensures .0) (answered .node-line .ensures .1)
-
-enum-known-number : tie.Need-enum-known-number Inv-loop μ-loop
-enum-known-number c = search needs
 
 same-length : tie.Need-same-length Inv-loop μ-loop
 same-length c = refused c .before .before .loop .inv .kinds-same
@@ -94,26 +67,6 @@ returns-2 c =
 pub read-nodes-spec : {M : Type 1} → statement M
 read-nodes-spec =
     tie.close
-    (tie.spec
-    Inv-loop
-    μ-loop
-    loop-holds
-    node-line-requires
-    enum-known-k
-    slice-write-kind
-    slice-write-capacity
-    mul-delay
-    slice-write-delay
-    add-line
-    add-v
-    loop-less
-    loop-again
-    enum-known-number
-    same-length
-    same-length-2
-    same-length-3
-    returns
-    same-length-4
-    same-length-5
-    same-length-6
-    returns-2)
+    (tie.spec Inv-loop μ-loop loop-holds node-line-requires (λ c. search needs) (λ c. search needs) (λ c. search needs) (λ c. search needs)
+    (λ c. search needs) (λ c. search needs) (λ c. search needs) (λ c. search needs) loop-again (λ c. search needs) same-length same-length-2
+    same-length-3 returns same-length-4 same-length-5 same-length-6 returns-2)

@@ -27,12 +27,6 @@ returns c = refused (c .before .byte-is .ensures) (c .if1 .taken)
 line-fields-requires : tie.Need-line-fields-requires
 line-fields-requires c κs = search needs
 
-enum-known-first : tie.Need-enum-known-first
-enum-known-first c = search needs
-
-enum-told : tie.Need-enum-told
-enum-told c = search needs
-
 returns-2 : tie.Need-returns-2
 returns-2 c =
     let d : tie.After-line-fields = c .before .before in
@@ -52,11 +46,4 @@ returns-3 c =
 pub optional-line-spec : {M : Type 1} → statement M
 optional-line-spec =
     tie.close
-    (tie.spec
-    byte-is-requires
-    returns
-    line-fields-requires
-    enum-known-first
-    enum-told
-    returns-2
-    returns-3)
+    (tie.spec byte-is-requires returns line-fields-requires (λ c. search needs) (λ c. search needs) returns-2 returns-3)

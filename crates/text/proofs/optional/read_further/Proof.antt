@@ -12,16 +12,10 @@ entry d = d .before .before
 read-rule-requires : tie.Need-read-rule-requires
 read-rule-requires c κs = search needs
 
-enum-known-ruled : tie.Need-enum-known-ruled
-enum-known-ruled c = search needs
-
 read-times-requires : tie.Need-read-times-requires
 read-times-requires c κs =
     let d : tie.After-read-rule = c .before .before .before in
     read-place (entry d .args .text .now) (d .read-rule .result) (c .before .ruled .given .1) (d .read-rule .ensures .1)
-
-enum-known-number : tie.Need-enum-known-number
-enum-known-number c = search needs
 
 returns : tie.Need-returns
 returns c =
@@ -40,12 +34,4 @@ returns-2 c =
     (further-stopped (a .at) (a .line) (a .text .now) (a .terms) (d .read-rule .result) (d .read-rule .ensures .0) (c .before .number .given .1), tt)
 
 pub read-further-spec : {M : Type 1} → statement M
-read-further-spec =
-    tie.close
-    (tie.spec
-    read-rule-requires
-    enum-known-ruled
-    read-times-requires
-    enum-known-number
-    returns
-    returns-2)
+read-further-spec = tie.close (tie.spec read-rule-requires (λ c. search needs) read-times-requires (λ c. search needs) returns returns-2)

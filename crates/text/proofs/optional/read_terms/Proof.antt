@@ -15,16 +15,10 @@ plain-terms-requires c κs = search needs
 read-tuning-requires : tie.Need-read-tuning-requires
 read-tuning-requires c κs = search needs
 
-enum-known-terms : tie.Need-enum-known-terms
-enum-known-terms c = search needs
-
 read-further-requires : tie.Need-read-further-requires
 read-further-requires c κs =
     let d : tie.After-read-tuning = c .before .before .before in
     read-place (entry d .args .text .now) (d .read-tuning .result) (c .before .terms .given .1) (d .read-tuning .ensures .1)
-
-enum-known-number : tie.Need-enum-known-number
-enum-known-number c = search needs
 
 returns : tie.Need-returns
 returns c =
@@ -48,11 +42,4 @@ returns-2 c =
 pub read-terms-spec : {M : Type 1} → statement M
 read-terms-spec =
     tie.close
-    (tie.spec
-    plain-terms-requires
-    read-tuning-requires
-    enum-known-terms
-    read-further-requires
-    enum-known-number
-    returns
-    returns-2)
+    (tie.spec plain-terms-requires read-tuning-requires (λ c. search needs) read-further-requires (λ c. search needs) returns returns-2)

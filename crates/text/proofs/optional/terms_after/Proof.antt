@@ -5,20 +5,8 @@ use borrow.Author.Tests.{not-true, not-false}
 use Rattle.text.proofs.optional.terms_after.Statement.{statement}
 use Rattle.text.proofs.optional.terms_after.Tie as tie
 
-enum-told : tie.Need-enum-told
-enum-told c = search needs
-
-enum-told-2 : tie.Need-enum-told-2
-enum-told-2 c = search needs
-
-enum-known-shape : tie.Need-enum-known-shape
-enum-known-shape c = search needs
-
 returns : tie.Need-returns
 returns c = rw (c .before .before .shape .given .1, not-true (c .before .before .before .before .args .within) (c .if1 .taken))
-
-add-t10 : tie.Need-add-t10
-add-t10 c = search needs
 
 returns-2 : tie.Need-returns-2
 returns-2 c = rw (c .enum-told .given .1)
@@ -32,4 +20,4 @@ returns-4 c = rw (c .before .before .shape .given .1, not-false (c .before .befo
 pub terms-after-spec : {M : Type 1} → statement M
 terms-after-spec =
     tie.close
-    (tie.spec enum-told enum-told-2 enum-known-shape returns add-t10 returns-2 returns-3 returns-4)
+    (tie.spec (λ c. search needs) (λ c. search needs) (λ c. search needs) returns (λ c. search needs) returns-2 returns-3 returns-4)

@@ -6,14 +6,8 @@ use Rattle.text.specs.Routes.{branchLine}
 use Rattle.text.proofs.parts.branch_length.Statement.{statement}
 use Rattle.text.proofs.parts.branch_length.Tie as tie
 
-enum-told : tie.Need-enum-told
-enum-told c = search needs
-
 three-length-requires : tie.Need-three-length-requires
 three-length-requires c κs = search needs
-
-enum-told-2 : tie.Need-enum-told-2
-enum-told-2 c = search needs
 
 dot-length-requires : tie.Need-dot-length-requires
 dot-length-requires c κs = search needs
@@ -28,4 +22,4 @@ returns-2 c = rw (c .before .enum-told2 .given .1) (c .dot-length .ensures .0)
 pub branch-length-spec : {M : Type 1} → statement M
 branch-length-spec =
     tie.close
-    (tie.spec enum-told three-length-requires enum-told-2 dot-length-requires returns returns-2)
+    (tie.spec (λ c. search needs) three-length-requires (λ c. search needs) dot-length-requires returns returns-2)

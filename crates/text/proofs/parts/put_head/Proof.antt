@@ -5,33 +5,18 @@ use borrow.Author.Needs.{needs}
 use Rattle.text.proofs.parts.put_head.Statement.{statement}
 use Rattle.text.proofs.parts.put_head.Tie as tie
 
-enum-told : tie.Need-enum-told
-enum-told c = search needs
-
 put-two-requires : tie.Need-put-two-requires
 put-two-requires c κs =
     let fits = rw (c .before .enum-told .given .1) at (c .before .before .before .before .pre) in
     omega arith
-
-enum-told-2 : tie.Need-enum-told-2
-enum-told-2 c = search needs
-
-slice-aggregate-put-bytes : tie.Need-slice-aggregate-put-bytes
-slice-aggregate-put-bytes c = search needs
 
 put-bytes-requires : tie.Need-put-bytes-requires
 put-bytes-requires c κs =
     let fits = rw (c .before .before .enum-told2 .given .1) at (c .before .before .before .before .before .pre) in
     omega arith
 
-same-length : tie.Need-same-length
-same-length c = search needs
-
 returns : tie.Need-returns
 returns c = rw (c .before .before .before .before .enum-told .given .1) (c .before .before .put-two .ensures)
-
-same-length-2 : tie.Need-same-length-2
-same-length-2 c = search needs
 
 returns-2 : tie.Need-returns-2
 returns-2 c = rw (c .before .before .before .before .before .enum-told2 .given .1) (c .before .before .put-bytes .ensures)
@@ -39,13 +24,5 @@ returns-2 c = rw (c .before .before .before .before .before .enum-told2 .given .
 pub put-head-spec : {M : Type 1} → statement M
 put-head-spec =
     tie.close
-    (tie.spec
-    enum-told
-    put-two-requires
-    enum-told-2
-    slice-aggregate-put-bytes
-    put-bytes-requires
-    same-length
-    returns
-    same-length-2
-    returns-2)
+    (tie.spec (λ c. search needs) put-two-requires (λ c. search needs) (λ c. search needs) put-bytes-requires (λ c. search needs) returns
+    (λ c. search needs) returns-2)

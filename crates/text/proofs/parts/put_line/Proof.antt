@@ -5,28 +5,16 @@ use Rattle.text.specs.Routes.{branchLine}
 use Rattle.text.proofs.parts.put_line.Statement.{statement}
 use Rattle.text.proofs.parts.put_line.Tie as tie
 
-enum-told : tie.Need-enum-told
-enum-told c = search needs
-
 put-three-requires : tie.Need-put-three-requires
 unfolding branchLine
 put-three-requires c κs = rw (c .before .enum-told .given .1) at (c .before .before .before .before .pre)
 
-enum-told-2 : tie.Need-enum-told-2
-enum-told-2 c = search needs
-
 put-dot-requires : tie.Need-put-dot-requires
 put-dot-requires c κs = rw (c .before .enum-told2 .given .1) at (c .before .before .before .before .pre)
-
-same-length : tie.Need-same-length
-same-length c = search needs
 
 returns : tie.Need-returns
 unfolding branchLine
 returns c = rw (c .before .before .before .before .enum-told .given .1) (c .before .before .put-three .ensures)
-
-same-length-2 : tie.Need-same-length-2
-same-length-2 c = search needs
 
 returns-2 : tie.Need-returns-2
 returns-2 c = rw (c .before .before .before .before .enum-told2 .given .1) (c .before .before .put-dot .ensures)
@@ -34,12 +22,5 @@ returns-2 c = rw (c .before .before .before .before .enum-told2 .given .1) (c .b
 pub put-line-spec : {M : Type 1} → statement M
 put-line-spec =
     tie.close
-    (tie.spec
-    enum-told
-    put-three-requires
-    enum-told-2
-    put-dot-requires
-    same-length
-    returns
-    same-length-2
+    (tie.spec (λ c. search needs) put-three-requires (λ c. search needs) put-dot-requires (λ c. search needs) returns (λ c. search needs)
     returns-2)

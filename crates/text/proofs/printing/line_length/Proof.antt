@@ -16,26 +16,11 @@ abbrev μ-loop : tie.MeasureT-loop
 loop-holds : tie.Need-loop-holds Inv-loop μ-loop
 loop-holds c = measuring-none _
 
-mul-digit-count : tie.Need-mul-digit-count Inv-loop μ-loop
-mul-digit-count c = search needs
-
-shared-slice-read-digit-count : tie.Need-shared-slice-read-digit-count Inv-loop μ-loop
-shared-slice-read-digit-count c = search needs
-
 digit-count-requires : tie.Need-digit-count-requires Inv-loop μ-loop
 digit-count-requires c κs = search needs
 
-add-capped-sum : tie.Need-add-capped-sum Inv-loop μ-loop
-add-capped-sum c = search needs
-
 capped-sum-requires : tie.Need-capped-sum-requires Inv-loop μ-loop
 capped-sum-requires c κs = search needs
-
-add-k : tie.Need-add-k Inv-loop μ-loop
-add-k c = search needs
-
-loop-less : tie.Need-loop-less Inv-loop μ-loop
-loop-less c = search needs
 
 loop-again : tie.Need-loop-again Inv-loop μ-loop
 loop-again c =
@@ -50,17 +35,5 @@ returns c = measuring-all (c .before .before .loop .inv) (search needs) (c .capp
 pub line-length-spec : {M : Type 1} → statement M
 line-length-spec =
     tie.close
-    (tie.spec
-    Inv-loop
-    μ-loop
-    loop-holds
-    mul-digit-count
-    shared-slice-read-digit-count
-    digit-count-requires
-    add-capped-sum
-    capped-sum-requires
-    add-k
-    loop-less
-    loop-again
-    capped-sum-requires-2
-    returns)
+    (tie.spec Inv-loop μ-loop loop-holds (λ c. search needs) (λ c. search needs) digit-count-requires (λ c. search needs)
+    capped-sum-requires (λ c. search needs) (λ c. search needs) loop-again capped-sum-requires-2 returns)

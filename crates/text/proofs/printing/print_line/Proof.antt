@@ -28,9 +28,6 @@ fits c =
 returns : tie.Need-returns
 returns c = line-short _ _ _ _ (search needs)
 
-sub-if2 : tie.Need-sub-if2
-sub-if2 c = search needs
-
 line-length-requires : tie.Need-line-length-requires
 line-length-requires c κs = search needs
 
@@ -55,9 +52,6 @@ put-fields-requires c κs =
     let size = line-size (a .letter) (a .fields .now) in
     put-room (c .before .before .before .put-byte .ensures) _ (omega (arith, fits d))
 
-same-length : tie.Need-same-length
-same-length c = search needs
-
 returns-3 : tie.Need-returns-3
 returns-3 c =
     let put : tie.After-put-byte = c .before .before .before .before .before .before in
@@ -67,12 +61,4 @@ returns-3 c =
 pub print-line-spec : {M : Type 1} → statement M
 print-line-spec =
     tie.close
-    (tie.spec
-    returns
-    sub-if2
-    line-length-requires
-    returns-2
-    put-byte-requires
-    put-fields-requires
-    same-length
-    returns-3)
+    (tie.spec returns (λ c. search needs) line-length-requires returns-2 put-byte-requires put-fields-requires (λ c. search needs) returns-3)

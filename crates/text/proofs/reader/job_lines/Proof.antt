@@ -5,12 +5,6 @@ use borrow.Author.Needs.{needs}
 use Rattle.text.proofs.reader.job_lines.Statement.{statement}
 use Rattle.text.proofs.reader.job_lines.Tie as tie
 
-enum-known-body : tie.Need-enum-known-body
-enum-known-body c = search needs
-
-enum-known-body-2 : tie.Need-enum-known-body-2
-enum-known-body-2 c = search needs
-
 returns : tie.Need-returns
 returns c = rw (c .before .body .given .1) refl
 
@@ -18,4 +12,4 @@ returns-2 : tie.Need-returns-2
 returns-2 c = rw (c .before .body2 .given .1) refl
 
 pub job-lines-spec : {M : Type 1} → statement M
-job-lines-spec = tie.close (tie.spec enum-known-body enum-known-body-2 returns returns-2)
+job-lines-spec = tie.close (tie.spec (λ c. search needs) (λ c. search needs) returns returns-2)

@@ -39,9 +39,6 @@ kinds-fit c =
 read-nodes-requires : tie.Need-read-nodes-requires
 read-nodes-requires c κs = search needs
 
-enum-known-at : tie.Need-enum-known-at
-enum-known-at c = search needs
-
 slice-reshare-prefix-read-edges-nets : tie.Need-slice-reshare-prefix-read-edges-nets
 slice-reshare-prefix-read-edges-nets c = kinds-fit c
 
@@ -56,9 +53,6 @@ read-edges-nets-requires c κs =
     let place = read-place (start .args .text .now) (nodes .result) _ _ (known .before .at .given .1) (nodes .ensures .1) in
     let long = length-take-le (start .args .nodes) (nodes .last .1 .1 .1 .1 .1 .0) (kinds-fit known) in
     ((start .pre .1 .0, place .0, place .1, omega (arith, long)), (start .pre .0 .edge-room, start .pre .0 .net-room))
-
-enum-known-number : tie.Need-enum-known-number
-enum-known-number c = search needs
 
 same-length : tie.Need-same-length
 same-length c = noded c .read-nodes .kept .1 .1 .1 .1 .1 .0
@@ -117,24 +111,6 @@ returns-2 c =
 pub read-body-spec : {M : Type 1} → statement M
 read-body-spec =
     tie.close
-    (tie.spec
-    read-nodes-requires
-    enum-known-at
-    slice-reshare-prefix-read-edges-nets
-    slice-aggregate-read-edges-nets
-    read-edges-nets-requires
-    enum-known-number
-    same-length
-    same-length-2
-    same-length-3
-    same-length-4
-    same-length-5
-    same-length-6
-    same-length-7
-    same-length-8
-    same-length-9
-    returns
-    same-length-10
-    same-length-11
-    same-length-12
-    returns-2)
+    (tie.spec read-nodes-requires (λ c. search needs) slice-reshare-prefix-read-edges-nets slice-aggregate-read-edges-nets
+    read-edges-nets-requires (λ c. search needs) same-length same-length-2 same-length-3 same-length-4 same-length-5 same-length-6
+    same-length-7 same-length-8 same-length-9 returns same-length-10 same-length-11 same-length-12 returns-2)

@@ -16,9 +16,6 @@ listed c = c .before .before .before .before .before .before .before
 read-edges-requires : tie.Need-read-edges-requires
 read-edges-requires c κs = search needs
 
-enum-known-at : tie.Need-enum-known-at
-enum-known-at c = search needs
-
 read-nets-requires : tie.Need-read-nets-requires
 read-nets-requires c κs =
     let known : tie.After-known-told = c .before .before .before .before in
@@ -31,27 +28,6 @@ read-nets-requires c κs =
       (place .0, place .1, within .nodes-most, within .nets-most, pre .0 .3),
       (omega (arith, room .sources-long, within .nets-most), omega (arith, room .firsts-long, within .nets-most), room .sinks-long, room .criticalities-long),
     )
-
-enum-known-number : tie.Need-enum-known-number
-enum-known-number c = search needs
-
-same-length : tie.Need-same-length
-same-length c = search needs
-
-same-length-2 : tie.Need-same-length-2
-same-length-2 c = search needs
-
-same-length-3 : tie.Need-same-length-3
-same-length-3 c = search needs
-
-same-length-4 : tie.Need-same-length-4
-same-length-4 c = search needs
-
-same-length-5 : tie.Need-same-length-5
-same-length-5 c = search needs
-
-same-length-6 : tie.Need-same-length-6
-same-length-6 c = search needs
 
 returns : tie.Need-returns
 returns c =
@@ -71,12 +47,6 @@ returns c =
       nets .ensures .1,
     )
 
-same-length-7 : tie.Need-same-length-7
-same-length-7 c = search needs
-
-same-length-8 : tie.Need-same-length-8
-same-length-8 c = search needs
-
 returns-2 : tie.Need-returns-2
 returns-2 c =
     let edges = c .before .before .before .before .before .before .before .read-edges in
@@ -85,18 +55,6 @@ returns-2 c =
 pub read-edges-nets-spec : {M : Type 1} → statement M
 read-edges-nets-spec =
     tie.close
-    (tie.spec
-    read-edges-requires
-    enum-known-at
-    read-nets-requires
-    enum-known-number
-    same-length
-    same-length-2
-    same-length-3
-    same-length-4
-    same-length-5
-    same-length-6
-    returns
-    same-length-7
-    same-length-8
+    (tie.spec read-edges-requires (λ c. search needs) read-nets-requires (λ c. search needs) (λ c. search needs) (λ c. search needs)
+    (λ c. search needs) (λ c. search needs) (λ c. search needs) (λ c. search needs) returns (λ c. search needs) (λ c. search needs)
     returns-2)

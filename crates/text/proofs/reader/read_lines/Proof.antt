@@ -21,9 +21,6 @@ read c = c .before .before .before .before .before .before .before .before .befo
 read-head-requires : tie.Need-read-head-requires
 read-head-requires c κs = search needs
 
-enum-known-nodes : tie.Need-enum-known-nodes
-enum-known-nodes c = search needs
-
 read-body-requires : tie.Need-read-body-requires
 read-body-requires c κs =
     let known : tie.After-known-told = c .before .before .before .before .before .before .before .before .before in
@@ -33,9 +30,6 @@ read-body-requires c κs =
 
 job-lines-requires : tie.Need-job-lines-requires
 job-lines-requires c κs = search needs
-
-enum-known-number : tie.Need-enum-known-number
-enum-known-number c = search needs
 
 same-length : tie.Need-same-length
 same-length c = read c .read-body .kept .1 .1 .1 .1 .1 .1 .1 .0
@@ -84,20 +78,5 @@ returns-2 c =
 pub read-lines-spec : {M : Type 1} → statement M
 read-lines-spec =
     tie.close
-    (tie.spec
-    read-head-requires
-    enum-known-nodes
-    read-body-requires
-    job-lines-requires
-    enum-known-number
-    same-length
-    same-length-2
-    same-length-3
-    same-length-4
-    same-length-5
-    same-length-6
-    same-length-7
-    same-length-8
-    same-length-9
-    returns
-    returns-2)
+    (tie.spec read-head-requires (λ c. search needs) read-body-requires job-lines-requires (λ c. search needs) same-length same-length-2
+    same-length-3 same-length-4 same-length-5 same-length-6 same-length-7 same-length-8 same-length-9 returns returns-2)

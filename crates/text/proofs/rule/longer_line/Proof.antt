@@ -15,12 +15,6 @@ entry d = d .before .before
 line-fields-requires : tie.Need-line-fields-requires
 line-fields-requires c κs = search needs
 
-enum-known-first : tie.Need-enum-known-first
-enum-known-first c = search needs
-
-enum-told : tie.Need-enum-told
-enum-told c = search needs
-
 returns : tie.Need-returns
 returns c =
     let d : tie.After-line-fields = c .before .before in
@@ -49,5 +43,4 @@ returns-3 c =
     )
 
 pub longer-line-spec : {M : Type 1} → statement M
-longer-line-spec =
-    tie.close (tie.spec line-fields-requires enum-known-first enum-told returns returns-2 returns-3)
+longer-line-spec = tie.close (tie.spec line-fields-requires (λ c. search needs) (λ c. search needs) returns returns-2 returns-3)

@@ -27,5 +27,4 @@ returns c =
     (found .before .before .pre) (found .rule-line .ensures) (c .before .rule-sound .ensures) (c .terms-after .ensures)
 
 pub read-rule-spec : {M : Type 1} → statement M
-read-rule-spec =
-    tie.close (tie.spec rule-line-requires rule-sound-requires terms-after-requires returns)
+read-rule-spec = tie.close (tie.spec rule-line-requires rule-sound-requires terms-after-requires returns)

@@ -12,20 +12,11 @@ entry d = d .before .before
 optional-line-requires : tie.Need-optional-line-requires
 optional-line-requires c κs = search needs
 
-enum-told : tie.Need-enum-told
-enum-told c = search needs
-
-enum-told-2 : tie.Need-enum-told-2
-enum-told-2 c = search needs
-
 longer-line-requires : tie.Need-longer-line-requires
 longer-line-requires c κs =
     let d : tie.After-optional-line = c .before .before in
     let r = d .optional-line .result in
     wrong-shape (entry d .args .at) (entry d .args .text .now) (r .first) (r .shape) (d .optional-line .ensures) (c .enum-told2 .given .1)
-
-enum-known-shape : tie.Need-enum-known-shape
-enum-known-shape c = search needs
 
 returns : tie.Need-returns
 returns c =
@@ -45,12 +36,5 @@ returns-3 c =
 pub rule-line-spec : {M : Type 1} → statement M
 rule-line-spec =
     tie.close
-    (tie.spec
-    optional-line-requires
-    enum-told
-    enum-told-2
-    longer-line-requires
-    enum-known-shape
-    returns
-    returns-2
+    (tie.spec optional-line-requires (λ c. search needs) (λ c. search needs) longer-line-requires (λ c. search needs) returns returns-2
     returns-3)

@@ -26,5 +26,4 @@ returns c =
     (found .before .before .pre) (found .optional-line .ensures) refl (c .terms-after .ensures)
 
 pub read-times-spec : {M : Type 1} → statement M
-read-times-spec =
-    tie.close (tie.spec optional-line-requires terms-after-requires returns)
+read-times-spec = tie.close (tie.spec optional-line-requires terms-after-requires returns)

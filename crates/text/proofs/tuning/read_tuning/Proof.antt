@@ -27,5 +27,4 @@ returns c =
     (found .before .before .pre) (found .optional-line .ensures) (c .before .tuning-sound .ensures) (c .terms-after .ensures)
 
 pub read-tuning-spec : {M : Type 1} → statement M
-read-tuning-spec =
-    tie.close (tie.spec optional-line-requires tuning-sound-requires terms-after-requires returns)
+read-tuning-spec = tie.close (tie.spec optional-line-requires tuning-sound-requires terms-after-requires returns)

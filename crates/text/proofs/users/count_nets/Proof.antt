@@ -34,18 +34,6 @@ loop-holds c =
     let asked = c .before .before .before .before .before .pre .1 in
     nets-none _ _ _ (asked .0) (asked .1) (asked .2)
 
-mul-count-records : tie.Need-mul-count-records Inv-loop μ-loop
-mul-count-records c = search needs
-
-shared-slice-read-count-records : tie.Need-shared-slice-read-count-records Inv-loop μ-loop
-shared-slice-read-count-records c = search needs
-
-mul-count-records-2 : tie.Need-mul-count-records-2 Inv-loop μ-loop
-mul-count-records-2 c = search needs
-
-shared-slice-read-count-records-2 : tie.Need-shared-slice-read-count-records-2 Inv-loop μ-loop
-shared-slice-read-count-records-2 c = search needs
-
 mul-count-records-3 : tie.Need-mul-count-records-3 Inv-loop μ-loop
 mul-count-records-3 c = omega (arith, places (c .before .before) .rises, places (c .before .before) .within)
 
@@ -58,25 +46,10 @@ part-count-records-start c = places (c .before .before) .rises
 part-count-records-end : tie.Need-part-count-records-end Inv-loop μ-loop
 part-count-records-end c = places (c .before .before) .within
 
-cast-count-records : tie.Need-cast-count-records Inv-loop μ-loop
-cast-count-records c = search needs
-
-cast-count-records-2 : tie.Need-cast-count-records-2 Inv-loop μ-loop
-cast-count-records-2 c = search needs
-
-add-count-records : tie.Need-add-count-records Inv-loop μ-loop
-add-count-records c = search needs
-
 count-records-requires : tie.Need-count-records-requires Inv-loop μ-loop
 count-records-requires c κs =
     let inv = turn c .before .loop .inv in
     ((places (turn c) .part-sound, inv .users-long, inv .stamps-long), nets-few inv)
-
-add-net : tie.Need-add-net Inv-loop μ-loop
-add-net c = search needs
-
-loop-less : tie.Need-loop-less Inv-loop μ-loop
-loop-less c = search needs
 
 loop-again : tie.Need-loop-again Inv-loop μ-loop
 loop-again c =
@@ -95,25 +68,6 @@ returns c = (c .before .loop .inv .users-long, nets-all (c .before .loop .inv) (
 pub count-nets-spec : {M : Type 1} → statement M
 count-nets-spec =
     tie.close
-    (tie.spec
-    Inv-loop
-    μ-loop
-    loop-holds
-    mul-count-records
-    shared-slice-read-count-records
-    mul-count-records-2
-    shared-slice-read-count-records-2
-    mul-count-records-3
-    sub-count-records
-    part-count-records-start
-    part-count-records-end
-    cast-count-records
-    cast-count-records-2
-    add-count-records
-    count-records-requires
-    add-net
-    loop-less
-    loop-again
-    same-length
-    same-length-2
-    returns)
+    (tie.spec Inv-loop μ-loop loop-holds (λ c. search needs) (λ c. search needs) (λ c. search needs) (λ c. search needs) mul-count-records-3
+    sub-count-records part-count-records-start part-count-records-end (λ c. search needs) (λ c. search needs) (λ c. search needs)
+    count-records-requires (λ c. search needs) (λ c. search needs) loop-again same-length same-length-2 returns)

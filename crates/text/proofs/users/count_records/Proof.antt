@@ -86,20 +86,5 @@ returns c = records-all (c .before .loop .inv) (search needs)
 pub count-records-spec : {M : Type 1} → statement M
 count-records-spec =
     tie.close
-    (tie.spec
-    Inv-loop
-    μ-loop
-    loop-holds
-    record-end-requires
-    add-if1
-    mul-if1
-    shared-slice-read-if1
-    add-count-path
-    count-path-requires
-    loop-less
-    loop-again
-    loop-less-2
-    loop-again-2
-    same-length
-    same-length-2
-    returns)
+    (tie.spec Inv-loop μ-loop loop-holds record-end-requires add-if1 mul-if1 shared-slice-read-if1 add-count-path count-path-requires
+    loop-less loop-again loop-less-2 loop-again-2 same-length same-length-2 returns)

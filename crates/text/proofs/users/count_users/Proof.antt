@@ -7,23 +7,8 @@ use Rattle.price.proofs.ListLaws.{up-to-is}
 use Rattle.text.proofs.users.count_users.Statement.{statement}
 use Rattle.text.proofs.users.count_users.Tie as tie
 
-slice-aggregate-latest-records : tie.Need-slice-aggregate-latest-records
-slice-aggregate-latest-records c = search needs
-
-slice-aggregate-latest-records-2 : tie.Need-slice-aggregate-latest-records-2
-slice-aggregate-latest-records-2 c = search needs
-
 latest-records-requires : tie.Need-latest-records-requires
 latest-records-requires c κs = (c .before .before .before .pre, (refl, refl, λ i. (unmarked-new 512 i, unmarked-new 512 i)))
-
-slice-aggregate-count-nets : tie.Need-slice-aggregate-count-nets
-slice-aggregate-count-nets c = search needs
-
-slice-aggregate-count-nets-2 : tie.Need-slice-aggregate-count-nets-2
-slice-aggregate-count-nets-2 c = search needs
-
-slice-aggregate-count-nets-3 : tie.Need-slice-aggregate-count-nets-3
-slice-aggregate-count-nets-3 c = search needs
 
 count-nets-requires : tie.Need-count-nets-requires
 count-nets-requires c κs =
@@ -36,12 +21,5 @@ returns c = up-to-is _ _ _ (c .before .count-nets .ensures .0) (λ v l. c .befor
 pub count-users-spec : {M : Type 1} → statement M
 count-users-spec =
     tie.close
-    (tie.spec
-    slice-aggregate-latest-records
-    slice-aggregate-latest-records-2
-    latest-records-requires
-    slice-aggregate-count-nets
-    slice-aggregate-count-nets-2
-    slice-aggregate-count-nets-3
-    count-nets-requires
-    returns)
+    (tie.spec (λ c. search needs) (λ c. search needs) latest-records-requires (λ c. search needs) (λ c. search needs) (λ c. search needs)
+    count-nets-requires returns)

@@ -5,25 +5,16 @@ use Rattle.text.proofs.UserReplyLaws.{users-unsound, users-log, users-s
 use Rattle.text.proofs.users.node_users.Statement.{statement}
 use Rattle.text.proofs.users.node_users.Tie as tie
 
-slice-aggregate-check-log : tie.Need-slice-aggregate-check-log
-slice-aggregate-check-log c = search needs
-
 few-nodes-requires : tie.Need-few-nodes-requires
 few-nodes-requires c κs = search needs
 
 check-log-requires : tie.Need-check-log-requires
 check-log-requires c κs = search needs
 
-enum-known-iteration : tie.Need-enum-known-iteration
-enum-known-iteration c = search needs
-
 count-users-requires : tie.Need-count-users-requires
 count-users-requires c κs =
     let arm = c .before .before in
     users-log _ _ (arm .before .before .before .few-nodes .ensures) (arm .before .before .check-log .ensures) (arm .iteration .given .1)
-
-enum-known-word : tie.Need-enum-known-word
-enum-known-word c = search needs
 
 returns : tie.Need-returns
 returns c =
@@ -38,12 +29,5 @@ returns-2 c =
 pub node-users-spec : {M : Type 1} → statement M
 node-users-spec =
     tie.close
-    (tie.spec
-    slice-aggregate-check-log
-    few-nodes-requires
-    check-log-requires
-    enum-known-iteration
-    count-users-requires
-    enum-known-word
-    returns
+    (tie.spec (λ c. search needs) few-nodes-requires check-log-requires (λ c. search needs) count-users-requires (λ c. search needs) returns
     returns-2)

@@ -22,38 +22,14 @@ loop-holds c = scanning-none _
 mul-if1 : tie.Need-mul-if1 Inv-loop μ-loop
 mul-if1 c = omega (arith, logs-fit (c .before .before .pre .3))
 
-mul-if1-2 : tie.Need-mul-if1-2 Inv-loop μ-loop
-mul-if1-2 c = search needs
-
-shared-slice-read-if1 : tie.Need-shared-slice-read-if1 Inv-loop μ-loop
-shared-slice-read-if1 c = search needs
-
 mul-if1-3 : tie.Need-mul-if1-3 Inv-loop μ-loop
 mul-if1-3 c = omega (arith, product-fits (c .before .before .before .pre .3) (c .before .before .before .pre .2 (c .before .before .loop .k) (search needs)))
-
-mul-if1-4 : tie.Need-mul-if1-4 Inv-loop μ-loop
-mul-if1-4 c = search needs
-
-shared-slice-read-if1-2 : tie.Need-shared-slice-read-if1-2 Inv-loop μ-loop
-shared-slice-read-if1-2 c = search needs
-
-cast-result : tie.Need-cast-result Inv-loop μ-loop
-cast-result c = search needs
 
 returns : tie.Need-returns Inv-loop μ-loop
 returns c = scanning-over (c .before .before .before .before .loop .inv) (search needs) (lt-ltb _ _ (c .if1 .taken))
 
-add-k : tie.Need-add-k Inv-loop μ-loop
-add-k c = search needs
-
-loop-less : tie.Need-loop-less Inv-loop μ-loop
-loop-less c = search needs
-
 loop-again : tie.Need-loop-again Inv-loop μ-loop
 loop-again c = scanning-more (c .before .before .before .before .loop .inv) (search needs) (le-ltb _ _ (c .if1 .left))
-
-cast-result-2 : tie.Need-cast-result-2 Inv-loop μ-loop
-cast-result-2 c = search needs
 
 returns-2 : tie.Need-returns-2 Inv-loop μ-loop
 returns-2 c = scanning-all (c .before .loop .inv) (search needs)
@@ -61,20 +37,5 @@ returns-2 c = scanning-all (c .before .loop .inv) (search needs)
 pub first-over-spec : {M : Type 1} → statement M
 first-over-spec =
     tie.close
-    (tie.spec
-    Inv-loop
-    μ-loop
-    loop-holds
-    mul-if1
-    mul-if1-2
-    shared-slice-read-if1
-    mul-if1-3
-    mul-if1-4
-    shared-slice-read-if1-2
-    cast-result
-    returns
-    add-k
-    loop-less
-    loop-again
-    cast-result-2
-    returns-2)
+    (tie.spec Inv-loop μ-loop loop-holds mul-if1 (λ c. search needs) (λ c. search needs) mul-if1-3 (λ c. search needs) (λ c. search needs)
+    (λ c. search needs) returns (λ c. search needs) (λ c. search needs) loop-again (λ c. search needs) returns-2)

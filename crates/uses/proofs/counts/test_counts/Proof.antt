@@ -26,17 +26,8 @@ faulty-block-requires c κs = search needs
 returns : tie.Need-returns
 returns c = refused-table _ _ (c .before .faulty-block .ensures) (search needs)
 
-cast-t12 : tie.Need-cast-t12
-cast-t12 c = search needs
-
 returns-2 : tie.Need-returns-2
 returns-2 c = refused-logs _ _ (c .before .before .faulty-block .ensures) (search needs) (search needs)
-
-slice-aggregate-tally : tie.Need-slice-aggregate-tally
-slice-aggregate-tally c = search needs
-
-slice-aggregate-tally-2 : tie.Need-slice-aggregate-tally-2
-slice-aggregate-tally-2 c = search needs
 
 tally-requires : tie.Need-tally-requires
 tally-requires c κs =
@@ -44,9 +35,6 @@ tally-requires c κs =
     let b = block (entry tested) in
     let sound = no-fault b (tested .faulty-block .ensures) (search needs) in
     ((sound-of b sound .kinds-sound, few-nodes b sound), (refl, λ k l. let zero = getD-replicate {A = ℕ} kindCount k 0 0 l in omega arith))
-
-slice-aggregate-first-over : tie.Need-slice-aggregate-first-over
-slice-aggregate-first-over c = search needs
 
 -- where the block is tested, from where the totals are found
 abbrev tested : tie.After-tally → tie.After-faulty-block
@@ -58,9 +46,6 @@ first-over-requires c κs =
     let b = block (entry (tested tallied)) in
     let sound = no-fault b (tested tallied .faulty-block .ensures) (search needs) in
     (search needs, rw (tallied .tally .ensures) (tallied-long _ _ _), found-most b sound (tallied .tally .ensures), search needs)
-
-cast-if3 : tie.Need-cast-if3
-cast-if3 c = search needs
 
 returns-3 : tie.Need-returns-3
 returns-3 c =
@@ -75,16 +60,5 @@ returns-4 c =
 pub test-counts-spec : {M : Type 1} → statement M
 test-counts-spec =
     tie.close
-    (tie.spec
-    faulty-block-requires
-    returns
-    cast-t12
-    returns-2
-    slice-aggregate-tally
-    slice-aggregate-tally-2
-    tally-requires
-    slice-aggregate-first-over
-    first-over-requires
-    cast-if3
-    returns-3
-    returns-4)
+    (tie.spec faulty-block-requires returns (λ c. search needs) returns-2 (λ c. search needs) (λ c. search needs) tally-requires
+    (λ c. search needs) first-over-requires (λ c. search needs) returns-3 returns-4)

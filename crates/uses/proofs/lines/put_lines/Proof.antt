@@ -29,32 +29,11 @@ room c = from-first (totalLine (c .args .uses .now) (c .args .totals .now) (c .a
 loop-holds : tie.Need-loop-holds Inv-loop μ-loop
 loop-holds c = joining-none _ _ _ _ _ (room (c .before .before .before)) (search needs)
 
-mul-t10 : tie.Need-mul-t10 Inv-loop μ-loop
-mul-t10 c = search needs
-
-shared-slice-read-t12 : tie.Need-shared-slice-read-t12 Inv-loop μ-loop
-shared-slice-read-t12 c = search needs
-
-mul-t13 : tie.Need-mul-t13 Inv-loop μ-loop
-mul-t13 c = search needs
-
-shared-slice-read-t15 : tie.Need-shared-slice-read-t15 Inv-loop μ-loop
-shared-slice-read-t15 c = search needs
-
 mul-t16 : tie.Need-mul-t16 Inv-loop μ-loop
 mul-t16 c = record { fits = entry (c .before .before .before) .pre .1 .0 (c .before .before .before .loop .k) (search needs) }
 
-slice-aggregate-print-line : tie.Need-slice-aggregate-print-line Inv-loop μ-loop
-slice-aggregate-print-line c = search needs
-
 print-line-requires : tie.Need-print-line-requires Inv-loop μ-loop
 print-line-requires c κs = search needs
-
-add-k : tie.Need-add-k Inv-loop μ-loop
-add-k c = search needs
-
-loop-less : tie.Need-loop-less Inv-loop μ-loop
-loop-less c = search needs
 
 loop-again : tie.Need-loop-again Inv-loop μ-loop
 loop-again c =
@@ -72,19 +51,5 @@ returns c = joining-all _ _ _ _ _ (room (entry (c .before))) (c .before .loop .i
 pub put-lines-spec : {M : Type 1} → statement M
 put-lines-spec =
     tie.close
-    (tie.spec
-    Inv-loop
-    μ-loop
-    loop-holds
-    mul-t10
-    shared-slice-read-t12
-    mul-t13
-    shared-slice-read-t15
-    mul-t16
-    slice-aggregate-print-line
-    print-line-requires
-    add-k
-    loop-less
-    loop-again
-    same-length
-    returns)
+    (tie.spec Inv-loop μ-loop loop-holds (λ c. search needs) (λ c. search needs) (λ c. search needs) (λ c. search needs) mul-t16
+    (λ c. search needs) print-line-requires (λ c. search needs) (λ c. search needs) loop-again same-length returns)

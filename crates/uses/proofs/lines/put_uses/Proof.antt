@@ -16,19 +16,10 @@ use Rattle.uses.proofs.lines.put_uses.Tie as tie
 abbrev entry : tie.After-trial → tie.Start
 entry c = c .before .before .before .before .before .before .before .before .before .before .before .before .before
 
-slice-aggregate-widen : tie.Need-slice-aggregate-widen
-slice-aggregate-widen c = search needs
-
 widen-requires : tie.Need-widen-requires
 widen-requires c κs =
     let start = c .before .before .before .before in
     omega (arith, capacities-long _ _ (start .pre .1), kinds-few _ (start .pre .0))
-
-slice-aggregate-tally : tie.Need-slice-aggregate-tally
-slice-aggregate-tally c = search needs
-
-slice-aggregate-tally-2 : tie.Need-slice-aggregate-tally-2
-slice-aggregate-tally-2 c = search needs
 
 tally-requires : tie.Need-tally-requires
 tally-requires c κs =
@@ -36,12 +27,6 @@ tally-requires c κs =
     let few = kinds-few _ (start .pre .0) in
     let wide = widened-long (start .args .capacity .now) _ (c .before .before .before .widen .ensures) (capacities-long _ _ (start .pre .1)) few in
     ((start .pre .0, omega (arith, wide, few)), (refl, λ k l. let zero = getD-replicate {A = ℕ} kindCount k 0 0 l in omega arith))
-
-slice-aggregate-put-lines : tie.Need-slice-aggregate-put-lines
-slice-aggregate-put-lines c = search needs
-
-slice-aggregate-put-lines-2 : tie.Need-slice-aggregate-put-lines-2
-slice-aggregate-put-lines-2 c = search needs
 
 -- the kinds' total capacities, as they were found
 abbrev found : tie.After-trial → List ℕ
@@ -60,9 +45,6 @@ put-lines-requires c κs =
 returns : tie.Need-returns
 returns c = printed-short _ _ (totals (c .before .before .before)) (c .before .before .put-lines .ensures) (search needs)
 
-slice-aggregate-put-lines-3 : tie.Need-slice-aggregate-put-lines-3
-slice-aggregate-put-lines-3 c = search needs
-
 put-lines-requires-2 : tie.Need-put-lines-requires-2
 put-lines-requires-2 c κs =
     let measured : tie.After-put-lines = c .before .before .before .before .before in
@@ -75,9 +57,6 @@ put-lines-requires-2 c κs =
       ),
     )
 
-same-length : tie.Need-same-length
-same-length c = search needs
-
 returns-2 : tie.Need-returns-2
 returns-2 c =
     let measured : tie.After-put-lines = c .before .before .before .before .before .before .before .before in
@@ -89,17 +68,5 @@ returns-2 c =
 pub put-uses-spec : {M : Type 1} → statement M
 put-uses-spec =
     tie.close
-    (tie.spec
-    slice-aggregate-widen
-    widen-requires
-    slice-aggregate-tally
-    slice-aggregate-tally-2
-    tally-requires
-    slice-aggregate-put-lines
-    slice-aggregate-put-lines-2
-    put-lines-requires
-    returns
-    slice-aggregate-put-lines-3
-    put-lines-requires-2
-    same-length
-    returns-2)
+    (tie.spec (λ c. search needs) widen-requires (λ c. search needs) (λ c. search needs) tally-requires (λ c. search needs)
+    (λ c. search needs) put-lines-requires returns (λ c. search needs) put-lines-requires-2 (λ c. search needs) returns-2)

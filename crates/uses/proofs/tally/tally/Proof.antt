@@ -25,17 +25,8 @@ kind-within c = tallying-kind (c .before .loop .inv) (c .before .before .pre .0 
 loop-holds : tie.Need-loop-holds Inv-loop μ-loop
 loop-holds c = tallying-none _ _ _ (search needs)
 
-shared-slice-read-k : tie.Need-shared-slice-read-k Inv-loop μ-loop
-shared-slice-read-k c = search needs
-
 cast-k : tie.Need-cast-k Inv-loop μ-loop
 cast-k c = omega (arith, c .shared-slice-known .given (c .before .before .loop .v))
-
-mul-sums : tie.Need-mul-sums Inv-loop μ-loop
-mul-sums c = search needs
-
-shared-slice-read-sums : tie.Need-shared-slice-read-sums Inv-loop μ-loop
-shared-slice-read-sums c = search needs
 
 cast-sums : tie.Need-cast-sums Inv-loop μ-loop
 cast-sums c = omega (arith, c .shared-slice-known2 .given (c .before .before .before .loop .v))
@@ -61,12 +52,6 @@ add-sums c =
 slice-write-sums : tie.Need-slice-write-sums Inv-loop μ-loop
 slice-write-sums c = omega (arith, kind-within (turn c), turn c .before .loop .inv .long, entry (turn c) .pre .1 .0)
 
-add-v : tie.Need-add-v Inv-loop μ-loop
-add-v c = search needs
-
-loop-less : tie.Need-loop-less Inv-loop μ-loop
-loop-less c = search needs
-
 loop-again : tie.Need-loop-again Inv-loop μ-loop
 loop-again c =
     let at = turn c .before in
@@ -82,21 +67,5 @@ returns c = tallying-all (c .before .loop .inv) (search needs) (search needs)
 pub tally-spec : {M : Type 1} → statement M
 tally-spec =
     tie.close
-    (tie.spec
-    Inv-loop
-    μ-loop
-    loop-holds
-    shared-slice-read-k
-    cast-k
-    mul-sums
-    shared-slice-read-sums
-    cast-sums
-    mul-sums-2
-    slice-read-sums
-    add-sums
-    slice-write-sums
-    add-v
-    loop-less
-    loop-again
-    same-length
-    returns)
+    (tie.spec Inv-loop μ-loop loop-holds (λ c. search needs) cast-k (λ c. search needs) (λ c. search needs) cast-sums mul-sums-2
+    slice-read-sums add-sums slice-write-sums (λ c. search needs) (λ c. search needs) loop-again same-length returns)
