@@ -77,7 +77,8 @@ def bad_names(path, known, tails):
 def parts(quoted):
     """the names in a quotation: one name, a path of names, or a file; nothing of a line, a command or a formula"""
     if re.fullmatch(r"[\w./·-]+", quoted) and "/" in quoted and not re.search(r"\d/\d|//", quoted):
-        return [quoted] if not re.search(r"NAME|LABEL|OUT|COMMIT|CRATE", quoted) else []
+        # target/ is made by a check, and capitals stand for any name
+        return [] if re.search(r"^target/|NAME|LABEL|OUT|COMMIT|CRATE", quoted) else [quoted]
     if re.fullmatch(r"[\w-]+\.(antt|rt|rs|md|c|h|py|sh|txt|toml|svg|patch|edit)", quoted):
         return [quoted]
     bare = re.sub(r"\(.*\)$", "", quoted)
