@@ -1,4 +1,5 @@
 -- The laws by subject, a line a file. Each file's head says what is in it; the folders beside hold one proof for each function of src/.
+-- Laws that one module's proofs alone cite stand in its folder; the file NAME.antt beside the folder lists them.
 --
 -- Tables and jobs
 --     RoutableLaws      what of a sound job routing rests on
@@ -6,7 +7,6 @@
 --     TakingLaws        places that are taken in turn, but for a sink seen already
 --     JoinLaws          the places that a joined net takes, no place twice
 --     FirstListedLaws   each sink from the place that lists it first; criticalities from the same places
---     JoinStepLaws      a net's places, and the entries at places, as the loops take them
 --     JoiningLaws       the loops over the nets, and the tables that they make
 -- Lists and records
 --     RecordLaws        records and their words: encode, decode, what fits a log
@@ -14,11 +14,9 @@
 --     MemberLaws        which entries a list has, and in what it lacks some
 --     RegionLaws        whole records in a part of the log, as the loops pass them
 --     LeavingLaws       users of nodes that are passed one after the other
---     CrowdedLaws       the loops that look for an overfull node
 --     FilledLaws        a list that a loop fills front to back
 -- The test before iteration 1
 --     FloodLaws         the flood from a source
---     TestedLaws        net after net, the first sink without a path
 -- The machine
 --     OrderLaws         which sinks a turn tries: in a timed job the one whose turn it is
 --     TreeLaws          a net's turns from its tree
@@ -42,11 +40,7 @@
 --     OneSinkLaws       a cheapest path passes no other unjoined sink
 --     SomeTurnLaws      an iteration that leaves a node overfull has a turn
 --     OwnRunLaws        the machine's own log over such iterations is taken up
---     StepPassLaws      the steps of a path in one pass, with marks for the nodes of the tree and those passed
 --     FrameLaws         a record's words apart from its path, and where the log has them
---     PathPassLaws      such a pass over a record's path tests what is asked clause by clause
---     PassLoopLaws      the loops that make it: over a node's row, and over the words of a path
---     TurnTestLaws      the test of one record at a place of the log: frame, path and cost
 -- The reply
 --     RefusalLaws       refusal by refusal
 --     ReplyLogLaws      the log of a reply as the records whose words it holds
@@ -63,46 +57,27 @@
 --     AfterLimitHolds   request 2.8: so does the log of a run that refusal 9 ended, under a larger limit
 --     SamplesHold       the starred jobs, and one of request 2.9, timed and not
 -- The routing loops
---     TariffLaws        a tariff behind a `&mut`: what opens and closes the borrow
---     StepLaws          a step that takes nothing but the `&mut`, and the function by value around it
---     StepWithLaws      a step that takes plain data beside it
---     StepTwoLaws       a step that takes two numbers beside it
---     RipLaws           a net's old tree dropped, its new one counted
 --     UserLaws          who uses a node: counts of nets by their trees
 --     NextTriedLaws           what a turn tries, as the code finds it: one pass over a net's sinks, and a part of table 7
---     FoundLaws         what either search answers for a turn where nothing is refused
---     OneTurnLaws       one turn, as the search's contract gives it
 --     TurnStepLaws      a turn more of a net
 --     KeepLaws          what holds at the head of each loop
 --     KeepPlaces        where each net's tree stands in the log
 --     KeepProgress      the lists over any progress: nets due, a tree dropped, grown and counted, histories moved on
 --     KeepStart         that it holds where a run begins or goes on, nets due are marked and a net drops its old tree
 --     KeepTurn          after a turn
---     KeepNet           after a net
---     KeepEnd           after an iteration
---     KeepCount         how many nodes are counted, at each loop's head
---     KeepLengths       the lists keep their lengths
---     TriedLaws         the turn that a net of a lent log makes next: the sinks that it tries are goals, and they weigh its prices
---     TakeTurnLaws      the turns of a net in a lent log, as a loop follows them
---     TakeNetLaws       the nets of an iteration in it
---     TakeLogLaws       its iterations
---     StartLaws         a run's start: begun, after a lent log, or turned away
 -- Assumes nothing.
 pub mod RoutableLaws
 pub mod TakingLaws
 pub mod JoinLaws
 pub mod FirstListedLaws
-pub mod JoinStepLaws
 pub mod JoiningLaws
 pub mod RecordLaws
 pub mod FilterLaws
 pub mod MemberLaws
 pub mod RegionLaws
 pub mod LeavingLaws
-pub mod CrowdedLaws
 pub mod FilledLaws
 pub mod FloodLaws
-pub mod TestedLaws
 pub mod OrderLaws
 pub mod NextTriedLaws
 pub mod TreeLaws
@@ -124,11 +99,7 @@ pub mod AimedCountLaws
 pub mod OneSinkLaws
 pub mod SomeTurnLaws
 pub mod OwnRunLaws
-pub mod StepPassLaws
 pub mod FrameLaws
-pub mod PathPassLaws
-pub mod PassLoopLaws
-pub mod TurnTestLaws
 pub mod RefusalLaws
 pub mod ReplyLogLaws
 pub mod RouteLaws
@@ -142,26 +113,10 @@ pub mod ResumeHolds
 pub mod OwnResumeHolds
 pub mod AfterLimitHolds
 pub mod SamplesHold
-pub mod TariffLaws
-pub mod StepLaws
-pub mod StepWithLaws
-pub mod StepTwoLaws
-pub mod RipLaws
 pub mod UserLaws
-pub mod FoundLaws
-pub mod OneTurnLaws
 pub mod TurnStepLaws
 pub mod KeepLaws
 pub mod KeepPlaces
 pub mod KeepProgress
 pub mod KeepStart
 pub mod KeepTurn
-pub mod KeepNet
-pub mod KeepEnd
-pub mod KeepCount
-pub mod KeepLengths
-pub mod TriedLaws
-pub mod TakeTurnLaws
-pub mod TakeNetLaws
-pub mod TakeLogLaws
-pub mod StartLaws

@@ -1,4 +1,5 @@
 -- Laws by subject.
+-- Laws that one module's proofs alone cite stand in its folder; the file NAME.antt beside the folder lists them.
 -- What the crate shows of its definitions:
 --     TextHolds         the reader accepts exactly the printed forms of sound jobs that 2.9's limits and the tables' lengths allow, and gives that job back
 --     LogHolds          an accepted job's log is never refused by 10
@@ -8,17 +9,10 @@
 --     SamplesHold       a record with a node at the bound of nodes is unsound, a small log's users, V and W lines, and a timed text, computed
 -- A line at a place of the text, for the functions that read it:
 --     FieldLaws         a byte, a number, a field, the fields of a line
---     SideLaws          two clauses of a contract in a walk by hand
 --     JudgedLaws        a line's letter, and its judgement by 1, 2 or 3
---     HeadLineLaws      the F line, and the lines before the nodes
 --     OptionalLineLaws  a line that may be left out: P, V and W
---     NodeLineLaws      an N line, and the loop over them
---     EdgeLineLaws      an E line, and the loop over them
 --     NetLineLaws       an S or a T line
---     NetStepLaws       what such a line does to tables and stamps
---     NetLoopLaws       the loop over these lines
 -- The whole text, for the functions that read it:
---     ReaderLaws        stage after stage is the whole text
 --     StoppedLaws       a text that is stopped at a line is refused by 1, 2 or 3
 --     CopyLaws          copying the first entries of a table
 --     ReadJobLaws       row 4, then 15, and the tables afterwards
@@ -46,35 +40,22 @@
 --     PlacedLaws        bytes placed in a buffer
 --     LineReplyLaws     printing one line: its fields, where it fits, what a caller knows of it
 --     JoiningLaws       texts one after the other in a buffer
---     DotLaws           the line of a branch in a picture
 --     StepTextLaws      the lines of one path
 --     BranchLaws        the lines of a net's records, and of the nets in order
---     LatestLaws        where the latest records of each net stand
---     UserLaws          how many nets have each node, counted with stamps
---     UserReplyLaws     what counting them answers and leaves
---     JoinTextLaws      the marks of first nets, and the J lines
 --     RouteTextLaws     the parts of either text, and the writer's answers
 --     RouteLineLaws     B and J lines read again
 -- Assumes nothing.
 pub mod LastLaws
 pub mod FieldLaws
-pub mod SideLaws
 pub mod JudgedLaws
-pub mod HeadLineLaws
 pub mod OptionalLineLaws
-pub mod NodeLineLaws
-pub mod EdgeLineLaws
 pub mod NetLineLaws
-pub mod NetStepLaws
-pub mod NetLoopLaws
 pub mod CopyLaws
-pub mod ReaderLaws
 pub mod StoppedLaws
 pub mod ReadJobLaws
 pub mod SizeLaws
 pub mod DecimalLaws
 pub mod PlacedLaws
-pub mod DotLaws
 pub mod LineReplyLaws
 pub mod PrintLaws
 pub mod OptionalTextLaws
@@ -91,8 +72,6 @@ pub mod RecordTestLaws
 pub mod LogLaws
 pub mod StepTextLaws
 pub mod BranchLaws
-pub mod LatestLaws
-pub mod JoinTextLaws
 pub mod RouteTextLaws
 pub mod TurnedLaws
 pub mod LogHolds
@@ -104,6 +83,4 @@ pub mod JoinListLaws
 pub mod ListedHolds
 pub mod PictureHolds
 pub mod TextHolds
-pub mod UserLaws
-pub mod UserReplyLaws
 pub mod SamplesHold

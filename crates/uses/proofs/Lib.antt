@@ -1,9 +1,9 @@
 -- Laws by subject.
+-- Laws that one module's proofs alone cite stand in its folder; the file NAME.antt beside the folder lists them.
 -- Counts and lines
 --     SumLaws           sums of numbers, counts as sums, sums over the nodes of a kind
 --     TallyLaws         sums by kind, as the loop makes them
 --     CountsLaws        the test of counts
---     LineLaws          the U lines, their length, and what printing answers
 -- A log
 --     TreeLaws          the nodes of a sound log's final trees
 --     AddLaws           the uses of a log, and what is answered to it
@@ -15,7 +15,6 @@
 pub mod SumLaws
 pub mod TallyLaws
 pub mod CountsLaws
-pub mod LineLaws
 pub mod AddLaws
 pub mod TreeLaws
 pub mod UsesHold

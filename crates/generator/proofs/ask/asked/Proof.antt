@@ -10,7 +10,7 @@ use Rattle.search.proofs.KeptLaws.{refused, passed}
 use Rattle.text.specs.Lines as lines
 use Rattle.text.proofs.FieldLaws.{begins-within}
 use Rattle.generator.specs.Ask.{wholeField, nextField}
-use Rattle.generator.proofs.AskLaws.{read-is, read-fault, read-within, away-seed, away-nodes, away-nets, away-open, away-more, asked-is}
+use Rattle.generator.proofs.ask.AskLaws.{read-is, read-fault, read-within, away-seed, away-nodes, away-nets, away-open, away-more, asked-is}
 use Rattle.generator.proofs.ask.asked.Statement.{statement}
 use Rattle.generator.proofs.ask.asked.Tie as tie
 

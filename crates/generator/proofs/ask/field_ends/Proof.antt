@@ -1,7 +1,7 @@
 -- `ask::field_ends` meets its contract.
 -- Assumes nothing.
 use mathlib.Core.Path.{sym}
-use Rattle.generator.proofs.AskLaws.{ends-past, ends-comma, ends-other}
+use Rattle.generator.proofs.ask.AskLaws.{ends-past, ends-comma, ends-other}
 use borrow.Author.Needs.{needs}
 use Rattle.generator.proofs.ask.field_ends.Statement.{statement}
 use Rattle.generator.proofs.ask.field_ends.Tie as tie

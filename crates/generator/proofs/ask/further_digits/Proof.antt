@@ -9,7 +9,7 @@ use borrow.Author.Needs.{needs}
 use Rattle.search.proofs.KeptLaws.{refused, passed}
 use Rattle.text.specs.Decimal.{isDigit}
 use Rattle.text.proofs.FieldLaws.{digit-least, digit-most}
-use Rattle.generator.proofs.AskLaws.{Digits, digits-start, digits-past, digits-other, digits-full, digits-step, digits-room}
+use Rattle.generator.proofs.ask.AskLaws.{Digits, digits-start, digits-past, digits-other, digits-full, digits-step, digits-room}
 use Rattle.generator.proofs.ask.further_digits.Statement.{statement}
 use Rattle.generator.proofs.ask.further_digits.Tie as tie
 

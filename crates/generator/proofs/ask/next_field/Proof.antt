@@ -6,7 +6,7 @@ use native.Mathlib.Omega.{arith}
 use Rattle.search.proofs.KeptLaws.{refused, passed}
 use Rattle.text.specs.Lines.{comma}
 use Rattle.text.proofs.FieldLaws.{begins-within}
-use Rattle.generator.proofs.AskLaws.{next-other, next-comma}
+use Rattle.generator.proofs.ask.AskLaws.{next-other, next-comma}
 use Rattle.generator.proofs.ask.next_field.Statement.{statement}
 use Rattle.generator.proofs.ask.next_field.Tie as tie
 

@@ -8,7 +8,7 @@ use borrow.Author.Needs.{needs}
 use Rattle.search.proofs.KeptLaws.{refused, passed}
 use Rattle.text.specs.Decimal.{isDigit}
 use Rattle.text.proofs.FieldLaws.{digit-least, digit-most}
-use Rattle.generator.proofs.AskLaws.{number-past, number-zero, number-other, number-digits}
+use Rattle.generator.proofs.ask.AskLaws.{number-past, number-zero, number-other, number-digits}
 use Rattle.generator.proofs.ask.number.Statement.{statement}
 use Rattle.generator.proofs.ask.number.Tie as tie
 

@@ -6,7 +6,7 @@ use lib.ListN.{drop}
 use Rattle.search.proofs.KeptLaws.{refused, passed}
 use Rattle.text.specs.Lines as lines
 use Rattle.generator.specs.Ask.{numberUpTo}
-use Rattle.generator.proofs.AskLaws.{whole-fault, whole-open, whole-low, whole-high, whole-is, read-is, read-fault, read-place}
+use Rattle.generator.proofs.ask.AskLaws.{whole-fault, whole-open, whole-low, whole-high, whole-is, read-is, read-fault, read-place}
 use Rattle.generator.proofs.ask.whole_field.Statement.{statement}
 use Rattle.generator.proofs.ask.whole_field.Tie as tie
 

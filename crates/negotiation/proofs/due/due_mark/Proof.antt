@@ -4,7 +4,7 @@ use mathlib.Core.Bool.{true, false}
 use mathlib.Core.Path.{sym, _∙_}
 use borrow.Author.Needs.{needs}
 use native.Mathlib.Omega.{arith}
-use Rattle.negotiation.proofs.CrowdedLaws.{takes-none, takes-all, takes-crowded}
+use Rattle.negotiation.proofs.due.CrowdedLaws.{takes-none, takes-all, takes-crowded}
 use Rattle.negotiation.proofs.due.due_mark.Statement.{statement}
 use Rattle.negotiation.proofs.due.due_mark.Tie as tie
 

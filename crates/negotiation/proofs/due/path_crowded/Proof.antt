@@ -9,7 +9,7 @@ use lib.Seq.{slice, slice-empty}
 use denote.Ref.{now}
 use Rattle.negotiation.specs.Steps.{someOver}
 use Rattle.job.proofs.MarkLaws.{Between, between-none, between-more, between-all, node-below}
-use Rattle.negotiation.proofs.CrowdedLaws.{over-none, room-node, over-node}
+use Rattle.negotiation.proofs.due.CrowdedLaws.{over-none, room-node, over-node}
 use Rattle.negotiation.proofs.due.path_crowded.Statement.{statement}
 use Rattle.negotiation.proofs.due.path_crowded.Tie as tie
 

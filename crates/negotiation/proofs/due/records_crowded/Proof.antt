@@ -8,7 +8,7 @@ use lib.ListN.{length, getD}
 use denote.Ref.{now}
 use Rattle.negotiation.specs.Steps.{someOver}
 use Rattle.negotiation.proofs.RegionLaws.{Walking, walking-none, walking-all, record-fits, record-nodes}
-use Rattle.negotiation.proofs.CrowdedLaws.{over-none, room-record, over-record}
+use Rattle.negotiation.proofs.due.CrowdedLaws.{over-none, room-record, over-record}
 use Rattle.negotiation.proofs.due.records_crowded.Statement.{statement}
 use Rattle.negotiation.proofs.due.records_crowded.Tie as tie
 

@@ -3,7 +3,7 @@
 use Prim.Native.Nat.{_+_}
 use native.Mathlib.Omega.{arith}
 use borrow.Author.Needs.{needs}
-use Rattle.negotiation.proofs.TurnTestLaws.{cost-low, cost-high}
+use Rattle.negotiation.proofs.follow.TurnTestLaws.{cost-low, cost-high}
 use Rattle.negotiation.proofs.follow.cost_is.Statement.{statement}
 use Rattle.negotiation.proofs.follow.cost_is.Tie as tie
 

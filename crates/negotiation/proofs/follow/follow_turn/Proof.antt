@@ -9,7 +9,7 @@ use borrow.Author.Needs.{needs}
 use Rattle.search.proofs.KeptLaws.{refused, passed}
 use Rattle.negotiation.specs.ResumeSteps.{frameFollows}
 use Rattle.negotiation.proofs.FrameLaws.{FrameAt, frame-at}
-use Rattle.negotiation.proofs.TurnTestLaws.{turn-unframed, turn-ready, turn-strays, turn-dear, turn-on, turn-marked}
+use Rattle.negotiation.proofs.follow.TurnTestLaws.{turn-unframed, turn-ready, turn-strays, turn-dear, turn-on, turn-marked}
 use Rattle.negotiation.proofs.follow.follow_turn.Statement.{statement}
 use Rattle.negotiation.proofs.follow.follow_turn.Tie as tie
 

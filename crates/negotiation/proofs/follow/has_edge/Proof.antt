@@ -6,7 +6,7 @@ use native.Mathlib.Omega.{arith}
 use lib.ListN.{length, getD}
 use Rattle.search.specs.Block.{graphOf}
 use Rattle.search.proofs.BlockLaws.{firstEdges-long, row-end}
-use Rattle.negotiation.proofs.PassLoopLaws.{RowLeft, row-first, row-here, row-next, row-none}
+use Rattle.negotiation.proofs.follow.PassLoopLaws.{RowLeft, row-first, row-here, row-next, row-none}
 use Rattle.negotiation.proofs.follow.has_edge.Statement.{statement}
 use Rattle.negotiation.proofs.follow.has_edge.Tie as tie
 

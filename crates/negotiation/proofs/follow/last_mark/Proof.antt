@@ -1,6 +1,6 @@
 -- `negotiation::follow::last_mark` meets its contract.
 -- Assumes nothing.
-use Rattle.negotiation.proofs.PassLoopLaws.{mark-more, mark-last}
+use Rattle.negotiation.proofs.follow.PassLoopLaws.{mark-more, mark-last}
 use Rattle.negotiation.proofs.follow.last_mark.Statement.{statement}
 use Rattle.negotiation.proofs.follow.last_mark.Tie as tie
 

@@ -2,7 +2,7 @@
 -- Assumes nothing.
 use borrow.Author.Needs.{needs}
 use Rattle.search.proofs.PriceableLaws.{answered-refused}
-use Rattle.negotiation.proofs.PassLoopLaws.{price-found}
+use Rattle.negotiation.proofs.follow.PassLoopLaws.{price-found}
 use Rattle.negotiation.proofs.follow.node_price.Statement.{statement}
 use Rattle.negotiation.proofs.follow.node_price.Tie as tie
 

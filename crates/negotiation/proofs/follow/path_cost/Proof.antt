@@ -13,7 +13,7 @@ use Rattle.search.specs.Turn.{congestionOf, weighedCongestion}
 use Rattle.search.proofs.PriceableLaws.{sound-graph}
 use Rattle.search.proofs.KeptLaws.{refused, passed}
 use Rattle.negotiation.specs.ResumeSteps.{stepPasses}
-use Rattle.negotiation.proofs.PassLoopLaws.{step-answer, price-block, Passing, pass-off, pass-out, pass-first, step-strays, step-node, cost-fits, step-on, pass-done, pass-marked}
+use Rattle.negotiation.proofs.follow.PassLoopLaws.{step-answer, price-block, Passing, pass-off, pass-out, pass-first, step-strays, step-node, cost-fits, step-on, pass-done, pass-marked}
 use Rattle.negotiation.proofs.follow.path_cost.Statement.{statement}
 use Rattle.negotiation.proofs.follow.path_cost.Tie as tie
 

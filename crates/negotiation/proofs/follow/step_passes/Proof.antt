@@ -9,7 +9,7 @@ use borrow.Author.Needs.{needs}
 use Rattle.search.specs.Block.{graphOf, hasEdge}
 use Rattle.search.proofs.BlockLaws.{edge-to}
 use Rattle.search.proofs.KeptLaws.{refused, passed}
-use Rattle.negotiation.proofs.PassLoopLaws.{step-off, step-marked, step-goal}
+use Rattle.negotiation.proofs.follow.PassLoopLaws.{step-off, step-marked, step-goal}
 use Rattle.negotiation.proofs.follow.step_passes.Statement.{statement}
 use Rattle.negotiation.proofs.follow.step_passes.Tie as tie
 

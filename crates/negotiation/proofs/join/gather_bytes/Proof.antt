@@ -5,7 +5,7 @@ use native.Mathlib.Omega.{arith}
 use lib.ListN.{length, getD}
 use borrow.Author.Needs.{needs}
 use denote.Ref.{now}
-use Rattle.negotiation.proofs.JoinStepLaws.{Gathering, gathering-none, gathering-more, gathering-all, gather-within}
+use Rattle.negotiation.proofs.join.JoinStepLaws.{Gathering, gathering-none, gathering-more, gathering-all, gather-within}
 use Rattle.negotiation.proofs.join.gather_bytes.Statement.{statement}
 use Rattle.negotiation.proofs.join.gather_bytes.Tie as tie
 

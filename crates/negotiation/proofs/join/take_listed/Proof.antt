@@ -6,7 +6,7 @@ use native.Mathlib.Omega.{arith}
 use lib.ListN.{length, getD}
 use borrow.Author.Needs.{needs}
 use denote.Ref.{now}
-use Rattle.negotiation.proofs.JoinStepLaws.{Taking, taking-none, taking-kept, taking-more, taking-all}
+use Rattle.negotiation.proofs.join.JoinStepLaws.{Taking, taking-none, taking-kept, taking-more, taking-all}
 use Rattle.negotiation.proofs.join.take_listed.Statement.{statement}
 use Rattle.negotiation.proofs.join.take_listed.Tie as tie
 

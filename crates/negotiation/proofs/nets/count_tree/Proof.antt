@@ -1,7 +1,7 @@
 -- `negotiation::nets::count_tree` meets its contract: the marked nodes of the records are those of the tree.
 -- Assumes nothing.
 use borrow.Author.Needs.{needs}
-use Rattle.negotiation.proofs.RipLaws.{count-can-add, count-done}
+use Rattle.negotiation.proofs.nets.RipLaws.{count-can-add, count-done}
 use Rattle.negotiation.proofs.nets.count_tree.Statement.{statement}
 use Rattle.negotiation.proofs.nets.count_tree.Tie as tie
 

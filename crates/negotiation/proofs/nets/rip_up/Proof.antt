@@ -1,7 +1,7 @@
 -- `negotiation::nets::rip_up` meets its contract: the tree's nodes are dropped and marked, then the marks go.
 -- Assumes nothing.
 use borrow.Author.Needs.{needs}
-use Rattle.negotiation.proofs.RipLaws.{rip-can-drop, rip-done}
+use Rattle.negotiation.proofs.nets.RipLaws.{rip-can-drop, rip-done}
 use Rattle.negotiation.proofs.nets.rip_up.Statement.{statement}
 use Rattle.negotiation.proofs.nets.rip_up.Tie as tie
 

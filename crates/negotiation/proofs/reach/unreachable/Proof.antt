@@ -12,7 +12,7 @@ use Rattle.job.specs.Job.{Job, jobOf, nodes}
 use Rattle.job.specs.declared.Terms.{Terms}
 use Rattle.negotiation.specs.Routable.{Routable}
 use Rattle.negotiation.proofs.FloodLaws.{same-from-refl}
-use Rattle.negotiation.proofs.TestedLaws.{Tested, tested-all, flood-asked, marks-fit, tested-same, sinks-asked, tested-found, tested-more}
+use Rattle.negotiation.proofs.reach.TestedLaws.{Tested, tested-all, flood-asked, marks-fit, tested-same, sinks-asked, tested-found, tested-more}
 use Rattle.negotiation.proofs.reach.unreachable.Statement.{statement}
 use Rattle.negotiation.proofs.reach.unreachable.Tie as tie
 

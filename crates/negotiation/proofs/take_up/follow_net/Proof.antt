@@ -13,7 +13,7 @@ use Rattle.negotiation.specs.Flood.{FirstUnmarked}
 use Rattle.negotiation.specs.TakeSteps.{NetOpens, SomeNet}
 use Rattle.job.specs.declared.Terms.{Terms}
 use Rattle.negotiation.specs.declared.tariff.Tariff.{Tariff}
-use Rattle.negotiation.proofs.TakeTurnLaws.{some-of, missing-more, Following, follow-start, part-order, part-within, part-small, part-below, follow-ready, follow-out, follow-off, follow-more, follow-room, follow-on}
+use Rattle.negotiation.proofs.take_up.TakeTurnLaws.{some-of, missing-more, Following, follow-start, part-order, part-within, part-small, part-below, follow-ready, follow-out, follow-off, follow-more, follow-room, follow-on}
 use Rattle.negotiation.proofs.take_up.follow_net.Statement.{statement}
 use Rattle.negotiation.proofs.take_up.follow_net.Tie as tie
 

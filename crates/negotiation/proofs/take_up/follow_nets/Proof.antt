@@ -10,7 +10,7 @@ use Rattle.negotiation.specs.Routable.{Routable}
 use Rattle.negotiation.specs.Machine.{Progress}
 use Rattle.negotiation.specs.TakeSteps.{NetTables, NetsOpen, NetsOn}
 use Rattle.job.specs.declared.Terms.{Terms}
-use Rattle.negotiation.proofs.TakeNetLaws.{net-tables, nets-start, nets-long, net-ready, net-asks, nets-off, end-ready, net-next, nets-all}
+use Rattle.negotiation.proofs.take_up.TakeNetLaws.{net-tables, nets-start, nets-long, net-ready, net-asks, nets-off, end-ready, net-next, nets-all}
 use Rattle.negotiation.proofs.take_up.follow_nets.Statement.{statement}
 use Rattle.negotiation.proofs.take_up.follow_nets.Tie as tie
 

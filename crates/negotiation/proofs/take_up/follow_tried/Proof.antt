@@ -4,7 +4,7 @@
 use lib.Seq.{length-take-le}
 use mathlib.Core.Path.{sym}
 use borrow.Author.Needs.{needs}
-use Rattle.negotiation.proofs.TriedLaws.{goals-enough, goals-asked, goals-fit, tried-tested, tried-answer}
+use Rattle.negotiation.proofs.take_up.TriedLaws.{goals-enough, goals-asked, goals-fit, tried-tested, tried-answer}
 use Rattle.negotiation.proofs.take_up.follow_tried.Statement.{statement}
 use Rattle.negotiation.proofs.take_up.follow_tried.Tie as tie
 

@@ -18,8 +18,8 @@ use Rattle.negotiation.specs.TakeSteps.{NetsOpen, NetsOn, NetsTaken}
 use Rattle.negotiation.specs.declared.tariff.Tariff.{Tariff}
 use Rattle.negotiation.proofs.RoutableLaws.{tuning-fits}
 use Rattle.negotiation.proofs.KeepProgress.{overUsed}
-use Rattle.negotiation.proofs.TakeNetLaws.{nets-long}
-use Rattle.negotiation.proofs.TakeLogLaws.{Taking, take-start, taking-long, take-on, nets-on, next-below, due-asks, growable, nets-open, take-off, take-settled, take-last, same-iteration, take-next}
+use Rattle.negotiation.proofs.take_up.TakeNetLaws.{nets-long}
+use Rattle.negotiation.proofs.take_up.TakeLogLaws.{Taking, take-start, taking-long, take-on, nets-on, next-below, due-asks, growable, nets-open, take-off, take-settled, take-last, same-iteration, take-next}
 use Rattle.negotiation.proofs.take_up.take_up.Statement.{statement}
 use Rattle.negotiation.proofs.take_up.take_up.Tie as tie
 

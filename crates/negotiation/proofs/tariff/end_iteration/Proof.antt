@@ -36,8 +36,8 @@ use Rattle.negotiation.specs.declared.tariff.Tariff.{Tariff}
 use Rattle.price.specs.declared.Tuning.{Tuning}
 use Rattle.price.specs.Prices.{nextFactor}
 use Rattle.negotiation.specs.TariffSteps.{endedTariff}
-use Rattle.negotiation.proofs.TariffLaws.{R, Sized, opened, closed}
-use Rattle.negotiation.proofs.StepWithLaws.{ending, Row, vals, Within, owns-data, args, places, Stepped, with-exits, with-meets}
+use Rattle.negotiation.proofs.tariff.TariffLaws.{R, Sized, opened, closed}
+use Rattle.negotiation.proofs.tariff.StepWithLaws.{ending, Row, vals, Within, owns-data, args, places, Stepped, with-exits, with-meets}
 use Rattle.price.proofs.next_factor as next
 use Rattle.price.proofs.next_factor.Symbol as next-def
 use Rattle.price.proofs.next_factor.Symbol.{name as #next}

@@ -24,8 +24,8 @@ use denote.Triple.Spec.{tripleOf}
 use denote.Triple.Table.{entered}
 use Rattle.negotiation.specs.declared.tariff.Tariff.{Tariff}
 use Rattle.negotiation.specs.TariffSteps.{goingOn}
-use Rattle.negotiation.proofs.TariffLaws.{R, opened, closed}
-use Rattle.negotiation.proofs.StepWithLaws.{going, Within, args, places, Stepped, with-exits, with-meets}
+use Rattle.negotiation.proofs.tariff.TariffLaws.{R, opened, closed}
+use Rattle.negotiation.proofs.tariff.StepWithLaws.{going, Within, args, places, Stepped, with-exits, with-meets}
 use Rattle.negotiation.proofs.tariff.go_on_by.Key.{name as #self}
 use Rattle.negotiation.proofs.tariff.go_on_by as self
 use Rattle.negotiation.proofs.tariff.go_on_by.Statement as stated

@@ -3,7 +3,7 @@
 use contract.Running.{givenOf, tables, tablesOf}
 use denote.Triple.Spec.{tripleOf}
 use denote.Triple.Table.{entered, cited}
-use Rattle.negotiation.proofs.StepWithLaws.{going, WithOf, around-meets}
+use Rattle.negotiation.proofs.tariff.StepWithLaws.{going, WithOf, around-meets}
 use Rattle.negotiation.proofs.tariff.go_on_by.Symbol as step-def
 use Rattle.negotiation.proofs.tariff.go_on_by.Symbol.{name as #step}
 use Rattle.negotiation.proofs.tariff.go_on_by.Met as step-thm

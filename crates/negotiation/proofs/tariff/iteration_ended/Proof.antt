@@ -3,7 +3,7 @@
 use contract.Running.{givenOf, tables, tablesOf}
 use denote.Triple.Spec.{tripleOf}
 use denote.Triple.Table.{entered, cited}
-use Rattle.negotiation.proofs.StepWithLaws.{ending, WithOf, around-meets}
+use Rattle.negotiation.proofs.tariff.StepWithLaws.{ending, WithOf, around-meets}
 use Rattle.negotiation.proofs.tariff.end_iteration.Symbol as step-def
 use Rattle.negotiation.proofs.tariff.end_iteration.Symbol.{name as #step}
 use Rattle.negotiation.proofs.tariff.end_iteration.Met as step-thm

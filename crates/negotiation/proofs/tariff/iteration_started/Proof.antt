@@ -6,7 +6,7 @@ use contract.Running.{givenOf, tables, tablesOf}
 use denote.Triple.Spec.{tripleOf}
 use denote.Triple.Table.{entered, cited}
 use Rattle.negotiation.specs.TariffSteps.{startedTariff}
-use Rattle.negotiation.proofs.StepLaws.{StepOf, around-meets}
+use Rattle.negotiation.proofs.tariff.StepLaws.{StepOf, around-meets}
 use Rattle.negotiation.proofs.tariff.start_iteration.Symbol as step-def
 use Rattle.negotiation.proofs.tariff.start_iteration.Symbol.{name as #step}
 use Rattle.negotiation.proofs.tariff.start_iteration.Met as step-thm

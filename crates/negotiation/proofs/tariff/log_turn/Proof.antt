@@ -24,8 +24,8 @@ use denote.Triple.Table.{entered}
 use denote.Triple.Walked.{needs}
 use Rattle.negotiation.specs.declared.tariff.Tariff.{Tariff}
 use Rattle.negotiation.specs.TariffSteps.{loggedTariff}
-use Rattle.negotiation.proofs.TariffLaws.{R, opened, closed}
-use Rattle.negotiation.proofs.StepTwoLaws.{Room, Within, args, places, Stepped, step-exits, step-meets}
+use Rattle.negotiation.proofs.tariff.TariffLaws.{R, opened, closed}
+use Rattle.negotiation.proofs.tariff.StepTwoLaws.{Room, Within, args, places, Stepped, step-exits, step-meets}
 use Rattle.negotiation.proofs.tariff.log_turn.Key.{name as #self}
 use Rattle.negotiation.proofs.tariff.log_turn as self
 use Rattle.negotiation.proofs.tariff.log_turn.Statement as stated

@@ -23,8 +23,8 @@ use denote.Triple.Table.{entered}
 use denote.Triple.Walked.{needs}
 use Rattle.negotiation.specs.declared.tariff.Tariff.{Tariff}
 use Rattle.negotiation.specs.TariffSteps.{startedTariff}
-use Rattle.negotiation.proofs.TariffLaws.{R, to, opened, closed}
-use Rattle.negotiation.proofs.StepLaws.{Stepped, step-exits, step-meets}
+use Rattle.negotiation.proofs.tariff.TariffLaws.{R, to, opened, closed}
+use Rattle.negotiation.proofs.tariff.StepLaws.{Stepped, step-exits, step-meets}
 use Rattle.negotiation.proofs.tariff.start_iteration.Key.{name as #self}
 use Rattle.negotiation.proofs.tariff.start_iteration as self
 use Rattle.negotiation.proofs.tariff.start_iteration.Statement as stated

@@ -5,7 +5,7 @@ use contract.Running.{givenOf, tables, tablesOf}
 use denote.Triple.Spec.{tripleOf}
 use denote.Triple.Table.{entered, cited}
 use Rattle.negotiation.specs.TariffSteps.{loggedTariff}
-use Rattle.negotiation.proofs.StepTwoLaws.{Room, StepOf, around-meets}
+use Rattle.negotiation.proofs.tariff.StepTwoLaws.{Room, StepOf, around-meets}
 use Rattle.negotiation.proofs.tariff.log_turn.Symbol as step-def
 use Rattle.negotiation.proofs.tariff.log_turn.Symbol.{name as #step}
 use Rattle.negotiation.proofs.tariff.log_turn.Met as step-thm

@@ -24,10 +24,10 @@ use Rattle.negotiation.proofs.KeepLaws.{AtIteration, AtNet, AtTurns}
 use Rattle.negotiation.proofs.KeepProgress.{due-ready, overUsed}
 use Rattle.negotiation.proofs.KeepStart.{keep-start, keep-due, keep-ready, keep-begun}
 use Rattle.negotiation.proofs.KeepTurn.{Lent, lent-tables, call-tried, call-turn, after-nothing, after-logged}
-use Rattle.negotiation.proofs.KeepNet.{keep-end-ready, keep-ended}
-use Rattle.negotiation.proofs.KeepEnd.{after-full, all-routed, keep-accepted, keep-limit, keep-growable, keep-below, keep-next}
-use Rattle.negotiation.proofs.KeepCount.{Counts, CountsOn, counts-start, counts-same, counts-answer, counts-fit, counts-nothing, counts-full, counts-logged}
-use Rattle.negotiation.proofs.KeepLengths.{Long, net-long, turn-long, start-long}
+use Rattle.negotiation.proofs.turns.KeepNet.{keep-end-ready, keep-ended}
+use Rattle.negotiation.proofs.turns.KeepEnd.{after-full, all-routed, keep-accepted, keep-limit, keep-growable, keep-below, keep-next}
+use Rattle.negotiation.proofs.turns.KeepCount.{Counts, CountsOn, counts-start, counts-same, counts-answer, counts-fit, counts-nothing, counts-full, counts-logged}
+use Rattle.negotiation.proofs.turns.KeepLengths.{Long, net-long, turn-long, start-long}
 use Rattle.negotiation.proofs.turns.go_on.Statement.{statement}
 use Rattle.negotiation.proofs.turns.go_on.Tie as tie
 

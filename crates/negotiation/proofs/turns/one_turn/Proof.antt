@@ -4,7 +4,7 @@ use mathlib.Core.List.{[], _∷_}
 use native.Mathlib.Omega.{arith}
 use types.Run.{miss}
 use borrow.Author.Needs.{needs}
-use Rattle.negotiation.proofs.OneTurnLaws.{turn-none, turn-joined, turn-other, turn-counts, turn-full, turn-logs}
+use Rattle.negotiation.proofs.turns.OneTurnLaws.{turn-none, turn-joined, turn-other, turn-counts, turn-full, turn-logs}
 use Rattle.negotiation.proofs.turns.one_turn.Statement.{statement}
 use Rattle.negotiation.proofs.turns.one_turn.Tie as tie
 

@@ -7,7 +7,7 @@ use Rattle.search.proofs.BlockLaws.{kinds-few}
 use Rattle.job.specs.Job.{Job, jobOf}
 use Rattle.negotiation.specs.Outcome.{RouteReply, routeReplyOf, turnsLogged}
 use Rattle.negotiation.proofs.RefusalLaws.{refused-counts}
-use Rattle.negotiation.proofs.StartLaws.{start-some-ready, start-ran, start-counts, turned-away}
+use Rattle.negotiation.proofs.turns.StartLaws.{start-some-ready, start-ran, start-counts, turned-away}
 use Rattle.negotiation.proofs.turns.run_from.Statement.{statement}
 use Rattle.negotiation.proofs.turns.run_from.Tie as tie
 

@@ -5,7 +5,7 @@ use lib.ListN.{take}
 use lib.Seq.{length-take-le}
 use borrow.Author.Needs.{needs}
 use Rattle.job.specs.Job.{Job, jobOf}
-use Rattle.negotiation.proofs.StartLaws.{begun-over, start-anew, start-beyond, start-taken}
+use Rattle.negotiation.proofs.turns.StartLaws.{begun-over, start-anew, start-beyond, start-taken}
 use Rattle.negotiation.proofs.turns.start_at.Statement.{statement}
 use Rattle.negotiation.proofs.turns.start_at.Tie as tie
 

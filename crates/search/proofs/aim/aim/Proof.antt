@@ -4,7 +4,7 @@ use mathlib.Core.Path.{refl}
 use native.Mathlib.Omega.{arith}
 use borrow.Author.Needs.{needs}
 use Rattle.search.specs.Aiming.{over-blind, over-shorter, over-lower, over-kept}
-use Rattle.search.proofs.BestLaws.{best-nearer, best-as-near, best-pred}
+use Rattle.search.proofs.aim.BestLaws.{best-nearer, best-as-near, best-pred}
 use Rattle.search.proofs.aim.aim.Statement.{statement}
 use Rattle.search.proofs.aim.aim.Tie as tie
 

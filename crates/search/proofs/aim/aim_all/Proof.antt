@@ -3,7 +3,7 @@
 use mathlib.Core.Path.{_∙_}
 use native.Mathlib.Omega.{arith}
 use borrow.Author.Needs.{needs}
-use Rattle.search.proofs.AimEnds.{aim-begins, aim-launched, end-from}
+use Rattle.search.proofs.aim.AimEnds.{aim-begins, aim-launched, end-from}
 use Rattle.search.proofs.aim.aim_all.Statement.{statement}
 use Rattle.search.proofs.aim.aim_all.Tie as tie
 

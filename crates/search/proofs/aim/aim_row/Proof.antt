@@ -5,7 +5,7 @@ use native.Mathlib.Omega.{arith}
 use borrow.Author.Needs.{needs}
 use Rattle.search.specs.Block.{graphOf}
 use Rattle.search.proofs.BlockLaws.{firstEdges-long, row-order, row-end}
-use Rattle.search.proofs.AimRows.{AimRowSoFar, aim-row-none, aim-row-asks, aim-row-fits, aim-row-more, aim-row-all}
+use Rattle.search.proofs.aim.AimRows.{AimRowSoFar, aim-row-none, aim-row-asks, aim-row-fits, aim-row-more, aim-row-all}
 use Rattle.search.proofs.aim.aim_row.Statement.{statement}
 use Rattle.search.proofs.aim.aim_row.Tie as tie
 

@@ -8,7 +8,7 @@ use lib.ListN.{length}
 use Rattle.search.specs.Block.{graphOf}
 use Rattle.search.specs.Distance.{far}
 use Rattle.search.specs.Layout.{entryAt}
-use Rattle.search.proofs.AimEnds.{AimRun, run-begins, run-count, run-ends, run-ready, run-more}
+use Rattle.search.proofs.aim.AimEnds.{AimRun, run-begins, run-count, run-ends, run-ready, run-more}
 use Rattle.search.proofs.aim.expand_all.Statement.{statement}
 use Rattle.search.proofs.aim.expand_all.Tie as tie
 

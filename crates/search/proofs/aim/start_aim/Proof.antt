@@ -4,7 +4,7 @@ use mathlib.Core.Logic.{⊎-elim}
 use Prim.Native.Nat.{_-_}
 use native.Mathlib.Omega.{arith}
 use lib.ListN.{length-set}
-use Rattle.search.proofs.AimStart.{AimStarting, aim-start-none, aim-start-tree, aim-start-other, aim-start-all}
+use Rattle.search.proofs.aim.AimStart.{AimStarting, aim-start-none, aim-start-tree, aim-start-other, aim-start-all}
 use Rattle.search.proofs.aim.start_aim.Statement.{statement}
 use Rattle.search.proofs.aim.start_aim.Tie as tie
 

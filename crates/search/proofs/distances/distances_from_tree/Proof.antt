@@ -2,7 +2,7 @@
 -- Assumes nothing.
 use native.Mathlib.Omega.{arith}
 use borrow.Author.Needs.{needs}
-use Rattle.search.proofs.SearchLaws.{search-lent, search-marks, search-ready, search-room, search-leaves}
+use Rattle.search.proofs.distances.SearchLaws.{search-lent, search-marks, search-ready, search-room, search-leaves}
 use Rattle.search.proofs.distances.distances_from_tree.Statement.{statement}
 use Rattle.search.proofs.distances.distances_from_tree.Tie as tie
 

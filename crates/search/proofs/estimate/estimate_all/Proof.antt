@@ -2,7 +2,7 @@
 -- Assumes nothing.
 use native.Mathlib.Omega.{arith}
 use borrow.Author.Needs.{needs}
-use Rattle.search.proofs.EstimateStart.{sinks-none, spread-ready, made-all}
+use Rattle.search.proofs.estimate.EstimateStart.{sinks-none, spread-ready, made-all}
 use Rattle.search.proofs.estimate.estimate_all.Statement.{statement}
 use Rattle.search.proofs.estimate.estimate_all.Tie as tie
 

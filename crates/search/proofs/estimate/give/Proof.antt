@@ -3,7 +3,7 @@
 use native.Mathlib.Omega.{arith}
 use lib.ListN.{length-set}
 use borrow.Author.Needs.{needs}
-use Rattle.search.proofs.EstimateLaws.{given}
+use Rattle.search.proofs.estimate.EstimateLaws.{given}
 use Rattle.search.proofs.estimate.give.Statement.{statement}
 use Rattle.search.proofs.estimate.give.Tie as tie
 

@@ -10,7 +10,7 @@ use Rattle.price.specs.Lists.{countBelow}
 use Rattle.search.specs.Distance.{far}
 use Rattle.search.specs.Layout.{entryAt}
 use Rattle.search.specs.Estimates.{SpreadReady}
-use Rattle.search.proofs.EstimateRun.{unspent, Run, lightness, spread-start, level-few, spread-more, unspent-falls, spread-all, spread-past, exact-here}
+use Rattle.search.proofs.estimate.EstimateRun.{unspent, Run, lightness, spread-start, level-few, spread-more, unspent-falls, spread-all, spread-past, exact-here}
 use Rattle.search.proofs.estimate.give_all.Statement.{statement}
 use Rattle.search.proofs.estimate.give_all.Tie as tie
 

@@ -11,7 +11,7 @@ use Rattle.search.specs.Tables.{edgesMost}
 use Rattle.search.specs.Links.{Links}
 use Rattle.search.specs.Estimates.{SomeGiven}
 use Rattle.search.proofs.LinkLaws.{edges-most}
-use Rattle.search.proofs.EstimateSteps.{some-given-none, some-given-more, FollowingLinks, links-none, links-node, links-more, links-falls, links-end, key-small}
+use Rattle.search.proofs.estimate.EstimateSteps.{some-given-none, some-given-more, FollowingLinks, links-none, links-node, links-more, links-falls, links-end, key-small}
 use Rattle.search.proofs.estimate.give_before.Statement.{statement}
 use Rattle.search.proofs.estimate.give_before.Tie as tie
 

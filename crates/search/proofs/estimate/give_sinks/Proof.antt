@@ -9,8 +9,8 @@ use borrow.Author.Needs.{needs}
 use Rattle.search.specs.Block.{graphOf}
 use Rattle.search.specs.Aimed.{weightAt}
 use Rattle.search.specs.Estimates.{Beside, SinksWait}
-use Rattle.search.proofs.EstimateLaws.{beside-none, beside-more}
-use Rattle.search.proofs.EstimateStart.{sinks-passed, sinks-more, all-sinks-wait}
+use Rattle.search.proofs.estimate.EstimateLaws.{beside-none, beside-more}
+use Rattle.search.proofs.estimate.EstimateStart.{sinks-passed, sinks-more, all-sinks-wait}
 use Rattle.search.proofs.estimate.give_sinks.Statement.{statement}
 use Rattle.search.proofs.estimate.give_sinks.Tie as tie
 

@@ -5,7 +5,7 @@ use native.Mathlib.Omega.{arith}
 use lib.ListN.{length, length-set}
 use borrow.Author.Needs.{needs}
 use Rattle.search.specs.Estimates.{NoneGiven}
-use Rattle.search.proofs.EstimateStart.{none-given-none, none-given-more, none-given-all}
+use Rattle.search.proofs.estimate.EstimateStart.{none-given-none, none-given-more, none-given-all}
 use Rattle.search.proofs.estimate.none_given.Statement.{statement}
 use Rattle.search.proofs.estimate.none_given.Tie as tie
 

@@ -4,7 +4,7 @@ use mathlib.Core.Path.{_∙_}
 use native.Mathlib.Omega.{arith}
 use borrow.Author.Needs.{needs}
 use Rattle.price.proofs.ReplyLaws.{answer-priced, answer-not-refused}
-use Rattle.search.proofs.EstimateLaws.{weight-reply, weights-light}
+use Rattle.search.proofs.estimate.EstimateLaws.{weight-reply, weights-light}
 use Rattle.search.proofs.estimate.weight.Statement.{statement}
 use Rattle.search.proofs.estimate.weight.Tie as tie
 

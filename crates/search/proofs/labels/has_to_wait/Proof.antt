@@ -1,7 +1,7 @@
 -- `search::labels::has_to_wait` meets its contract.
 -- Assumes nothing.
 use borrow.Author.Needs.{needs}
-use Rattle.search.proofs.RelaxLaws.{idle-empty}
+use Rattle.search.proofs.labels.RelaxLaws.{idle-empty}
 use Rattle.search.proofs.labels.has_to_wait.Statement.{statement}
 use Rattle.search.proofs.labels.has_to_wait.Tie as tie
 

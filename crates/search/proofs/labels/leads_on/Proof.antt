@@ -4,7 +4,7 @@ use Prim.Native.Nat.{_-_}
 use native.Mathlib.Omega.{arith}
 use borrow.Author.Needs.{needs}
 use Rattle.price.proofs.TestLaws.{true≢false}
-use Rattle.search.proofs.RelaxLaws.{NowhereSoFar, nowhere-begin, nowhere-more, nowhere-end}
+use Rattle.search.proofs.labels.RelaxLaws.{NowhereSoFar, nowhere-begin, nowhere-more, nowhere-end}
 use Rattle.search.proofs.labels.leads_on.Statement.{statement}
 use Rattle.search.proofs.labels.leads_on.Tie as tie
 

@@ -3,7 +3,7 @@
 use native.Mathlib.Omega.{arith}
 use mathlib.Core.Path.{refl}
 use Rattle.search.specs.Spread.{beyond, lowers, tree}
-use Rattle.search.proofs.RelaxLaws.{relax-label, relax-labels}
+use Rattle.search.proofs.labels.RelaxLaws.{relax-label, relax-labels}
 use borrow.Author.Needs.{needs}
 use Rattle.price.proofs.TimedLaws.{weighed-low}
 use Rattle.search.proofs.labels.relax.Statement.{statement}

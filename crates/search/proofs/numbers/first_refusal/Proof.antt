@@ -7,7 +7,7 @@ use borrow.Author.Needs.{needs}
 use borrow.Author.Tests.{leb-true}
 use Rattle.price.specs.Bounds.{nodesMost}
 use Rattle.search.proofs.KeptLaws.{passed}
-use Rattle.search.proofs.NumberLaws.{refusal-table, refusal-many, refusal-work, refusal-node, refusal-factor, refusal-criticality, refusal-none}
+use Rattle.search.proofs.numbers.NumberLaws.{refusal-table, refusal-many, refusal-work, refusal-node, refusal-factor, refusal-criticality, refusal-none}
 use Rattle.search.proofs.PassLaws.{leb-cleared}
 use Rattle.search.proofs.numbers.first_refusal.Statement.{statement}
 use Rattle.search.proofs.numbers.first_refusal.Tie as tie

@@ -2,7 +2,7 @@
 -- Assumes nothing.
 use mathlib.Core.Path.{sym}
 use borrow.Author.Needs.{needs}
-use Rattle.search.proofs.NumberLaws.{history-missing, history-low, history-high, others-missing, others-high, mark-missing, mark-last}
+use Rattle.search.proofs.numbers.NumberLaws.{history-missing, history-low, history-high, others-missing, others-high, mark-missing, mark-last}
 use Rattle.search.proofs.numbers.node_sound.Statement.{statement}
 use Rattle.search.proofs.numbers.node_sound.Tie as tie
 

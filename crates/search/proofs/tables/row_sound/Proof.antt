@@ -10,7 +10,7 @@ use borrow.Author.Needs.{needs}
 use borrow.Author.Tests.{le-leb, lt-leb, eq-eqb, ne-eqb}
 use Rattle.search.specs.Tables.{rowSound}
 use Rattle.search.proofs.KeptLaws.{Kept, kept-fails, kept-all, fails, stays}
-use Rattle.search.proofs.RisingRowLaws.{leftSound, left-whole, left-next, left-end}
+use Rattle.search.proofs.tables.RisingRowLaws.{leftSound, left-whole, left-next, left-end}
 use Rattle.search.proofs.tables.row_sound.Statement.{statement}
 use Rattle.search.proofs.tables.row_sound.Tie as tie
 

@@ -3,7 +3,7 @@
 use Prim.Native.Nat.{_-_, _≤_}
 use native.Mathlib.Omega.{arith}
 use Rattle.search.specs.TurnWork.{Blank}
-use Rattle.search.proofs.TurnMarkLaws.{blank-none, blank-more, blank-all}
+use Rattle.search.proofs.turn.TurnMarkLaws.{blank-none, blank-more, blank-all}
 use borrow.Author.Needs.{needs}
 use Rattle.search.proofs.turn.fill_far.Statement.{statement}
 use Rattle.search.proofs.turn.fill_far.Tie as tie

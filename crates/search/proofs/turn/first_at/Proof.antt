@@ -6,7 +6,7 @@ use Prim.Native.Nat.{ℕ, _-_, _≤_, _<_}
 use native.Mathlib.Omega.{arith}
 use lib.ListN.{length, getD}
 use Rattle.search.specs.Labels.{labelAt}
-use Rattle.search.proofs.TurnMarkLaws.{first-more}
+use Rattle.search.proofs.turn.TurnMarkLaws.{first-more}
 use borrow.Author.Needs.{needs}
 use Rattle.search.proofs.turn.first_at.Statement.{statement}
 use Rattle.search.proofs.turn.first_at.Tie as tie

@@ -7,7 +7,7 @@ use lib.ListN.{length}
 use Rattle.search.specs.Turn.{weighedCongestion}
 use Rattle.search.specs.Clamped.{clampedPrice}
 use Rattle.search.specs.TurnWork.{LeastGoal}
-use Rattle.search.proofs.TurnMarkLaws.{least-none, least-more, least-all}
+use Rattle.search.proofs.turn.TurnMarkLaws.{least-none, least-more, least-all}
 use borrow.Author.Needs.{needs}
 use Rattle.search.proofs.turn.least_price.Statement.{statement}
 use Rattle.search.proofs.turn.least_price.Tie as tie

@@ -4,7 +4,7 @@ use mathlib.Core.Path.{_≡_, _∙_}
 use Prim.Native.Nat.{_-_, _<_}
 use native.Mathlib.Omega.{arith}
 use lib.ListN.{getD}
-use Rattle.search.proofs.TurnMarkLaws.{TreeSoFar, tree-start, tree-few, tree-room, tree-put, tree-in, tree-over, tree-all}
+use Rattle.search.proofs.turn.TurnMarkLaws.{TreeSoFar, tree-start, tree-few, tree-room, tree-put, tree-in, tree-over, tree-all}
 use borrow.Author.Needs.{needs}
 use Rattle.search.proofs.turn.mark_tree.Statement.{statement}
 use Rattle.search.proofs.turn.mark_tree.Tie as tie

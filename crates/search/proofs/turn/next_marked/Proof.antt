@@ -3,7 +3,7 @@
 use Prim.Native.Nat.{_-_}
 use native.Mathlib.Omega.{arith}
 use Rattle.search.specs.TurnWork.{PassedOver}
-use Rattle.search.proofs.TurnMarkLaws.{over-one}
+use Rattle.search.proofs.turn.TurnMarkLaws.{over-one}
 use borrow.Author.Needs.{needs}
 use Rattle.search.proofs.turn.next_marked.Statement.{statement}
 use Rattle.search.proofs.turn.next_marked.Tie as tie

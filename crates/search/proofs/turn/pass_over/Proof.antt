@@ -3,7 +3,7 @@
 use Prim.Native.Nat.{_-_}
 use native.Mathlib.Omega.{arith}
 use Rattle.search.specs.TurnWork.{PassedOver}
-use Rattle.search.proofs.TurnMarkLaws.{over-none, over-on}
+use Rattle.search.proofs.turn.TurnMarkLaws.{over-none, over-on}
 use borrow.Author.Needs.{needs}
 use Rattle.search.proofs.turn.pass_over.Statement.{statement}
 use Rattle.search.proofs.turn.pass_over.Tie as tie

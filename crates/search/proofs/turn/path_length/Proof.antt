@@ -2,7 +2,7 @@
 -- Assumes nothing.
 use native.Mathlib.Omega.{arith}
 use Rattle.search.specs.Labels.{labelAt}
-use Rattle.search.proofs.FollowLaws.{Following, follow-none, follow-few, follow-nearer, follow-on, follow-end}
+use Rattle.search.proofs.turn.FollowLaws.{Following, follow-none, follow-few, follow-nearer, follow-on, follow-end}
 use Rattle.search.proofs.turn.path_length.Statement.{statement}
 use Rattle.search.proofs.turn.path_length.Tie as tie
 

@@ -2,7 +2,7 @@
 -- Assumes nothing.
 use mathlib.Core.Path.{refl}
 use native.Mathlib.Omega.{arith}
-use Rattle.search.proofs.FoundLaws.{found-within, found-node, found-leads, found-short, found-read}
+use Rattle.search.proofs.turn.FoundLaws.{found-within, found-node, found-leads, found-short, found-read}
 use borrow.Author.Needs.{needs}
 use Rattle.search.proofs.turn.read_path.Statement.{statement}
 use Rattle.search.proofs.turn.read_path.Tie as tie

@@ -2,7 +2,7 @@
 -- Assumes nothing.
 use mathlib.Core.Logic.{⊎-elim}
 use Prim.Native.Nat.{_-_}
-use Rattle.search.proofs.TurnMarkLaws.{MarksSeen, seen-none, seen-in, seen-out, seen-all}
+use Rattle.search.proofs.turn.TurnMarkLaws.{MarksSeen, seen-none, seen-in, seen-out, seen-all}
 use borrow.Author.Needs.{needs}
 use Rattle.search.proofs.turn.some_marked.Statement.{statement}
 use Rattle.search.proofs.turn.some_marked.Tie as tie

@@ -2,7 +2,7 @@
 -- Assumes nothing.
 use native.Mathlib.Omega.{arith}
 use lib.ListN.{length-set}
-use Rattle.search.proofs.FollowLaws.{Writing, writing-none, writing-more, writing-end}
+use Rattle.search.proofs.turn.FollowLaws.{Writing, writing-none, writing-more, writing-end}
 use Rattle.search.proofs.turn.write_path.Statement.{statement}
 use Rattle.search.proofs.turn.write_path.Tie as tie
 

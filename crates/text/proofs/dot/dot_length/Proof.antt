@@ -2,7 +2,7 @@
 -- Assumes nothing.
 use borrow.Author.Needs.{needs}
 use Rattle.text.proofs.DecimalLaws.{three-size}
-use Rattle.text.proofs.DotLaws.{dot-size}
+use Rattle.text.proofs.dot.DotLaws.{dot-size}
 use Rattle.text.proofs.dot.dot_length.Statement.{statement}
 use Rattle.text.proofs.dot.dot_length.Tie as tie
 

@@ -1,7 +1,7 @@
 -- `text::dot::put_dot` meets its contract: three numbers and the bytes behind each.
 -- Assumes nothing.
 use borrow.Author.Needs.{needs}
-use Rattle.text.proofs.DotLaws.{dot-size, dot-put}
+use Rattle.text.proofs.dot.DotLaws.{dot-size, dot-put}
 use Rattle.text.proofs.dot.put_dot.Statement.{statement}
 use Rattle.text.proofs.dot.put_dot.Tie as tie
 

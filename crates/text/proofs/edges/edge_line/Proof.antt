@@ -6,7 +6,7 @@ use denote.Ref.{now}
 use borrow.Author.Needs.{needs}
 use borrow.Author.Tests.{not-true, not-false}
 use Rattle.text.proofs.JudgedLaws.{line-place}
-use Rattle.text.proofs.EdgeLineLaws.{edge-beyond-from, edge-beyond-to, edge-within, edge-loop, edge-order, edge-shape, edge-beyond, edge-wrong, edge-taken}
+use Rattle.text.proofs.edges.EdgeLineLaws.{edge-beyond-from, edge-beyond-to, edge-within, edge-loop, edge-order, edge-shape, edge-beyond, edge-wrong, edge-taken}
 use Rattle.text.proofs.edges.edge_line.Statement.{statement}
 use Rattle.text.proofs.edges.edge_line.Tie as tie
 

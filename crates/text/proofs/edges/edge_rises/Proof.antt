@@ -1,6 +1,6 @@
 -- `edges::edge_rises` meets its contract: each return is the order's answer under the tests before it.
 -- Assumes nothing.
-use Rattle.text.proofs.EdgeLineLaws.{rises-first, rises-later, rises-lower, rises-same}
+use Rattle.text.proofs.edges.EdgeLineLaws.{rises-first, rises-later, rises-lower, rises-same}
 use Rattle.text.proofs.edges.edge_rises.Statement.{statement}
 use Rattle.text.proofs.edges.edge_rises.Tie as tie
 

@@ -5,7 +5,7 @@ use Prim.Native.Nat.{_-_, _≤_}
 use native.Mathlib.Omega.{arith}
 use lib.ListN.{length, length-set}
 use denote.Ref.{now}
-use Rattle.text.proofs.EdgeLineLaws.{filled, fill-none, fill-more}
+use Rattle.text.proofs.edges.EdgeLineLaws.{filled, fill-none, fill-more}
 use Rattle.text.proofs.edges.fill.Statement.{statement}
 use Rattle.text.proofs.edges.fill.Tie as tie
 

@@ -5,7 +5,7 @@ use mathlib.Core.Path.{_∙_}
 use Prim.Native.Nat.{_+_, _-_, _≤_}
 use lib.ListN.{length, set, length-set}
 use borrow.Author.Needs.{needs}
-use Rattle.text.proofs.EdgeLineLaws.{EdgesRead, edges-none, edges-rows, edges-more, edges-stop, edges-last-rows, edges-end-long, edges-end}
+use Rattle.text.proofs.edges.EdgeLineLaws.{EdgesRead, edges-none, edges-rows, edges-more, edges-stop, edges-last-rows, edges-end-long, edges-end}
 use Rattle.text.proofs.edges.read_edges.Statement.{statement}
 use Rattle.text.proofs.edges.read_edges.Tie as tie
 

@@ -47,7 +47,7 @@ use Rattle.text.proofs.fields.JobReader as T
 use Rattle.text.proofs.fields.JobReader.Laws as T′
 use Rattle.text.proofs.fields.LineFields as S
 use Rattle.text.proofs.fields.LineFields.Laws as S′
-use Rattle.text.proofs.SideLaws.{both-heard, says-both}
+use Rattle.text.proofs.fields.SideLaws.{both-heard, says-both}
 use Rattle.text.proofs.fields.reader_at as reader-at
 use Rattle.text.proofs.fields.reader_at.Symbol as start-def
 use Rattle.text.proofs.fields.reader_at.Symbol.{name as #text·fields·reader-at}

@@ -65,7 +65,7 @@ use Rattle.text.proofs.fields.Field.Laws as F′
 use Rattle.text.proofs.fields.LineFields as S
 use Rattle.text.proofs.fields.LineFields.Laws as S′
 use Rattle.text.proofs.FieldLaws.{SoFar, none-yet, field-more, fields-end}
-use Rattle.text.proofs.SideLaws.{both-heard, says-both}
+use Rattle.text.proofs.fields.SideLaws.{both-heard, says-both}
 use Rattle.text.proofs.fields.no_fields as none
 use Rattle.text.proofs.fields.no_fields.Symbol as none-def
 use Rattle.text.proofs.fields.no_fields.Symbol.{name as #text·fields·no-fields}

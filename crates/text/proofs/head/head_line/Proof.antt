@@ -5,7 +5,7 @@ use Prim.Native.Nat.{ℕ}
 use borrow.Author.Needs.{needs}
 use Rattle.search.proofs.KeptLaws.{refused, passed}
 use Rattle.text.proofs.JudgedLaws.{line-place}
-use Rattle.text.proofs.HeadLineLaws.{head-malformed, head-beyond, head-read}
+use Rattle.text.proofs.head.HeadLineLaws.{head-malformed, head-beyond, head-read}
 use Rattle.text.proofs.head.head_line.Statement.{statement}
 use Rattle.text.proofs.head.head_line.Tie as tie
 

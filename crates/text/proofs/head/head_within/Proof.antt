@@ -2,7 +2,7 @@
 -- Assumes nothing.
 use mathlib.Core.Path.{sym}
 use borrow.Author.Needs.{needs}
-use Rattle.text.proofs.HeadLineLaws.{head-nodes-low, head-nodes-high, head-edges-high, head-nets-low, head-nets-high, head-limit-low, head-limit}
+use Rattle.text.proofs.head.HeadLineLaws.{head-nodes-low, head-nodes-high, head-edges-high, head-nets-low, head-nets-high, head-limit-low, head-limit}
 use Rattle.text.proofs.head.head_within.Statement.{statement}
 use Rattle.text.proofs.head.head_within.Tie as tie
 

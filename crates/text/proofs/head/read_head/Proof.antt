@@ -2,7 +2,7 @@
 -- Assumes nothing.
 use native.Mathlib.Omega.{arith}
 use borrow.Author.Needs.{needs}
-use Rattle.text.proofs.HeadLineLaws.{head-refused, head-counts, head-read-on, head-stopped, head-place}
+use Rattle.text.proofs.head.HeadLineLaws.{head-refused, head-counts, head-read-on, head-stopped, head-place}
 use Rattle.text.proofs.OptionalLineLaws.{read-place}
 use Rattle.text.proofs.head.read_head.Statement.{statement}
 use Rattle.text.proofs.head.read_head.Tie as tie

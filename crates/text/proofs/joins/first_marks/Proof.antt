@@ -4,7 +4,7 @@ use mathlib.Core.Logic.{⊎-elim}
 use Prim.Native.Nat.{_-_}
 use lib.ListN.{length}
 use borrow.Author.Needs.{needs}
-use Rattle.text.proofs.JoinTextLaws.{FirstMarks, first-none, first-marked, first-passed, first-all}
+use Rattle.text.proofs.joins.JoinTextLaws.{FirstMarks, first-none, first-marked, first-passed, first-all}
 use Rattle.text.proofs.joins.first_marks.Statement.{statement}
 use Rattle.text.proofs.joins.first_marks.Tie as tie
 

@@ -4,7 +4,7 @@ use mathlib.Core.Logic.{⊎-elim}
 use Prim.Native.Nat.{_-_}
 use lib.ListN.{length}
 use borrow.Author.Needs.{needs}
-use Rattle.text.proofs.JoinTextLaws.{JoinsCounted, counted-none, counted-first, counted-later, counted-all}
+use Rattle.text.proofs.joins.JoinTextLaws.{JoinsCounted, counted-none, counted-first, counted-later, counted-all}
 use Rattle.text.proofs.joins.joins_length.Statement.{statement}
 use Rattle.text.proofs.joins.joins_length.Tie as tie
 

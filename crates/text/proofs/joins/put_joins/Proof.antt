@@ -4,7 +4,7 @@ use mathlib.Core.Logic.{⊎-elim}
 use Prim.Native.Nat.{_-_}
 use lib.ListN.{length}
 use borrow.Author.Needs.{needs}
-use Rattle.text.proofs.JoinTextLaws.{JoinsPut, joins-none, joins-same, joins-all, joins-first, joins-room, joins-more}
+use Rattle.text.proofs.joins.JoinTextLaws.{JoinsPut, joins-none, joins-same, joins-all, joins-first, joins-room, joins-more}
 use Rattle.text.proofs.joins.put_joins.Statement.{statement}
 use Rattle.text.proofs.joins.put_joins.Tie as tie
 

@@ -1,7 +1,7 @@
 -- `text::latest::begins_anew` meets its contract, by its two tests.
 -- Assumes nothing.
 use borrow.Author.Needs.{needs}
-use Rattle.text.proofs.LatestLaws.{anew-none, anew-other}
+use Rattle.text.proofs.latest.LatestLaws.{anew-none, anew-other}
 use Rattle.text.proofs.latest.begins_anew.Statement.{statement}
 use Rattle.text.proofs.latest.begins_anew.Tie as tie
 

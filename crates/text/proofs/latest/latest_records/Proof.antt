@@ -9,7 +9,7 @@ use borrow.Author.Needs.{needs}
 use Rattle.job.specs.Tables.{netsMost}
 use Rattle.text.specs.WriteSteps.{nextAt}
 use Rattle.text.proofs.BranchLaws.{rest-fits}
-use Rattle.text.proofs.LatestLaws.{Finding, finding-none, finding-net, finding-from, finding-anew, finding-same, finding-all}
+use Rattle.text.proofs.latest.LatestLaws.{Finding, finding-none, finding-net, finding-from, finding-anew, finding-same, finding-all}
 use Rattle.text.proofs.latest.latest_records.Statement.{statement}
 use Rattle.text.proofs.latest.latest_records.Tie as tie
 

@@ -3,7 +3,7 @@
 use mathlib.Core.Path.{sym, _∙_}
 use native.Mathlib.Omega.{arith}
 use borrow.Author.Needs.{needs}
-use Rattle.text.proofs.NetStepLaws.{due-below, due-is, source-step, source-undue, sink-step, other-letter, no-net}
+use Rattle.text.proofs.nets.NetStepLaws.{due-below, due-is, source-step, source-undue, sink-step, other-letter, no-net}
 use Rattle.text.proofs.nets.net_line.Statement.{statement}
 use Rattle.text.proofs.nets.net_line.Tie as tie
 

@@ -8,7 +8,7 @@ use lib.ListN.{length, drop}
 use lib.Seq.{getD-set-same}
 use borrow.Author.Needs.{needs}
 use Rattle.text.specs.JobText.{netLists, netLines}
-use Rattle.text.proofs.NetLoopLaws.{Going, going-first, going-later, going-more, going-stops, going-short, going-empty, going-done}
+use Rattle.text.proofs.nets.NetLoopLaws.{Going, going-first, going-later, going-more, going-stops, going-short, going-empty, going-done}
 use Rattle.text.proofs.nets.read_nets.Statement.{statement}
 use Rattle.text.proofs.nets.read_nets.Tie as tie
 

@@ -1,6 +1,6 @@
 -- `text::nets::source_due` meets its contract: each answer follows from the tests before it.
 -- Assumes nothing.
-use Rattle.text.proofs.NetStepLaws.{due-none, due-first, due-next}
+use Rattle.text.proofs.nets.NetStepLaws.{due-none, due-first, due-next}
 use Rattle.text.proofs.nets.source_due.Statement.{statement}
 use Rattle.text.proofs.nets.source_due.Tie as tie
 

@@ -5,8 +5,8 @@ use Prim.Native.Nat.{_+_}
 use native.Mathlib.Omega.{arith}
 use borrow.Author.Needs.{needs}
 use Rattle.text.proofs.JudgedLaws.{line-place}
-use Rattle.text.proofs.NodeLineLaws.{node-beyond-count, node-beyond-kind, node-beyond-least, node-beyond-most, node-beyond-delay, node-within}
-use Rattle.text.proofs.NodeLineLaws.{node-numbers, node-shape, node-beyond, node-wrong, node-taken}
+use Rattle.text.proofs.nodes.NodeLineLaws.{node-beyond-count, node-beyond-kind, node-beyond-least, node-beyond-most, node-beyond-delay, node-within}
+use Rattle.text.proofs.nodes.NodeLineLaws.{node-numbers, node-shape, node-beyond, node-wrong, node-taken}
 use Rattle.text.proofs.nodes.node_line.Statement.{statement}
 use Rattle.text.proofs.nodes.node_line.Tie as tie
 

@@ -3,7 +3,7 @@
 -- Assumes nothing.
 use Prim.Native.Nat.{_-_}
 use borrow.Author.Needs.{needs}
-use Rattle.text.proofs.NodeLineLaws.{NodesRead, nodes-none, nodes-more, nodes-stop, nodes-end}
+use Rattle.text.proofs.nodes.NodeLineLaws.{NodesRead, nodes-none, nodes-more, nodes-stop, nodes-end}
 use Rattle.text.proofs.nodes.read_nodes.Statement.{statement}
 use Rattle.text.proofs.nodes.read_nodes.Tie as tie
 

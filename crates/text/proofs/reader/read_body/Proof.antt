@@ -6,7 +6,7 @@ use native.Mathlib.Omega.{arith}
 use lib.ListN.{length, drop}
 use lib.Seq.{length-take-le}
 use borrow.Author.Needs.{needs}
-use Rattle.text.proofs.ReaderLaws.{nodes-wires, nodes-stop, read-place}
+use Rattle.text.proofs.reader.ReaderLaws.{nodes-wires, nodes-stop, read-place}
 use Rattle.text.proofs.reader.read_body.Statement.{statement}
 use Rattle.text.proofs.reader.read_body.Tie as tie
 

@@ -2,7 +2,7 @@
 -- Assumes nothing.
 use native.Mathlib.Omega.{arith}
 use borrow.Author.Needs.{needs}
-use Rattle.text.proofs.ReaderLaws.{edges-nets, edges-stop, read-place}
+use Rattle.text.proofs.reader.ReaderLaws.{edges-nets, edges-stop, read-place}
 use Rattle.text.proofs.reader.read_edges_nets.Statement.{statement}
 use Rattle.text.proofs.reader.read_edges_nets.Tie as tie
 

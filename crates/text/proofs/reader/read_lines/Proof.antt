@@ -1,7 +1,7 @@
 -- `text::reader::read_lines` meets its contract: the lines before the nodes, then those from the nodes on.
 -- Assumes nothing.
 use borrow.Author.Needs.{needs}
-use Rattle.text.proofs.ReaderLaws.{body-place, text-read, job-place, text-stop}
+use Rattle.text.proofs.reader.ReaderLaws.{body-place, text-read, job-place, text-stop}
 use Rattle.text.proofs.reader.read_lines.Statement.{statement}
 use Rattle.text.proofs.reader.read_lines.Tie as tie
 

@@ -7,7 +7,7 @@ use lib.ListN.{getD}
 use borrow.Author.Needs.{needs}
 use Rattle.job.specs.Tables.{netsMost}
 use Rattle.text.specs.WriteSteps.{Latest}
-use Rattle.text.proofs.UserLaws.{CountingNets, nets-none, nets-few, nets-more, nets-all}
+use Rattle.text.proofs.users.UserLaws.{CountingNets, nets-none, nets-few, nets-more, nets-all}
 use Rattle.text.proofs.users.count_nets.Statement.{statement}
 use Rattle.text.proofs.users.count_nets.Tie as tie
 

@@ -8,7 +8,7 @@ use lib.Seq.{slice, slice-empty}
 use denote.Ref.{now}
 use Rattle.job.proofs.MarkLaws.{Between, between-none, between-more, between-all, node-below, passed-more}
 use Rattle.text.specs.UserSteps.{Counted}
-use Rattle.text.proofs.UserLaws.{counted-none, counted-one, counted-kept, counted-append, few-counted, few-one}
+use Rattle.text.proofs.users.UserLaws.{counted-none, counted-one, counted-kept, counted-append, few-counted, few-one}
 use Rattle.text.proofs.users.count_path.Statement.{statement}
 use Rattle.text.proofs.users.count_path.Tie as tie
 

@@ -9,7 +9,7 @@ use borrow.Author.Needs.{needs}
 use Rattle.job.specs.Steps.{AllBelow}
 use Rattle.text.specs.WriteSteps.{nextAt}
 use Rattle.text.proofs.BranchLaws.{rest-fits}
-use Rattle.text.proofs.UserLaws.{path-below, CountingRecords, records-none, records-all, records-passed, records-met}
+use Rattle.text.proofs.users.UserLaws.{path-below, CountingRecords, records-none, records-all, records-passed, records-met}
 use Rattle.text.proofs.users.count_records.Statement.{statement}
 use Rattle.text.proofs.users.count_records.Tie as tie
 

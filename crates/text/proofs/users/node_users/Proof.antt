@@ -1,7 +1,7 @@
 -- `text::users::node_users` meets its contract: what the log's test found, and the users of a sound log.
 -- Assumes nothing.
 use borrow.Author.Needs.{needs}
-use Rattle.text.proofs.UserReplyLaws.{users-unsound, users-log, users-sound}
+use Rattle.text.proofs.users.UserReplyLaws.{users-unsound, users-log, users-sound}
 use Rattle.text.proofs.users.node_users.Statement.{statement}
 use Rattle.text.proofs.users.node_users.Tie as tie
 

@@ -7,7 +7,7 @@ use native.Mathlib.Omega.{arith}
 use lib.ListN.{getD-replicate}
 use Rattle.search.proofs.BlockLaws.{kinds-few, capacities-long}
 use Rattle.uses.specs.Uses.{kindCount}
-use Rattle.uses.proofs.LineLaws.{Totals, widened-long, totals-of, totals-fit, lines-size, text-fits, printed-short, printed-all}
+use Rattle.uses.proofs.lines.LineLaws.{Totals, widened-long, totals-of, totals-fit, lines-size, text-fits, printed-short, printed-all}
 use borrow.Author.Needs.{needs}
 use Rattle.uses.proofs.lines.put_uses.Statement.{statement}
 use Rattle.uses.proofs.lines.put_uses.Tie as tie

@@ -34,10 +34,10 @@ use Rattle.search.specs.Estimates.{estimateAt, walkAt, weightMost, keyMo
 use Rattle.search.proofs.EdgeLaws.{Shaped, shape-of, edge-node}
 use Rattle.search.proofs.WalkLaws.{stay-cost, step-cost}
 use Rattle.search.proofs.QueueLaws.{queue-least}
-use Rattle.search.proofs.LevelLaws.{least-entry}
+use Rattle.search.proofs.estimate.LevelLaws.{least-entry}
 use Rattle.search.proofs.AimedLaws.{est-most, walk-none}
 use Rattle.search.proofs.AimedExact.{LabelWalk, Backward, back-exact, back-above, back-bound}
-use Rattle.search.proofs.EstimateLaws.{capped-cases, weights-light, weights-fair, beside-none, beside-more, beside-queued}
+use Rattle.search.proofs.estimate.EstimateLaws.{capped-cases, weights-light, weights-fair, beside-none, beside-more, beside-queued}
 
 -- ---- a node
 

@@ -19,7 +19,7 @@ use Rattle.text.specs.Steps.{netsAt, NetKept, netLineAt, KeptAfter}
 use Rattle.text.specs.declared.nets.NetCursor.{NetCursor}
 use Rattle.text.specs.declared.nets.NetStep.{NetStep}
 use Rattle.text.specs.declared.nets.NetStep.the-variants as ns
-use Rattle.text.proofs.NetStepLaws.{some-left, sources-now, sinks-now}
+use Rattle.text.proofs.nets.NetStepLaws.{some-left, sources-now, sinks-now}
 
 module _ (m : ℕ) (timed : Bool) (kinds : List ℕ) (n nets at : ℕ) (l : NetLists) {b : ℕ} {rest bs : List ℕ} (h : bs ≡ b ∷ rest) where
   lines-more : {next : NetLists} {more : List ℕ} → netLine timed kinds n nets l bs ≡ values next more → netLines (suc m) timed kinds n nets l at bs ≡ netLines m timed kinds n nets next (at + 1) more

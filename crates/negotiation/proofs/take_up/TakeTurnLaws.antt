@@ -48,9 +48,9 @@ use Rattle.negotiation.proofs.TreeLaws.{TreeNodes}
 use Rattle.negotiation.proofs.NetLaws.{StateReady, grown-same, grown-ready}
 use Rattle.negotiation.proofs.FollowLaws.{Follows, follows-of, whole-long, path-long}
 use Rattle.negotiation.proofs.ReplayLaws.{Begins, begins-more, source-more, joined-on}
-use Rattle.negotiation.proofs.StepPassLaws.{Marks, mark-out}
-use Rattle.negotiation.proofs.PathPassLaws.{path-nodes, turn-pass}
-use Rattle.negotiation.proofs.TriedLaws.{sinks-here, tried-is, price-is, try-ready}
+use Rattle.negotiation.proofs.take_up.StepPassLaws.{Marks, mark-out}
+use Rattle.negotiation.proofs.take_up.PathPassLaws.{path-nodes, turn-pass}
+use Rattle.negotiation.proofs.take_up.TriedLaws.{sinks-here, tried-is, price-is, try-ready}
 use Rattle.negotiation.proofs.TurnStepLaws.{mark-at, encode-more, below-append}
 use Rattle.negotiation.proofs.KeepProgress.{marks-length, marks-grow}
 

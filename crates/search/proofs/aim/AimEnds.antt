@@ -33,7 +33,7 @@ use Rattle.search.proofs.NearestLaws.{open-least, nearest}
 use Rattle.search.proofs.PriceSameLaws.{beyond}
 use Rattle.search.proofs.AimedLaws.{stuck-far, expands-near, before-expands, sink-expands}
 use Rattle.search.proofs.AimedExact.{never-below, aim-all}
-use Rattle.search.proofs.AimSteps.{left-test, left-of, estimated-same, aim-forward, nearest-top, joins, aim-ready, not-left, left-here, left-other, aim-more}
+use Rattle.search.proofs.aim.AimSteps.{left-test, left-of, estimated-same, aim-forward, nearest-top, joins, aim-ready, not-left, left-here, left-other, aim-more}
 
 -- ---- the start
 

@@ -17,7 +17,7 @@ use Rattle.search.specs.Layout.{Tournament}
 use Rattle.search.specs.Links.{InRow, Linked}
 use Rattle.search.specs.Estimates.{keyMost, estimateAt, Given, Tried, has-one, gets-one, NodeGiven, given-stays, given-new, TreeGiven, SomeGiven, GivenBefore}
 use Rattle.search.proofs.BlockLaws.{edge-from, edge-place}
-use Rattle.search.proofs.EstimateLaws.{beside-none, beside-more}
+use Rattle.search.proofs.estimate.EstimateLaws.{beside-none, beside-more}
 use Rattle.search.proofs.LinkLaws.{row-place, row-unique, last-next, earlier-next, from-linked}
 
 -- ---- one node

@@ -29,7 +29,7 @@ use Rattle.negotiation.proofs.MachineRan.{Reached}
 use Rattle.negotiation.proofs.AimedCountLaws.{after-none, run-more, run-fits}
 use Rattle.negotiation.proofs.KeepLaws.{reached, Under, AtTurn, AtTurns}
 use Rattle.negotiation.proofs.KeepTurn.{Lent, triedBy, turnBy, countBy, keep-turn, keep-count, logged-tallied, at-more}
-use Rattle.negotiation.proofs.KeepEnd.{turn-first}
+use Rattle.negotiation.proofs.turns.KeepEnd.{turn-first}
 
 -- the tariff counts the nodes expanded by the search that is chosen, over the turns in its words past the lent ones
 pub record Counts (aimed : Bool) (j : Job) (lent : List Record) (t : Tariff) (log : List ℕ) : Type 0 where

@@ -37,7 +37,7 @@ use Rattle.search.proofs.NearestLaws.{nearest}
 use Rattle.search.proofs.PriceSameLaws.{beyond}
 use Rattle.search.proofs.AimedExact.{Forward, aim-within, aim-settles}
 use Rattle.search.proofs.QueueLaws.{queue-least}
-use Rattle.search.proofs.BestLaws.{best-kept}
+use Rattle.search.proofs.aim.BestLaws.{best-kept}
 
 -- ---- an expanded node, and estimates that stay
 

@@ -36,7 +36,7 @@ use Rattle.negotiation.specs.declared.take_up.Taken.{Taken}
 use Rattle.negotiation.specs.declared.take_up.Taken.the-variants.{On, Off}
 use Rattle.negotiation.proofs.NetLaws.{grown-on}
 use Rattle.negotiation.proofs.KeepProgress.{users-long, marks-long, due-ready, due-marked, overUsed, over-is, grow, kept-moved}
-use Rattle.negotiation.proofs.TakeTurnLaws.{can-ready}
+use Rattle.negotiation.proofs.take_up.TakeTurnLaws.{can-ready}
 
 -- ---- the iterations so far
 

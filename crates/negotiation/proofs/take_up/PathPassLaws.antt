@@ -31,7 +31,7 @@ use Rattle.negotiation.proofs.MemberLaws.{every-has, every-members, non
 use Rattle.negotiation.proofs.TreeLaws.{TreeNodes}
 use Rattle.negotiation.proofs.FollowLaws.{PathHolds, path-two, Follows, follows-of, turn-follows, path-long}
 use Rattle.negotiation.proofs.FrameLaws.{Frame, frame-of, frame-holds}
-use Rattle.negotiation.proofs.StepPassLaws.{Marks, mark-out, mark-in, Steps, steps-pass, steps-of, final, final-is, final-on, steps-edges, steps-new, steps-once, steps-goal, steps-others, steps-from}
+use Rattle.negotiation.proofs.take_up.StepPassLaws.{Marks, mark-out, mark-in, Steps, steps-pass, steps-of, final, final-is, final-on, steps-edges, steps-new, steps-once, steps-goal, steps-others, steps-from}
 
 -- ---- a path that follows
 

@@ -22,7 +22,7 @@ use Rattle.search.specs.Aimed.{weightAt}
 use Rattle.search.specs.Estimates.{estimateAt, Beside, Given, NoneGiven, SinkWaits, SinksWait, EstimateReady, SpreadReady, EstimatesMade}
 use Rattle.search.proofs.DistanceLaws.{out-of-tree, in-the-tree}
 use Rattle.search.proofs.StoreLaws.{store-here, store-other}
-use Rattle.search.proofs.EstimateLaws.{beside-none, beside-more}
+use Rattle.search.proofs.estimate.EstimateLaws.{beside-none, beside-more}
 
 -- ---- no estimates
 

@@ -39,7 +39,7 @@ use Rattle.negotiation.proofs.tariff.Tariff as T′
 use Rattle.negotiation.proofs.tariff.Tariff.Laws as T″
 use Rattle.price.proofs.Tuning as P′
 use Rattle.price.proofs.Tuning.Laws as P″
-use Rattle.negotiation.proofs.TariffLaws.{R, ref, Sized, mach, to, sized, typed, owns-tariff, lends, taken-back, stepped}
+use Rattle.negotiation.proofs.tariff.TariffLaws.{R, ref, Sized, mach, to, sized, typed, owns-tariff, lends, taken-back, stepped}
 
 -- ---- such a step
 pub record StepWith : Type 2 where

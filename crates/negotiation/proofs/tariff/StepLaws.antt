@@ -34,7 +34,7 @@ use denote.Exit.{yes}
 use Rattle.negotiation.specs.declared.tariff.Tariff.{Tariff}
 use Rattle.negotiation.proofs.tariff.Tariff as T′
 use Rattle.negotiation.proofs.tariff.Tariff.Laws as T″
-use Rattle.negotiation.proofs.TariffLaws.{R, ref, Sized, mach, to, sized, typed, owns-tariff, lends, taken-back, stepped}
+use Rattle.negotiation.proofs.tariff.TariffLaws.{R, ref, Sized, mach, to, sized, typed, owns-tariff, lends, taken-back, stepped}
 
 -- ---- a step: fn f(t: &mut Tariff)
 abbrev pub step-ended : Ended

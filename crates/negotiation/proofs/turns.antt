@@ -1,0 +1,16 @@
+-- Laws that the proofs of `negotiation::turns` alone cite.
+--     FoundLaws         what either search answers for a turn where nothing is refused
+--     OneTurnLaws       one turn, as the search's contract gives it
+--     KeepNet           after a net
+--     KeepEnd           after an iteration
+--     KeepCount         how many nodes are counted, at each loop's head
+--     KeepLengths       the lists keep their lengths
+--     StartLaws         a run's start: begun, after a lent log, or turned away
+-- Assumes nothing.
+pub mod FoundLaws
+pub mod OneTurnLaws
+pub mod KeepNet
+pub mod KeepEnd
+pub mod KeepCount
+pub mod KeepLengths
+pub mod StartLaws
