@@ -1,7 +1,7 @@
 // Labels spread from the tree along the edges, the nearest node first (Dijkstra). A step costs the price of the node that it leads to, so
 // the first label that a node gets is its distance; only a lower predecessor as near as the first one can still come.
-// On the way to goals, a node that leads to dead ends alone (a pin of other nets' sinks) gets its label and is passed over: no path to a goal
-// goes over it.
+// On the way to goals, a node that leads to dead ends alone (a pin of other nets' sinks) gets its label and is passed over: no path to a
+// goal goes over it.
 // Every number is read within its bounds: this is defined for all tables, and costs what it visits.
 // The work slice of n nodes: labels from 0, predecessors from n (lower parts) with the waiting nodes (upper parts), their keys from 2n.
 ghost use mathlib.Core.Bool.{false};
