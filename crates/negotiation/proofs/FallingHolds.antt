@@ -3,11 +3,10 @@
 use mathlib.Core.Bool.{Bool, true, false}
 use mathlib.Core.List.{List}
 use mathlib.Core.Logic.{⊎-elim}
-use mathlib.Core.Path.{_≡_, refl, sym, _∙_, ap, subst}
+use mathlib.Core.Path.{_≡_, sym, _∙_, ap, subst}
 use Prim.Native.Nat.{ℕ, zero, suc, _+_, _≤_, _<_}
 use native.Mathlib.Omega.{arith}
 use lib.ListN.{length, getD}
-use Rattle.price.specs.Bounds.{criticalityMost}
 use Rattle.price.specs.Lists.{has}
 use Rattle.price.proofs.TestLaws.{by-test, le-or-lt, true≢false}
 use Rattle.price.proofs.ListLaws.{has-place}

@@ -2,9 +2,8 @@
 -- Assumes nothing.
 use mathlib.Core.Bool.{Bool, true, false, not}
 use mathlib.Core.List.{List, [], _∷_, _++_}
-use mathlib.Core.Logic.{⊎-elim}
 use mathlib.Core.Path.{_≡_, refl, sym, _∙_, ap, subst}
-use Prim.Native.Nat.{ℕ, zero, suc, _+_, _-_, _≤_, _<_}
+use Prim.Native.Nat.{ℕ, zero, suc, _+_, _-_, _<_}
 use native.Mathlib.Nat.{not-suc-le-zero, le-of-suc-le-suc}
 use native.Mathlib.Omega.{arith}
 use lib.Dec.{eqb}
@@ -21,12 +20,12 @@ use Rattle.search.specs.Paths.{Walk, stay, step, pathCost, JoiningPath, Fair}
 use Rattle.search.proofs.BlockLaws.{graph-of, edge-from, edge-to}
 use Rattle.search.proofs.DistinctLaws.{distinct-short}
 use Rattle.search.proofs.WalkLaws.{cost-most, stay-cost}
-use Rattle.job.specs.Job.{Job, nodes, nets, netSinks, netCriticalities}
+use Rattle.job.specs.Job.{Job, nets, netSinks, netCriticalities}
 use Rattle.negotiation.specs.Records.{Record}
 use Rattle.negotiation.specs.Order.{turnSinks}
 use Rattle.negotiation.specs.Machine.{State, Progress, treeFrom}
 use Rattle.negotiation.specs.Resume.{unjoined, noOther, turnPrice}
-use Rattle.negotiation.specs.Demand.{ownTree, priceRead}
+use Rattle.negotiation.specs.Demand.{ownTree}
 use Rattle.negotiation.specs.Resumed.{LentTurn}
 use Rattle.negotiation.specs.Routable.{Routable}
 use Rattle.negotiation.specs.Runs.{All, Of, NetsRan, Ran}

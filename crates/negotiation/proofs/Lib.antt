@@ -26,6 +26,7 @@
 --     MachineRan        the machine's run is a run: bounds of histories and factor, its turns owned net by net
 --     EndLaws           how a run ends that goes on from a progress
 --     LimitLaws         such a run under two limits
+--     KindLaws          a job's runs, and its replay of a lent log, with other kinds of the same base costs
 --     CutLaws           a run cut in two ends as the whole run
 -- Read off the log
 --     RanLaws           runs of whole iterations, whoever made the turns: trees, users and histories read off their records are the state's
@@ -49,7 +50,7 @@
 --     DemandHolds       demand 3, and the bound on every logged cost
 --     UnreachableHolds  what refusal 7 means
 --     JoinedHolds       requests 2.3 and 2.9: joined nets; the joined job can be routed, and has paths where the listed one has
---     OlderHolds        request 2.2: a job of 01's kinds makes its turns at 01's prices, and each turn in its log is such a one
+--     OlderHolds        requests 2.2 and 2.7: replies go by base costs; a job of 01's kinds makes its turns at 01's prices; rule 1 takes every net
 --     FallingHolds      request 2.9: one sink is due, the first listed of the most critical that are not joined
 --     LongerHolds       request 2.6: two limits, two log lengths
 --     ResumeHolds       request 2.8: every resumed call: what is rebuilt, the lent words first, lent turns legal, the appended ones as demand 3 asks, costs within their bound
@@ -86,6 +87,7 @@ pub mod DueLaws
 pub mod StateLaws
 pub mod EndLaws
 pub mod LimitLaws
+pub mod KindLaws
 pub mod CutLaws
 pub mod RanLaws
 pub mod MachineRan

@@ -8,10 +8,10 @@ pub mod Outcome
 pub mod Unreachable
 pub mod Demand
 pub mod Aimed
-pub mod OlderJobs
 pub mod Longer
 pub mod Resume
 pub mod Resumed
+pub mod OlderJobs
 pub mod Runs
 pub mod TariffSteps
 pub mod OrderSteps
