@@ -1,9 +1,10 @@
 //! Files: job texts come from them or from standard input, and what is written is written whole or not at all.
 
 use crate::failure::Failure;
-use std::ffi::OsStr;
+use std::ffi::{OsStr, OsString};
 use std::fs::{self, File, OpenOptions};
 use std::io::{self, Read, Write};
+use std::os::unix::fs::MetadataExt;
 use std::path::{Path, PathBuf};
 use std::process;
 
@@ -70,9 +71,13 @@ impl Output {
         }
     }
 
-    /// Tests that the file can be written, before work is done for it.
-    pub fn test(&self) -> Result<(), Failure> {
+    /// Tests that the file can be written, before work is done for it, and is none of the jobs.
+    pub fn test(&self, jobs: &[OsString]) -> Result<(), Failure> {
         let Output::File(path) = self else { return Ok(()) };
+        if jobs.iter().any(|job| same(path, Path::new(job))) {
+            let why = String::from("is a job that is named, and would be written over");
+            return Err(Failure::File(path.display().to_string(), why));
+        }
         let test = || -> io::Result<()> {
             match special(path)? {
                 true => Ok(()),
@@ -99,6 +104,14 @@ fn print(bytes: &[u8]) -> Result<(), Failure> {
         io::ErrorKind::BrokenPipe => Failure::ClosedPipe,
         _ => Failure::file("standard output", &error),
     })
+}
+
+/// Whether two names are of one file.
+fn same(one: &Path, other: &Path) -> bool {
+    match (fs::metadata(one), fs::metadata(other)) {
+        (Ok(one), Ok(other)) => one.is_file() && (one.dev(), one.ino()) == (other.dev(), other.ino()),
+        _ => false,
+    }
 }
 
 /// Whether a name is that of something which is not a file, as a pipe or a device: that is written to as it is. A folder is an error.

@@ -192,6 +192,7 @@ fn arguments_that_cant_be() {
             "route b.txt --log -",
             "routes and log can't both go to standard output: name a file by -o (see arvumnao route --help)",
         ),
+        ("route b.txt -o x --log x", "routes and log can't both go to one file (see arvumnao route --help)"),
         ("route b.txt -j", "-j lacks its N (see arvumnao route --help)"),
         ("rout b.txt", "no subcommand 'rout'; did you mean route? (see arvumnao --help)"),
         ("", "no subcommand is named (see arvumnao --help)"),
@@ -210,6 +211,14 @@ fn files_that_cant_be() {
     folder.words("route b.txt -o none/x").told(2, "arvumnao: none/x: No such file or directory\n");
     folder.words("route b.txt -o .").told(2, "arvumnao: .: is a folder\n");
     folder.words("route b.txt -d b.txt").told(2, "arvumnao: b.txt: File exists\n");
+    // a job is not written over, under whatever name
+    symlink("b.txt", folder.0.join("link")).unwrap();
+    let told = "is a job that is named, and would be written over\n";
+    folder.words("route b.txt -o b.txt").told(2, &format!("arvumnao: b.txt: {told}"));
+    folder.words("route link --log ./b.txt").told(2, &format!("arvumnao: ./b.txt: {told}"));
+    folder.words("report b.txt --html link").told(2, &format!("arvumnao: link: {told}"));
+    assert_eq!(folder.read("b.txt"), JOB_B);
+    fs::remove_file(folder.0.join("link")).unwrap();
     // the others are routed all the same
     let ended = folder.words("route none.txt b.txt");
     assert_eq!((ended.status, ended.out.as_str()), (2, ROUTES_B));

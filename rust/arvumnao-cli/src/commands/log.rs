@@ -31,7 +31,7 @@ fn run(args: &Args, console: &Console) -> Result<Status, Failure> {
     let net = args.number("net", 0..=511)?;
     let wanted = args.number("iteration", 1..=100)?;
     let output = Output::named(args.path("output"));
-    output.test()?;
+    output.test(&args.jobs)?;
     let run = Run::of(&args.jobs[0], console)?;
     let mut text = String::new();
     let replay = run.log.replay(&run.job).map_err(|refusal| broken(&run.name, &refusal))?;

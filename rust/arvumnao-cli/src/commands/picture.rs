@@ -36,7 +36,7 @@ fn run(args: &Args, console: &Console) -> Result<Status, Failure> {
     args.apart("dot", "svg")?;
     let net = args.number("net", 0..=511)?;
     let output = Output::named(args.path("output"));
-    output.test()?;
+    output.test(&args.jobs)?;
     let run = Run::of(&args.jobs[0], console)?;
     let graph = graph(&run, net)?;
     if args.has("svg") {
@@ -46,6 +46,14 @@ fn run(args: &Args, console: &Console) -> Result<Status, Failure> {
     }
     Ok(run.status())
 }
+
+/// How a graph begins.
+const HEAD: &str = "\
+digraph r {
+rankdir=LR;
+node [style=filled, fillcolor=white, fontname=\"sans-serif\"];
+edge [fontname=\"sans-serif\"];
+";
 
 /// The graph in the DOT language.
 fn graph(run: &Run, net: Option<u32>) -> Result<String, Failure> {
@@ -57,7 +65,7 @@ fn graph(run: &Run, net: Option<u32>) -> Result<String, Failure> {
     }
     let nodes: BTreeSet<u32> = routes.branches.iter().flat_map(|branch| [branch[1], branch[2]]).collect();
     let overfull = run.log.overfull(&run.job).map_err(told)?;
-    let mut text = String::from("digraph r {\nrankdir=LR;\nnode [style=filled, fillcolor=white, fontname=\"sans-serif\"];\nedge [fontname=\"sans-serif\"];\n");
+    let mut text = String::from(HEAD);
     for node in nodes {
         let crowd = overfull.iter().find(|crowd| crowd.node == node);
         let crowd = crowd.map(|crowd| format!("{}/{}", crowd.nets.len(), crowd.capacity));

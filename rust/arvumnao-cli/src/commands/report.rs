@@ -45,7 +45,7 @@ fn run(args: &Args, console: &Console) -> Result<Status, Failure> {
     }
     let top = args.number("top", 1..=4_096)?;
     let output = Output::named(args.path("output").or(args.path("html")));
-    output.test()?;
+    output.test(&args.jobs)?;
     let places = args.value("places").map(Places::read).transpose()?;
     let run = Run::of(&args.jobs[0], console)?;
     if let Some(places) = &places {

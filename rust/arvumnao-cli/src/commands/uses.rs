@@ -43,7 +43,7 @@ struct Sum {
 
 fn run(args: &Args, console: &Console) -> Result<Status, Failure> {
     let output = Output::named(args.path("output"));
-    output.test()?;
+    output.test(&args.jobs)?;
     let workers = workers(args.number("jobs", 0..=1_024)?);
     let mut sum = Sum { block: None, counts: UseCounts::default(), status: Status::Routed };
     let mut jobs = Jobs::new(console, args.jobs.len());

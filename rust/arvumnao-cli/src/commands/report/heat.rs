@@ -21,7 +21,8 @@ pub fn of(nodes: &[Node], places: Option<&Places>) -> String {
     let right = squares.iter().map(|(_, left, _, side)| left + side).fold(1.0, f64::max);
     let below = squares.iter().map(|(_, _, top, side)| top + side).fold(1.0, f64::max);
     let mut svg = format!(
-        "<svg class=\"heat\" viewBox=\"0 0 {right:.1} {below:.1}\" style=\"max-width:{right:.0}px\" role=\"img\" aria-label=\"use over capacity of each node\">\n"
+        "<svg class=\"heat\" viewBox=\"0 0 {right:.1} {below:.1}\" style=\"max-width:{right:.0}px\" role=\"img\" \
+         aria-label=\"use over capacity of each node\">\n"
     );
     for (node, left, top, side) in squares {
         let node = &nodes[node];

@@ -45,7 +45,7 @@ impl Plan {
         if let Some(folder) = plan.folder.clone() {
             plan.spread(&folder)?;
         }
-        plan.outputs.iter().chain(&plan.log).try_for_each(Output::test)?;
+        plan.outputs.iter().chain(&plan.log).try_for_each(|output| output.test(&plan.jobs))?;
         Ok(plan)
     }
 
@@ -59,6 +59,9 @@ impl Plan {
         }
         if several && args.has("output") && !self.json {
             return Err(Failure::usage("-o takes the routes of one job: name a folder by -d for several"));
+        }
+        if matches!(&self.log, Some(log @ Output::File(_)) if self.outputs.contains(log)) {
+            return Err(Failure::usage("routes and log can't both go to one file"));
         }
         if self.log == Some(Output::Standard)
             && self.outputs.contains(&Output::Standard)
