@@ -4,6 +4,7 @@ mod common;
 
 use common::{endless, limited, Ended, Folder, JOB_B, ROUTES_B};
 use std::fs::{self, OpenOptions};
+use std::io::Write;
 use std::process::{Child, Command, Stdio};
 use std::thread;
 use std::time::Duration;
@@ -40,7 +41,11 @@ fn a_full_disk_is_told_and_leaves_nothing() {
     folder
         .words("route b.txt -o /dev/full --log b.log")
         .told(2, "arvumnao: /dev/full: No space left on device\n");
-    assert_eq!(folder.names(), ["b.log", "b.txt"]);
+    folder
+        .words("route b.txt -o b.routes --log /dev/full")
+        .told(2, "arvumnao: /dev/full: No space left on device\n");
+    assert_eq!(folder.read("b.routes"), ROUTES_B);
+    assert_eq!(folder.names(), ["b.log", "b.routes", "b.txt"]);
     // and standard error that can't be written changes nothing
     let full = OpenOptions::new().write(true).open("/dev/full").unwrap();
     let output = folder.command(&["check", "b.txt", "none"]).stderr(full).output().unwrap();
@@ -82,8 +87,12 @@ fn a_closed_pipe_is_no_panic() {
 /// A pipe whose reader has ended.
 fn broken_pipe() -> Stdio {
     let mut reader = Command::new("true").stdin(Stdio::piped()).spawn().unwrap();
-    let writer = reader.stdin.take().unwrap();
+    let mut writer = reader.stdin.take().unwrap();
     reader.wait().unwrap();
+    // a process that another test is just beginning may hold the other end for a moment
+    while writer.write(b" ").is_ok() {
+        thread::sleep(Duration::from_millis(1));
+    }
     writer.into()
 }
 
@@ -140,6 +149,23 @@ fn an_interrupted_run_keeps_its_log() {
         assert_eq!(folder.read("after.log").lines().count(), 4_096 * limit);
     }
     assert_eq!(folder.names(), ["after.log", "endless.1.log", "endless.log", "endless.txt", "named.log"]);
+}
+
+/// Of several jobs those that were not begun are counted, and those that were routed are written.
+#[test]
+fn interrupted_jobs_are_told_of() {
+    let folder = Folder::new("some");
+    folder.write("b.txt", JOB_B);
+    let child = begun(&folder, "route b.txt endless.txt b.txt b.txt --json -o out.json");
+    thread::sleep(Duration::from_millis(300));
+    send("-INT", &child);
+    let ended: Ended = child.wait_with_output().unwrap().into();
+    assert_eq!((ended.status, ended.out.as_str()), (130, ""), "{}", ended.told);
+    assert!(ended
+        .told
+        .contains("endless.log has its log; to go on: arvumnao route endless.txt --resume endless.log\n"));
+    assert!(ended.told.ends_with("2 jobs not begun\n"), "{}", ended.told);
+    assert_eq!(folder.read("out.json").lines().count(), 2);
 }
 
 /// The second signal ends it at once. Both are sent while it stands still, so that no iteration ends between them.

@@ -9,6 +9,7 @@ use crate::console::Console;
 use crate::failure::{Failure, Status};
 use crate::files::{shown, Output, Text};
 use crate::many::side_by_side;
+use crate::table::counted;
 use crate::watch::{Jobs, Watch};
 use crate::{interrupt, run, verdict};
 use arvumnao::{Aimed, Answer, Job, Log, Progress, Refusal};
@@ -56,7 +57,7 @@ fn run(args: &Args, console: &Console) -> Result<Status, Failure> {
     let input = plan.jobs.iter().find(|job| *job == "-").map(|job| Text::read(job)).transpose()?;
     let resumed = plan.resume.as_deref().map(Text::read_long).transpose()?;
     interrupt::listen();
-    let (mut status, mut gathered) = (Status::Routed, Vec::new());
+    let (mut status, mut gathered, mut left) = (Status::Routed, Vec::new(), 0);
     let mut jobs = Jobs::new(console, plan.jobs.len());
     let work = |place: usize| {
         (!interrupt::came())
@@ -65,13 +66,20 @@ fn run(args: &Args, console: &Console) -> Result<Status, Failure> {
     side_by_side(plan.jobs.len(), plan.workers, work, |place, done| {
         jobs.erase();
         let ended = match done {
-            None => Ok(Status::Interrupted),
+            None => {
+                left += 1;
+                Ok(Status::Interrupted)
+            }
             Some(done) => done.and_then(|done| plan.write(place, done, &mut gathered, console)),
         };
         status = status.max(or_told(ended, console)?);
         jobs.done();
         Ok(())
     })?;
+    drop(jobs);
+    if left > 0 {
+        console.tell(&format!("{} not begun", counted(left, "job")));
+    }
     if plan.gathers() {
         plan.outputs[0].write(&gathered)?;
     }
@@ -179,15 +187,18 @@ impl Plan {
         } else {
             console.put(&done.told);
         }
-        if let Some((output, log)) = done.log {
+        let logged = done.log.map_or(Ok(()), |(output, log)| {
             output.write(log.as_bytes())?;
             self.tell_log(place, &output, done.status, console);
-        }
+            Ok(())
+        });
+        // what one file has no room for doesn't keep the other from being written
         match done.data {
             Some(data) if self.gathers() => gathered.extend(data),
             Some(data) => self.outputs[place].write(&data)?,
             None => self.tell_old(place, console),
         }
+        logged?;
         Ok(done.status)
     }
 
