@@ -5,6 +5,7 @@ use crate::log::{Log, Records};
 use crate::refusal::{Refusal, TableFault};
 use crate::walk::{firsts, highest_limit};
 use crate::{out, raw};
+use std::alloc::{alloc_zeroed, Layout};
 
 /// A job that was accepted: no wire is overfull.
 #[derive(Clone, Debug, PartialEq, Eq)]
@@ -36,8 +37,15 @@ pub enum Search {
     Aimed,
 }
 
-/// The words of log that a call is lent beyond those used, at most, where one iteration needs fewer.
-const ROOM: usize = 1 << 26;
+/// So many zeros in memory that is not touched before it is written to; none where the system doesn't give so much.
+fn zeroed(words: usize) -> Option<Vec<u32>> {
+    let layout = Layout::array::<u32>(words).ok().filter(|layout| layout.size() > 0)?;
+    // SAFETY: the layout has a size; the memory, unless it is null, is that of so many numbers, all 0, from the allocator of Vec.
+    unsafe {
+        let memory = alloc_zeroed(layout).cast::<u32>();
+        (!memory.is_null()).then(|| Vec::from_raw_parts(memory, words, words))
+    }
+}
 
 /// A run so far: of whole iterations, unless it is at its end.
 pub(crate) struct Run<'j> {
@@ -71,13 +79,11 @@ impl<'j> Run<'j> {
         }
     }
 
-    /// One call of the library under this limit, in a log of so many words, or of as many as are used where that is more.
-    fn call(&mut self, limit: u32, words: usize) {
+    /// One call of the library under this limit, in this memory, which has room for the words used.
+    fn call(&mut self, limit: u32, mut log: Vec<u32>) {
         let Job { block, nets, .. } = self.job;
         let (delay, criticality) = self.job.timed_tables();
         let used = self.log.len();
-        // zeroed memory is not touched before it is written to
-        let mut log = vec![0; words.max(used)];
         log[..used].copy_from_slice(&self.log);
         let mut work = vec![0; 8 * block.kind.len()];
         let terms = self.job.numbers(limit);
@@ -127,22 +133,33 @@ impl<'j> Run<'j> {
     /// reached, and not the job's. A call under a lower limit that is refused before its first turn is made again under the job's, so
     /// that its numbers are the job's.
     pub(crate) fn go_on(&mut self, iterations: u32) -> bool {
-        let limit = self.job.terms.limit;
-        let most = self.words_an_iteration();
-        let fitting = iterations.clamp(1, (ROOM / most).max(1) as u32);
+        let (limit, highest) = (self.job.terms.limit, highest_limit(self.job));
         // a limit that is not allowed is the library's to refuse
-        let highest = highest_limit(self.job);
-        let next = if limit > highest { limit } else { self.iteration.saturating_add(fitting).min(limit) };
-        let made = next.min(highest).saturating_sub(self.iteration);
-        self.call(next, self.log.len() + most * made as usize);
+        let left = limit.min(highest).saturating_sub(self.iteration);
+        let (made, log) = self.room(iterations.clamp(1, left.max(1)));
+        let next = if limit > highest { limit } else { self.iteration.saturating_add(made).min(limit) };
+        self.call(next, log);
         match raw::refusal(&self.told) {
             [9, ..] => next < limit,
             [] | [8, ..] => false,
             _ => {
                 if next < limit {
-                    self.call(limit, 0);
+                    self.call(limit, vec![0; self.log.len()]);
                 }
                 false
+            }
+        }
+    }
+
+    /// Memory for the words used and so many iterations more, or for fewer where the system doesn't give so much.
+    fn room(&self, mut iterations: u32) -> (u32, Vec<u32>) {
+        let most = self.words_an_iteration();
+        loop {
+            let words = self.log.len() + most * iterations as usize;
+            match zeroed(words) {
+                Some(log) => return (iterations, log),
+                None if iterations > 1 => iterations /= 2,
+                None => return (1, vec![0; words]),
             }
         }
     }
@@ -186,7 +203,7 @@ impl<'j> Run<'j> {
 
     /// One call under the job's limit.
     pub(crate) fn in_words(mut self, words: usize) -> Aimed {
-        self.call(self.job.terms.limit, words);
+        self.call(self.job.terms.limit, vec![0; words.max(self.log.len())]);
         self.ended()
     }
 
@@ -238,8 +255,9 @@ impl Job {
     /// Routes the job in a log as long as it needs. Refused by [`Refusal::Table`], [`Refusal::TooLarge`], [`Refusal::Unreachable`] or
     /// [`Refusal::Limit`].
     ///
-    /// It lends a log that is long enough for as many iterations as fit 256 MB, and goes on from what these leave if there are more; the
-    /// answer is that of one call in a log that is long enough. Memory that no record is written to is not touched.
+    /// It lends a log that is long enough for every iteration, up to 860 MB of address space on the largest blocks, of which only what is
+    /// written to takes memory. Where the system doesn't give so much it makes several calls, each of which goes on from what the last
+    /// one left; the answer is the same.
     pub fn route(&self) -> Result<Answer, Refusal> {
         Run::new(self, Search::Plain, None).finish().answer
     }

@@ -51,6 +51,9 @@ pub(crate) struct Walk<'j> {
     marks: Vec<u64>,
     mark: u64,
     marked: Option<usize>,
+    /// Which nodes the record's path has: those with the last number of a path.
+    passed: Vec<u64>,
+    path: u64,
 }
 
 /// A net's tree.
@@ -82,6 +85,8 @@ impl<'j> Walk<'j> {
             marks: vec![0; nodes],
             mark: 0,
             marked: None,
+            passed: vec![0; nodes],
+            path: 0,
         }
     }
 
@@ -171,7 +176,7 @@ impl<'j> Walk<'j> {
     }
 
     /// The path leads along edges from a node of the tree over nodes that it doesn't have.
-    fn follows(&self, path: &[u32]) -> Result<(), String> {
+    fn follows(&mut self, path: &[u32]) -> Result<(), String> {
         let Some((first, rest)) = path.split_first() else { return Err(String::from("its path is empty")) };
         if !self.has(*first) {
             return Err(format!("its path begins at node {first}, which the net's tree doesn't have"));
@@ -179,8 +184,11 @@ impl<'j> Walk<'j> {
         if let Some(node) = rest.iter().find(|node| self.has(**node)) {
             return Err(format!("its path comes to node {node}, which the net's tree has already"));
         }
-        if let Some(node) = twice(rest) {
-            return Err(format!("its path passes node {node} twice"));
+        self.path += 1;
+        for node in rest {
+            if std::mem::replace(&mut self.passed[*node as usize], self.path) == self.path {
+                return Err(format!("its path passes node {node} twice"));
+            }
         }
         match path.iter().zip(rest).find(|(from, to)| !self.job.block.has_edge(**from, **to)) {
             Some((from, to)) => Err(format!("no switch leads from node {from} to node {to}")),
@@ -259,13 +267,6 @@ impl<'j> Walk<'j> {
         }
         list
     }
-}
-
-/// A node that stands twice among these.
-fn twice(nodes: &[u32]) -> Option<u32> {
-    let mut sorted = nodes.to_vec();
-    sorted.sort_unstable();
-    sorted.windows(2).find(|pair| pair[0] == pair[1]).map(|pair| pair[0])
 }
 
 /// By how many nets each node is over its capacity.

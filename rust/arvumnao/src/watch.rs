@@ -28,15 +28,15 @@ pub struct Progress {
 }
 
 /// A call is to take at least so many seconds, and so many times what it costs to take up the log that it goes on from.
-const LEAST: f64 = 0.25;
-const TIMES: f64 = 20.0;
+const LEAST: f64 = 0.3;
+const TIMES: f64 = 25.0;
 
 // Nanoseconds as measured on one machine, with something to spare: they choose how often a run is looked at, and nothing else.
 /// The paths that a call looks for first, for each net, node and edge; and what it reads of a log, for each word.
-const FLOOD: f64 = 1.5;
-const WORD: f64 = 40.0;
+const FLOOD: f64 = 1.0;
+const WORD: f64 = 25.0;
 /// A turn of iteration 1, for each node and edge.
-const TURN: f64 = 3.0;
+const TURN: f64 = 1.0;
 
 /// How many iterations a call is to make: taking up a log costs time, and so does waiting for whoever watches. All in seconds.
 pub(crate) struct Pace {
@@ -144,7 +144,7 @@ impl Job {
     /// end, it ends with [`Refusal::Stopped`], which has the log up to that iteration; [`Job::resume`] and [`Job::resume_with`] go on from it.
     ///
     /// The library makes a few iterations in a call, so that taking up their log again costs less than a tenth of the time; they are told
-    /// of when the call ends. So it may take a quarter of a second until `watch` is asked, on the largest blocks some seconds.
+    /// of when the call ends. So it may take a third of a second until `watch` is asked, on the largest blocks some seconds.
     ///
     /// ```
     /// use arvumnao::{Job, Refusal, Search};
