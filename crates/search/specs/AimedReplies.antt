@@ -30,8 +30,9 @@ abbrev pub aimedUnlessRefused : List ℕ → AimedPathReply → List ℕ → Aim
 aimedUnlessRefused [] done work = done
 aimedUnlessRefused (k ∷ ks) done work = record { path = record { refusal = k ∷ ks; joined = []; work = work }; expanded = 0 }
 
--- one turn of the search that aims, for every input: refused where the plain search's turn is, and by the same numbers; else that turn, for
--- "the aimed search gives the plain search's log and outcome", with the count
+-- one turn of the search that aims, for every input: refused wherever anything is due, a table, a number or the work slice, and by its
+-- numbers, while the plain search's turn is refused only where a length is wrong. Where nothing is due it is that turn, for "the aimed
+-- search gives the plain search's log and outcome", with the count
 unfoldable pub aimedPathReply : Block → Congestion → List ℕ → List ℕ → List ℕ → AimedPathReply
 aimedPathReply b c marks sinks work =
     aimedUnlessRefused (pathDue b c marks sinks work) (aimedTurnReply b c marks sinks work) work
