@@ -127,6 +127,12 @@ fn a_log_text_that_is_none_is_told_by_its_line() {
     assert_eq!((ended.status, ended.out.as_str()), (1, ""));
     assert!(ended.told.starts_with("bad.log:2: "), "{}", ended.told);
     assert!(ended.told.contains("  2 | 1,1,5,4000,0,x,1,2,5\n    |              ^\n"), "{}", ended.told);
+    let ended = folder.words("route limited.txt --limit 2 --resume bad.log --json");
+    assert!(
+        ended.out.starts_with("{\"job\":\"bad.log\",\"routed\":false,\"refusal\":[],\"reason\":"),
+        "{}",
+        ended.out
+    );
     let ended = folder.words("route limited.txt --resume none.log");
     ended.told(2, "arvumnao: none.log: No such file or directory\n");
 }

@@ -10,7 +10,7 @@ use std::process::{Command, Stdio};
 use std::time::Duration;
 
 /// Runs of each; the best counts.
-const RUNS: usize = 3;
+const RUNS: usize = 5;
 
 /// The command as cargo builds it, or as ARVUMNAO names it.
 fn built() -> PathBuf {

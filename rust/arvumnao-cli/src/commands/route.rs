@@ -121,13 +121,13 @@ impl Plan {
         };
         let log = match resumed.map(|log| Log::read(&log.bytes, &job.nets)).transpose() {
             Ok(log) => log,
-            Err(refusal) => return Ok(refused_log(resumed.unwrap_or(text), &refusal, console)),
+            Err(refusal) => return Ok(self.refused_log(resumed.unwrap_or(text), &refusal, console)),
         };
         let Aimed { answer, expanded } = self.route(&job, log.as_ref(), console);
         let mut done = match &answer {
             Ok(answer) => self.routed(text, &job, answer)?,
             Err(refusal @ Refusal::Diverges { .. }) => {
-                return Ok(refused_log(resumed.unwrap_or(text), refusal, console))
+                return Ok(self.refused_log(resumed.unwrap_or(text), refusal, console))
             }
             Err(refusal) => self.refused(text, refusal, console),
         };
@@ -169,6 +169,13 @@ impl Plan {
     fn refused(&self, text: &Text, refusal: &Refusal, console: &Console) -> Done {
         let told = verdict::of_job(text, refusal, console);
         let data = self.json.then(|| json::refused(&text.name, refusal).into_bytes());
+        Done { status: Status::of(refusal), data, log: None, told }
+    }
+
+    /// A log that can't be gone on from.
+    fn refused_log(&self, log: &Text, refusal: &Refusal, console: &Console) -> Done {
+        let told = verdict::of_log(log, refusal, console);
+        let data = self.json.then(|| json::refused(&log.name, refusal).into_bytes());
         Done { status: Status::of(refusal), data, log: None, told }
     }
 
@@ -225,11 +232,6 @@ impl Plan {
             }
         }
     }
-}
-
-fn refused_log(log: &Text, refusal: &Refusal, console: &Console) -> Done {
-    let told = verdict::of_log(log, refusal, console);
-    Done { status: Status::of(refusal), data: None, log: None, told }
 }
 
 /// For the plan's messages.
