@@ -84,11 +84,11 @@ fn jobs_are_the_examples() {
     }
 }
 
-/// A record prints itself as the README shows it, which is what the example in C prints.
+/// A record prints itself as FORMAT.md shows it, which is what the example in C prints.
 #[test]
 fn records_are_spelled_alike() {
     let job = Job::read(document("examples/job_b.txt").as_bytes()).unwrap();
     let log = job.route().unwrap().log;
     let records: String = log.records().map(|record| format!("{record}\n")).collect();
-    assert!(blocks(&document("README.md")).contains(&("records", records)));
+    assert!(blocks(&document("docs/FORMAT.md")).contains(&("records", records)));
 }
