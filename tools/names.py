@@ -1,8 +1,8 @@
 #!/usr/bin/env python3
 """Whether the documents name what is there: tools/names.py
 
-Every name in backticks in README.md and docs/*.md stands in the tree, as a word of a source or as a file, and every relative link leads to a
-file, its anchor to a heading. Prints each that doesn't and answers 1. The notes in docs/changes name things as they were and are left out,
+Every name in backticks in README.md, CONTRIBUTING.md and docs/*.md stands in the tree, as a word of a source or as a file, and every
+relative link leads to a file, its anchor to a heading. Prints each that doesn't and answers 1. The notes in docs/changes name things as they were and are left out,
 but for their links."""
 import pathlib
 import re
@@ -96,7 +96,7 @@ def main():
         tails.update("/".join(bits[i:k]) for i in range(len(bits)) for k in range(i + 1, len(bits) + 1))
         # an edit is named without its ending
         tails.add(bits[-1].removesuffix(".edit"))
-    documents = [ROOT / "README.md"] + sorted((ROOT / "docs").glob("*.md"))
+    documents = [ROOT / "README.md", ROOT / "CONTRIBUTING.md"] + sorted((ROOT / "docs").glob("*.md"))
     faults = []
     for path in documents:
         faults += [f"{path.relative_to(ROOT)}: {what}" for what in [*bad_names(path, known, tails), *bad_links(path)]]
