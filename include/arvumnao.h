@@ -1,8 +1,8 @@
 /* Arvumnao: a proved router for a programmable logic block. The calls of the static library libcapi.a.
  *
- * docs/FORMAT.md describes the job text, the routes text, the log, the uses text and every refusal; examples/route.c goes from
- * a job text to its routes text, and on from its log under a higher limit, examples/uses.c from many jobs of one block to the use
- * of its wires. Here are first an example, then what holds for all calls, then the calls.
+ * docs/FORMAT.md describes the job text, the routes text, the log, the uses text and every refusal. examples/route.c routes a job
+ * text, and continues from its log under a higher limit. examples/uses.c counts the use of wires over many jobs of one block.
+ * This file has an example, then what holds for all calls, then the calls.
  *
  * An example, whole: it routes one net over one wire and prints R,1,1 and B,0,0,1 and B,0,1,2, a line each.
  *
@@ -39,28 +39,28 @@
  *
  * Build it: rt staticlib capi && cc -Iinclude FILE.c target/staticlib/libcapi.a
  *
- * MEMORY. A slice is a pointer and a count of entries, aligned as C aligns its type. An empty slice may have
- * any pointer, NULL too. A slice that a call may write to (one without const) must not overlap any other slice of
- * that call. Slices are lent for the call alone: the library keeps no pointer, allocates nothing, has no state, and
- * needs nothing of the C library but memcpy and memset. So calls may run at once in several threads, as long as no
- * slice that one of them writes to is lent to another. A call takes at most ARVUMNAO_STACK bytes of stack.
+ * MEMORY. A slice is a pointer and a count of entries, aligned as C aligns its type. An empty slice may have any
+ * pointer, also NULL. A slice that a call may write to (one without const) must not overlap any other slice of that
+ * call. Slices are lent only for the call: the library keeps no pointer, allocates nothing and has no state. Of the C
+ * library it needs only memcpy and memset. So several threads may call at the same time, as long as no slice that
+ * one call writes to is lent to another. A call takes at most ARVUMNAO_STACK bytes of stack.
  *
  * ANY INPUT. Each call may be lent slices of any length with anything in them: it ends, stays within them and
- * refuses what is faulty. That, with what it answers and leaves in every slice, is proved of its source; that the built
- * code does the same is tested. Slices that overlap, dangle or are counted wrong are out of its sight.
+ * refuses what is faulty. This, its answer and what it leaves in every slice are proved of the source; that the built
+ * code does the same is tested. A call can't detect slices that overlap, dangle or have a wrong count.
  *
  * OUT. Every call takes `out`, a slice of 64-bit numbers, which need not be cleared. If it has fewer than
- * ARVUMNAO_OUT entries, or `counts` fewer than ARVUMNAO_COUNTS, the call does nothing and returns 0. Otherwise it returns 1, fills
- * the first ARVUMNAO_OUT entries and leaves those past them:
- *   out[ARVUMNAO_REFUSAL]     0 where nothing was refused, else the refusal's number
+ * ARVUMNAO_OUT entries, or `counts` fewer than ARVUMNAO_COUNTS, the call does nothing and returns 0. Otherwise it returns 1 and fills
+ * the first ARVUMNAO_OUT entries; entries after them stay:
+ *   out[ARVUMNAO_REFUSAL]     0 if nothing was refused, else the refusal's number
  *   out[ARVUMNAO_REFUSAL_1]   that refusal's first further number, else 0
  *   out[ARVUMNAO_REFUSAL_2]   its second, else 0
  *   the rest                  the call's own numbers, at the places defined with the call, and 0
- * A refused call's own numbers are 0, but for those of the four calls that route or resume after ARVUMNAO_LOG_FULL and
- * ARVUMNAO_LIMIT_REACHED, and that of arvumnao_uses_add. A refused call leaves every other slice as it was, but where its comment
- * says more.
+ * A refused call's own numbers are 0. There are two exceptions: the four calls that route or resume give theirs after
+ * ARVUMNAO_LOG_FULL and ARVUMNAO_LIMIT_REACHED, and arvumnao_uses_add always does. A refused call leaves every other slice as it was,
+ * unless its comment says more.
  *
- * TABLES. A job is seven tables, and terms that count as an eighth; a timed job has two tables more. Nodes and nets are numbered
+ * TABLES. A job is seven tables, and the terms, which count as table 8; a timed job has two more tables. Nodes and nets are numbered
  * from 0: a node has an entry in table 1, a net in table 5.
  *   1 kind         8 bits a node   1 to 4,096 nodes, ARVUMNAO_SOURCE to ARVUMNAO_KIND_MOST
  *   2 capacity     8 bits a node   how many nets may use it at once, 1 to 255
@@ -76,19 +76,18 @@
  *   8 the terms    32 bits         limit, 1 to 100 iterations; first, 0 to 1,000; up, from down to 8; down, 1 to 4;
  *                                  step, 1 or 2; rule, 1 or 2; until, 1 to 99; timed, 0 or not 0; in this order. Entries may be
  *                                  left out at the end, see arvumnao_route
- *   9 delay        16 bits a node  of a timed job alone: 0 to 1,000
- *  10 criticality  8 bits a sink   of a timed job alone: for each entry of table 7, 0 to 9, in tenths
- * A table of another length than it must have breaks its rule; where table 3 or 6 doesn't end with the length of table
- * 4 or 7, it is table 3 or 6 that does.
+ *   9 delay        16 bits a node  only in a timed job: 0 to 1,000
+ *  10 criticality  8 bits a sink   only in a timed job: for each entry of table 7, 0 to 9, in tenths
+ * A table of the wrong length breaks its rule. If the last entry of table 3 or 6 is not the length of table 4 or 7, table 3
+ * or 6 is the one that breaks its rule.
  *
- * NETS OF ONE SOURCE are joined into the first of them: it is routed, under its own number, to the sinks of all of them in
- * listed order, each once, with the criticality of its first listing; the others make no turns.
+ * NETS OF ONE SOURCE are joined into the first of them. It is routed under its own number to the sinks of all of them, in
+ * listed order, each once, with the criticality of its first listing. The other nets make no turns.
  *
- * TIMED JOBS have sinks that buy delay. A node's price for a sink is criticality x delay x 100 + (10 - criticality) x the price that
- * arvumnao_price tells. A net's sinks are joined by falling criticality, ties as listed, each by a cheapest path at the prices for
- * it. A path may pass other sinks of the net, which are then joined without a turn. A timed job has at most
- * ARVUMNAO_TIMED_NODES_MOST nodes and a limit of at most ARVUMNAO_TIMED_LIMIT_MOST. Of a job that isn't timed tables 9 and 10 are
- * neither measured nor read nor written: lend empty slices.
+ * TIMED JOBS. A node's price for a sink is criticality x delay x 100 + (10 - criticality) x the price of arvumnao_price. A net's
+ * sinks are joined by falling criticality, ties as listed, each by a cheapest path at the prices for it. A path may pass other sinks of
+ * the net, which are then joined without a turn. A timed job has at most ARVUMNAO_TIMED_NODES_MOST nodes and a limit of at most
+ * ARVUMNAO_TIMED_LIMIT_MOST. In a job that isn't timed tables 9 and 10 are ignored: lend empty slices.
  */
 #ifndef ARVUMNAO_H
 #define ARVUMNAO_H
@@ -98,7 +97,7 @@
 
 /* The version of these declarations, and of the Rust wrapper. The library itself carries none: header and library must be of one build.
  * Until 1.0.0 the second number rises with every change to a call, a place in `out` or a refusal, and with what changes for the
- * wrapper's callers. CHANGELOG.md says what came when. */
+ * wrapper's callers. CHANGELOG.md lists the changes. */
 #define ARVUMNAO_VERSION "0.7.0"
 #define ARVUMNAO_VERSION_MAJOR 0
 #define ARVUMNAO_VERSION_MINOR 7
@@ -125,7 +124,7 @@
 #define ARVUMNAO_WIRE(length) (3 + (length))
 #define ARVUMNAO_KIND_MOST 53
 
-/* `terms`: its entries and their places, and the plain values of four of them. */
+/* `terms`: its entries and their places, and the defaults of four of them. */
 #define ARVUMNAO_TERMS 8
 #define ARVUMNAO_TERMS_LIMIT 0
 #define ARVUMNAO_TERMS_FIRST 1
@@ -144,15 +143,15 @@
 /* The entries that `work` needs. What they hold before a call doesn't matter. */
 #define ARVUMNAO_WORK(nodes) (8 * (nodes))
 
-/* The words of a record whose path has so many nodes, 2 to 4,096. A job makes at most limit x sinks records. */
+/* The words of a record whose path has this many nodes, 2 to 4,096. A job makes at most limit x sinks records. */
 #define ARVUMNAO_RECORD(path) (6 + (path))
 
-/* `counts` of uses: its entries, one a kind, the most logs that it may be of, and bytes that are enough for its text. */
+/* `counts` of uses: its entries, one for each kind; the most logs; and bytes that are enough for its text. */
 #define ARVUMNAO_COUNTS 54
 #define ARVUMNAO_LOGS_MOST 65535
 #define ARVUMNAO_USES_BYTES 4096
 
-/* Bytes of stack, beyond its caller's, that every call makes do with. Measured on x86-64 Linux by tests/header/memory.c, with
+/* Bytes of stack, beyond its caller's, that are enough for every call. Measured on x86-64 Linux by tests/header/memory.c, with
  * what memcpy and memset take, and rounded up: 194,000 in the four calls that route or resume, 122,500 in arvumnao_read, 35,700 in
  * arvumnao_uses_add, 23,200 in arvumnao_uses_write, 9,100 in arvumnao_write and arvumnao_dot, under 800 in the others. */
 #define ARVUMNAO_STACK 262144
@@ -173,24 +172,24 @@
 #define ARVUMNAO_SHORT_WORK 6    /* entries that work needs */
 #define ARVUMNAO_UNREACHABLE 7   /* net, place: the first net with a sink that has no path from its source; the place
                                     of the first such sink among that net's, joined as above */
-#define ARVUMNAO_LOG_FULL 8      /* iteration, turns: after so many turns the next record, of that iteration, doesn't fit */
-#define ARVUMNAO_LIMIT_REACHED 9 /* iteration, nodes: after the last iteration so many nodes are over capacity */
+#define ARVUMNAO_LOG_FULL 8      /* iteration, turns: after that many turns the next record, of that iteration, doesn't fit */
+#define ARVUMNAO_LIMIT_REACHED 9 /* iteration, nodes: after the last iteration that many nodes are over capacity */
 #define ARVUMNAO_BAD_RECORD 10   /* word: where the first unsound record begins; 0 if the log is empty */
 #define ARVUMNAO_SHORT_BUFFER 11 /* bytes that the text needs */
-#define ARVUMNAO_LONG_TEXT 12    /* 65536: by the program alone, of an input with more bytes; no call here gives it */
+#define ARVUMNAO_LONG_TEXT 12    /* 65536: only from the program, for an input with more bytes; no call here gives it */
 #define ARVUMNAO_BAD_NUMBER 13   /* place: a number beyond its bounds; in counts the kind, or 54 for the number of logs */
 #define ARVUMNAO_DIVERGES 14     /* word: where the first record begins that doesn't follow the job; the words used if only the
                                     log's end is wrong; the log's length if the words used exceed it */
-#define ARVUMNAO_TOO_LARGE 15    /* nodes, limit: of a timed job that has more than 1,024 nodes or a limit above 40; limit 0 where
-                                    a timed search gives it */
-#define ARVUMNAO_COUNTS_FULL 16  /* 65535: counts are of so many logs already, and may be of no more */
+#define ARVUMNAO_TOO_LARGE 15    /* nodes, limit: of a timed job with more than 1,024 nodes or a limit above 40; a timed search
+                                    gives limit 0 */
+#define ARVUMNAO_COUNTS_FULL 16  /* 65535: the counts have that many logs already, which is the most */
 
 #ifdef __cplusplus
 extern "C" {
 #endif
 
-/* The price of a node to a net: history x base cost x (100 + factor x excess), where excess is by how much others + 1
- * passes the capacity, or 0.
+/* The price of a node to a net: history x base cost x (100 + factor x excess), where excess is others + 1 - capacity, or 0 if
+ * that is negative.
  *
  * Bounds: kind 0 to 53, factor 0 to 65,535, others 0 to 511, capacity 1 to 255, history 1 to 101,179.
  * Refusals: ARVUMNAO_BAD_NUMBER with the place, 0 to 4, of the first of these five that is beyond its bounds. */
@@ -198,7 +197,7 @@ extern "C" {
 uint32_t arvumnao_price(uint32_t kind, uint32_t factor, uint32_t others, uint32_t capacity, uint32_t history,
                         uint64_t *out, size_t out_count);
 
-/* The price of a node for a sink of a timed job: criticality x delay x 100 + (10 - criticality) x the price that arvumnao_price tells.
+/* The price of a node for a sink of a timed job: criticality x delay x 100 + (10 - criticality) x the price of arvumnao_price.
  *
  * Bounds: those of arvumnao_price, delay 0 to 1,000, criticality 0 to 9.
  * Refusals: ARVUMNAO_BAD_NUMBER with the place, 0 to 6, of the first of these seven that is beyond its bounds. */
@@ -206,13 +205,13 @@ uint32_t arvumnao_price(uint32_t kind, uint32_t factor, uint32_t others, uint32_
 uint32_t arvumnao_timed_price(uint32_t kind, uint32_t factor, uint32_t others, uint32_t capacity, uint32_t history, uint32_t delay,
                               uint32_t criticality, uint64_t *out, size_t out_count);
 
-/* The distance of each node from the marked ones: the least sum of prices on a path from any of them, the path's first
- * node left out.
+/* The distance of each node from the marked nodes: the least sum of prices on a path from any of them, without the path's
+ * first node.
  *
  * factor    0 to 65,535.
- * work      needs ARVUMNAO_WORK(nodes) entries. Afterwards the first `nodes` of them are the distances, 2^64 - 1 where
- *           there is no path, the next 7 x nodes are 0, and those past them stay.
- * history   an entry a node, 1 to 101,179. Further entries of this list and the next two are unread.
+ * work      needs ARVUMNAO_WORK(nodes) entries. Afterwards the first `nodes` of them are the distances, 2^64 - 1 if
+ *           there is no path; the next 7 x nodes are 0; entries after them stay.
+ * history   an entry a node, 1 to 101,179. Further entries of this list and the next two are ignored.
  * others    how many other nets have the node, 0 to 511.
  * in_tree   1 for a marked node, 0 for any other.
  * Refusals, tested in this order: ARVUMNAO_BAD_TABLE (1 to 4); ARVUMNAO_SHORT_WORK; ARVUMNAO_BAD_NUMBER with the lowest node
@@ -231,7 +230,7 @@ uint32_t arvumnao_search(const uint8_t *kind, size_t kind_count, const uint8_t *
  * history       here only to 39,859, which no timed job's exceeds.
  * The other parameters are those of arvumnao_search.
  * Refusals, tested in this order: ARVUMNAO_BAD_TABLE (1 to 4, and 9); ARVUMNAO_TOO_LARGE with the node count and 0;
- * ARVUMNAO_SHORT_WORK; ARVUMNAO_BAD_NUMBER as in arvumnao_search, and at last with the node count + 1 for a bad criticality. */
+ * ARVUMNAO_SHORT_WORK; ARVUMNAO_BAD_NUMBER as in arvumnao_search, then with the node count + 1 for a bad criticality. */
 uint32_t arvumnao_timed_search(const uint8_t *kind, size_t kind_count, const uint8_t *capacity, size_t capacity_count,
                                const uint32_t *first_edge, size_t first_edge_count, const uint16_t *edge_target, size_t edge_target_count,
                                const uint16_t *delay, size_t delay_count, uint32_t factor, uint32_t criticality,
@@ -239,26 +238,26 @@ uint32_t arvumnao_timed_search(const uint8_t *kind, size_t kind_count, const uin
                                const uint16_t *others, size_t others_count, const uint8_t *in_tree, size_t in_tree_count,
                                uint64_t *out, size_t out_count);
 
-/* Routes a job. Each table is lent in exactly its length; tables 9 and 10 only where it is timed.
+/* Routes a job. Each table is lent in exactly its length; tables 9 and 10 only if the job is timed.
  *
- * terms     limit, first, up, down, step, rule, until, timed. Of a slice that is shorter the plain values stand for the rest: 0 for
- *           the limit, which is refused, then 50, 3, 2, 1, 1, 1 and 0, those of a text without P, V and W lines. Entries past these
- *           eight are not read. So {100} is a job of 100 iterations and no more said.
+ * terms     limit, first, up, down, step, rule, until, timed. Entries that a shorter slice lacks have their defaults: 0 for the limit,
+ *           which is refused, then 50, 3, 2, 1, 1, 1 and 0, as in a text without P, V and W lines. Entries after these eight are
+ *           ignored. So {100} means a limit of 100 and the defaults.
  *           limit: the most iterations.
  *           first, up, down, step: the tariff. The congestion factor is 0 in iteration 1, `first` in iteration 2, and then
- *           each time factor x up / down, rounded down, at most 65,535; a node's history is 1 at first and grows after each
- *           iteration by step x the nets too many on it.
- *           rule, until: under rule 1 every net drops its tree in each iteration and is routed again; under rule 2 that is so up
- *           to iteration `until`, and after it only the nets whose tree had an overfull node when the iteration began are. The
- *           other trees stay and count as users. `until` is the k of a line V,2,k; under rule 1 it is of no account.
- *           timed: with any number but 0 the job is timed.
- * work      needs ARVUMNAO_WORK(nodes) entries. After acceptance and after refusals 7, 8 and 9 that many are 0, and those
- *           past them stay.
+ *           each time factor x up / down, rounded down, at most 65,535. A node's history is 1 at first and grows after each
+ *           iteration by step x the number of nets by which the node is over its capacity.
+ *           rule, until: under rule 1 every net drops its tree in each iteration and is routed again. Under rule 2 so is every net up
+ *           to iteration `until`; after it, only the nets whose tree has an overfull node when the iteration begins. The
+ *           other trees stay and count as users. `until` is the k of a line V,2,k; under rule 1 it is ignored.
+ *           timed: the job is timed if it is not 0.
+ * work      needs ARVUMNAO_WORK(nodes) entries. After acceptance and after refusals 7, 8 and 9 that many are 0, and entries
+ *           after them stay.
  * log       gets a record for each turn. After acceptance and after 8 and 9 the words used hold the records of the
- *           turns made, and those past them stay. How many it needs isn't known before: lend more after
- *           ARVUMNAO_LOG_FULL. The log of a run that was cut short by log or limit is the beginning of the longer run's.
+ *           turns made, and words after them stay. The length needed is not known beforehand: lend more after
+ *           ARVUMNAO_LOG_FULL. The log of a run that log or limit stopped is the beginning of the longer run's log.
  * Refusals, tested in this order: ARVUMNAO_BAD_TABLE, ARVUMNAO_TOO_LARGE, ARVUMNAO_SHORT_WORK, ARVUMNAO_UNREACHABLE; then
- * ARVUMNAO_LOG_FULL and ARVUMNAO_LIMIT_REACHED as they arise, for which the own numbers are told too. */
+ * ARVUMNAO_LOG_FULL and ARVUMNAO_LIMIT_REACHED during the run; these two have the own numbers too. */
 #define ARVUMNAO_ROUTE_ITERATION 3
 #define ARVUMNAO_ROUTE_TURNS 4
 #define ARVUMNAO_ROUTE_WORDS 5
@@ -287,22 +286,22 @@ uint32_t arvumnao_route_aimed(const uint8_t *kind, size_t kind_count, const uint
                               uint64_t *work, size_t work_count, uint32_t *log, size_t log_count,
                               uint64_t *out, size_t out_count);
 
-/* Goes on from the log of a run that ended in whole iterations, as one does that ARVUMNAO_LIMIT_REACHED stopped: rebuilds from it the
- * histories, the factor and the trees, and appends turns under the job's terms, whose limit must be above those iterations. From
- * the job's own log it ends as arvumnao_route does in a log of that length, with the same log (proved); the turns in it are not
- * made again. Any other log that follows the job is gone on from as it is: its paths need not be cheapest.
+/* Continues from the log of a run that ended in whole iterations, for example by ARVUMNAO_LIMIT_REACHED. It rebuilds histories, factor
+ * and trees from the log, and appends turns under the job's terms; the limit must be above those iterations. From the job's own log it
+ * ends as arvumnao_route does in a log of that length, with the same log (proved), but does not make the lent turns again. Any other
+ * log that follows the job is accepted as it is: its paths need not be cheapest.
  *
- * used      how many words of `log` the lent log has. Words past them are not read before they are written.
- * log       follows the job when it has one or more whole iterations, from 1 on, each of which leaves a node over capacity, the
- *           last below the limit. In each the nets that are due make turns, in order, until their sinks are joined. Each turn's path
- *           goes along edges, no node twice; its first node, and no other, is in the net's tree; its last is the record's sink,
- *           not joined before, and no other unjoined sink is on it; its cost is the sum of its nodes' prices but the first's. In a
- *           timed job the record's sink is the one whose turn it is, and other unjoined sinks may be on the path.
- *           The lent words stay. After acceptance and after 8 and 9 the appended records follow them.
+ * used      how many words of `log` the lent log has. Words after them are ignored and may be overwritten.
+ * log       must follow the job. It has one or more whole iterations, from 1 on, each of which leaves a node over capacity; the
+ *           last is below the limit. In each the nets that are due make turns, in order, until their sinks are joined. Each turn's
+ *           path follows edges and has no node twice. Only its first node is in the net's tree. Its last node is the record's sink,
+ *           which was not joined before, and no other unjoined sink is on the path. Its cost is the sum of its nodes' prices
+ *           without the first. In a timed job the record's sink is the one whose turn it is, and other unjoined sinks may be on
+ *           the path. The lent words stay. After acceptance and after 8 and 9 the appended records follow them.
  * The other parameters and the own numbers are those of arvumnao_route, over the whole log: lent turns and words count.
  * Refusals, tested in this order: ARVUMNAO_BAD_TABLE, ARVUMNAO_TOO_LARGE, ARVUMNAO_SHORT_WORK, ARVUMNAO_UNREACHABLE,
  * ARVUMNAO_DIVERGES, which leaves the log as it was, the work memory 0 and the own numbers 0; then ARVUMNAO_LOG_FULL and
- * ARVUMNAO_LIMIT_REACHED as they arise. */
+ * ARVUMNAO_LIMIT_REACHED during the run. */
 #define ARVUMNAO_RESUME_ITERATION 3
 #define ARVUMNAO_RESUME_TURNS 4
 #define ARVUMNAO_RESUME_WORDS 5
@@ -326,15 +325,15 @@ uint32_t arvumnao_resume_aimed(const uint8_t *kind, size_t kind_count, const uin
                                uint64_t used, uint64_t *work, size_t work_count, uint32_t *log, size_t log_count,
                                uint64_t *out, size_t out_count);
 
-/* Reads a job text into the seven tables, and into tables 9 and 10 where it is timed, and tells how much of each it filled, and the
+/* Reads a job text into the seven tables, and into tables 9 and 10 if it is timed. Its own numbers are the counts of the job and its
  * terms.
  *
- * text      of any length: the program's bound of 65,536 bytes isn't this call's.
- * tables    may be longer than the job needs; entries past what it has stay. Tables 3 and 6 need an entry more than there
+ * text      of any length: the program's bound of 65,536 bytes does not apply.
+ * tables    may be longer than the job needs; further entries stay. Tables 3 and 6 need one entry more than there
  *           are nodes and nets, table 10 as many as table 7. ARVUMNAO_NODES_MOST and the like are enough for every job.
- * The terms are told in the order in which arvumnao_route takes them, from ARVUMNAO_READ_LIMIT on. Without a P line the tuning
- * told is ARVUMNAO_PLAIN_TUNING, without a V line the rule is ARVUMNAO_RULE_ALL, without its second number `until` is 1; with a W
- * line `timed` is 1, without it 0.
+ * The terms are in the order in which arvumnao_route takes them, from ARVUMNAO_READ_LIMIT on. Without a P line the tuning is
+ * ARVUMNAO_PLAIN_TUNING, without a V line the rule is ARVUMNAO_RULE_ALL, without its second number `until` is 1. `timed` is 1 with a W
+ * line and 0 without it.
  * Refusals, tested in this order: the first faulty line by ARVUMNAO_BAD_SHAPE, else ARVUMNAO_BAD_VALUE, else
  * ARVUMNAO_BAD_ORDER; then ARVUMNAO_SHORT_TABLE (1 to 7, 9 and 10); then ARVUMNAO_TOO_LARGE. */
 #define ARVUMNAO_READ_NODES 3
@@ -362,10 +361,10 @@ uint32_t arvumnao_read(const uint8_t *text, size_t text_count, uint8_t *kind, si
  * source    table 5 of the job that was routed. Here its rule is 1 to 512 entries, each below 4,096: the writer knows no kinds.
  * log       the words used of it, not the whole slice that was lent to arvumnao_route. A record whose net is not in table 5,
  *           or is not the first net of its source, is unsound.
- * buffer    gets the text, without a 0 at its end; bytes past it stay. To learn how long it must be, call with an empty
+ * buffer    gets the text, without a 0 at its end; bytes after it stay. To learn the length needed, call with an empty
  *           buffer: the answer is ARVUMNAO_SHORT_BUFFER with the bytes needed, or one of the other refusals.
- * Refusals, tested in this order: ARVUMNAO_BAD_TABLE with 5, ARVUMNAO_BAD_RECORD, ARVUMNAO_SHORT_BUFFER. The writer can't tell
- * whether the run was accepted: the routes of one that wasn't leave nodes overfull or nets unrouted. */
+ * Refusals, tested in this order: ARVUMNAO_BAD_TABLE with 5, ARVUMNAO_BAD_RECORD, ARVUMNAO_SHORT_BUFFER. The writer can't know
+ * whether the run was accepted; the routes of a refused run leave nodes overfull or nets unrouted. */
 #define ARVUMNAO_WRITE_BYTES 3
 uint32_t arvumnao_write(const uint16_t *source, size_t source_count, const uint32_t *log, size_t log_count,
                         uint8_t *buffer, size_t buffer_count, uint64_t *out, size_t out_count);
@@ -380,18 +379,18 @@ uint32_t arvumnao_dot(const uint16_t *source, size_t source_count, const uint32_
 /* Adds the log of a job to counts of how much the nodes of one block are used, kind by kind, over many jobs. A kind's uses are the
  * sum, over all logs added and all nodes of the kind, of the nets whose final tree has the node: a node on two paths of a net
  * counts once. A net's final tree is the nodes of its records of the latest iteration in which it has any. The order
- * in which logs are added makes no difference, and the uses of a log sum to the sizes of its final trees. Parts that were counted
- * apart, each from 0, may be added entry by entry, and their numbers of logs too.
+ * of the logs makes no difference, and the uses of a log sum to the sizes of its final trees. Counts of several parts, each begun
+ * with 0, may be added entry by entry, and their numbers of logs too.
  *
- * counts    ARVUMNAO_COUNTS entries, the uses of each kind, at first all 0; those past them stay. If there are fewer the call
+ * counts    ARVUMNAO_COUNTS entries, the uses of each kind, at first all 0; further entries stay. If there are fewer, the call
  *           does nothing and returns 0, as with a short `out`.
- * logs      how many logs the counts are of, at first 0. The number for the next call is told: one more after an accepted log,
- *           the number handed in after a refusal.
+ * logs      the number of logs counted so far, at first 0. The own number is the one for the next call: one more after an accepted
+ *           log, the same after a refusal.
  * log       the words used of it. Its records must be sound as for arvumnao_write, but may be of any net below 512, and have
- *           no node that the block lacks. Which job it is of, and whether that job was accepted, is not asked.
+ *           no node that the block lacks. The call does not test which job it is from, nor whether that job was accepted.
  * Refusals, tested in this order: ARVUMNAO_BAD_TABLE (1 to 4); ARVUMNAO_BAD_NUMBER with 54 for more than ARVUMNAO_LOGS_MOST logs, else with
  * the lowest kind that has more uses than 512 x logs x its nodes; ARVUMNAO_BAD_RECORD; ARVUMNAO_COUNTS_FULL. A refused log
- * adds nothing. Counts that began with 0 and are changed by this call alone, for one block, never meet ARVUMNAO_BAD_NUMBER. */
+ * adds nothing. Counts that began with 0 and are changed only by this call, for one block, never get ARVUMNAO_BAD_NUMBER. */
 #define ARVUMNAO_USES_ADD_LOGS 3
 uint32_t arvumnao_uses_add(const uint8_t *kind, size_t kind_count, const uint8_t *capacity, size_t capacity_count,
                            const uint32_t *first_edge, size_t first_edge_count, const uint16_t *edge_target, size_t edge_target_count,
@@ -402,7 +401,7 @@ uint32_t arvumnao_uses_add(const uint8_t *kind, size_t kind_count, const uint8_t
  * times the number of logs.
  *
  * counts    and logs are those of arvumnao_uses_add.
- * buffer    gets the text, without a 0 at its end; bytes past it stay. ARVUMNAO_USES_BYTES are always enough.
+ * buffer    gets the text, without a 0 at its end; bytes after it stay. ARVUMNAO_USES_BYTES are always enough.
  * Refusals, tested in this order: ARVUMNAO_BAD_TABLE and ARVUMNAO_BAD_NUMBER as there; ARVUMNAO_SHORT_BUFFER. */
 #define ARVUMNAO_USES_WRITE_BYTES 3
 uint32_t arvumnao_uses_write(const uint8_t *kind, size_t kind_count, const uint8_t *capacity, size_t capacity_count,

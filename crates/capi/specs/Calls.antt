@@ -24,7 +24,7 @@ use Rattle.text.specs.Routes.{WriteReply, writeReply}
 use Rattle.text.specs.Dot.{dotReply}
 use Rattle.uses.specs.Uses.{kindCount, useCountsOf, AddReply, addReply, printReply}
 
--- so many entries: those of the list, then 0
+-- this many entries: those of the list, then 0
 abbrev pub padded : ℕ → List ℕ → List ℕ
 padded k xs = take k (xs ++ replicate k 0)
 
@@ -84,7 +84,7 @@ abbrev pub timedSearchCall : Block → Congestion → List ℕ → List ℕ → 
 timedSearchCall b c marks work out = searchedCall (timedSearchReply b c marks work) work out
 
 -- the terms of a job as one slice: 0 limit, 1 first, 2 up, 3 down, 4 step, 5 rule, 6 k, 7 timed where it isn't 0. An entry that the slice
--- lacks has its plain value: no limit, which is below the least, and what holds without a P, V or W line. Further entries aren't read
+-- lacks has its default: limit 0, which is refused, and what holds without a P, V or W line. Further entries are ignored
 abbrev pub termsOf : List ℕ → Terms
 termsOf ts =
     record {
@@ -120,7 +120,7 @@ routedCall reply further work log out =
 abbrev pub routeCall : Job → List ℕ → List ℕ → List ℕ → RouteCall
 routeCall j work log out = routedCall (routeReply j work log) [] work log out
 
--- resume: the same of a run that goes on from the words used of the lent log
+-- resume: the same of a run that continues from the words used of the lent log
 abbrev pub resumeCall : Job → ℕ → List ℕ → List ℕ → List ℕ → RouteCall
 resumeCall j used work log out = routedCall (resumeReply j used work log) [] work log out
 
@@ -134,7 +134,7 @@ countedCall aimed j lent reply work log out =
 abbrev pub routeAimedCall : Job → List ℕ → List ℕ → List ℕ → RouteCall
 routeAimedCall j work log out = countedCall true j [] (routeReply j work log) work log out
 
--- resume_aimed: the same of a run that goes on
+-- resume_aimed: the same of a run that continues
 abbrev pub resumeAimedCall : Job → ℕ → List ℕ → List ℕ → List ℕ → RouteCall
 resumeAimedCall j used work log out = countedCall true j (decode (take used log)) (resumeReply j used work log) work log out
 
@@ -173,7 +173,7 @@ writeCall sources log buffer out = writtenCall (writeReply sources log buffer) b
 abbrev pub dotCall : List ℕ → List ℕ → List ℕ → List ℕ → WriteCall
 dotCall sources log buffer out = writtenCall (dotReply sources log buffer) buffer out
 
--- Nor does one do anything whose `counts` have fewer than 54 entries. Those past 54 aren't read and stay.
+-- A call whose `counts` have fewer than 54 entries does nothing and returns 0. Entries after the 54th are not read and stay.
 
 -- uses_add: 3 logs, with `counts` afterwards; after a refusal both are those handed in
 pub record AddCall : Type 0 where

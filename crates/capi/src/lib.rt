@@ -1,4 +1,4 @@
-// The calls for C, C++ and Rust; include/arvumnao.h declares them. Each takes `out`, in which it tells its numbers.
+// The calls for C, C++ and Rust; include/arvumnao.h declares them. Each takes `out`, into which it writes its numbers.
 ghost use mathlib.Core.List.{[]};
 ghost use mathlib.Core.Path.{_≡_};
 ghost use lib.ListN.{getD, take};
@@ -142,7 +142,7 @@ pub extern "C" fn arvumnao_timed_search(
     out::put_search(answer, out)
 }
 
-// The entry at this place of the terms, or its plain value where the slice is shorter.
+// The entry at this place of the terms, or its default if the slice is shorter.
 fn entry_or(terms: &[u32], place: usize, plain: u32) -> u32
     ensures { λ r. ⌜ r ≡ getD (now (terms .entry)) place plain ⌝ }
 {
@@ -152,7 +152,7 @@ fn entry_or(terms: &[u32], place: usize, plain: u32) -> u32
     terms[place]
 }
 
-// The terms of a job, of a slice of plain numbers: limit, first, up, down, step, rule, the last iteration before rule 2 is followed, and
+// The terms of a job, from a slice of numbers: limit, first, up, down, step, rule, the last iteration before rule 2 is followed, and
 // whether it is timed.
 fn terms_of(terms: &[u32]) -> Terms
     ensures { λ r. ⌜ r ≡ termsOf (now (terms .entry)) ⌝ }
@@ -304,7 +304,7 @@ pub extern "C" fn arvumnao_route_aimed(
     )
 }
 
-// Goes on from the words used of a lent log, by either search.
+// Continues from the words used of a lent log, by either search.
 fn resume_by(
     kind: &[u8],
     capacity: &[u8],
@@ -354,7 +354,7 @@ fn resume_by(
     out::put_routed(r, out)
 }
 
-// Goes on from the words used of a lent log.
+// Continues from the words used of a lent log.
 #[no_mangle]
 pub extern "C" fn arvumnao_resume(
     kind: &[u8],
@@ -442,7 +442,7 @@ pub extern "C" fn arvumnao_resume_aimed(
     )
 }
 
-// Reads a job text into the seven tables, and into tables 9 and 10 where it is timed.
+// Reads a job text into the seven tables, and into tables 9 and 10 if it is timed.
 #[no_mangle]
 pub extern "C" fn arvumnao_read(
     text: &[u8],

@@ -1,4 +1,4 @@
-// `out`, in which each call tells its numbers: a function for each kind of answer.
+// `out`, into which each call writes its numbers: a function for each kind of answer.
 ghost use mathlib.Core.List.{[], _∷_, _++_};
 ghost use mathlib.Core.Path.{_≡_};
 ghost use Prim.Native.Nat.{_≤_};
@@ -198,7 +198,7 @@ pub fn put_written(answer: WriteAnswer, out: &mut [u64]) -> u32
     }
 }
 
-// Writes the numbers of an adding to counts of so many logs.
+// Writes the numbers of a call that adds a log to counts of this many logs.
 pub fn put_added(answer: AddAnswer, logs: u64, out: &mut [u64]) -> u32
     requires { ⌜ outEntries ≤ length (now out) ⌝ }
     ensures { λ r. do
@@ -214,7 +214,7 @@ pub fn put_added(answer: AddAnswer, logs: u64, out: &mut [u64]) -> u32
     }
 }
 
-// Writes the numbers of a printing.
+// Writes the numbers of a call that prints counts.
 pub fn put_printed(answer: PrintAnswer, out: &mut [u64]) -> u32
     requires { ⌜ outEntries ≤ length (now out) ⌝ }
     ensures { λ r. do

@@ -1,5 +1,5 @@
-// The lines of a case file: cases stand in blocks, parted by empty lines. Lines that begin with # and empty lines before a case say
-// nothing.
+// The lines of a case file: cases stand in blocks, separated by empty lines. Lines that begin with # and empty lines before a case are
+// ignored.
 ghost use mathlib.Core.Path.{_≡_};
 ghost use Prim.Native.Nat.{_<_, _≤_};
 ghost use lib.ListN.{length, drop};

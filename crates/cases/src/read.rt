@@ -13,7 +13,7 @@ struct Parsed {
     next: usize,
 }
 
-// What is left of a line: so many entries, of which the first is `value` and each next one greater by `step`, then the text from `at` on.
+// What is left of a line: this many entries, of which the first is `value` and each next one greater by `step`, then the text from `at` on.
 struct Rest {
     at: usize,
     value: u64,
@@ -247,7 +247,7 @@ fn beyond(rest: Rest) {
     }
 }
 
-// The list of the case's line of this number: how many entries it has. So for each width.
+// The list of the case's line of this number: how many entries it has. The same for each width.
 pub fn bytes(case: &[u8], number: usize, into: &mut [u8]) -> usize
     ensures { λ r. ⌜ Counts r (now (into .exit)) ⌝ }
 {
@@ -316,7 +316,7 @@ pub fn entries(case: &[u8], number: usize, into: &mut [u64]) -> usize
     k
 }
 
-// The list of a line that a case may leave out: none where it isn't there.
+// The list of a line that a case may leave out: empty if the line isn't there.
 pub fn bytes_if(there: bool, case: &[u8], number: usize, into: &mut [u8]) -> usize
     ensures { λ r. ⌜ Counts r (now (into .exit)) ⌝ }
 {
@@ -365,7 +365,7 @@ fn at_hand(count: u32, length: usize) -> usize
     wanted
 }
 
-// How many entries are lent of an array that must have so many. So for each width.
+// How many entries are lent of an array that must have this many. The same for each width.
 pub fn of_bytes(count: u32, array: &[u8]) -> usize
     ensures { λ r. ⌜ Counts r (now (array .entry)) ⌝ }
 {
@@ -390,14 +390,14 @@ pub fn of_entries(count: u32, array: &[u64]) -> usize
     at_hand(count, array.len())
 }
 
-// So many numbers stand in a line.
+// This many numbers stand in a line.
 pub fn exactly(count: usize, wanted: usize) {
     if count != wanted {
         show::malformed();
     }
 }
 
-// A case of so many lines ends there.
+// A case of this many lines ends there.
 pub fn end(case: &[u8], count: usize) {
     if !lines::is_empty(case, lines::line(case, count)) {
         show::malformed();

@@ -80,7 +80,7 @@ fn word(n: u32) {
     entry(n as u64);
 }
 
-// The first so many entries of a table or buffer. So for each width.
+// The first entries of a table or buffer, this many. The same for each width.
 pub fn bytes(table: &[u8], count: usize) {
     bar();
     let mut k = 0;
@@ -165,7 +165,7 @@ fn text_byte(b: u8) {
     }
 }
 
-// The first so many bytes of a text buffer.
+// The first bytes of a text buffer, this many.
 pub fn text(buffer: &[u8], count: usize) {
     bar();
     letter(b' ');

@@ -21,7 +21,7 @@ use text::WriteAnswer;
 
 // What a run answers.
 pub enum RunAnswer {
-    // So many bytes of the text are written.
+    // This many bytes of the text are written.
     Written(usize),
     // A refusal with one number beside its own.
     One {
@@ -44,7 +44,7 @@ const WORDS: usize = 16384;
 
 const ENTRIES: usize = 8192;
 
-// .. and tables for so many nodes, edges, nets and sinks.
+// .. and tables for this many nodes, edges, nets and sinks.
 const NODES: usize = 1024;
 
 const FIRST_EDGES: usize = 1025;
@@ -151,7 +151,7 @@ fn route_job(
             number: 6,
             value: needed,
         },
-        // A run that begins has no lent log to turn away.
+        // A run from the start has no lent log to refuse.
         Outcome::Diverges(word) => RunAnswer::One {
             number: 14,
             value: word,
@@ -164,7 +164,7 @@ fn route_job(
     }
 }
 
-// So many entries of a table that timed jobs alone have.
+// This many entries of a table that only timed jobs have.
 fn if_timed(terms: Terms, count: usize) -> usize
     ensures { λ r. ⌜ r ≡ choose (terms .timed) count 0 ⌝ }
 {

@@ -12,7 +12,7 @@ use Rattle.text.specs.JobText.{between}
 use Rattle.text.specs.ReadReplies.{writtenOver}
 use Rattle.generator.specs.Load.{loadText}
 
--- a number without a leading zero, of at most so many digits after its first; a field of a job text has 5
+-- a number without a leading zero, of at most this many digits after its first; a field of a job text has 5
 unfoldable pub numberUpTo : ℕ → List ℕ → Field
 numberUpTo more [] = fault
 numberUpTo more (b ∷ bs) = choose (eqb b zeroByte) (number 0 bs) (choose (isDigit b) (digitsAfter more (b - zeroByte) bs) fault)
@@ -34,7 +34,7 @@ wholeField more low high bs = keptField low high (numberUpTo more bs)
 unfoldable pub nextField : ℕ → ℕ → ℕ → List ℕ → Field
 nextField more low high bs = choose (begins comma bs) (wholeField more low high (drop 1 bs)) fault
 
--- what the input asks for, or the place of the field for which it is turned away
+-- what the input asks for, or the place of the field for which it is refused
 pub data Asked : Type 0 where
   asked : (seed nodes nets : ℕ) → Asked
   turnedAway : (place : ℕ) → Asked

@@ -50,7 +50,7 @@ pub record Lesser (best target node low lesser : ℕ) : Type 0 where
   pub counts : low ≤ target → (target ≡ node → ⊥) → lesser ≤ target
   pub is : (lesser ≡ best) ⊎ ((lesser ≡ target) × (target ≡ node → ⊥))
 
--- the least number from `low` on and below n that passes the test, n where none does
+-- the least number from `low` on and below n that passes the test, n if none does
 pub record Next (test : ℕ → Bool) (low n next : ℕ) : Type 0 where
   pub from : low ≤ next
   pub to : next ≤ n

@@ -13,7 +13,7 @@ pub enum Field {
     Fault,
 }
 
-// What the input asks for, or the place of the field for which it is turned away.
+// What the input asks for, or the place of the field for which it is refused.
 pub enum Ask {
     Load { seed: u32, nodes: u32, nets: u32 },
     TurnedAway(u32),
@@ -41,7 +41,7 @@ fn is_digit(b: u8) -> bool
     b <= b'9'
 }
 
-// A number that begins with this digit goes on over at most so many more.
+// A number that begins with this digit continues with at most this many more.
 fn further_digits(input: &[u8], at: usize, first: u64, more: u32) -> Field
     requires { ⌜ (at ≤ length (now input)) × (first < 10) × (more ≤ 9) ⌝ }
     ensures { λ r. ⌜ askedFieldAt (now (input .entry)) r ≡ digitsAfter more first (drop at (now (input .entry))) ⌝ }
@@ -74,7 +74,7 @@ fn further_digits(input: &[u8], at: usize, first: u64, more: u32) -> Field
     }
 }
 
-// A number without a leading zero, of at most so many digits after its first.
+// A number without a leading zero, of at most this many digits after its first.
 fn number(input: &[u8], at: usize, more: u32) -> Field
     requires { ⌜ more ≤ 9 ⌝ }
     ensures { λ r. ⌜ askedFieldAt (now (input .entry)) r ≡ numberUpTo more (drop at (now (input .entry))) ⌝ }

@@ -17,7 +17,7 @@ pub fn step(state: u32) -> u32
     std::num::wrapping_add_u32(wrapping_mul(1664525, state), 1013904223)
 }
 
-// The state after so many steps.
+// The state after this many steps.
 pub fn steps(first: u32, count: u32) -> u32
     ensures { λ r. ⌜ r ≡ stateAfter first count ⌝ }
 {

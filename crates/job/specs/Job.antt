@@ -55,7 +55,7 @@ netCriticalities j i = sinksBetween (j .firstSinks) (j .criticalities) i
 abbrev pub plainTerms : ℕ → Terms
 plainTerms limit = record { limit = limit; tuning = plain; rule = 1; until = 1; timed = false }
 
--- a table that timed jobs alone have: in any other it is not read, whatever is lent
+-- a table that only timed jobs have: in any other it is not read, whatever is lent
 abbrev pub ifTimed : Terms → List ℕ → List ℕ
 ifTimed terms table = choose (terms .timed) table []
 

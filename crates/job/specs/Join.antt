@@ -17,7 +17,7 @@ firstOf sources i = placeOf (getD sources i 0) sources
 unfoldable pub leads : List ℕ → ℕ → Bool
 leads sources i = eqb (firstOf sources i) i
 
--- the places from `at` on, so many
+-- the places from `at` on, this many
 unfoldable pub placesFrom : ℕ → ℕ → List ℕ
 placesFrom at zero = []
 placesFrom at (suc k) = at ∷ placesFrom (suc at) k

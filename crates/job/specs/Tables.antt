@@ -96,18 +96,18 @@ unfoldable pub criticalitiesSound : ℕ → List ℕ → Bool
 criticalitiesSound sinks criticalities =
     both (eqb (length criticalities) sinks) (every (λ c. leb c criticalityMost) criticalities)
 
--- "In timed jobs alone 4 and 5 cover both.": 9 or 10, 0 where neither breaks its rule
+-- "In timed jobs alone 4 and 5 cover both.": 9 or 10, 0 if neither breaks its rule
 unfoldable pub faultyTimes : Terms → ℕ → ℕ → List ℕ → List ℕ → ℕ
 faultyTimes terms n sinks delays criticalities =
     choose (terms .timed) (choose (delaysSound n delays) (choose (criticalitiesSound sinks criticalities) 0 10) 9) 0
 
--- the lowest of tables 1 to 8 that breaks its rule, 0 where none does
+-- the lowest of tables 1 to 8 that breaks its rule, 0 if none does
 unfoldable pub faultyUntimed : Job → ℕ
 faultyUntimed j =
     choose (leb 1 (faultyTable (j .block))) (faultyTable (j .block))
     (faultyNets (j .block .kinds) (j .sources) (j .firstSinks) (j .sinks) (j .terms))
 
--- "lowest table that breaks its rule", 0 where none does
+-- "lowest table that breaks its rule", 0 if none does
 unfoldable pub faultyJob : Job → ℕ
 faultyJob j =
     choose (leb 1 (faultyUntimed j)) (faultyUntimed j)

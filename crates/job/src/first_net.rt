@@ -3,7 +3,7 @@ ghost use mathlib.Core.Path.{_≡_};
 ghost use lib.ListN.{getD};
 ghost use Rattle.job.specs.Join.{firstOf};
 
-// The source of a net, 0 where there is no such net.
+// The source of a net, 0 if there is no such net.
 fn source_of(source: &[u16], net: usize) -> u16
     ensures { λ r. ⌜ r ≡ getD (now (source .entry)) net 0 ⌝ }
 {

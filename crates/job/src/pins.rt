@@ -40,7 +40,7 @@ fn pin_kind(pin: Pin, kind: u8) -> bool
     }
 }
 
-// The kind of a node, 0 where it is none.
+// The kind of a node, 0 if it is none.
 fn kind_at(kind: &[u8], v: usize) -> u8
     ensures { λ r. ⌜ r ≡ getD (now (kind .entry)) v 0 ⌝ }
 {

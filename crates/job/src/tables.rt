@@ -151,7 +151,7 @@ fn sinks_sound(n: usize, source: &[u16], first_sink: &[u32], sink: &[u16]) -> bo
     true
 }
 
-// The lowest of tables 5 to 8 that breaks its rule, 0 where none does.
+// The lowest of tables 5 to 8 that breaks its rule, 0 if none does.
 fn faulty_nets(kind: &[u8], source: &[u16], first_sink: &[u32], sink: &[u16], terms: Terms) -> u32
     requires { ⌜ length (now kind) ≤ nodesMost ⌝ }
     ensures { λ r. ⌜ r ≡ faultyNets (now (kind .entry)) (now (source .entry)) (now («first_sink» .entry)) (now (sink .entry)) terms ⌝ }
@@ -178,7 +178,7 @@ fn faulty_nets(kind: &[u8], source: &[u16], first_sink: &[u32], sink: &[u16], te
     0
 }
 
-// The lowest of tables 1 to 4 that breaks its rule, else 9 for bad delays where they are weighed, 0 where none does: the cheapest path
+// The lowest of tables 1 to 4 that breaks its rule, else 9 for bad delays where they are weighed, 0 if none does: the cheapest path
 // tests them first, and a work slice of one entry is too short for any job.
 fn faulty_with_delays(
     kind: &[u8],
@@ -224,7 +224,7 @@ fn faulty_with_delays(
     }
 }
 
-// The lowest of tables 1 to 4 that breaks its rule, 0 where none does.
+// The lowest of tables 1 to 4 that breaks its rule, 0 if none does.
 pub fn faulty_block(kind: &[u8], capacity: &[u8], first_edge: &[u32], edge_target: &[u16]) -> u32
     ensures { λ r. do
       let block = blockOf (now (kind .entry)) (now (capacity .entry)) (now («first_edge» .entry)) (now («edge_target» .entry))
@@ -255,7 +255,7 @@ fn criticalities_sound(sinks: usize, criticality: &[u8]) -> bool
     true
 }
 
-// 9 or 10 where a timed job's table breaks its rule, once tables 1 to 4 keep theirs; 0 where none does.
+// 9 or 10 where a timed job's table breaks its rule, once tables 1 to 4 keep theirs; 0 if none does.
 fn faulty_times(
     kind: &[u8],
     capacity: &[u8],
@@ -286,7 +286,7 @@ fn faulty_times(
     0
 }
 
-// The lowest of all tables that breaks its rule, 0 where none does. Tables 9 and 10 are read in timed jobs alone.
+// The lowest of all tables that breaks its rule, 0 if none does. Tables 9 and 10 are read only in timed jobs.
 pub fn faulty_job(
     kind: &[u8],
     capacity: &[u8],

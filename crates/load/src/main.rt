@@ -2,8 +2,8 @@
 use libc::STDIN_FILENO;
 use libc::STDOUT_FILENO;
 
-// 32 bytes are enough of any input: a seed of 10 digits, two numbers of 6 and the commas after the first two come to 24 bytes, and the two
-// bytes after those tell whether the line ends in LF with nothing behind it. Whatever follows can't change the answer.
+// Only the first 32 bytes of the input matter: a seed of 10 digits, two numbers of 6 and the commas after the first two are 24 bytes, and
+// the two bytes after those show whether the line ends in LF with nothing after it. Further bytes can't change the answer.
 fn main() {
     let mut input = [0u8; 32];
     let mut text = [0u8; 16384];

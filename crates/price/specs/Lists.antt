@@ -32,7 +32,7 @@ unfoldable pub upTo {ℓ} : {A : Type ℓ} → (ℕ → A) → ℕ → List A
 upTo f zero = []
 upTo f (suc n) = upTo f n ++ (f n ∷ [])
 
--- the lowest number below n that passes the test, n where none does
+-- the lowest number below n that passes the test, n if none does
 unfoldable pub firstBelow : (ℕ → Bool) → ℕ → ℕ
 firstBelow test zero = zero
 firstBelow test (suc n) =
@@ -50,7 +50,7 @@ unfoldable pub least : ℕ → List ℕ → ℕ
 least top [] = top
 least top (x ∷ xs) = min x (least top xs)
 
--- the place of the first entry that is x, the list's length where there is none
+-- the place of the first entry that is x, the list's length if there is none
 unfoldable pub placeOf : ℕ → List ℕ → ℕ
 placeOf x [] = zero
 placeOf x (y ∷ ys) = choose (eqb x y) zero (suc (placeOf x ys))

@@ -10,7 +10,7 @@ use Rattle.price.specs.Prices.{priceOf}
 use Rattle.price.specs.declared.PriceAnswer.{PriceAnswer}
 use Rattle.price.specs.declared.PriceAnswer.the-variants.{Price, Refused}
 
--- the numbers of the refusal, none where there is no refusal; and the price, 0 after a refusal
+-- the numbers of the refusal, none if there is no refusal; and the price, 0 after a refusal
 pub record PriceReply : Type 0 where
   pub refusal : List ℕ
   pub price : ℕ
@@ -37,7 +37,7 @@ pub record InBounds (kind factor others capacity history : ℕ) : Type 0 where
   pub history-least : 1 ≤ history
   pub history-most : history ≤ historyMost
 
--- go on where the number at this place keeps its bounds, else refusal 13 with the place
+-- continue if the number at this place keeps its bounds, else refusal 13 with the place
 abbrev pub kept : Bool → ℕ → PriceReply → PriceReply
 kept inside place rest = choose inside rest (refused place)
 

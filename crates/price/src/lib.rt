@@ -59,7 +59,7 @@ pub struct Weighting {
     pub criticality: u32,
 }
 
-// The tuning of a job that asks for none.
+// The tuning of a job without a P line.
 pub fn plain_tuning() -> Tuning
     ensures { λ r. ⌜ r ≡ plain ⌝ }
 {

@@ -5,7 +5,7 @@ use libc::STDIN_FILENO;
 use libc::STDOUT_FILENO;
 use text::Style;
 
-// One byte more than a job text may have, so that one that is too long shows.
+// One byte more than a job text may have, so that a text that is too long is detected.
 const INPUT: usize = 65537;
 
 // Answers standard input in this style.

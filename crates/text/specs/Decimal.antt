@@ -16,7 +16,7 @@ nineByte = 57
 unfoldable pub isDigit : ℕ → Bool
 isDigit b = both (leb zeroByte b) (leb b nineByte)
 
--- the digits of a number that has at most so many
+-- the digits of a number that has at most this many
 unfoldable pub digits : ℕ → ℕ → List ℕ
 digits zero n = []
 digits (suc k) n = choose (ltb n 10) ((zeroByte + n) ∷ []) (digits k (n / 10) ++ ((zeroByte + n % 10) ∷ []))

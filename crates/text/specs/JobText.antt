@@ -87,7 +87,7 @@ nodeWithin n vs =
 unfoldable pub nodeLine : Bool → ℕ → ℕ → List ℕ → Reading (List ℕ)
 nodeLine timed n v bs = judged (nodeWithin n) (λ vs. eqb (getD vs 0 0) v) (line letterN (choose timed 4 3) bs)
 
--- "`E,from,to` rising by from, then to": after so many edges, the last of which is from `lastFrom` to `lastTo`
+-- "`E,from,to` rising by from, then to": after this many edges, the last of which is from `lastFrom` to `lastTo`
 unfoldable pub rises : ℕ → ℕ → ℕ → ℕ → ℕ → Bool
 rises count lastFrom lastTo from to =
     either (eqb count 0) (either (ltb lastFrom from) (both (eqb lastFrom from) (ltb lastTo to)))
@@ -110,7 +110,7 @@ pinWithin n nets vs = both (ltb (getD vs 0 0) nets) (ltb (getD vs 1 0) n)
 unfoldable pub sourceLine : ℕ → ℕ → ℕ → List ℕ → Reading (List ℕ)
 sourceLine n nets i bs = judged (pinWithin n nets) (λ vs. eqb (getD vs 0 0) i) (line letterS 2 bs)
 
--- a sink of net i, whose source and sinks so far are `pins`, after so many sinks of all nets:
+-- a sink of net i, whose source and sinks so far are `pins`, after this many sinks of all nets:
 -- "repeated sink, sink = source; a 4,097th sink"
 unfoldable pub sinkOrdered : ℕ → List ℕ → ℕ → List ℕ → Bool
 sinkOrdered i pins count vs = both (eqb (getD vs 0 0) i) (both (not (has (getD vs 1 0) pins)) (ltb count sinksMost))
@@ -130,12 +130,12 @@ pub data Part (A : Type 0) : Type 0 where
   part : (lists : A) (line : ℕ) (rest : List ℕ) → Part A
   stopped : (number line : ℕ) → Part A
 
--- "The first faulty line wins": go on after a line, or stop at it
+-- "The first faulty line wins": continue after a line, or stop at it
 abbrev pub onward : {A B : Type 0} → Reading A → ℕ → (A → List ℕ → Part B) → Part B
 onward (values given rest) l next = next given rest
 onward (refused k) l next = stopped k l
 
--- go on after a part
+-- continue after a part
 abbrev pub andThen : {A B : Type 0} → Part A → (A → ℕ → List ℕ → Part B) → Part B
 andThen (part lists l rest) next = next lists l rest
 andThen (stopped k l) next = stopped k l
@@ -282,7 +282,7 @@ netLine timed kinds n nets l (b ∷ bs) =
     choose (both (eqb b letterS) (sourceDue nets l)) (taking (withSource l) (nextSource kinds n nets l (b ∷ bs)))
     (choose (both (eqb b letterT) (sinkDue l)) (taking (withSink l) (nextSink timed kinds n nets l (b ∷ bs))) (refused 1))
 
--- the lines of the nets, at most so many: no text has more lines than bytes
+-- the lines of the nets, at most this many: no text has more lines than bytes
 unfoldable pub netLines : ℕ → Bool → List ℕ → ℕ → ℕ → NetLists → ℕ → List ℕ → Part NetLists
 netLines zero timed kinds n nets l at [] = netEnd nets l at
 netLines zero timed kinds n nets l at (b ∷ bs) = stopped 1 at

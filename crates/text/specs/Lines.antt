@@ -57,7 +57,7 @@ pub data Field : Type 0 where
   number : (value : ℕ) (rest : List ℕ) → Field
   fault : Field
 
--- a number goes on over at most so many further digits
+-- a number continues with at most this many further digits
 unfoldable pub digitsAfter : ℕ → ℕ → List ℕ → Field
 digitsAfter zero value bs = number value bs
 digitsAfter (suc k) value [] = number value []
@@ -87,7 +87,7 @@ abbrev pub afterField : Field → (List ℕ → Fields) → Fields
 afterField (number v rest) others = withValue v (others rest)
 afterField fault others = malformed
 
--- so many fields, each after a comma, then LF: "any other byte out of place, CR included, is a fault"
+-- this many fields, each after a comma, then LF: "any other byte out of place, CR included, is a fault"
 unfoldable pub fields : ℕ → List ℕ → Fields
 fields zero [] = malformed
 fields zero (b ∷ bs) = choose (eqb b lf) (taken [] bs) malformed

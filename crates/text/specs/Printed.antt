@@ -14,7 +14,7 @@ use Rattle.job.specs.Job.{Job, nodes, nets, source, netSinks, netCriticalities}
 use Rattle.job.specs.declared.Terms.{Terms}
 use Rattle.text.specs.Lines.{letterF, letterP, letterV, letterW, letterN, letterE, letterS, letterT, printLine}
 
--- the texts of m, m + 1, .., one after the other, so many of them
+-- the texts of m, m + 1, .., one after the other, this many of them
 unfoldable pub concatFrom : (ℕ → List ℕ) → ℕ → ℕ → List ℕ
 concatFrom f m zero = []
 concatFrom f m (suc k) = f m ++ concatFrom f (suc m) k
@@ -24,7 +24,7 @@ unfoldable pub eachLine : ℕ → ℕ → List ℕ → List ℕ
 eachLine letter first [] = []
 eachLine letter first (x ∷ xs) = printLine letter (first ∷ x ∷ []) ++ eachLine letter first xs
 
--- a number that timed jobs' lines alone have
+-- a number that only lines of timed jobs have
 abbrev pub further : Bool → ℕ → List ℕ
 further timed number = choose timed (number ∷ []) []
 

@@ -39,7 +39,7 @@ tablesOf kinds capacities firstEdges edgeTargets sources firstSinks sinks delays
       criticalities = criticalities;
     }
 
--- row 4: "lowest table too short for the job", 0 where each is long enough; by the job's counts and the tables' lengths
+-- row 4: "lowest table too short for the job", 0 if each is long enough; by the job's counts and the tables' lengths
 unfoldable pub lowestShort : (n edges nets count kinds capacities firstEdges edgeTargets sources firstSinks sinks : ℕ) → ℕ
 lowestShort n edges nets count kinds capacities firstEdges edgeTargets sources firstSinks sinks =
     choose (ltb kinds n) 1

@@ -166,7 +166,7 @@ JobPlace (jl.Stopped k line) = Unit {0}
 abbrev pub LineRow : ℕ → Type 0
 LineRow k = (1 ≤ k) × (k ≤ 3)
 
--- both lists have so many entries
+-- both lists have this many entries
 pub record Fits (count : ℕ) (from to : List ℕ) : Type 0 where
   pub there : count ≤ length from
   pub room : count ≤ length to

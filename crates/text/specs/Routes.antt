@@ -44,7 +44,7 @@ recordSound named last ws =
     (both (both (between 1 limitMost (getD ws 0 0)) (leb last (getD ws 0 0)))
     (both (named .net (getD ws 1 0)) (pathSound (named .nodes) (getD ws 5 0) (getD ws 2 0) ws)))
 
--- the words of sound records before the first unsound one, after one of iteration `last`; so many records at most
+-- the words of sound records before the first unsound one, after one of iteration `last`; this many records at most
 unfoldable pub soundUpTo : Named → ℕ → ℕ → List ℕ → ℕ
 soundUpTo named zero last ws = 0
 soundUpTo named (suc k) last ws =

@@ -60,7 +60,7 @@ abbrev pub FieldPlace : ℕ → List ℕ → fieldType.Field → Type 0
 FieldPlace at text (f.Number value next) = After at text next
 FieldPlace at text f.Fault = Unit {0}
 
--- the place after a field; a fault goes no further
+-- the place after a field; after a fault the place stays
 abbrev pub placeAfter : fieldType.Field → ℕ → ℕ
 placeAfter (f.Number value next) at = next
 placeAfter f.Fault at = at

@@ -1,5 +1,5 @@
-// The branches of a sound log, in either style: each net's in order, from its latest records. Where the buffer lacks room they are
-// counted only.
+// The branches of a sound log, in either style: each net's in order, from its latest records. If the buffer lacks room, they are
+// only counted.
 ghost use mathlib.Core.Path.{_≡_};
 ghost use Prim.Native.Nat.{_+_, _≤_};
 ghost use lib.ListN.{length};

@@ -33,7 +33,7 @@ fn edge_rises(count: usize, last_from: usize, last_to: usize, from: usize, to: u
     last_to < to
 }
 
-// The line after so many edges, of which this is the last.
+// The line after this many edges, of which this is the last.
 fn edge_line(
     text: &[u8],
     at: usize,

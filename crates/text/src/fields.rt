@@ -51,7 +51,7 @@ fn is_digit(b: u8) -> bool
     b <= b'9'
 }
 
-// A number that begins with this digit goes on over at most five more.
+// A number that begins with this digit continues with at most five more.
 fn further_digits(text: &[u8], at: usize, first: u32) -> Field
     requires { ⌜ (at ≤ length (now text)) × (first < 10) ⌝ }
     ensures { λ r. ⌜ fieldAt (now (text .entry)) r ≡ digitsAfter 5 first (drop at (now (text .entry))) ⌝ }
@@ -162,7 +162,7 @@ fn with_field(line: LineFields, k: usize, read: Field) -> LineFields
     }
 }
 
-// The place after a field; a fault goes no further.
+// The place after a field; after a fault the place stays.
 fn place_after(read: Field, at: usize) -> usize
     ensures { λ r. ⌜ r ≡ placeAfter read at ⌝ }
 {
@@ -205,7 +205,7 @@ fn reader_at<'a>(text: &'a [u8], at: usize) -> JobReader<'a>
     JobReader { text, at }
 }
 
-// The fields of the line that the reader has come to: it moves from field to field, and no further after a fault.
+// The fields of the line that the reader has come to: it moves from field to field, and stops at a fault.
 fn read_fields<'a>(r: JobReader<'a>, count: usize) -> LineFields
     ensures { λ f. do
       let bytes = drop (r .entry .at) (now (r .entry .text))
@@ -235,7 +235,7 @@ fn fields_from(text: &[u8], at: usize, count: usize) -> LineFields
     read_fields(reader_at(text, at), count)
 }
 
-// A line with this letter and so many fields, four at most.
+// A line with this letter and this many fields, four at most.
 pub fn line_fields(text: &[u8], at: usize, letter: u8, count: usize) -> LineFields
     requires { ⌜ count ≤ 4 ⌝ }
     ensures { λ r. ⌜ fieldsAt count (now (text .entry)) r ≡ line letter count (drop at (now (text .entry))) ⌝ }

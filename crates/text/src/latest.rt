@@ -9,7 +9,8 @@ ghost use Rattle.job.specs.Tables.{netsMost};
 ghost use Rattle.text.specs.WriteSteps.{AllSound, LatestPlaces};
 use crate::log_check;
 
-// The net of the record at this place, whose records so far stand between two places, begins anew: it has none, or of another iteration.
+// The record at this place is the first of its net's latest iteration so far: the net has no records between its two places, or they
+// are of another iteration.
 fn begins_anew(log: &[u32], at: usize, from: usize, to: usize) -> bool
     requires { ⌜ (from < length (now log)) × (at < length (now log)) ⌝ }
     ensures { λ r. ⌜ r ≡ either (eqb to 0) (not (eqb (getD (now (log .entry)) from 0) (getD (now (log .entry)) at 0))) ⌝ }
@@ -20,7 +21,7 @@ fn begins_anew(log: &[u32], at: usize, from: usize, to: usize) -> bool
     log[from] != log[at]
 }
 
-// For each net the place of the first record of its latest iteration and the place behind the last one, both 0 where it has none.
+// For each net the place of the first record of its latest iteration and the place behind the last one, both 0 if it has none.
 // Iterations never fall in a sound log: every record of the net between these places is of that iteration.
 pub fn latest_records(log: &[u32], from: &mut [usize], to: &mut [usize])
     requires { ⌜ AllSound (now log) ⌝ }

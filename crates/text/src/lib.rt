@@ -47,13 +47,13 @@ pub enum Style {
 
 // What the writer answers.
 pub enum WriteAnswer {
-    // So many bytes are written.
+    // This many bytes are written.
     Written(usize),
     // 5: this table, the sources, breaks its rule.
     BadTable(u32),
     // 10: the record that begins at this word is unsound.
     Unsound(usize),
-    // 11: the buffer is shorter than the text, which takes so many bytes.
+    // 11: the buffer is shorter than the text, which takes this many bytes.
     ShortBuffer(u64),
 }
 
@@ -92,7 +92,7 @@ use search::NODES_MOST;
 use search::SINKS_MOST;
 pub use users::node_users;
 
-// The lowest of tables 1 to 7 that is shorter than the job needs, 0 where each is long enough.
+// The lowest of tables 1 to 7 that is shorter than the job needs, 0 if each is long enough.
 fn short_table(
     nodes: usize,
     edges: usize,
@@ -147,7 +147,7 @@ fn short_times(nodes: usize, sinks: usize, delay: usize, criticality: usize) -> 
     0
 }
 
-// The lowest of all tables, of which 9 and 10 need so many delays and criticalities.
+// The lowest of all tables, of which 9 and 10 need this many delays and criticalities.
 fn lowest_short(
     nodes: usize,
     edges: usize,
@@ -189,7 +189,7 @@ fn lowest_short(
     short_times(delays, criticalities, delay, criticality)
 }
 
-// So many entries of a table that timed jobs alone have.
+// This many entries of a table that only timed jobs have.
 fn if_timed(timed: bool, count: usize) -> usize
     ensures { λ r. ⌜ r ≡ choose timed count 0 ⌝ }
 {
@@ -315,8 +315,8 @@ fn bad_line(number: u32, line: usize) -> ReadAnswer
     }
 }
 
-// Reads a job text into the nine tables, each of which may be longer than the job needs. Delays and criticalities are written for a timed
-// job alone.
+// Reads a job text into the nine tables, each of which may be longer than the job needs. Delays and criticalities are written only for a
+// timed job.
 pub fn read_job(
     text: &[u8],
     kind: &mut [u8],
@@ -393,7 +393,7 @@ pub fn read_job(
     }
 }
 
-// Writes a text of a sound log with this last iteration and so many turns, by the places of the nets' latest records.
+// Writes a text of a sound log with this last iteration and this many turns, by the places of the nets' latest records.
 fn write_lines(
     style: Style,
     source: &[u16],

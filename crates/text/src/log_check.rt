@@ -32,7 +32,7 @@ fn nodes_sound(nodes: usize, log: &[u32], from: usize, to: usize) -> bool
     true
 }
 
-// The path of the record at this place, of so many words, is whole and sound.
+// The path of the record at this place, of this many words, is whole and sound.
 fn path_sound(nodes: usize, log: &[u32], at: usize, n: u32, sink: u32) -> bool
     requires { ⌜ at ≤ length (now log) ⌝ }
     ensures { λ r. ⌜ r ≡ pathSound nodes n sink (drop at (now (log .entry))) ⌝ }

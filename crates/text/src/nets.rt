@@ -90,7 +90,7 @@ fn source_line(text: &[u8], at: usize, kind: &[u8], nodes: usize, nets: usize, i
     }
 }
 
-// A T line of net i after so many sinks. The net's pins so far bear its stamp. An untimed line has no criticality, which counts as 0.
+// A T line of net i after this many sinks. The net's pins so far bear its stamp. An untimed line has no criticality, which counts as 0.
 fn sink_line(
     text: &[u8],
     at: usize,

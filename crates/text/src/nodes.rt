@@ -22,7 +22,7 @@ pub enum NodeLine {
     Refused(u32),
 }
 
-// The line of node v, of so many nodes. An untimed one has no delay, which counts as 0.
+// The line of node v, of this many nodes. An untimed one has no delay, which counts as 0.
 fn node_line(text: &[u8], at: usize, nodes: usize, v: usize, timed: bool) -> NodeLine
     requires { ⌜ nodes ≤ nodesMost ⌝ }
     ensures { λ r. do

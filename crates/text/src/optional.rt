@@ -42,7 +42,7 @@ pub struct OptionalLine {
     pub fourth: u32,
 }
 
-// The line of this letter and so many fields, four at most.
+// The line of this letter and this many fields, four at most.
 pub fn optional_line(text: &[u8], at: usize, letter: u8, count: usize) -> OptionalLine
     requires { ⌜ count ≤ 4 ⌝ }
     ensures { λ r. do

@@ -1,4 +1,4 @@
-// One line as bytes, for whoever prints a text line by line.
+// One line as bytes, for callers that print a text line by line.
 ghost use mathlib.Core.Path.{_≡_};
 ghost use Prim.Native.Nat.{_+_, _≤_};
 ghost use lib.ListN.{length};
@@ -37,7 +37,7 @@ fn put_fields(fields: &[u64], buffer: &mut [u8], start: usize) -> usize
 }
 
 // Prints a line with this letter and these fields from a place of the buffer on, and gives the place after it.
-// Where the line does not fit there, nothing is written and the place stays.
+// If the line does not fit there, nothing is written and the place stays.
 pub fn print_line(letter: u8, fields: &[u64], buffer: &mut [u8], at: usize) -> usize
     ensures answers { λ r. ⌜ placeReplyOf r (now (buffer .exit)) ≡ lineReply letter (now (fields .entry)) at (now (buffer .entry)) ⌝ }
 {

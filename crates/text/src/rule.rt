@@ -21,7 +21,7 @@ pub struct RuleLine {
     pub until: u32,
 }
 
-// A V line that has not one number: two, of which the first is not 1.
+// A V line that does not have one number: it has two, and the first is not 1.
 fn longer_line(text: &[u8], at: usize) -> RuleLine
     requires { do
       let bytes = drop at (now text)
@@ -56,7 +56,7 @@ fn longer_line(text: &[u8], at: usize) -> RuleLine
     }
 }
 
-// The V line with one number or two; without the second it is 1.
+// The V line with one number or two; a missing second number is 1.
 fn rule_line(text: &[u8], at: usize) -> RuleLine
     ensures { λ r. ⌜ Shaped letterV ruleFields at (now (text .entry)) (r .rule ∷ r .until ∷ []) (r .shape) ⌝ }
 {

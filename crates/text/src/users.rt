@@ -81,7 +81,7 @@ fn count_nets(log: &[u32], from: &[usize], to: &[usize], users: &mut [u16], stam
     }
 }
 
-// Counts the users of every node of a sound log, whatever stood there.
+// Counts the users of every node of a sound log, whatever the list held before.
 fn count_users(log: &[u32], users: &mut [u16; NODES_MOST])
     requires { ⌜ AllSound (now log) ⌝ }
     ensures { λ _. ⌜ now (users .exit) ≡ upTo (netsWith (decode (now (log .entry)))) nodesMost ⌝ }
@@ -94,7 +94,7 @@ fn count_users(log: &[u32], users: &mut [u16; NODES_MOST])
     count_nets(log, &from, &to, users, &mut stamps);
 }
 
-// So many nodes, or 4,096 where that is less.
+// This many nodes, or 4,096 if that is less.
 fn few_nodes(nodes: usize) -> usize
     ensures { λ r. ⌜ r ≡ min nodes nodesMost ⌝ }
 {

@@ -24,7 +24,7 @@ pub enum CountsTest {
     BadCount(u32),
 }
 
-// The lowest kind that has more uses than all nets in so many logs can make, 54 where none has.
+// The lowest kind that has more uses than all nets in this many logs can make, 54 if none has.
 fn first_over(uses: &[u64], nodes: &[u64], logs: u64) -> u32
     requires { ⌜ (length (now uses) ≡ kindCount) × (length (now nodes) ≡ kindCount) × AtMost nodesMost (now nodes) × (logs ≤ logsMost) ⌝ }
     ensures { λ r. ⌜ r ≡ firstBelow (overNodes (now (uses .entry)) (now (nodes .entry)) logs) kindCount ⌝ }

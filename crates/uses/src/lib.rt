@@ -10,32 +10,32 @@ ghost use Rattle.uses.specs.Steps.{countMost, AtMost};
 // The kinds, each of which has a count.
 pub const KINDS: usize = 54;
 
-// The most logs that counts may be of.
+// The most logs that counts may have.
 const LOGS_MOST: u64 = 65535;
 
 // What adding a log answers.
 pub enum AddAnswer {
-    // The log is added, and the counts are of so many logs.
+    // The log is added, and the counts now have this many logs.
     Added(u64),
     // 5: this table breaks its rule.
     BadTable(u32),
-    // 13: the uses of this kind are more than so many logs can have, or 54 for too many logs.
+    // 13: the uses of this kind are more than this many logs can have, or 54 for too many logs.
     BadCount(u32),
     // 10: the record that begins at this word is unsound.
     Unsound(usize),
-    // 16: the counts are of so many logs already, and may be of no more.
+    // 16: the counts have this many logs already, which is the most.
     LogsFull(u64),
 }
 
 // What printing answers.
 pub enum PrintAnswer {
-    // So many bytes are written.
+    // This many bytes are written.
     Written(usize),
     // 5: this table breaks its rule.
     BadTable(u32),
-    // 13: the uses of this kind are more than so many logs can have, or 54 for too many logs.
+    // 13: the uses of this kind are more than this many logs can have, or 54 for too many logs.
     BadCount(u32),
-    // 11: the buffer is shorter than the text, which takes so many bytes.
+    // 11: the buffer is shorter than the text, which takes this many bytes.
     ShortBuffer(u64),
 }
 
@@ -90,7 +90,7 @@ pub fn add_log(
     }
 }
 
-// Writes a line for each kind: its uses, and the capacity that so many logs could have used.
+// Writes a line for each kind: its uses, and the capacity that this many logs could have used.
 pub fn write_uses(
     kind: &[u8],
     capacity: &[u8],

@@ -38,7 +38,7 @@ fn put_lines(uses: &[u64], totals: &[u64], logs: u64, buffer: &mut [u8]) -> usiz
     at
 }
 
-// Writes the text of counts that passed their test. Its length is found by writing it where it surely fits.
+// Writes the text of counts that passed their test. It is written to a buffer in which it always fits, which gives its length.
 pub fn put_uses(
     kind: &[u8],
     capacity: &[u8],

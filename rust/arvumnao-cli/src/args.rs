@@ -15,9 +15,9 @@ pub struct Opt {
     pub says: &'static str,
 }
 
-/// Those that every subcommand takes.
+/// The options that every subcommand takes.
 pub const COMMON: [Opt; 2] = [
-    flag(Some('q'), "quiet", "tell nothing but refusals and errors"),
+    flag(Some('q'), "quiet", "print only refusals and errors"),
     flag(Some('h'), "help", "print this and end"),
 ];
 
@@ -134,7 +134,7 @@ impl Args {
         }
     }
 
-    /// Refuses two options of which one alone can stand.
+    /// Refuses two options that exclude each other.
     pub fn apart(&self, one: &str, other: &str) -> Result<(), Failure> {
         if self.has(one) && self.has(other) {
             return Err(Failure::usage(format!("--{one} and --{other} don't go together")));

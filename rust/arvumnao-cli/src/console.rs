@@ -1,4 +1,4 @@
-//! What is said to people, on standard error. A message that can't be written there is lost: there is nobody to tell.
+//! Messages for people, on standard error. A message that can't be written there is lost.
 
 use crate::failure::Failure;
 use std::env;
@@ -26,19 +26,19 @@ impl Console {
         Console { quiet, terminal, coloured: terminal && colours_wanted() }
     }
 
-    /// Whether somebody watches: rows and bars that move are for a terminal alone.
+    /// Whether somebody watches: rows and moving bars are only for a terminal.
     pub fn watched(&self) -> bool {
         self.terminal && !self.quiet
     }
 
-    /// A line that is left out where quiet was asked for.
+    /// A line that --quiet leaves out.
     pub fn say(&self, line: &str) {
         if !self.quiet {
             self.tell(line);
         }
     }
 
-    /// A line that is always told.
+    /// A line that is always printed.
     pub fn tell(&self, line: &str) {
         self.put(&format!("{line}\n"));
     }

@@ -9,18 +9,18 @@ use std::io;
 pub enum Status {
     /// Every job was routed.
     Routed = 0,
-    /// A text or a table was refused: it has to be mended.
+    /// A text or a table was refused: it has to be corrected.
     Refused = 1,
-    /// The arguments or the files are the trouble.
+    /// The arguments are wrong, or a file can't be read or written.
     Trouble = 2,
-    /// The job is sound, but was not routed.
+    /// The job is correct, but was not routed.
     NotRouted = 3,
-    /// Ctrl-C ended it: 128 and the signal's number, as shells count.
+    /// Ctrl-C ended it: 128 plus the signal's number, as in shells.
     Interrupted = 130,
 }
 
 impl Status {
-    /// That of a refused job, or of a refused log.
+    /// The status of a refused job, or of a refused log.
     pub fn of(refusal: &Refusal) -> Status {
         match (refusal, refusal.numbers().first()) {
             (Refusal::Stopped { .. }, _) => Status::Interrupted,
@@ -38,9 +38,9 @@ pub enum Failure {
     Usage(String),
     /// A file can't be read or written, or doesn't hold what it should: its name, and why.
     File(String, String),
-    /// Whoever read standard output has gone.
+    /// Standard output was closed by its reader.
     ClosedPipe,
-    /// All is told: nothing is left but to end.
+    /// The reason was printed already: the command only has to end.
     Told(Status),
 }
 
@@ -58,7 +58,7 @@ impl Failure {
         }
     }
 
-    /// Arguments that can't be.
+    /// Wrong arguments.
     pub fn usage(text: impl Into<String>) -> Failure {
         Failure::Usage(text.into())
     }

@@ -1,4 +1,4 @@
-//! Files: job texts come from them or from standard input, and what is written is written whole or not at all.
+//! Files. Job texts are read from files or from standard input. A file is written completely or not at all.
 
 use crate::failure::Failure;
 use std::ffi::{OsStr, OsString};
@@ -8,7 +8,7 @@ use std::os::unix::fs::MetadataExt;
 use std::path::{Path, PathBuf};
 use std::process;
 
-/// More bytes than any job text has. What stands past them is not read: the first fault of a longer text stands before.
+/// More bytes than any job text has. Bytes after them are not read: the first fault of a longer text comes before them.
 const TEXT_MOST: u64 = 1 << 20;
 
 /// A job text with the name by which messages call it.
@@ -23,7 +23,7 @@ impl Text {
         Text::up_to(name, TEXT_MOST)
     }
 
-    /// The same of a text that may be of any length, as a log.
+    /// The same for a text of any length, such as a log.
     pub fn read_long(name: &OsStr) -> Result<Text, Failure> {
         Text::up_to(name, u64::MAX)
     }
@@ -71,7 +71,7 @@ impl Output {
         }
     }
 
-    /// Tests that the file can be written, before work is done for it, and is none of the jobs.
+    /// Tests, before any work is done, that the file can be written and is none of the jobs.
     pub fn test(&self, jobs: &[OsString]) -> Result<(), Failure> {
         let Output::File(path) = self else { return Ok(()) };
         if jobs.iter().any(|job| same(path, Path::new(job))) {
@@ -106,7 +106,7 @@ fn print(bytes: &[u8]) -> Result<(), Failure> {
     })
 }
 
-/// Whether two names are of one file.
+/// Whether two names mean the same file.
 fn same(one: &Path, other: &Path) -> bool {
     match (fs::metadata(one), fs::metadata(other)) {
         (Ok(one), Ok(other)) => one.is_file() && (one.dev(), one.ino()) == (other.dev(), other.ino()),
@@ -114,7 +114,7 @@ fn same(one: &Path, other: &Path) -> bool {
     }
 }
 
-/// Whether a name is that of something which is not a file, as a pipe or a device: that is written to as it is. A folder is an error.
+/// Whether the name is a pipe, a device or the like, which is written to directly. A folder is an error.
 fn special(path: &Path) -> io::Result<bool> {
     match fs::metadata(path) {
         Ok(found) if found.is_dir() => Err(io::Error::other("is a folder")),
@@ -130,7 +130,7 @@ fn write_file(path: &Path, bytes: &[u8]) -> io::Result<()> {
     Whole::begin(path)?.end(bytes)
 }
 
-/// A file that comes to stand under its name when all of it is written; until then, and if that fails, what stood there stays.
+/// A file that appears under its name when all of it is written. Until then, and if that fails, an older file stays.
 struct Whole {
     target: PathBuf,
     beside: PathBuf,
@@ -138,9 +138,9 @@ struct Whole {
 }
 
 impl Whole {
-    /// A file beside the target, since a name can be given to it only within its file system.
+    /// A file beside the target, since it can be renamed only within one file system.
     fn begin(path: &Path) -> io::Result<Whole> {
-        // through links, so that these stay
+        // follow links, so that they stay links
         let target = fs::canonicalize(path).unwrap_or_else(|_| path.to_path_buf());
         let name = target.file_name().ok_or_else(|| io::Error::other("is no name of a file"))?;
         let beside = target.with_file_name(format!(".{}.{}.part", name.to_string_lossy(), process::id()));
@@ -159,13 +159,13 @@ impl Whole {
 }
 
 impl Drop for Whole {
-    /// Nothing stays beside the target. After the renaming there is nothing any more.
+    /// Removes the file beside the target. After the renaming there is none.
     fn drop(&mut self) {
         let _ = fs::remove_file(&self.beside);
     }
 }
 
-/// The first of NAME.log, NAME.1.log, .. in a folder that doesn't stand there yet: an old log is never written over.
+/// The first of NAME.log, NAME.1.log, .. that doesn't exist in the folder: an old log is never overwritten.
 pub fn unused(folder: &Path, name: &str) -> PathBuf {
     let numbered = (1..).map(|number| folder.join(format!("{name}.{number}.log")));
     let mut names = std::iter::once(folder.join(format!("{name}.log"))).chain(numbered);

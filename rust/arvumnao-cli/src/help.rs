@@ -12,7 +12,7 @@ pub fn general() -> String {
          usage: arvumnao SUBCOMMAND JOB.. [OPTIONS]\n\n{rows}\n\
          A JOB is a file with a job text (docs/FORMAT.md), - is standard input. Data goes to standard output or the\n\
          file named, everything else to standard error.\n\n  \
-         -q, --quiet      tell nothing but refusals and errors\n  \
+         -q, --quiet      print only refusals and errors\n  \
          -h, --help       print this; after a subcommand, what that one takes\n  \
          -V, --version    print the version\n\n{STATUSES}"
     )

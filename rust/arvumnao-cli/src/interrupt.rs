@@ -1,7 +1,7 @@
 //! Ctrl-C. std has no signals, so three functions of libc are declared here; the command needs no more of it.
 //!
-//! The first signal is noted, and a run ends after its iteration; the second ends the command at once. SIGTERM counts as Ctrl-C: queues of
-//! clusters send it before they kill.
+//! After the first signal a run ends after the current iteration; the second ends the command at once. SIGTERM counts as Ctrl-C: batch
+//! queues send it before they kill.
 
 use crate::failure::Status;
 use std::ffi::c_int;
@@ -9,7 +9,7 @@ use std::sync::atomic::{AtomicBool, Ordering};
 
 const SIGINT: c_int = 2;
 const SIGTERM: c_int = 15;
-/// The handler's value that means: ignored.
+/// The value of a handler that means: ignored.
 const IGNORED: usize = 1;
 
 extern "C" {
@@ -19,7 +19,7 @@ extern "C" {
 
 static SEEN: AtomicBool = AtomicBool::new(false);
 
-/// Notes a signal. It may come at any moment, so it does nothing but set a mark, or end.
+/// Notes a signal. It may come at any moment, so the handler only sets a mark, or ends the process.
 extern "C" fn noted(_: c_int) {
     if SEEN.swap(true, Ordering::SeqCst) {
         // SAFETY: `_exit` may be called in a handler; it ends the process without anything else being run.
@@ -27,7 +27,7 @@ extern "C" fn noted(_: c_int) {
     }
 }
 
-/// From now on signals are noted. One that is ignored, as behind nohup, stays so.
+/// From now on signals are noted. A signal that is ignored, as under nohup, stays ignored.
 pub fn listen() {
     let handler = noted as extern "C" fn(c_int) as usize;
     for number in [SIGINT, SIGTERM] {

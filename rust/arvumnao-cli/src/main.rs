@@ -1,5 +1,5 @@
-//! `arvumnao`: routes job texts of a programmable logic block, and tells people about them. Verdicts, routes and counts are the proved
-//! library's; this adds files, tables and sentences.
+//! `arvumnao`: routes job texts of a programmable logic block, and reports on them. Verdicts, routes and counts come from the proved
+//! library; this adds files, tables and sentences.
 
 mod args;
 mod commands;
@@ -34,7 +34,7 @@ fn main() -> ExitCode {
     ExitCode::from(status as u8)
 }
 
-/// Finds the subcommand; the options of all may stand before it.
+/// Finds the subcommand. The options that all subcommands have may come before it.
 fn begin(words: &[OsString]) -> Result<Status, Failure> {
     let named = words.iter().position(|word| !word.to_string_lossy().starts_with('-'));
     let (before, rest) = words.split_at(named.unwrap_or(words.len()));
@@ -79,7 +79,7 @@ fn perform(command: &'static Command, words: &[OsString]) -> Result<Status, Fail
     (command.run)(&args, &console).map_err(|failure| hinted(&failure, &called))
 }
 
-/// A failure by its arguments, with where to read on.
+/// Wrong arguments, with a hint at the help.
 fn hinted(failure: &Failure, called: &str) -> Failure {
     match failure {
         Failure::Usage(text) => Failure::usage(format!("{text} (see {called} --help)")),

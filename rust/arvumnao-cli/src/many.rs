@@ -1,4 +1,4 @@
-//! Several jobs side by side. Jobs share nothing, so each is a thread's for as long as it takes.
+//! Several jobs at a time. Jobs share nothing, so each runs in one thread from beginning to end.
 
 use std::collections::BTreeMap;
 use std::num::NonZeroUsize;
@@ -15,8 +15,8 @@ pub fn workers(asked: Option<u32>) -> usize {
     }
 }
 
-/// Does the work for each place below `count`, at most `workers` at a time, and hands over what came of it in order, each as soon as those
-/// before it are there. Where `take` fails no further work is begun.
+/// Does the work for each place below `count`, at most `workers` at a time, and passes the results to `take` in order, each as soon as those
+/// before it are there. If `take` fails, no further work is begun.
 pub fn side_by_side<T: Send, E>(
     count: usize,
     workers: usize,
@@ -42,7 +42,7 @@ pub fn side_by_side<T: Send, E>(
     })
 }
 
-/// Takes what comes in any order by its place.
+/// Takes results that come in any order, and passes them on by their places.
 fn in_order<T, E>(
     came: impl Iterator<Item = (usize, T)>,
     mut take: impl FnMut(usize, T) -> Result<(), E>,

@@ -17,7 +17,7 @@ pub struct Run {
 }
 
 impl Run {
-    /// Reads and routes a job. One that has no log is told of and ends the command; one that the limit stopped is told of and kept.
+    /// Reads and routes a job. A refused job without a log is reported and ends the command; one that the limit stopped is reported and kept.
     pub fn of(name: &OsStr, console: &Console) -> Result<Run, Failure> {
         let text = Text::read(name)?;
         let told = |refusal: &Refusal| {
@@ -49,7 +49,7 @@ pub fn kept(refusal: &Refusal) -> Option<&Log> {
     }
 }
 
-/// A refusal of a log that a run has just made: the library, or the wrapper, is at fault, and nothing is printed over it.
+/// A refusal of a log that a run has just made: a fault of the library or the wrapper. Nothing is printed then.
 pub fn broken(name: &str, refusal: &Refusal) -> Failure {
     Failure::File(name.to_string(), format!("its log is not what the run says: {refusal}"))
 }

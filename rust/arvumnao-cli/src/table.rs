@@ -49,7 +49,7 @@ impl Table {
     }
 }
 
-/// Numbers parted by blanks, at most so many of them.
+/// Numbers separated by blanks, at most this many of them.
 pub fn listed<T: ToString>(numbers: &[T], most: usize) -> String {
     let mut words: Vec<String> = numbers.iter().take(most).map(T::to_string).collect();
     if numbers.len() > most {

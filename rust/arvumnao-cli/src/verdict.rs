@@ -1,4 +1,4 @@
-//! A refusal as compilers tell it: the file, the line, the numbers, the reason, and the line itself with a caret.
+//! A refusal as compilers report it: the file, the line, the numbers, the reason, and the line itself with a caret.
 
 use crate::console::{Colour, Console};
 use crate::files::Text;
@@ -7,7 +7,7 @@ use arvumnao::{LineFault, Refusal};
 /// The letters of a line that are shown.
 const SHOWN: usize = 96;
 
-/// The lines that tell why a job text, or the job in it, was refused.
+/// The lines that say why a job text, or the job in it, was refused.
 pub fn of_job(text: &Text, refusal: &Refusal, console: &Console) -> String {
     match refusal {
         Refusal::Line(fault) => of_line(text, fault, &x_line(refusal), console),
@@ -22,7 +22,7 @@ pub fn of_job(text: &Text, refusal: &Refusal, console: &Console) -> String {
     }
 }
 
-/// The lines that tell why a log text, or the log in it, was refused.
+/// The lines that say why a log text, or the log in it, was refused.
 pub fn of_log(text: &Text, refusal: &Refusal, console: &Console) -> String {
     match refusal {
         Refusal::LogLine(fault) => of_line(text, fault, "", console),
@@ -30,7 +30,7 @@ pub fn of_log(text: &Text, refusal: &Refusal, console: &Console) -> String {
     }
 }
 
-/// The refusal's numbers as the programs print them; nothing where the library didn't refuse.
+/// The refusal's numbers as the programs print them; nothing if the library didn't refuse.
 pub fn x_line(refusal: &Refusal) -> String {
     let numbers = refusal.numbers();
     if numbers.is_empty() {
@@ -54,12 +54,12 @@ fn of_line(text: &Text, fault: &LineFault, numbers: &str, console: &Console) -> 
     format!("{head}{}", excerpt(&text.bytes, fault, console))
 }
 
-/// The line and a caret under what is wrong with it; nothing where the text ends before it.
+/// The line and a caret under what is wrong with it; nothing if the text ends before it.
 fn excerpt(text: &[u8], fault: &LineFault, console: &Console) -> String {
     let line = text.split(|byte| *byte == b'\n').nth((fault.line as usize).wrapping_sub(1));
     let Some((line, _)) = line.zip(fault.quoted.as_ref()) else { return String::new() };
     let column = fault.column.unwrap_or(0).min(line.len());
-    // of a long line what stands about the caret
+    // of a long line the part around the caret
     let first = (column + 1).saturating_sub(SHOWN * 3 / 4);
     let part = &line[first..line.len().min(first + SHOWN)];
     let shown = |bytes: &[u8]| bytes.escape_ascii().to_string();

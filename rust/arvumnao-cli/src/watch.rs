@@ -1,10 +1,10 @@
-//! What a terminal shows of a run: a row an iteration, and a bar where it takes long.
+//! What a terminal shows of a run: a row for each iteration, and a bar if the run takes long.
 
 use crate::console::{Colour, Console};
 use arvumnao::Progress;
 use std::time::{Duration, Instant};
 
-/// A run is long from then on.
+/// A run that has taken this much time is long.
 const LONG: Duration = Duration::from_secs(1);
 /// The letters of a bar.
 const BAR: usize = 30;
@@ -34,7 +34,7 @@ impl<'c> Watch<'c> {
         }
     }
 
-    /// What is shown of an iteration that ended so long after the run began.
+    /// What is shown of an iteration that ended this long after the run began.
     fn text(&mut self, progress: &Progress, elapsed: Duration) -> String {
         let mut text = String::from(if self.barred { ERASE } else { "" });
         if self.rows == 0 {
@@ -87,14 +87,14 @@ impl<'c> Jobs<'c> {
         Jobs { console, all, done: 0 }
     }
 
-    /// Takes the bar away, so that something can be told.
+    /// Removes the bar, so that a line can be printed.
     pub fn erase(&self) {
         if self.shown() {
             self.console.put(ERASE);
         }
     }
 
-    /// A job more is done.
+    /// One more job is done.
     pub fn done(&mut self) {
         self.done += 1;
         if self.shown() {
@@ -118,7 +118,7 @@ impl Drop for Jobs<'_> {
 mod tests {
     use super::*;
 
-    /// A run that takes long has a bar under its rows, until the next row and in the end until nothing.
+    /// A run that takes long has a bar under its rows. The next row replaces it, and the end removes it.
     #[test]
     fn a_long_run_has_a_bar() {
         let console = Console::new(true);

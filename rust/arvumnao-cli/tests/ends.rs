@@ -123,7 +123,7 @@ fn send(signal: &str, child: &Child) {
     assert!(Command::new("kill").args([signal, &child.id().to_string()]).status().unwrap().success());
 }
 
-/// The first Ctrl-C ends a run after its iteration, and the log of the whole iterations is kept: it can be gone on from.
+/// The first Ctrl-C ends a run after its iteration, and the log of the whole iterations is kept: a run can continue from it.
 #[test]
 fn an_interrupted_run_keeps_its_log() {
     let folder = Folder::new("interrupted");
@@ -163,7 +163,7 @@ fn interrupted_jobs_are_told_of() {
     assert_eq!((ended.status, ended.out.as_str()), (130, ""), "{}", ended.told);
     assert!(ended
         .told
-        .contains("endless.log has its log; to go on: arvumnao route endless.txt --resume endless.log\n"));
+        .contains("endless.log has its log; to continue: arvumnao route endless.txt --resume endless.log\n"));
     assert!(ended.told.ends_with("2 jobs not begun\n"), "{}", ended.told);
     assert_eq!(folder.read("out.json").lines().count(), 2);
 }

@@ -46,7 +46,7 @@ fn a_report_has_detours_crowded_nodes_and_uses() {
     folder.write("b.txt", JOB_B);
     folder.words("report b.txt").printed(
         "b.txt: settled in iteration 2, after 4 turns\n\n\
-         Detours: 1 of 2 nets dearer than alone, that is in iteration 1; trees at base costs\n\
+         Detours: 1 of 2 nets more expensive than alone, that is in iteration 1; trees at base costs\n\
          net  sinks  alone  now  more  percent\n  \
          0      1     60   80    20    133.3\n  \
          1      1     60   60     0    100.0\n\n\

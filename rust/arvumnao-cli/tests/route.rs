@@ -87,7 +87,7 @@ fn a_folder_takes_several_jobs() {
     assert!(ended.told.starts_with("limited.txt: X,9,1,1: "), "{}", ended.told);
     assert_eq!(folder.read("made/here/b.routes"), ROUTES_B);
     assert!(folder.read("made/here/crowded.routes").starts_with("R,2,5\n"));
-    // the log of a run that its limit stopped is kept, and gone on from
+    // the log of a run that its limit stopped is kept, and another run continues from it
     let first: String = LOG_B.split_inclusive('\n').take(2).collect();
     assert_eq!(folder.read("made/here/limited.log"), first);
     assert_eq!(fs::read_dir(folder.0.join("made/here")).unwrap().count(), 3);
@@ -104,12 +104,12 @@ fn limits_and_logs() {
     let ended = folder.words("route limited.txt --log first.log");
     assert_eq!((ended.status, ended.out.as_str()), (3, ""));
     assert!(ended.told.contains(
-        "first.log has its log; to go on: arvumnao route limited.txt --limit N --resume first.log\n"
+        "first.log has its log; to continue: arvumnao route limited.txt --limit N --resume first.log\n"
     ));
     folder.words("route limited.txt --limit 9 --resume first.log --log whole.log").printed(ROUTES_B);
     assert_eq!(folder.read("whole.log"), LOG_B);
     folder.words("route limited.txt --limit 2 --log - -o b.routes").printed(LOG_B);
-    // a log that is settled, or of another job, can't be gone on from
+    // a log that is settled, or of another job, can't be continued
     let ended = folder.words("route limited.txt --limit 9 --resume whole.log");
     assert_eq!((ended.status, ended.out.as_str()), (1, ""));
     assert!(ended.told.starts_with("whole.log: X,14,36: "), "{}", ended.told);

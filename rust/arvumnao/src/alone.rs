@@ -33,14 +33,15 @@ pub struct Use {
 }
 
 impl Use {
-    /// history × base cost × (100 + factor × the nets too many, were this net on the node too). Refused by [`Refusal::Number`].
+    /// history × base cost × (100 + factor × excess), where excess is others + 1 − capacity, or 0 if that is negative. Refused by
+    /// [`Refusal::Number`].
     pub fn price(self) -> Result<u64, Refusal> {
         let Use { kind, factor, others, capacity, history } = self;
         let told = out(|out| raw::price(kind, factor, others, capacity, history, out));
         self.priced(&told, 0, 0)
     }
 
-    /// The price for a sink of a timed job, where the node has a delay of 0 to 1,000 and the sink a criticality of 0 to 9:
+    /// The price for a sink of a timed job. The node has a delay of 0 to 1,000 and the sink a criticality of 0 to 9:
     /// criticality × delay × 100 + (10 − criticality) × the price. Refused by [`Refusal::Number`].
     ///
     /// ```
@@ -56,7 +57,7 @@ impl Use {
         self.priced(&told, delay, criticality)
     }
 
-    /// What either call tells.
+    /// The answer of either call.
     fn priced(self, told: &[u64; raw::OUT], delay: u32, criticality: u32) -> Result<u64, Refusal> {
         match *raw::refusal(told) {
             [] => {
@@ -84,8 +85,8 @@ impl Use {
     }
 }
 
-/// What a search alone starts from: the prices' numbers for each node, and the nodes of the tree. Entries past the block's nodes
-/// are unread.
+/// What a search alone starts from: the prices' numbers for each node, and the nodes of the tree. Entries after the block's nodes
+/// are ignored.
 #[derive(Clone, Debug, Default, PartialEq, Eq)]
 pub struct Congestion {
     /// The congestion factor, 0 to 65,535.
@@ -99,7 +100,7 @@ pub struct Congestion {
 }
 
 impl Block {
-    /// The distance of each node from the tree: the cost of a cheapest path, none where there is no path. Refused by
+    /// The distance of each node from the tree: the cost of a cheapest path, none if there is no path. Refused by
     /// [`Refusal::Table`] and [`Refusal::Number`].
     ///
     /// ```
@@ -190,7 +191,7 @@ impl Block {
         work.into_iter().map(|distance| (distance != u64::MAX).then_some(distance)).collect()
     }
 
-    /// The refusal of a node's numbers, whose history may be so much, of the factor, or of the criticality.
+    /// The refusal of a node's numbers, whose history is at most `history_most`, of the factor, or of the criticality.
     fn bad_number(&self, start: &Congestion, history_most: u32, criticality: u32, place: u64) -> Refusal {
         let (node, nodes) = (place as usize, self.kind.len());
         let shown = |entry: Option<u32>| entry.map_or(String::from("missing"), |entry| entry.to_string());

@@ -25,9 +25,9 @@ pub const TIMED_LIMIT: u32 = 40;
 pub struct Block {
     /// Table 1: each node's [kind](crate::kind).
     pub kind: Vec<u8>,
-    /// Table 2: by how many nets each node may be used at once, 1 to 255.
+    /// Table 2: how many nets may use each node at once, 1 to 255.
     pub capacity: Vec<u8>,
-    /// Table 3: where each node's row in `edge_target` begins, and at last that table's length.
+    /// Table 3: where each node's row in `edge_target` begins; the last entry is that table's length.
     pub first_edge: Vec<u32>,
     /// Table 4: to which nodes each node has a switch, row after row, each row rising.
     pub edge_target: Vec<u16>,
@@ -38,15 +38,15 @@ pub struct Block {
 pub struct Nets {
     /// Table 5: each net's source node.
     pub source: Vec<u16>,
-    /// Table 6: where each net's sinks in `sink` begin, and at last that table's length.
+    /// Table 6: where each net's sinks in `sink` begin; the last entry is that table's length.
     pub first_sink: Vec<u32>,
     /// Table 7: the sink nodes, net after net.
     pub sink: Vec<u16>,
 }
 
-/// On which terms a job is routed. Counted as table 8.
+/// The terms on which a job is routed. They count as table 8.
 ///
-/// The default is as many iterations as there may be, and the tariff and rule of a job text without P and V lines.
+/// The default is the highest limit, and the tariff and rule of a job text without P and V lines.
 ///
 /// ```
 /// use arvumnao::{Job, Terms};
@@ -73,14 +73,14 @@ pub struct Terms {
     /// Which nets are routed again: 1, all of them in every iteration; 2, after iteration `until` only those whose tree has an overfull
     /// node.
     pub rule: u32,
-    /// 1 to 99; of no account under rule 1. It is the k of a line `V,2,k`.
+    /// 1 to 99; ignored under rule 1. It is the k of a line `V,2,k`.
     pub until: u32,
 }
 
 /// What makes a job timed: each node's delay, and how critical each sink is.
 ///
 /// A node's price for a sink is criticality × delay × 100 + (10 − criticality) × its price in a job that isn't timed. A net's sinks are
-/// joined by falling criticality, each by a cheapest path at the prices for it; one that such a path passes is joined without a turn. A
+/// joined by falling criticality, each by a cheapest path at the prices for it. A sink that such a path passes is joined without a turn. A
 /// timed job has at most [`TIMED_NODES`] nodes and a limit of at most [`TIMED_LIMIT`].
 ///
 /// ```
@@ -98,7 +98,7 @@ pub struct Terms {
 pub struct Timing {
     /// Table 9: each node's delay, 0 to 1,000.
     pub delay: Vec<u16>,
-    /// Table 10: the criticality of each entry of [`Nets::sink`], 0 to 9, in tenths. Where nets of one source have a sink in common
+    /// Table 10: the criticality of each entry of [`Nets::sink`], 0 to 9, in tenths. If nets of one source have a sink in common,
     /// its first listing counts.
     pub criticality: Vec<u8>,
 }
@@ -147,7 +147,7 @@ impl Block {
         self.first_edge.push(self.edge_target.len() as u32);
     }
 
-    /// Whether a switch leads from one node to another; never where table 3 or 4 lacks them.
+    /// Whether a switch leads from one node to another. False if table 3 or 4 lacks the nodes.
     pub fn has_edge(&self, from: u32, to: u32) -> bool {
         let place = |node: usize| Some(*self.first_edge.get(node)? as usize);
         let row = place(from as usize).zip(place(from as usize + 1));
@@ -160,7 +160,7 @@ impl Block {
         self.faulty_with(&[], table)
     }
 
-    /// The same where table 9 is lent with them.
+    /// The same if table 9 is lent with them.
     pub(crate) fn faulty_with(&self, delay: &[u16], table: u64) -> Refusal {
         let timing = Some(Timing { delay: delay.to_vec(), ..Timing::default() });
         let job = Job { block: self.clone(), timing, ..Job::default() };
@@ -183,15 +183,15 @@ impl Nets {
         self.first_sink.push(self.sink.len() as u32);
     }
 
-    /// A net's sinks as listed; none where tables 6 and 7 don't have them.
+    /// A net's sinks as listed; none if tables 6 and 7 don't have them.
     pub fn sinks(&self, net: usize) -> &[u16] {
         let place = |owner: usize| Some(*self.first_sink.get(owner)? as usize);
         let row = place(net).zip(net.checked_add(1).and_then(place));
         row.and_then(|(first, end)| self.sink.get(first..end)).unwrap_or(&[])
     }
 
-    /// The sinks to which a net is routed: where it is the first of its source those of all nets of that source, in listed order,
-    /// each once; otherwise none.
+    /// The sinks to which a net is routed. The first net of a source has the sinks of all nets of that source, in listed order, each once;
+    /// any other net has none.
     ///
     /// ```
     /// let mut nets = arvumnao::Nets::default();
@@ -225,7 +225,7 @@ impl Default for Terms {
 }
 
 impl Timing {
-    /// Cuts the tables to a job of so many nodes and sinks.
+    /// Cuts the tables to a job with this many nodes and sinks.
     fn cut(&mut self, nodes: usize, sinks: usize) {
         self.delay.truncate(nodes);
         self.criticality.truncate(sinks);
@@ -301,7 +301,7 @@ impl Job {
         [limit, first, up, down, step, rule, until, self.timing.is_some().into()]
     }
 
-    /// Tables 9 and 10, empty where the job isn't timed.
+    /// Tables 9 and 10; empty if the job isn't timed.
     pub(crate) fn timed_tables(&self) -> (&[u16], &[u8]) {
         self.timing.as_ref().map_or((&[], &[]), |timing| (&timing.delay, &timing.criticality))
     }

@@ -11,7 +11,7 @@ pub const INPUT_PIN: u8 = 3;
 /// The highest kind: a wire of 50 tiles.
 pub const MOST: u8 = 53;
 
-/// The kind of a wire so many tiles long, 1 to 50. Its base cost is 20 a tile.
+/// The kind of a wire of this length, 1 to 50 tiles. Its base cost is 20 for each tile.
 ///
 /// # Panics
 ///
@@ -26,7 +26,7 @@ pub const fn wire(tiles: u8) -> u8 {
     tiles + 3
 }
 
-/// The base cost of a node of this kind: 20, an input pin 19, a wire 20 a tile. None where there is no such kind.
+/// The base cost of a node of this kind: 20; for an input pin 19, for a wire 20 for each tile. None if there is no such kind.
 ///
 /// ```
 /// use arvumnao::kind;

@@ -1,6 +1,6 @@
 //! A router for a programmable logic block. It lets nets share wires at a price, raises the price where they crowd, and repeats
-//! until no wire is overfull. The code of the library that this crate calls is proved; the crate adds types, memory and sentences
-//! to it, and needs no other crate.
+//! until no wire is overfull. The code of the library that this crate calls is proved. This crate adds types, memory and sentences,
+//! and needs no other crate.
 //!
 //! From a job text to the routes text, and to the log of paths and costs:
 //!
@@ -15,14 +15,14 @@
 //! # Ok::<(), arvumnao::Refusal>(())
 //! ```
 //!
-//! A [`Job`] may also be put together from its tables, and is refused in a sentence that says what to change:
+//! A [`Job`] can also be built from its tables. A refusal is a sentence that says what to change:
 //!
 //! ```
 //! let refusal = arvumnao::Job::read(b"F,3,2,1,1\nN,0,0,1\nN,1,54,1\n").unwrap_err();
 //! assert_eq!(refusal.to_string(), "line 3: kind 54 is beyond 0 to 53: \"N,1,54,1\"");
 //! ```
 //!
-//! A run that was stopped keeps its log, in the refusal, and [`Job::resume`] goes on from it under a higher limit:
+//! The refusal of a run that was stopped has its log, and [`Job::resume`] continues from it under a higher limit:
 //!
 //! ```
 //! use arvumnao::{Job, Refusal};
@@ -36,8 +36,8 @@
 //! # Ok::<(), Refusal>(())
 //! ```
 //!
-//! [`Job::route_with`] tells of each iteration as the run goes, and may stop it. [`Log::replay`] goes through a log again and tells what
-//! each turn paid for; [`Log::trees`] has the trees that it leaves. [`Job::text`] and [`Log::text`] write what [`Job::read`] and
+//! [`Job::route_with`] reports each iteration during the run, and may stop it. [`Log::replay`] goes through a log again and says what
+//! each turn paid for; [`Log::trees`] has the final trees. [`Job::text`] and [`Log::text`] write what [`Job::read`] and
 //! [`Log::read`] read.
 //!
 //! A job with a [`Timing`] is timed: its critical sinks pay for delay rather than for room. [`Job::route_aimed`] routes by a search that
@@ -46,10 +46,10 @@
 //! `docs/FORMAT.md` describes the texts, the log and every refusal. [`raw`] has the library's calls themselves, for callers with
 //! memory of their own.
 //!
-//! Build the library first, by `rt staticlib capi`. It is looked for in `target/staticlib` two folders above this package, or in
+//! Build the library first, by `rt staticlib capi`. It is expected in `target/staticlib` two folders above this package, or in
 //! the folder that the environment variable `ARVUMNAO_LIB_DIR` names.
 //!
-//! Calls share nothing, so they may run at once in any number of threads. A call needs [`raw::STACK`] bytes of stack; Rust's
+//! Calls share nothing, so any number of threads may call at the same time. A call needs [`raw::STACK`] bytes of stack; Rust's
 //! threads have more, unless they are made with less.
 
 #![warn(missing_docs)]
@@ -90,7 +90,7 @@ pub const VERSION: [u32; 3] = [
     number(env!("CARGO_PKG_VERSION_PATCH")),
 ];
 
-/// The number that some digits are.
+/// The number that these digits stand for.
 const fn number(digits: &str) -> u32 {
     let (digits, mut place, mut sum) = (digits.as_bytes(), 0, 0);
     while place < digits.len() {
@@ -100,7 +100,7 @@ const fn number(digits: &str) -> u32 {
     sum
 }
 
-/// What a call tells in an `out` of its own.
+/// The numbers that a call leaves in `out`.
 fn out(call: impl FnOnce(&mut [u64]) -> u32) -> [u64; raw::OUT] {
     let mut out = [0; raw::OUT];
     assert_eq!(call(&mut out), 1, "the library wants an out of another length: it is not of this version");

@@ -1,4 +1,4 @@
-//! Why the reader refused a line: the lines before it are sound, so they say what could have come there.
+//! Why the reader refused a line. The lines before it are correct, so they say what could come there.
 
 use crate::job::{EDGES, NETS, NODES, SINKS};
 use crate::kind;
@@ -7,7 +7,7 @@ use std::ops::RangeInclusive;
 /// The bytes of a line that are quoted.
 const QUOTED: usize = 80;
 
-/// With which some editors begin a file.
+/// The byte order mark with which some editors begin a file.
 const BYTE_ORDER_MARK: &[u8] = b"\xef\xbb\xbf";
 
 /// The text's lines, each without its LF and whether it has one.
@@ -16,7 +16,7 @@ pub(crate) fn lines(text: &[u8]) -> impl Iterator<Item = (&[u8], bool)> {
     whole.map(|line| line.strip_suffix(b"\n").map_or((line, false), |bytes| (bytes, true)))
 }
 
-/// The line of that number, from 1: its beginning if it is long, with bytes that don't print escaped. None where the text ends before it.
+/// The line of that number, from 1: its beginning if it is long, with unprintable bytes escaped. None if the text ends before it.
 pub(crate) fn quoted(text: &[u8], line: u64) -> Option<String> {
     let (bytes, _) = lines(text).nth(usize::try_from(line.checked_sub(1)?).ok()?)?;
     let dots = if bytes.len() > QUOTED { ".." } else { "" };
@@ -213,12 +213,12 @@ impl Before {
             return Some((place, self.count(letter, fields.len())));
         }
         if let (b'V', [b"1", _]) = (letter, &fields[..]) {
-            return Some((column(line, 1), String::from("has a second number, which rule 1 takes none of")));
+            return Some((column(line, 1), String::from("has a second number, which rule 1 does not take")));
         }
         None
     }
 
-    /// That a line has so many numbers, where its letter takes fewer or more.
+    /// Says that a line has `has` numbers, and how many its letter takes.
     fn count(&self, letter: u8, has: usize) -> String {
         let names = names(letter, self.timed);
         let (shown, most) = (char::from(letter), names.len());
@@ -255,7 +255,7 @@ impl Before {
         let (node, net) = (0..=nodes.saturating_sub(1), 0..=nets.saturating_sub(1));
         Some(match letter {
             b'F' => vec![1..=NODES as u32, 0..=EDGES as u32, 1..=NETS as u32, 1..=100],
-            // where down is at fault itself, up has the least bound that there is
+            // if down itself is wrong, up has the lowest bound possible
             b'P' => vec![
                 0..=1_000,
                 *values.get(2).filter(|down| (1..=4).contains(*down)).unwrap_or(&1)..=8,
@@ -317,7 +317,7 @@ impl Before {
         }
     }
 
-    /// A pin of a kind that doesn't serve.
+    /// A pin of a kind that is not allowed there.
     fn pin(&self, node: u32, role: &str, kinds: &str) -> Option<String> {
         let kind = *self.kinds.get(node as usize)?;
         let name = kind::name(u8::try_from(kind).ok()?);
@@ -331,7 +331,7 @@ fn alone(line: &[u8]) -> Option<Found> {
     Some((1, format!("{} after the letter W, which stands alone in its line", shown(*byte))))
 }
 
-/// What is wrong with a number's digits, of which it may have so many, and where in it.
+/// What is wrong with a number's digits, at most `most` of them, and where in it.
 pub(crate) fn digits(field: &[u8], name: &str, most: usize) -> Option<Found> {
     if let Some(place) = field.iter().position(|byte| *byte == b'\r') {
         return Some((place, format!("a carriage return after {name}: lines end in LF alone")));

@@ -30,7 +30,7 @@ pub struct Record<'l> {
     pub net: u32,
     /// The sink that the turn joined.
     pub sink: u32,
-    /// The path's cost: the sum of its nodes' prices, the first node left out, which was in the tree.
+    /// The path's cost: the sum of its nodes' prices, without the first node, which was in the tree.
     pub cost: u64,
     /// The path's nodes, from the tree to the sink.
     pub path: &'l [u32],
@@ -49,7 +49,7 @@ impl Log {
     }
 
     /// A stored log of a job with these nets. Refused by [`Refusal::Record`] unless it is one or more sound records, each of a net
-    /// that is the first of its source, and by [`Refusal::Table`] where the sources are none, over 512 or 4,096 and more.
+    /// that is the first of its source, and by [`Refusal::Table`] if there are no sources or more than 512, or one is 4,096 or more.
     pub fn from_words(words: &[u32], nets: &Nets) -> Result<Log, Refusal> {
         needed(raw::write, &nets.source, words)?;
         Ok(Log { words: words.to_vec() })
@@ -66,10 +66,10 @@ impl Log {
     }
 
     /// The routes text: net by net the branches of its records of the latest iteration in which it has any, and a J line for each net
-    /// that was joined into another. It takes the nets of the job that was routed, of
-    /// which it reads the sources. Refused as [`Log::from_words`] is, and by [`Refusal::Record`] where the log is empty.
+    /// that was joined into another. `nets` are those of the job that was routed; only
+    /// their sources are read. Refused as [`Log::from_words`] is, and by [`Refusal::Record`] if the log is empty.
     ///
-    /// The routes of a run that was refused are worth nothing: its wires are overfull, or nets are missing.
+    /// The routes of a refused run are not usable: wires are overfull, or nets are missing.
     ///
     /// ```
     /// // two nets of source 0

@@ -10,7 +10,7 @@ use crate::walk::firsts;
 const NAMES: [&str; 6] = ["iteration", "net", "sink", "cost's low word", "cost's high word", "path's length"];
 
 impl Log {
-    /// The log as text: a line for each record, its words parted by commas.
+    /// The log as text: a line for each record, its words separated by commas.
     ///
     /// ```
     /// use arvumnao::{Job, Log};

@@ -1,7 +1,7 @@
-//! The library's calls as they are: every slice is lent by the caller, `out` too, and the numbers come back in it.
+//! The library's calls as they are. The caller lends every slice, also `out`, in which the numbers come back.
 //!
-//! Each call may be lent slices of any length with anything in them. It returns 1, or 0 where `out` has fewer than [`OUT`]
-//! entries, or counts of uses fewer than [`COUNTS`]; then it has done nothing. `include/arvumnao.h` says what each call tells and leaves.
+//! Each call may be lent slices of any length with anything in them. It returns 1, or 0 if `out` has fewer than [`OUT`]
+//! entries or counts of uses fewer than [`COUNTS`]; then it has done nothing. `include/arvumnao.h` says what each call answers and leaves.
 //!
 //! A call needs [`STACK`] bytes of stack.
 
@@ -107,9 +107,9 @@ call! {
 call! {
     /// Routes a job. Own numbers: iteration, turns, words used of the log.
     ///
-    /// The terms are limit, first, up, down, step, rule, until, timed; of a slice that is shorter the plain values stand for the rest (0,
-    /// which is no limit, then 50, 3, 2, 1, 1, 1 and 0), and entries past these eight are not read. Where `timed` is 0, `delay` and
-    /// `criticality` are of no account.
+    /// The terms are limit, first, up, down, step, rule, until, timed; entries that a shorter slice lacks have their defaults (0,
+    /// which is no limit, then 50, 3, 2, 1, 1, 1 and 0). Entries after these eight are ignored. If `timed` is 0, `delay` and
+    /// `criticality` are ignored.
     fn route = arvumnao_route(
         kind: &[u8],
         capacity: &[u8],
@@ -147,7 +147,7 @@ call! {
 }
 
 call! {
-    /// Goes on from a log of which so many words are used, and appends turns to it. Terms and own numbers are those of [`route`], over the
+    /// Continues from a log of which `used` words are used, and appends turns to it. Terms and own numbers are those of [`route`], over the
     /// whole log.
     fn resume = arvumnao_resume(
         kind: &[u8],
@@ -168,7 +168,7 @@ call! {
 }
 
 call! {
-    /// Goes on from a log by the search that aims. Own numbers: those of [`resume`], then the nodes expanded in the turns appended.
+    /// Continues from a log by the search that aims. Own numbers: those of [`resume`], then the nodes expanded in the turns appended.
     fn resume_aimed = arvumnao_resume_aimed(
         kind: &[u8],
         capacity: &[u8],
@@ -215,7 +215,7 @@ call! {
 }
 
 call! {
-    /// Adds a log to counts of uses. Own number: the logs that they are of afterwards, after a refusal those handed in.
+    /// Adds a log to counts of uses. Own number: the number of logs counted so far; after a refusal the one that was passed in.
     fn uses_add = arvumnao_uses_add(
         kind: &[u8],
         capacity: &[u8],
@@ -242,7 +242,7 @@ call! {
     )
 }
 
-/// The refusal's numbers in `out`, as many as that refusal has; none where nothing was refused.
+/// The refusal's numbers in `out`, as many as that refusal has; none if nothing was refused.
 pub fn refusal(out: &[u64; OUT]) -> &[u64] {
     match out[0] {
         0 => &[],
@@ -251,7 +251,7 @@ pub fn refusal(out: &[u64; OUT]) -> &[u64] {
     }
 }
 
-/// The call's own numbers in `out`, the first so many of them.
+/// The call's first `COUNT` own numbers in `out`.
 pub fn own<const COUNT: usize>(out: &[u64; OUT]) -> &[u64; COUNT] {
     const { assert!(OWN + COUNT <= OUT, "no call has so many numbers") };
     out[OWN..].first_chunk().expect("asserted above")

@@ -10,8 +10,8 @@ use std::fmt;
 /// Why a call was refused. Its `Display` is a sentence that says what to change, [`Refusal::numbers`] are the numbers that the
 /// program prints after `X,`.
 ///
-/// `docs/FORMAT.md` has the table of all refusals. Those that this crate's calls can't come to are left out: they lend tables, work memory
-/// and buffers that are long enough.
+/// `docs/FORMAT.md` lists all refusals. Those that can't happen here are left out: this crate lends tables, work memory and buffers that are
+/// long enough.
 #[derive(Clone, Debug, PartialEq, Eq)]
 #[non_exhaustive]
 pub enum Refusal {
@@ -70,44 +70,44 @@ pub enum Refusal {
         /// What is wrong with it.
         reason: String,
     },
-    /// 14: a log that a run was to go on from doesn't follow the job.
+    /// 14: a log to continue from doesn't follow the job.
     Diverges {
-        /// The place of the first word of the first record that doesn't, or the log's words if only its end is wrong.
+        /// The first word of the first record that doesn't follow, or the number of the log's words if only its end is wrong.
         word: u64,
         /// The log's words.
         words: u64,
     },
-    /// 15: a timed job, or the block of a timed search, is larger than such may be.
+    /// 15: a timed job, or the block of a timed search, is too large.
     TooLarge {
         /// Its nodes, at most [`TIMED_NODES`].
         nodes: u32,
         /// Its limit, at most [`TIMED_LIMIT`]; 0 for a search.
         limit: u32,
     },
-    /// 16: counts of uses are of as many logs as they may be of.
+    /// 16: the counts of uses have the highest number of logs already.
     CountsFull {
-        /// So many: 65,535.
+        /// That number: 65,535.
         logs: u64,
     },
-    /// No refusal of the library's: a run was [stopped](Job::route_with) after an iteration by who watched it.
+    /// Not from the library: a run was [stopped](Job::route_with) after an iteration by its watcher.
     Stopped {
         /// The last iteration, which is whole.
         iteration: u32,
         /// The turns made.
         turns: u64,
-        /// Their records, of whole iterations: [`Job::resume`] goes on from them.
+        /// Their records, of whole iterations: [`Job::resume`] continues from them.
         log: Log,
     },
-    /// No refusal of the library's: a log that is [gone through again](Log::replay) doesn't come to the costs that it has.
+    /// Not from the library: in a [replay](Log::replay) the prices don't add up to a logged cost.
     Replay {
         /// The place of the record's first word.
         word: u64,
         /// What is wrong with it.
         reason: String,
     },
-    /// No refusal of the library's: a line of a [log text](Log::read) is faulty.
+    /// Not from the library: a line of a [log text](Log::read) is faulty.
     LogLine(LineFault),
-    /// A refusal that the call shouldn't come to: the library is of another version than this crate.
+    /// A refusal that this call can't have: the library has another version than this crate.
     Unexpected(Vec<u64>),
 }
 
@@ -118,11 +118,11 @@ pub struct LineFault {
     pub number: u64,
     /// The line, from 1.
     pub line: u64,
-    /// The line itself without its LF, bytes that don't print escaped; none where the text ends before it.
+    /// The line itself without its LF, unprintable bytes escaped; none if the text ends before it.
     pub quoted: Option<String>,
     /// What is wrong with it. None only if the line is not the first faulty one.
     pub reason: Option<String>,
-    /// Where in the line, in bytes from 0, that stands. None where the text ends before the line, or without a reason.
+    /// The byte of the line, from 0, at which that is. None if the text ends before the line, or without a reason.
     pub column: Option<usize>,
 }
 
@@ -136,7 +136,7 @@ pub struct TableFault {
 }
 
 impl Refusal {
-    /// The refusal's number and its further numbers, as `docs/FORMAT.md` lists them; none for what the library didn't refuse.
+    /// The refusal's number and its further numbers, as `docs/FORMAT.md` lists them; none if the library didn't refuse.
     pub fn numbers(&self) -> Vec<u64> {
         match self {
             Refusal::Line(fault) => vec![fault.number, fault.line],
@@ -154,12 +154,12 @@ impl Refusal {
         }
     }
 
-    /// That of a timed job.
+    /// The same for a timed job.
     pub(crate) fn too_large(nodes: u64, limit: u64) -> Refusal {
         Refusal::TooLarge { nodes: nodes as u32, limit: limit as u32 }
     }
 
-    /// A refusal that the call's slices leave no room for.
+    /// A refusal that the call's slices rule out.
     pub(crate) fn unexpected(numbers: &[u64]) -> Refusal {
         Refusal::Unexpected(numbers.to_vec())
     }
@@ -180,7 +180,7 @@ impl TableFault {
         TableFault { table, reason: table::reason(job, table) }
     }
 
-    /// What is wrong with the sources that the routes writer refused. It knows no block: they need not be nodes of one.
+    /// What is wrong with the sources that the routes writer refused. The writer has no block, so they need not be nodes of one.
     pub fn of_log(source: &[u16]) -> TableFault {
         TableFault { table: 5, reason: table::source_reason(source) }
     }
@@ -218,7 +218,7 @@ impl fmt::Display for Refusal {
             }
             Refusal::LogFull { iteration, turns, .. } => write!(
                 f,
-                "the log is full after {turns} turns, in iteration {iteration}: a longer log lets the job go on"
+                "the log is full after {turns} turns, in iteration {iteration}: a longer log lets the job continue"
             ),
             Refusal::Limit { iteration, overfull, may_rise, .. } => {
                 not_settled(f, *iteration, overfull, *may_rise)
@@ -235,10 +235,10 @@ impl fmt::Display for Refusal {
                 "{nodes} nodes and a limit of {limit}: a timed job has at most {TIMED_NODES} nodes and a limit of at most {TIMED_LIMIT}"
             ),
             Refusal::CountsFull { logs } => {
-                write!(f, "the counts are of {logs} logs already, and may be of no more: begin new ones")
+                write!(f, "the counts have {logs} logs already, the highest number: begin new ones")
             }
             Refusal::Stopped { iteration, turns, .. } => {
-                write!(f, "stopped after iteration {iteration} and {turns} turns; the log may be gone on from")
+                write!(f, "stopped after iteration {iteration} and {turns} turns; a run can continue from the log")
             }
             Refusal::Replay { word, reason } => write!(f, "the log's record at word {word}: {reason}"),
             Refusal::LogLine(fault) => fault.fmt(f),
@@ -262,16 +262,16 @@ fn not_settled(f: &mut fmt::Formatter, iteration: u32, overfull: &[Overfull], ma
     )
 }
 
-/// A log of so many words follows the job up to this one.
+/// A log of `words` words follows the job up to `word`.
 fn diverges(f: &mut fmt::Formatter, word: u64, words: u64) -> fmt::Result {
     if words == 0 {
-        write!(f, "the log is empty: there is no run to go on from")
+        write!(f, "the log is empty: there is no run to continue")
     } else if word < words {
         write!(f, "the log's record at word {word} does not follow the job")
     } else {
         write!(
             f,
-            "the log follows the job to its end, at word {word}, but can't be gone on from: its last iteration is not whole, leaves no \
+            "the log follows the job to its end, at word {word}, but can't be continued: its last iteration is not whole, leaves no \
              node over capacity, or is the limit"
         )
     }
@@ -280,7 +280,7 @@ fn diverges(f: &mut fmt::Formatter, word: u64, words: u64) -> fmt::Result {
 /// The most things that a sentence lists.
 const LISTED: usize = 8;
 
-/// Things in a row, the first few of many.
+/// The things in a row; of many the first few.
 pub(crate) fn listed<T: fmt::Display>(things: &[T]) -> String {
     let shown: Vec<String> = things.iter().take(LISTED).map(T::to_string).collect();
     match things.len().saturating_sub(LISTED) {

@@ -18,7 +18,7 @@ pub struct Step {
     pub history: u32,
     /// Its [base cost](crate::kind::base_cost).
     pub base: u32,
-    /// How many nets too many it would have had with this one on it.
+    /// By how many nets it would have been over capacity with this one on it.
     pub excess: u32,
     /// Its delay; 0 in a job that isn't timed.
     pub delay: u32,
@@ -57,7 +57,7 @@ pub struct Iteration<'l> {
 }
 
 /// The iterations of a log, gone through again one after the other. A record that is no path of its net, or whose cost is not the sum of
-/// the prices worked out anew, ends it with [`Refusal::Replay`]; nothing is told of its iteration.
+/// the prices computed again, ends it with [`Refusal::Replay`]; its iteration is not returned.
 #[derive(Clone, Debug)]
 pub struct Replay<'l> {
     walk: Walk<'l>,
@@ -68,10 +68,10 @@ pub struct Replay<'l> {
 
 impl Log {
     /// Goes through the log again: factor and histories of each iteration, users and overfull nodes after it, and what each turn paid
-    /// for. Prices are worked out from the job and the log's earlier records alone, and must come to the cost that each record has.
+    /// for. Prices follow from the job and the log's earlier records alone, and must add up to the cost of each record.
     /// Refused by [`Refusal::Table`] and [`Refusal::TooLarge`] unless the job's tables keep their rules.
     ///
-    /// Which nets are due, and whether a path is a cheapest one, is not asked.
+    /// It does not test which nets are due, nor whether a path is a cheapest one.
     ///
     /// ```
     /// let job = arvumnao::Job::read(include_bytes!("../../../examples/job_b.txt"))?;

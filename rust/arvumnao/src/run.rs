@@ -1,4 +1,4 @@
-//! Runs: the library's calls that route a job or go on from a log, and as many of them as the log needs.
+//! Runs: the library's calls that route a job or continue from a log, as many of them as the log needs.
 
 use crate::job::{Job, NETS, NODES, SINKS};
 use crate::log::{Log, Records};
@@ -18,7 +18,7 @@ pub struct Answer {
     pub log: Log,
 }
 
-/// What [`Job::route_aimed`], [`Job::resume_aimed`] and the watched runs tell.
+/// The answer of [`Job::route_aimed`], [`Job::resume_aimed`] and the watched runs.
 #[derive(Clone, Debug, PartialEq, Eq)]
 pub struct Aimed {
     /// What [`Job::route`] or [`Job::resume`] answers: the search that is chosen makes no difference to it.
@@ -37,21 +37,21 @@ pub enum Search {
     Aimed,
 }
 
-/// So many zeros in memory that is not touched before it is written to; none where the system doesn't give so much.
+/// `words` zeros in memory that is not touched before it is written to; none if the system doesn't give that much.
 fn zeroed(words: usize) -> Option<Vec<u32>> {
     let layout = Layout::array::<u32>(words).ok().filter(|layout| layout.size() > 0)?;
-    // SAFETY: the layout has a size; the memory, unless it is null, is that of so many numbers, all 0, from the allocator of Vec.
+    // SAFETY: the layout has a size; the memory, unless it is null, is that of `words` numbers, all 0, from the allocator of Vec.
     unsafe {
         let memory = alloc_zeroed(layout).cast::<u32>();
         (!memory.is_null()).then(|| Vec::from_raw_parts(memory, words, words))
     }
 }
 
-/// A run so far: of whole iterations, unless it is at its end.
+/// A run so far. It has whole iterations, unless it is at its end.
 pub(crate) struct Run<'j> {
     pub(crate) job: &'j Job,
     search: Search,
-    /// The words used, and whether they are to be gone on from; otherwise the run begins with the next call.
+    /// The words used, and whether the next call continues from them or begins the run.
     pub(crate) log: Vec<u32>,
     begun: bool,
     /// The words that were lent at first.
@@ -118,7 +118,7 @@ impl<'j> Run<'j> {
         self.take(log);
     }
 
-    /// Takes what a call has told, and the log that it leaves. A refusal without turns leaves the log as it was.
+    /// Takes the numbers and the log of a call. A refusal without turns leaves the log as it was.
     fn take(&mut self, mut log: Vec<u32>) {
         let &[iteration, _, used, expanded] = raw::own::<4>(&self.told);
         self.expanded += expanded;
@@ -129,12 +129,12 @@ impl<'j> Run<'j> {
         }
     }
 
-    /// Up to so many iterations more, in a log that is long enough for them. Says whether the run may go on: the limit of the call was
-    /// reached, and not the job's. A call under a lower limit that is refused before its first turn is made again under the job's, so
-    /// that its numbers are the job's.
+    /// Makes up to `iterations` more iterations, in a log that is long enough for them. True if the run may continue: the limit of the call was
+    /// reached, and not the job's. A call under a lower limit that is refused before its first turn is repeated under the job's limit, so
+    /// that the refusal has the job's numbers.
     pub(crate) fn go_on(&mut self, iterations: u32) -> bool {
         let (limit, highest) = (self.job.terms.limit, highest_limit(self.job));
-        // a limit that is not allowed is the library's to refuse
+        // the library refuses a limit that is not allowed
         let left = limit.min(highest).saturating_sub(self.iteration);
         let (made, log) = self.room(iterations.clamp(1, left.max(1)));
         let next = if limit > highest { limit } else { self.iteration.saturating_add(made).min(limit) };
@@ -151,7 +151,7 @@ impl<'j> Run<'j> {
         }
     }
 
-    /// Memory for the words used and so many iterations more, or for fewer where the system doesn't give so much.
+    /// Memory for the words used and this many more iterations, or for fewer if the system doesn't give that much.
     fn room(&self, mut iterations: u32) -> (u32, Vec<u32>) {
         let most = self.words_an_iteration();
         loop {
@@ -172,13 +172,13 @@ impl<'j> Run<'j> {
         7 * nets.sink.len().min(SINKS) + routed.min(NETS) * block.kind.len().min(NODES) + 1
     }
 
-    /// Whether the last call came to make turns, or took up some.
+    /// Whether the last call made turns, or continued from some.
     pub(crate) fn made_turns(&self) -> bool {
         let &[_, turns] = raw::own::<2>(&self.told);
         turns > 0
     }
 
-    /// What the last call told, about the whole run.
+    /// The answer of the last call, about the whole run.
     pub(crate) fn ended(self) -> Aimed {
         let &[iteration, turns, _] = raw::own::<3>(&self.told);
         let (job, log) = (self.job, Log::of_run(self.log));
@@ -212,7 +212,7 @@ impl<'j> Run<'j> {
         Aimed { answer: Err(refusal), expanded: self.expanded }
     }
 
-    /// A run that was stopped after this iteration, of the log's first so many words.
+    /// A run that was stopped after this iteration, with the log's first `words` words.
     pub(crate) fn stopped(mut self, iteration: u32, words: usize) -> Aimed {
         self.log.truncate(words);
         let log = Log::of_run(self.log);
@@ -226,7 +226,7 @@ impl Job {
     pub fn check(&self) -> Result<(), Refusal> {
         let Job { block, nets, .. } = self;
         let (delay, criticality) = self.timed_tables();
-        // without work memory the router tests the tables, and then refuses that
+        // without work memory the router tests the tables and then refuses the memory
         let told = out(|out| {
             raw::route(
                 &block.kind,
@@ -255,14 +255,14 @@ impl Job {
     /// Routes the job in a log as long as it needs. Refused by [`Refusal::Table`], [`Refusal::TooLarge`], [`Refusal::Unreachable`] or
     /// [`Refusal::Limit`].
     ///
-    /// It lends a log that is long enough for every iteration, up to 860 MB of address space on the largest blocks, of which only what is
-    /// written to takes memory. Where the system doesn't give so much it makes several calls, each of which goes on from what the last
-    /// one left; the answer is the same.
+    /// It lends a log that is long enough for every iteration: up to 860 MB of address space on the largest blocks, of which only the part
+    /// written to takes memory. If the system doesn't give that much, it makes several calls, each of which continues from the last;
+    /// the answer is the same.
     pub fn route(&self) -> Result<Answer, Refusal> {
         Run::new(self, Search::Plain, None).finish().answer
     }
 
-    /// Routes the job in a log of so many words. Refused as [`Job::route`] is, and by [`Refusal::LogFull`].
+    /// Routes the job in a log of `words` words. Refused as [`Job::route`] is, and by [`Refusal::LogFull`].
     pub fn route_in(&self, words: usize) -> Result<Answer, Refusal> {
         Run::new(self, Search::Plain, None).in_words(words).answer
     }
@@ -283,17 +283,17 @@ impl Job {
         Run::new(self, Search::Aimed, None).finish()
     }
 
-    /// The same in a log of so many words.
+    /// The same in a log of `words` words.
     pub fn route_aimed_in(&self, words: usize) -> Aimed {
         Run::new(self, Search::Aimed, None).in_words(words)
     }
 
-    /// Goes on from the log of a run that ended in whole iterations, as one stopped by [`Refusal::Limit`] does, under a limit above
-    /// those: histories, factor and trees are rebuilt from it, and turns are appended. Refused as [`Job::route`] is, and by
+    /// Continues from the log of a run that ended in whole iterations, for example by [`Refusal::Limit`], under a higher limit.
+    /// Histories, factor and trees are rebuilt from the log, and turns are appended. Refused as [`Job::route`] is, and by
     /// [`Refusal::Diverges`] unless the log follows the job. The answer is about the whole log.
     ///
-    /// From the job's own log it ends as [`Job::route`] does, without making its turns again. Any other log that follows the job is gone on
-    /// from as it is: its paths need not be the cheapest. In a timed job each of its turns must join the sink that is due.
+    /// From the job's own log it ends as [`Job::route`] does, without making its turns again. Any other log that follows the job is accepted
+    /// as it is: its paths need not be the cheapest. In a timed job each of its turns must join the sink that is due.
     ///
     /// ```
     /// use arvumnao::{Job, Refusal};
@@ -309,19 +309,19 @@ impl Job {
         Run::new(self, Search::Plain, Some(log.as_ref())).finish().answer
     }
 
-    /// The same in a log of so many words, or of as many as it has where that is more. Refused as [`Job::resume`] is, and by
+    /// The same in a log of `words` words, or of its own length if it is longer. Refused as [`Job::resume`] is, and by
     /// [`Refusal::LogFull`].
     pub fn resume_in(&self, log: impl AsRef<[u32]>, words: usize) -> Result<Answer, Refusal> {
         Run::new(self, Search::Plain, Some(log.as_ref())).in_words(words).answer
     }
 
-    /// Goes on as [`Job::resume`] does, by the search that aims, and counts the nodes that it expanded in the turns that it appends. The
+    /// Continues as [`Job::resume`] does, by the search that aims, and counts the nodes that it expanded in the turns that it appends. The
     /// answer is the same.
     pub fn resume_aimed(&self, log: impl AsRef<[u32]>) -> Aimed {
         Run::new(self, Search::Aimed, Some(log.as_ref())).finish()
     }
 
-    /// The same in a log of so many words, or of as many as it has where that is more.
+    /// The same in a log of `words` words, or of its own length if it is longer.
     pub fn resume_aimed_in(&self, log: impl AsRef<[u32]>, words: usize) -> Aimed {
         Run::new(self, Search::Aimed, Some(log.as_ref())).in_words(words)
     }

@@ -13,7 +13,7 @@ const WORDS: usize = 1 << 20;
 /// At this pace each call makes one iteration.
 const EACH: Pace = Pace { least: 0.0, flood: 0.0, word: 0.0, iteration: 1.0 };
 
-/// A seeded job, none where it is a timed one that is too large. Those of few nodes and narrow wires take several iterations.
+/// A seeded job; none if it would be a timed one that is too large. Jobs of few nodes and narrow wires take several iterations.
 fn seeded(seed: u64) -> Option<Job> {
     let rng = &mut Rng::new(seed);
     let drawn = match seed % 3 {
@@ -24,7 +24,7 @@ fn seeded(seed: u64) -> Option<Job> {
     Job::read(&texts::text(&drawn)).ok()
 }
 
-/// A run of this search in calls of so many iterations each.
+/// A run of this search in calls of this many iterations each.
 fn stepped(job: &Job, search: Search, log: Option<&[u32]>, iterations: u32) -> Aimed {
     let mut run = Run::new(job, search, log);
     while run.go_on(iterations) {}
@@ -119,7 +119,7 @@ fn watched_runs() {
     assert!(stops >= 100, "{stops}");
 }
 
-/// A run that is stopped after this iteration has the log up to there, and is gone on from; at the last one it is at its end.
+/// A run that is stopped after this iteration has the log up to there, and another run continues from it; at the last one it is at its end.
 fn stopped(job: &Job, whole: &Log, stop: u32, last: u32) -> bool {
     let watch = |progress: &Progress| if progress.iteration == stop { Break(()) } else { Continue(()) };
     let each = watched(Run::new(job, Search::Plain, None), EACH, watch);

@@ -45,7 +45,7 @@ pub(crate) fn reason(job: &Job, table: u32) -> Option<String> {
     }
 }
 
-/// The same of table 5 as the routes writer asks it to be.
+/// The same for table 5 by the routes writer's rule.
 pub(crate) fn source_reason(source: &[u16]) -> Option<String> {
     length(source.len(), 1, NETS).or_else(|| {
         entry(source, |_, node| {
@@ -54,7 +54,7 @@ pub(crate) fn source_reason(source: &[u16]) -> Option<String> {
     })
 }
 
-/// A table of another length than it may have.
+/// A table of the wrong length.
 fn length(length: usize, least: usize, most: usize) -> Option<String> {
     if (least..=most).contains(&length) {
         None
@@ -71,7 +71,7 @@ fn entry<T: Copy>(table: &[T], fault: impl Fn(usize, T) -> Option<String>) -> Op
     found.map(|(place, fault)| format!("entry {place}: {fault}"))
 }
 
-/// A table of numbers from 0 to so many, with an entry for each of its owners.
+/// A table of numbers from 0 to a bound, with an entry for each of its owners.
 fn bounded<T: Copy + Into<u32>>(table: &[T], owners: usize, name: &str, most: u32) -> Option<String> {
     length(table.len(), owners, owners).or_else(|| {
         entry(table, |_, number| {
@@ -81,7 +81,7 @@ fn bounded<T: Copy + Into<u32>>(table: &[T], owners: usize, name: &str, most: u3
     })
 }
 
-/// A table of places into another, each at least so much above the one before.
+/// A table of places in another table, each at least this much above the one before.
 fn places(table: &[u32], owners: usize, end: usize, rise: u64) -> Option<String> {
     length(table.len(), owners + 1, owners + 1)
         .or_else(|| {
@@ -101,7 +101,7 @@ fn places(table: &[u32], owners: usize, end: usize, rise: u64) -> Option<String>
         })
 }
 
-/// The rows of a table that places lead into, each with its owner; none where the places lead nowhere.
+/// The rows of a table that places lead into, each with its owner; none if the places are beyond it.
 fn rows<'t>(places: &'t [u32], table: &'t [u16]) -> impl Iterator<Item = (usize, &'t [u16])> {
     let ends = places.iter().zip(places.iter().skip(1)).enumerate();
     ends.filter_map(|(owner, (first, end))| Some((owner, table.get(*first as usize..*end as usize)?)))
@@ -124,7 +124,7 @@ fn targets(job: &Job) -> Option<String> {
     })
 }
 
-/// A node that is none, or of a kind that doesn't serve.
+/// A number that is no node, or a node of a kind that is not allowed there.
 fn pin(job: &Job, node: u16, serves: impl Fn(u8) -> bool, role: &str, kinds: &str) -> Option<String> {
     match job.block.kind.get(node as usize) {
         None => Some(format!("{node} is not a node of {}", job.block.kind.len())),

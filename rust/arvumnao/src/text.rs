@@ -5,8 +5,8 @@ use crate::refusal::Refusal;
 use std::fmt::Write;
 
 impl Job {
-    /// The job text, which [`Job::read`] reads back to the same job. Lines P and V are left out where they say what holds without them.
-    /// Refused as [`Job::check`] is. Under rule 1 the text doesn't have `until`, which is of no account then: it is read back as 1.
+    /// The job text, which [`Job::read`] reads back to the same job. Lines P and V are left out if they have the defaults.
+    /// Refused as [`Job::check`] is. Under rule 1 `until` is ignored, and the text doesn't have it: it is read back as 1.
     ///
     /// ```
     /// let text = include_str!("../../../examples/job_crowded.txt");
@@ -77,7 +77,7 @@ impl Job {
         }
     }
 
-    /// The T line that lists a sink of a source first; none where no net has it.
+    /// The T line that lists a sink of a source first; none if no net has it.
     pub(crate) fn first_listing(&self, source: u16, sink: u16) -> Option<String> {
         let mut nets = (0..self.nets.source.len()).filter(|net| self.nets.source[*net] == source);
         nets.find_map(|net| {

@@ -12,9 +12,9 @@ use std::fmt;
 pub struct Overfull {
     /// The node.
     pub node: u32,
-    /// By how many nets it may be used.
+    /// Its capacity.
     pub capacity: u32,
-    /// The nets whose tree has it, more than that, in order.
+    /// The nets whose tree has it, more than the capacity, in order.
     pub nets: Vec<u32>,
 }
 
@@ -46,7 +46,7 @@ impl Tree {
         std::iter::once(self.source).chain(self.branches.iter().map(|(_, to)| *to))
     }
 
-    /// The nodes from the source to this one; none where the tree doesn't have it.
+    /// The nodes from the source to this one; none if the tree doesn't have it.
     pub fn path(&self, node: u32) -> Option<Vec<u32>> {
         let mut path = vec![node];
         // a branch begins where an earlier one ends, or at the source
@@ -65,7 +65,7 @@ impl Tree {
         self.nodes().filter_map(base).map(u64::from).sum()
     }
 
-    /// The delays of the nodes from the source, which is left out, to this one, summed: what the prices of its way count. None where the
+    /// The sum of the delays of the nodes from the source to this one, without the source, as in the prices. None if the
     /// tree doesn't have the node or the job isn't timed.
     pub fn delay(&self, job: &Job, node: u32) -> Option<u64> {
         let timing = job.timing.as_ref()?;
@@ -76,7 +76,7 @@ impl Tree {
 
 impl Log {
     /// The final trees, of each net that has a record, in order. Refused by [`Refusal::Table`] and [`Refusal::TooLarge`] unless the job's
-    /// tables keep their rules, and by [`Refusal::Replay`] where a record is no path of its net.
+    /// tables keep their rules, and by [`Refusal::Replay`] if a record is no path of its net.
     pub fn trees(&self, job: &Job) -> Result<Vec<Tree>, Refusal> {
         let walk = self.walked(job)?;
         let found =

@@ -4,10 +4,10 @@ use crate::job::{Block, NETS};
 use crate::refusal::Refusal;
 use crate::{kind, out, raw};
 
-/// The most logs that counts may be of.
+/// The most logs that counts may have.
 const LOGS: u64 = 65_535;
 
-/// How much the nodes of one block are used, kind by kind, over the logs of many jobs. The default is of no logs.
+/// How much the nodes of one block are used, kind by kind, over the logs of many jobs. The default has no logs.
 ///
 /// ```
 /// use arvumnao::{kind, Job, UseCounts};
@@ -36,9 +36,9 @@ impl Default for UseCounts {
 }
 
 impl UseCounts {
-    /// Adds a log, a run's own or the words of one that was kept. Refused by [`Refusal::Table`] for tables 1 to 4, [`Refusal::Number`]
-    /// where uses or logs are more than they can be, [`Refusal::Record`] where the log is unsound or has a node that the block lacks,
-    /// and [`Refusal::CountsFull`]. A refused log adds nothing. In which order logs are added makes no difference.
+    /// Adds a log, of a run or stored. Refused by [`Refusal::Table`] for tables 1 to 4, by [`Refusal::Number`] if uses or logs exceed
+    /// their bounds, by [`Refusal::Record`] if the log is unsound or has a node that the block lacks, and by [`Refusal::CountsFull`].
+    /// A refused log adds nothing. The order of the logs makes no difference.
     pub fn add(&mut self, block: &Block, log: impl AsRef<[u32]>) -> Result<(), Refusal> {
         let told = out(|out| {
             raw::uses_add(
@@ -58,8 +58,8 @@ impl UseCounts {
         Ok(())
     }
 
-    /// Adds counts of other logs of the same block, entry by entry: the counts of two parts, added, are those of both. So parts may be
-    /// counted side by side. Refused by [`Refusal::CountsFull`] where both together are of more logs than counts may be of; then nothing
+    /// Adds the counts of other logs of the same block, entry by entry: the sum of two parts' counts is the counts of both. So parts may
+    /// be counted at the same time. Refused by [`Refusal::CountsFull`] if both together have more logs than counts may have; then nothing
     /// is added.
     ///
     /// ```

@@ -27,25 +27,25 @@ pub struct Progress {
     pub tree_cost: u64,
 }
 
-/// A call is to take at least so many seconds, and so many times what it costs to take up the log that it goes on from.
+/// A call should take at least `LEAST` seconds, and `TIMES` times what it costs to read the log that it continues from.
 const LEAST: f64 = 0.3;
 const TIMES: f64 = 25.0;
 
-// Nanoseconds as measured on one machine, with something to spare: they choose how often a run is looked at, and nothing else.
-/// The paths that a call looks for first, for each net, node and edge; and what it reads of a log, for each word.
+// Nanoseconds, measured on one machine and rounded up. They only decide how often a run is reported.
+/// The search for paths before iteration 1, for each net, node and edge; and reading a log, for each word.
 const FLOOD: f64 = 1.0;
 const WORD: f64 = 25.0;
 /// A turn of iteration 1, for each node and edge.
 const TURN: f64 = 1.0;
 
-/// How many iterations a call is to make: taking up a log costs time, and so does waiting for whoever watches. All in seconds.
+/// Decides how many iterations a call makes: few calls, since each reads the log again, but not so few that the watcher waits. In seconds.
 pub(crate) struct Pace {
-    /// What a call is to take at least.
+    /// The least time of a call.
     pub(crate) least: f64,
-    /// What it takes before it reads a log, and for each word that it reads.
+    /// The time before it reads a log, and for each word of the log.
     pub(crate) flood: f64,
     pub(crate) word: f64,
-    /// What an iteration took last, or is expected to take.
+    /// The time of the last iteration, or the expected time of the first.
     pub(crate) iteration: f64,
 }
 
@@ -61,14 +61,14 @@ impl Pace {
         }
     }
 
-    /// The iterations of the next call, which goes on from so many words.
+    /// The iterations of the next call, which continues from this many words.
     fn iterations(&self, words: usize) -> u32 {
         let take_up = self.flood + words as f64 * self.word;
-        // a number beyond the bounds becomes the nearest within
+        // a number beyond the bounds becomes the nearest bound
         (self.least.max(TIMES * take_up) / self.iteration.max(1e-9)).ceil() as u32
     }
 
-    /// So many iterations took so long.
+    /// Takes how long some iterations took.
     fn took(&mut self, iterations: u32, time: Duration) {
         if iterations > 0 {
             self.iteration = time.as_secs_f64() / f64::from(iterations);
@@ -76,16 +76,16 @@ impl Pace {
     }
 }
 
-/// What is told of a run: the records up to a word.
+/// How far a run has been reported: the records up to a word.
 struct Teller<'j> {
     walk: Walk<'j>,
     word: usize,
-    /// Of iterations up to this one nothing is told: they were lent.
+    /// Iterations up to this one are not reported: they were lent.
     lent: u32,
 }
 
 impl Teller<'_> {
-    /// Tells of the iterations that the log has gained. Where `watch` breaks, the words of the log up to there.
+    /// Reports the iterations that the log has gained. If `watch` breaks, returns the words of the log up to there.
     fn tell(
         &mut self,
         log: &[u32],
@@ -112,7 +112,7 @@ impl Teller<'_> {
     }
 }
 
-/// A run to its end at this pace, or to where `watch` breaks.
+/// Runs to the end at this pace, or until `watch` breaks.
 pub(crate) fn watched(
     mut run: Run,
     mut pace: Pace,
@@ -140,11 +140,11 @@ pub(crate) fn watched(
 }
 
 impl Job {
-    /// Routes the job as [`Job::route`] does, and tells `watch` of each iteration, in order. Where that breaks before the run is at its
-    /// end, it ends with [`Refusal::Stopped`], which has the log up to that iteration; [`Job::resume`] and [`Job::resume_with`] go on from it.
+    /// Routes the job as [`Job::route`] does, and reports each iteration to `watch`, in order. If `watch` breaks before the end of the run,
+    /// the run ends with [`Refusal::Stopped`], which has the log up to that iteration; [`Job::resume`] and [`Job::resume_with`] continue from it.
     ///
-    /// The library makes a few iterations in a call, so that taking up their log again costs less than a tenth of the time; they are told
-    /// of when the call ends. So it may take a third of a second until `watch` is asked, on the largest blocks some seconds.
+    /// The library makes several iterations in a call, so that reading their log again costs less than a tenth of the time. They are reported
+    /// when the call ends. So it may take a third of a second until `watch` is called, on the largest blocks some seconds.
     ///
     /// ```
     /// use arvumnao::{Job, Refusal, Search};
@@ -169,7 +169,7 @@ impl Job {
         watched(Run::new(self, search, None), Pace::new(self), watch)
     }
 
-    /// Goes on from a log as [`Job::resume`] does, and tells `watch` of each iteration that is appended, as [`Job::route_with`] does.
+    /// Continues from a log as [`Job::resume`] does, and reports each appended iteration to `watch`, as [`Job::route_with`] does.
     pub fn resume_with(
         &self,
         search: Search,

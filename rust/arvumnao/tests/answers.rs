@@ -18,7 +18,7 @@ fn job_b() {
     assert_eq!(job.route_in(36).unwrap(), answer);
 }
 
-/// A chain of the longest wires between a source and a sink, for so many nets: the log is longer than the first that is tried.
+/// A chain of the longest wires between a source and a sink, for this many nets: the log is longer than the first that is tried.
 fn chains(nets: u16, length: u16) -> Job {
     let mut job = Job { terms: Terms { limit: 1, ..Terms::default() }, ..Job::default() };
     for net in 0..nets {
@@ -100,7 +100,7 @@ fn crowded_nets_alone_after_iteration_k() {
     assert_eq!(job.route().unwrap().turns, 6);
 }
 
-/// Job B stopped by a limit of 1, and gone on from: its own log, as long as needed or not, and one of a longer path for net 0.
+/// Job B stopped by a limit of 1, and continued: its own log, as long as needed or not, and one of a longer path for net 0.
 #[test]
 fn job_b_resumed() {
     let mut job = Job::read(JOB_B).unwrap();
@@ -117,7 +117,7 @@ fn job_b_resumed() {
     // a log is never shorter than its own words
     assert_eq!(job.resume_in(&log, 0).unwrap_err().numbers(), [8, 2, 2]);
 
-    // net 0 on wire 3 settles iteration 1, so that there is nothing to go on for
+    // net 0 on wire 3 settles iteration 1, so there is nothing left to route
     let longer = [1, 0, 4, 6000, 0, 3, 0, 3, 4, 1, 1, 5, 4000, 0, 3, 1, 2, 5];
     assert_eq!(job.resume(longer).unwrap_err().numbers(), [14, 18]);
 }
@@ -195,7 +195,7 @@ fn first_listing_counts() {
     assert_eq!(turns(&answer.log), [(2, 10_000, &[0, 2][..]), (1, 16_000, &[0, 1])]);
 }
 
-/// Job B as a timed one, of which net 0's sink is critical and wire 3 slow, stopped by a limit of 1 and gone on from.
+/// Job B as a timed one, of which net 0's sink is critical and wire 3 slow, stopped by a limit of 1 and continued.
 #[test]
 fn a_timed_job_resumed() {
     let mut job = Job::read(JOB_B).unwrap();
@@ -289,7 +289,7 @@ fn terms_as_a_slice() {
     assert_eq!(run(&[9, 50, 3, 2, 1, 2, 0]), (vec![5, 8], [0; 3]));
 }
 
-/// A short `out` is told by the returned 0, and nothing is done.
+/// A short `out` gives the returned 0, and nothing is done.
 #[test]
 fn raw_calls() {
     let mut out = [7; raw::OUT - 1];

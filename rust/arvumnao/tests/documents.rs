@@ -19,7 +19,7 @@ fn blocks(document: &str) -> Vec<(&str, String)> {
     blocks
 }
 
-/// The uses of a log alone, so many lines; the other kinds have none.
+/// The uses of a log alone, the first `lines` lines; the other kinds have none.
 fn uses(job: &Job, log: &Log, lines: usize) -> String {
     let mut counts = UseCounts::default();
     counts.add(&job.block, log).unwrap();

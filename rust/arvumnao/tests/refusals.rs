@@ -52,7 +52,7 @@ fn lines_that_are_due() {
     refused(
         "F,6,6,2,2\nV,1,1\n",
         [1, 2],
-        "line 2: has a second number, which rule 1 takes none of: \"V,1,1\"",
+        "line 2: has a second number, which rule 1 does not take: \"V,1,1\"",
     );
     refused(
         &changed("N,2,4,1\n", "\n"),
@@ -397,7 +397,7 @@ fn runs() {
     assert_eq!(refusal.numbers(), [8, 2, 3]);
     assert_eq!(
         refusal.to_string(),
-        "the log is full after 3 turns, in iteration 2: a longer log lets the job go on"
+        "the log is full after 3 turns, in iteration 2: a longer log lets the job continue"
     );
     let Refusal::LogFull { log, .. } = refusal else { panic!() };
     assert_eq!(log.records().count(), 3);
@@ -477,7 +477,7 @@ fn columns() {
     assert_eq!(column("F,6,6,2,2\n", "F,6,6,2,2\nW,\n"), Some(1));
 }
 
-/// Logs that can't be gone on from.
+/// Logs that a run can't continue from.
 #[test]
 fn resumes() {
     let job = job_b();
@@ -486,10 +486,10 @@ fn resumes() {
         let refusal = job.resume(words).unwrap_err();
         assert_eq!((refusal.numbers(), refusal.to_string()), (vec![14, word], String::from(sentence)));
     };
-    refused(&job, &[], 0, "the log is empty: there is no run to go on from");
+    refused(&job, &[], 0, "the log is empty: there is no run to continue");
     let end = |word: u64| {
         format!(
-            "the log follows the job to its end, at word {word}, but can't be gone on from: its last iteration is not whole, leaves \
+            "the log follows the job to its end, at word {word}, but can't be continued: its last iteration is not whole, leaves \
              no node over capacity, or is the limit"
         )
     };
@@ -499,9 +499,9 @@ fn resumes() {
     one.terms.limit = 1;
     refused(&one, &whole.words()[..18], 18, &end(18));
     refused(&job, &whole.words()[..17], 9, "the log's record at word 9 does not follow the job");
-    let mut dearer = whole.words()[..18].to_vec();
-    dearer[3] += 1;
-    refused(&job, &dearer, 0, "the log's record at word 0 does not follow the job");
+    let mut costlier = whole.words()[..18].to_vec();
+    costlier[3] += 1;
+    refused(&job, &costlier, 0, "the log's record at word 0 does not follow the job");
     one.terms.limit = 0;
     assert_eq!(one.resume(&whole).unwrap_err().numbers(), [5, 8]);
 }
@@ -661,7 +661,7 @@ fn counts_of_uses() {
     refused(of(2, 1_025), &block, [13, 5], sentence);
 
     let full = of(65_535, 9);
-    let sentence = "the counts are of 65535 logs already, and may be of no more: begin new ones";
+    let sentence = "the counts have 65535 logs already, the highest number: begin new ones";
     assert_eq!(added(full.clone(), &block, log.words()), (vec![16, 65_535], String::from(sentence)));
     let sentence = "the log's record at word 27 is unsound";
     assert_eq!(added(full.clone(), &block, &log.words()[..35]), (vec![10, 27], String::from(sentence)));

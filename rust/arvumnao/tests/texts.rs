@@ -34,7 +34,7 @@ fn lines_left_out() {
     assert_eq!(head(Terms { first: 0, ..plain }), (String::from("P,0,3,2,1"), true));
     assert_eq!(head(Terms { step: 2, rule: 2, ..plain }), (String::from("P,50,3,2,2 V,2"), true));
     assert_eq!(head(Terms { rule: 2, until: 7, ..plain }), (String::from("V,2,7"), true));
-    // under rule 1 the second number is of no account, and a text can't have it
+    // under rule 1 the second number is ignored, and a text can't have it
     assert_eq!(head(Terms { until: 7, ..plain }), (String::new(), false));
 }
 

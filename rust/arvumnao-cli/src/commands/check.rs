@@ -1,4 +1,4 @@
-//! `check`: nothing but the verdict on jobs, as compilers give it.
+//! `check`: only the verdict on jobs, as compilers give it.
 
 use super::Command;
 use crate::args::Args;
@@ -12,7 +12,7 @@ use std::ffi::OsStr;
 
 pub const COMMAND: Command = Command {
     name: "check",
-    summary: "tell whether jobs are sound and can be routed, and what is wrong",
+    summary: "say whether jobs are correct and can be routed, and what is wrong",
     usage: "JOB..",
     about: "\
 Tells, on standard error, a line for each job: where it settles, or FILE:LINE: the numbers of the refusal and what
@@ -25,7 +25,7 @@ try; one with a sink out of reach, what can be reached. Nothing is written. With
 
 /// The most nodes or nets that a line lists.
 const LISTED: usize = 16;
-/// The most overfull nodes that are told of.
+/// The most overfull nodes that are listed.
 const ROWS: usize = 20;
 
 fn run(args: &Args, console: &Console) -> Result<Status, Failure> {
@@ -94,7 +94,7 @@ fn reach(block: &Block, source: u16, sink: u16) -> String {
     )
 }
 
-/// The nodes that edges lead to from one, in order; that one is left out.
+/// The nodes that can be reached from a node over edges, in order, without the node itself.
 fn reached(nodes: usize, start: u16, edges: &[(u16, u16)]) -> Vec<u16> {
     let mut targets = vec![Vec::new(); nodes];
     for (from, to) in edges {
@@ -132,7 +132,7 @@ fn crowded(job: &Job, overfull: &[Overfull], log: &Log) -> String {
     table.text() + &more
 }
 
-/// A node that is the sink of more nets than it has room for: nothing but room for it helps.
+/// A node that is the sink of more nets than it has room for: only more capacity helps.
 fn hopeless(job: &Job, overfull: &[Overfull]) -> String {
     let mut wanted = vec![0; job.block.kind.len()];
     for net in 0..job.nets.source.len() {

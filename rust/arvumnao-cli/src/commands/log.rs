@@ -1,4 +1,4 @@
-//! `log`: a job's paths and costs, a line a record.
+//! `log`: a job's paths and costs, a line for each record.
 
 use super::Command;
 use crate::args::{flag, valued, Args};
@@ -14,12 +14,12 @@ pub const COMMAND: Command = Command {
     summary: "print every path that was found, with its cost, and why it costs that",
     usage: "JOB [--net N] [--iteration I] [--why] [-o FILE]",
     about: "\
-Routes a job and prints its log, a line a record, in the order of the turns; also that of a job whose limit was
-reached. With --why the nodes of each path follow it, and how each one's price comes about. The prices are worked
-out anew from the job and the earlier records; where they don't come to the cost logged, nothing is printed.",
+Routes a job and prints its log, a line for each record, in the order of the turns; also if the limit was reached.
+With --why the nodes of each path follow it, and how each one's price is made up. The prices are computed
+again from the job and the earlier records. If they don't add up to the cost logged, nothing is printed.",
     options: &[
-        valued(None, "net", "N", "the records of that net alone"),
-        valued(None, "iteration", "I", "the records of that iteration alone"),
+        valued(None, "net", "N", "only the records of that net"),
+        valued(None, "iteration", "I", "only the records of that iteration"),
         flag(None, "why", "split each cost into history, base cost, factor, excess and delay"),
         valued(Some('o'), "output", "FILE", "write to FILE"),
     ],
@@ -54,7 +54,7 @@ fn run(args: &Args, console: &Console) -> Result<Status, Failure> {
     Ok(run.status())
 }
 
-/// How the price of each node of a path comes about.
+/// How the price of each node of a path is made up.
 fn why(turn: &Turn, factor: u32) -> String {
     turn.steps
         .iter()

@@ -79,7 +79,7 @@ fn graph(run: &Run, net: Option<u32>) -> Result<String, Failure> {
     Ok(text + "}\n")
 }
 
-/// A net that has no branches is a mistake, or stands under another number.
+/// A net that has no branches is a mistake, or was joined into another net.
 fn known(run: &Run, routes: &Routes, net: u32) -> Result<(), Failure> {
     if routes.branches.iter().any(|branch| branch[0] == net) {
         return Ok(());
@@ -93,7 +93,7 @@ fn known(run: &Run, routes: &Routes, net: u32) -> Result<(), Failure> {
     }))
 }
 
-/// A node: its shape tells the kind, red that it is overfull.
+/// A node: its shape shows the kind, red that it is overfull.
 fn node_line(node: u32, kind: u8, crowd: Option<&str>) -> String {
     let (shape, below) = match kind {
         kind::SOURCE => ("invhouse", String::from("source")),
@@ -130,7 +130,7 @@ fn drawn(graph: &str) -> Result<Vec<u8>, Failure> {
     let mut process = process.map_err(|error| trouble(&error))?;
     let input = process.stdin.take();
     let ended = thread::scope(|scope| {
-        // dot may begin to write before it has read all; that it reads no further shows in its status
+        // dot may begin to write before it has read all its input; if it stops reading, its exit status shows that
         scope.spawn(move || input.map(|mut input| input.write_all(graph.as_bytes())));
         process.wait_with_output()
     });

@@ -19,7 +19,7 @@ use places::Places;
 
 pub const COMMAND: Command = Command {
     name: "report",
-    summary: "tell each net's detour, the crowded nodes, delays and the use of wires",
+    summary: "report each net's detour, the crowded nodes, delays and the use of wires",
     usage: "JOB [--top N] [--json | --html FILE [--places FILE]] [-o FILE]",
     about: "\
 Routes a job and prints tables: the iterations; the detour of each net, which is what its tree costs at base costs

@@ -23,37 +23,37 @@ pub const COMMAND: Command = Command {
     usage: "JOB.. [-o FILE | -d DIR] [--log FILE] [--limit N] [--resume LOG] [--aimed] [-j N] [--json]",
     about: "\
 Writes the proved writer's routes text of each job, to standard output unless a file or folder is named. On a
-terminal it shows a row an iteration. A refused job is told of on standard error, and nothing is written for it.
-A file comes to stand under its name when it is whole. Ctrl-C ends a run after its iteration and keeps the log of
+terminal it shows a row for each iteration. A refused job is reported on standard error, and nothing is written for it.
+A file appears under its name when it is complete. Ctrl-C ends a run after the current iteration and keeps the log of
 the whole iterations: in the file that --log names, else in NAME.log; a second Ctrl-C ends at once.",
     options: &[
         valued(Some('o'), "output", "FILE", "write the routes to FILE"),
         valued(Some('d'), "directory", "DIR", "write DIR/NAME.routes for each job, and DIR/NAME.log of one that was stopped"),
-        valued(None, "log", "FILE", "write the log, a line a record, to FILE; also where the limit was reached"),
+        valued(None, "log", "FILE", "write the log, a line for each record, to FILE; also if the limit was reached"),
         valued(None, "limit", "N", "the most iterations, 1 to 100, in place of the job's own"),
-        valued(None, "resume", "LOG", "go on from a log that --log or Ctrl-C left"),
-        flag(None, "aimed", "use the search that aims, and tell how many nodes it expanded"),
-        valued(Some('j'), "jobs", "N", "route N jobs at a time; 0: as many as there are cores"),
+        valued(None, "resume", "LOG", "continue from a log that --log or Ctrl-C left"),
+        flag(None, "aimed", "use the search that aims, and report how many nodes it expanded"),
+        valued(Some('j'), "jobs", "N", "route N jobs at a time; 0: the number of cores"),
         flag(None, "json", "write a JSON object in a line for each job, refused ones too"),
     ],
     several: true,
     run,
 };
 
-/// What came of a job.
+/// The results of a job.
 struct Done {
     status: Status,
     /// What goes to its output.
     data: Option<Vec<u8>>,
     /// A log, with where it goes.
     log: Option<(Output, String)>,
-    /// What is told of it, whole lines.
+    /// What is reported about it, in whole lines.
     told: String,
 }
 
 fn run(args: &Args, console: &Console) -> Result<Status, Failure> {
     let plan = Plan::of(args)?;
-    // standard input is read before Ctrl-C is listened to, which ends the waiting for it
+    // standard input is read first: Ctrl-C must end the waiting for it
     let input = plan.jobs.iter().find(|job| *job == "-").map(|job| Text::read(job)).transpose()?;
     let resumed = plan.resume.as_deref().map(Text::read_long).transpose()?;
     interrupt::listen();
@@ -86,7 +86,7 @@ fn run(args: &Args, console: &Console) -> Result<Status, Failure> {
     Ok(status)
 }
 
-/// A job's failure is told, and the others go on; where nobody reads the output any more, nothing does.
+/// Reports a job's failure and continues with the others; if nobody reads the output any more, it stops.
 fn or_told(ended: Result<Status, Failure>, console: &Console) -> Result<Status, Failure> {
     ended.or_else(|failure| match failure {
         Failure::ClosedPipe => Err(failure),
@@ -138,7 +138,7 @@ impl Plan {
         Ok(done)
     }
 
-    /// Routes a job, or goes on from a log, and shows a row an iteration where it is the only one.
+    /// Routes a job, or continues from a log, and shows a row for each iteration if it is the only job.
     fn route(&self, job: &Job, log: Option<&Log>, console: &Console) -> Aimed {
         let mut watch = (self.jobs.len() == 1).then(|| Watch::new(console, job.terms.limit));
         let look = |progress: &Progress| {
@@ -172,14 +172,14 @@ impl Plan {
         Done { status: Status::of(refusal), data, log: None, told }
     }
 
-    /// A log that can't be gone on from.
+    /// A log that a run can't continue from.
     fn refused_log(&self, log: &Text, refusal: &Refusal, console: &Console) -> Done {
         let told = verdict::of_log(log, refusal, console);
         let data = self.json.then(|| json::refused(&log.name, refusal).into_bytes());
         Done { status: Status::of(refusal), data, log: None, told }
     }
 
-    /// Writes what came of a job: first the log, which can't be had again as quickly. Where one file takes all jobs, it is gathered.
+    /// Writes the results of a job: first the log, which takes longest to make again. If one file takes all jobs, its data is gathered.
     fn write(
         &self,
         place: usize,
@@ -199,7 +199,7 @@ impl Plan {
             self.tell_log(place, &output, done.status, console);
             Ok(())
         });
-        // what one file has no room for doesn't keep the other from being written
+        // an error in one file doesn't keep the other from being written
         match done.data {
             Some(data) if self.gathers() => gathered.extend(data),
             Some(data) => self.outputs[place].write(&data)?,
@@ -209,7 +209,7 @@ impl Plan {
         Ok(done.status)
     }
 
-    /// Where the log of a run that was stopped stands, and how to go on from it: after its limit under a higher one.
+    /// Says where the log of a stopped run is, and how to continue from it: after its limit under a higher one.
     fn tell_log(&self, place: usize, output: &Output, status: Status, console: &Console) {
         let limit = match (status, self.limit) {
             (Status::NotRouted, _) => String::from(" --limit N"),
@@ -219,12 +219,13 @@ impl Plan {
         };
         if let Output::File(path) = output {
             let (job, path) = (self.jobs[place].to_string_lossy(), path.display());
-            console
-                .say(&format!("{path} has its log; to go on: arvumnao route {job}{limit} --resume {path}"));
+            console.say(&format!(
+                "{path} has its log; to continue: arvumnao route {job}{limit} --resume {path}"
+            ));
         }
     }
 
-    /// A file of an earlier run stays where a job is refused: whoever reads on must know.
+    /// If a job is refused, a file of an earlier run stays; the user must know that.
     fn tell_old(&self, place: usize, console: &Console) {
         if let Output::File(path) = &self.outputs[place] {
             if path.is_file() {

@@ -18,10 +18,10 @@ pub const COMMAND: Command = Command {
     usage: "JOB.. [--skip-refused] [--csv] [-j N] [-o FILE]",
     about: "\
 Routes jobs of one block and prints, for each kind of node that the block has, how often it was used and how often
-it could have been, as the proved library counts, with the percentage. A refused job is told of on standard error,
-and no counts are printed, unless --skip-refused leaves it out. The exit status tells of it in either case.",
+it could have been, as the proved library counts, with the percentage. A refused job is reported on standard error,
+and no counts are printed, unless --skip-refused leaves it out. The exit status shows it in both cases.",
     options: &[
-        flag(None, "skip-refused", "count the other jobs where some are refused"),
+        flag(None, "skip-refused", "count the other jobs if some are refused"),
         flag(None, "csv", "print kind,name,uses,capacity,percent with a head line"),
         valued(Some('j'), "jobs", "N", "route N jobs at a time; 0: as many as there are cores"),
         valued(Some('o'), "output", "FILE", "write to FILE"),
@@ -30,7 +30,7 @@ and no counts are printed, unless --skip-refused leaves it out. The exit status 
     run,
 };
 
-/// What came of a job: its block and the counts of its log, or the status of a refusal and what is told of it.
+/// What came of a job: its block and the counts of its log, or the status of a refusal and what is reported about it.
 type Counted = Result<(Block, UseCounts), (Status, String)>;
 
 /// The counts so far.

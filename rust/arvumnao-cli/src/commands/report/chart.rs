@@ -67,7 +67,7 @@ fn text(x: f64, y: f64, anchor: &str, words: impl Display) -> String {
     format!("<text x=\"{x:.1}\" y=\"{y:.1}\" text-anchor=\"{anchor}\">{words}</text>")
 }
 
-/// A dot for each iteration, which tells its number of nodes when pointed at.
+/// A dot for each iteration, which shows its number of nodes when pointed at.
 fn dots(rows: &[Row], scale: &Scale) -> String {
     let dot = |row: &Row| {
         let (x, y) = (scale.x(row.number), scale.y(row.overfull));

@@ -13,11 +13,11 @@ pub struct Figures {
     pub verdict: String,
     pub routed: bool,
     pub iterations: Vec<Row>,
-    /// By how much dearer they have become, most first.
+    /// Sorted by how much more expensive they have become, most first.
     pub nets: Vec<Net>,
     /// Every node, in order.
     pub nodes: Vec<Node>,
-    /// In a timed job, by how much later they are reached, most first.
+    /// In a timed job, sorted by how much later they are reached, most first.
     pub sinks: Vec<Sink>,
     pub timed: bool,
     pub kinds: Vec<Uses>,

@@ -4,7 +4,7 @@ use super::figures::{Figures, Net, Node, Row, Sink};
 use crate::json::Json;
 use crate::kinds::Uses;
 
-/// The object in a line, with at most so many entries of each list that is sorted by rank.
+/// The object in one line, with at most this many entries of each list that is sorted by rank.
 pub fn of(figures: &Figures, top: usize) -> String {
     let object = Json::Object(vec![
         ("job", Json::text(&figures.name)),

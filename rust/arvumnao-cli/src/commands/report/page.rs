@@ -19,11 +19,11 @@ pub fn of(figures: &Figures, top: usize, places: Option<&Places>) -> String {
     let order = match places {
         None => {
             let columns = heat::columns(figures.nodes.len());
-            format!("nodes in the order of their numbers, {columns} in a row; each square tells its node when pointed at")
+            format!("nodes in the order of their numbers, {columns} in a row; each square shows its node when pointed at")
         }
         Some(places) => {
             format!(
-                "{} of {} nodes, as they are placed; each square tells its node when pointed at",
+                "{} of {} nodes, as they are placed; each square shows its node when pointed at",
                 places.list().count(),
                 figures.nodes.len()
             )

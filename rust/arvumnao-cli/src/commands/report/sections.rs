@@ -24,7 +24,7 @@ pub fn text(figures: &Figures, top: usize) -> String {
     text
 }
 
-/// All sections, with at most so many rows of nets, nodes and sinks.
+/// All sections, with at most this many rows of nets, nodes and sinks.
 pub fn of(figures: &Figures, top: usize) -> Vec<Section> {
     let mut sections = vec![detours(figures, top), crowded(figures, top)];
     if figures.timed {
@@ -70,7 +70,7 @@ fn detours(figures: &Figures, top: usize) -> Section {
     }
     let longer = figures.nets.iter().filter(|net| net.now > net.alone).count();
     let note = format!(
-        "{longer} of {} dearer than alone, that is in iteration 1; trees at base costs",
+        "{longer} of {} more expensive than alone, that is in iteration 1; trees at base costs",
         counted(figures.nets.len(), "net")
     );
     Section { title: "Detours", note, table }

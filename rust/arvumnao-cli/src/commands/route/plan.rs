@@ -49,7 +49,7 @@ impl Plan {
         Ok(plan)
     }
 
-    /// What the arguments can't be together.
+    /// Refuses options that exclude each other.
     fn test(&self, args: &Args) -> Result<(), Failure> {
         let several = self.jobs.len() > 1;
         for long in ["log", "resume"] {
@@ -110,7 +110,7 @@ impl Plan {
         self.search == Search::Aimed
     }
 
-    /// The log's text with where it goes, if it goes anywhere: that of a run which Ctrl-C stopped always does, in a folder also that of one
+    /// The log's text and its file, if it is kept. The log of a run that Ctrl-C stopped is always kept; with a folder also that of a run
     /// which its limit stopped.
     pub fn log_of(&self, job: &OsStr, answer: &Result<Answer, Refusal>) -> Option<(Output, String)> {
         let (log, stopped) = match answer {
