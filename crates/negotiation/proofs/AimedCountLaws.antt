@@ -19,7 +19,7 @@ use Rattle.price.proofs.TestLaws.{by-test}
 use Rattle.price.proofs.BelowLaws.{count-most}
 use Rattle.search.specs.Distance.{far}
 use Rattle.search.specs.Turn.{priceAt, nearestDistance}
-use Rattle.search.specs.Aimed.{weightAt, expands, expanded}
+use Rattle.search.specs.Aimed.{weightAt, expands, expandedBy, expanded}
 use Rattle.search.specs.Replies.{sinksMost}
 use Rattle.search.proofs.BlockLaws.{graph-of}
 use Rattle.search.proofs.AimedLaws.{expanded-same}
@@ -83,7 +83,7 @@ after-more false j lent rs r = rw (after-these false j lent (rs ++ (r ∷ [])), 
 
 -- a turn expands no more than the nodes
 pub turn-most : (j : Job) (earlier : List Record) (r : Record) → turnExpanded j earlier r ≤ nodes j
-unfolding turnExpanded expanded
+unfolding turnExpanded expandedBy
 turn-most j earlier r =
     let tree : List ℕ = ownTree j (r .net) (r .iteration) earlier in
     let price : (ℕ → ℕ) = priceRead j (r .net) (r .iteration) earlier in

@@ -21,4 +21,5 @@ pub mod JoinSteps
 pub mod ResumeSteps
 pub mod TakeSteps
 pub mod Flood
+pub mod BackSteps
 pub mod Samples

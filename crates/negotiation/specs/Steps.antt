@@ -11,10 +11,11 @@ use Rattle.price.specs.Test.{choose, both, either}
 use Rattle.price.specs.Lists.{every, has}
 use Rattle.price.specs.Bounds.{factorMost}
 use Rattle.search.specs.Block as block
-use Rattle.search.specs.Block.{Block}
+use Rattle.search.specs.Block.{Block, graphOf}
 use Rattle.search.specs.Tables.{Sound}
 use Rattle.search.specs.Turn.{Congestion, priceAt, Turn, joins, stuck}
 use Rattle.search.specs.Aimed.{weightAt, expanded}
+use Rattle.search.specs.ByTarget.{ListsBack}
 use Rattle.search.specs.Replies.{nodeSound, sinkListSound}
 use Rattle.search.specs.Priceable.{Weighable}
 use Rattle.search.specs.declared.PathAnswer.{PathAnswer}
@@ -272,3 +273,7 @@ pub record CanTurn (b : Block) (c : Congestion) (tariff : Tariff) (sinks marks w
   pub within : tariff .words ≤ length log
   pub few-turns : tariff .turns ≤ tariff .words
   pub few-expanded : tariff .expanded + block.nodes b < 2 ^ 64
+
+-- a search that aims is lent the block's edges by their target; the other one needs none
+abbrev pub BackLent : Bool → Block → (firsts sources : List ℕ) → Type 0
+BackLent aimed b firsts sources = aimed ≡ true → ListsBack b (graphOf (b .kinds) firsts sources)

@@ -51,6 +51,7 @@ enum Start {
     After(usize),
 }
 
+mod back;
 mod congestion;
 mod due;
 mod flood;

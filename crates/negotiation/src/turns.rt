@@ -3,7 +3,7 @@ ghost use mathlib.Core.Bool.{Bool, true};
 ghost use mathlib.Core.List.{_++_};
 ghost use mathlib.Core.Path.{_≡_};
 ghost use Prim.Native.Nat.{ℕ, _+_, _*_, _≤_, _<_};
-ghost use lib.ListN.{length, drop, replicate};
+ghost use lib.ListN.{length, getD, drop, replicate};
 ghost use lib.Seq.{slice};
 ghost use Rattle.price.specs.Bounds.{limitMost};
 ghost use Rattle.price.specs.Prices.{nextFactor};
@@ -19,13 +19,15 @@ ghost use Rattle.search.specs.Replies.{sinkListSound};
 ghost use Rattle.negotiation.specs.Outcome.{unreachableNet, firstProgress, continued, routeReplyOf, turnsLogged};
 ghost use Rattle.negotiation.specs.Aimed.{expandedAfter};
 ghost use Rattle.negotiation.specs.Runs.{Ran};
-ghost use Rattle.negotiation.specs.Steps.{SameFrom, TurnReady, PathFound, turnCount, TurnDone, CanTurn};
+ghost use Rattle.negotiation.specs.Steps.{SameFrom, TurnReady, PathFound, turnCount, TurnDone, CanTurn, BackLent};
+ghost use Rattle.negotiation.specs.BackSteps.{Fitting};
 ghost use Rattle.negotiation.specs.Kept.{Ready, SomeReady};
 ghost use Rattle.negotiation.specs.Resume.{runFrom, lentRecords};
 ghost use Rattle.negotiation.specs.TakeSteps.{Started};
 use crate::Outcome;
 use crate::RouteAnswer;
 use crate::Start;
+use crate::back;
 use crate::congestion;
 use crate::due;
 use crate::nets;
@@ -42,6 +44,8 @@ use job::Terms;
 use price::Tuning;
 use price::Weighting;
 use search::AimedPath;
+use search::EDGES_MOST;
+use search::FIRST_EDGES_MOST;
 use search::NODES_MOST;
 use search::PathAnswer;
 
@@ -97,6 +101,8 @@ fn found_path(
     capacity: &[u8],
     first_edge: &[u32],
     edge_target: &[u16],
+    first_back: &[u32],
+    back_source: &[u16],
     weighting: Weighting,
     delay: &[u16],
     factor: u32,
@@ -110,6 +116,9 @@ fn found_path(
       let block = blockOf (now kind) (now capacity) (now «first_edge») (now «edge_target»)
       let congestion = weighedCongestion weighting (now delay) factor (now history) (now users)
       ⌜ TurnReady block congestion (now «in_tree») (now work) × (sinkListSound (length (now kind)) (now sinks) ≡ true) ⌝ }
+    requires { do
+      let block = blockOf (now kind) (now capacity) (now «first_edge») (now «edge_target»)
+      ⌜ BackLent aimed block (now «first_back») (now «back_source») ⌝ }
     ensures { λ r. do
       let block = blockOf (now (kind .entry)) (now (capacity .entry)) (now («first_edge» .entry)) (now («edge_target» .entry))
       let congestion = weighedCongestion weighting (now (delay .entry)) factor (now (history .entry)) (now (users .entry))
@@ -124,6 +133,8 @@ fn found_path(
             capacity,
             first_edge,
             edge_target,
+            first_back,
+            back_source,
             weighting,
             delay,
             factor,
@@ -160,6 +171,8 @@ fn one_turn(
     capacity: &[u8],
     first_edge: &[u32],
     edge_target: &[u16],
+    first_back: &[u32],
+    back_source: &[u16],
     weighting: Weighting,
     delay: &[u16],
     sinks: &[u16],
@@ -175,6 +188,9 @@ fn one_turn(
       let block = blockOf (now kind) (now capacity) (now «first_edge») (now «edge_target»)
       let congestion = weighedCongestion weighting (now delay) (tariff .factor) (now history) (now users)
       ⌜ CanTurn block congestion tariff (now sinks) (now «in_tree») (now work) (now log) ⌝ }
+    requires { do
+      let block = blockOf (now kind) (now capacity) (now «first_edge») (now «edge_target»)
+      ⌜ BackLent (tariff .aimed) block (now «first_back») (now «back_source») ⌝ }
     ensures { λ r. do
       let block = blockOf (now (kind .entry)) (now (capacity .entry)) (now («first_edge» .entry)) (now («edge_target» .entry))
       let congestion = weighedCongestion weighting (now (delay .entry)) (tariff .factor) (now (history .entry)) (now (users .entry))
@@ -194,6 +210,8 @@ fn one_turn(
         capacity,
         first_edge,
         edge_target,
+        first_back,
+        back_source,
         weighting,
         delay,
         factor,
@@ -232,6 +250,8 @@ fn net_turn(
     capacity: &[u8],
     first_edge: &[u32],
     edge_target: &[u16],
+    first_back: &[u32],
+    back_source: &[u16],
     sink: &[u16],
     criticality: &[u8],
     from: usize,
@@ -255,6 +275,9 @@ fn net_turn(
       let weighting = weightingDue timed joined sinks criticalities
       let congestion = weighedCongestion weighting (now delay) (tariff .factor) (now history) (now users)
       ⌜ CanTurn block congestion tariff (sinksTried timed joined sinks criticalities) (now «in_tree») (now work) (now log) ⌝ }
+    requires { do
+      let block = blockOf (now kind) (now capacity) (now «first_edge») (now «edge_target»)
+      ⌜ BackLent (tariff .aimed) block (now «first_back») (now «back_source») ⌝ }
     ensures { λ r. do
       let block = blockOf (now (kind .entry)) (now (capacity .entry)) (now («first_edge» .entry)) (now («edge_target» .entry))
       let sinks = slice from to (now (sink .entry))
@@ -278,6 +301,8 @@ fn net_turn(
         capacity,
         first_edge,
         edge_target,
+        first_back,
+        back_source,
         weighting,
         delay,
         &sink[a..e],
@@ -298,6 +323,8 @@ fn go_on(
     capacity: &[u8],
     first_edge: &[u32],
     edge_target: &[u16],
+    first_back: &[u32],
+    back_source: &[u16],
     source: &[u16],
     first_sink: &[u32],
     sink: &[u16],
@@ -319,6 +346,9 @@ fn go_on(
           (now delay) (now criticality) terms
       ⌜ (Routable job × (nets job ≤ unreachableNet job) × (8 * nodes job ≤ length (now work)))
           × SomeReady job begun (now history) (now users) (now «in_tree») (now «tree_from») (now «tree_to») (now due) (now log) ⌝ }
+    requires { do
+      let block = blockOf (now kind) (now capacity) (now «first_edge») (now «edge_target»)
+      ⌜ BackLent (begun .aimed) block (now «first_back») (now «back_source») ⌝ }
     ensures { λ r. do
       let job = jobOf (now (kind .entry)) (now (capacity .entry)) (now («first_edge» .entry)) (now («edge_target» .entry))
           (now (source .entry)) (now («first_sink» .entry)) (now (sink .entry)) (now (delay .entry)) (now (criticality .entry)) terms
@@ -371,6 +401,8 @@ fn go_on(
                     capacity,
                     first_edge,
                     edge_target,
+                    first_back,
+                    back_source,
                     sink,
                     criticality,
                     from,
@@ -495,6 +527,8 @@ fn run_from(
     capacity: &[u8],
     first_edge: &[u32],
     edge_target: &[u16],
+    first_back: &[u32],
+    back_source: &[u16],
     source: &[u16],
     first_sink: &[u32],
     sink: &[u16],
@@ -518,6 +552,9 @@ fn run_from(
       ⌜ (Routable job × (nets job ≤ unreachableNet job) × (8 * nodes job ≤ length (now work)))
           × Ready job (firstProgress job) begun (now history) (now users) (now «in_tree») (now «tree_from») (now «tree_to») (now due)
           (now log) ⌝ }
+    requires { do
+      let block = blockOf (now kind) (now capacity) (now «first_edge») (now «edge_target»)
+      ⌜ BackLent (begun .aimed) block (now «first_back») (now «back_source») ⌝ }
     ensures { λ r. do
       let job = jobOf (now (kind .entry)) (now (capacity .entry)) (now («first_edge» .entry)) (now («edge_target» .entry))
           (now (source .entry)) (now («first_sink» .entry)) (now (sink .entry)) (now (delay .entry)) (now (criticality .entry)) terms
@@ -558,6 +595,8 @@ fn run_from(
             capacity,
             first_edge,
             edge_target,
+            first_back,
+            back_source,
             source,
             first_sink,
             sink,
@@ -575,6 +614,234 @@ fn run_from(
             log,
         ),
     }
+}
+
+// The run with the search that aims, in lists for the edges by their target, of which the first holds 0.
+fn run_listed(
+    kind: &[u8],
+    capacity: &[u8],
+    first_edge: &[u32],
+    edge_target: &[u16],
+    first_back: &mut [u32],
+    back_source: &mut [u16],
+    source: &[u16],
+    first_sink: &[u32],
+    sink: &[u16],
+    delay: &[u16],
+    criticality: &[u8],
+    terms: Terms,
+    start: Start,
+    begun: Tariff,
+    history: &mut [u32],
+    users: &mut [u16],
+    in_tree: &mut [u8],
+    tree_from: &mut [usize],
+    tree_to: &mut [usize],
+    due: &mut [u8],
+    work: &mut [u64],
+    log: &mut [u32],
+) -> RouteAnswer
+    requires { do
+      let job = jobOf (now kind) (now capacity) (now «first_edge») (now «edge_target») (now source) (now «first_sink») (now sink)
+          (now delay) (now criticality) terms
+      ⌜ (Routable job × (nets job ≤ unreachableNet job) × (8 * nodes job ≤ length (now work)))
+          × Ready job (firstProgress job) begun (now history) (now users) (now «in_tree») (now «tree_from») (now «tree_to») (now due)
+          (now log) ⌝ }
+    requires { ⌜ Fitting (now «first_edge») (now «edge_target») (now «first_back») (now «back_source»)
+        × ((v : ℕ) → v < length (now «first_back») → getD (now «first_back») v 0 ≡ 0) ⌝ }
+    ensures { λ r. do
+      let job = jobOf (now (kind .entry)) (now (capacity .entry)) (now («first_edge» .entry)) (now («edge_target» .entry))
+          (now (source .entry)) (now («first_sink» .entry)) (now (sink .entry)) (now (delay .entry)) (now (criticality .entry)) terms
+      ⌜ routeReplyOf r (now (work .exit)) (now (log .exit)) ≡ runFrom start job (now (work .entry)) (now (log .entry)) ⌝ }
+    ensures expanded { λ r. do
+      let job = jobOf (now (kind .entry)) (now (capacity .entry)) (now («first_edge» .entry)) (now («edge_target» .entry))
+          (now (source .entry)) (now («first_sink» .entry)) (now (sink .entry)) (now (delay .entry)) (now (criticality .entry)) terms
+      let made = turnsLogged (routeReplyOf r (now (work .exit)) (now (log .exit)))
+      ⌜ r .expanded ≡ expandedAfter (begun .aimed) job (lentRecords start (now (log .entry))) made ⌝ }
+{
+    back::list_by_target(kind, first_edge, edge_target, first_back, back_source);
+    run_from(
+        kind,
+        capacity,
+        first_edge,
+        edge_target,
+        first_back,
+        back_source,
+        source,
+        first_sink,
+        sink,
+        delay,
+        criticality,
+        terms,
+        start,
+        begun,
+        history,
+        users,
+        in_tree,
+        tree_from,
+        tree_to,
+        due,
+        work,
+        log,
+    )
+}
+
+// The same with lists of its own: a function apart, since a run with the plain search doesn't need them.
+fn run_aimed(
+    kind: &[u8],
+    capacity: &[u8],
+    first_edge: &[u32],
+    edge_target: &[u16],
+    source: &[u16],
+    first_sink: &[u32],
+    sink: &[u16],
+    delay: &[u16],
+    criticality: &[u8],
+    terms: Terms,
+    start: Start,
+    begun: Tariff,
+    history: &mut [u32],
+    users: &mut [u16],
+    in_tree: &mut [u8],
+    tree_from: &mut [usize],
+    tree_to: &mut [usize],
+    due: &mut [u8],
+    work: &mut [u64],
+    log: &mut [u32],
+) -> RouteAnswer
+    requires { do
+      let job = jobOf (now kind) (now capacity) (now «first_edge») (now «edge_target») (now source) (now «first_sink») (now sink)
+          (now delay) (now criticality) terms
+      ⌜ (Routable job × (nets job ≤ unreachableNet job) × (8 * nodes job ≤ length (now work)))
+          × Ready job (firstProgress job) begun (now history) (now users) (now «in_tree») (now «tree_from») (now «tree_to») (now due)
+          (now log) ⌝ }
+    ensures { λ r. do
+      let job = jobOf (now (kind .entry)) (now (capacity .entry)) (now («first_edge» .entry)) (now («edge_target» .entry))
+          (now (source .entry)) (now («first_sink» .entry)) (now (sink .entry)) (now (delay .entry)) (now (criticality .entry)) terms
+      ⌜ routeReplyOf r (now (work .exit)) (now (log .exit)) ≡ runFrom start job (now (work .entry)) (now (log .entry)) ⌝ }
+    ensures expanded { λ r. do
+      let job = jobOf (now (kind .entry)) (now (capacity .entry)) (now («first_edge» .entry)) (now («edge_target» .entry))
+          (now (source .entry)) (now («first_sink» .entry)) (now (sink .entry)) (now (delay .entry)) (now (criticality .entry)) terms
+      let made = turnsLogged (routeReplyOf r (now (work .exit)) (now (log .exit)))
+      ⌜ r .expanded ≡ expandedAfter (begun .aimed) job (lentRecords start (now (log .entry))) made ⌝ }
+{
+    let n = kind.len();
+    let edges = edge_target.len();
+    let mut first_back = [0u32; FIRST_EDGES_MOST];
+    let mut back_source = [0u16; EDGES_MOST];
+    run_listed(
+        kind,
+        capacity,
+        first_edge,
+        edge_target,
+        &mut first_back[..n + 1],
+        &mut back_source[..edges],
+        source,
+        first_sink,
+        sink,
+        delay,
+        criticality,
+        terms,
+        start,
+        begun,
+        history,
+        users,
+        in_tree,
+        tree_from,
+        tree_to,
+        due,
+        work,
+        log,
+    )
+}
+
+// The run with the search that is chosen. The plain one needs no edges by their target.
+fn run_chosen(
+    kind: &[u8],
+    capacity: &[u8],
+    first_edge: &[u32],
+    edge_target: &[u16],
+    source: &[u16],
+    first_sink: &[u32],
+    sink: &[u16],
+    delay: &[u16],
+    criticality: &[u8],
+    terms: Terms,
+    start: Start,
+    begun: Tariff,
+    history: &mut [u32],
+    users: &mut [u16],
+    in_tree: &mut [u8],
+    tree_from: &mut [usize],
+    tree_to: &mut [usize],
+    due: &mut [u8],
+    work: &mut [u64],
+    log: &mut [u32],
+) -> RouteAnswer
+    requires { do
+      let job = jobOf (now kind) (now capacity) (now «first_edge») (now «edge_target») (now source) (now «first_sink») (now sink)
+          (now delay) (now criticality) terms
+      ⌜ (Routable job × (nets job ≤ unreachableNet job) × (8 * nodes job ≤ length (now work)))
+          × Ready job (firstProgress job) begun (now history) (now users) (now «in_tree») (now «tree_from») (now «tree_to») (now due)
+          (now log) ⌝ }
+    ensures { λ r. do
+      let job = jobOf (now (kind .entry)) (now (capacity .entry)) (now («first_edge» .entry)) (now («edge_target» .entry))
+          (now (source .entry)) (now («first_sink» .entry)) (now (sink .entry)) (now (delay .entry)) (now (criticality .entry)) terms
+      ⌜ routeReplyOf r (now (work .exit)) (now (log .exit)) ≡ runFrom start job (now (work .entry)) (now (log .entry)) ⌝ }
+    ensures expanded { λ r. do
+      let job = jobOf (now (kind .entry)) (now (capacity .entry)) (now («first_edge» .entry)) (now («edge_target» .entry))
+          (now (source .entry)) (now («first_sink» .entry)) (now (sink .entry)) (now (delay .entry)) (now (criticality .entry)) terms
+      let made = turnsLogged (routeReplyOf r (now (work .exit)) (now (log .exit)))
+      ⌜ r .expanded ≡ expandedAfter (begun .aimed) job (lentRecords start (now (log .entry))) made ⌝ }
+{
+    if begun.aimed {
+        return run_aimed(
+            kind,
+            capacity,
+            first_edge,
+            edge_target,
+            source,
+            first_sink,
+            sink,
+            delay,
+            criticality,
+            terms,
+            start,
+            begun,
+            history,
+            users,
+            in_tree,
+            tree_from,
+            tree_to,
+            due,
+            work,
+            log,
+        );
+    }
+    run_from(
+        kind,
+        capacity,
+        first_edge,
+        edge_target,
+        &first_edge[..0],
+        &edge_target[..0],
+        source,
+        first_sink,
+        sink,
+        delay,
+        criticality,
+        terms,
+        start,
+        begun,
+        history,
+        users,
+        in_tree,
+        tree_from,
+        tree_to,
+        due,
+        work,
+        log,
+    )
 }
 
 // The negotiation: the lists and the tariff of a run that begins, and the run from its start.
@@ -624,7 +891,7 @@ pub fn negotiate(
         aimed: aimed,
         expanded: 0,
     };
-    run_from(
+    run_chosen(
         kind,
         capacity,
         first_edge,

@@ -1,7 +1,7 @@
 // Prices: base cost, price of a node, present congestion factor, historical congestion.
 // Document 01, "Prices". Every public function takes every input that its types allow.
 ghost use mathlib.Core.Path.{_≡_};
-ghost use Prim.Native.Nat.{_≤_};
+ghost use Prim.Native.Nat.{_≤_, min};
 ghost use Rattle.price.specs.Bounds.{kindMost, factorMost, othersMost, delayMost, criticalityMost, priceMost};
 ghost use Rattle.price.specs.Prices.{baseCost, nextFactor, nextHistory};
 ghost use Rattle.price.specs.Replies.{InBounds, priceReplyOf, priceReply};
@@ -110,6 +110,14 @@ fn base_cost(kind: u32) -> u16
         4..=KIND_MOST => wire,
         _ => 0,
     }
+}
+
+// The base cost of a node of this kind; a kind beyond its bounds counts as the last.
+pub fn base(kind: u32) -> u32
+    ensures { λ r. ⌜ r ≡ baseCost (min kind kindMost) ⌝ }
+{
+    let k = if kind < KIND_MOST { kind } else { KIND_MOST };
+    base_cost(k) as u32
 }
 
 // max(0, others + 1 - capacity)

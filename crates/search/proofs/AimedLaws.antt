@@ -32,7 +32,7 @@ use Rattle.search.specs.Block.{Block, nodes, hasEdge}
 use Rattle.search.specs.Paths.{Walk, stay, step, pathCost, Fair}
 use Rattle.search.specs.Distance.{far, inTree, distances, distance}
 use Rattle.search.specs.Turn.{Congestion, congestedAt, priceAt, openDistance, openDistances, before, nearestDistance}
-use Rattle.search.specs.Aimed.{scaleOf, weightAt, alone, estimate, expands, expanded}
+use Rattle.search.specs.Aimed.{scaleOf, weightAt, alone, estimate, expandsBy, expandedBy, expanded}
 use Rattle.search.proofs.EdgeLaws.{Shaped}
 use Rattle.search.proofs.WalkLaws.{stay-cost, step-cost, walk-start, walk-nodes, shorten}
 use Rattle.search.proofs.DistanceLaws.{no-path-cheaper, some-path, path-near}
@@ -225,63 +225,50 @@ nearest-walk b price marks sinks g fair {t} {path} i w =
     let near = path-near b price marks g fair t (w .sink) path (w .node) i (w .walk) in
     (omega arith, omega arith)
 
-module _ (b : Block) (price weight : ℕ → ℕ) (marks sinks : List ℕ) where
-  pub expands-le : (v : ℕ) → expands b price weight marks sinks v ≡ true → distance b price marks v + estimate b weight marks sinks v ≤ nearestDistance b price marks sinks
-  unfolding expands
+module _ (b : Block) (price est : ℕ → ℕ) (marks sinks : List ℕ) where
+  pub expands-le : (v : ℕ) → expandsBy b price est marks sinks v ≡ true → distance b price marks v + est v ≤ nearestDistance b price marks sinks
+  unfolding expandsBy
   expands-le v x = leb-true _ _ x
 
-  pub le-expands : (v : ℕ) → distance b price marks v + estimate b weight marks sinks v ≤ nearestDistance b price marks sinks → expands b price weight marks sinks v ≡ true
-  unfolding expands
+  pub le-expands : (v : ℕ) → distance b price marks v + est v ≤ nearestDistance b price marks sinks → expandsBy b price est marks sinks v ≡ true
+  unfolding expandsBy
   le-expands v l = le-leb _ _ l
 
   -- where a sink is joined, what is expanded is a node that has a distance and an estimate
-  pub expands-near : (v : ℕ) → nearestDistance b price marks sinks < far → expands b price weight marks sinks v ≡ true → (v < nodes b) × (distance b price marks v < far) × (estimate b weight marks sinks v < far)
+  pub expands-near : (v : ℕ) → nearestDistance b price marks sinks < far → expandsBy b price est marks sinks v ≡ true → (v < nodes b) × (distance b price marks v < far) × (est v < far)
   expands-near v near x =
       let most = expands-le v x in
       let close : distance b price marks v < far = omega arith in
       (beyond b price marks v close, close, omega arith)
 
-  -- where no sink is joined, no tree node has an estimate
-  pub stuck-far :
-      Shaped b → Fair b price → Fair b weight → nearestDistance b price marks sinks ≡ far → (v : ℕ) → inTree marks v ≡ true
-      → estimate b weight marks sinks v ≡ far
-  stuck-far g fair-price fair none v i =
-      ⊎-elim
-      (λ (q : far ≤ estimate b weight marks sinks v). le-antisymm (est-top b weight marks sinks v) q)
-      (λ (q : estimate b weight marks sinks v < far).
-      let p = est-walk b weight marks sinks g fair v q in
-      absurd (omega (arith, none, nearest-walk b price marks sinks g fair-price i (p .1) .1)))
-      (le-or-lt far (estimate b weight marks sinks v))
-
-  module _ (g : Shaped b) (fair : Fair b weight) (dear : (v : ℕ) → v < nodes b → weight v ≤ price v) where
+  -- estimates that are consistent along every edge
+  module _ (g : Shaped b) (consistent : (u v : ℕ) → v < nodes b → hasEdge b u v ≡ true → est u ≤ price v + est v) where
     -- with a node, every node over which it has its distance is expanded: no predecessor that the tie rule could name is missed
     pub tight-expands :
-        (u v : ℕ) → v < nodes b → expands b price weight marks sinks v ≡ true → hasEdge b u v ≡ true
-        → distance b price marks u + price v ≡ distance b price marks v → expands b price weight marks sinks u ≡ true
-    tight-expands u v h x e s =
-        le-expands u (omega (arith, expands-le v x, est-step b weight marks sinks g fair u v e, dear v h, s))
+        (u v : ℕ) → v < nodes b → expandsBy b price est marks sinks v ≡ true → hasEdge b u v ≡ true
+        → distance b price marks u + price v ≡ distance b price marks v → expandsBy b price est marks sinks u ≡ true
+    tight-expands u v h x e s = le-expands u (omega (arith, expands-le v x, consistent u v h e, s))
 
     -- so is the node before it on the path
     pub before-expands :
-        Fair b price → (v : ℕ) → v < nodes b → inTree marks v ≡ false → distance b price marks v < far → expands b price weight marks sinks v ≡ true
-        → expands b price weight marks sinks (before b price (distances b price marks) v) ≡ true
+        Fair b price → (v : ℕ) → v < nodes b → inTree marks v ≡ false → distance b price marks v < far → expandsBy b price est marks sinks v ≡ true
+        → expandsBy b price est marks sinks (before b price (distances b price marks) v) ≡ true
     before-expands fair-price v h o near x =
         tight-expands (before b price (distances b price marks) v) v h x (before-edge b price marks g fair-price v h o near)
         (before-sum b price marks g fair-price v h o near)
 
-    -- the joined sink is
-    pub sink-expands :
-        (s : ℕ) → s < nodes b → has s sinks ≡ true → inTree marks s ≡ false → distance b price marks s ≡ nearestDistance b price marks sinks
-        → expands b price weight marks sinks s ≡ true
-    sink-expands s h l o is = le-expands s (omega (arith, est-sink b weight marks sinks g fair s h l o))
+  -- the joined sink is, its estimate being 0
+  pub sink-expands : (s : ℕ) → est s ≡ 0 → distance b price marks s ≡ nearestDistance b price marks sinks → expandsBy b price est marks sinks s ≡ true
+  sink-expands s zero is = le-expands s (omega arith)
 
 -- ---- prices and weights that are the same on nodes
 
 module _ (b : Block) (marks sinks : List ℕ) where
   pub expanded-same : (p q weight : ℕ → ℕ) → ((v : ℕ) → v < nodes b → p v ≡ q v) → expanded b p weight marks sinks ≡ expanded b q weight marks sinks
-  unfolding expanded expands openDistances
+  unfolding expandedBy expandsBy openDistances
   expanded-same p q weight same =
       let ds : distances b p marks ≡ distances b q marks = distances-same b p q same marks in
-      let count : countBelow (expands b p weight marks sinks) (nodes b) ≡ countBelow (expands b q weight marks sinks) (nodes b) =
-      count-same (expands b p weight marks sinks) (expands b q weight marks sinks) (nodes b) (λ v h. rw ds) in
+      let est : ℕ → ℕ = estimate b weight marks sinks in
+      let count : countBelow (expandsBy b p est marks sinks) (nodes b) ≡ countBelow (expandsBy b q est marks sinks) (nodes b) =
+      count-same (expandsBy b p est marks sinks) (expandsBy b q est marks sinks) (nodes b) (λ v h. rw ds) in
       rw (ds, count)

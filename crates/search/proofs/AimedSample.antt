@@ -8,15 +8,16 @@ use Prim.Native.Nat.{ℕ}
 use Rattle.price.specs.Lists.{upTo, least, countBelow, has}
 use Rattle.price.specs.Prices.{baseCost, overuse, priceOf}
 use Rattle.price.specs.Timed.{weighed, timedPrice}
-use Rattle.search.specs.Block.{Block, blockOf, row, hasEdge}
+use Rattle.search.specs.Block.{Block, blockOf, graphOf, row, hasEdge}
 use Rattle.search.specs.Distance.{far, inTree, treeDistances, nearer, round, rounds, distances}
 use Rattle.search.specs.Turn.{Congestion, congestionOf, timedCongestion, congestedAt, priceAt, openDistance, openDistances}
-use Rattle.search.specs.Aimed.{scaleOf, weightAt, alone, estimate, expands, expanded}
+use Rattle.search.specs.Aimed.{scaleOf, weightAt, alone, estimate, expandsBy, expandedBy, expanded}
+use Rattle.search.specs.ByTarget.{firstsOf, targetsOf, agreed, turned}
 
 -- all that such a turn computes with
 unfoldable computing : Unit {0}
-unfolding expanded expands estimate alone weightAt scaleOf openDistances openDistance priceAt congestedAt weighed timedPrice priceOf overuse
-    distances rounds round nearer treeDistances inTree hasEdge row baseCost upTo least has countBelow
+unfolding expandedBy expandsBy estimate alone weightAt scaleOf openDistances openDistance priceAt congestedAt weighed timedPrice priceOf overuse
+    distances rounds round nearer treeDistances inTree firstsOf targetsOf hasEdge row baseCost upTo least has countBelow
 computing = tt
 
 abbrev fork : Block
@@ -55,3 +56,15 @@ slow-left-out = refl
 joined-none : counted (congestionOf 0 (1 ∷ 1 ∷ 1 ∷ 1 ∷ 1 ∷ []) unused) (1 ∷ 1 ∷ 0 ∷ 1 ∷ 0 ∷ []) ≡ 0
 unfolding computing
 joined-none = refl
+
+-- ---- tables by target that lack the edge from wire 1 to the sink: it does not count, and wire 1 has no estimate
+
+abbrev lacking : Block
+lacking = graphOf (fork .kinds) (0 ∷ 0 ∷ 1 ∷ 2 ∷ 3 ∷ 4 ∷ []) (0 ∷ 0 ∷ 2 ∷ 2 ∷ [])
+
+agreed-count :
+    expandedBy (agreed fork lacking) (priceAt fork (congestionOf 0 (1 ∷ 1 ∷ 1 ∷ 1 ∷ 1 ∷ []) unused))
+    (estimate (turned lacking) (weightAt fork (congestionOf 0 unused unused .weighting)) source (3 ∷ [])) source (3 ∷ [])
+    ≡ 3
+unfolding computing
+agreed-count = refl

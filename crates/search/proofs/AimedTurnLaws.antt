@@ -7,40 +7,36 @@ use mathlib.Core.Path.{_≡_, refl, sym, _∙_, ap}
 use Prim.Native.Nat.{ℕ, zero, suc, _+_, _-_, _*_, _%_, _≤_, _<_}
 use native.Mathlib.Nat.{le-antisymm, not-suc-le-zero}
 use native.Mathlib.Omega.{arith}
-use lib.ListN.{length, getD, set, take, drop, replicate, length-append, length-replicate, getD-replicate, replicate-append-replicate}
+use lib.ListN.{length, getD, set, take, drop, replicate, length-append, length-replicate, replicate-append-replicate}
 use lib.Seq.{take-at, drop-at, drop-drop}
 use borrow.Author.Count.{below-more}
 use borrow.Author.Tests.{eq-eqb, ne-eqb}
-use Rattle.price.specs.Bounds.{nodesMost}
 use Rattle.price.specs.Lists.{upTo}
-use Rattle.price.specs.declared.Weighting.{Weighting}
-use Rattle.price.proofs.TestLaws.{by-test, le-or-lt, never-true}
+use Rattle.price.proofs.TestLaws.{either-way, le-or-lt, never-true}
 use Rattle.price.proofs.ListLaws.{has-at, getD-upTo}
 use Rattle.price.proofs.EntryLaws.{least-top}
-use Rattle.search.specs.Block.{Block, graphOf, nodes}
-use Rattle.search.specs.Tables.{Graph, edgesMost}
+use Rattle.search.specs.Block.{Block, nodes}
 use Rattle.search.specs.Paths.{Fair}
 use Rattle.search.specs.Distance.{far, inTree, distances, distance}
 use Rattle.search.specs.Turn.{joins, stuck, before, pathTo, openDistances, nearestDistance, nearestPlace, turn}
-use Rattle.search.specs.Aimed.{weightAt, expands, expanded}
+use Rattle.search.specs.Aimed.{expandsBy, expandedBy}
 use Rattle.search.specs.Layout.{distAt, predAt, SameBut}
 use Rattle.search.specs.Labels.{labelAt, fromAt}
-use Rattle.search.specs.Replies.{cleared, readOff}
+use Rattle.search.specs.Replies.{sinksMost, cleared, readOff}
 use Rattle.search.specs.TurnWork.{trail, pathIn, Leads, Found, Read}
-use Rattle.search.specs.Links.{LinkRoom, Linked}
-use Rattle.search.specs.Estimates.{EstimateReady, Estimated, EstimatesMade}
-use Rattle.search.specs.Aiming.{AimReady, AimEnd}
-use Rattle.search.specs.AimedTurn.{PredecessorsMoved, TurnPriced, SinksAimed, Readable}
+use Rattle.search.specs.Aiming.{AimDone}
+use Rattle.search.specs.AimedTurn.{PredecessorsMoved, Readable}
 use Rattle.search.specs.declared.PathAnswer.{PathAnswer}
-use Rattle.search.proofs.EdgeLaws.{Shaped, shape-of}
+use Rattle.search.proofs.EdgeLaws.{Shaped}
 use Rattle.search.proofs.StoreLaws.{store-here, store-other, same-none, same-store}
-use Rattle.search.proofs.LinkLaws.{edges-most}
 use Rattle.search.proofs.BeforeLaws.{before-node, before-near}
 use Rattle.search.proofs.PathToLaws.{path-short}
 use Rattle.search.proofs.TrailLaws.{trail-is}
 use Rattle.search.proofs.NearestLaws.{Nearest, open-least, turn-far, nearest}
+use Rattle.search.proofs.PriceSameLaws.{beyond}
 use Rattle.search.proofs.TurnLaws.{turn-is}
-use Rattle.search.proofs.AimedLaws.{weight-fair, expands-near, before-expands, sink-expands}
+use Rattle.search.proofs.AimedLaws.{expands-near, before-expands, sink-expands}
+use Rattle.search.proofs.AimedExact.{Consistent}
 
 -- ---- the loop that moves the predecessors
 
@@ -81,9 +77,10 @@ trail-same :
 unfolding trail
 trail-same n marks w w′ on c zero v path o = refl
 trail-same n marks w w′ on c (suc fuel) v path o =
-    by-test (inTree marks v)
-    (λ q. rw q)
-    (λ q. rw (q, c .same v o q) (trail-same n marks w w′ on c fuel (fromAt n w′ v) (v ∷ path) (c .next v o q)))
+    ⊎-elim
+    (λ (q : inTree marks v ≡ true). rw q)
+    (λ (q : inTree marks v ≡ false). rw (q, c .same v o q) (trail-same n marks w w′ on c fuel (fromAt n w′ v) (v ∷ path) (c .next v o q)))
+    (either-way (inTree marks v))
 
 -- a lower part that is small
 small-part : (x : ℕ) → x < 4096 → x % 65536 ≡ x
@@ -91,23 +88,23 @@ small-part x l = omega arith
 
 -- ---- what the end of a turn that aims says
 
-module _ {b : Block} {weighting : Weighting} {marks sinks w₀ w : List ℕ} {cost count : ℕ}
-    (p : TurnPriced b weighting marks sinks w₀) (a : SinksAimed b (p .price) (weightAt b weighting) marks sinks w₀ w cost count) where
-  abbrev price : ℕ → ℕ
-  price = p .price
+-- what a turn has, and how it ended
+pub record TurnEnd (a : Block) (price est : ℕ → ℕ) (marks sinks w : List ℕ) (cost count : ℕ) : Type 0 where
+  pub shape : Shaped a
+  pub fair : Fair a price
+  pub consistent : Consistent a price est marks sinks
+  pub marks-long : nodes a ≤ length marks
+  pub sinks-few : length sinks ≤ sinksMost
+  pub long : 8 * nodes a ≤ length w
+  pub done : AimDone a price est marks sinks w cost count
 
-  abbrev weight : ℕ → ℕ
-  weight = weightAt b weighting
-
+module _ {b : Block} {price est : ℕ → ℕ} {marks sinks w : List ℕ} {cost count : ℕ} (a : TurnEnd b price est marks sinks w cost count) where
   g : Shaped b
-  g = shape-of b (p .graph)
-
-  fair-weight : Fair b weight
-  fair-weight = weight-fair weighting (p .weights .criticality-most) b (p .graph .few) (p .weights .kind-most)
+  g = a .shape
 
   -- no unjoined sink has a path
-  pub aimed-stuck : cost ≡ far → (turn b price marks sinks ≡ stuck) × (expanded b price weight marks sinks ≡ 0)
-  unfolding expanded
+  pub aimed-stuck : cost ≡ far → (turn b price marks sinks ≡ stuck) × (expandedBy b price est marks sinks ≡ 0)
+  unfolding expandedBy
   aimed-stuck e =
       let none : nearestDistance b price marks sinks ≡ far = sym (a .done .cost-is) ∙ e in
       (turn-far b price marks sinks none, rw (eq-eqb (nearestDistance b price marks sinks) far none))
@@ -126,8 +123,8 @@ module _ {b : Block} {weighting : Weighting} {marks sinks w₀ w : List ℕ} {co
         (λ l. l)
         (le-or-lt far cost)
 
-    pub aimed-count : expanded b price weight marks sinks ≡ count
-    unfolding expanded
+    pub aimed-count : expandedBy b price est marks sinks ≡ count
+    unfolding expandedBy
     aimed-count = rw (ne-eqb (nearestDistance b price marks sinks) far some-near) (sym (a .done .count-is near))
 
     -- the nearest sink, and where it stands
@@ -142,33 +139,35 @@ module _ {b : Block} {weighting : Weighting} {marks sinks w₀ w : List ℕ} {co
 
     -- outside the tree a distance is above 0
     pos : (v : ℕ) → v < nodes b → inTree marks v ≡ false → distance b price marks v < far → 0 < distance b price marks v
-    pos v h out close = omega (arith, before-near b price marks g (p .fair) v h out close)
+    pos v h out close = omega (arith, before-near b price marks g (a .fair) v h out close)
 
     cost-pos : 0 < cost
     cost-pos =
         let n = nearest₀ in
-        omega (arith, a .done .cost-is, n .here, pos (getD sinks place₀ 0) (p .sinks-nodes place₀ (n .within)) (n .out) (n .near))
+        omega (arith, a .done .cost-is, n .here, pos (getD sinks place₀ 0) (beyond b price marks (getD sinks place₀ 0) (n .near)) (n .out) (n .near))
 
-    -- an unjoined sink as near as the joined one is expanded, and its distance is final
-    close-expands : (j : ℕ) → j < length sinks → inTree marks (getD sinks j 0) ≡ false → distance b price marks (getD sinks j 0) ≡ cost → expands b price weight marks sinks (getD sinks j 0) ≡ true
-    close-expands j l out e =
-        sink-expands b price weight marks sinks g fair-weight (p .dear) (getD sinks j 0) (p .sinks-nodes j l) (has-at sinks j l) out (e ∙ a .done .cost-is)
+    -- an unjoined sink as near as the joined one is a node, it is expanded, and its distance is final
+    module _ (j : ℕ) (l : j < length sinks) (out : inTree marks (getD sinks j 0) ≡ false) (e : distance b price marks (getD sinks j 0) ≡ cost) where
+      close-node : getD sinks j 0 < nodes b
+      close-node = beyond b price marks (getD sinks j 0) (rw e near)
 
-    close-final : (j : ℕ) → j < length sinks → inTree marks (getD sinks j 0) ≡ false → distance b price marks (getD sinks j 0) ≡ cost → distAt w (getD sinks j 0) ≡ cost
-    close-final j l out e = a .done .dist-final near (getD sinks j 0) (p .sinks-nodes j l) (close-expands j l out e) ∙ e
+      close-expands : expandsBy b price est marks sinks (getD sinks j 0) ≡ true
+      close-expands = sink-expands b price est marks sinks (getD sinks j 0) (a .consistent .zero-there (getD sinks j 0) close-node (has-at sinks j l) out) (e ∙ a .done .cost-is)
+
+      close-final : distAt w (getD sinks j 0) ≡ cost
+      close-final = a .done .dist-final near (getD sinks j 0) close-node close-expands ∙ e
 
     -- no unjoined sink is nearer
     none-nearer : (j : ℕ) → j < length sinks → inTree marks (getD sinks j 0) ≡ false → cost ≤ distance b price marks (getD sinks j 0)
     none-nearer j l out = rw (a .done .cost-is) (open-least b price marks sinks (getD sinks j 0) (has-at sinks j l) out)
 
     -- a listed node at `cost` is an unjoined sink so far
-    module _ (j : ℕ) (l : j < length sinks) (e : distAt w (getD sinks j 0) ≡ cost) where
+    module _ (j : ℕ) (l : j < length sinks) (node : getD sinks j 0 < nodes b) (e : distAt w (getD sinks j 0) ≡ cost) where
       close-out : inTree marks (getD sinks j 0) ≡ false
-      close-out =
-          never-true (inTree marks (getD sinks j 0)) (λ t. omega (arith, a .done .dist-tree (getD sinks j 0) (p .sinks-nodes j l) t, cost-pos))
+      close-out = never-true (inTree marks (getD sinks j 0)) (λ t. omega (arith, a .done .dist-tree (getD sinks j 0) node t, cost-pos))
 
       close-distance : distance b price marks (getD sinks j 0) ≡ cost
-      close-distance = le-antisymm (rw (sym e) (a .done .dist-least (getD sinks j 0) (p .sinks-nodes j l))) (none-nearer j l close-out)
+      close-distance = le-antisymm (rw (sym e) (a .done .dist-least (getD sinks j 0) node)) (none-nearer j l close-out)
 
     -- the predecessors are moved to where a path is read off
     module _ {w′ : List ℕ} (m : PredecessorsMoved (nodes b) w w′) where
@@ -176,7 +175,7 @@ module _ {b : Block} {weighting : Weighting} {marks sinks w₀ w : List ℕ} {co
       label-is v h = m .same .low v h
 
       from-is : (v : ℕ) → v < nodes b → predAt (nodes b) w v < nodes b → fromAt (nodes b) w′ v ≡ predAt (nodes b) w v
-      from-is v h l = ap (λ (x : ℕ). x % 65536) (m .here v h) ∙ small-part (predAt (nodes b) w v) (let f = p .graph .few in omega arith)
+      from-is v h l = ap (λ (x : ℕ). x % 65536) (m .here v h) ∙ small-part (predAt (nodes b) w v) (let f = g .few in omega arith)
 
       moved-leads : Leads (nodes b) cost marks w′
       moved-leads =
@@ -184,9 +183,9 @@ module _ {b : Block} {weighting : Weighting} {marks sinks w₀ w : List ℕ} {co
           let node : (v : ℕ) → v < nodes b → labelAt w′ v ≤ cost → inTree marks v ≡ false → predAt (nodes b) w v < nodes b =
           λ v h le out. a .done .pred-node v h out (omega (arith, label-is v h)) in
           record {
-            few = p .graph .few;
-            long = omega (arith, m .same .long, a .long, p .long);
-            marks-long = p .marks-long;
+            few = g .few;
+            long = omega (arith, m .same .long, a .long);
+            marks-long = a .marks-long;
             pred-node = λ v h le out. rw (from-is v h (node v h le out)) (node v h le out);
             pred-nearer = λ v h le out.
                 let close : distAt w v < far = omega (arith, label-is v h) in
@@ -204,29 +203,29 @@ module _ {b : Block} {weighting : Weighting} {marks sinks w₀ w : List ℕ} {co
           getD-upTo (λ i. before b price (distances b price marks) (i - nodes b)) (nodes b + nodes b) (nodes b + v) 0 (omega arith)
           ∙ ap (before b price (distances b price marks)) at in
           ap (λ (x : ℕ). x % 65536) is
-          ∙ small-part (before b price (distances b price marks) v) (let f = p .graph .few in omega (arith, before-node b price marks g (p .fair) v h out close))
+          ∙ small-part (before b price (distances b price marks) v) (let f = g .few in omega (arith, before-node b price marks g (a .fair) v h out close))
 
       -- the predecessors of the nodes that are expanded are those
-      expanded-closed : Closed (nodes b) marks w′ befores (λ v. expands b price weight marks sinks v ≡ true)
+      expanded-closed : Closed (nodes b) marks w′ befores (λ v. expandsBy b price est marks sinks v ≡ true)
       expanded-closed =
           record {
             same = λ v x out.
-                let n = expands-near b price weight marks sinks v cost-far x in
+                let n = expands-near b price est marks sinks v cost-far x in
                 let final = a .done .pred-final near v (n .0) out x in
-                let node = before-node b price marks g (p .fair) v (n .0) out (n .1) in
+                let node = before-node b price marks g (a .fair) v (n .0) out (n .1) in
                 from-is v (n .0) (rw final node) ∙ final ∙ sym (before-is v (n .0) out (n .1));
             next = λ v x out.
-                let n = expands-near b price weight marks sinks v cost-far x in
-                rw (before-is v (n .0) out (n .1)) (before-expands b price weight marks sinks g fair-weight (p .dear) (p .fair) v (n .0) out (n .1) x);
+                let n = expands-near b price est marks sinks v cost-far x in
+                rw (before-is v (n .0) out (n .1)) (before-expands b price est marks sinks g (a .consistent .along) (a .fair) v (n .0) out (n .1) x);
           }
 
       -- so from a listed node at `cost` they lead along the turn's path
-      module _ (j : ℕ) (l : j < length sinks) (e : labelAt w′ (getD sinks j 0) ≡ cost) where
+      module _ (j : ℕ) (l : j < length sinks) (node : getD sinks j 0 < nodes b) (e : labelAt w′ (getD sinks j 0) ≡ cost) where
         at-cost : distAt w (getD sinks j 0) ≡ cost
-        at-cost = sym (label-is (getD sinks j 0) (p .sinks-nodes j l)) ∙ e
+        at-cost = sym (label-is (getD sinks j 0) node) ∙ e
 
         here : distance b price marks (getD sinks j 0) ≡ cost
-        here = close-distance j l at-cost
+        here = close-distance j l node at-cost
 
         here-near : distance b price marks (getD sinks j 0) < far
         here-near = rw here near
@@ -234,57 +233,59 @@ module _ {b : Block} {weighting : Weighting} {marks sinks w₀ w : List ℕ} {co
         path-in : pathIn (nodes b) marks w′ (getD sinks j 0) ≡ pathTo b price marks (getD sinks j 0)
         path-in =
             let s : ℕ = getD sinks j 0 in
-            let node : getD sinks j 0 < nodes b = p .sinks-nodes j l in
-            let x = close-expands j l (close-out j l at-cost) here in
-            trail-same (nodes b) marks w′ befores (λ v. expands b price weight marks sinks v ≡ true) expanded-closed (labelAt w′ s) s [] x
-            ∙ trail-is b price marks g (p .fair) s node here-near befores (labelAt w′ s) far (omega (arith, here)) (omega (arith, here-near))
+            let x = close-expands j l (close-out j l node at-cost) here in
+            trail-same (nodes b) marks w′ befores (λ v. expandsBy b price est marks sinks v ≡ true) expanded-closed (labelAt w′ s) s [] x
+            ∙ trail-is b price marks g (a .fair) s node here-near befores (labelAt w′ s) far (omega (arith, here)) (omega (arith, here-near))
             (λ v h out close le. before-is v h out close)
 
         path-fits : length (pathIn (nodes b) marks w′ (getD sinks j 0)) ≤ nodes b
-        path-fits = rw path-in (path-short b price marks g (p .fair) (getD sinks j 0) (p .sinks-nodes j l) here-near)
+        path-fits = rw path-in (path-short b price marks g (a .fair) (getD sinks j 0) node here-near)
 
       moved-found : Found (nodes b) marks sinks w′ cost
       moved-found =
           let n = nearest₀ in
-          let node = p .sinks-nodes place₀ (n .within) in
           let here : distance b price marks (getD sinks place₀ 0) ≡ cost = n .here ∙ sym (a .done .cost-is) in
+          let node = close-node place₀ (n .within) (n .out) here in
           record {
-            sinks-few = p .sinks-few;
+            sinks-few = a .sinks-few;
             some-place = place₀;
             within = n .within;
             node = node;
             label = label-is (getD sinks place₀ 0) node ∙ close-final place₀ (n .within) (n .out) here;
             leads = moved-leads;
-            short = λ j l h e. path-fits j l e;
+            short = λ j l h e. path-fits j l h e;
           }
 
       -- what is read off is the turn
       module _ {r : PathAnswer} {w₂ : List ℕ} (d : Read (nodes b) marks sinks w′ cost r w₂) where
+        read-node : getD sinks (d .place) 0 < nodes b
+        read-node = d .first .node (d .within)
+
         read-label : labelAt w′ (getD sinks (d .place) 0) ≡ cost
         read-label = d .first .label (d .within)
 
         read-out : inTree marks (getD sinks (d .place) 0) ≡ false
-        read-out = close-out (d .place) (d .within) (at-cost (d .place) (d .within) read-label)
+        read-out = close-out (d .place) (d .within) read-node (at-cost (d .place) (d .within) read-node read-label)
 
         pub read-turn : turn b price marks sinks ≡ joins (d .place) cost (pathTo b price marks (getD sinks (d .place) 0))
         read-turn =
-            turn-is b price marks g (p .fair) sinks (d .place) cost (d .within) (p .sinks-nodes (d .place) (d .within)) near read-out
-            (here (d .place) (d .within) read-label)
+            turn-is b price marks g (a .fair) sinks (d .place) cost (d .within) read-node near read-out
+            (here (d .place) (d .within) read-node read-label)
             none-nearer
             (λ j l out e.
             let within : j < length sinks = omega (arith, d .within) in
-            let node = p .sinks-nodes j within in
+            let node = close-node j within out e in
             d .first .earlier j l node (label-is (getD sinks j 0) node ∙ close-final j within out e))
 
         pub read-path : pathIn (nodes b) marks w′ (getD sinks (d .place) 0) ≡ pathTo b price marks (getD sinks (d .place) 0)
-        read-path = path-in (d .place) (d .within) read-label
+        read-path = path-in (d .place) (d .within) read-node read-label
 
         pub read-short : length (pathTo b price marks (getD sinks (d .place) 0)) ≤ nodes b
-        read-short = path-short b price marks g (p .fair) (getD sinks (d .place) 0) (p .sinks-nodes (d .place) (d .within)) (here-near (d .place) (d .within) read-label)
+        read-short = path-short b price marks g (a .fair) (getD sinks (d .place) 0) read-node (here-near (d .place) (d .within) read-node read-label)
 
   -- the path can be read off
   pub aimed-readable : Readable (nodes b) marks sinks w cost
-  aimed-readable = record { few = p .graph .few; long = omega (arith, a .long, p .long); found = λ some w′ m. moved-found some m }
+  aimed-readable = record { few = g .few; long = a .long; found = λ some w′ m. moved-found some m }
 
 -- ---- the work slice when the path is read off and the rest cleared
 
@@ -311,73 +312,3 @@ rest-cleared n path w₀ w′ {w₂} {w₃} short kept read e =
 pub all-cleared : (n : ℕ) (w : List ℕ) {w′ : List ℕ} → w′ ≡ take 0 w ++ (replicate (8 * n - 0) 0 ++ drop (8 * n) w) → w′ ≡ cleared n [] w
 unfolding cleared
 all-cleared n w e = e
-
--- ---- the edges are linked, the estimates made, and the turn aims
-
--- lists as long as nodes and edges may be many
-pub room-for :
-    (b : Block) → Graph b → {last earlier from : List ℕ} → length last ≡ nodesMost → length earlier ≡ edgesMost → length from ≡ edgesMost → LinkRoom b last earlier from
-room-for b sound l e f =
-    let few = sound .few in
-    let edges = edges-most b sound in
-    record { last-long = omega arith; earlier-long = omega arith; from-long = omega arith }
-
-pub link-room :
-    (b : Block) → Graph b
-    → Graph b × LinkRoom b (replicate nodesMost 0) (replicate edgesMost 0) (replicate edgesMost 0) × ((v : ℕ) → v < nodes b → getD {A = ℕ} (replicate nodesMost 0) v 0 ≡ 0)
-link-room b sound =
-    let few = sound .few in
-    let room = room-for b sound (length-replicate {A = ℕ} nodesMost 0) (length-replicate {A = ℕ} edgesMost 0) (length-replicate {A = ℕ} edgesMost 0) in
-    (sound, room, λ v h. getD-replicate nodesMost v 0 0 (omega arith))
-
-module _ {ks fs ts : List ℕ} {weighting : Weighting} {marks sinks w₀ : List ℕ} (p : TurnPriced (graphOf ks fs ts) weighting marks sinks w₀) where
-  abbrev pub turn-estimates :
-      {last earlier from : List ℕ} → length last ≡ nodesMost → length earlier ≡ edgesMost → length from ≡ edgesMost
-      → Linked (graphOf ks fs ts) (length ts) last earlier from → EstimateReady ks weighting last earlier from marks sinks w₀
-  turn-estimates l e f linked =
-      record {
-        weights = p .weights;
-        links = record { firsts = fs; targets = ts; graph = p .graph; room = room-for (graphOf ks fs ts) (p .graph) l e f; linked = linked };
-        price = p .price;
-        fair = p .fair;
-        prices = p .prices;
-        marks-long = p .marks-long;
-        sinks-few = p .sinks-few;
-        sinks-nodes = p .sinks-nodes;
-        long = p .long;
-      }
-
-  module _ {w₁ : List ℕ} (m : EstimatesMade (graphOf ks fs ts) (p .price) (weightAt (graphOf ks [] []) weighting) marks sinks w₀ w₁) where
-    -- the weight goes by the kinds alone
-    pub estimated-kinds : Estimated (graphOf ks fs ts) (p .price) (weightAt (graphOf ks fs ts) weighting) marks sinks w₁
-    unfolding weightAt
-    estimated-kinds = m .estimated
-
-    abbrev pub turn-aims : AimReady (graphOf ks fs ts) marks w₁
-    turn-aims =
-        record {
-          sound = p .graph;
-          task =
-              record {
-                price = p .price;
-                weight = weightAt (graphOf ks fs ts) weighting;
-                sinks = sinks;
-                fair = p .fair;
-                fair-weight = weight-fair weighting (p .weights .criticality-most) (graphOf ks fs ts) (p .graph .few) (p .weights .kind-most);
-                dear = p .dear;
-              };
-          marks-long = p .marks-long;
-          long = omega (arith, m .same .long, p .long);
-          prices = λ v h. m .same .middle (3 * length ks + v) (omega arith) (omega arith) ∙ p .prices v h;
-          estimated = estimated-kinds;
-        }
-
-    pub turn-aimed :
-        {w₂ : List ℕ} {cost count : ℕ} → AimEnd (graphOf ks fs ts) (p .price) (weightAt (graphOf ks fs ts) weighting) marks sinks w₁ w₂ cost count
-        → SinksAimed (graphOf ks fs ts) (p .price) (weightAt (graphOf ks fs ts) weighting) marks sinks w₀ w₂ cost count
-    turn-aimed e =
-        record {
-          done = e .done;
-          long = e .long ∙ m .same .long;
-          beyond = λ j l. e .high j (omega arith) ∙ m .same .beyond j l;
-        }

@@ -9,16 +9,17 @@ use native.Mathlib.Nat.{le-trans}
 use native.Mathlib.Omega.{arith}
 use lib.ListN.{getD}
 use borrow.Author.Tests.{lt-ltb, le-ltb}
-use Rattle.price.specs.Bounds.{kindMost, factorMost, othersMost, capacityMost, delayMost, criticalityMost}
+use Rattle.price.specs.Bounds.{baseMost, kindMost, factorMost, othersMost, capacityMost, delayMost, criticalityMost}
 use Rattle.price.specs.Prices.{priceOf}
 use Rattle.price.specs.Replies.{priced}
 use Rattle.price.specs.Timed.{weighed, weighedReply, historyBound, weighedMost, WeighedInBounds}
 use Rattle.price.specs.declared.Weighting.{Weighting}
 use Rattle.price.proofs.TestLaws.{by-test, le-or-lt}
+use Rattle.price.proofs.PriceLaws.{base-most}
 use Rattle.price.proofs.TimedLaws.{bound-most, bound-least, weighed-timed, weighed-untimed, weighed-pos, weighed-most, reply-delay, weighed-priced}
 use Rattle.search.specs.Block.{Block}
 use Rattle.search.specs.Turn.{Congestion, congestedAt, priceAt}
-use Rattle.search.specs.Clamped.{clamped, clampedWeighting, clampedPrice}
+use Rattle.search.specs.Clamped.{clamped, clampedWeighting, clampedPrice, clampedBase}
 
 module _ (low high x : ℕ) where
   pub clamped-low : x < low → clamped low high x ≡ low
@@ -33,7 +34,7 @@ module _ (low high x : ℕ) where
   unfolding clamped
   clamped-in l h = rw (le-ltb x low l, le-ltb high x h)
 
-  clamped-least : low ≤ high → low ≤ clamped low high x
+  pub clamped-least : low ≤ high → low ≤ clamped low high x
   clamped-least b =
       ⊎-elim
       (λ (l : low ≤ x).
@@ -41,13 +42,18 @@ module _ (low high x : ℕ) where
       (λ (l : x < low). rw (clamped-low l) (omega arith))
       (le-or-lt low x)
 
-  clamped-most : low ≤ high → clamped low high x ≤ high
+  pub clamped-most : low ≤ high → clamped low high x ≤ high
   clamped-most b =
       ⊎-elim
       (λ (l : low ≤ x).
       ⊎-elim (λ (h : x ≤ high). rw (clamped-in l h) h) (λ (h : high < x). rw (clamped-high l h) (omega arith)) (le-or-lt x high))
       (λ (l : x < low). rw (clamped-low l) b)
       (le-or-lt low x)
+
+-- a base cost is at most the largest
+pub base-light : (kinds : List ℕ) (v : ℕ) → clampedBase kinds v ≤ baseMost
+unfolding clampedBase
+base-light kinds v = base-most (clamped 0 kindMost (getD kinds v 0)) (clamped-most 0 kindMost (getD kinds v 0) (omega arith))
 
 module _ (kinds capacities : List ℕ) (c : Congestion) (v : ℕ) where
   clamped-history : clamped 1 (historyBound (c .weighting)) (getD (c .histories) v 0) ≤ historyBound (c .weighting)

@@ -5,6 +5,7 @@
 -- Tables 1 to 4 and 9, the list of sinks, row 13
 --   * BlockLaws       what each rule of a table says at an entry; edges by their places in table 4
 --   * EdgeLaws        edges where tables 3 and 4 have their lengths but may break their rules
+--   * TableOfLaws     tables with the edges of a test: those that both pairs of tables have, and those of the tables by target
 --     ClampedLaws     numbers clamped within bounds, and the price over them
 --   * KeptLaws        a function's answer and the test that it computes; a flag that is kept over a list
 --   * TableLaws       how the tests of the tables decide
@@ -23,13 +24,15 @@
 --   * TurnLaws        theorem: a turn joins by a cheapest path, and where it is stuck there is none
 --     GraphLaws       distances and turns without capacities are the same
 --     PriceSameLaws   prices that are the same on nodes make the same turn
+--     EdgeSameLaws    edges that are the same between nodes make the same turn, and the same estimates
 --
 -- The aimed search
 --   * AimedLaws       the estimate is a least cost and consistent; which nodes a turn expands, path and ties among them
 --     AimedExact      why its two passes are right, over labels and settled nodes as functions
 --     AimedSample     the definitions compute, on a block of five nodes
---     LinkLaws        the edges by their target, as linked lists
---     AimedTurnLaws   a turn, step by step: linked, estimated, aimed; its predecessors moved and its path read off
+--     WeightLaws      what a node costs in an estimate, clamped: above 0 and at most the clamped price
+--     AimedTurnLaws   a turn that aims, step by step: predecessors moved, and what its end says of the path
+--     BucketLaws      the nodes that wait to spread their estimates, in buckets by their levels
 --
 -- The work slice
 --     StoreLaws       a store at one place of a list
@@ -52,10 +55,11 @@
 --     FitLaws         how the test of all lengths decides
 --   * PathReplyLaws   the answer of a turn by its cases
 --     AnswersHold     theorem: what the answers are in terms of paths alone
---     AimedReplyLaws  the reply of the search that aims: a turn, a refusal, and the answer in terms of paths alone
+--   * AimedReplyLaws  the reply of the search that aims: a turn, a refusal, and the answer in terms of paths alone
 -- Assumes nothing.
 pub mod BlockLaws
 pub mod EdgeLaws
+pub mod TableOfLaws
 pub mod KeptLaws
 pub mod TableLaws
 pub mod RowLaws
@@ -75,11 +79,13 @@ pub mod PriceSameLaws
 pub mod AimedLaws
 pub mod AimedExact
 pub mod AimedSample
+pub mod AimedTurnLaws
+pub mod EdgeSameLaws
+pub mod WeightLaws
 pub mod StoreLaws
 pub mod FillLaws
 pub mod QueueLaws
-pub mod LinkLaws
-pub mod AimedTurnLaws
+pub mod BucketLaws
 pub mod HeapLaws
 pub mod SpreadSteps
 pub mod SpreadRun

@@ -5,7 +5,7 @@
 --     queue-here, queue-up                  a store that puts an inner entry right
 --     entry-child, queue-least             an inner entry is one of its children; entry 1 is at most every leaf
 --     Carrying, Lowering                  the invariants of `carry_up` and `lower_above`, with their steps and ends
---     Building, Descending                those of `build` and `nearest`
+--     Descending                           the invariant of `nearest`
 -- Assumes nothing.
 use mathlib.Core.List.{List}
 use mathlib.Core.Logic.{_⊎_, ⊎-elim, inl, inr}
@@ -217,42 +217,6 @@ lowered-node n w v key node long low b h =
     let e : n + (n + v) ≡ 2 * n + v = omega arith in
     subst (λ (k : ℕ). LoweredBelow n key (set w k key) ((n + v) / 2)) e
     (lowered n w (n + v) key (omega arith) (omega arith) long (rw e low) (b ((n + v) / 2) h (omega arith))) h
-
--- ---- putting every inner entry right, from the last to the first
-
--- every inner entry from i on is right, and nothing but inner entries has changed
-pub record Building (n : ℕ) (old w : List ℕ) (i : ℕ) : Type 0 where
-  pub within : i ≤ n
-  pub room : 3 * n ≤ length w
-  pub right : (j : ℕ) → i ≤ j → j < n → TournamentAt n w j
-  pub same : SameBut (n + 1) (2 * n) old w
-
-pub built-none : (n : ℕ) (w : List ℕ) → 3 * n ≤ length w → Building n w w n
-built-none n w l =
-    record {
-      within = le-refl n;
-      room = l;
-      right = λ j p h. absurd (lt-irrefl n (le-trans (suc-le-suc p) h));
-      same = same-none (n + 1) (2 * n) w;
-    }
-
-module _ (n : ℕ) (old w : List ℕ) (i : ℕ) where
-  pub built-more : (x : ℕ) → 1 < i → x ≡ min (entryAt n w (2 * (i - 1))) (entryAt n w (2 * (i - 1) + 1)) → Building n old w i → Building n old (set w (n + (i - 1)) x) (i - 1)
-  built-more x pos least b =
-      let inner : i - 1 < n = omega (arith, b .within) in
-      record {
-        within = omega arith;
-        room = omega (arith, b .room, length-set w (n + (i - 1)) x);
-        right = λ j l h.
-            ⊎-elim
-            (λ (e : i - 1 ≡ j). subst (TournamentAt n (set w (n + (i - 1)) x)) e (queue-here n w (i - 1) x (omega arith) inner (b .room) least))
-            (λ (g : i - 1 < j). queue-far n w (i - 1) x j (λ e. omega arith) (λ e. omega arith) (b .right j (omega arith) h))
-            (eq-or-lt-of-le l);
-        same = same-store (n + 1) (2 * n) old w (n + (i - 1)) x (omega arith) (omega arith) (b .same);
-      }
-
-  pub built : i ≤ 1 → Building n old w i → Tournament n w
-  built l b j p h = b .right j (omega arith) h
 
 -- ---- going down to the least leaf
 

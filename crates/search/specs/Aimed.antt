@@ -31,14 +31,18 @@ alone b v = upTo (λ u. choose (eqb u v) 1 0) (nodes b)
 unfoldable pub estimate : Block → (ℕ → ℕ) → List ℕ → List ℕ → ℕ → ℕ
 estimate b weight marks sinks v = least far (map (openDistance marks (distances b weight (alone b v))) sinks)
 
--- "A turn expands .. exactly the nodes whose distance plus that estimate is at most the joined sink's distance"
-unfoldable pub expands : Block → (ℕ → ℕ) → (ℕ → ℕ) → List ℕ → List ℕ → ℕ → Bool
-expands b price weight marks sinks v =
-    leb (distance b price marks v + estimate b weight marks sinks v) (nearestDistance b price marks sinks)
+-- "A turn expands .. exactly the nodes whose distance plus that estimate is at most the joined sink's distance": by these estimates
+unfoldable pub expandsBy : Block → (ℕ → ℕ) → (ℕ → ℕ) → List ℕ → List ℕ → ℕ → Bool
+expandsBy b price est marks sinks v = leb (distance b price marks v + est v) (nearestDistance b price marks sinks)
 
 -- "The aimed answer also counts the nodes expanded": those of one turn, "each once". A turn that joins no sink expands none.
-unfoldable pub expanded : Block → (ℕ → ℕ) → (ℕ → ℕ) → List ℕ → List ℕ → ℕ
-expanded b price weight marks sinks =
-    choose (eqb (nearestDistance b price marks sinks) far)
-    0
-    (countBelow (expands b price weight marks sinks) (nodes b))
+unfoldable pub expandedBy : Block → (ℕ → ℕ) → (ℕ → ℕ) → List ℕ → List ℕ → ℕ
+expandedBy b price est marks sinks =
+    choose (eqb (nearestDistance b price marks sinks) far) 0 (countBelow (expandsBy b price est marks sinks) (nodes b))
+
+-- by the estimates over the same block
+abbrev pub expands : Block → (ℕ → ℕ) → (ℕ → ℕ) → List ℕ → List ℕ → ℕ → Bool
+expands b price weight marks sinks v = expandsBy b price (estimate b weight marks sinks) marks sinks v
+
+abbrev pub expanded : Block → (ℕ → ℕ) → (ℕ → ℕ) → List ℕ → List ℕ → ℕ
+expanded b price weight marks sinks = expandedBy b price (estimate b weight marks sinks) marks sinks

@@ -1,47 +1,81 @@
 -- What the private functions of a turn that aims do to its work slice. Only their contracts cite this file: no caller has to believe it.
 -- Assumes nothing.
+use mathlib.Core.Bool.{Bool, true, false}
 use mathlib.Core.List.{List, [], _++_}
+use mathlib.Core.Logic.{_⊎_}
 use mathlib.Core.Path.{_≡_}
-use Prim.Native.Nat.{ℕ, _+_, _-_, _*_, _≤_, _<_}
+use Prim.Native.Nat.{ℕ, _+_, _-_, _*_, _≤_, _<_, min}
 use lib.ListN.{length, getD, take, drop, replicate}
+use Rattle.price.specs.Test.{choose}
 use Rattle.price.specs.Bounds.{nodesMost}
-use Rattle.price.specs.declared.Weighting.{Weighting}
-use Rattle.search.specs.Block.{Block, nodes}
-use Rattle.search.specs.Tables.{Graph}
-use Rattle.search.specs.Paths.{Fair}
-use Rattle.search.specs.Distance.{far}
-use Rattle.search.specs.Replies.{sinksMost, cleared}
-use Rattle.search.specs.Layout.{priceIn, SameBut}
+use Rattle.price.specs.Lists.{countBelow}
+use Rattle.search.specs.Block.{Block, blockOf, graphOf, nodes}
+use Rattle.search.specs.Distance.{far, inTree}
+use Rattle.search.specs.Turn.{Congestion}
+use Rattle.search.specs.Clamped.{clampedPrice, clampedWeight}
+use Rattle.search.specs.Replies.{cleared}
+use Rattle.search.specs.Priceable.{Fitted}
+use Rattle.search.specs.Layout.{distAt, entryAt, SameBut}
 use Rattle.search.specs.TurnWork.{Found, Read}
-use Rattle.search.specs.Aimed.{weightAt}
-use Rattle.search.specs.Estimates.{WeightReady}
-use Rattle.search.specs.Aiming.{AimDone}
+use Rattle.search.specs.Aimed.{estimate, expandsBy}
+use Rattle.search.specs.ByTarget.{inBoth, Counted}
+use Rattle.search.specs.Estimates.{NoneGiven}
+use Rattle.search.specs.Aiming.{ExpandsExactly, AimDone}
 use Rattle.search.specs.declared.PathAnswer.{PathAnswer}
 use Rattle.search.specs.declared.PathAnswer.the-variants.{Stuck}
+
+-- what bounds from below the key of any node that lacks an estimate, at this level of the estimates: `far` where none is coming
+pub data LeastLacking (scale level count lacking low r : ℕ) : Type 0 where
+  none-comes : count ≡ 0 → r ≡ far → LeastLacking scale level count lacking low r
+  tree-lacks : 0 < count → 0 < lacking → r ≡ scale * level → LeastLacking scale level count lacking low r
+  none-near : 0 < count → lacking ≡ 0 → low ≡ far → r ≡ far → LeastLacking scale level count lacking low r
+  others-lack : 0 < count → lacking ≡ 0 → (low ≡ far → ⊥) → r ≡ low + scale * level → LeastLacking scale level count lacking low r
+
+-- a turn ends where the lesser of both keys is `far` or above the nearest sink's distance so far
+pub record Halts (least coming best : ℕ) (r : Bool) : Type 0 where
+  pub ends : r ≡ true → (min least coming ≡ far) ⊎ (best < min least coming)
+  pub goes : r ≡ false → (min least coming ≡ far → ⊥) × (min least coming ≤ best)
 
 -- the predecessors stand from n on too
 pub record PredecessorsMoved (n : ℕ) (w w′ : List ℕ) : Type 0 where
   pub same : SameBut n (2 * n) w w′
   pub here : (v : ℕ) → v < n → getD w′ (n + v) 0 ≡ getD w (4 * n + v) 0
 
--- a turn's prices stand in the work slice, none below its node's weight; graph, kinds, marks and sinks keep their rules
-pub record TurnPriced (b : Block) (weighting : Weighting) (marks sinks w : List ℕ) : Type 0 where
-  pub graph : Graph b
-  pub weights : WeightReady (b .kinds) weighting
-  pub price : ℕ → ℕ
-  pub fair : Fair b price
-  pub dear : (v : ℕ) → v < nodes b → weightAt b weighting v ≤ price v
-  pub prices : (v : ℕ) → v < nodes b → priceIn (nodes b) w v ≡ price v
-  pub marks-long : nodes b ≤ length marks
-  pub sinks-few : length sinks ≤ sinksMost
-  pub sinks-nodes : (i : ℕ) → i < length sinks → getD sinks i 0 < nodes b
-  pub long : 8 * nodes b ≤ length w
-
--- the turn has aimed; past 8 n the work slice is as it was
-pub record SinksAimed (b : Block) (price weight : ℕ → ℕ) (marks sinks w w′ : List ℕ) (cost count : ℕ) : Type 0 where
-  pub done : AimDone b price weight marks sinks w′ cost count
+-- w′ is w with tree nodes at distance 0; no other node has a distance, none an estimate, and none waits
+pub record Started (n : ℕ) (marks w w′ : List ℕ) (trees : ℕ) : Type 0 where
   pub long : length w′ ≡ length w
-  pub beyond : (j : ℕ) → 8 * nodes b ≤ j → getD w′ j 0 ≡ getD w j 0
+  pub dist : (v : ℕ) → v < n → distAt w′ v ≡ choose (inTree marks v) 0 far
+  pub entries : (i : ℕ) → i < n → entryAt n w′ i ≡ far
+  pub none : NoneGiven n w′
+  pub beyond : (j : ℕ) → 7 * n ≤ j → getD w′ j 0 ≡ getD w j 0
+  pub trees-are : trees ≡ countBelow (inTree marks) n
+
+-- every list of a turn has its length, and the tables by target have theirs; some tables have the edges that count
+pub record TurnReady (b r : Block) (c : Congestion) (marks sinks w : List ℕ) : Type 0 where
+  pub fitted : Fitted b c marks sinks w
+  pub same-nodes : r .kinds ≡ b .kinds
+  pub backs-long : length (r .firstEdges) ≡ nodes b + 1
+  pub firsts : List ℕ
+  pub targets : List ℕ
+  pub backs : List ℕ
+  pub sources : List ℕ
+  pub counted : Counted b r firsts targets backs sources
+
+-- the turn has aimed, over the edges that count, as any tables have them, by estimates over the tables by target
+pub record SinksAimed (b r : Block) (c : Congestion) (marks sinks w w′ : List ℕ) (firsts targets backs sources : List ℕ) (cost count : ℕ)
+    : Type 0 where
+  pub done :
+      AimDone (blockOf (b .kinds) (b .capacities) firsts targets) (clampedPrice (b .kinds) (b .capacities) c)
+      (estimate (graphOf (b .kinds) backs sources) (clampedWeight (b .kinds) (c .weighting)) marks sinks) marks sinks w′ cost count
+  -- request 2.13, "A turn expands, each once, exactly the nodes whose .."
+  pub exactly :
+      cost < far
+      → ExpandsExactly (nodes b) (inBoth b r) (clampedPrice (b .kinds) (b .capacities) c) w w′
+      (expandsBy (blockOf (b .kinds) (b .capacities) firsts targets) (clampedPrice (b .kinds) (b .capacities) c)
+      (estimate (graphOf (b .kinds) backs sources) (clampedWeight (b .kinds) (c .weighting)) marks sinks) marks sinks)
+      count
+  pub long : length w′ ≡ length w
+  pub beyond : (j : ℕ) → 7 * nodes b ≤ j → getD w′ j 0 ≡ getD w j 0
 
 -- a path can be read off once the predecessors are moved, where some sink is joined
 pub record Readable (n : ℕ) (marks sinks w : List ℕ) (cost : ℕ) : Type 0 where

@@ -1,161 +1,151 @@
--- What holds while estimates spread from the unjoined sinks against the edges, the nearest waiting node first. The queue's entries stand
--- from n, prices from 3 n, estimates from 6 n, and from 7 n what the walk that each of them stands for costs at the turn's prices. Only the
--- contracts of private functions cite this file: no caller has to believe it.
+-- What holds while estimates spread from the unjoined sinks over the edges by their target, the waiting node of least level first. Nothing
+-- here knows a price. Only the contracts of private functions cite this file: no caller has to believe it.
 -- Assumes nothing.
-use mathlib.Core.Bool.{true, false}
-use mathlib.Core.List.{List, []}
+use mathlib.Core.Bool.{Bool, true, false}
+use mathlib.Core.List.{List}
 use mathlib.Core.Logic.{_⊎_}
 use mathlib.Core.Path.{_≡_}
-use Prim.Native.Nat.{ℕ, _+_, _*_, _≤_, _<_}
-use lib.ListN.{length, getD}
-use Rattle.price.specs.Bounds.{kindMost, baseMost, nodesMost, criticalityMost}
-use Rattle.price.specs.Lists.{has}
-use Rattle.price.specs.declared.Weighting.{Weighting}
-use Rattle.search.specs.Block.{Block, graphOf, nodes, hasEdge}
-use Rattle.search.specs.Paths.{Fair}
+use Prim.Native.Nat.{ℕ, _+_, _-_, _*_, _%_, _≤_, _<_}
+use lib.Dec.{eqb}
+use lib.ListN.{length, getD, set}
+use Rattle.price.specs.Test.{choose, both}
+use Rattle.price.specs.Bounds.{baseMost, nodesMost, pathMost}
+use Rattle.price.specs.Lists.{has, countBelow}
+use Rattle.search.specs.Block.{Block, nodes, hasEdge}
+use Rattle.search.specs.Paths.{anyPriceMost}
 use Rattle.search.specs.Distance.{far, inTree}
-use Rattle.search.specs.Turn.{nearestDistance}
-use Rattle.search.specs.Replies.{sinksMost}
-use Rattle.search.specs.Layout.{entryAt, leafAt, priceIn, Tournament}
-use Rattle.search.specs.Links.{Links}
-use Rattle.search.specs.Aimed.{estimate, weightAt}
+use Rattle.search.specs.Layout.{distAt, leafAt, linkAt, predAt, estimateAt, Tournament}
+use Rattle.search.specs.Buckets.{buckets, Lined, waits}
 
--- the estimate so far, 2^64 − 1 where there is none; and what its walk costs
-abbrev pub estimateAt : ℕ → List ℕ → ℕ → ℕ
-estimateAt n w v = getD w (6 * n + v) 0
+-- a base cost counts at most so many times
+abbrev pub scaleMost : ℕ
+scaleMost = 10 * 100
 
-abbrev pub walkAt : ℕ → List ℕ → ℕ → ℕ
-walkAt n w v = getD w (7 * n + v) 0
+-- no estimate is above this: a walk has no node twice
+abbrev pub levelMost : ℕ
+levelMost = nodesMost * baseMost + baseMost
 
--- no node weighs more
-abbrev pub weightMost : ℕ
-weightMost = 10 * (100 * baseMost)
-
--- an estimate with the weight of its node is at most this: a walk has no node twice
+-- a key is at most this
 abbrev pub keyMost : ℕ
-keyMost = nodesMost * weightMost + weightMost
+keyMost = scaleMost * levelMost
 
--- kinds and criticality are such that each node has a weight
-pub record WeightReady (kinds : List ℕ) (w : Weighting) : Type 0 where
-  pub kind-most : (v : ℕ) → v < length kinds → getD kinds v 0 ≤ kindMost
-  pub criticality-most : w .timed ≡ true → w .criticality ≤ criticalityMost
+-- a distance so far is at most this, or there is none
+abbrev pub reachMost : ℕ
+reachMost = pathMost + anyPriceMost
 
--- w′ is w but for the queue and the estimates
+-- how many nodes at distance 0 have no estimate
+abbrev pub lackingIn : ℕ → List ℕ → ℕ
+lackingIn n w = countBelow (λ v. both (eqb (distAt w v) 0) (eqb (estimateAt n w v) far)) n
+
+-- distances, predecessors and what is past 7 n stay
 pub record Beside (n : ℕ) (w w′ : List ℕ) : Type 0 where
   pub long : length w′ ≡ length w
-  pub low : (j : ℕ) → j < n → getD w′ j 0 ≡ getD w j 0
-  pub middle : (j : ℕ) → 3 * n ≤ j → j < 6 * n → getD w′ j 0 ≡ getD w j 0
-  pub beyond : (j : ℕ) → 8 * n ≤ j → getD w′ j 0 ≡ getD w j 0
+  pub dist : (v : ℕ) → v < n → distAt w′ v ≡ distAt w v
+  pub pred : (v : ℕ) → v < n → predAt n w′ v ≡ predAt n w v
+  pub beyond : (j : ℕ) → 7 * n ≤ j → getD w′ j 0 ≡ getD w j 0
 
--- w′ is w with an estimate on node u, by a walk of this cost; u waits in the queue at the estimate and its weight together
-pub record Given (n : ℕ) (weight : ℕ → ℕ) (u give cost : ℕ) (w w′ : List ℕ) : Type 0 where
+-- the key of a node that gets this estimate: it waits to be expanded if it has a distance
+abbrev pub keyGiven : ℕ → List ℕ → ℕ → ℕ → ℕ
+keyGiven n w u estimate = choose (eqb (distAt w u) far) (leafAt n w u) (distAt w u + estimate)
+
+-- w′ is w with this estimate on node u
+pub record Given (n u estimate : ℕ) (w w′ : List ℕ) : Type 0 where
   pub same : Beside n w w′
   pub queue : Tournament n w′
-  pub estimate-here : estimateAt n w′ u ≡ give
-  pub walk-here : walkAt n w′ u ≡ cost
-  pub leaf-here : leafAt n w′ u ≡ give + weight u
+  pub estimate-here : estimateAt n w′ u ≡ estimate
+  pub leaf-here : leafAt n w′ u ≡ keyGiven n w u estimate
   pub estimate-other : (x : ℕ) → x < n → (x ≡ u → ⊥) → estimateAt n w′ x ≡ estimateAt n w x
-  pub walk-other : (x : ℕ) → x < n → (x ≡ u → ⊥) → walkAt n w′ x ≡ walkAt n w x
   pub leaf-other : (x : ℕ) → x < n → (x ≡ u → ⊥) → leafAt n w′ x ≡ leafAt n w x
+  pub link-other : (x : ℕ) → x < n → (x ≡ u → ⊥) → linkAt n w′ x ≡ linkAt n w x
 
--- node u has got an estimate where it had none, else all is as before; `bound` is as before, or the cost where u is in the tree
-pub data Tried (n : ℕ) (weight : ℕ → ℕ) (marks : List ℕ) (u give cost : ℕ) (w w′ : List ℕ) (bound bound′ : ℕ) : Type 0 where
-  has-one : (estimateAt n w u ≡ far → ⊥) → w′ ≡ w → bound′ ≡ bound → Tried n weight marks u give cost w w′ bound bound′
-  gets-one :
-      estimateAt n w u ≡ far → Given n weight u give cost w w′ → (bound′ ≡ bound) ⊎ ((bound′ ≡ cost) × (inTree marks u ≡ true))
-      → Tried n weight marks u give cost w w′ bound bound′
+-- node u stands first in the bucket of its level, unless no edge leads to it
+pub data WaitsToSpread (n : ℕ) (firsts : List ℕ) (u level : ℕ) (w w′ head head′ : List ℕ) (count count′ : ℕ) : Type 0 where
+  no-edge :
+      getD firsts (u + 1) 0 ≤ getD firsts u 0 → linkAt n w′ u ≡ linkAt n w u → head′ ≡ head → count′ ≡ count
+      → WaitsToSpread n firsts u level w w′ head head′ count count′
+  lines-up :
+      linkAt n w′ u ≡ getD head (level % buckets) 0 → head′ ≡ set head (level % buckets) (u + 1) → count′ ≡ count + 1
+      → WaitsToSpread n firsts u level w w′ head head′ count count′
 
--- node u is as before, or it had no estimate and has got one over its edge to v
-pub data NodeGiven (b : Block) (weight : ℕ → ℕ) (v give cost : ℕ) (w w′ : List ℕ) (u : ℕ) : Type 0 where
+-- a node that gets a distance has one that is small enough for its key
+pub record Sized (n : ℕ) (w : List ℕ) : Type 0 where
+  pub long : 8 * n ≤ length w
+  pub near : (v : ℕ) → v < n → (distAt w v ≡ far) ⊎ (distAt w v ≤ reachMost)
+
+-- node x is as before, or it had no estimate and has got one, over the edge from it to v that the tables by target have
+pub data NodeGiven (r : Block) (v estimate : ℕ) (w w′ : List ℕ) (waited waits′ : ℕ → Bool) (x : ℕ) : Type 0 where
   given-stays :
-      estimateAt (nodes b) w′ u ≡ estimateAt (nodes b) w u → walkAt (nodes b) w′ u ≡ walkAt (nodes b) w u
-      → leafAt (nodes b) w′ u ≡ leafAt (nodes b) w u → NodeGiven b weight v give cost w w′ u
+      estimateAt (nodes r) w′ x ≡ estimateAt (nodes r) w x → leafAt (nodes r) w′ x ≡ leafAt (nodes r) w x → waits′ x ≡ waited x
+      → NodeGiven r v estimate w w′ waited waits′ x
   given-new :
-      estimateAt (nodes b) w u ≡ far → hasEdge b u v ≡ true → estimateAt (nodes b) w′ u ≡ give → walkAt (nodes b) w′ u ≡ cost
-      → leafAt (nodes b) w′ u ≡ give + weight u → NodeGiven b weight v give cost w w′ u
+      estimateAt (nodes r) w x ≡ far → hasEdge r v x ≡ true → estimateAt (nodes r) w′ x ≡ estimate
+      → leafAt (nodes r) w′ x ≡ keyGiven (nodes r) w x estimate
+      → (waits′ x ≡ true) ⊎ ((y : ℕ) → hasEdge r x y ≡ true → ⊥)
+      → NodeGiven r v estimate w w′ waited waits′ x
 
--- a tree node that has got an estimate by a walk of this cost
-pub record TreeGiven (n : ℕ) (marks : List ℕ) (cost : ℕ) (w w′ : List ℕ) : Type 0 where
-  pub tree : ℕ
-  pub node : tree < n
-  pub marked : inTree marks tree ≡ true
-  pub blank : estimateAt n w tree ≡ far
-  pub near : estimateAt n w′ tree < far
-  pub cost-here : walkAt n w′ tree ≡ cost
+-- nodes before v have been given this level as their estimate where they had none, others not
+pub record SomeGiven (r : Block) (base : ℕ → ℕ) (scale v level : ℕ) (w w′ head head′ : List ℕ) (count count′ : ℕ)
+    (l : Lined (nodes r) base scale w head count level) : Type 0 where
+  pub same : Beside (nodes r) w w′
+  pub queue : Tournament (nodes r) w′
+  pub lined : Lined (nodes r) base scale w′ head′ count′ level
+  pub each : (x : ℕ) → x < nodes r → NodeGiven r v (scale * level) w w′ (waits l) (waits lined) x
 
--- nodes that have an edge to v have been given this estimate where they had none, others not; what stands outside queue and estimates stays
-pub record SomeGiven (b : Block) (weight : ℕ → ℕ) (marks : List ℕ) (v give cost : ℕ) (w w′ : List ℕ) (bound bound′ : ℕ) : Type 0 where
-  pub same : Beside (nodes b) w w′
-  pub queue : Tournament (nodes b) w′
-  pub each : (u : ℕ) → u < nodes b → NodeGiven b weight v give cost w w′ u
-  pub bounds : (bound′ ≡ bound) ⊎ ((bound′ ≡ cost) × TreeGiven (nodes b) marks cost w w′)
+-- all of them
+pub record GivenBefore (r : Block) (base : ℕ → ℕ) (scale v level : ℕ) (w w′ head head′ : List ℕ) (count count′ : ℕ)
+    (l : Lined (nodes r) base scale w head count level) : Type 0 where
+  pub some : SomeGiven r base scale v level w w′ head head′ count count′ l
+  pub all : (x : ℕ) → x < nodes r → hasEdge r v x ≡ true → estimateAt (nodes r) w′ x ≡ far → ⊥
 
--- all that have an edge to v have been looked at
-pub record GivenBefore (b : Block) (weight : ℕ → ℕ) (marks : List ℕ) (v give cost : ℕ) (w w′ : List ℕ) (bound bound′ : ℕ) : Type 0 where
-  pub some : SomeGiven b weight marks v give cost w w′ bound bound′
-  pub all : (u : ℕ) → hasEdge b u v ≡ true → estimateAt (nodes b) w′ u ≡ far → ⊥
+-- safe to give estimates up to a level
+pub record GiveReady (r : Block) (base : ℕ → ℕ) (scale level : ℕ) (w head : List ℕ) (count lacking : ℕ) : Type 0 where
+  pub few : nodes r ≤ nodesMost
+  pub firsts-long : length (r .firstEdges) ≡ nodes r + 1
+  pub base-most : (v : ℕ) → v < nodes r → base v ≤ baseMost
+  pub scale-pos : 1 ≤ scale
+  pub scale-most : scale ≤ scaleMost
+  pub level-most : level ≤ levelMost
+  pub sized : Sized (nodes r) w
+  pub queue : Tournament (nodes r) w
+  pub lined : Lined (nodes r) base scale w head count level
+  pub lacking-is : lacking ≡ lackingIn (nodes r) w
 
--- ---- the beginning of a pass
+-- ---- one node spreads
 
--- w′ is w with no estimate on the nodes below i, and none of them waits: with i = n the queue is empty
-pub record NoneGiven (n : ℕ) (w w′ : List ℕ) (i : ℕ) : Type 0 where
-  pub same : Beside n w w′
-  pub entries : (v : ℕ) → v < i → entryAt n w′ v ≡ far
-  pub leaves : (v : ℕ) → v < i → leafAt n w′ v ≡ far
-  pub estimates : (v : ℕ) → v < i → estimateAt n w′ v ≡ far
+-- a node that waits at this level, the least, has spread its estimate
+pub record Spread (r : Block) (base : ℕ → ℕ) (scale level : ℕ) (w w′ head head′ : List ℕ) (count count′ : ℕ)
+    (l : Lined (nodes r) base scale w head count level) : Type 0 where
+  pub from : ℕ
+  pub waited : waits l from ≡ true
+  pub at-level : l .level from ≡ level
+  pub head₁ : List ℕ
+  pub rest : Lined (nodes r) base scale w head₁ (count - 1) level
+  pub gone : waits rest from ≡ false
+  pub others : (x : ℕ) → x < nodes r → (x ≡ from → ⊥) → waits rest x ≡ waits l x
+  pub given : GivenBefore r base scale from level w w′ head₁ head′ (count - 1) count′ rest
 
--- v is an unjoined sink, has estimate 0 and waits
-pub record SinkWaits (n : ℕ) (weight : ℕ → ℕ) (marks sinks w : List ℕ) (v : ℕ) : Type 0 where
+-- ---- the beginning
+
+-- no node has an estimate, no one waits, in the queue or to spread
+pub record NoneGiven (n : ℕ) (w : List ℕ) : Type 0 where
+  pub estimates : (v : ℕ) → v < n → estimateAt n w v ≡ far
+  pub leaves : (v : ℕ) → v < n → leafAt n w v ≡ far
+
+-- v is an unjoined sink, has estimate 0 and waits to spread it, unless no edge leads to it
+pub record SinkGiven (r : Block) (marks sinks w : List ℕ) (waits′ : ℕ → Bool) (v : ℕ) : Type 0 where
   pub listed : has v sinks ≡ true
   pub out : inTree marks v ≡ false
-  pub estimate-here : estimateAt n w v ≡ 0
-  pub walk-here : walkAt n w v ≡ 0
-  pub leaf-here : leafAt n w v ≡ weight v
+  pub estimate-here : estimateAt (nodes r) w v ≡ 0
+  pub spreads : (waits′ v ≡ true) ⊎ ((y : ℕ) → hasEdge r v y ≡ true → ⊥)
 
--- the unjoined sinks at places below i wait, and no node has an estimate but such sinks
-pub record SinksWait (n : ℕ) (weight : ℕ → ℕ) (marks sinks w : List ℕ) (i : ℕ) : Type 0 where
-  pub queue : Tournament n w
-  pub each : (v : ℕ) → v < n → ((estimateAt n w v ≡ far) × (leafAt n w v ≡ far)) ⊎ SinkWaits n weight marks sinks w v
-  pub goals : (j : ℕ) → j < i → inTree marks (getD sinks j 0) ≡ false → estimateAt n w (getD sinks j 0) ≡ 0
-
--- ---- a whole pass
-
--- estimates can be made: tables, marks and sinks keep their rules, the edges are linked, and these are the prices of some turn
-pub record EstimateReady (kinds : List ℕ) (w : Weighting) (last earlier from marks sinks work : List ℕ) : Type 0 where
-  pub weights : WeightReady kinds w
-  pub links : Links kinds last earlier from
-  pub price : ℕ → ℕ
-  pub fair : Fair (graphOf kinds (links .firsts) (links .targets)) price
-  pub prices : (v : ℕ) → v < length kinds → priceIn (length kinds) work v ≡ price v
-  pub marks-long : length kinds ≤ length marks
-  pub sinks-few : length sinks ≤ sinksMost
-  pub sinks-nodes : (i : ℕ) → i < length sinks → getD sinks i 0 < length kinds
-  pub long : 8 * length kinds ≤ length work
-
--- estimates can spread from the unjoined sinks of some list: they wait
-pub record SpreadReady (kinds : List ℕ) (w : Weighting) (last earlier from marks work : List ℕ) : Type 0 where
-  pub sinks : List ℕ
-  pub ready : EstimateReady kinds w last earlier from marks sinks work
-  pub start : SinksWait (length kinds) (weightAt (graphOf kinds [] []) w) marks sinks work (length sinks)
-
--- the estimates are made, as far as a turn needs them: each is right, or it is above a bound that the joined sink's distance keeps
-pub record Estimated (b : Block) (price weight : ℕ → ℕ) (marks sinks w : List ℕ) : Type 0 where
-  pub bound : ℕ
-  pub within : nearestDistance b price marks sinks ≤ bound
-  pub known :
-      (v : ℕ) → v < nodes b → (estimateAt (nodes b) w v ≡ estimate b weight marks sinks v) ⊎ (bound < estimate b weight marks sinks v)
-  pub top : (v : ℕ) → v < nodes b → estimateAt (nodes b) w v ≤ far
-  pub few : (v : ℕ) → v < nodes b → estimateAt (nodes b) w v < far → estimateAt (nodes b) w v ≤ keyMost
-  pub above : (v : ℕ) → v < nodes b → estimate b weight marks sinks v ≤ estimateAt (nodes b) w v
-  -- 0 is the estimate of the unjoined sinks alone
-  pub goals : (s : ℕ) → s < nodes b → has s sinks ≡ true → inTree marks s ≡ false → estimateAt (nodes b) w s ≡ 0
-  pub goals-only : (s : ℕ) → s < nodes b → estimateAt (nodes b) w s ≡ 0 → (has s sinks ≡ true) × (inTree marks s ≡ false)
-
--- request 2.13, "work out from 100 × base costs alone": each estimate that stands is the one by the weights, whatever the prices are
-pub record EstimatesRight (b : Block) (weight : ℕ → ℕ) (marks sinks w : List ℕ) : Type 0 where
-  pub right : (v : ℕ) → v < nodes b → estimateAt (nodes b) w v < far → estimateAt (nodes b) w v ≡ estimate b weight marks sinks v
-
--- w′ is w with the estimates made; distances and prices stay
-pub record EstimatesMade (b : Block) (price weight : ℕ → ℕ) (marks sinks w w′ : List ℕ) : Type 0 where
-  pub same : Beside (nodes b) w w′
-  pub estimated : Estimated b price weight marks sinks w′
+-- the unjoined sinks at places below i have estimate 0, and no other node has one; keys stay
+pub record SinksGiven (r : Block) (base : ℕ → ℕ) (scale : ℕ) (marks sinks w w′ head′ : List ℕ) (count′ i : ℕ) : Type 0 where
+  pub same : Beside (nodes r) w w′
+  pub queue : Tournament (nodes r) w′
+  pub leaves : (v : ℕ) → v < nodes r → leafAt (nodes r) w′ v ≡ leafAt (nodes r) w v
+  pub lined : Lined (nodes r) base scale w′ head′ count′ 0
+  pub each :
+      (v : ℕ) → v < nodes r
+      → ((estimateAt (nodes r) w′ v ≡ far) × (waits lined v ≡ false)) ⊎ SinkGiven r marks sinks w′ (waits lined) v
+  pub goals :
+      (j : ℕ) → j < i → getD sinks j 0 < nodes r → inTree marks (getD sinks j 0) ≡ false → estimateAt (nodes r) w′ (getD sinks j 0) ≡ 0

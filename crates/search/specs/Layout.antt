@@ -1,5 +1,5 @@
 -- How a running search keeps its work slice. Only the contracts of private functions cite this file: no caller has to believe it.
--- Of n nodes: distances from 0, the queue's entries from n, prices from 3 n, predecessors from 4 n.
+-- Of n nodes: distances from 0, the queue's entries from n, links from 3 n, predecessors from 4 n, estimates from 6 n.
 -- The queue is a tournament tree: entry i is the least of entries 2 i and 2 i + 1, and node v's leaf is entry n + v.
 -- Assumes nothing.
 use mathlib.Core.List.{List}
@@ -17,11 +17,16 @@ entryAt n w i = getD w (n + i) 0
 abbrev pub leafAt : ℕ → List ℕ → ℕ → ℕ
 leafAt n w v = getD w (2 * n + v) 0
 
-abbrev pub priceIn : ℕ → List ℕ → ℕ → ℕ
-priceIn n w v = getD w (3 * n + v) 0
+-- the link of a node that waits to spread its estimate
+abbrev pub linkAt : ℕ → List ℕ → ℕ → ℕ
+linkAt n w v = getD w (3 * n + v) 0
 
 abbrev pub predAt : ℕ → List ℕ → ℕ → ℕ
 predAt n w v = getD w (4 * n + v) 0
+
+-- the estimate, 2^64 − 1 where there is none
+abbrev pub estimateAt : ℕ → List ℕ → ℕ → ℕ
+estimateAt n w v = getD w (6 * n + v) 0
 
 -- entry i is the least of its two children
 abbrev pub TournamentAt : ℕ → List ℕ → ℕ → Type 0
@@ -52,21 +57,3 @@ pub record Queued (n v key : ℕ) (w w′ : List ℕ) : Type 0 where
   pub leaf-other : (x : ℕ) → x < n → (x ≡ v → ⊥) → leafAt n w′ x ≡ leafAt n w x
   pub low : (j : ℕ) → j < n → getD w′ j 0 ≡ getD w j 0
   pub high : (j : ℕ) → 3 * n ≤ j → getD w′ j 0 ≡ getD w j 0
-
--- w′ is w with a shorter way to v: over u, at distance d; v waits at this key
-pub record Shortened (n u v d key : ℕ) (w w′ : List ℕ) : Type 0 where
-  pub long : length w′ ≡ length w
-  pub queue : Tournament n w′
-  pub dist-here : distAt w′ v ≡ d
-  pub leaf-here : leafAt n w′ v ≡ key
-  pub pred-here : predAt n w′ v ≡ u
-  pub dist-other : (x : ℕ) → x < n → (x ≡ v → ⊥) → distAt w′ x ≡ distAt w x
-  pub leaf-other : (x : ℕ) → x < n → (x ≡ v → ⊥) → leafAt n w′ x ≡ leafAt n w x
-  pub pred-other : (x : ℕ) → x < n → (x ≡ v → ⊥) → predAt n w′ x ≡ predAt n w x
-  pub price-same : (x : ℕ) → x < n → priceIn n w′ x ≡ priceIn n w x
-  pub high : (j : ℕ) → 5 * n ≤ j → getD w′ j 0 ≡ getD w j 0
-
--- every node's price stands in its place
-pub record Priced (n : ℕ) (price : ℕ → ℕ) (w w′ : List ℕ) : Type 0 where
-  pub same : SameBut (3 * n) (4 * n) w w′
-  pub prices : (v : ℕ) → v < n → priceIn n w′ v ≡ price v

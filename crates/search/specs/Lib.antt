@@ -3,8 +3,8 @@ pub mod Tables
 pub mod Paths
 pub mod Distance
 pub mod Turn
-pub mod Clamped
 pub mod Aimed
+pub mod Clamped
 pub mod Replies
 pub mod Priceable
 pub mod Layout
@@ -12,8 +12,9 @@ pub mod AllBelow
 pub mod Labels
 pub mod Spread
 pub mod TurnWork
-pub mod Links
+pub mod ByTarget
+pub mod AimedReplies
+pub mod Buckets
 pub mod Estimates
 pub mod Aiming
-pub mod AimedReplies
 pub mod AimedTurn

@@ -1,170 +1,238 @@
-// The search that aims: nodes leave the queue by distance and estimate together, until the least of them is above the distance of the
-// nearest sink. A node's first distance need not be its last, so that its key in the queue may fall; a node that has left keeps its own.
-// The work slice of n nodes: distances from 0, the queue from n, prices from 3n, predecessors from 4n, estimates from 6n.
+// The search that aims: nodes leave the queue by distance and estimate together. A node's first distance need not be its last, so that its
+// key in the queue may fall; a node that has left keeps its own.
+// The work slice of n nodes: distances from 0, the queue from n, predecessors from 4n, estimates from 6n.
 ghost use mathlib.Core.List.{List};
 ghost use mathlib.Core.Path.{_≡_};
-ghost use Prim.Native.Nat.{ℕ, _+_, _*_, _^_, _≤_, _<_};
+ghost use Prim.Native.Nat.{ℕ, _+_, _*_, _^_, _≤_, _<_, min};
 ghost use lib.ListN.{length};
-ghost use Rattle.search.specs.Block.{graphOf};
+ghost use Rattle.search.specs.Block.{blockOf, graphOf, hasEdge};
 ghost use Rattle.search.specs.Distance.{far};
-ghost use Rattle.search.specs.Layout.{Tournament, Shortened};
-ghost use Rattle.search.specs.Estimates.{estimateAt};
-ghost use Rattle.search.specs.Aiming.{wayOver, AimStarted, AimedOver, AimRowReady, AimedRow, BestAim};
-ghost use Rattle.search.specs.Aiming.{AimTask, Aiming, AimLaunched, AimReady, AimEnd};
+ghost use Rattle.search.specs.Turn.{weighedCongestion};
+ghost use Rattle.search.specs.Clamped.{clampedPrice, ListsLong};
+ghost use Rattle.search.specs.ByTarget.{inBoth};
+ghost use Rattle.search.specs.Layout.{distAt, estimateAt, Tournament};
+ghost use Rattle.search.specs.Estimates.{reachMost};
+ghost use Rattle.search.specs.Aiming.{Shortened, AimedOver, AimedRow, AimRowReady, BestAim, LowAim, Expanded, ExpandReady};
 use crate::labels;
 use crate::queue;
+use price::Weighting;
 
-// The distance of the joined sink, FAR where none has a path, and how many nodes were expanded.
-pub struct Aimed {
-    pub cost: u64,
-    pub expanded: u32,
+// How far the search has come: the least distance of a sink, and the least of a node, outside the tree, that had no estimate when it got
+// this distance. FAR where there is none.
+pub struct Reach {
+    pub best: u64,
+    pub low: u64,
 }
 
-// Tree nodes are at distance 0 and wait at their estimate; the others have no distance.
-fn start_aim(in_tree: &[u8], work: &mut [u64], n: usize)
-    requires { ⌜ (n ≤ length (now «in_tree»)) × (8 * n ≤ length (now work)) ⌝ }
-    ensures { λ _. ⌜ AimStarted n (now («in_tree» .entry)) (now (work .entry)) (now (work .exit)) ⌝ }
+// The tables by target have the edge from u to v.
+fn listed(kind: &[u8], first_back: &[u32], back_source: &[u16], u: usize, v: usize) -> bool
+    requires { ⌜ (v < length (now kind)) × (length (now «first_back») ≡ length (now kind) + 1) ⌝ }
+    ensures { λ r. ⌜ r ≡ hasEdge (graphOf (now (kind .entry)) (now («first_back» .entry)) (now («back_source» .entry))) v u ⌝ }
 {
-    let mut v = 0;
-    while v < n {
-        if in_tree[v] == 1 {
-            work[v] = 0;
-            work[2 * n + v] = work[6 * n + v];
-        } else {
-            work[v] = labels::FAR;
-            work[2 * n + v] = labels::FAR;
+    let to = labels::row_place(first_back, back_source.len(), v + 1);
+    let mut e = labels::row_place(first_back, back_source.len(), v);
+    while e < to {
+        if back_source[e] as usize == u {
+            return true;
         }
-        v += 1;
+        e += 1;
     }
+    false
 }
 
-// Node v has a shorter way, over u, and waits at this key.
-fn shorten(work: &mut [u64], n: usize, u: usize, v: usize, d: u64, key: u64)
-    requires { ⌜ (u < n) × (v < n) × (8 * n ≤ length (now work)) × Tournament n (now work) ⌝ }
-    ensures { λ _. ⌜ Shortened n u v d key (now (work .entry)) (now (work .exit)) ⌝ }
+// The lesser one.
+fn lesser(a: u64, b: u64) -> u64
+    ensures { λ r. ⌜ r ≡ min a b ⌝ }
+{
+    if a < b { a } else { b }
+}
+
+// Node v has a shorter way, over u: it is at distance d. It waits, if it has an estimate.
+fn shorten(work: &mut [u64], n: usize, u: usize, v: usize, d: u64, r: Reach) -> Reach
+    requires { ⌜ (u < n) × (v < n) × (8 * n ≤ length (now work)) × Tournament n (now work) × (d ≤ reachMost) × (d < distAt (now work) v) ⌝ }
+    requires { ⌜ ((estimateAt n (now work) v ≡ far → ⊥) → d + estimateAt n (now work) v < 2 ^ 64) ⌝ }
+    ensures { λ s. do
+      let before = now (work .entry)
+      let after = now (work .exit)
+      ⌜ Shortened n u v d before after × (BestAim n (r .best) before → BestAim n (s .best) after)
+          × (LowAim n (r .low) before → LowAim n (s .low) after) ⌝ }
 {
     work[v] = d;
     work[4 * n + v] = u as u64;
-    queue::wait(work, n, v, key);
-}
-
-// Looks at the edge from u to v, unless v has no estimate. Answers the least distance of a sink so far; it was `best` before.
-fn aim(work: &mut [u64], n: usize, u: usize, v: usize, best: u64) -> u64
-    requires { ⌜ (u < n) × (v < n) × (8 * n ≤ length (now work)) × Tournament n (now work) ⌝ }
-    requires { ⌜ ((estimateAt n (now work) v ≡ far → ⊥) → wayOver n (now work) u v + estimateAt n (now work) v < 2 ^ 64) ⌝ }
-    ensures { λ r. do
-      let before = now (work .entry)
-      let after = now (work .exit)
-      ⌜ AimedOver n u v before after × (BestAim n best before → BestAim n r after) ⌝ }
-{
     let estimate = work[6 * n + v];
     if estimate == labels::FAR {
-        return best;
+        return Reach {
+            best: r.best,
+            low: lesser(d, r.low),
+        };
     }
-    let d = work[u] + work[3 * n + v];
-    let old = work[v];
-    if d < old {
-        shorten(work, n, u, v, d, d + estimate);
-        if estimate == 0 {
-            if d < best {
-                return d;
-            }
-        }
-    } else {
-        if d == old {
-            if (u as u64) < work[4 * n + v] {
-                work[4 * n + v] = u as u64;
-            }
-        }
+    queue::wait(work, n, v, d + estimate);
+    if estimate == 0 {
+        return Reach {
+            best: lesser(d, r.best),
+            low: r.low,
+        };
     }
-    best
+    r
 }
 
-// Looks at every edge of u. Answers the least distance of a sink so far; it was `least` before.
-fn aim_row(
+// Looks at the edge from u to v, over which v is at distance d: nothing changes unless that is less than before, or as much over a lower
+// node, and the tables by target have the edge too.
+fn aim(
     kind: &[u8],
-    first_edge: &[u32],
-    edge_target: &[u16],
+    first_back: &[u32],
+    back_source: &[u16],
     work: &mut [u64],
     u: usize,
-    least: u64,
-) -> u64
-    requires { ⌜ AimRowReady (graphOf (now kind) (now «first_edge») (now «edge_target»)) (now work) u ⌝ }
-    ensures { λ r. do
-      let graph = graphOf (now (kind .entry)) (now («first_edge» .entry)) (now («edge_target» .entry))
+    v: usize,
+    d: u64,
+    r: Reach,
+) -> Reach
+    requires { do
+      let n = length (now kind)
+      ⌜ (u < n) × (v < n) × (8 * n ≤ length (now work)) × Tournament n (now work) × (length (now «first_back») ≡ n + 1)
+          × (d ≤ reachMost) ⌝ }
+    requires { do
+      let n = length (now kind)
+      ⌜ ((estimateAt n (now work) v ≡ far → ⊥) → d + estimateAt n (now work) v < 2 ^ 64) ⌝ }
+    ensures { λ s. do
       let n = length (now (kind .entry))
       let before = now (work .entry)
       let after = now (work .exit)
-      ⌜ AimedRow graph u before after × (BestAim n least before → BestAim n r after) ⌝ }
+      let listed = hasEdge (graphOf (now (kind .entry)) (now («first_back» .entry)) (now («back_source» .entry))) v u
+      ⌜ AimedOver n u v d listed before after × (BestAim n (r .best) before → BestAim n (s .best) after)
+          × (LowAim n (r .low) before → LowAim n (s .low) after) ⌝ }
 {
     let n = kind.len();
-    let to = first_edge[u + 1] as usize;
-    let mut e = first_edge[u] as usize;
-    let mut best = least;
-    while e < to {
-        let v = edge_target[e] as usize;
-        best = aim(work, n, u, v, best);
-        e += 1;
+    let old = work[v];
+    if old < d {
+        return r;
     }
-    best
+    if old == d {
+        if work[4 * n + v] <= u as u64 {
+            return r;
+        }
+    }
+    if !listed(kind, first_back, back_source, u, v) {
+        return r;
+    }
+    if d < old {
+        return shorten(work, n, u, v, d, r);
+    }
+    work[4 * n + v] = u as u64;
+    r
 }
 
-// Expands the waiting node of least distance and estimate again and again, until nothing waits or the least is above the nearest sink's
-// distance so far.
-fn expand_all(kind: &[u8], first_edge: &[u32], edge_target: &[u16], work: &mut [u64]) -> Aimed
-    requires { ⌜ AimLaunched (graphOf (now kind) (now «first_edge») (now «edge_target»)) (now work) ⌝ }
-    ensures { λ r. do
-      let graph = graphOf (now (kind .entry)) (now («first_edge» .entry)) (now («edge_target» .entry))
-      let before = now (work .entry)
-      let after = now (work .exit)
-      ⌜ ((marks : List ℕ) (t : AimTask graph marks) → Aiming graph marks t before far 0
-          → AimEnd graph (t .price) (t .weight) marks (t .sinks) before after (r .cost) (r .expanded)) ⌝ }
-{
-    let n = kind.len();
-    let mut best = labels::FAR;
-    let mut expanded = 0u32;
-    loop {
-        let key = work[n + 1];
-        if key == labels::FAR {
-            return Aimed {
-                cost: best,
-                expanded: expanded,
-            };
-        }
-        if best < key {
-            return Aimed {
-                cost: best,
-                expanded: expanded,
-            };
-        }
-        let u = queue::nearest(work, n);
-        queue::wait(work, n, u, labels::FAR);
-        expanded += 1;
-        best = aim_row(kind, first_edge, edge_target, work, u, best);
-    }
-}
-
-// A turn aims, once its estimates are made.
-pub fn aim_all(
+// Looks at every edge of u that leads to a node farther away.
+fn aim_row(
     kind: &[u8],
+    capacity: &[u8],
+    history: &[u32],
+    others: &[u16],
+    weighting: Weighting,
+    delay: &[u16],
+    factor: u32,
     first_edge: &[u32],
     edge_target: &[u16],
-    in_tree: &[u8],
+    first_back: &[u32],
+    back_source: &[u16],
     work: &mut [u64],
-) -> Aimed
+    u: usize,
+    start: Reach,
+) -> Reach
     requires { do
-      let graph = graphOf (now kind) (now «first_edge») (now «edge_target»)
-      ⌜ AimReady graph (now «in_tree») (now work) ⌝ }
+      let n = length (now kind)
+      let c = weighedCongestion weighting (now delay) factor (now history) (now others)
+      ⌜ ListsLong (now kind) (now capacity) c × (length (now «first_edge») ≡ n + 1) × (length (now «first_back») ≡ n + 1)
+          × AimRowReady n (now work) u ⌝ }
     ensures { λ r. do
-      let graph = graphOf (now (kind .entry)) (now («first_edge» .entry)) (now («edge_target» .entry))
-      let marks = now («in_tree» .entry)
+      let kinds = now (kind .entry)
+      let n = length kinds
+      let c = weighedCongestion weighting (now (delay .entry)) factor (now (history .entry)) (now (others .entry))
+      let b = graphOf kinds (now («first_edge» .entry)) (now («edge_target» .entry))
+      let back = graphOf kinds (now («first_back» .entry)) (now («back_source» .entry))
       let before = now (work .entry)
-      ⌜ ((a : AimReady graph marks before) → do
-        let t = a .task
-        AimEnd graph (t .price) (t .weight) marks (t .sinks) before (now (work .exit)) (r .cost) (r .expanded)) ⌝ }
+      let after = now (work .exit)
+      ⌜ AimedRow n (inBoth b back) (clampedPrice kinds (now (capacity .entry)) c) u before after
+          × (BestAim n (start .best) before → BestAim n (r .best) after) × (LowAim n (start .low) before → LowAim n (r .low) after) ⌝ }
 {
     let n = kind.len();
-    start_aim(in_tree, work, n);
-    queue::build(work, n);
-    expand_all(kind, first_edge, edge_target, work)
+    let d = work[u];
+    let to = labels::row_place(first_edge, edge_target.len(), u + 1);
+    let mut e = labels::row_place(first_edge, edge_target.len(), u);
+    let mut r = start;
+    while e < to {
+        let v = edge_target[e] as usize;
+        if v < n {
+            if d < work[v] {
+                let p = labels::clamped_price(
+                    kind,
+                    capacity,
+                    history,
+                    others,
+                    weighting,
+                    delay,
+                    factor,
+                    v,
+                );
+                r = aim(kind, first_back, back_source, work, u, v, d + p, r);
+            }
+        }
+        e += 1;
+    }
+    r
+}
+
+// Expands the node of least key.
+pub fn expand_next(
+    kind: &[u8],
+    capacity: &[u8],
+    history: &[u32],
+    others: &[u16],
+    weighting: Weighting,
+    delay: &[u16],
+    factor: u32,
+    first_edge: &[u32],
+    edge_target: &[u16],
+    first_back: &[u32],
+    back_source: &[u16],
+    work: &mut [u64],
+    r: Reach,
+) -> Reach
+    requires { do
+      let n = length (now kind)
+      let c = weighedCongestion weighting (now delay) factor (now history) (now others)
+      ⌜ ListsLong (now kind) (now capacity) c × (length (now «first_edge») ≡ n + 1) × (length (now «first_back») ≡ n + 1)
+          × ExpandReady n (now work) ⌝ }
+    ensures { λ s. do
+      let kinds = now (kind .entry)
+      let n = length kinds
+      let c = weighedCongestion weighting (now (delay .entry)) factor (now (history .entry)) (now (others .entry))
+      let b = graphOf kinds (now («first_edge» .entry)) (now («edge_target» .entry))
+      let back = graphOf kinds (now («first_back» .entry)) (now («back_source» .entry))
+      let price = clampedPrice kinds (now (capacity .entry)) c
+      let before = now (work .entry)
+      let after = now (work .exit)
+      ⌜ ((u : ℕ) × Expanded n (inBoth b back) price before after u) × (BestAim n (r .best) before → BestAim n (s .best) after)
+          × (LowAim n (r .low) before → LowAim n (s .low) after) ⌝ }
+{
+    let n = kind.len();
+    let u = queue::nearest(work, n);
+    queue::wait(work, n, u, labels::FAR);
+    aim_row(
+        kind,
+        capacity,
+        history,
+        others,
+        weighting,
+        delay,
+        factor,
+        first_edge,
+        edge_target,
+        first_back,
+        back_source,
+        work,
+        u,
+        r,
+    )
 }

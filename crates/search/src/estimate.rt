@@ -1,265 +1,247 @@
-// The estimates: they spread from the unjoined sinks against the edges, at base costs alone. Nodes leave the queue by estimate and own
-// weight together, so that the first estimate of a node is final.
-// The work slice of n nodes: the queue from n, prices from 3n, estimates from 6n, and from 7n what the walk that each of them stands for
-// costs at the turn's prices.
-ghost use mathlib.Core.List.{[]};
+// The estimates: they spread from the unjoined sinks over the edges by their target, at base costs alone, the waiting node of least level
+// first. All nodes before a node get its level as their estimate, so that the first estimate of a node is final. No price is read here.
+// The work slice of n nodes: distances from 0, estimates from 6n.
+ghost use mathlib.Core.Bool.{Bool, true, false};
 ghost use mathlib.Core.Path.{_≡_};
-ghost use Prim.Native.Nat.{ℕ, _+_, _*_, _≤_, _<_, min};
-ghost use lib.ListN.{length, getD};
-ghost use Rattle.price.specs.Bounds.{nodesMost};
+ghost use Prim.Native.Nat.{ℕ, _+_, _*_, _-_, _≤_, _<_};
+ghost use mathlib.Core.Logic.{_⊎_};
+ghost use mathlib.Core.List.{List};
+ghost use lib.Dec.{eqb};
+ghost use lib.ListN.{length, getD, set};
+ghost use Rattle.price.specs.Test.{choose};
+ghost use Rattle.price.specs.Bounds.{nodesMost, baseMost};
 ghost use Rattle.search.specs.Block.{graphOf};
 ghost use Rattle.search.specs.Distance.{far};
-ghost use Rattle.search.specs.Layout.{priceIn, Tournament};
-ghost use Rattle.search.specs.Links.{Links};
-ghost use Rattle.search.specs.Aimed.{weightAt};
-ghost use Rattle.search.specs.Estimates.{weightMost, keyMost, walkAt, WeightReady, Given, Tried, GivenBefore};
-ghost use Rattle.search.specs.Estimates.{Beside, NoneGiven, SinksWait, EstimateReady, SpreadReady, EstimatesRight, EstimatesMade};
+ghost use Rattle.search.specs.Clamped.{clampedBase, clampedScale};
+ghost use Rattle.search.specs.Layout.{distAt, estimateAt, Tournament};
+ghost use Rattle.search.specs.Buckets.{buckets, Lined, waits};
+ghost use Rattle.search.specs.Estimates.{scaleMost, levelMost, reachMost, lackingIn, Sized, Given, WaitsToSpread};
+ghost use Rattle.search.specs.Estimates.{GiveReady, GivenBefore, Spread, NoneGiven, SinksGiven};
+use crate::buckets;
 use crate::labels;
 use crate::queue;
-use price::PriceAnswer;
 use price::Weighting;
 
-// What node v weighs: its price at history 1 with nobody else there and no delay.
-fn weight(kind: &[u8], weighting: Weighting, v: usize) -> u64
-    requires { ⌜ WeightReady (now kind) weighting × (v < length (now kind)) ⌝ }
-    ensures { λ r. ⌜ (r ≡ weightAt (graphOf (now (kind .entry)) [] []) weighting v) × (r ≤ weightMost) ⌝ }
-{
-    let k = kind[v] as u32;
-    let PriceAnswer::Price(p) = price::weighed_price(weighting, k, 0, 0, 1, 1, 0) else {
-        return 0;
-    };
-    p
+// How far the estimates have spread: so many nodes wait to spread theirs, and so many tree nodes have none.
+pub struct Front {
+    pub count: usize,
+    pub lacking: usize,
 }
 
-// The sum, at most FAR.
-fn capped_sum(a: u64, b: u64) -> u64
-    ensures { λ r. ⌜ r ≡ min (a + b) far ⌝ }
+// How many times a node's base cost counts in an estimate.
+pub fn scale_of(weighting: Weighting) -> u64
+    ensures { λ r. ⌜ (r ≡ clampedScale weighting) × (1 ≤ r) × (r ≤ scaleMost) ⌝ }
 {
-    if labels::FAR - a < b {
-        return labels::FAR;
+    if !weighting.timed {
+        return 100;
     }
-    a + b
+    let w = labels::clamped_weighting(weighting);
+    100 * (10 - w.criticality) as u64
 }
 
-// Node u gets its estimate, by a walk of this cost, and waits.
-fn give(kind: &[u8], weighting: Weighting, work: &mut [u64], u: usize, estimate: u64, cost: u64)
-    requires { do
-      let n = length (now kind)
-      ⌜ WeightReady (now kind) weighting × (u < n) × (n ≤ nodesMost) × (8 * n ≤ length (now work)) × Tournament n (now work)
-          × (estimate ≤ keyMost) ⌝ }
-    ensures { λ _. do
-      let n = length (now (kind .entry))
-      let weight = weightAt (graphOf (now (kind .entry)) [] []) weighting
-      ⌜ Given n weight u estimate cost (now (work .entry)) (now (work .exit)) ⌝ }
-{
-    let n = kind.len();
-    let own = weight(kind, weighting, u);
-    queue::wait(work, n, u, estimate + own);
-    work[6 * n + u] = estimate;
-    work[7 * n + u] = cost;
-}
-
-// Node u, with an edge to a node over which it has this estimate by a walk of this cost: it gets it, unless it has one. Answers the least
-// cost of a walk from a tree node so far; it was `bound` before.
-fn give_over(
+// Node u waits to spread its estimate, unless no edge leads to it. Answers how many wait.
+fn wait_to_spread(
     kind: &[u8],
-    weighting: Weighting,
-    in_tree: &[u8],
+    first_back: &[u32],
     work: &mut [u64],
+    head: &mut [u16],
+    count: usize,
     u: usize,
-    estimate: u64,
-    cost: u64,
-    bound: u64,
-) -> u64
+    estimate: usize,
+) -> usize
     requires { do
       let n = length (now kind)
-      ⌜ WeightReady (now kind) weighting × (u < n) × (n ≤ nodesMost) × (8 * n ≤ length (now work)) × Tournament n (now work)
-          × (estimate ≤ keyMost) × (n ≤ length (now «in_tree»)) ⌝ }
+      ⌜ (u < n) × (n ≤ nodesMost) × (8 * n ≤ length (now work)) × (length (now head) ≡ buckets) × (length (now «first_back») ≡ n + 1)
+          × (estimate ≤ levelMost) × (count < n) ⌝ }
     ensures { λ r. do
       let n = length (now (kind .entry))
-      let weight = weightAt (graphOf (now (kind .entry)) [] []) weighting
-      ⌜ Tried n weight (now («in_tree» .entry)) u estimate cost (now (work .entry)) (now (work .exit)) bound r ⌝ }
+      let before = now (work .entry)
+      let after = now (work .exit)
+      let level = estimate + clampedBase (now (kind .entry)) u
+      let heads = now (head .entry)
+      ⌜ WaitsToSpread n (now («first_back» .entry)) u level before after heads (now (head .exit)) count r
+          × ((after ≡ before) ⊎ ((x : ℕ) × (after ≡ set before (3 * n + u) x))) ⌝ }
 {
-    let n = kind.len();
-    if work[6 * n + u] != labels::FAR {
-        return bound;
+    if first_back[u + 1] <= first_back[u] {
+        return count;
     }
-    give(kind, weighting, work, u, estimate, cost);
-    if in_tree[u] != 1 {
-        return bound;
-    }
-    if cost < bound { cost } else { bound }
+    let level = estimate + price::base(kind[u] as u32) as usize;
+    buckets::add(work, kind.len(), head, u, level);
+    count + 1
 }
 
-// The nodes that have an edge to v get this estimate, unless they have one. Answers the least cost of a walk from a tree node so far; it
-// was `bound` before.
+// Node u gets its estimate. It waits to spread it, and to be expanded if it has a distance.
+fn give(
+    kind: &[u8],
+    first_back: &[u32],
+    work: &mut [u64],
+    head: &mut [u16],
+    scale: u64,
+    f: Front,
+    u: usize,
+    estimate: usize,
+) -> Front
+    requires { do
+      let n = length (now kind)
+      let w = now work
+      ⌜ (u < n) × (n ≤ nodesMost) × (length (now head) ≡ buckets) × (length (now «first_back») ≡ n + 1) × (scale ≤ scaleMost)
+          × (estimate ≤ levelMost) × (f .count < n) × Sized n w × Tournament n w × (distAt w u ≡ 0 → 0 < f .lacking) ⌝ }
+    ensures { λ g. do
+      let n = length (now (kind .entry))
+      let before = now (work .entry)
+      let after = now (work .exit)
+      let level = estimate + clampedBase (now (kind .entry)) u
+      let heads = now (head .entry)
+      ⌜ Given n u (scale * estimate) before after
+          × WaitsToSpread n (now («first_back» .entry)) u level before after heads (now (head .exit)) (f .count) (g .count)
+          × (g .lacking ≡ choose (eqb (distAt before u) 0) (f .lacking - 1) (f .lacking)) ⌝ }
+{
+    let n = kind.len();
+    let left = scale * estimate as u64;
+    work[6 * n + u] = left;
+    let count = wait_to_spread(kind, first_back, work, head, f.count, u, estimate);
+    let d = work[u];
+    if d == labels::FAR {
+        return Front {
+            count: count,
+            lacking: f.lacking,
+        };
+    }
+    queue::wait(work, n, u, d + left);
+    let lacking = if d == 0 { f.lacking - 1 } else { f.lacking };
+    Front {
+        count: count,
+        lacking: lacking,
+    }
+}
+
+// Every node before v gets this estimate, unless it has one.
 fn give_before(
     kind: &[u8],
-    weighting: Weighting,
-    last: &[u16],
-    earlier: &[u16],
-    from: &[u16],
-    in_tree: &[u8],
+    first_back: &[u32],
+    back_source: &[u16],
     work: &mut [u64],
+    head: &mut [u16],
+    scale: u64,
+    start: Front,
     v: usize,
-    estimate: u64,
-    bound: u64,
-) -> u64
+    estimate: usize,
+) -> Front
     requires { do
-      let n = length (now kind)
-      ⌜ WeightReady (now kind) weighting × (v < n) × Links (now kind) (now last) (now earlier) (now from) × (8 * n ≤ length (now work))
-          × Tournament n (now work) × (estimate ≤ keyMost) × (n ≤ length (now «in_tree»)) ⌝ }
-    ensures { λ r. do
-      let kinds = now (kind .entry)
-      let weight = weightAt (graphOf kinds [] []) weighting
-      let cost = min (walkAt (length kinds) (now (work .entry)) v + priceIn (length kinds) (now (work .entry)) v) far
-      ⌜ ((l : Links kinds (now (last .entry)) (now (earlier .entry)) (now (from .entry))) → do
-        let graph = graphOf kinds (l .firsts) (l .targets)
-        GivenBefore graph weight (now («in_tree» .entry)) v estimate cost (now (work .entry)) (now (work .exit)) bound r) ⌝ }
+      let r = graphOf (now kind) (now «first_back») (now «back_source»)
+      let base = clampedBase (now kind)
+      ⌜ (v < length (now kind)) × GiveReady r base scale estimate (now work) (now head) (start .count) (start .lacking) ⌝ }
+    ensures { λ f. do
+      let r = graphOf (now (kind .entry)) (now («first_back» .entry)) (now («back_source» .entry))
+      let n = length (now (kind .entry))
+      let base = clampedBase (now (kind .entry))
+      let before = now (work .entry)
+      let after = now (work .exit)
+      let heads = now (head .entry)
+      ⌜ ((l : Lined n base scale before heads (start .count) estimate)
+          → GivenBefore r base scale v estimate before after heads (now (head .exit)) (start .count) (f .count) l)
+          × (f .lacking ≡ lackingIn n after) ⌝ }
 {
     let n = kind.len();
-    let cost = capped_sum(work[7 * n + v], work[3 * n + v]);
-    let mut least = bound;
-    let mut k = last[v] as usize;
-    while 0 < k {
-        let u = from[k - 1] as usize;
-        least = give_over(kind, weighting, in_tree, work, u, estimate, cost, least);
-        k = earlier[k - 1] as usize;
+    let to = labels::row_place(first_back, back_source.len(), v + 1);
+    let mut e = labels::row_place(first_back, back_source.len(), v);
+    let mut f = start;
+    while e < to {
+        let u = back_source[e] as usize;
+        if u < n {
+            if work[6 * n + u] == labels::FAR {
+                f = give(kind, first_back, work, head, scale, f, u, estimate);
+            }
+        }
+        e += 1;
     }
-    least
+    f
 }
 
-// No node has an estimate, and none waits.
-fn none_given(work: &mut [u64], n: usize)
-    requires { ⌜ 8 * n ≤ length (now work) ⌝ }
-    ensures { λ _. ⌜ NoneGiven n (now (work .entry)) (now (work .exit)) n ⌝ }
+// Spreads the estimate of a node that waits at this level, the least.
+pub fn spread_next(
+    kind: &[u8],
+    first_back: &[u32],
+    back_source: &[u16],
+    work: &mut [u64],
+    head: &mut [u16],
+    scale: u64,
+    f: Front,
+    level: usize,
+) -> Front
+    requires { do
+      let r = graphOf (now kind) (now «first_back») (now «back_source»)
+      let base = clampedBase (now kind)
+      ⌜ ((g : GiveReady r base scale level (now work) (now head) (f .count) (f .lacking))
+          × ((v : ℕ) × (waits (g .lined) v ≡ true) × (g .lined .level v ≡ level))) ⌝ }
+    ensures { λ g. do
+      let r = graphOf (now (kind .entry)) (now («first_back» .entry)) (now («back_source» .entry))
+      let n = length (now (kind .entry))
+      let base = clampedBase (now (kind .entry))
+      let before = now (work .entry)
+      let after = now (work .exit)
+      let heads = now (head .entry)
+      ⌜ ((l : Lined n base scale before heads (f .count) level)
+          → Spread r base scale level before after heads (now (head .exit)) (f .count) (g .count) l)
+          × (g .lacking ≡ lackingIn n after) ⌝ }
 {
-    let mut v = 0;
-    while v < n {
-        work[n + v] = labels::FAR;
-        work[2 * n + v] = labels::FAR;
-        work[6 * n + v] = labels::FAR;
-        v += 1;
-    }
+    let v = buckets::take(work, kind.len(), head, level);
+    let left = Front {
+        count: f.count - 1,
+        lacking: f.lacking,
+    };
+    give_before(
+        kind,
+        first_back,
+        back_source,
+        work,
+        head,
+        scale,
+        left,
+        v,
+        level,
+    )
 }
 
 // The sinks that are still to be joined have estimate 0 and wait.
-fn give_sinks(kind: &[u8], weighting: Weighting, in_tree: &[u8], sinks: &[u16], work: &mut [u64])
+pub fn give_sinks(
+    kind: &[u8],
+    first_back: &[u32],
+    work: &mut [u64],
+    head: &mut [u16],
+    scale: u64,
+    start: Front,
+    in_tree: &[u8],
+    sinks: &[u16],
+) -> Front
     requires { do
-      let kinds = now kind
-      let n = length kinds
-      let marks = now «in_tree»
-      let list = now sinks
-      let weight = weightAt (graphOf kinds [] []) weighting
-      ⌜ WeightReady kinds weighting × (n ≤ nodesMost) × (n ≤ length marks) × (8 * n ≤ length (now work))
-          × ((i : ℕ) → i < length list → getD list i 0 < n) × SinksWait n weight marks list (now work) 0 ⌝ }
-    ensures { λ _. do
-      let kinds = now (kind .entry)
-      let n = length kinds
+      let n = length (now kind)
+      let w = now work
+      ⌜ (n ≤ nodesMost) × (length (now «first_back») ≡ n + 1) × (1 ≤ scale) × (scale ≤ scaleMost) × Sized n w × Tournament n w
+          × NoneGiven n w × (length (now head) ≡ buckets) × ((b : ℕ) → b < buckets → getD (now head) b 0 ≡ 0) × (start .count ≡ 0)
+          × (start .lacking ≡ lackingIn n w) × (n ≤ length (now «in_tree»))
+          × ((v : ℕ) → v < n → (getD (now «in_tree») v 0 ≡ 1 → ⊥) → distAt w v ≡ far) ⌝ }
+    ensures { λ f. ⌜ ((sources : List ℕ) → do
+      let r = graphOf (now (kind .entry)) (now («first_back» .entry)) sources
       let list = now (sinks .entry)
-      let weight = weightAt (graphOf kinds [] []) weighting
-      let after = now (work .exit)
-      ⌜ Beside n (now (work .entry)) after × SinksWait n weight (now («in_tree» .entry)) list after (length list) ⌝ }
+      let before = now (work .entry)
+      let base = clampedBase (now (kind .entry))
+      SinksGiven r base scale (now («in_tree» .entry)) list before (now (work .exit)) (now (head .exit)) (f .count) (length list))
+        × (f .lacking ≡ lackingIn (length (now (kind .entry))) (now (work .exit))) ⌝ }
 {
+    let n = kind.len();
+    let mut f = start;
     let mut i = 0;
     while i < sinks.len() {
         let s = sinks[i] as usize;
-        if in_tree[s] != 1 {
-            give(kind, weighting, work, s, 0, 0);
+        if s < n {
+            if in_tree[s] != 1 {
+                if work[6 * n + s] == labels::FAR {
+                    f = give(kind, first_back, work, head, scale, f, s, 0);
+                }
+            }
         }
         i += 1;
     }
-}
-
-// Gives the nodes their estimates, the waiting node of least estimate and weight first, until nothing waits or the least is above what a
-// walk from the tree costs: a node that is left out then has an estimate above the joined sink's distance.
-fn give_all(
-    kind: &[u8],
-    weighting: Weighting,
-    last: &[u16],
-    earlier: &[u16],
-    from: &[u16],
-    in_tree: &[u8],
-    work: &mut [u64],
-)
-    requires { ⌜ SpreadReady (now kind) weighting (now last) (now earlier) (now from) (now «in_tree») (now work) ⌝ }
-    ensures { λ _. do
-      let kinds = now (kind .entry)
-      let marks = now («in_tree» .entry)
-      let before = now (work .entry)
-      let weight = weightAt (graphOf kinds [] []) weighting
-      ⌜ ((r : SpreadReady kinds weighting (now (last .entry)) (now (earlier .entry)) (now (from .entry)) marks before) → do
-        let links = r .ready .links
-        let graph = graphOf kinds (links .firsts) (links .targets)
-        EstimatesMade graph (r .ready .price) weight marks (r .sinks) before (now (work .exit))) ⌝ }
-    ensures { λ _. do
-      let kinds = now (kind .entry)
-      let marks = now («in_tree» .entry)
-      let before = now (work .entry)
-      let weight = weightAt (graphOf kinds [] []) weighting
-      ⌜ ((r : SpreadReady kinds weighting (now (last .entry)) (now (earlier .entry)) (now (from .entry)) marks before) → do
-        let links = r .ready .links
-        EstimatesRight (graphOf kinds (links .firsts) (links .targets)) weight marks (r .sinks) (now (work .exit))) ⌝ }
-{
-    let n = kind.len();
-    let mut bound = labels::FAR;
-    loop {
-        let level = work[n + 1];
-        if level == labels::FAR {
-            return;
-        }
-        if bound < level {
-            return;
-        }
-        let v = queue::nearest(work, n);
-        queue::wait(work, n, v, labels::FAR);
-        bound = give_before(
-            kind,
-            weighting,
-            last,
-            earlier,
-            from,
-            in_tree,
-            work,
-            v,
-            level,
-            bound,
-        );
-    }
-}
-
-// The estimates of a turn.
-pub fn estimate_all(
-    kind: &[u8],
-    weighting: Weighting,
-    last: &[u16],
-    earlier: &[u16],
-    from: &[u16],
-    in_tree: &[u8],
-    sinks: &[u16],
-    work: &mut [u64],
-)
-    requires { ⌜ EstimateReady (now kind) weighting (now last) (now earlier) (now from) (now «in_tree») (now sinks) (now work) ⌝ }
-    ensures { λ _. do
-      let kinds = now (kind .entry)
-      let marks = now («in_tree» .entry)
-      let list = now (sinks .entry)
-      let before = now (work .entry)
-      let weight = weightAt (graphOf kinds [] []) weighting
-      ⌜ ((r : EstimateReady kinds weighting (now (last .entry)) (now (earlier .entry)) (now (from .entry)) marks list before) → do
-        let graph = graphOf kinds (r .links .firsts) (r .links .targets)
-        EstimatesMade graph (r .price) weight marks list before (now (work .exit))) ⌝ }
-    ensures { λ _. do
-      let kinds = now (kind .entry)
-      let marks = now («in_tree» .entry)
-      let list = now (sinks .entry)
-      let before = now (work .entry)
-      let weight = weightAt (graphOf kinds [] []) weighting
-      ⌜ ((r : EstimateReady kinds weighting (now (last .entry)) (now (earlier .entry)) (now (from .entry)) marks list before)
-          → EstimatesRight (graphOf kinds (r .links .firsts) (r .links .targets)) weight marks list (now (work .exit))) ⌝ }
-{
-    let n = kind.len();
-    none_given(work, n);
-    give_sinks(kind, weighting, in_tree, sinks, work);
-    give_all(kind, weighting, last, earlier, from, in_tree, work);
+    f
 }

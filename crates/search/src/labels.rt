@@ -45,7 +45,7 @@ fn clamped(low: u32, high: u32, x: u32) -> u32
 }
 
 // How delay is weighed, with the criticality read within its bounds.
-fn clamped_weighting(weighting: Weighting) -> Weighting
+pub fn clamped_weighting(weighting: Weighting) -> Weighting
     ensures { λ r. ⌜ r ≡ clampedWeighting weighting ⌝ }
 {
     let criticality = clamped(0, price::CRITICALITY_MOST, weighting.criticality);
@@ -108,7 +108,7 @@ fn set_from(work: &mut [u64], n: usize, u: usize, v: usize)
 }
 
 // Where the row of node u begins in table 4, its end at most.
-fn row_place(first_edge: &[u32], edges: usize, u: usize) -> usize
+pub fn row_place(first_edge: &[u32], edges: usize, u: usize) -> usize
     requires { ⌜ u < length (now «first_edge») ⌝ }
     ensures { λ r. ⌜ r ≡ min (getD (now («first_edge» .entry)) u 0) edges ⌝ }
 {

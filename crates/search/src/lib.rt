@@ -4,12 +4,13 @@ ghost use mathlib.Core.Path.{_≡_};
 ghost use Prim.Native.Nat.{ℕ};
 ghost use Rattle.price.specs.Test.{both};
 ghost use lib.ListN.{length};
-ghost use Rattle.search.specs.Block.{blockOf};
+ghost use Rattle.search.specs.Block.{blockOf, graphOf};
 ghost use Rattle.search.specs.Turn.{Congestion, weighedCongestion, congestionOf, timedCongestion, priceAt};
 ghost use Rattle.search.specs.Replies.{searchReplyOf, searchReply, timedSearchReply, LeavesLeastCosts};
 ghost use Rattle.search.specs.Replies.{refusalOf, faultyDelays, faultyWithDelays, faultyWithSinks, pathDue};
 ghost use Rattle.search.specs.Replies.{timedFitting, fittingLengths};
 ghost use Rattle.search.specs.Replies.{pathRefusal, pathNumbers, pathReplyOf, pathReply, JoinsCheapest};
+ghost use Rattle.search.specs.ByTarget.{ListsBack};
 ghost use Rattle.search.specs.AimedReplies.{aimedPathReplyOf, aimedPathReply};
 
 // What a call of the search answers: the distances stand in the work slice, or one of 01's refusals.
@@ -60,13 +61,12 @@ pub const TIMED_NODES_MOST: usize = 1024;
 
 mod aim;
 mod aimed_turn;
+mod buckets;
 mod distances;
 mod estimate;
 mod heap;
 mod labels;
-mod links;
 mod numbers;
-mod prices;
 mod queue;
 mod tables;
 mod turn;
@@ -455,13 +455,17 @@ pub fn cheapest_path(
     )
 }
 
-// One turn by the search that aims: the same path as the cheapest path's, found by expanding fewer nodes, and how many these are. It looks
-// at every edge, so that it tests all tables and numbers as the search does.
+// One turn by the search that aims: the same path as the cheapest path's, found by expanding fewer nodes, and how many these are. The
+// edges are lent twice, by their source in tables 3 and 4 and by their target in the same form: an edge counts where both have it, and
+// estimates go by the second alone. As for the cheapest path only lengths are compared and every number is read within its bounds. Where a
+// length is wrong the tests of the search and of the sinks say what is refused; a wrong one of the second table 3 counts as table 3's.
 pub fn aimed_path(
     kind: &[u8],
     capacity: &[u8],
     first_edge: &[u32],
     edge_target: &[u16],
+    first_back: &[u32],
+    back_source: &[u16],
     weighting: Weighting,
     delay: &[u16],
     factor: u32,
@@ -472,36 +476,47 @@ pub fn aimed_path(
     sinks: &[u16],
 ) -> AimedPath
     ensures answers { λ r. do
-      let block = blockOf (now (kind .entry)) (now (capacity .entry)) (now («first_edge» .entry)) (now («edge_target» .entry))
+      let kinds = now (kind .entry)
+      let block = blockOf kinds (now (capacity .entry)) (now («first_edge» .entry)) (now («edge_target» .entry))
+      let back = graphOf kinds (now («first_back» .entry)) (now («back_source» .entry))
       let congestion = weighedCongestion weighting (now (delay .entry)) factor (now (history .entry)) (now (others .entry))
-      let reply = aimedPathReply block congestion (now («in_tree» .entry)) (now (sinks .entry)) (now (work .entry))
+      let reply = aimedPathReply block back congestion (now («in_tree» .entry)) (now (sinks .entry)) (now (work .entry))
       ⌜ aimedPathReplyOf r (now (work .exit)) ≡ reply ⌝ }
     ensures cheapest { λ r. do
-      let block = blockOf (now (kind .entry)) (now (capacity .entry)) (now («first_edge» .entry)) (now («edge_target» .entry))
+      let kinds = now (kind .entry)
+      let block = blockOf kinds (now (capacity .entry)) (now («first_edge» .entry)) (now («edge_target» .entry))
+      let back = graphOf kinds (now («first_back» .entry)) (now («back_source» .entry))
       let congestion = weighedCongestion weighting (now (delay .entry)) factor (now (history .entry)) (now (others .entry))
       let marks = now («in_tree» .entry)
-      let due = pathDue block congestion marks (now (sinks .entry)) (now (work .entry))
-      ⌜ (due ≡ [] → JoinsCheapest block (priceAt block congestion) marks (now (sinks .entry)) (r .answer) (now (work .exit))) ⌝ }
+      let list = now (sinks .entry)
+      let due = pathDue block congestion marks list (now (work .entry))
+      ⌜ (due ≡ [] → ListsBack block back → JoinsCheapest block (priceAt block congestion) marks list (r .answer) (now (work .exit))) ⌝ }
 {
-    match refused(
-        kind,
-        capacity,
-        first_edge,
-        edge_target,
-        weighting,
-        delay,
-        factor,
+    let fit = fits(
+        kind.len(),
+        capacity.len(),
+        first_edge.len(),
+        edge_target.len(),
         work.len(),
-        history,
-        others,
-        in_tree,
-        sinks,
-    ) {
-        PathAnswer::Stuck => aimed_turn::join(
+        history.len(),
+        others.len(),
+        in_tree.len(),
+        sinks.len(),
+    );
+    if fits_timed(fit, weighting.timed, kind.len(), delay.len()) {
+        if first_back.len() != kind.len() + 1 {
+            return AimedPath {
+                answer: PathAnswer::BadTable(3),
+                expanded: 0,
+            };
+        }
+        return aimed_turn::join(
             kind,
             capacity,
             first_edge,
             edge_target,
+            first_back,
+            back_source,
             weighting,
             delay,
             factor,
@@ -510,10 +525,23 @@ pub fn aimed_path(
             others,
             in_tree,
             sinks,
+        );
+    }
+    AimedPath {
+        answer: refused(
+            kind,
+            capacity,
+            first_edge,
+            edge_target,
+            weighting,
+            delay,
+            factor,
+            work.len(),
+            history,
+            others,
+            in_tree,
+            sinks,
         ),
-        due => AimedPath {
-            answer: due,
-            expanded: 0,
-        },
+        expanded: 0,
     }
 }

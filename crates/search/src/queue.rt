@@ -1,5 +1,5 @@
 // The queue: a tournament tree over the nodes' keys, in the work slice from entry n on. Entry i is the least of entries 2i and 2i + 1,
-// a node's leaf is entry n + node, and entry 1 is the least of all.
+// a node's leaf is entry n + node, and entry 1 is the least of all. With 2^64 - 1 in all of them nothing waits.
 ghost use mathlib.Core.Path.{_≡_};
 ghost use Prim.Native.Nat.{_+_, _*_, _/_, _≤_, _<_, min};
 ghost use lib.ListN.{length};
@@ -59,19 +59,6 @@ pub fn wait(work: &mut [u64], n: usize, v: usize, key: u64)
         lower_above(work, n, (n + v) / 2, key);
     } else {
         carry_up(work, n, (n + v) / 2);
-    }
-}
-
-// Makes every inner entry the least of its two children.
-pub fn build(work: &mut [u64], n: usize)
-    requires { ⌜ 3 * n ≤ length (now work) ⌝ }
-    ensures { λ _. ⌜ Tournament n (now (work .exit)) × SameBut (n + 1) (2 * n) (now (work .entry)) (now (work .exit)) ⌝ }
-{
-    let mut i = n;
-    while 1 < i {
-        i -= 1;
-        let least = lesser_child(work, n, i);
-        work[n + i] = least;
     }
 }
 

@@ -69,7 +69,7 @@ fn pass_over(in_tree: &[u8], from: usize, n: usize) -> usize
 }
 
 // The first tree node from `from` on, n where there is none.
-fn next_marked(in_tree: &[u8], from: usize, n: usize) -> usize
+pub fn next_marked(in_tree: &[u8], from: usize, n: usize) -> usize
     requires { ⌜ (from ≤ n) × (n ≤ nodesMost) × (n ≤ length (now «in_tree»)) ⌝ }
     ensures { λ r. ⌜ NextMarked (now («in_tree» .entry)) from n r ⌝ }
 {

@@ -184,6 +184,8 @@ fn aimed_line(
     capacity: &[u8],
     first_edge: &[u32],
     edge_target: &[u16],
+    first_back: &[u32],
+    back_source: &[u16],
     weighting: Weighting,
     delay: &[u16],
     factor: u32,
@@ -200,6 +202,8 @@ fn aimed_line(
         capacity,
         first_edge,
         edge_target,
+        first_back,
+        back_source,
         weighting,
         delay,
         factor,
@@ -295,7 +299,7 @@ fn path_case(
     );
 }
 
-// The same path by the search that aims.
+// The same path by the search that aims. The tables by target stand at the end of the case.
 fn aimed_case(
     case: &[u8],
     kind: &[u8],
@@ -311,14 +315,20 @@ fn aimed_case(
 ) {
     let mut sinks = [0u16; 4097];
     let mut work = [0u64; 8192];
+    let mut first_back = [0u32; 4098];
+    let mut back_source = [0u16; 32769];
     let listed = read::halves(case, line(weighting, 9), &mut sinks);
     let size = read::entries(case, line(weighting, 10), &mut work);
+    let places = read::words(case, line(weighting, 11), &mut first_back);
+    let edges = read::halves(case, line(weighting, 12), &mut back_source);
     aimed_line(
         case,
         kind,
         capacity,
         first_edge,
         edge_target,
+        &first_back[..places],
+        &back_source[..edges],
         weighting,
         delay,
         factor,
@@ -515,23 +525,31 @@ fn tables(case: &[u8], weighting: Weighting, factor: u32) {
     );
 }
 
+// The line after the last of the case, without table 9.
+fn lines_of(case: &[u8]) -> u32 {
+    if aims(case) {
+        return 13;
+    }
+    11
+}
+
 fn untimed(case: &[u8], count: usize, factor: u32) {
     read::exactly(count, 1);
-    read::end(case, 11);
     let weighting = Weighting {
         timed: false,
         criticality: 0,
     };
+    read::end(case, line(weighting, lines_of(case)));
     tables(case, weighting, factor);
 }
 
 fn timed(case: &[u8], count: usize, factor: u32, criticality: u32) {
     read::exactly(count, 2);
-    read::end(case, 12);
     let weighting = Weighting {
         timed: true,
         criticality: criticality,
     };
+    read::end(case, line(weighting, lines_of(case)));
     tables(case, weighting, factor);
 }
 

@@ -131,9 +131,8 @@ impl Lent {
         )
     }
 
-    /// The turn by this call, of the plain search or the aimed one.
-    fn turn(&self, call: Turn, factor: u32, weighting: Weighting, work: &mut [u64]) -> Answer {
-        call(
+    fn cheapest_path(&self, factor: u32, weighting: Weighting, work: &mut [u64]) -> Answer {
+        plain::cheapest_path(
             &self.kind,
             &self.capacity,
             &self.first_edge,
@@ -148,23 +147,34 @@ impl Lent {
             &self.sinks,
         )
     }
-}
 
-/// A turn alone.
-type Turn = fn(
-    &[u8],
-    &[u8],
-    &[u32],
-    &[u16],
-    Weighting,
-    &[u16],
-    u32,
-    &mut [u64],
-    &[u32],
-    &[u16],
-    &[u8],
-    &[u16],
-) -> Answer;
+    /// The turn of the aimed search, with these tables by target.
+    fn aimed_path(
+        &self,
+        first_back: &[u32],
+        back_source: &[u16],
+        factor: u32,
+        weighting: Weighting,
+        work: &mut [u64],
+    ) -> Answer {
+        plain::aimed_path(
+            &self.kind,
+            &self.capacity,
+            &self.first_edge,
+            &self.edge_target,
+            first_back,
+            back_source,
+            weighting,
+            &self.delay,
+            factor,
+            work,
+            &self.history,
+            &self.others,
+            &self.in_tree,
+            &self.sinks,
+        )
+    }
+}
 
 /// The search and the cheapest path, each on the work slice as the case has it.
 fn both(case: &mut Case, factor: u32, weighting: Weighting) -> Result<(), Fault> {
@@ -177,16 +187,18 @@ fn both(case: &mut Case, factor: u32, weighting: Weighting) -> Result<(), Fault>
     };
     line(case, &[" search".into(), answer(&got), slice(&work)]);
     let mut work = lent.work.clone();
-    let got = lent.turn(plain::cheapest_path, factor, weighting, &mut work);
+    let got = lent.cheapest_path(factor, weighting, &mut work);
     line(case, &[" path".into(), answer(&got), slice(&work)]);
     Ok(())
 }
 
-/// The aimed turn. A refusal has its number too, the nodes expanded.
+/// The aimed turn, whose case has the tables by target at its end. A refusal has its number too, the nodes expanded.
 fn aimed_path(case: &mut Case, factor: u32, weighting: Weighting) -> Result<(), Fault> {
     let lent = Lent::of(case, weighting.timed)?;
+    let first_back: Vec<u32> = case.list("first_back")?;
+    let back_source: Vec<u16> = case.list("back_source")?;
     let mut work = lent.work.clone();
-    let got = lent.turn(plain::aimed_path, factor, weighting, &mut work);
+    let got = lent.aimed_path(&first_back, &back_source, factor, weighting, &mut work);
     line(case, &[" aimed".into(), refusal(&got), numbers(&got.numbers), slice(&work)]);
     Ok(())
 }

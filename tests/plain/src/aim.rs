@@ -2,8 +2,9 @@
 
 use crate::price::base;
 use crate::search::{
-    distances, marked, nearest, path, prices, put_path, sum, turn_refusal, Weighting, NO_PATH,
+    distances, lengths_are_right, marked, nearest, path, put_path, read_prices, sum, turn_refusal,
 };
+use crate::search::{Read, Weighting, NO_PATH};
 use crate::tables::Graph;
 use crate::Answer;
 
@@ -41,14 +42,19 @@ pub fn expanded(graph: &Graph, weight: u64, sinks: &[usize], distance: &[u64], j
     distance.iter().zip(&estimate).filter(|(&far, &left)| sum(far, left) <= distance[joined]).count() as u64
 }
 
-/// One aimed turn alone. It tests 5 (the sinks as table 7), 15, 6, 13, as the search does, and leaves the path and zeros in 8 × nodes entries
-/// of the work slice. Its numbers are the joined sink's place, the cost and the path's length, or none of these if no unjoined sink has a
-/// path, and then how many nodes it expanded: none if it is refused.
+/// One aimed turn alone, which is lent the edges by their target too, in the form of tables 3 and 4: row v has the nodes from which an edge
+/// leads to v. Where another length is wrong it refuses what `cheapest_path` refuses, where only the first table by target has not an entry
+/// a node and one more, 5 with table 3. Otherwise it reads every number within its bounds, as `cheapest_path` does. An edge counts where both
+/// pairs of tables have it; estimates go by the second pair alone. It leaves the path and zeros in 8 × nodes entries of the work slice. Its
+/// numbers are the joined sink's place, the cost and the path's length, or none of these if no unjoined sink has a path, and then how many
+/// nodes it expanded: none if it is refused.
 pub fn aimed_path(
     kind: &[u8],
     capacity: &[u8],
     first_edge: &[u32],
     edge_target: &[u16],
+    first_back: &[u32],
+    back_source: &[u16],
     weighting: Weighting,
     delay: &[u16],
     factor: u32,
@@ -58,14 +64,21 @@ pub fn aimed_path(
     in_tree: &[u8],
     sinks: &[u16],
 ) -> Answer {
-    let graph = Graph { kind, capacity, first_edge, edge_target };
-    let refusal = turn_refusal(&graph, weighting, delay, factor, work, history, others, in_tree, sinks);
-    if let Some(refusal) = refusal {
-        return Answer::refused(&refusal, 1);
+    let lent = Graph { kind, capacity, first_edge, edge_target };
+    let nodes = lent.nodes();
+    if !lengths_are_right(&lent, weighting, delay, work, history, others, in_tree, sinks) {
+        let refusal = turn_refusal(&lent, weighting, delay, factor, work, history, others, in_tree, sinks);
+        return Answer::refused(&refusal.expect("a wrong length is refused"), 1);
     }
-    let nodes = graph.nodes();
-    let others: Vec<u32> = others.iter().map(|&o| o as u32).collect();
-    let prices = weighting.of(prices(&graph, factor, history, &others), delay);
+    if first_back.len() != nodes + 1 {
+        return Answer::refused(&[5, 3], 1);
+    }
+    let by_source = Read::new(&lent);
+    let by_target = Read::new(&Graph { first_edge: first_back, edge_target: back_source, ..lent });
+    let leads_back = |u: usize, v: usize| by_target.graph().has_edge(v, u);
+    let agreed = by_source.with_edges(|u, v| by_source.graph().has_edge(u, v) && leads_back(u, v));
+    let graph = agreed.graph();
+    let prices = read_prices(&graph, weighting, delay, factor, history, others);
     let tree = marked(nodes, in_tree);
     let distance = distances(&graph, &prices, &tree);
     work[..8 * nodes].fill(0);
@@ -74,7 +87,14 @@ pub fn aimed_path(
     };
     let path = path(&graph, &prices, &distance, &tree, sink);
     put_path(&path, work);
-    let open: Vec<usize> = sinks.iter().map(|&s| s as usize).filter(|s| !tree.contains(s)).collect();
-    let count = expanded(&graph, weighting.estimate_weight(), &open, &distance, sink);
+    let open = sinks.iter().map(|&s| s as usize).filter(|s| *s < nodes && !tree.contains(s));
+    let ahead = by_source.with_edges(leads_back);
+    let count = expanded(
+        &ahead.graph(),
+        weighting.read().estimate_weight(),
+        &open.collect::<Vec<_>>(),
+        &distance,
+        sink,
+    );
     Answer::good(&[place as u64, distance[sink], path.len() as u64, count])
 }

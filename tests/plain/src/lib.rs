@@ -1,5 +1,6 @@
-//! A plain and slow router, written from 01-scope.md and 02-change-requests.md alone, to compare others with. But `cheapest_path` is an
-//! inner call of the proved router, and follows that in its parameters and in what it leaves.
+//! A plain and slow router, written from 01-scope.md and 02-change-requests.md alone, to compare others with. But `cheapest_path` and
+//! `aimed_path` are inner calls of the proved router, and follow those in their parameters, in how they read faulty entries and in what
+//! they leave.
 
 mod aim;
 mod flow;

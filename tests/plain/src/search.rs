@@ -41,6 +41,11 @@ impl Weighting {
         }
     }
 
+    /// The criticality within its bound.
+    pub fn read(self) -> Weighting {
+        Weighting { criticality: self.criticality.min(MAX_CRITICALITY), ..self }
+    }
+
     /// What an aimed turn's estimates are weighed by.
     pub fn estimate_weight(self) -> u64 {
         if self.timed {
@@ -267,7 +272,7 @@ pub fn put_path(path: &[usize], work: &mut [u64]) {
 }
 
 /// Tables 1 to 4 as one turn reads them, whatever their entries are: every number within its bounds.
-struct Read {
+pub struct Read {
     kind: Vec<u8>,
     capacity: Vec<u8>,
     first_edge: Vec<u32>,
@@ -276,7 +281,7 @@ struct Read {
 
 impl Read {
     /// A row ends where table 4 does, and a target that is no node is passed over.
-    fn new(graph: &Graph) -> Read {
+    pub fn new(graph: &Graph) -> Read {
         let nodes = graph.nodes();
         let mut read = Read {
             kind: graph.kind.iter().map(|&k| k.min(MAX_KIND as u8)).collect(),
@@ -293,7 +298,23 @@ impl Read {
         read
     }
 
-    fn graph(&self) -> Graph<'_> {
+    /// The same nodes with the edges for which a test of both nodes holds.
+    pub fn with_edges(&self, test: impl Fn(usize, usize) -> bool) -> Read {
+        let nodes = self.kind.len();
+        let mut read = Read {
+            kind: self.kind.clone(),
+            capacity: self.capacity.clone(),
+            first_edge: vec![0],
+            edge_target: Vec::new(),
+        };
+        for u in 0..nodes {
+            read.edge_target.extend((0..nodes).filter(|&v| test(u, v)).map(|v| v as u16));
+            read.first_edge.push(read.edge_target.len() as u32);
+        }
+        read
+    }
+
+    pub fn graph(&self) -> Graph<'_> {
         Graph {
             kind: &self.kind,
             capacity: &self.capacity,
@@ -303,9 +324,24 @@ impl Read {
     }
 }
 
+/// Every node's price, each number read within its bounds.
+pub fn read_prices(
+    graph: &Graph,
+    weighting: Weighting,
+    delay: &[u16],
+    factor: u32,
+    history: &[u32],
+    others: &[u16],
+) -> Vec<u64> {
+    let others: Vec<u32> = others.iter().map(|&o| (o as u32).min(MAX_OTHERS)).collect();
+    let history: Vec<u32> = history.iter().map(|&h| h.clamp(1, weighting.most_history())).collect();
+    let delay: Vec<u16> = delay.iter().map(|&d| d.min(MAX_DELAY as u16)).collect();
+    weighting.read().of(prices(graph, factor.min(MAX_FACTOR), &history, &others), &delay)
+}
+
 /// Every list that a turn is lent has the length that its rule asks. Of the lists with an entry a node, delays too, entries past the node
 /// count are unread.
-fn lengths_are_right(
+pub fn lengths_are_right(
     graph: &Graph,
     weighting: Weighting,
     delay: &[u16],
@@ -351,11 +387,7 @@ pub fn cheapest_path(
     }
     let read = Read::new(&lent);
     let graph = read.graph();
-    let others: Vec<u32> = others.iter().map(|&o| (o as u32).min(MAX_OTHERS)).collect();
-    let history: Vec<u32> = history.iter().map(|&h| h.clamp(1, weighting.most_history())).collect();
-    let delay: Vec<u16> = delay.iter().map(|&d| d.min(MAX_DELAY as u16)).collect();
-    let weighting = Weighting { criticality: weighting.criticality.min(MAX_CRITICALITY), ..weighting };
-    let prices = weighting.of(prices(&graph, factor.min(MAX_FACTOR), &history, &others), &delay);
+    let prices = read_prices(&graph, weighting, delay, factor, history, others);
     let tree = marked(nodes, in_tree);
     let distance = distances(&graph, &prices, &tree);
     work[..3 * nodes].fill(0);

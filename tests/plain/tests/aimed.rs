@@ -222,38 +222,79 @@ fn timed_estimates_are_to_the_one_sink() {
     assert_eq!(counts_of(line), [4]);
 }
 
-/// A turn alone on an untimed job's block, in its first iteration, from these tree marks to these sinks: the answer and the work slice
-/// afterwards, of so many entries.
-fn turn_alone(t: &Job, in_tree: &[u8], sinks: &[u16], entries: usize) -> (Answer, Vec<u64>) {
+/// The edges by their target, in the form of tables 3 and 4.
+type ByTarget = (Vec<u32>, Vec<u16>);
+
+/// Those of these rows.
+fn rows(rows: &[&[u16]]) -> ByTarget {
+    let mut first = vec![0];
+    for row in rows {
+        first.push(first[first.len() - 1] + row.len() as u32);
+    }
+    (first, rows.concat())
+}
+
+/// The tables by target that belong to a sound block.
+fn by_target(t: &Job) -> ByTarget {
+    let nodes = t.kind.len();
+    let edges = |u: usize| &t.edge_target[t.first_edge[u] as usize..t.first_edge[u + 1] as usize];
+    let sources = |v: usize| (0..nodes as u16).filter(|&u| edges(u as usize).contains(&(v as u16))).collect();
+    let listed: Vec<Vec<u16>> = (0..nodes).map(sources).collect();
+    rows(&listed.iter().map(|row| &row[..]).collect::<Vec<_>>())
+}
+
+/// A turn alone on an untimed job's block, in its first iteration, with these tables by target, from these tree marks to these sinks: the
+/// answer and the work slice afterwards, of so many entries.
+fn turn_alone(t: &Job, back: &ByTarget, in_tree: &[u8], sinks: &[u16], entries: usize) -> (Answer, Vec<u64>) {
     let nodes = t.kind.len();
     let (history, others) = (vec![1; nodes], vec![0; nodes]);
-    let (mut work, mut plain_work) = (vec![7; entries], vec![7; entries]);
-    macro_rules! turn {
-        ($call:ident, $work:ident) => {
-            $call(
-                &t.kind,
-                &t.capacity,
-                &t.first_edge,
-                &t.edge_target,
-                Weighting::UNTIMED,
-                &[],
-                0,
-                &mut $work,
-                &history,
-                &others,
-                in_tree,
-                sinks,
-            )
-        };
-    }
-    let answer = turn!(aimed_path, work);
-    if answer.refusal.is_empty() {
-        let plain = turn!(cheapest_path, plain_work);
-        assert_eq!(answer.numbers[..plain.numbers.len()], plain.numbers);
-        assert_eq!(work[..3 * nodes], plain_work[..3 * nodes]);
-    }
+    let mut work = vec![7; entries];
+    let answer = aimed_path(
+        &t.kind,
+        &t.capacity,
+        &t.first_edge,
+        &t.edge_target,
+        &back.0,
+        &back.1,
+        Weighting::UNTIMED,
+        &[],
+        0,
+        &mut work,
+        &history,
+        &others,
+        in_tree,
+        sinks,
+    );
     (answer, work)
 }
+
+/// The same with the tables by target that belong to the block, where nothing is refused: beside the plain turn.
+fn turn_of(t: &Job, in_tree: &[u8], sinks: &[u16], entries: usize) -> (Answer, Vec<u64>) {
+    let nodes = t.kind.len();
+    let (history, others) = (vec![1; nodes], vec![0; nodes]);
+    let (answer, work) = turn_alone(t, &by_target(t), in_tree, sinks, entries);
+    let mut plain_work = vec![7; entries];
+    let plain = cheapest_path(
+        &t.kind,
+        &t.capacity,
+        &t.first_edge,
+        &t.edge_target,
+        Weighting::UNTIMED,
+        &[],
+        0,
+        &mut plain_work,
+        &history,
+        &others,
+        in_tree,
+        sinks,
+    );
+    assert_eq!(answer.refusal, plain.refusal);
+    assert_eq!(answer.numbers[..plain.numbers.len()], plain.numbers);
+    assert_eq!(work[..3 * nodes], plain_work[..3 * nodes]);
+    (answer, work)
+}
+
+const FROM_0: [u8; 6] = [1, 0, 0, 0, 0, 0];
 
 /// The path, then 0 up to 8 × nodes; where no sink is joined the count, 0, is the only number.
 #[test]
@@ -262,29 +303,119 @@ fn a_turn_alone() {
     let mut left = vec![0; 50];
     left[..3].copy_from_slice(&[0, 2, 4]);
     left[48..].fill(7);
-    let (answer, work) = turn_alone(&b, &[1, 0, 0, 0, 0, 0], &[4], 50);
+    let (answer, work) = turn_of(&b, &FROM_0, &[4], 50);
     assert_eq!((answer.refusal, answer.numbers, work), (vec![], vec![0, 4_000, 3, 3], left.clone()));
     left[..3].fill(0);
-    let (answer, work) = turn_alone(&b, &[0, 1, 0, 0, 0, 0], &[3], 50);
+    let (answer, work) = turn_of(&b, &[0, 1, 0, 0, 0, 0], &[3], 50);
     assert_eq!((answer.refusal, answer.numbers, work), (vec![], vec![0], left));
     // To both sinks, as far as each other; from sink 4 there is no way on.
-    assert_eq!(turn_alone(&b, &[1, 0, 0, 0, 0, 0], &[5, 4], 48).0.numbers, [0, 4_000, 3, 4]);
-    assert_eq!(turn_alone(&b, &[1, 0, 1, 0, 1, 0], &[4, 5], 48).0.numbers, [1, 2_000, 2, 2]);
+    assert_eq!(turn_of(&b, &FROM_0, &[5, 4], 48).0.numbers, [0, 4_000, 3, 4]);
+    assert_eq!(turn_of(&b, &[1, 0, 1, 0, 1, 0], &[4, 5], 48).0.numbers, [1, 2_000, 2, 2]);
 }
 
-/// Every table and number is tested, and nothing is written then.
+/// Job B has the edges 0 to 2 and 3, 1 to 2, 2 to 4 and 5, 3 to 4. Over wire 2 sink 4 is at 4,000, over wire 3 at 6,000.
 #[test]
-fn a_turn_alone_refuses_what_the_search_refuses() {
+fn an_edge_counts_where_both_tables_have_it() {
     let b = tables(&text(B));
-    let refused = |t: &Job, in_tree: &[u8], sinks: &[u16], entries: usize| {
-        let (answer, work) = turn_alone(t, in_tree, sinks, entries);
-        assert_eq!((answer.numbers, work), (vec![0], vec![7; entries]));
-        answer.refusal
+    let turn = |t: &Job, back: &ByTarget| turn_alone(t, back, &FROM_0, &[4], 48).0.numbers;
+    assert_eq!(by_target(&b), rows(&[&[], &[], &[0, 1], &[0], &[2, 3], &[2]]));
+    assert_eq!(turn(&b, &by_target(&b)), [0, 4_000, 3, 3]);
+    // Without the edge from 2 to 4 in the tables by target wire 2 leads to sink 5 alone and has no estimate.
+    assert_eq!(turn(&b, &rows(&[&[], &[], &[0, 1], &[0], &[3], &[2]])), [0, 6_000, 3, 3]);
+    // Without it in tables 3 and 4 alone wire 2 has an estimate of 2,000 and is expanded.
+    let without =
+        Job { first_edge: vec![0, 2, 3, 4, 5, 5, 5], edge_target: vec![2, 3, 2, 5, 4], ..b.clone() };
+    assert_eq!(turn(&without, &by_target(&b)), [0, 6_000, 3, 4]);
+    // An edge from 0 to 4 that only one pair has is no way, and in the tables by target it makes the source's estimate 2,000.
+    let with =
+        Job { first_edge: vec![0, 3, 4, 6, 7, 7, 7], edge_target: vec![2, 3, 4, 2, 4, 5, 4], ..b.clone() };
+    assert_eq!(turn(&with, &by_target(&b)), [0, 4_000, 3, 3]);
+    assert_eq!(turn(&b, &rows(&[&[], &[], &[0, 1], &[0], &[0, 2, 3], &[2]])), [0, 4_000, 3, 3]);
+    assert_eq!(turn(&with, &rows(&[&[], &[], &[0, 1], &[0], &[0, 2, 3], &[2]])), [0, 2_000, 2, 2]);
+    // No edge in one of them.
+    assert_eq!(turn(&b, &(vec![0; 7], vec![])), [0]);
+    assert_eq!(turn(&Job { first_edge: vec![0; 7], edge_target: vec![], ..b.clone() }, &by_target(&b)), [0]);
+}
+
+/// Wire 1 leads to the sink by way of wire 2, and in the tables by target alone straight: its estimate is then 2,000 instead of 4,000.
+#[test]
+fn estimates_go_by_the_tables_by_target_alone() {
+    let t = tables(&text(
+        "F,5,5,1,1 N,0,0,1 N,1,4,1 N,2,4,1 N,3,1,1 N,4,5,1 E,0,1 E,0,4 E,1,2 E,2,3 E,4,3 S,0,0 T,0,3",
+    ));
+    let from = [1, 0, 0, 0, 0];
+    // By way of 1 and 2, and of 4: 6,000 each, all five are expanded.
+    assert_eq!(turn_of(&t, &from, &[3], 40).0.numbers, [0, 6_000, 4, 5]);
+    let dear = Job { kind: vec![0, 4, 5, 1, 5], ..t };
+    assert_eq!(turn_of(&dear, &from, &[3], 40).0.numbers, [0, 6_000, 3, 3]);
+    // Now 1 is expanded too, 2,000 away with 2,000 to go; wire 2 is 6,000 away.
+    let nearer = rows(&[&[], &[0], &[1], &[1, 2, 4], &[0]]);
+    assert_eq!(turn_alone(&dear, &nearer, &from, &[3], 40).0.numbers, [0, 6_000, 3, 4]);
+}
+
+/// A row ends where its list does, a row that ends before it begins is empty, and what is no node is passed over; a node twice is once.
+#[test]
+fn tables_by_target_may_break_their_rules() {
+    let b = tables(&text(B));
+    let turn = |first: &[u32], sources: &[u16]| {
+        turn_alone(&b, &(first.to_vec(), sources.to_vec()), &FROM_0, &[4], 48).0.numbers
     };
-    let tree = [1, 0, 0, 0, 0, 0];
-    assert_eq!(refused(&b, &[1, 0, 0, 2, 0, 0], &[4], 48), [13, 3]);
-    assert_eq!(refused(&b, &tree[..5], &[4], 48), [13, 5]);
-    assert_eq!(refused(&b, &tree, &[4], 47), [6, 48]);
-    assert_eq!(refused(&b, &tree, &[6], 47), [5, 7]);
-    assert_eq!(refused(&Job { kind: vec![0, 0, 54, 5, 1, 1], ..b.clone() }, &tree, &[6], 47), [5, 1]);
+    // Rows 0 and 1 are past the end, row 4 ends there.
+    assert_eq!(turn(&[90, 91, 0, 2, 3, 99, 6], &[0, 1, 0, 2, 3]), [0, 4_000, 3, 3]);
+    // Row 4 falls: no way to 4.
+    assert_eq!(turn(&[0, 0, 0, 2, 5, 3, 6], &[0, 1, 0, 2, 3, 2]), [0]);
+    assert_eq!(turn(&[0, 0, 0, 2, 3, 7, 8], &[0, 1, 0, 2, 6, 65_535, 2, 2]), [0, 4_000, 3, 3]);
+    // Rows may share places.
+    assert_eq!(turn(&[0, 0, 0, 2, 0, 2, 6], &[3, 2]), [0]);
+    assert_eq!(turn(&[0, 0, 0, 2, 3, 5, u32::MAX], &[0, 1, 0, 3, 3]), [0, 6_000, 3, 3]);
+}
+
+/// Nothing is written after a refusal, and no node is expanded.
+fn refused(t: &Job, back: &ByTarget, in_tree: &[u8], sinks: &[u16], entries: usize) -> Vec<u64> {
+    let (answer, work) = turn_alone(t, back, in_tree, sinks, entries);
+    assert_eq!((answer.numbers, work), (vec![0], vec![7; entries]));
+    answer.refusal
+}
+
+/// A wrong length is refused as the cheapest path refuses it, that of the first table by target last, as table 3's.
+#[test]
+fn a_turn_alone_refuses_wrong_lengths() {
+    let b = tables(&text(B));
+    let back = by_target(&b);
+    assert_eq!(refused(&b, &back, &FROM_0[..5], &[4], 48), [13, 5]);
+    assert_eq!(refused(&b, &back, &FROM_0, &[4], 47), [6, 48]);
+    assert_eq!(refused(&b, &back, &FROM_0, &[6], 47), [5, 7]);
+    assert_eq!(
+        refused(&Job { kind: vec![0, 0, 54, 5, 1, 1], ..b.clone() }, &back, &FROM_0, &[6], 47),
+        [5, 1]
+    );
+    for first in [vec![], back.0[..6].to_vec(), [&back.0[..], &[6]].concat()] {
+        let short = (first, back.1.clone());
+        assert_eq!(refused(&b, &short, &FROM_0, &[4], 48), [5, 3]);
+        // entries are not tested, and the other lengths come before
+        assert_eq!(
+            refused(&Job { kind: vec![0, 0, 54, 5, 1, 1], ..b.clone() }, &short, &FROM_0, &[6], 48),
+            [5, 3]
+        );
+        assert_eq!(refused(&b, &short, &FROM_0, &[4], 47), [6, 48]);
+        assert_eq!(refused(&Job { capacity: vec![1; 5], ..b.clone() }, &short, &FROM_0, &[4], 47), [5, 2]);
+    }
+    // The second list by target may have any length.
+    assert_eq!(turn_alone(&b, &(back.0.clone(), vec![]), &FROM_0, &[4], 48).0.numbers, [0]);
+    let long = (back.0, [&back.1[..], &[9; 40_000]].concat());
+    assert_eq!(turn_alone(&b, &long, &FROM_0, &[4], 48).0.numbers, [0, 4_000, 3, 3]);
+}
+
+/// Where lengths are right every number is read within its bounds, as in the cheapest path, and a sink that is no node is passed over.
+#[test]
+fn a_turn_alone_reads_numbers_within_their_bounds() {
+    let b = tables(&text(B));
+    let marks = [1, 0, 0, 0, 2, 255];
+    assert_eq!(turn_of(&b, &marks, &[6, 4], 48).0.numbers, [1, 4_000, 3, 3]);
+    // Kind 255 is a wire of 50 tiles, and so in the estimates.
+    let long = |kind: u8| Job { kind: vec![0, 0, 4, kind, 1, 1], capacity: vec![0; 6], ..b.clone() };
+    let back = rows(&[&[], &[], &[0, 1], &[0], &[3], &[2]]);
+    let turn = |kind: u8| turn_alone(&long(kind), &back, &FROM_0, &[4], 48).0.numbers;
+    assert_eq!(turn(53), [0, 102_000, 3, 3]);
+    assert_eq!(turn(255), turn(53));
 }

@@ -15,14 +15,14 @@ use Rattle.price.specs.Test.{both}
 use Rattle.price.proofs.TestLaws.{by-test}
 use Rattle.price.proofs.BelowLaws.{count-most as count-below}
 use Rattle.search.specs.Block as block
-use Rattle.search.specs.Block.{Block}
+use Rattle.search.specs.Block.{Block, graphOf}
 use Rattle.search.specs.Tables.{delaysSound}
 use Rattle.search.specs.Paths.{Fair}
 use Rattle.search.specs.Turn.{Congestion, priceAt, Turn, joins, stuck, nearestDistance, turn}
 use Rattle.search.specs.Replies.{cleared, refusalOf, tooMany, badCriticality, sinkListSound, faultyWithDelays, faultyWithSinks, PathReply, turnNumbers, turnPath, readOff, pathDue, pathReply, pathReplyOf}
 use Rattle.search.specs.Distance.{far}
-use Rattle.search.specs.Aimed.{weightAt, expands, expanded}
-use Rattle.search.specs.AimedReplies.{AimedPathReply, aimedTurnReply, aimedPathReply, aimedPathReplyOf}
+use Rattle.search.specs.Aimed.{weightAt, expands, expandedBy, expanded}
+use Rattle.search.specs.AimedReplies.{AimedPathReply, aimedPathReply, aimedPathReplyOf}
 use Rattle.search.specs.declared.AimedPath.{AimedPath}
 use Rattle.search.specs.declared.PathAnswer.{PathAnswer}
 use Rattle.search.specs.declared.PathAnswer.the-variants.{Joins, Stuck, BadTable, ShortWork, BadNumber, TooLarge}
@@ -32,8 +32,9 @@ use Rattle.search.proofs.EdgeLaws.{Shaped, shaped}
 use Rattle.search.proofs.PathToLaws.{path-short, path-nodes}
 use Rattle.search.proofs.TurnLaws.{joins-within, joins-path, joins-near}
 use Rattle.search.proofs.PathReplyLaws.{path-turn}
+use Rattle.search.proofs.AimedReplyLaws.{aimed-sound}
 use Rattle.job.specs.Steps.{AllBelow}
-use Rattle.negotiation.specs.Steps.{SameFrom, TurnReady, PathFound, turnCount}
+use Rattle.negotiation.specs.Steps.{SameFrom, TurnReady, PathFound, turnCount, BackLent}
 
 -- ---- the work slice afterwards
 
@@ -102,7 +103,7 @@ module _ (n k : ℕ) (work : List ℕ) (most : k ≤ 8 * n) (enough : 8 * n ≤ 
 
 -- how many nodes a turn expands: no more than there are
 pub count-most : (aimed : Bool) (b : Block) (c : Congestion) (marks sinks : List ℕ) → turnCount aimed b c marks sinks ≤ block.nodes b
-unfolding expanded
+unfolding expandedBy
 count-most aimed b c marks sinks =
     let none : Bool = eqb (nearestDistance b (priceAt b c) marks sinks) far in
     by-test aimed
@@ -202,14 +203,15 @@ module _ {b : Block} {c : Congestion} {marks work : List ℕ} (ready : TurnReady
           rw chosen,
         )
 
-    -- the other's is the same turn, with the nodes that it expanded
+    -- the other's is the same turn, with the nodes that it expanded, where it is lent the edges by their target
     pub aimed-found :
-        {aimed : Bool} → aimed ≡ true → (r : AimedPath) {work′ : List ℕ} → aimedPathReplyOf r work′ ≡ aimedPathReply b c marks sinks work
+        {aimed : Bool} {firsts sources : List ℕ} → aimed ≡ true → BackLent aimed b firsts sources → (r : AimedPath) {work′ : List ℕ}
+        → aimedPathReplyOf r work′ ≡ aimedPathReply b (graphOf (b .kinds) firsts sources) c marks sinks work
         → PathFound (block.nodes b) made work (r .answer) work′ × (r .expanded ≡ turnCount aimed b c marks sinks)
-    unfolding cleared aimedTurnReply aimedPathReply
-    aimed-found chosen r {work′} e =
+    unfolding cleared
+    aimed-found {firsts = firsts} {sources} chosen lent r {work′} e =
         let s = turn-short in
-        let is : aimedPathReplyOf r work′ ≡ aimedTurnReply b c marks sinks work = rw nothing-due at e in (
+        let is = e ∙ aimed-sound (b .kinds) (b .capacities) (b .firstEdges) (b .edgeTargets) firsts sources (lent chosen) c marks sinks work nothing-due in (
           found-is (block.nodes b) (8 * block.nodes b) work (omega arith) (ready .enough) (r .answer) made (omega arith) (ap (λ (x : AimedPathReply). x .path) is),
           rw chosen (ap (λ (x : AimedPathReply). x .expanded) is),
         )

@@ -32,36 +32,36 @@ use Rattle.negotiation.proofs.turns.go_on.Statement.{statement}
 use Rattle.negotiation.proofs.turns.go_on.Tie as tie
 
 abbrev Inv-loop2 : tie.InvT-loop2
-Inv-loop2 kind capacity first-edge edge-target source first-sink sink delay criticality terms history users in-tree₀ tree-from tree-to due work₀ log₀ n tariff₀ net from to first left₀ in-tree work log tariff left =
+Inv-loop2 kind capacity first-edge edge-target first-back back-source source first-sink sink delay criticality terms history users in-tree₀ tree-from tree-to due work₀ log₀ n tariff₀ net from to first left₀ in-tree work log tariff left =
     (p : Progress) (W L : List ℕ) (m : ℕ) → 8 * length kind ≤ length W
     → AtTurns (jobOf kind capacity first-edge edge-target source first-sink sink delay criticality terms) p W L m net left₀ tariff₀ history users in-tree₀ tree-from tree-to due work₀ log₀ first
     → AtTurns (jobOf kind capacity first-edge edge-target source first-sink sink delay criticality terms) p W L m net left tariff history users in-tree tree-from tree-to due work log first
     × CountsOn (jobOf kind capacity first-edge edge-target source first-sink sink delay criticality terms) p tariff₀ log₀ tariff log
 
 abbrev μ-loop2 : tie.MeasureT-loop2
-μ-loop2 kind capacity first-edge edge-target source first-sink sink delay criticality terms history users in-tree₀ tree-from tree-to due work₀ log₀ n tariff₀ net from to first left₀ in-tree work log tariff left =
+μ-loop2 kind capacity first-edge edge-target first-back back-source source first-sink sink delay criticality terms history users in-tree₀ tree-from tree-to due work₀ log₀ n tariff₀ net from to first left₀ in-tree work log tariff left =
     left
 
 abbrev Inv-loop : tie.InvT-loop
-Inv-loop kind capacity first-edge edge-target source first-sink sink delay criticality terms history users₀ in-tree₀ tree-from₀ tree-to₀ due work₀ log₀ n tariff₀ net₀ users in-tree tree-from tree-to work log tariff net =
+Inv-loop kind capacity first-edge edge-target first-back back-source source first-sink sink delay criticality terms history users₀ in-tree₀ tree-from₀ tree-to₀ due work₀ log₀ n tariff₀ net₀ users in-tree tree-from tree-to work log tariff net =
     (p : Progress) (W L : List ℕ) (m : ℕ) → 8 * length kind ≤ length W
     → AtNet (jobOf kind capacity first-edge edge-target source first-sink sink delay criticality terms) p W L m 0 tariff₀ history users₀ in-tree₀ tree-from₀ tree-to₀ due work₀ log₀
     → AtNet (jobOf kind capacity first-edge edge-target source first-sink sink delay criticality terms) p W L m net tariff history users in-tree tree-from tree-to due work log
     × CountsOn (jobOf kind capacity first-edge edge-target source first-sink sink delay criticality terms) p tariff₀ log₀ tariff log
 
 abbrev μ-loop : tie.MeasureT-loop
-μ-loop kind capacity first-edge edge-target source first-sink sink delay criticality terms history users₀ in-tree₀ tree-from₀ tree-to₀ due work₀ log₀ n tariff₀ net₀ users in-tree tree-from tree-to work log tariff net =
+μ-loop kind capacity first-edge edge-target first-back back-source source first-sink sink delay criticality terms history users₀ in-tree₀ tree-from₀ tree-to₀ due work₀ log₀ n tariff₀ net₀ users in-tree tree-from tree-to work log tariff net =
     length source - net
 
 abbrev Inv-iterations : tie.InvT-iterations
-Inv-iterations kind capacity first-edge edge-target source first-sink sink delay criticality terms history₀ users₀ in-tree₀ tree-from₀ tree-to₀ due₀ work₀ log₀ n tariff₀ history users in-tree tree-from tree-to due work log tariff =
+Inv-iterations kind capacity first-edge edge-target first-back back-source source first-sink sink delay criticality terms history₀ users₀ in-tree₀ tree-from₀ tree-to₀ due₀ work₀ log₀ n tariff₀ history users in-tree tree-from tree-to due work log tariff =
     (p : Progress)
     → Ready (jobOf kind capacity first-edge edge-target source first-sink sink delay criticality terms) p tariff₀ history₀ users₀ in-tree₀ tree-from₀ tree-to₀ due₀ log₀
     → (m : ℕ) × AtIteration (jobOf kind capacity first-edge edge-target source first-sink sink delay criticality terms) p work₀ log₀ m tariff history users in-tree tree-from tree-to due work log
     × CountsOn (jobOf kind capacity first-edge edge-target source first-sink sink delay criticality terms) p tariff₀ log₀ tariff log
 
 abbrev μ-iterations : tie.MeasureT-iterations
-μ-iterations kind capacity first-edge edge-target source first-sink sink delay criticality terms history₀ users₀ in-tree₀ tree-from₀ tree-to₀ due₀ work₀ log₀ n tariff₀ history users in-tree tree-from tree-to due work log tariff =
+μ-iterations kind capacity first-edge edge-target first-back back-source source first-sink sink delay criticality terms history₀ users₀ in-tree₀ tree-from₀ tree-to₀ due₀ work₀ log₀ n tariff₀ history users in-tree tree-from tree-to due work log tariff =
     terms .limit - tariff .iteration
 
 -- ---- the entry and the loops' heads
@@ -76,13 +76,13 @@ module _ (e : Entry) where
       (e .args .sink .now) (e .args .delay .now) (e .args .criticality .now) (e .args .terms)
 
   routable : Routable job
-  routable = e .pre .0 .0
+  routable = e .pre .0 .0 .0
 
   reachable : Reached job
-  reachable = all-reached job (e .pre .0 .1)
+  reachable = all-reached job (e .pre .0 .0 .1)
 
   enough : 8 * nodes job ≤ length (e .args .work .now)
-  enough = e .pre .0 .2
+  enough = e .pre .0 .0 .2
 
   -- a progress whose lists and tariff they are at first
   abbrev ReadyAt : Progress → Type 0
@@ -92,14 +92,14 @@ module _ (e : Entry) where
 
   -- there is one
   abbrev some : Progress
-  some = e .pre .1 .progress
+  some = e .pre .0 .1 .progress
 
   ready : ReadyAt some
-  ready = e .pre .1 .ready
+  ready = e .pre .0 .1 .ready
 
   -- no nodes are counted yet
   none-counted : (p : Progress) → ReadyAt p → Counts (e .args .begun .aimed) job (p .records) (e .args .begun) (e .args .log .now)
-  none-counted p r = counts-start job r (e .pre .1 .none-expanded)
+  none-counted p r = counts-start job r (e .pre .0 .1 .none-expanded)
 
   few-nodes : nodes job ≤ 4096
   few-nodes = kinds-few _ (routable .block-sound .kinds-sound)
@@ -113,7 +113,7 @@ abbrev Iteration : Type 0
 Iteration = tie.At-iterations Inv-loop2 μ-loop2 Inv-loop μ-loop Inv-iterations μ-iterations
 
 abbrev entry : Iteration → Entry
-entry c = c .before .before .before .before .before .before .before .before .before .before .before .before .before .before .before .before .before .before
+entry c = c .before .before .before .before .before .before .before .before .before .before .before .before .before .before .before .before .before .before .before .before
 
 abbrev Net : Type 0
 Net = tie.At-loop Inv-loop2 μ-loop2 Inv-loop μ-loop Inv-iterations μ-iterations
@@ -371,7 +371,7 @@ shared-slice-read-from c = let l = routable (net-entry (c .before .before)) .fir
 
 cast-from :
     tie.Need-cast-from Inv-loop2 μ-loop2 Inv-loop μ-loop Inv-iterations μ-iterations
-cast-from c = omega (arith, c .shared-slice-known10 .given (c .before .before .loop .net))
+cast-from c = omega (arith, c .shared-slice-known12 .given (c .before .before .loop .net))
 
 add-to :
     tie.Need-add-to Inv-loop2 μ-loop2 Inv-loop μ-loop Inv-iterations μ-iterations
@@ -387,7 +387,7 @@ shared-slice-read-to c = let l = routable (net-entry (c .before .before .before)
 
 cast-to :
     tie.Need-cast-to Inv-loop2 μ-loop2 Inv-loop μ-loop Inv-iterations μ-iterations
-cast-to c = omega (arith, c .shared-slice-known11 .given (c .before .before .before .loop .net + 1))
+cast-to c = omega (arith, c .shared-slice-known13 .given (c .before .before .before .loop .net + 1))
 
 begin-net-requires :
     tie.Need-begin-net-requires Inv-loop2 μ-loop2 Inv-loop μ-loop Inv-iterations μ-iterations
@@ -414,12 +414,14 @@ net-turn-requires c κs =
     let inside : tie.In-loop2 Inv-loop2 μ-loop2 Inv-loop μ-loop Inv-iterations μ-iterations = c .before .before .before .before .before in
     let at : Turn = inside .before in
     let left = inside .loop2-test .taken in
-    let ran = turn-entry at .pre .1 .ran in
-    let few =
-    counts-fit _ (routable (turn-entry at)) (reachable (turn-entry at)) (enough (turn-entry at)) (turn-safe at) left (tables at) ran
-    (turn-counted at (some (turn-entry at)) _ (ready (turn-entry at)) ran) in (
+    let ran = turn-entry at .pre .0 .1 .ran in
+    let counts = turn-counted at (some (turn-entry at)) _ (ready (turn-entry at)) ran in
+    let few = counts-fit _ (routable (turn-entry at)) (reachable (turn-entry at)) (enough (turn-entry at)) (turn-safe at) left (tables at) ran counts in (
       call-tried _ (routable (turn-entry at)) (enough (turn-entry at)) (turn-safe at) left (tables at),
-      call-turn _ (routable (turn-entry at)) (enough (turn-entry at)) (turn-safe at) left (tables at) few,
+      (
+        call-turn _ (routable (turn-entry at)) (enough (turn-entry at)) (turn-safe at) left (tables at) few,
+        λ aims. turn-entry at .pre .1 (sym (counts .aimed-is) ∙ aims),
+      ),
     )
 
 enum-told :
@@ -729,7 +731,7 @@ same-length-19 :
     tie.Need-same-length-19 Inv-loop2 μ-loop2 Inv-loop μ-loop Inv-iterations μ-iterations
 same-length-19 c =
     let at : Turn = at-full c in
-    full-made (full c) .net-turn .kept .1 .1 .1 .1 .1 .1 .1 .1 .1 .1 .1 .1 .1 .1 .1 .1 .0 ∙ turn-lengths at .marks-long ∙ sym (entry-long (turn-entry at) .marks-long)
+    full-made (full c) .net-turn .kept .1 .1 .1 .1 .1 .1 .1 .1 .1 .1 .1 .1 .1 .1 .1 .1 .1 .1 .0 ∙ turn-lengths at .marks-long ∙ sym (entry-long (turn-entry at) .marks-long)
 
 same-length-20 :
     tie.Need-same-length-20 Inv-loop2 μ-loop2 Inv-loop μ-loop Inv-iterations μ-iterations
@@ -759,7 +761,7 @@ same-length-24 :
     tie.Need-same-length-24 Inv-loop2 μ-loop2 Inv-loop μ-loop Inv-iterations μ-iterations
 same-length-24 c =
     let at : Turn = at-full c in
-    full-made (full c) .net-turn .kept .1 .1 .1 .1 .1 .1 .1 .1 .1 .1 .1 .1 .1 .0 ∙ turn-lengths at .log-long
+    full-made (full c) .net-turn .kept .1 .1 .1 .1 .1 .1 .1 .1 .1 .1 .1 .1 .1 .1 .1 .0 ∙ turn-lengths at .log-long
 
 returns-3 :
     tie.Need-returns-3 Inv-loop2 μ-loop2 Inv-loop μ-loop Inv-iterations μ-iterations

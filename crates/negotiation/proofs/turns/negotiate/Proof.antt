@@ -51,43 +51,43 @@ module _ (e : tie.Start) where
 array-borrow-prefix-history : tie.Need-array-borrow-prefix-history
 array-borrow-prefix-history c = few-nodes (c .before .before .before .before .before .before .before .before .before .before .before)
 
-slice-aggregate-run-from : tie.Need-slice-aggregate-run-from
-slice-aggregate-run-from c = sym (length-take-le _ _ (few-nodes (c .before .before .before .before .before .before .before .before .before .before .before .before)))
+slice-aggregate-run-chosen : tie.Need-slice-aggregate-run-chosen
+slice-aggregate-run-chosen c = sym (length-take-le _ _ (few-nodes (c .before .before .before .before .before .before .before .before .before .before .before .before)))
 
 array-borrow-prefix-users : tie.Need-array-borrow-prefix-users
 array-borrow-prefix-users c = few-nodes (c .before .before .before .before .before .before .before .before .before .before .before .before)
 
-slice-aggregate-run-from-2 : tie.Need-slice-aggregate-run-from-2
-slice-aggregate-run-from-2 c = sym (length-take-le _ _ (few-nodes (c .before .before .before .before .before .before .before .before .before .before .before .before .before)))
+slice-aggregate-run-chosen-2 : tie.Need-slice-aggregate-run-chosen-2
+slice-aggregate-run-chosen-2 c = sym (length-take-le _ _ (few-nodes (c .before .before .before .before .before .before .before .before .before .before .before .before .before)))
 
 array-borrow-prefix-in-tree : tie.Need-array-borrow-prefix-in-tree
 array-borrow-prefix-in-tree c = few-nodes (c .before .before .before .before .before .before .before .before .before .before .before .before .before)
 
-slice-aggregate-run-from-3 : tie.Need-slice-aggregate-run-from-3
-slice-aggregate-run-from-3 c = sym (length-take-le _ _ (few-nodes (c .before .before .before .before .before .before .before .before .before .before .before .before .before .before)))
+slice-aggregate-run-chosen-3 : tie.Need-slice-aggregate-run-chosen-3
+slice-aggregate-run-chosen-3 c = sym (length-take-le _ _ (few-nodes (c .before .before .before .before .before .before .before .before .before .before .before .before .before .before)))
 
 array-borrow-prefix-tree-from : tie.Need-array-borrow-prefix-tree-from
 array-borrow-prefix-tree-from c = few-nets (c .before .before .before .before .before .before .before .before .before .before .before .before .before .before)
 
-slice-aggregate-run-from-4 : tie.Need-slice-aggregate-run-from-4
-slice-aggregate-run-from-4 c = sym (length-take-le _ _ (few-nets (c .before .before .before .before .before .before .before .before .before .before .before .before .before .before .before)))
+slice-aggregate-run-chosen-4 : tie.Need-slice-aggregate-run-chosen-4
+slice-aggregate-run-chosen-4 c = sym (length-take-le _ _ (few-nets (c .before .before .before .before .before .before .before .before .before .before .before .before .before .before .before)))
 
 array-borrow-prefix-tree-to : tie.Need-array-borrow-prefix-tree-to
 array-borrow-prefix-tree-to c = few-nets (c .before .before .before .before .before .before .before .before .before .before .before .before .before .before .before)
 
-slice-aggregate-run-from-5 : tie.Need-slice-aggregate-run-from-5
-slice-aggregate-run-from-5 c = sym (length-take-le _ _ (few-nets (c .before .before .before .before .before .before .before .before .before .before .before .before .before .before .before .before)))
+slice-aggregate-run-chosen-5 : tie.Need-slice-aggregate-run-chosen-5
+slice-aggregate-run-chosen-5 c = sym (length-take-le _ _ (few-nets (c .before .before .before .before .before .before .before .before .before .before .before .before .before .before .before .before)))
 
 array-borrow-prefix-due : tie.Need-array-borrow-prefix-due
 array-borrow-prefix-due c = few-nets (c .before .before .before .before .before .before .before .before .before .before .before .before .before .before .before .before)
 
-slice-aggregate-run-from-6 : tie.Need-slice-aggregate-run-from-6
-slice-aggregate-run-from-6 c = sym (length-take-le _ _ (few-nets (c .before .before .before .before .before .before .before .before .before .before .before .before .before .before .before .before .before)))
+slice-aggregate-run-chosen-6 : tie.Need-slice-aggregate-run-chosen-6
+slice-aggregate-run-chosen-6 c = sym (length-take-le _ _ (few-nets (c .before .before .before .before .before .before .before .before .before .before .before .before .before .before .before .before .before)))
 
 -- the counts stand apart: an edit of one fails at its own equation
-run-from-requires : tie.Need-run-from-requires
+run-chosen-requires : tie.Need-run-chosen-requires
 unfolding encode
-run-from-requires c κs =
+run-chosen-requires c κs =
     let e : tie.Start = c .before .before .before .before .before .before .before .before .before .before .before .before .before .before .before .before .before .before .before in
     let r = ready e (e .args .log .now) in (
       e .pre,
@@ -102,12 +102,12 @@ run-from-requires c κs =
     )
 
 returns : tie.Need-returns
-returns c = c .before .before .before .before .before .before .before .before .before .before .run-from .ensures
+returns c = c .before .before .before .before .before .before .before .before .before .before .run-chosen .ensures
 
 pub negotiate-spec : {M : Type 1} → statement M
 negotiate-spec =
     tie.close
-    (tie.spec array-borrow-prefix-history slice-aggregate-run-from array-borrow-prefix-users slice-aggregate-run-from-2
-    array-borrow-prefix-in-tree slice-aggregate-run-from-3 array-borrow-prefix-tree-from slice-aggregate-run-from-4
-    array-borrow-prefix-tree-to slice-aggregate-run-from-5 array-borrow-prefix-due slice-aggregate-run-from-6 run-from-requires
+    (tie.spec array-borrow-prefix-history slice-aggregate-run-chosen array-borrow-prefix-users slice-aggregate-run-chosen-2
+    array-borrow-prefix-in-tree slice-aggregate-run-chosen-3 array-borrow-prefix-tree-from slice-aggregate-run-chosen-4
+    array-borrow-prefix-tree-to slice-aggregate-run-chosen-5 array-borrow-prefix-due slice-aggregate-run-chosen-6 run-chosen-requires
     (λ c. search needs) (λ c. search needs) returns)

@@ -1,11 +1,12 @@
 -- `negotiation::turns::run_from` meets its contract: a run that goes on does so from the progress of its start, and a log that is turned away is 14.
 -- Assumes nothing.
-use mathlib.Core.Path.{_∙_}
+use mathlib.Core.Path.{_∙_, sym, ap}
 use native.Mathlib.Omega.{arith}
 use borrow.Author.Needs.{needs}
 use Rattle.search.proofs.BlockLaws.{kinds-few}
 use Rattle.job.specs.Job.{Job, jobOf}
 use Rattle.negotiation.specs.Outcome.{RouteReply, routeReplyOf, turnsLogged}
+use Rattle.negotiation.specs.declared.tariff.Tariff.{Tariff}
 use Rattle.negotiation.proofs.RefusalLaws.{refused-counts}
 use Rattle.negotiation.proofs.turns.StartLaws.{start-some-ready, start-ran, start-counts, turned-away}
 use Rattle.negotiation.proofs.turns.run_from.Statement.{statement}
@@ -19,7 +20,7 @@ job e =
 
 -- the start is answered
 abbrev lent : tie.After-start-at → tie.Start
-lent s = s .before .before .before .before .before .before .before .before .before .before .before .before .before .before .before .before .before .before .before .before .before .before .before .before .before
+lent s = s .before .before .before .before .before .before .before .before .before .before .before .before .before .before .before .before .before .before .before .before .before .before .before .before .before .before .before
 
 -- the lent log is turned away
 abbrev away : tie.After-word → tie.After-start-at
@@ -43,18 +44,18 @@ ran c = c .before .before .before .before .before .before .before .before .befor
 
 start-at-requires : tie.Need-start-at-requires
 start-at-requires c κs =
-    let e : tie.Start = c .before .before .before .before .before .before .before .before .before .before .before .before .before .before .before .before .before .before .before .before .before .before .before .before in
-    (e .pre .0 .0, e .pre .1)
+    let e : tie.Start = c .before .before .before .before .before .before .before .before .before .before .before .before .before .before .before .before .before .before .before .before .before .before .before .before .before .before in
+    (e .pre .0 .0 .0, e .pre .0 .1)
 
 mul-clear : tie.Need-mul-clear
 mul-clear c =
     let e : tie.Start = lent (away (c .before .before)) in
-    let few = kinds-few (e .args .kind .now) (e .pre .0 .0 .block-sound .kinds-sound) in
+    let few = kinds-few (e .args .kind .now) (e .pre .0 .0 .0 .block-sound .kinds-sound) in
     omega arith
 
 clear-requires : tie.Need-clear-requires
 clear-requires c κs =
-    let enough = lent (away (c .before .before)) .pre .0 .2 in
+    let enough = lent (away (c .before .before)) .pre .0 .0 .2 in
     omega arith
 
 refused-requires : tie.Need-refused-requires
@@ -67,8 +68,10 @@ go-on-requires : tie.Need-go-on-requires
 go-on-requires c κs =
     let by : tie.After-going-on = c .before .before .before .before .before .before .before .before in
     let at : tie.After-tariff = called by in
-    let e : tie.Start = lent (onward at) in
-    (e .pre .0, start-some-ready (job e) (e .args .start) (e .args .log .now) (onward at .start-at .ensures) (at .tariff .given .1) _ (by .going-on .ensures))
+    let e : tie.Start = lent (onward at) in (
+      (e .pre .0 .0, start-some-ready (job e) (e .args .start) (e .args .log .now) (onward at .start-at .ensures) (at .tariff .given .1) _ (by .going-on .ensures)),
+      λ aims. e .pre .1 (sym (ap (λ (t : Tariff). t .aimed) (by .going-on .ensures)) ∙ aims),
+    )
 
 same-length : tie.Need-same-length
 same-length c = away (refused-at c) .start-at .kept .1 .1 .1 .1 .1 .1 .1 .1 .1 .1 .1 .1 .0
@@ -101,28 +104,28 @@ returns c =
     )
 
 same-length-9 : tie.Need-same-length-9
-same-length-9 c = ran c .go-on .kept .1 .1 .1 .1 .1 .1 .1 .1 .1 .1 .1 .0 ∙ onward (called (chosen (ran c))) .start-at .kept .1 .1 .1 .1 .1 .1 .1 .1 .1 .1 .1 .1 .0
+same-length-9 c = ran c .go-on .kept .1 .1 .1 .1 .1 .1 .1 .1 .1 .1 .1 .1 .1 .0 ∙ onward (called (chosen (ran c))) .start-at .kept .1 .1 .1 .1 .1 .1 .1 .1 .1 .1 .1 .1 .0
 
 same-length-10 : tie.Need-same-length-10
-same-length-10 c = ran c .go-on .kept .1 .1 .1 .1 .1 .1 .1 .1 .1 .1 .1 .1 .0 ∙ onward (called (chosen (ran c))) .start-at .kept .1 .1 .1 .1 .1 .1 .1 .1 .1 .1 .1 .1 .1 .0
+same-length-10 c = ran c .go-on .kept .1 .1 .1 .1 .1 .1 .1 .1 .1 .1 .1 .1 .1 .1 .0 ∙ onward (called (chosen (ran c))) .start-at .kept .1 .1 .1 .1 .1 .1 .1 .1 .1 .1 .1 .1 .1 .0
 
 same-length-11 : tie.Need-same-length-11
-same-length-11 c = ran c .go-on .kept .1 .1 .1 .1 .1 .1 .1 .1 .1 .1 .1 .1 .1 .0 ∙ onward (called (chosen (ran c))) .start-at .kept .1 .1 .1 .1 .1 .1 .1 .1 .1 .1 .1 .1 .1 .1 .0
+same-length-11 c = ran c .go-on .kept .1 .1 .1 .1 .1 .1 .1 .1 .1 .1 .1 .1 .1 .1 .1 .0 ∙ onward (called (chosen (ran c))) .start-at .kept .1 .1 .1 .1 .1 .1 .1 .1 .1 .1 .1 .1 .1 .1 .0
 
 same-length-12 : tie.Need-same-length-12
-same-length-12 c = ran c .go-on .kept .1 .1 .1 .1 .1 .1 .1 .1 .1 .1 .1 .1 .1 .1 .0 ∙ onward (called (chosen (ran c))) .start-at .kept .1 .1 .1 .1 .1 .1 .1 .1 .1 .1 .1 .1 .1 .1 .1 .0
+same-length-12 c = ran c .go-on .kept .1 .1 .1 .1 .1 .1 .1 .1 .1 .1 .1 .1 .1 .1 .1 .1 .0 ∙ onward (called (chosen (ran c))) .start-at .kept .1 .1 .1 .1 .1 .1 .1 .1 .1 .1 .1 .1 .1 .1 .1 .0
 
 same-length-13 : tie.Need-same-length-13
-same-length-13 c = ran c .go-on .kept .1 .1 .1 .1 .1 .1 .1 .1 .1 .1 .1 .1 .1 .1 .1 .0 ∙ onward (called (chosen (ran c))) .start-at .kept .1 .1 .1 .1 .1 .1 .1 .1 .1 .1 .1 .1 .1 .1 .1 .1 .0
+same-length-13 c = ran c .go-on .kept .1 .1 .1 .1 .1 .1 .1 .1 .1 .1 .1 .1 .1 .1 .1 .1 .1 .0 ∙ onward (called (chosen (ran c))) .start-at .kept .1 .1 .1 .1 .1 .1 .1 .1 .1 .1 .1 .1 .1 .1 .1 .1 .0
 
 same-length-14 : tie.Need-same-length-14
-same-length-14 c = ran c .go-on .kept .1 .1 .1 .1 .1 .1 .1 .1 .1 .1 .1 .1 .1 .1 .1 .1 .0 ∙ onward (called (chosen (ran c))) .start-at .kept .1 .1 .1 .1 .1 .1 .1 .1 .1 .1 .1 .1 .1 .1 .1 .1 .1 .0
+same-length-14 c = ran c .go-on .kept .1 .1 .1 .1 .1 .1 .1 .1 .1 .1 .1 .1 .1 .1 .1 .1 .1 .1 .0 ∙ onward (called (chosen (ran c))) .start-at .kept .1 .1 .1 .1 .1 .1 .1 .1 .1 .1 .1 .1 .1 .1 .1 .1 .1 .0
 
 same-length-15 : tie.Need-same-length-15
-same-length-15 c = ran c .go-on .kept .1 .1 .1 .1 .1 .1 .1 .1 .1 .1 .1 .1 .1 .1 .1 .1 .1 .0
+same-length-15 c = ran c .go-on .kept .1 .1 .1 .1 .1 .1 .1 .1 .1 .1 .1 .1 .1 .1 .1 .1 .1 .1 .1 .0
 
 same-length-16 : tie.Need-same-length-16
-same-length-16 c = ran c .go-on .kept .1 .1 .1 .1 .1 .1 .1 .1 .1 .1 .1 .1 .1 .1 .1 .1 .1 .1 .0
+same-length-16 c = ran c .go-on .kept .1 .1 .1 .1 .1 .1 .1 .1 .1 .1 .1 .1 .1 .1 .1 .1 .1 .1 .1 .1 .0
 
 returns-2 : tie.Need-returns-2
 returns-2 c =
@@ -130,7 +133,7 @@ returns-2 c =
     let by : tie.After-going-on = chosen at in
     let s : tie.After-start-at = onward (called by) in
     let e : tie.Start = lent s in
-    let reply : RouteReply = routeReplyOf (at .go-on .result) (at .go-on .last .1 .1 .1 .1 .1 .1 .1 .1 .1 .1 .1 .1 .1 .1 .1 .1 .1 .0) (at .go-on .last .1 .1 .1 .1 .1 .1 .1 .1 .1 .1 .1 .1 .1 .1 .1 .1 .1 .1 .0) in (
+    let reply : RouteReply = routeReplyOf (at .go-on .result) (at .go-on .last .1 .1 .1 .1 .1 .1 .1 .1 .1 .1 .1 .1 .1 .1 .1 .1 .1 .1 .1 .0) (at .go-on .last .1 .1 .1 .1 .1 .1 .1 .1 .1 .1 .1 .1 .1 .1 .1 .1 .1 .1 .1 .1 .0) in (
       start-ran (job e) (e .args .start) (e .args .log .now) (s .start-at .ensures) (called by .tariff .given .1) _ (by .going-on .ensures) (e .args .work .now) reply
           (at .go-on .ensures .0),
       start-counts (job e) (e .args .start) (e .args .log .now) (s .start-at .ensures) (called by .tariff .given .1) _ (by .going-on .ensures) (at .go-on .result .expanded)

@@ -1,170 +1,128 @@
--- `search::estimate::give_before` meets its contract. The invariant: the places of v from k on have been passed. The measure is k.
+-- `search::estimate::give_before` meets its contract. The invariant: the places of v's row below e have been passed. The measure is how many are left.
 -- Assumes nothing.
-use mathlib.Core.List.{[]}
+use mathlib.Core.Logic.{⊎-elim}
+use mathlib.Core.Path.{_≡_, sym, _∙_}
 use Prim.Native.Nat.{_-_, _*_, _≤_, _<_}
 use native.Mathlib.Omega.{arith}
 use lib.ListN.{length}
+use borrow.Author.Needs.{needs}
 use denote.Ref.{now}
+use Rattle.price.specs.Bounds.{nodesMost}
 use Rattle.search.specs.Block.{graphOf}
-use Rattle.search.specs.Aimed.{weightAt}
-use Rattle.search.specs.Tables.{edgesMost}
-use Rattle.search.specs.Links.{Links}
-use Rattle.search.specs.Estimates.{SomeGiven}
-use Rattle.search.proofs.LinkLaws.{edges-most}
-use Rattle.search.proofs.estimate.EstimateSteps.{some-given-none, some-given-more, FollowingLinks, links-none, links-node, links-more, links-falls, links-end, key-small}
+use Rattle.search.specs.Distance.{far}
+use Rattle.search.specs.Clamped.{clampedBase}
+use Rattle.search.specs.Buckets.{Lined}
+use Rattle.search.specs.Estimates.{lackingIn, SomeGiven}
+use Rattle.search.proofs.ClampedLaws.{base-light}
+use Rattle.search.proofs.BucketLaws.{count-room}
+use Rattle.search.proofs.estimate.GiveLaws.{key-small}
+use Rattle.search.proofs.estimate.EstimateSteps.{lacking-is, lacking-some, sized-beside, GivingRow, row-begin, row-skip, row-more, row-end}
 use Rattle.search.proofs.estimate.give_before.Statement.{statement}
 use Rattle.search.proofs.estimate.give_before.Tie as tie
 
 abbrev Inv-loop : tie.InvT-loop
-Inv-loop kind weighting last earlier from in-tree work₀ v estimate bound n cost least₀ k₀ work least k =
-    (l : Links kind last earlier from)
-    → SomeGiven (graphOf kind (l .firsts) (l .targets)) (weightAt (graphOf kind [] []) weighting) in-tree v estimate cost work₀ work bound least
-    × FollowingLinks (graphOf kind (l .firsts) (l .targets)) from v work k
+Inv-loop kind first-back back-source work₀ head₀ scale v estimate n to e₀ f₀ work head e f =
+    ((l : Lined (length kind) (clampedBase kind) scale work₀ head₀ (f₀ .count) estimate)
+    → GivingRow (graphOf kind first-back back-source) (clampedBase kind) scale v estimate work₀ work head₀ head (f₀ .count) (f .count) e l)
+    × (f .lacking ≡ lackingIn (length kind) work)
 
 abbrev μ-loop : tie.MeasureT-loop
-μ-loop kind weighting last earlier from in-tree work₀ v estimate bound n cost least₀ k₀ work least k = k
+μ-loop kind first-back back-source work₀ head₀ scale v estimate n to e₀ f₀ work head e f = to - e
 
--- the entry, where the bounds of the lists are known, and a turn of the loop
+-- the entry, and the head of the loop
 abbrev Entry : Type 0
 Entry = tie.Start Inv-loop μ-loop
 
-abbrev Known : Type 0
-Known = tie.After-slice-known Inv-loop μ-loop
+abbrev Head : Type 0
+Head = tie.At-loop Inv-loop μ-loop
 
-abbrev begun : Known → Entry
-begun c = c .before .before .before .before .before .before
+abbrev entry : Head → Entry
+entry c = c .before .before .before .before .before .before .before .before
 
-abbrev Turn : Type 0
-Turn = tie.In-loop Inv-loop μ-loop
+-- what has been given so far, from the nodes that wait at the entry
+some :
+    (c : Head)
+    → SomeGiven (graphOf (now (entry c .args .kind)) (now (entry c .args .first-back)) (now (entry c .args .back-source))) (clampedBase (now (entry c .args .kind)))
+    (entry c .args .scale) (entry c .args .v) (entry c .args .estimate) (now (entry c .args .work)) (c .loop .work) (now (entry c .args .head)) (c .loop .head)
+    (entry c .args .start .count) (c .loop .f .count) (entry c .pre .1 .lined)
+some c = c .loop .inv .0 (entry c .pre .1 .lined) .some
 
-abbrev entry : Turn → Entry
-entry c = begun (c .before .before .before .before .before .before)
+room : (c : Head) → (length (now (entry c .args .kind)) ≤ nodesMost) × (8 * length (now (entry c .args .kind)) ≤ length (c .loop .work))
+room c = (entry c .pre .1 .few, rw (some c .same .long) (entry c .pre .1 .sized .long))
 
--- v is a node, and the lists are long enough
-room : (c : Entry) → (c .args .v < length (now (c .args .kind))) × (length (now (c .args .kind)) ≤ 4096) × (8 * length (now (c .args .kind)) ≤ length (now (c .args .work))) × (length (now (c .args .kind)) ≤ length (now (c .args .last)))
-room c = let l = c .pre .2 in (c .pre .1, l .graph .few, c .pre .3, l .room .last-long)
+small : (c : Head) → entry c .args .scale * entry c .args .estimate < far
+small c = omega (arith, key-small (entry c .pre .1 .scale-most) (entry c .pre .1 .level-most))
 
--- where the next place lies
-next : (c : Turn) → (c .before .loop .k - 1 < edgesMost) × (c .before .loop .k - 1 < length (now (entry c .args .from))) × (c .before .loop .k - 1 < length (now (entry c .args .earlier)))
-next c =
-    let l = entry c .pre .2 in
-    let f = links-node (l .graph) (l .linked) (c .loop-test .taken) (c .before .loop .inv l .1) .0 in
-    let from-long = l .room .from-long in
-    let earlier-long = l .room .earlier-long in
-    (omega (arith, edges-most _ (l .graph)), omega arith, omega arith)
+row-place-requires : tie.Need-row-place-requires Inv-loop μ-loop
+row-place-requires c κs = search needs
 
-mul-capped-sum : tie.Need-mul-capped-sum Inv-loop μ-loop
-mul-capped-sum c = let r = room (begun c) in omega arith
-
-add-capped-sum : tie.Need-add-capped-sum Inv-loop μ-loop
-add-capped-sum c = let r = room (begun c) in omega arith
-
-mul-capped-sum-2 : tie.Need-mul-capped-sum-2 Inv-loop μ-loop
-mul-capped-sum-2 c = let r = room (begun c) in omega arith
-
-slice-read-capped-sum : tie.Need-slice-read-capped-sum Inv-loop μ-loop
-slice-read-capped-sum c = let r = room (begun (c .before)) in omega arith
-
-mul-capped-sum-3 : tie.Need-mul-capped-sum-3 Inv-loop μ-loop
-mul-capped-sum-3 c = let r = room (begun (c .before)) in omega arith
-
-add-capped-sum-2 : tie.Need-add-capped-sum-2 Inv-loop μ-loop
-add-capped-sum-2 c = let r = room (begun (c .before)) in omega arith
-
-mul-capped-sum-4 : tie.Need-mul-capped-sum-4 Inv-loop μ-loop
-mul-capped-sum-4 c = let r = room (begun (c .before)) in omega arith
-
-slice-read-capped-sum-2 : tie.Need-slice-read-capped-sum-2 Inv-loop μ-loop
-slice-read-capped-sum-2 c = let r = room (begun (c .before .before)) in omega arith
-
-capped-sum-requires : tie.Need-capped-sum-requires Inv-loop μ-loop
-capped-sum-requires c κs = tt
-
-mul-k : tie.Need-mul-k Inv-loop μ-loop
-mul-k c = let r = room (begun (c .before .before .before)) in omega arith
-
-shared-slice-read-k : tie.Need-shared-slice-read-k Inv-loop μ-loop
-shared-slice-read-k c = let r = room (begun (c .before .before .before .before)) in omega arith
-
-cast-k : tie.Need-cast-k Inv-loop μ-loop
-cast-k c = omega (arith, c .shared-slice-known6 .given (begun (c .before .before .before .before) .args .v))
+row-place-requires-2 : tie.Need-row-place-requires-2 Inv-loop μ-loop
+row-place-requires-2 c κs = search needs
 
 loop-holds : tie.Need-loop-holds Inv-loop μ-loop
 loop-holds c =
-    let start = begun (c .before .before .before .before) in
-    λ l. (some-given-none (start .pre .4), links-none (l .graph) (l .linked) _ (start .pre .1))
-
-sub-u : tie.Need-sub-u Inv-loop μ-loop
-sub-u c = c .loop-test .taken
-
-mul-u : tie.Need-mul-u Inv-loop μ-loop
-mul-u c = omega (arith, next c .0)
-
-shared-slice-read-u : tie.Need-shared-slice-read-u Inv-loop μ-loop
-shared-slice-read-u c = next (c .before) .1
+    let start : Entry = c .before .before .before .before .before .before .before in
+    (λ l. row-begin (start .pre .1 .queue) (c .row-place2 .ensures), start .pre .1 .lacking-is)
 
 cast-u : tie.Need-cast-u Inv-loop μ-loop
-cast-u c = omega (arith, c .shared-slice-known7 .given (c .before .before .loop .k - 1))
+cast-u c = omega (arith, c .shared-slice-known4 .given (c .before .before .loop .e))
 
-give-over-requires : tie.Need-give-over-requires Inv-loop μ-loop
-give-over-requires c κs =
-    let turn = c .before .before in
-    let start = entry turn in
-    let l : Links _ _ _ _ = start .pre .2 in
-    let s = turn .before .loop .inv l in (
-      start .pre .0,
-      links-node (l .graph) (l .linked) (turn .loop-test .taken) (s .1) .1,
-      l .graph .few,
-      (let long = s .0 .same .long in let r = room start in omega arith),
-      s .0 .queue,
-      start .pre .5,
-      start .pre .6,
+slice-read-if2 : tie.Need-slice-read-if2 Inv-loop μ-loop
+slice-read-if2 c =
+    let r = room (c .before .before .before .before) in
+    let h = c .before .if1 .taken in
+    omega arith
+
+give-requires : tie.Need-give-requires Inv-loop μ-loop
+give-requires c κs =
+    let tested = c .before .before in
+    let at : Head = tested .before .before .before .before .before in
+    let h = tested .before .before .if1 .taken in
+    let g = entry at .pre .1 in (
+      h,
+      g .few,
+      some at .lined .waiting .heads,
+      g .firsts-long,
+      g .scale-most,
+      g .level-most,
+      count-room (some at .lined) _ h (tested .if2 .taken),
+      sized-beside (g .sized) (some at .same),
+      some at .queue,
+      lacking-some _ _ (at .loop .work) h (tested .if2 .taken) (at .loop .inv .1),
     )
-
--- the turn, from where its place is passed
-abbrev turn : tie.After-slice-known4 Inv-loop μ-loop → Turn
-turn c = c .before .before .before .before .before
-
-sub-k : tie.Need-sub-k Inv-loop μ-loop
-sub-k c = turn c .loop-test .taken
-
-mul-k-2 : tie.Need-mul-k-2 Inv-loop μ-loop
-mul-k-2 c = omega (arith, next (turn c) .0)
-
-shared-slice-read-k-2 : tie.Need-shared-slice-read-k-2 Inv-loop μ-loop
-shared-slice-read-k-2 c = next (turn (c .before)) .2
-
-cast-k-2 : tie.Need-cast-k-2 Inv-loop μ-loop
-cast-k-2 c = omega (arith, c .shared-slice-known8 .given (turn (c .before) .before .loop .k - 1))
-
-loop-less : tie.Need-loop-less Inv-loop μ-loop
-loop-less c =
-    let here = turn (c .before) in
-    let l = entry here .pre .2 in
-    links-falls (l .graph) (l .linked) (here .loop-test .taken) (here .before .loop .inv l .1)
 
 loop-again : tie.Need-loop-again Inv-loop μ-loop
 loop-again c =
-    let here = turn (c .before) in
-    let small = key-small (entry here .pre .5) in
-    let tried = c .before .before .before .give-over .ensures in
-    λ l.
-    let s = here .before .loop .inv l in
-    let u = links-node (l .graph) (l .linked) (here .loop-test .taken) (s .1) in
-    (some-given-more small (s .0) (u .1) (u .2) tried, links-more (l .graph) (l .linked) small (here .loop-test .taken) (s .1) tried)
+    let turn : tie.In-loop Inv-loop μ-loop = c .before .before in
+    let at : Head = turn .before in
+    let inv = at .loop .inv in
+    ⊎-elim
+    (λ w.
+    rw (w .10, w .11, w .12) (
+      λ l.
+          row-more (inv .0 l) (at .before .before .row-place .ensures) (turn .loop-test .taken) (small at) (w .0 .taken) (base-light _ _) (w .2 .taken) (w .5 .ensures .0)
+          (w .5 .ensures .1),
+      lacking-is (w .0 .taken) (w .2 .taken) (small at) (w .5 .ensures .0) (inv .1) (w .5 .ensures .2),
+    ))
+    (⊎-elim
+    (λ w. rw (w .3, w .4, w .5) (λ l. row-skip (inv .0 l) (λ h b. w .2 .left b), inv .1))
+    (λ w. rw (w .1, w .2, w .3) (λ l. row-skip (inv .0 l) (λ h b. omega (arith, w .0 .left)), inv .1)))
+    (c .if1 .came)
 
 same-length : tie.Need-same-length Inv-loop μ-loop
-same-length c = let head = c .before in head .loop .inv (begun (head .before .before .before .before .before) .pre .2) .0 .same .long
+same-length c = some (c .before) .same .long
+
+same-length-2 : tie.Need-same-length-2 Inv-loop μ-loop
+same-length-2 c = some (c .before) .lined .waiting .heads ∙ sym (entry (c .before) .pre .1 .lined .waiting .heads)
 
 returns : tie.Need-returns Inv-loop μ-loop
 returns c =
-    λ l.
-    let s = c .before .loop .inv l in
-    links-end (l .graph) (l .linked) (c .before .before .before .capped-sum .ensures) (c .loop-test .left) (s .0) (s .1)
+    let at : Head = c .before in
+    (λ l. row-end (at .loop .inv .0 l) (at .before .before .row-place .ensures) (c .loop-test .left), at .loop .inv .1)
 
 pub give-before-spec : {M : Type 1} → statement M
 give-before-spec =
     tie.close
-    (tie.spec Inv-loop μ-loop mul-capped-sum add-capped-sum mul-capped-sum-2 slice-read-capped-sum mul-capped-sum-3 add-capped-sum-2
-    mul-capped-sum-4 slice-read-capped-sum-2 capped-sum-requires mul-k shared-slice-read-k cast-k loop-holds sub-u mul-u shared-slice-read-u
-    cast-u give-over-requires sub-k mul-k-2 shared-slice-read-k-2 cast-k-2 loop-less loop-again same-length returns)
+    (tie.spec Inv-loop μ-loop (λ c. search needs) row-place-requires row-place-requires-2 loop-holds (λ c. search needs) (λ c. search needs)
+    cast-u (λ c. search needs) (λ c. search needs) (λ c. search needs) slice-read-if2 give-requires (λ c. search needs) (λ c. search needs)
+    loop-again same-length same-length-2 returns)
