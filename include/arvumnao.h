@@ -98,9 +98,9 @@
 /* The version of these declarations, and of the Rust wrapper. The library itself carries none: header and library must be of one build.
  * Until 1.0.0 the second number rises with every change to a call, a place in `out` or a refusal, and with what changes for the
  * wrapper's callers. CHANGELOG.md lists the changes. */
-#define ARVUMNAO_VERSION "0.7.0"
+#define ARVUMNAO_VERSION "0.8.0"
 #define ARVUMNAO_VERSION_MAJOR 0
-#define ARVUMNAO_VERSION_MINOR 7
+#define ARVUMNAO_VERSION_MINOR 8
 #define ARVUMNAO_VERSION_PATCH 0
 
 /* The most that a job has. */
@@ -152,8 +152,9 @@
 #define ARVUMNAO_USES_BYTES 4096
 
 /* Bytes of stack, beyond its caller's, that are enough for every call. Measured on x86-64 Linux by tests/header/memory.c, with
- * what memcpy and memset take, and rounded up: 194,000 in the four calls that route or resume, 122,500 in arvumnao_read, 35,700 in
- * arvumnao_uses_add, 23,200 in arvumnao_uses_write, 9,100 in arvumnao_write and arvumnao_dot, under 800 in the others. */
+ * what memcpy and memset take, and rounded up: 152,300 in the four calls that route or resume, 122,800 in arvumnao_read, 69,500 in
+ * arvumnao_audit, 35,700 in arvumnao_uses_add, 23,400 in arvumnao_uses_write, 9,200 in arvumnao_write and arvumnao_dot, under 1,300 in
+ * the others. */
 #define ARVUMNAO_STACK 262144
 
 /* `out`: its length, and the places that every call has. */
@@ -183,6 +184,9 @@
 #define ARVUMNAO_TOO_LARGE 15    /* nodes, limit: of a timed job with more than 1,024 nodes or a limit above 40; a timed search
                                     gives limit 0 */
 #define ARVUMNAO_COUNTS_FULL 16  /* 65535: the counts have that many logs already, which is the most */
+
+/* What an audit finds, which is no refusal; 17 is a refusal of the program that makes loads, and no call here gives it. */
+#define ARVUMNAO_NOT_CHEAPEST 18 /* word, cost: where the record of the first turn that isn't cheapest begins, and what it cost */
 
 #ifdef __cplusplus
 extern "C" {
@@ -324,6 +328,33 @@ uint32_t arvumnao_resume_aimed(const uint8_t *kind, size_t kind_count, const uin
                                const uint8_t *criticality, size_t criticality_count, const uint32_t *terms, size_t terms_count,
                                uint64_t used, uint64_t *work, size_t work_count, uint32_t *log, size_t log_count,
                                uint64_t *out, size_t out_count);
+
+/* Audits a log, whoever wrote it: are its turns this job's, and is each a cheapest one? Of a log that is sound every turn is as the
+ * specification asks of this router's own, and if its last iteration is whole and leaves no node over capacity, its final trees are those
+ * of an accepted job. Of the first turn that isn't cheapest the finding tells word place, cost and the least cost: a path of that cost
+ * exists (all this is proved). Logs of arvumnao_route and arvumnao_resume that go back to no other router's are sound (proved).
+ *
+ * used      how many words of `log` are audited. Words past them are not read.
+ * log       is only read. Its records follow the job as for arvumnao_resume, but it may end behind any record, also behind an
+ *           iteration that settles or is the last of the limit; no record may come after either. It may have no record at all.
+ * out[ARVUMNAO_REFUSAL] is 0 where the log is sound, and ARVUMNAO_NOT_CHEAPEST, which is a finding and no refusal, with word place and
+ * cost at the next two places, where a turn isn't cheapest.
+ * Own numbers, 0 after a refusal: the turns before the one that is told, of a sound log all; the iterations that are whole; the nodes
+ * over capacity after the last of these, 0 where none is whole; the least cost of the turn that isn't cheapest, else 0.
+ * The other parameters are those of arvumnao_route. After a sound log, a finding, 7 and 14 the work memory is 0 as there.
+ * Refusals, tested in this order: ARVUMNAO_BAD_TABLE, ARVUMNAO_TOO_LARGE, ARVUMNAO_SHORT_WORK, ARVUMNAO_UNREACHABLE; then
+ * ARVUMNAO_DIVERGES with the word place of the first record that doesn't follow the job, unless a turn before it isn't cheapest. */
+#define ARVUMNAO_AUDIT_TURNS 3
+#define ARVUMNAO_AUDIT_WHOLE 4
+#define ARVUMNAO_AUDIT_OVER 5
+#define ARVUMNAO_AUDIT_LEAST 6
+uint32_t arvumnao_audit(const uint8_t *kind, size_t kind_count, const uint8_t *capacity, size_t capacity_count,
+                        const uint32_t *first_edge, size_t first_edge_count, const uint16_t *edge_target, size_t edge_target_count,
+                        const uint16_t *source, size_t source_count, const uint32_t *first_sink, size_t first_sink_count,
+                        const uint16_t *sink, size_t sink_count, const uint16_t *delay, size_t delay_count,
+                        const uint8_t *criticality, size_t criticality_count, const uint32_t *terms, size_t terms_count, uint64_t used,
+                        uint64_t *work, size_t work_count, const uint32_t *log, size_t log_count,
+                        uint64_t *out, size_t out_count);
 
 /* Reads a job text into the seven tables, and into tables 9 and 10 if it is timed. Its own numbers are the counts of the job and its
  * terms.

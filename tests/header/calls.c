@@ -205,6 +205,8 @@ static void too_many_nodes(void)
                           criticality, 1, terms, 8, NULL, 0, NULL, 0, out, OUT) == 1 && refused(15, 1025, 40));
     EXPECT(arvumnao_resume(kind, MANY, capacity, MANY, first_edge, MANY + 1, NULL, 0, source, 1, first_sink, 2, sink, 1, delay, MANY,
                            criticality, 1, terms, 8, 0, NULL, 0, NULL, 0, out, OUT) == 1 && refused(15, 1025, 40));
+    EXPECT(arvumnao_audit(kind, MANY, capacity, MANY, first_edge, MANY + 1, NULL, 0, source, 1, first_sink, 2, sink, 1, delay, MANY,
+                          criticality, 1, terms, 8, 0, NULL, 0, NULL, 0, out, OUT) == 1 && refused(15, 1025, 40));
     EXPECT(arvumnao_route_aimed(kind, MANY, capacity, MANY, first_edge, MANY + 1, NULL, 0, source, 1, first_sink, 2, sink, 1, delay,
                                 MANY, criticality, 1, terms, 8, NULL, 0, NULL, 0, out, OUT) == 1 && refused(15, 1025, 40));
     EXPECT(arvumnao_resume_aimed(kind, MANY, capacity, MANY, first_edge, MANY + 1, NULL, 0, source, 1, first_sink, 2, sink, 1, delay,
@@ -305,6 +307,61 @@ static void resume(void)
     EXPECT(resume_in(two_sources, 2, limit_4, 7, LENT, work, 41, log, 73) == 1 && told(9, 4, 1, ended, 3));
     EXPECT(memcmp(log, log_shared, sizeof log) == 0);
     EXPECT(memcmp(work, cleared, sizeof cleared) == 0 && work[40] == OLD);
+}
+
+/* The same two nets' log, audited. */
+static uint32_t audit_in(const uint32_t *terms, size_t count, uint64_t used, uint64_t *work, size_t entries, const uint32_t *log,
+                         size_t words, size_t outs)
+{
+    return arvumnao_audit(kind_shared, 5, capacity_shared, 5, first_edge_shared, 6, edge_target_shared, 4, two_sources, 2, two_nets, 3,
+                          sink_shared, 2, NULL, 0, NULL, 0, terms, count, used, work, entries, log, words, out, outs);
+}
+
+/* One net with a short and a long wire to its sink: the long one is no cheapest way. */
+static void audit_finding(void)
+{
+    static const uint8_t kind[] = { 0, 4, 5, 1 }, capacity[] = { 1, 1, 1, 1 };
+    static const uint32_t first_edge[] = { 0, 2, 3, 4, 4 }, first_sink[] = { 0, 1 }, limit[] = { 1 };
+    static const uint16_t edge_target[] = { 1, 2, 3, 3 }, source[] = { 0 }, sink[] = { 3 };
+    static const uint32_t cheap[] = { 1, 0, 3, 4000, 0, 3, 0, 1, 3 }, dear[] = { 1, 0, 3, 6000, 0, 3, 0, 2, 3 };
+    const uint64_t sound[] = { 1, 1, 0, 0 }, found[] = { 0, 0, 0, 4000 };
+    uint64_t work[32];
+    memset(work, 9, sizeof work);
+    lend_out();
+    EXPECT(arvumnao_audit(kind, 4, capacity, 4, first_edge, 5, edge_target, 4, source, 1, first_sink, 2, sink, 1, NULL, 0, NULL, 0,
+                          limit, 1, 9, work, 32, dear, 9, out, OUT) == 1 && told(ARVUMNAO_NOT_CHEAPEST, 0, 6000, found, 4));
+    EXPECT(memcmp(work, cleared, sizeof work) == 0);
+    EXPECT(arvumnao_audit(kind, 4, capacity, 4, first_edge, 5, edge_target, 4, source, 1, first_sink, 2, sink, 1, NULL, 0, NULL, 0,
+                          limit, 1, 9, work, 32, cheap, 9, out, OUT) == 1 && told(0, 0, 0, sound, 4));
+}
+
+/* A run's own log is sound, and may end behind any record: after the third one iteration is whole. */
+static void audit(void)
+{
+    const uint64_t ended[] = { 8, 4, 1, 0 }, third[] = { 3, 1, 1, 0 }, none[] = { 0, 0, 0, 0 };
+    uint64_t work[41];
+    uint32_t log[73];
+    memset(work, 9, sizeof work);
+    memcpy(log, log_shared, sizeof log);
+    work[40] = log[72] = OLD;
+    lend_out();
+    EXPECT(audit_in(limit_4, 7, 72, work, 41, log, 73, 15) == 0);
+    EXPECT(out[0] == OLD && out[14] == OLD && work[0] != 0);
+    EXPECT(audit_in(limit_4, 7, 72, work, 41, log, 73, OUT) == 1 && told(0, 0, 0, ended, 4));
+    EXPECT(memcmp(work, cleared, sizeof cleared) == 0 && work[40] == OLD);
+    EXPECT(audit_in(limit_4, 7, 27, work, 41, log, 73, OUT) == 1 && told(0, 0, 0, third, 4));
+    EXPECT(audit_in(limit_4, 7, 0, work, 41, log, 73, OUT) == 1 && told(0, 0, 0, none, 4));
+    EXPECT(audit_in(limit_4, 7, 74, work, 41, log, 73, OUT) == 1 && refused(ARVUMNAO_DIVERGES, 73, 0));
+    EXPECT(audit_in(limit_4, 7, 35, work, 41, log, 73, OUT) == 1 && refused(14, 27, 0));
+    EXPECT(audit_in(limit_2, 5, 72, work, 41, log, 73, OUT) == 1 && refused(14, 36, 0));
+    EXPECT(audit_in(limit_4, 7, 72, work, 39, log, 73, OUT) == 1 && refused(6, 40, 0));
+    EXPECT(audit_in(limit_4, 0, 72, work, 41, log, 73, OUT) == 1 && refused(5, 8, 0));
+    log[21]++;
+    EXPECT(audit_in(limit_4, 7, 72, work, 41, log, 73, OUT) == 1 && refused(14, 18, 0));
+    log[21]--;
+    log[72] = log_shared[72];
+    EXPECT(memcmp(log, log_shared, sizeof log) == 0);
+    audit_finding();
 }
 
 /* The same two nets and the same sinks by the search that aims: outcome, log and work memory are the plain search's. */
@@ -795,6 +852,7 @@ int main(void)
     too_many_nodes();
     route();
     resume();
+    audit();
     route_aimed();
     resume_aimed();
     terms();

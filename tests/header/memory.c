@@ -82,6 +82,15 @@ static void call_resume(void)
                     work, ARVUMNAO_WORK(nodes), log_words, LOG, out, ARVUMNAO_OUT);
 }
 
+/* Audits the same words. */
+static void call_audit(void)
+{
+    terms[ARVUMNAO_TERMS_LIMIT] = 1;
+    arvumnao_audit(kind, nodes, capacity, nodes, first_edge, nodes + 1, edge_target, edges, source, nets,
+                   first_sink, nets + 1, sink, sinks, delay, nodes, criticality, sinks, terms, ARVUMNAO_TERMS, words,
+                   work, ARVUMNAO_WORK(nodes), log_words, LOG, out, ARVUMNAO_OUT);
+}
+
 static void call_route_aimed(void)
 {
     terms[ARVUMNAO_TERMS_LIMIT] = 1;
@@ -199,6 +208,9 @@ static void empty(void)
     arvumnao_resume(NULL, 0, NULL, 0, NULL, 0, NULL, 0, NULL, 0, NULL, 0, NULL, 0, NULL, 0, NULL, 0, NULL, 0, 0, NULL, 0,
                     NULL, 0, out, ARVUMNAO_OUT);
     expect("resume of nothing", out[0] == ARVUMNAO_BAD_TABLE && out[1] == 1);
+    arvumnao_audit(NULL, 0, NULL, 0, NULL, 0, NULL, 0, NULL, 0, NULL, 0, NULL, 0, NULL, 0, NULL, 0, NULL, 0, 0, NULL, 0,
+                   NULL, 0, out, ARVUMNAO_OUT);
+    expect("audit of nothing", out[0] == ARVUMNAO_BAD_TABLE && out[1] == 1);
     arvumnao_route_aimed(NULL, 0, NULL, 0, NULL, 0, NULL, 0, NULL, 0, NULL, 0, NULL, 0, NULL, 0, NULL, 0, NULL, 0, NULL, 0,
                          NULL, 0, out, ARVUMNAO_OUT);
     expect("aimed route of nothing", out[0] == ARVUMNAO_BAD_TABLE && out[1] == 1);
@@ -230,6 +242,8 @@ static void measure_all(int timed)
     measure(timed ? "timed route" : "route", call_route, ARVUMNAO_LIMIT_REACHED);
     words = (size_t)out[ARVUMNAO_ROUTE_WORDS];
     uint64_t turns = out[ARVUMNAO_ROUTE_TURNS];
+    measure(timed ? "timed audit" : "audit", call_audit, 0);
+    expect("turns audited", out[ARVUMNAO_AUDIT_TURNS] == turns && out[ARVUMNAO_AUDIT_WHOLE] == 1 && out[ARVUMNAO_AUDIT_OVER] > 0);
     measure(timed ? "timed resume" : "resume", call_resume, ARVUMNAO_LIMIT_REACHED);
     uint64_t both = out[ARVUMNAO_RESUME_TURNS];
     expect("turns of both runs", both > turns);

@@ -5,7 +5,7 @@ use mathlib.Core.List.{List, [], _∷_, _++_, append-nil}
 use mathlib.Core.Path.{_≡_, refl, sym, _∙_, ap}
 use Prim.Native.Nat.{ℕ, _≤_, _<_}
 use native.Mathlib.Omega.{arith}
-use lib.ListN.{length, set, take, drop, replicate, take-append-drop}
+use lib.ListN.{length, getD, set, take, drop, replicate, take-append-drop}
 use lib.Seq.{length-take-le, take-all, take-at, drop-at}
 use borrow.Author.Tests.{lt-ltb, le-ltb}
 use Rattle.price.specs.Replies as p
@@ -17,8 +17,12 @@ use Rattle.job.specs.Job.{Job}
 use Rattle.job.specs.Join.{joined}
 use Rattle.negotiation.specs.Records.{Record}
 use Rattle.negotiation.specs.Outcome.{RouteReply, turnsLogged, routeRefusal, routeReplyOf}
+use Rattle.negotiation.specs.Audit.{AuditReply, auditReplyOf}
 use Rattle.negotiation.specs.Aimed.{expandedAfter}
+use Rattle.negotiation.specs.declared.AuditAnswer.{AuditAnswer}
 use Rattle.negotiation.specs.declared.RouteAnswer.{RouteAnswer}
+use Rattle.negotiation.specs.declared.Outcome.{Outcome}
+use Rattle.negotiation.specs.declared.Outcome.the-variants as o
 use Rattle.text.specs.ReadReplies.{Tables, readRefusal, readNumbers, readReplyOf, readReply}
 use Rattle.text.specs.Routes.{WriteReply}
 use Rattle.text.specs.declared.ReadAnswer.{ReadAnswer}
@@ -26,7 +30,7 @@ use Rattle.uses.specs.Uses.{kindCount, useCountsOf, AddReply, addRefusal, logsA
 use Rattle.uses.specs.declared.AddAnswer.{AddAnswer}
 use Rattle.uses.proofs.UsesHold.{counts-long}
 use Rattle.capi.specs.Calls.{outEntries, Call, callOf, outWith, pricedCall, searchDone, searchedCall, RouteCall, routeDone, routedCall, countedCall, readDone, readCall, WriteCall, writeDone, writtenCall}
-use Rattle.capi.specs.Calls.{addDone, addCall, usesCall}
+use Rattle.capi.specs.Calls.{auditDone, auditedCall, addDone, addCall, usesCall}
 
 -- ---- numbers in `out`: stores over entries of 0
 
@@ -79,15 +83,12 @@ one-more (x ∷ []) out a b c d = refl
 one-more (x ∷ y ∷ []) out a b c d = refl
 one-more (x ∷ y ∷ z ∷ zs) out a b c d = refl
 
--- an answer's numbers, then the nodes expanded
-pub expanded-put :
-    (r : RouteAnswer) (out left : List ℕ) (n : ℕ)
-    → callOf n left ≡ callOf 1 (outWith (routeRefusal (r .outcome) (r .iteration) (r .turns)) (r .iteration ∷ r .turns ∷ r .used ∷ []) out)
-    → callOf n (set left 6 (r .expanded))
-    ≡ callOf 1 (outWith (routeRefusal (r .outcome) (r .iteration) (r .turns)) (r .iteration ∷ r .turns ∷ r .used ∷ r .expanded ∷ []) out)
-expanded-put r out left n put =
-    ap (λ (call : Call). callOf (call .returned) (set (call .out) 6 (r .expanded))) put
-    ∙ ap (callOf 1) (one-more (routeRefusal (r .outcome) (r .iteration) (r .turns)) out (r .iteration) (r .turns) (r .used) (r .expanded))
+-- an outcome's numbers with three of the call's own, then a fourth
+pub fourth-put :
+    (refusal out left : List ℕ) (n a b c d : ℕ) → callOf n left ≡ callOf 1 (outWith refusal (a ∷ b ∷ c ∷ []) out)
+    → callOf n (set left 6 d) ≡ callOf 1 (outWith refusal (a ∷ b ∷ c ∷ d ∷ []) out)
+fourth-put refusal out left n a b c d put =
+    ap (λ (call : Call). callOf (call .returned) (set (call .out) 6 d)) put ∙ ap (callOf 1) (one-more refusal out a b c d)
 
 module _ (reply : RouteReply) (further work log out : List ℕ) where
   pub route-short : length out < outEntries → routeDone (callOf 0 out) work log ≡ routedCall reply further work log out
@@ -109,6 +110,33 @@ pub plain-called :
     → done ≡ routedCall reply [] work log out
 unfolding routedCall expandedAfter
 plain-called j lent reply work log out is = is
+
+-- ---- the audit
+
+-- an outcome but that of a turn that is not cheapest has at most three numbers
+pub no-fourth :
+    (outcome : Outcome) → ((word cost least : ℕ) → outcome ≡ o.NotCheapest word cost least → ⊥) → 0 ≡ getD (routeRefusal outcome 0 0) 3 0
+no-fourth o.Accepted other = refl
+no-fourth (o.Unreachable net place) other = refl
+no-fourth o.LogFull other = refl
+no-fourth (o.Limit over) other = refl
+no-fourth (o.BadTable table) other = refl
+no-fourth (o.ShortWork needed) other = refl
+no-fourth (o.Diverges word) other = refl
+no-fourth (o.TooLarge nodes limit) other = refl
+no-fourth (o.NotCheapest word cost least) other = absurd (other word cost least refl)
+
+module _ (reply : AuditReply) (work out : List ℕ) where
+  pub audit-short : length out < outEntries → auditDone (callOf 0 out) work ≡ auditedCall reply work out
+  unfolding auditedCall
+  audit-short h = rw (lt-ltb (length out) outEntries h)
+
+  pub audit-called :
+      (left : List ℕ) (call : Call) (r : AuditAnswer) → outEntries ≤ length out → auditReplyOf r left ≡ reply
+      → call ≡ callOf 1 (outWith (routeRefusal (r .outcome) 0 0) (r .turns ∷ r .whole ∷ r .over ∷ getD (routeRefusal (r .outcome) 0 0) 3 0 ∷ []) out)
+      → auditDone call left ≡ auditedCall reply work out
+  unfolding auditedCall
+  audit-called left call r h answers put = rw (le-ltb (length out) outEntries h, ← answers, put)
 
 -- ---- the reader
 

@@ -18,6 +18,7 @@ use Rattle.job.specs.Join.{joined}
 use Rattle.negotiation.specs.Records.{Record, decode}
 use Rattle.negotiation.specs.Outcome.{RouteReply, routeReply, turnsLogged}
 use Rattle.negotiation.specs.Resume.{resumeReply}
+use Rattle.negotiation.specs.Audit.{AuditReply, auditReply}
 use Rattle.negotiation.specs.Aimed.{expandedAfter}
 use Rattle.text.specs.ReadReplies.{Tables, ReadReply, readReply}
 use Rattle.text.specs.Routes.{WriteReply, writeReply}
@@ -137,6 +138,25 @@ routeAimedCall j work log out = countedCall true j [] (routeReply j work log) wo
 -- resume_aimed: the same of a run that continues
 abbrev pub resumeAimedCall : Job → ℕ → List ℕ → List ℕ → List ℕ → RouteCall
 resumeAimedCall j used work log out = countedCall true j (decode (take used log)) (resumeReply j used work log) work log out
+
+-- audit: at 0 to 2 a refusal's numbers, or 18, word place and cost of the turn that is not cheapest; 3 turns, 4 whole iterations, 5 nodes
+-- over capacity after the last of them, 6 the least cost of that turn; with the work slice afterwards. The log is only read
+pub record AuditCall : Type 0 where
+  pub call : Call
+  pub work : List ℕ
+
+abbrev pub auditDone : Call → List ℕ → AuditCall
+auditDone call work = record { call = call; work = work }
+
+abbrev pub auditCallWith : AuditReply → List ℕ → AuditCall
+auditCallWith r out =
+    auditDone (callOf 1 (outWith (r .told) (r .turns ∷ r .whole ∷ r .over ∷ getD (r .told) 3 0 ∷ []) out)) (r .work)
+
+unfoldable pub auditedCall : AuditReply → (work out : List ℕ) → AuditCall
+auditedCall reply work out = choose (ltb (length out) outEntries) (auditDone (callOf 0 out) work) (auditCallWith reply out)
+
+abbrev pub auditCall : Job → ℕ → List ℕ → List ℕ → List ℕ → AuditCall
+auditCall j used work log out = auditedCall (auditReply j used work log) work out
 
 -- read: 3 nodes, 4 edges, 5 nets, 6 sinks, 7 limit, 8 first, 9 up, 10 down, 11 step, 12 rule, 13 k, 14 timed
 pub record ReadCall : Type 0 where

@@ -11,6 +11,7 @@ ghost use Rattle.negotiation.specs.Resume.{resumeReply};
 ghost use Rattle.text.specs.ReadReplies.{tablesOf};
 ghost use Rattle.capi.specs.Calls.{callOf, priceCall, timedPriceCall, searchDone, searchCall, timedSearchCall};
 ghost use Rattle.capi.specs.Calls.{termsOf, routeDone, routeCall, resumeCall, countedCall, routeAimedCall, resumeAimedCall};
+ghost use Rattle.capi.specs.Calls.{auditDone, auditCall};
 ghost use Rattle.capi.specs.Calls.{readDone, readCall, writeDone, writtenCall, writeCall, dotCall};
 ghost use Rattle.capi.specs.Calls.{addDone, addCall, usesCall};
 ghost use Rattle.text.specs.Dot.{styleReply};
@@ -440,6 +441,53 @@ pub extern "C" fn arvumnao_resume_aimed(
         log,
         out,
     )
+}
+
+// Audits the words used of a log, whoever wrote it; the log is only read.
+#[no_mangle]
+pub extern "C" fn arvumnao_audit(
+    kind: &[u8],
+    capacity: &[u8],
+    first_edge: &[u32],
+    edge_target: &[u16],
+    source: &[u16],
+    first_sink: &[u32],
+    sink: &[u16],
+    delay: &[u16],
+    criticality: &[u8],
+    terms: &[u32],
+    used: u64,
+    work: &mut [u64],
+    log: &[u32],
+    out: &mut [u64],
+) -> u32
+    ensures { λ r. do
+      let job = jobOf (now (kind .entry)) (now (capacity .entry)) (now («first_edge» .entry)) (now («edge_target» .entry))
+          (now (source .entry)) (now («first_sink» .entry)) (now (sink .entry)) (now (delay .entry)) (now (criticality .entry))
+          (termsOf (now (terms .entry)))
+      ⌜ auditDone (callOf r (now (out .exit))) (now (work .exit))
+          ≡ auditCall job used (now (work .entry)) (now (log .entry)) (now (out .entry)) ⌝ }
+{
+    if out.len() < OUT_ENTRIES {
+        return 0;
+    }
+    let asked = terms_of(terms);
+    let r = negotiation::audit(
+        kind,
+        capacity,
+        first_edge,
+        edge_target,
+        source,
+        first_sink,
+        sink,
+        delay,
+        criticality,
+        asked,
+        used,
+        work,
+        log,
+    );
+    out::put_audit(r, out)
 }
 
 // Reads a job text into the seven tables, and into tables 9 and 10 if it is timed.

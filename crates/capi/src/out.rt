@@ -2,7 +2,7 @@
 ghost use mathlib.Core.List.{[], _∷_, _++_};
 ghost use mathlib.Core.Path.{_≡_};
 ghost use Prim.Native.Nat.{_≤_};
-ghost use lib.ListN.{length, drop, replicate};
+ghost use lib.ListN.{length, getD, drop, replicate};
 ghost use Rattle.price.specs.Test.{choose};
 ghost use Rattle.price.specs.Replies.{priceReplyOf};
 ghost use Rattle.search.specs.Replies.{searchRefusal};
@@ -12,6 +12,7 @@ ghost use Rattle.text.specs.Routes.{writeRefusal, writtenBytes};
 ghost use Rattle.uses.specs.Uses.{addRefusal, logsAfter, printRefusal, printedBytes};
 ghost use Rattle.capi.specs.Calls.{outEntries, callOf, outWith};
 use job::Terms;
+use negotiation::AuditAnswer;
 use negotiation::Outcome;
 use negotiation::RouteAnswer;
 use price::PriceAnswer;
@@ -80,31 +81,35 @@ pub fn put_search(answer: SearchAnswer, out: &mut [u64]) -> u32
     }
 }
 
-// Writes the numbers of a routing but for the nodes expanded.
-fn put_outcome(r: RouteAnswer, out: &mut [u64]) -> u32
+// Writes the numbers of an outcome, of a run in this iteration after so many turns, and three of the call's own.
+fn put_outcome(
+    outcome: Outcome,
+    iteration: u64,
+    turns: u64,
+    a: u64,
+    b: u64,
+    c: u64,
+    out: &mut [u64],
+) -> u32
     requires { ⌜ outEntries ≤ length (now out) ⌝ }
     ensures { λ n. do
-      let refusal = routeRefusal (r .outcome) (r .iteration) (r .turns)
-      let after = outWith refusal (r .iteration ∷ r .turns ∷ r .used ∷ []) (now (out .entry))
+      let after = outWith (routeRefusal outcome iteration turns) (a ∷ b ∷ c ∷ []) (now (out .entry))
       ⌜ callOf n (now (out .exit)) ≡ callOf 1 after ⌝ }
 {
-    let i = r.iteration as u64;
-    let turns = r.turns;
-    let used = r.used;
-    let outcome = r.outcome;
     match outcome {
-        Outcome::Accepted => put_numbers(out, 0, 0, 0, i, turns, used),
+        Outcome::Accepted => put_numbers(out, 0, 0, 0, a, b, c),
         Outcome::Unreachable { net, place } => {
-            put_numbers(out, 7, net as u64, place as u64, i, turns, used)
+            put_numbers(out, 7, net as u64, place as u64, a, b, c)
         }
-        Outcome::LogFull => put_numbers(out, 8, i, turns, i, turns, used),
-        Outcome::Limit(over) => put_numbers(out, 9, i, over as u64, i, turns, used),
-        Outcome::BadTable(table) => put_numbers(out, 5, table as u64, 0, i, turns, used),
-        Outcome::ShortWork(needed) => put_numbers(out, 6, needed, 0, i, turns, used),
-        Outcome::Diverges(word) => put_numbers(out, 14, word, 0, i, turns, used),
+        Outcome::LogFull => put_numbers(out, 8, iteration, turns, a, b, c),
+        Outcome::Limit(over) => put_numbers(out, 9, iteration, over as u64, a, b, c),
+        Outcome::BadTable(table) => put_numbers(out, 5, table as u64, 0, a, b, c),
+        Outcome::ShortWork(needed) => put_numbers(out, 6, needed, 0, a, b, c),
+        Outcome::Diverges(word) => put_numbers(out, 14, word, 0, a, b, c),
         Outcome::TooLarge { nodes, limit } => {
-            put_numbers(out, 15, nodes as u64, limit as u64, i, turns, used)
+            put_numbers(out, 15, nodes as u64, limit as u64, a, b, c)
         }
+        Outcome::NotCheapest { word, cost, least } => put_numbers(out, 18, word, cost, a, b, c),
     }
 }
 
@@ -116,8 +121,36 @@ pub fn put_routed(r: RouteAnswer, out: &mut [u64]) -> u32
       let after = outWith refusal (r .iteration ∷ r .turns ∷ r .used ∷ r .expanded ∷ []) (now (out .entry))
       ⌜ callOf n (now (out .exit)) ≡ callOf 1 after ⌝ }
 {
-    let written = put_outcome(r, out);
+    let outcome = r.outcome;
+    let i = r.iteration as u64;
+    let turns = r.turns;
+    let written = put_outcome(outcome, i, turns, i, turns, r.used, out);
     out[6] = r.expanded;
+    written
+}
+
+// The least cost of a turn that is not cheapest, 0 where the outcome is another.
+fn least_of(outcome: Outcome) -> u64
+    ensures { λ r. ⌜ r ≡ getD (routeRefusal outcome 0 0) 3 0 ⌝ }
+{
+    match outcome {
+        Outcome::NotCheapest { word, cost, least } => least,
+        _ => 0,
+    }
+}
+
+// Writes the numbers of an audit.
+pub fn put_audit(r: AuditAnswer, out: &mut [u64]) -> u32
+    requires { ⌜ outEntries ≤ length (now out) ⌝ }
+    ensures { λ n. do
+      let told = routeRefusal (r .outcome) 0 0
+      let after = outWith told (r .turns ∷ r .whole ∷ r .over ∷ getD told 3 0 ∷ []) (now (out .entry))
+      ⌜ callOf n (now (out .exit)) ≡ callOf 1 after ⌝ }
+{
+    let outcome = r.outcome;
+    let least = least_of(outcome);
+    let written = put_outcome(outcome, 0, 0, r.turns, r.whole as u64, r.over as u64, out);
+    out[6] = least;
     written
 }
 

@@ -3,7 +3,7 @@
 use mathlib.Core.Bool.{Bool, true, false}
 use mathlib.Core.List.{List, [], _∷_}
 use mathlib.Core.Path.{_≡_, refl, sym, _∙_, ap, subst}
-use Prim.Native.Nat.{ℕ, _+_, _≤_, _<_, zero-le}
+use Prim.Native.Nat.{ℕ, _+_, _-_, _≤_, _<_, zero-le}
 use native.Mathlib.Omega.{arith}
 use lib.Dec.{leb, ltb, eqb}
 use lib.ListN.{length, getD, take, drop, length-append}
@@ -19,12 +19,12 @@ use Rattle.job.specs.Tables.{netsMost, faultyJob, exceeds, SoundJob}
 use Rattle.job.specs.Job.{Job, jobOf, ifTimed, nodes, nets}
 use Rattle.job.specs.Join.{joined}
 use Rattle.negotiation.specs.Records.{Record, encode}
-use Rattle.negotiation.specs.Machine.{Progress}
-use Rattle.negotiation.specs.Outcome.{RouteReply, routeRefusal, routeReplyOf, logWith, firstProgress, loggedRecords, allRecords, unreachableNet, continued, routeReply}
+use Rattle.negotiation.specs.Machine.{Progress, settlesAt}
+use Rattle.negotiation.specs.Outcome.{RouteReply, routeRefusal, routeReplyOf, logWith, firstProgress, madeFrom, loggedRecords, allRecords, endNumbers, unreachableNet, continued, routeReply}
 use Rattle.negotiation.specs.declared.RouteAnswer.{RouteAnswer}
 use Rattle.job.specs.declared.Terms.{Terms}
 use Rattle.negotiation.specs.declared.Outcome.{Outcome}
-use Rattle.negotiation.specs.declared.Outcome.the-variants.{Accepted}
+use Rattle.negotiation.specs.declared.Outcome.the-variants.{Accepted, NotCheapest}
 use Rattle.negotiation.specs.Routable.{Routable}
 use Rattle.negotiation.proofs.RoutableLaws.{routable-of}
 use Rattle.job.proofs.JobLaws as job
@@ -75,9 +75,45 @@ used-fits j work log =
     (λ v. rw (t, x, u, v) zero-le)
     (λ v. rw (t, x, u, v) (run-fits (joined j) (firstProgress (joined j)) work log)))))
 
+-- the router's numbers are refusals, all of them below an audit's 18
+run-refusals : (j : Job) (p : Progress) (work log : List ℕ) → getD (continued j p work log .refusal) 0 0 ≤ 15
+unfolding continued endNumbers
+run-refusals j p work log =
+    by-test (ltb (length (loggedRecords j p (length log))) (length (allRecords j p)))
+    (λ w. rw w (omega arith))
+    (λ w.
+    by-test (settlesAt j (p .state) (madeFrom j (p .state) - 1))
+    (λ e. rw (w, e) zero-le)
+    (λ e. rw (w, e) (omega arith)))
+
+refusals : (j : Job) (work log : List ℕ) → getD (routeReply j work log .refusal) 0 0 ≤ 15
+unfolding routeReply
+refusals j work log =
+    by-test (leb 1 (faultyJob j))
+    (λ t. rw t (omega arith))
+    (λ t.
+    by-test (exceeds (nodes j) (j .terms))
+    (λ x. rw (t, x) (omega arith))
+    (λ x.
+    by-test (ltb (length work) (workNeeded (nodes j)))
+    (λ u. rw (t, x, u) (omega arith))
+    (λ u.
+    by-test (ltb (unreachableNet (joined j)) (nets j))
+    (λ v. rw (t, x, u, v) (omega arith))
+    (λ v. rw (t, x, u, v) (run-refusals (joined j) (firstProgress (joined j)) work log)))))
+
 module _ (j : Job) (work log : List ℕ) (r : RouteAnswer) (work′ log′ : List ℕ) (is : routeReplyOf r work′ log′ ≡ routeReply j work log) where
   pub words-fit : r .used ≤ length log′
   words-fit = subst (λ (x : RouteReply). x .used ≤ length (x .log)) (sym is) (used-fits j work log)
+
+  -- no run is an audit
+  pub never-found : {word cost least : ℕ} → r .outcome ≡ NotCheapest word cost least → ⊥
+  never-found {word} {cost} {least} out =
+      let few : getD (routeRefusal (r .outcome) (r .iteration) (r .turns)) 0 0 ≤ 15 =
+      subst (λ (x : RouteReply). getD (x .refusal) 0 0 ≤ 15) (sym is) (refusals j work log) in
+      let told : getD (routeRefusal (NotCheapest word cost least) (r .iteration) (r .turns)) 0 0 ≤ 15 =
+      subst (λ (o : Outcome). getD (routeRefusal o (r .iteration) (r .turns)) 0 0 ≤ 15) out few in
+      omega arith
 
   -- an accepted job's routes are written
   pub run-accepted :

@@ -161,6 +161,12 @@ fn route_job(
             first: nodes as u64,
             second: limit as u64,
         },
+        // Nor is it an audit.
+        Outcome::NotCheapest { word, cost, least } => RunAnswer::Two {
+            number: 18,
+            first: word,
+            second: cost,
+        },
     }
 }
 

@@ -18,7 +18,7 @@ use Rattle.job.specs.Job.{Job, nodes, nets}
 use Rattle.job.specs.Tables.{faultyJob, exceeds, SoundJob}
 use Rattle.negotiation.specs.Records.{Record, encode}
 use Rattle.negotiation.specs.Machine.{State, Progress, recordsAfter, settlesAt}
-use Rattle.negotiation.specs.Outcome.{RouteReply, wordsUsed, turnsLogged, refusedReply, unreachableNet, unreachablePlace, iterationsMade, firstProgress, iterationsLeft, madeFrom, allRecords, loggedRecords, endNumbers, continued, negotiated, tested, routeReply}
+use Rattle.negotiation.specs.Outcome.{RouteReply, wordsUsed, turnsLogged, refusedReply, unreachableNet, unreachablePlace, iterationsMade, firstProgress, iterationsLeft, madeFrom, allRecords, loggedRecords, endNumbers, continued, negotiated, testedBy, tested, routeReply}
 use Rattle.negotiation.specs.Unreachable.{AllReachable}
 use Rattle.negotiation.specs.Demand.{TurnHolds, FinalTrees, Demand3, CostsFit}
 use Rattle.negotiation.specs.Resumed.{takenUp}
@@ -126,11 +126,11 @@ module _ (j : Job) (work log : List ℕ) (r : RouteReply) (h : Facts j [] r) whe
 -- from where whole iterations lead, below the limit
 module _ (j : Job) (sound : Routable j) (all : Reached j) {m : ℕ} {rs : List Record} {s : State} (r : Ran j m rs s) (below : m < j .terms .limit) where
   -- it makes one at least, and no more than the limit leaves
-  made-some : 1 ≤ madeFrom j s
+  pub made-some : 1 ≤ madeFrom j s
   unfolding iterationsLeft
   made-some = let t = ran-iteration j r in some-made j s (iterationsLeft j s) (omega arith)
 
-  made-few : m + madeFrom j s ≤ j .terms .limit
+  pub made-few : m + madeFrom j s ≤ j .terms .limit
   unfolding iterationsLeft
   made-few =
       let t = ran-iteration j r in
@@ -179,32 +179,39 @@ module _ (j : Job) (sound : Routable j) (all : Reached j) (m : ℕ) (p : Progres
 
 -- ---- each case of the reply
 
+-- what holds of every refusal before a run, and of a run of a sound job whose sinks have paths, holds of what a call comes to
+pub by-tests :
+    {R : Type 0} (refuse : List ℕ → List ℕ → R) (j : Job) (work : List ℕ) (P : (R → R) → Type 0)
+    → ((number : ℕ) (numbers left : List ℕ) → number ≤ 15 → takenUp (number ∷ numbers) ≡ false → (AllReachable (joined j) → number ≡ 7 → ⊥) → P (λ _. refuse (number ∷ numbers) left))
+    → (Routable (joined j) → Reached (joined j) → P (λ run. run)) → P (λ run. testedBy refuse j work run)
+unfolding takenUp
+by-tests refuse j work P refused runs =
+    by-test (leb 1 (faultyJob j))
+    (λ t. rw t (refused 5 (faultyJob j ∷ []) work (omega arith) refl (λ _ z. omega arith)))
+    (λ t.
+    let none : faultyJob j < 1 = leb-false 1 (faultyJob j) t in
+    let sound : SoundJob j = sound-job j (omega arith) in
+    by-test (exceeds (nodes j) (j .terms))
+    (λ x. rw (t, x) (refused 15 (nodes j ∷ j .terms .limit ∷ []) work (omega arith) refl (λ _ z. omega arith)))
+    (λ x.
+    by-test (ltb (length work) (workNeeded (nodes j)))
+    (λ u. rw (t, x, u) (refused 6 (workNeeded (nodes j) ∷ []) work (omega arith) refl (λ _ z. omega arith)))
+    (λ u.
+    by-test (ltb (unreachableNet (joined j)) (nets j))
+    (λ v.
+    rw (t, x, u, v)
+    (refused 7 (unreachableNet (joined j) ∷ unreachablePlace (joined j) ∷ []) (cleared (nodes j) [] work) (omega arith) refl
+    (λ all _. none-unreachable (joined j) (joined-routable j sound x) all (ltb-true _ _ v))))
+    (λ v.
+    rw (t, x, u, v) (runs (joined-routable j sound x) (all-reached (joined j) (ltb-false _ _ v)))))))
+
 module _ (j : Job) (work log : List ℕ) where
-  -- what holds of every refusal before a run, and of a run of a sound job whose sinks have paths, holds of the reply
   pub tested-case :
       (P : (RouteReply → RouteReply) → Type 0)
       → ((number : ℕ) (numbers left : List ℕ) → takenUp (number ∷ numbers) ≡ false → (AllReachable (joined j) → number ≡ 7 → ⊥) → P (λ _. refusedReply (number ∷ numbers) left log))
       → (Routable (joined j) → Reached (joined j) → P (λ run. run)) → P (λ run. tested j work log run)
-  unfolding takenUp
   tested-case P refused runs =
-      by-test (leb 1 (faultyJob j))
-      (λ t. rw t (refused 5 (faultyJob j ∷ []) work refl (λ _ z. omega arith)))
-      (λ t.
-      let none : faultyJob j < 1 = leb-false 1 (faultyJob j) t in
-      let sound : SoundJob j = sound-job j (omega arith) in
-      by-test (exceeds (nodes j) (j .terms))
-      (λ x. rw (t, x) (refused 15 (nodes j ∷ j .terms .limit ∷ []) work refl (λ _ z. omega arith)))
-      (λ x.
-      by-test (ltb (length work) (workNeeded (nodes j)))
-      (λ u. rw (t, x, u) (refused 6 (workNeeded (nodes j) ∷ []) work refl (λ _ z. omega arith)))
-      (λ u.
-      by-test (ltb (unreachableNet (joined j)) (nets j))
-      (λ v.
-      rw (t, x, u, v)
-      (refused 7 (unreachableNet (joined j) ∷ unreachablePlace (joined j) ∷ []) (cleared (nodes j) [] work) refl
-      (λ all _. none-unreachable (joined j) (joined-routable j sound x) all (ltb-true _ _ v))))
-      (λ v.
-      rw (t, x, u, v) (runs (joined-routable j sound x) (all-reached (joined j) (ltb-false _ _ v)))))))
+      by-tests (λ numbers left. refusedReply numbers left log) j work P (λ number numbers left few before reached. refused number numbers left before reached) runs
 
   -- a refusal before any turn leaves no record
   pub refused-facts :

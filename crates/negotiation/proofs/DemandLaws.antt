@@ -322,23 +322,26 @@ module _ (j : Job) (sound : Routable j) {earlier : List Record} {t : Record} (at
 
 -- ---- the final trees
 
--- where an iteration settles, no node has more users than its capacity
-settled-within :
-    (j : Job) (s : State) (m : ℕ) → settlesAt j s m ≡ true → (v : ℕ) → v < nodes j
-    → usersOf j (iterationAfter j s m .state .trees) v ≤ getD (j .block .capacities) v 0
-unfolding settlesAt overCount overfull
-settled-within j s m e v h =
-    ltb-false _ _ (count-none (λ v. ltb (getD (j .block .capacities) v 0) (usersOf j (iterationAfter j s m .state .trees) v)) (nodes j) (eqb-true _ _ e) v h)
+-- where nothing is over capacity, no node has more users than its capacity
+none-over :
+    (j : Job) (trees : List (List ℕ)) → overCount j trees ≡ 0 → (v : ℕ) → v < nodes j → usersOf j trees v ≤ getD (j .block .capacities) v 0
+unfolding overCount overfull
+none-over j trees e v h = ltb-false _ _ (count-none (λ v. ltb (getD (j .block .capacities) v 0) (usersOf j trees v)) (nodes j) e v h)
+
+-- the trees after whole iterations, whoever made the turns
+pub final-of : (j : Job) → Routable j → {m : ℕ} {rs : List Record} {s : State} → Ran j m rs s → 1 ≤ m → overCount j (s .trees) ≡ 0 → FinalTrees j rs
+final-of j sound {s = s} ran some none =
+    record {
+      no-sink-missed = λ i x h l. ran-done j (sound .until-some) ran some i h .joined x l;
+      none-twice = λ i h. ran-done j (sound .until-some) ran some i h .once;
+      within-capacity = λ v h. rw (ran-users j ran v) (none-over j (s .trees) none v h);
+    }
 
 -- the trees after an iteration of the machine's that settles, whatever run leads there
 pub final-trees-hold :
     (j : Job) → Routable j → Reached j → {m : ℕ} {rs : List Record} {s : State} → Ran j m rs s → (k : ℕ) → m + k < j .terms .limit
     → settlesAt j s k ≡ true → FinalTrees j (rs ++ recordsAfter j s (suc k))
-unfolding stateAfter moveOn
+unfolding stateAfter moveOn settlesAt
 final-trees-hold j sound all {m} {rs} {s} r k few settled =
     let ran : Ran j (m + suc k) (rs ++ recordsAfter j s (suc k)) (stateAfter j s (suc k)) = machine-ran j sound all r (suc k) (omega arith) in
-    record {
-      no-sink-missed = λ i x h l. ran-done j (sound .until-some) ran (omega arith) i h .joined x l;
-      none-twice = λ i h. ran-done j (sound .until-some) ran (omega arith) i h .once;
-      within-capacity = λ v h. rw (ran-users j ran v) (settled-within j s k settled v h);
-    }
+    final-of j sound ran (omega arith) (eqb-true _ _ settled)

@@ -162,6 +162,14 @@ cleared-same n work₀ work same =
     let none : 8 * n - 0 ≡ 8 * n = omega arith in
     rw (none, drop-same (8 * n) work₀ work (same .long) (same .high))
 
+-- a work slice that is the same behind its first entries is cleared to the same, so a run goes on from it to the same reply
+pub left-same : (j : Job) (work w : List ℕ) → SameFrom (8 * nodes j) work w → cleared (nodes j) [] w ≡ cleared (nodes j) [] work
+left-same j work w kept = sym (cleared-same (nodes j) w w (record { long = refl; high = λ k l. refl })) ∙ cleared-same (nodes j) work w kept
+
+pub continued-same : (j : Job) (p : Progress) (work w log : List ℕ) → SameFrom (8 * nodes j) work w → continued j p w log ≡ continued j p work log
+unfolding continued
+continued-same j p work w log kept = rw (left-same j work w kept)
+
 -- an answer is a run's reply where its numbers, the work slice and the log are
 pub reply-same : (j : Job) (r : RouteAnswer) (iteration : ℕ) (numbers : List ℕ) (rs : List Record) (work₀ work log₀ log : List ℕ)
     → routeRefusal (r .outcome) (r .iteration) (r .turns) ≡ numbers → r .iteration ≡ iteration → r .turns ≡ length rs → r .used ≡ length (encode rs)

@@ -17,7 +17,7 @@ use Rattle.price.specs.Test.{choose}
 use Rattle.price.specs.Timed.{weighed, historyBound}
 use Rattle.price.specs.declared.Weighting.{Weighting}
 use Rattle.price.proofs.TestLaws.{by-test, le-or-lt, both-true, one-most}
-use Rattle.price.proofs.ListLaws.{every-all}
+use Rattle.price.proofs.ListLaws.{every-all, length-upTo, getD-upTo}
 use Rattle.search.specs.Block.{Block}
 use Rattle.search.specs.Distance.{inTree}
 use Rattle.search.specs.Tables.{delaysSound}
@@ -35,7 +35,7 @@ use Rattle.negotiation.specs.Routable.{Routable}
 use Rattle.negotiation.specs.Records.{Record, recordOf}
 use Rattle.negotiation.specs.Machine.{State, Progress, othersOf, marksOf, congestionFor, turnOf, turnsOf, treeFrom}
 use Rattle.negotiation.specs.Outcome.{iterationsLeft}
-use Rattle.negotiation.specs.Steps.{SameFrom, turnCount, CanTurn, Skipped, Overflows, TurnLogged, TurnDone}
+use Rattle.negotiation.specs.Steps.{SameFrom, TurnReady, turnCount, CanTurn, Skipped, Overflows, TurnLogged, TurnDone}
 use Rattle.negotiation.specs.Kept.{Tallied}
 use Rattle.negotiation.specs.declared.tariff.Tariff.{Tariff}
 use Rattle.negotiation.specs.declared.turns.TurnMade.{TurnMade}
@@ -47,7 +47,7 @@ use Rattle.negotiation.proofs.RoutableLaws.{sinks-searched}
 use Rattle.negotiation.proofs.RecordLaws.{records-few}
 use Rattle.negotiation.proofs.NetLaws.{StateReady, state-ready, weighed-bounds, tree-more}
 use Rattle.negotiation.proofs.KeepLaws.{startOf, reached, Under, AtTurn, AtIdle, AtTurns}
-use Rattle.negotiation.proofs.KeepProgress.{others-below, others-at, others-long, tree-at, tree-long, opened-more}
+use Rattle.negotiation.proofs.KeepProgress.{marks-length, others-below, tree-long, opened-more}
 use Rattle.negotiation.proofs.TurnStepLaws.{node-sound, mark-at, turns-stuck, turns-more, log-length, tallied-more}
 
 -- ---- the turn that the code makes is the machine's
@@ -91,7 +91,7 @@ due-short joined sinks cs =
 
 module _ (j : Job) (sound : Routable j) (i : ℕ) (hi : i < nets j) (tree : List ℕ) where
   -- the search takes the sinks that a turn tries
-  turn-searched : sinkListSound (nodes j) (turnSinks j i tree) ≡ true
+  pub turn-searched : sinkListSound (nodes j) (turnSinks j i tree) ≡ true
   turn-searched =
       let few : length (turnSinks j i tree) ≤ sinksMost =
       by-test (j .terms .timed)
@@ -153,7 +153,7 @@ module _ (j : Job) (sound : Routable j) (i : ℕ) (hi : i < nets j) (tree : List
         ∙ ap (λ (x : Weighting). priceAt (j .block) (weighedCongestion x (j .delays) factor histories others)) weighting-is
 
     -- a turn by the same numbers
-    same-turn :
+    pub same-turn :
         (s : State) (t : Tariff) (histories others : List ℕ) → t .factor ≡ s .factor → histories ≡ s .histories → others ≡ upTo (othersOf j (s .trees) i) (nodes j)
         → turnBy j i marks cs delays t histories others ≡ turnOf j (congestionFor j s i) i tree
     unfolding turnOf congestionFor turnCongestion
@@ -178,6 +178,36 @@ module _ (j : Job) (sound : Routable j) (i : ℕ) (hi : i < nets j) (tree : List
               (both-true (eq-eqb (length (j .delays)) (nodes j) (timing .delays-long))
               (every-all (λ d. leb d delayMost) (j .delays) (λ v l. le-leb (getD (j .delays) v 0) delayMost (timing .delay-most v (rw (timing .delays-long) at l)))));
           criticality-most = subst (λ (x : Weighting). x .criticality ≤ criticalityMost) (sym weighting-is) (criticality-low j sound i hi w tree);
+        }
+
+    -- nothing is refused
+    pub turn-ready :
+        (s : State) → StateReady j s → (t : Tariff) (history users : List ℕ) → t .factor ≡ s .factor → history ≡ s .histories
+        → users ≡ upTo (othersOf j (s .trees) i) (nodes j) → {work : List ℕ} → 8 * nodes j ≤ length work
+        → TurnReady (j .block) (pricesBy j i marks cs delays t history users) marks work
+    turn-ready s state t history users factor-is history-is users-is enough =
+        let history-long : length history ≡ nodes j = ap length history-is ∙ state .long in
+        let users-long : length users ≡ nodes j = ap length users-is ∙ length-upTo (othersOf j (s .trees) i) (nodes j) in
+        let marks-long : length marks ≡ nodes j = ap length marked ∙ marks-length j tree in
+        record {
+          sound = sound .block-sound;
+          enough = enough;
+          numbers =
+              λ v h.
+              let is : getD history v 0 ≡ getD (s .histories) v 0 = ap (λ (l : List ℕ). getD l v 0) history-is in
+              let least = state .history-least v h in
+              let bound : getD (s .histories) v 0 ≤ historyBound (weightingBy j i marks cs) =
+              subst (λ (x : Weighting). getD (s .histories) v 0 ≤ historyBound x) (sym weighting-is) (weighed-bounds j sound s state i hi tree v h .history-bound) in
+              let most : getD history v 0 ≤ historyBound (weightingBy j i marks cs) = rw is bound in
+              let others : getD users v 0 ≡ othersOf j (s .trees) i v =
+              ap (λ (l : List ℕ). getD l v 0) users-is ∙ getD-upTo (othersOf j (s .trees) i) (nodes j) v 0 h in
+              let few = others-below j sound (s .trees) i v hi in
+              let mark : getD marks v 0 ≡ choose (has v tree) 1 0 = ap (λ (l : List ℕ). getD l v 0) marked ∙ mark-at j tree v h in
+              let one = one-most (has v tree) in
+              node-sound (pricesBy j i marks cs delays t history users) marks v
+              (omega arith) (omega arith) most (omega arith) (omega arith) (omega arith) (omega arith);
+          factor-most = rw factor-is (state .factor-most);
+          weighable = λ w. weighable (t .factor) history users (sym timed-is ∙ w);
         }
 
 -- work memory past what a turn uses stays
@@ -218,33 +248,12 @@ module _ (j : Job) (sound : Routable j) {p : Progress} {work₀ log₀ : List �
     -- nothing is refused
     pub keep-can : t .expanded + nodes j < 2 ^ 64 → CanTurn (j .block) (pricesBy j i marks cs delays t history users) t (triedBy j i marks cs) marks work log
     keep-can few-expanded =
-        let history-long : length history ≡ nodes j = ap length (at .opened .history-is) ∙ state .long in
-        let users-long = others-long j (at .opened) in
-        let marks-long = tree-long j (at .opened) in
         let marked = at .opened .marks-is in
         record {
           ready =
-              record {
-                sound = sound .block-sound;
-                enough = let same = at .work-same .long in omega arith;
-                numbers =
-                    λ v h.
-                    let is : getD history v 0 ≡ getD (here .histories) v 0 = ap (λ (l : List ℕ). getD l v 0) (at .opened .history-is) in
-                    let least = state .history-least v h in
-                    let bound : getD (here .histories) v 0 ≤ historyBound (weightingBy j i marks cs) =
-                    subst (λ (x : Weighting). getD (here .histories) v 0 ≤ historyBound x) (sym (weighting-is j sound i (at .net) tree lent marked))
-                    (weighed-bounds j sound here state i (at .net) tree v h .history-bound) in
-                    let most : getD history v 0 ≤ historyBound (weightingBy j i marks cs) = rw is bound in
-                    let others = others-at j (at .opened) v h in
-                    let few = others-below j sound (here .trees) i v (at .net) in
-                    let mark = tree-at j (at .opened) v h in
-                    let one = one-most (has v tree) in
-                    node-sound (pricesBy j i marks cs delays t history users) marks v
-                    (omega arith) (omega arith) most (omega arith) (omega arith) (omega arith) (omega arith);
-                factor-most = rw factor-same (state .factor-most);
-                weighable = λ w. weighable j sound i (at .net) tree lent marked (t .factor) history users (sym (timed-is j sound i (at .net) tree lent marked) ∙ w);
-              };
-          marks-long = marks-long;
+              turn-ready j sound i (at .net) tree lent marked here state t history users factor-same (at .opened .history-is) (at .opened .users-is)
+              (let same = at .work-same .long in omega arith);
+          marks-long = tree-long j (at .opened);
           sinks-sound =
               subst (λ (l : List ℕ). sinkListSound (nodes j) l ≡ true) (sym (tried-is j sound i (at .net) tree lent marked)) (turn-searched j sound i (at .net) tree);
           within = words-within;

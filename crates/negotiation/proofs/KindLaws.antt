@@ -19,7 +19,7 @@ use Rattle.negotiation.specs.Records.{Record}
 use Rattle.negotiation.specs.Order.{turnSinks, turnWeighting, turnCongestion}
 use Rattle.negotiation.specs.Machine.{State, Progress, othersOf, usersOf, marksOf, congestionFor, turnOf, logTurn, turnsOf, netRecords, treeFrom, hasSinks, allDue, crowded, due, routeIf, afterNets, iterate, overfull, overCount, moveOn, firstState, stateAfter, recordsAfter, settlesAt}
 use Rattle.negotiation.specs.Outcome.{RouteReply, hasPath, unreachableNet, unreachablePlace, iterationsMade, iterationsLeft, madeFrom, firstProgress, allRecords, loggedRecords, cutIteration, endNumbers, continued, reachedReply}
-use Rattle.negotiation.specs.Resume.{pathFollows, recordPath, recordIn, turnPrice, turnFollows, allJoined, Replay, on, off, ifOn, after, replayTurns, replayNets, replayNext, replayFrom, replay, resumedReply}
+use Rattle.negotiation.specs.Resume.{pathFollows, recordPath, recordIn, turnPrice, turnFollows, allJoined, leastCost, Replay, on, off, ends, notCheapest, ifOn, sinceStart, after, replayTurns, replayNets, replayNext, replayFrom, replayBy, replay, resumedReply}
 use Rattle.negotiation.specs.OlderJobs.{SameCosts, withKinds}
 
 -- ---- prices
@@ -248,46 +248,61 @@ module _ (j : Job) (ks : List ℕ) (same : SameCosts (j .block .kinds) ks) where
   unfolding turnFollows
   test-same s i tree ws = rw (follows-same i tree (getD ws 2 0) (recordPath ws), turn-price s i tree)
 
-  lent-same : (ws : List ℕ) (i : ℕ) (p : Progress) (n : ℕ) (made : List Record) → replayTurns k ws i p n made ≡ replayTurns j ws i p n made
+  least-same : (s : State) (i : ℕ) (tree : List ℕ) → leastCost k s i tree ≡ leastCost j s i tree
+  unfolding leastCost
+  least-same s i tree = rw (congestion-same j ks len s i, made-same (congestionFor j s i) i tree)
+
+  lent-same : (audit : Bool) (ws : List ℕ) (i : ℕ) (p : Progress) (n : ℕ) (made : List Record) → replayTurns audit k ws i p n made ≡ replayTurns audit j ws i p n made
   unfolding replayTurns allJoined netSinks
-  lent-same ws i p zero made = refl
-  lent-same ws i p (suc n) made =
+  lent-same audit ws i p zero made = refl
+  lent-same audit ws i p (suc n) made =
       let tree : List ℕ = treeFrom j i made in
       let here : List ℕ = after ws (p .records ++ made) in
-      rw (test-same (p .state) i tree here, turn-price (p .state) i tree, lent-same ws i p n (made ++ (recordIn (turnPrice j (p .state) i tree) here ∷ [])))
+      rw (
+        test-same (p .state) i tree here,
+        turn-price (p .state) i tree,
+        least-same (p .state) i tree,
+        lent-same audit ws i p n (made ++ (recordIn (turnPrice j (p .state) i tree) here ∷ [])),
+      )
 
   on-same : (a : Replay) (f g : Progress → Replay) → ((p : Progress) → f p ≡ g p) → ifOn a f ≡ ifOn a g
   on-same (on p) f g e = e p
   on-same (off word) f g e = refl
+  on-same (ends p) f g e = refl
+  on-same (notCheapest p cost least) f g e = refl
 
-  lent-nets : (ws : List ℕ) (s : State) (rs : List Record) (i : ℕ) → replayNets k ws s rs i ≡ replayNets j ws s rs i
+  lent-nets : (audit : Bool) (ws : List ℕ) (s : State) (rs : List Record) (i : ℕ) → replayNets audit k ws s rs i ≡ replayNets audit j ws s rs i
   unfolding replayNets netSinks
-  lent-nets ws s rs zero = refl
-  lent-nets ws s rs (suc i) =
-      rw (lent-nets ws s rs i)
-      (on-same (replayNets j ws s rs i) _ _ (λ p. rw (due-same j ks len s i, lent-same ws i p (length (netSinks j i)) [])))
+  lent-nets audit ws s rs zero = refl
+  lent-nets audit ws s rs (suc i) =
+      rw (lent-nets audit ws s rs i)
+      (on-same (replayNets audit j ws s rs i) _ _ (λ p. rw (due-same j ks len s i, lent-same audit ws i p (length (netSinks j i)) [])))
 
   lent-next :
-      (ws : List ℕ) (p : Progress) (f g : State → List Record → Replay) → ((s : State) (rs : List Record) → f s rs ≡ g s rs) → replayNext k ws p f ≡ replayNext j ws p g
-  lent-next ws p f g e = rw (over-same j ks len (p .state .trees), move-same j ks len (p .state), e (moveOn j (p .state)) (p .records))
+      (audit : Bool) (ws : List ℕ) (p : Progress) (f g : State → List Record → Replay) → ((s : State) (rs : List Record) → f s rs ≡ g s rs)
+      → replayNext audit k ws p f ≡ replayNext audit j ws p g
+  lent-next audit ws p f g e = rw (over-same j ks len (p .state .trees), move-same j ks len (p .state), e (moveOn j (p .state)) (p .records))
 
-  lent-from : (ws : List ℕ) (n : ℕ) (s : State) (rs : List Record) → replayFrom k ws n s rs ≡ replayFrom j ws n s rs
+  lent-from : (audit : Bool) (ws : List ℕ) (n : ℕ) (s : State) (rs : List Record) → replayFrom audit k ws n s rs ≡ replayFrom audit j ws n s rs
   unfolding replayFrom
-  lent-from ws zero s rs = refl
-  lent-from ws (suc n) s rs =
-      rw (lent-nets ws s rs (nets j))
-      (on-same (replayNets j ws s rs (nets j)) _ _ (λ p. lent-next ws p (replayFrom k ws n) (replayFrom j ws n) (lent-from ws n)))
+  lent-from audit ws zero s rs = refl
+  lent-from audit ws (suc n) s rs =
+      rw (lent-nets audit ws s rs (nets j))
+      (on-same (sinceStart s (replayNets audit j ws s rs (nets j))) _ _
+      (λ p. lent-next audit ws p (replayFrom audit k ws n) (replayFrom audit j ws n) (lent-from audit ws n)))
 
-  replay-same : (used : ℕ) (log : List ℕ) → replay k used log ≡ replay j used log
-  unfolding replay
-  replay-same used log = rw (first-same j ks len, lent-from (take used log) (j .terms .limit) (firstState j) [])
+  replay-same : (audit : Bool) (used : ℕ) (log : List ℕ) → replayBy audit k used log ≡ replayBy audit j used log
+  unfolding replayBy
+  replay-same audit used log = rw (first-same j ks len, lent-from audit (take used log) (j .terms .limit) (firstState j) [])
 
   after-same : (a : Replay) (work log : List ℕ) → resumedReply k a work log ≡ resumedReply j a work log
   after-same (on p) work log = continued-same p work log
   after-same (off word) work log = rw len
+  after-same (ends p) work log = rw len
+  after-same (notCheapest p cost least) work log = rw len
 
   pub resumed-same : (used : ℕ) (work log : List ℕ) → resumedReply k (replay k used log) work log ≡ resumedReply j (replay j used log) work log
-  resumed-same used work log = rw (replay-same used log) (after-same (replay j used log) work log)
+  resumed-same used work log = rw (replay-same false used log) (after-same (replay j used log) work log)
 
   pub begun-same : (work log : List ℕ) → continued k (firstProgress k) work log ≡ continued j (firstProgress j) work log
   begun-same work log = rw (first-same j ks len) (continued-same (firstProgress j) work log)

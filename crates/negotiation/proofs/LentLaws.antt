@@ -49,7 +49,7 @@ edges-walk b u (w ∷ rest) e =
     (edges-walk b w rest (both-right (hasEdge b u w) (neighbours (hasEdge b) (w ∷ rest)) e)))
 
 -- a path that follows joins
-joins-of :
+pub joins-of :
     (j : Job) (i : ℕ) (price : ℕ → ℕ) (tree : List ℕ) (sink cost : ℕ) (path : List ℕ) → PathHolds j i tree sink path → cost ≡ pathCost price path
     → JoiningPath (j .block) price (λ v. has v tree) (turnSinks j i tree) sink cost path
 joins-of j i price tree sink cost [] h c = absurd (let two = path-two j i tree sink [] h in omega arith)

@@ -35,17 +35,19 @@
 --     AimedCountLaws    how many nodes turns expand: turn by turn, at most so many, and those of the machine's turns
 -- A lent log
 --     FollowLaws        one record that follows: what its test says, clause by clause; its words
---     ReplayLaws        a log that passes is a run, its words are the records', it has fewer iterations than the limit
+--     ReplayLaws        what a replay comes to: a log that passes is a run, its words are the records', it has fewer iterations than the limit; where an audit ends
 --     LentLaws          a lent turn that follows is legal at prices read off the turns before it, and its cost fits
---     OwnReplayLaws     a log whose turns follow, one after the other, is taken up
+--     OwnReplayLaws     a log whose turns follow, one after the other, at no more than the least cost, is taken up
+--     LeastLaws         the least cost of a turn is a cheapest path's; a turn that costs no more is a cheapest one
 --     OneSinkLaws       a cheapest path passes no other unjoined sink
 --     SomeTurnLaws      an iteration that leaves a node overfull has a turn
 --     OwnRunLaws        the machine's own log over such iterations is taken up
+--     OwnAuditLaws      a beginning of such a log, cut behind any record, is sound
 --     FrameLaws         a record's words apart from its path, and where the log has them
 -- The reply
 --     RefusalLaws       refusal by refusal
 --     ReplyLogLaws      the log of a reply as the records whose words it holds
---     RouteLaws         what `route` and `resume` answer, as their contracts say it
+--     RouteLaws         what `route`, `resume` and `audit` answer, as their contracts say it
 -- Theorems
 --     DemandHolds       demand 3, and the bound on every logged cost
 --     UnreachableHolds  what refusal 7 means
@@ -56,10 +58,13 @@
 --     ResumeHolds       request 2.8: every resumed call: what is rebuilt, the lent words first, lent turns legal, the appended ones as demand 3 asks, costs within their bound
 --     OwnResumeHolds    request 2.8: a job's own log ends as the straight run
 --     AfterLimitHolds   request 2.8: so does the log of a run that refusal 9 ended, under a larger limit
+--     AuditHolds        an audit of any log: of a sound one every turn as demand 3 asks, and the final trees; a turn that is not cheapest is legal, and a cheaper path exists
+--     OwnAuditHolds     a job's own log is sound, as `route` and `resume` leave it
 --     SamplesHold       the starred jobs, and one of request 2.9, timed and not
 -- The routing loops
 --     UserLaws          who uses a node: counts of nets by their trees
 --     NextTriedLaws           what a turn tries, as the code finds it: one pass over a net's sinks, and a part of table 7
+--     FoundLaws         what either search answers for a turn where nothing is refused
 --     TurnStepLaws      a turn more of a net
 --     KeepLaws          what holds at the head of each loop
 --     KeepPlaces        where each net's tree stands in the log
@@ -98,9 +103,11 @@ pub mod ReplayLaws
 pub mod LentLaws
 pub mod OwnReplayLaws
 pub mod AimedCountLaws
+pub mod LeastLaws
 pub mod OneSinkLaws
 pub mod SomeTurnLaws
 pub mod OwnRunLaws
+pub mod OwnAuditLaws
 pub mod FrameLaws
 pub mod RefusalLaws
 pub mod ReplyLogLaws
@@ -114,8 +121,11 @@ pub mod LongerHolds
 pub mod ResumeHolds
 pub mod OwnResumeHolds
 pub mod AfterLimitHolds
+pub mod AuditHolds
+pub mod OwnAuditHolds
 pub mod SamplesHold
 pub mod UserLaws
+pub mod FoundLaws
 pub mod TurnStepLaws
 pub mod KeepLaws
 pub mod KeepPlaces

@@ -1,4 +1,4 @@
--- A log whose turns follow, one after the other, is taken up: the other way round of ReplayLaws.
+-- A log whose turns follow, one after the other, and cost no more than the least, is taken up: the other way round of ReplayLaws.
 -- Assumes nothing.
 use mathlib.Core.Bool.{Bool, true, false}
 use mathlib.Core.List.{List, [], _∷_, _++_, append-nil, append-assoc}
@@ -6,19 +6,19 @@ use mathlib.Core.Path.{_≡_, _∙_, ap, subst}
 use Prim.Native.Nat.{ℕ, zero, suc, _+_, _-_, _≤_, _<_, zero-le, suc-le-suc}
 use native.Mathlib.Nat.{not-suc-le-zero, le-of-suc-le-suc, le-refl}
 use native.Mathlib.Omega.{arith}
-use lib.Dec.{eqb, leb}
+use lib.Dec.{eqb, leb, ltb}
 use lib.ListN.{length, take, length-append}
 use lib.Seq.{take-append-seam, drop-append-seam, append-snoc}
-use borrow.Author.Tests.{le-leb, lt-leb}
-use Rattle.price.specs.Test.{either}
-use Rattle.price.proofs.TestLaws.{by-test}
+use borrow.Author.Tests.{le-leb, lt-leb, le-ltb}
+use Rattle.price.specs.Test.{both, either}
+use Rattle.price.proofs.TestLaws.{by-test, both-false-right}
 use Rattle.search.specs.Paths.{pathCost}
 use Rattle.search.specs.Turn.{Congestion, Turn, joins, stuck}
 use Rattle.job.specs.Job.{Job, nets, source, netSinks}
 use Rattle.negotiation.specs.Records.{Record, words, encode}
 use Rattle.negotiation.specs.Machine.{State, Progress, congestionFor, turnOf, logTurn, turnsOf, netRecords, treeFrom, withNet, due, routeIf, afterNets, iterate, overCount, stateAfter, iterationAfter, recordsAfter, settlesAt}
-use Rattle.negotiation.specs.Resume.{recordIn, turnPrice, turnFollows, allJoined, on, after, replayTurns, replayNets, replayFrom}
-use Rattle.negotiation.proofs.RecordLaws.{encode-append, records-few}
+use Rattle.negotiation.specs.Resume.{recordPath, recordIn, turnPrice, turnFollows, allJoined, leastCost, on, after, atEnd, replayTurns, replayNets, replayFrom}
+use Rattle.negotiation.proofs.RecordLaws.{words-length, encode-append, records-few}
 use Rattle.negotiation.proofs.EndLaws.{records-more}
 
 -- ---- the turns of one net
@@ -27,43 +27,82 @@ use Rattle.negotiation.proofs.EndLaws.{records-more}
 pub data Follow (j : Job) (s : State) (i : ℕ) : List Record → List Record → Type 0 where
   done : {made : List Record} → allJoined j i made ≡ true → Follow j s i made []
   more : {made rest : List Record} {r : Record} → allJoined j i made ≡ false → r .cost ≡ pathCost (turnPrice j s i (treeFrom j i made)) (r .path)
-      → ((ws : List ℕ) → turnFollows j s i (treeFrom j i made) (words r ++ ws) ≡ true)
+      → ((ws : List ℕ) → turnFollows j s i (treeFrom j i made) (words r ++ ws) ≡ true) → r .cost ≤ leastCost j s i (treeFrom j i made)
       → Follow j s i (made ++ (r ∷ [])) rest → Follow j s i made (r ∷ rest)
 
 -- the record that stands there is read
-record-there : (price : ℕ → ℕ) (r : Record) (ws : List ℕ) → r .cost ≡ pathCost price (r .path) → recordIn price (words r ++ ws) ≡ r
+pub record-there : (price : ℕ → ℕ) (r : Record) (ws : List ℕ) → r .cost ≡ pathCost price (r .path) → recordIn price (words r ++ ws) ≡ r
 unfolding words
 record-there price r ws e =
     let path : take (length (r .path)) (r .path ++ ws) ≡ r .path = take-append-seam (r .path) ws in
     rw (path, ← e)
 
 -- the words after some records of a log that goes on with others
-after-these : (rs ss : List Record) (ws : List ℕ) → after (encode (rs ++ ss) ++ ws) rs ≡ encode ss ++ ws
+pub after-these : (rs ss : List Record) (ws : List ℕ) → after (encode (rs ++ ss) ++ ws) rs ≡ encode ss ++ ws
 after-these rs ss ws =
     rw (encode-append rs ss, append-assoc (encode rs) (encode ss) ws) (drop-append-seam (encode rs) (encode ss ++ ws))
 
-module _ (j : Job) (ws later : List ℕ) (i : ℕ) (p : Progress) where
-  own-turns :
-      {made rest : List Record} → Follow j (p .state) i made rest → (k : ℕ) → length rest ≤ k → ws ≡ encode ((p .records ++ made) ++ rest) ++ later
-      → replayTurns j ws i p k made ≡ on (withNet j i p (made ++ rest))
+-- and there are some
+pub words-left : (rs rest : List Record) (r : Record) (ws later : List ℕ) → ws ≡ encode (rs ++ (r ∷ rest)) ++ later → atEnd ws rs ≡ false
+unfolding encode
+words-left rs rest r ws later e =
+    let six = words-length r in
+    let long : length ws ≡ length (encode rs) + (length (words r) + length (encode rest)) + length later =
+    ap length e
+    ∙ rw (
+      encode-append rs (r ∷ rest),
+      length-append (encode rs ++ (words r ++ encode rest)) later,
+      length-append (encode rs) (words r ++ encode rest),
+      length-append (words r) (encode rest),
+    ) in
+    lt-leb (length ws) (length (encode rs)) (omega arith)
+
+-- the cost that is named there is the record's
+pub cheap-there :
+    (audit : Bool) (price : ℕ → ℕ) (r : Record) (ws : List ℕ) (least : ℕ) → r .cost ≡ pathCost price (r .path) → r .cost ≤ least
+    → both audit (ltb least (pathCost price (recordPath (words r ++ ws)))) ≡ false
+cheap-there audit price r ws least e h =
+    let same : pathCost price (recordPath (words r ++ ws)) ≡ r .cost = ap (λ (x : Record). x .cost) (record-there price r ws e) in
+    both-false-right audit (ltb least (pathCost price (recordPath (words r ++ ws)))) (ap (ltb least) same ∙ le-ltb least (r .cost) h)
+
+module _ (audit : Bool) (j : Job) (ws later : List ℕ) (i : ℕ) (p : Progress) where
+  -- a turn that follows and is there
+  pub own-turn :
+      (made rest : List Record) (r : Record) → allJoined j i made ≡ false → r .cost ≡ pathCost (turnPrice j (p .state) i (treeFrom j i made)) (r .path)
+      → ((ws : List ℕ) → turnFollows j (p .state) i (treeFrom j i made) (words r ++ ws) ≡ true) → r .cost ≤ leastCost j (p .state) i (treeFrom j i made)
+      → (k : ℕ) → ws ≡ encode ((p .records ++ made) ++ (r ∷ rest)) ++ later
+      → replayTurns audit j ws i p (suc k) made ≡ replayTurns audit j ws i p k (made ++ (r ∷ []))
   unfolding replayTurns encode
-  own-turns (done {made} t) zero h e = rw (t, append-nil made)
-  own-turns (done {made} t) (suc k) h e = rw (t, append-nil made)
-  own-turns (more t c f g) zero h e = absurd (not-suc-le-zero h)
-  own-turns (more {made} {rest} {r} t c f g) (suc k) h e =
+  own-turn made rest r t c f l k e =
       let there : after ws (p .records ++ made) ≡ words r ++ (encode rest ++ later) =
       ap (λ (l : List ℕ). after l (p .records ++ made)) e
       ∙ after-these (p .records ++ made) (r ∷ rest) later
       ∙ append-assoc (words r) (encode rest) later in
-      let again : ws ≡ encode ((p .records ++ (made ++ (r ∷ []))) ++ rest) ++ later =
-      e ∙ rw (← append-assoc (p .records) made (r ∷ []), append-snoc (p .records ++ made) r rest) in
+      let price : (ℕ → ℕ) = turnPrice j (p .state) i (treeFrom j i made) in
+      let left : both audit (atEnd ws (p .records ++ made)) ≡ false =
+      both-false-right audit (atEnd ws (p .records ++ made)) (words-left (p .records ++ made) rest r ws later e) in
       rw (
         t,
+        left,
         there,
         f (encode rest ++ later),
-        record-there (turnPrice j (p .state) i (treeFrom j i made)) r (encode rest ++ later) c,
+        cheap-there audit price r (encode rest ++ later) (leastCost j (p .state) i (treeFrom j i made)) c l,
+        record-there price r (encode rest ++ later) c,
       )
-      (own-turns g k (le-of-suc-le-suc h) again ∙ ap (λ (l : List Record). on (withNet j i p l)) (append-snoc made r rest))
+
+  -- the rest of the words, after it
+  pub one-more : (made rest : List Record) (r : Record) → ws ≡ encode ((p .records ++ made) ++ (r ∷ rest)) ++ later → ws ≡ encode ((p .records ++ (made ++ (r ∷ []))) ++ rest) ++ later
+  one-more made rest r e = e ∙ rw (← append-assoc (p .records) made (r ∷ []), append-snoc (p .records ++ made) r rest)
+
+  own-turns :
+      {made rest : List Record} → Follow j (p .state) i made rest → (k : ℕ) → length rest ≤ k → ws ≡ encode ((p .records ++ made) ++ rest) ++ later
+      → replayTurns audit j ws i p k made ≡ on (withNet j i p (made ++ rest))
+  unfolding replayTurns
+  own-turns (done {made} t) zero h e = rw (t, append-nil made)
+  own-turns (done {made} t) (suc k) h e = rw (t, append-nil made)
+  own-turns (more t c f l g) zero h e = absurd (not-suc-le-zero h)
+  own-turns (more {made} {rest} {r} t c f l g) (suc k) h e =
+      own-turn made rest r t c f l k e ∙ own-turns g k (le-of-suc-le-suc h) (one-more made rest r e) ∙ ap (λ (l : List Record). on (withNet j i p l)) (append-snoc made r rest)
 
 -- ---- the nets of an iteration
 
@@ -84,17 +123,17 @@ unfolding netRecords
 net-few j s i = turns-few j (s .iteration) (congestionFor j s i) i (length (netSinks j i)) (source j i ∷ [])
 
 -- the progress of an iteration, after these records
-abbrev afterThese : List Record → Progress → Progress
+abbrev pub afterThese : List Record → Progress → Progress
 afterThese rs p = record { records = rs ++ p .records; state = p .state }
 
 -- each due net's turns follow
 abbrev pub NetsFollow : Job → State → Type 0
 NetsFollow j s = (k : ℕ) → k < nets j → due j s k ≡ true → Follow j (afterNets j s k .state) k [] (netRecords j (afterNets j s k .state) k)
 
-module _ (j : Job) (ws : List ℕ) (s : State) (rs : List Record) (follow : NetsFollow j s) where
-  own-nets :
+module _ (audit : Bool) (j : Job) (ws : List ℕ) (s : State) (rs : List Record) (follow : NetsFollow j s) where
+  pub own-nets :
       (i : ℕ) → i ≤ nets j → (later : List ℕ) → ws ≡ encode (rs ++ afterNets j s i .records) ++ later
-      → replayNets j ws s rs i ≡ on (afterThese rs (afterNets j s i))
+      → replayNets audit j ws s rs i ≡ on (afterThese rs (afterNets j s i))
   unfolding replayNets afterNets
   own-nets zero h later e = rw (append-nil rs)
   own-nets (suc i) h later e =
@@ -106,9 +145,9 @@ module _ (j : Job) (ws : List ℕ) (s : State) (rs : List Record) (follow : Nets
       let words-are : ws ≡ encode (rs ++ (p .records ++ own)) ++ later = subst (λ (b : Bool). ws ≡ encode (rs ++ routeIf b j i p .records) ++ later) d e in
       let split : ws ≡ encode (rs ++ p .records) ++ (encode own ++ later) =
       words-are ∙ rw (← append-assoc rs (p .records) own, encode-append (rs ++ p .records) own) (append-assoc (encode (rs ++ p .records)) (encode own) later) in
-      let before : replayNets j ws s rs i ≡ on q = own-nets i (omega arith) (encode own ++ later) split in
-      let turns : replayTurns j ws i q (length (netSinks j i)) [] ≡ on (withNet j i q own) =
-      own-turns j ws later i q (follow i h d) (length (netSinks j i)) (net-few j (p .state) i)
+      let before : replayNets audit j ws s rs i ≡ on q = own-nets i (omega arith) (encode own ++ later) split in
+      let turns : replayTurns audit j ws i q (length (netSinks j i)) [] ≡ on (withNet j i q own) =
+      own-turns audit j ws later i q (follow i h d) (length (netSinks j i)) (net-few j (p .state) i)
       (words-are ∙ rw (append-nil (rs ++ p .records), ← append-assoc rs (p .records) own)) in
       rw (before, d, turns, append-assoc rs (p .records) own))
       (λ d.
@@ -117,6 +156,13 @@ module _ (j : Job) (ws : List ℕ) (s : State) (rs : List Record) (follow : Nets
       rw (own-nets i (omega arith) later same, d))
 
 -- ---- iterations
+
+-- the iteration after k whole ones is read
+pub iteration-on :
+    (audit : Bool) (j : Job) (ws : List ℕ) (s : State) (k : ℕ) → NetsFollow j (stateAfter j s k) → (later : List ℕ) → ws ≡ encode (recordsAfter j s (suc k)) ++ later
+    → replayNets audit j ws (stateAfter j s k) (recordsAfter j s k) (nets j) ≡ on (afterThese (recordsAfter j s k) (iterationAfter j s k))
+unfolding iterate recordsAfter
+iteration-on audit j ws s k follow later e = own-nets audit j ws (stateAfter j s k) (recordsAfter j s k) follow (nets j) (le-refl (nets j)) later e
 
 -- n iterations from s are one or more, their turns follow, each leaves a node overfull below the limit, and each has a turn
 pub record OwnRun (j : Job) (s : State) (n : ℕ) : Type 0 where
@@ -152,30 +198,29 @@ module _ (j : Job) (ws : List ℕ) (s : State) (n : ℕ) (own : OwnRun j s n) (w
   unfolding settlesAt
   goes-on k h = rw (own .unsettled k h) (lt-leb (j .terms .limit) (iterationAfter j s k .state .iteration) (own .below k h))
 
-  -- the iteration after k whole ones is read
-  iteration-on : (k : ℕ) → k < n → replayNets j ws (stateAfter j s k) (recordsAfter j s k) (nets j) ≡ on (afterThese (recordsAfter j s k) (iterationAfter j s k))
-  unfolding iterate recordsAfter
-  iteration-on k h =
+  iteration-read :
+      (k : ℕ) → k < n → replayNets false j ws (stateAfter j s k) (recordsAfter j s k) (nets j) ≡ on (afterThese (recordsAfter j s k) (iterationAfter j s k))
+  iteration-read k h =
       let split = split-after (suc k) h in
-      own-nets j ws (stateAfter j s k) (recordsAfter j s k) (own .follow k h) (nets j) (le-refl (nets j)) (encode (split .0)) (split .1)
+      iteration-on false j ws s k (own .follow k h) (encode (split .0)) (split .1)
 
   -- so are m more, and one, which end the words
   own-from :
       (m k a : ℕ) → suc (m + k) ≡ n → m < a
-      → replayFrom j ws a (stateAfter j s k) (recordsAfter j s k) ≡ on (record { records = recordsAfter j s n; state = stateAfter j s n })
+      → replayFrom false j ws a (stateAfter j s k) (recordsAfter j s k) ≡ on (record { records = recordsAfter j s n; state = stateAfter j s n })
   unfolding replayFrom recordsAfter stateAfter
   own-from m k zero e h = absurd (not-suc-le-zero h)
   own-from zero k (suc a) e h =
       let last : n ≡ suc k = omega arith in
       let ends : leb (length ws) (length (encode (recordsAfter j s (suc k)))) ≡ true =
       le-leb (length ws) (length (encode (recordsAfter j s (suc k)))) (rw (words-are, last) (le-refl (length (encode (recordsAfter j s (suc k)))))) in
-      rw (iteration-on k (omega arith), goes-on k (omega arith), ends, last)
+      rw (iteration-read k (omega arith), goes-on k (omega arith), ends, last)
   own-from (suc m) k (suc a) e h =
       let more : leb (length ws) (length (encode (recordsAfter j s (suc k)))) ≡ false =
       lt-leb (length ws) (length (encode (recordsAfter j s (suc k)))) (words-more (suc k) (omega arith)) in
-      rw (iteration-on k (omega arith), goes-on k (omega arith), more) (own-from m (suc k) a (omega arith) (le-of-suc-le-suc h))
+      rw (iteration-read k (omega arith), goes-on k (omega arith), more) (own-from m (suc k) a (omega arith) (le-of-suc-le-suc h))
 
   -- the run is taken up, with its records and its state
-  pub own-run : (most : ℕ) → 1 ≤ n → n ≤ most → replayFrom j ws most s [] ≡ on (record { records = recordsAfter j s n; state = stateAfter j s n })
+  pub own-run : (most : ℕ) → 1 ≤ n → n ≤ most → replayFrom false j ws most s [] ≡ on (record { records = recordsAfter j s n; state = stateAfter j s n })
   unfolding recordsAfter stateAfter
   own-run most some few = own-from (n - 1) 0 most (omega arith) (omega arith)

@@ -20,7 +20,7 @@ use Rattle.negotiation.specs.Routable.{Routable}
 use Rattle.negotiation.specs.Order.{turnSinks}
 use Rattle.negotiation.specs.Machine.{State, netRecords, treeFrom, afterNets, iterate, overCount, firstState, stateAfter, iterationAfter, recordsAfter, settlesAt}
 use Rattle.negotiation.specs.Outcome.{hasPath}
-use Rattle.negotiation.specs.Resume.{recordPath, wholeRecord, costFollows, turnPrice, turnFollows, allJoined, on, replay, OwnLog}
+use Rattle.negotiation.specs.Resume.{recordPath, wholeRecord, costFollows, turnPrice, turnFollows, allJoined, on, replayBy, replay, OwnLog}
 use Rattle.negotiation.specs.Runs.{Ran, start}
 use Rattle.negotiation.proofs.MemberLaws.{every-has, every-members}
 use Rattle.negotiation.proofs.OrderLaws.{turn-listed}
@@ -30,6 +30,7 @@ use Rattle.negotiation.proofs.RanLaws.{ran-iteration}
 use Rattle.negotiation.proofs.MachineRan.{Reached, ran-ready, machine-nets, machine-ran}
 use Rattle.negotiation.proofs.FollowLaws.{PathHolds, turn-follows}
 use Rattle.negotiation.proofs.OneSinkLaws.{one-sink}
+use Rattle.negotiation.proofs.LeastLaws.{cheapest-least}
 use Rattle.negotiation.proofs.OwnReplayLaws.{Follow, done, more, NetsFollow, OwnRun, own-run}
 use Rattle.negotiation.proofs.SomeTurnLaws.{some-turn}
 
@@ -117,18 +118,19 @@ module _ (j : Job) (sound : Routable j) (s : State) (ready : StateReady j s) (i 
       let t : NetTurn j s i made r = net-turn j sound s ready i hi made rest r e in
       more (still-open made r t) (t .cheapest .joins .costs)
       (λ ws. words-follow j s i (treeFrom j i made) r (turn-path made r t) ws (t .iteration-is) (t .net-is) (t .cheapest .joins .costs))
+      (cheapest-least j sound s ready i hi (treeFrom j i made) (t .cheapest))
       (net-follow all (made ++ (r ∷ [])) rest (e ∙ sym (append-snoc made r rest)))
 
 -- ---- whole iterations
 
 module _ (j : Job) (sound : Routable j) (all : Reached j) where
-  nets-follow : {m : ℕ} {rs : List Record} {s : State} → Ran j m rs s → m < j .terms .limit → NetsFollow j s
+  pub nets-follow : {m : ℕ} {rs : List Record} {s : State} → Ran j m rs s → m < j .terms .limit → NetsFollow j s
   nets-follow {s = s} r h k l d =
       net-follow j sound (afterNets j s k .state) (ran-ready j sound r (machine-nets j sound all r h k (omega arith)) h) k l (λ x listed. all k x l listed)
       [] (netRecords j (afterNets j s k .state) k) refl
 
   -- the machine after so many whole iterations
-  ran-after : (n : ℕ) → n ≤ j .terms .limit → Ran j n (recordsAfter j (firstState j) n) (stateAfter j (firstState j) n)
+  pub ran-after : (n : ℕ) → n ≤ j .terms .limit → Ran j n (recordsAfter j (firstState j) n) (stateAfter j (firstState j) n)
   ran-after n h =
       let e : 0 + n ≡ n = omega arith in
       subst (λ (k : ℕ). Ran j k (recordsAfter j (firstState j) n) (stateAfter j (firstState j) n)) e (machine-ran j sound all start n (omega arith))
@@ -161,7 +163,7 @@ module _ (j : Job) (sound : Routable j) (all : Reached j) where
 
     -- the job's own log is taken up
     pub own-taken : replay j used log ≡ on (record { records = recordsAfter j (firstState j) n; state = stateAfter j (firstState j) n })
-    unfolding replay
+    unfolding replayBy
     own-taken =
         let below = own .below in
         rw (le-ltb (length log) used (own .within))

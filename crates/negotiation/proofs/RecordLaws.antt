@@ -14,7 +14,7 @@ use Rattle.price.proofs.TestLaws.{by-test}
 use Rattle.negotiation.specs.Records.{Record, words, encode, decodeUpTo, decode, fitting, pathNodes}
 
 -- the cost is read back from its two words
-cost-back : (c : ℕ) → c % 2 ^ 32 + c / 2 ^ 32 * 2 ^ 32 ≡ c
+pub cost-back : (c : ℕ) → c % 2 ^ 32 + c / 2 ^ 32 * 2 ^ 32 ≡ c
 cost-back c = omega arith
 
 -- with as many steps as there are records all are read back

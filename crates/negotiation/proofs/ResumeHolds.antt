@@ -18,7 +18,7 @@ use Rattle.negotiation.specs.Routable.{Routable}
 use Rattle.negotiation.specs.Records.{Record, encode, decode, fitting}
 use Rattle.negotiation.specs.Machine.{Progress, recordsAfter, settlesAt}
 use Rattle.negotiation.specs.Outcome.{RouteReply, turnsLogged, madeFrom, allRecords, loggedRecords, refusedReply, endNumbers, continued}
-use Rattle.negotiation.specs.Resume.{Replay, on, off, replay, resumedReply, resumeReply}
+use Rattle.negotiation.specs.Resume.{Replay, on, off, ends, notCheapest, replay, resumedReply, resumeReply}
 use Rattle.negotiation.specs.Demand.{historyRead, FinalTrees}
 use Rattle.negotiation.specs.Resumed.{takenUp, NotTakenUp, LentFirst, LentTurn, Rebuilt, RebuiltAsRead, Resumed}
 use Rattle.negotiation.specs.Runs.{Ran}
@@ -29,7 +29,7 @@ use Rattle.negotiation.proofs.RanLaws.{ran-iteration, ran-factor, ran-r
 use Rattle.negotiation.proofs.JoinedHolds.{joined-no-source}
 use Rattle.negotiation.proofs.MachineRan.{Reached}
 use Rattle.negotiation.proofs.DemandLaws.{split-append}
-use Rattle.negotiation.proofs.ReplayLaws.{EachTurn, LentStep, TakenUp, taken-each, taken-up}
+use Rattle.negotiation.proofs.ReplayLaws.{EachTurn, NoneDear, LentStep, TakenUp, taken-each, taken-up, never-ends, never-finds}
 use Rattle.negotiation.proofs.LentLaws.{lent-turn, lent-below}
 use Rattle.negotiation.proofs.DemandHolds.{Facts, logged-is, words-only, turns-are, costs-of, tested-case, refused-facts, run-facts}
 
@@ -121,9 +121,9 @@ module _ (j : Job) (used : ℕ) (work log : List ℕ) where
       Facts j lent r
       × (((takenUp (r .refusal) ≡ true) × LentFirst used log r × EachTurn LentFits lent) ⊎ ((takenUp (r .refusal) ≡ false) × NotTakenUp log r))
 
-  lent-fits : Routable (joined j) → LentStep (joined j) LentFits
+  lent-fits : Routable (joined j) → LentStep false (joined j) LentFits NoneDear
   lent-fits sound m i rs s p r low n hi made own t of path cost =
-      (lent-turn (joined j) sound r low n hi made own t of path cost, lent-below (joined j) sound r low n hi made own t of path cost)
+      ((λ _. (lent-turn (joined j) sound r low n hi made own t of path cost, lent-below (joined j) sound r low n hi made own t of path cost)), (λ _. tt))
 
   refused-holds :
       (number : ℕ) (numbers left : List ℕ) → takenUp (number ∷ numbers) ≡ false → Facts j lent (refusedReply (number ∷ numbers) left log)
@@ -146,6 +146,8 @@ module _ (j : Job) (used : ℕ) (work log : List ℕ) where
             (run-facts j work log (taken .whole) p sound all (taken .ran) (taken .below)),
         inl (run-taken-up (joined j) p work log, lent-stays (joined j) used log p taken work, subst (EachTurn LentFits) (sym is) (up .1)),
       )
+  replay-holds sound all (ends p) e = absurd (never-ends (joined j) used log p e)
+  replay-holds sound all (notCheapest p cost least) e = absurd (never-finds (joined j) used log p cost least e)
 
   resume-holds : Holds (resumeReply j used work log)
   unfolding resumeReply

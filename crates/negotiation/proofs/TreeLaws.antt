@@ -35,13 +35,13 @@ TreeNodes j tree = (v : ℕ) → has v tree ≡ true → v < nodes j
 abbrev markOf : List ℕ → ℕ → ℕ
 markOf tree v = choose (has v tree) 1 0
 
-mark-node : (j : Job) (tree : List ℕ) (v : ℕ) → v < nodes j → inTree (marksOf j tree) v ≡ has v tree
+pub mark-node : (j : Job) (tree : List ℕ) (v : ℕ) → v < nodes j → inTree (marksOf j tree) v ≡ has v tree
 unfolding inTree marksOf
 mark-node j tree v h =
     rw (getD-upTo (markOf tree) (nodes j) v 0 h)
     (by-test (has v tree) (λ q. rw q) (λ q. rw q))
 
-mark-out : (j : Job) (tree : List ℕ) (v : ℕ) → nodes j ≤ v → inTree (marksOf j tree) v ≡ false
+pub mark-out : (j : Job) (tree : List ℕ) (v : ℕ) → nodes j ≤ v → inTree (marksOf j tree) v ≡ false
 unfolding inTree marksOf
 mark-out j tree v h =
     let long : length (upTo (markOf tree) (nodes j)) ≤ v = rw (length-upTo (markOf tree) (nodes j)) h in

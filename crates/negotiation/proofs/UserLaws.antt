@@ -70,7 +70,7 @@ users-but j trees i v h =
     let r = count-with (λ k. has v (treeAt trees k)) (nets j) i h in
     omega arith
 
-count-zero : (n : ℕ) → countBelow (λ k. false) n ≡ 0
+pub count-zero : (n : ℕ) → countBelow (λ k. false) n ≡ 0
 unfolding countBelow
 count-zero zero = refl
 count-zero (suc n) = rw (count-zero n)

@@ -1,5 +1,4 @@
 -- Laws that the proofs of `negotiation::turns` alone cite.
---     FoundLaws         what either search answers for a turn where nothing is refused
 --     OneTurnLaws       one turn, as the search's contract gives it
 --     KeepNet           after a net
 --     KeepEnd           after an iteration
@@ -8,7 +7,6 @@
 --     BackLentLaws      the edges by their target as a run that aims has them
 --     StartLaws         a run's start: begun, after a lent log, or turned away
 -- Assumes nothing.
-pub mod FoundLaws
 pub mod OneTurnLaws
 pub mod KeepNet
 pub mod KeepEnd

@@ -11,6 +11,8 @@ pub mod Aimed
 pub mod Longer
 pub mod Resume
 pub mod Resumed
+pub mod Audit
+pub mod Audited
 pub mod OlderJobs
 pub mod Runs
 pub mod TariffSteps
@@ -20,6 +22,7 @@ pub mod Kept
 pub mod JoinSteps
 pub mod ResumeSteps
 pub mod TakeSteps
+pub mod AuditSteps
 pub mod Flood
 pub mod BackSteps
 pub mod Samples

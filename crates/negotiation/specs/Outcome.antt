@@ -79,7 +79,7 @@ wordsUsed r = take (r .used) (r .log)
 abbrev pub turnsLogged : RouteReply → List Record
 turnsLogged r = decode (wordsUsed r)
 
--- 01's numbers for each case of the outcome, request 2.8's 14 and 2.9's 15, beside iteration and turns
+-- 01's numbers for each case of the outcome, request 2.8's 14 and 2.9's 15, beside iteration and turns; 18 is an audit's, and no refusal
 abbrev pub routeRefusal : Outcome → ℕ → ℕ → List ℕ
 routeRefusal o.Accepted iteration turns = []
 routeRefusal (o.Unreachable net place) iteration turns = 7 ∷ net ∷ place ∷ []
@@ -89,6 +89,7 @@ routeRefusal (o.BadTable table) iteration turns = 5 ∷ table ∷ []
 routeRefusal (o.ShortWork needed) iteration turns = 6 ∷ needed ∷ []
 routeRefusal (o.Diverges word) iteration turns = 14 ∷ word ∷ []
 routeRefusal (o.TooLarge count limit) iteration turns = 15 ∷ count ∷ limit ∷ []
+routeRefusal (o.NotCheapest word cost least) iteration turns = 18 ∷ word ∷ cost ∷ least ∷ []
 
 -- the answer with work slice and log at the call's end, as one value
 abbrev pub routeReplyOf : RouteAnswer → List ℕ → List ℕ → RouteReply
@@ -151,22 +152,27 @@ continued j p work log =
 abbrev pub negotiated : Job → List ℕ → List ℕ → RouteReply
 negotiated j work log = continued j (firstProgress j) work log
 
--- the reply of a job of joined nets where a run that has begun replies so: by request 2.3, "7 gives the first net's number and the place
--- among its joined sinks"
-abbrev pub reachedReply : Job → List ℕ → List ℕ → RouteReply → RouteReply
-reachedReply j work log run =
-    choose (ltb (unreachableNet j) (nets j))
-    (refusedReply (7 ∷ unreachableNet j ∷ unreachablePlace j ∷ []) (cleared (nodes j) [] work) log)
-    run
+-- what a job of joined nets comes to where a run that has begun comes to this, and `refuse` makes a reply of a refusal's numbers and the
+-- work slice that it leaves: by request 2.3, "7 gives the first net's number and the place among its joined sinks"
+abbrev pub reached : {R : Type 0} → (List ℕ → List ℕ → R) → Job → List ℕ → R → R
+reached refuse j work run =
+    choose (ltb (unreachableNet j) (nets j)) (refuse (7 ∷ unreachableNet j ∷ unreachablePlace j ∷ []) (cleared (nodes j) [] work)) run
 
 -- the same of a job as it is given, whose tables are tested with its nets as listed. Request 2.9: "number 15 with the node count and the
 -- limit when a timed job exceeds either, after 5"
+abbrev pub testedBy : {R : Type 0} → (List ℕ → List ℕ → R) → Job → List ℕ → R → R
+testedBy refuse j work run =
+    choose (leb 1 (faultyJob j)) (refuse (5 ∷ faultyJob j ∷ []) work)
+    (choose (exceeds (nodes j) (j .terms)) (refuse (15 ∷ nodes j ∷ j .terms .limit ∷ []) work)
+    (choose (ltb (length work) (workNeeded (nodes j))) (refuse (6 ∷ workNeeded (nodes j) ∷ []) work)
+    (reached refuse (joined j) work run)))
+
+-- the router's replies: a refusal leaves the log as it was
+abbrev pub reachedReply : Job → List ℕ → List ℕ → RouteReply → RouteReply
+reachedReply j work log run = reached (λ numbers left. refusedReply numbers left log) j work run
+
 abbrev pub tested : Job → List ℕ → List ℕ → RouteReply → RouteReply
-tested j work log run =
-    choose (leb 1 (faultyJob j)) (refusedReply (5 ∷ faultyJob j ∷ []) work log)
-    (choose (exceeds (nodes j) (j .terms)) (refusedReply (15 ∷ nodes j ∷ j .terms .limit ∷ []) work log)
-    (choose (ltb (length work) (workNeeded (nodes j))) (refusedReply (6 ∷ workNeeded (nodes j) ∷ []) work log)
-    (reachedReply (joined j) work log run)))
+tested j work log run = testedBy (λ numbers left. refusedReply numbers left log) j work run
 
 -- "The router tests 5, 6, 7, then 8 and 9 as they arise", with 15 after 5, and by request 2.3 "Negotiation and all of demand 3 are those of
 -- joined nets"

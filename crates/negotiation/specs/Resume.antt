@@ -1,5 +1,6 @@
 -- Request 2.8, "Going on from a finished log": whether a lent log follows the job, what is rebuilt from it, and what resume answers and
--- leaves. The replay goes over the log's words with the machine's own steps, so what is rebuilt is a state of the machine.
+-- leaves. The replay goes over the log's words with the machine's own steps, so what is rebuilt is a state of the machine. An audit
+-- (Audit.antt) is the same replay with two more questions: it is the test `audit` of these definitions, false where a log is taken up.
 -- Assumes nothing.
 use mathlib.Core.Bool.{Bool, false, not}
 use mathlib.Core.List.{List, [], _∷_, _++_}
@@ -11,13 +12,14 @@ use Rattle.price.specs.Test.{choose, both, either}
 use Rattle.price.specs.Lists.{every, neighbours, has, distinct}
 use Rattle.search.specs.Block.{hasEdge}
 use Rattle.search.specs.Paths.{pathCost}
-use Rattle.search.specs.Turn.{priceAt}
+use Rattle.search.specs.Distance.{far}
+use Rattle.search.specs.Turn.{priceAt, Turn, joins, stuck}
 use Rattle.search.specs.Replies.{cleared}
 use Rattle.job.specs.Job.{Job, nodes, nets, netSinks}
 use Rattle.job.specs.Join.{joined}
 use Rattle.negotiation.specs.Records.{Record, recordOf, encode, decode}
 use Rattle.negotiation.specs.Order.{turnSinks, turnCongestion}
-use Rattle.negotiation.specs.Machine.{State, Progress, congestionFor, treeFrom, withNet, due, overCount, moveOn, firstState}
+use Rattle.negotiation.specs.Machine.{State, Progress, congestionFor, turnOf, treeFrom, withNet, due, overCount, moveOn, firstState}
 use Rattle.negotiation.specs.Machine.{recordsAfter, settlesAt}
 use Rattle.negotiation.specs.Outcome.{RouteReply, refusedReply, continued, negotiated, tested}
 use Rattle.negotiation.specs.declared.Start.{Start}
@@ -85,18 +87,27 @@ turnFollows j s i tree ws =
 
 -- ---- the log, record after record
 
--- the records so far follow and lead to this state, or the log stops following the job at this word
+-- The records so far follow and lead to this progress, or the log stops following the job at this word. Of an audit: its words end behind
+-- these records, or the next record, which follows, costs more than the least.
 pub data Replay : Type 0 where
   on : (p : Progress) → Replay
   off : (word : ℕ) → Replay
+  ends : (p : Progress) → Replay
+  notCheapest : (p : Progress) (cost least : ℕ) → Replay
 
 abbrev pub ifOn : Replay → (Progress → Replay) → Replay
 ifOn (on p) next = next p
 ifOn (off word) next = off word
+ifOn (ends p) next = ends p
+ifOn (notCheapest p cost least) next = notCheapest p cost least
 
 -- the words after these records
 abbrev pub after : List ℕ → List Record → List ℕ
 after ws rs = drop (length (encode rs)) ws
+
+-- no words come after these records
+abbrev pub atEnd : List ℕ → List Record → Bool
+atEnd ws rs = leb (length ws) (length (encode rs))
 
 -- where the next record begins: "the word place of the first record that doesn't follow, the words used if only the end is wrong"
 abbrev pub offAfter : List Record → Replay
@@ -106,39 +117,76 @@ offAfter rs = off (length (encode rs))
 unfoldable pub allJoined : Job → ℕ → List Record → Bool
 allJoined j i made = every (λ x. has x (treeFrom j i made)) (netSinks j i)
 
+-- what a turn costs, 2^64 − 1 where it is stuck
+abbrev pub costOf : Turn → ℕ
+costOf (joins place cost path) = cost
+costOf stuck = far
+
+-- the least cost of a path that the next turn of net i, which has this tree, can take in this state
+unfoldable pub leastCost : Job → State → ℕ → List ℕ → ℕ
+leastCost j s i tree = costOf (turnOf j (congestionFor j s i) i tree)
+
+-- the records of a net that has begun, behind those before it
+abbrev pub goneTo : Progress → List Record → Progress
+goneTo p made = record { records = p .records ++ made; state = p .state }
+
 -- so many turns of net i, at most, after those that it has made: "each until its sinks are joined"
-unfoldable pub replayTurns : Job → List ℕ → ℕ → Progress → ℕ → List Record → Replay
-replayTurns j ws i p zero made = choose (allJoined j i made) (on (withNet j i p made)) (offAfter (p .records ++ made))
-replayTurns j ws i p (suc k) made =
+unfoldable pub replayTurns : Bool → Job → List ℕ → ℕ → Progress → ℕ → List Record → Replay
+replayTurns audit j ws i p zero made = choose (allJoined j i made) (on (withNet j i p made)) (offAfter (p .records ++ made))
+replayTurns audit j ws i p (suc k) made =
+    let tree = treeFrom j i made in
+    let price = turnPrice j (p .state) i tree in
+    let there = after ws (p .records ++ made) in
+    let cost = pathCost price (recordPath there) in
+    let least = leastCost j (p .state) i tree in
     choose (allJoined j i made) (on (withNet j i p made))
-    (choose (turnFollows j (p .state) i (treeFrom j i made) (after ws (p .records ++ made)))
-    (replayTurns j ws i p k (made ++ (recordIn (turnPrice j (p .state) i (treeFrom j i made)) (after ws (p .records ++ made)) ∷ [])))
-    (offAfter (p .records ++ made)))
+    (choose (both audit (atEnd ws (p .records ++ made))) (ends (goneTo p made))
+    (choose (turnFollows j (p .state) i tree there)
+    (choose (both audit (ltb least cost)) (notCheapest (goneTo p made) cost least)
+    (replayTurns audit j ws i p k (made ++ (recordIn price there ∷ []))))
+    (offAfter (p .records ++ made))))
 
 -- "the nets due to be routed, in order": the first nets of an iteration from state s, after these records
-unfoldable pub replayNets : Job → List ℕ → State → List Record → ℕ → Replay
-replayNets j ws s rs zero = on (record { records = rs; state = s })
-replayNets j ws s rs (suc i) =
-    ifOn (replayNets j ws s rs i)
-    (λ p. choose (due j s i) (replayTurns j ws i p (length (netSinks j i)) []) (on p))
+unfoldable pub replayNets : Bool → Job → List ℕ → State → List Record → ℕ → Replay
+replayNets audit j ws s rs zero = on (record { records = rs; state = s })
+replayNets audit j ws s rs (suc i) =
+    ifOn (replayNets audit j ws s rs i)
+    (λ p. choose (due j s i) (replayTurns audit j ws i p (length (netSinks j i)) []) (on p))
 
--- after a whole iteration: "one or more iterations, each leaving a node overfull, the last whole and below the limit"
-abbrev pub replayNext : Job → List ℕ → Progress → (State → List Record → Replay) → Replay
-replayNext j ws p next =
-    choose (either (eqb (overCount j (p .state .trees)) 0) (leb (j .terms .limit) (p .state .iteration))) (offAfter (p .records))
-    (choose (leb (length ws) (length (encode (p .records)))) (on (record { records = p .records; state = moveOn j (p .state) }))
-    (next (moveOn j (p .state)) (p .records)))
+-- an audit that ends inside an iteration tells of the state at its start, which is that after the last whole one
+abbrev pub sinceStart : State → Replay → Replay
+sinceStart s (on p) = on p
+sinceStart s (off word) = off word
+sinceStart s (ends p) = ends (record { records = p .records; state = s })
+sinceStart s (notCheapest p cost least) = notCheapest (record { records = p .records; state = s }) cost least
+
+-- the progress at the next iteration's start
+abbrev pub movedOn : Job → Progress → Progress
+movedOn j p = record { records = p .records; state = moveOn j (p .state) }
+
+-- after a whole iteration: "one or more iterations, each leaving a node overfull, the last whole and below the limit"; an audit's words may
+-- end behind any
+abbrev pub replayNext : Bool → Job → List ℕ → Progress → (State → List Record → Replay) → Replay
+replayNext audit j ws p next =
+    choose (both audit (atEnd ws (p .records))) (ends (movedOn j p))
+    (choose (either (eqb (overCount j (p .state .trees)) 0) (leb (j .terms .limit) (p .state .iteration))) (offAfter (p .records))
+    (choose (atEnd ws (p .records)) (on (movedOn j p))
+    (next (moveOn j (p .state)) (p .records))))
 
 -- so many iterations, at most; as many as the limit are never all made, since the last must be below it
-unfoldable pub replayFrom : Job → List ℕ → ℕ → State → List Record → Replay
-replayFrom j ws zero s rs = offAfter rs
-replayFrom j ws (suc k) s rs =
-    ifOn (replayNets j ws s rs (nets j)) (λ p. replayNext j ws p (replayFrom j ws k))
+unfoldable pub replayFrom : Bool → Job → List ℕ → ℕ → State → List Record → Replay
+replayFrom audit j ws zero s rs = offAfter rs
+replayFrom audit j ws (suc k) s rs =
+    ifOn (sinceStart s (replayNets audit j ws s rs (nets j))) (λ p. replayNext audit j ws p (replayFrom audit j ws k))
 
 -- "The log must follow the job: from iteration 1", over the words used; "or the log's length if the words used exceed it"
-unfoldable pub replay : Job → ℕ → List ℕ → Replay
-replay j used log =
-    choose (ltb (length log) used) (off (length log)) (replayFrom j (take used log) (j .terms .limit) (firstState j) [])
+unfoldable pub replayBy : Bool → Job → ℕ → List ℕ → Replay
+replayBy audit j used log =
+    choose (ltb (length log) used) (off (length log)) (replayFrom audit j (take used log) (j .terms .limit) (firstState j) [])
+
+-- a log that is taken up
+abbrev pub replay : Job → ℕ → List ℕ → Replay
+replay j used log = replayBy false j used log
 
 -- ---- a job's own log
 
@@ -154,10 +202,13 @@ pub record OwnLog (j : Job) (m used : ℕ) (log : List ℕ) : Type 0 where
 -- ---- what resume answers
 
 -- a log that doesn't follow: "Turned away: number 14 with the word place of the first record that doesn't follow, ..", "the work is zeroed,
--- and the log stays as lent". One that follows: "rebuilds histories, factor and trees, and appends turns"
+-- and the log stays as lent". One that follows: "rebuilds histories, factor and trees, and appends turns". The last two are an audit's: no
+-- replay that takes a log up comes to them (`never-ends` of ReplayLaws)
 abbrev pub resumedReply : Job → Replay → List ℕ → List ℕ → RouteReply
 resumedReply j (off word) work log = refusedReply (14 ∷ word ∷ []) (cleared (nodes j) [] work) log
 resumedReply j (on p) work log = continued j p work log
+resumedReply j (ends p) work log = refusedReply (14 ∷ length (encode (p .records)) ∷ []) (cleared (nodes j) [] work) log
+resumedReply j (notCheapest p cost least) work log = refusedReply (14 ∷ length (encode (p .records)) ∷ []) (cleared (nodes j) [] work) log
 
 -- the reply of a run of joined nets that starts with iteration 1, or after the words used of a lent log
 abbrev pub runFrom : Start → Job → List ℕ → List ℕ → RouteReply

@@ -4,16 +4,17 @@
 use mathlib.Core.Bool.{Bool, true, false}
 use mathlib.Core.List.{List, [], _∷_}
 use mathlib.Core.Path.{_≡_}
-use Prim.Native.Nat.{ℕ, _+_, _/_, _%_, _^_, _≤_, _<_}
+use Prim.Native.Nat.{ℕ, _+_, _*_, _/_, _%_, _^_, _≤_, _<_}
 use lib.Dec.{eqb, leb}
 use lib.ListN.{length, getD, set}
 use Rattle.price.specs.Bounds.{timedNodesMost}
 use Rattle.price.specs.Test.{choose, both}
 use Rattle.search.specs.Block.{Block, nodes, hasEdge}
 use Rattle.search.specs.Tables.{Sound}
-use Rattle.search.specs.Turn.{Congestion}
+use Rattle.search.specs.Distance.{far}
+use Rattle.search.specs.Turn.{Congestion, Turn}
 use Rattle.search.specs.Priceable.{PriceReady}
-use Rattle.negotiation.specs.Resume.{recordPath, wholeRecord, endsAt}
+use Rattle.negotiation.specs.Resume.{recordPath, wholeRecord, endsAt, costOf}
 use Rattle.job.specs.Steps.{Stored}
 use Rattle.negotiation.specs.declared.follow.PathCost.{PathCost}
 use Rattle.negotiation.specs.declared.follow.PathCost.the-variants.{Cost, Strays}
@@ -68,6 +69,10 @@ abbrev pub costIs : List ℕ → List ℕ → Bool
 costIs ws [] = false
 costIs ws (cost ∷ costs) = both (eqb (getD ws 3 0) (cost % 2 ^ 32)) (eqb (getD ws 4 0) (cost / 2 ^ 32))
 
+-- the cost that the record's two words name
+abbrev pub namedCost : List ℕ → ℕ
+namedCost ws = getD ws 3 0 + getD ws 4 0 * 2 ^ 32
+
 -- the words begin with a whole record of this iteration and net, whose path, of two to so many nodes, ends at its sink
 unfoldable pub frameFollows : (most iteration net : ℕ) → List ℕ → Bool
 frameFollows most iteration net ws =
@@ -82,3 +87,7 @@ frameFollows most iteration net ws =
 unfoldable pub turnPasses : Block → (ℕ → ℕ) → (goals marks : List ℕ) → (iteration net : ℕ) → List ℕ → Bool
 turnPasses b price goals marks iteration net ws =
     both (frameFollows (nodes b) iteration net ws) (costIs ws (passCost b price goals marks (recordPath ws)))
+
+-- what a turn costs, where that is asked for
+unfoldable pub leastAsked : Bool → Turn → ℕ
+leastAsked asked t = choose asked (costOf t) far

@@ -1,8 +1,8 @@
-// Taking up a lent log: whether a record's path follows the job, in one pass over it.
+// Following a log: whether a record's path follows the job, in one pass over it, and what the turn costs at least.
 ghost use mathlib.Core.Bool.{true};
 ghost use mathlib.Core.List.{[], _∷_};
 ghost use mathlib.Core.Path.{_≡_};
-ghost use Prim.Native.Nat.{_+_, _≤_, _<_};
+ghost use Prim.Native.Nat.{_+_, _*_, _≤_, _<_};
 ghost use lib.Dec.{ltb};
 ghost use lib.ListN.{length, getD, drop};
 ghost use lib.Seq.{slice};
@@ -10,15 +10,21 @@ ghost use Rattle.price.specs.Test.{choose};
 ghost use Rattle.price.specs.Timed.{weighedMost};
 ghost use Rattle.search.specs.Block.{blockOf, graphOf, hasEdge};
 ghost use Rattle.search.specs.Tables.{Graph};
-ghost use Rattle.search.specs.Turn.{weighedCongestion, priceAt};
+ghost use Rattle.search.specs.Turn.{weighedCongestion, priceAt, turn};
+ghost use Rattle.search.specs.Replies.{sinkListSound};
 ghost use Rattle.search.specs.Priceable.{PriceReady};
 ghost use Rattle.negotiation.specs.Resume.{recordPath};
+ghost use Rattle.negotiation.specs.Steps.{SameFrom, TurnReady};
 ghost use Rattle.negotiation.specs.ResumeSteps.{stepPasses, passCost, RecordReady, PassReady, costsOf, PathMarked};
-ghost use Rattle.negotiation.specs.ResumeSteps.{costIs, frameFollows, turnPasses};
+ghost use Rattle.negotiation.specs.ResumeSteps.{costIs, namedCost, frameFollows, turnPasses, leastAsked};
 ghost use Rattle.job.specs.Steps.{Stored};
 use crate::tariff::Tariff;
 use price::PriceAnswer;
 use price::Weighting;
+use search::PathAnswer;
+
+// 2^64 − 1, which no cost reaches.
+const FAR: u64 = 18446744073709551615;
 
 // What a pass over a path gives.
 pub enum PathCost {
@@ -266,4 +272,67 @@ pub fn follow_turn(
             to - at
         }
     }
+}
+
+// The cost that the record at `at` names.
+pub fn named_cost(log: &[u32], at: usize) -> u64
+    requires { ⌜ at + 6 ≤ length (now log) ⌝ }
+    ensures { λ r. ⌜ r ≡ namedCost (drop at (now (log .entry))) ⌝ }
+{
+    log[at + 3] as u64 + log[at + 4] as u64 * 4294967296
+}
+
+// The least cost of a path that a turn can take, FAR where it is stuck, and where none is asked for.
+pub fn least_cost(
+    asked: bool,
+    kind: &[u8],
+    capacity: &[u8],
+    first_edge: &[u32],
+    edge_target: &[u16],
+    weighting: Weighting,
+    delay: &[u16],
+    factor: u32,
+    work: &mut [u64],
+    history: &[u32],
+    users: &[u16],
+    in_tree: &[u8],
+    sinks: &[u16],
+) -> u64
+    requires { do
+      let block = blockOf (now kind) (now capacity) (now «first_edge») (now «edge_target»)
+      let congestion = weighedCongestion weighting (now delay) factor (now history) (now users)
+      ⌜ TurnReady block congestion (now «in_tree») (now work) × (sinkListSound (length (now kind)) (now sinks) ≡ true) ⌝ }
+    ensures { λ r. do
+      let block = blockOf (now (kind .entry)) (now (capacity .entry)) (now («first_edge» .entry)) (now («edge_target» .entry))
+      let congestion = weighedCongestion weighting (now (delay .entry)) factor (now (history .entry)) (now (users .entry))
+      let made = turn block (priceAt block congestion) (now («in_tree» .entry)) (now (sinks .entry))
+      ⌜ r ≡ leastAsked asked made ⌝ }
+    ensures { λ _. ⌜ SameFrom (8 * length (now (kind .entry))) (now (work .entry)) (now (work .exit)) ⌝ }
+{
+    if !asked {
+        return FAR;
+    }
+    let answer = search::cheapest_path(
+        kind,
+        capacity,
+        first_edge,
+        edge_target,
+        weighting,
+        delay,
+        factor,
+        work,
+        history,
+        users,
+        in_tree,
+        sinks,
+    );
+    let PathAnswer::Joins {
+        place,
+        cost,
+        length,
+    } = answer
+    else {
+        return FAR;
+    };
+    cost
 }

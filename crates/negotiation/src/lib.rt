@@ -6,16 +6,19 @@ ghost use lib.ListN.{length, take};
 ghost use Rattle.job.specs.Job.{jobOf, nodes};
 ghost use Rattle.negotiation.specs.Routable.{Routable};
 ghost use Rattle.negotiation.specs.Records.{decode};
-ghost use Rattle.negotiation.specs.Outcome.{refusedAnswer, routeReplyOf, turnsLogged, reachedReply, tested};
+ghost use Rattle.negotiation.specs.Outcome.{routeRefusal, refusedAnswer, routeReplyOf, turnsLogged, reachedReply, tested};
 ghost use Rattle.negotiation.specs.Aimed.{expandedAfter};
 ghost use Rattle.negotiation.specs.Demand.{Demand3};
 ghost use Rattle.job.specs.Join.{joined};
 ghost use Rattle.negotiation.specs.Resume.{runFrom, lentRecords};
 ghost use Rattle.negotiation.specs.Resumed.{Resumed};
+ghost use Rattle.negotiation.specs.AuditSteps.{jobRefusal};
+ghost use Rattle.negotiation.specs.Audit.{auditReplyOf};
+ghost use Rattle.negotiation.specs.Audited.{Audited};
 
-// How a run ends.
+// How a run or an audit ends.
 pub enum Outcome {
-    // Nothing is over capacity.
+    // Nothing is over capacity; of an audit: the log is sound.
     Accepted,
     // 7: the first net and the place of its first sink without a path from its source.
     Unreachable { net: u32, place: u32 },
@@ -31,6 +34,8 @@ pub enum Outcome {
     Diverges(u64),
     // 15: a timed job has too many nodes or too high a limit.
     TooLarge { nodes: u32, limit: u32 },
+    // 18, of an audit alone and no refusal: the record at this word costs more than the least that its turn could.
+    NotCheapest { word: u64, cost: u64, least: u64 },
 }
 
 // The answer: how the run ended, beside iteration, turns made and words used; and how many nodes the search that aims expanded in the turns
@@ -43,6 +48,15 @@ pub struct RouteAnswer {
     pub expanded: u64,
 }
 
+// The answer of an audit: its outcome, beside the turns before the one that it names, of a sound log all; the iterations that are whole;
+// and the nodes over capacity after the last of them. After a refusal all three are 0.
+pub struct AuditAnswer {
+    pub outcome: Outcome,
+    pub turns: u64,
+    pub whole: u32,
+    pub over: u32,
+}
+
 // Where a run starts.
 enum Start {
     // With iteration 1.
@@ -51,6 +65,7 @@ enum Start {
     After(usize),
 }
 
+mod audit_log;
 mod back;
 mod congestion;
 mod due;
@@ -151,6 +166,53 @@ fn route_joined(
     }
 }
 
+// The refusal of a job given as tables with so many entries of work memory: 5, 15 or 6; `Accepted` where there is none.
+fn refusal_of(
+    kind: &[u8],
+    capacity: &[u8],
+    first_edge: &[u32],
+    edge_target: &[u16],
+    source: &[u16],
+    first_sink: &[u32],
+    sink: &[u16],
+    delay: &[u16],
+    criticality: &[u8],
+    terms: Terms,
+    entries: usize,
+) -> Outcome
+    ensures { λ r. do
+      let job = jobOf (now (kind .entry)) (now (capacity .entry)) (now («first_edge» .entry)) (now («edge_target» .entry))
+          (now (source .entry)) (now («first_sink» .entry)) (now (sink .entry)) (now (delay .entry)) (now (criticality .entry)) terms
+      ⌜ routeRefusal r 0 0 ≡ jobRefusal job entries ⌝ }
+{
+    let table = job::faulty_job(
+        kind,
+        capacity,
+        first_edge,
+        edge_target,
+        source,
+        first_sink,
+        sink,
+        delay,
+        criticality,
+        terms,
+    );
+    if 1 <= table {
+        return Outcome::BadTable(table);
+    }
+    if job::exceeds(kind.len(), terms) {
+        return Outcome::TooLarge {
+            nodes: kind.len() as u32,
+            limit: terms.limit,
+        };
+    }
+    let needed = 8 * kind.len();
+    if entries < needed {
+        return Outcome::ShortWork(needed as u64);
+    }
+    Outcome::Accepted
+}
+
 // Routes a job given as tables from a start: refusals 5, 15 and 6; then nets of one source are joined, and the joined
 // nets are routed.
 fn routed_from(
@@ -180,7 +242,7 @@ fn routed_from(
       let made = turnsLogged (routeReplyOf r (now (work .exit)) (now (log .exit)))
       ⌜ r .expanded ≡ expandedAfter aimed (joined job) (lentRecords start (now (log .entry))) made ⌝ }
 {
-    let table = job::faulty_job(
+    let refusal = refusal_of(
         kind,
         capacity,
         first_edge,
@@ -191,20 +253,11 @@ fn routed_from(
         delay,
         criticality,
         terms,
+        work.len(),
     );
-    if 1 <= table {
-        return refused(Outcome::BadTable(table));
-    }
-    if job::exceeds(kind.len(), terms) {
-        return refused(Outcome::TooLarge {
-            nodes: kind.len() as u32,
-            limit: terms.limit,
-        });
-    }
-    let needed = 8 * kind.len();
-    if work.len() < needed {
-        return refused(Outcome::ShortWork(needed as u64));
-    }
+    let Outcome::Accepted = refusal else {
+        return refused(refusal);
+    };
     let mut firsts = [0u32; FIRST_SINKS_MOST];
     let mut sinks = [0u16; SINKS_MOST];
     let mut criticalities = [0u8; SINKS_MOST];
@@ -323,6 +376,75 @@ pub fn resume(
         terms,
         Start::After(used as usize),
         aimed,
+        work,
+        log,
+    )
+}
+
+// Audits the words used of a log, whoever wrote it, against a job given as tables: answer and work slice are those of `auditReply`, and
+// what follows from that. The log is only read.
+pub fn audit(
+    kind: &[u8],
+    capacity: &[u8],
+    first_edge: &[u32],
+    edge_target: &[u16],
+    source: &[u16],
+    first_sink: &[u32],
+    sink: &[u16],
+    delay: &[u16],
+    criticality: &[u8],
+    terms: Terms,
+    used: u64,
+    work: &mut [u64],
+    log: &[u32],
+) -> AuditAnswer
+    ensures audited { λ r. do
+      let job = jobOf (now (kind .entry)) (now (capacity .entry)) (now («first_edge» .entry)) (now («edge_target» .entry))
+          (now (source .entry)) (now («first_sink» .entry)) (now (sink .entry)) (now (delay .entry)) (now (criticality .entry)) terms
+      ⌜ Audited job used (now (work .entry)) (now (log .entry)) (auditReplyOf r (now (work .exit))) ⌝ }
+{
+    let refusal = refusal_of(
+        kind,
+        capacity,
+        first_edge,
+        edge_target,
+        source,
+        first_sink,
+        sink,
+        delay,
+        criticality,
+        terms,
+        work.len(),
+    );
+    let Outcome::Accepted = refusal else {
+        return audit_log::refused(refusal);
+    };
+    let mut firsts = [0u32; FIRST_SINKS_MOST];
+    let mut sinks = [0u16; SINKS_MOST];
+    let mut criticalities = [0u8; SINKS_MOST];
+    let ends = source.len() + 1;
+    let count = join::joined_tables(
+        source,
+        first_sink,
+        sink,
+        criticality,
+        terms.timed,
+        &mut firsts,
+        &mut sinks,
+        &mut criticalities,
+    );
+    audit_log::audit_joined(
+        kind,
+        capacity,
+        first_edge,
+        edge_target,
+        source,
+        &firsts[..ends],
+        &sinks[..count],
+        delay,
+        &criticalities[..count],
+        terms,
+        used as usize,
         work,
         log,
     )

@@ -477,12 +477,13 @@ fn start_at(
     tree_from: &mut [usize],
     tree_to: &mut [usize],
     due: &mut [u8],
+    work: &mut [u64],
     log: &[u32],
 ) -> Taken
     requires { do
       let job = jobOf (now kind) (now capacity) (now «first_edge») (now «edge_target») (now source) (now «first_sink») (now sink)
           (now delay) (now criticality) terms
-      ⌜ Routable job
+      ⌜ Routable job × (8 * nodes job ≤ length (now work))
           × Ready job (firstProgress job) begun (now history) (now users) (now «in_tree») (now «tree_from») (now «tree_to») (now due)
           (now log) ⌝ }
     ensures { λ r. do
@@ -490,6 +491,7 @@ fn start_at(
           (now (source .entry)) (now («first_sink» .entry)) (now (sink .entry)) (now (delay .entry)) (now (criticality .entry)) terms
       ⌜ Started r start job (now (history .exit)) (now (users .exit)) (now («in_tree» .exit)) (now («tree_from» .exit))
           (now («tree_to» .exit)) (now (due .exit)) (now (log .entry)) ⌝ }
+    ensures { λ _. ⌜ SameFrom (8 * length (now (kind .entry))) (now (work .entry)) (now (work .exit)) ⌝ }
 {
     match start {
         Start::Anew => Taken::On(begun),
@@ -508,6 +510,7 @@ fn start_at(
                 delay,
                 criticality,
                 terms,
+                false,
                 begun,
                 history,
                 users,
@@ -515,6 +518,7 @@ fn start_at(
                 tree_from,
                 tree_to,
                 due,
+                work,
                 &log[..used],
             )
         }
@@ -565,7 +569,7 @@ fn run_from(
       let made = turnsLogged (routeReplyOf r (now (work .exit)) (now (log .exit)))
       ⌜ r .expanded ≡ expandedAfter (begun .aimed) job (lentRecords start (now (log .entry))) made ⌝ }
 {
-    match start_at(
+    let taken = start_at(
         kind,
         capacity,
         first_edge,
@@ -584,36 +588,36 @@ fn run_from(
         tree_from,
         tree_to,
         due,
+        work,
         log,
-    ) {
-        Taken::Off(word) => {
-            clear(work, 8 * kind.len());
-            refused(Outcome::Diverges(word as u64))
-        }
-        Taken::On(tariff) => go_on(
-            kind,
-            capacity,
-            first_edge,
-            edge_target,
-            first_back,
-            back_source,
-            source,
-            first_sink,
-            sink,
-            delay,
-            criticality,
-            terms,
-            tariff::going_on(tariff, begun.aimed),
-            history,
-            users,
-            in_tree,
-            tree_from,
-            tree_to,
-            due,
-            work,
-            log,
-        ),
-    }
+    );
+    let Taken::On(tariff) = taken else {
+        clear(work, 8 * kind.len());
+        return refused(Outcome::Diverges(take_up::words_at(taken) as u64));
+    };
+    go_on(
+        kind,
+        capacity,
+        first_edge,
+        edge_target,
+        first_back,
+        back_source,
+        source,
+        first_sink,
+        sink,
+        delay,
+        criticality,
+        terms,
+        tariff::going_on(tariff, begun.aimed),
+        history,
+        users,
+        in_tree,
+        tree_from,
+        tree_to,
+        due,
+        work,
+        log,
+    )
 }
 
 // The run with the search that aims, in lists for the edges by their target, of which the first holds 0.

@@ -44,6 +44,10 @@ fn outcome(r: RouteAnswer) {
         Outcome::TooLarge { nodes, limit } => {
             two_numbers(15, nodes as u64, limit as u64);
         }
+        Outcome::NotCheapest { word, cost, least } => {
+            two_numbers(18, word, cost);
+            show::value(least);
+        }
     }
 }
 

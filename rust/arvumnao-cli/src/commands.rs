@@ -1,5 +1,6 @@
 //! The subcommands. One is a module and a row here.
 
+mod audit;
 mod check;
 mod log;
 mod picture;
@@ -20,10 +21,17 @@ pub struct Command {
     pub usage: &'static str,
     pub about: &'static str,
     pub options: &'static [Opt],
-    /// Whether it takes several jobs.
+    /// Whether it takes several jobs, or a job and a log.
     pub several: bool,
     pub run: fn(&Args, &Console) -> Result<Status, Failure>,
 }
 
-pub const COMMANDS: [Command; 6] =
-    [route::COMMAND, check::COMMAND, log::COMMAND, report::COMMAND, picture::COMMAND, uses::COMMAND];
+pub const COMMANDS: [Command; 7] = [
+    route::COMMAND,
+    check::COMMAND,
+    log::COMMAND,
+    audit::COMMAND,
+    report::COMMAND,
+    picture::COMMAND,
+    uses::COMMAND,
+];

@@ -15,6 +15,8 @@ pub enum Status {
     Trouble = 2,
     /// The job is correct, but was not routed.
     NotRouted = 3,
+    /// A turn of an audited log is not a cheapest one.
+    NotCheapest = 4,
     /// Ctrl-C ended it: 128 plus the signal's number, as in shells.
     Interrupted = 130,
 }

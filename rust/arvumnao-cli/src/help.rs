@@ -20,10 +20,11 @@ pub fn general() -> String {
 
 const STATUSES: &str = "\
 Exit status, of several jobs the highest:
-  0    all were routed
+  0    all were routed; an audited log is sound
   1    a text or table was refused (refusals 1 to 5 and 15; 10 and 14 of a log)
   2    the arguments or files are the trouble
   3    sound, but not routed (refusals 7, 8, 9)
+  4    a turn of an audited log is not a cheapest one
   130  ended by Ctrl-C; SIGTERM counts as such
 ";
 

@@ -18,7 +18,7 @@ fn every_option_is_described() {
     let manual = document("arvumnao.1").replace("\\-", "-");
     let page = document("../../docs/COMMAND.md");
     let mut options = 0;
-    for name in ["route", "check", "log", "report", "picture", "uses"] {
+    for name in ["route", "check", "log", "audit", "report", "picture", "uses"] {
         assert!(manual.contains(&format!(".B {name} ")), "{name}");
         assert!(page.contains(&format!("\n## {name}\n")), "{name}");
         let help = folder.words(&format!("{name} --help")).out;
@@ -29,7 +29,7 @@ fn every_option_is_described() {
             options += 1;
         }
     }
-    assert_eq!(options, 8 + 4 + 5 + 4 + 4 + 12);
+    assert_eq!(options, 8 + 4 + 5 + 4 + 4 + 14);
 }
 
 /// The command and the wrapper are of one version.
@@ -90,12 +90,12 @@ fn run_all(document: &str, folder: &Folder) -> usize {
 
 #[test]
 fn the_examples_of_the_command() {
-    assert_eq!(run_all(&document("../../docs/COMMAND.md"), &examples("command_examples", ".")), 12);
+    assert_eq!(run_all(&document("../../docs/COMMAND.md"), &examples("command_examples", ".")), 13);
 }
 
 #[test]
 fn the_examples_of_the_readme() {
-    assert_eq!(run_all(&document("../../README.md"), &examples("readme_examples", "examples")), 1);
+    assert_eq!(run_all(&document("../../README.md"), &examples("readme_examples", "examples")), 2);
 }
 
 /// What a terminal shows of a run, by `script`.

@@ -37,7 +37,8 @@
 //! ```
 //!
 //! [`Job::route_with`] reports each iteration during the run, and may stop it. [`Log::replay`] goes through a log again and says what
-//! each turn paid for; [`Log::trees`] has the final trees. [`Job::text`] and [`Log::text`] write what [`Job::read`] and
+//! each turn paid for; [`Log::audit`] says whether each turn of a log, whoever made it, is a cheapest one; [`Log::trees`] has the final
+//! trees. [`Job::text`] and [`Log::text`] write what [`Job::read`] and
 //! [`Log::read`] read.
 //!
 //! A job with a [`Timing`] is timed: its critical sinks pay for delay rather than for room. [`Job::route_aimed`] routes by a search that
@@ -55,6 +56,7 @@
 #![warn(missing_docs)]
 
 mod alone;
+mod audit;
 mod job;
 pub mod kind;
 mod line;
@@ -74,6 +76,7 @@ mod walk;
 mod watch;
 
 pub use alone::{Congestion, Use};
+pub use audit::{Audit, Finding};
 pub use job::{Block, Job, Nets, Terms, Timing, EDGES, LIMIT, NETS, NODES, SINKS, TIMED_LIMIT, TIMED_NODES};
 pub use log::{Log, Record, Records};
 pub use refusal::{LineFault, Refusal, TableFault};

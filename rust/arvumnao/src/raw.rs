@@ -188,6 +188,27 @@ call! {
 }
 
 call! {
+    /// Audits so many words of a log, whoever wrote it. Terms are those of [`route`]; own numbers: turns, whole iterations, nodes over capacity
+    /// after the last of them, and the least cost of a turn that is not cheapest.
+    fn audit = arvumnao_audit(
+        kind: &[u8],
+        capacity: &[u8],
+        first_edge: &[u32],
+        edge_target: &[u16],
+        source: &[u16],
+        first_sink: &[u32],
+        sink: &[u16],
+        delay: &[u16],
+        criticality: &[u8],
+        terms: &[u32],
+        used: u64,
+        work: &mut [u64],
+        log: &[u32],
+        out: &mut [u64],
+    )
+}
+
+call! {
     /// Reads a job text. Own numbers: nodes, edges, nets, sinks, limit, first, up, down, step, rule, until, timed.
     fn read = arvumnao_read(
         text: &[u8],
@@ -242,11 +263,11 @@ call! {
     )
 }
 
-/// The refusal's numbers in `out`, as many as that refusal has; none if nothing was refused.
+/// The refusal's numbers in `out`, as many as that refusal has, or those of an audit's finding; none if nothing was refused.
 pub fn refusal(out: &[u64; OUT]) -> &[u64] {
     match out[0] {
         0 => &[],
-        7..=9 | 15 => &out[..3],
+        7..=9 | 15 | 18 => &out[..3],
         _ => &out[..2],
     }
 }

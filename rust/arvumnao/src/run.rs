@@ -327,7 +327,7 @@ impl Job {
     }
 
     /// The refusal of a sink without a path.
-    fn unreachable(&self, net: u32, place: u32) -> Refusal {
+    pub(crate) fn unreachable(&self, net: u32, place: u32) -> Refusal {
         let source = self.nets.source.get(net as usize).copied().unwrap_or_default();
         let sink = self.nets.joined_sinks(net as usize).get(place as usize).copied().unwrap_or_default();
         let line = self.first_listing(source, sink).unwrap_or_default();

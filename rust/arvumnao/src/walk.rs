@@ -3,6 +3,7 @@
 //! "Before a turn of net i in iteration t, the tree of i is its source with the nodes of its earlier records of iteration t. Any other
 //! net's tree is the nodes of its records in the latest iteration in which it has an earlier record; without one it is empty."
 
+use crate::alone::Congestion;
 use crate::job::{Job, LIMIT, TIMED_LIMIT};
 use crate::kind;
 use crate::log::Record;
@@ -225,6 +226,28 @@ impl<'j> Walk<'j> {
             Some(criticality) => criticality * u64::from(delay) * 100 + (10 - criticality) * congestion,
         };
         Step { node, history, base, excess, delay, price }
+    }
+
+    /// What a search of the turn of the record that was come to starts from.
+    pub(crate) fn congestion(&self) -> Congestion {
+        let has = |node: usize| self.marks[node] == self.mark;
+        let others = |(node, users): (usize, &u32)| (users - u32::from(has(node))) as u16;
+        Congestion {
+            factor: self.factor,
+            history: self.history.clone(),
+            others: self.users.iter().enumerate().map(others).collect(),
+            in_tree: (0..self.users.len()).map(|node| u8::from(has(node))).collect(),
+        }
+    }
+
+    /// The sinks that the turn may join: those of its net that the tree lacks, in a timed job the record's own, whose turn it is.
+    pub(crate) fn open(&self, record: &Record) -> Vec<u32> {
+        if self.job.timing.is_some() {
+            return vec![record.sink];
+        }
+        let sinks =
+            self.criticality.range((record.net, 0)..=(record.net, u32::MAX)).map(|((_, sink), _)| *sink);
+        sinks.filter(|sink| !self.has(*sink)).collect()
     }
 
     /// Takes the record that was come to: its nodes join the tree.

@@ -54,3 +54,11 @@ pub fn check_resumed(
     let answer = answer::Answer { refusal, iteration, turns, words, room };
     answer::check(job, &records, &trees, &answer)
 }
+
+/// Checks the turns in so many words of a log, whoever wrote it and wherever it ends: demand 3's clauses about turns alone. How many there are.
+pub fn check_turns(job: &Job, log: &[u32], words: u64) -> Result<u64, Fault> {
+    let joined = joined::Joined::new(job);
+    let records = records::read(log, words)?;
+    turns::walk(&joined.job(job), &records, 0)?;
+    Ok(records.len() as u64)
+}

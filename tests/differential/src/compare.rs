@@ -15,8 +15,8 @@ pub struct Answer {
 
 /// One call with all that is lent to it: the search and the calls about uses have a job's graph, tables 1 to 4, the reader the tables that it
 /// fills. A price with delay and criticality and a search with a criticality are timed; the search has table 9 then. The router is lent so
-/// many of the job's terms; where the words used of the log are told, it resumes; its search aims or is the plain one. The writer writes the
-/// routes text, or the picture.
+/// many of the job's terms; where the words used of the log are told, it resumes; its search aims or is the plain one. An audit only reads its
+/// log. The writer writes the routes text, or the picture.
 #[derive(Clone, Debug, PartialEq, Eq)]
 pub enum Case {
     Price {
@@ -41,6 +41,13 @@ pub enum Case {
         terms: usize,
         used: Option<u64>,
         aimed: bool,
+        work: Vec<u64>,
+        log: Vec<u32>,
+    },
+    Audit {
+        job: Job,
+        terms: usize,
+        used: u64,
         work: Vec<u64>,
         log: Vec<u32>,
     },
@@ -80,6 +87,7 @@ pub fn own(case: &Case) -> usize {
         Case::Price { .. } | Case::Write { .. } => 1,
         Case::Search { .. } => 0,
         Case::Route { aimed, .. } => 3 + usize::from(*aimed),
+        Case::Audit { .. } => 4,
         Case::Read { .. } => 12,
     }
 }
@@ -123,7 +131,7 @@ macro_rules! guards {
         fn $name(case: &mut Case) {
             match case {
                 Case::Price { .. } => {}
-                Case::Search { work, .. } => $one(work, 77),
+                Case::Search { work, .. } | Case::Audit { work, .. } => $one(work, 77),
                 Case::Route { work, log, .. } => {
                     $one(work, 77);
                     $one(log, 77);
@@ -224,6 +232,22 @@ macro_rules! call {
                     $($out)?
                 )
             }
+            Case::Audit { job, terms, used, work, log } => $side::audit(
+                &job.kind,
+                &job.capacity,
+                &job.first_edge,
+                &job.edge_target,
+                &job.source,
+                &job.first_sink,
+                &job.sink,
+                &job.delay,
+                &job.criticality,
+                &lent_terms(job, *terms),
+                *used,
+                lend(work),
+                log,
+                $($out)?
+            ),
             Case::Read { text, tables } => $side::read(
                 text,
                 lend(&mut tables.kind),
@@ -369,7 +393,7 @@ fn slices(case: &Case) -> Vec<(&'static str, Vec<u64>)> {
             ]);
             list
         }
-        Case::Route { job, work, log, .. } => {
+        Case::Route { job, work, log, .. } | Case::Audit { job, work, log, .. } => {
             let mut list = job_slices(job);
             list.extend([("work", work.clone()), ("log", wide(log))]);
             list
@@ -435,6 +459,12 @@ fn memory(before: &Case, after: &After) -> Result<(), String> {
                 && log[..lent] == log_after[..lent]
                 && log[words..] == log_after[words..]
         }
+        (
+            Case::Audit { job, work, log, .. },
+            Case::Audit { job: job_after, work: work_after, log: log_after, .. },
+        ) if matches!(refusal, 0 | 7 | 14 | 18) => {
+            job == job_after && cleared(work, work_after, 0, 8 * job.kind.len()) && log == log_after
+        }
         (Case::Search { graph, work, .. }, Case::Search { work: work_after, .. }) if refusal == 0 => {
             let nodes = graph.kind.len();
             cleared(work, work_after, nodes, 8 * nodes)
@@ -480,6 +510,9 @@ fn cleared(before: &[u64], after: &[u64], from: usize, end: usize) -> bool {
 /// The checker's word on the log of a sound job with enough work memory. Of one that is resumed the words lent count as they are, once
 /// they are taken up.
 fn check(after: &After) -> Result<(), String> {
+    if let Case::Audit { job, terms, used, log, .. } = &after.case {
+        return check_audit(&taken(job, *terms), *used as usize, log, &after.answer);
+    }
     let Case::Route { job, terms, used, log, .. } = &after.case else { return Ok(()) };
     let Answer { refusal, numbers } = &after.answer;
     if matches!(refusal.first(), Some(5 | 6 | 14 | 15)) {
@@ -489,6 +522,28 @@ fn check(after: &After) -> Result<(), String> {
     let job = taken(job, *terms);
     checker::check_resumed(&checked(&job), lent, log, refusal, numbers[0], numbers[1], numbers[2])
         .map_err(|fault| format!("the checker faults the log ({:?}): {fault}", after.answer))
+}
+
+/// The checker's word on the same log: of a sound one it counts as many turns, and faults nothing where the log settles; of one that is not
+/// cheapest it faults the same turn, with the same costs.
+fn check_audit(job: &Job, used: usize, log: &[u32], answer: &Answer) -> Result<(), String> {
+    let (job, numbers) = (checked(job), &answer.numbers);
+    let agrees = match answer.refusal[..] {
+        [] => {
+            let settles = numbers[1] > 0 && numbers[2] == 0;
+            let whole = || checker::check(&job, &log[..used], &[], numbers[1], numbers[0], used as u64);
+            checker::check_turns(&job, log, used as u64) == Ok(numbers[0]) && (!settles || whole() == Ok(()))
+        }
+        [18, word, cost] => {
+            let words = word + 6 + u64::from(log[word as usize + 5]);
+            let fault = checker::Fault::CheaperPath { turn: numbers[0], logged: cost, least: numbers[3] };
+            checker::check_turns(&job, log, words) == Err(fault)
+        }
+        _ => true,
+    };
+    agrees
+        .then_some(())
+        .ok_or_else(|| format!("the checker has another word on a log that is audited: {answer:?}"))
 }
 
 /// The job as the checker takes it.
@@ -686,11 +741,30 @@ pub mod inject {
         }
     }
 
+    /// Faults of audits.
+    fn of_audits(fault: u32, before: &Case, answer: &mut Answer) {
+        let Case::Audit { job, .. } = before else { return };
+        match (fault, &answer.refusal[..]) {
+            // a dear turn is passed as sound
+            (38, [18, ..]) => {
+                answer.refusal.clear();
+                answer.numbers[0] += 1;
+                answer.numbers[3] = 0;
+            }
+            // the least cost is told one too high
+            (39, [18, ..]) if job.is_timed() => answer.numbers[3] += 1,
+            // an iteration that ends with the words isn't whole
+            (40, []) if answer.numbers[1] > 0 => answer.numbers[1] -= 1,
+            _ => {}
+        }
+    }
+
     /// Faults of the tuning, the pins, joined nets, the rule and the bounds of counts.
     fn of_requests(fault: u32, before: &Case, after: &mut Case, answer: &mut Answer) {
         of_timed(fault, before, after, answer);
         of_resumes(fault, before, answer);
         of_aimed(fault, before, answer);
+        of_audits(fault, before, answer);
         match (fault, before) {
             // a step of 2 counts a turn too many
             (8, Case::Route { job, .. }) if job.tuning.step == 2 && answer.numbers[0] >= 2 => {

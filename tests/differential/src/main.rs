@@ -14,6 +14,7 @@ mod logs;
 mod outcomes;
 mod resumes;
 mod run;
+mod searches;
 mod shrink;
 mod uses;
 mod wander;

@@ -6,7 +6,7 @@ use crate::resumes::Lent;
 use job::{texts, Counts, Job, Tuning};
 
 /// Every outcome that a whole run must come to.
-const EXPECTED: [&str; 399] = [
+const EXPECTED: [&str; 438] = [
     "price accepted",
     "price 13,0",
     "price 13,1",
@@ -87,6 +87,45 @@ const EXPECTED: [&str; 399] = [
     "log with costs over 32 bits taken up",
     "log of joined nets taken up",
     "lent log damaged word by word",
+    "audit accepted",
+    "audit 5,1",
+    "audit 5,2",
+    "audit 5,3",
+    "audit 5,4",
+    "audit 5,5",
+    "audit 5,6",
+    "audit 5,7",
+    "audit 5,8",
+    "audit 5,9",
+    "audit 5,10",
+    "audit 6",
+    "audit 7",
+    "audit 14",
+    "audit 15 by nodes",
+    "audit 15 by the limit",
+    "audit 18",
+    "audit of own log sound",
+    "audit of own log cut behind a record sound",
+    "audit of log with ties broken otherwise sound",
+    "audit of log of a stale router not cheapest",
+    "audit of log of a stale router sound",
+    "audit of wandering log not cheapest",
+    "audit of log of other terms not cheapest",
+    "audit of changed log 14",
+    "audit of words beyond the log 14",
+    "audit of no words sound",
+    "audit of a log that settles sound",
+    "audit of two whole iterations and more not cheapest",
+    "audit of two whole iterations and more sound",
+    "audit of turns without a whole iteration not cheapest",
+    "audit of turns without a whole iteration sound",
+    "audit of a timed job not cheapest",
+    "audit of a timed job sound",
+    "audit of joined nets not cheapest",
+    "audit of joined nets sound",
+    "audit of a log with a tree kept not cheapest",
+    "audit of a log with a tree kept sound",
+    "audited log damaged word by word",
     "read accepted",
     "read 1",
     "read 2",
@@ -447,6 +486,7 @@ impl Outcomes {
                 self.count_joined(after, job);
                 "route"
             }
+            Case::Audit { .. } => "audit",
             Case::Read { text, .. } => {
                 self.count_pin_line(after, text);
                 self.count_term_lines(after, text);
@@ -572,6 +612,30 @@ impl Outcomes {
             [14, word] => self.count_diverging(lent, word),
             [5..=7 | 15, ..] => {}
             _ => self.count_taken_up(lent),
+        }
+    }
+
+    /// Counts what an audit finds in a log.
+    pub fn count_audited(&mut self, lent: &Lent, after: &After) {
+        let numbers = &after.answer.numbers;
+        let end = match after.answer.refusal.first() {
+            None => String::from("sound"),
+            Some(18) => String::from("not cheapest"),
+            Some(number) => number.to_string(),
+        };
+        self.count(format!("audit of {} {end}", lent.name));
+        let told = matches!(after.answer.refusal.first(), None | Some(18));
+        let names = [
+            (lent.used == 0, "no words"),
+            (told && lent.job.is_timed(), "a timed job"),
+            (told && lent.job.rule == 2 && logs::passes_over(&lent.words), "a log with a tree kept"),
+            (told && logs::has_joined(&lent.job.source), "joined nets"),
+            (told && numbers[1] > 0 && numbers[2] == 0, "a log that settles"),
+            (told && numbers[1] > 1, "two whole iterations and more"),
+            (told && numbers[0] > 0 && numbers[1] == 0, "turns without a whole iteration"),
+        ];
+        for (_, name) in names.into_iter().filter(|name| name.0) {
+            self.count(format!("audit of {name} {end}"));
         }
     }
 

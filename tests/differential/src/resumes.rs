@@ -18,7 +18,7 @@ pub struct Lent {
 
 impl Lent {
     /// A log of which all words are used.
-    fn new(name: &'static str, job: &Job, words: Vec<u32>) -> Lent {
+    pub fn new(name: &'static str, job: &Job, words: Vec<u32>) -> Lent {
         Lent { name, job: job.clone(), used: words.len() as u64, words, past: Vec::new() }
     }
 
@@ -32,6 +32,19 @@ impl Lent {
             aimed: false,
             work: work(8 * self.job.kind.len() + 2),
             log,
+        }
+    }
+}
+
+impl Lent {
+    /// The audit of the same words.
+    pub fn audit(&self) -> Case {
+        Case::Audit {
+            job: self.job.clone(),
+            terms: TERMS,
+            used: self.used,
+            work: work(8 * self.job.kind.len() + 2),
+            log: [&self.words[..], &self.past].concat(),
         }
     }
 }

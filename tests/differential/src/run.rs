@@ -8,6 +8,7 @@ use crate::lengths::{self, around};
 use crate::logs;
 use crate::outcomes::{self, Outcomes};
 use crate::resumes::{self, Lent};
+use crate::searches::{self, Way};
 use crate::uses::{self, Counts};
 use job::{jobs, texts, window, Job, Lengths, Rng, TERMS};
 
@@ -35,6 +36,8 @@ pub struct Run {
     rng: Rng,
     /// Which calls are aimed too, apart from the other generator so that what else is called doesn't depend on it.
     aims: Rng,
+    /// What audits are made of, apart too.
+    audited: Rng,
     /// Prints each seed before it runs, for a library that crashes.
     trace: bool,
 }
@@ -54,6 +57,7 @@ impl Run {
             outcomes: Outcomes::default(),
             rng: Rng::new(0),
             aims: Rng::new(0),
+            audited: Rng::new(0),
             trace: std::env::var_os("DIFFERENTIAL_TRACE").is_some(),
         }
     }
@@ -95,6 +99,7 @@ impl Run {
     fn begin(&mut self, name: &str, seed: u64, stream: u64) {
         self.rng = Rng::new(stream);
         self.aims = Rng::new(stream ^ 1 << 63);
+        self.audited = Rng::new(stream ^ 1 << 62);
         if self.trace {
             eprintln!("{name} {seed}");
         }
@@ -122,6 +127,9 @@ impl Run {
         self.damaged(&job)?;
         self.damaged(&job)?;
         self.resumes(&job)?;
+        std::mem::swap(&mut self.rng, &mut self.audited);
+        self.audits(&job)?;
+        std::mem::swap(&mut self.rng, &mut self.audited);
         let search = alone::search(&mut self.rng);
         self.case(search)?;
         if self.rng.percent(50) {
@@ -283,6 +291,90 @@ impl Run {
             }
         }
         self.outcomes.count("lent log damaged word by word");
+        Ok(())
+    }
+
+    /// Audits of the job's own log, of logs to go on from, and of other routers'.
+    fn audits(&mut self, job: &Job) -> Result<(), Failure> {
+        if job.kind.len() > 60 && !self.rng.once_in(20) {
+            return Ok(());
+        }
+        self.own_audits(job)?;
+        let lent = resumes::lent(&mut self.rng, job);
+        self.audit(&lent)?;
+        if self.rng.once_in(3) {
+            self.refused_audit(&lent)?;
+        }
+        let most = self.rng.within(1, 4).min(job.limit as usize) as u32;
+        let ties = searches::log(&mut self.rng, job, most, Way::Ties);
+        self.sound(&Lent::new("log with ties broken otherwise", job, ties))?;
+        let stale = searches::log(&mut self.rng, job, most, Way::Stale);
+        let stale = Lent::new("log of a stale router", job, stale);
+        self.audit(&stale)?;
+        if stale.words.len() <= 60 && self.rng.once_in(40) {
+            self.damaged_audits(&stale)?;
+        }
+        Ok(())
+    }
+
+    /// The job's own log is sound, whole and cut behind any record.
+    fn own_audits(&mut self, job: &Job) -> Result<(), Failure> {
+        let own = resumes::own_log(job, job.limit);
+        self.sound(&Lent::new("own log", job, own.clone()))?;
+        let places = logs::records(&own);
+        if own.len() <= 300 && self.rng.once_in(24) {
+            for place in places {
+                self.sound(&Lent::new("own log cut behind a record", job, own[..place].to_vec()))?;
+            }
+        } else {
+            let place = self.rng.pick(&places);
+            self.sound(&Lent::new("own log cut behind a record", job, own[..place].to_vec()))?;
+        }
+        Ok(())
+    }
+
+    /// An audit that finds nothing, unless the job itself is refused.
+    fn sound(&mut self, lent: &Lent) -> Result<(), Failure> {
+        let after = self.audit(lent)?;
+        match after.answer.refusal.first() {
+            None | Some(5 | 7 | 15) => Ok(()),
+            _ => {
+                let message = format!("{} is not sound: {:?}", lent.name, after.answer);
+                Err(Failure { case: Box::new(lent.audit()), out: None, message })
+            }
+        }
+    }
+
+    fn audit(&mut self, lent: &Lent) -> Result<After, Failure> {
+        let after = self.case(lent.audit())?;
+        self.outcomes.count_audited(lent, &after);
+        Ok(after)
+    }
+
+    /// The same with something wrong that is told before the log is looked at.
+    fn refused_audit(&mut self, lent: &Lent) -> Result<(), Failure> {
+        let mut case = lent.audit();
+        let Case::Audit { job, terms, work, .. } = &mut case else { return Ok(()) };
+        match self.rng.below(4) {
+            0 => *terms = self.rng.below(11),
+            1 => work.truncate(self.rng.below(8 * job.kind.len())),
+            2 => *job = jobs::small(&mut self.rng),
+            _ => damage::damage(&mut self.rng, job),
+        }
+        self.case(case)?;
+        Ok(())
+    }
+
+    /// Every word of a log damaged in turn.
+    fn damaged_audits(&mut self, lent: &Lent) -> Result<(), Failure> {
+        for place in 0..lent.words.len() {
+            for word in [lent.words[place] ^ 1, lent.words[place].wrapping_add(1), u32::MAX] {
+                let mut damaged = lent.clone();
+                damaged.words[place] = word;
+                self.case(damaged.audit())?;
+            }
+        }
+        self.outcomes.count("audited log damaged word by word");
         Ok(())
     }
 

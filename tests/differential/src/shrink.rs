@@ -132,6 +132,7 @@ fn only_written(case: &Case, number: usize) -> bool {
         Case::Price { .. } => false,
         Case::Search { .. } => number == 4,
         Case::Route { used, .. } => number == 7 || number == 8 && used.is_none(),
+        Case::Audit { .. } => number == 7,
         Case::Read { .. } => number >= 1,
         Case::Write { .. } => number >= 2,
         Case::AddUses { .. } => false,
@@ -142,9 +143,10 @@ fn only_written(case: &Case, number: usize) -> bool {
 /// Whole records of a stored log.
 fn record_count(case: &Case) -> usize {
     match case {
-        Case::Write { log, .. } | Case::AddUses { log, .. } | Case::Route { used: Some(_), log, .. } => {
-            crate::logs::records(log).len() - 1
-        }
+        Case::Write { log, .. }
+        | Case::AddUses { log, .. }
+        | Case::Audit { log, .. }
+        | Case::Route { used: Some(_), log, .. } => crate::logs::records(log).len() - 1,
         _ => 0,
     }
 }
@@ -154,6 +156,7 @@ fn drop_from_log(case: &mut Case, step: Step) -> Option<()> {
     let (log, used) = match case {
         Case::Write { log, .. } | Case::AddUses { log, .. } => (log, None),
         Case::Route { log, used, .. } => (log, used.as_mut()),
+        Case::Audit { log, used, .. } => (log, Some(used)),
         _ => return None,
     };
     let (places, length) = (crate::logs::records(log), log.len());
@@ -197,7 +200,7 @@ fn sizes(case: &Case) -> (usize, usize, usize, usize) {
         Case::Search { graph, .. } | Case::AddUses { graph, .. } | Case::WriteUses { graph, .. } => {
             (graph.kind.len(), graph.edge_target.len(), 0, 0)
         }
-        Case::Route { job, .. } => job_sizes(job),
+        Case::Route { job, .. } | Case::Audit { job, .. } => job_sizes(job),
         Case::Read { text, .. } => read_back(text).map_or((0, 0, 0, 0), |job| job_sizes(&job)),
         _ => (0, 0, 0, 0),
     }
@@ -271,7 +274,16 @@ fn drop_parts(mut case: Case, step: Step) -> Option<Case> {
                 (0..count).for_each(|_| number_log_anew(log, from));
             }
         }
-        Case::Route { terms, .. } if matches!(step, Step::Terms) => *terms = TERMS,
+        Case::Route { terms, .. } | Case::Audit { terms, .. } if matches!(step, Step::Terms) => {
+            *terms = TERMS
+        }
+        Case::Audit { job, work, log, used, .. } => {
+            drop_from_job(job, step)?;
+            lend_without(step, used, log);
+            if let Step::Nodes(_, count) = step {
+                work.truncate(work.len().saturating_sub(8 * count));
+            }
+        }
         Case::Route { aimed, .. } if matches!(step, Step::Unaimed) => *aimed = false,
         Case::Route { job, log, used: Some(used), .. } if matches!(step, Step::Own(_)) => {
             let Step::Own(count) = step else { return None };
@@ -468,6 +480,13 @@ macro_rules! with_graph {
     };
 }
 
+/// A case with a job of this pattern.
+macro_rules! with_job {
+    ($job:pat) => {
+        Case::Route { job: $job, .. } | Case::Audit { job: $job, .. }
+    };
+}
+
 /// Calls something with the slice of a case that has a number.
 macro_rules! with_slice {
     ($case:expr, $number:expr, $slice:ident => $body:expr) => {
@@ -481,17 +500,17 @@ macro_rules! with_slice {
             (Case::Search { others: $slice, .. }, 6) => $body,
             (Case::Search { in_tree: $slice, .. }, 7) => $body,
             (Case::Search { graph: Job { delay: $slice, .. }, .. }, _) => $body,
-            (Case::Route { job: Job { kind: $slice, .. }, .. }, 0) => $body,
-            (Case::Route { job: Job { capacity: $slice, .. }, .. }, 1) => $body,
-            (Case::Route { job: Job { first_edge: $slice, .. }, .. }, 2) => $body,
-            (Case::Route { job: Job { edge_target: $slice, .. }, .. }, 3) => $body,
-            (Case::Route { job: Job { source: $slice, .. }, .. }, 4) => $body,
-            (Case::Route { job: Job { first_sink: $slice, .. }, .. }, 5) => $body,
-            (Case::Route { job: Job { sink: $slice, .. }, .. }, 6) => $body,
-            (Case::Route { work: $slice, .. }, 7) => $body,
-            (Case::Route { log: $slice, .. }, 8) => $body,
-            (Case::Route { job: Job { delay: $slice, .. }, .. }, 9) => $body,
-            (Case::Route { job: Job { criticality: $slice, .. }, .. }, _) => $body,
+            (with_job!(Job { kind: $slice, .. }), 0) => $body,
+            (with_job!(Job { capacity: $slice, .. }), 1) => $body,
+            (with_job!(Job { first_edge: $slice, .. }), 2) => $body,
+            (with_job!(Job { edge_target: $slice, .. }), 3) => $body,
+            (with_job!(Job { source: $slice, .. }), 4) => $body,
+            (with_job!(Job { first_sink: $slice, .. }), 5) => $body,
+            (with_job!(Job { sink: $slice, .. }), 6) => $body,
+            (Case::Route { work: $slice, .. } | Case::Audit { work: $slice, .. }, 7) => $body,
+            (Case::Route { log: $slice, .. } | Case::Audit { log: $slice, .. }, 8) => $body,
+            (with_job!(Job { delay: $slice, .. }), 9) => $body,
+            (with_job!(Job { criticality: $slice, .. }), _) => $body,
             (Case::Read { text: $slice, .. }, 0) => $body,
             (Case::Read { tables: Job { kind: $slice, .. }, .. }, 1) => $body,
             (Case::Read { tables: Job { capacity: $slice, .. }, .. }, 2) => $body,
@@ -517,7 +536,7 @@ fn slice_count(case: &Case) -> usize {
     match case {
         Case::Price { .. } => 0,
         Case::Search { criticality, .. } => 8 + usize::from(criticality.is_some()),
-        Case::Route { .. } => 11,
+        Case::Route { .. } | Case::Audit { .. } => 11,
         Case::Read { .. } => 10,
         Case::Write { .. } => 3,
         Case::AddUses { .. } | Case::WriteUses { .. } => 6,
@@ -588,6 +607,10 @@ fn numbers(case: &Case) -> Vec<u64> {
             let terms = job.terms().into_iter().take(lowered(job)).map(u64::from);
             terms.chain(*used).collect()
         }
+        Case::Audit { job, used, .. } => {
+            let terms = job.terms().into_iter().take(lowered(job)).map(u64::from);
+            terms.chain([*used]).collect()
+        }
         _ => Vec::new(),
     }
 }
@@ -603,9 +626,10 @@ fn set_number(case: &mut Case, number: usize, value: u64) -> Option<()> {
         Case::Search { factor, criticality, .. } => [factor].into_iter().chain(criticality).nth(number)?,
         Case::AddUses { logs, .. } | Case::WriteUses { logs, .. } => return reduce(logs, value),
         Case::Route { job, used, .. } if number == lowered(job) => return reduce(used.as_mut()?, value),
+        Case::Audit { job, used, .. } if number == lowered(job) => return reduce(used, value),
         // the tuning is the plain one since the steps were listed: it stays
-        Case::Route { job, .. } if number > lowered(job) => return None,
-        Case::Route { job: Job { limit, tuning: Tuning { first, up, down, step }, .. }, .. } => {
+        with_job!(job) if number > lowered(job) => return None,
+        with_job!(Job { limit, tuning: Tuning { first, up, down, step }, .. }) => {
             [limit, first, up, down, step].into_iter().nth(number)?
         }
         _ => return None,
@@ -628,7 +652,7 @@ pub fn literal(case: &Case) -> String {
             ("in_tree", "u8"),
             ("delay", "u16"),
         ],
-        Case::Route { .. } => &[
+        Case::Route { .. } | Case::Audit { .. } => &[
             ("kind", "u8"),
             ("capacity", "u8"),
             ("first_edge", "u32"),
@@ -716,6 +740,12 @@ fn call(case: &Case) -> String {
                 "{name}(&kind, &capacity, &first_edge, &edge_target, &source, &first_sink, &sink, &delay, &criticality, &{terms:?}, {used}&mut work, &mut log)"
             )
         }
+        Case::Audit { job, terms, used, .. } => {
+            let terms = lent_terms(job, *terms);
+            format!(
+                "audit(&kind, &capacity, &first_edge, &edge_target, &source, &first_sink, &sink, &delay, &criticality, &{terms:?}, {used}, &mut work, &log)"
+            )
+        }
         Case::Read { .. } => String::from(
             "read(&text, &mut kind, &mut capacity, &mut first_edge, &mut edge_target, &mut source, &mut first_sink, &mut sink, &mut delay, &mut criticality)",
         ),
@@ -784,6 +814,16 @@ mod tests {
         assert!(job.is_timed() && job.kind.len() <= 4 && job.sink.len() == 1);
         let Case::Route { job, aimed: true, log, .. } = smallest(35) else { panic!("fault 35") };
         assert!(job.kind.len() == 2 && job.edge_target.is_empty() && log.is_empty());
+    }
+
+    /// A finding rests on costs in the log, which the shrinker leaves: of such a case it takes what comes after the turn told, no more.
+    fn audit_faults_are_made_small() {
+        let Case::Audit { job, used, log, .. } = smallest(38) else { panic!("fault 38") };
+        assert!(job.limit <= 2 && job.rule == 1 && used as usize <= log.len() && log.len() <= 170);
+        let Case::Audit { job, used, log, .. } = smallest(39) else { panic!("fault 39") };
+        assert!(job.is_timed() && used as usize <= log.len() && log.len() <= 170);
+        let Case::Audit { job, used, .. } = smallest(40) else { panic!("fault 40") };
+        assert!(job.limit == 1 && job.rule == 1 && used <= 100);
     }
 
     /// The library's own ends are set beside each other before plain's, and the fault is told so.
@@ -856,6 +896,7 @@ mod tests {
         assert!(job.rule == 2 && job.until > 1 && job.limit == 2 && used.is_some_and(|used| used <= 18));
         timed_faults_are_made_small();
         aimed_faults_are_made_small();
+        audit_faults_are_made_small();
         faults_beside_itself_are_made_small();
         FAULT.store(0, Ordering::Relaxed);
         assert!(first_failure().is_none());

@@ -45,7 +45,7 @@ pub fn log(rng: &mut Rng, job: &Job, most: u32, stray: Option<Stray>) -> Vec<u32
 }
 
 /// The nets that make turns in an iteration.
-fn due(job: &Job, tables: &checker::Job, trees: &Trees, iteration: u32) -> Vec<usize> {
+pub fn due(job: &Job, tables: &checker::Job, trees: &Trees, iteration: u32) -> Vec<usize> {
     let all = job.rule == 1 || iteration <= job.until;
     let crowded = |net: usize| trees.members(net).iter().any(|&node| trees.over(tables, node) > 0);
     (0..tables.nets()).filter(|&net| !tables.sinks(net).is_empty() && (all || crowded(net))).collect()

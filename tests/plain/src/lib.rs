@@ -3,6 +3,7 @@
 //! they leave.
 
 mod aim;
+mod audit;
 mod flow;
 mod join;
 mod log;
@@ -16,6 +17,7 @@ mod uses;
 mod writer;
 
 pub use aim::aimed_path;
+pub use audit::audit;
 pub use flow::{sizes, Lent, Routed, Tables, Writer};
 pub use price::{price, timed_price, Tuning};
 pub use reader::read;

@@ -10,17 +10,17 @@ use std::collections::BTreeSet;
 struct Off(usize);
 
 /// A whole record as it was lent. Nothing in it is known to be sound.
-struct Lent<'a> {
+pub struct Lent<'a> {
     iteration: u32,
     net: u32,
     sink: u32,
-    cost: u64,
+    pub cost: u64,
     path: &'a [u32],
 }
 
 impl Lent<'_> {
     /// The record at the front of these words, unless it is cut short.
-    fn of(words: &[u32]) -> Option<Lent<'_>> {
+    pub fn of(words: &[u32]) -> Option<Lent<'_>> {
         let &[iteration, net, sink, low, high, length, ref rest @ ..] = words else { return None };
         let path = rest.get(..length as usize)?;
         Some(Lent { iteration, net, sink, cost: (high as u64) << 32 | low as u64, path })
@@ -35,12 +35,12 @@ struct Replay<'a> {
 }
 
 /// A net with its tree before one of its turns, and the sinks that the turn may join: in a timed job the one whose turn it is.
-struct Turn<'a> {
-    graph: &'a Graph<'a>,
-    nets: &'a Joined<'a>,
-    state: &'a State,
-    net: usize,
-    open: Vec<Sink>,
+pub struct Turn<'a> {
+    pub graph: &'a Graph<'a>,
+    pub nets: &'a Joined<'a>,
+    pub state: &'a State,
+    pub net: usize,
+    pub open: Vec<Sink>,
 }
 
 impl Turn<'_> {
@@ -53,7 +53,7 @@ impl Turn<'_> {
     }
 
     /// The path of a record, if the record can be this turn.
-    fn follows(&self, lent: &Lent) -> Option<Vec<usize>> {
+    pub fn follows(&self, lent: &Lent) -> Option<Vec<usize>> {
         let path: Vec<usize> = lent.path.iter().map(|&node| node as usize).collect();
         let good = lent.iteration == self.state.iteration
             && lent.net as usize == self.net

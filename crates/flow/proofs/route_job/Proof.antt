@@ -9,7 +9,7 @@ use Rattle.negotiation.specs.Outcome.{routeRefusal}
 use Rattle.negotiation.specs.declared.Outcome.{Outcome}
 use Rattle.text.specs.ReadReplies.{Tables}
 use Rattle.flow.specs.RunReplies.{lentOf, runReplyWith, routeRun}
-use Rattle.flow.proofs.RunLaws.{words-fit, run-accepted, run-refused}
+use Rattle.flow.proofs.RunLaws.{words-fit, never-found, run-accepted, run-refused}
 use Rattle.flow.proofs.route_job.Statement.{statement}
 use Rattle.flow.proofs.route_job.Tie as tie
 
@@ -83,13 +83,21 @@ returns-7 c = refused (routed (c .before .before .before)) _ _ _ (c .before .out
 returns-8 : tie.Need-returns-8
 returns-8 c = refused (routed (c .before .before .before)) _ _ _ (c .before .outcome6 .given .1) refl
 
+returns-9 : tie.Need-returns-9
+returns-9 c =
+    let r = routed (c .before .before .before) in
+    let a = entry r .args in
+    absurd
+    (never-found (job (entry r)) (a .work .now) (a .log .now) (r .route .result) (work-left r) (log-left r) (r .route .ensures .0 .as-negotiated)
+    (c .before .outcome7 .given .1))
+
 pub route-job-spec : {M : Type 1} → statement M
 route-job-spec =
     tie.close
     (tie.spec route-requires (λ c. search needs) write-used-requires (λ c. search needs) (λ c. search needs) (λ c. search needs)
     (λ c. search needs) (λ c. search needs) (λ c. search needs) (λ c. search needs) (λ c. search needs) (λ c. search needs)
     (λ c. search needs) (λ c. search needs) (λ c. search needs) (λ c. search needs) (λ c. search needs) (λ c. search needs)
-    (λ c. search needs) (λ c. search needs) (λ c. search needs) returns (λ c. search needs) (λ c. search needs) returns-2
+    (λ c. search needs) (λ c. search needs) (λ c. search needs) (λ c. search needs) returns (λ c. search needs) (λ c. search needs) returns-2
     (λ c. search needs) (λ c. search needs) returns-3 (λ c. search needs) (λ c. search needs) returns-4 (λ c. search needs)
     (λ c. search needs) returns-5 (λ c. search needs) (λ c. search needs) returns-6 (λ c. search needs) (λ c. search needs) returns-7
-    (λ c. search needs) (λ c. search needs) returns-8)
+    (λ c. search needs) (λ c. search needs) returns-8 (λ c. search needs) (λ c. search needs) returns-9)

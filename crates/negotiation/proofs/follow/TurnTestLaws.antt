@@ -1,5 +1,5 @@
 -- The test of one record at a place of the log: its frame, then one pass over its path, then the two words of its cost.
---     cost-low, cost-high                   the words of a cost
+--     cost-low, cost-high, cost-named       the words of a cost
 --     turn-unframed                         the frame doesn't follow
 --     turn-ready                            the pass can be made
 --     turn-strays, turn-dear                the path strays, or costs something else
@@ -8,7 +8,7 @@
 use mathlib.Core.Bool.{Bool, true, false}
 use mathlib.Core.List.{List, [], _∷_}
 use mathlib.Core.Path.{_≡_, sym, _∙_, ap, subst}
-use Prim.Native.Nat.{ℕ, _+_, _-_, _/_, _%_, _^_}
+use Prim.Native.Nat.{ℕ, _+_, _*_, _-_, _/_, _%_, _^_}
 use native.Mathlib.Omega.{arith}
 use lib.Dec.{eqb}
 use lib.ListN.{getD, drop}
@@ -19,7 +19,7 @@ use Rattle.search.specs.Block.{Block, nodes}
 use Rattle.search.specs.Turn.{Congestion, priceAt}
 use Rattle.negotiation.specs.Resume.{recordPath}
 use Rattle.job.specs.Steps.{Stored}
-use Rattle.negotiation.specs.ResumeSteps.{passCost, RecordReady, PassReady, costsOf, PathMarked, costIs, frameFollows, turnPasses}
+use Rattle.negotiation.specs.ResumeSteps.{passCost, RecordReady, PassReady, costsOf, PathMarked, costIs, namedCost, frameFollows, turnPasses}
 use Rattle.negotiation.specs.declared.follow.PathCost.{PathCost}
 use Rattle.negotiation.specs.declared.follow.PathCost.the-variants.{Cost, Strays}
 use Rattle.negotiation.proofs.FrameLaws.{pathCount, path-read, frame-at}
@@ -32,6 +32,10 @@ module _ (log : List ℕ) (at cost : ℕ) where
 
   pub cost-high : getD log (at + 3) 0 ≡ cost % 2 ^ 32 → eqb (getD log (at + 4) 0) (cost / 2 ^ 32) ≡ costIs (drop at log) (cost ∷ [])
   cost-high low = rw (getD-drop at log 3 0, getD-drop at log 4 0, eq-eqb (getD log (at + 3) 0) (cost % 2 ^ 32) low)
+
+-- the cost that they name
+pub cost-named : (log : List ℕ) (at : ℕ) → getD log (at + 3) 0 + getD log (at + 4) 0 * 2 ^ 32 ≡ namedCost (drop at log)
+cost-named log at = rw (getD-drop at log 3 0, getD-drop at log 4 0)
 
 -- ---- the record
 

@@ -2,64 +2,78 @@
 --     Taking, take-start, taking-long     the iterations so far
 --     nets-on, next-below                 what its nets come to
 --     due-asks, nets-open, growable       the next one begins, and what each call asks
---     take-off                            a net strays
+--     take-stopped                        a net ends it
 --     same-iteration                      else it is whole
---     take-settled, take-last             it settles, or is the limit's
+--     take-whole                          an audit ends behind it, it settles, or is the limit's
 --     take-next, take-on                  else the run can go on, in the log or behind it
 -- Assumes nothing.
 use mathlib.Core.Bool.{Bool, true, false}
 use mathlib.Core.List.{List, []}
 use mathlib.Core.Logic.{⊎-elim}
 use mathlib.Core.Path.{_≡_, refl, sym, _∙_, ap, subst}
-use Prim.Native.Nat.{ℕ, suc, _+_, _-_, _<_}
+use Prim.Native.Nat.{ℕ, suc, _+_, _-_, _<_, zero-le}
 use native.Mathlib.Nat.{eq-or-lt-of-le}
 use native.Mathlib.Omega.{arith}
 use lib.Dec.{eqb, leb, ltb}
 use lib.ListN.{length, getD}
-use borrow.Author.Tests.{eq-eqb, ne-eqb, le-leb, lt-leb, ltb-true, ltb-false}
-use Rattle.price.specs.Test.{choose, either}
+use borrow.Author.Tests.{eq-eqb, eqb-true, eqb-false, le-leb, lt-leb, le-ltb, ltb-true, ltb-false}
+use Rattle.price.specs.Test.{choose, both, either}
 use Rattle.price.specs.Lists.{upTo}
 use Rattle.price.specs.Prices.{nextFactor}
-use Rattle.price.proofs.TestLaws.{by-test, either-true}
+use Rattle.price.proofs.TestLaws.{by-test, true≢false}
+use Rattle.price.proofs.BelowLaws.{count-same}
 use Rattle.job.specs.Job.{Job, nodes, nets}
 use Rattle.negotiation.specs.Routable.{Routable}
 use Rattle.negotiation.specs.Records.{encode}
-use Rattle.negotiation.specs.Machine.{Progress, allDue, overCount, moveOn, firstState}
+use Rattle.negotiation.specs.Machine.{State, Progress, overfull, allDue, overCount, moveOn, firstState}
 use Rattle.negotiation.specs.Outcome.{firstProgress}
 use Rattle.negotiation.specs.Steps.{takes, DueReady}
 use Rattle.negotiation.specs.TariffSteps.{endedTariff, startedTariff}
 use Rattle.negotiation.specs.Kept.{CanGoOn, Ready}
-use Rattle.negotiation.specs.Resume.{Replay, on, off, ifOn, replayNets, replayNext, replayFrom}
-use Rattle.negotiation.specs.TakeSteps.{NetsOpen, NetsOn, NetsTaken, LogOn, LogTaken}
+use Rattle.negotiation.specs.Resume.{Replay, on, off, ends, notCheapest, ifOn, atEnd, sinceStart, movedOn, replayNets, replayNext, replayFrom}
+use Rattle.negotiation.specs.TakeSteps.{toldOf, wholeAs, ToldAt, NetsOpen, NetsOn, NetsEnd, NetsTaken, LogOn, LogEnds, LogTaken}
 use Rattle.negotiation.specs.declared.tariff.Tariff.{Tariff}
 use Rattle.negotiation.specs.declared.take_up.Taken.{Taken}
-use Rattle.negotiation.specs.declared.take_up.Taken.the-variants.{On, Off}
+use Rattle.negotiation.specs.declared.take_up.Taken.the-variants.{On, Off, Ends, NotCheapest}
+use Rattle.negotiation.specs.declared.take_up.Told.{Told}
+use Rattle.negotiation.specs.declared.take_up.Walk.{Walk}
+use Rattle.negotiation.proofs.ReplayLaws.{either-no}
+use Rattle.negotiation.proofs.UserLaws.{count-zero, users-none}
 use Rattle.negotiation.proofs.NetLaws.{grown-on}
 use Rattle.negotiation.proofs.KeepProgress.{users-long, marks-long, due-ready, due-marked, overUsed, over-is, grow, kept-moved}
+use Rattle.negotiation.proofs.take_up.JudgedLaws.{whole-said-ends, whole-said-off, whole-said-on, WholeOn, whole-said-so}
 use Rattle.negotiation.proofs.take_up.TakeTurnLaws.{can-ready}
 
 -- ---- the iterations so far
 
 -- they follow and lead to this progress; the log goes on behind it, or ends here
-pub record Taking (j : Job) (more : Bool) (t : Tariff) (history users marks from to dues log : List ℕ) : Type 0 where
+pub record Taking (audit : Bool) (j : Job) (more : Bool) (over : ℕ) (t : Tariff) (history users marks from to dues log : List ℕ) : Type 0 where
   pub progress : Progress
   pub left : ℕ
   pub left-is : left + progress .state .iteration ≡ j .terms .limit + 1
   pub is :
-      replayFrom j log (j .terms .limit) (firstState j) []
-      ≡ choose more (replayFrom j log left (progress .state) (progress .records)) (on progress)
+      replayFrom audit j log (j .terms .limit) (firstState j) []
+      ≡ choose more (replayFrom audit j log left (progress .state) (progress .records)) (on progress)
+  pub over-is : over ≡ overCount j (progress .state .trees)
   pub ready : Ready j progress t history users marks from to dues log
+
+-- nothing is over capacity where no net has a tree
+none-over : (j : Job) → 0 ≡ overCount j (firstState j .trees)
+unfolding overCount overfull
+none-over j =
+    sym (count-same (overfull j (firstState j .trees)) (λ _. false) (nodes j) (λ v h. rw (users-none j v) (le-ltb (getD (j .block .capacities) v 0) 0 (zero-le)))
+    ∙ count-zero (nodes j))
 
 -- none, at first
 pub take-start :
-    (j : Job) {t : Tariff} {history users marks from to dues log : List ℕ} → Ready j (firstProgress j) t history users marks from to dues log
-    → Taking j true t history users marks from to dues log
+    (audit : Bool) (j : Job) {t : Tariff} {history users marks from to dues log : List ℕ} → Ready j (firstProgress j) t history users marks from to dues log
+    → Taking audit j true 0 t history users marks from to dues log
 unfolding firstState
-take-start j r = record { progress = firstProgress j; left = j .terms .limit; left-is = refl; is = refl; ready = r }
+take-start audit j r = record { progress = firstProgress j; left = j .terms .limit; left-is = refl; is = refl; over-is = none-over j; ready = r }
 
 -- the lists keep their lengths
 pub taking-long :
-    (j : Job) {more : Bool} {t : Tariff} {history users marks from to dues log : List ℕ} → Taking j more t history users marks from to dues log
+    {audit : Bool} (j : Job) {more : Bool} {over : ℕ} {t : Tariff} {history users marks from to dues log : List ℕ} → Taking audit j more over t history users marks from to dues log
     → (length history ≡ nodes j) × (length users ≡ nodes j) × (length marks ≡ nodes j) × (length from ≡ nets j) × (length to ≡ nets j) × (length dues ≡ nets j)
 taking-long j a =
     let kept = a .ready .kept in (
@@ -73,30 +87,25 @@ taking-long j a =
 
 -- the log is at its end
 pub take-on :
-    (j : Job) {more : Bool} {t : Tariff} {history users marks from to dues log : List ℕ} → Taking j more t history users marks from to dues log → more ≡ false
-    → LogOn j t history users marks from to dues log
-take-on j {log = log} a e =
+    {audit : Bool} (j : Job) {more : Bool} {over : ℕ} {t : Tariff} {history users marks from to dues log : List ℕ} → Taking audit j more over t history users marks from to dues log → more ≡ false
+    → LogOn audit j t history users marks from to dues log
+take-on {audit} j {log = log} a e =
     record {
       progress = a .progress;
-      is = a .is ∙ ap (λ (b : Bool). choose b (replayFrom j log (a .left) (a .progress .state) (a .progress .records)) (on (a .progress))) e;
+      is = a .is ∙ ap (λ (b : Bool). choose b (replayFrom audit j log (a .left) (a .progress .state) (a .progress .records)) (on (a .progress))) e;
       ready = a .ready;
     }
 
 -- ---- what the nets come to, by cases
 
 pub nets-on :
-    (j : Job) (p : Progress) (history users marks from to log : List ℕ) {r : Taken} {t : Tariff} → NetsTaken r j p history users marks from to log → r ≡ On t
-    → NetsOn j p (nets j) t history users marks from to log
-nets-on j p history users marks from to log n e = subst (λ (x : Taken). NetsTaken x j p history users marks from to log) e n
-
-nets-none :
-    (j : Job) (p : Progress) (history users marks from to log : List ℕ) {r : Taken} {w : ℕ} → NetsTaken r j p history users marks from to log → r ≡ Off w
-    → replayNets j log (p .state) (p .records) (nets j) ≡ off w
-nets-none j p history users marks from to log n e = subst (λ (x : Taken). NetsTaken x j p history users marks from to log) e n
+    (walk : Walk) (j : Job) (p : Progress) (history users marks from to log : List ℕ) {r : Taken} {t : Tariff} → NetsTaken walk r j p history users marks from to log
+    → r ≡ On t → NetsOn (walk .audit) j p (nets j) t history users marks from to log
+nets-on walk j p history users marks from to log n e = subst (λ (x : Taken). NetsTaken walk x j p history users marks from to log) e n
 
 -- one is left behind an iteration that is not the limit's
 pub next-below :
-    (j : Job) {p : Progress} {i : ℕ} {t : Tariff} {history users marks from to log : List ℕ} → NetsOn j p i t history users marks from to log
+    {audit : Bool} (j : Job) {p : Progress} {i : ℕ} {t : Tariff} {history users marks from to log : List ℕ} → NetsOn audit j p i t history users marks from to log
     → (t .iteration ≡ j .terms .limit → ⊥) → t .iteration < j .terms .limit
 next-below j {t = t} n go =
     let is = n .at .iteration-is in
@@ -106,15 +115,15 @@ next-below j {t = t} n go =
 
 -- one iteration of the replay
 from-step :
-    (j : Job) (ws : List ℕ) (k : ℕ) (q : Progress) (a : Replay) → replayNets j ws (q .state) (q .records) (nets j) ≡ a
-    → replayFrom j ws (suc k) (q .state) (q .records) ≡ ifOn a (λ p. replayNext j ws p (replayFrom j ws k))
+    (audit : Bool) (j : Job) (ws : List ℕ) (k : ℕ) (q : Progress) (a : Replay) → replayNets audit j ws (q .state) (q .records) (nets j) ≡ a
+    → replayFrom audit j ws (suc k) (q .state) (q .records) ≡ ifOn (sinceStart (q .state) a) (λ p. replayNext audit j ws p (replayFrom audit j ws k))
 unfolding replayFrom
-from-step j ws k q a e = rw e
+from-step audit j ws k q a e = rw e
 
 -- ---- the next iteration
 
-module _ (j : Job) (sound : Routable j) {more : Bool} {t : Tariff} {history users marks from to dues log : List ℕ}
-    (a : Taking j more t history users marks from to dues log) where
+module _ (j : Job) (sound : Routable j) {audit more : Bool} {over : ℕ} {t : Tariff} {history users marks from to dues log : List ℕ}
+    (a : Taking audit j more over t history users marks from to dues log) where
   abbrev here : Progress
   here = a .progress
 
@@ -152,61 +161,133 @@ module _ (j : Job) (sound : Routable j) {more : Bool} {t : Tariff} {history user
         let below = a .ready .can .below in
         omega arith
 
-    one-more : replayFrom j log (j .terms .limit) (firstState j) [] ≡ replayFrom j log (suc (a .left - 1)) (here .state) (here .records)
+    one-more : replayFrom audit j log (j .terms .limit) (firstState j) [] ≡ replayFrom audit j log (suc (a .left - 1)) (here .state) (here .records)
     one-more =
-        a .is ∙ ap (λ (b : Bool). choose b (replayFrom j log (a .left) (here .state) (here .records)) (on here)) some
-        ∙ ap (λ (k : ℕ). replayFrom j log k (here .state) (here .records)) some-left
+        a .is ∙ ap (λ (b : Bool). choose b (replayFrom audit j log (a .left) (here .state) (here .records)) (on here)) some
+        ∙ ap (λ (k : ℕ). replayFrom audit j log k (here .state) (here .records)) some-left
 
-    -- a net strays
-    strays : {w : ℕ} → replayNets j log (here .state) (here .records) (nets j) ≡ off w → replayFrom j log (j .terms .limit) (firstState j) [] ≡ off w
-    strays {w} e = one-more ∙ from-step j log (a .left - 1) here (off w) e
+    abbrev walk : Walk
+    walk = record { audit = audit; over = over }
 
-    pub take-off :
-        (users′ marks′ from′ to′ : List ℕ) {r : Taken} {w : ℕ} → NetsTaken r j here history users′ marks′ from′ to′ log → r ≡ Off w
-        → (history″ users″ marks″ from″ to″ dues″ : List ℕ) → LogTaken r j history″ users″ marks″ from″ to″ dues″ log
-    take-off users′ marks′ from′ to′ n e history″ users″ marks″ from″ to″ dues″ =
-        subst (λ (x : Taken). LogTaken x j history″ users″ marks″ from″ to″ dues″ log) (sym e)
-        (strays (nets-none j here history users′ marks′ from′ to′ log n e))
+    -- a net ends it
+    ended-so : (told : Told) (reply : Progress → Replay)
+        → ((q : Progress) (s : State) (next : Progress → Replay) → ifOn (sinceStart s (reply q)) next ≡ reply (record { records = q .records; state = s }))
+        → NetsEnd walk j here log told reply → LogEnds audit j log told reply
+    ended-so told reply since n =
+        record {
+          progress = record { records = n .progress .records; state = here .state };
+          is = one-more ∙ from-step audit j log (a .left - 1) here (reply (n .progress)) (n .is) ∙ since (n .progress) (here .state) _;
+          told-at = subst (λ (k : ℕ). ToldAt (n .progress .records) (here .state .iteration) k told) (a .over-is) (n .told-at);
+        }
+
+    pub take-stopped :
+        (users′ marks′ from′ to′ : List ℕ) (r : Taken) → ((t″ : Tariff) → r ≡ On t″ → ⊥) → NetsTaken walk r j here history users′ marks′ from′ to′ log
+        → (history″ users″ marks″ from″ to″ dues″ : List ℕ) → LogTaken audit r j history″ users″ marks″ from″ to″ dues″ log
+    take-stopped users′ marks′ from′ to′ (On t″) other n history″ users″ marks″ from″ to″ dues″ = absurd (other t″ refl)
+    take-stopped users′ marks′ from′ to′ (Off w) other n history″ users″ marks″ from″ to″ dues″ = one-more ∙ from-step audit j log (a .left - 1) here (off w) n
+    take-stopped users′ marks′ from′ to′ (Ends told) other n history″ users″ marks″ from″ to″ dues″ = ended-so told ends (λ q s next. refl) n
+    take-stopped users′ marks′ from′ to′ (NotCheapest told cost least) other n history″ users″ marks″ from″ to″ dues″ =
+        ended-so told (λ q. notCheapest q cost least) (λ q s next. refl) n
 
     -- or all nets follow
-    module _ {t′ : Tariff} {users′ marks′ from′ to′ : List ℕ} (n : NetsOn j here (nets j) t′ history users′ marks′ from′ to′ log) where
+    module _ {t′ : Tariff} {users′ marks′ from′ to′ : List ℕ} (n : NetsOn audit j here (nets j) t′ history users′ marks′ from′ to′ log) where
       abbrev end : Progress
       end = n .progress
 
-      whole : replayFrom j log (j .terms .limit) (firstState j) [] ≡ replayNext j log end (replayFrom j log (a .left - 1))
-      whole = one-more ∙ from-step j log (a .left - 1) here (on end) (n .is)
+      whole : replayFrom audit j log (j .terms .limit) (firstState j) [] ≡ replayNext audit j log end (replayFrom audit j log (a .left - 1))
+      whole = one-more ∙ from-step audit j log (a .left - 1) here (on end) (n .is)
 
       over-same : overUsed j users′ ≡ overCount j (end .state .trees)
       over-same = over-is j (n .kept)
 
-      stops : either (eqb (overCount j (end .state .trees)) 0) (leb (j .terms .limit) (end .state .iteration)) ≡ true
-          → replayFrom j log (j .terms .limit) (firstState j) [] ≡ off (t′ .words)
-      stops s = whole ∙ rw s (ap off (sym (n .at .tallied .words-is)))
+      abbrev moved : Progress
+      moved = movedOn j end
 
-      pub take-settled : overUsed j users′ ≡ 0 → replayFrom j log (j .terms .limit) (firstState j) [] ≡ off (t′ .words)
-      take-settled none = stops (rw (eq-eqb (overCount j (end .state .trees)) 0 (sym over-same ∙ none)))
+      end-so : {b : Bool} → both audit (leb (length log) (t′ .words)) ≡ b → both audit (atEnd log (end .records)) ≡ b
+      end-so e = ap (λ (k : ℕ). both audit (leb (length log) k)) (sym (n .at .tallied .words-is)) ∙ e
 
-      pub take-last : t′ .iteration ≡ j .terms .limit → replayFrom j log (j .terms .limit) (firstState j) [] ≡ off (t′ .words)
-      take-last l =
+      -- it is the limit's
+      last-is : leb (j .terms .limit) (end .state .iteration) ≡ eqb (t′ .iteration) (j .terms .limit)
+      last-is =
           let is = n .at .iteration-is in
-          stops (rw (le-leb (j .terms .limit) (end .state .iteration) (omega arith)) (either-true (eqb (overCount j (end .state .trees)) 0)))
+          let made = n .at .can .iteration-is in
+          let below = n .at .can .below in
+          by-test (eqb (t′ .iteration) (j .terms .limit))
+          (λ q.
+          let e : t′ .iteration ≡ j .terms .limit = eqb-true (t′ .iteration) (j .terms .limit) q in
+          le-leb (j .terms .limit) (end .state .iteration) (omega arith) ∙ sym q)
+          (λ q.
+          let l : t′ .iteration < j .terms .limit =
+          ⊎-elim (λ (e : t′ .iteration ≡ j .terms .limit). absurd (true≢false (sym (eq-eqb (t′ .iteration) (j .terms .limit) e) ∙ q))) (λ l. l) (eq-or-lt-of-le (omega arith)) in
+          lt-leb (j .terms .limit) (end .state .iteration) (omega arith) ∙ sym q)
+
+      -- the nodes over capacity are counted
+      module _ (over′ : ℕ) (counts : over′ ≡ overUsed j users′) where
+        over-so : over′ ≡ overCount j (end .state .trees)
+        over-so = counts ∙ over-same
+
+        abbrev stop : Bool
+        stop = either (eqb over′ 0) (eqb (t′ .iteration) (j .terms .limit))
+
+        stop-is : either (eqb (overCount j (end .state .trees)) 0) (leb (j .terms .limit) (end .state .iteration)) ≡ stop
+        stop-is = rw (last-is, ← over-so)
+
+        -- an audit's words end behind it
+        ends-whole : both audit (leb (length log) (t′ .words)) ≡ true → LogEnds audit j log (toldOf t′ (t′ .iteration) over′) ends
+        unfolding moveOn
+        ends-whole e =
+            let q : both audit (atEnd log (end .records)) ≡ true = end-so e in
+            record {
+              progress = moved;
+              is = whole ∙ rw q;
+              told-at =
+                  record {
+                    turns-is = n .at .tallied .turns-is;
+                    words-is = n .at .tallied .words-is;
+                    whole-is = ap (λ (k : ℕ). k + 1) (n .at .iteration-is);
+                    over-is = over-so;
+                  };
+            }
+
+        stops : both audit (leb (length log) (t′ .words)) ≡ false → stop ≡ true → replayFrom audit j log (j .terms .limit) (firstState j) [] ≡ off (t′ .words)
+        stops e s =
+            let q : both audit (atEnd log (end .records)) ≡ false = end-so e in
+            whole ∙ rw (q, stop-is, s) (ap off (sym (n .at .tallied .words-is)))
+
+        -- what is answered then
+        pub take-whole :
+            (r : Taken) → r ≡ wholeAs audit t′ over′ (j .terms .limit) (length log) → ((t″ : Tariff) → r ≡ On t″ → ⊥)
+            → (history″ users″ marks″ from″ to″ dues″ : List ℕ) → LogTaken audit r j history″ users″ marks″ from″ to″ dues″ log
+        take-whole r is other history″ users″ marks″ from″ to″ dues″ =
+            by-test (both audit (leb (length log) (t′ .words)))
+            (λ e. taken-as (Ends (toldOf t′ (t′ .iteration) over′)) (whole-said-ends audit t′ over′ (j .terms .limit) (length log) e) (ends-whole e))
+            (λ e.
+            by-test stop
+            (λ s. taken-as (Off (t′ .words)) (whole-said-off audit t′ over′ (j .terms .limit) (length log) e s) (stops e s))
+            (λ s. absurd (other t′ (is ∙ whole-said-on audit t′ over′ (j .terms .limit) (length log) e s))))
+          where
+            taken-as : (x : Taken) → wholeAs audit t′ over′ (j .terms .limit) (length log) ≡ x → LogTaken audit x j history″ users″ marks″ from″ to″ dues″ log
+                → LogTaken audit r j history″ users″ marks″ from″ to″ dues″ log
+            taken-as x e l = subst (λ (y : Taken). LogTaken audit y j history″ users″ marks″ from″ to″ dues″ log) (sym (is ∙ e)) l
 
       -- in the same iteration, so that the next one lowers the measure
       pub same-iteration : t′ .iteration ≡ t .iteration
       same-iteration = n .at .iteration-is ∙ n .same ∙ sym (a .ready .iteration-is)
 
-      -- the run can go on
-      module _ (open-still : overUsed j users′ ≡ 0 → ⊥) (low : t′ .iteration < j .terms .limit) where
-        abbrev moved : Progress
-        moved = record { records = end .records; state = moveOn j (end .state) }
+      -- or the run can go on
+      module _ (over′ : ℕ) (counts : over′ ≡ overUsed j users′) {t″ : Tariff}
+          (goes : On t″ ≡ wholeAs audit t′ over′ (j .terms .limit) (length log)) where
+        said : WholeOn audit t′ over′ (j .terms .limit) (length log) t″
+        said = whole-said-so audit t′ over′ (j .terms .limit) (length log) goes
 
-        goes : either (eqb (overCount j (end .state .trees)) 0) (leb (j .terms .limit) (end .state .iteration)) ≡ false
-        goes =
-            let is = n .at .iteration-is in
-            rw (
-              ne-eqb (overCount j (end .state .trees)) 0 (λ z. open-still (over-same ∙ z)),
-              lt-leb (j .terms .limit) (end .state .iteration) (omega arith),
-            )
+        more-words : both audit (atEnd log (end .records)) ≡ false
+        more-words = end-so (said .more)
+
+        goes-still : either (eqb (overCount j (end .state .trees)) 0) (leb (j .terms .limit) (end .state .iteration)) ≡ false
+        goes-still = stop-is over′ counts ∙ said .unsettled
+
+        pub low : t′ .iteration < j .terms .limit
+        low = next-below j n (eqb-false (t′ .iteration) (j .terms .limit) (either-no (eqb over′ 0) (eqb (t′ .iteration) (j .terms .limit)) (said .unsettled)))
 
         can-next : CanGoOn j moved
         unfolding moveOn
@@ -214,6 +295,7 @@ module _ (j : Job) (sound : Routable j) {more : Bool} {t : Tariff} {history user
             let c = n .at .can in
             let made = c .iteration-is in
             let is = n .at .iteration-is in
+            let l = low in
             record {
               made = suc (c .made);
               below = omega arith;
@@ -224,23 +306,24 @@ module _ (j : Job) (sound : Routable j) {more : Bool} {t : Tariff} {history user
 
         -- in the log, or behind it
         ended : (more′ : Bool) → more′ ≡ ltb (t′ .words) (length log)
-            → replayFrom j log (j .terms .limit) (firstState j) [] ≡ choose more′ (replayFrom j log (a .left - 1) (moved .state) (moved .records)) (on moved)
+            → replayFrom audit j log (j .terms .limit) (firstState j) [] ≡ choose more′ (replayFrom audit j log (a .left - 1) (moved .state) (moved .records)) (on moved)
         ended more′ e =
             let words-are = n .at .tallied .words-is in
             by-test (ltb (t′ .words) (length log))
             (λ q.
             let l = ltb-true (t′ .words) (length log) q in
-            whole ∙ rw (e, q, goes, lt-leb (length log) (length (encode (end .records))) (omega arith)))
+            whole ∙ rw (e, q, more-words, goes-still, lt-leb (length log) (length (encode (end .records))) (omega arith)))
             (λ q.
             let l = ltb-false (t′ .words) (length log) q in
-            whole ∙ rw (e, q, goes, le-leb (length log) (length (encode (end .records))) (omega arith)))
+            whole ∙ rw (e, q, more-words, goes-still, le-leb (length log) (length (encode (end .records))) (omega arith)))
 
         pub take-next :
             {dues′ : List ℕ} → length dues′ ≡ nets j → {history′ : List ℕ} → history′ ≡ upTo (grow j (n .kept)) (length history)
-            → {t″ : Tariff} → t″ ≡ startedTariff (endedTariff (j .terms .tuning) t′) → {more′ : Bool} → more′ ≡ ltb (t″ .words) (length log)
-            → Taking j more′ t″ history′ users′ marks′ from′ to′ dues′ log
+            → {t‴ : Tariff} → t‴ ≡ startedTariff (endedTariff (j .terms .tuning) t″) → {more′ : Bool} → more′ ≡ ltb (t‴ .words) (length log)
+            → Taking audit j more′ over′ t‴ history′ users′ marks′ from′ to′ dues′ log
         unfolding moveOn
-        take-next due-long grown-so e {more′} m =
+        take-next due-long grown-so {t‴} next-is {more′} m =
+            let e : t‴ ≡ startedTariff (endedTariff (j .terms .tuning) t′) = next-is ∙ ap (λ (x : Tariff). startedTariff (endedTariff (j .terms .tuning) x)) (said .same) in
             let is = a .left-is in
             let left-some = some-left in
             let same = n .same in
@@ -250,6 +333,7 @@ module _ (j : Job) (sound : Routable j) {more : Bool} {t : Tariff} {history user
               progress = moved;
               left = a .left - 1;
               left-is = omega arith;
+              over-is = over-so over′ counts;
               is = ended more′ (m ∙ ap (λ (k : ℕ). ltb k (length log)) words-same);
               ready =
                   record {

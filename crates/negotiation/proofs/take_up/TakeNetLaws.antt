@@ -2,12 +2,12 @@
 --     net-tables                          the tables that its turns read
 --     nets-start, net-ready               the nets so far, and the next one begins
 --     net-asks                            its turns can be followed
---     nets-off                            they stray, and so does the iteration
+--     nets-stopped                        they end the iteration
 --     end-ready, net-next                 or its new tree counts
 --     nets-all                            all nets follow
 -- Assumes nothing.
 use mathlib.Core.Bool.{Bool, true, false}
-use mathlib.Core.List.{List, []}
+use mathlib.Core.List.{List, [], _++_}
 use mathlib.Core.Logic.{⊎-elim}
 use mathlib.Core.Path.{_≡_, refl, sym, _∙_, ap, subst}
 use Prim.Native.Nat.{ℕ, zero, suc, _+_, _-_, _≤_, _<_}
@@ -16,18 +16,20 @@ use native.Mathlib.Numerals.{add-one}
 use native.Mathlib.Omega.{arith}
 use lib.ListN.{length, getD}
 use Rattle.price.specs.Test.{choose}
-use Rattle.price.proofs.TestLaws.{by-test, either-way, true≢false}
+use Rattle.price.proofs.TestLaws.{by-test, either-way}
 use Rattle.job.specs.Job.{Job, jobOf, nodes, nets, netSinks}
 use Rattle.negotiation.specs.Routable.{Routable}
 use Rattle.negotiation.specs.Records.{Record, pathNodes}
 use Rattle.negotiation.specs.Machine.{State, Progress, withNet, due}
 use Rattle.negotiation.specs.Steps.{BeginReady, Begun, Idle, EndReady, Ended, Passed}
-use Rattle.negotiation.specs.Resume.{Replay, on, off, replayTurns, replayNets}
-use Rattle.negotiation.specs.TakeSteps.{NetTables, NetOpens, NetOn, NetTaken, NetsOpen, NetsOn, NetsTaken}
+use Rattle.negotiation.specs.Resume.{Replay, on, off, ends, notCheapest, ifOn, goneTo, replayTurns, replayNets}
+use Rattle.negotiation.specs.TakeSteps.{NetTables, NetOpens, NetOn, ToldAt, NetEnds, NetTaken, NetsOpen, NetsOn, NetsEnd, NetsTaken}
 use Rattle.job.specs.declared.Terms.{Terms}
 use Rattle.negotiation.specs.declared.tariff.Tariff.{Tariff}
 use Rattle.negotiation.specs.declared.take_up.Taken.{Taken}
-use Rattle.negotiation.specs.declared.take_up.Taken.the-variants.{On, Off}
+use Rattle.negotiation.specs.declared.take_up.Taken.the-variants.{On, Off, Ends, NotCheapest}
+use Rattle.negotiation.specs.declared.take_up.Told.{Told}
+use Rattle.negotiation.specs.declared.take_up.Walk.{Walk}
 use Rattle.negotiation.proofs.DueLaws.{due-some}
 use Rattle.negotiation.proofs.KeepLaws.{Opened, dueMarks}
 use Rattle.negotiation.proofs.KeepProgress.{users-long, marks-long, due-mark, dues-long, begin-ready, opens, countable, counted}
@@ -35,18 +37,13 @@ use Rattle.negotiation.proofs.KeepStart.{sinks-count}
 
 -- ---- answers by cases
 
-abbrev isOn : Taken → Bool
-isOn (On t) = true
-isOn (Off w) = false
-
-on-off : {t : Tariff} {w : ℕ} → On t ≡ Off w → ⊥
-on-off e = true≢false (ap isOn e)
-
 abbrev tariffIn : Tariff → Taken → Tariff
 tariffIn d (On t) = t
 tariffIn d (Off w) = d
+tariffIn d (Ends told) = d
+tariffIn d (NotCheapest told cost least) = d
 
-on-same : {t t′ : Tariff} → On t ≡ On t′ → t ≡ t′
+pub on-same : {t t′ : Tariff} → On t ≡ On t′ → t ≡ t′
 on-same {t} e = ap (tariffIn t) e
 
 -- ---- the tables of a net
@@ -62,48 +59,55 @@ net-tables kinds capacities firstEdges edgeTargets sources firstSinks sinks dela
 
 -- none, at first
 pub nets-start :
-    (j : Job) {p : Progress} {t : Tariff} {history users marks from to dues log : List ℕ} → NetsOpen j p t history users marks from to dues log
-    → NetsOn j p 0 t history users marks from to log
+    (audit : Bool) (j : Job) {p : Progress} {t : Tariff} {history users marks from to dues log : List ℕ} → NetsOpen j p t history users marks from to dues log
+    → NetsOn audit j p 0 t history users marks from to log
 unfolding replayNets
-nets-start j {p} o = record { progress = p; is = refl; same = refl; at = o .at; kept = o .kept }
+nets-start audit j {p} o = record { progress = p; is = refl; same = refl; at = o .at; kept = o .kept }
 
--- a net that strays ends the iteration
-off-step : (j : Job) (ws : List ℕ) (s : State) (rs : List Record) (i w : ℕ) → replayNets j ws s rs i ≡ off w → replayNets j ws s rs (suc i) ≡ off w
-unfolding replayNets
-off-step j ws s rs i w e = rw e
+-- an answer after which no net is followed
+abbrev Stays : Replay → Type 0
+Stays a = (next : Progress → Replay) → ifOn a next ≡ a
 
-off-more : (j : Job) (ws : List ℕ) (s : State) (rs : List Record) (i w : ℕ) → replayNets j ws s rs i ≡ off w → (k : ℕ) → replayNets j ws s rs (k + i) ≡ off w
-off-more j ws s rs i w e zero =
+module _ (audit : Bool) (j : Job) (ws : List ℕ) (s : State) (rs : List Record) (i : ℕ) where
+  -- it is the iteration's
+  stop-step : (a : Replay) → Stays a → replayNets audit j ws s rs i ≡ a → replayNets audit j ws s rs (suc i) ≡ a
+  unfolding replayNets
+  stop-step a stays e = rw e (stays _)
+
+  -- a net more
+  net-more :
+      (q : Progress) (a : Replay) → replayNets audit j ws s rs i ≡ on q
+      → choose (due j s i) (replayTurns audit j ws i q (length (netSinks j i)) []) (on q) ≡ a → replayNets audit j ws s rs (suc i) ≡ a
+  unfolding replayNets
+  net-more q a e f = rw e f
+
+stop-more :
+    (audit : Bool) (j : Job) (ws : List ℕ) (s : State) (rs : List Record) (i : ℕ) (a : Replay) → Stays a → replayNets audit j ws s rs i ≡ a
+    → (k : ℕ) → replayNets audit j ws s rs (k + i) ≡ a
+stop-more audit j ws s rs i a stays e zero =
     let none : i ≡ 0 + i = omega arith in
-    subst (λ (n : ℕ). replayNets j ws s rs n ≡ off w) none e
-off-more j ws s rs i w e (suc k) =
+    subst (λ (n : ℕ). replayNets audit j ws s rs n ≡ a) none e
+stop-more audit j ws s rs i a stays e (suc k) =
     let one : suc (k + i) ≡ suc k + i = omega arith in
-    subst (λ (n : ℕ). replayNets j ws s rs n ≡ off w) one (off-step j ws s rs (k + i) w (off-more j ws s rs i w e k))
-
--- a net more
-net-more :
-    (j : Job) (ws : List ℕ) (s : State) (rs : List Record) (i : ℕ) (q : Progress) (a : Replay) → replayNets j ws s rs i ≡ on q
-    → choose (due j s i) (replayTurns j ws i q (length (netSinks j i)) []) (on q) ≡ a → replayNets j ws s rs (suc i) ≡ a
-unfolding replayNets
-net-more j ws s rs i q a e f = rw e f
+    subst (λ (n : ℕ). replayNets audit j ws s rs n ≡ a) one (stop-step audit j ws s rs (k + i) a stays (stop-more audit j ws s rs i a stays e k))
 
 -- past the last net
 pub nets-all :
-    (j : Job) {p : Progress} {i : ℕ} {t : Tariff} {history users marks from to log : List ℕ} → NetsOn j p i t history users marks from to log → i ≤ nets j
-    → nets j ≤ i → NetsOn j p (nets j) t history users marks from to log
-nets-all j {p} {t = t} {history} {users} {marks} {from} {to} {log} at upto l =
-    subst (λ (k : ℕ). NetsOn j p k t history users marks from to log) (le-antisymm upto l) at
+    {audit : Bool} (j : Job) {p : Progress} {i : ℕ} {t : Tariff} {history users marks from to log : List ℕ} → NetsOn audit j p i t history users marks from to log → i ≤ nets j
+    → nets j ≤ i → NetsOn audit j p (nets j) t history users marks from to log
+nets-all {audit} j {p} {t = t} {history} {users} {marks} {from} {to} {log} at upto l =
+    subst (λ (k : ℕ). NetsOn audit j p k t history users marks from to log) (le-antisymm upto l) at
 
 -- the lists keep their lengths
 pub nets-long :
-    (j : Job) {p : Progress} {i : ℕ} {t : Tariff} {history users marks from to log : List ℕ} → NetsOn j p i t history users marks from to log
+    {audit : Bool} (j : Job) {p : Progress} {i : ℕ} {t : Tariff} {history users marks from to log : List ℕ} → NetsOn audit j p i t history users marks from to log
     → (length users ≡ nodes j) × (length marks ≡ nodes j) × (length from ≡ nets j) × (length to ≡ nets j)
 nets-long j at = (users-long j (at .kept), marks-long j (at .kept), at .kept .places .from-long, at .kept .places .to-long)
 
 -- ---- the next net
 
-module _ (j : Job) (sound : Routable j) {p : Progress} {i : ℕ} {t : Tariff} {history users marks from to dues log : List ℕ}
-    (due-is : dues ≡ dueMarks j (p .state)) (at : NetsOn j p i t history users marks from to log) (hi : i < nets j) where
+module _ (j : Job) (sound : Routable j) {audit : Bool} {p : Progress} {i : ℕ} {t : Tariff} {history users marks from to dues log : List ℕ}
+    (due-is : dues ≡ dueMarks j (p .state)) (at : NetsOn audit j p i t history users marks from to log) (hi : i < nets j) where
   abbrev here : Progress
   here = at .progress
 
@@ -150,35 +154,54 @@ module _ (j : Job) (sound : Routable j) {p : Progress} {i : ℕ} {t : Tariff} {h
       pub net-asks : 0 < turns → NetOpens j here i delays criticalities timed low high turns t history users′ marks′ log
       net-asks some = net-opens (is-due some)
 
-      -- what they come to
-      module _ {r : Taken} {marks″ : List ℕ} (none : turns ≡ 0 → (r ≡ On t) × (marks″ ≡ marks′))
-          (answer : NetOpens j here i delays criticalities timed low high turns t history users′ marks′ log → NetTaken r j here i marks″ log) where
-        case : due j (p .state) i ≡ true → (x : Taken) → r ≡ x → NetTaken x j here i marks″ log
-        case d x e = subst (λ (y : Taken). NetTaken y j here i marks″ log) e (answer (net-opens d))
+      -- what they come to, in a walk that tells of so many nodes over capacity
+      module _ (over : ℕ) {r : Taken} {marks″ : List ℕ} (none : turns ≡ 0 → (r ≡ On t) × (marks″ ≡ marks′))
+          (answer :
+          NetOpens j here i delays criticalities timed low high turns t history users′ marks′ log
+          → NetTaken (record { audit = audit; over = over }) r j here i marks″ log) where
+        abbrev walk : Walk
+        walk = record { audit = audit; over = over }
+
+        case : due j (p .state) i ≡ true → (x : Taken) → r ≡ x → NetTaken walk x j here i marks″ log
+        case d x e = subst (λ (y : Taken). NetTaken walk y j here i marks″ log) e (answer (net-opens d))
 
         idle-is : due j (p .state) i ≡ false → (turns ≡ 0) × (users′ ≡ users) × (marks′ ≡ marks)
         idle-is d = let e = without (unmarked d) in (e .none-left, e .users-same, e .marks-same)
 
-        -- they stray
-        strays : (w : ℕ) → r ≡ Off w → choose (due j (p .state) i) (replayTurns j log i here (length (netSinks j i)) []) (on here) ≡ off w
-        strays w e =
+        -- they end the iteration
+        module _ (d : due j (p .state) i ≡ true) where
+          all-nets : (a : Replay) → Stays a → replayTurns audit j log i here (length (netSinks j i)) [] ≡ a → replayNets audit j log (p .state) (p .records) (nets j) ≡ a
+          all-nets a stays e =
+              let rest : (nets j - suc i) + suc i ≡ nets j = omega arith in
+              subst (λ (n : ℕ). replayNets audit j log (p .state) (p .records) n ≡ a) rest
+              (stop-more audit j log (p .state) (p .records) (suc i) a stays (net-more audit j log (p .state) (p .records) i here a (at .is) (rw d e)) (nets j - suc i))
+
+          ended : (told : Told) (reply : Progress → Replay) → ((q : Progress) → Stays (reply q)) → NetEnds walk j here i log told reply → NetsEnd walk j p log told reply
+          ended told reply stays n =
+              record {
+                progress = goneTo here (n .made);
+                is = all-nets (reply (goneTo here (n .made))) (stays (goneTo here (n .made))) (n .is);
+                told-at = subst (λ (k : ℕ). ToldAt (here .records ++ n .made) k over told) (at .same) (n .told-at);
+              }
+
+          stopped :
+              (x : Taken) → ((t″ : Tariff) → x ≡ On t″ → ⊥) → NetTaken walk x j here i marks″ log
+              → (history′ users″ marks‴ from′ to′ : List ℕ) → NetsTaken walk x j p history′ users″ marks‴ from′ to′ log
+          stopped (On t″) other n history′ users″ marks‴ from′ to′ = absurd (other t″ refl)
+          stopped (Off w) other n history′ users″ marks‴ from′ to′ = all-nets (off w) (λ next. refl) n
+          stopped (Ends told) other n history′ users″ marks‴ from′ to′ = ended told ends (λ q next. refl) n
+          stopped (NotCheapest told cost least) other n history′ users″ marks‴ from′ to′ = ended told (λ q. notCheapest q cost least) (λ q next. refl) n
+
+        pub nets-stopped :
+            ((t″ : Tariff) → r ≡ On t″ → ⊥) → (history′ users″ marks‴ from′ to′ : List ℕ) → NetsTaken walk r j p history′ users″ marks‴ from′ to′ log
+        nets-stopped other history′ users″ marks‴ from′ to′ =
             by-test (due j (p .state) i)
-            (λ d. rw d (case d (Off w) e))
-            (λ d. absurd (on-off (sym (none (idle-is d .0) .0) ∙ e)))
-
-        net-off : (w : ℕ) → r ≡ Off w → replayNets j log (p .state) (p .records) (nets j) ≡ off w
-        net-off w e =
-            let rest : (nets j - suc i) + suc i ≡ nets j = omega arith in
-            subst (λ (n : ℕ). replayNets j log (p .state) (p .records) n ≡ off w) rest
-            (off-more j log (p .state) (p .records) (suc i) w (net-more j log (p .state) (p .records) i here (off w) (at .is) (strays w e)) (nets j - suc i))
-
-        pub nets-off : (w : ℕ) → r ≡ Off w → (history′ users″ marks‴ from′ to′ : List ℕ) → NetsTaken r j p history′ users″ marks‴ from′ to′ log
-        nets-off w e history′ users″ marks‴ from′ to′ =
-            subst (λ (x : Taken). NetsTaken x j p history′ users″ marks‴ from′ to′ log) (sym e) (net-off w e)
+            (λ d. stopped d r other (answer (net-opens d)) history′ users″ marks‴ from′ to′)
+            (λ d. absurd (other t (none (idle-is d .0) .0)))
 
         -- or follow
         module _ {t′ : Tariff} (is-on : r ≡ On t′) where
-          made : due j (p .state) i ≡ true → NetOn j here i t′ marks″ log
+          made : due j (p .state) i ≡ true → NetOn audit j here i t′ marks″ log
           made d = case d (On t′) is-on
 
           grown : (d : due j (p .state) i ≡ true) → Opened j here i (made d .made) history users′ marks″ from to
@@ -208,11 +231,11 @@ module _ (j : Job) (sound : Routable j) {p : Progress} {i : ℕ} {t : Tariff} {h
 
           module _ {users″ marks‴ from′ to′ : List ℕ} (passed : getD dues i 0 ≡ 0 → Passed users′ marks″ from to users″ marks‴ from′ to′)
               (ended : (getD dues i 0 ≡ 0 → ⊥) → Ended log i (t .words) (t′ .words) users′ marks″ from to users″ marks‴ from′ to′) where
-            routed-next : due j (p .state) i ≡ true → NetsOn j p (suc i) t′ history users″ marks‴ from′ to′ log
+            routed-next : due j (p .state) i ≡ true → NetsOn audit j p (suc i) t′ history users″ marks‴ from′ to′ log
             routed-next d =
                 record {
                   progress = withNet j i here (made d .made);
-                  is = net-more j log (p .state) (p .records) i here (on (withNet j i here (made d .made))) (at .is) (rw d (made d .is));
+                  is = net-more audit j log (p .state) (p .records) i here (on (withNet j i here (made d .made))) (at .is) (rw d (made d .is));
                   same = at .same;
                   at = made d .at;
                   kept =
@@ -220,7 +243,7 @@ module _ (j : Job) (sound : Routable j) {p : Progress} {i : ℕ} {t : Tariff} {h
                       (at .at .can .trees-long) (ended (marked d));
                 }
 
-            idle-next : due j (p .state) i ≡ false → NetsOn j p (suc i) t′ history users″ marks‴ from′ to′ log
+            idle-next : due j (p .state) i ≡ false → NetsOn audit j p (suc i) t′ history users″ marks‴ from′ to′ log
             idle-next d =
                 let e = passed (unmarked d) in
                 let still = none (idle-is d .0) in
@@ -230,13 +253,13 @@ module _ (j : Job) (sound : Routable j) {p : Progress} {i : ℕ} {t : Tariff} {h
                 rw (users-same, marks-same, e .from-same, e .to-same, ← same-tariff)
                 (record {
                   progress = here;
-                  is = net-more j log (p .state) (p .records) i here (on here) (at .is) (rw d);
+                  is = net-more audit j log (p .state) (p .records) i here (on here) (at .is) (rw d);
                   same = at .same;
                   at = at .at;
                   kept = at .kept;
                 })
 
-            pub net-next : NetsOn j p (i + 1) t′ history users″ marks‴ from′ to′ log
+            pub net-next : NetsOn audit j p (i + 1) t′ history users″ marks‴ from′ to′ log
             net-next =
-                subst (λ (k : ℕ). NetsOn j p k t′ history users″ marks‴ from′ to′ log) (sym (add-one i))
+                subst (λ (k : ℕ). NetsOn audit j p k t′ history users″ marks‴ from′ to′ log) (sym (add-one i))
                 (⊎-elim routed-next idle-next (either-way (due j (p .state) i)))

@@ -6,7 +6,7 @@
 --     Following, follow-start             the turns so far
 --     part-                               the net's part of table 7
 --     follow-ready                        the next turn can be tested
---     follow-out, -off, -more             where a sink is missing: no turn is left, or it strays, or is one turn more
+--     follow-out, -stopped, -more         where a sink is missing: no turn is left, or its record ends the net, or is one turn more
 --     follow-room                         the tariff can count it
 --     follow-on                           where none is missing
 -- Assumes nothing.
@@ -14,15 +14,19 @@ use mathlib.Core.Bool.{Bool, true, false}
 use mathlib.Core.List.{List, [], _∷_, _++_, append-assoc, append-nil}
 use mathlib.Core.Logic.{_⊎_, ⊎-elim, inl, inr}
 use mathlib.Core.Path.{_≡_, refl, sym, _∙_, ap, subst}
-use Prim.Native.Nat.{ℕ, zero, suc, _+_, _-_, _≤_, _<_}
+use Prim.Native.Nat.{ℕ, zero, suc, _+_, _-_, _*_, _/_, _%_, _^_, _≤_, _<_}
 use native.Mathlib.Nat.{not-suc-le-zero, le-of-eq, le-trans}
 use native.Mathlib.Omega.{arith}
+use lib.Dec.{eqb, leb, ltb}
 use lib.ListN.{length, getD, take, drop, length-append, length-drop, length-set, take-append-drop, List·getD-eq-default}
-use lib.Seq.{length-slice, take-append-seam}
-use Rattle.price.specs.Test.{choose}
+use lib.Seq.{length-slice, take-append-seam, getD-drop}
+use borrow.Author.Tests.{eqb-true, le-ltb}
+use Rattle.price.specs.Test.{choose, both}
 use Rattle.price.specs.Lists.{every, has}
-use Rattle.price.proofs.TestLaws.{by-test, true≢false, le-or-lt}
+use Rattle.price.proofs.TestLaws.{by-test, true≢false, le-or-lt, both-left, both-right}
 use Rattle.price.proofs.ListLaws.{part-slice, has-at, has-place}
+use Rattle.search.specs.Distance.{far}
+use Rattle.search.specs.Paths.{pathCost}
 use Rattle.search.specs.Replies.{sinksMost}
 use Rattle.search.specs.Tables.{Graph}
 use Rattle.search.proofs.BlockLaws.{graph-of}
@@ -37,20 +41,26 @@ use Rattle.negotiation.specs.Outcome.{logWith}
 use Rattle.job.specs.Steps.{AllBelow, Stored}
 use Rattle.negotiation.specs.TariffSteps.{loggedTariff}
 use Rattle.negotiation.specs.Kept.{Tallied, CanGoOn}
-use Rattle.negotiation.specs.Resume.{recordPath, recordIn, wholeRecord, costFollows, turnPrice, turnFollows, allJoined, on, off, after, replayTurns}
-use Rattle.negotiation.specs.ResumeSteps.{turnPasses}
-use Rattle.negotiation.specs.TakeSteps.{TakenTo, goalsOf, TryReady, triedPasses, NetOpens, NetOn}
+use Rattle.negotiation.specs.Resume.{recordPath, recordIn, wholeRecord, costFollows, turnPrice, turnFollows, allJoined, leastCost, on, off, ends, notCheapest, goneTo, after, atEnd, replayTurns}
+use Rattle.negotiation.specs.ResumeSteps.{namedCost, turnPasses}
+use Rattle.negotiation.specs.TakeSteps.{TakenTo, toldOf, stoppedAt, triedAs, goalsOf, TryReady, triedPasses, triedLeast, NetOpens, NetOn, ToldAt, NetTaken}
 use Rattle.negotiation.specs.declared.tariff.Tariff.{Tariff}
+use Rattle.negotiation.specs.declared.take_up.Taken.{Taken}
+use Rattle.negotiation.specs.declared.take_up.Tried.{Tried}
+use Rattle.negotiation.specs.declared.take_up.Tried.the-variants as tried
+use Rattle.negotiation.specs.declared.take_up.Tried.the-variants.{Strays, Follows as Follows′}
+use Rattle.negotiation.specs.declared.take_up.Walk.{Walk}
 use Rattle.negotiation.proofs.MemberLaws.{every-has, every-members, no-entry}
 use Rattle.negotiation.proofs.OrderLaws.{turn-nodes}
-use Rattle.negotiation.proofs.RecordLaws.{words-length, records-few, pathNodes-append}
+use Rattle.negotiation.proofs.RecordLaws.{cost-back, words-length, records-few, pathNodes-append}
 use Rattle.negotiation.proofs.TreeLaws.{TreeNodes}
 use Rattle.negotiation.proofs.NetLaws.{StateReady, grown-same, grown-ready}
 use Rattle.negotiation.proofs.FollowLaws.{Follows, follows-of, whole-long, path-long}
 use Rattle.negotiation.proofs.ReplayLaws.{Begins, begins-more, source-more, joined-on}
 use Rattle.negotiation.proofs.take_up.StepPassLaws.{Marks, mark-out}
 use Rattle.negotiation.proofs.take_up.PathPassLaws.{path-nodes, turn-pass}
-use Rattle.negotiation.proofs.take_up.TriedLaws.{sinks-here, tried-is, price-is, try-ready}
+use Rattle.negotiation.proofs.take_up.TriedLaws.{sinks-here, tried-is, price-is, least-is, try-ready}
+use Rattle.negotiation.proofs.take_up.JudgedLaws.{said-ends, said-strays, said-dear, said-follows, SaidFollows, said-so}
 use Rattle.negotiation.proofs.TurnStepLaws.{mark-at, encode-more, below-append}
 use Rattle.negotiation.proofs.KeepProgress.{marks-length, marks-grow}
 
@@ -176,10 +186,10 @@ module _ (j : Job) (i : ℕ) (made : List Record) {marks sinks : List ℕ} (mark
 
 -- where all are joined the net makes no more turns
 turns-done :
-    (j : Job) (ws : List ℕ) (i : ℕ) (p : Progress) (k : ℕ) (made : List Record) → allJoined j i made ≡ true → replayTurns j ws i p k made ≡ on (withNet j i p made)
+    (audit : Bool) (j : Job) (ws : List ℕ) (i : ℕ) (p : Progress) (k : ℕ) (made : List Record) → allJoined j i made ≡ true → replayTurns audit j ws i p k made ≡ on (withNet j i p made)
 unfolding replayTurns
-turns-done j ws i p zero made e = rw e
-turns-done j ws i p (suc k) made e = rw e
+turns-done audit j ws i p zero made e = rw e
+turns-done audit j ws i p (suc k) made e = rw e
 
 -- ---- answers as numbers
 
@@ -190,20 +200,21 @@ suc-of (suc n) some = omega arith
 pub some-of : (n : ℕ) → (n ≡ 0 → ⊥) → 0 < n
 some-of n some = let e : n ≡ suc (n - 1) = suc-of n some in omega arith
 
-chosen-none : (t : Bool) (n : ℕ) → choose t (6 + n) 0 ≡ 0 → t ≡ false
-chosen-none true n e = absurd (omega arith)
-chosen-none false n e = refl
+-- a cost is held against the least where that is asked for: none is above 2^64 − 1
+test-same : (audit : Bool) (lowest : ℕ) {least named cost : ℕ} → least ≡ choose audit lowest far → named ≡ cost → named ≤ far → ltb least named ≡ both audit (ltb lowest cost)
+test-same true lowest a b low = rw (a, b)
+test-same false lowest {named = named} a b low = rw a (le-ltb far named low)
 
-chosen-some : (t : Bool) (n : ℕ) → (choose t (6 + n) 0 ≡ 0 → ⊥) → t ≡ true
-chosen-some true n e = refl
-chosen-some false n e = absurd (e refl)
+least-dear : (audit : Bool) (lowest : ℕ) {least named : ℕ} → least ≡ choose audit lowest far → named ≤ far → ltb least named ≡ true → least ≡ lowest
+least-dear true lowest a low d = a
+least-dear false lowest {named = named} a low d = absurd (true≢false (sym d ∙ rw a (le-ltb far named low)))
 
 -- ---- the turns so far
 
 -- these turns follow, and so many more may be made
-pub record Following (j : Job) (p : Progress) (i left : ℕ) (t : Tariff) (marks log : List ℕ) : Type 0 where
+pub record Following (audit : Bool) (j : Job) (p : Progress) (i left : ℕ) (t : Tariff) (marks log : List ℕ) : Type 0 where
   pub made : List Record
-  pub rest-is : replayTurns j log i p (length (netSinks j i)) [] ≡ replayTurns j log i p left made
+  pub rest-is : replayTurns audit j log i p (length (netSinks j i)) [] ≡ replayTurns audit j log i p left made
   pub at : TakenTo j (withNet j i p made) t log
   pub marks-is : marks ≡ marksOf j (treeFrom j i made)
   pub below : AllBelow (nodes j) (pathNodes made)
@@ -212,12 +223,12 @@ pub record Following (j : Job) (p : Progress) (i left : ℕ) (t : Tariff) (marks
 module _ (j : Job) {p : Progress} {i : ℕ} {delays criticalities : List ℕ} {timed : Bool} {from to turns : ℕ} {t₀ : Tariff} {history users marks₀ log : List ℕ}
     (o : NetOpens j p i delays criticalities timed from to turns t₀ history users marks₀ log) where
   -- none, at first
-  pub follow-start : Following j p i turns t₀ marks₀ log
+  pub follow-start : (audit : Bool) → Following audit j p i turns t₀ marks₀ log
   unfolding pathNodes
-  follow-start =
+  follow-start audit =
       record {
         made = [];
-        rest-is = ap (λ (k : ℕ). replayTurns j log i p k []) (sym (o .turns-is));
+        rest-is = ap (λ (k : ℕ). replayTurns audit j log i p k []) (sym (o .turns-is));
         at =
             record {
               can = can-with j i p [] (o .at .can);
@@ -267,8 +278,8 @@ same-test j g s i tree marks inside long marked goals price tried iteration ws t
 -- ---- the next turn
 
 module _ (j : Job) {p : Progress} {i : ℕ} {delays criticalities : List ℕ} {timed : Bool} {from to turns : ℕ} {t₀ : Tariff} {history users marks₀ log : List ℕ}
-    (o : NetOpens j p i delays criticalities timed from to turns t₀ history users marks₀ log) {left : ℕ} {t : Tariff} {marks : List ℕ}
-    (f : Following j p i left t marks log) where
+    (o : NetOpens j p i delays criticalities timed from to turns t₀ history users marks₀ log) {audit : Bool} {left : ℕ} {t : Tariff} {marks : List ℕ}
+    (f : Following audit j p i left t marks log) where
   abbrev tree : List ℕ
   tree = treeFrom j i (f .made)
 
@@ -294,10 +305,10 @@ module _ (j : Job) {p : Progress} {i : ℕ} {delays criticalities : List ℕ} {t
   tree-marked = marks-of j tree inside (f .marks-is)
 
   -- it can be tested
-  pub follow-ready : TryReady (j .block) (j .sinks) delays criticalities timed from to t history users marks log
-  follow-ready =
+  pub follow-ready : {work : List ℕ} → 8 * nodes j ≤ length work → TryReady (j .block) (j .sinks) delays criticalities timed from to t history users marks work log
+  follow-ready enough =
       try-ready (o .tables) (o .routable) (o .net) tree (f .marks-is) (p .state) t history users (f .at .factor-is) (o .history-is) (o .users-is) state-ready
-      (le-trans (le-of-eq (f .at .tallied .words-is)) (f .at .tallied .fits))
+      enough (le-trans (le-of-eq (f .at .tallied .words-is)) (f .at .tallied .fits))
 
   -- what its test says
   abbrev passes : Bool
@@ -310,99 +321,196 @@ module _ (j : Job) {p : Progress} {i : ℕ} {delays criticalities : List ℕ} {t
       (price-is (o .tables) (o .routable) (o .net) tree (f .marks-is) (p .state) t history users (f .at .factor-is) (o .history-is) (o .users-is))
       (tried-is (o .tables) (o .routable) (o .net) tree (f .marks-is)) (f .at .iteration-is) words-here
 
+  -- its words end here
+  abbrev ended : Bool
+  ended = leb (length log) (t .words)
+
+  end-so : {b : Bool} → both audit ended ≡ b → both audit (atEnd log (p .records ++ f .made)) ≡ b
+  end-so e = ap (λ (k : ℕ). both audit (leb (length log) k)) (sym (f .at .tallied .words-is)) ∙ e
+
+  -- what it costs at least, where that is asked for
+  abbrev least : ℕ
+  least = triedLeast (j .block) (j .sinks) delays criticalities timed from to t audit history users marks
+
+  least-so : least ≡ choose audit (leastCost j (p .state) i tree) far
+  least-so = least-is (o .tables) (o .routable) (o .net) tree (f .marks-is) (p .state) t history users (f .at .factor-is) (o .history-is) (o .users-is) audit
+
+  -- how far an audit came, if it ends here
+  told-here : (over : ℕ) → ToldAt (p .records ++ f .made) (p .state .iteration) over (toldOf t (t .iteration - 1) over)
+  told-here over =
+      let is = f .at .iteration-is in
+      let some = f .at .can .iteration-is in
+      record { turns-is = f .at .tallied .turns-is; words-is = f .at .tallied .words-is; whole-is = omega arith; over-is = refl }
+
+  pub follow-some : 1 ≤ t .iteration
+  follow-some = let is = f .at .iteration-is in let some = f .at .can .iteration-is in omega arith
+
   -- a sink is missing
   module _ {place : ℕ} (first : FirstUnmarked marks (part j o) 0 place) (some : place < to - from) where
     still-open : allJoined j i (f .made) ≡ false
     still-open = not-joined j i (f .made) tree-marked (sinks-here (o .tables)) first (let long = part-long j o in omega arith)
 
     -- no turn is left
-    pub follow-out : left ≡ 0 → replayTurns j log i p (length (netSinks j i)) [] ≡ off (t .words)
+    pub follow-out : left ≡ 0 → replayTurns audit j log i p (length (netSinks j i)) [] ≡ off (t .words)
     unfolding replayTurns
     follow-out z =
-        f .rest-is ∙ ap (λ (k : ℕ). replayTurns j log i p k (f .made)) z ∙ rw still-open (ap off (sym (f .at .tallied .words-is)))
+        f .rest-is ∙ ap (λ (k : ℕ). replayTurns audit j log i p k (f .made)) z ∙ rw still-open (ap off (sym (f .at .tallied .words-is)))
 
     module _ (more : left ≡ 0 → ⊥) where
-      more-left : replayTurns j log i p (length (netSinks j i)) [] ≡ replayTurns j log i p (suc (left - 1)) (f .made)
-      more-left = f .rest-is ∙ ap (λ (k : ℕ). replayTurns j log i p k (f .made)) (suc-of left more)
+      more-left : replayTurns audit j log i p (length (netSinks j i)) [] ≡ replayTurns audit j log i p (suc (left - 1)) (f .made)
+      more-left = f .rest-is ∙ ap (λ (k : ℕ). replayTurns audit j log i p k (f .made)) (suc-of left more)
 
-      -- it strays
-      strays : turnFollows j (p .state) i tree there ≡ false → replayTurns j log i p (length (netSinks j i)) [] ≡ off (t .words)
+      -- its words end
+      ends-here : both audit ended ≡ true → replayTurns audit j log i p (length (netSinks j i)) [] ≡ ends (goneTo p (f .made))
       unfolding replayTurns
-      strays stray = more-left ∙ rw (still-open, stray) (ap off (sym (f .at .tallied .words-is)))
+      ends-here e = let end : both audit (atEnd log (p .records ++ f .made)) ≡ true = end-so e in more-left ∙ rw (still-open, end)
 
-      -- or follows
-      module _ (yes : turnFollows j (p .state) i tree there ≡ true) where
-        abbrev price : ℕ → ℕ
-        price = turnPrice j (p .state) i tree
+      module _ (on-still : both audit ended ≡ false) where
+        more-words : both audit (atEnd log (p .records ++ f .made)) ≡ false
+        more-words = end-so on-still
 
-        abbrev r : Record
-        r = recordIn price there
-
-        follows : Follows j (p .state) i tree there
-        follows = follows-of j (p .state) i tree there yes
-
-        one-more : replayTurns j log i p (length (netSinks j i)) [] ≡ replayTurns j log i p (left - 1) (f .made ++ (r ∷ []))
+        -- it strays
+        strays : turnFollows j (p .state) i tree there ≡ false → replayTurns audit j log i p (length (netSinks j i)) [] ≡ off (t .words)
         unfolding replayTurns
-        one-more = more-left ∙ rw (still-open, yes)
+        strays stray = more-left ∙ rw (still-open, more-words, stray) (ap off (sym (f .at .tallied .words-is)))
 
-        path-below : AllBelow (nodes j) (recordPath there)
-        path-below = path-nodes j graph i tree inside (getD there 2 0) (recordPath there) (follows .path)
+        -- or follows
+        module _ (yes : turnFollows j (p .state) i tree there ≡ true) where
+          abbrev price : ℕ → ℕ
+          price = turnPrice j (p .state) i tree
 
-        nodes-below : AllBelow (nodes j) (pathNodes (f .made ++ (r ∷ [])))
-        unfolding pathNodes
-        nodes-below =
-            rw (pathNodes-append (f .made) (r ∷ []), append-nil (recordPath there))
-            (below-append (nodes j) (pathNodes (f .made)) (recordPath there) (f .below) path-below)
+          abbrev r : Record
+          r = recordIn price there
 
-        counted : Tallied (p .records ++ (f .made ++ (r ∷ []))) log (loggedTariff t (6 + getD there 5 0) 0) log
-        counted =
-            rw (← append-assoc (p .records) (f .made) (r ∷ []))
-            (tallied-follows (p .records ++ f .made) log t price (f .at .tallied) (follows .is-whole) (follows .cost))
+          follows : Follows j (p .state) i tree there
+          follows = follows-of j (p .state) i tree there yes
 
-        one-turn : {marks′ : List ℕ} → Stored 1 (recordPath there) marks marks′ → Following j p i (left - 1) (loggedTariff t (6 + getD there 5 0) 0) marks′ log
-        one-turn stored =
-            record {
-              made = f .made ++ (r ∷ []);
-              rest-is = one-more;
-              at =
-                  record {
-                    can = can-with j i p (f .made ++ (r ∷ [])) (o .at .can);
-                    iteration-is = f .at .iteration-is;
-                    factor-is = f .at .factor-is;
-                    tallied = counted;
-                  };
-              marks-is = marks-grow j i (f .made) r (f .marks-is) stored;
-              below = nodes-below;
-              source-on = inr (source-more j i (f .made) r (follows .path) (f .source-on));
-            }
+          abbrev cost : ℕ
+          cost = pathCost price (recordPath there)
+
+          -- its two words name its cost
+          named-is : namedCost (drop (t .words) log) ≡ cost
+          unfolding costFollows
+          named-is =
+              let cs : both (eqb (getD there 3 0) (cost % 2 ^ 32)) (eqb (getD there 4 0) (cost / 2 ^ 32)) ≡ true = follows .cost in
+              let low : getD there 3 0 ≡ cost % 2 ^ 32 = eqb-true (getD there 3 0) (cost % 2 ^ 32) (both-left (eqb (getD there 3 0) (cost % 2 ^ 32)) _ cs) in
+              let high : getD there 4 0 ≡ cost / 2 ^ 32 = eqb-true (getD there 4 0) (cost / 2 ^ 32) (both-right (eqb (getD there 3 0) (cost % 2 ^ 32)) _ cs) in
+              ap namedCost words-here ∙ rw (low, high) (cost-back cost)
+
+          -- it costs more than the least
+          dear : both audit (ltb (leastCost j (p .state) i tree) cost) ≡ true → {named lowest : ℕ} → named ≡ cost → lowest ≡ leastCost j (p .state) i tree
+              → replayTurns audit j log i p (length (netSinks j i)) [] ≡ notCheapest (goneTo p (f .made)) named lowest
+          unfolding replayTurns
+          dear d {named} x y =
+              more-left ∙ rw (still-open, more-words, yes, d)
+              (ap (λ (k : ℕ). notCheapest (goneTo p (f .made)) k (leastCost j (p .state) i tree)) (sym x) ∙ ap (λ (k : ℕ). notCheapest (goneTo p (f .made)) named k) (sym y))
+
+          -- or not, or that is not asked for
+          one-more :
+              both audit (ltb (leastCost j (p .state) i tree) cost) ≡ false
+              → replayTurns audit j log i p (length (netSinks j i)) [] ≡ replayTurns audit j log i p (left - 1) (f .made ++ (r ∷ []))
+          unfolding replayTurns
+          one-more cheap = more-left ∙ rw (still-open, more-words, yes, cheap)
+
+          path-below : AllBelow (nodes j) (recordPath there)
+          path-below = path-nodes j graph i tree inside (getD there 2 0) (recordPath there) (follows .path)
+
+          nodes-below : AllBelow (nodes j) (pathNodes (f .made ++ (r ∷ [])))
+          unfolding pathNodes
+          nodes-below =
+              rw (pathNodes-append (f .made) (r ∷ []), append-nil (recordPath there))
+              (below-append (nodes j) (pathNodes (f .made)) (recordPath there) (f .below) path-below)
+
+          counted : Tallied (p .records ++ (f .made ++ (r ∷ []))) log (loggedTariff t (6 + getD there 5 0) 0) log
+          counted =
+              rw (← append-assoc (p .records) (f .made) (r ∷ []))
+              (tallied-follows (p .records ++ f .made) log t price (f .at .tallied) (follows .is-whole) (follows .cost))
+
+          one-turn :
+              both audit (ltb (leastCost j (p .state) i tree) cost) ≡ false → {marks′ : List ℕ} → Stored 1 (recordPath there) marks marks′
+              → Following audit j p i (left - 1) (loggedTariff t (6 + getD there 5 0) 0) marks′ log
+          one-turn cheap stored =
+              record {
+                made = f .made ++ (r ∷ []);
+                rest-is = one-more cheap;
+                at =
+                    record {
+                      can = can-with j i p (f .made ++ (r ∷ [])) (o .at .can);
+                      iteration-is = f .at .iteration-is;
+                      factor-is = f .at .factor-is;
+                      tallied = counted;
+                    };
+                marks-is = marks-grow j i (f .made) r (f .marks-is) stored;
+                below = nodes-below;
+                source-on = inr (source-more j i (f .made) r (follows .path) (f .source-on));
+              }
 
       -- as the call answers
-      module _ {count : ℕ} (answer : count ≡ choose passes (6 + getD (drop (t .words) log) 5 0) 0) where
-        pub follow-off : count ≡ 0 → replayTurns j log i p (length (netSinks j i)) [] ≡ off (t .words)
-        follow-off none = strays (sym passes-is ∙ chosen-none passes (getD (drop (t .words) log) 5 0) (sym answer ∙ none))
+      module _ (small : (k : ℕ) → getD log k 0 < 2 ^ 32) {said : Tried} (answer : said ≡ triedAs audit ended passes (drop (t .words) log) least) where
+        abbrev ws : List ℕ
+        ws = drop (t .words) log
 
-        module _ (made-one : count ≡ 0 → ⊥) where
-          passed : passes ≡ true
-          passed = chosen-some passes (getD (drop (t .words) log) 5 0) (λ z. made-one (answer ∙ z))
+        named-low : namedCost ws ≤ far
+        named-low =
+            let low : getD ws 3 0 < 2 ^ 32 = rw (getD-drop (t .words) log 3 0) (small (t .words + 3)) in
+            let high : getD ws 4 0 < 2 ^ 32 = rw (getD-drop (t .words) log 4 0) (small (t .words + 4)) in
+            omega arith
+
+        -- it ends the net
+        module _ (over : ℕ) where
+          abbrev walk : Walk
+          walk = record { audit = audit; over = over }
+
+          taken-as : (marks′ : List ℕ) (x : Tried) → triedAs audit ended passes ws least ≡ x → NetTaken walk (stoppedAt x t over) j p i marks′ log → NetTaken walk (stoppedAt said t over) j p i marks′ log
+          taken-as marks′ x e n = subst (λ (y : Tried). NetTaken walk (stoppedAt y t over) j p i marks′ log) (sym (answer ∙ e)) n
+
+          stopped-so : (marks′ : List ℕ) → ((k : ℕ) → said ≡ Follows′ k → ⊥) → NetTaken walk (stoppedAt said t over) j p i marks′ log
+          stopped-so marks′ other =
+              by-test (both audit ended)
+              (λ e. taken-as marks′ tried.Ends (said-ends _ _ _ _ _ e) (record { made = f .made; is = ends-here e; told-at = told-here over }))
+              (λ e.
+              by-test passes
+              (λ y.
+              let yes : turnFollows j (p .state) i tree there ≡ true = sym passes-is ∙ y in
+              by-test (ltb least (namedCost ws))
+              (λ d.
+              taken-as marks′ (tried.NotCheapest (namedCost ws) least) (said-dear _ _ _ _ _ e y d)
+              (record {
+                made = f .made;
+                is = dear e yes (sym (test-same audit _ least-so (named-is e yes) named-low) ∙ d) (named-is e yes) (least-dear audit _ least-so named-low d);
+                told-at = told-here over;
+              }))
+              (λ d. absurd (other _ (answer ∙ said-follows _ _ _ _ _ e y d))))
+              (λ n. taken-as marks′ Strays (said-strays _ _ _ _ _ e n) (strays e (sym passes-is ∙ n))))
+
+          pub follow-stopped : (marks′ : List ℕ) → ((k : ℕ) → said ≡ Follows′ k → ⊥) → (x : Taken) → x ≡ stoppedAt said t over → NetTaken walk x j p i marks′ log
+          follow-stopped marks′ other x e = subst (λ (y : Taken). NetTaken walk y j p i marks′ log) (sym e) (stopped-so marks′ other)
+
+        -- or is one turn more
+        module _ {count : ℕ} (is-turn : said ≡ Follows′ count) where
+          passed : SaidFollows audit ended passes ws least count
+          passed = said-so _ _ _ _ _ (sym answer ∙ is-turn)
 
           following : turnFollows j (p .state) i tree there ≡ true
-          following = sym passes-is ∙ passed
+          following = sym passes-is ∙ passed .follows
+
+          cheapest : both audit (ltb (leastCost j (p .state) i tree) (cost (passed .more) following)) ≡ false
+          cheapest = sym (test-same audit _ least-so (named-is (passed .more) following) named-low) ∙ passed .cheap
 
           count-is : count ≡ 6 + getD there 5 0
-          count-is =
-              answer ∙ ap (λ (b : Bool). choose b (6 + getD (drop (t .words) log) 5 0) 0) passed ∙ ap (λ (l : List ℕ). 6 + getD l 5 0) words-here
+          count-is = passed .count-is ∙ ap (λ (l : List ℕ). 6 + getD l 5 0) words-here
 
           pub follow-more :
               {marks′ : List ℕ} → Stored 1 (recordPath (drop (t .words) log)) marks marks′ → {t′ : Tariff} → t′ ≡ loggedTariff t count 0
-              → Following j p i (left - 1) t′ marks′ log
+              → Following audit j p i (left - 1) t′ marks′ log
           follow-more {marks′} stored {t′} is =
-              subst (λ (x : Tariff). Following j p i (left - 1) x marks′ log) (sym (is ∙ ap (λ (k : ℕ). loggedTariff t k 0) count-is))
-              (one-turn following (subst (λ (l : List ℕ). Stored 1 (recordPath l) marks marks′) words-here stored))
+              subst (λ (x : Tariff). Following audit j p i (left - 1) x marks′ log) (sym (is ∙ ap (λ (k : ℕ). loggedTariff t k 0) count-is))
+              (one-turn (passed .more) following cheapest (subst (λ (l : List ℕ). Stored 1 (recordPath l) marks marks′) words-here stored))
 
           -- the tariff can count it
           pub follow-room : {most : ℕ} → length log < most → (t .turns + 1 < most) × (t .words + count < most)
           follow-room short =
-              let whole = whole-long there (follows following .is-whole) in
+              let whole = whole-long there (follows (passed .more) following .is-whole) in
               let rest : length there ≡ length log - length (encode (p .records ++ f .made)) = length-drop (length (encode (p .records ++ f .made))) log in
               let few = records-few (p .records ++ f .made) in
               let is = count-is in
@@ -425,11 +533,11 @@ module _ (j : Job) {p : Progress} {i : ℕ} {delays criticalities : List ℕ} {t
         let on-path : has x (pathNodes (f .made)) ≡ true = joined-on j i (f .made) (o .routable .source-no-sink i (o .net)) joined x listed in
         no-entry x (subst (λ (rs : List Record). has x (pathNodes rs) ≡ true) e on-path)
 
-    pub follow-on : NetOn j p i t marks log
+    pub follow-on : NetOn audit j p i t marks log
     follow-on =
         record {
           made = f .made;
-          is = f .rest-is ∙ turns-done j log i p left (f .made) joined;
+          is = f .rest-is ∙ turns-done audit j log i p left (f .made) joined;
           at = f .at;
           marks-is = f .marks-is;
           below = f .below;

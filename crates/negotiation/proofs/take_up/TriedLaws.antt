@@ -1,24 +1,29 @@
 -- The turn that a net makes next, as the lists have it: the sinks that it tries are goals, and they weigh its prices.
 --     goals-asked, -fit, -on              the goals of the sinks that are tried
---     tried-tested, tried-answer          the record is tested with them
+--     least-asks, least-said              the search for them
+--     tried-tested, judge-asks, -said     the record is tested with them, and its cost held against the least
 --     sinks-here, tried-is, price-is      sinks and prices are those of the job's turn
+--     least-is                            so is its least cost
 --     try-ready                           and all that the turn reads is there
 -- Assumes nothing.
-use mathlib.Core.Bool.{Bool, true}
+use mathlib.Core.Bool.{Bool, true, false}
 use mathlib.Core.List.{List, _++_}
 use mathlib.Core.Path.{_≡_, sym, _∙_, ap, subst}
-use Prim.Native.Nat.{ℕ, _+_, _-_, _≤_, _<_}
+use Prim.Native.Nat.{ℕ, _+_, _-_, _*_, _≤_, _<_}
 use native.Mathlib.Omega.{arith}
-use lib.ListN.{length, getD, take, drop, replicate, length-append, length-replicate, getD-replicate}
+use lib.Dec.{leb}
+use lib.ListN.{length, getD, take, drop, replicate, length-append, length-replicate, length-drop, getD-replicate}
 use lib.Seq.{slice, length-slice, ext-getD, take-append-seam}
 use Rattle.price.specs.Bounds.{nodesMost}
-use Rattle.price.specs.Test.{choose}
+use Rattle.price.specs.Test.{choose, both}
 use Rattle.price.specs.Lists.{has, upTo}
+use Rattle.price.proofs.TestLaws.{by-test, both-left}
 use Rattle.price.proofs.ListLaws.{part-slice, has-at, has-place, length-upTo, getD-upTo}
 use Rattle.search.specs.Block.{Block}
 use Rattle.search.specs.Block as block
-use Rattle.search.specs.Distance.{inTree}
-use Rattle.search.specs.Turn.{weighedCongestion, priceAt}
+use Rattle.search.specs.Distance.{far, inTree}
+use Rattle.search.specs.Turn.{weighedCongestion, priceAt, turn}
+use Rattle.search.specs.Replies.{sinkListSound}
 use Rattle.search.specs.Priceable.{PriceReady}
 use Rattle.search.proofs.BlockLaws.{kinds-few, capacities-long}
 use Rattle.job.specs.Job.{Job, nodes, nets, netSinks}
@@ -27,11 +32,15 @@ use Rattle.negotiation.specs.Routable.{Routable}
 use Rattle.negotiation.specs.Order.{weightingDue, turnSinks, turnWeighting, turnCongestion}
 use Rattle.negotiation.specs.OrderSteps.{TriedSinks}
 use Rattle.negotiation.specs.Machine.{State, othersOf, marksOf, congestionFor}
-use Rattle.negotiation.specs.Resume.{turnPrice}
-use Rattle.negotiation.specs.ResumeSteps.{RecordReady, turnPasses}
-use Rattle.negotiation.specs.TakeSteps.{triedHere, congestionHere, goalsOf, TryReady, triedPasses, NetTables}
+use Rattle.negotiation.specs.Resume.{turnPrice, leastCost}
+use Rattle.negotiation.specs.ResumeSteps.{RecordReady, namedCost, frameFollows, turnPasses, leastAsked}
+use Rattle.negotiation.specs.Steps.{TurnReady}
+use Rattle.negotiation.specs.TakeSteps.{judgedAs, triedAs, triedHere, congestionHere, goalsOf, TryReady, triedPasses, triedLeast, NetTables}
 use Rattle.negotiation.specs.declared.order.Tried.{Tried}
+use Rattle.negotiation.specs.declared.take_up.Tried.{Tried as Said}
 use Rattle.negotiation.specs.declared.tariff.Tariff.{Tariff}
+use Rattle.negotiation.proofs.FollowLaws.{whole-long}
+use Rattle.negotiation.proofs.FrameLaws.{Frame, frame-of}
 use Rattle.negotiation.proofs.OrderLaws.{tried-listed, weighting-timed}
 use Rattle.negotiation.proofs.NetLaws.{StateReady, weighed-bounds}
 use Rattle.negotiation.proofs.NextTriedLaws.{part-at}
@@ -73,8 +82,8 @@ module _ (n : ℕ) (few : n ≤ nodesMost) (part : List ℕ) where
     lent-are : take n (ys ++ drop n none) ≡ goalsOf n part
     lent-are = subst (λ (k : ℕ). take k (ys ++ drop n none) ≡ ys) ys-long (take-append-seam ys (drop n none)) ∙ ys-are
 
-module _ {b : Block} {sinks delays criticalities : List ℕ} {timed : Bool} {from to : ℕ} {t : Tariff} {history users marks log : List ℕ}
-    (ready : TryReady b sinks delays criticalities timed from to t history users marks log) {next : Tried} (found : TriedSinks timed marks sinks criticalities from to next) where
+module _ {b : Block} {sinks delays criticalities : List ℕ} {timed : Bool} {from to : ℕ} {t : Tariff} {history users marks work log : List ℕ}
+    (ready : TryReady b sinks delays criticalities timed from to t history users marks work log) {next : Tried} (found : TriedSinks timed marks sinks criticalities from to next) where
   abbrev tried : List ℕ
   tried = triedHere sinks delays criticalities timed from to marks
 
@@ -111,6 +120,16 @@ module _ {b : Block} {sinks delays criticalities : List ℕ} {timed : Bool} {fro
       let long = first-long (block.nodes b) few part in
       omega arith
 
+  -- and of their search
+  pub least-asks : TurnReady b (weighedCongestion (next .weighting) delays (t .factor) history users) marks work × (sinkListSound (block.nodes b) part ≡ true)
+  least-asks = (rw (found .weighting-is) (ready .searchable), rw part-is (ready .sinks-sound))
+
+  pub least-said :
+      (audit : Bool) {least : ℕ}
+      → least ≡ leastAsked audit (turn b (priceAt b (weighedCongestion (next .weighting) delays (t .factor) history users)) marks part)
+      → least ≡ triedLeast b sinks delays criticalities timed from to t audit history users marks
+  least-said audit e = rw (found .weighting-is, part-is) at e
+
   module _ {ys : List ℕ} (given : Stored 1 part (take (block.nodes b) none) ys) where
     pub goals-fit : block.nodes b ≤ length (ys ++ drop (block.nodes b) none)
     goals-fit = lent-fits (block.nodes b) few part given
@@ -125,11 +144,44 @@ module _ {b : Block} {sinks delays criticalities : List ℕ} {timed : Bool} {fro
     pub tried-tested : RecordReady b (weighedCongestion (next .weighting) delays (t .factor) history users) goals marks log (t .words)
     tried-tested = rw (goals-on, found .weighting-is) (ready .tested)
 
-    pub tried-answer :
-        (net : ℕ) (ws : List ℕ) {count : ℕ}
-        → count ≡ choose (turnPasses b (priceAt b (weighedCongestion (next .weighting) delays (t .factor) history users)) goals marks (t .iteration) net ws) (6 + getD ws 5 0) 0
-        → count ≡ choose (triedPasses b sinks delays criticalities timed from to t net history users marks ws) (6 + getD ws 5 0) 0
-    tried-answer net ws e = rw (goals-on, found .weighting-is) at e
+    -- as the call answers
+    module _
+        (net : ℕ)
+        {count : ℕ}
+        (answer :
+        count
+        ≡ choose (turnPasses b (priceAt b (weighedCongestion (next .weighting) delays (t .factor) history users)) goals marks (t .iteration) net (drop (t .words) log))
+        (6 + getD (drop (t .words) log) 5 0) 0)
+      where
+        abbrev ws : List ℕ
+        ws = drop (t .words) log
+
+        abbrev passes : Bool
+        passes = triedPasses b sinks delays criticalities timed from to t net history users marks ws
+
+        count-is : count ≡ choose passes (6 + getD ws 5 0) 0
+        count-is = rw (goals-on, found .weighting-is) at answer
+
+        -- a record that follows has its cost's words
+        pub judge-asks : (count ≡ 0 → ⊥) → t .words + 6 ≤ length log
+        unfolding turnPasses
+        judge-asks some =
+            by-test passes
+            (λ y.
+            let f : Frame (block.nodes b) (t .iteration) net ws = frame-of (both-left (frameFollows (block.nodes b) (t .iteration) net ws) _ y) in
+            let long = whole-long ws (f .is-whole) in
+            let rest : length ws ≡ length log - t .words = length-drop (t .words) log in
+            let within = ready .tested .within in
+            omega arith)
+            (λ n. absurd (some (count-is ∙ rw n)))
+
+        pub tried-said :
+            (audit : Bool) {end : Bool} {least : ℕ} {r : Said} → end ≡ both audit (leb (length log) (t .words)) → end ≡ false
+            → least ≡ triedLeast b sinks delays criticalities timed from to t audit history users marks → r ≡ judgedAs count (namedCost ws) least
+            → r
+            ≡ triedAs audit (leb (length log) (t .words)) passes ws (triedLeast b sinks delays criticalities timed from to t audit history users marks)
+        unfolding triedAs
+        tried-said audit ends on least-is is = rw (← ends, on, ← least-is, ← count-is) is
 
 -- ---- the job's turn
 
@@ -162,6 +214,12 @@ module _ {j : Job} {i : ℕ} {delays criticalities : List ℕ} {timed : Bool} {f
           rw (tables .timed-is, tables .from-is, tables .to-is)
           (keep.price-is j sound i hi tree lent marked (t .factor) history users ∙ rw (factor-is, history-is, users-is))
 
+      -- so is what it costs at least
+      pub least-is : (audit : Bool) → triedLeast (j .block) (j .sinks) delays criticalities timed from to t audit history users marks ≡ choose audit (leastCost j s i tree) far
+      unfolding leastAsked leastCost
+      least-is audit =
+          rw (tables .timed-is, tables .from-is, tables .to-is, keep.same-turn j sound i hi tree lent marked s t history users factor-is history-is users-is)
+
       -- ---- and it can be tested
 
       module _ (state-ready : StateReady j s) where
@@ -191,8 +249,10 @@ module _ {j : Job} {i : ℕ} {delays criticalities : List ℕ} {timed : Bool} {f
                   };
             }
 
-        pub try-ready : {log : List ℕ} → t .words ≤ length log → TryReady (j .block) (j .sinks) delays criticalities timed from to t history users marks log
-        try-ready within =
+        pub try-ready :
+            {work log : List ℕ} → 8 * nodes j ≤ length work → t .words ≤ length log
+            → TryReady (j .block) (j .sinks) delays criticalities timed from to t history users marks work log
+        try-ready enough within =
             let long : length marks ≡ nodes j = ap length marked ∙ marks-length j tree in
             record {
               choosable = rw (tables .timed-is, tables .from-is, tables .to-is) (keep.tried-ready j sound i hi lent marks long);
@@ -206,4 +266,8 @@ module _ {j : Job} {i : ℕ} {delays criticalities : List ℕ} {timed : Bool} {f
                     goals-long = length-upTo _ (nodes j);
                     within = within;
                   });
+              searchable =
+                  rw (tables .timed-is, tables .from-is, tables .to-is)
+                  (keep.turn-ready j sound i hi tree lent marked s state-ready t history users factor-is history-is users-is enough);
+              sinks-sound = subst (λ (l : List ℕ). sinkListSound (nodes j) l ≡ true) (sym tried-is) (keep.turn-searched j sound i hi tree);
             }

@@ -18,7 +18,7 @@ use Rattle.job.specs.Steps.{AllBelow, Stored}
 use Rattle.negotiation.specs.Steps.{SameFrom, CanTurn, Skipped, Overflows, TurnLogged, PathFound, turnCount}
 use Rattle.negotiation.specs.TariffSteps.{loggedTariff}
 use Rattle.negotiation.specs.declared.tariff.Tariff.{Tariff}
-use Rattle.negotiation.proofs.turns.FoundLaws.{count-most, joined-path}
+use Rattle.negotiation.proofs.FoundLaws.{count-most, joined-path}
 
 -- ---- what the search answers
 

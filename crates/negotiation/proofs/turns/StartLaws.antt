@@ -1,6 +1,6 @@
 -- A run starts anew, or after a lent log that is taken up from its words used; else the log is turned away.
 -- Assumes nothing.
-use mathlib.Core.Bool.{Bool}
+use mathlib.Core.Bool.{Bool, false}
 use mathlib.Core.List.{List, [], _++_, append-assoc}
 use mathlib.Core.Path.{_≡_, refl, sym, _∙_, ap, subst}
 use Prim.Native.Nat.{ℕ, _*_, _≤_, _<_, zero-le}
@@ -13,23 +13,24 @@ use Rattle.negotiation.specs.Records.{Record, encode, decode}
 use Rattle.negotiation.specs.Machine.{Progress, firstState}
 use Rattle.negotiation.specs.Outcome.{RouteReply, firstProgress, logWith, continued, refusedAnswer, routeReplyOf}
 use Rattle.negotiation.specs.Kept.{Tallied, Ready, SomeReady}
-use Rattle.negotiation.specs.Resume.{Replay, on, off, replayFrom, replay, resumedReply, runFrom, lentRecords}
+use Rattle.negotiation.specs.Steps.{SameFrom}
+use Rattle.negotiation.specs.Resume.{Replay, on, off, replayFrom, replayBy, replay, resumedReply, runFrom, lentRecords}
 use Rattle.negotiation.specs.Routable.{Routable}
 use Rattle.negotiation.specs.Aimed.{expandedAfter}
 use Rattle.negotiation.specs.Runs.{Ran, start as none-ran}
 use Rattle.negotiation.specs.TariffSteps.{goingOn}
-use Rattle.negotiation.specs.TakeSteps.{LogTaken, StartOn, Started}
+use Rattle.negotiation.specs.TakeSteps.{LogTaken, StartOn, wordsAt, TurnedAway, Started}
 use Rattle.negotiation.specs.declared.RouteAnswer.{RouteAnswer}
 use Rattle.negotiation.specs.declared.Outcome.the-variants.{Diverges}
 use Rattle.negotiation.specs.declared.Start.{Start}
 use Rattle.negotiation.specs.declared.Start.the-variants.{Anew, After}
 use Rattle.negotiation.specs.declared.tariff.Tariff.{Tariff}
 use Rattle.negotiation.specs.declared.take_up.Taken.{Taken}
-use Rattle.negotiation.specs.declared.take_up.Taken.the-variants.{On, Off}
+use Rattle.negotiation.specs.declared.take_up.Taken.the-variants.{On, Off, Ends, NotCheapest}
 use Rattle.negotiation.proofs.RecordLaws.{decode-encode}
-use Rattle.negotiation.proofs.ReplayLaws.{TakenUp, taken-up}
+use Rattle.negotiation.proofs.ReplayLaws.{TakenUp, taken-up, never-ends, never-finds}
 use Rattle.negotiation.proofs.TurnStepLaws.{tallied-so}
-use Rattle.negotiation.proofs.EndLaws.{cleared-same}
+use Rattle.negotiation.proofs.EndLaws.{cleared-same, continued-same}
 
 -- ---- the words used and the whole log
 
@@ -93,16 +94,16 @@ module _ (j : Job) (start : Start) (log : List ℕ) where
     after-so a q work = rw (e, q)
 
     pub start-beyond : length log < used → (history users marks from to dues : List ℕ) → Started (Off (length log)) start j history users marks from to dues log
-    unfolding Started replay
+    unfolding Started replayBy
     start-beyond l history users marks from to dues = after-so (off (length log)) (rw (lt-ltb (length log) used l))
 
     module _ (within : used ≤ length log) where
-      replay-is : replay j used log ≡ replayFrom j (take used log) (j .terms .limit) (firstState j) []
-      unfolding replay
+      replay-is : replay j used log ≡ replayFrom false j (take used log) (j .terms .limit) (firstState j) []
+      unfolding replayBy
       replay-is = rw (le-ltb (length log) used within)
 
       pub start-taken :
-          Routable j → (r : Taken) (history users marks from to dues : List ℕ) → LogTaken r j history users marks from to dues (take used log)
+          Routable j → (r : Taken) (history users marks from to dues : List ℕ) → LogTaken false r j history users marks from to dues (take used log)
           → Started r start j history users marks from to dues log
       unfolding Started
       start-taken sound (On t) history users marks from to dues o =
@@ -116,6 +117,9 @@ module _ (j : Job) (start : Start) (log : List ℕ) where
             lent-is = rw e (sym (ap decode (taken .words-are) ∙ decode-encode (o .progress .records)));
           }
       start-taken sound (Off word) history users marks from to dues q = after-so (off word) (replay-is ∙ q)
+      start-taken sound (Ends told) history users marks from to dues q = absurd (never-ends j used log (q .progress) (replay-is ∙ q .is))
+      start-taken sound (NotCheapest told cost least) history users marks from to dues q =
+          absurd (never-finds j used log (q .progress) cost least (replay-is ∙ q .is))
 
 -- ---- the run from it
 
@@ -145,10 +149,12 @@ module _ (j : Job) (start : Start) (log : List ℕ) {r : Taken} {history users m
         let at = started-on e in
         record { progress = at .progress; ready = ready-going; iterations = at .iterations; ran = at .ran; none-expanded = ap (λ (x : Tariff). x .expanded) chosen }
 
-    -- its reply is that of a run which goes on from the same progress,
+    -- its reply is that of a run which goes on from the same progress, whatever the start left in the first entries of the work slice,
     pub start-ran :
-        (work : List ℕ) (a : RouteReply) → ((p : Progress) → Ready j p t′ history users marks from to dues log → a ≡ continued j p work log) → a ≡ runFrom start j work log
-    start-ran work a ran = ran (started-on e .progress) ready-going ∙ sym (started-on e .is work)
+        (work w : List ℕ) → SameFrom (8 * nodes j) work w → (a : RouteReply)
+        → ((p : Progress) → Ready j p t′ history users marks from to dues log → a ≡ continued j p w log) → a ≡ runFrom start j work log
+    start-ran work w kept a ran =
+        ran (started-on e .progress) ready-going ∙ continued-same j (started-on e .progress) work w log kept ∙ sym (started-on e .is work)
 
     -- and its count is over the turns past the lent ones
     pub start-counts :
@@ -161,13 +167,20 @@ module _ (j : Job) (start : Start) (log : List ℕ) {r : Taken} {history users m
         ∙ ap (λ (x : Tariff). expandedAfter (x .aimed) j (at .progress .records) made) chosen
         ∙ ap (λ (l : List Record). expandedAfter aimed j l made) (at .lent-is)
 
--- a log that is turned away leaves the work slice cleared
-pub turned-away :
-    (j : Job) (start : Start) (log : List ℕ) (r : Taken) (history users marks from to dues : List ℕ) → Started r start j history users marks from to dues log
-    → (word : ℕ) → r ≡ Off word → (work : List ℕ) (a : RouteAnswer) → a ≡ refusedAnswer (Diverges word)
-    → (left : List ℕ) → left ≡ replicate (8 * nodes j) 0 ++ drop (8 * nodes j) work → routeReplyOf a left log ≡ runFrom start j work log
-unfolding Started
-turned-away j start log r history users marks from to dues s word e work a q left is =
-    let off-so : ((w : List ℕ) → runFrom start j w log ≡ resumedReply j (off word) w log) =
-    subst (λ (x : Taken). Started x start j history users marks from to dues log) e s in
-    rw (q, is ∙ cleared-same (nodes j) work work (record { long = refl; high = λ k l. refl })) (sym (off-so work))
+-- a log that is not taken up is turned away at its word,
+module _ (j : Job) (start : Start) (log history users marks from to dues : List ℕ) where
+  away-so :
+      (r : Taken) → Started r start j history users marks from to dues log → ((t : Tariff) → r ≡ On t → ⊥) → TurnedAway (wordsAt r) start j log
+  unfolding Started
+  away-so (On t) s other = absurd (other t refl)
+  away-so (Off word) s other = s
+  away-so (Ends told) s other = s
+  away-so (NotCheapest told cost least) s other = s
+
+  -- which leaves the work slice cleared
+  pub turned-away :
+      (r : Taken) → Started r start j history users marks from to dues log → ((t : Tariff) → r ≡ On t → ⊥) → (word : ℕ) → word ≡ wordsAt r
+      → (work w : List ℕ) → SameFrom (8 * nodes j) work w → (a : RouteAnswer) → a ≡ refusedAnswer (Diverges word)
+      → (left : List ℕ) → left ≡ replicate (8 * nodes j) 0 ++ drop (8 * nodes j) w → routeReplyOf a left log ≡ runFrom start j work log
+  turned-away r s other word e work w kept a q left is =
+      rw (q, e, is ∙ cleared-same (nodes j) work w kept) (sym (away-so r s other work))

@@ -4,30 +4,6 @@ use borrow.Author.Needs.{needs}
 use Rattle.capi.proofs.out.put_outcome.Statement.{statement}
 use Rattle.capi.proofs.out.put_outcome.Tie as tie
 
-put-numbers-requires : tie.Need-put-numbers-requires
-put-numbers-requires c κs = search needs
-
-put-numbers-requires-2 : tie.Need-put-numbers-requires-2
-put-numbers-requires-2 c κs = search needs
-
-put-numbers-requires-3 : tie.Need-put-numbers-requires-3
-put-numbers-requires-3 c κs = search needs
-
-put-numbers-requires-4 : tie.Need-put-numbers-requires-4
-put-numbers-requires-4 c κs = search needs
-
-put-numbers-requires-5 : tie.Need-put-numbers-requires-5
-put-numbers-requires-5 c κs = search needs
-
-put-numbers-requires-6 : tie.Need-put-numbers-requires-6
-put-numbers-requires-6 c κs = search needs
-
-put-numbers-requires-7 : tie.Need-put-numbers-requires-7
-put-numbers-requires-7 c κs = search needs
-
-put-numbers-requires-8 : tie.Need-put-numbers-requires-8
-put-numbers-requires-8 c κs = search needs
-
 returns : tie.Need-returns
 returns c = rw (c .before .before .before .before .enum-told .given .1) (c .before .before .put-numbers .ensures)
 
@@ -52,12 +28,16 @@ returns-7 c = rw (c .before .before .before .before .before .outcome5 .given .1)
 returns-8 : tie.Need-returns-8
 returns-8 c = rw (c .before .before .before .before .before .outcome6 .given .1) (c .before .before .put-numbers8 .ensures)
 
+returns-9 : tie.Need-returns-9
+returns-9 c = rw (c .before .before .before .before .before .outcome7 .given .1) (c .before .before .put-numbers9 .ensures)
+
 pub put-outcome-spec : {M : Type 1} → statement M
 put-outcome-spec =
     tie.close
-    (tie.spec (λ c. search needs) (λ c. search needs) put-numbers-requires (λ c. search needs) (λ c. search needs) (λ c. search needs)
-    put-numbers-requires-2 (λ c. search needs) put-numbers-requires-3 (λ c. search needs) (λ c. search needs) put-numbers-requires-4
-    (λ c. search needs) (λ c. search needs) put-numbers-requires-5 (λ c. search needs) put-numbers-requires-6 (λ c. search needs)
-    put-numbers-requires-7 (λ c. search needs) (λ c. search needs) (λ c. search needs) put-numbers-requires-8 (λ c. search needs) returns
-    (λ c. search needs) returns-2 (λ c. search needs) returns-3 (λ c. search needs) returns-4 (λ c. search needs) returns-5
-    (λ c. search needs) returns-6 (λ c. search needs) returns-7 (λ c. search needs) returns-8)
+    (tie.spec (λ c. search needs) (λ c κs. search needs) (λ c. search needs) (λ c. search needs) (λ c. search needs)
+    (λ c κs. search needs) (λ c. search needs) (λ c κs. search needs) (λ c. search needs) (λ c. search needs) (λ c κs. search needs)
+    (λ c. search needs) (λ c. search needs) (λ c κs. search needs) (λ c. search needs) (λ c κs. search needs) (λ c. search needs)
+    (λ c κs. search needs) (λ c. search needs) (λ c. search needs) (λ c. search needs) (λ c κs. search needs) (λ c. search needs)
+    (λ c κs. search needs) (λ c. search needs) returns (λ c. search needs) returns-2 (λ c. search needs) returns-3 (λ c. search needs)
+    returns-4 (λ c. search needs) returns-5 (λ c. search needs) returns-6 (λ c. search needs) returns-7 (λ c. search needs) returns-8
+    (λ c. search needs) returns-9)

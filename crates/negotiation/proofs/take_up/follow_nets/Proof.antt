@@ -1,28 +1,35 @@
 -- `negotiation::take_up::follow_nets` meets its contract: under any such terms and from any progress at which an iteration opens so, the nets passed follow
 -- (`TakeNetLaws`). What is safe rests on the one that is asked for. The measure: nets left.
 -- Assumes nothing.
-use mathlib.Core.Path.{_≡_, sym, _∙_}
-use Prim.Native.Nat.{ℕ, _-_, _+_, _≤_}
+use mathlib.Core.Bool.{false}
+use mathlib.Core.List.{[], _∷_}
+use mathlib.Core.Path.{_≡_, refl, sym, _∙_}
+use Prim.Native.Nat.{ℕ, _-_, _+_, _*_, _≤_}
 use native.Mathlib.Omega.{arith}
 use lib.ListN.{length, getD}
+use types.Run.{miss}
+use borrow.Author.Needs.{needs}
 use Rattle.job.specs.Job.{Job, jobOf}
 use Rattle.negotiation.specs.Routable.{Routable}
 use Rattle.negotiation.specs.Machine.{Progress}
+use Rattle.negotiation.specs.Steps.{SameFrom}
 use Rattle.negotiation.specs.TakeSteps.{NetTables, NetsOpen, NetsOn}
 use Rattle.job.specs.declared.Terms.{Terms}
-use Rattle.negotiation.proofs.take_up.TakeNetLaws.{net-tables, nets-start, nets-long, net-ready, net-asks, nets-off, end-ready, net-next, nets-all}
+use Rattle.negotiation.proofs.KeepTurn.{same-twice}
+use Rattle.negotiation.proofs.take_up.TakeNetLaws.{net-tables, nets-start, nets-long, net-ready, net-asks, nets-stopped, end-ready, net-next, nets-all}
 use Rattle.negotiation.proofs.take_up.follow_nets.Statement.{statement}
 use Rattle.negotiation.proofs.take_up.follow_nets.Tie as tie
 
 abbrev Inv-loop : tie.InvT-loop
-Inv-loop kind capacity first-edge edge-target source first-sink sink delay criticality timed history users₀ in-tree₀ tree-from₀ tree-to₀ due log tariff₀ net₀ users in-tree tree-from tree-to tariff net =
+Inv-loop kind capacity first-edge edge-target source first-sink sink delay criticality timed walk history users₀ in-tree₀ tree-from₀ tree-to₀ due work₀ log tariff₀ net₀ users in-tree tree-from tree-to work tariff net =
     ((terms : Terms) (p : Progress) → timed ≡ terms .timed
     → NetsOpen (jobOf kind capacity first-edge edge-target source first-sink sink delay criticality terms) p tariff₀ history users₀ in-tree₀ tree-from₀ tree-to₀ due log
-    → NetsOn (jobOf kind capacity first-edge edge-target source first-sink sink delay criticality terms) p net tariff history users in-tree tree-from tree-to log)
+    → NetsOn (walk .audit) (jobOf kind capacity first-edge edge-target source first-sink sink delay criticality terms) p net tariff history users in-tree tree-from tree-to log)
     × (net ≤ length source)
+    × SameFrom (8 * length kind) work₀ work
 
 abbrev μ-loop : tie.MeasureT-loop
-μ-loop kind capacity first-edge edge-target source first-sink sink delay criticality timed history users₀ in-tree₀ tree-from₀ tree-to₀ due log tariff₀ net₀ users in-tree tree-from tree-to tariff net =
+μ-loop kind capacity first-edge edge-target source first-sink sink delay criticality timed walk history users₀ in-tree₀ tree-from₀ tree-to₀ due work₀ log tariff₀ net₀ users in-tree tree-from tree-to work tariff net =
     length source - net
 
 -- ---- the entry and a net
@@ -43,10 +50,10 @@ module _ (e : Entry) where
 
   -- the terms and the progress that are asked for
   abbrev job : Job
-  job = jobWith (e .pre .terms)
+  job = jobWith (e .pre .0 .terms)
 
-  opened : OpenAt (e .pre .terms) (e .pre .progress)
-  opened = e .pre .open-so
+  opened : OpenAt (e .pre .0 .terms) (e .pre .0 .progress)
+  opened = e .pre .0 .open-so
 
   routable : Routable job
   routable = opened .routable
@@ -63,13 +70,13 @@ Head = tie.At-loop Inv-loop μ-loop
 
 module _ (c : Head) where
   abbrev entry : Entry
-  entry = c .before .before .before .before .before .before .before .before .before .before .before .before .before .before .before .before .before
+  entry = c .before .before .before .before .before .before .before .before .before .before .before .before .before .before .before .before .before .before
 
   -- the nets so far, of what is asked for
   so-far :
-      NetsOn (job entry) (entry .pre .progress) (c .loop .net) (c .loop .tariff) (entry .args .history .now) (c .loop .users) (c .loop .in-tree) (c .loop .tree-from)
+      NetsOn (entry .args .walk .audit) (job entry) (entry .pre .0 .progress) (c .loop .net) (c .loop .tariff) (entry .args .history .now) (c .loop .users) (c .loop .in-tree) (c .loop .tree-from)
       (c .loop .tree-to) (entry .args .log .now)
-  so-far = c .loop .inv .0 _ _ (entry .pre .timed-is) (opened entry)
+  so-far = c .loop .inv .0 _ _ (entry .pre .0 .timed-is) (opened entry)
 
 abbrev Net : Type 0
 Net = tie.In-loop Inv-loop μ-loop
@@ -89,17 +96,27 @@ abbrev Followed : Type 0
 Followed = tie.After-follow-net Inv-loop μ-loop
 
 abbrev begun : Followed → Begun
-begun c = c .before .before .before .before .before .before .before
+begun c = c .before .before .before .before .before .before .before .before
 
 abbrev followed-net : Followed → Net
 followed-net c = begun-net (begun c)
+
+module _ (c : Followed) where
+  -- the work memory that they leave
+  work-same :
+      SameFrom (8 * length (start (followed-net c) .args .kind .now)) (start (followed-net c) .args .work .now) (c .follow-net .last .1 .1 .1 .1 .1 .1 .1 .1 .1 .1 .1 .1 .1 .1 .1 .1 .1 .0)
+  work-same = same-twice (followed-net c .before .loop .inv .2) (c .follow-net .ensures .1 .1)
+
+-- they end the iteration
+abbrev stopped : tie.At-match-keys2 Inv-loop μ-loop → Followed
+stopped c = c .before .before .before .before .before
 
 -- they follow
 abbrev Answered : Type 0
 Answered = tie.After-known-told Inv-loop μ-loop
 
 abbrev answered : Answered → Followed
-answered c = c .before .before .before .before .before
+answered c = c .before .before .before .before .before .before .before
 
 -- its new tree counts
 abbrev Ended : Type 0
@@ -109,16 +126,16 @@ abbrev ended : Ended → Answered
 ended c = c .before .before .before .before .before
 
 -- and what was lent for it is back
-abbrev back : tie.After-slice-known11 Inv-loop μ-loop → Ended
+abbrev back : tie.After-slice-known13 Inv-loop μ-loop → Ended
 back c = c .before .before .before .before .before .before .before .before
 
-abbrev back-net : tie.After-slice-known11 Inv-loop μ-loop → Net
+abbrev back-net : tie.After-slice-known13 Inv-loop μ-loop → Net
 back-net c = followed-net (answered (ended (back c)))
 
 -- ---- the needs
 
 loop-holds : tie.Need-loop-holds Inv-loop μ-loop
-loop-holds c = (λ terms p w o. nets-start _ o, omega arith)
+loop-holds c = ((λ terms p w o. nets-start _ _ o), omega arith, record { long = refl; high = λ k l. refl })
 
 mul-from : tie.Need-mul-from Inv-loop μ-loop
 mul-from c = let f = routable (start c) .nets-few in let h = c .loop-test .taken in omega arith
@@ -156,58 +173,62 @@ cast-follow-net c =
 
 follow-net-requires : tie.Need-follow-net-requires Inv-loop μ-loop
 follow-net-requires c κs =
-    let b : Begun = c .before .before .before .before .before .before in
+    let b : Begun = c .before .before .before .before .before .before .before in
     let t : Net = begun-net b in
     let o = opened (start t) in
-    λ some.
-    record {
-      sources = start t .args .source .now;
-      firstSinks = start t .args .first-sink .now;
-      terms = start t .pre .terms;
-      progress = so-far (t .before) .progress;
-      opens =
-          net-asks _ (o .routable) (o .due-is) (so-far (t .before)) (t .loop-test .taken) (b .begin-net .ensures .0) (b .begin-net .ensures .1)
-          (tables (start t) _ (start t .pre .timed-is) _) some;
-    }
-
-enum-known-taken : tie.Need-enum-known-taken Inv-loop μ-loop
-enum-known-taken c = c .match .keys1
-
-enum-told : tie.Need-enum-told Inv-loop μ-loop
-enum-told c = c .match .keys2
+    let room = start t .pre .1 in
+    let same = t .before .loop .inv .2 .long in
+    λ some. (
+      record {
+        sources = start t .args .source .now;
+        firstSinks = start t .args .first-sink .now;
+        terms = start t .pre .0 .terms;
+        progress = so-far (t .before) .progress;
+        opens =
+            net-asks _ (o .routable) (o .due-is) (so-far (t .before)) (t .loop-test .taken) (b .begin-net .ensures .0) (b .begin-net .ensures .1)
+            (tables (start t) _ (start t .pre .0 .timed-is) _) some;
+      },
+      omega arith,
+    )
 
 same-length : tie.Need-same-length Inv-loop μ-loop
 same-length c =
-    let b : Begun = begun (c .before .before .before .before) in
+    let b : Begun = begun (stopped c) in
     let t : Net = begun-net b in
-    b .begin-net .kept .1 .1 .1 .1 .1 .1 .1 .0 ∙ nets-long _ (so-far (t .before)) .0 ∙ sym (nets-long _ (nets-start _ (opened (start t))) .0)
+    b .begin-net .kept .1 .1 .1 .1 .1 .1 .1 .0 ∙ nets-long _ (so-far (t .before)) .0 ∙ sym (nets-long _ (nets-start false _ (opened (start t))) .0)
 
 same-length-2 : tie.Need-same-length-2 Inv-loop μ-loop
 same-length-2 c =
-    let f : Followed = c .before .before .before .before in
+    let f : Followed = stopped c in
     let b : Begun = begun f in
     let t : Net = begun-net b in
-    f .follow-net .kept .1 .1 .1 .1 .1 .1 .1 .1 .1 .1 .1 .1 .1 .1 .1 .0 ∙ b .begin-net .kept .1 .1 .1 .1 .1 .1 .1 .1 .0 ∙ nets-long _ (so-far (t .before)) .1
-    ∙ sym (nets-long _ (nets-start _ (opened (start t))) .1)
+    f .follow-net .kept .1 .1 .1 .1 .1 .1 .1 .1 .1 .1 .1 .1 .1 .1 .1 .1 .0 ∙ b .begin-net .kept .1 .1 .1 .1 .1 .1 .1 .1 .0 ∙ nets-long _ (so-far (t .before)) .1
+    ∙ sym (nets-long _ (nets-start false _ (opened (start t))) .1)
 
 same-length-3 : tie.Need-same-length-3 Inv-loop μ-loop
 same-length-3 c =
-    let t : Net = followed-net (c .before .before .before .before) in
-    nets-long _ (so-far (t .before)) .2 ∙ sym (nets-long _ (nets-start _ (opened (start t))) .2)
+    let t : Net = followed-net (stopped c) in
+    nets-long _ (so-far (t .before)) .2 ∙ sym (nets-long _ (nets-start false _ (opened (start t))) .2)
 
 same-length-4 : tie.Need-same-length-4 Inv-loop μ-loop
 same-length-4 c =
-    let t : Net = followed-net (c .before .before .before .before) in
-    nets-long _ (so-far (t .before)) .3 ∙ sym (nets-long _ (nets-start _ (opened (start t))) .3)
+    let t : Net = followed-net (stopped c) in
+    nets-long _ (so-far (t .before)) .3 ∙ sym (nets-long _ (nets-start false _ (opened (start t))) .3)
+
+same-length-5 : tie.Need-same-length-5 Inv-loop μ-loop
+same-length-5 c = work-same (stopped c) .long
 
 returns : tie.Need-returns Inv-loop μ-loop
 returns c =
-    let f : Followed = c .before .before .before .before in
+    let f : Followed = stopped c in
     let b : Begun = begun f in
-    let t : Net = begun-net b in
-    λ terms p w o.
-    nets-off _ (o .routable) (o .due-is) (t .before .loop .inv .0 _ _ w o) (t .loop-test .taken) (b .begin-net .ensures .0) (b .begin-net .ensures .1)
-    (tables (start t) terms w _) (f .follow-net .ensures .0) (λ q. f .follow-net .ensures .1 _ _ _ _ q) _ (c .enum-told .given .1) _ _ _ _ _
+    let t : Net = begun-net b in (
+      work-same f,
+      λ terms p w o.
+          nets-stopped _ (o .routable) (o .due-is) (t .before .loop .inv .0 _ _ w o) (t .loop-test .taken) (b .begin-net .ensures .0) (b .begin-net .ensures .1)
+          (tables (start t) terms w _) (start t .args .walk .over) (f .follow-net .ensures .0) (λ q. f .follow-net .ensures .1 .0 _ _ _ _ q)
+          (λ t″ e. miss (1 ∷ 2 ∷ 3 ∷ []) 0 tt (rw e at (c .match .keys2))) _ _ _ _ _,
+    )
 
 end-net-requires : tie.Need-end-net-requires Inv-loop μ-loop
 end-net-requires c κs =
@@ -217,7 +238,8 @@ end-net-requires c κs =
     let t : Net = begun-net b in
     let o = opened (start t) in
     end-ready _ (o .routable) (o .due-is) (so-far (t .before)) (t .loop-test .taken) (b .begin-net .ensures .0) (b .begin-net .ensures .1)
-    (tables (start t) _ (start t .pre .timed-is) _) (f .follow-net .ensures .0) (λ q. f .follow-net .ensures .1 _ _ _ _ q) (h .before .taken .given .1)
+    (tables (start t) _ (start t .pre .0 .timed-is) _) (start t .args .walk .over) (f .follow-net .ensures .0)
+    (λ q. f .follow-net .ensures .1 .0 _ _ _ _ q) (h .before .taken .given .1)
 
 add-net : tie.Need-add-net Inv-loop μ-loop
 add-net c =
@@ -239,29 +261,36 @@ loop-again c =
     let few = t .loop-test .taken in (
       (λ terms p w o.
           net-next _ (o .routable) (o .due-is) (t .before .loop .inv .0 _ _ w o) (t .loop-test .taken) (b .begin-net .ensures .0) (b .begin-net .ensures .1)
-          (tables (start t) terms w _) (f .follow-net .ensures .0) (λ q. f .follow-net .ensures .1 _ _ _ _ q) (h .before .taken .given .1)
+          (tables (start t) terms w _) (start t .args .walk .over) (f .follow-net .ensures .0)
+          (λ q. f .follow-net .ensures .1 .0 _ _ _ _ q) (h .before .taken .given .1)
           (e .end-net .ensures .0) (e .end-net .ensures .1)),
       omega arith,
+      work-same f,
     )
 
-same-length-5 : tie.Need-same-length-5 Inv-loop μ-loop
-same-length-5 c = nets-long _ (so-far (c .before)) .0 ∙ sym (nets-long _ (nets-start _ (opened (entry (c .before)))) .0)
-
 same-length-6 : tie.Need-same-length-6 Inv-loop μ-loop
-same-length-6 c = nets-long _ (so-far (c .before)) .1 ∙ sym (nets-long _ (nets-start _ (opened (entry (c .before)))) .1)
+same-length-6 c = nets-long _ (so-far (c .before)) .0 ∙ sym (nets-long _ (nets-start false _ (opened (entry (c .before)))) .0)
 
 same-length-7 : tie.Need-same-length-7 Inv-loop μ-loop
-same-length-7 c = nets-long _ (so-far (c .before)) .2 ∙ sym (nets-long _ (nets-start _ (opened (entry (c .before)))) .2)
+same-length-7 c = nets-long _ (so-far (c .before)) .1 ∙ sym (nets-long _ (nets-start false _ (opened (entry (c .before)))) .1)
 
 same-length-8 : tie.Need-same-length-8 Inv-loop μ-loop
-same-length-8 c = nets-long _ (so-far (c .before)) .3 ∙ sym (nets-long _ (nets-start _ (opened (entry (c .before)))) .3)
+same-length-8 c = nets-long _ (so-far (c .before)) .2 ∙ sym (nets-long _ (nets-start false _ (opened (entry (c .before)))) .2)
+
+same-length-9 : tie.Need-same-length-9 Inv-loop μ-loop
+same-length-9 c = nets-long _ (so-far (c .before)) .3 ∙ sym (nets-long _ (nets-start false _ (opened (entry (c .before)))) .3)
+
+same-length-10 : tie.Need-same-length-10 Inv-loop μ-loop
+same-length-10 c = c .before .loop .inv .2 .long
 
 returns-2 : tie.Need-returns-2 Inv-loop μ-loop
-returns-2 c = λ terms p w o. nets-all _ (c .before .loop .inv .0 _ _ w o) (c .before .loop .inv .1) (c .loop-test .left)
+returns-2 c =
+    (c .before .loop .inv .2, λ terms p w o. nets-all _ (c .before .loop .inv .0 _ _ w o) (c .before .loop .inv .1) (c .loop-test .left))
 
 pub follow-nets-spec : {M : Type 1} → statement M
 follow-nets-spec =
     tie.close
     (tie.spec Inv-loop μ-loop loop-holds mul-from shared-slice-read-from cast-from add-to mul-to shared-slice-read-to cast-to
-    begin-net-requires cast-follow-net follow-net-requires enum-known-taken enum-told same-length same-length-2 same-length-3 same-length-4
-    returns end-net-requires add-net loop-less loop-again same-length-5 same-length-6 same-length-7 same-length-8 returns-2)
+    begin-net-requires cast-follow-net follow-net-requires (λ c. search needs) same-length same-length-2 same-length-3 same-length-4
+    same-length-5 returns end-net-requires add-net loop-less loop-again same-length-6 same-length-7 same-length-8 same-length-9
+    same-length-10 returns-2)

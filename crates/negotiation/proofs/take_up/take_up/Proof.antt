@@ -2,33 +2,41 @@
 -- or behind it (`TakeLogLaws`). The measure: iterations up to the limit.
 -- Assumes nothing.
 use mathlib.Core.Bool.{true}
-use mathlib.Core.List.{List}
+use mathlib.Core.List.{List, [], _∷_}
 use mathlib.Core.Path.{_≡_, refl, sym, _∙_, ap}
-use Prim.Native.Nat.{ℕ, _-_, _≤_, _<_}
+use Prim.Native.Nat.{ℕ, _-_, _*_, _≤_, _<_}
 use native.Mathlib.Nat.{le-of-eq, le-trans}
 use native.Mathlib.Omega.{arith}
 use lib.Dec.{ltb}
+use types.Run.{miss}
+use borrow.Author.Needs.{needs}
 use lib.ListN.{length, getD}
 use Rattle.price.specs.Lists.{countBelow}
 use Rattle.search.proofs.BlockLaws.{kinds-few, capacities-long}
 use Rattle.job.specs.Job.{Job, jobOf, nodes, nets}
 use Rattle.negotiation.specs.Routable.{Routable}
 use Rattle.negotiation.specs.TariffSteps.{endedTariff, startedTariff}
-use Rattle.negotiation.specs.TakeSteps.{NetsOpen, NetsOn, NetsTaken}
+use Rattle.negotiation.specs.TakeSteps.{wholeAs, NetsOpen, NetsOn, NetsTaken}
+use Rattle.negotiation.specs.Steps.{SameFrom}
+use Rattle.negotiation.specs.declared.take_up.Taken.the-variants.{On}
+use Rattle.negotiation.specs.declared.take_up.Walk.{Walk}
 use Rattle.negotiation.specs.declared.tariff.Tariff.{Tariff}
 use Rattle.negotiation.proofs.RoutableLaws.{tuning-fits}
 use Rattle.negotiation.proofs.KeepProgress.{overUsed}
 use Rattle.negotiation.proofs.take_up.TakeNetLaws.{nets-long}
-use Rattle.negotiation.proofs.take_up.TakeLogLaws.{Taking, take-start, taking-long, take-on, nets-on, next-below, due-asks, growable, nets-open, take-off, take-settled, take-last, same-iteration, take-next}
+use Rattle.negotiation.proofs.take_up.TakeLogLaws.{Taking, take-start, taking-long, take-on, nets-on, due-asks, growable, nets-open, take-stopped, same-iteration, take-whole, low, take-next}
+use Rattle.negotiation.proofs.take_up.JudgedLaws.{whole-said-so}
+use Rattle.negotiation.proofs.KeepTurn.{same-twice}
 use Rattle.negotiation.proofs.take_up.take_up.Statement.{statement}
 use Rattle.negotiation.proofs.take_up.take_up.Tie as tie
 
 abbrev Inv-loop : tie.InvT-loop
-Inv-loop kind capacity first-edge edge-target source first-sink sink delay criticality terms history₀ users₀ in-tree₀ tree-from₀ tree-to₀ due₀ log tariff₀ more₀ history users in-tree tree-from tree-to due tariff more =
-    Taking (jobOf kind capacity first-edge edge-target source first-sink sink delay criticality terms) more tariff history users in-tree tree-from tree-to due log
+Inv-loop kind capacity first-edge edge-target source first-sink sink delay criticality terms audit history₀ users₀ in-tree₀ tree-from₀ tree-to₀ due₀ work₀ log tariff₀ over₀ more₀ history users in-tree tree-from tree-to due work tariff over more =
+    Taking audit (jobOf kind capacity first-edge edge-target source first-sink sink delay criticality terms) more over tariff history users in-tree tree-from tree-to due log
+    × SameFrom (8 * length kind) work₀ work
 
 abbrev μ-loop : tie.MeasureT-loop
-μ-loop kind capacity first-edge edge-target source first-sink sink delay criticality terms history₀ users₀ in-tree₀ tree-from₀ tree-to₀ due₀ log tariff₀ more₀ history users in-tree tree-from tree-to due tariff more =
+μ-loop kind capacity first-edge edge-target source first-sink sink delay criticality terms audit history₀ users₀ in-tree₀ tree-from₀ tree-to₀ due₀ work₀ log tariff₀ over₀ more₀ history users in-tree tree-from tree-to due work tariff over more =
     terms .limit - tariff .iteration
 
 -- ---- the entry and the loop's head
@@ -52,16 +60,16 @@ module _ (e : Entry) where
   capacities = capacities-long _ _ (routable .block-sound .capacities-sound)
 
   begins :
-      Taking job true (e .args .begun) (e .args .history .now) (e .args .users .now) (e .args .in-tree .now) (e .args .tree-from .now) (e .args .tree-to .now)
+      Taking (e .args .audit) job true 0 (e .args .begun) (e .args .history .now) (e .args .users .now) (e .args .in-tree .now) (e .args .tree-from .now) (e .args .tree-to .now)
       (e .args .due .now) (e .args .log .now)
-  begins = take-start _ (e .pre .1)
+  begins = take-start _ _ (e .pre .2)
 
 abbrev Head : Type 0
 Head = tie.At-loop Inv-loop μ-loop
 
 module _ (c : Head) where
   abbrev entry : Entry
-  entry = c .before .before .before .before .before .before .before .before .before .before .before .before .before .before .before .before .before
+  entry = c .before .before .before .before .before .before .before .before .before .before .before .before .before .before .before .before .before .before
 
   -- the lists keep their lengths
   long :
@@ -69,7 +77,7 @@ module _ (c : Head) where
       × (length (c .loop .in-tree) ≡ length (entry .args .in-tree .now)) × (length (c .loop .tree-from) ≡ length (entry .args .tree-from .now))
       × (length (c .loop .tree-to) ≡ length (entry .args .tree-to .now)) × (length (c .loop .due) ≡ length (entry .args .due .now))
   long =
-      let now = taking-long _ (c .loop .inv) in
+      let now = taking-long _ (c .loop .inv .0) in
       let first = taking-long _ (begins entry) in
       (now .0 ∙ sym (first .0), now .1 ∙ sym (first .1), now .2 ∙ sym (first .2), now .3 ∙ sym (first .3), now .4 ∙ sym (first .4), now .5 ∙ sym (first .5))
 
@@ -93,10 +101,10 @@ module _ (c : Marked) where
   dues = c .mark-due .last .1 .1 .1 .1 .1 .1 .1 .1 .0
 
   opened :
-      NetsOpen (job (start marked-in)) (marked-in .before .loop .inv .progress) (marked-in .before .loop .tariff) (marked-in .before .loop .history)
+      NetsOpen (job (start marked-in)) (marked-in .before .loop .inv .0 .progress) (marked-in .before .loop .tariff) (marked-in .before .loop .history)
       (marked-in .before .loop .users) (marked-in .before .loop .in-tree) (marked-in .before .loop .tree-from) (marked-in .before .loop .tree-to) dues
       (start marked-in .args .log .now)
-  opened = nets-open _ (routable (start marked-in)) (marked-in .before .loop .inv) (c .mark-due .ensures)
+  opened = nets-open _ (routable (start marked-in)) (marked-in .before .loop .inv .0) (c .mark-due .ensures)
 
 -- they are followed
 abbrev Followed : Type 0
@@ -104,46 +112,52 @@ Followed = tie.After-follow-nets Inv-loop μ-loop
 
 module _ (c : Followed) where
   abbrev marked : Marked
-  marked = c .before .before .before .before .before .before .before .before .before
+  marked = c .before .before .before .before .before .before .before .before .before .before
 
   abbrev iteration : Iteration
   iteration = marked-in marked
 
   abbrev users : List ℕ
-  users = c .follow-nets .last .1 .1 .1 .1 .1 .1 .1 .1 .1 .1 .1 .1 .0
+  users = c .follow-nets .last .1 .1 .1 .1 .1 .1 .1 .1 .1 .1 .1 .1 .1 .0
 
   abbrev marks : List ℕ
-  marks = c .follow-nets .last .1 .1 .1 .1 .1 .1 .1 .1 .1 .1 .1 .1 .1 .0
+  marks = c .follow-nets .last .1 .1 .1 .1 .1 .1 .1 .1 .1 .1 .1 .1 .1 .1 .0
 
   abbrev from : List ℕ
-  from = c .follow-nets .last .1 .1 .1 .1 .1 .1 .1 .1 .1 .1 .1 .1 .1 .1 .0
+  from = c .follow-nets .last .1 .1 .1 .1 .1 .1 .1 .1 .1 .1 .1 .1 .1 .1 .1 .0
 
   abbrev to : List ℕ
-  to = c .follow-nets .last .1 .1 .1 .1 .1 .1 .1 .1 .1 .1 .1 .1 .1 .1 .1 .0
+  to = c .follow-nets .last .1 .1 .1 .1 .1 .1 .1 .1 .1 .1 .1 .1 .1 .1 .1 .1 .0
+
+  abbrev walk : Walk
+  walk = record { audit = start iteration .args .audit; over = iteration .before .loop .over }
 
   came :
-      NetsTaken (c .follow-nets .result) (job (start iteration)) (iteration .before .loop .inv .progress) (iteration .before .loop .history) users marks from to
+      NetsTaken walk (c .follow-nets .result) (job (start iteration)) (iteration .before .loop .inv .0 .progress) (iteration .before .loop .history) users marks from to
       (start iteration .args .log .now)
-  came = c .follow-nets .ensures _ _ refl (opened marked)
+  came = c .follow-nets .ensures .1 _ _ refl (opened marked)
+
+  work-same : SameFrom (8 * length (start iteration .args .kind .now)) (start iteration .args .work .now) (c .follow-nets .last .1 .1 .1 .1 .1 .1 .1 .1 .1 .1 .1 .1 .1 .1 .1 .1 .1 .1 .0)
+  work-same = same-twice (iteration .before .loop .inv .1) (c .follow-nets .ensures .0)
 
   same-users : length users ≡ length (start iteration .args .users .now)
-  same-users = c .follow-nets .kept .1 .1 .1 .1 .1 .1 .1 .1 .1 .1 .1 .1 .0 ∙ long (iteration .before) .1
+  same-users = c .follow-nets .kept .1 .1 .1 .1 .1 .1 .1 .1 .1 .1 .1 .1 .1 .0 ∙ long (iteration .before) .1
 
   same-marks : length marks ≡ length (start iteration .args .in-tree .now)
-  same-marks = c .follow-nets .kept .1 .1 .1 .1 .1 .1 .1 .1 .1 .1 .1 .1 .1 .0 ∙ long (iteration .before) .2
+  same-marks = c .follow-nets .kept .1 .1 .1 .1 .1 .1 .1 .1 .1 .1 .1 .1 .1 .1 .0 ∙ long (iteration .before) .2
 
   same-from : length from ≡ length (start iteration .args .tree-from .now)
-  same-from = c .follow-nets .kept .1 .1 .1 .1 .1 .1 .1 .1 .1 .1 .1 .1 .1 .1 .0 ∙ long (iteration .before) .3
+  same-from = c .follow-nets .kept .1 .1 .1 .1 .1 .1 .1 .1 .1 .1 .1 .1 .1 .1 .1 .0 ∙ long (iteration .before) .3
 
   same-to : length to ≡ length (start iteration .args .tree-to .now)
-  same-to = c .follow-nets .kept .1 .1 .1 .1 .1 .1 .1 .1 .1 .1 .1 .1 .1 .1 .1 .0 ∙ long (iteration .before) .4
+  same-to = c .follow-nets .kept .1 .1 .1 .1 .1 .1 .1 .1 .1 .1 .1 .1 .1 .1 .1 .1 .0 ∙ long (iteration .before) .4
 
   same-due : length (dues marked) ≡ length (start iteration .args .due .now)
   same-due = marked .mark-due .kept .1 .1 .1 .1 .1 .1 .1 .1 .0 ∙ long (iteration .before) .5
 
--- one does not follow
-abbrev off : tie.After-enum-told Inv-loop μ-loop → Followed
-off c = c .before .before .before .before .before .before .before .before .before .before
+-- one ends it
+abbrev off : tie.At-match-keys2 Inv-loop μ-loop → Followed
+off c = c .before .before .before .before .before .before .before .before .before .before .before
 
 -- all follow
 abbrev Answered : Type 0
@@ -151,7 +165,7 @@ Answered = tie.After-known-told Inv-loop μ-loop
 
 module _ (c : Answered) where
   abbrev followed : Followed
-  followed = c .before .before .before .before .before .before .before .before .before .before .before
+  followed = c .before .before .before .before .before .before .before .before .before .before .before .before .before
 
   abbrev answered-in : Iteration
   answered-in = iteration followed
@@ -161,9 +175,9 @@ module _ (c : Answered) where
   tariff = c .before .taken .given .0 .0
 
   all-on :
-      NetsOn (job (start answered-in)) (answered-in .before .loop .inv .progress) (nets (job (start answered-in))) tariff
+      NetsOn (start answered-in .args .audit) (job (start answered-in)) (answered-in .before .loop .inv .0 .progress) (nets (job (start answered-in))) tariff
       (answered-in .before .loop .history) (users followed) (marks followed) (from followed) (to followed) (start answered-in .args .log .now)
-  all-on = nets-on _ _ _ (users followed) (marks followed) (from followed) (to followed) _ (came followed) (c .before .taken .given .1)
+  all-on = nets-on (walk followed) _ _ _ (users followed) (marks followed) (from followed) (to followed) _ (came followed) (c .before .taken .given .1)
 
   fits-users : length (start answered-in .args .capacity .now) ≡ length (users followed)
   fits-users = capacities (start answered-in) ∙ sym (nets-long _ all-on .0)
@@ -182,19 +196,40 @@ module _ (c : Counted) where
       ∙ ap (λ (k : ℕ). countBelow (λ (v : ℕ). ltb (getD (start (answered-in answered) .args .capacity .now) v 0) (getD (users (followed answered)) v 0)) k)
       (capacities (start (answered-in answered)))
 
--- some are over it, and the limit is not reached
+-- what is answered then
+abbrev Whole : Type 0
+Whole = tie.After-whole-iteration Inv-loop μ-loop
+
+abbrev counted : Whole → Counted
+counted c = c .before
+
+-- the run can go on
 abbrev Goes : Type 0
-Goes = tie.Else2 Inv-loop μ-loop
+Goes = tie.After-known-told2 Inv-loop μ-loop
 
 module _ (c : Goes) where
-  abbrev counted : Counted
-  counted = c .before .before .before .before
+  abbrev whole : Whole
+  whole = c .before .before .before
 
   abbrev goes-answered : Answered
-  goes-answered = answered counted
+  goes-answered = answered (counted whole)
+
+  abbrev next : Tariff
+  next = c .before .whole .given .0 .0
+
+  goes-is :
+      On next
+      ≡ wholeAs (start (answered-in goes-answered) .args .audit) (tariff goes-answered) (counted whole .over-count .result)
+      (start (answered-in goes-answered) .args .terms .limit) (length (start (answered-in goes-answered) .args .log .now))
+  goes-is = sym (c .before .whole .given .1) ∙ whole .whole-iteration .ensures
 
   below : tariff goes-answered .iteration < start (answered-in goes-answered) .args .terms .limit
-  below = next-below _ (all-on goes-answered) (c .if2 .left)
+  below =
+      let t : Iteration = answered-in goes-answered in
+      low _ (routable (start t)) (t .before .loop .inv .0) (t .loop-test .taken) (all-on goes-answered) _ (over-is (counted whole)) goes-is
+
+  next-is : next ≡ tariff goes-answered
+  next-is = whole-said-so _ _ _ _ _ goes-is .same
 
 -- histories have grown, and the factor moved on
 abbrev Ended : Type 0
@@ -203,9 +238,6 @@ Ended = tie.After-iteration-ended Inv-loop μ-loop
 abbrev goes : Ended → Goes
 goes c = c .before .before .before .before .before .before
 
-abbrev ended-answered : Ended → Answered
-ended-answered c = goes-answered (goes c)
-
 -- and the next one starts
 abbrev Started : Type 0
 Started = tie.After-iteration-started Inv-loop μ-loop
@@ -213,25 +245,24 @@ Started = tie.After-iteration-started Inv-loop μ-loop
 started-is :
     (c : Started)
     → c .iteration-started .result
-    ≡ startedTariff (endedTariff (start (answered-in (ended-answered (c .before))) .args .terms .tuning) (tariff (ended-answered (c .before))))
+    ≡ startedTariff (endedTariff (start (answered-in (goes-answered (goes (c .before)))) .args .terms .tuning) (next (goes (c .before))))
 started-is c = c .iteration-started .ensures ∙ ap startedTariff (c .before .iteration-ended .ensures)
 
 -- ---- the needs
 
 loop-holds : tie.Need-loop-holds Inv-loop μ-loop
-loop-holds c = begins (c .before .before .before .before .before .before .before .before .before .before .before .before .before .before .before .before)
+loop-holds c = (begins (c .before .before .before .before .before .before .before .before .before .before .before .before .before .before .before .before .before), record { long = refl; high = λ k l. refl })
 
 mark-due-requires : tie.Need-mark-due-requires Inv-loop μ-loop
-mark-due-requires c κs = let t : Iteration = c .before .before .before .before in due-asks _ (routable (start t)) (t .before .loop .inv)
+mark-due-requires c κs = let t : Iteration = c .before .before .before .before in due-asks _ (routable (start t)) (t .before .loop .inv .0)
 
 follow-nets-requires : tie.Need-follow-nets-requires Inv-loop μ-loop
-follow-nets-requires c κs = let m : Marked = c .before .before .before .before .before .before .before .before in record { terms = _; timed-is = refl; progress = _; open-so = opened m }
-
-enum-known-taken : tie.Need-enum-known-taken Inv-loop μ-loop
-enum-known-taken c = c .match .keys1
-
-enum-told : tie.Need-enum-told Inv-loop μ-loop
-enum-told c = c .match .keys2
+follow-nets-requires c κs =
+    let m : Marked = c .before .before .before .before .before .before .before .before .before in
+    let t : Iteration = marked-in m in
+    let room = start t .pre .1 in
+    let same = t .before .loop .inv .1 .long in
+    (record { terms = _; timed-is = refl; progress = _; open-so = opened m }, omega arith)
 
 same-length : tie.Need-same-length Inv-loop μ-loop
 same-length c = long (iteration (off c) .before) .0
@@ -251,71 +282,63 @@ same-length-5 c = same-to (off c)
 same-length-6 : tie.Need-same-length-6 Inv-loop μ-loop
 same-length-6 c = same-due (off c)
 
+same-length-7 : tie.Need-same-length-7 Inv-loop μ-loop
+same-length-7 c = work-same (off c) .long
+
 returns : tie.Need-returns Inv-loop μ-loop
 returns c =
     let f : Followed = off c in
-    let t : Iteration = iteration f in
-    take-off _ (routable (start t)) (t .before .loop .inv) (t .loop-test .taken) (users f) (marks f) (from f) (to f) (came f) (c .enum-told .given .1) _ _ _ _ _ _
+    let t : Iteration = iteration f in (
+      take-stopped _ (routable (start t)) (t .before .loop .inv .0) (t .loop-test .taken) (users f) (marks f) (from f) (to f) (f .follow-nets .result)
+          (λ t″ e. miss (1 ∷ 2 ∷ 3 ∷ []) 0 tt (rw e at (c .match .keys2))) (came f) _ _ _ _ _ _,
+      work-same f,
+    )
 
 over-count-requires : tie.Need-over-count-requires Inv-loop μ-loop
 over-count-requires c κs =
     let e : Entry = start (answered-in (c .before)) in
     (le-of-eq (fits-users (c .before)), le-trans (le-of-eq (capacities e)) (few-nodes e))
 
-same-length-7 : tie.Need-same-length-7 Inv-loop μ-loop
-same-length-7 c = long (iteration (followed (answered (c .before))) .before) .0
+-- an audit ends behind it, it settles, or is the limit's
+abbrev ends : tie.At-match2-keys2 Inv-loop μ-loop → Counted
+ends c = counted (c .before)
 
 same-length-8 : tie.Need-same-length-8 Inv-loop μ-loop
-same-length-8 c = same-users (followed (answered (c .before)))
+same-length-8 c = long (iteration (followed (answered (ends c))) .before) .0
 
 same-length-9 : tie.Need-same-length-9 Inv-loop μ-loop
-same-length-9 c = same-marks (followed (answered (c .before)))
+same-length-9 c = same-users (followed (answered (ends c)))
 
 same-length-10 : tie.Need-same-length-10 Inv-loop μ-loop
-same-length-10 c = same-from (followed (answered (c .before)))
+same-length-10 c = same-marks (followed (answered (ends c)))
 
 same-length-11 : tie.Need-same-length-11 Inv-loop μ-loop
-same-length-11 c = same-to (followed (answered (c .before)))
+same-length-11 c = same-from (followed (answered (ends c)))
 
 same-length-12 : tie.Need-same-length-12 Inv-loop μ-loop
-same-length-12 c = same-due (followed (answered (c .before)))
+same-length-12 c = same-to (followed (answered (ends c)))
+
+same-length-13 : tie.Need-same-length-13 Inv-loop μ-loop
+same-length-13 c = same-due (followed (answered (ends c)))
+
+same-length-14 : tie.Need-same-length-14 Inv-loop μ-loop
+same-length-14 c = work-same (followed (answered (ends c))) .long
 
 returns-2 : tie.Need-returns-2 Inv-loop μ-loop
 returns-2 c =
-    let h : Answered = answered (c .before) in
-    let t : Iteration = answered-in h in
-    take-settled _ (routable (start t)) (t .before .loop .inv) (t .loop-test .taken) (all-on h) (sym (over-is (c .before)) ∙ c .if1 .taken)
-
-same-length-13 : tie.Need-same-length-13 Inv-loop μ-loop
-same-length-13 c = long (iteration (followed (answered (c .before .before .before .before))) .before) .0
-
-same-length-14 : tie.Need-same-length-14 Inv-loop μ-loop
-same-length-14 c = same-users (followed (answered (c .before .before .before .before)))
-
-same-length-15 : tie.Need-same-length-15 Inv-loop μ-loop
-same-length-15 c = same-marks (followed (answered (c .before .before .before .before)))
-
-same-length-16 : tie.Need-same-length-16 Inv-loop μ-loop
-same-length-16 c = same-from (followed (answered (c .before .before .before .before)))
-
-same-length-17 : tie.Need-same-length-17 Inv-loop μ-loop
-same-length-17 c = same-to (followed (answered (c .before .before .before .before)))
-
-same-length-18 : tie.Need-same-length-18 Inv-loop μ-loop
-same-length-18 c = same-due (followed (answered (c .before .before .before .before)))
-
-returns-3 : tie.Need-returns-3 Inv-loop μ-loop
-returns-3 c =
-    let h : Answered = answered (c .before .before .before .before) in
-    let t : Iteration = answered-in h in
-    take-last _ (routable (start t)) (t .before .loop .inv) (t .loop-test .taken) (all-on h) (c .if2 .taken)
+    let h : Answered = answered (ends c) in
+    let t : Iteration = answered-in h in (
+      take-whole _ (routable (start t)) (t .before .loop .inv .0) (t .loop-test .taken) (all-on h) _ (over-is (ends c)) (c .before .whole-iteration .result)
+          (c .before .whole-iteration .ensures) (λ t″ e. miss (1 ∷ 2 ∷ 3 ∷ []) 0 tt (rw e at (c .match2 .keys2))) _ _ _ _ _ _,
+      work-same (followed h),
+    )
 
 grow-histories-requires : tie.Need-grow-histories-requires Inv-loop μ-loop
 grow-histories-requires c κs =
     let h : Answered = goes-answered (c .before .before) in
     let t : Iteration = answered-in h in (
-      (fits-users h, capacities (start t) ∙ sym (taking-long _ (t .before .loop .inv) .0)),
-      (growable _ (routable (start t)) (t .before .loop .inv), tuning-fits _ (routable (start t)) .few-step),
+      (fits-users h, capacities (start t) ∙ sym (taking-long _ (t .before .loop .inv .0) .0)),
+      (growable _ (routable (start t)) (t .before .loop .inv .0), tuning-fits _ (routable (start t)) .few-step),
     )
 
 iteration-ended-requires : tie.Need-iteration-ended-requires Inv-loop μ-loop
@@ -323,54 +346,63 @@ iteration-ended-requires c κs = tt
 
 iteration-started-requires : tie.Need-iteration-started-requires Inv-loop μ-loop
 iteration-started-requires c κs =
-    let b = below (goes c) in
-    let l = routable (start (answered-in (ended-answered c))) .limit-few in
-    let e : c .iteration-ended .result .iteration ≡ _ = ap (λ (x : Tariff). x .iteration) (c .iteration-ended .ensures) in
+    let g : Goes = goes c in
+    let b = below g in
+    let l = routable (start (answered-in (goes-answered g))) .limit-few in
+    let e : c .iteration-ended .result .iteration ≡ next g .iteration = ap (λ (x : Tariff). x .iteration) (c .iteration-ended .ensures) in
+    let s : next g .iteration ≡ tariff (goes-answered g) .iteration = ap (λ (x : Tariff). x .iteration) (next-is g) in
     omega arith
 
 loop-less : tie.Need-loop-less Inv-loop μ-loop
 loop-less c =
-    let h : Answered = ended-answered (c .before .before) in
+    let g : Goes = goes (c .before .before) in
+    let h : Answered = goes-answered g in
     let t : Iteration = answered-in h in
-    let b = below (goes (c .before .before)) in
-    let s = same-iteration _ (routable (start t)) (t .before .loop .inv) (t .loop-test .taken) (all-on h) in
+    let b = below g in
+    let s = same-iteration _ (routable (start t)) (t .before .loop .inv .0) (t .loop-test .taken) (all-on h) in
     let e : c .before .iteration-started .result .iteration ≡ _ = ap (λ (x : Tariff). x .iteration) (started-is (c .before)) in
+    let q : next g .iteration ≡ tariff h .iteration = ap (λ (x : Tariff). x .iteration) (next-is g) in
     omega arith
 
 loop-again : tie.Need-loop-again Inv-loop μ-loop
 loop-again c =
     let g : Goes = goes (c .before .before) in
     let h : Answered = goes-answered g in
-    let t : Iteration = answered-in h in
-    take-next _ (routable (start t)) (t .before .loop .inv) (t .loop-test .taken) (all-on h) (λ z. g .before .before .before .if1 .left (over-is (counted g) ∙ z)) (below g)
-    (same-due (followed h) ∙ taking-long _ (begins (start t)) .5) (c .before .before .before .before .before .grow-histories .ensures) (started-is (c .before)) refl
+    let t : Iteration = answered-in h in (
+      take-next _ (routable (start t)) (t .before .loop .inv .0) (t .loop-test .taken) (all-on h) _ (over-is (counted (whole g))) (goes-is g)
+          (same-due (followed h) ∙ taking-long _ (begins (start t)) .5) (c .before .before .before .before .before .grow-histories .ensures) (started-is (c .before)) refl,
+      work-same (followed h),
+    )
+
+same-length-15 : tie.Need-same-length-15 Inv-loop μ-loop
+same-length-15 c = long (c .before) .0
+
+same-length-16 : tie.Need-same-length-16 Inv-loop μ-loop
+same-length-16 c = long (c .before) .1
+
+same-length-17 : tie.Need-same-length-17 Inv-loop μ-loop
+same-length-17 c = long (c .before) .2
+
+same-length-18 : tie.Need-same-length-18 Inv-loop μ-loop
+same-length-18 c = long (c .before) .3
 
 same-length-19 : tie.Need-same-length-19 Inv-loop μ-loop
-same-length-19 c = long (c .before) .0
+same-length-19 c = long (c .before) .4
 
 same-length-20 : tie.Need-same-length-20 Inv-loop μ-loop
-same-length-20 c = long (c .before) .1
+same-length-20 c = long (c .before) .5
 
 same-length-21 : tie.Need-same-length-21 Inv-loop μ-loop
-same-length-21 c = long (c .before) .2
+same-length-21 c = c .before .loop .inv .1 .long
 
-same-length-22 : tie.Need-same-length-22 Inv-loop μ-loop
-same-length-22 c = long (c .before) .3
-
-same-length-23 : tie.Need-same-length-23 Inv-loop μ-loop
-same-length-23 c = long (c .before) .4
-
-same-length-24 : tie.Need-same-length-24 Inv-loop μ-loop
-same-length-24 c = long (c .before) .5
-
-returns-4 : tie.Need-returns-4 Inv-loop μ-loop
-returns-4 c = take-on _ (c .before .loop .inv) (c .loop-test .left)
+returns-3 : tie.Need-returns-3 Inv-loop μ-loop
+returns-3 c = (take-on _ (c .before .loop .inv .0) (c .loop-test .left), c .before .loop .inv .1)
 
 pub take-up-spec : {M : Type 1} → statement M
 take-up-spec =
     tie.close
-    (tie.spec Inv-loop μ-loop loop-holds mark-due-requires follow-nets-requires enum-known-taken enum-told same-length same-length-2
-    same-length-3 same-length-4 same-length-5 same-length-6 returns over-count-requires same-length-7 same-length-8 same-length-9
-    same-length-10 same-length-11 same-length-12 returns-2 same-length-13 same-length-14 same-length-15 same-length-16 same-length-17
-    same-length-18 returns-3 grow-histories-requires iteration-ended-requires iteration-started-requires loop-less loop-again same-length-19
-    same-length-20 same-length-21 same-length-22 same-length-23 same-length-24 returns-4)
+    (tie.spec Inv-loop μ-loop loop-holds mark-due-requires follow-nets-requires (λ c. search needs) same-length same-length-2 same-length-3
+    same-length-4 same-length-5 same-length-6 same-length-7 returns over-count-requires (λ c κs. tt) (λ c. search needs) same-length-8
+    same-length-9 same-length-10 same-length-11 same-length-12 same-length-13 same-length-14 returns-2 grow-histories-requires
+    iteration-ended-requires iteration-started-requires loop-less loop-again same-length-15 same-length-16 same-length-17 same-length-18
+    same-length-19 same-length-20 same-length-21 returns-3)

@@ -1,7 +1,7 @@
 -- `negotiation::turns::found_path` meets its contract: nothing is refused, so either search answers the turn.
 -- Assumes nothing.
 use borrow.Author.Needs.{needs}
-use Rattle.negotiation.proofs.turns.FoundLaws.{plain-found, aimed-found}
+use Rattle.negotiation.proofs.FoundLaws.{plain-found, aimed-found}
 use Rattle.negotiation.proofs.turns.found_path.Statement.{statement}
 use Rattle.negotiation.proofs.turns.found_path.Tie as tie
 

@@ -1,4 +1,5 @@
--- What either search answers for a turn where nothing is refused, as `found_path` passes it on: the turn, and how many nodes it expanded.
+-- What either search answers for a turn where nothing is refused: the turn, as `found_path` passes it on with how many nodes it expanded, and what it costs, as
+-- `least_cost` does.
 -- Assumes nothing.
 use mathlib.Core.Bool.{Bool, true, false, not}
 use mathlib.Core.List.{List, [], _∷_, _++_}
@@ -34,6 +35,7 @@ use Rattle.search.proofs.TurnLaws.{joins-within, joins-path, joins-near}
 use Rattle.search.proofs.PathReplyLaws.{path-turn}
 use Rattle.search.proofs.AimedReplyLaws.{aimed-sound}
 use Rattle.job.specs.Steps.{AllBelow}
+use Rattle.negotiation.specs.ResumeSteps.{leastAsked}
 use Rattle.negotiation.specs.Steps.{SameFrom, TurnReady, PathFound, turnCount, BackLent}
 
 -- ---- the work slice afterwards
@@ -215,3 +217,32 @@ module _ {b : Block} {c : Congestion} {marks work : List ℕ} (ready : TurnReady
           found-is (block.nodes b) (8 * block.nodes b) work (omega arith) (ready .enough) (r .answer) made (omega arith) (ap (λ (x : AimedPathReply). x .path) is),
           rw chosen (ap (λ (x : AimedPathReply). x .expanded) is),
         )
+
+-- ---- what it costs
+
+-- none is asked for
+pub least-unasked : {asked : Bool} (n : ℕ) (t : Turn) (work : List ℕ) → asked ≡ false → (far ≡ leastAsked asked t) × SameFrom (8 * n) work work
+unfolding leastAsked
+least-unasked n t work e = (rw e, record { long = refl; high = λ k l. refl })
+
+module _ {asked : Bool} (e : asked ≡ true) (n : ℕ) (t : Turn) (work work′ : List ℕ) where
+  -- a sink is joined
+  pub least-joined :
+      {r : PathAnswer} {place cost count : ℕ} → r ≡ Joins place cost count → PathFound n t work r work′
+      → (cost ≡ leastAsked asked t) × SameFrom (8 * n) work work′
+  unfolding leastAsked
+  least-joined {place = place} {cost} {count} is found =
+      let f : PathFound n t work (Joins place cost count) work′ = subst (λ (x : PathAnswer). PathFound n t work x work′) is found in
+      (rw (e, f .0), f .2)
+
+  -- any other answer is that none is left to be joined
+  pub least-stuck :
+      (r : PathAnswer) → ((place cost count : ℕ) → r ≡ Joins place cost count → ⊥) → PathFound n t work r work′
+      → (far ≡ leastAsked asked t) × SameFrom (8 * n) work work′
+  unfolding leastAsked
+  least-stuck (Joins place cost count) other f = absurd (other place cost count refl)
+  least-stuck Stuck other f = (rw (e, f .0), f .1)
+  least-stuck (BadTable k) other f = absurd f
+  least-stuck (ShortWork k) other f = absurd f
+  least-stuck (BadNumber k) other f = absurd f
+  least-stuck (TooLarge k) other f = absurd f
