@@ -94,6 +94,15 @@ struct Lent {
 /// One run: the time of the call alone, and the check.
 fn run_once(router: Router, job: &Job, lent: &mut Lent, wanted: &Result, wanted_log: &[u32]) -> Duration {
     let run = router.run();
+    if router == Router::Audit {
+        let log = &mut lent.log[..wanted_log.len()];
+        log.copy_from_slice(wanted_log);
+        let start = clock::cpu_time();
+        let result = run(job, &mut lent.work[..8 * job.kind.len()], log);
+        let time = clock::cpu_time() - start;
+        assert_eq!((&result.refusal, &result.numbers), (&vec![], &wanted.numbers), "the log isn't sound");
+        return time;
+    }
     lent.log[..wanted_log.len()].fill(u32::MAX);
     let start = clock::cpu_time();
     let result = run(job, &mut lent.work[..8 * job.kind.len()], &mut lent.log);
@@ -228,6 +237,10 @@ fn print_searches(rows: &[Row]) {
     ratio_line(
         "made-up jobs: search that aims / plain search",
         rows.iter().map(|row| row.ratio(Aimed, Proved)),
+    );
+    ratio_line(
+        "made-up jobs: audit / the run that made the log",
+        rows.iter().map(|row| row.ratio(Audit, Proved)),
     );
     ratio_line(
         "made-up jobs: nodes expanded / nodes",

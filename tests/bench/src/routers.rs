@@ -17,6 +17,8 @@ pub enum Router {
     Proved,
     /// The proved one with its aimed search.
     Aimed,
+    /// The proved audit of the log, which routes nothing.
+    Audit,
     Heap,
     Pruned,
     Carried,
@@ -28,6 +30,7 @@ impl Router {
         match self {
             Router::Proved => proved,
             Router::Aimed => |job, work, log| aimed(job, work, log).0,
+            Router::Audit => audit,
             Router::Heap => |job, _, log| tuned_answer(Way::Heap, job, log),
             Router::Pruned => |job, _, log| tuned_answer(Way::Pruned, job, log),
             Router::Carried => |job, _, log| tuned_answer(Way::Carried, job, log),
@@ -42,7 +45,7 @@ pub const HAS_PROVED: bool = cfg!(all(feature = "proved", not(feature = "no-prov
 pub fn all() -> Vec<Router> {
     let mut routers = vec![Router::Heap, Router::Pruned, Router::Carried, Router::Plain];
     if HAS_PROVED {
-        routers.splice(..0, [Router::Proved, Router::Aimed]);
+        routers.splice(..0, [Router::Proved, Router::Aimed, Router::Audit]);
     }
     routers
 }
@@ -93,6 +96,37 @@ pub fn aimed(_: &Job, _: &mut [u64], _: &mut [u32]) -> (Result, u64) {
 
 #[cfg(not(all(feature = "proved", not(feature = "no-proved"))))]
 fn proved(_: &Job, _: &mut [u64], _: &mut [u32]) -> Result {
+    unreachable!("built without the proved router")
+}
+
+/// Whether the log is sound, with the iterations that are whole, the turns and the words: for a log of whole iterations the result of the run
+/// that made it, but for the refusal after its last.
+#[cfg(all(feature = "proved", not(feature = "no-proved")))]
+fn audit(job: &Job, work: &mut [u64], log: &mut [u32]) -> Result {
+    let mut out = [0; arvumnao::raw::OUT];
+    let words = log.len() as u64;
+    arvumnao::raw::audit(
+        &job.kind,
+        &job.capacity,
+        &job.first_edge,
+        &job.edge_target,
+        &job.source,
+        &job.first_sink,
+        &job.sink,
+        &job.delay,
+        &job.criticality,
+        &job.terms(),
+        words,
+        work,
+        log,
+        &mut out,
+    );
+    let &[turns, whole, ..]: &[u64; 4] = arvumnao::raw::own(&out);
+    Result { refusal: arvumnao::raw::refusal(&out).to_vec(), numbers: vec![whole, turns, words] }
+}
+
+#[cfg(not(all(feature = "proved", not(feature = "no-proved"))))]
+fn audit(_: &Job, _: &mut [u64], _: &mut [u32]) -> Result {
     unreachable!("built without the proved router")
 }
 
